@@ -1,0 +1,4 @@
+pub mod BlockLaws
+pub mod MarkLaws
+pub mod ReadLaws
+pub mod WordLaws

@@ -1,0 +1,9 @@
+pub mod ByteLaws
+pub mod TagLaws
+pub mod LayoutLaws
+pub mod BatchLaws
+pub mod StateLaws
+pub mod WriterLaws
+pub mod OrderLaws
+pub mod QuestionLaws
+pub mod TrialsHold

@@ -1,0 +1,197 @@
+-- The questions: what an answer of 0 says of what was lent, and which of two failing questions answers.
+use mathlib.Core.Path.{_≡_, refl, sym, ap, _∙_}
+use mathlib.Core.Bool.{Bool, true, false, not, _&&_, _||_, false≢true}
+use Prim.Native.Nat.{ℕ, zero, suc, _+_, _≤_, _<_}
+use native.Mathlib.Omega.{arith}
+use lib.ListN.{length}
+use borrow.Author.Tests.{leb-true, ltb-true, lt-leb}
+use Rattle.model.specs.Layout.{maxStart}
+use Rattle.model.specs.Effects.{Given}
+use Rattle.model.specs.Questions.{ask, areasRight, stateRight, blockRight, stripInOrder, headerFits, writerKnown, homeKnown, writerOpen, room, storeLogs, commitLogs, startFits, batchFits, formatAnswer, openAnswer, askState, askBlock, beginAnswer, abortAnswer, storeAnswer, commitAnswer, flushAnswer, confirmAnswer, settleAnswer, trimAnswer, readAnswer}
+
+-- a question answered no, answered yes, and one that let an answer of 0 through
+pub ask-no : (b : Bool) (k v : ℕ) → b ≡ false → ask b k v ≡ k
+unfolding ask
+ask-no true k v e = absurd (false≢true (sym e))
+ask-no false k v e = refl
+
+pub ask-yes : (b : Bool) (k v : ℕ) → b ≡ true → ask b k v ≡ v
+unfolding ask
+ask-yes true k v e = refl
+ask-yes false k v e = absurd (false≢true e)
+
+pub ask-passed : (b : Bool) (k v : ℕ) → ask b (suc k) v ≡ 0 → (b ≡ true) × (v ≡ 0)
+unfolding ask
+ask-passed true k v e = (refl, e)
+ask-passed false k v e = absurd (omega arith)
+
+pub and-true : (a b : Bool) → (a && b) ≡ true → (a ≡ true) × (b ≡ true)
+and-true true b e = (refl, e)
+and-true false b e = absurd (false≢true e)
+
+not-true : (b : Bool) → not b ≡ true → b ≡ false
+not-true true e = absurd (false≢true e)
+not-true false e = refl
+
+-- what every call but format has been lent when it is done
+pub record Lent (g : Given) : Type 0 where
+  pub areas : areasRight g ≡ true
+  pub strip : stateRight g ≡ true
+
+pub record InUse (g : Given) : Type 0 where
+  pub areas : areasRight g ≡ true
+  pub strip : stateRight g ≡ true
+  pub order : stripInOrder g ≡ true
+
+state-passed : (g : Given) (v : ℕ) → askState g v ≡ 0 → InUse g × (v ≡ 0)
+unfolding askState
+state-passed g v e =
+    let a = ask-passed (areasRight g && stateRight g) 0 (ask (stripInOrder g) 2 v) e in
+    let b = ask-passed (stripInOrder g) 1 v (a .1) in
+    let c = and-true (areasRight g) (stateRight g) (a .0) in
+    (record { areas = c .0; strip = c .1; order = b .0 }, b .1)
+
+block-passed : (g : Given) (v : ℕ) → askBlock g v ≡ 0 → InUse g × (blockRight g ≡ true) × (v ≡ 0)
+unfolding askBlock
+block-passed g v e =
+    let a = ask-passed (areasRight g && stateRight g && blockRight g) 0 (ask (stripInOrder g) 2 v) e in
+    let b = ask-passed (stripInOrder g) 1 v (a .1) in
+    let c = and-true (areasRight g && stateRight g) (blockRight g) (split (areasRight g) (stateRight g) (blockRight g) (a .0)) in
+    let d = and-true (areasRight g) (stateRight g) (c .0) in
+    (record { areas = d .0; strip = d .1; order = b .0 }, c .1, b .1)
+  where
+    split : (x y z : Bool) → (x && y && z) ≡ true → ((x && y) && z) ≡ true
+    split true y z h = h
+    split false y z h = h
+
+-- what an answer of 0 says, call by call
+pub format-ready : (g : Given) (size : ℕ) → formatAnswer g size ≡ 0 → (areasRight g ≡ true) × (batchFits g size ≡ true)
+unfolding formatAnswer
+format-ready g size e =
+    let a = ask-passed (areasRight g) 0 (ask (batchFits g size) 9 0) e in
+    let b = ask-passed (batchFits g size) 8 0 (a .1) in
+    (a .0, b .0)
+
+pub open-ready : (g : Given) (start size : ℕ) → openAnswer g start size ≡ 0
+    → Lent g × (headerFits g ≡ true) × (startFits start ≡ true) × (batchFits g size ≡ true)
+unfolding openAnswer
+open-ready g start size e =
+    let a = ask-passed (areasRight g && stateRight g) 0 _ e in
+    let b = ask-passed (headerFits g) 2 _ (a .1) in
+    let c = ask-passed (startFits start) 9 _ (b .1) in
+    let d = ask-passed (batchFits g size) 8 0 (c .1) in
+    let l = and-true (areasRight g) (stateRight g) (a .0) in
+    (record { areas = l .0; strip = l .1 }, b .0, c .0, d .0)
+
+pub begin-ready : (g : Given) → beginAnswer g ≡ 0 → InUse g × (writerKnown g ≡ true) × (writerOpen g ≡ false)
+unfolding beginAnswer
+begin-ready g e =
+    let a = state-passed g _ e in
+    let b = ask-passed (writerKnown g) 3 _ (a .1) in
+    let c = ask-passed (not (writerOpen g)) 5 0 (b .1) in
+    (a .0, b .0, not-true (writerOpen g) (c .0))
+
+pub abort-ready : (g : Given) → abortAnswer g ≡ 0 → InUse g × (writerKnown g ≡ true) × (writerOpen g ≡ true)
+unfolding abortAnswer
+abort-ready g e =
+    let a = state-passed g _ e in
+    let b = ask-passed (writerKnown g) 3 _ (a .1) in
+    let c = ask-passed (writerOpen g) 6 0 (b .1) in
+    (a .0, b .0, c .0)
+
+-- room where an entry must be logged
+room-for : (logs has : Bool) → (not logs || has) ≡ true → logs ≡ true → has ≡ true
+room-for true has e h = e
+room-for false has e h = absurd (false≢true h)
+
+pub record StoreReady (g : Given) (size : ℕ) : Type 0 where
+  pub inUse : InUse g
+  pub block : blockRight g ≡ true
+  pub writer : writerKnown g ≡ true
+  pub home : homeKnown g ≡ true
+  pub opened : writerOpen g ≡ true
+  pub roomy : storeLogs g ≡ true → room g ≡ true
+  pub batch : batchFits g size ≡ true
+
+pub store-ready : (g : Given) (size : ℕ) → storeAnswer g size ≡ 0 → StoreReady g size
+unfolding storeAnswer
+store-ready g size e =
+    let a = block-passed g _ e in
+    let b = ask-passed (writerKnown g) 3 _ (a .2) in
+    let c = ask-passed (homeKnown g) 4 _ (b .1) in
+    let d = ask-passed (writerOpen g) 6 _ (c .1) in
+    let f = ask-passed (not (storeLogs g) || room g) 7 _ (d .1) in
+    let h = ask-passed (batchFits g size) 8 0 (f .1) in
+    record {
+      inUse = a .0;
+      block = a .1;
+      writer = b .0;
+      home = c .0;
+      opened = d .0;
+      roomy = room-for (storeLogs g) (room g) (f .0);
+      batch = h .0;
+    }
+
+pub record CommitReady (g : Given) (size : ℕ) : Type 0 where
+  pub inUse : InUse g
+  pub writer : writerKnown g ≡ true
+  pub opened : writerOpen g ≡ true
+  pub roomy : commitLogs g ≡ true → room g ≡ true
+  pub batch : batchFits g size ≡ true
+
+pub commit-ready : (g : Given) (size : ℕ) → commitAnswer g size ≡ 0 → CommitReady g size
+unfolding commitAnswer
+commit-ready g size e =
+    let a = state-passed g _ e in
+    let b = ask-passed (writerKnown g) 3 _ (a .1) in
+    let d = ask-passed (writerOpen g) 6 _ (b .1) in
+    let f = ask-passed (not (commitLogs g) || room g) 7 _ (d .1) in
+    let h = ask-passed (batchFits g size) 8 0 (f .1) in
+    record { inUse = a .0; writer = b .0; opened = d .0; roomy = room-for (commitLogs g) (room g) (f .0); batch = h .0 }
+
+pub flush-ready : (g : Given) (size : ℕ) → flushAnswer g size ≡ 0 → InUse g × (batchFits g size ≡ true)
+unfolding flushAnswer
+flush-ready g size e =
+    let a = state-passed g _ e in
+    let b = ask-passed (batchFits g size) 8 0 (a .1) in
+    (a .0, b .0)
+
+pub confirm-ready : (g : Given) → confirmAnswer g ≡ 0 → InUse g
+unfolding confirmAnswer
+confirm-ready g e = state-passed g 0 e .0
+
+pub settle-ready : (g : Given) (size : ℕ) → settleAnswer g size ≡ 0 → InUse g × (batchFits g size ≡ true)
+unfolding settleAnswer
+settle-ready g size e =
+    let a = state-passed g _ e in
+    let b = ask-passed (batchFits g size) 8 0 (a .1) in
+    (a .0, b .0)
+
+pub trim-ready : (g : Given) (start size : ℕ) → trimAnswer g start size ≡ 0 → InUse g × (startFits start ≡ true) × (batchFits g size ≡ true)
+unfolding trimAnswer
+trim-ready g start size e =
+    let a = state-passed g _ e in
+    let b = ask-passed (startFits start) 9 _ (a .1) in
+    let c = ask-passed (batchFits g size) 8 0 (b .1) in
+    (a .0, b .0, c .0)
+
+pub read-ready : (g : Given) → readAnswer g ≡ 0 → InUse g × (blockRight g ≡ true) × (writerKnown g ≡ true) × (homeKnown g ≡ true)
+unfolding readAnswer
+read-ready g e =
+    let a = block-passed g _ e in
+    let b = ask-passed (writerKnown g) 3 _ (a .2) in
+    let c = ask-passed (homeKnown g) 4 0 (b .1) in
+    (a .0, a .1, b .0, c .0)
+
+-- "Question 9 answers 10 and comes before question 10": a start that does not fit answers 10, whatever the batch
+pub open-start-first : (g : Given) (start size : ℕ) → (areasRight g && stateRight g) ≡ true → headerFits g ≡ true → maxStart < start
+    → openAnswer g start size ≡ 10
+unfolding openAnswer startFits
+open-start-first g start size a h l =
+    ask-yes _ 1 _ a ∙ ask-yes (headerFits g) 3 _ h ∙ ask-no _ 10 _ (lt-leb start maxStart l)
+
+pub trim-start-first : (g : Given) (start size : ℕ) → (areasRight g && stateRight g) ≡ true → stripInOrder g ≡ true → maxStart < start
+    → trimAnswer g start size ≡ 10
+unfolding trimAnswer askState startFits
+trim-start-first g start size a h l =
+    ask-yes _ 1 _ a ∙ ask-yes (stripInOrder g) 2 _ h ∙ ask-no _ 10 _ (lt-leb start maxStart l)

@@ -1,0 +1,193 @@
+-- Demands 2 and 3 as statements over all histories.
+use Prim.Native.Nat.{ℕ, zero, suc, _+_, _-_, _*_, _≤_, _<_}
+use mathlib.Core.Path.{_≡_}
+use mathlib.Core.Logic.{_⊎_}
+use mathlib.Core.Bool.{Bool, true, false, cond, not, _&&_, _||_}
+use mathlib.Core.List.{List, [], _∷_, _++_}
+use mathlib.Core.Option.{Option, none, some}
+use lib.Dec.{eqb, leb, ltb}
+use lib.ListN.{length, drop}
+use Rattle.model.specs.Tag.{homeOf}
+use Rattle.model.specs.Layout.{groupsIn, headerStart, blockAt}
+use Rattle.model.specs.Commit.{transactions}
+use Rattle.model.specs.Batch.{Record, GW, HW, KW, FN}
+use Rattle.model.specs.State.{State, stateOf, nextPosition, inOrder}
+use Rattle.model.specs.Effects.{Given, groups, liveTags, liveBase}
+use Rattle.model.specs.Calls.{Outcome}
+use Rattle.model.specs.Crash.{fences, fates}
+use Rattle.model.specs.Book.{Kept, row, persisted, Entry, Commit, Held, Task, idle, opened, Book, run, homesAfter, reads, owedBy}
+use Rattle.model.specs.History.{Call, opening, begin, abort, store, commit, flush, confirm, settle, trim, read, Event, call, crash, World, afterFormat, lent, ends, step, AllAllowed}
+
+-- Demand 3
+
+-- "every opening that does not answer 1, 9 or 10 is done, and leaves a data copy equal byte for byte to the homes after the longest run of commits,
+-- from the first on, whose entries had all landed, by 01's book." At a crash the book's list is cut to that run.
+pub record Opened (w : World) (o : Outcome) : Type 0 where
+  pub answer : (o .code ≡ 0) ⊎ ((o .code ≡ 1) ⊎ ((o .code ≡ 9) ⊎ (o .code ≡ 10)))
+  pub restored : o .code ≡ 0 → o .area ≡ homesAfter (w .homes) (w .book .commits)
+
+-- the commits that a crash takes off the list
+unfoldable pub lost : List (ℕ → Bool) → List Commit → List Commit
+lost fs cs = drop (length (run fs cs)) cs
+
+abbrev pub NoneOwed : List Commit → Type 0
+NoneOwed [] = Unit {0}
+NoneOwed (c ∷ cs) = (c .owed ≡ false) × NoneOwed cs
+
+-- "In that run is every commit confirmed durable before, and all that an earlier opening brought back"
+abbrev pub Crashed : World → ℕ → (ℕ → Bool) → Type 0
+Crashed w passed chosen = NoneOwed (lost (fates passed chosen (w .pending)) (w .book .commits))
+
+-- Demand 2
+
+-- what the commit rule finds in the log copy, as homes and blocks, oldest first
+unfoldable pub contents : Given → List ℕ → List Held
+contents g [] = []
+contents g (p ∷ ps) = contents g ps ++ (record { home = homeOf (liveTags g p); block = blockAt (g .log) (groups g) p } ∷ [])
+
+unfoldable pub eachContents : Given → List (List ℕ) → List (List Held)
+eachContents g [] = []
+eachContents g (t ∷ ts) = contents g t ∷ eachContents g ts
+
+unfoldable pub foundIn : Given → List (List Held)
+foundIn g = eachContents g (transactions (liveTags g) (liveBase g) (nextPosition (stateOf (g .state)) - liveBase g))
+
+-- the book's commits that are not trimmed: their closing entry lies at or above the start's position
+unfoldable pub heldEntries : List Entry → List Held
+heldEntries [] = []
+heldEntries (e ∷ es) = record { home = e .home; block = e .block } ∷ heldEntries es
+
+unfoldable pub untrimmed : ℕ → List Commit → List (List Held)
+untrimmed base [] = []
+untrimmed base (c ∷ cs) = cond (ltb base (c .ticket)) (heldEntries (c .entries) ∷ untrimmed base cs) (untrimmed base cs)
+
+-- "what the calls write reads back as the committed, untrimmed transactions and nothing else, in commit order"; "A read gives the writer's own
+-- newest block, else the newest committed one."
+pub record Live (w : World) : Type 0 where
+  pub strip : inOrder (w .state) (groupsIn (length (w .log))) (w .homes) ≡ true
+  pub readBack : foundIn (lent w [] [] 0 0) ≡ untrimmed (7 * stateOf (w .state) .start) (w .book .commits)
+  pub readable :
+      (writer home : ℕ) (block : List ℕ) →
+      ends w (read writer home block) .code ≡ 0 →
+      ends w (read writer home block) .block ≡ reads (w .homes) (w .book) writer home
+
+-- "settle: homes of the commits below F and no other"
+unfoldable pub closedBelow : ℕ → List Commit → List Commit
+closedBelow bound [] = []
+closedBelow bound (c ∷ cs) = cond (leb (c .ticket) bound) (c ∷ closedBelow bound cs) (closedBelow bound cs)
+
+-- confirm: the rows submitted before the last fence, and the commits whose entries are all there or persisted earlier
+unfoldable pub groupWrites : List Record → ℕ
+groupWrites [] = 0
+groupWrites (GW slot group ∷ rs) = suc (groupWrites rs)
+groupWrites (HW home block ∷ rs) = groupWrites rs
+groupWrites (KW header ∷ rs) = groupWrites rs
+groupWrites (FN ∷ rs) = groupWrites rs
+
+unfoldable pub fencedRows : List Record → ℕ
+fencedRows [] = 0
+fencedRows (r ∷ rs) = cond (leb 1 (fences (r ∷ rs))) (groupWrites (r ∷ []) + fencedRows rs) 0
+
+unfoldable pub keptBelow : ℕ → Kept → Bool
+keptBelow rows (row number index) = ltb number rows
+keptBelow rows persisted = true
+
+unfoldable pub allBelow : ℕ → List Entry → Bool
+allBelow rows [] = true
+allBelow rows (e ∷ es) = keptBelow rows (e .kept) && allBelow rows es
+
+unfoldable pub owedRows : ℕ → List Commit → List Commit
+owedRows rows [] = []
+owedRows rows (c ∷ cs) =
+    record { entries = c .entries; ticket = c .ticket; owed = c .owed || allBelow rows (c .entries) } ∷ owedRows rows cs
+
+-- trim: the positions of a transaction's entries, by the rows they are in; row 0 is the group at which the last opening let the log start
+unfoldable pub firstGroup : World → ℕ
+firstGroup w = headerStart (w .memory .log) + groupsIn (length (w .log))
+
+unfoldable pub keptBefore : ℕ → ℕ → Kept → Bool
+keptBefore first position (row number index) = ltb (7 * (first + number) + index) position
+keptBefore first position persisted = true
+
+unfoldable pub someBefore : ℕ → ℕ → List Entry → Bool
+someBefore first position [] = false
+someBefore first position (e ∷ es) = keptBefore first position (e .kept) || someBefore first position es
+
+unfoldable pub across : ℕ → ℕ → Commit → Bool
+across first position c = leb position (c .ticket - 1) && leb 1 (c .ticket) && someBefore first position (c .entries)
+
+unfoldable pub anyAcross : ℕ → ℕ → List Commit → Bool
+anyAcross first position [] = false
+anyAcross first position (c ∷ cs) = across first position c || anyAcross first position cs
+
+unfoldable pub openBefore : ℕ → ℕ → Task → Bool
+openBefore first position idle = false
+openBefore first position (opened es held) = someBefore first position es
+
+unfoldable pub anyOpenBefore : ℕ → ℕ → (ℕ → Task) → ℕ → Bool
+anyOpenBefore first position tasks zero = false
+anyOpenBefore first position tasks (suc n) = openBefore first position (tasks n) || anyOpenBefore first position tasks n
+
+-- the log may start at a group: no open or committed transaction lies on both sides of it
+unfoldable pub free : World → ℕ → Bool
+free w start =
+    not (anyAcross (firstGroup w) (7 * start) (w .book .commits)) && not (anyOpenBefore (firstGroup w) (7 * start) (w .book .tasks) 8)
+
+-- the start that a trim leaves is the largest at most the settled position at which the log may start, or the old one
+pub record Trimmed (w : World) (start : ℕ) : Type 0 where
+  pub reached : (start ≡ stateOf (w .state) .start) ⊎ (free w start ≡ true)
+  pub settled : 7 * start ≤ stateOf (w .state) .settled
+  pub furthest : (s : ℕ) → 7 * s ≤ stateOf (w .state) .settled → free w s ≡ true → s ≤ start
+
+-- what a done call yields, in the book's terms
+abbrev pub Yields : World → Call → Outcome → Type 0
+Yields w (opening state batch) o = Unit {0}
+Yields w (begin writer) o = Unit {0}
+Yields w (abort writer) o = Unit {0}
+Yields w (store writer home block batch) o = Unit {0}
+Yields w (commit writer batch) o = Unit {0}
+Yields w (flush batch) o = Unit {0}
+Yields w confirm o = owedBy (o .figure) (w .book .commits) ≡ owedRows (fencedRows (w .pending)) (w .book .commits)
+Yields w (settle batch) o = o .area ≡ homesAfter (w .homes) (closedBelow (stateOf (w .state) .fenced) (w .book .commits))
+Yields w (trim batch) o = Trimmed w (stateOf (o .state) .start)
+Yields w (read writer home block) o = o .block ≡ reads (w .homes) (w .book) writer home
+
+-- at each event
+abbrev pub CallHolds : World → Call → Outcome → Type 0
+CallHolds w (opening state batch) o = Opened w o
+CallHolds w (begin writer) o = Unit {0}
+CallHolds w (abort writer) o = Unit {0}
+CallHolds w (store writer home block batch) o = Unit {0}
+CallHolds w (commit writer batch) o = Unit {0}
+CallHolds w (flush batch) o = Unit {0}
+CallHolds w confirm o = Unit {0}
+CallHolds w (settle batch) o = Unit {0}
+CallHolds w (trim batch) o = Unit {0}
+CallHolds w (read writer home block) o = Unit {0}
+
+abbrev pub Holds : World → Event → Type 0
+Holds w (call c) = CallHolds w c (ends w c)
+Holds w (crash passed chosen) = Crashed w passed chosen
+
+abbrev pub AllHold : World → List Event → Type 0
+AllHold w [] = Unit {0}
+AllHold w (e ∷ es) = Holds w e × AllHold (step w e) es
+
+abbrev pub YieldsAt : World → Event → Type 0
+YieldsAt w (call c) = ends w c .code ≡ 0 → Yields w c (ends w c)
+YieldsAt w (crash passed chosen) = Unit {0}
+
+abbrev pub LiveThroughout : World → List Event → Type 0
+LiveThroughout w [] = w .ready ≡ true → Live w
+LiveThroughout w (e ∷ es) = (w .ready ≡ true → Live w) × YieldsAt w e × LiveThroughout (step w e) es
+
+-- The demands, for every G and D and every list of events under the premises
+abbrev pub Demand3 : Type 0
+Demand3 =
+    (groups homes : ℕ) → 4 ≤ groups → groups ≤ 1024 → 1 ≤ homes → homes ≤ 4096 → (es : List Event) → AllAllowed (afterFormat groups homes) es →
+    AllHold (afterFormat groups homes) es
+
+abbrev pub Demand2 : Type 0
+Demand2 =
+    (groups homes : ℕ) → 4 ≤ groups → groups ≤ 1024 → 1 ≤ homes → homes ≤ 4096 → (es : List Event) → AllAllowed (afterFormat groups homes) es →
+    LiveThroughout (afterFormat groups homes) es

@@ -1,0 +1,359 @@
+-- What each call does when it is done. Question by question refusals are in Questions, the calls as a whole in Calls.
+use Prim.Native.Nat.{ℕ, zero, suc, _+_, _-_, _*_, _/_, _%_}
+use mathlib.Core.Bool.{Bool, true, false, cond, not, _&&_, _||_}
+use mathlib.Core.List.{List, [], _∷_, _++_}
+use mathlib.Core.Option.{Option, none, some}
+use lib.Dec.{eqb, leb, ltb}
+use lib.ListN.{length}
+use Rattle.model.specs.Bytes.{puts, zeros, part}
+use Rattle.model.specs.Tag.{entryWord, closingWord, homeOf}
+use Rattle.model.specs.Layout.{groupsIn, homesIn, header, headerStart, groupAt, unusedGroup, putBlank, putEntry, entryAt, blockAt, homeAt, putHome}
+use Rattle.model.specs.Commit.{Span, committed, transactions, replay, members, newestIn, newest, found}
+use Rattle.model.specs.Batch.{Record, GW, HW, KW, FN}
+use Rattle.model.specs.State.{State, stateOf, setStart, setNext, setFilled, setSettled, setFenced, setDurable, setLast, nextPosition, Writer, writerOf, setWriter, heldOf, setHeld, idle, begun, holding, logging, isOpen, holds, hasLogged, holdsHome, firstFor, countFor, freshState}
+use Rattle.model.specs.declared.Tag.{Tag}
+
+-- what a call is lent: state strip, log copy, data copy, block and batch buffer, and its two numbers. What a call is not lent is empty or 0.
+pub record Given : Type 0 where
+  pub state : List ℕ
+  pub log : List ℕ
+  pub area : List ℕ
+  pub block : List ℕ
+  pub batch : List ℕ
+  pub writer : ℕ
+  pub home : ℕ
+
+abbrev pub groups : Given → ℕ
+groups g = groupsIn (length (g .log))
+
+abbrev pub homes : Given → ℕ
+homes g = homesIn (length (g .area))
+
+-- what a done call leaves: its figure, the lent memory but the batch, and the records it writes
+pub record Effect : Type 0 where
+  pub figure : ℕ
+  pub state : List ℕ
+  pub log : List ℕ
+  pub area : List ℕ
+  pub block : List ℕ
+  pub records : List Record
+
+-- only the strip changes, with a figure
+unfoldable pub newState : Given → List ℕ → ℕ → Effect
+newState g s figure = record { figure = figure; state = s; log = g .log; area = g .area; block = g .block; records = [] }
+
+-- the numbers below n, rising
+unfoldable pub rising : ℕ → List ℕ
+rising zero = []
+rising (suc n) = rising n ++ (n ∷ [])
+
+-- Format: "KW of 64 zeros, FN, all groups and homes as zeros in rising order, FN, the head with start 0, FN. The copies hold the same."
+
+unfoldable pub unusedGroups : ℕ → List Record
+unusedGroups zero = []
+unusedGroups (suc n) = unusedGroups n ++ (GW n unusedGroup ∷ [])
+
+unfoldable pub zeroHomes : ℕ → List Record
+zeroHomes zero = []
+zeroHomes (suc n) = zeroHomes n ++ (HW n (zeros 64) ∷ [])
+
+unfoldable pub formatted : ℕ → ℕ → List Record
+formatted groups homes =
+    KW (zeros 64) ∷ FN ∷ (unusedGroups groups ++ (zeroHomes homes ++ (FN ∷ KW (header 0 groups homes) ∷ FN ∷ [])))
+
+unfoldable pub formattedLog : ℕ → ℕ → List ℕ
+formattedLog groups homes = puts (zeros (64 + 512 * groups)) 0 (header 0 groups homes)
+
+unfoldable pub formatEffect : Given → Effect
+formatEffect g =
+    record {
+      figure = 0;
+      state = g .state;
+      log = formattedLog (groups g) (homes g);
+      area = zeros (64 * homes g);
+      block = g .block;
+      records = formatted (groups g) (homes g);
+    }
+
+-- Replay, for open and settle
+
+-- the homes below n that a test marks, rising ("Touched homes are marked one bit each in words of 64; the lowest marked goes next.")
+unfoldable pub marked : (ℕ → Bool) → ℕ → List ℕ
+marked test zero = []
+marked test (suc n) = marked test n ++ cond (test n) (n ∷ []) []
+
+-- the homes that some transactions write
+unfoldable pub touched : (ℕ → Tag) → List (List ℕ) → ℕ → List ℕ
+touched tags ts homes = marked (λ h. found (newest tags h ts)) homes
+
+-- the entry at a position goes into its home
+unfoldable pub restore : List ℕ → ℕ → (ℕ → Tag) → ℕ → List ℕ → List ℕ
+restore log groups tags p area = putHome area (homeOf (tags p)) (blockAt log groups p)
+
+-- the data copy with some transactions replayed into it
+unfoldable pub replayed : List ℕ → ℕ → (ℕ → Tag) → List (List ℕ) → List ℕ → List ℕ
+replayed log groups tags ts area = replay (restore log groups tags) ts area
+
+-- HW of each of some homes
+unfoldable pub homeWrites : List ℕ → List ℕ → List Record
+homeWrites area [] = []
+homeWrites area (h ∷ hs) = HW h (homeAt area h) ∷ homeWrites area hs
+
+-- Open: "replays the committed transactions into the data copy. Train: HW of each home touched, rising, FN, head with start + G, FN. Returns
+-- their number. The log is then empty, .. next group is the new start, no place filled, last closing none, all writers idle. Open and trim put
+-- the new head into the log copy too." "After opening, F, the settled position and the mark are 7 × start."
+
+-- "Opening takes the start from the head"
+unfoldable pub openTags : Given → ℕ → Tag
+openTags g = entryAt (g .log) (groups g) (homes g) (headerStart (g .log))
+
+unfoldable pub openStart : Given → ℕ
+openStart g = headerStart (g .log) + groups g
+
+unfoldable pub openEffect : Given → Effect
+openEffect g =
+    let ts : List (List ℕ) = transactions (openTags g) (7 * headerStart (g .log)) (7 * groups g) in
+    let area : List ℕ = replayed (g .log) (groups g) (openTags g) ts (g .area) in
+    let head : List ℕ = header (openStart g) (groups g) (homes g) in
+    record {
+      figure = length ts;
+      state = freshState (groups g) (homes g) (openStart g);
+      log = puts (g .log) 0 head;
+      area = area;
+      block = g .block;
+      records = homeWrites area (touched (openTags g) ts (homes g)) ++ (FN ∷ KW head ∷ FN ∷ []);
+    }
+
+-- Begin, abort: "one open transaction for each of writers 0 to 7. Abort drops the held block; logged entries stay without a closing."
+
+unfoldable pub beginEffect : Given → Effect
+beginEffect g = newState g (setWriter (g .state) (g .writer) begun) 0
+
+unfoldable pub abortEffect : Given → Effect
+abortEffect g = newState g (setWriter (g .state) (g .writer) idle) 0
+
+-- Logging: "Logging takes the next position, blank group first where needed, and the seventh place hands the group on (GW)."
+
+pub record Logged : Type 0 where
+  pub state : List ℕ
+  pub log : List ℕ
+  pub records : List Record
+
+-- the log copy with an entry's tag and block at the next position
+unfoldable pub entered : State → ℕ → List ℕ → ℕ → List ℕ → List ℕ
+entered st slot log word block =
+    let blank : List ℕ = putBlank log slot (st .next) in
+    let ready : List ℕ = cond (eqb (st .filled) 0) blank log in
+    putEntry ready slot (st .filled) word block
+
+-- the group is handed on, or has one place more filled
+unfoldable pub submitted : Bool → List ℕ → State → ℕ → List ℕ → Logged
+submitted true s st slot log =
+    record { state = setFilled (setNext s (st .next + 1)) 0; log = log; records = GW slot (groupAt log slot) ∷ [] }
+submitted false s st slot log = record { state = setFilled s (st .filled + 1); log = log; records = [] }
+
+unfoldable pub logged : List ℕ → List ℕ → ℕ → List ℕ → Logged
+logged s log word block =
+    let st : State = stateOf s in
+    let slot : ℕ = st .next % st .groups in
+    submitted (eqb (st .filled) 6) s st slot (entered st slot log word block)
+
+-- the held block's entry is logged
+unfoldable pub logHeld : Given → Writer → ℕ → Logged
+logHeld g r position = logged (g .state) (g .log) (entryWord (r .home) (position - firstFor r position)) (heldOf (g .state) (g .writer))
+
+-- Store: "the writer holds one block. The same home again replaces it; another home first logs the held one."
+
+unfoldable pub storeFirst : Given → Effect
+storeFirst g = newState g (setHeld (setWriter (g .state) (g .writer) (holding (g .home))) (g .writer) (g .block)) 0
+
+unfoldable pub storeAgain : Given → Effect
+storeAgain g = newState g (setHeld (g .state) (g .writer) (g .block)) 0
+
+unfoldable pub storeOther : Given → Writer → ℕ → Effect
+storeOther g r position =
+    let l : Logged = logHeld g r position in
+    record {
+      figure = 0;
+      state =
+          setHeld (setWriter (l .state) (g .writer) (logging (g .home) (firstFor r position) (countFor r + 1))) (g .writer) (g .block);
+      log = l .log;
+      area = g .area;
+      block = g .block;
+      records = l .records;
+    }
+
+unfoldable pub storeEffect : Given → Effect
+storeEffect g =
+    let r : Writer = writerOf (g .state) (g .writer) in
+    let other : Effect = storeOther g r (nextPosition (stateOf (g .state))) in
+    let held : Effect = cond (eqb (r .home) (g .home)) (storeAgain g) other in
+    cond (holds r) held (storeFirst g)
+
+-- Commit: "logs the held block as closing entry; returns its position + 1, the ticket. Without a store it logs nothing, the ticket is 0, and it
+-- counts as no commit."
+
+-- the distance back to the last closing entry, 0 if there is none
+unfoldable pub linkFrom : ℕ → State → ℕ
+linkFrom position st = cond (eqb (st .last) 0) 0 (position + 1 - st .last)
+
+unfoldable pub logClosing : Given → Writer → ℕ → Logged
+logClosing g r position =
+    logged (g .state) (g .log)
+    (closingWord (r .home) (position - firstFor r position) (linkFrom position (stateOf (g .state))) (countFor r + 1))
+    (heldOf (g .state) (g .writer))
+
+unfoldable pub commitHeld : Given → Writer → ℕ → Effect
+commitHeld g r position =
+    let l : Logged = logClosing g r position in
+    record {
+      figure = position + 1;
+      state = setWriter (setLast (l .state) (position + 1)) (g .writer) idle;
+      log = l .log;
+      area = g .area;
+      block = g .block;
+      records = l .records;
+    }
+
+unfoldable pub commitEffect : Given → Effect
+commitEffect g =
+    let r : Writer = writerOf (g .state) (g .writer) in
+    let held : Effect = commitHeld g r (nextPosition (stateOf (g .state))) in
+    cond (holds r) held (abortEffect g)
+
+-- Flush: "hands on a part-filled group, if any, then FN." "Each FN sets the fenced position F to 7 × (number of the next group not handed on)."
+
+unfoldable pub flushPart : Given → State → Effect
+flushPart g st =
+    record {
+      figure = 0;
+      state = setFenced (setFilled (setNext (g .state) (st .next + 1)) 0) (7 * (st .next + 1));
+      log = g .log;
+      area = g .area;
+      block = g .block;
+      records = GW (st .next % st .groups) (groupAt (g .log) (st .next % st .groups)) ∷ FN ∷ [];
+    }
+
+unfoldable pub flushNone : Given → State → Effect
+flushNone g st =
+    record {
+      figure = 0;
+      state = setFenced (g .state) (7 * st .next);
+      log = g .log;
+      area = g .area;
+      block = g .block;
+      records = FN ∷ [];
+    }
+
+unfoldable pub flushEffect : Given → Effect
+flushEffect g =
+    let st : State = stateOf (g .state) in
+    let part : Effect = flushPart g st in
+    cond (eqb (st .filled) 0) (flushNone g st) part
+
+-- Confirm: "the driver says all fences passed; the durable mark becomes F and is returned."
+
+unfoldable pub confirmEffect : Given → Effect
+confirmEffect g = newState g (setDurable (g .state) (stateOf (g .state) .fenced)) (stateOf (g .state) .fenced)
+
+-- what the calls other than open see in the log copy: they take the start from the strip
+unfoldable pub liveTags : Given → ℕ → Tag
+liveTags g = entryAt (g .log) (groups g) (homes g) (stateOf (g .state) .start)
+
+unfoldable pub liveBase : Given → ℕ
+liveBase g = 7 * stateOf (g .state) .start
+
+-- Settle: "looks only at committed transactions whose closing entry lies below F. HW, rising, of the newest value each home has among them, then
+-- FN; the data copy too. The settled position becomes the former F."
+-- (The rule takes closing entries by rising position, so what it finds below F does not hang on what lies above.)
+
+unfoldable pub settleEffect : Given → Effect
+settleEffect g =
+    let st : State = stateOf (g .state) in
+    let ts : List (List ℕ) = transactions (liveTags g) (liveBase g) (st .fenced - liveBase g) in
+    let area : List ℕ = replayed (g .log) (groups g) (liveTags g) ts (g .area) in
+    record {
+      figure = 0;
+      state = setFenced (setSettled (g .state) (st .fenced)) (7 * st .next);
+      log = g .log;
+      area = area;
+      block = g .block;
+      records = homeWrites area (touched (liveTags g) ts (homes g)) ++ (FN ∷ []);
+    }
+
+-- Trim: "the largest start s with 7 × s at most the settled position and no open or committed transaction lying on both sides of 7 × s (an open
+-- one counts as reaching beyond). If it moves: KW, FN; a last closing before it becomes none. Else nothing."
+
+-- no committed transaction lies on both sides of a position
+unfoldable pub noneAcross : ℕ → List Span → Bool
+noneAcross position [] = true
+noneAcross position (s ∷ ss) = not (ltb (s .first) position && leb position (s .closing)) && noneAcross position ss
+
+-- none of the first n writers has an open transaction with an entry logged before a position
+unfoldable pub noneOpenBefore : ℕ → List ℕ → ℕ → Bool
+noneOpenBefore position s zero = true
+noneOpenBefore position s (suc n) =
+    noneOpenBefore position s n && not (hasLogged (writerOf s n) && ltb (writerOf s n .first) position)
+
+unfoldable pub mayStart : List ℕ → List Span → ℕ → Bool
+mayStart s spans start = noneAcross (7 * start) spans && noneOpenBefore (7 * start) s 8
+
+-- the largest of start to start + n at which the log may start; start itself always may
+unfoldable pub largest : (ℕ → Bool) → ℕ → ℕ → ℕ
+largest may start zero = start
+largest may start (suc n) = let below : ℕ = largest may start n in cond (may (start + suc n)) (start + suc n) below
+
+unfoldable pub trimStart : Given → ℕ
+trimStart g =
+    let st : State = stateOf (g .state) in
+    let spans : List Span = committed (liveTags g) (liveBase g) (nextPosition st - liveBase g) in
+    largest (mayStart (g .state) spans) (st .start) (st .settled / 7 - st .start)
+
+-- the log starts at a new group
+unfoldable pub trimTo : Given → State → ℕ → Effect
+trimTo g st start =
+    record {
+      figure = 0;
+      state = setLast (setFenced (setStart (g .state) start) (7 * st .next)) (cond (leb (st .last) (7 * start)) 0 (st .last));
+      log = puts (g .log) 0 (header start (groups g) (homes g));
+      area = g .area;
+      block = g .block;
+      records = KW (header start (groups g) (homes g)) ∷ FN ∷ [];
+    }
+
+unfoldable pub trimEffect : Given → ℕ → Effect
+trimEffect g start =
+    let st : State = stateOf (g .state) in
+    let moved : Effect = trimTo g st start in
+    cond (eqb start (st .start)) (newState g (g .state) 0) moved
+
+-- Read: "the writer's held block if it is for that home, else the newest entry for it in the writer's open transaction, else newest committed by
+-- commit order, else the data copy. A writer with nothing open reads what is committed."
+
+-- the newest entry of a writer's open transaction for a home
+unfoldable pub newestOwn : Given → Writer → Option ℕ
+newestOwn g r =
+    let st : State = stateOf (g .state) in
+    let own : Option ℕ = newestIn (liveTags g) (g .home) (members (liveTags g) (r .first) (liveBase g) (nextPosition st - liveBase g)) in
+    cond (hasLogged r) own none
+
+unfoldable pub newestCommitted : Given → Option ℕ
+newestCommitted g =
+    newest (liveTags g) (g .home) (transactions (liveTags g) (liveBase g) (nextPosition (stateOf (g .state)) - liveBase g))
+
+-- the block at a position, or another
+unfoldable pub blockOr : Given → Option ℕ → List ℕ → List ℕ
+blockOr g none other = other
+blockOr g (some p) other = blockAt (g .log) (groups g) p
+
+unfoldable pub current : Given → List ℕ
+current g = blockOr g (newestCommitted g) (homeAt (g .area) (g .home))
+
+unfoldable pub visible : Given → List ℕ
+visible g =
+    let r : Writer = writerOf (g .state) (g .writer) in
+    let logged : List ℕ = blockOr g (newestOwn g r) (current g) in
+    cond (holdsHome r (g .home)) (heldOf (g .state) (g .writer)) logged
+
+unfoldable pub readEffect : Given → Effect
+readEffect g = record { figure = 0; state = g .state; log = g .log; area = g .area; block = visible g; records = [] }

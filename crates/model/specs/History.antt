@@ -1,0 +1,172 @@
+-- Histories: lists of calls and crashes from a finished format on, with the premises of demand 3.
+use Prim.Native.Nat.{ℕ, zero, suc, _+_, _*_, _≤_}
+use mathlib.Core.Path.{_≡_}
+use mathlib.Core.Bool.{Bool, true, false, cond, not}
+use mathlib.Core.List.{List, [], _∷_, _++_}
+use lib.Dec.{eqb}
+use lib.ListN.{take}
+use Rattle.model.specs.Bytes.{zeros}
+use Rattle.model.specs.Batch.{Record, readBatch}
+use Rattle.model.specs.Effects.{Given, formattedLog}
+use Rattle.model.specs.Calls.{Outcome, openCall, beginCall, abortCall, storeCall, commitCall, flushCall, confirmCall, settleCall, trimCall, readCall}
+use Rattle.model.specs.Crash.{Memory, fences, persist, fates}
+use Rattle.model.specs.Book as book
+use Rattle.model.specs.Book.{Book}
+
+-- A call with what the caller chooses: its numbers, its block and its batch buffer, of any contents and length. Open is lent a strip of any
+-- contents and length; every other call the strip as the last call left it.
+pub data Call : Type 0 where
+  opening : (state batch : List ℕ) → Call
+  begin : (writer : ℕ) → Call
+  abort : (writer : ℕ) → Call
+  store : (writer home : ℕ) (block batch : List ℕ) → Call
+  commit : (writer : ℕ) (batch : List ℕ) → Call
+  flush : (batch : List ℕ) → Call
+  confirm : Call
+  settle : (batch : List ℕ) → Call
+  trim : (batch : List ℕ) → Call
+  read : (writer home : ℕ) (block : List ℕ) → Call
+
+-- a crash: how many fences have passed, and which pieces of the stretch after the last of them persisted
+pub data Event : Type 0 where
+  call : Call → Event
+  crash : (passed : ℕ) (chosen : ℕ → Bool) → Event
+
+-- The strip and the copies as the program has them; the lasting memory as the last crash (or format) left it, and the records of all batches
+-- since, in call order; how many of their fences a done confirm has declared passed; whether an opening is done since; the book.
+pub record World : Type 0 where
+  pub homes : ℕ
+  pub state : List ℕ
+  pub log : List ℕ
+  pub area : List ℕ
+  pub memory : Memory
+  pub pending : List Record
+  pub passed : ℕ
+  pub ready : Bool
+  pub book : Book
+
+-- "At its start format's train has all landed."
+unfoldable pub afterFormat : ℕ → ℕ → World
+afterFormat groups homes =
+    record {
+      homes = homes;
+      state = [];
+      log = [];
+      area = [];
+      memory = record { log = formattedLog groups homes; area = zeros (64 * homes) };
+      pending = [];
+      passed = 0;
+      ready = false;
+      book = book.empty;
+    }
+
+-- what a call is lent. An opening gets copies of both areas, loaded afresh; no other call comes before one is done, so there is nothing pending.
+unfoldable pub lent : World → List ℕ → List ℕ → ℕ → ℕ → Given
+lent w block batch writer home =
+    record { state = w .state; log = w .log; area = w .area; block = block; batch = batch; writer = writer; home = home }
+
+unfoldable pub loaded : World → List ℕ → List ℕ → Given
+loaded w state batch =
+    record { state = state; log = w .memory .log; area = w .memory .area; block = []; batch = batch; writer = 0; home = 0 }
+
+-- how a call ends
+unfoldable pub ends : World → Call → Outcome
+ends w (opening state batch) = openCall (loaded w state batch)
+ends w (begin writer) = beginCall (lent w [] [] writer 0)
+ends w (abort writer) = abortCall (lent w [] [] writer 0)
+ends w (store writer home block batch) = storeCall (lent w block batch writer home)
+ends w (commit writer batch) = commitCall (lent w [] batch writer 0)
+ends w (flush batch) = flushCall (lent w [] batch 0 0)
+ends w confirm = confirmCall (lent w [] [] 0 0)
+ends w (settle batch) = settleCall (lent w [] batch 0 0)
+ends w (trim batch) = trimCall (lent w [] batch 0 0)
+ends w (read writer home block) = readCall (lent w block [] writer home)
+
+-- what the book is fed by a done call: its arguments and its figure
+unfoldable pub feed : Book → Call → ℕ → Book
+feed b (opening state batch) figure = book.withCommits b (book.owedAll (b .commits))
+feed b (begin writer) figure = book.begin b writer
+feed b (abort writer) figure = book.abort b writer
+feed b (store writer home block batch) figure = book.store b writer home block
+feed b (commit writer batch) figure = book.commit b writer figure
+feed b (flush batch) figure = book.flush b
+feed b confirm figure = book.withCommits b (book.owedBy figure (b .commits))
+feed b (settle batch) figure = b
+feed b (trim batch) figure = b
+feed b (read writer home block) figure = b
+
+unfoldable pub isOpening : Call → Bool
+isOpening (opening state batch) = true
+isOpening (begin writer) = false
+isOpening (abort writer) = false
+isOpening (store writer home block batch) = false
+isOpening (commit writer batch) = false
+isOpening (flush batch) = false
+isOpening confirm = false
+isOpening (settle batch) = false
+isOpening (trim batch) = false
+isOpening (read writer home block) = false
+
+unfoldable pub isConfirm : Call → Bool
+isConfirm (opening state batch) = false
+isConfirm (begin writer) = false
+isConfirm (abort writer) = false
+isConfirm (store writer home block batch) = false
+isConfirm (commit writer batch) = false
+isConfirm (flush batch) = false
+isConfirm confirm = true
+isConfirm (settle batch) = false
+isConfirm (trim batch) = false
+isConfirm (read writer home block) = false
+
+-- the world after a done call. The driver reads the records off the batch's bytes; "a fence is confirmed only when passed".
+unfoldable pub afterDone : World → Call → Outcome → World
+afterDone w c o =
+    record {
+      homes = w .homes;
+      state = o .state;
+      log = o .log;
+      area = o .area;
+      memory = w .memory;
+      pending = w .pending ++ readBatch (take (o .size) (o .batch));
+      passed = cond (isConfirm c) (fences (w .pending)) (w .passed);
+      ready = true;
+      book = feed (w .book) c (o .figure);
+    }
+
+-- a refused call changes nothing
+unfoldable pub afterCall : World → Call → Outcome → ℕ → World
+afterCall w c o zero = afterDone w c o
+afterCall w c o (suc code) = w
+
+unfoldable pub afterCrash : World → ℕ → (ℕ → Bool) → World
+afterCrash w passed chosen =
+    record {
+      homes = w .homes;
+      state = [];
+      log = [];
+      area = [];
+      memory = persist passed chosen (w .pending) (w .memory);
+      pending = [];
+      passed = 0;
+      ready = false;
+      book = book.crash (w .book) (fates passed chosen (w .pending));
+    }
+
+unfoldable pub step : World → Event → World
+step w (call c) = let o : Outcome = ends w c in afterCall w c o (o .code)
+step w (crash passed chosen) = afterCrash w passed chosen
+
+unfoldable pub after : World → List Event → World
+after w [] = w
+after w (e ∷ es) = after (step w e) es
+
+-- The premises: "after the format or a cut, opening comes before any other call, until it is done"; "after a done one, none comes before the next
+-- cut"; of the fences pending at a crash any number have passed, "at least all before a done confirm".
+abbrev pub Allowed : World → Event → Type 0
+Allowed w (call c) = isOpening c ≡ not (w .ready)
+Allowed w (crash passed chosen) = (w .passed ≤ passed) × (passed ≤ fences (w .pending))
+
+abbrev pub AllAllowed : World → List Event → Type 0
+AllAllowed w [] = Unit {0}
+AllAllowed w (e ∷ es) = Allowed w e × AllAllowed (step w e) es

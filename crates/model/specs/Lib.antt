@@ -1,0 +1,14 @@
+pub mod Bytes
+pub mod Tag
+pub mod Layout
+pub mod Commit
+pub mod Batch
+pub mod State
+pub mod Effects
+pub mod Questions
+pub mod Calls
+pub mod Crash
+pub mod Book
+pub mod History
+pub mod Demands
+pub mod Trials

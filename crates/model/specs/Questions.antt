@@ -1,0 +1,114 @@
+-- The ten questions, and which of them each call puts.
+-- "Format puts 1 and 10; open 1, 3, 9 and 10; every other call 1 and 2, then 4 if it names a writer, 5 if a home, and what names it or its
+-- train. 0 is done."
+use Prim.Native.Nat.{ℕ, zero, suc, _+_, _*_}
+use mathlib.Core.Bool.{Bool, true, false, cond, not, _&&_, _||_}
+use mathlib.Core.List.{List, []}
+use lib.Dec.{eqb, leb, ltb}
+use lib.ListN.{length}
+use Rattle.model.specs.Layout.{maxStart, logLengthRight, dataLengthRight, headerRight, headerStart}
+use Rattle.model.specs.State.{State, stateOf, stateBytes, inOrder, Writer, writerOf, isOpen, holds, holdsHome}
+use Rattle.model.specs.Effects.{Given, groups, homes}
+
+-- a question: if it is answered no, the call's answer is `number`; else the next question follows
+unfoldable pub ask : Bool → ℕ → ℕ → ℕ
+ask true number next = next
+ask false number next = number
+
+-- 1. "Are all lent lengths right (areas as above, block 64, strip 1,024)? No: 1."
+unfoldable pub areasRight : Given → Bool
+areasRight g = logLengthRight (length (g .log)) && dataLengthRight (length (g .area))
+
+unfoldable pub stateRight : Given → Bool
+stateRight g = eqb (length (g .state)) stateBytes
+
+unfoldable pub blockRight : Given → Bool
+blockRight g = eqb (length (g .block)) 64
+
+-- 2. "Is the strip in order ..? No: 2."
+unfoldable pub stripInOrder : Given → Bool
+stripInOrder g = inOrder (g .state) (groups g) (homes g)
+
+-- 3. "Open: is the head's mark, G, D and zeros right, start ≤ 2^47? No: 3."
+unfoldable pub headerFits : Given → Bool
+headerFits g = headerRight (g .log) (groups g) (homes g) && leb (headerStart (g .log)) maxStart
+
+-- 4. "Is the writer 0 to 7? No: 4."
+unfoldable pub writerKnown : Given → Bool
+writerKnown g = ltb (g .writer) 8
+
+-- 5. "Is the home below D? No: 5."
+unfoldable pub homeKnown : Given → Bool
+homeKnown g = ltb (g .home) (homes g)
+
+-- 6. "Begin: is the writer idle? No: 6." 7. "Store, commit, abort: is it open? No: 7."
+unfoldable pub writerOpen : Given → Bool
+writerOpen g = isOpen (writerOf (g .state) (g .writer))
+
+-- 8. "If an entry must be logged, is its group number below start + G? No: 8."
+unfoldable pub room : Given → Bool
+room g = let st : State = stateOf (g .state) in ltb (st .next) (st .start + st .groups)
+
+-- a store logs if a block is held for another home, a commit if one is held
+unfoldable pub storeLogs : Given → Bool
+storeLogs g = let r : Writer = writerOf (g .state) (g .writer) in holds r && not (eqb (r .home) (g .home))
+
+unfoldable pub commitLogs : Given → Bool
+commitLogs g = holds (writerOf (g .state) (g .writer))
+
+-- 9. "Trim, open: is the new start at most 2^47? No: 10."
+unfoldable pub startFits : ℕ → Bool
+startFits start = leb start maxStart
+
+-- 10. "Is the train as long as what this call writes? No: 9."
+unfoldable pub batchFits : Given → ℕ → Bool
+batchFits g size = leb size (length (g .batch))
+
+-- The calls' questions in order. `size` is the number of bytes that the call writes.
+
+unfoldable pub formatAnswer : Given → ℕ → ℕ
+formatAnswer g size = ask (areasRight g) 1 (ask (batchFits g size) 9 0)
+
+unfoldable pub openAnswer : Given → ℕ → ℕ → ℕ
+openAnswer g start size =
+    ask (areasRight g && stateRight g) 1 (ask (headerFits g) 3 (ask (startFits start) 10 (ask (batchFits g size) 9 0)))
+
+-- what every other call asks first
+unfoldable pub askState : Given → ℕ → ℕ
+askState g next = ask (areasRight g && stateRight g) 1 (ask (stripInOrder g) 2 next)
+
+-- the same for one that is lent a block
+unfoldable pub askBlock : Given → ℕ → ℕ
+askBlock g next = ask (areasRight g && stateRight g && blockRight g) 1 (ask (stripInOrder g) 2 next)
+
+unfoldable pub beginAnswer : Given → ℕ
+beginAnswer g = askState g (ask (writerKnown g) 4 (ask (not (writerOpen g)) 6 0))
+
+unfoldable pub abortAnswer : Given → ℕ
+abortAnswer g = askState g (ask (writerKnown g) 4 (ask (writerOpen g) 7 0))
+
+unfoldable pub storeAnswer : Given → ℕ → ℕ
+storeAnswer g size =
+    askBlock g
+    (ask (writerKnown g) 4
+    (ask (homeKnown g) 5 (ask (writerOpen g) 7 (ask (not (storeLogs g) || room g) 8 (ask (batchFits g size) 9 0)))))
+
+unfoldable pub commitAnswer : Given → ℕ → ℕ
+commitAnswer g size =
+    askState g
+    (ask (writerKnown g) 4 (ask (writerOpen g) 7 (ask (not (commitLogs g) || room g) 8 (ask (batchFits g size) 9 0))))
+
+unfoldable pub flushAnswer : Given → ℕ → ℕ
+flushAnswer g size = askState g (ask (batchFits g size) 9 0)
+
+unfoldable pub confirmAnswer : Given → ℕ
+confirmAnswer g = askState g 0
+
+unfoldable pub settleAnswer : Given → ℕ → ℕ
+settleAnswer g size = askState g (ask (batchFits g size) 9 0)
+
+unfoldable pub trimAnswer : Given → ℕ → ℕ → ℕ
+trimAnswer g start size = askState g (ask (startFits start) 10 (ask (batchFits g size) 9 0))
+
+unfoldable pub readAnswer : Given → ℕ
+readAnswer g = askBlock g (ask (writerKnown g) 4 (ask (homeKnown g) 5 0))

@@ -1,0 +1,159 @@
+-- The state strip of 1,024 bytes: numbers of eight bytes at fixed offsets. Bytes that no field has are spare: no call but open changes them, and
+-- none reads them. docs/FORMAT.md has the layout as a table.
+use Prim.Native.Nat.{ℕ, zero, suc, _+_, _-_, _*_}
+use mathlib.Core.Bool.{Bool, true, false, cond, _&&_, _||_}
+use mathlib.Core.List.{List, [], _∷_}
+use lib.Dec.{eqb, leb, ltb}
+use Rattle.model.specs.Bytes.{part, puts, zeros, number, putNumber}
+use Rattle.model.specs.Layout.{maxStart}
+pub use Rattle.model.specs.declared.State.{State}
+pub use Rattle.model.specs.declared.Writer.{Writer}
+
+abbrev pub stateBytes : ℕ
+stateBytes = 1024
+
+-- The struct `State` of the crate's source: the numbers of the strip but those of the writers.
+
+unfoldable pub stateOf : List ℕ → State
+stateOf s =
+    record {
+      groups = number 8 s 0;
+      homes = number 8 s 8;
+      start = number 8 s 16;
+      next = number 8 s 24;
+      filled = number 8 s 32;
+      settled = number 8 s 40;
+      fenced = number 8 s 48;
+      durable = number 8 s 56;
+      last = number 8 s 64;
+    }
+
+unfoldable pub setGroups : List ℕ → ℕ → List ℕ
+setGroups s v = putNumber 8 s 0 v
+
+unfoldable pub setHomes : List ℕ → ℕ → List ℕ
+setHomes s v = putNumber 8 s 8 v
+
+unfoldable pub setStart : List ℕ → ℕ → List ℕ
+setStart s v = putNumber 8 s 16 v
+
+unfoldable pub setNext : List ℕ → ℕ → List ℕ
+setNext s v = putNumber 8 s 24 v
+
+unfoldable pub setFilled : List ℕ → ℕ → List ℕ
+setFilled s v = putNumber 8 s 32 v
+
+unfoldable pub setSettled : List ℕ → ℕ → List ℕ
+setSettled s v = putNumber 8 s 40 v
+
+unfoldable pub setFenced : List ℕ → ℕ → List ℕ
+setFenced s v = putNumber 8 s 48 v
+
+unfoldable pub setDurable : List ℕ → ℕ → List ℕ
+setDurable s v = putNumber 8 s 56 v
+
+unfoldable pub setLast : List ℕ → ℕ → List ℕ
+setLast s v = putNumber 8 s 64 v
+
+-- "such a call looks only at positions below the next one (7 × next group + places filled)"
+unfoldable pub nextPosition : State → ℕ
+nextPosition s = 7 * s .next + s .filled
+
+-- writers
+-- The struct `Writer` of the crate's source: a writer's record but for the held block.
+
+unfoldable pub writerOffset : ℕ → ℕ
+writerOffset w = 128 + 96 * w
+
+unfoldable pub writerOf : List ℕ → ℕ → Writer
+writerOf s w =
+    record {
+      mode = number 8 s (writerOffset w);
+      home = number 8 s (writerOffset w + 8);
+      first = number 8 s (writerOffset w + 16);
+      count = number 8 s (writerOffset w + 24);
+    }
+
+unfoldable pub setWriter : List ℕ → ℕ → Writer → List ℕ
+setWriter s w r =
+    putNumber 8
+    (putNumber 8 (putNumber 8 (putNumber 8 s (writerOffset w) (r .mode)) (writerOffset w + 8) (r .home)) (writerOffset w + 16) (r .first))
+    (writerOffset w + 24)
+    (r .count)
+
+-- the held block
+unfoldable pub heldOf : List ℕ → ℕ → List ℕ
+heldOf s w = part s (writerOffset w + 32) 64
+
+unfoldable pub setHeld : List ℕ → ℕ → List ℕ → List ℕ
+setHeld s w block = puts s (writerOffset w + 32) block
+
+unfoldable pub idle : Writer
+idle = record { mode = 0; home = 0; first = 0; count = 0 }
+
+unfoldable pub begun : Writer
+begun = record { mode = 1; home = 0; first = 0; count = 0 }
+
+-- a block is held for a home, after so many logged entries from a first position on
+unfoldable pub holding : ℕ → Writer
+holding home = record { mode = 2; home = home; first = 0; count = 0 }
+
+unfoldable pub logging : ℕ → ℕ → ℕ → Writer
+logging home first count = record { mode = 3; home = home; first = first; count = count }
+
+unfoldable pub isOpen : Writer → Bool
+isOpen r = leb 1 (r .mode)
+
+unfoldable pub holds : Writer → Bool
+holds r = leb 2 (r .mode)
+
+unfoldable pub hasLogged : Writer → Bool
+hasLogged r = leb 3 (r .mode)
+
+unfoldable pub holdsHome : Writer → ℕ → Bool
+holdsHome r home = holds r && eqb (r .home) home
+
+-- the first position and the number of logged entries of a transaction whose next entry goes to `position`
+unfoldable pub firstFor : Writer → ℕ → ℕ
+firstFor r position = cond (hasLogged r) (r .first) position
+
+unfoldable pub countFor : Writer → ℕ
+countFor r = cond (hasLogged r) (r .count) 0
+
+-- the strip that an opening leaves: all else zeros
+unfoldable pub freshState : ℕ → ℕ → ℕ → List ℕ
+freshState groups homes start =
+    setDurable
+    (setFenced
+    (setSettled (setNext (setStart (setHomes (setGroups (zeros stateBytes) groups) homes) start) start) (7 * start))
+    (7 * start))
+    (7 * start)
+
+-- Question 2
+-- "start ≤ 2^47; start ≤ next group ≤ start + G; 0 to 6 places filled, none at start + G; 7 × start ≤ settled ≤ F ≤ 7 × next group; mark ≤ F;
+-- last closing none or from 7 × start to below the next position"
+unfoldable pub numbersInOrder : State → Bool
+numbersInOrder s =
+    leb (s .start) maxStart && leb (s .start) (s .next) && leb (s .next) (s .start + s .groups) && leb (s .filled) 6
+    && (ltb (s .next) (s .start + s .groups) || eqb (s .filled) 0) && leb (7 * s .start) (s .settled) && leb (s .settled) (s .fenced)
+    && leb (s .fenced) (7 * s .next) && leb (s .durable) (s .fenced)
+    && (eqb (s .last) 0 || ltb (7 * s .start) (s .last) && leb (s .last) (nextPosition s))
+
+-- "an idle writer holds nothing; a held home < D; a logging writer holds a block, its first position is in that range and its count from 1 to
+-- the positions since"
+unfoldable pub writerInOrder : State → Writer → Bool
+writerInOrder s r =
+    leb (r .mode) 3 && (ltb (r .mode) 2 || ltb (r .home) (s .homes))
+    && (ltb (r .mode) 3
+    || leb (7 * s .start) (r .first) && ltb (r .first) (nextPosition s) && leb 1 (r .count) && leb (r .first + r .count) (nextPosition s))
+
+-- the first n writers
+unfoldable pub writersInOrder : List ℕ → State → ℕ → Bool
+writersInOrder s st zero = true
+writersInOrder s st (suc n) = writersInOrder s st n && writerInOrder st (writerOf s n)
+
+-- "Is the strip in order: G and D agree; .."
+unfoldable pub inOrder : List ℕ → ℕ → ℕ → Bool
+inOrder s groups homes =
+    let st : State = stateOf s in
+    eqb (st .groups) groups && eqb (st .homes) homes && numbersInOrder st && writersInOrder s st 8

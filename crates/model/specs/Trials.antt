@@ -1,0 +1,164 @@
+-- The paper's marked trials (G 4, D 8), as one table: what each yields, against the figures of the paper. Trials 1 to 9 begin just after opening a
+-- new format and count positions and starts from that opening's.
+use Prim.Native.Nat.{ℕ, zero, suc, _+_, _-_, _*_, _/_, _%_}
+use mathlib.Core.Bool.{Bool, true, false, cond, not, _&&_}
+use mathlib.Core.List.{List, [], _∷_, _++_}
+use lib.Dec.{eqb}
+use lib.ListN.{length, getD, replicate}
+use Rattle.model.specs.Bytes.{zeros, same}
+use Rattle.model.specs.Tag.{closingWord}
+use Rattle.model.specs.Layout.{groupAt, groupTag, slotOf, indexOf, homeAt}
+use Rattle.model.specs.State.{State, stateOf, nextPosition}
+use Rattle.model.specs.Effects.{Given}
+use Rattle.model.specs.Calls.{Outcome, formatCall}
+use Rattle.model.specs.History.{Call, opening, begin, abort, store, commit, flush, confirm, settle, trim, read, Event, call, crash, World, afterFormat, ends, step}
+
+-- a batch buffer that suffices, and a block of one byte
+unfoldable pub room : List ℕ
+room = zeros 600
+
+unfoldable pub fill : ℕ → List ℕ
+fill b = replicate 64 b
+
+-- the world after some calls, and the number, figure and batch length that each of them answers
+unfoldable pub goes : World → List Call → World
+goes w [] = w
+goes w (c ∷ cs) = goes (step w (call c)) cs
+
+unfoldable pub answerOf : Outcome → List ℕ
+answerOf o = o .code ∷ o .figure ∷ o .size ∷ []
+
+unfoldable pub answers : World → List Call → List ℕ
+answers w [] = []
+answers w (c ∷ cs) = answerOf (ends w c) ++ answers (step w (call c)) cs
+
+-- just after opening a new format: start 4, position 28
+unfoldable pub fresh : World
+fresh = step (afterFormat 4 8) (call (opening (zeros 1024) room))
+
+unfoldable pub base : ℕ
+base = 28
+
+-- the word of the tag at a position
+unfoldable pub tagAt : World → ℕ → ℕ
+tagAt w p = groupTag (groupAt (w .log) (slotOf 4 p)) (indexOf p)
+
+-- the start and the number of the next position, counted from the opening's
+unfoldable pub startOf : World → ℕ
+startOf w = stateOf (w .state) .start - 4
+
+unfoldable pub nextOf : World → ℕ
+nextOf w = nextPosition (stateOf (w .state)) - base
+
+-- the first byte that a writer reads of a home
+unfoldable pub readOf : World → ℕ → ℕ → ℕ
+readOf w writer home = getD (ends w (read writer home (zeros 64)) .block) 0 0
+
+-- what an opening answers
+unfoldable pub reopened : World → List ℕ
+reopened w = answerOf (ends w (opening (zeros 1024) room))
+
+-- 1. "Writer 0 stores homes 1, 2, commits: tags 5 and 2199023271947; flush gives 518 bytes."
+unfoldable pub trial1 : List ℕ
+trial1 =
+    let w : World = goes fresh (begin 0 ∷ store 0 1 (fill 1) room ∷ store 0 2 (fill 2) room ∷ commit 0 room ∷ []) in
+    tagAt w base ∷ tagAt w (base + 1) ∷ ends w (flush room) .size ∷ []
+
+-- 2. "Tag closing, home 5, distance 2, link 0, count 3: 3298534916119."
+unfoldable pub trial2 : List ℕ
+trial2 = closingWord 5 2 0 3 ∷ []
+
+-- 3. "A stores 3, 4; B stores 3, commits; A commits: home 3 reads A's." Read by a third writer, and in the data copy after a flush and a settle.
+unfoldable pub trial3 : List ℕ
+trial3 =
+    let w : World =
+    goes fresh
+    (begin 0 ∷ begin 1 ∷ store 0 3 (fill 65) room ∷ store 0 4 (fill 65) room ∷ store 1 3 (fill 66) room ∷ commit 1 room ∷ commit 0 room ∷ []) in
+    let v : World = goes w (flush room ∷ settle room ∷ []) in
+    readOf w 2 3 ∷ getD (homeAt (v .area) 3) 0 0 ∷ []
+
+-- writer 0 stores homes 0 to 7
+unfoldable pub stores : List Call
+stores =
+    begin 0 ∷ store 0 0 (fill 7) room ∷ store 0 1 (fill 7) room ∷ store 0 2 (fill 7) room ∷ store 0 3 (fill 7) room ∷ store 0 4 (fill 7) room
+    ∷ store 0 5 (fill 7) room ∷ store 0 6 (fill 7) room ∷ store 0 7 (fill 7) room ∷ []
+
+-- writer 1 commits home 5, and the log is flushed
+unfoldable pub commits : List Call
+commits = begin 1 ∷ store 1 5 (fill 9) room ∷ commit 1 room ∷ flush room ∷ []
+
+-- the opening's two fences have passed; of the writes since, the first group's is lost
+unfoldable pub firstLost : World → World
+firstLost w = step w (crash 2 (λ i. not (eqb i 0)))
+
+-- 4. "Writer 0 stores homes 0 to 7, aborts; writer 1 commits home 5; flush; group 0 lost: one comes back."
+unfoldable pub trial4 : List ℕ
+trial4 = reopened (firstLost (goes fresh (stores ++ (abort 0 ∷ commits))))
+
+-- 5. "As 4, but writer 0 commits before writer 1: none comes back."
+unfoldable pub trial5 : List ℕ
+trial5 = reopened (firstLost (goes fresh (stores ++ (commit 0 room ∷ commits))))
+
+-- writer 0 stores homes 0 and 1 in turn, 2 × n times
+unfoldable pub inTurn : ℕ → List Call
+inTurn zero = []
+inTurn (suc n) = store 0 0 (fill 3) room ∷ store 0 1 (fill 4) room ∷ inTurn n
+
+-- after 28 stores
+unfoldable pub nearlyFull : World
+nearlyFull = goes fresh (begin 0 ∷ inTurn 14)
+
+unfoldable pub one : Call
+one = store 0 0 (fill 3) room
+
+-- 6. "Writer 0 stores homes 0 and 1 in turn: the 29th is taken, the 30th answers 8. Commit answers 8."
+unfoldable pub trial6 : List ℕ
+trial6 =
+    let w : World = nearlyFull in
+    let full : World = step w (call one) in
+    ends w one .code ∷ ends full (store 0 1 (fill 4) room) .code ∷ ends full (commit 0 room) .code ∷ []
+
+-- 7. "Then abort, flush (2 bytes), settle (2), trim (68): start 4, all places free." All are free where the next position is the start's.
+unfoldable pub trial7 : List ℕ
+trial7 =
+    let full : World = step nearlyFull (call one) in
+    let w : World = goes full (abort 0 ∷ flush room ∷ settle room ∷ trim room ∷ []) in
+    answers full (abort 0 ∷ flush room ∷ settle room ∷ trim room ∷ []) ++ (startOf w ∷ (nextOf w - 7 * startOf w) ∷ [])
+
+-- 8. "Commit with no store: ticket 0, no entry."
+unfoldable pub trial8 : List ℕ
+trial8 =
+    let calls : List Call = begin 0 ∷ commit 0 room ∷ [] in
+    answers fresh calls ++ (nextOf (goes fresh calls) ∷ [])
+
+-- 9. "Writer 0 stores homes 1, 2 and stays open; flush, settle, trim: start stays, trim gives 0 bytes."
+unfoldable pub trial9 : List ℕ
+trial9 =
+    let w : World = goes fresh (begin 0 ∷ store 0 1 (fill 1) room ∷ store 0 2 (fill 2) room ∷ flush room ∷ settle room ∷ []) in
+    answerOf (ends w (trim room)) ++ (startOf (step w (call (trim room))) ∷ [])
+
+-- 10. "Opening a new format: 0 back, 70 train bytes. Format writes 2,746."
+unfoldable pub unformatted : Given
+unformatted =
+    record { state = []; log = zeros (64 + 512 * 4); area = zeros (64 * 8); block = []; batch = zeros 2746; writer = 0; home = 0 }
+
+unfoldable pub trial10 : List ℕ
+trial10 = reopened (afterFormat 4 8) ++ answerOf (formatCall unformatted)
+
+-- the table: what a trial yields, and what the paper says. An answer is the number, the figure and the batch length.
+pub record Trial : Type 0 where
+  pub yields : List ℕ
+  pub paper : List ℕ
+
+unfoldable pub trials : List Trial
+trials =
+    record { yields = trial1; paper = 5 ∷ 2199023271947 ∷ 518 ∷ [] } ∷ record { yields = trial2; paper = 3298534916119 ∷ [] }
+    ∷ record { yields = trial3; paper = 65 ∷ 65 ∷ [] } ∷ record { yields = trial4; paper = 0 ∷ 1 ∷ 138 ∷ [] }
+    ∷ record { yields = trial5; paper = 0 ∷ 0 ∷ 70 ∷ [] } ∷ record { yields = trial6; paper = 0 ∷ 8 ∷ 8 ∷ [] }
+    ∷ record { yields = trial7; paper = 0 ∷ 0 ∷ 0 ∷ 0 ∷ 0 ∷ 2 ∷ 0 ∷ 0 ∷ 2 ∷ 0 ∷ 0 ∷ 68 ∷ 4 ∷ 0 ∷ [] }
+    ∷ record { yields = trial8; paper = 0 ∷ 0 ∷ 0 ∷ 0 ∷ 0 ∷ 0 ∷ 0 ∷ [] } ∷ record { yields = trial9; paper = 0 ∷ 0 ∷ 0 ∷ 0 ∷ [] }
+    ∷ record { yields = trial10; paper = 0 ∷ 0 ∷ 70 ∷ 0 ∷ 0 ∷ 2746 ∷ [] } ∷ []
+
+unfoldable pub allMatch : List Trial → Bool
+allMatch [] = true
+allMatch (t ∷ ts) = same (t .yields) (t .paper) && allMatch ts

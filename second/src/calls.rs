@@ -1,0 +1,219 @@
+//! The calls of a writer, and those that only move the fence: begin, abort,
+//! store, commit, flush, confirm, read.
+
+use crate::batch::{check_batch, Batch, FENCE_LEN, GROUP_WRITE_LEN};
+use crate::layout::{group_head, home_range, put_word, refuse, slot_range, Answer, BLOCK};
+use crate::state::{check_home, check_writer, mode, pending_range, State, Writer};
+use crate::tag::{closing_tag, entry_tag};
+use crate::walk::{newest_of_home, View};
+
+pub fn begin(log: &[u8], data: &[u8], state: &mut [u8], writer: u64) -> Answer {
+    Answer::of(try_begin(log, data, state, writer))
+}
+
+fn try_begin(log: &[u8], data: &[u8], bytes: &mut [u8], writer: u64) -> Result<Answer, u32> {
+    State::load(log, data, bytes)?;
+    check_writer(writer)?;
+    if Writer::load(bytes, writer).mode != mode::IDLE {
+        return Err(refuse::NOT_IDLE);
+    }
+    Writer::OPEN.save(bytes, writer);
+    Ok(Answer::DONE)
+}
+
+pub fn abort(log: &[u8], data: &[u8], state: &mut [u8], writer: u64) -> Answer {
+    Answer::of(try_abort(log, data, state, writer))
+}
+
+fn try_abort(log: &[u8], data: &[u8], bytes: &mut [u8], writer: u64) -> Result<Answer, u32> {
+    State::load(log, data, bytes)?;
+    check_writer(writer)?;
+    load_open(bytes, writer)?;
+    Writer::IDLE.save(bytes, writer);
+    Ok(Answer::DONE)
+}
+
+/// Question 7.
+fn load_open(bytes: &[u8], writer: u64) -> Result<Writer, u32> {
+    let record = Writer::load(bytes, writer);
+    if record.mode == mode::IDLE { Err(refuse::NOT_OPEN) } else { Ok(record) }
+}
+
+pub fn store(
+    log: &mut [u8],
+    data: &[u8],
+    state: &mut [u8],
+    block: &[u8],
+    batch: &mut [u8],
+    writer: u64,
+    home: u64,
+) -> Answer {
+    Answer::of(try_store(log, data, state, block, batch, writer, home))
+}
+
+fn try_store(
+    log: &mut [u8],
+    data: &[u8],
+    bytes: &mut [u8],
+    block: &[u8],
+    batch: &mut [u8],
+    writer: u64,
+    home: u64,
+) -> Result<Answer, u32> {
+    let state = load_with_block(log, data, bytes, block)?;
+    check_writer(writer)?;
+    check_home(state.shape, home)?;
+    let record = load_open(bytes, writer)?;
+    let mut len = 0;
+    if !record.holds() {
+        Writer { mode: mode::HOLDING, home, first: 0, count: 0 }.save(bytes, writer);
+    } else if record.home != home {
+        check_room(&state, batch)?;
+        let position = state.next_position();
+        let (first, count) = record.logged().unwrap_or((position, 0));
+        let tag = entry_tag(record.home, position - first);
+        len = append(log, state, bytes, batch, writer, tag);
+        Writer { mode: mode::LOGGING, home, first, count: count + 1 }.save(bytes, writer);
+    }
+    bytes[pending_range(writer)].copy_from_slice(block);
+    Ok(Answer::wrote(len))
+}
+
+/// Questions 1 and 2 with a lent block.
+fn load_with_block(log: &[u8], data: &[u8], bytes: &[u8], block: &[u8]) -> Result<State, u32> {
+    if block.len() != BLOCK {
+        return Err(refuse::LENGTHS);
+    }
+    State::load(log, data, bytes)
+}
+
+/// Questions 8 and 10 for a call that logs one entry.
+fn check_room(state: &State, batch: &[u8]) -> Result<(), u32> {
+    if state.next >= state.end_group() {
+        return Err(refuse::FULL);
+    }
+    check_batch(batch, if state.filled == 6 { GROUP_WRITE_LEN } else { 0 })
+}
+
+/// Logs the writer's pending block at the next position; the seventh place
+/// submits the group. Gives the batch bytes written.
+fn append(
+    log: &mut [u8],
+    mut state: State,
+    bytes: &mut [u8],
+    batch: &mut [u8],
+    writer: u64,
+    tag: u64,
+) -> usize {
+    let slot = (state.next % state.shape.groups) as usize;
+    let group = &mut log[slot_range(slot)];
+    if state.filled == 0 {
+        group.fill(0);
+        put_word(group, 0, group_head(state.next));
+    }
+    let place = state.filled as usize;
+    put_word(group, 8 + 8 * place, tag);
+    let from = BLOCK * (1 + place);
+    group[from..from + BLOCK].copy_from_slice(&bytes[pending_range(writer)]);
+    let mut out = Batch::new(batch);
+    state.filled += 1;
+    if state.filled == 7 {
+        out.group(slot, group);
+        state.filled = 0;
+        state.next += 1;
+    }
+    state.save(bytes);
+    out.len()
+}
+
+pub fn commit(log: &mut [u8], data: &[u8], state: &mut [u8], batch: &mut [u8], writer: u64) -> Answer {
+    Answer::of(try_commit(log, data, state, batch, writer))
+}
+
+fn try_commit(
+    log: &mut [u8],
+    data: &[u8],
+    bytes: &mut [u8],
+    batch: &mut [u8],
+    writer: u64,
+) -> Result<Answer, u32> {
+    let mut state = State::load(log, data, bytes)?;
+    check_writer(writer)?;
+    let record = load_open(bytes, writer)?;
+    let mut answer = Answer::DONE;
+    if record.holds() {
+        check_room(&state, batch)?;
+        let position = state.next_position();
+        let (first, count) = record.logged().unwrap_or((position, 0));
+        let link = if state.last_closing == 0 { 0 } else { position + 1 - state.last_closing };
+        let tag = closing_tag(record.home, position - first, link, count + 1);
+        state.last_closing = position + 1;
+        answer.figure = position + 1;
+        answer.len = append(log, state, bytes, batch, writer, tag);
+    }
+    Writer::IDLE.save(bytes, writer);
+    Ok(answer)
+}
+
+pub fn flush(log: &[u8], data: &[u8], state: &mut [u8], batch: &mut [u8]) -> Answer {
+    Answer::of(try_flush(log, data, state, batch))
+}
+
+fn try_flush(log: &[u8], data: &[u8], bytes: &mut [u8], batch: &mut [u8]) -> Result<Answer, u32> {
+    let mut state = State::load(log, data, bytes)?;
+    let part = state.filled > 0;
+    check_batch(batch, if part { GROUP_WRITE_LEN + FENCE_LEN } else { FENCE_LEN })?;
+    let mut out = Batch::new(batch);
+    if part {
+        let slot = (state.next % state.shape.groups) as usize;
+        out.group(slot, &log[slot_range(slot)]);
+        state.filled = 0;
+        state.next += 1;
+    }
+    out.fence();
+    state.fence();
+    state.save(bytes);
+    Ok(Answer::wrote(out.len()))
+}
+
+pub fn confirm(log: &[u8], data: &[u8], state: &mut [u8]) -> Answer {
+    Answer::of(try_confirm(log, data, state))
+}
+
+fn try_confirm(log: &[u8], data: &[u8], bytes: &mut [u8]) -> Result<Answer, u32> {
+    let mut state = State::load(log, data, bytes)?;
+    state.durable = state.fenced;
+    state.save(bytes);
+    Ok(Answer { code: 0, figure: state.durable, len: 0 })
+}
+
+pub fn read(log: &[u8], data: &[u8], state: &[u8], block: &mut [u8], writer: u64, home: u64) -> Answer {
+    Answer::of(try_read(log, data, state, block, writer, home))
+}
+
+fn try_read(
+    log: &[u8],
+    data: &[u8],
+    bytes: &[u8],
+    block: &mut [u8],
+    writer: u64,
+    home: u64,
+) -> Result<Answer, u32> {
+    let state = load_with_block(log, data, bytes, block)?;
+    check_writer(writer)?;
+    check_home(state.shape, home)?;
+    let record = Writer::load(bytes, writer);
+    if record.holds() && record.home == home {
+        block.copy_from_slice(&bytes[pending_range(writer)]);
+        return Ok(Answer::DONE);
+    }
+    let base = state.first_position();
+    let end = (state.next_position() - base) as u32;
+    let view = View { log, shape: state.shape, start: state.start, end };
+    let own = record.logged().map(|(first, _)| (first - base) as u32);
+    match newest_of_home(&view, home as u32, own) {
+        Some(offset) => block.copy_from_slice(view.block(offset)),
+        None => block.copy_from_slice(&data[home_range(home as usize)]),
+    }
+    Ok(Answer::DONE)
+}

@@ -1,0 +1,232 @@
+//! Test cases for a checker in another language: the lent memory before and
+//! after one call, and its answer.
+
+use crate::batch::GROUP_WRITE_LEN;
+use crate::craft::craft;
+use crate::damage::{damage_group, damage_header, damage_lengths, damage_state};
+use crate::layout::{put_word, word, Answer, Shape, START_LIMIT};
+use crate::lent::{ample, Kind, Lent};
+use crate::player::{random_crash, step, Profile, Tally};
+use crate::rng::Rng;
+use crate::state::{at, Writer};
+use crate::world::World;
+use std::fmt::Write;
+
+pub struct Case {
+    pub kind: Kind,
+    pub shape: Shape,
+    pub writer: u64,
+    pub home: u64,
+    pub before: Lent,
+    pub after: Lent,
+    pub answer: Answer,
+}
+
+pub struct Cases {
+    pub rng: Rng,
+    world: World,
+    profile: Profile,
+    left: u64,
+}
+
+/// In the order of `Kind::ALL`.
+const WEIGHTS: [u64; 11] = [3, 14, 6, 6, 22, 18, 8, 5, 12, 14, 14];
+
+impl Cases {
+    pub fn new(seed: u64) -> Cases {
+        let mut rng = Rng::new(seed);
+        let world = fresh_world(&mut rng);
+        let profile = Profile::random(&mut rng);
+        Cases { rng, world, profile, left: 0 }
+    }
+
+    pub fn case(&mut self) -> Case {
+        let rng = &mut self.rng;
+        let kind = Kind::ALL[rng.weighted(&WEIGHTS)];
+        let (shape, mut lent) = if rng.chance(40) {
+            let shape = Shape { groups: 4, homes: rng.between(1, 8) };
+            (shape, craft(rng, shape))
+        } else {
+            self.advance(kind);
+            (self.world.shape, self.world.lent.clone())
+        };
+        let rng = &mut self.rng;
+        if matches!(kind, Kind::Store | Kind::Commit) && rng.chance(20) {
+            fill_group(&mut lent);
+        }
+        if kind == Kind::Trim && rng.chance(40) {
+            settle_all(&mut lent);
+        }
+        damage(rng, &mut lent, shape, kind);
+        let (writer, home) = arguments(rng, kind, shape, &lent);
+        finish(rng, kind, shape, writer, home, lent)
+    }
+
+    /// Plays on; an opening is tried on a fresh image half the time.
+    fn advance(&mut self, kind: Kind) {
+        if self.left == 0 {
+            self.world = fresh_world(&mut self.rng);
+            self.profile = Profile::random(&mut self.rng);
+            self.left = self.rng.between(3, 20);
+        }
+        self.left -= 1;
+        let mut tally = Tally::default();
+        for _ in 0..self.rng.between(1, 25) {
+            step(&mut self.rng, &self.profile, &mut self.world, &mut tally, true).expect("history");
+        }
+        if kind == Kind::Open && self.rng.chance(60) {
+            random_crash(&mut self.rng, &mut self.world).expect("crash");
+            self.world.load();
+        }
+        let live = !matches!(kind, Kind::Open | Kind::Format);
+        let mut tries = 0;
+        while live && !self.world.opened && tries < 50 {
+            step(&mut self.rng, &self.profile, &mut self.world, &mut tally, true).expect("history");
+            tries += 1;
+        }
+    }
+}
+
+fn fresh_world(rng: &mut Rng) -> World {
+    let shape = Shape { groups: 4, homes: rng.between(1, 8) };
+    let start = if rng.chance(15) { START_LIMIT - rng.between(4, 14) } else { 0 };
+    World::new(shape, start)
+}
+
+/// Leaves one place in the next group, if the log is not full.
+fn fill_group(lent: &mut Lent) {
+    let next = word(&lent.state, at::NEXT);
+    if next < word(&lent.state, at::START).saturating_add(4) {
+        put_word(&mut lent.state, at::FILLED, 6);
+    }
+}
+
+/// Puts the settled and fenced positions as high as they may be.
+fn settle_all(lent: &mut Lent) {
+    let highest = word(&lent.state, at::NEXT).saturating_mul(7);
+    put_word(&mut lent.state, at::SETTLED, highest);
+    put_word(&mut lent.state, at::FENCED, highest);
+}
+
+fn damage(rng: &mut Rng, lent: &mut Lent, shape: Shape, kind: Kind) {
+    let log_percent = if kind == Kind::Open { 25 } else { 8 };
+    if rng.chance(log_percent) {
+        damage_header(rng, lent, shape);
+    }
+    if rng.chance(20) {
+        for _ in 0..rng.between(1, 3) {
+            damage_group(rng, lent, shape);
+        }
+    }
+    if kind != Kind::Open && rng.chance(15) {
+        damage_state(rng, lent);
+    }
+    if kind == Kind::Open && rng.chance(80) {
+        lent.state.fill(0xee);
+    } else if rng.chance(15) {
+        let spare = rng.pick(&[72, 100, 127, 896, 1000, 1023]);
+        lent.state[spare] ^= 0x5a;
+    }
+}
+
+/// Now and then out of range; else often a writer that is open (or idle, for
+/// begin), and the home it holds or another.
+fn arguments(rng: &mut Rng, kind: Kind, shape: Shape, lent: &Lent) -> (u64, u64) {
+    let mut writer = rng.below(8);
+    let mut home = rng.below(shape.homes);
+    if rng.chance(70) {
+        let mode = |w: u64| Writer::load(&lent.state, w).mode;
+        let fits = |w: &u64| (mode(*w) == 0) == (kind == Kind::Begin);
+        writer = (0..8).map(|add| (writer + add) % 8).find(fits).unwrap_or(writer);
+    }
+    if rng.chance(15) {
+        home = Writer::load(&lent.state, writer).home;
+    }
+    if rng.chance(6) {
+        writer = rng.pick(&[8, 9, 256, 1 << 32, u64::MAX]);
+    }
+    if rng.chance(6) {
+        home = rng.pick(&[shape.homes, shape.homes + 1, 4096, 1 << 32, u64::MAX]);
+    }
+    (writer, home)
+}
+
+fn finish(rng: &mut Rng, kind: Kind, shape: Shape, writer: u64, home: u64, mut lent: Lent) -> Case {
+    lent.block = vec![rng.next() as u8; 64];
+    lent.batch = vec![0; ample(4, 8)];
+    let need = lent.clone().run(kind, writer, home).len;
+    let len = match rng.below(10) {
+        0 if need > 0 => need - 1,
+        4 | 5 if need == GROUP_WRITE_LEN => need - 1,
+        1 => 0,
+        2 | 3 => need + rng.below(70) as usize,
+        _ => need,
+    };
+    lent.batch = vec![0xcc; len];
+    if rng.chance(6) {
+        damage_lengths(rng, &mut lent);
+    }
+    hide(kind, &mut lent);
+    let mut after = lent.clone();
+    let answer = after.run(kind, writer, home);
+    let writer = if kind.takes_writer() { writer } else { 0 };
+    let home = if kind.takes_home() { home } else { 0 };
+    Case { kind, shape, writer, home, before: lent, after, answer }
+}
+
+/// Empties the parts that the call is not lent.
+fn hide(kind: Kind, lent: &mut Lent) {
+    if !kind.takes_state() {
+        lent.state.clear();
+    }
+    if !kind.takes_block() {
+        lent.block.clear();
+    }
+    if !kind.takes_batch() {
+        lent.batch.clear();
+    }
+}
+
+/// Bytes as [[byte,count],...].
+fn runs(bytes: &[u8]) -> String {
+    let mut text = String::from("[");
+    for chunk in bytes.chunk_by(|a, b| a == b) {
+        let comma = if text.len() > 1 { "," } else { "" };
+        write!(text, "{comma}[{},{}]", chunk[0], chunk.len()).unwrap();
+    }
+    text.push(']');
+    text
+}
+
+impl Case {
+    /// One line of JSON without spaces.
+    pub fn json(&self) -> String {
+        let mut text = format!(
+            "{{\"call\":\"{}\",\"g\":{},\"d\":{},\"writer\":{},\"home\":{}",
+            self.kind.name(),
+            self.shape.groups,
+            self.shape.homes,
+            self.writer,
+            self.home
+        );
+        parts(&mut text, &self.before, "");
+        let Answer { code, figure, len } = self.answer;
+        write!(text, ",\"code\":{code},\"figure\":{figure},\"len\":{len}").unwrap();
+        parts(&mut text, &self.after, "2");
+        text.push('}');
+        text
+    }
+}
+
+fn parts(text: &mut String, lent: &Lent, suffix: &str) {
+    let named = [
+        ("state", &lent.state),
+        ("log", &lent.log),
+        ("data", &lent.data),
+        ("block", &lent.block),
+        ("batch", &lent.batch),
+    ];
+    for (name, bytes) in named {
+        write!(text, ",\"{name}{suffix}\":{}", runs(bytes)).unwrap();
+    }
+}

@@ -1,0 +1,173 @@
+//! What must hold after a call: demands 2 and 3, and the state in order.
+
+use crate::layout::{word, Answer};
+use crate::lent::{Kind, Lent};
+use crate::literal;
+use crate::state::{mode, pending_range, State, Writer};
+use crate::world::{Call, Odd, World};
+
+fn must(holds: bool, what: &str) -> Result<(), String> {
+    if holds { Ok(()) } else { Err(what.to_string()) }
+}
+
+impl World {
+    /// Performs a call and checks all that the paper says of it. `deep` asks
+    /// for the checks that look at whole areas.
+    pub fn perform(&mut self, call: &Call, deep: bool) -> Result<Answer, String> {
+        self.calls += 1;
+        if call.kind == Kind::Open {
+            self.load();
+        }
+        self.lent.block = call.block.to_vec();
+        self.lent.batch = vec![0xcc; call.batch_len];
+        let expected = self.expected(call);
+        if call.odd.is_some() || (deep && expected.code != 0) {
+            return self.perform_refused(call, expected);
+        }
+        let answer = self.lent.run(call.kind, call.writer, call.home);
+        must(answer == expected, &format!("answer {answer:?}, expected {expected:?}"))?;
+        must(self.lent.batch[answer.len..].iter().all(|&b| b == 0xcc), "batch past its length")?;
+        if answer.code == 0 {
+            self.check_done(call, answer, deep)?;
+        }
+        Ok(answer)
+    }
+
+    /// A refused call gives the number and changes no lent byte.
+    fn perform_refused(&mut self, call: &Call, expected: Answer) -> Result<Answer, String> {
+        let mut lent = self.lent.clone();
+        if let Some(odd) = call.odd {
+            cut_to_odd(&mut lent, odd);
+        }
+        let before = lent.clone();
+        let answer = lent.run(call.kind, call.writer, call.home);
+        must(answer == expected, &format!("answer {answer:?}, expected {expected:?}"))?;
+        must(lent == before, "a refused call changed something")?;
+        Ok(answer)
+    }
+
+    fn check_done(&mut self, call: &Call, answer: Answer, deep: bool) -> Result<(), String> {
+        let below_fence = self.below_fence();
+        let header_before = literal::header_start(&self.image.log);
+        let records = self.submit(answer.len)?;
+        self.follow(call, answer, &records);
+        self.check_state()?;
+        match call.kind {
+            Kind::Read => {
+                let want = self.book.read(call.writer, call.home);
+                must(self.lent.block == want, "read")?;
+            }
+            Kind::Open => self.check_open(answer, header_before)?,
+            Kind::Settle => {
+                let want = self.book.homes_after(below_fence, self.shape.homes);
+                must(self.lent.data == want, "settle: data copy")?;
+            }
+            _ => {}
+        }
+        if call.kind != Kind::Read {
+            must(self.lent.block == call.block, "block changed")?;
+        }
+        if deep { self.check_areas() } else { Ok(()) }
+    }
+
+    /// Demand 3, and that the count is of the untrimmed commits.
+    fn check_open(&self, answer: Answer, start: u64) -> Result<(), String> {
+        let run = self.book.commits.len();
+        let want = self.book.homes_after(run, self.shape.homes);
+        must(self.lent.data == want, "open: data copy is not the homes after the run")?;
+        let back = self.spans.iter().filter(|span| span.1 >= 7 * start).count();
+        must(answer.figure == back as u64, "open: number brought back")?;
+        must(self.shadow.start == start + self.shape.groups, "open: new start")
+    }
+
+    /// The state's fields by the shadow and the book.
+    fn check_state(&self) -> Result<(), String> {
+        let bytes = &self.lent.state;
+        let state = State::load(&self.lent.log, &self.lent.data, bytes)
+            .map_err(|code| format!("state not in order: {code}"))?;
+        let last = self.spans[self.brought..].last().map_or(0, |span| span.1 + 1);
+        let want = State {
+            shape: self.shape,
+            start: self.shadow.start,
+            next: self.shadow.next,
+            filled: self.book.row.len() as u64,
+            settled: self.shadow.settled,
+            fenced: self.shadow.fenced,
+            durable: self.shadow.durable,
+            last_closing: if last > 7 * self.shadow.start { last } else { 0 },
+        };
+        must(state == want, &format!("state {state:?}, expected {want:?}"))?;
+        (0..8).try_for_each(|writer| self.check_writer(writer))
+    }
+
+    fn check_writer(&self, writer: u64) -> Result<(), String> {
+        let record = Writer::load(&self.lent.state, writer);
+        let mut want = Writer::IDLE;
+        if let Some(open) = &self.book.writers[writer as usize] {
+            want.mode = mode::OPEN;
+            if let Some((home, block)) = open.held {
+                want.mode = mode::HOLDING;
+                want.home = home;
+                must(self.lent.state[pending_range(writer)] == block, "pending block")?;
+            }
+            if let Some(first) = self.shadow.first[writer as usize] {
+                want.mode = mode::LOGGING;
+                want.first = first;
+                want.count = open.logged.len() as u64;
+            }
+        }
+        must(record == want, &format!("writer {writer}: {record:?}, expected {want:?}"))
+    }
+
+    /// Demand 2 over the whole copies.
+    fn check_areas(&mut self) -> Result<(), String> {
+        must(self.lent.data == self.full.data, "data copy and submitted writes differ")?;
+        if self.book.row.is_empty() {
+            must(self.lent.log == self.full.log, "log copy and submitted writes differ")?;
+        }
+        let start = self.shadow.start;
+        must(word(&self.lent.log, 0) >> 16 == start, "start in the log copy")?;
+        let next = self.next_position();
+        for next in [Some(next), None] {
+            let present = literal::present(&self.lent.log, self.shape.homes, start, next);
+            self.check_commits(&literal::committed(&present, start))?;
+        }
+        if self.shape.homes <= 8 {
+            for at in 0..8 * self.shape.homes {
+                self.check_read(at / self.shape.homes, at % self.shape.homes)?;
+            }
+        }
+        Ok(())
+    }
+
+    /// What the log reads back as: the committed, untrimmed transactions.
+    fn check_commits(&self, list: &[literal::Transaction]) -> Result<(), String> {
+        let from = self.untrimmed().max(self.brought);
+        must(list.len() == self.spans.len() - from, "number of committed in the log copy")?;
+        for (index, transaction) in list.iter().enumerate() {
+            let entries = self.book.commits[from + index].iter().map(|&i| &self.book.entries[i]);
+            let want: Vec<(u64, Vec<u8>)> = entries.map(|e| (e.home, e.block.to_vec())).collect();
+            must(transaction.entries == want, "entries of a committed transaction")?;
+            let span = (transaction.first as u64, transaction.closing as u64);
+            must(span == self.spans[from + index], "place of a committed transaction")?;
+        }
+        Ok(())
+    }
+
+    fn check_read(&mut self, writer: u64, home: u64) -> Result<(), String> {
+        let mut block = [0xaa; 64];
+        let Lent { log, data, state, .. } = &self.lent;
+        let answer = crate::read(log, data, state, &mut block, writer, home);
+        must(answer == Answer::DONE, "read refused")?;
+        must(block == self.book.read(writer, home), "read differs from the book")
+    }
+}
+
+fn cut_to_odd(lent: &mut Lent, odd: Odd) {
+    match odd {
+        Odd::Log(len) => lent.log.resize(len, 0),
+        Odd::Data(len) => lent.data.resize(len, 0),
+        Odd::State(len) => lent.state.resize(len, 0),
+        Odd::Block(len) => lent.block.resize(len, 0),
+    }
+}

@@ -1,0 +1,181 @@
+//! Logs and states made up at random: in order by question 2, but such as no
+//! history leaves, to try the commit rule on damaged contents.
+
+use crate::layout::{group_head, header, put_word, slot_range, Shape, BLOCK, START_LIMIT};
+use crate::lent::Lent;
+use crate::rng::Rng;
+use crate::state::{at, mode, State, Writer};
+use crate::tag::{closing_tag, entry_tag};
+
+/// A made-up log, data area and state, with blocks of one byte each.
+pub fn craft(rng: &mut Rng, shape: Shape) -> Lent {
+    let mut lent = Lent::new(shape.groups, shape.homes);
+    let start = match rng.below(8) {
+        0 => START_LIMIT,
+        1 => START_LIMIT - rng.between(1, 2 * shape.groups),
+        2 => 0,
+        3 => rng.below(START_LIMIT),
+        _ => rng.below(3 * shape.groups),
+    };
+    let tags = craft_tags(rng, shape, start);
+    lent.log[..64].copy_from_slice(&header(shape, start));
+    for (index, seven) in tags.chunks(7).enumerate() {
+        craft_group(rng, &mut lent, shape, start + index as u64, seven);
+    }
+    for home in 0..shape.homes as usize {
+        lent.data[BLOCK * home..BLOCK * (home + 1)].fill(rng.next() as u8);
+    }
+    craft_state(rng, &mut lent, shape, start, &tags);
+    lent
+}
+
+fn craft_group(rng: &mut Rng, lent: &mut Lent, shape: Shape, number: u64, tags: &[u64]) {
+    let slot = (number % shape.groups) as usize;
+    let group = &mut lent.log[slot_range(slot)];
+    let head = match rng.below(20) {
+        0 => group_head(number) ^ 1 << rng.below(64),
+        1 => group_head(number.wrapping_sub(shape.groups) & 0xffff_ffff_ffff),
+        2 => group_head(number + shape.groups),
+        _ => group_head(number),
+    };
+    put_word(group, 0, head);
+    for (place, &tag) in tags.iter().enumerate() {
+        put_word(group, 8 + 8 * place, tag);
+        let from = BLOCK * (1 + place);
+        group[from..from + BLOCK].fill(rng.next() as u8);
+    }
+}
+
+/// Tags for every offset; most commit entries count and link rightly.
+fn craft_tags(rng: &mut Rng, shape: Shape, start: u64) -> Vec<u64> {
+    let total = 7 * shape.groups;
+    let mut tags = Vec::new();
+    let mut firsts: Vec<(u64, u64)> = Vec::new();
+    let mut last = None;
+    let (gap, close, wrong) = (rng.pick(&[0, 5, 30]), rng.pick(&[10, 30, 60]), rng.pick(&[0, 3, 20]));
+    for offset in 0..total {
+        if rng.chance(gap) {
+            tags.push(0);
+            continue;
+        }
+        let home = if rng.chance(wrong / 4) { rng.below(4096) } else { rng.below(shape.homes) };
+        let index = rng.below(firsts.len() as u64 + 1) as usize;
+        if index == firsts.len() {
+            firsts.push((offset.saturating_sub(if rng.chance(wrong) { rng.below(4) } else { 0 }), 0));
+        }
+        firsts[index].1 += 1;
+        let (first, count) = firsts[index];
+        let mut tag = entry_tag(home, offset - first);
+        if rng.chance(close) {
+            let link = craft_link(rng, offset, start, last, wrong);
+            let count = if rng.chance(wrong) { count + rng.below(3) - 1 } else { count };
+            tag = closing_tag(home, offset - first, link, count);
+            last = Some(offset);
+            if rng.chance(70) {
+                firsts.remove(index);
+            }
+        }
+        tags.push(if rng.chance(wrong / 2) { distort(rng, tag, offset) } else { tag });
+        if firsts.len() > 4 {
+            firsts.remove(0);
+        }
+    }
+    tags
+}
+
+fn craft_link(rng: &mut Rng, offset: u64, start: u64, last: Option<u64>, wrong: u64) -> u64 {
+    let before = (offset + 1 + rng.below(5)).min(7167);
+    let right = match last {
+        Some(last) => offset - last,
+        None if start > 0 && rng.chance(50) => before,
+        None => 0,
+    };
+    if rng.chance(wrong) { rng.pick(&[0, 1, right + 1, before]) } else { right }
+}
+
+/// Spoils a tag: a set zero bit, a distance past the start, any bit.
+pub fn distort(rng: &mut Rng, tag: u64, offset: u64) -> u64 {
+    match rng.below(6) {
+        0 => tag | 1 << rng.between(53, 63),
+        1 => tag & !(0x1fff << 14) | (offset + 1).min(8191) << 14,
+        2 => tag & !(0x1fff << 40),
+        3 => tag & !2,
+        4 => tag ^ 2,
+        _ => tag ^ 1 << rng.below(64),
+    }
+}
+
+fn craft_state(rng: &mut Rng, lent: &mut Lent, shape: Shape, start: u64, tags: &[u64]) {
+    let next = match rng.below(4) {
+        0 => start + shape.groups,
+        _ => start + rng.below(shape.groups + 1),
+    };
+    let filled = match rng.below(10) {
+        _ if next == start + shape.groups => 0,
+        0..=2 => 6,
+        _ => rng.below(7),
+    };
+    let next_position = 7 * next + filled;
+    let fenced = if rng.chance(40) { 7 * next } else { rng.between(7 * start, 7 * next) };
+    let settled = if rng.chance(40) { fenced } else { rng.between(7 * start, fenced) };
+    let used = next_position - 7 * start;
+    let closings = tags[..used as usize].iter().rposition(|tag| tag & 3 == 3);
+    let state = State {
+        shape,
+        start,
+        next,
+        filled,
+        settled,
+        fenced,
+        durable: rng.between(fenced.saturating_sub(30), fenced),
+        last_closing: match closings {
+            Some(offset) if rng.chance(80) => 7 * start + offset as u64 + 1,
+            _ if used > 0 && rng.chance(50) => 7 * start + 1 + rng.below(used),
+            _ => 0,
+        },
+    };
+    let spare = if rng.chance(50) { 0 } else { rng.next() as u8 };
+    lent.state.fill(spare);
+    put_word(&mut lent.state, at::GROUPS, shape.groups);
+    put_word(&mut lent.state, at::HOMES, shape.homes);
+    state.save(&mut lent.state);
+    let modes = rng.pick(&[3, 4]);
+    for writer in 0..8 {
+        craft_writer(rng, lent, &state, tags, (writer, modes));
+    }
+}
+
+/// A record in order, of one of the first `modes` modes; a transaction that
+/// logs often begins where one does in the log.
+fn craft_writer(
+    rng: &mut Rng,
+    lent: &mut Lent,
+    state: &State,
+    tags: &[u64],
+    (writer, modes): (u64, u64),
+) {
+    let used = state.next_position() - state.first_position();
+    let (mode, home) = (rng.below(modes), rng.below(state.shape.homes));
+    let mut record = Writer { mode, home, first: 0, count: 0 };
+    if record.mode == mode::LOGGING && used == 0 || rng.chance(30) {
+        record.mode = rng.below(3);
+    }
+    if record.mode == mode::LOGGING {
+        let mut offset = rng.below(used);
+        let back = tags[offset as usize] >> 14 & 0x1fff;
+        if back <= offset && rng.chance(60) {
+            offset -= back;
+        }
+        record.first = state.first_position() + offset;
+        let most = used - offset;
+        record.count = rng.pick(&[1, most.div_ceil(2), most]);
+    } else if rng.chance(50) {
+        record.first = 0xdead_beef;
+        record.count = u64::MAX;
+    }
+    if record.mode < mode::HOLDING && rng.chance(50) {
+        record.home = u64::MAX;
+    }
+    record.save(&mut lent.state, writer);
+    lent.state[crate::state::pending_range(writer)].fill(0xb0 + writer as u8);
+}

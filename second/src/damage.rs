@@ -1,0 +1,125 @@
+//! Damage to a log or a state, at the limits the questions name.
+
+use crate::craft::distort;
+use crate::layout::{group_head, header, put_word, slot_range, word, Shape, START_LIMIT};
+use crate::lent::Lent;
+use crate::rng::Rng;
+use crate::state::{at, State};
+
+pub fn damage_header(rng: &mut Rng, lent: &mut Lent, shape: Shape) {
+    let start = word(&lent.log, 0) >> 16;
+    let mut bytes = header(shape, start);
+    match rng.below(6) {
+        0 => bytes = header(shape, START_LIMIT + rng.below(3) - 1),
+        1 => bytes = header(shape, START_LIMIT - shape.groups + rng.below(3) - 1),
+        2 => bytes = header(shape, rng.next() >> 16),
+        3 => bytes[rng.between(12, 63) as usize] = 1 << rng.below(8),
+        4 => bytes[rng.between(8, 11) as usize] ^= 1 << rng.below(8),
+        _ => bytes[rng.below(64) as usize] ^= 1 << rng.below(8),
+    }
+    lent.log[..64].copy_from_slice(&bytes);
+}
+
+pub fn damage_group(rng: &mut Rng, lent: &mut Lent, shape: Shape) {
+    let slot = rng.below(shape.groups) as usize;
+    let group = &mut lent.log[slot_range(slot)];
+    let number = word(group, 0) >> 16;
+    let place = rng.below(7);
+    let tag_at = 8 + 8 * place as usize;
+    let tag = word(group, tag_at);
+    match rng.below(8) {
+        0 => group[rng.below(2) as usize] ^= 1 << rng.below(8),
+        1 => put_word(group, 0, group_head(number.wrapping_add(shape.groups) & 0xffff_ffff_ffff)),
+        2 => put_word(group, 0, word(group, 0) ^ 1 << rng.between(16, 63)),
+        3 => put_word(group, tag_at, distort(rng, tag, place)),
+        4 => put_word(group, tag_at, (tag ^ 1 << rng.between(27, 52)) | 3),
+        5 => put_word(group, tag_at, tag ^ 1 << rng.between(2, 26)),
+        6 => put_word(group, tag_at, word(group, 8 + 8 * rng.below(7) as usize)),
+        _ => group[rng.below(512) as usize] ^= 1 << rng.below(8),
+    }
+}
+
+/// Sets one field of the state to a value at, or one off, a limit.
+pub fn damage_state(rng: &mut Rng, lent: &mut Lent) {
+    let bytes = &mut lent.state;
+    let field = rng.pick(&FIELDS);
+    if field >= at::WRITER {
+        return damage_writer(rng, bytes);
+    }
+    let [groups, homes, start, next, filled, settled, fenced] =
+        [0, 8, 16, 24, 32, 40, 48].map(|from| word(bytes, from));
+    let position = next.wrapping_mul(7).wrapping_add(filled);
+    let base = start.wrapping_mul(7);
+    let limits: [u64; 4] = match field {
+        at::GROUPS => [groups, 0, 1 << 32 | groups, u64::MAX],
+        at::HOMES => [homes, 0, 1 << 32 | homes, u64::MAX],
+        at::START => [START_LIMIT, next, next.wrapping_sub(groups), fenced / 7],
+        at::NEXT => [start, start.wrapping_add(groups), fenced / 7, u64::MAX],
+        at::FILLED => [0, 6, 7, u64::MAX],
+        at::SETTLED => [base, fenced, base, u64::MAX],
+        at::FENCED => [settled, next.wrapping_mul(7), next.wrapping_mul(7), u64::MAX],
+        at::DURABLE => [fenced, fenced, 0, u64::MAX],
+        _ => [base.wrapping_add(1), position, 0, u64::MAX],
+    };
+    let off = rng.pick(&[0, 1, u64::MAX]);
+    put_word(bytes, field, rng.pick(&limits).wrapping_add(off));
+}
+
+const FIELDS: [usize; 13] = [
+    at::GROUPS,
+    at::HOMES,
+    at::START,
+    at::NEXT,
+    at::FILLED,
+    at::SETTLED,
+    at::FENCED,
+    at::DURABLE,
+    at::LAST_CLOSING,
+    at::WRITER,
+    at::WRITER,
+    at::WRITER,
+    at::WRITER,
+];
+
+fn damage_writer(rng: &mut Rng, bytes: &mut [u8]) {
+    let from = at::WRITER + at::WRITER_SIZE * rng.below(8) as usize;
+    let homes = word(bytes, at::HOMES);
+    let base = word(bytes, at::START).wrapping_mul(7);
+    let next = word(bytes, at::NEXT).wrapping_mul(7).wrapping_add(word(bytes, at::FILLED));
+    let first = word(bytes, from + at::FIRST);
+    let off = rng.pick(&[0, 1, u64::MAX]);
+    match rng.below(6) {
+        0 => put_word(bytes, from, rng.pick(&[0, 1, 2, 3, 4, 5, 1 << 32, u64::MAX])),
+        1 => put_word(bytes, from + at::HELD_HOME, homes.wrapping_add(off)),
+        2 => put_word(bytes, from + at::FIRST, rng.pick(&[base, next]).wrapping_add(off)),
+        3 => {
+            let most = next.wrapping_sub(first);
+            put_word(bytes, from + at::COUNT, rng.pick(&[0, most, u64::MAX]).wrapping_add(off));
+        }
+        _ => {
+            let (first, most) = (base, next.wrapping_sub(base));
+            put_word(bytes, from, 3);
+            put_word(bytes, from + at::HELD_HOME, homes.wrapping_sub(1));
+            put_word(bytes, from + at::FIRST, first);
+            put_word(bytes, from + at::COUNT, rng.pick(&[0, 1, most, most.wrapping_add(1)]));
+        }
+    }
+}
+
+/// A wrong length for one part.
+pub fn damage_lengths(rng: &mut Rng, lent: &mut Lent) {
+    let part = match rng.below(4) {
+        0 => &mut lent.log,
+        1 => &mut lent.data,
+        2 => &mut lent.state,
+        _ => &mut lent.block,
+    };
+    let len = part.len();
+    let wrong = [len - 1, len + 1, len - 64, len + 64, 0, len + 512, len.saturating_sub(512)];
+    part.resize(rng.pick(&wrong), 0);
+}
+
+/// Is the state in order, by question 2?
+pub fn in_order(lent: &Lent) -> bool {
+    State::load(&lent.log, &lent.data, &lent.state).is_ok()
+}

@@ -1,0 +1,110 @@
+//! The answer that the book and the shadow lead one to expect of a call.
+
+use crate::batch::{FENCE_LEN, GROUP_WRITE_LEN, HEADER_WRITE_LEN, HOME_WRITE_LEN};
+use crate::layout::{Answer, START_LIMIT};
+use crate::lent::Kind;
+use crate::literal;
+use crate::world::{Call, World};
+use std::collections::BTreeSet;
+
+impl World {
+    pub fn expected(&self, call: &Call) -> Answer {
+        match self.foresee(call) {
+            Ok(answer) if answer.len <= call.batch_len => answer,
+            Ok(_) => Answer { code: 9, figure: 0, len: 0 },
+            Err(code) => Answer { code, figure: 0, len: 0 },
+        }
+    }
+
+    /// The answer with a batch that suffices.
+    fn foresee(&self, call: &Call) -> Result<Answer, u32> {
+        if call.odd.is_some() {
+            return Err(1);
+        }
+        if call.kind.takes_writer() && call.writer >= 8 {
+            return Err(4);
+        }
+        if call.kind.takes_home() && call.home >= self.shape.homes {
+            return Err(5);
+        }
+        match call.kind {
+            Kind::Open => self.foresee_open(),
+            Kind::Begin | Kind::Abort | Kind::Store | Kind::Commit => self.foresee_writer(call),
+            Kind::Flush => Ok(Answer::wrote(self.group_write(1) + FENCE_LEN)),
+            Kind::Confirm => Ok(Answer { code: 0, figure: self.shadow.fenced, len: 0 }),
+            Kind::Settle => Ok(Answer::wrote(self.settled_homes() * HOME_WRITE_LEN + FENCE_LEN)),
+            Kind::Trim => self.foresee_trim(),
+            Kind::Read => Ok(Answer::DONE),
+            Kind::Format => unreachable!(),
+        }
+    }
+
+    /// The bytes of a group write if at least this many places are filled.
+    fn group_write(&self, places: usize) -> usize {
+        if self.book.row.len() >= places { GROUP_WRITE_LEN } else { 0 }
+    }
+
+    fn foresee_writer(&self, call: &Call) -> Result<Answer, u32> {
+        let open = self.book.writers[call.writer as usize].as_ref();
+        if call.kind == Kind::Begin {
+            return if open.is_none() { Ok(Answer::DONE) } else { Err(6) };
+        }
+        let open = open.ok_or(7u32)?;
+        let logs = match call.kind {
+            Kind::Store => self.book.store_logs(call.writer, call.home),
+            Kind::Commit => open.held.is_some(),
+            _ => false,
+        };
+        if !logs {
+            return Ok(Answer::DONE);
+        }
+        if self.shadow.next >= self.shadow.start + self.shape.groups {
+            return Err(8);
+        }
+        let ticket = self.next_position() + 1;
+        let figure = if call.kind == Kind::Commit { ticket } else { 0 };
+        Ok(Answer { code: 0, figure, len: self.group_write(6) })
+    }
+
+    /// Homes of untrimmed commits below the fenced position.
+    fn settled_homes(&self) -> usize {
+        let from = self.untrimmed();
+        let below = self.below_fence().max(from);
+        let entries = self.book.commits[from..below].iter().flatten();
+        entries.map(|&index| self.book.entries[index].home).collect::<BTreeSet<u64>>().len()
+    }
+
+    /// How many commits, from the first on, lie below the fenced position.
+    pub fn below_fence(&self) -> usize {
+        self.spans.iter().take_while(|span| span.1 < self.shadow.fenced).count()
+    }
+
+    fn foresee_trim(&self) -> Result<Answer, u32> {
+        let start = self.shadow.start;
+        let spans = &self.spans[self.untrimmed()..];
+        let fits = |s: u64| {
+            let straddled = spans.iter().any(|span| span.0 < 7 * s && 7 * s <= span.1);
+            let opened = self.shadow.first.iter().flatten().any(|&first| first < 7 * s);
+            !straddled && !opened
+        };
+        let best = (start..=self.shadow.settled / 7).rev().find(|&s| fits(s)).unwrap();
+        if best > START_LIMIT {
+            return Err(10);
+        }
+        let moves = best > start;
+        Ok(Answer::wrote(if moves { HEADER_WRITE_LEN + FENCE_LEN } else { 0 }))
+    }
+
+    /// By the literal commit rule over the image; the book must agree.
+    fn foresee_open(&self) -> Result<Answer, u32> {
+        let log = &self.image.log;
+        let start = literal::good_header(log, &self.image.data).ok_or(3u32)?;
+        if start + self.shape.groups > START_LIMIT {
+            return Err(10);
+        }
+        let list = literal::committed(&literal::present(log, self.shape.homes, start, None), start);
+        let homes = literal::replay(&list).len();
+        let len = homes * HOME_WRITE_LEN + HEADER_WRITE_LEN + 2 * FENCE_LEN;
+        Ok(Answer { code: 0, figure: list.len() as u64, len })
+    }
+}

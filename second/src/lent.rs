@@ -1,0 +1,120 @@
+//! The memory lent to a call, and one entry point for all eleven calls.
+
+use crate::batch::{FENCE_LEN, GROUP_WRITE_LEN, HEADER_WRITE_LEN, HOME_WRITE_LEN};
+use crate::layout::{Answer, BLOCK, STATE};
+
+#[derive(Clone, Copy, Debug, PartialEq, Eq)]
+pub enum Kind {
+    Format,
+    Open,
+    Begin,
+    Abort,
+    Store,
+    Commit,
+    Flush,
+    Confirm,
+    Settle,
+    Trim,
+    Read,
+}
+
+impl Kind {
+    pub const ALL: [Kind; 11] = [
+        Kind::Format,
+        Kind::Open,
+        Kind::Begin,
+        Kind::Abort,
+        Kind::Store,
+        Kind::Commit,
+        Kind::Flush,
+        Kind::Confirm,
+        Kind::Settle,
+        Kind::Trim,
+        Kind::Read,
+    ];
+
+    pub fn name(self) -> &'static str {
+        match self {
+            Kind::Format => "format",
+            Kind::Open => "open",
+            Kind::Begin => "begin",
+            Kind::Abort => "abort",
+            Kind::Store => "store",
+            Kind::Commit => "commit",
+            Kind::Flush => "flush",
+            Kind::Confirm => "confirm",
+            Kind::Settle => "settle",
+            Kind::Trim => "trim",
+            Kind::Read => "read",
+        }
+    }
+
+    pub fn takes_state(self) -> bool {
+        self != Kind::Format
+    }
+
+    pub fn takes_block(self) -> bool {
+        matches!(self, Kind::Store | Kind::Read)
+    }
+
+    pub fn takes_batch(self) -> bool {
+        !matches!(self, Kind::Begin | Kind::Abort | Kind::Confirm | Kind::Read)
+    }
+
+    pub fn takes_writer(self) -> bool {
+        matches!(self, Kind::Begin | Kind::Abort | Kind::Store | Kind::Commit | Kind::Read)
+    }
+
+    pub fn takes_home(self) -> bool {
+        self.takes_block()
+    }
+}
+
+/// All that a call may be lent. A call leaves alone the parts it does not take.
+#[derive(Clone, Debug, PartialEq, Eq)]
+pub struct Lent {
+    pub log: Vec<u8>,
+    pub data: Vec<u8>,
+    pub state: Vec<u8>,
+    pub block: Vec<u8>,
+    pub batch: Vec<u8>,
+}
+
+impl Lent {
+    /// Both areas as zeros, with a batch that suffices for every call.
+    pub fn new(groups: u64, homes: u64) -> Lent {
+        let areas = crate::landing::Areas::zeros(groups, homes);
+        Lent {
+            log: areas.log,
+            data: areas.data,
+            state: vec![0; STATE],
+            block: vec![0; BLOCK],
+            batch: vec![0; ample(groups, homes)],
+        }
+    }
+
+    pub fn run(&mut self, kind: Kind, writer: u64, home: u64) -> Answer {
+        let Lent { log, data, state, block, batch } = self;
+        match kind {
+            Kind::Format => crate::format(log, data, batch),
+            Kind::Open => crate::open(log, data, state, batch),
+            Kind::Begin => crate::begin(log, data, state, writer),
+            Kind::Abort => crate::abort(log, data, state, writer),
+            Kind::Store => crate::store(log, data, state, block, batch, writer, home),
+            Kind::Commit => crate::commit(log, data, state, batch, writer),
+            Kind::Flush => crate::flush(log, data, state, batch),
+            Kind::Confirm => crate::confirm(log, data, state),
+            Kind::Settle => crate::settle(log, data, state, batch),
+            Kind::Trim => crate::trim(log, data, state, batch),
+            Kind::Read => crate::read(log, data, state, block, writer, home),
+        }
+    }
+}
+
+/// What format writes; no call writes more.
+pub fn ample(groups: u64, homes: u64) -> usize {
+    groups as usize * GROUP_WRITE_LEN
+        + homes as usize * HOME_WRITE_LEN
+        + 2 * HEADER_WRITE_LEN
+        + 3 * FENCE_LEN
+}

@@ -1,0 +1,30 @@
+//! A second implementation of the crash-proof block store, written from its
+//! paper alone, and the means to try it: landing of writes, the book of
+//! commits, a literal commit rule, a player of random histories, test cases.
+
+#![deny(warnings)]
+
+mod areas;
+pub mod batch;
+pub mod book;
+mod calls;
+pub mod cases;
+mod check;
+pub mod craft;
+pub mod damage;
+mod expect;
+pub mod landing;
+pub mod layout;
+pub mod lent;
+pub mod literal;
+pub mod options;
+pub mod player;
+pub mod rng;
+pub mod state;
+pub mod tag;
+pub mod walk;
+pub mod world;
+
+pub use areas::{format, open, settle, trim};
+pub use calls::{abort, begin, commit, confirm, flush, read, store};
+pub use layout::Answer;

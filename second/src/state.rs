@@ -1,0 +1,214 @@
+//! The state between calls (the paper's "strip"): 1,024 bytes, eight-byte numbers.
+
+use crate::layout::{put_word, refuse, word, Shape, PLACES, START_LIMIT, STATE, WRITERS};
+
+/// Byte places of the fields.
+pub mod at {
+    pub const GROUPS: usize = 0;
+    pub const HOMES: usize = 8;
+    pub const START: usize = 16;
+    pub const NEXT: usize = 24;
+    pub const FILLED: usize = 32;
+    pub const SETTLED: usize = 40;
+    pub const FENCED: usize = 48;
+    pub const DURABLE: usize = 56;
+    pub const LAST_CLOSING: usize = 64;
+    pub const WRITER: usize = 128;
+    pub const WRITER_SIZE: usize = 96;
+    pub const MODE: usize = 0;
+    pub const HELD_HOME: usize = 8;
+    pub const FIRST: usize = 16;
+    pub const COUNT: usize = 24;
+    pub const HELD_BLOCK: usize = 32;
+}
+
+/// Writer modes. A pending block is the paper's "held block".
+pub mod mode {
+    pub const IDLE: u64 = 0;
+    pub const OPEN: u64 = 1;
+    pub const HOLDING: u64 = 2;
+    pub const LOGGING: u64 = 3;
+}
+
+/// The numbers that are not a writer's.
+#[derive(Clone, Copy, Debug, PartialEq, Eq)]
+pub struct State {
+    pub shape: Shape,
+    pub start: u64,
+    /// Number of the next group not yet submitted ("handed on").
+    pub next: u64,
+    /// Places filled in it.
+    pub filled: u64,
+    pub settled: u64,
+    pub fenced: u64,
+    pub durable: u64,
+    /// Position of the last commit entry plus one, 0 for none.
+    pub last_closing: u64,
+}
+
+/// The four numbers of a writer's record.
+#[derive(Clone, Copy, Debug, PartialEq, Eq)]
+pub struct Writer {
+    pub mode: u64,
+    pub home: u64,
+    pub first: u64,
+    pub count: u64,
+}
+
+impl State {
+    /// Questions 1 and 2 for every call that is lent a state.
+    pub fn load(log: &[u8], data: &[u8], bytes: &[u8]) -> Result<State, u32> {
+        let shape = Shape::of(log.len(), data.len())?;
+        if bytes.len() != STATE {
+            return Err(refuse::LENGTHS);
+        }
+        let state = State {
+            shape,
+            start: word(bytes, at::START),
+            next: word(bytes, at::NEXT),
+            filled: word(bytes, at::FILLED),
+            settled: word(bytes, at::SETTLED),
+            fenced: word(bytes, at::FENCED),
+            durable: word(bytes, at::DURABLE),
+            last_closing: word(bytes, at::LAST_CLOSING),
+        };
+        let named = Shape { groups: word(bytes, at::GROUPS), homes: word(bytes, at::HOMES) };
+        let in_order = named == shape
+            && state.numbers_in_order()
+            && (0..WRITERS).all(|w| state.writer_in_order(Writer::load(bytes, w)));
+        if in_order { Ok(state) } else { Err(refuse::STATE) }
+    }
+
+    /// Each test guards the arithmetic of those after it.
+    fn numbers_in_order(&self) -> bool {
+        self.start <= START_LIMIT
+            && self.start <= self.next
+            && self.next <= self.end_group()
+            && self.filled <= 6
+            && (self.filled == 0 || self.next < self.end_group())
+            && self.first_position() <= self.settled
+            && self.settled <= self.fenced
+            && self.fenced <= PLACES * self.next
+            && self.durable <= self.fenced
+            && (self.last_closing == 0 || self.is_used(self.last_closing - 1))
+    }
+
+    fn writer_in_order(&self, writer: Writer) -> bool {
+        match writer.mode {
+            mode::IDLE | mode::OPEN => true,
+            mode::HOLDING => writer.home < self.shape.homes,
+            mode::LOGGING => {
+                writer.home < self.shape.homes
+                    && self.is_used(writer.first)
+                    && 1 <= writer.count
+                    && writer.count <= self.next_position() - writer.first
+            }
+            _ => false,
+        }
+    }
+
+    /// From 7 x start to below the next position.
+    fn is_used(&self, position: u64) -> bool {
+        self.first_position() <= position && position < self.next_position()
+    }
+
+    /// The group number that is out of reach until a trim.
+    pub fn end_group(&self) -> u64 {
+        self.start + self.shape.groups
+    }
+
+    pub fn first_position(&self) -> u64 {
+        PLACES * self.start
+    }
+
+    pub fn next_position(&self) -> u64 {
+        PLACES * self.next + self.filled
+    }
+
+    /// What a fence (FN) does to the state.
+    pub fn fence(&mut self) {
+        self.fenced = PLACES * self.next;
+    }
+
+    /// Writes the numbers back; G and D are there already.
+    pub fn save(&self, bytes: &mut [u8]) {
+        put_word(bytes, at::START, self.start);
+        put_word(bytes, at::NEXT, self.next);
+        put_word(bytes, at::FILLED, self.filled);
+        put_word(bytes, at::SETTLED, self.settled);
+        put_word(bytes, at::FENCED, self.fenced);
+        put_word(bytes, at::DURABLE, self.durable);
+        put_word(bytes, at::LAST_CLOSING, self.last_closing);
+    }
+
+    /// The state bytes just after an opening.
+    pub fn save_fresh(bytes: &mut [u8], shape: Shape, start: u64) {
+        bytes.fill(0);
+        put_word(bytes, at::GROUPS, shape.groups);
+        put_word(bytes, at::HOMES, shape.homes);
+        let position = PLACES * start;
+        let fresh = State {
+            shape,
+            start,
+            next: start,
+            filled: 0,
+            settled: position,
+            fenced: position,
+            durable: position,
+            last_closing: 0,
+        };
+        fresh.save(bytes);
+    }
+}
+
+fn record(writer: u64) -> usize {
+    at::WRITER + at::WRITER_SIZE * writer as usize
+}
+
+/// The bytes of a writer's pending block.
+pub fn pending_range(writer: u64) -> std::ops::Range<usize> {
+    let from = record(writer) + at::HELD_BLOCK;
+    from..record(writer) + at::WRITER_SIZE
+}
+
+impl Writer {
+    pub const IDLE: Writer = Writer { mode: mode::IDLE, home: 0, first: 0, count: 0 };
+    pub const OPEN: Writer = Writer { mode: mode::OPEN, home: 0, first: 0, count: 0 };
+
+    pub fn load(bytes: &[u8], writer: u64) -> Writer {
+        let from = record(writer);
+        Writer {
+            mode: word(bytes, from + at::MODE),
+            home: word(bytes, from + at::HELD_HOME),
+            first: word(bytes, from + at::FIRST),
+            count: word(bytes, from + at::COUNT),
+        }
+    }
+
+    pub fn save(&self, bytes: &mut [u8], writer: u64) {
+        let from = record(writer);
+        put_word(bytes, from + at::MODE, self.mode);
+        put_word(bytes, from + at::HELD_HOME, self.home);
+        put_word(bytes, from + at::FIRST, self.first);
+        put_word(bytes, from + at::COUNT, self.count);
+    }
+
+    pub fn holds(&self) -> bool {
+        self.mode == mode::HOLDING || self.mode == mode::LOGGING
+    }
+
+    /// First position and count of its logged entries.
+    pub fn logged(&self) -> Option<(u64, u64)> {
+        (self.mode == mode::LOGGING).then_some((self.first, self.count))
+    }
+}
+
+/// Question 4.
+pub fn check_writer(writer: u64) -> Result<(), u32> {
+    if writer < WRITERS { Ok(()) } else { Err(refuse::WRITER) }
+}
+
+/// Question 5.
+pub fn check_home(shape: Shape, home: u64) -> Result<(), u32> {
+    if home < shape.homes { Ok(()) } else { Err(refuse::HOME) }
+}

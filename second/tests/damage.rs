@@ -1,0 +1,81 @@
+//! All calls on made-up and damaged logs and states, against the plain model.
+
+mod model;
+
+use second::cases::Cases;
+use second::craft::craft;
+use second::damage::{damage_group, damage_header, damage_state, in_order};
+use second::layout::Shape;
+use second::lent::{Kind, Lent};
+use second::rng::Rng;
+
+fn compare(rng: &mut Rng, kind: Kind, lent: &Lent) -> (u32, u64) {
+    let homes = lent.data.len() as u64 / 64;
+    let (writer, home) = (rng.below(9), rng.below(homes + 1));
+    let mut fast = lent.clone();
+    let answer = fast.run(kind, writer, home);
+    let (want, after) = model::run(kind, writer, home, lent);
+    assert_eq!(answer, want, "{kind:?} {writer} {home}");
+    assert!(fast == after, "{kind:?} {writer} {home}: memory");
+    (answer.code, if kind == Kind::Open { answer.figure } else { 0 })
+}
+
+fn rounds(seed: u64, count: u64, shape: impl Fn(&mut Rng) -> Shape) {
+    let mut rng = Rng::new(seed);
+    let (mut done, mut back) = (0u64, 0);
+    for _ in 0..count {
+        let shape = shape(&mut rng);
+        let mut lent = craft(&mut rng, shape);
+        for _ in 0..rng.below(3) {
+            damage_group(&mut rng, &mut lent, shape);
+        }
+        if rng.chance(10) {
+            damage_header(&mut rng, &mut lent, shape);
+        }
+        for _ in 0..rng.pick(&[0, 0, 1, 2]) {
+            damage_state(&mut rng, &mut lent);
+        }
+        assert_eq!(in_order(&lent), model::in_order(&lent));
+        if rng.chance(20) {
+            lent.batch = vec![0xcc; rng.below(300) as usize];
+        }
+        for kind in Kind::ALL {
+            let (code, figure) = compare(&mut rng, kind, &lent);
+            done += u64::from(code == 0);
+            back += figure;
+        }
+    }
+    assert!(done > 3 * count, "{done} of {count} times 11 done");
+    assert!(back > count / 2, "{back} transactions brought back");
+}
+
+#[test]
+fn small() {
+    rounds(1, 40_000, |rng| Shape { groups: 4, homes: rng.between(1, 8) });
+}
+
+#[test]
+fn middle() {
+    rounds(2, 2_000, |rng| Shape { groups: rng.between(5, 40), homes: rng.between(1, 150) });
+}
+
+#[test]
+fn large() {
+    rounds(3, 12, |rng| Shape { groups: rng.between(900, 1024), homes: rng.between(1, 4096) });
+}
+
+#[test]
+fn cases_agree_with_the_model() {
+    let mut cases = Cases::new(77);
+    let mut seen = [0; 11];
+    for _ in 0..20_000 {
+        let case = cases.case();
+        seen[case.answer.code as usize] += 1;
+        let (answer, after) = model::run(case.kind, case.writer, case.home, &case.before);
+        assert!(answer == case.answer && after == case.after, "{}", case.json());
+        if case.answer.code != 0 {
+            assert!(case.before == case.after);
+        }
+    }
+    assert!(seen.iter().all(|&times| times > 100), "{seen:?}");
+}

@@ -1,0 +1,18 @@
+//! A few hundred random histories; `play` runs more.
+
+use second::player::{history, large_history, Tally};
+
+#[test]
+fn short_histories() {
+    let mut tally = Tally::default();
+    for seed in 0..600 {
+        history(seed, &mut tally).unwrap_or_else(|what| panic!("seed {seed}: {what}"));
+    }
+    assert!(tally.crashes > 1000 && tally.trims > 200 && tally.commits_lost > 300, "{tally:?}");
+}
+
+#[test]
+fn one_large_history() {
+    let mut tally = Tally::default();
+    large_history(5, &mut tally).unwrap();
+}

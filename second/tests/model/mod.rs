@@ -1,0 +1,217 @@
+//! A plain model of the calls: here those that read groups, over the literal
+//! commit rule (open, settle, trim, read); the others in `writers`. It gives
+//! the answer and all lent memory after it.
+
+mod writers;
+
+use second::layout::{header, Shape};
+use second::lent::{Kind, Lent};
+use second::literal::{committed, good_header, present, replay, trim_start, Transaction};
+use second::Answer;
+use std::collections::BTreeMap;
+
+/// Figure and batch, or the refusal.
+type Outcome = Result<(u64, Vec<u8>), u32>;
+type Values = BTreeMap<u64, Vec<u8>>;
+
+fn number(bytes: &[u8], at: usize) -> u64 {
+    u64::from_le_bytes(bytes[at..at + 8].try_into().unwrap())
+}
+
+fn big(bytes: &[u8], at: usize) -> i128 {
+    i128::from(number(bytes, at))
+}
+
+fn put(bytes: &mut [u8], at: usize, value: u64) {
+    bytes[at..at + 8].copy_from_slice(&value.to_le_bytes());
+}
+
+/// Question 1.
+fn lengths(kind: Kind, lent: &Lent) -> bool {
+    let log = (4..=1024).any(|g| lent.log.len() == 64 + 512 * g);
+    let data = (1..=4096).any(|d| lent.data.len() == 64 * d);
+    let state = !kind.takes_state() || lent.state.len() == 1024;
+    let block = !kind.takes_block() || lent.block.len() == 64;
+    log && data && state && block
+}
+
+/// Question 2, in signed numbers that cannot wrap.
+pub fn in_order(lent: &Lent) -> bool {
+    let s = &lent.state;
+    let (g, d) = ((lent.log.len() as i128 - 64) / 512, lent.data.len() as i128 / 64);
+    let (start, next, filled) = (big(s, 16), big(s, 24), big(s, 32));
+    let (settled, fenced, durable) = (big(s, 40), big(s, 48), big(s, 56));
+    let last = big(s, 64) - 1;
+    let position = 7 * next + filled;
+    let writer = |w: usize| {
+        let r = 128 + 96 * w;
+        let (mode, home, first, count) = (big(s, r), big(s, r + 8), big(s, r + 16), big(s, r + 24));
+        let holds = mode == 2 || mode == 3;
+        let in_range = 7 * start <= first && first < position;
+        mode <= 3
+            && (!holds || home < d)
+            && (mode != 3 || (in_range && 1 <= count && count <= position - first))
+    };
+    big(s, 0) == g
+        && big(s, 8) == d
+        && start <= 1 << 47
+        && start <= next
+        && next <= start + g
+        && filled <= 6
+        && (next != start + g || filled == 0)
+        && 7 * start <= settled
+        && settled <= fenced
+        && fenced <= 7 * next
+        && durable <= fenced
+        && (last == -1 || (7 * start <= last && last < position))
+        && (0..8).all(writer)
+}
+
+pub fn run(kind: Kind, writer: u64, home: u64, before: &Lent) -> (Answer, Lent) {
+    let mut after = before.clone();
+    match attempt(kind, writer, home, before, &mut after) {
+        Ok((figure, batch)) if batch.len() <= before.batch.len() => {
+            after.batch[..batch.len()].copy_from_slice(&batch);
+            (Answer { code: 0, figure, len: batch.len() }, after)
+        }
+        Ok(_) => (Answer { code: 9, figure: 0, len: 0 }, before.clone()),
+        Err(code) => (Answer { code, figure: 0, len: 0 }, before.clone()),
+    }
+}
+
+/// The outcome with a batch that suffices.
+fn attempt(
+    kind: Kind,
+    writer: u64,
+    home: u64,
+    before: &Lent,
+    after: &mut Lent,
+) -> Outcome {
+    if !lengths(kind, before) {
+        return Err(1);
+    }
+    if !matches!(kind, Kind::Open | Kind::Format) && !in_order(before) {
+        return Err(2);
+    }
+    if kind.takes_writer() && writer > 7 {
+        return Err(4);
+    }
+    if kind.takes_home() && home >= before.data.len() as u64 / 64 {
+        return Err(5);
+    }
+    match kind {
+        Kind::Format => writers::format(before, after),
+        Kind::Open => open(before, after),
+        Kind::Settle => settle(before, after),
+        Kind::Trim => trim(before, after),
+        Kind::Read => read(before, after, writer, home),
+        Kind::Flush => writers::flush(before, after),
+        Kind::Confirm => writers::confirm(before, after),
+        _ => writers::writer_call(kind, writer, home, before, after),
+    }
+}
+
+fn shape(lent: &Lent) -> Shape {
+    Shape { groups: (lent.log.len() as u64 - 64) / 512, homes: lent.data.len() as u64 / 64 }
+}
+
+fn home_writes(values: &Values, after: &mut Lent, batch: &mut Vec<u8>) {
+    for (home, block) in values {
+        batch.extend([0x48, 0x57, *home as u8, (home >> 8) as u8]);
+        batch.extend(block);
+        after.data[64 * *home as usize..64 * *home as usize + 64].copy_from_slice(block);
+    }
+    batch.extend([0x46, 0x4e]);
+}
+
+fn head_write(shape: Shape, start: u64, after: &mut Lent, batch: &mut Vec<u8>) {
+    let bytes = header(shape, start);
+    after.log[..64].copy_from_slice(&bytes);
+    batch.extend([0x4b, 0x57]);
+    batch.extend(bytes);
+    batch.extend([0x46, 0x4e]);
+}
+
+fn open(before: &Lent, after: &mut Lent) -> Outcome {
+    let shape = shape(before);
+    let start = good_header(&before.log, &before.data).ok_or(3u32)?;
+    let new_start = start + shape.groups;
+    if new_start > 1 << 47 {
+        return Err(10);
+    }
+    let list = committed(&present(&before.log, shape.homes, start, None), start);
+    let mut batch = Vec::new();
+    home_writes(&replay(&list), after, &mut batch);
+    head_write(shape, new_start, after, &mut batch);
+    after.state = vec![0; 1024];
+    for (at, value) in [(0, shape.groups), (8, shape.homes), (16, new_start), (24, new_start)] {
+        put(&mut after.state, at, value);
+    }
+    for at in [40, 48, 56] {
+        put(&mut after.state, at, 7 * new_start);
+    }
+    Ok((list.len() as u64, batch))
+}
+
+/// Start, next position and the committed transactions below it.
+fn live(before: &Lent) -> (u64, u64, Vec<Transaction>) {
+    let start = number(&before.state, 16);
+    let next = 7 * number(&before.state, 24) + number(&before.state, 32);
+    let homes = shape(before).homes;
+    (start, next, committed(&present(&before.log, homes, start, Some(next)), start))
+}
+
+fn settle(before: &Lent, after: &mut Lent) -> Outcome {
+    let fenced = number(&before.state, 48);
+    let (_, _, mut list) = live(before);
+    list.retain(|transaction| transaction.closing < i128::from(fenced));
+    let mut batch = Vec::new();
+    home_writes(&replay(&list), after, &mut batch);
+    put(&mut after.state, 40, fenced);
+    put(&mut after.state, 48, 7 * number(&before.state, 24));
+    Ok((0, batch))
+}
+
+fn trim(before: &Lent, after: &mut Lent) -> Outcome {
+    let (start, _, list) = live(before);
+    let state = &before.state;
+    let logging = (0..8).map(|w| 128 + 96 * w).filter(|&r| number(state, r) == 3);
+    let firsts: Vec<u64> = logging.map(|r| number(state, r + 16)).collect();
+    let new_start = trim_start(&list, start, number(state, 40), &firsts);
+    if new_start > 1 << 47 {
+        return Err(10);
+    }
+    let mut batch = Vec::new();
+    if new_start > start {
+        head_write(shape(before), new_start, after, &mut batch);
+        put(&mut after.state, 16, new_start);
+        put(&mut after.state, 48, 7 * number(state, 24));
+        if big(state, 64) - 1 < 7 * i128::from(new_start) {
+            put(&mut after.state, 64, 0);
+        }
+    }
+    Ok((0, batch))
+}
+
+fn read(before: &Lent, after: &mut Lent, writer: u64, home: u64) -> Outcome {
+    let (start, next, list) = live(before);
+    let record = 128 + 96 * writer as usize;
+    let mode = number(&before.state, record);
+    let mut block = before.data[64 * home as usize..64 * home as usize + 64].to_vec();
+    if let Some(newest) = replay(&list).get(&home) {
+        block = newest.clone();
+    }
+    if mode == 3 {
+        let first = big(&before.state, record + 16);
+        for found in present(&before.log, shape(before).homes, start, Some(next)).values() {
+            if found.first == first && found.home == home {
+                block = found.block.clone();
+            }
+        }
+    }
+    if mode >= 2 && number(&before.state, record + 8) == home {
+        block = before.state[record + 32..record + 96].to_vec();
+    }
+    after.block = block;
+    Ok((0, Vec::new()))
+}

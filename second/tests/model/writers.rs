@@ -1,0 +1,125 @@
+//! The plain model of the other calls: format, begin, abort, store, commit,
+//! flush, confirm. Tags are put together by sums, not by shifts.
+
+use super::{head_write, number, put, shape, Outcome};
+use second::lent::{Kind, Lent};
+
+pub fn format(before: &Lent, after: &mut Lent) -> Outcome {
+    let shape = shape(before);
+    after.log.fill(0);
+    after.data.fill(0);
+    let mut batch = vec![0x4b, 0x57];
+    batch.extend([0; 64]);
+    batch.extend([0x46, 0x4e]);
+    for place in 0..shape.groups {
+        batch.extend([0x47, 0x57, place as u8, (place >> 8) as u8]);
+        batch.extend([0; 512]);
+    }
+    for home in 0..shape.homes {
+        batch.extend([0x48, 0x57, home as u8, (home >> 8) as u8]);
+        batch.extend([0; 64]);
+    }
+    batch.extend([0x46, 0x4e]);
+    head_write(shape, 0, after, &mut batch);
+    Ok((0, batch))
+}
+
+fn put_record(after: &mut Lent, writer: u64, numbers: [u64; 4]) {
+    for (index, value) in numbers.into_iter().enumerate() {
+        put(&mut after.state, 128 + 96 * writer as usize + 8 * index, value);
+    }
+}
+
+pub fn writer_call(kind: Kind, writer: u64, home: u64, before: &Lent, after: &mut Lent) -> Outcome {
+    let record = 128 + 96 * writer as usize;
+    let [mode, held, first, count] = [0, 8, 16, 24].map(|at| number(&before.state, record + at));
+    match kind {
+        Kind::Begin if mode != 0 => return Err(6),
+        Kind::Begin => put_record(after, writer, [1, 0, 0, 0]),
+        _ if mode == 0 => return Err(7),
+        Kind::Abort => put_record(after, writer, [0; 4]),
+        Kind::Commit if mode == 1 => put_record(after, writer, [0; 4]),
+        Kind::Commit => {
+            let (position, batch) = log_held(writer, true, before, after)?;
+            put(&mut after.state, 64, position + 1);
+            put_record(after, writer, [0; 4]);
+            return Ok((position + 1, batch));
+        }
+        _ => {
+            let block = before.block.clone();
+            let mut batch = Vec::new();
+            if mode == 1 {
+                put_record(after, writer, [2, home, 0, 0]);
+            } else if held != home {
+                let (position, bytes) = log_held(writer, false, before, after)?;
+                batch = bytes;
+                let logged = if mode == 3 { [first, count + 1] } else { [position, 1] };
+                put_record(after, writer, [3, home, logged[0], logged[1]]);
+            }
+            after.state[record + 32..record + 96].copy_from_slice(&block);
+            return Ok((0, batch));
+        }
+    }
+    Ok((0, Vec::new()))
+}
+
+/// Logs the held block; gives its position and the batch.
+fn log_held(writer: u64, closing: bool, before: &Lent, after: &mut Lent) -> Outcome {
+    let state = &before.state;
+    let record = 128 + 96 * writer as usize;
+    let groups = shape(before).groups;
+    let (next, filled, last) = (number(state, 24), number(state, 32), number(state, 64));
+    if next >= number(state, 16) + groups {
+        return Err(8);
+    }
+    let position = 7 * next + filled;
+    let logging = number(state, record) == 3;
+    let first = if logging { number(state, record + 16) } else { position };
+    let mut tag = 1 + 4 * number(state, record + 8) + (1 << 14) * (position - first);
+    if closing {
+        let link = if last == 0 { 0 } else { position - (last - 1) };
+        let count = 1 + if logging { number(state, record + 24) } else { 0 };
+        tag += 2 + (1 << 27) * link + (1 << 40) * count;
+    }
+    let from = 64 + 512 * (next % groups) as usize;
+    let group = &mut after.log[from..from + 512];
+    if filled == 0 {
+        group.fill(0);
+        put(group, 0, next * 65536 + 0x4750);
+    }
+    let place = filled as usize;
+    put(group, 8 + 8 * place, tag);
+    group[64 + 64 * place..128 + 64 * place].copy_from_slice(&state[record + 32..record + 96]);
+    let mut batch = Vec::new();
+    put(&mut after.state, 32, filled + 1);
+    if filled == 6 {
+        hand_on(next, groups, after, &mut batch);
+    }
+    Ok((position, batch))
+}
+
+fn hand_on(next: u64, groups: u64, after: &mut Lent, batch: &mut Vec<u8>) {
+    let place = next % groups;
+    let from = 64 + 512 * place as usize;
+    batch.extend([0x47, 0x57, place as u8, (place >> 8) as u8]);
+    batch.extend(&after.log[from..from + 512]);
+    put(&mut after.state, 24, next + 1);
+    put(&mut after.state, 32, 0);
+}
+
+pub fn flush(before: &Lent, after: &mut Lent) -> Outcome {
+    let mut batch = Vec::new();
+    if number(&before.state, 32) > 0 {
+        hand_on(number(&before.state, 24), shape(before).groups, after, &mut batch);
+    }
+    batch.extend([0x46, 0x4e]);
+    let fenced = 7 * number(&after.state, 24);
+    put(&mut after.state, 48, fenced);
+    Ok((0, batch))
+}
+
+pub fn confirm(before: &Lent, after: &mut Lent) -> Outcome {
+    let fenced = number(&before.state, 48);
+    put(&mut after.state, 56, fenced);
+    Ok((fenced, Vec::new()))
+}
