@@ -6,4 +6,5 @@ pub mod StateLaws
 pub mod WriterLaws
 pub mod OrderLaws
 pub mod QuestionLaws
+pub mod Closings
 pub mod TrialsHold
