@@ -7,6 +7,7 @@ pub mod WriterLaws
 pub mod OrderLaws
 pub mod QuestionLaws
 pub mod Closings
+pub mod ClosingLaws
 pub mod CrashLaws
 pub mod SubmitLaws
 pub mod HomeLaws
@@ -16,6 +17,7 @@ pub mod TraceLaws
 pub mod WholeLaws
 pub mod LinkLaws
 pub mod CountLaws
+pub mod MemberLaws
 pub mod ReplayLaws
 pub mod Invariant
 pub mod Survivors
@@ -48,5 +50,12 @@ pub mod LiveLog
 pub mod TrimLaws
 pub mod TrimRuns
 pub mod SettleRuns
+pub mod LiveHolds
 pub mod DemandThree
+pub mod TrimYields
+pub mod Yields
+pub mod YieldsAll
+pub mod DemandTwo
+pub mod Computing
 pub mod TrialsHold
+pub mod WitnessesHold

@@ -1,15 +1,14 @@
 -- Where a log may start: the largest start, the spans that lie across a position, the open writers. Assumes nothing.
 use Prim.Native.Nat.{ℕ, zero, suc, _+_, _≤_, _<_}
 use mathlib.Core.Path.{_≡_, refl, sym, _∙_}
-use mathlib.Core.Logic.{_⊎_, inl, inr, ⊎-elim}
+use mathlib.Core.Logic.{_⊎_, inl, inr}
 use mathlib.Core.Bool.{Bool, true, false, cond, not, _&&_, false≢true}
 use mathlib.Core.List.{List, [], _∷_}
 use native.Mathlib.Omega.{arith}
 use native.Mathlib.Decide.{decLt, ℕ-discrete}
 use lib.Dec.{leb, ltb}
-use borrow.Author.Tests.{leb-true, leb-false, le-leb, lt-leb, ltb-true, ltb-false, lt-ltb, le-ltb}
-use Rattle.model.specs.Commit.{Span}
-use Rattle.model.specs.State.{Writer, writerOf, hasLogged}
+use borrow.Author.Tests.{leb-true, leb-false, lt-leb, ltb-false, le-ltb}
+use Rattle.model.specs.State.{writerOf, hasLogged}
 use Rattle.model.specs.Effects.{noneAcross, noneOpenBefore, largest}
 use Rattle.model.proofs.QuestionLaws.{and-true}
 use Rattle.model.proofs.Trace.{closerOf, oldestOf, closingFrom, Apart}

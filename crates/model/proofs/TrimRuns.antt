@@ -1,45 +1,42 @@
 -- Trim: the log starts at a later group, the header says so, and a fence follows.
 use mathlib.Core.Path.{_≡_, refl, sym, ap, _∙_, subst}
-use mathlib.Core.Logic.{_⊎_, inl, inr, ⊎-elim}
-use mathlib.Core.Bool.{Bool, true, false, cond, _&&_}
+use mathlib.Core.Logic.{_⊎_, inl, inr}
+use mathlib.Core.Bool.{Bool, true, false, cond}
 use mathlib.Core.List.{List, [], _∷_, _++_, append-nil}
 use mathlib.Core.Option.{none}
-use Prim.Native.Nat.{ℕ, zero, suc, _+_, _-_, _*_, _/_, _%_, _^_, _≤_, _<_}
+use Prim.Native.Nat.{ℕ, _+_, _-_, _*_, _/_, _^_, _≤_, _<_}
 use native.Mathlib.Decide.{decLt}
 use native.Mathlib.Omega.{arith}
 use lib.Dec.{eqb, leb}
 use lib.ListN.{length}
-use borrow.Author.Tests.{eqb-true, eqb-false, leb-true, leb-false}
+use borrow.Author.Tests.{eqb-true, leb-true, leb-false}
 use Rattle.model.specs.Bytes.{puts}
-use Rattle.model.specs.Layout.{groupsIn, homesIn, header, groupAt, headerStart}
+use Rattle.model.specs.Layout.{header, headerStart}
 use Rattle.model.specs.Batch.{Record, KW, FN}
-use Rattle.model.specs.State.{State, stateOf, setStart, setFenced, setLast, nextPosition, Writer, writerOf, heldOf}
-use Rattle.model.specs.Effects.{Effect, groups, homes, newState, mayStart, largest, noneAcross, noneOpenBefore, trimStart, trimTo, trimEffect}
+use Rattle.model.specs.State.{State, stateOf, setStart, setFenced, setLast, nextPosition, writerOf, heldOf}
+use Rattle.model.specs.Effects.{Given, groups, homes, newState, mayStart, largest, noneAcross, noneOpenBefore, trimStart, trimTo, trimEffect}
 use Rattle.model.specs.Crash.{Memory, isFence, persistChosen}
-use Rattle.model.specs.Book.{Commit, Book}
 use Rattle.model.specs.Demands.{groupWrites}
-use Rattle.model.specs.History.{Call, World, lent, feed, isConfirm, trim}
+use Rattle.model.specs.History.{World, lent, feed, isConfirm, trim}
 use Rattle.model.proofs.ByteLaws.{length-puts}
-use Rattle.model.proofs.LayoutLaws.{length-header, header-start, group-header, groups-in, homes-in}
+use Rattle.model.proofs.LayoutLaws.{length-header, header-start, group-header}
 use Rattle.model.proofs.BatchLaws.{AllFormed}
 use Rattle.model.proofs.StateLaws.{withStart, withFenced, withLast, state-setStart, length-setStart, writer-setStart, held-setStart, state-setFenced, length-setFenced, writer-setFenced, held-setFenced, state-setLast, length-setLast, writer-setLast, held-setLast}
 use Rattle.model.proofs.QuestionLaws.{and-true}
-use Rattle.model.proofs.OrderLaws.{InOrder, WriterInOrder}
 use Rattle.model.proofs.CrashLaws.{writeRecords, submits, none-submits, pieceCount, chosen-append, write-append}
 use Rattle.model.proofs.SubmitLaws.{headerStart-submits, area-wrote, length-submits}
 use Rattle.model.proofs.HomeLaws.{log-header, area-header-wrote}
-use Rattle.model.proofs.Trace.{Ev, hist, tagAt, closingFrom, Apart, Linked}
+use Rattle.model.proofs.Trace.{hist, tagAt, Apart}
 use Rattle.model.proofs.LinkLaws.{linked-later}
 use Rattle.model.proofs.CountLaws.{spansOf}
 use Rattle.model.proofs.DoneLaws.{after}
-use Rattle.model.proofs.Invariant.{Sizes, Copies, Submitted, Confirmed, Commits, Running, LastOk, lastCloser}
+use Rattle.model.proofs.Invariant.{Sizes, Copies, Submitted, Running, LastOk, lastCloser}
 use Rattle.model.proofs.Now.{Now}
 use Rattle.model.proofs.NowLate.{now-late-trim}
 use Rattle.model.proofs.NowNext.{now-trimmed}
 use Rattle.model.proofs.FenceRuns.{now-of, submitted-fence}
 use Rattle.model.proofs.LogSubmits.{confirmed-more}
 use Rattle.model.proofs.NumberRuns.{Renumbered, copies-renumber}
-use Rattle.model.proofs.WriterSteps.{submitted-same, confirmed-same}
 use Rattle.model.proofs.LiveLog.{keptIn, lent-groups, lent-homes, lent-tags, lent-base, live-spans}
 use Rattle.model.proofs.TrimLaws.{largest-from, largest-upto, largest-may, largest-most, across-apart, apart-across, apart-all, apart-closing, open-from, from-open}
 
@@ -51,11 +48,11 @@ pub record MayMove (G D : ℕ) (w : World) (r : Running G D w) (s : ℕ) : Type 
   pub opens : (x : ℕ) → x < 8 → 3 ≤ writerOf (w .state) x .mode → 7 * s ≤ writerOf (w .state) x .first
 
 -- the last closing entry, where the log starts at s
-unfoldable pub lastFrom : ℕ → ℕ → ℕ
-lastFrom s last = cond (leb last (7 * s)) 0 last
+unfoldable pub lastKept : ℕ → ℕ → ℕ
+lastKept s last = cond (leb last (7 * s)) 0 last
 
-pub last-ok : (start s last closer : ℕ) → start ≤ s → LastOk start last closer → LastOk s (lastFrom s last) closer
-unfolding lastFrom
+pub last-ok : (start s last closer : ℕ) → start ≤ s → LastOk start last closer → LastOk s (lastKept s last) closer
+unfolding lastKept
 last-ok start s last closer l o = go (leb last (7 * s)) refl o
   where
     go : (b : Bool) → leb last (7 * s) ≡ b → LastOk start last closer → LastOk s (cond b 0 last) closer
@@ -65,8 +62,8 @@ last-ok start s last closer l o = go (leb last (7 * s)) refl o
     go false e (inr h) = absurd (omega (arith, leb-false last (7 * s) e))
 
 pub last-order : (start s last next : ℕ) → (last ≡ 0) ⊎ ((7 * start < last) × (last ≤ next))
-    → (lastFrom s last ≡ 0) ⊎ ((7 * s < lastFrom s last) × (lastFrom s last ≤ next))
-unfolding lastFrom
+    → (lastKept s last ≡ 0) ⊎ ((7 * s < lastKept s last) × (lastKept s last ≤ next))
+unfolding lastKept
 last-order start s last next o = go (leb last (7 * s)) refl o
   where
     go : (b : Bool) → leb last (7 * s) ≡ b → (last ≡ 0) ⊎ ((7 * start < last) × (last ≤ next))
@@ -75,8 +72,8 @@ last-order start s last next o = go (leb last (7 * s)) refl o
     go false e (inl h) = inl h
     go false e (inr h) = inr (leb-false last (7 * s) e, h .1)
 
-last-most : (s last bound : ℕ) → last < bound → lastFrom s last < bound
-unfolding lastFrom
+last-most : (s last bound : ℕ) → last < bound → lastKept s last < bound
+unfolding lastKept
 last-most s last bound h = go (leb last (7 * s))
   where
     go : (b : Bool) → cond b 0 last < bound
@@ -97,16 +94,16 @@ module _ (G D : ℕ) (z : Sizes G D) (w : World) (r : Running G D w) (s : ℕ) (
   head = header s G D
 
   abbrev last : ℕ
-  last = lastFrom s (stateOf (w .state) .last)
+  last = lastKept s (stateOf (w .state) .last)
 
   abbrev strip : List ℕ
-  strip = setLast (setFenced (setStart (w .state) s) (7 * stateOf (w .state) .next)) (lastFrom s (stateOf (w .state) .last))
+  strip = setLast (setFenced (setStart (w .state) s) (7 * stateOf (w .state) .next)) (lastKept s (stateOf (w .state) .last))
 
   abbrev moved : World
   moved =
       record {
         homes = w .homes;
-        state = setLast (setFenced (setStart (w .state) s) (7 * stateOf (w .state) .next)) (lastFrom s (stateOf (w .state) .last));
+        state = setLast (setFenced (setStart (w .state) s) (7 * stateOf (w .state) .next)) (lastKept s (stateOf (w .state) .last));
         log = puts (w .log) 0 (header s G D);
         area = w .area;
         memory = w .memory;
@@ -128,10 +125,11 @@ module _ (G D : ℕ) (z : Sizes G D) (w : World) (r : Running G D w) (s : ℕ) (
           let q : nextPosition st ≡ 7 * st .next + st .filled = unfold nextPosition in refl in
           omega (arith, next-small, c .order .filled-most)
 
-  numbers : stateOf strip ≡ withLast (withFenced (withStart st s) (7 * st .next)) last
-  numbers =
+  pub moved-numbers : stateOf strip ≡ withLast (withFenced (withStart st s) (7 * st .next)) last
+  moved-numbers =
       state-setLast (setFenced (setStart (w .state) s) (7 * st .next)) last
-      (length-setFenced (setStart (w .state) s) (7 * st .next) ∙ length-setStart (w .state) s ∙ c .stateSize) (last-most s (st .last) (2 ^ 64) last-small)
+      (length-setFenced (setStart (w .state) s) (7 * st .next) ∙ length-setStart (w .state) s ∙ c .stateSize)
+      (last-most s (st .last) (2 ^ 64) last-small)
       ∙ ap (λ (x : State). withLast x last)
       (state-setFenced (setStart (w .state) s) (7 * st .next) (length-setStart (w .state) s ∙ c .stateSize) (omega (arith, next-small))
       ∙ ap (λ (x : State). withFenced x (7 * st .next)) (state-setStart (w .state) s (c .stateSize) (omega arith)))
@@ -153,7 +151,7 @@ module _ (G D : ℕ) (z : Sizes G D) (w : World) (r : Running G D w) (s : ℕ) (
 
   renumbered : Renumbered st (stateOf strip)
   renumbered =
-      rw numbers
+      rw moved-numbers
       (let o = c .order in
       record {
         groups = refl;
@@ -172,11 +170,12 @@ module _ (G D : ℕ) (z : Sizes G D) (w : World) (r : Running G D w) (s : ℕ) (
   copies′ : Copies G D (r .b) (r .tr) moved
   copies′ =
       copies-renumber G D (r .b) (r .tr) w moved c renumbered size writers blocks
-      (rw numbers (last-order (st .start) s (st .last) (nextPosition st) (c .order .last-closing))) (rw numbers (t .opens)) refl
+      (rw moved-numbers (last-order (st .start) s (st .last) (nextPosition st) (c .order .last-closing))) (rw moved-numbers (t .opens)) refl
       (length-puts (w .log) 0 head) (λ slot. group-header (w .log) head slot (omega (arith, length-header s G D))) refl refl refl refl
-      (rw numbers (c .settledHomes)) (rw numbers (c .settledGroup)) (rw numbers (t .apart))
-      (rw numbers (linked-later (7 * st .start) (7 * s) (tagAt (7 * r .b) (r .tr)) none (hist (7 * r .b) (r .tr) .done) (omega (arith, t .from)) (c .links)))
-      (rw numbers (last-ok (st .start) s (st .last) (lastCloser (hist (7 * r .b) (r .tr) .done)) (t .from) (c .last)))
+      (rw moved-numbers (c .settledHomes)) (rw moved-numbers (c .settledGroup)) (rw moved-numbers (t .apart))
+      (rw moved-numbers
+      (linked-later (7 * st .start) (7 * s) (tagAt (7 * r .b) (r .tr)) none (hist (7 * r .b) (r .tr) .done) (omega (arith, t .from)) (c .links)))
+      (rw moved-numbers (last-ok (st .start) s (st .last) (lastCloser (hist (7 * r .b) (r .tr) .done)) (t .from) (c .last)))
 
   abbrev S : List Record
   S = submits G (r .submitted .group) (r .submitted .content) (r .submitted .count)
@@ -184,7 +183,9 @@ module _ (G D : ℕ) (z : Sizes G D) (w : World) (r : Running G D w) (s : ℕ) (
   abbrev memory : Memory
   memory = writeRecords (r .submitted .fenced) (w .memory)
 
-  abbrev N : Now G D (r .b) (r .tr) (r .old) (w .book .commits) (stateOf (w .state) .start) (stateOf (w .state) .settled) (r .submitted .group) (r .submitted .count) (r .submitted .content) (writeRecords (r .submitted .fenced) (w .memory))
+  abbrev N :
+      Now G D (r .b) (r .tr) (r .old) (w .book .commits) (stateOf (w .state) .start) (stateOf (w .state) .settled) (r .submitted .group)
+      (r .submitted .count) (r .submitted .content) (writeRecords (r .submitted .fenced) (w .memory))
   N = now-of G D (r .b) (r .tr) (r .old) w z (r .commits) (r .copies) (r .submitted)
 
   -- the header of memory that a crash may leave is the old one or the new one
@@ -204,10 +205,12 @@ module _ (G D : ℕ) (z : Sizes G D) (w : World) (r : Running G D w) (s : ℕ) (
 
   submitted′ : Submitted G D (r .b) (r .tr) (r .old) moved
   submitted′ =
-      submitted-fence G D (r .b) (r .tr) (r .old) w sb (KW head ∷ []) (unfold isFence in (refl, tt)) moved s (st .settled) (sb .content) (unfold groupWrites in refl)
+      submitted-fence G D (r .b) (r .tr) (r .old) w sb (KW head ∷ []) (unfold isFence in (refl, tt)) moved s (st .settled) (sb .content)
+      (unfold groupWrites in refl)
       (now-trimmed N s (t .from) (t .upto) most (t .apart)) refl refl refl
-      (sym (rw write-append (area-header-wrote head (writeRecords S memory)) ∙ area-wrote G (sb .group) (sb .content) (sb .count) memory ∙ sb .area))
-      (rw numbers) (rw numbers (ap (λ (n : ℕ). 7 * n) (sym (sb .next)))) (rw numbers (sym (sb .next))) (t .from)
+      (sym
+      (rw write-append (area-header-wrote head (writeRecords S memory)) ∙ area-wrote G (sb .group) (sb .content) (sb .count) memory ∙ sb .area))
+      (rw moved-numbers) (rw moved-numbers (ap (λ (n : ℕ). 7 * n) (sym (sb .next)))) (rw moved-numbers (sym (sb .next))) (t .from)
       (λ chosen. now-late-trim N s (t .from) (t .upto) most (t .apart) chosen) bound
 
   pub moved-runs : Running G D moved
@@ -221,15 +224,15 @@ module _ (G D : ℕ) (z : Sizes G D) (w : World) (r : Running G D w) (s : ℕ) (
         commits = r .commits;
         copies = copies′;
         submitted = submitted′;
-        confirmed = confirmed-more (r .b) w moved (KW head ∷ FN ∷ []) (r .confirmed) refl refl (rw numbers (c .order .fenced-next)) (λ k h. h);
+        confirmed = confirmed-more (r .b) w moved (KW head ∷ FN ∷ []) (r .confirmed) refl refl (rw moved-numbers (c .order .fenced-next)) (λ k h. h);
       }
 
 -- the log may start at s: what the call finds out
 may-start : (G D : ℕ) (w : World) (r : Running G D w) (s : ℕ) → stateOf (w .state) .start ≤ s → 7 * s ≤ stateOf (w .state) .settled
-    → mayStart (w .state) (spansOf (closingFrom (7 * stateOf (w .state) .start) (hist (7 * r .b) (r .tr) .done))) s ≡ true → MayMove G D w r s
+    → mayStart (w .state) (spansOf (keptIn (r .b) (r .tr) w)) s ≡ true → MayMove G D w r s
 unfolding mayStart
 may-start G D w r s l u m =
-    let f = and-true (noneAcross (7 * s) (spansOf (closingFrom (7 * stateOf (w .state) .start) (hist (7 * r .b) (r .tr) .done)))) (noneOpenBefore (7 * s) (w .state) 8) m in
+    let f = and-true (noneAcross (7 * s) (spansOf (keptIn (r .b) (r .tr) w))) (noneOpenBefore (7 * s) (w .state) 8) m in
     record {
       from = l;
       upto = u;
@@ -238,7 +241,7 @@ may-start G D w r s l u m =
     }
 
 start-may : (G D : ℕ) (w : World) (r : Running G D w) (s : ℕ) → MayMove G D w r s
-    → mayStart (w .state) (spansOf (closingFrom (7 * stateOf (w .state) .start) (hist (7 * r .b) (r .tr) .done))) s ≡ true
+    → mayStart (w .state) (spansOf (keptIn (r .b) (r .tr) w)) s ≡ true
 unfolding mayStart
 start-may G D w r s t =
     rw (
@@ -305,7 +308,7 @@ module _ (G D : ℕ) (z : Sizes G D) (w : World) (r : Running G D w) (batch : Li
 
   same-world : (s : ℕ) (t : MayMove G D w r s) (most : s ≤ 2 ^ 47)
       → after w (trim batch) (trimTo (lent w [] batch 0 0) (stateOf (w .state)) s) ≡ moved G D z w r s t most
-  unfolding trimTo lent feed isConfirm lastFrom
+  unfolding trimTo lent feed isConfirm lastKept
   same-world s t most =
       rw (lent-groups G D (r .b) (r .tr) w z (r .copies) [] batch 0 0, lent-homes G D (r .b) (r .tr) w z (r .copies) [] batch 0 0)
 
@@ -315,9 +318,20 @@ module _ (G D : ℕ) (z : Sizes G D) (w : World) (r : Running G D w) (batch : Li
   trim-to-runs s t most = go (eqb s (stateOf (w .state) .start))
     where
       go : (d : Bool)
-          → Running G D (after w (trim batch) (cond d (newState (lent w [] batch 0 0) (w .state) 0) (trimTo (lent w [] batch 0 0) (stateOf (w .state)) s)))
+          → Running G D
+          (after w (trim batch) (cond d (newState (lent w [] batch 0 0) (w .state) 0) (trimTo (lent w [] batch 0 0) (stateOf (w .state)) s)))
       go true = subst (λ (x : World). Running G D x) (sym stayed) r
       go false = subst (λ (x : World). Running G D x) (sym (same-world s t most)) (moved-runs G D z w r s t most)
+
+  -- the start that the strip then has
+  pub trim-to-start : (s : ℕ) → MayMove G D w r s → s ≤ 2 ^ 47 → stateOf (trimEffect (lent w [] batch 0 0) s .state) .start ≡ s
+  unfolding trimEffect lent newState trimTo lastKept
+  trim-to-start s t most = go (eqb s (stateOf (w .state) .start)) refl
+    where
+      go : (d : Bool) → eqb s (stateOf (w .state) .start) ≡ d
+          → stateOf (cond d (newState (lent w [] batch 0 0) (w .state) 0) (trimTo (lent w [] batch 0 0) (stateOf (w .state)) s) .state) .start ≡ s
+      go true e = sym (eqb-true s (stateOf (w .state) .start) e)
+      go false e = ap (λ (x : State). x .start) (moved-numbers G D z w r s t most)
 
   pub trim-runs : trimStart (lent w [] batch 0 0) ≤ 2 ^ 47
       → Running G D (after w (trim batch) (trimEffect (lent w [] batch 0 0) (trimStart (lent w [] batch 0 0))))
@@ -328,6 +342,9 @@ pub trim-formed : (w : World) (batch : List ℕ) (s : ℕ) → AllFormed (trimEf
 unfolding trimEffect newState trimTo
 trim-formed w batch s = go (eqb s (stateOf (lent w [] batch 0 0 .state) .start))
   where
-    go : (d : Bool) → AllFormed (cond d (newState (lent w [] batch 0 0) (lent w [] batch 0 0 .state) 0) (trimTo (lent w [] batch 0 0) (stateOf (lent w [] batch 0 0 .state)) s) .records)
+    g : Given
+    g = lent w [] batch 0 0
+
+    go : (d : Bool) → AllFormed (cond d (newState g (g .state) 0) (trimTo g (stateOf (g .state)) s) .records)
     go true = tt
-    go false = (length-header s (groups (lent w [] batch 0 0)) (homes (lent w [] batch 0 0)), (tt, tt))
+    go false = (length-header s (groups g) (homes g), (tt, tt))

@@ -42,11 +42,6 @@ pub record Effect : Type 0 where
 unfoldable pub newState : Given → List ℕ → ℕ → Effect
 newState g s figure = record { figure = figure; state = s; log = g .log; area = g .area; block = g .block; records = [] }
 
--- the numbers below n, rising
-unfoldable pub rising : ℕ → List ℕ
-rising zero = []
-rising (suc n) = rising n ++ (n ∷ [])
-
 -- Format: "KW of 64 zeros, FN, all groups and homes as zeros in rising order, FN, the head with start 0, FN. The copies hold the same."
 
 unfoldable pub unusedGroups : ℕ → List Record

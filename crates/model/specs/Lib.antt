@@ -12,3 +12,4 @@ pub mod Book
 pub mod History
 pub mod Demands
 pub mod Trials
+pub mod Witnesses

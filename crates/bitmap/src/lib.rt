@@ -1,0 +1,56 @@
+// Maps of one bit for each home, in words of 64, as specs/ defines them. A slice of n words serves 64 × n homes.
+ghost use mathlib.Core.Path.{_≡_};
+ghost use mathlib.Core.Bool.{_||_};
+ghost use mathlib.Core.List.{_∷_};
+ghost use Prim.Native.Nat.{ℕ, _*_, _^_, _<_};
+ghost use lib.Dec.{eqb};
+ghost use lib.ListN.{length, drop};
+ghost use Rattle.model.specs.Effects.{marked};
+ghost use Rattle.bitmap.specs.Marks.{marks, withMark, bitsOf};
+
+// Marks `i`, and leaves every other mark as it was.
+pub fn mark(ws: &mut [u64], i: usize)
+    requires { ⌜ i < 64 * length (now ws) ⌝ }
+    ensures { λ _. ⌜ now (ws .exit) ≡ withMark (now (ws .entry)) i ⌝ }
+    ensures { λ _. ⌜ ((j : ℕ) → marks (now (ws .exit)) j ≡ (eqb i j || marks (now (ws .entry)) j)) ⌝ }
+{
+    ws[i >> 6] |= 1 << (i & 63);
+}
+
+// Whether `i` is marked.
+pub fn is_marked(ws: &[u64], i: usize) -> bool
+    requires { ⌜ i < 64 * length (now ws) ⌝ }
+    ensures { λ r. ⌜ r ≡ marks (now (ws .entry)) i ⌝ }
+{
+    (ws[i >> 6] >> (i & 63)) & 1 == 1
+}
+
+// How many are marked, by the counts of ones of the words.
+pub fn count(ws: &[u64]) -> u64
+    requires { ⌜ 64 * length (now ws) < 2 ^ 64 ⌝ }
+    ensures { λ r. ⌜ r ≡ length (marked (marks (now (ws .entry))) (64 * length (now (ws .entry)))) ⌝ }
+{
+    let mut n: u64 = 0;
+    let mut i = 0;
+    while i < ws.len() {
+        n += u64::count_ones(ws[i]) as u64;
+        i += 1;
+    }
+    n
+}
+
+// The lowest bit that is set in a word, by its trailing zeros.
+pub fn lowest(w: u64) -> usize
+    requires { ⌜ 0 < w ⌝ }
+    ensures { λ r. ⌜ (bitsOf w ≡ r ∷ drop 1 (bitsOf w)) × (r < 64) ⌝ }
+{
+    u64::trailing_zeros(w) as usize
+}
+
+// The word without its lowest bit that is set: what is left to visit.
+pub fn clear_lowest(w: u64) -> u64
+    requires { ⌜ 0 < w ⌝ }
+    ensures { λ r. ⌜ (r < w) × (bitsOf r ≡ drop 1 (bitsOf w)) ⌝ }
+{
+    w & (w - 1)
+}

@@ -1,0 +1,5 @@
+pub mod CodeLaws
+pub mod RestoreLaws
+pub mod MarkLaws
+pub mod NewestLaws
+pub mod TrimLaws

@@ -1,0 +1,74 @@
+-- What a group says, test by test of its bytes, a position of the log by its group, and the ring slots in order. Assumes nothing.
+use mathlib.Core.Path.{_≡_, refl, sym, _∙_}
+use mathlib.Core.Bool.{true, false, and-false}
+use mathlib.Core.List.{List}
+use Prim.Native.Nat.{ℕ, _+_, _-_, _*_, _/_, _%_, _≤_, _<_}
+use native.Mathlib.Nat.{mod-self, mod-eq-of-lt, mod-add-mod}
+use native.Mathlib.Omega.{arith}
+use borrow.Author.Tests.{eq-eqb, ne-eqb, le-leb, lt-leb}
+use lib.Dec.{ltb}
+use lib.ListN.{take, drop}
+use Rattle.model.specs.Bytes.{part, number, same}
+use Rattle.model.specs.Tag.{readTag}
+use Rattle.model.specs.Layout.{groupMark, groupOffset, groupAt, groupNumber, tagOffset, groupTag, groupValid, slotOf, indexOf, entryIn, entryAt}
+use Rattle.model.specs.declared.Tag.the-variants.{Nothing}
+
+-- ---- a group's tags
+
+pub tag-read : (group : List ℕ) (k word position base homes : ℕ) → word ≡ number 8 group (8 + 8 * k)
+    → readTag word position base homes ≡ readTag (groupTag group k) position base homes
+unfolding groupTag tagOffset
+tag-read group k word position base homes e = rw e
+
+-- ---- a group's tests
+
+module _ (group : List ℕ) (groups start n : ℕ) where
+  pub valid-unmarked : same (part group 0 2) groupMark ≡ false → false ≡ groupValid group groups start n
+  unfolding groupValid
+  valid-unmarked e = simp e
+
+  pub valid-other : (number 6 group 2 ≡ n → ⊥) → false ≡ groupValid group groups start n
+  unfolding groupValid groupNumber
+  valid-other e = simp (ne-eqb (number 6 group 2) n e, and-false)
+
+  pub valid-before : n < start → false ≡ groupValid group groups start n
+  unfolding groupValid
+  valid-before h = simp (lt-leb start n h, and-false)
+
+  pub valid-range : same (part group 0 2) groupMark ≡ true → number 6 group 2 ≡ n → start ≤ n → ltb n (start + groups) ≡ groupValid group groups start n
+  unfolding groupValid groupNumber
+  valid-range e f h = simp (e, eq-eqb (number 6 group 2) n f, le-leb start n h)
+
+-- ---- a group as a part of the log
+
+pub part-group : (log : List ℕ) (slot from : ℕ) → from ≡ 64 + 512 * slot → take (from + 512 - from) (drop from log) ≡ groupAt log slot
+unfolding groupAt part groupOffset
+part-group log slot from e = let d : from + 512 - from ≡ 512 = omega arith in rw (d, e)
+
+-- ---- a position of the log
+
+module _ (log : List ℕ) (groups homes start position : ℕ) where
+  entry-group : entryAt log groups homes start position ≡ entryIn (groupAt log (position / 7 % groups)) groups homes start position
+  unfolding entryAt slotOf
+  entry-group = refl
+
+  pub entry-there : (group : List ℕ) → group ≡ groupAt log (position / 7 % groups) → groupValid group groups start (position / 7) ≡ true
+      → readTag (groupTag group (position % 7)) position (7 * start) homes ≡ entryAt log groups homes start position
+  unfolding entryIn indexOf
+  entry-there group e v = sym (rw (entry-group, ← e, v))
+
+  pub entry-hole : (group : List ℕ) → group ≡ groupAt log (position / 7 % groups) → groupValid group groups start (position / 7) ≡ false
+      → Nothing ≡ entryAt log groups homes start position
+  unfolding entryIn
+  entry-hole group e v = sym (rw (entry-group, ← e, v))
+
+-- ---- the next ring slot
+
+pub slot-wraps : (slot groups : ℕ) → slot + 1 ≡ groups → 0 ≡ (slot + 1) % groups
+slot-wraps slot groups e = rw e (sym (mod-self groups))
+
+pub slot-next : (slot groups : ℕ) → slot < groups → (slot + 1 ≡ groups → ⊥) → slot + 1 ≡ (slot + 1) % groups
+slot-next slot groups h e = sym (mod-eq-of-lt (omega arith))
+
+pub slot-more : (n groups slot next : ℕ) → slot ≡ n % groups → next ≡ (slot + 1) % groups → next ≡ (n + 1) % groups
+slot-more n groups slot next e f = f ∙ rw (e, mod-add-mod)

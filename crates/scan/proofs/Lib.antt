@@ -1,0 +1,4 @@
+pub mod GroupLaws
+pub mod JudgeLaws
+pub mod ScanLaws
+pub mod VisitLaws

@@ -1,0 +1,47 @@
+// What a group of the log says: whether it is valid, and its tags.
+use model::Tag;
+ghost use mathlib.Core.Path.{_≡_};
+ghost use Prim.Native.Nat.{_+_, _*_, _^_, _<_, _≤_};
+ghost use lib.ListN.{length};
+ghost use Rattle.model.specs.Tag.{readTag};
+ghost use Rattle.model.specs.Layout.{groupTag, groupValid, entryAt};
+
+// What tag `k` of a group says at a position of a log that starts at position `base` and has `homes` homes.
+pub fn tag_in(group: &[u8], k: usize, position: u64, base: u64, homes: u64) -> Tag
+    requires { ⌜ (length (now group) ≡ 512) × (k < 7) ⌝ }
+    ensures { λ r. ⌜ r ≡ readTag (groupTag (now (group .entry)) k) position base homes ⌝ }
+{
+    codec::read_tag(codec::number(group, 8 + 8 * k, 8), position, base, homes)
+}
+
+// Whether the 512 bytes of a ring slot are a valid group with number `n`, in a log of `groups` groups from number `start` on.
+pub fn group_valid(group: &[u8], groups: u64, start: u64, n: u64) -> bool
+    requires { ⌜ (length (now group) ≡ 512) × (groups ≤ 1024) × (start ≤ 2 ^ 47) ⌝ }
+    ensures { λ r. ⌜ r ≡ groupValid (now (group .entry)) groups start n ⌝ }
+{
+    if !codec::has_group_mark(group, 0) {
+        return false;
+    }
+    if codec::number(group, 2, 6) != n {
+        return false;
+    }
+    if n < start {
+        return false;
+    }
+    n < start + groups
+}
+
+// What the log says at a position.
+pub fn entry_at(log: &[u8], groups: u64, homes: u64, start: u64, position: u64) -> Tag
+    requires { ⌜ (length (now log) ≡ 64 + 512 * groups) × (0 < groups) × (groups ≤ 1024) × (start ≤ 2 ^ 47) × (position < 7 * (start + groups)) ⌝ }
+    ensures { λ r. ⌜ r ≡ entryAt (now (log .entry)) groups homes start position ⌝ }
+{
+    let n = position / 7;
+    let from = 64 + 512 * (n % groups) as usize;
+    let group = &log[from..from + 512];
+    if group_valid(group, groups, start, n) {
+        tag_in(group, (position % 7) as usize, position, 7 * start, homes)
+    } else {
+        Tag::Nothing
+    }
+}

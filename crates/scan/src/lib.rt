@@ -1,0 +1,9 @@
+// The log's groups, and the walk over them that applies the commit rule, as model/specs defines both.
+mod commits;
+mod groups;
+
+pub use commits::Found;
+pub use commits::walk;
+pub use groups::entry_at;
+pub use groups::group_valid;
+pub use groups::tag_in;

@@ -1,0 +1,120 @@
+-- Question 2 test by test: one test that fails refuses the strip, and all that hold make it one in order. Assumes nothing.
+use mathlib.Core.Path.{_≡_, refl, sym, _∙_}
+use mathlib.Core.Bool.{Bool, true, false, not, _&&_, and-false}
+use mathlib.Core.Logic.{_≢_}
+use mathlib.Core.List.{List}
+use Prim.Native.Nat.{ℕ, zero, suc, _+_, _*_, _≤_, _<_}
+use native.Mathlib.Decide.{decLt}
+use native.Mathlib.Numerals.{add-one}
+use native.Mathlib.Omega.{arith}
+use borrow.Author.Tests.{eq-eqb, ne-eqb, not-true, not-false}
+use Rattle.model.specs.declared.State.{State}
+use Rattle.model.specs.declared.Writer.{Writer}
+use Rattle.model.specs.State.{stateOf, writerOf, nextPosition, numbersInOrder, writerInOrder, writersInOrder, inOrder}
+use Rattle.model.proofs.OrderLaws.{tests, WriterInOrder, writer-order}
+use Rattle.strip.specs.Order.{GroupsInOrder}
+
+refuted : (b : Bool) → (b ≡ true → ⊥) → false ≡ b
+refuted true h = absurd (h refl)
+refuted false h = refl
+
+-- a question that was answered by no, and by yes
+pub answered-no : {b x : Bool} → b ≡ x → not b ≡ true → false ≡ x
+answered-no {b} e h = sym (not-true b h) ∙ e
+
+pub answered-yes : {b x : Bool} → b ≡ x → not b ≡ false → true ≡ x
+answered-yes {b} e h = sym (not-false b h) ∙ e
+
+-- ---- the numbers
+
+-- the second half of question 2 as plain facts
+pub record PositionsInOrder (st : State) : Type 0 where
+  pub start-settled : 7 * st .start ≤ st .settled
+  pub settled-fenced : st .settled ≤ st .fenced
+  pub fenced-next : st .fenced ≤ 7 * st .next
+  pub durable-fenced : st .durable ≤ st .fenced
+  pub last-closing : st .last ≢ 0 → (7 * st .start < st .last) × (st .last ≤ nextPosition st)
+
+module _ (st : State) where
+  pub groups-order : st .groups ≤ 1024 → numbersInOrder st ≡ true → GroupsInOrder st
+  unfolding numbersInOrder
+  groups-order m h =
+      let f = simp tests at h in
+      record {
+        groups-most = m;
+        start-most = omega arith;
+        start-next = omega arith;
+        next-most = omega arith;
+        filled-most = omega arith;
+        filled-none = λ k. f .0 .0 .0 .0 .0 .1 (omega arith);
+      }
+
+  pub groups-refused : st .groups ≤ 1024 → (GroupsInOrder st → ⊥) → false ≡ numbersInOrder st
+  groups-refused m h = refuted (numbersInOrder st) (λ e. h (groups-order m e))
+
+  pub positions-refused : (PositionsInOrder st → ⊥) → false ≡ numbersInOrder st
+  unfolding numbersInOrder
+  positions-refused h =
+      refuted (numbersInOrder st)
+      (λ e.
+      let f = simp tests at e in
+      h
+      (record {
+        start-settled = omega arith;
+        settled-fenced = omega arith;
+        fenced-next = omega arith;
+        durable-fenced = omega arith;
+        last-closing = f .1;
+      }))
+
+  pub numbers-held : GroupsInOrder st → PositionsInOrder st → true ≡ numbersInOrder st
+  unfolding numbersInOrder
+  numbers-held g p =
+      sym
+      (simp tests (
+        (((((omega arith, λ k. g .filled-none (omega arith)), p .start-settled), p .settled-fenced), p .fenced-next), p .durable-fenced),
+        p .last-closing,
+      ))
+
+-- ---- a writer, and the writers one after the other
+
+pub writer-refused : (st : State) (r : Writer) → (WriterInOrder st r → ⊥) → false ≡ writerInOrder st r
+writer-refused st r h = refuted (writerInOrder st r) (λ e. h (writer-order st r e))
+
+module _ (s : List ℕ) (st : State) where
+  pub writers-none : true ≡ writersInOrder s st 0
+  unfolding writersInOrder
+  writers-none = refl
+
+  pub writers-turn : (w : ℕ) → true ≡ writersInOrder s st w → true ≡ writerInOrder st (writerOf s w) → true ≡ writersInOrder s st (w + 1)
+  unfolding writersInOrder
+  writers-turn w h k = rw (add-one w, ← h, ← k)
+
+  pub writers-stop : (w n : ℕ) → w < n → false ≡ writerInOrder st (writerOf s w) → false ≡ writersInOrder s st n
+  unfolding writersInOrder
+  writers-stop w zero h k = absurd (omega arith)
+  writers-stop w (suc n) h k = go (decLt w n) (writers-stop w n)
+    where
+      go : Dec (w < n) → (w < n → false ≡ writerInOrder st (writerOf s w) → false ≡ writersInOrder s st n)
+          → false ≡ (writersInOrder s st n && writerInOrder st (writerOf s n))
+      go (yes l) f = rw (← f l k)
+      go (no l) f = let e : n ≡ w = omega arith in rw (e, ← k, and-false)
+
+-- ---- the whole strip
+
+module _ (s : List ℕ) (st : State) (groups homes : ℕ) (e : st ≡ stateOf s) where
+  pub other-groups : st .groups ≢ groups → false ≡ inOrder s groups homes
+  unfolding inOrder
+  other-groups h = rw (← e, ne-eqb (st .groups) groups h)
+
+  pub other-homes : st .homes ≢ homes → false ≡ inOrder s groups homes
+  unfolding inOrder
+  other-homes h = rw (← e, ne-eqb (st .homes) homes h, and-false)
+
+  pub numbers-not : false ≡ numbersInOrder st → false ≡ inOrder s groups homes
+  unfolding inOrder
+  numbers-not h = rw (← e, ← h, and-false)
+
+  pub by-writers : st .groups ≡ groups → st .homes ≡ homes → true ≡ numbersInOrder st → writersInOrder s st 8 ≡ inOrder s groups homes
+  unfolding inOrder
+  by-writers g h k = rw (← e, eq-eqb (st .groups) groups g, eq-eqb (st .homes) homes h, ← k)

@@ -1,0 +1,12 @@
+-- `strip::begun` meets its contract. Assumes nothing.
+use mathlib.Core.Path.{refl}
+use Rattle.model.specs.State.{begun}
+use Rattle.strip.proofs.writers.begun.Statement.{statement}
+use Rattle.strip.proofs.writers.begun.Tie as tie
+
+returns : tie.Need-returns
+unfolding begun
+returns c = refl
+
+pub begun-spec : {M : Type 1} → statement M
+begun-spec = tie.close (tie.spec returns)

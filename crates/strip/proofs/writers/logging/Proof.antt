@@ -1,0 +1,12 @@
+-- `strip::logging` meets its contract. Assumes nothing.
+use mathlib.Core.Path.{refl}
+use Rattle.model.specs.State.{logging}
+use Rattle.strip.proofs.writers.logging.Statement.{statement}
+use Rattle.strip.proofs.writers.logging.Tie as tie
+
+returns : tie.Need-returns
+unfolding logging
+returns c = refl
+
+pub logging-spec : {M : Type 1} → statement M
+logging-spec = tie.close (tie.spec returns)

@@ -1,0 +1,30 @@
+// The state strip of 1,024 bytes as model/specs/State defines it: its numbers, its writers' records and held blocks, and whether it is in order.
+mod fields;
+mod order;
+mod writers;
+
+pub use fields::fresh;
+pub use fields::next_position;
+pub use fields::set_durable;
+pub use fields::set_fenced;
+pub use fields::set_filled;
+pub use fields::set_last;
+pub use fields::set_next;
+pub use fields::set_settled;
+pub use fields::set_start;
+pub use fields::state;
+pub use order::in_order;
+pub use order::numbers_in_order;
+pub use order::writer_in_order;
+pub use writers::begun;
+pub use writers::count_for;
+pub use writers::first_for;
+pub use writers::has_logged;
+pub use writers::holding;
+pub use writers::holds;
+pub use writers::idle;
+pub use writers::is_open;
+pub use writers::logging;
+pub use writers::set_held;
+pub use writers::set_writer;
+pub use writers::writer;

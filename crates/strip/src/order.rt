@@ -1,0 +1,137 @@
+// Whether the state strip is in order (question 2).
+use crate::fields::next_position;
+use crate::fields::state;
+use crate::writers::writer;
+use model::State;
+use model::Writer;
+ghost use mathlib.Core.Path.{_≡_};
+ghost use Prim.Native.Nat.{_+_, _*_, _^_, _≤_, _<_};
+ghost use lib.ListN.{length};
+ghost use Rattle.model.specs.State.{numbersInOrder, writerInOrder, writersInOrder, inOrder};
+ghost use Rattle.strip.specs.Order.{GroupsInOrder};
+
+// The highest group number that a log may start at.
+const MAX_START: u64 = 0x8000_0000_0000;
+
+// Whether the numbers of the strip are in order, where its group numbers and the places filled are.
+fn positions_in_order(st: State) -> bool
+    requires { ⌜ GroupsInOrder st ⌝ }
+    ensures { λ r. ⌜ r ≡ numbersInOrder st ⌝ }
+{
+    let low = 7 * st.start;
+    if st.settled < low {
+        return false;
+    }
+    if st.fenced < st.settled {
+        return false;
+    }
+    if 7 * st.next < st.fenced {
+        return false;
+    }
+    if st.fenced < st.durable {
+        return false;
+    }
+    if st.last == 0 {
+        return true;
+    }
+    if st.last <= low {
+        return false;
+    }
+    if next_position(st) < st.last {
+        return false;
+    }
+    true
+}
+
+// Whether the numbers of the strip are in order.
+pub fn numbers_in_order(st: State) -> bool
+    requires { ⌜ st .groups ≤ 1024 ⌝ }
+    ensures { λ r. ⌜ r ≡ numbersInOrder st ⌝ }
+{
+    if MAX_START < st.start {
+        return false;
+    }
+    if st.next < st.start {
+        return false;
+    }
+    let end = st.start + st.groups;
+    if end < st.next {
+        return false;
+    }
+    if 6 < st.filled {
+        return false;
+    }
+    if st.next == end {
+        if st.filled != 0 {
+            return false;
+        }
+    }
+    positions_in_order(st)
+}
+
+// Whether a writer's record is in order in a strip with the numbers `st`.
+pub fn writer_in_order(st: State, r: Writer) -> bool
+    requires { ⌜ (7 * st .start < 2 ^ 64) × (7 * st .next + st .filled < 2 ^ 64) ⌝ }
+    ensures { λ b. ⌜ b ≡ writerInOrder st r ⌝ }
+{
+    if 3 < r.mode {
+        return false;
+    }
+    if r.mode < 2 {
+        return true;
+    }
+    if st.homes <= r.home {
+        return false;
+    }
+    if r.mode < 3 {
+        return true;
+    }
+    if r.first < 7 * st.start {
+        return false;
+    }
+    let next = next_position(st);
+    if next <= r.first {
+        return false;
+    }
+    if r.count == 0 {
+        return false;
+    }
+    if next - r.first < r.count {
+        return false;
+    }
+    true
+}
+
+// Whether the records of all eight writers are in order in the strip `s` with the numbers `st`.
+fn writers_in_order(s: &[u8], st: State) -> bool
+    requires { ⌜ (length (now s) ≡ 1024) × (7 * st .start < 2 ^ 64) × (7 * st .next + st .filled < 2 ^ 64) ⌝ }
+    ensures { λ r. ⌜ r ≡ writersInOrder (now (s .entry)) st 8 ⌝ }
+{
+    let mut w: usize = 0;
+    while w < 8 {
+        let r = writer(s, w);
+        if !writer_in_order(st, r) {
+            return false;
+        }
+        w += 1;
+    }
+    true
+}
+
+// Whether the strip is in order for a log of `groups` groups and `homes` homes.
+pub fn in_order(s: &[u8], groups: u64, homes: u64) -> bool
+    requires { ⌜ (length (now s) ≡ 1024) × (groups ≤ 1024) × (homes ≤ 4096) ⌝ }
+    ensures { λ r. ⌜ r ≡ inOrder (now (s .entry)) groups homes ⌝ }
+{
+    let st = state(s);
+    if st.groups != groups {
+        return false;
+    }
+    if st.homes != homes {
+        return false;
+    }
+    if !numbers_in_order(st) {
+        return false;
+    }
+    writers_in_order(s, st)
+}
