@@ -56,6 +56,8 @@ pub mod TrimYields
 pub mod Yields
 pub mod YieldsAll
 pub mod DemandTwo
+pub mod OnceLaws
+pub mod FactLaws
 pub mod Computing
 pub mod TrialsHold
 pub mod WitnessesHold

@@ -207,7 +207,7 @@ module _ (G D : ℕ) (z : Sizes G D) (w : World) (r : Running G D w) where
   trimmed batch =
       let t = trim-may G D z w r batch in
       record {
-        reached = inr (may-free (trimStart (lent w [] batch 0 0)) t);
+        reached = may-free (trimStart (lent w [] batch 0 0)) t;
         settled = t .upto;
         furthest = λ s u h. go s u h (decLt s (stateOf (w .state) .start)) (t .from);
       }

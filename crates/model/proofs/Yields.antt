@@ -1,24 +1,24 @@
 -- What a done settle and a done confirm yield in the book's terms, and the strip that every call of an era finds in order. Assumes nothing.
-use Prim.Native.Nat.{ℕ, zero, suc, _+_, _-_, _*_, _/_, _%_, _≤_, _<_}
+use Prim.Native.Nat.{ℕ, _+_, _-_, _*_, _/_, _≤_, _<_}
 use mathlib.Core.Path.{_≡_, refl, sym, ap, _∙_}
-use mathlib.Core.Bool.{Bool, true, false, cond, _&&_, _||_, and-true}
+use mathlib.Core.Bool.{Bool, true, false, _&&_, and-true}
 use mathlib.Core.List.{List, [], _∷_, _++_}
 use native.Mathlib.Omega.{arith}
 use native.Mathlib.Decide.{decLt}
 use lib.Dec.{leb, ltb}
 use lib.ListN.{length}
-use borrow.Author.Tests.{le-leb, lt-leb, lt-ltb, le-ltb}
-use Rattle.model.specs.Layout.{groupsIn, homesIn}
-use Rattle.model.specs.Batch.{Record, GW, HW, KW, FN}
+use borrow.Author.Tests.{le-leb, lt-ltb, le-ltb}
+use Rattle.model.specs.Layout.{groupsIn}
+use Rattle.model.specs.Batch.{Record, FN}
 use Rattle.model.specs.State.{stateOf, inOrder}
 use Rattle.model.specs.Effects.{Given, Effect, newState, confirmEffect, settleEffect}
 use Rattle.model.specs.Questions.{confirmAnswer, settleAnswer}
 use Rattle.model.specs.Calls.{Outcome, outcome, done, sizeOf, confirmCall, settleCall}
 use Rattle.model.specs.Crash.{isFence, fences}
-use Rattle.model.specs.Book.{Kept, row, persisted, Entry, Commit, homesAfter, owedBy}
+use Rattle.model.specs.Book.{row, Entry, Commit, homesAfter, owedBy}
 use Rattle.model.specs.Demands.{closedBelow, groupWrites, fencedRows, keptBelow, allBelow, owedRows}
-use Rattle.model.specs.History.{Call, confirm, settle, World, lent, ends}
-use Rattle.model.proofs.LayoutLaws.{groups-in, homes-in}
+use Rattle.model.specs.History.{confirm, settle, World, lent, ends}
+use Rattle.model.proofs.LayoutLaws.{groups-in}
 use Rattle.model.proofs.OrderLaws.{order-in}
 use Rattle.model.proofs.CrashLaws.{submits, NoFence, none-submits, fences-append, fences-none, groupWrites-append, groupWrites-fence, groupWrites-submits}
 use Rattle.model.proofs.Trace.{Ev, hist, closerOf}
@@ -26,7 +26,7 @@ use Rattle.model.proofs.TraceLaws.{All, Falling, Long, done-falling, do
 use Rattle.model.proofs.RunLaws.{ticket-below}
 use Rattle.model.proofs.DoneLaws.{outcome-code, outcome-done}
 use Rattle.model.proofs.SettleRuns as settles
-use Rattle.model.proofs.Invariant.{Sizes, entryFor, entriesFor, Matches, OldEntries, OldCommits, Commits, Copies, Submitted, Running}
+use Rattle.model.proofs.Invariant.{Sizes, entryFor, entriesFor, Matches, OldCommits, Commits, Running}
 
 -- an answer of 0 is a done call
 pub ends-done : (o : Outcome) (g : Given) (a : ℕ) (e : Effect) → o ≡ outcome g a e → o .code ≡ 0 → o ≡ done g e

@@ -1,27 +1,26 @@
 -- What every done call of a history yields. Beside the invariant it takes one more fact, which every event keeps: after a done opening every commit
 -- whose ticket a crash has ended is owed. Assumes nothing.
-use Prim.Native.Nat.{ℕ, zero, suc, _+_, _≤_, _<_}
-use mathlib.Core.Path.{_≡_, refl, sym, ap, _∙_, subst}
-use mathlib.Core.Logic.{_⊎_, inl, inr}
-use mathlib.Core.Bool.{Bool, true, false, cond, not, _&&_, _||_, false≢true}
+use Prim.Native.Nat.{ℕ, zero, suc, _≤_, _<_}
+use mathlib.Core.Path.{_≡_, refl, sym, ap, _∙_}
+use mathlib.Core.Logic.{inl, inr}
+use mathlib.Core.Bool.{Bool, true, false, cond, not, false≢true}
 use mathlib.Core.List.{List, [], _∷_, _++_}
-use mathlib.Core.Option.{Option, none, some}
+use mathlib.Core.Option.{none, some}
 use native.Mathlib.Omega.{arith}
-use lib.Dec.{eqb, leb}
-use lib.ListN.{length}
+use lib.Dec.{eqb}
 use borrow.Author.Tests.{leb-false, ltb-true}
-use Rattle.model.specs.State.{stateOf, nextPosition, Writer, writerOf, heldOf, holds}
-use Rattle.model.specs.Effects.{Given, Effect, commitHeld, commitEffect, abortEffect}
+use Rattle.model.specs.State.{Writer, writerOf, heldOf, holds}
+use Rattle.model.specs.Effects.{Given, commitHeld, commitEffect}
 use Rattle.model.specs.Questions.{writerKnown, commitAnswer}
-use Rattle.model.specs.Calls.{Outcome, outcome, done, sizeOf, commitCall}
-use Rattle.model.specs.Book.{Entry, Commit, Held, Task, idle, opened, Book, filledUp, submit, grown, withTask, addCommit, entryOf, storeTask, commitTask, owedBy, owedAll, withCommits}
+use Rattle.model.specs.Calls.{Outcome, done, sizeOf, commitCall}
+use Rattle.model.specs.Book.{Commit, Task, idle, opened, Book, filledUp, submit, grown, withTask, addCommit, entryOf, storeTask, commitTask, owedBy, owedAll, withCommits}
 use Rattle.model.specs.Book as book
 use Rattle.model.specs.Demands.{Live, Yields, YieldsAt, LiveThroughout, Demand2}
 use Rattle.model.specs.History.{Call, opening, begin, abort, store, commit, flush, confirm, settle, trim, read, Event, call, crash, World, afterFormat, lent, ends, feed, isOpening, afterDone, afterCall, afterCrash, step, Allowed, AllAllowed}
 use Rattle.model.proofs.QuestionLaws.{commit-ready}
-use Rattle.model.proofs.DoneLaws.{outcome-code, outcome-done, step-refused}
+use Rattle.model.proofs.DoneLaws.{outcome-code}
 use Rattle.model.proofs.Trace.{Ev}
-use Rattle.model.proofs.Invariant.{Sizes, TaskOk, Closed, Running, Invariant}
+use Rattle.model.proofs.Invariant.{Sizes, TaskOk, Running, Invariant}
 use Rattle.model.proofs.Beginning.{format-closed}
 use Rattle.model.proofs.DemandThree.{keeps}
 use Rattle.model.proofs.Yields.{PastOwed, ends-done, confirm-yields, settle-yields}

@@ -133,9 +133,9 @@ unfoldable pub free : World → ℕ → Bool
 free w start =
     not (anyAcross (firstGroup w) (7 * start) (w .book .commits)) && not (anyOpenBefore (firstGroup w) (7 * start) (w .book .tasks) 8)
 
--- the start that a trim leaves is the largest at most the settled position at which the log may start, or the old one
+-- the start that a trim leaves is the largest at most the settled position at which the log may start
 pub record Trimmed (w : World) (start : ℕ) : Type 0 where
-  pub reached : (start ≡ stateOf (w .state) .start) ⊎ (free w start ≡ true)
+  pub reached : free w start ≡ true
   pub settled : 7 * start ≤ stateOf (w .state) .settled
   pub furthest : (s : ℕ) → 7 * s ≤ stateOf (w .state) .settled → free w s ≡ true → s ≤ start
 

@@ -13,3 +13,4 @@ pub mod History
 pub mod Demands
 pub mod Trials
 pub mod Witnesses
+pub mod Facts
