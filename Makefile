@@ -12,8 +12,9 @@ run: second
 second:
 	cd second && cargo build --release --offline --quiet
 
-test:
+test: second
 	cd second && cargo test --release --offline --quiet
+	python3 tests/definitions.py $(SEED) 200
 	rt ci
 
 clean:

@@ -1,0 +1,82 @@
+#!/usr/bin/env python3
+"""Compares the definitions with the second implementation, call by call.
+
+The second implementation prints cases on random and damaged input: what a call is lent, what it answers and leaves. For each case a statement is
+written down that the definition leaves the same answer, figure, batch length, strip, copies, block and batch buffer, and the prover computes it.
+
+usage: definitions.py SEED COUNT      (COUNT cases)
+"""
+import collections
+import json
+import pathlib
+import shutil
+import subprocess
+import sys
+import tempfile
+
+ROOT = pathlib.Path(__file__).resolve().parent.parent
+VECTORS = ROOT / "second/target/release/vectors"
+
+HEAD = """-- Written by tests/definitions.py.
+use mathlib.Core.Path.{_≡_, refl}
+use mathlib.Core.Bool.{Bool, true, _&&_}
+use mathlib.Core.List.{List, [], _∷_, _++_}
+use Prim.Native.Nat.{ℕ}
+use lib.Dec.{eqb}
+use lib.ListN.{replicate}
+use Rattle.model.specs.Bytes.{same}
+use Rattle.model.specs.Effects.{Given}
+use Rattle.model.specs.Calls.{Outcome, formatCall, openCall, beginCall, abortCall, storeCall, commitCall, flushCall, confirmCall, settleCall, trimCall, readCall}
+use Rattle.model.proofs.Computing.{all-definitions}
+
+data Run : Type 0 where
+  r : ℕ → ℕ → Run
+
+spread : List Run → List ℕ
+spread [] = []
+spread (r b n ∷ rs) = replicate n b ++ spread rs
+
+agrees : Outcome → ℕ → ℕ → ℕ → List Run → List Run → List Run → List Run → List Run → Bool
+agrees o c f n s l a b t = eqb (o .code) c && eqb (o .figure) f && eqb (o .size) n && same (o .state) (spread s) && same (o .log) (spread l) && same (o .area) (spread a) && same (o .block) (spread b) && same (o .batch) (spread t)
+
+gives : List Run → List Run → List Run → List Run → List Run → ℕ → ℕ → Given
+gives s l a b t w h = record { state = spread s; log = spread l; area = spread a; block = spread b; batch = spread t; writer = w; home = h }
+"""
+
+
+def runs(pairs):
+    return "(" + "".join(f"r {byte} {count} ∷ " for byte, count in pairs) + "[])"
+
+
+def statement(number, case):
+    lent = " ".join(runs(case[k]) for k in ("state", "log", "data", "block", "batch"))
+    left = " ".join(runs(case[k]) for k in ("state2", "log2", "data2", "block2", "batch2"))
+    call = f"{case['call']}Call (gives {lent} {case['writer']} {case['home']})"
+    claim = f"agrees ({call}) {case['code']} {case['figure']} {case['len']} {left} ≡ true"
+    return f"\ncase{number} : {claim}\nunfolding all-definitions spread agrees gives\ncase{number} = refl\n"
+
+
+def main():
+    seed, count = sys.argv[1:3]
+    printed = subprocess.run([VECTORS, "--seed", seed, "--count", count], capture_output=True, text=True, check=True).stdout
+    cases = [json.loads(line) for line in printed.splitlines()]
+    text = HEAD + "".join(statement(n, case) for n, case in enumerate(cases))
+    with tempfile.TemporaryDirectory() as folder:
+        model = pathlib.Path(folder) / "crates/model"
+        for part in ("src", "specs"):
+            shutil.copytree(ROOT / "crates/model" / part, model / part)
+        proofs = model / "proofs"
+        proofs.mkdir()
+        shutil.copy(ROOT / "crates/model/proofs/Computing.antt", proofs)
+        (proofs / "Lib.antt").write_text("pub mod Computing\npub mod Cases\n")
+        (proofs / "Cases.antt").write_text(text)
+        (pathlib.Path(folder) / "crates.txt").write_text("model:\n")
+        told = subprocess.run(["rt", "check", "model"], cwd=folder, capture_output=True, text=True)
+    answers = collections.Counter(f"{case['call']} {case['code']}" for case in cases)
+    if told.returncode != 0:
+        print(told.stdout[-3000:], told.stderr[-3000:], sep="\n")
+        sys.exit(f"definitions: some of {len(cases)} cases differ from the second implementation (seed {seed})")
+    print(f"definitions: {len(cases)} cases as the second implementation has them; {len(answers)} pairs of call and answer")
+
+
+main()
