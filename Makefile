@@ -1,21 +1,47 @@
-# make run    plays random histories of calls and power cuts, and says what came back
-# make test   runs every test; the prover's verdict is the last line
+# make            builds the library and the C programs
+# make run        a pump station on the store: power cuts at random, each opening checked, a wear sheet at the end
+# make test       runs every test and every proof; the prover's verdict is the last line
+# make compare    a long comparison of the library with the second implementation, call by call
+# make play       random histories on the second implementation alone
+# make install    header, library and pkg-config file, under DESTDIR and PREFIX
 
 SEED ?= 1
+CUTS ?= 300
 HISTORIES ?= 400
 
-.PHONY: run test second clean
+LIB = target/staticlib/libkagutin.a
 
-run: second
-	second/target/release/play --seed $(SEED) --histories $(HISTORIES)
+.PHONY: all run test compare play second library clean
+
+all: station inspect quickstart
+
+include c.mk
+
+# The archive is made from proved crates only; rt proves what has changed.
+library $(LIB):
+	rt staticlib kagutin
+
+run: station
+	target/c/station --seed $(SEED) --cuts $(CUTS)
 
 second:
 	cd second && cargo build --release --offline --quiet
 
-test: second
+compare/target/release/compare: $(LIB) second
+	cd compare && cargo build --release --offline --quiet
+
+compare: compare/target/release/compare
+	compare/target/release/compare --seed $(SEED) --calls 1000000 --damaged 100000 --histories 5000 --large-histories 20
+
+play: second
+	second/target/release/play --seed $(SEED) --histories $(HISTORIES)
+
+test: second compare/target/release/compare
 	cd second && cargo test --release --offline --quiet
 	python3 tests/definitions.py $(SEED) 200
+	compare/target/release/compare --seed $(SEED)
+	$(MAKE) --no-print-directory c-check
 	rt ci
 
 clean:
-	rm -rf target second/target
+	rm -rf target second/target compare/target

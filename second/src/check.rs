@@ -1,7 +1,7 @@
 //! What must hold after a call: demands 2 and 3, and the state in order.
 
 use crate::layout::{word, Answer};
-use crate::lent::{Kind, Lent};
+use crate::lent::Kind;
 use crate::literal;
 use crate::state::{mode, pending_range, State, Writer};
 use crate::world::{Call, Odd, World};
@@ -24,7 +24,7 @@ impl World {
         if call.odd.is_some() || (deep && expected.code != 0) {
             return self.perform_refused(call, expected);
         }
-        let answer = self.lent.run(call.kind, call.writer, call.home);
+        let answer = (self.runner)(&mut self.lent, call.kind, call.writer, call.home);
         must(answer == expected, &format!("answer {answer:?}, expected {expected:?}"))?;
         must(self.lent.batch[answer.len..].iter().all(|&b| b == 0xcc), "batch past its length")?;
         if answer.code == 0 {
@@ -40,7 +40,7 @@ impl World {
             cut_to_odd(&mut lent, odd);
         }
         let before = lent.clone();
-        let answer = lent.run(call.kind, call.writer, call.home);
+        let answer = (self.runner)(&mut lent, call.kind, call.writer, call.home);
         must(answer == expected, &format!("answer {answer:?}, expected {expected:?}"))?;
         must(lent == before, "a refused call changed something")?;
         Ok(answer)
@@ -155,15 +155,14 @@ impl World {
     }
 
     fn check_read(&mut self, writer: u64, home: u64) -> Result<(), String> {
-        let mut block = [0xaa; 64];
-        let Lent { log, data, state, .. } = &self.lent;
-        let answer = crate::read(log, data, state, &mut block, writer, home);
+        self.lent.block.fill(0xaa);
+        let answer = (self.runner)(&mut self.lent, Kind::Read, writer, home);
         must(answer == Answer::DONE, "read refused")?;
-        must(block == self.book.read(writer, home), "read differs from the book")
+        must(self.lent.block == self.book.read(writer, home), "read differs from the book")
     }
 }
 
-fn cut_to_odd(lent: &mut Lent, odd: Odd) {
+fn cut_to_odd(lent: &mut crate::lent::Lent, odd: Odd) {
     match odd {
         Odd::Log(len) => lent.log.resize(len, 0),
         Odd::Data(len) => lent.data.resize(len, 0),

@@ -111,6 +111,10 @@ impl Lent {
     }
 }
 
+/// Performs a call on what is lent. A `World` can be played with another
+/// implementation than this one.
+pub type Runner = Box<dyn FnMut(&mut Lent, Kind, u64, u64) -> Answer>;
+
 /// What format writes; no call writes more.
 pub fn ample(groups: u64, homes: u64) -> usize {
     groups as usize * GROUP_WRITE_LEN

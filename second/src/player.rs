@@ -1,7 +1,7 @@
 //! Random histories: calls, refused ones included, and crashes.
 
 use crate::layout::{Answer, Shape, START_LIMIT};
-use crate::lent::{ample, Kind};
+use crate::lent::{ample, Kind, Lent, Runner};
 use crate::rng::Rng;
 use crate::world::{Call, Odd, World};
 
@@ -61,6 +61,14 @@ impl Profile {
             odd: rng.pick(&[0, 2, 5, 10]),
             writers: rng.pick(&[1, 2, 3, 8, 8]),
         }
+    }
+
+    /// One that fills a large log.
+    pub fn filling(rng: &mut Rng) -> Profile {
+        let mut profile = Profile::random(rng);
+        profile.weights = [10, 1, rng.pick(&[60, 200]), 10, 1, 1, 1, 1, 2];
+        profile.crash = 1;
+        profile
     }
 }
 
@@ -243,9 +251,10 @@ fn play(
     (shape, steps): (Shape, u64),
     tally: &mut Tally,
     deep: impl Fn(u64) -> bool,
+    runner: Runner,
 ) -> Result<(), String> {
     let start = random_start(&mut rng, shape.groups);
-    let mut world = World::new(shape, start);
+    let mut world = World::with_runner(shape, start, runner);
     tally.histories += 1;
     for at in 0..steps {
         let done = step(&mut rng, profile, &mut world, tally, deep(at))
@@ -259,20 +268,28 @@ fn play(
 
 /// Plays one history from its own seed.
 pub fn history(seed: u64, tally: &mut Tally) -> Result<(), String> {
+    history_with(seed, tally, Box::new(Lent::run))
+}
+
+/// The same, all calls being performed by `runner`.
+pub fn history_with(seed: u64, tally: &mut Tally, runner: Runner) -> Result<(), String> {
     let mut rng = Rng::new(seed);
     let profile = Profile::random(&mut rng);
     let shape = random_shape(&mut rng);
     let small = shape.groups <= 8;
     let steps = rng.pick(&[40, 100, 200, 400]) * if small { 1 } else { 2 };
-    play(rng, &profile, (shape, steps), tally, |at| small || at % 16 == 0)
+    play(rng, &profile, (shape, steps), tally, |at| small || at % 16 == 0, runner)
 }
 
 /// Plays one long history of the largest log, now and then looked at deeply.
 pub fn large_history(seed: u64, tally: &mut Tally) -> Result<(), String> {
+    large_history_with(seed, tally, Box::new(Lent::run))
+}
+
+/// The same, all calls being performed by `runner`.
+pub fn large_history_with(seed: u64, tally: &mut Tally, runner: Runner) -> Result<(), String> {
     let mut rng = Rng::new(seed);
     let shape = Shape { groups: 1024, homes: rng.pick(&[1, 40, 4096]) };
-    let mut profile = Profile::random(&mut rng);
-    profile.weights = [10, 1, rng.pick(&[60, 200]), 10, 1, 1, 1, 1, 2];
-    profile.crash = 1;
-    play(rng, &profile, (shape, 12_000), tally, |at| at % 1000 == 999)
+    let profile = Profile::filling(&mut rng);
+    play(rng, &profile, (shape, 12_000), tally, |at| at % 1000 == 999, runner)
 }

@@ -4,7 +4,7 @@
 use crate::book::{Block, Book};
 use crate::landing::{parse, Areas, Record, Submitted, Target};
 use crate::layout::{header, word, Answer, Shape, HEADER};
-use crate::lent::{Kind, Lent};
+use crate::lent::{Kind, Lent, Runner};
 use std::collections::HashSet;
 
 /// One call with its arguments.
@@ -60,14 +60,20 @@ pub struct World {
     pub confirmed: usize,
     pub opened: bool,
     pub calls: usize,
+    pub(crate) runner: Runner,
     since_fence: HashSet<Target>,
 }
 
 impl World {
     /// A finished format. A `start` above 0 stands for a long past.
     pub fn new(shape: Shape, start: u64) -> World {
+        World::with_runner(shape, start, Box::new(Lent::run))
+    }
+
+    /// The same, all calls being performed by `runner`.
+    pub fn with_runner(shape: Shape, start: u64, mut runner: Runner) -> World {
         let mut lent = Lent::new(shape.groups, shape.homes);
-        let answer = lent.run(Kind::Format, 0, 0);
+        let answer = runner(&mut lent, Kind::Format, 0, 0);
         assert_eq!(answer.code, 0);
         let mut image = Areas::zeros(shape.groups, shape.homes);
         for record in parse(&lent.batch[..answer.len]).unwrap() {
@@ -88,6 +94,7 @@ impl World {
             confirmed: 0,
             opened: false,
             calls: 0,
+            runner,
             since_fence: HashSet::new(),
         }
     }

@@ -209,7 +209,7 @@ hasHome-hits b tr h (p ∷ ps) =
     hasHome-append h (entriesFor b tr ps) (entryFor b tr p ∷ [])
     ∙ rw (hasHome-hits b tr h ps, or-false (eqb (homeOn (7 * b) tr p) h)) (or-comm (hits (homeOn (7 * b) tr) h ps) (eqb (homeOn (7 * b) tr p) h))
 
-ticket-above : (p c : ℕ) → ltb c (p + 1) ≡ leb c p
+pub ticket-above : (p c : ℕ) → ltb c (p + 1) ≡ leb c p
 ticket-above p c = go (leb c p) refl
   where
     go : (d : Bool) → leb c p ≡ d → ltb c (p + 1) ≡ d

@@ -44,7 +44,7 @@ pub by-answer : (P : World → Type 0) (w : World) (c : Call) (g : Given) (a : �
 by-answer P w c g zero e q p d = let k = d refl in rw (step-done w c g 0 e q refl (k .formed) (k .fit)) (k .next)
 by-answer P w c g (suc n) e q p d = rw (step-refused w c n (ap (λ (o : Outcome). o .code) q ∙ outcome-code g (suc n) e)) p
 
-no-bytes : (g : Given) (e : Effect) → e .records ≡ [] → sizeOf e ≤ length (g .batch)
+pub no-bytes : (g : Given) (e : Effect) → e .records ≡ [] → sizeOf e ≤ length (g .batch)
 unfolding sizeOf batchBytes
 no-bytes g e h = rw h (omega arith)
 

@@ -21,7 +21,7 @@ use Rattle.model.proofs.Trace.{Ev, hist, closerOf, allLanded, whole}
 use Rattle.model.proofs.TraceLaws.{All, Falling, Rising, Long, done-rising, done-falling, done-long}
 use Rattle.model.proofs.WholeLaws.{whole-ext, whole-none}
 use Rattle.model.proofs.RunLaws.{survive-landed, run-matches, run-old}
-use Rattle.model.proofs.TouchLaws.{EntryFits, CommitFits, commits-fit}
+use Rattle.model.proofs.TouchLaws.{all-append, EntryFits, CommitFits, commits-fit}
 use Rattle.model.proofs.LateOpens.{late-opens}
 use Rattle.model.proofs.NowLate.{now-late}
 use Rattle.model.proofs.FenceRuns.{now-of}
@@ -154,10 +154,6 @@ surviving-new b ρ tr fs (c ∷ cs) (t ∷ ts) high m f h g =
     one : (x : List ℕ) → Falling (7 * b) high x → Long x → closerOf x + 1 ≤ 7 * (b + ρ) → allLanded (landedIn b fs) x ≡ true
     one [] q l k = absurd l
     one (p ∷ ps) q l k = landed-rows b ρ fs (p ∷ ps) (suc p) f (unfold closerOf in omega arith) (q .0, omega arith, q .2)
-
-all-append : {A : Type 0} (P : A → Type 0) (xs ys : List A) → All P xs → All P ys → All P (xs ++ ys)
-all-append P [] ys a b = b
-all-append P (x ∷ xs) ys a b = (a .0, all-append P xs ys (a .1) b)
 
 module _ (G D : ℕ) (z : Sizes G D) (w : World) (r : Running G D w) (passed : ℕ) (chosen : ℕ → Bool) (least : w .passed ≤ passed) (most : passed ≤ fences (w .pending)) where
   abbrev s : Submitted G D (r .b) (r .tr) (r .old) w

@@ -28,7 +28,7 @@ use Rattle.model.proofs.CrashLaws.{submits}
 use Rattle.model.proofs.DoneLaws.{fits}
 use Rattle.model.proofs.LogStep.{length-entered}
 use Rattle.model.proofs.LogRuns.{logged-records, logged-log}
-use Rattle.model.proofs.CallRuns.{by-answer}
+use Rattle.model.proofs.CallRuns.{no-bytes, by-answer}
 use Rattle.model.proofs.OpenLaws.{hs, newHeader, restored-size, touched-below}
 use Rattle.model.proofs.OpenStep.{open-effect}
 use Rattle.model.proofs.OpenKeeps.{homes-formed}
@@ -52,10 +52,6 @@ pub record Group (G : ℕ) (w : World) (X : List Record) : Type 0 where
 
 abbrev pub Handed : ℕ → World → List Record → Type 0
 Handed G w X = (X ≡ []) ⊎ Group G w X
-
-no-bytes : (g : Given) (e : Effect) → e .records ≡ [] → sizeOf e ≤ length (g .batch)
-unfolding sizeOf batchBytes
-no-bytes g e h = rw h (omega arith)
 
 none-formed : (X : List Record) → X ≡ [] → AllFormed X
 none-formed X e = rw e tt

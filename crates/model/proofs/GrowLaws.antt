@@ -12,16 +12,13 @@ use Rattle.model.specs.Layout.{groupBlock}
 use Rattle.model.specs.Book.{Entry, Commit, row, fateAt, survives, allSurvive, run}
 use Rattle.model.specs.Demands.{closedBelow}
 use Rattle.model.proofs.Trace.{Ev, mine, setOpen, advance, hist, blockOn, closerOf, oldestOf}
-use Rattle.model.proofs.TraceLaws.{All, all-map, Falling, firstOf-inside, mine-holds, homeOn-older, blockOn-older, homeOn-here, blockOn-here, open-falling, done-inside, open-inside}
+use Rattle.model.proofs.TraceLaws.{at-here, All, all-map, Falling, firstOf-inside, mine-holds, homeOn-older, blockOn-older, homeOn-here, blockOn-here, open-falling, done-inside, open-inside}
 use Rattle.model.proofs.Invariant.{wordOf, wordAt, usedAt, SoundAt, Sound, Holds, entryFor, entriesFor, Matches, Commits}
 
 -- ---- words and uses by position
 
 at-other : {A : Type 0} (p q : ℕ) (a b : A) → (p ≡ q → ⊥) → cond (eqb p q) a b ≡ b
 at-other p q a b h = rw (ne-eqb p q h)
-
-at-here : {A : Type 0} (p : ℕ) (a b : A) → cond (eqb p p) a b ≡ a
-at-here p a b = rw (eq-eqb p p refl)
 
 module _ (base : ℕ) (e : Ev) (tr : List Ev) where
   pub word-other : (p : ℕ) → (p ≡ base + length tr → ⊥) → wordAt base (e ∷ tr) p ≡ wordAt base tr p

@@ -34,6 +34,7 @@ use Rattle.model.proofs.RunLaws.{closedBelow-old}
 use Rattle.model.proofs.Invariant.{Sizes, entryFor, entriesFor, Matches, OldCommits, Commits, TaskOk, Copies, Running}
 use Rattle.model.proofs.LiveLog.{tagsIn, baseOf, endOf, keptIn, Shown, all-each, live-from, live-order, lent-groups, lent-homes, lent-tags, live-tags, live-transactions, kept-shown, open-shown}
 use Rattle.model.proofs.SettleRuns.{settle-area}
+use Rattle.model.proofs.BookReplay.{ticket-above}
 
 -- what is lent shows, at a position, the home and the block that the trace has there
 abbrev Seen : Given → ℕ → List Ev → ℕ → Type 0
@@ -51,14 +52,6 @@ unfolding contents heldEntries entriesFor entryFor
 contents-held g b tr [] a = refl
 contents-held g b tr (p ∷ ps) a =
     rw (contents-held g b tr ps (a .1), a .0 .0, a .0 .1, held-append (entriesFor b tr ps) (entryFor b tr p ∷ []))
-
--- a ticket above a position, as a closing entry at or above it
-ticket-above : (p c : ℕ) → ltb c (p + 1) ≡ leb c p
-ticket-above p c = go (leb c p) refl
-  where
-    go : (d : Bool) → leb c p ≡ d → ltb c (p + 1) ≡ d
-    go true e = lt-ltb c (p + 1) (omega (arith, leb-true c p e))
-    go false e = le-ltb c (p + 1) (omega (arith, leb-false c p e))
 
 untrimmed-old : (D c : ℕ) (old new : List Commit) → OldCommits D old → untrimmed c (old ++ new) ≡ untrimmed c new
 unfolding untrimmed

@@ -14,6 +14,7 @@ use Rattle.model.specs.Bytes.{zeros, number}
 use Rattle.model.specs.State.{State, stateOf, Writer, writerOf, idle, freshState, nextPosition, numbersInOrder, writerInOrder, writersInOrder, inOrder}
 use Rattle.model.proofs.ByteLaws.{length-zeros, number-none, number-more}
 use Rattle.model.proofs.StateLaws.{length-laws, state-laws, writer-laws}
+use Rattle.model.proofs.LayoutLaws.{number-zeros}
 
 -- ---- tests and what they tell: simp by the set turns a chain of tests into its facts, and back
 
@@ -144,10 +145,6 @@ unfolding zeros
 byte-zeros zero i = refl
 byte-zeros (suc n) zero = refl
 byte-zeros (suc n) (suc i) = byte-zeros n i
-
-pub number-zeros : (k n i : ℕ) → number k (zeros n) i ≡ 0
-number-zeros zero n i = number-none (zeros n) i
-number-zeros (suc k) n i = rw (← add-one k, number-more, byte-zeros, number-zeros k n (i + 1))
 
 state-zeros : (n : ℕ) → stateOf (zeros n)
     ≡ record { groups = 0; homes = 0; start = 0; next = 0; filled = 0; settled = 0; fenced = 0; durable = 0; last = 0 }

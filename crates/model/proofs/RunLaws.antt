@@ -13,18 +13,10 @@ use Rattle.model.proofs.TraceLaws.{All, Rising}
 use Rattle.model.proofs.WholeLaws.{closingFrom-all}
 use Rattle.model.proofs.WalkLaws.{closingBelow}
 use Rattle.model.proofs.Invariant.{entryFor, entriesFor, Matches, OldEntries, OldCommits, landedIn}
+use Rattle.model.proofs.GrowLaws.{survive-append}
+use Rattle.model.proofs.OpenLaws.{closed-old}
 
 -- ---- the run
-
-survive-append : (fs : List (ℕ → Bool)) (xs ys : List Entry) → allSurvive fs (xs ++ ys) ≡ (allSurvive fs xs && allSurvive fs ys)
-unfolding allSurvive
-survive-append fs [] ys = refl
-survive-append fs (e ∷ xs) ys = go (survives fs (e .kept)) (survive-append fs xs ys)
-  where
-    go : (b : Bool) → allSurvive fs (xs ++ ys) ≡ (allSurvive fs xs && allSurvive fs ys)
-        → (b && allSurvive fs (xs ++ ys)) ≡ ((b && allSurvive fs xs) && allSurvive fs ys)
-    go true h = h
-    go false h = refl
 
 -- the entries of a transaction survive just if its positions persisted
 pub survive-landed : (b : ℕ) (tr : List Ev) (fs : List (ℕ → Bool)) (t : List ℕ) → allSurvive fs (entriesFor b tr t) ≡ allLanded (landedIn b fs) t
@@ -73,11 +65,6 @@ closed-append c (k ∷ xs) ys = go (leb (k .ticket) c) (closed-append c xs ys)
     go true h = rw h
     go false h = h
 
-closed-old : (D c : ℕ) (old : List Commit) → OldCommits D old → closedBelow c old ≡ old
-unfolding closedBelow
-closed-old D c [] h = refl
-closed-old D c (k ∷ ks) h = rw (h .0, le-leb 0 c (omega arith), closed-old D c ks (h .2))
-
 pub closedBelow-old : (D c : ℕ) (old new : List Commit) → OldCommits D old → closedBelow c (old ++ new) ≡ old ++ closedBelow c new
 closedBelow-old D c old new h = closed-append c old new ∙ rw (closed-old D c old h)
 
@@ -109,7 +96,7 @@ closedBelow-matches b tr c (k ∷ cs) (t ∷ ts) m =
 abbrev pub SafeBelow : (ℕ → Bool) → ℕ → List ℕ → Type 0
 SafeBelow landed c t = closerOf t < c → allLanded landed t ≡ true
 
-none-below : (c low high : ℕ) (ts : List (List ℕ)) → c ≤ low → Rising low high ts → closingBelow c ts ≡ []
+pub none-below : (c low high : ℕ) (ts : List (List ℕ)) → c ≤ low → Rising low high ts → closingBelow c ts ≡ []
 unfolding closingBelow
 none-below c low high [] h r = refl
 none-below c low high (t ∷ ts) h r = rw (le-ltb (closerOf t) c (omega arith)) (none-below c (suc (closerOf t)) high ts (omega arith) (r .2))

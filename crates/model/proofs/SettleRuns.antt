@@ -29,7 +29,7 @@ use Rattle.model.proofs.Trace.{Ev, hist, homeOn, closerOf, closingFrom}
 use Rattle.model.proofs.TraceLaws.{Rising, done-rising}
 use Rattle.model.proofs.WholeLaws.{closingFrom-all}
 use Rattle.model.proofs.WalkLaws.{closingBelow}
-use Rattle.model.proofs.RunLaws.{closedBelow-old, closedBelow-matches}
+use Rattle.model.proofs.RunLaws.{none-below, closedBelow-old, closedBelow-matches}
 use Rattle.model.proofs.BookReplay.{place, writeCommits-append, replay-append, commits-replay, replay-ext, restore-place, hitsAny, Fits, replay-area, touches-hits, touches-old}
 use Rattle.model.proofs.TouchLaws.{commits-fit, length-homesAfter, touches-more, touches-lower, homesAfter-untouched}
 use Rattle.model.proofs.Invariant.{Sizes, Commits, Copies, Submitted, Running, touchesAbove}
@@ -42,11 +42,6 @@ use Rattle.model.proofs.NumberRuns.{Renumbered, copies-renumber}
 use Rattle.model.proofs.LiveLog.{tagsIn, baseOf, endOf, keptIn, Shown, all-each, live-upto, upto-shown, found-hits, lent-groups, lent-homes, lent-tags}
 
 -- ---- transactions that close below a position, before and from another on
-
-none-below : (c low high : ℕ) (ts : List (List ℕ)) → c ≤ low → Rising low high ts → closingBelow c ts ≡ []
-unfolding closingBelow
-none-below c low high [] h r = refl
-none-below c low high (t ∷ ts) h r = rw (le-ltb (closerOf t) c (omega arith)) (none-below c (suc (closerOf t)) high ts (omega arith) (r .2))
 
 pub below-split : (c F low high : ℕ) (ts : List (List ℕ)) → c ≤ F → Rising low high ts
     → closingBelow F ts ≡ closingBelow c ts ++ closingBelow F (closingFrom c ts)

@@ -29,7 +29,7 @@ EntryFits D e = (e .home < D) × (length (e .block) ≡ 64)
 abbrev pub CommitFits : ℕ → Commit → Type 0
 CommitFits D c = All (EntryFits D) (c .entries)
 
-all-append : {A : Type 0} (P : A → Type 0) (xs ys : List A) → All P xs → All P ys → All P (xs ++ ys)
+pub all-append : {A : Type 0} (P : A → Type 0) (xs ys : List A) → All P xs → All P ys → All P (xs ++ ys)
 all-append P [] ys h k = k
 all-append P (x ∷ xs) ys h k = (h .0, all-append P xs ys (h .1) k)
 

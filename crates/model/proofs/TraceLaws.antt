@@ -76,7 +76,7 @@ at-older p q a b h = rw (ne-eqb p q (λ e. omega arith))
 at-newer : {A : Type 0} (p q : ℕ) (a b : A) → q < p → cond (eqb p q) a b ≡ b
 at-newer p q a b h = rw (ne-eqb p q (λ e. omega arith))
 
-at-here : {A : Type 0} (p : ℕ) (a b : A) → cond (eqb p p) a b ≡ a
+pub at-here : {A : Type 0} (p : ℕ) (a b : A) → cond (eqb p p) a b ≡ a
 at-here p a b = rw (eq-eqb p p refl)
 
 pub tagAt-older : (base : ℕ) (e : Ev) (tr : List Ev) (p : ℕ) → p < base + length tr → tagAt base (e ∷ tr) p ≡ tagAt base tr p

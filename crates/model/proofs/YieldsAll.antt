@@ -25,6 +25,7 @@ use Rattle.model.proofs.Beginning.{format-closed}
 use Rattle.model.proofs.DemandThree.{keeps}
 use Rattle.model.proofs.Yields.{PastOwed, ends-done, confirm-yields, settle-yields}
 use Rattle.model.proofs.TrimYields.{trim-yields}
+use Rattle.model.proofs.HeldLogs.{filled-commits}
 
 -- ---- lists of commits
 
@@ -43,14 +44,6 @@ past-snoc [] c p l = (λ h. absurd (omega arith), tt)
 past-snoc (d ∷ cs) c p l = (p .0, past-snoc cs c (p .1) l)
 
 -- ---- what the book's steps do to its commits
-
-filled-commits : (b : Book) → filledUp b .commits ≡ b .commits
-unfolding filledUp submit grown
-filled-commits b = go (eqb (b .filled) 6)
-  where
-    go : (d : Bool) → cond d (submit b) (grown b) .commits ≡ b .commits
-    go true = refl
-    go false = refl
 
 store-commits : (b : Book) (v home : ℕ) (block : List ℕ) (t : Task) → storeTask b v home block t .commits ≡ b .commits
 unfolding storeTask withTask

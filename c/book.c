@@ -1,0 +1,294 @@
+#include "book.h"
+
+#include <stdio.h>
+#include <stdlib.h>
+#include <string.h>
+
+static void *resize(void *memory, size_t size)
+{
+    void *larger = realloc(memory, size);
+
+    if (!larger) {
+        fputs("out of memory for the book of commits\n", stderr);
+        exit(3);
+    }
+    return larger;
+}
+
+static void put_home(uint8_t *homes, const struct book_entry *entry)
+{
+    memcpy(homes + kagutin_area_size(entry->home), entry->block, KAGUTIN_BLOCK_SIZE);
+}
+
+static void put_commit(uint8_t *homes, const struct book_commit *commit)
+{
+    size_t i;
+
+    for (i = 0; i < commit->count; i++)
+        put_home(homes, &commit->entries[i]);
+}
+
+void book_start(struct book *book, size_t groups, size_t homes, const uint8_t *contents)
+{
+    size_t size = kagutin_area_size(homes);
+
+    memset(book, 0, sizeof *book);
+    book->groups = groups;
+    book->homes = homes;
+    book->kept = resize(NULL, size);
+    book->newest = resize(NULL, size);
+    book->home = resize(NULL, size);
+    if (contents)
+        memcpy(book->kept, contents, size);
+    else
+        memset(book->kept, 0, size);
+    memcpy(book->newest, book->kept, size);
+    memcpy(book->home, book->kept, size);
+}
+
+static void clear_list(struct book *book)
+{
+    size_t i;
+
+    for (i = 0; i < book->commit_count; i++)
+        free(book->commits[i].entries);
+    book->commit_count = 0;
+    book->settled_commits = 0;
+    for (i = 0; i < KAGUTIN_WRITERS; i++)
+        book_abort(book, (unsigned)i);
+}
+
+void book_free(struct book *book)
+{
+    clear_list(book);
+    free(book->commits);
+    free(book->kept);
+    free(book->newest);
+    free(book->home);
+    free(book->persisted);
+    memset(book, 0, sizeof *book);
+}
+
+void book_opened(struct book *book, uint64_t start)
+{
+    book->start = book->next = start;
+    book->fenced = book->settled = KAGUTIN_GROUP_ENTRIES * start;
+}
+
+void book_begin(struct book *book, unsigned writer)
+{
+    book->writers[writer].open = true;
+}
+
+void book_abort(struct book *book, unsigned writer)
+{
+    struct book_writer *record = &book->writers[writer];
+
+    free(record->entries);
+    memset(record, 0, sizeof *record);
+}
+
+bool book_store_logs(const struct book *book, unsigned writer, size_t home)
+{
+    return book->writers[writer].holds && book->writers[writer].home != home;
+}
+
+bool book_commit_logs(const struct book *book, unsigned writer)
+{
+    return book->writers[writer].holds;
+}
+
+bool book_has_place(const struct book *book)
+{
+    return book->next < book->start + book->groups;
+}
+
+static uint64_t next_position(const struct book *book)
+{
+    return KAGUTIN_GROUP_ENTRIES * book->next + book->filled;
+}
+
+/* The row goes to lasting memory as the next group. */
+static void submit_row(struct book *book)
+{
+    size_t index = (size_t)(book->rows - book->first_row);
+
+    if (index >= book->persisted_room) {
+        book->persisted_room = 2 * index + 64;
+        book->persisted = resize(book->persisted, book->persisted_room);
+    }
+    book->persisted[index] = 0;
+    book->rows++;
+    book->next++;
+    book->filled = 0;
+}
+
+/* The held block becomes the last entry of its transaction and of the row. */
+static void log_held(struct book *book, struct book_writer *record)
+{
+    struct book_entry *entry;
+
+    if (record->count == record->room) {
+        record->room = 2 * record->room + 4;
+        record->entries = resize(record->entries, record->room * sizeof *record->entries);
+    }
+    if (record->count == 0)
+        record->first = next_position(book);
+    entry = &record->entries[record->count++];
+    entry->home = record->home;
+    entry->row = book->rows;
+    memcpy(entry->block, record->block, sizeof entry->block);
+    record->holds = false;
+    if (++book->filled == KAGUTIN_GROUP_ENTRIES)
+        submit_row(book);
+}
+
+void book_store(struct book *book, unsigned writer, size_t home, const uint8_t *block)
+{
+    struct book_writer *record = &book->writers[writer];
+
+    if (book_store_logs(book, writer, home))
+        log_held(book, record);
+    record->holds = true;
+    record->home = home;
+    memcpy(record->block, block, sizeof record->block);
+}
+
+uint64_t book_commit(struct book *book, unsigned writer)
+{
+    struct book_writer *record = &book->writers[writer];
+    uint64_t ticket = next_position(book) + 1;
+    struct book_commit *commit;
+
+    if (!record->holds) {
+        book_abort(book, writer);
+        return 0;
+    }
+    log_held(book, record);
+    if (book->commit_count == book->commit_room) {
+        book->commit_room = 2 * book->commit_room + 16;
+        book->commits = resize(book->commits, book->commit_room * sizeof *book->commits);
+    }
+    commit = &book->commits[book->commit_count++];
+    commit->writer = writer;
+    commit->entries = record->entries;
+    commit->count = record->count;
+    commit->first = record->first;
+    commit->ticket = ticket;
+    commit->owed = false;
+    put_commit(book->newest, commit);
+    memset(record, 0, sizeof *record);
+    return ticket;
+}
+
+void book_flush(struct book *book)
+{
+    if (book->filled)
+        submit_row(book);
+    book->fenced = KAGUTIN_GROUP_ENTRIES * book->next;
+}
+
+void book_confirm(struct book *book, uint64_t mark)
+{
+    size_t i;
+
+    for (i = 0; i < book->commit_count && book->commits[i].ticket <= mark; i++)
+        book->commits[i].owed = true;
+}
+
+void book_settle(struct book *book)
+{
+    while (book->settled_commits < book->commit_count
+           && book->commits[book->settled_commits].ticket <= book->fenced)
+        put_commit(book->home, &book->commits[book->settled_commits++]);
+    book->settled = book->fenced;
+    book->fenced = KAGUTIN_GROUP_ENTRIES * book->next;
+}
+
+/* The group in which a transaction across 7 x start begins; start if there is none. */
+static uint64_t begin_of_crossing(const struct book *book, uint64_t start)
+{
+    uint64_t edge = KAGUTIN_GROUP_ENTRIES * start;
+    size_t i;
+
+    for (i = 0; i < KAGUTIN_WRITERS; i++)
+        if (book->writers[i].count && book->writers[i].first < edge)
+            return book->writers[i].first / KAGUTIN_GROUP_ENTRIES;
+    for (i = book->commit_count; i > 0 && book->commits[i - 1].ticket > edge; i--)
+        if (book->commits[i - 1].first < edge)
+            return book->commits[i - 1].first / KAGUTIN_GROUP_ENTRIES;
+    return start;
+}
+
+uint64_t book_trim_start(const struct book *book)
+{
+    uint64_t start = book->settled / KAGUTIN_GROUP_ENTRIES, lower;
+
+    while ((lower = begin_of_crossing(book, start)) < start)
+        start = lower;
+    return start;
+}
+
+void book_trim(struct book *book)
+{
+    uint64_t start = book_trim_start(book);
+
+    if (start == book->start)
+        return;
+    book->start = start;
+    book->fenced = KAGUTIN_GROUP_ENTRIES * book->next;
+}
+
+const uint8_t *book_read(const struct book *book, unsigned writer, size_t home)
+{
+    const struct book_writer *record = &book->writers[writer];
+    size_t i;
+
+    if (record->holds && record->home == home)
+        return record->block;
+    for (i = record->count; i > 0; i--)
+        if (record->entries[i - 1].home == home)
+            return record->entries[i - 1].block;
+    return book->newest + kagutin_area_size(home);
+}
+
+void book_persisted(struct book *book, uint64_t number)
+{
+    if (number >= book->first_row && number < book->rows)
+        book->persisted[number - book->first_row] = 1;
+}
+
+static bool entries_persisted(const struct book *book, const struct book_commit *commit)
+{
+    size_t i;
+
+    for (i = 0; i < commit->count; i++) {
+        uint64_t row = commit->entries[i].row;
+
+        if (row >= book->rows || !book->persisted[row - book->first_row])
+            return false;
+    }
+    return true;
+}
+
+void book_power_cut(struct book *book, struct book_cut *cut)
+{
+    size_t i, size = kagutin_area_size(book->homes);
+
+    memset(cut, 0, sizeof *cut);
+    cut->commits = book->commit_count;
+    while (cut->run < book->commit_count && entries_persisted(book, &book->commits[cut->run]))
+        put_commit(book->kept, &book->commits[cut->run++]);
+    for (i = 0; i < book->commit_count; i++) {
+        const struct book_commit *commit = &book->commits[i];
+
+        cut->confirmed += commit->owed;
+        cut->owed_lost |= commit->owed && i >= cut->run;
+        (i < cut->run ? cut->kept_of : cut->lost_of)[commit->writer]++;
+    }
+    clear_list(book);
+    book->filled = 0;
+    book->first_row = book->rows;
+    memcpy(book->newest, book->kept, size);
+    memcpy(book->home, book->kept, size);
+}

@@ -1,0 +1,102 @@
+/*
+ * The book of commits: what a store must bring back, kept from the arguments
+ * and answers of the calls, the records of their batches and which of them
+ * persisted. It never looks at the copies or the state.
+ *
+ * Entries are gathered in rows; a row goes to lasting memory as one group, and
+ * its entries persist with it. At a power cut the list of commits stops before
+ * the first one with an entry that has not persisted; what stays is the run.
+ */
+#ifndef BOOK_H
+#define BOOK_H
+
+#include <stdbool.h>
+#include <stddef.h>
+#include <stdint.h>
+
+#include "kagutin.h"
+
+struct book_entry {
+    size_t home;
+    uint64_t row; /* rows are numbered as groups are written, since the start */
+    uint8_t block[KAGUTIN_BLOCK_SIZE];
+};
+
+struct book_commit {
+    unsigned writer;
+    struct book_entry *entries;
+    size_t count;
+    uint64_t first;  /* position of the first entry */
+    uint64_t ticket; /* position of the closing entry, plus 1 */
+    bool owed;       /* confirmed durable */
+};
+
+struct book_writer {
+    bool open, holds;
+    size_t home; /* of the held block */
+    uint8_t block[KAGUTIN_BLOCK_SIZE];
+    struct book_entry *entries;
+    size_t count, room;
+    uint64_t first;
+};
+
+struct book {
+    size_t groups, homes;
+    struct book_writer writers[KAGUTIN_WRITERS];
+    struct book_commit *commits; /* since the last cut, in order */
+    size_t commit_count, commit_room;
+    uint8_t *kept;   /* homes after the run at the last cut */
+    uint8_t *newest; /* homes after all commits */
+    uint8_t *home;   /* homes as settle has left them */
+    size_t settled_commits;
+
+    uint64_t rows, first_row; /* rows written: ever, up to the last cut */
+    size_t filled;            /* entries in the row that is being filled */
+    uint8_t *persisted;       /* by row since first_row */
+    size_t persisted_room;
+
+    /* Group numbers and positions, from the last opening on. */
+    uint64_t start, next, fenced, settled;
+};
+
+/* What a cut did to the list. */
+struct book_cut {
+    size_t commits, run, confirmed;
+    bool owed_lost; /* a confirmed commit is outside the run: the store is wrong */
+    size_t kept_of[KAGUTIN_WRITERS], lost_of[KAGUTIN_WRITERS];
+};
+
+/* Starts a book over homes with these contents; null: zeros. */
+void book_start(struct book *book, size_t groups, size_t homes, const uint8_t *contents);
+void book_free(struct book *book);
+
+/* A done opening with this new start. */
+void book_opened(struct book *book, uint64_t start);
+
+void book_begin(struct book *book, unsigned writer);
+void book_abort(struct book *book, unsigned writer);
+
+/* Must this store, or a commit, log an entry? Is there a place for one? */
+bool book_store_logs(const struct book *book, unsigned writer, size_t home);
+bool book_commit_logs(const struct book *book, unsigned writer);
+bool book_has_place(const struct book *book);
+
+/* Done calls. book_commit returns the ticket. */
+void book_store(struct book *book, unsigned writer, size_t home, const uint8_t *block);
+uint64_t book_commit(struct book *book, unsigned writer);
+void book_flush(struct book *book);
+void book_confirm(struct book *book, uint64_t mark);
+void book_settle(struct book *book);
+
+/* The start to which a trim must move; the present one if it must not. */
+uint64_t book_trim_start(const struct book *book);
+void book_trim(struct book *book);
+
+/* The block that a read must give. */
+const uint8_t *book_read(const struct book *book, unsigned writer, size_t home);
+
+/* The row written as the number-th group has persisted. */
+void book_persisted(struct book *book, uint64_t number);
+void book_power_cut(struct book *book, struct book_cut *cut);
+
+#endif

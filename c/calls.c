@@ -1,0 +1,276 @@
+/* The library's calls, each held against the book. */
+#include <stdlib.h>
+#include <string.h>
+
+#include "rule.h"
+#include "station.h"
+
+#define AREAS(s) (s)->driver.log, (s)->driver.log_size, (s)->driver.area, (s)->driver.area_size
+#define STATE(s) (s)->driver.state, sizeof (s)->driver.state
+#define BATCH(s) (s)->driver.batch, (s)->driver.batch_size
+
+static void expect(struct station *station, const char *call, struct kagutin_reply reply,
+                   uint64_t figure, uint64_t size)
+{
+    station->counters.calls++;
+    if (reply.code != KAGUTIN_DONE)
+        station_mismatch(station, "%s answered %llu (%s), it must be done", call,
+                         (unsigned long long)reply.code, kagutin_answer_text(reply.code));
+    if (reply.figure != figure)
+        station_mismatch(station, "%s gave the figure %llu, not %llu", call,
+                         (unsigned long long)reply.figure, (unsigned long long)figure);
+    if (reply.size != size)
+        station_mismatch(station, "%s wrote %llu bytes, not %llu", call,
+                         (unsigned long long)reply.size, (unsigned long long)size);
+}
+
+static void submit(struct station *station, uint64_t size)
+{
+    if (!driver_submit(&station->driver, size))
+        station_mismatch(station, "%s", driver_message(&station->driver));
+}
+
+/* Checks that a batch begins with a GW of the group that the book fills. */
+static void expect_group(struct station *station, const char *call, uint64_t group)
+{
+    const struct driver *driver = &station->driver;
+    struct record record;
+
+    if (!driver_read_record(driver->batch, KAGUTIN_GW_SIZE, driver->groups, driver->homes, &record)
+        || record.kind != RECORD_GW || record.place != group % driver->groups
+        || rule_number(record.bytes + 2, 6) != group)
+        station_mismatch(station, "%s did not submit group %llu", call, (unsigned long long)group);
+}
+
+/* Checks HW records, rising, with the blocks of the data copy, up to a fence. */
+static size_t expect_homes(struct station *station, const char *call, size_t size)
+{
+    const struct driver *driver = &station->driver;
+    size_t at = 0, least = 0;
+    struct record record;
+
+    while (driver_read_record(driver->batch + at, size - at, driver->groups, driver->homes, &record)
+           && record.kind == RECORD_HW) {
+        if (record.place < least)
+            station_mismatch(station, "%s writes home %lu after a higher one", call, (unsigned long)record.place);
+        if (memcmp(record.bytes, driver->area + kagutin_area_size(record.place), KAGUTIN_BLOCK_SIZE) != 0)
+            station_mismatch(station, "%s writes another block to home %lu than its copy holds", call,
+                             (unsigned long)record.place);
+        least = record.place + 1;
+        at += record.size;
+    }
+    if (size - at < 2 || memcmp(driver->batch + at, "FN", 2) != 0)
+        station_mismatch(station, "%s wrote no fence after the homes", call);
+    return at + 2;
+}
+
+/* Checks KW and FN at the end of a batch, and the header in the log copy. */
+static uint64_t expect_header(struct station *station, const char *call, size_t at, size_t size)
+{
+    const struct driver *driver = &station->driver;
+    const uint8_t *record = driver->batch + at;
+
+    if (size - at != KAGUTIN_TRIM_BATCH || memcmp(record, "KW", 2) != 0
+        || memcmp(record + KAGUTIN_KW_SIZE, "FN", 2) != 0)
+        station_mismatch(station, "%s wrote no header and fence", call);
+    if (memcmp(record + 2, driver->log, KAGUTIN_HEADER_SIZE) != 0)
+        station_mismatch(station, "%s left another header in the log copy than it wrote", call);
+    return rule_number(record + 4, 6);
+}
+
+static void expect_area(struct station *station, const char *call, const uint8_t *homes)
+{
+    size_t i;
+
+    for (i = 0; i < station->driver.area_size; i++)
+        if (station->driver.area[i] != homes[i])
+            station_mismatch(station, "after %s the data copy differs from the book at home %lu, byte %lu", call,
+                             (unsigned long)(i / KAGUTIN_BLOCK_SIZE), (unsigned long)(i % KAGUTIN_BLOCK_SIZE));
+}
+
+/* The header of an empty store, everything else zeros. */
+static bool looks_formatted(const struct driver *driver)
+{
+    uint8_t header[12] = {0x50, 0x48};
+    size_t i;
+
+    header[8] = (uint8_t)driver->groups;
+    header[9] = (uint8_t)(driver->groups >> 8);
+    header[10] = (uint8_t)driver->homes;
+    header[11] = (uint8_t)(driver->homes >> 8);
+    if (memcmp(driver->log, header, sizeof header) != 0)
+        return false;
+    for (i = sizeof header; i < driver->log_size; i++)
+        if (driver->log[i])
+            return false;
+    for (i = 0; i < driver->area_size; i++)
+        if (driver->area[i])
+            return false;
+    return true;
+}
+
+void call_formatted(struct station *station)
+{
+    if (!looks_formatted(&station->driver))
+        station_mismatch(station, "format left other copies than those of an empty store");
+    if (!driver_load(&station->driver))
+        station_trouble(station);
+    if (!looks_formatted(&station->driver))
+        station_mismatch(station, "format wrote another image than that of an empty store");
+}
+
+void call_open(struct station *station)
+{
+    struct driver *driver = &station->driver;
+    struct rule_log log = {driver->log, driver->groups, driver->homes, rule_number(driver->log + 2, 6)};
+    struct kagutin_reply reply;
+    struct rule_walk walk;
+    uint64_t start;
+
+    if (!rule_walk(&log, &walk)) {
+        fputs("out of memory for the commit rule\n", stderr);
+        exit(EXIT_TROUBLE);
+    }
+    reply = kagutin_open(AREAS(station), STATE(station), BATCH(station));
+    expect(station, "open", reply, walk.commit_count, reply.size);
+    rule_free(&walk);
+    start = expect_header(station, "open", expect_homes(station, "open", (size_t)reply.size), (size_t)reply.size);
+    if (start != log.start + log.groups)
+        station_mismatch(station, "open moved the start from %llu to %llu", (unsigned long long)log.start,
+                         (unsigned long long)start);
+    station->counters.replayed += (unsigned long)reply.figure;
+    if (!station->book.groups) /* an image from an earlier run: its homes are where the book begins */
+        book_start(&station->book, driver->groups, driver->homes, driver->area);
+    expect_area(station, "open", station->book.kept);
+    book_opened(&station->book, start);
+    submit(station, reply.size);
+}
+
+void call_begin(struct station *station, unsigned writer)
+{
+    expect(station, "begin", kagutin_begin(AREAS(station), STATE(station), writer), 0, 0);
+    book_begin(&station->book, writer);
+}
+
+void call_abort(struct station *station, unsigned writer)
+{
+    expect(station, "abort", kagutin_abort(AREAS(station), STATE(station), writer), 0, 0);
+    book_abort(&station->book, writer);
+    station->counters.aborts++;
+}
+
+/* Bytes that logging one entry writes. */
+static uint64_t entry_size(const struct book *book)
+{
+    return book->filled + 1 == KAGUTIN_GROUP_ENTRIES ? KAGUTIN_GW_SIZE : 0;
+}
+
+/* False, and all untouched, if the log is full. */
+bool call_store(struct station *station, unsigned writer, size_t home, const uint8_t *block)
+{
+    bool logs = book_store_logs(&station->book, writer, home);
+    bool full = logs && !book_has_place(&station->book);
+    uint64_t size = logs ? entry_size(&station->book) : 0, group = station->book.next;
+    struct kagutin_reply reply;
+
+    if (full)
+        refusal_prepare(station);
+    reply = kagutin_store(AREAS(station), STATE(station), block, KAGUTIN_BLOCK_SIZE, BATCH(station), writer, home);
+    if (full) {
+        refusal_check(station, "store", reply, KAGUTIN_FULL);
+        return false;
+    }
+    expect(station, "store", reply, 0, size);
+    if (size)
+        expect_group(station, "store", group);
+    book_store(&station->book, writer, home, block);
+    submit(station, reply.size);
+    return true;
+}
+
+/* As call_store. */
+bool call_commit(struct station *station, unsigned writer)
+{
+    bool logs = book_commit_logs(&station->book, writer);
+    bool full = logs && !book_has_place(&station->book);
+    uint64_t size = logs ? entry_size(&station->book) : 0, group = station->book.next;
+    struct kagutin_reply reply;
+
+    if (full)
+        refusal_prepare(station);
+    reply = kagutin_commit(AREAS(station), STATE(station), BATCH(station), writer);
+    if (full) {
+        refusal_check(station, "commit", reply, KAGUTIN_FULL);
+        return false;
+    }
+    expect(station, "commit", reply, book_commit(&station->book, writer), size);
+    if (size)
+        expect_group(station, "commit", group);
+    station->counters.commits += logs;
+    submit(station, reply.size);
+    return true;
+}
+
+void call_flush(struct station *station)
+{
+    bool part = station->book.filled > 0;
+    uint64_t group = station->book.next;
+    struct kagutin_reply reply = kagutin_flush(AREAS(station), STATE(station), BATCH(station));
+
+    expect(station, "flush", reply, 0, part ? KAGUTIN_FLUSH_BATCH : KAGUTIN_FN_SIZE);
+    if (part)
+        expect_group(station, "flush", group);
+    if (memcmp(station->driver.batch + reply.size - 2, "FN", 2) != 0)
+        station_mismatch(station, "flush wrote no fence");
+    book_flush(&station->book);
+    submit(station, reply.size);
+}
+
+/* The driver confirms only what passed: all that waits is run first. */
+void call_confirm(struct station *station)
+{
+    struct kagutin_reply reply = {0, 0, 0};
+
+    if (!driver_run(&station->driver) || !driver_confirm(&station->driver, &reply))
+        station_trouble(station);
+    expect(station, "confirm", reply, station->book.fenced, 0);
+    book_confirm(&station->book, reply.figure);
+    station->counters.confirms++;
+}
+
+void call_settle(struct station *station)
+{
+    struct kagutin_reply reply = kagutin_settle(AREAS(station), STATE(station), BATCH(station));
+
+    expect(station, "settle", reply, 0, reply.size);
+    if (expect_homes(station, "settle", (size_t)reply.size) != reply.size)
+        station_mismatch(station, "settle wrote more than homes and a fence");
+    book_settle(&station->book);
+    expect_area(station, "settle", station->book.home);
+    submit(station, reply.size);
+}
+
+void call_trim(struct station *station)
+{
+    uint64_t start = book_trim_start(&station->book);
+    bool moves = start != station->book.start;
+    struct kagutin_reply reply = kagutin_trim(AREAS(station), STATE(station), BATCH(station));
+
+    expect(station, "trim", reply, 0, moves ? KAGUTIN_TRIM_BATCH : 0);
+    if (moves && expect_header(station, "trim", 0, (size_t)reply.size) != start)
+        station_mismatch(station, "trim did not move the start to %llu", (unsigned long long)start);
+    book_trim(&station->book);
+    station->counters.trims += moves;
+    submit(station, reply.size);
+}
+
+void call_read(struct station *station, unsigned writer, size_t home, uint8_t *block)
+{
+    struct kagutin_reply reply = kagutin_read(AREAS(station), STATE(station), block, KAGUTIN_BLOCK_SIZE, writer, home);
+
+    expect(station, "read", reply, 0, 0);
+    if (memcmp(block, book_read(&station->book, writer, home), KAGUTIN_BLOCK_SIZE) != 0)
+        station_mismatch(station, "writer %u reads another block of home %lu than the book has", writer,
+                         (unsigned long)home);
+    station->counters.reads++;
+}

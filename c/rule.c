@@ -1,0 +1,151 @@
+#include "rule.h"
+
+#include <stdlib.h>
+#include <string.h>
+
+uint64_t rule_number(const uint8_t *bytes, size_t width)
+{
+    uint64_t number = 0;
+
+    while (width-- > 0)
+        number = number << 8 | bytes[width];
+    return number;
+}
+
+const uint8_t *rule_slot(const struct rule_log *log, size_t slot)
+{
+    return log->bytes + 64 + 512 * slot;
+}
+
+static bool all_zero(const uint8_t *bytes, size_t size)
+{
+    while (size > 0)
+        if (bytes[--size])
+            return false;
+    return true;
+}
+
+enum slot_kind rule_slot_kind(const struct rule_log *log, size_t slot)
+{
+    const uint8_t *group = rule_slot(log, slot);
+    uint64_t number = rule_number(group + 2, 6);
+
+    if (group[0] != 0x50 || group[1] != 0x47)
+        return all_zero(group, 512) ? SLOT_ZEROS : SLOT_MARK;
+    if (number % log->groups != slot)
+        return SLOT_PLACE;
+    if (number < log->start)
+        return SLOT_TRIMMED;
+    return number - log->start < log->groups ? SLOT_VALID : SLOT_BEYOND;
+}
+
+bool rule_present(const struct rule_log *log, uint64_t position)
+{
+    size_t slot = (size_t)(position / 7 % log->groups);
+
+    return rule_slot_kind(log, slot) == SLOT_VALID
+        && rule_number(rule_slot(log, slot) + 2, 6) == position / 7;
+}
+
+/* Why a tag reads as nothing; null if it reads as an entry. */
+static const char *tag_fault(const struct rule_log *log, uint64_t position, uint64_t word, const struct tag *tag)
+{
+    if (word >> 53)
+        return "one of bits 53 to 63 is set";
+    if (!(word & 2) && word >> 27)
+        return "not closing, but one of bits 27 to 52 is set";
+    if (tag->home >= log->homes)
+        return "its home is not below D";
+    if (position - 7 * log->start < tag->back)
+        return "its first entry would lie before the start";
+    if ((word & 2) && tag->count == 0)
+        return "it closes with number 0";
+    return NULL;
+}
+
+struct tag rule_tag(const struct rule_log *log, uint64_t position)
+{
+    const uint8_t *group = rule_slot(log, (size_t)(position / 7 % log->groups));
+    uint64_t word = rule_number(group + 8 + 8 * (position % 7), 8);
+    struct tag tag;
+
+    tag.kind = TAG_NOTHING;
+    tag.home = word >> 2 & 0xFFF;
+    tag.back = word >> 14 & 0x1FFF;
+    tag.link = word >> 27 & 0x1FFF;
+    tag.count = word >> 40 & 0x1FFF;
+    if (!(word & 1)) {
+        tag.why = word ? "its used bit is not set, but others are" : NULL;
+        return tag;
+    }
+    tag.why = tag_fault(log, position, word, &tag);
+    if (!tag.why)
+        tag.kind = word & 2 ? TAG_CLOSING : TAG_ENTRY;
+    return tag;
+}
+
+/* Is a closing entry at this offset from the start linked as the walk needs it? */
+static bool linked(const struct rule_walk *walk, uint64_t base, uint64_t offset, uint64_t link)
+{
+    if (walk->commit_count == 0)
+        return link == 0 || link > offset;
+    return link != 0 && walk->commits[walk->commit_count - 1].closing == base + offset - link;
+}
+
+/* Judges the next closing entry; false if it ends the walk. */
+static bool take(struct rule_walk *walk, uint64_t base, uint64_t offset, const struct tag *tag, size_t present)
+{
+    struct rule_commit commit;
+
+    commit.closing = base + offset;
+    commit.first = commit.closing - tag->back;
+    commit.link = tag->link;
+    commit.count = tag->count;
+    commit.present = present;
+    if (commit.present == commit.count && linked(walk, base, offset, tag->link)) {
+        walk->commits[walk->commit_count++] = commit;
+        return true;
+    }
+    walk->stop = commit.present == commit.count ? STOP_LINK : STOP_INCOMPLETE;
+    walk->failed = commit;
+    return false;
+}
+
+bool rule_walk(const struct rule_log *log, struct rule_walk *walk)
+{
+    uint64_t base = 7 * log->start, size = 7 * log->groups, offset;
+    size_t *found = calloc((size_t)size, sizeof *found); /* entries by first position */
+    bool ended = false;
+
+    memset(walk, 0, sizeof *walk);
+    walk->commits = calloc((size_t)size, sizeof *walk->commits);
+    if (!found || !walk->commits) {
+        free(found);
+        rule_free(walk);
+        return false;
+    }
+    for (offset = 0; offset < size; offset++) {
+        struct tag tag;
+
+        if (!rule_present(log, base + offset))
+            continue;
+        tag = rule_tag(log, base + offset);
+        if (tag.kind == TAG_NOTHING)
+            continue;
+        found[offset - tag.back]++;
+        if (tag.kind != TAG_CLOSING)
+            continue;
+        if (ended)
+            walk->unreached++;
+        else
+            ended = !take(walk, base, offset, &tag, found[offset - tag.back]);
+    }
+    free(found);
+    return true;
+}
+
+void rule_free(struct rule_walk *walk)
+{
+    free(walk->commits);
+    walk->commits = NULL;
+}

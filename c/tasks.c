@@ -1,0 +1,132 @@
+/*
+ * The eight tasks. Task w looks after pump w: when the pump has run, its run
+ * seconds (home 2w) and its starts (home 2w + 1) go into one transaction. Homes
+ * from 16 on are notes that all tasks write.
+ */
+#include <string.h>
+
+#include "station.h"
+
+#define PUMP_HOMES STATION_MIN_HOMES
+
+/* Homes of the notes, with repetitions; the log's size bounds the long ones. */
+static void plan_notes(struct station *station, struct task *task)
+{
+    size_t notes = station->driver.homes - PUMP_HOMES;
+    size_t most = station_random(station, 12) ? 5 : 40, count, i;
+
+    if (!notes)
+        return;
+    count = (size_t)station_random(station, most);
+    for (i = 0; i < count; i++) {
+        uint64_t home = station_random(station, notes < 8 || station_random(station, 2) ? notes : 8);
+
+        task->plan[task->count++] = (uint16_t)(PUMP_HOMES + home);
+    }
+}
+
+static void plan_pump(struct station *station, struct task *task, unsigned writer)
+{
+    size_t i;
+
+    task->plan[task->count++] = (uint16_t)(2 * writer);
+    task->plan[task->count++] = (uint16_t)(2 * writer + 1);
+    for (i = task->count; i > 1; i--) { /* in any order among the notes */
+        size_t other = (size_t)station_random(station, i);
+        uint16_t home = task->plan[i - 1];
+
+        task->plan[i - 1] = task->plan[other];
+        task->plan[other] = home;
+    }
+    wear_read(station, writer, &task->serial, &task->seconds, &task->starts);
+    task->serial++;
+    task->starts++;
+    task->seconds += 20 + station_random(station, 1800);
+}
+
+static void task_begin(struct station *station, struct task *task, unsigned writer)
+{
+    call_begin(station, writer);
+    memset(task, 0, sizeof *task);
+    task->open = true;
+    task->gives_up = station_random(station, station->abort_odds) == 0;
+    if (station_random(station, 30) == 0)
+        return; /* a transaction without a store */
+    plan_notes(station, task);
+    if (station_random(station, 4))
+        plan_pump(station, task, writer);
+}
+
+static void fill_block(struct station *station, const struct task *task, unsigned writer, size_t home, uint8_t *block)
+{
+    uint8_t other[KAGUTIN_BLOCK_SIZE];
+    size_t i;
+
+    if (home == 2 * writer) {
+        wear_blocks(writer, task->serial, task->seconds, task->starts, block, other);
+    } else if (home == 2 * writer + 1) {
+        wear_blocks(writer, task->serial, task->seconds, task->starts, other, block);
+    } else {
+        for (i = 0; i < KAGUTIN_BLOCK_SIZE; i++)
+            block[i] = (uint8_t)station_random(station, 256);
+    }
+}
+
+/* The log is full: free what can be freed. Open transactions may hold it. */
+static void make_room(struct station *station)
+{
+    call_flush(station);
+    call_settle(station);
+    if (station_random(station, 2))
+        call_confirm(station);
+    call_trim(station);
+}
+
+/* Stores the next block of the plan, or ends the transaction; false if the log is full. */
+static bool task_advance(struct station *station, struct task *task, unsigned writer)
+{
+    uint8_t block[KAGUTIN_BLOCK_SIZE];
+
+    if (task->next < task->count) {
+        size_t home = task->plan[task->next];
+
+        fill_block(station, task, writer, home, block);
+        if (!call_store(station, writer, home, block))
+            return false;
+        task->next++;
+        return true;
+    }
+    if (task->gives_up)
+        call_abort(station, writer);
+    else if (!call_commit(station, writer))
+        return false;
+    task->open = false;
+    return true;
+}
+
+void tasks_step(struct station *station)
+{
+    unsigned writer = (unsigned)station_random(station, KAGUTIN_WRITERS);
+    struct task *task = &station->tasks[writer];
+    uint8_t block[KAGUTIN_BLOCK_SIZE];
+
+    if (station_random(station, 8) == 0)
+        call_read(station, writer, (size_t)station_random(station, station->driver.homes), block);
+    if (!task->open) {
+        task_begin(station, task, writer);
+        return;
+    }
+    if (task_advance(station, task, writer))
+        return;
+    make_room(station);
+    if (task_advance(station, task, writer))
+        return;
+    call_abort(station, writer);
+    task->open = false;
+    station->counters.given_up++;
+}
+
+void tasks_power_cut(struct station *station)
+{
+    memset(station->tasks, 0, sizeof station->tasks);
+}

@@ -1,0 +1,34 @@
+//! Demand 3 on the library: it performs every call of random histories, and
+//! what it answers and leaves is held to the book.
+
+use crate::{library, trap};
+use second::player::{history_with, large_history_with, Tally};
+use std::panic::{catch_unwind, AssertUnwindSafe};
+
+/// Plays the histories of the seeds from `seed` on; the last `large` of them
+/// are long ones of the largest log.
+pub fn play(
+    seed: u64,
+    histories: u64,
+    large: u64,
+    mut progress: impl FnMut(u64, &Tally),
+) -> Result<Tally, String> {
+    let mut tally = Tally::default();
+    for at in 0..histories + large {
+        let one = seed.wrapping_add(at);
+        trap::note(one, at);
+        let large = at >= histories;
+        let run = || match large {
+            false => history_with(one, &mut tally, Box::new(library::run)),
+            true => large_history_with(one, &mut tally, Box::new(library::run)),
+        };
+        let outcome = catch_unwind(AssertUnwindSafe(run));
+        outcome.unwrap_or_else(|_| Err("panic".to_string())).map_err(|what| {
+            let which = if large { "--histories 0 --large-histories 1" } else { "--histories 1" };
+            let repeat = format!("--seed {one} --calls 0 --damaged 0 {which}");
+            format!("demand 3, seed {one}: {what}\n  repeat with {repeat}")
+        })?;
+        progress(at + 1, &tally);
+    }
+    Ok(tally)
+}

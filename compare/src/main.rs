@@ -1,0 +1,153 @@
+//! The library and the second implementation on equal memory, byte for byte;
+//! then demand 3 on the library. A seed repeats a run exactly.
+
+#![deny(warnings)]
+
+mod damaged;
+mod demand;
+mod histories;
+mod library;
+mod pair;
+mod part;
+mod table;
+mod trap;
+mod trials;
+
+use pair::Pair;
+use std::process::ExitCode;
+
+const USAGE: &str = "\
+usage: compare [--seed S] [--calls N] [--damaged M] [--histories H]
+               [--large L] [--large-histories K] [--tight]
+  --seed S             repeats a run exactly (1)
+  --calls N            calls compared over valid histories with cuts (100000)
+  --damaged M          damaged images and strips, several calls on each (20000)
+  --histories H        histories of demand 3, the library doing the calls (500)
+  --large L            how many in a thousand calls and images have G 1024 (10)
+  --large-histories K  long histories of demand 3 with G 1024 (0)
+  --tight              no guard bytes, so that a memory checker sees reads outside";
+
+struct Options {
+    seed: u64,
+    calls: u64,
+    damaged: u64,
+    histories: u64,
+    large: u64,
+    large_histories: u64,
+    guarded: bool,
+}
+
+impl Options {
+    fn read(mut words: impl Iterator<Item = String>) -> Option<Options> {
+        let mut options = Options {
+            seed: 1,
+            calls: 100_000,
+            damaged: 20_000,
+            histories: 500,
+            large: 10,
+            large_histories: 0,
+            guarded: true,
+        };
+        while let Some(word) = words.next() {
+            let number = match word.as_str() {
+                "--seed" => &mut options.seed,
+                "--calls" => &mut options.calls,
+                "--damaged" => &mut options.damaged,
+                "--histories" => &mut options.histories,
+                "--large" => &mut options.large,
+                "--large-histories" => &mut options.large_histories,
+                "--tight" => {
+                    options.guarded = false;
+                    continue;
+                }
+                _ => return None,
+            };
+            *number = words.next()?.parse().ok()?;
+        }
+        Some(options)
+    }
+}
+
+fn main() -> ExitCode {
+    let Some(options) = Options::read(std::env::args().skip(1)) else {
+        eprintln!("{USAGE}");
+        return ExitCode::from(2);
+    };
+    trap::set();
+    match run(&options) {
+        Ok(()) => {
+            println!("no difference");
+            ExitCode::SUCCESS
+        }
+        Err(what) => {
+            println!("\nDIFFERENCE: {what}");
+            ExitCode::FAILURE
+        }
+    }
+}
+
+fn run(options: &Options) -> Result<(), String> {
+    let &Options { seed, calls, damaged: images, histories, large, .. } = options;
+    println!("compare: the library and the second implementation, seed {seed}");
+    let pair = Pair::new(seed, options.guarded);
+
+    trials::play(&mut pair.borrow_mut())?;
+    println!("trials 11 to 13: {} calls, as the paper says", pair.borrow().case);
+    pair.borrow_mut().counts = Default::default();
+
+    let mut next = 1;
+    let played = histories::play(seed, calls, large, &pair, |done, played| {
+        if tenth(&mut next, done, calls) {
+            let histories::Played { histories, cuts, .. } = played;
+            println!("valid histories: {done} of {calls} calls, {histories} histories, {cuts} cuts");
+        }
+    })?;
+    let valid = std::mem::take(&mut pair.borrow_mut().counts);
+
+    let mut next = 1;
+    let mut pair = pair.borrow_mut();
+    damaged::play(seed, images, large, &mut pair, |done| {
+        if tenth(&mut next, done, images) {
+            println!("damaged: {done} of {images} images and strips");
+        }
+    })?;
+
+    let long = options.large_histories;
+    let mut next = 1;
+    let tally = demand::play(seed, histories, long, |done, tally| {
+        if tenth(&mut next, done, histories + long) {
+            println!("demand 3 on the library: {done} histories, {} calls", tally.calls);
+        }
+    })?;
+
+    println!();
+    table::show("Valid histories", &valid);
+    table::show("Damaged images and strips", &pair.counts);
+    table::show_sizes(&pair.sizes);
+    table::show_missing(&[&valid, &pair.counts]);
+    println!(
+        "valid histories: {}, {} of them starting near 2^47, with {} cuts",
+        played.histories, played.near_limit, played.cuts
+    );
+    println!(
+        "  {} transactions brought back, {} settles that wrote homes, {} trims that moved",
+        played.brought_back, played.settles, played.trims
+    );
+    println!("damaged: {images} images and strips");
+    println!(
+        "demand 3 on the library: {} histories, {} calls, {} cuts, {} openings",
+        tally.histories, tally.calls, tally.crashes, tally.openings
+    );
+    println!("  {} commits, {} of them lost to cuts", tally.commits, tally.commits_lost);
+    println!("in all {} calls compared", pair.case);
+    Ok(())
+}
+
+/// True at each tenth of the way.
+fn tenth(next: &mut u64, done: u64, all: u64) -> bool {
+    let reached = done > 0 && done * 10 >= *next * all;
+    if reached {
+        *next = done * 10 / all.max(1) + 1;
+    }
+    reached
+}

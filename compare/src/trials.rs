@@ -1,0 +1,97 @@
+//! The paper's trials 11 to 13, with the answers it gives.
+
+use crate::pair::Pair;
+use second::layout::{header, Shape};
+use second::lent::{Kind, Lent};
+
+const SHAPE: Shape = Shape { groups: 4, homes: 8 };
+const LIMIT: u64 = 1 << 47;
+
+struct Trial<'a> {
+    name: &'static str,
+    lent: Lent,
+    pair: &'a mut Pair,
+}
+
+impl Trial<'_> {
+    fn new<'a>(name: &'static str, pair: &'a mut Pair) -> Result<Trial<'a>, String> {
+        let mut trial = Trial { name, lent: Lent::new(SHAPE.groups, SHAPE.homes), pair };
+        trial.expect(Kind::Format, 0, 0, 0)?;
+        trial.expect(Kind::Open, 0, 0, 0)?;
+        Ok(trial)
+    }
+
+    /// Both answer alike, and with this number.
+    fn expect(&mut self, kind: Kind, writer: u64, home: u64, code: u32) -> Result<(), String> {
+        let answer = self.pair.run(&mut self.lent, kind, writer, home);
+        self.pair.verdict().map_err(|what| format!("{}: {what}", self.name))?;
+        if answer.code == code {
+            return Ok(());
+        }
+        Err(format!("{}: {} answers {}, not {code}", self.name, kind.name(), answer.code))
+    }
+}
+
+pub fn play(pair: &mut Pair) -> Result<(), String> {
+    sizes(pair)?;
+    numbers(pair)?;
+    short_batch(pair)?;
+    high_start(pair)
+}
+
+fn sizes(pair: &mut Pair) -> Result<(), String> {
+    let name = "trial 11, sizes";
+    for (groups, homes) in [(3, 8), (1025, 8), (4, 0), (4, 4097)] {
+        for kind in Kind::ALL {
+            let mut trial = Trial { name, lent: Lent::new(groups, homes), pair };
+            trial.expect(kind, 0, 0, 1)?;
+        }
+    }
+    for (groups, homes) in [(4, 1), (1024, 1), (4, 4096), (1024, 4096)] {
+        let mut trial = Trial { name, lent: Lent::new(groups, homes), pair };
+        trial.expect(Kind::Format, 0, 0, 0)?;
+        trial.expect(Kind::Open, 0, 0, 0)?;
+        trial.expect(Kind::Begin, 0, 0, 0)?;
+        trial.expect(Kind::Store, 0, homes - 1, 0)?;
+        trial.expect(Kind::Store, 0, homes, 5)?;
+    }
+    Ok(())
+}
+
+fn numbers(pair: &mut Pair) -> Result<(), String> {
+    let mut trial = Trial::new("trial 11, numbers", pair)?;
+    trial.expect(Kind::Begin, 7, 0, 0)?;
+    for writer in [8, 1 << 32, 1 << 32 | 7, 1 << 63, u64::MAX] {
+        for kind in Kind::ALL.into_iter().filter(|kind| kind.takes_writer()) {
+            trial.expect(kind, writer, 0, 4)?;
+        }
+    }
+    for home in [8, 1 << 32, 1 << 32 | 7, 1 << 63, u64::MAX] {
+        trial.expect(Kind::Store, 7, home, 5)?;
+        trial.expect(Kind::Read, 7, home, 5)?;
+    }
+    trial.expect(Kind::Store, 7, 7, 0)?;
+    trial.expect(Kind::Read, 7, 7, 0)
+}
+
+fn short_batch(pair: &mut Pair) -> Result<(), String> {
+    let mut trial = Trial::new("trial 12", pair)?;
+    trial.expect(Kind::Begin, 0, 0, 0)?;
+    for home in 0..7 {
+        trial.expect(Kind::Store, 0, home, 0)?;
+    }
+    trial.lent.batch = vec![0xcc; 515];
+    trial.expect(Kind::Store, 0, 7, 9)?;
+    trial.lent.batch = vec![0xcc; 516];
+    trial.expect(Kind::Store, 0, 7, 0)
+}
+
+fn high_start(pair: &mut Pair) -> Result<(), String> {
+    let starts = [(LIMIT - 5, 0), (LIMIT - 4, 0), (LIMIT - 3, 10), (LIMIT, 10), (LIMIT + 1, 3)];
+    for (start, code) in starts {
+        let mut trial = Trial::new("trial 13", pair)?;
+        trial.lent.log[..64].copy_from_slice(&header(SHAPE, start));
+        trial.expect(Kind::Open, 0, 0, code)?;
+    }
+    Ok(())
+}

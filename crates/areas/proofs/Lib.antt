@@ -1,0 +1,5 @@
+pub mod CopyLaws
+pub mod GroupLaws
+pub mod HeaderLaws
+pub mod LengthLaws
+pub mod PieceLaws

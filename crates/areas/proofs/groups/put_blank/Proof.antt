@@ -1,0 +1,51 @@
+-- `areas::put_blank` meets its contract: its pieces stand one after the other. Assumes nothing.
+use mathlib.Core.Path.{_∙_}
+use borrow.Author.Needs.{needs}
+use Rattle.areas.proofs.GroupLaws.{blank-written}
+use Rattle.areas.proofs.groups.put_blank.Statement.{statement}
+use Rattle.areas.proofs.groups.put_blank.Tie as tie
+
+mul-at : tie.Need-mul-at
+mul-at c = search needs
+
+add-at : tie.Need-add-at
+add-at c = search needs
+
+put-group-mark-requires : tie.Need-put-group-mark-requires
+put-group-mark-requires c κs = search needs
+
+add-put-number : tie.Need-add-put-number
+add-put-number c = search needs
+
+put-number-requires : tie.Need-put-number-requires
+put-number-requires c κs = search needs
+
+add-clear : tie.Need-add-clear
+add-clear c = search needs
+
+clear-requires : tie.Need-clear-requires
+clear-requires c κs = search needs
+
+same-length : tie.Need-same-length
+same-length c = search needs
+
+returns : tie.Need-returns
+returns c =
+    let n = c .before .before .before .before .before .before in
+    let m = n .before .before .before .before in
+    let a = m .before .before .before .args in
+    c .before .before .clear .ensures ∙ rw (n .put-number .ensures, m .put-group-mark .ensures) (blank-written _ (a .slot) _)
+
+pub put-blank-spec : {M : Type 1} → statement M
+put-blank-spec =
+    tie.close
+    (tie.spec
+    mul-at
+    add-at
+    put-group-mark-requires
+    add-put-number
+    put-number-requires
+    add-clear
+    clear-requires
+    same-length
+    returns)

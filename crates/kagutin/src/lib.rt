@@ -1,0 +1,135 @@
+// The calls of the store as C sees them: each is the proved call of its crate under an exported name.
+use answers::Reply;
+ghost use mathlib.Core.Path.{_≡_};
+ghost use mathlib.Core.List.{[]};
+ghost use Rattle.model.specs.Calls.{formatCall, openCall, beginCall, abortCall, storeCall, commitCall, flushCall, confirmCall, settleCall, trimCall, readCall};
+ghost use Rattle.answers.specs.Lent.{lent, leaves};
+
+// Writes an empty store: every group unused, every home zeros, then the header.
+#[no_mangle]
+pub extern "C" fn kagutin_format(log: &mut [u8], area: &mut [u8], batch: &mut [u8]) -> Reply
+    ensures { λ r. ⌜ leaves (r .code) (r .figure) (r .size) (now (log .exit)) (now (area .exit)) [] [] (now (batch .exit)) ≡ formatCall (lent (now (log .entry)) (now (area .entry)) [] [] (now (batch .entry)) 0 0) ⌝ }
+{
+    recovery::format(log, area, batch)
+}
+
+// Brings back what a power cut left: replays the committed transactions into the data copy and starts the log anew.
+#[no_mangle]
+pub extern "C" fn kagutin_open(
+    log: &mut [u8],
+    area: &mut [u8],
+    state: &mut [u8],
+    batch: &mut [u8],
+) -> Reply
+    ensures { λ r. ⌜ leaves (r .code) (r .figure) (r .size) (now (log .exit)) (now (area .exit)) (now (state .exit)) [] (now (batch .exit)) ≡ openCall (lent (now (log .entry)) (now (area .entry)) (now (state .entry)) [] (now (batch .entry)) 0 0) ⌝ }
+{
+    recovery::reopen(log, area, state, batch)
+}
+
+// Begins a transaction of a writer that has none open.
+#[no_mangle]
+pub extern "C" fn kagutin_begin(log: &[u8], area: &[u8], state: &mut [u8], writer: u64) -> Reply
+    ensures { λ r. ⌜ leaves (r .code) (r .figure) (r .size) (now (log .entry)) (now (area .entry)) (now (state .exit)) [] [] ≡ beginCall (lent (now (log .entry)) (now (area .entry)) (now (state .entry)) [] [] writer 0) ⌝ }
+{
+    sessions::begin(log, area, state, writer)
+}
+
+// Drops a writer's open transaction with the block that it holds.
+#[no_mangle]
+pub extern "C" fn kagutin_abort(log: &[u8], area: &[u8], state: &mut [u8], writer: u64) -> Reply
+    ensures { λ r. ⌜ leaves (r .code) (r .figure) (r .size) (now (log .entry)) (now (area .entry)) (now (state .exit)) [] [] ≡ abortCall (lent (now (log .entry)) (now (area .entry)) (now (state .entry)) [] [] writer 0) ⌝ }
+{
+    sessions::abort(log, area, state, writer)
+}
+
+// Holds a block for a home in a writer's open transaction; a block held for another home is logged first.
+#[no_mangle]
+pub extern "C" fn kagutin_store(
+    log: &mut [u8],
+    area: &[u8],
+    state: &mut [u8],
+    block: &[u8],
+    batch: &mut [u8],
+    writer: u64,
+    home: u64,
+) -> Reply
+    ensures { λ r. ⌜ leaves (r .code) (r .figure) (r .size) (now (log .exit)) (now (area .entry)) (now (state .exit)) (now (block .entry)) (now (batch .exit)) ≡ storeCall (lent (now (log .entry)) (now (area .entry)) (now (state .entry)) (now (block .entry)) (now (batch .entry)) writer home) ⌝ }
+{
+    logging::store(log, area, state, block, batch, writer, home)
+}
+
+// Ends a writer's transaction: logs the held block as its closing entry, and returns the ticket.
+#[no_mangle]
+pub extern "C" fn kagutin_commit(
+    log: &mut [u8],
+    area: &[u8],
+    state: &mut [u8],
+    batch: &mut [u8],
+    writer: u64,
+) -> Reply
+    ensures { λ r. ⌜ leaves (r .code) (r .figure) (r .size) (now (log .exit)) (now (area .entry)) (now (state .exit)) [] (now (batch .exit)) ≡ commitCall (lent (now (log .entry)) (now (area .entry)) (now (state .entry)) [] (now (batch .entry)) writer 0) ⌝ }
+{
+    logging::commit(log, area, state, batch, writer)
+}
+
+// Submits the group that is being filled, and a fence.
+#[no_mangle]
+pub extern "C" fn kagutin_flush(
+    log: &[u8],
+    area: &[u8],
+    state: &mut [u8],
+    batch: &mut [u8],
+) -> Reply
+    ensures { λ r. ⌜ leaves (r .code) (r .figure) (r .size) (now (log .entry)) (now (area .entry)) (now (state .exit)) [] (now (batch .exit)) ≡ flushCall (lent (now (log .entry)) (now (area .entry)) (now (state .entry)) [] (now (batch .entry)) 0 0) ⌝ }
+{
+    logging::flush(log, area, state, batch)
+}
+
+// Makes the fenced position the durable mark, and returns it.
+#[no_mangle]
+pub extern "C" fn kagutin_confirm(log: &[u8], area: &[u8], state: &mut [u8]) -> Reply
+    ensures { λ r. ⌜ leaves (r .code) (r .figure) (r .size) (now (log .entry)) (now (area .entry)) (now (state .exit)) [] [] ≡ confirmCall (lent (now (log .entry)) (now (area .entry)) (now (state .entry)) [] [] 0 0) ⌝ }
+{
+    sessions::confirm(log, area, state)
+}
+
+// Writes the homes of the commits below the fenced position, and a fence.
+#[no_mangle]
+pub extern "C" fn kagutin_settle(
+    log: &[u8],
+    area: &mut [u8],
+    state: &mut [u8],
+    batch: &mut [u8],
+) -> Reply
+    ensures { λ r. ⌜ leaves (r .code) (r .figure) (r .size) (now (log .entry)) (now (area .exit)) (now (state .exit)) [] (now (batch .exit)) ≡ settleCall (lent (now (log .entry)) (now (area .entry)) (now (state .entry)) [] (now (batch .entry)) 0 0) ⌝ }
+{
+    recovery::settle(log, area, state, batch)
+}
+
+// Moves the log's start up as far as no transaction lies across it.
+#[no_mangle]
+pub extern "C" fn kagutin_trim(
+    log: &mut [u8],
+    area: &[u8],
+    state: &mut [u8],
+    batch: &mut [u8],
+) -> Reply
+    ensures { λ r. ⌜ leaves (r .code) (r .figure) (r .size) (now (log .exit)) (now (area .entry)) (now (state .exit)) [] (now (batch .exit)) ≡ trimCall (lent (now (log .entry)) (now (area .entry)) (now (state .entry)) [] (now (batch .entry)) 0 0) ⌝ }
+{
+    trimming::trim(log, area, state, batch)
+}
+
+// Reads the block of a home as a writer sees it.
+#[no_mangle]
+pub extern "C" fn kagutin_read(
+    log: &[u8],
+    area: &[u8],
+    state: &[u8],
+    block: &mut [u8],
+    writer: u64,
+    home: u64,
+) -> Reply
+    ensures { λ r. ⌜ leaves (r .code) (r .figure) (r .size) (now (log .entry)) (now (area .entry)) (now (state .entry)) (now (block .exit)) [] ≡ readCall (lent (now (log .entry)) (now (area .entry)) (now (state .entry)) (now (block .entry)) [] writer home) ⌝ }
+{
+    reading::read(log, area, state, block, writer, home)
+}

@@ -1,0 +1,6 @@
+pub mod CallLaws
+pub mod CommitLaws
+pub mod FlushLaws
+pub mod LogLaws
+pub mod ReadyLaws
+pub mod StoreLaws

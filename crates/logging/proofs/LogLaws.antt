@@ -1,0 +1,134 @@
+-- An entry logged: whether it may be, and what it leaves. Assumes nothing.
+use mathlib.Core.Path.{_≡_, refl, sym, ap, _∙_}
+use mathlib.Core.Bool.{Bool, true, false, cond}
+use mathlib.Core.List.{List, [], _∷_}
+use mathlib.Core.Logic.{_≢_}
+use Prim.Native.Nat.{ℕ, _+_, _-_, _*_, _%_, _≤_, _<_}
+use native.Mathlib.Omega.{arith}
+use lib.Dec.{eqb, leb, ltb}
+use lib.ListN.{length, take, drop}
+use borrow.Author.Tests.{le-leb, lt-leb, lt-ltb, le-ltb, eq-eqb, ne-eqb}
+use Rattle.model.specs.Bytes.{part, puts}
+use Rattle.model.specs.Layout.{groupAt}
+use Rattle.model.specs.Batch.{GW, recordBytes, batchBytes}
+use Rattle.model.specs.declared.State.{State}
+use Rattle.model.specs.declared.Writer.{Writer}
+use Rattle.model.specs.State.{stateOf, setNext, setFilled, setLast, nextPosition, writerOffset, setWriter, heldOf, setHeld, idle, logging, firstFor, countFor}
+use Rattle.model.specs.Tag.{entryWord, closingWord}
+use Rattle.model.specs.Effects.{entered, submitted, logged, linkFrom}
+use Rattle.model.specs.Questions.{ask}
+use Rattle.model.proofs.ByteLaws.{puts-nil}
+use Rattle.model.proofs.QuestionLaws.{ask-yes, ask-no}
+use Rattle.model.proofs.BatchLaws.{length-GW, batch-one}
+use Rattle.model.proofs.LogStep.{length-entered}
+use Rattle.logging.specs.Logs.{MayLog, Fits, Wrote, loggedEntry, loggedClosing, StoredOther, Committed}
+use Rattle.logging.proofs.CallLaws.{length-slot}
+
+-- ---- room in the log and in the batch
+
+pub log-full : (n m v : ℕ) → m ≤ n → 8 ≡ ask (ltb n m) 8 v
+log-full n m v h = sym (ask-no (ltb n m) 8 v (le-ltb n m h))
+
+pub log-room : (n m v r : ℕ) → n < m → r ≡ v → r ≡ ask (ltb n m) 8 v
+log-room n m v r h e = e ∙ sym (ask-yes (ltb n m) 8 v (lt-ltb n m h))
+
+pub batch-any : (f len : ℕ) → f ≢ 6 → 0 ≡ ask (leb (cond (eqb f 6) 516 0) len) 9 0
+batch-any f len h = rw (ne-eqb f 6 h) (sym (ask-yes (leb 0 len) 9 0 (le-leb 0 len (omega arith))))
+
+pub batch-short : (f len : ℕ) → f ≡ 6 → len < 516 → 9 ≡ ask (leb (cond (eqb f 6) 516 0) len) 9 0
+batch-short f len h l = rw (eq-eqb f 6 h) (sym (ask-no (leb 516 len) 9 0 (lt-leb 516 len l)))
+
+pub batch-full : (f len : ℕ) → f ≡ 6 → 516 ≤ len → 0 ≡ ask (leb (cond (eqb f 6) 516 0) len) 9 0
+batch-full f len h l = rw (eq-eqb f 6 h) (sym (ask-yes (leb 516 len) 9 0 (le-leb 516 len l)))
+
+-- ---- the link
+
+pub link-none : (p : ℕ) (st : State) → st .last ≡ 0 → 0 ≡ linkFrom p st
+unfolding linkFrom
+link-none p st h = rw (eq-eqb (st .last) 0 h)
+
+pub link-some : (p : ℕ) (st : State) → st .last ≢ 0 → p + 1 - st .last ≡ linkFrom p st
+unfolding linkFrom
+link-some p st h = rw (ne-eqb (st .last) 0 h)
+
+-- ---- what logging leaves
+
+pub held-lent : (s : List ℕ) (w at : ℕ) → at ≡ 128 + 96 * w + 32 → take (at + 64 - at) (drop at s) ≡ heldOf s w
+unfolding heldOf part writerOffset
+held-lent s w at e = let h : at + 64 - at ≡ 64 = omega arith in rw (h, e)
+
+logged-as : (s l : List ℕ) (word : ℕ) (x : List ℕ) (st : State) (t : Bool) → st ≡ stateOf s → eqb (st .filled) 6 ≡ t
+    → logged s l word x ≡ submitted t s st (st .next % st .groups) (entered st (st .next % st .groups) l word x)
+unfolding logged
+logged-as s l word x st t es et = let e : eqb (stateOf s .filled) 6 ≡ t = rw es at et in rw (es, e)
+
+submitted-part : (s : List ℕ) (st : State) (slot : ℕ) (l : List ℕ)
+    → submitted false s st slot l ≡ record { state = setFilled s (st .filled + 1); log = l; records = [] }
+unfolding submitted
+submitted-part s st slot l = refl
+
+submitted-full : (s : List ℕ) (st : State) (slot : ℕ) (l : List ℕ)
+    → submitted true s st slot l ≡ record { state = setFilled (setNext s (st .next + 1)) 0; log = l; records = GW slot (groupAt l slot) ∷ [] }
+unfolding submitted
+submitted-full s st slot l = refl
+
+module _ (l s b : List ℕ) (st : State) (w : ℕ) (m : MayLog l s b st w) (word : ℕ) (x : List ℕ) (xh : x ≡ heldOf s w) where
+  pub kept : (s′ l′ : List ℕ) → st .filled ≢ 6 → l′ ≡ entered st (st .next % st .groups) l word x → s′ ≡ setFilled s (st .filled + 1)
+      → Wrote 0 s′ l′ b b (logged s l word (heldOf s w))
+  unfolding batchBytes
+  kept s′ l′ f hl hs =
+      rw (logged-as s l word (heldOf s w) st false (m .state) (ne-eqb (st .filled) 6 f), submitted-part)
+      (record { size = refl; state = hs; log = hl ∙ rw xh; batch = sym (puts-nil b 0) })
+
+  pub handed : (n : ℕ) (s₁ s′ l′ b′ : List ℕ) → st .filled ≡ 6 → l′ ≡ entered st (st .next % st .groups) l word x
+      → s₁ ≡ setNext s (st .next + 1) → s′ ≡ setFilled s₁ 0 → n ≡ 0 + 516
+      → b′ ≡ puts b 0 (recordBytes (GW (st .next % st .groups) (groupAt l′ (st .next % st .groups))))
+      → Wrote n s′ l′ b′ b (logged s l word (heldOf s w))
+  handed n s₁ s′ l′ b′ f hl h₁ hs hn hb =
+      let le : length l′ ≡ length l = ap length hl ∙ length-entered st (st .next % st .groups) l word x in
+      let lg = length-slot l′ (st .next) (st .groups) (omega (arith, m .some)) (omega (arith, m .log)) in
+      let e : l′ ≡ entered st (st .next % st .groups) l word (heldOf s w) = hl ∙ rw xh in
+      rw (logged-as s l word (heldOf s w) st true (m .state) (eq-eqb (st .filled) 6 f), submitted-full, ← e)
+      (record { size = hn ∙ sym (ap length (batch-one _) ∙ length-GW _ _ lg); state = hs ∙ rw h₁; log = refl; batch = hb ∙ rw batch-one })
+
+-- how many bytes the batch holds once an entry is logged
+pub logged-size : (s l : List ℕ) (word : ℕ) (x : List ℕ) (st : State) → st ≡ stateOf s → 1 ≤ st .groups → 64 + 512 * st .groups ≤ length l
+    → length (batchBytes (logged s l word x .records)) ≡ cond (eqb (st .filled) 6) 516 0
+logged-size s l word x st es h k = go (eqb (st .filled) 6) refl
+  where
+    l′ : List ℕ
+    l′ = entered st (st .next % st .groups) l word x
+
+    le : length l′ ≡ length l
+    le = length-entered st (st .next % st .groups) l word x
+
+    go : (t : Bool) → eqb (st .filled) 6 ≡ t → length (batchBytes (logged s l word x .records)) ≡ cond t 516 0
+    go true e =
+        rw (logged-as s l word x st true es e, submitted-full)
+        (ap length (batch-one _) ∙ length-GW _ _ (length-slot l′ (st .next) (st .groups) h (omega (arith, le))))
+    go false e = rw (logged-as s l word x st false es e, submitted-part) (unfold batchBytes in refl)
+
+-- ---- a store and a commit that log
+
+module _ (l s b : List ℕ) (st : State) (r : Writer) (w : ℕ) where
+  pub stored : (x : List ℕ) (home p word n : ℕ) (s₁ s₂ s′ l′ b′ : List ℕ) (r′ : Writer) → p ≡ nextPosition st
+      → word ≡ entryWord (r .home) (p - firstFor r p) → Wrote n s₁ l′ b′ b (logged s l word (heldOf s w))
+      → r′ ≡ logging home (firstFor r p) (countFor r + 1) → s₂ ≡ setWriter s₁ w r′ → s′ ≡ setHeld s₂ w x
+      → StoredOther n s′ l′ b′ s l b x st r w home
+  unfolding loggedEntry
+  stored x home p word n s₁ s₂ s′ l′ b′ r′ ep ew h er h₂ hs =
+      let q : word ≡ entryWord (r .home) (nextPosition st - firstFor r (nextPosition st)) = ew ∙ rw ep in
+      let k = rw q at h in
+      record { size = k .size; state = hs ∙ rw (h₂, er, k .state, ep); log = k .log; batch = k .batch }
+
+  pub committed : (p word n : ℕ) (s₁ s₂ s′ l′ b′ : List ℕ) (r′ : Writer) → p ≡ nextPosition st
+      → word ≡ closingWord (r .home) (p - firstFor r p) (linkFrom p st) (countFor r + 1) → Wrote n s₁ l′ b′ b (logged s l word (heldOf s w))
+      → s₂ ≡ setLast s₁ (p + 1) → r′ ≡ idle → s′ ≡ setWriter s₂ w r′ → Committed n s′ l′ b′ s l b st r w
+  unfolding loggedClosing
+  committed p word n s₁ s₂ s′ l′ b′ r′ ep ew h h₂ er hs =
+      let q : word ≡ closingWord (r .home) (nextPosition st - firstFor r (nextPosition st)) (linkFrom (nextPosition st) st) (countFor r + 1) = ew ∙ rw ep in
+      let k = rw q at h in
+      record { size = k .size; state = hs ∙ rw (h₂, er, k .state, ep); log = k .log; batch = k .batch }
+
+pub at-position : (st : State) (r : Writer) (p q : ℕ) → p ≡ q → Fits st r q → Fits st r p
+at-position st r p q e f = rw e f

@@ -1,0 +1,54 @@
+-- `logging::commit_held` meets its contract. Assumes nothing.
+use Rattle.logging.proofs.LogLaws.{committed, at-position}
+use borrow.Author.Needs.{needs}
+use Rattle.logging.proofs.commits.commit_held.Statement.{statement}
+use Rattle.logging.proofs.commits.commit_held.Tie as tie
+
+next-position-requires : tie.Need-next-position-requires
+next-position-requires c κs = search needs
+
+closing-word-requires : tie.Need-closing-word-requires
+closing-word-requires c κs = at-position _ _ _ _ (c .next-position .ensures) (c .before .before .before .before .pre .1)
+
+log-entry-requires : tie.Need-log-entry-requires
+log-entry-requires c κs = search needs
+
+add-set-last : tie.Need-add-set-last
+add-set-last c = search needs
+
+set-last-requires : tie.Need-set-last-requires
+set-last-requires c κs = search needs
+
+idle-requires : tie.Need-idle-requires
+idle-requires c κs = search needs
+
+set-writer-requires : tie.Need-set-writer-requires
+set-writer-requires c κs = search needs
+
+same-length : tie.Need-same-length
+same-length c = search needs
+
+same-length-2 : tie.Need-same-length-2
+same-length-2 c = search needs
+
+same-length-3 : tie.Need-same-length-3
+same-length-3 c = search needs
+
+returns : tie.Need-returns
+returns c = committed _ _ _ _ _ _ _ _ _ _ _ _ _ _ _ (c .before .before .before .before .before .before .before .before .before .before .before .before .before .before .before .before .before .before .before .before .next-position .ensures) (c .before .before .before .before .before .before .before .before .before .before .before .before .before .before .before .before .before .before .before .closing-word .ensures) (c .before .before .before .before .before .before .before .before .before .before .before .before .before .before .before .log-entry .ensures) (c .before .before .before .before .before .before .before .set-last .ensures) (c .before .before .before .idle .ensures) (c .before .before .set-writer .ensures)
+
+pub commit-held-spec : {M : Type 1} → statement M
+commit-held-spec =
+    tie.close
+    (tie.spec
+    next-position-requires
+    closing-word-requires
+    log-entry-requires
+    add-set-last
+    set-last-requires
+    idle-requires
+    set-writer-requires
+    same-length
+    same-length-2
+    same-length-3
+    returns)

@@ -1,0 +1,61 @@
+-- `logging::commit_verdict` meets its contract. Assumes nothing.
+use native.Mathlib.Omega.{arith}
+use Rattle.logging.proofs.ReadyLaws.{sums}
+use Rattle.logging.proofs.CommitLaws.{refuses, lent-use, writer-no, open-no, none-yes, held-asks}
+use borrow.Author.Needs.{needs}
+use Rattle.logging.proofs.commits.commit_verdict.Statement.{statement}
+use Rattle.logging.proofs.commits.commit_verdict.Tie as tie
+
+in-use-requires : tie.Need-in-use-requires
+in-use-requires c κs = search needs
+
+returns : tie.Need-returns
+returns c = refuses _ _ _ _ _ _ (c .before .in-use .ensures) (c .if1 .taken)
+
+returns-2 : tie.Need-returns-2
+returns-2 c = writer-no _ _ _ _ (c .before .before .before .before .before .before .before .args .writer) _ (c .before .before .in-use .ensures) (c .before .if1 .left) (omega arith)
+
+writer-requires : tie.Need-writer-requires
+writer-requires c κs = let a = c .before .before .before .before .before .before .before .args in
+    let u = lent-use (a .log .now) (a .area .now) (a .state .now) (a .batch .now) (a .writer) _ (c .before .before .in-use .ensures) (c .before .if1 .left) in
+    (u .state-length, omega arith)
+
+is-open-requires : tie.Need-is-open-requires
+is-open-requires c κs = search needs
+
+returns-3 : tie.Need-returns-3
+returns-3 c = open-no _ _ _ _ (c .before .before .before .before .before .before .before .before .before .before .args .writer) _ (c .before .before .before .before .before .in-use .ensures) (c .before .before .before .before .if1 .left) _ _ (omega arith) (c .before .before .writer .ensures) (c .before .is-open .ensures) (c .if3 .taken)
+
+holds-requires : tie.Need-holds-requires
+holds-requires c κs = search needs
+
+returns-4 : tie.Need-returns-4
+returns-4 c = none-yes _ _ _ _ (c .before .before .before .before .before .before .before .before .before .before .before .before .args .writer) _ (c .before .before .before .before .before .before .before .in-use .ensures) (c .before .before .before .before .before .before .if1 .left) _ _ (omega arith) (c .before .before .before .before .writer .ensures) (c .before .before .before .is-open .ensures) _ (c .before .before .if3 .left) (c .before .holds .ensures) (c .if4 .taken)
+
+state-requires : tie.Need-state-requires
+state-requires c κs = let a = c .before .before .before .before .before .before .before .before .before .before .before .before .args in
+    lent-use (a .log .now) (a .area .now) (a .state .now) (a .batch .now) (a .writer) _ (c .before .before .before .before .before .before .before .in-use .ensures) (c .before .before .before .before .before .before .if1 .left) .state-length
+
+may-log-requires : tie.Need-may-log-requires
+may-log-requires c κs = let a = c .before .before .before .before .before .before .before .before .before .before .before .before .before .args in
+    let u = lent-use (a .log .now) (a .area .now) (a .state .now) (a .batch .now) (a .writer) _ (c .before .before .before .before .before .before .before .before .in-use .ensures) (c .before .before .before .before .before .before .before .if1 .left) in
+    sums _ _ _ _ u (c .state .ensures)
+
+returns-5 : tie.Need-returns-5
+returns-5 c = held-asks _ _ _ _ (c .before .before .before .before .before .before .before .before .before .before .before .before .before .before .args .writer) _ (c .before .before .before .before .before .before .before .before .before .in-use .ensures) (c .before .before .before .before .before .before .before .before .if1 .left) _ _ (omega arith) (c .before .before .before .before .before .before .writer .ensures) (c .before .before .before .before .before .is-open .ensures) _ _ _ (c .before .before .before .before .if3 .left) (c .before .before .before .holds .ensures) (c .before .before .if4 .left) (c .before .state .ensures) (c .may-log .ensures)
+
+pub commit-verdict-spec : {M : Type 1} → statement M
+commit-verdict-spec =
+    tie.close
+    (tie.spec
+    in-use-requires
+    returns
+    returns-2
+    writer-requires
+    is-open-requires
+    returns-3
+    holds-requires
+    returns-4
+    state-requires
+    may-log-requires
+    returns-5)

@@ -1,0 +1,37 @@
+-- `logging::closing_word` meets its contract. Assumes nothing.
+use borrow.Author.Needs.{needs}
+use Rattle.logging.proofs.entry.closing_word.Statement.{statement}
+use Rattle.logging.proofs.entry.closing_word.Tie as tie
+
+first-for-requires : tie.Need-first-for-requires
+first-for-requires c κs = search needs
+
+sub-back : tie.Need-sub-back
+sub-back c = search needs
+
+link-from-requires : tie.Need-link-from-requires
+link-from-requires c κs = search needs
+
+count-for-requires : tie.Need-count-for-requires
+count-for-requires c κs = search needs
+
+add-commit-word : tie.Need-add-commit-word
+add-commit-word c = search needs
+
+commit-word-requires : tie.Need-commit-word-requires
+commit-word-requires c κs = search needs
+
+returns : tie.Need-returns
+returns c = cc
+
+pub closing-word-spec : {M : Type 1} → statement M
+closing-word-spec =
+    tie.close
+    (tie.spec
+    first-for-requires
+    sub-back
+    link-from-requires
+    count-for-requires
+    add-commit-word
+    commit-word-requires
+    returns)

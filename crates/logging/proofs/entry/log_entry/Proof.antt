@@ -1,0 +1,112 @@
+-- `logging::log_entry` meets its contract. Assumes nothing.
+use mathlib.Core.Path.{refl, ap, _∙_}
+use native.Mathlib.Omega.{arith}
+use lib.ListN.{length}
+use Rattle.model.proofs.HeldLogs.{held-size}
+use Rattle.model.proofs.LogStep.{length-entered}
+use Rattle.logging.proofs.CallLaws.{slot-fits}
+use Rattle.logging.proofs.LogLaws.{held-lent, kept, handed}
+use borrow.Author.Needs.{needs}
+use Rattle.logging.proofs.entry.log_entry.Statement.{statement}
+use Rattle.logging.proofs.entry.log_entry.Tie as tie
+
+rem-slot : tie.Need-rem-slot
+rem-slot c = search needs
+
+mul-held : tie.Need-mul-held
+mul-held c = search needs
+
+add-held : tie.Need-add-held
+add-held c = search needs
+
+add-held-2 : tie.Need-add-held-2
+add-held-2 c = search needs
+
+add-enter : tie.Need-add-enter
+add-enter c = search needs
+
+sub-enter : tie.Need-sub-enter
+sub-enter c = search needs
+
+part-enter-start : tie.Need-part-enter-start
+part-enter-start c = search needs
+
+part-enter-end : tie.Need-part-enter-end
+part-enter-end c = search needs
+
+enter-requires : tie.Need-enter-requires
+enter-requires c κs = let m = c .before .before .before .before .before .before .before .pre in
+    let a = c .before .before .before .before .before .before .before .args in
+    let f = slot-fits (a .st .next) (a .st .groups) (length (a .log .now)) (omega (arith, m .some)) (omega (arith, m .log)) in
+    (f, omega (arith, m .filled), ap length (held-lent (a .state .now) (a .w) _ refl) ∙ held-size (a .state .now) (a .w) (m .strip) (m .writer))
+
+add-set-filled : tie.Need-add-set-filled
+add-set-filled c = search needs
+
+set-filled-requires : tie.Need-set-filled-requires
+set-filled-requires c κs = search needs
+
+same-length : tie.Need-same-length
+same-length c = search needs
+
+same-length-2 : tie.Need-same-length-2
+same-length-2 c = search needs
+
+returns : tie.Need-returns
+returns c = kept _ _ _ _ _ (c .before .before .before .before .before .before .before .before .before .before .before .before .before .before .before .before .before .pre) _ _ (held-lent _ _ _ refl) _ _ (c .before .before .before .before .before .if1 .taken) (c .before .before .before .before .before .before .before .before .before .enter .ensures) (c .before .before .set-filled .ensures)
+
+add-set-next : tie.Need-add-set-next
+add-set-next c = search needs
+
+set-next-requires : tie.Need-set-next-requires
+set-next-requires c κs = search needs
+
+set-filled-requires-2 : tie.Need-set-filled-requires-2
+set-filled-requires-2 c κs = search needs
+
+group-write-requires : tie.Need-group-write-requires
+group-write-requires c κs = let m = c .before .before .before .before .before .before .before .before .before .before .before .before .before .before .before .before .before .before .before .before .before .before .before .pre in
+    let a = c .before .before .before .before .before .before .before .before .before .before .before .before .before .before .before .before .before .before .before .before .before .before .before .args in
+    let f = slot-fits (a .st .next) (a .st .groups) (length (a .log .now)) (omega (arith, m .some)) (omega (arith, m .log)) in
+    let g = m .batch (omega (arith, c .before .before .before .before .before .before .before .before .before .before .before .if1 .left)) in
+    let e = ap length (c .before .before .before .before .before .before .before .before .before .before .before .before .before .before .before .enter .ensures) ∙ length-entered _ _ _ _ _ in
+    (omega arith, omega arith)
+
+same-length-3 : tie.Need-same-length-3
+same-length-3 c = search needs
+
+same-length-4 : tie.Need-same-length-4
+same-length-4 c = search needs
+
+same-length-5 : tie.Need-same-length-5
+same-length-5 c = search needs
+
+returns-2 : tie.Need-returns-2
+returns-2 c = handed _ _ _ _ _ (c .before .before .before .before .before .before .before .before .before .before .before .before .before .before .before .before .before .before .before .before .before .before .before .before .before .before .pre) _ _ (held-lent _ _ _ refl) _ _ _ _ _ (omega (arith, c .before .before .before .before .before .before .before .before .before .before .before .before .before .before .if1 .left)) (c .before .before .before .before .before .before .before .before .before .before .before .before .before .before .before .before .before .before .enter .ensures) (c .before .before .before .before .before .before .before .before .before .before .before .set-next .ensures) (c .before .before .before .before .before .before .before .set-filled2 .ensures) (c .before .before .group-write .ensures .0) (c .before .before .group-write .ensures .1)
+
+pub log-entry-spec : {M : Type 1} → statement M
+log-entry-spec =
+    tie.close
+    (tie.spec
+    rem-slot
+    mul-held
+    add-held
+    add-held-2
+    add-enter
+    sub-enter
+    part-enter-start
+    part-enter-end
+    enter-requires
+    add-set-filled
+    set-filled-requires
+    same-length
+    same-length-2
+    returns
+    add-set-next
+    set-next-requires
+    set-filled-requires-2
+    group-write-requires
+    same-length-3
+    same-length-4
+    same-length-5
+    returns-2)

@@ -1,0 +1,28 @@
+-- `logging::flush_none` meets its contract. Assumes nothing.
+use Rattle.logging.proofs.FlushLaws.{none-written}
+use borrow.Author.Needs.{needs}
+use Rattle.logging.proofs.flushes.flush_none.Statement.{statement}
+use Rattle.logging.proofs.flushes.flush_none.Tie as tie
+
+fence-requires : tie.Need-fence-requires
+fence-requires c κs = search needs
+
+mul-set-fenced : tie.Need-mul-set-fenced
+mul-set-fenced c = search needs
+
+set-fenced-requires : tie.Need-set-fenced-requires
+set-fenced-requires c κs = search needs
+
+same-length : tie.Need-same-length
+same-length c = search needs
+
+same-length-2 : tie.Need-same-length-2
+same-length-2 c = search needs
+
+returns : tie.Need-returns
+returns c = (c .before .before .set-fenced .ensures, none-written _ _ (c .before .before .before .before .before .before .before .fence .ensures .1))
+
+pub flush-none-spec : {M : Type 1} → statement M
+flush-none-spec =
+    tie.close
+    (tie.spec fence-requires mul-set-fenced set-fenced-requires same-length same-length-2 returns)

@@ -1,0 +1,60 @@
+-- `logging::flush_part` meets its contract. Assumes nothing.
+use mathlib.Core.Path.{_∙_}
+use native.Mathlib.Omega.{arith}
+use Rattle.logging.proofs.CallLaws.{slot-fits, length-slot}
+use Rattle.logging.proofs.FlushLaws.{part-written}
+use borrow.Author.Needs.{needs}
+use Rattle.logging.proofs.flushes.flush_part.Statement.{statement}
+use Rattle.logging.proofs.flushes.flush_part.Tie as tie
+
+rem-slot : tie.Need-rem-slot
+rem-slot c = search needs
+
+group-write-requires : tie.Need-group-write-requires
+group-write-requires c κs = let a = c .before .before .before .before .before .args in omega (arith, slot-fits (a .st .next) (a .st .groups) _ (c .before .before .before .before .before .pre .2) (c .before .before .before .before .before .pre .3))
+
+fence-requires : tie.Need-fence-requires
+fence-requires c κs = search needs
+
+add-next : tie.Need-add-next
+add-next c = search needs
+
+set-next-requires : tie.Need-set-next-requires
+set-next-requires c κs = search needs
+
+set-filled-requires : tie.Need-set-filled-requires
+set-filled-requires c κs = search needs
+
+mul-set-fenced : tie.Need-mul-set-fenced
+mul-set-fenced c = search needs
+
+set-fenced-requires : tie.Need-set-fenced-requires
+set-fenced-requires c κs = search needs
+
+same-length : tie.Need-same-length
+same-length c = search needs
+
+same-length-2 : tie.Need-same-length-2
+same-length-2 c = search needs
+
+returns : tie.Need-returns
+returns c = let p = c .before .before .before .before .before .before .before .before .before .before .before .before .before .before .before .before .before .before .before .before .before .before .before .before .before .pre in (
+  c .before .before .set-fenced .ensures ∙ rw (c .before .before .before .before .before .before .set-filled .ensures, c .before .before .before .before .before .before .before .before .before .before .set-next .ensures),
+  part-written _ _ _ _ _ _ (length-slot _ _ _ (p .2) (p .3)) (c .before .before .before .before .before .before .before .before .before .before .before .before .before .before .before .before .before .before .before .group-write .ensures .1) (c .before .before .before .before .before .before .before .before .before .before .before .before .before .before .before .before .before .before .before .group-write .ensures .0) (c .before .before .before .before .before .before .before .before .before .before .before .before .before .before .before .fence .ensures .1),
+)
+
+pub flush-part-spec : {M : Type 1} → statement M
+flush-part-spec =
+    tie.close
+    (tie.spec
+    rem-slot
+    group-write-requires
+    fence-requires
+    add-next
+    set-next-requires
+    set-filled-requires
+    mul-set-fenced
+    set-fenced-requires
+    same-length
+    same-length-2
+    returns)

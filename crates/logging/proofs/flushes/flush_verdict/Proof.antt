@@ -1,0 +1,27 @@
+-- `logging::flush_verdict` meets its contract. Assumes nothing.
+use native.Mathlib.Omega.{arith}
+use Rattle.logging.proofs.FlushLaws.{refuses, stripped, short, passes}
+use borrow.Author.Needs.{needs}
+use Rattle.logging.proofs.flushes.flush_verdict.Statement.{statement}
+use Rattle.logging.proofs.flushes.flush_verdict.Tie as tie
+
+in-use-requires : tie.Need-in-use-requires
+in-use-requires c κs = search needs
+
+returns : tie.Need-returns
+returns c = refuses _ _ _ _ _ (c .before .in-use .ensures) (c .if1 .taken)
+
+state-requires : tie.Need-state-requires
+state-requires c κs = let a = c .before .before .before .before .before .before .args in stripped (a .log .now) (a .area .now) (a .state .now) (a .batch .now) _ (c .before .in-use .ensures) (c .if1 .left)
+
+flush-size-requires : tie.Need-flush-size-requires
+flush-size-requires c κs = search needs
+
+returns-2 : tie.Need-returns-2
+returns-2 c = short _ _ _ _ _ _ _ (c .before .before .before .before .in-use .ensures) (c .before .before .before .if1 .left) (c .before .before .state .ensures) (c .before .flush-size .ensures) (c .if2 .taken)
+
+returns-3 : tie.Need-returns-3
+returns-3 c = passes _ _ _ _ _ _ _ (c .before .before .before .before .in-use .ensures) (c .before .before .before .if1 .left) (c .before .before .state .ensures) (c .before .flush-size .ensures) (omega arith)
+
+pub flush-verdict-spec : {M : Type 1} → statement M
+flush-verdict-spec = tie.close (tie.spec in-use-requires returns state-requires flush-size-requires returns-2 returns-3)

@@ -1,0 +1,68 @@
+-- What must hold where a held block is logged, and what logging it leaves in the slices of a call.
+use Prim.Native.Nat.{ℕ, _+_, _-_, _*_, _^_, _≤_, _<_}
+use mathlib.Core.Path.{_≡_}
+use mathlib.Core.List.{List}
+use lib.ListN.{length}
+use Rattle.model.specs.Bytes.{puts}
+use Rattle.model.specs.Batch.{batchBytes}
+use Rattle.model.specs.State.{stateOf, setLast, nextPosition, setWriter, heldOf, setHeld, idle, logging, firstFor, countFor}
+use Rattle.model.specs.declared.State.{State}
+use Rattle.model.specs.declared.Writer.{Writer}
+use Rattle.model.specs.Tag.{entryWord, closingWord}
+use Rattle.model.specs.Effects.{Logged, logged, linkFrom}
+
+-- an entry may be logged: there is room in the log and in the batch
+pub record MayLog (l s b : List ℕ) (st : State) (w : ℕ) : Type 0 where
+  pub state : st ≡ stateOf s
+  pub strip : length s ≡ 1024
+  pub writer : w < 8
+  pub some : 4 ≤ st .groups
+  pub few : st .groups ≤ 1024
+  pub log : length l ≡ 64 + 512 * st .groups
+  pub high : st .start ≤ 2 ^ 47
+  pub low : st .start ≤ st .next
+  pub room : st .next < st .start + st .groups
+  pub filled : st .filled ≤ 6
+  pub batch : st .filled ≡ 6 → 516 ≤ length b
+
+-- the fields of a held block's tag fit
+pub record Fits (st : State) (r : Writer) (position : ℕ) : Type 0 where
+  pub home : r .home < 2 ^ 12
+  pub upto : firstFor r position ≤ position
+  pub near : position < firstFor r position + 2 ^ 13
+  pub many : countFor r + 1 < 2 ^ 13
+  pub high : position + 1 < 2 ^ 64
+  pub before : st .last ≤ position + 1
+  pub link : linkFrom position st < 2 ^ 13
+
+-- the strip, the log and the batch once an entry is logged, and the size of what the batch holds
+pub record Wrote (n : ℕ) (s l b : List ℕ) (b₀ : List ℕ) (e : Logged) : Type 0 where
+  pub size : n ≡ length (batchBytes (e .records))
+  pub state : s ≡ e .state
+  pub log : l ≡ e .log
+  pub batch : b ≡ puts b₀ 0 (batchBytes (e .records))
+
+-- a held block logged as an entry that does not close, and as a closing one
+unfoldable pub loggedEntry : List ℕ → List ℕ → State → Writer → ℕ → Logged
+loggedEntry s log st r w =
+    logged s log (entryWord (r .home) (nextPosition st - firstFor r (nextPosition st))) (heldOf s w)
+
+unfoldable pub loggedClosing : List ℕ → List ℕ → State → Writer → ℕ → Logged
+loggedClosing s log st r w =
+    logged s log
+    (closingWord (r .home) (nextPosition st - firstFor r (nextPosition st)) (linkFrom (nextPosition st) st) (countFor r + 1))
+    (heldOf s w)
+
+-- a store that logs the held block
+pub record StoredOther (n : ℕ) (s l b : List ℕ) (s₀ l₀ b₀ x : List ℕ) (st : State) (r : Writer) (w home : ℕ) : Type 0 where
+  pub size : n ≡ length (batchBytes (loggedEntry s₀ l₀ st r w .records))
+  pub state : s ≡ setHeld (setWriter (loggedEntry s₀ l₀ st r w .state) w (logging home (firstFor r (nextPosition st)) (countFor r + 1))) w x
+  pub log : l ≡ loggedEntry s₀ l₀ st r w .log
+  pub batch : b ≡ puts b₀ 0 (batchBytes (loggedEntry s₀ l₀ st r w .records))
+
+-- a commit that logs the held block
+pub record Committed (n : ℕ) (s l b : List ℕ) (s₀ l₀ b₀ : List ℕ) (st : State) (r : Writer) (w : ℕ) : Type 0 where
+  pub size : n ≡ length (batchBytes (loggedClosing s₀ l₀ st r w .records))
+  pub state : s ≡ setWriter (setLast (loggedClosing s₀ l₀ st r w .state) (nextPosition st + 1)) w idle
+  pub log : l ≡ loggedClosing s₀ l₀ st r w .log
+  pub batch : b ≡ puts b₀ 0 (batchBytes (loggedClosing s₀ l₀ st r w .records))

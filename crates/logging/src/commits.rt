@@ -1,0 +1,86 @@
+// Commit: the held block is logged as the closing entry.
+use crate::entry::closing_word;
+use crate::entry::log_entry;
+use crate::entry::may_log;
+use answers::Reply;
+use model::State;
+use model::Writer;
+ghost use mathlib.Core.Path.{_≡_};
+ghost use mathlib.Core.List.{[]};
+ghost use Prim.Native.Nat.{_+_, _<_};
+ghost use lib.ListN.{length};
+ghost use Rattle.model.specs.State.{nextPosition, setWriter, idle};
+ghost use Rattle.model.specs.Effects.{commitEffect};
+ghost use Rattle.model.specs.Questions.{commitAnswer};
+ghost use Rattle.model.specs.Calls.{sizeOf, commitCall};
+ghost use Rattle.answers.specs.Lent.{lent, leaves};
+ghost use Rattle.logging.specs.Logs.{MayLog, Fits, Committed};
+
+// Ends the transaction of a writer that holds nothing.
+fn commit_none(state: &mut [u8], w: usize)
+    requires { ⌜ (length (now state) ≡ 1024) × (w < 8) ⌝ }
+    ensures { λ _. ⌜ now (state .exit) ≡ setWriter (now (state .entry)) w idle ⌝ }
+{
+    strip::set_writer(state, w, strip::idle());
+}
+
+// Logs the held block as the closing entry and ends the transaction.
+fn commit_held(
+    log: &mut [u8],
+    state: &mut [u8],
+    batch: &mut [u8],
+    st: State,
+    r: Writer,
+    w: usize,
+) -> u64
+    requires { ⌜ MayLog (now log) (now state) (now batch) st w × Fits st r (nextPosition st) ⌝ }
+    ensures { λ x. ⌜ Committed x (now (state .exit)) (now (log .exit)) (now (batch .exit)) (now (state .entry)) (now (log .entry)) (now (batch .entry)) st r w ⌝ }
+{
+    let position = strip::next_position(st);
+    let word = closing_word(st, r, position);
+    let size = log_entry(log, state, batch, st, word, w);
+    strip::set_last(state, position + 1);
+    strip::set_writer(state, w, strip::idle());
+    size
+}
+
+// The answer of a commit: 0, or the number of the question that refuses it.
+fn commit_verdict(log: &[u8], area: &[u8], state: &[u8], batch: &[u8], writer: u64) -> u64
+    ensures { λ r. ⌜ r ≡ commitAnswer (lent (now (log .entry)) (now (area .entry)) (now (state .entry)) [] (now (batch .entry)) writer 0) (sizeOf (commitEffect (lent (now (log .entry)) (now (area .entry)) (now (state .entry)) [] (now (batch .entry)) writer 0))) ⌝ }
+{
+    let asked = answers::in_use(log, area, state);
+    if asked != 0 {
+        return asked;
+    }
+    if writer >= 8 {
+        return 4;
+    }
+    let r = strip::writer(state, writer as usize);
+    if !strip::is_open(r) {
+        return 7;
+    }
+    if !strip::holds(r) {
+        return 0;
+    }
+    may_log(strip::state(state), batch.len())
+}
+
+// Commits a writer's open transaction: its held block is logged as the closing entry, whose position + 1 is the ticket.
+pub fn commit(log: &mut [u8], area: &[u8], state: &mut [u8], batch: &mut [u8], writer: u64) -> Reply
+    ensures { λ r. ⌜ leaves (r .code) (r .figure) (r .size) (now (log .exit)) (now (area .entry)) (now (state .exit)) [] (now (batch .exit)) ≡ commitCall (lent (now (log .entry)) (now (area .entry)) (now (state .entry)) [] (now (batch .entry)) writer 0) ⌝ }
+{
+    let code = commit_verdict(log, area, state, batch, writer);
+    if code != 0 {
+        return answers::refused(code);
+    }
+    let w = writer as usize;
+    let r = strip::writer(state, w);
+    if !strip::holds(r) {
+        commit_none(state, w);
+        return answers::done(0, 0);
+    }
+    let st = strip::state(state);
+    let ticket = strip::next_position(st) + 1;
+    let size = commit_held(log, state, batch, st, r, w);
+    answers::done(ticket, size)
+}

@@ -1,0 +1,92 @@
+// Logging a writer's held block: the words of its tag, whether there is room, and the entry itself.
+use model::State;
+use model::Writer;
+ghost use mathlib.Core.Path.{_≡_};
+ghost use mathlib.Core.Bool.{cond};
+ghost use Prim.Native.Nat.{_+_, _-_, _*_, _^_, _<_, _≤_};
+ghost use lib.ListN.{length};
+ghost use lib.Dec.{eqb, leb, ltb};
+ghost use Rattle.model.specs.State.{heldOf, firstFor, countFor, logging};
+ghost use Rattle.model.specs.Tag.{entryWord, closingWord};
+ghost use Rattle.model.specs.Effects.{logged, linkFrom};
+ghost use Rattle.model.specs.Questions.{ask};
+ghost use Rattle.logging.specs.Logs.{MayLog, Fits, Wrote};
+
+// Questions 8 and 10 of a call that logs an entry: 0 if the log has room for it, and the batch for the group that it may fill.
+pub fn may_log(st: State, batch: usize) -> u64
+    requires { ⌜ st .start + st .groups < 2 ^ 64 ⌝ }
+    ensures { λ r. ⌜ r ≡ ask (ltb (st .next) (st .start + st .groups)) 8 (ask (leb (cond (eqb (st .filled) 6) 516 0) batch) 9 0) ⌝ }
+{
+    if st.next >= st.start + st.groups {
+        return 8;
+    }
+    if st.filled != 6 {
+        return 0;
+    }
+    if batch < 516 {
+        return 9;
+    }
+    0
+}
+
+// Logs the held block of writer `w` with the tag `word` at the next position; the seventh place of a group hands it on.
+pub fn log_entry(
+    log: &mut [u8],
+    state: &mut [u8],
+    batch: &mut [u8],
+    st: State,
+    word: u64,
+    w: usize,
+) -> u64
+    requires { ⌜ MayLog (now log) (now state) (now batch) st w ⌝ }
+    ensures { λ r. ⌜ Wrote r (now (state .exit)) (now (log .exit)) (now (batch .exit)) (now (batch .entry)) (logged (now (state .entry)) (now (log .entry)) word (heldOf (now (state .entry)) w)) ⌝ }
+{
+    let slot = (st.next % st.groups) as usize;
+    let held = 128 + 96 * w + 32;
+    areas::enter(log, slot, st, word, &state[held..held + 64]);
+    if st.filled != 6 {
+        strip::set_filled(state, st.filled + 1);
+        return 0;
+    }
+    strip::set_next(state, st.next + 1);
+    strip::set_filled(state, 0);
+    batch::group_write(batch, 0, slot, log) as u64
+}
+
+// The tag of a held block that is logged at `position` and does not close its transaction.
+pub fn store_word(st: State, r: Writer, position: u64) -> u64
+    requires { ⌜ Fits st r position ⌝ }
+    ensures { λ x. ⌜ x ≡ entryWord (r .home) (position - firstFor r position) ⌝ }
+{
+    codec::entry_word(r.home, position - strip::first_for(r, position))
+}
+
+// The distance from `position` back to the last closing entry, 0 if there is none.
+pub fn link_from(position: u64, st: State) -> u64
+    requires { ⌜ (st .last ≤ position + 1) × (position + 1 < 2 ^ 64) ⌝ }
+    ensures { λ x. ⌜ x ≡ linkFrom position st ⌝ }
+{
+    if st.last == 0 {
+        return 0;
+    }
+    position + 1 - st.last
+}
+
+// The tag of a held block that is logged at `position` and commits its transaction.
+pub fn closing_word(st: State, r: Writer, position: u64) -> u64
+    requires { ⌜ Fits st r position ⌝ }
+    ensures { λ x. ⌜ x ≡ closingWord (r .home) (position - firstFor r position) (linkFrom position st) (countFor r + 1) ⌝ }
+{
+    let back = position - strip::first_for(r, position);
+    let link = link_from(position, st);
+    codec::commit_word(r.home, back, link, strip::count_for(r) + 1)
+}
+
+// The record of a writer whose held block was logged at `position` and who holds the next one for `home`.
+pub fn logged_for(st: State, r: Writer, position: u64, home: u64) -> Writer
+    requires { ⌜ Fits st r position ⌝ }
+    ensures { λ x. ⌜ x ≡ logging home (firstFor r position) (countFor r + 1) ⌝ }
+{
+    let first = strip::first_for(r, position);
+    strip::logging(home, first, strip::count_for(r) + 1)
+}

@@ -1,0 +1,9 @@
+// The calls that fill the log: store, commit and flush.
+mod commits;
+mod entry;
+mod flushes;
+mod stores;
+
+pub use commits::commit;
+pub use flushes::flush;
+pub use stores::store;

@@ -1,0 +1,114 @@
+// Store: the writer holds one block; a block for another home first logs the held one.
+use crate::entry::log_entry;
+use crate::entry::logged_for;
+use crate::entry::may_log;
+use crate::entry::store_word;
+use answers::Reply;
+use model::State;
+use model::Writer;
+ghost use mathlib.Core.Path.{_≡_};
+ghost use Prim.Native.Nat.{_+_, _<_};
+ghost use lib.ListN.{length};
+ghost use Rattle.model.specs.State.{nextPosition, writerOf, setWriter, setHeld, holding};
+ghost use Rattle.model.specs.Effects.{storeEffect};
+ghost use Rattle.model.specs.Questions.{storeAnswer};
+ghost use Rattle.model.specs.Calls.{sizeOf, storeCall};
+ghost use Rattle.answers.specs.Lent.{lent, leaves};
+ghost use Rattle.logging.specs.Logs.{MayLog, Fits, StoredOther};
+
+// Holds the first block of a transaction.
+fn store_first(state: &mut [u8], block: &[u8], w: usize, home: u64)
+    requires { ⌜ (length (now state) ≡ 1024) × (w < 8) × (length (now block) ≡ 64) ⌝ }
+    ensures { λ _. ⌜ now (state .exit) ≡ setHeld (setWriter (now (state .entry)) w (holding home)) w (now (block .entry)) ⌝ }
+{
+    strip::set_writer(state, w, strip::holding(home));
+    strip::set_held(state, w, block);
+}
+
+// Logs the held block and holds the next one, for another home.
+fn store_other(
+    log: &mut [u8],
+    state: &mut [u8],
+    block: &[u8],
+    batch: &mut [u8],
+    st: State,
+    r: Writer,
+    w: usize,
+    home: u64,
+) -> u64
+    requires { ⌜ MayLog (now log) (now state) (now batch) st w × Fits st r (nextPosition st) × (length (now block) ≡ 64) ⌝ }
+    ensures { λ x. ⌜ StoredOther x (now (state .exit)) (now (log .exit)) (now (batch .exit)) (now (state .entry)) (now (log .entry)) (now (batch .entry)) (now (block .entry)) st r w home ⌝ }
+{
+    let position = strip::next_position(st);
+    let word = store_word(st, r, position);
+    let size = log_entry(log, state, batch, st, word, w);
+    strip::set_writer(state, w, logged_for(st, r, position, home));
+    strip::set_held(state, w, block);
+    size
+}
+
+// The answer of a store: 0, or the number of the question that refuses it.
+fn store_verdict(
+    log: &[u8],
+    area: &[u8],
+    state: &[u8],
+    block: &[u8],
+    batch: &[u8],
+    writer: u64,
+    home: u64,
+) -> u64
+    ensures { λ r. ⌜ r ≡ storeAnswer (lent (now (log .entry)) (now (area .entry)) (now (state .entry)) (now (block .entry)) (now (batch .entry)) writer home) (sizeOf (storeEffect (lent (now (log .entry)) (now (area .entry)) (now (state .entry)) (now (block .entry)) (now (batch .entry)) writer home))) ⌝ }
+{
+    let asked = answers::in_use_block(log, area, state, block);
+    if asked != 0 {
+        return asked;
+    }
+    if writer >= 8 {
+        return 4;
+    }
+    if home >= areas::data_homes(area.len()) {
+        return 5;
+    }
+    let r = strip::writer(state, writer as usize);
+    if !strip::is_open(r) {
+        return 7;
+    }
+    if !strip::holds(r) {
+        return 0;
+    }
+    if r.home == home {
+        return 0;
+    }
+    may_log(strip::state(state), batch.len())
+}
+
+// Holds a block for a home in a writer's open transaction; a block held for another home is logged first.
+pub fn store(
+    log: &mut [u8],
+    area: &[u8],
+    state: &mut [u8],
+    block: &[u8],
+    batch: &mut [u8],
+    writer: u64,
+    home: u64,
+) -> Reply
+    ensures { λ r. ⌜ leaves (r .code) (r .figure) (r .size) (now (log .exit)) (now (area .entry)) (now (state .exit)) (now (block .entry)) (now (batch .exit)) ≡ storeCall (lent (now (log .entry)) (now (area .entry)) (now (state .entry)) (now (block .entry)) (now (batch .entry)) writer home) ⌝ }
+{
+    let code = store_verdict(log, area, state, block, batch, writer, home);
+    if code != 0 {
+        return answers::refused(code);
+    }
+    let w = writer as usize;
+    let r = strip::writer(state, w);
+    if !strip::holds(r) {
+        store_first(state, block, w, home);
+        return answers::done(0, 0);
+    }
+    if r.home == home {
+        strip::set_held(state, w, block);
+        return answers::done(0, 0);
+    }
+    let st = strip::state(state);
+    let size = store_other(log, state, block, batch, st, r, w, home);
+    answers::done(0, size)
+}

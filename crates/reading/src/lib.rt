@@ -1,0 +1,48 @@
+// The call read: the newest value of a home that a writer sees.
+mod blocks;
+mod newest;
+
+use answers::Reply;
+use blocks::show;
+ghost use mathlib.Core.Path.{_≡_};
+ghost use mathlib.Core.List.{[]};
+ghost use Rattle.model.specs.Questions.{readAnswer};
+ghost use Rattle.model.specs.Calls.{readCall};
+ghost use Rattle.answers.specs.Lent.{lent, leaves};
+
+// The questions of a read: 0 if none refuses it, else the number of the refusal.
+fn judge(log: &[u8], area: &[u8], state: &[u8], block: &[u8], writer: u64, home: u64) -> u64
+    ensures { λ r. ⌜ r ≡ readAnswer (lent (now (log .entry)) (now (area .entry)) (now (state .entry)) (now (block .entry)) [] writer home) ⌝ }
+{
+    let code = answers::in_use_block(log, area, state, block);
+    if code != 0 {
+        return code;
+    }
+    if writer >= 8 {
+        return 4;
+    }
+    if home >= areas::data_homes(area.len()) {
+        return 5;
+    }
+    0
+}
+
+// Reads the block of a home as a writer sees it: the held one, else its newest own entry, else the newest committed one, else the data copy.
+pub fn read(
+    log: &[u8],
+    area: &[u8],
+    state: &[u8],
+    block: &mut [u8],
+    writer: u64,
+    home: u64,
+) -> Reply
+    ensures { λ r. ⌜ leaves (r .code) (r .figure) (r .size) (now (log .entry)) (now (area .entry)) (now (state .entry)) (now (block .exit)) []
+        ≡ readCall (lent (now (log .entry)) (now (area .entry)) (now (state .entry)) (now (block .entry)) [] writer home) ⌝ }
+{
+    let code = judge(log, area, state, block, writer, home);
+    if code != 0 {
+        return answers::refused(code);
+    }
+    show(log, area, state, block, writer, home);
+    answers::done(0, 0)
+}

@@ -1,0 +1,4 @@
+pub mod FormatLaws
+pub mod OpenLaws
+pub mod PlanLaws
+pub mod SettleLaws

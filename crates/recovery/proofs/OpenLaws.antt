@@ -1,0 +1,272 @@
+-- Open: its questions, the records after those of the homes, and how the call ends. Assumes nothing.
+use mathlib.Core.Path.{_≡_, refl, sym, ap, _∙_}
+use mathlib.Core.Bool.{Bool, true, false, not, _&&_}
+use mathlib.Core.Logic.{_≢_}
+use mathlib.Core.List.{List, [], _∷_, _++_, append-nil}
+use Prim.Native.Nat.{ℕ, zero, suc, _+_, _-_, _*_, _^_, _≤_, _<_}
+use native.Mathlib.Omega.{arith}
+use lib.Dec.{eqb, leb}
+use lib.ListN.{length, length-append}
+use borrow.Author.Tests.{not-true, not-false, le-leb, lt-leb}
+use Rattle.model.specs.Bytes.{puts}
+use Rattle.model.specs.Layout.{groupsIn, homesIn, maxStart, logLengthRight, dataLengthRight, header, headerStart, headerRight, entryAt}
+use Rattle.model.specs.Commit.{transactions}
+use Rattle.model.specs.Batch.{FN, KW, recordBytes, batchBytes}
+use Rattle.model.specs.State.{freshState}
+use Rattle.model.specs.Effects.{Given, marked, replayed, touched, homeWrites, openTags, openStart, openEffect}
+use Rattle.model.specs.Questions.{ask, areasRight, stateRight, headerFits, startFits, batchFits, openAnswer}
+use Rattle.model.specs.Calls.{Outcome, sizeOf, openCall}
+use Rattle.model.specs.declared.Tag.{Tag}
+use Rattle.model.proofs.ByteLaws.{puts-append}
+use Rattle.model.proofs.LayoutLaws.{length-header}
+use Rattle.model.proofs.BatchLaws.{length-FN, length-KW}
+use Rattle.model.proofs.QuestionLaws.{ask-yes, ask-no, ask-passed}
+use Rattle.model.proofs.OrderLaws.{tests}
+use Rattle.bitmap.specs.Marks.{marks}
+use Rattle.replay.specs.Walk.{closedBelow}
+use Rattle.answers.specs.Lent.{lent, leaves}
+use Rattle.answers.proofs.AnswerLaws.{refused-by, done-by}
+use Rattle.recovery.specs.Opens.{askOpen}
+use Rattle.recovery.specs.Plans.{Searchable, Planned, Replayable}
+use Rattle.recovery.proofs.PlanLaws.{writes-then, plan-size, plan-area, plan-batch}
+
+-- ---- the questions
+
+regroup : (x y z : Bool) → (x && (y && z)) ≡ ((x && y) && z)
+regroup true y z = refl
+regroup false y z = refl
+
+-- what right lengths give
+pub record Lengths (log area state : List ℕ) : Type 0 where
+  pub log-length : length log ≡ 64 + 512 * groupsIn (length log)
+  pub groups-least : 4 ≤ groupsIn (length log)
+  pub groups-most : groupsIn (length log) ≤ 1024
+  pub area-length : length area ≡ 64 * homesIn (length area)
+  pub homes-most : homesIn (length area) ≤ 4096
+  pub state-length : length state ≡ 1024
+
+module _ (log area state : List ℕ) where
+  abbrev judged : Given
+  judged = lent log area state [] [] 0 0
+
+  abbrev rightLengths : Bool
+  rightLengths = logLengthRight (length log) && (dataLengthRight (length area) && eqb (length state) 1024)
+
+  pub lengths : (r : Bool) → r ≡ rightLengths → not r ≡ false → Lengths log area state
+  unfolding logLengthRight dataLengthRight
+  lengths r e h =
+      let f = simp tests at (sym e ∙ not-false r h) in
+      record {
+        log-length = omega arith;
+        groups-least = omega arith;
+        groups-most = omega arith;
+        area-length = omega arith;
+        homes-most = omega arith;
+        state-length = omega arith;
+      }
+
+  same-lengths : rightLengths ≡ (areasRight judged && stateRight judged)
+  unfolding areasRight stateRight
+  same-lengths = regroup (logLengthRight (length log)) (dataLengthRight (length area)) (eqb (length state) 1024)
+
+  pub open-lengths-no : (r : Bool) → r ≡ rightLengths → not r ≡ true → 1 ≡ askOpen judged 0
+  unfolding askOpen
+  open-lengths-no r e h = sym (ask-no _ 1 _ (sym same-lengths ∙ sym e ∙ not-true r h))
+
+  module _ (r b : Bool) (groups homes start : ℕ) (e : r ≡ rightLengths) (h : not r ≡ false)
+      (q : (groups ≡ groupsIn (length log)) × (homes ≡ homesIn (length area)) × (start ≡ headerStart log) × (start < 2 ^ 48))
+      (eb : b ≡ headerRight log groups homes) where
+    lengths-yes : (areasRight judged && stateRight judged) ≡ true
+    lengths-yes = sym same-lengths ∙ sym e ∙ not-false r h
+
+    same-header : b ≡ headerRight log (groupsIn (length log)) (homesIn (length area))
+    same-header = eb ∙ rw (q .0, q .1)
+
+    pub open-header-no : not b ≡ true → 3 ≡ askOpen judged 0
+    unfolding askOpen headerFits
+    open-header-no k =
+        let f : headerRight log (groupsIn (length log)) (homesIn (length area)) ≡ false = sym same-header ∙ not-true b k in
+        sym (ask-yes _ 1 _ lengths-yes ∙ ask-no _ 3 _ (rw f))
+
+    module _ (k : not b ≡ false) where
+      header-yes : headerRight log (groupsIn (length log)) (homesIn (length area)) ≡ true
+      header-yes = sym same-header ∙ not-false b k
+
+      pub open-start-no : 2 ^ 47 < start → 3 ≡ askOpen judged 0
+      unfolding askOpen headerFits
+      open-start-no l =
+          let f : leb (headerStart log) (2 ^ 47) ≡ false = lt-leb (headerStart log) (2 ^ 47) (omega arith) in
+          sym (ask-yes _ 1 _ lengths-yes ∙ ask-no _ 3 _ (rw (header-yes, f)))
+
+      start-yes : start ≤ 2 ^ 47 → headerFits judged ≡ true
+      unfolding headerFits
+      start-yes l =
+          let f : leb (headerStart log) (2 ^ 47) ≡ true = le-leb (headerStart log) (2 ^ 47) (omega arith) in
+          rw (header-yes, f)
+
+      pub open-next-no : start ≤ 2 ^ 47 → 2 ^ 47 < start + groups → 10 ≡ askOpen judged 0
+      unfolding askOpen startFits openStart
+      open-next-no l m =
+          sym (ask-yes _ 1 _ lengths-yes ∙ ask-yes _ 3 _ (start-yes l)
+          ∙ ask-no _ 10 0 (lt-leb (headerStart log + groupsIn (length log)) (2 ^ 47) (omega arith)))
+
+      pub open-allowed : start ≤ 2 ^ 47 → start + groups ≤ 2 ^ 47 → 0 ≡ askOpen judged 0
+      unfolding askOpen startFits openStart
+      open-allowed l m =
+          sym (ask-yes _ 1 _ lengths-yes ∙ ask-yes _ 3 _ (start-yes l)
+          ∙ ask-yes _ 10 0 (le-leb (headerStart log + groupsIn (length log)) (2 ^ 47) (omega arith)))
+
+-- what an answer of 0 to them gives
+pub record Openable (log area state : List ℕ) : Type 0 where
+  pub log-length : length log ≡ 64 + 512 * groupsIn (length log)
+  pub groups-least : 4 ≤ groupsIn (length log)
+  pub groups-most : groupsIn (length log) ≤ 1024
+  pub area-length : length area ≡ 64 * homesIn (length area)
+  pub homes-most : homesIn (length area) ≤ 4096
+  pub state-length : length state ≡ 1024
+  pub start-most : headerStart log + groupsIn (length log) ≤ 2 ^ 47
+
+pub openable : (log area state : List ℕ) (v : ℕ) → v ≡ askOpen (lent log area state [] [] 0 0) 0 → v ≡ 0 → Openable log area state
+unfolding askOpen startFits openStart
+openable log area state v e z =
+    let a = ask-passed _ 0 _ (sym e ∙ z) in
+    let b = ask-passed _ 2 _ (a .1) in
+    let c = ask-passed _ 9 0 (b .1) in
+    let k = lengths log area state true (sym (same-lengths log area state ∙ a .0)) refl in
+    let s = simp tests at (c .0) in
+    record {
+      log-length = k .log-length;
+      groups-least = k .groups-least;
+      groups-most = k .groups-most;
+      area-length = k .area-length;
+      homes-most = k .homes-most;
+      state-length = k .state-length;
+      start-most = omega arith;
+    }
+
+pub area-homes : (log area state : List ℕ) (homes : ℕ) → Openable log area state → homes ≡ homesIn (length area) → length area ≡ 64 * homes
+area-homes log area state homes k e = omega arith
+
+pub open-searchable : (log area state : List ℕ) (groups homes start : ℕ) → Openable log area state
+    → (groups ≡ groupsIn (length log)) × (homes ≡ homesIn (length area)) × (start ≡ headerStart log) × (start < 2 ^ 48)
+    → Searchable log groups homes start (7 * groups)
+open-searchable log area state groups homes start k q =
+    record {
+      long = omega arith;
+      least = omega arith;
+      most = omega arith;
+      homes-most = omega arith;
+      low = omega arith;
+      within = omega arith;
+    }
+
+-- ---- the records after those of the homes
+
+length-last : (h : List ℕ) → length h ≡ 64 → length (batchBytes (FN ∷ KW h ∷ FN ∷ [])) ≡ 70
+unfolding batchBytes
+length-last h l =
+    let k : length (recordBytes (KW h)) ≡ 66 = length-KW h l in
+    rw (length-append, length-append, append-nil, length-FN, k)
+
+three : (d h : List ℕ) (at n m : ℕ) → length h ≡ 64 → n ≡ at + 2 → m ≡ n + 66
+    → puts (puts (puts d at (recordBytes FN)) n (recordBytes (KW h))) m (recordBytes FN) ≡ puts d at (batchBytes (FN ∷ KW h ∷ FN ∷ []))
+unfolding batchBytes
+three d h at n m l e f =
+    let k : length (recordBytes (KW h)) ≡ 66 = length-KW h l in
+    sym (rw (append-nil, puts-append d at (recordBytes FN), length-FN, ← e, puts-append (puts d at (recordBytes FN)) n (recordBytes (KW h)), k, ← f))
+
+module _ (log area map batch : List ℕ) (groups homes start end : ℕ) (r : Replayable log area map batch groups homes start end 70) where
+  pub header-after : (a d x y w : List ℕ) (at n m s : ℕ) (tags : ℕ → Tag) (ts : List (List ℕ))
+      → at ≡ 68 * length (marked (marks map) (64 * length map)) → a ≡ replayed log groups tags ts area
+      → d ≡ puts batch 0 (batchBytes (homeWrites a (marked (marks map) (64 * length map)))) → n ≡ at + 2 → x ≡ puts d at (recordBytes FN)
+      → m ≡ n + 66 → y ≡ puts x n (recordBytes (KW (header s groups homes))) → w ≡ puts y m (recordBytes FN)
+      → w
+      ≡ puts batch 0
+      (batchBytes (homeWrites a (marked (marks map) (64 * length map)) ++ (FN ∷ KW (header s groups homes) ∷ FN ∷ [])))
+  header-after a d x y w at n m s tags ts e f g en ex em ey ew =
+      ew
+      ∙ rw (ey, ex, three d (header s groups homes) at n m (length-header s groups homes) en em, g)
+      (writes-then log area map batch groups homes start end 70 r a batch at (FN ∷ KW (header s groups homes) ∷ FN ∷ []) tags ts f e)
+
+-- ---- how the call ends
+
+stops : (a b c : Bool) (r v : ℕ) → r ≡ ask a 1 (ask b 3 (ask c 10 0)) → r ≢ 0 → r ≡ ask a 1 (ask b 3 (ask c 10 v))
+unfolding ask
+stops true true true r v e h = absurd (h e)
+stops true true false r v e h = e
+stops true false c r v e h = e
+stops false b c r v e h = e
+
+passes : (a b c : Bool) (r v : ℕ) → r ≡ ask a 1 (ask b 3 (ask c 10 0)) → r ≡ 0 → ask a 1 (ask b 3 (ask c 10 v)) ≡ v
+unfolding ask
+passes true true true r v e h = refl
+passes true true false r v e h = absurd (omega arith)
+passes true false c r v e h = absurd (omega arith)
+passes false b c r v e h = absurd (omega arith)
+
+module _ (log area state batch : List ℕ) where
+  abbrev opening : Given
+  opening = lent log area state [] batch 0 0
+
+  open-stops : (r size : ℕ) → r ≡ askOpen (lent log area state [] [] 0 0) 0 → r ≢ 0 → r ≡ openAnswer opening (openStart opening) size
+  unfolding askOpen openAnswer areasRight stateRight headerFits openStart
+  open-stops r size e h = stops _ _ _ r _ e h
+
+  open-passes : (r size : ℕ) → r ≡ askOpen (lent log area state [] [] 0 0) 0 → r ≡ 0
+      → openAnswer opening (openStart opening) size ≡ ask (batchFits opening size) 9 0
+  unfolding askOpen openAnswer areasRight stateRight headerFits openStart
+  open-passes r size e h = passes _ _ _ r _ e h
+
+  pub open-refused : (v code figure size : ℕ) → v ≡ askOpen (lent log area state [] [] 0 0) 0 → v ≢ 0
+      → (code ≡ v) × (figure ≡ 0) × (size ≡ 0) → leaves code figure size log area state [] batch ≡ openCall opening
+  unfolding openCall
+  open-refused v code figure size e h r =
+      refused-by opening (openEffect opening) _ code figure size (r .0 ∙ open-stops v _ e h) (λ z. h (sym (r .0) ∙ z)) (r .1) (r .2)
+
+  module _ (v end number count groups homes start : ℕ) (m : List ℕ) (e : v ≡ askOpen (lent log area state [] [] 0 0) 0) (z : v ≡ 0)
+      (q : (groups ≡ groupsIn (length log)) × (homes ≡ homesIn (length area)) × (start ≡ headerStart log) × (start < 2 ^ 48))
+      (p : Planned log groups homes start (7 * groups) m end number count) where
+    area-long : length area ≡ 64 * homesIn (length area)
+    area-long = openable log area state v e z .area-length
+
+    plan-all : Planned log (groupsIn (length log)) (homesIn (length area)) (headerStart log) (7 * groupsIn (length log)) m end number count
+    plan-all = rw (q .0, q .1, q .2) at p
+
+    open-length : length (batchBytes (openEffect opening .records)) ≡ 68 * count + 70
+    unfolding openEffect openTags
+    open-length =
+        plan-size log area m _ _ _ _ end number count plan-all area-long
+        (FN ∷ KW (header (openStart opening) (groupsIn (length log)) (homesIn (length area))) ∷ FN ∷ [])
+        ∙ ap (λ (k : ℕ). 68 * count + k)
+        (length-last (header (openStart opening) (groupsIn (length log)) (homesIn (length area))) (length-header _ _ _))
+
+    open-size : sizeOf (openEffect opening) ≡ 68 * count + 70
+    unfolding sizeOf
+    open-size = open-length
+
+    pub open-short : (code figure size : ℕ) → length batch < 68 * count + 70 → (code ≡ 9) × (figure ≡ 0) × (size ≡ 0)
+        → leaves code figure size log area state [] batch ≡ openCall opening
+    unfolding openCall batchFits
+    open-short code figure size h r =
+        refused-by opening (openEffect opening) _ code figure size
+        (r .0 ∙ sym (open-passes v _ e z ∙ ask-no _ 9 0 (lt-leb (sizeOf (openEffect opening)) (length batch) (omega (arith, open-size)))))
+        (λ y. let w = r .0 in omega arith) (r .1) (r .2)
+
+    pub open-done : (code figure size : ℕ) (l a s b : List ℕ) → 68 * count + 70 ≤ length batch
+        → (code ≡ 0) × (figure ≡ number) × (size ≡ 68 * count + 70)
+        → a ≡ replayed log groups (entryAt log groups homes start) (closedBelow log groups homes start end) area
+        → b
+        ≡ puts batch 0
+        (batchBytes (homeWrites a (marked (marks m) (64 * length m)) ++ (FN ∷ KW (header (start + groups) groups homes) ∷ FN ∷ [])))
+        → l ≡ puts log 0 (header (start + groups) groups homes) → s ≡ freshState groups homes (start + groups)
+        → leaves code figure size l a s [] b ≡ openCall opening
+    unfolding openCall batchFits openEffect openTags openStart
+    open-done code figure size l a s b h r ea eb el es =
+        let ra = rw (q .0, q .1, q .2) at ea in
+        let rb = rw (q .0, q .1, q .2) at eb in
+        done-by opening (openEffect opening) _ code figure size l a s [] b
+        (open-passes v _ e z ∙ ask-yes _ 9 0 (le-leb (sizeOf (openEffect opening)) (length batch) (omega (arith, open-size))))
+        (r .0) (r .1 ∙ plan-all .numbered) (r .2 ∙ sym open-length) (el ∙ rw (q .0, q .1, q .2))
+        (plan-area log area m _ _ _ _ end number count plan-all area-long a ra)
+        (es ∙ rw (q .0, q .1, q .2)) refl
+        (plan-batch log area m _ _ _ _ end number count plan-all area-long a b batch _ ra rb)

@@ -1,0 +1,57 @@
+-- `sessions::abort` meets its contract: refused by the verdict, or done by the one change of the strip. Assumes nothing.
+use native.Mathlib.Omega.{arith}
+use Rattle.sessions.proofs.SessionLaws.{abort-fits, abort-refused, abort-done}
+use borrow.Author.Needs.{needs}
+use Rattle.sessions.proofs.abort.Statement.{statement}
+use Rattle.sessions.proofs.abort.Tie as tie
+
+abort-answer-requires : tie.Need-abort-answer-requires
+abort-answer-requires c κs = search needs
+
+refused-requires : tie.Need-refused-requires
+refused-requires c κs = search needs
+
+same-length : tie.Need-same-length
+same-length c = search needs
+
+returns : tie.Need-returns
+returns c =
+    let d = c .refused .ensures in
+    abort-refused _ _ _ _ _ (c .before .before .abort-answer .ensures) (c .before .if1 .taken) (d .0) (d .1) (d .2)
+
+idle-requires : tie.Need-idle-requires
+idle-requires c κs = search needs
+
+set-writer-requires : tie.Need-set-writer-requires
+set-writer-requires c κs = omega (arith, abort-fits _ _ (c .before .before .before .abort-answer .ensures) (c .before .before .if1 .left))
+
+done-requires : tie.Need-done-requires
+done-requires c κs = search needs
+
+same-length-2 : tie.Need-same-length-2
+same-length-2 c = search needs
+
+returns-2 : tie.Need-returns-2
+returns-2 c =
+    let k = c .before .before .before in
+    let d = c .done .ensures in
+    abort-done _ _ _ _ _ _ _ (k .before .before .before .before .abort-answer .ensures) (k .before .before .before .if1 .left)
+    (k .before .idle .ensures)
+    (k .set-writer .ensures)
+    (d .0)
+    (d .1)
+    (d .2)
+
+pub abort-spec : {M : Type 1} → statement M
+abort-spec =
+    tie.close
+    (tie.spec
+    abort-answer-requires
+    refused-requires
+    same-length
+    returns
+    idle-requires
+    set-writer-requires
+    done-requires
+    same-length-2
+    returns-2)

@@ -1,0 +1,87 @@
+// The calls that change only the strip: begin and abort a writer's transaction, and confirm the fences that have passed.
+use answers::Reply;
+ghost use mathlib.Core.Path.{_≡_};
+ghost use mathlib.Core.List.{[]};
+ghost use Rattle.model.specs.Questions.{beginAnswer, abortAnswer};
+ghost use Rattle.model.specs.Calls.{beginCall, abortCall, confirmCall};
+ghost use Rattle.answers.specs.Lent.{lent, leaves};
+ghost use Rattle.sessions.specs.Writers.{askWriter};
+
+// Questions 1, 2 and 4, which a call that names a writer puts first: 0, or the number of the refusal.
+fn writer_answer(log: &[u8], area: &[u8], state: &[u8], writer: u64) -> u64
+    ensures { λ r. ⌜ r ≡ askWriter (lent (now (log .entry)) (now (area .entry)) (now (state .entry)) [] [] writer 0) 0 ⌝ }
+{
+    let first = answers::in_use(log, area, state);
+    if first != 0 {
+        return first;
+    }
+    if writer >= 8 {
+        return 4;
+    }
+    0
+}
+
+// Whether a writer may begin: 0, or the number of the refusal.
+fn begin_answer(log: &[u8], area: &[u8], state: &[u8], writer: u64) -> u64
+    ensures { λ r. ⌜ r ≡ beginAnswer (lent (now (log .entry)) (now (area .entry)) (now (state .entry)) [] [] writer 0) ⌝ }
+{
+    let first = writer_answer(log, area, state, writer);
+    if first != 0 {
+        return first;
+    }
+    if strip::is_open(strip::writer(state, writer as usize)) {
+        return 6;
+    }
+    0
+}
+
+// Begins a transaction of a writer that has none open.
+pub fn begin(log: &[u8], area: &[u8], state: &mut [u8], writer: u64) -> Reply
+    ensures { λ r. ⌜ leaves (r .code) (r .figure) (r .size) (now (log .entry)) (now (area .entry)) (now (state .exit)) [] [] ≡ beginCall (lent (now (log .entry)) (now (area .entry)) (now (state .entry)) [] [] writer 0) ⌝ }
+{
+    let answer = begin_answer(log, area, state, writer);
+    if answer != 0 {
+        return answers::refused(answer);
+    }
+    strip::set_writer(state, writer as usize, strip::begun());
+    answers::done(0, 0)
+}
+
+// Whether a writer may abort: 0, or the number of the refusal.
+fn abort_answer(log: &[u8], area: &[u8], state: &[u8], writer: u64) -> u64
+    ensures { λ r. ⌜ r ≡ abortAnswer (lent (now (log .entry)) (now (area .entry)) (now (state .entry)) [] [] writer 0) ⌝ }
+{
+    let first = writer_answer(log, area, state, writer);
+    if first != 0 {
+        return first;
+    }
+    if !strip::is_open(strip::writer(state, writer as usize)) {
+        return 7;
+    }
+    0
+}
+
+// Drops a writer's open transaction with the block that it holds.
+pub fn abort(log: &[u8], area: &[u8], state: &mut [u8], writer: u64) -> Reply
+    ensures { λ r. ⌜ leaves (r .code) (r .figure) (r .size) (now (log .entry)) (now (area .entry)) (now (state .exit)) [] [] ≡ abortCall (lent (now (log .entry)) (now (area .entry)) (now (state .entry)) [] [] writer 0) ⌝ }
+{
+    let answer = abort_answer(log, area, state, writer);
+    if answer != 0 {
+        return answers::refused(answer);
+    }
+    strip::set_writer(state, writer as usize, strip::idle());
+    answers::done(0, 0)
+}
+
+// Makes the fenced position the durable mark, and returns it: all fences so far have passed.
+pub fn confirm(log: &[u8], area: &[u8], state: &mut [u8]) -> Reply
+    ensures { λ r. ⌜ leaves (r .code) (r .figure) (r .size) (now (log .entry)) (now (area .entry)) (now (state .exit)) [] [] ≡ confirmCall (lent (now (log .entry)) (now (area .entry)) (now (state .entry)) [] [] 0 0) ⌝ }
+{
+    let answer = answers::in_use(log, area, state);
+    if answer != 0 {
+        return answers::refused(answer);
+    }
+    let fenced = strip::state(state).fenced;
+    strip::set_durable(state, fenced);
+    answers::done(fenced, 0)
+}

@@ -1,0 +1,206 @@
+-- Laws for trim: the start that it moves to, what it writes, and how it ends. Assumes nothing.
+use mathlib.Core.Path.{_≡_, refl, sym, ap, _∙_}
+use mathlib.Core.Bool.{Bool, true, false, cond}
+use mathlib.Core.Logic.{_⊎_, inl, inr}
+use mathlib.Core.List.{List, [], _∷_, append-nil}
+use Prim.Native.Nat.{ℕ, zero, suc, _+_, _-_, _*_, _/_, _^_, _≤_, _<_}
+use native.Mathlib.Decide.{ℕ-discrete}
+use native.Mathlib.Omega.{arith}
+use lib.Dec.{leb, eqb}
+use lib.ListN.{length, length-append}
+use borrow.Author.Tests.{le-leb, lt-leb, eq-eqb, ne-eqb}
+use Rattle.model.specs.Bytes.{puts}
+use Rattle.model.specs.Layout.{groupsIn, homesIn, maxStart, header, entryAt}
+use Rattle.model.specs.Commit.{Span, committed}
+use Rattle.model.specs.State.{stateOf, nextPosition, setStart, setFenced, setLast}
+use Rattle.model.specs.Batch.{KW, FN, recordBytes, batchBytes}
+use Rattle.model.specs.Effects.{Given, Effect, groups, homes, newState, liveTags, liveBase, mayStart, largest, trimStart, trimTo, trimEffect}
+use Rattle.model.specs.Questions.{ask, startFits, batchFits, askState, trimAnswer}
+use Rattle.model.specs.Calls.{sizeOf, outcome, trimCall}
+use Rattle.model.specs.declared.State.{State}
+use Rattle.model.specs.declared.Tag.{Tag}
+use Rattle.model.proofs.BatchLaws.{length-KW, length-FN, batch-one}
+use Rattle.model.proofs.ByteLaws.{puts-nil, puts-append}
+use Rattle.model.proofs.Closings.{closings, endOf}
+use Rattle.model.proofs.ClosingLaws.{committed-closings, committed-within}
+use Rattle.model.proofs.LayoutLaws.{length-header}
+use Rattle.model.proofs.OrderLaws.{InOrder}
+use Rattle.model.proofs.QuestionLaws.{ask-yes, ask-no}
+use Rattle.model.proofs.TrimLaws.{largest-upto}
+use Rattle.answers.specs.Lent.{lent, leaves}
+use Rattle.answers.proofs.AnswerLaws.{Usable, state-refuses, state-passes, refused-by, done-by, strip-by}
+use Rattle.replay.specs.Walk.{Walkable}
+use Rattle.trimming.specs.Moved.{keptLast, movedStrip}
+
+-- ---- the numbers of a strip in order
+
+pub record Numbers (log : List ℕ) (st : State) : Type 0 where
+  pub long : length log ≡ 64 + 512 * st .groups
+  pub least : 4 ≤ st .groups
+  pub most : st .groups ≤ 1024
+  pub homes-most : st .homes ≤ 4096
+  pub low : st .start ≤ 2 ^ 47
+  pub next : 7 * st .next + st .filled ≡ nextPosition st
+  pub next-most : st .next ≤ st .start + st .groups
+  pub first : 7 * st .start ≤ nextPosition st
+  pub within : nextPosition st ≤ 7 * (st .start + st .groups)
+  pub settled : 7 * st .start ≤ st .settled
+  pub settled-most : st .settled ≤ 7 * (st .start + st .groups)
+
+pub numbers : (log area state : List ℕ) (st : State) → Usable log area state → st ≡ stateOf state → Numbers log st
+unfolding nextPosition
+numbers log area state st u e =
+    let o = u .order in
+    rw e
+    (record {
+      long = omega arith;
+      least = omega arith;
+      most = omega arith;
+      homes-most = omega arith;
+      low = o .start-most;
+      next = refl;
+      next-most = o .next-most;
+      first = omega arith;
+      within = top (stateOf state .next) (stateOf state .start + stateOf state .groups) (stateOf state .filled) (o .next-most) (o .filled-most) (o .filled-none);
+      settled = o .start-settled;
+      settled-most = omega arith;
+    })
+  where
+    top : (n m k : ℕ) → n ≤ m → k ≤ 6 → (n ≡ m → k ≡ 0) → 7 * n + k ≤ 7 * m
+    top n m k a b f = go (ℕ-discrete n m)
+      where
+        go : Dec (n ≡ m) → 7 * n + k ≤ 7 * m
+        go (yes e) = omega (arith, f e)
+        go (no e) = omega arith
+
+pub order-own : (log area state : List ℕ) (st : State) → Usable log area state → st ≡ stateOf state → InOrder state (st .groups) (st .homes)
+order-own log area state st u e = let o = u .order in rw (e, o .groups-same, o .homes-same) o
+
+-- ---- the start
+
+-- it does not depend on the batch
+pub start-only : (l a s b t : List ℕ) (w h : ℕ) → trimStart (lent l a s b t w h) ≡ trimStart (lent l a s [] [] 0 0)
+unfolding trimStart liveTags liveBase
+start-only l a s b t w h = refl
+
+end-within : (log : ℕ → Tag) (base n end : ℕ) → end ≡ endOf (committed log base n) → end ≤ base + n
+end-within log base n end e = go (committed-within log base n)
+  where
+    go : (endOf (committed log base n) ≡ 0) ⊎ ((base < endOf (committed log base n)) × (endOf (committed log base n) ≤ base + n)) → end ≤ base + n
+    go (inl z) = omega arith
+    go (inr h) = omega arith
+
+module _ (log : List ℕ) (st : State) where
+  pub walkable : (n end : ℕ) → Numbers log st → n ≡ nextPosition st - 7 * st .start
+      → end ≡ endOf (committed (entryAt log (st .groups) (st .homes) (st .start)) (7 * st .start) n) → Walkable log (st .groups) (st .start) end
+  walkable n end m g e =
+      let w = end-within (entryAt log (st .groups) (st .homes) (st .start)) (7 * st .start) n end e in
+      record { long = m .long; some = omega arith; most = m .most; low = m .low; within = omega arith }
+
+pub start-found : (log area state : List ℕ) (st : State) (n end x : ℕ) → Usable log area state → st ≡ stateOf state → n ≡ nextPosition st - 7 * st .start
+    → end ≡ endOf (committed (entryAt log (st .groups) (st .homes) (st .start)) (7 * st .start) n)
+    → x ≡ largest (mayStart state (closings (entryAt log (st .groups) (st .homes) (st .start)) (7 * st .start) (end - 7 * st .start))) (st .start)
+    (st .settled / 7 - st .start)
+    → x ≡ trimStart (lent log area state [] [] 0 0)
+unfolding trimStart liveTags liveBase
+start-found log area state st n end x u es g e h =
+    let o = u .order in
+    let c = committed-closings (entryAt log (st .groups) (st .homes) (st .start)) (7 * st .start) n in
+    rw (← o .groups-same, ← o .homes-same, ← es, ← g, c, ← e) h
+
+-- ---- what is written
+
+pub last-none : (last start : ℕ) → last ≤ 7 * start → 0 ≡ keptLast last start
+unfolding keptLast
+last-none last start h = rw (le-leb last (7 * start) h)
+
+pub last-kept : (last start : ℕ) → 7 * start < last → last ≡ keptLast last start
+unfolding keptLast
+last-kept last start h = rw (lt-leb last (7 * start) h)
+
+pub strip-moved : (s s₁ s₂ s₃ : List ℕ) (st : State) (start f l : ℕ) → s₁ ≡ setStart s start → s₂ ≡ setFenced s₁ f → f ≡ 7 * st .next
+    → l ≡ keptLast (st .last) start → s₃ ≡ setLast s₂ l → s₃ ≡ movedStrip s st start
+unfolding movedStrip
+strip-moved s s₁ s₂ s₃ st start f l a b c d e = e ∙ rw (b, a, c, d)
+
+pub header-fenced : (d d₁ d₂ : List ℕ) (at start groups homes : ℕ) → at ≡ 0 + 66 → d₁ ≡ puts d 0 (recordBytes (KW (header start groups homes)))
+    → d₂ ≡ puts d₁ at (recordBytes FN) → d₂ ≡ puts d 0 (batchBytes (KW (header start groups homes) ∷ FN ∷ []))
+unfolding batchBytes
+header-fenced d d₁ d₂ at start groups homes a e f =
+    let l : length (recordBytes (KW (header start groups homes))) ≡ 66 = length-KW (header start groups homes) (length-header start groups homes) in
+    f ∙ rw (e, a, puts-append d 0 (recordBytes (KW (header start groups homes))), l, append-nil)
+
+-- ---- how a trim ends
+
+module _ (g : Given) where
+  pub trim-refused : (x code figure size : ℕ) → x ≡ askState g 0 → (x ≡ 0 → ⊥) → code ≡ x → figure ≡ 0 → size ≡ 0
+      → leaves code figure size (g .log) (g .area) (g .state) (g .block) (g .batch) ≡ trimCall g
+  unfolding trimCall trimAnswer
+  trim-refused x code figure size e n h f s =
+      refused-by g _ _ code figure size (h ∙ state-refuses g x _ e n) (λ z. n (sym h ∙ z)) f s
+
+  pub start-refused : (start code figure size : ℕ) → askState g 0 ≡ 0 → start ≡ trimStart g → 2 ^ 47 < start → code ≡ 10 → figure ≡ 0 → size ≡ 0
+      → leaves code figure size (g .log) (g .area) (g .state) (g .block) (g .batch) ≡ trimCall g
+  unfolding trimCall trimAnswer startFits
+  start-refused start code figure size a e l h f s =
+      refused-by g _ _ code figure size
+      (h ∙ sym (state-passes g _ a ∙ ask-no (leb (trimStart g) maxStart) 10 _ (lt-leb (trimStart g) maxStart (omega arith)))) (omega arith) f s
+
+  -- the start stays
+  still : (start : ℕ) → start ≡ stateOf (g .state) .start → trimEffect g start ≡ newState g (g .state) 0
+  unfolding trimEffect
+  still start e = rw (eq-eqb start (stateOf (g .state) .start) e)
+
+  pub not-moved : (start code figure size : ℕ) → askState g 0 ≡ 0 → start ≡ trimStart g → start ≤ 2 ^ 47 → start ≡ stateOf (g .state) .start → code ≡ 0
+      → figure ≡ 0 → size ≡ 0 → leaves code figure size (g .log) (g .area) (g .state) (g .block) (g .batch) ≡ trimCall g
+  unfolding trimCall trimAnswer startFits batchFits sizeOf newState batchBytes
+  not-moved start code figure size a e l m h f s =
+      rw (← e, still start m)
+      (strip-by g (g .state) _ 0 code figure size (g .state)
+      (state-passes g _ a ∙ ask-yes (leb start maxStart) 10 _ (le-leb start maxStart l) ∙ ask-yes (leb 0 (length (g .batch))) 9 0 (le-leb 0 (length (g .batch)) (omega arith)))
+      h f s refl)
+
+  -- the start moves
+  moved : (start : ℕ) → (start ≡ stateOf (g .state) .start → ⊥) → trimEffect g start ≡ trimTo g (stateOf (g .state)) start
+  unfolding trimEffect
+  moved start n = rw (ne-eqb start (stateOf (g .state) .start) n)
+
+  moved-size : (start : ℕ) → sizeOf (trimTo g (stateOf (g .state)) start) ≡ 68
+  unfolding sizeOf trimTo batchBytes
+  moved-size start =
+      let l : length (recordBytes (KW (header start (groups g) (homes g)))) ≡ 66 = length-KW (header start (groups g) (homes g)) (length-header start (groups g) (homes g)) in
+      rw (length-append, length-append, l, length-FN)
+
+  moved-ends : (start v code figure size : ℕ) (log state batch : List ℕ) → v ≡ 0 → code ≡ 0 → figure ≡ 0 → size ≡ 68
+      → log ≡ puts (g .log) 0 (header start (groups g) (homes g)) → state ≡ movedStrip (g .state) (stateOf (g .state)) start
+      → batch ≡ puts (g .batch) 0 (batchBytes (KW (header start (groups g) (homes g)) ∷ FN ∷ []))
+      → leaves code figure size log (g .area) state (g .block) batch ≡ outcome g v (trimTo g (stateOf (g .state)) start)
+  unfolding trimTo movedStrip keptLast sizeOf
+  moved-ends start v code figure size log state batch z h f s p q t =
+      done-by g (trimTo g (stateOf (g .state)) start) v code figure size log (g .area) state (g .block) batch z h f (s ∙ sym (moved-size start)) p refl q refl t
+
+  pub batch-refused : (start code figure size : ℕ) → askState g 0 ≡ 0 → start ≡ trimStart g → start ≤ 2 ^ 47 → (start ≡ stateOf (g .state) .start → ⊥)
+      → length (g .batch) < 68 → code ≡ 9 → figure ≡ 0 → size ≡ 0
+      → leaves code figure size (g .log) (g .area) (g .state) (g .block) (g .batch) ≡ trimCall g
+  unfolding trimCall trimAnswer startFits batchFits
+  batch-refused start code figure size a e l n b h f s =
+      rw (← e, moved start n)
+      (refused-by g _ _ code figure size
+      (h ∙ sym (state-passes g _ a ∙ ask-yes (leb start maxStart) 10 _ (le-leb start maxStart l) ∙ ask-no (leb (sizeOf (trimTo g (stateOf (g .state)) start)) (length (g .batch))) 9 0 (rw (moved-size start) (lt-leb 68 (length (g .batch)) b))))
+      (omega arith) f s)
+
+  pub start-moved : (st : State) (start code figure size : ℕ) (log state batch : List ℕ) → Usable (g .log) (g .area) (g .state) → askState g 0 ≡ 0
+      → st ≡ stateOf (g .state) → start ≡ trimStart g → start ≤ 2 ^ 47 → (start ≡ st .start → ⊥) → 68 ≤ length (g .batch) → code ≡ 0 → figure ≡ 0 → size ≡ 68
+      → log ≡ puts (g .log) 0 (header start (st .groups) (st .homes)) → state ≡ movedStrip (g .state) st start
+      → batch ≡ puts (g .batch) 0 (batchBytes (KW (header start (st .groups) (st .homes)) ∷ FN ∷ []))
+      → leaves code figure size log (g .area) state (g .block) batch ≡ trimCall g
+  unfolding trimCall trimAnswer startFits batchFits
+  start-moved st start code figure size log state batch u a es e l n b h f s p q t =
+      let o = u .order in
+      let eg : st .groups ≡ groups g = ap (λ (x : State). x .groups) es ∙ o .groups-same in
+      let ed : st .homes ≡ homes g = ap (λ (x : State). x .homes) es ∙ o .homes-same in
+      let y = ask-yes (leb (sizeOf (trimTo g (stateOf (g .state)) start)) (length (g .batch))) 9 0 (rw (moved-size start) (le-leb 68 (length (g .batch)) b)) in
+      rw (← e, moved start (λ z. n (z ∙ sym (ap (λ (x : State). x .start) es))))
+      (moved-ends start _ code figure size log state batch
+      (state-passes g _ a ∙ ask-yes (leb start maxStart) 10 _ (le-leb start maxStart l) ∙ y)
+      h f s (rw (eg, ed) at p) (rw es at q) (rw (eg, ed) at t))

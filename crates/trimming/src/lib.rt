@@ -1,0 +1,38 @@
+// The call trim: the log's start moves up to the highest group that no transaction lies across.
+mod moves;
+mod start;
+
+use answers::Reply;
+use moves::move_start;
+use start::new_start;
+ghost use mathlib.Core.Path.{_≡_};
+ghost use mathlib.Core.List.{[]};
+ghost use Rattle.model.specs.Calls.{trimCall};
+ghost use Rattle.answers.specs.Lent.{lent, leaves};
+
+// The highest group number that a log may start at.
+const MAX_START: u64 = 0x8000_0000_0000;
+
+// Moves the log's start up as far as no open or committed transaction lies across it, and writes the new header and a fence if it moves.
+pub fn trim(log: &mut [u8], area: &[u8], state: &mut [u8], batch: &mut [u8]) -> Reply
+    ensures { λ r. ⌜ leaves (r .code) (r .figure) (r .size) (now (log .exit)) (now (area .entry)) (now (state .exit)) [] (now (batch .exit))
+        ≡ trimCall (lent (now (log .entry)) (now (area .entry)) (now (state .entry)) [] (now (batch .entry)) 0 0) ⌝ }
+{
+    let code = answers::in_use(log, area, state);
+    if code != 0 {
+        return answers::refused(code);
+    }
+    let st = strip::state(state);
+    let start = new_start(log, area, state, st);
+    if MAX_START < start {
+        return answers::refused(10);
+    }
+    if start == st.start {
+        return answers::done(0, 0);
+    }
+    if batch.len() < 68 {
+        return answers::refused(9);
+    }
+    move_start(log, state, batch, st, start);
+    answers::done(0, 68)
+}

@@ -1,0 +1,50 @@
+// What a trim that moves the start writes: its batch, the header in the log copy, and the strip.
+use model::State;
+ghost use mathlib.Core.Path.{_≡_};
+ghost use mathlib.Core.List.{[], _∷_};
+ghost use Prim.Native.Nat.{_+_, _*_, _^_, _≤_, _<_};
+ghost use lib.ListN.{length};
+ghost use Rattle.model.specs.Bytes.{puts};
+ghost use Rattle.model.specs.Layout.{header};
+ghost use Rattle.model.specs.Batch.{KW, FN, batchBytes};
+ghost use Rattle.trimming.specs.Moved.{keptLast, movedStrip};
+
+// The last closing entry that is left in a log from a start on, 0 for none.
+fn kept_last(last: u64, start: u64) -> u64
+    requires { ⌜ start ≤ 2 ^ 47 ⌝ }
+    ensures { λ r. ⌜ r ≡ keptLast last start ⌝ }
+{
+    if last <= 7 * start { 0 } else { last }
+}
+
+// Puts the new start, the fenced position and the last closing entry into the strip.
+fn move_strip(state: &mut [u8], st: State, start: u64)
+    requires { ⌜ (length (now state) ≡ 1024) × (start ≤ 2 ^ 47) × (7 * st .next < 2 ^ 64) ⌝ }
+    ensures { λ _. ⌜ now (state .exit) ≡ movedStrip (now (state .entry)) st start ⌝ }
+{
+    strip::set_start(state, start);
+    strip::set_fenced(state, 7 * st.next);
+    let last = kept_last(st.last, start);
+    strip::set_last(state, last);
+}
+
+// Writes the new header and a fence into the batch.
+fn write_header(batch: &mut [u8], groups: u64, homes: u64, start: u64)
+    requires { ⌜ 68 ≤ length (now batch) ⌝ }
+    ensures { λ _. ⌜ now (batch .exit) ≡ puts (now (batch .entry)) 0 (batchBytes (KW (header start groups homes) ∷ FN ∷ [])) ⌝ }
+{
+    let at = batch::header_write(batch, 0, start, groups, homes);
+    batch::fence(batch, at);
+}
+
+// Moves the start: the batch, the header in the log copy, and the strip.
+pub fn move_start(log: &mut [u8], state: &mut [u8], batch: &mut [u8], st: State, start: u64)
+    requires { ⌜ (64 ≤ length (now log)) × (length (now state) ≡ 1024) × (68 ≤ length (now batch)) × (start ≤ 2 ^ 47) × (7 * st .next < 2 ^ 64) ⌝ }
+    ensures { λ _. ⌜ (now (log .exit) ≡ puts (now (log .entry)) 0 (header start (st .groups) (st .homes)))
+        × (now (state .exit) ≡ movedStrip (now (state .entry)) st start)
+        × (now (batch .exit) ≡ puts (now (batch .entry)) 0 (batchBytes (KW (header start (st .groups) (st .homes)) ∷ FN ∷ []))) ⌝ }
+{
+    write_header(batch, st.groups, st.homes, start);
+    areas::put_header(log, 0, start, st.groups, st.homes);
+    move_strip(state, st, start);
+}

@@ -1,0 +1,251 @@
+/*
+ * Kagutin: a crash-proof store of 64-byte blocks.
+ *
+ * Eight writers commit transactions of blocks into a log; power may fail at
+ * any instant. The library works on copies of two areas in ordinary memory:
+ *
+ *   log    a 64-byte header and G groups of 512 bytes, G from 4 to 1,024
+ *   area   D home blocks of 64 bytes, D from 1 to 4,096
+ *   state  1,024 bytes that carry everything else from call to call
+ *
+ * It reaches lasting memory only by the batch: records that a call asks the
+ * driver to write, in order. docs/FORMAT.md gives all bytes.
+ *
+ * The driver's duties. On them rests the promise that every opening brings
+ * back the longest run of commits whose entries all persisted, with every
+ * confirmed commit in it:
+ *
+ *  1. Run the batches in the order of the calls, each record in order. A
+ *     write (GW, HW, KW) persists whole or not at all. A fence (FN) passes
+ *     only when everything before it is in lasting memory; nothing after it
+ *     may persist earlier. Between two fences any write may overtake another.
+ *  2. Call confirm only when every fence of every batch so far has passed.
+ *  3. Pass log, area and state on untouched from call to call. Nobody else
+ *     writes them, or the lasting memory.
+ *  4. After the format and after every power cut, load both whole areas afresh
+ *     and open, before any other call, until an opening is done. After a done
+ *     opening do not open again before the next cut. What had not persisted at
+ *     a cut must never persist later.
+ *  5. Format once, before the first opening, and let its batch persist whole.
+ *
+ * Every call finishes. A refused call changes no lent byte, and its reply holds
+ * the answer and zeros. Bytes of the batch past reply.size stay as they were.
+ * Pointers must not be null, also with length 0, and lent memory must not
+ * overlap. All that passes from call to call is in the lent memory.
+ */
+#ifndef KAGUTIN_H
+#define KAGUTIN_H
+
+#include <stddef.h>
+#include <stdint.h>
+
+#ifdef __cplusplus
+extern "C" {
+#endif
+
+/* Sizes in bytes. */
+#define KAGUTIN_BLOCK_SIZE 64
+#define KAGUTIN_HEADER_SIZE 64
+#define KAGUTIN_GROUP_SIZE 512
+#define KAGUTIN_STATE_SIZE 1024
+
+/* Limits. */
+#define KAGUTIN_MIN_GROUPS 4
+#define KAGUTIN_MAX_GROUPS 1024
+#define KAGUTIN_MIN_HOMES 1
+#define KAGUTIN_MAX_HOMES 4096
+#define KAGUTIN_WRITERS 8
+#define KAGUTIN_GROUP_ENTRIES 7
+#define KAGUTIN_MAX_START ((uint64_t)1 << 47)
+
+/* Records of a batch: two bytes of mark, then what the record carries. */
+#define KAGUTIN_GW_SIZE 516 /* "GW", ring slot (2), group (512) */
+#define KAGUTIN_HW_SIZE 68  /* "HW", home (2), block (64) */
+#define KAGUTIN_KW_SIZE 66  /* "KW", header (64) */
+#define KAGUTIN_FN_SIZE 2   /* "FN" */
+
+/* Batches of the calls whose size does not depend on G and D. */
+#define KAGUTIN_STORE_BATCH KAGUTIN_GW_SIZE
+#define KAGUTIN_COMMIT_BATCH KAGUTIN_GW_SIZE
+#define KAGUTIN_FLUSH_BATCH (KAGUTIN_GW_SIZE + KAGUTIN_FN_SIZE)
+#define KAGUTIN_TRIM_BATCH (KAGUTIN_KW_SIZE + KAGUTIN_FN_SIZE)
+
+/* Answers. A call asks its questions in the order 1 to 8, 10, 9. */
+enum kagutin_answer {
+    KAGUTIN_DONE = 0,
+    KAGUTIN_BAD_LENGTH = 1,   /* log, area, state or block has a wrong length */
+    KAGUTIN_BAD_STATE = 2,    /* the state is out of order, or of other areas */
+    KAGUTIN_BAD_HEADER = 3,   /* open: the log's header is not one */
+    KAGUTIN_BAD_WRITER = 4,   /* writer above 7 */
+    KAGUTIN_BAD_HOME = 5,     /* home not below D */
+    KAGUTIN_NOT_IDLE = 6,     /* begin: the writer has a transaction open */
+    KAGUTIN_NOT_OPEN = 7,     /* store, commit, abort: it has none open */
+    KAGUTIN_FULL = 8,         /* no place left in the log for an entry */
+    KAGUTIN_SHORT_BATCH = 9,  /* the batch cannot hold what the call writes */
+    KAGUTIN_WORN_OUT = 10     /* open, trim: the new start would exceed 2^47 */
+};
+
+struct kagutin_reply {
+    uint64_t code;   /* one of enum kagutin_answer */
+    uint64_t figure; /* open: transactions; commit: ticket; confirm: mark */
+    uint64_t size;   /* bytes written to the front of the batch */
+};
+
+/* Length of the log area of G groups, and of the data area of D homes. */
+static inline size_t kagutin_log_size(size_t groups)
+{
+    return (size_t)KAGUTIN_HEADER_SIZE + (size_t)KAGUTIN_GROUP_SIZE * groups;
+}
+
+static inline size_t kagutin_area_size(size_t homes)
+{
+    return (size_t)KAGUTIN_BLOCK_SIZE * homes;
+}
+
+/* Exactly what format writes; no call writes more. */
+static inline size_t kagutin_format_batch(size_t groups, size_t homes)
+{
+    return (size_t)KAGUTIN_GW_SIZE * groups + (size_t)KAGUTIN_HW_SIZE * homes
+        + 2 * KAGUTIN_KW_SIZE + 3 * KAGUTIN_FN_SIZE;
+}
+
+/* The most that settle can write: one HW for each home with an entry, FN. */
+static inline size_t kagutin_settle_batch(size_t groups, size_t homes)
+{
+    size_t entries = (size_t)KAGUTIN_GROUP_ENTRIES * groups;
+
+    return (size_t)KAGUTIN_HW_SIZE * (homes < entries ? homes : entries) + KAGUTIN_FN_SIZE;
+}
+
+/* The most that open can write: the same, then the header and FN. */
+static inline size_t kagutin_open_batch(size_t groups, size_t homes)
+{
+    return kagutin_settle_batch(groups, homes) + KAGUTIN_KW_SIZE + KAGUTIN_FN_SIZE;
+}
+
+/* An answer in words. */
+static inline const char *kagutin_answer_text(uint64_t code)
+{
+    switch (code) {
+    case KAGUTIN_DONE: return "done";
+    case KAGUTIN_BAD_LENGTH: return "a lent length is wrong";
+    case KAGUTIN_BAD_STATE: return "the state is out of order";
+    case KAGUTIN_BAD_HEADER: return "the log's header is not one";
+    case KAGUTIN_BAD_WRITER: return "no such writer";
+    case KAGUTIN_BAD_HOME: return "no such home";
+    case KAGUTIN_NOT_IDLE: return "the writer has a transaction open";
+    case KAGUTIN_NOT_OPEN: return "the writer has no transaction open";
+    case KAGUTIN_FULL: return "the log is full";
+    case KAGUTIN_SHORT_BATCH: return "the batch is too short";
+    case KAGUTIN_WORN_OUT: return "the new start would exceed 2^47";
+    default: return "not an answer";
+    }
+}
+
+/*
+ * Makes both copies those of an empty store with all homes zero.
+ * Batch: KW of zeros, FN, every group and home as zeros, FN, header, FN.
+ * Answers 1, 9.
+ */
+struct kagutin_reply kagutin_format(
+    uint8_t *log, size_t log_size, uint8_t *area, size_t area_size,
+    uint8_t *batch, size_t batch_size);
+
+/*
+ * Replays the committed transactions of the log into the area, empties the
+ * log and writes the state anew, whatever it held. All writers are then idle.
+ * figure: number of transactions replayed.
+ * Batch: HW of each home touched, rising, FN, KW, FN.
+ * Answers 1, 3, 10, 9.
+ */
+struct kagutin_reply kagutin_open(
+    uint8_t *log, size_t log_size, uint8_t *area, size_t area_size,
+    uint8_t *state, size_t state_size, uint8_t *batch, size_t batch_size);
+
+/* Opens a transaction of an idle writer. Answers 1, 2, 4, 6. */
+struct kagutin_reply kagutin_begin(
+    const uint8_t *log, size_t log_size, const uint8_t *area, size_t area_size,
+    uint8_t *state, size_t state_size, uint64_t writer);
+
+/*
+ * Drops the writer's transaction; its entries in the log never count.
+ * Answers 1, 2, 4, 7.
+ */
+struct kagutin_reply kagutin_abort(
+    const uint8_t *log, size_t log_size, const uint8_t *area, size_t area_size,
+    uint8_t *state, size_t state_size, uint64_t writer);
+
+/*
+ * Adds a block for a home to the writer's transaction. The block is held in
+ * the state; storing the same home again replaces it, another home first logs
+ * the held one. A home may be stored any number of times; the last one counts.
+ * Batch: GW if the entry logged is the seventh of its group, else nothing.
+ * Answers 1, 2, 4, 5, 7, 8, 9. 8: flush, settle and trim make room, unless an
+ * open transaction holds the log; the transaction stays open and as it was.
+ */
+struct kagutin_reply kagutin_store(
+    uint8_t *log, size_t log_size, const uint8_t *area, size_t area_size,
+    uint8_t *state, size_t state_size, const uint8_t *block, size_t block_size,
+    uint8_t *batch, size_t batch_size, uint64_t writer, uint64_t home);
+
+/*
+ * Commits the writer's transaction: reads show it from now on, and it is
+ * durable once a confirm returns its ticket or more. The writer is then idle.
+ * figure: the ticket; 0 for a transaction without a store, which counts as no
+ * commit. Tickets rise until the next cut and mean nothing after it.
+ * Batch: as for store. Answers 1, 2, 4, 7, 8, 9.
+ */
+struct kagutin_reply kagutin_commit(
+    uint8_t *log, size_t log_size, const uint8_t *area, size_t area_size,
+    uint8_t *state, size_t state_size, uint8_t *batch, size_t batch_size,
+    uint64_t writer);
+
+/*
+ * Submits a part-filled group, if there is one, and fences.
+ * Batch: GW if so, FN. Answers 1, 2, 9.
+ */
+struct kagutin_reply kagutin_flush(
+    uint8_t *log, size_t log_size, const uint8_t *area, size_t area_size,
+    uint8_t *state, size_t state_size, uint8_t *batch, size_t batch_size);
+
+/*
+ * Says that every fence of every batch so far has passed.
+ * figure: the durable mark; commits with that ticket or less are durable.
+ * Answers 1, 2.
+ */
+struct kagutin_reply kagutin_confirm(
+    const uint8_t *log, size_t log_size, const uint8_t *area, size_t area_size,
+    uint8_t *state, size_t state_size);
+
+/*
+ * Writes home what is committed and fenced, so that trim can free its groups.
+ * Batch: HW of each such home, rising, FN. Answers 1, 2, 9.
+ */
+struct kagutin_reply kagutin_settle(
+    const uint8_t *log, size_t log_size, uint8_t *area, size_t area_size,
+    uint8_t *state, size_t state_size, uint8_t *batch, size_t batch_size);
+
+/*
+ * Frees the groups below the settled position that no open or committed
+ * transaction reaches across. Batch: KW, FN if any is freed, else nothing.
+ * Answers 1, 2, 10, 9.
+ */
+struct kagutin_reply kagutin_trim(
+    uint8_t *log, size_t log_size, const uint8_t *area, size_t area_size,
+    uint8_t *state, size_t state_size, uint8_t *batch, size_t batch_size);
+
+/*
+ * Gives a home's block as the writer sees it: its own newest one if its open
+ * transaction stored one, else the newest committed one. An idle writer reads
+ * what is committed. Only the block is changed. Answers 1, 2, 4, 5.
+ */
+struct kagutin_reply kagutin_read(
+    const uint8_t *log, size_t log_size, const uint8_t *area, size_t area_size,
+    const uint8_t *state, size_t state_size, uint8_t *block, size_t block_size,
+    uint64_t writer, uint64_t home);
+
+#ifdef __cplusplus
+}
+#endif
+
+#endif
