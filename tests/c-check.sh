@@ -53,6 +53,10 @@ else
     echo "skipped header as C++: no g++"
 fi
 
+# --- stack of each call ---
+gives 0 "stack: built" "$cc" -std=c99 -D_GNU_SOURCE -Wall -Wextra -pedantic -O2 -Iinclude tests/stack.c "$lib" -o "$tmp/stack"
+gives 0 "stack: every call below 32 KiB" "$tmp/stack"
+
 # --- quick start, driver, station ---
 gives 0 "quick start" "$san/quickstart"
 grep -q 'durable' "$tmp/out"; report $? "quick start: durable"

@@ -1,0 +1,96 @@
+/* Deepest stack of each call in bytes, on a painted stack, at G 1,024 and D 4,096 with a full log. Status 1 above 32 KiB. */
+#include <stdio.h>
+#include <stdlib.h>
+#include <string.h>
+#include <ucontext.h>
+
+#include "kagutin.h"
+
+enum { GROUPS = 1024, HOMES = 4096, STACK = 1 << 18, LIMIT = 32768 };
+enum { FORMAT, OPEN, BEGIN, STORE, COMMIT, FLUSH, CONFIRM, SETTLE, TRIM, READ, ABORT, EMPTY };
+
+static uint8_t log_area[KAGUTIN_HEADER_SIZE + KAGUTIN_GROUP_SIZE * GROUPS], area[KAGUTIN_BLOCK_SIZE * HOMES];
+static uint8_t state[KAGUTIN_STATE_SIZE], block[KAGUTIN_BLOCK_SIZE], batch[1 << 20];
+static unsigned char stack[STACK];
+static ucontext_t main_context, call_context;
+static int which;
+static uint64_t who, where;
+static struct kagutin_reply reply;
+
+#define AREAS log_area, sizeof log_area, area, sizeof area
+#define STATE state, sizeof state
+#define BATCH batch, sizeof batch
+
+static void body(void)
+{
+    switch (which) {
+    case FORMAT: reply = kagutin_format(AREAS, BATCH); break;
+    case OPEN: reply = kagutin_open(AREAS, STATE, BATCH); break;
+    case BEGIN: reply = kagutin_begin(AREAS, STATE, who); break;
+    case STORE: reply = kagutin_store(AREAS, STATE, block, sizeof block, BATCH, who, where); break;
+    case COMMIT: reply = kagutin_commit(AREAS, STATE, BATCH, who); break;
+    case FLUSH: reply = kagutin_flush(AREAS, STATE, BATCH); break;
+    case CONFIRM: reply = kagutin_confirm(AREAS, STATE); break;
+    case SETTLE: reply = kagutin_settle(AREAS, STATE, BATCH); break;
+    case TRIM: reply = kagutin_trim(AREAS, STATE, BATCH); break;
+    case READ: reply = kagutin_read(AREAS, STATE, block, sizeof block, who, where); break;
+    case ABORT: reply = kagutin_abort(AREAS, STATE, who); break;
+    default: break;
+    }
+}
+
+static size_t deepest[EMPTY + 1];
+
+/* Runs one call on the painted stack and returns its answer. */
+static uint64_t call(int k)
+{
+    size_t n = 0;
+
+    memset(stack, 0xa5, sizeof stack);
+    which = k;
+    getcontext(&call_context);
+    call_context.uc_stack.ss_sp = stack;
+    call_context.uc_stack.ss_size = sizeof stack;
+    call_context.uc_link = &main_context;
+    makecontext(&call_context, body, 0);
+    swapcontext(&main_context, &call_context);
+    while (n < sizeof stack && stack[n] == 0xa5)
+        n++;
+    if (sizeof stack - n > deepest[k])
+        deepest[k] = sizeof stack - n;
+    return reply.code;
+}
+
+int main(void)
+{
+    static const char *names[] = { "format", "open", "begin", "store", "commit", "flush", "confirm", "settle", "trim", "read",
+                                   "abort" };
+    int k, over = 0;
+    unsigned i;
+
+    call(EMPTY);
+    call(FORMAT);
+    call(OPEN);
+    for (i = 0; i < 7 * GROUPS; i++) { /* until the log is full */
+        who = i % KAGUTIN_WRITERS;
+        call(BEGIN);
+        where = (i * 7) % HOMES;
+        call(STORE);
+        where = (where + 1) % HOMES;
+        if (call(STORE) || call(COMMIT))
+            break;
+    }
+    call(ABORT);
+    call(FLUSH);
+    call(CONFIRM);
+    call(READ);
+    call(SETTLE);
+    call(TRIM);
+    call(OPEN);
+    for (k = 0; k < EMPTY; k++) {
+        printf("%-8s %zu\n", names[k], deepest[k]);
+        if (deepest[k] > LIMIT)
+            over = 1;
+    }
+    return over;
+}
