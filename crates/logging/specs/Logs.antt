@@ -31,7 +31,7 @@ pub record Fits (st : State) (r : Writer) (position : ℕ) : Type 0 where
   pub upto : firstFor r position ≤ position
   pub near : position < firstFor r position + 2 ^ 13
   pub many : countFor r + 1 < 2 ^ 13
-  pub high : position + 1 < 2 ^ 64
+  pub high : position + 1 < 2 ^ 63
   pub before : st .last ≤ position + 1
   pub link : linkFrom position st < 2 ^ 13
 

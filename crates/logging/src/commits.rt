@@ -7,7 +7,7 @@ use model::State;
 use model::Writer;
 ghost use mathlib.Core.Path.{_≡_};
 ghost use mathlib.Core.List.{[]};
-ghost use Prim.Native.Nat.{_+_, _<_};
+ghost use Prim.Native.Nat.{_<_};
 ghost use lib.ListN.{length};
 ghost use Rattle.model.specs.State.{nextPosition, setWriter, idle};
 ghost use Rattle.model.specs.Effects.{commitEffect};

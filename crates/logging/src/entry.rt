@@ -3,8 +3,7 @@ use model::State;
 use model::Writer;
 ghost use mathlib.Core.Path.{_≡_};
 ghost use mathlib.Core.Bool.{cond};
-ghost use Prim.Native.Nat.{_+_, _-_, _*_, _^_, _<_, _≤_};
-ghost use lib.ListN.{length};
+ghost use Prim.Native.Nat.{_+_, _-_, _^_, _<_, _≤_};
 ghost use lib.Dec.{eqb, leb, ltb};
 ghost use Rattle.model.specs.State.{heldOf, firstFor, countFor, logging};
 ghost use Rattle.model.specs.Tag.{entryWord, closingWord};
@@ -63,7 +62,7 @@ pub fn store_word(st: State, r: Writer, position: u64) -> u64
 
 // The distance from `position` back to the last closing entry, 0 if there is none.
 pub fn link_from(position: u64, st: State) -> u64
-    requires { ⌜ (st .last ≤ position + 1) × (position + 1 < 2 ^ 64) ⌝ }
+    requires { ⌜ (st .last ≤ position + 1) × (position + 1 < 2 ^ 63) ⌝ }
     ensures { λ x. ⌜ x ≡ linkFrom position st ⌝ }
 {
     if st.last == 0 {

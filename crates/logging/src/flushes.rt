@@ -1,5 +1,4 @@
 // Flush: a part-filled group is handed on, then a fence.
-
 use answers::Reply;
 use model::State;
 ghost use mathlib.Core.Path.{_≡_};

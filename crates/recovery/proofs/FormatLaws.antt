@@ -3,19 +3,18 @@ use mathlib.Core.Path.{_≡_, refl, sym, ap, _∙_}
 use mathlib.Core.Bool.{Bool, true, false, _&&_}
 use mathlib.Core.Logic.{_≢_}
 use mathlib.Core.List.{List, []}
-use Prim.Native.Nat.{ℕ, zero, suc, _+_, _*_, _≤_, _<_}
+use Prim.Native.Nat.{ℕ, _+_, _*_, _≤_, _<_}
 use native.Mathlib.Omega.{arith}
-use lib.Dec.{leb}
 use lib.ListN.{length}
 use borrow.Author.Tests.{le-leb, lt-leb}
 use Rattle.model.specs.Bytes.{puts, zeros}
 use Rattle.model.specs.Layout.{groupsIn, homesIn, logLengthRight, dataLengthRight, header}
 use Rattle.model.specs.Batch.{batchBytes}
-use Rattle.model.specs.Effects.{Given, Effect, formatEffect, formatted, formattedLog}
-use Rattle.model.specs.Questions.{ask, areasRight, batchFits, formatAnswer}
-use Rattle.model.specs.Calls.{Outcome, sizeOf, formatCall}
+use Rattle.model.specs.Effects.{Given, formatEffect, formatted, formattedLog}
+use Rattle.model.specs.Questions.{areasRight, batchFits, formatAnswer}
+use Rattle.model.specs.Calls.{sizeOf, formatCall}
 use Rattle.model.proofs.ByteLaws.{puts-whole, length-zeros}
-use Rattle.model.proofs.QuestionLaws.{ask-yes, ask-no, ask-passed, and-true}
+use Rattle.model.proofs.QuestionLaws.{ask-yes, ask-no, ask-passed}
 use Rattle.model.proofs.OrderLaws.{tests}
 use Rattle.batch.proofs.FormatLaws.{length-formatted}
 use Rattle.answers.specs.Lent.{lent, leaves}

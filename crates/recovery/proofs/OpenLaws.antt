@@ -3,19 +3,18 @@ use mathlib.Core.Path.{_≡_, refl, sym, ap, _∙_}
 use mathlib.Core.Bool.{Bool, true, false, not, _&&_}
 use mathlib.Core.Logic.{_≢_}
 use mathlib.Core.List.{List, [], _∷_, _++_, append-nil}
-use Prim.Native.Nat.{ℕ, zero, suc, _+_, _-_, _*_, _^_, _≤_, _<_}
+use Prim.Native.Nat.{ℕ, _+_, _-_, _*_, _^_, _≤_, _<_}
 use native.Mathlib.Omega.{arith}
 use lib.Dec.{eqb, leb}
 use lib.ListN.{length, length-append}
 use borrow.Author.Tests.{not-true, not-false, le-leb, lt-leb}
 use Rattle.model.specs.Bytes.{puts}
-use Rattle.model.specs.Layout.{groupsIn, homesIn, maxStart, logLengthRight, dataLengthRight, header, headerStart, headerRight, entryAt}
-use Rattle.model.specs.Commit.{transactions}
+use Rattle.model.specs.Layout.{groupsIn, homesIn, logLengthRight, dataLengthRight, header, headerStart, headerRight, entryAt}
 use Rattle.model.specs.Batch.{FN, KW, recordBytes, batchBytes}
 use Rattle.model.specs.State.{freshState}
-use Rattle.model.specs.Effects.{Given, marked, replayed, touched, homeWrites, openTags, openStart, openEffect}
+use Rattle.model.specs.Effects.{Given, marked, replayed, homeWrites, openTags, openStart, openEffect}
 use Rattle.model.specs.Questions.{ask, areasRight, stateRight, headerFits, startFits, batchFits, openAnswer}
-use Rattle.model.specs.Calls.{Outcome, sizeOf, openCall}
+use Rattle.model.specs.Calls.{sizeOf, openCall}
 use Rattle.model.specs.declared.Tag.{Tag}
 use Rattle.model.proofs.ByteLaws.{puts-append}
 use Rattle.model.proofs.LayoutLaws.{length-header}
@@ -147,17 +146,17 @@ openable log area state v e z =
 pub area-homes : (log area state : List ℕ) (homes : ℕ) → Openable log area state → homes ≡ homesIn (length area) → length area ≡ 64 * homes
 area-homes log area state homes k e = omega arith
 
-pub open-searchable : (log area state : List ℕ) (groups homes start : ℕ) → Openable log area state
+pub open-searchable : (log area state : List ℕ) (groups homes start n : ℕ) → Openable log area state
     → (groups ≡ groupsIn (length log)) × (homes ≡ homesIn (length area)) × (start ≡ headerStart log) × (start < 2 ^ 48)
-    → Searchable log groups homes start (7 * groups)
-open-searchable log area state groups homes start k q =
+    → n ≤ 7 * groups → Searchable log groups homes start n
+open-searchable log area state groups homes start n k q h =
     record {
       long = omega arith;
       least = omega arith;
       most = omega arith;
       homes-most = omega arith;
       low = omega arith;
-      within = omega arith;
+      within = h;
     }
 
 -- ---- the records after those of the homes

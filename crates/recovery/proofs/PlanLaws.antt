@@ -1,26 +1,26 @@
 -- What the walk and the marks give together: the committed transactions and the homes that they touch; and the records of those homes with
 -- what follows them. Assumes nothing.
 use mathlib.Core.Path.{_≡_, refl, sym, ap, _∙_}
-use mathlib.Core.Bool.{Bool, true, false, cond, _||_}
+use mathlib.Core.Bool.{Bool, true, false, _||_}
 use mathlib.Core.Logic.{_⊎_, inl, inr}
 use mathlib.Core.List.{List, [], _∷_, _++_}
-use mathlib.Core.Option.{Option, none, some}
-use Prim.Native.Nat.{ℕ, zero, suc, _+_, _-_, _*_, _^_, _≤_, _<_}
+use mathlib.Core.Option.{none, some}
+use Prim.Native.Nat.{ℕ, suc, _+_, _-_, _*_, _≤_, _<_}
 use native.Mathlib.Omega.{arith}
 use lib.Dec.{eqb, leb}
 use lib.ListN.{length, replicate, length-append}
 use borrow.Author.Tests.{leb-true, leb-false, ne-eqb}
 use Rattle.model.specs.Bytes.{puts}
 use Rattle.model.specs.Tag.{homeOf}
-use Rattle.model.specs.Layout.{entryAt, header}
+use Rattle.model.specs.Layout.{entryAt}
 use Rattle.model.specs.Commit.{Span, committed, eachEntries, transactions, newestIn, orElse, newest, found}
-use Rattle.model.specs.Batch.{Record, FN, KW, recordBytes, batchBytes}
+use Rattle.model.specs.Batch.{Record, FN, recordBytes, batchBytes}
 use Rattle.model.specs.Effects.{marked, touched, replayed, homeWrites}
 use Rattle.model.specs.declared.Tag.{Tag}
 use Rattle.model.proofs.ByteLaws.{puts-append}
 use Rattle.model.proofs.BatchLaws.{batch-append, batch-one}
 use Rattle.model.proofs.TraceLaws.{All}
-use Rattle.model.proofs.Closings.{endOf, closings}
+use Rattle.model.proofs.Closings.{endOf}
 use Rattle.model.proofs.ClosingLaws.{committed-closings, committed-within}
 use Rattle.model.proofs.ReplayLaws.{Good, good-found, length-replayed}
 use Rattle.bitmap.specs.Marks.{marks}
@@ -128,16 +128,6 @@ module _ (log map m : List ℕ) (groups homes start n end number count : ℕ) (s
 -- ---- the records of the homes
 
 module _ (log area map batch : List ℕ) (groups homes start end more : ℕ) (r : Replayable log area map batch groups homes start end more) where
-  pub replayable : Replayable log area map batch groups homes start end 0
-  replayable =
-      record {
-        walkable = r .walkable;
-        area-length = r .area-length;
-        within = r .within;
-        words = r .words;
-        batch-length = let l = r .batch-length in omega arith;
-      }
-
   -- after replay, whatever is replayed
   pub restored-within : (a : List ℕ) (tags : ℕ → Tag) (ts : List (List ℕ)) → a ≡ replayed log groups tags ts area → (h : ℕ) → marks map h ≡ true
       → 64 * h + 64 ≤ length a

@@ -1,6 +1,5 @@
 -- Settle: what its first questions give, what it does to the strip and the batch, and how the call ends. Assumes nothing.
 use mathlib.Core.Path.{_≡_, refl, sym, ap, _∙_}
-use mathlib.Core.Bool.{Bool, true, false}
 use mathlib.Core.Logic.{_≢_}
 use mathlib.Core.List.{List, [], _∷_, _++_}
 use Prim.Native.Nat.{ℕ, _+_, _-_, _*_, _^_, _≤_, _<_}
@@ -9,13 +8,12 @@ use lib.ListN.{length}
 use borrow.Author.Tests.{le-leb, lt-leb}
 use Rattle.model.specs.Bytes.{puts}
 use Rattle.model.specs.Layout.{groupsIn, homesIn, entryAt}
-use Rattle.model.specs.Commit.{transactions}
-use Rattle.model.specs.Batch.{FN, recordBytes, batchBytes}
+use Rattle.model.specs.Batch.{FN, batchBytes}
 use Rattle.model.specs.declared.State.{State}
 use Rattle.model.specs.State.{stateOf, setSettled, setFenced}
-use Rattle.model.specs.Effects.{Given, marked, replayed, touched, homeWrites, liveTags, liveBase, settleEffect}
+use Rattle.model.specs.Effects.{Given, marked, replayed, homeWrites, liveTags, liveBase, settleEffect}
 use Rattle.model.specs.Questions.{ask, askState, batchFits, settleAnswer}
-use Rattle.model.specs.Calls.{Outcome, sizeOf, settleCall}
+use Rattle.model.specs.Calls.{sizeOf, settleCall}
 use Rattle.model.proofs.BatchLaws.{batch-one, length-FN}
 use Rattle.model.proofs.QuestionLaws.{ask-yes, ask-no}
 use Rattle.model.proofs.OrderLaws.{InOrder}
@@ -23,8 +21,8 @@ use Rattle.bitmap.specs.Marks.{marks}
 use Rattle.replay.specs.Walk.{closedBelow}
 use Rattle.answers.specs.Lent.{lent, leaves}
 use Rattle.answers.proofs.AnswerLaws.{Usable, state-usable, state-only, state-refuses, state-passes, refused-by, done-by}
-use Rattle.recovery.specs.Plans.{Searchable, Planned, Replayable}
-use Rattle.recovery.proofs.PlanLaws.{plan-replayable, plan-size, plan-area, plan-batch}
+use Rattle.recovery.specs.Plans.{Searchable, Planned}
+use Rattle.recovery.proofs.PlanLaws.{plan-size, plan-area, plan-batch}
 
 -- ---- the numbers of a strip in order
 
@@ -62,16 +60,16 @@ numbers log area state code st e z f =
 pub state-length : (log area state : List ℕ) (code : ℕ) → code ≡ askState (lent log area state [] [] 0 0) 0 → code ≡ 0 → length state ≡ 1024
 state-length log area state code e z = state-usable (lent log area state [] [] 0 0) (sym e ∙ z) .state-length
 
-pub settle-searchable : (log area state : List ℕ) (st : State) → Numbers log area state st
-    → Searchable log (st .groups) (st .homes) (st .start) (st .fenced - 7 * st .start)
-settle-searchable log area state st k =
+pub settle-searchable : (log area state : List ℕ) (st : State) (n : ℕ) → Numbers log area state st → n ≤ 7 * st .groups
+    → Searchable log (st .groups) (st .homes) (st .start) n
+settle-searchable log area state st n k h =
     record {
       long = k .log-length;
       least = k .groups-least;
       most = k .groups-most;
       homes-most = k .homes-most;
       low = k .start-most;
-      within = omega arith;
+      within = h;
     }
 
 -- ---- how the call ends

@@ -2,10 +2,9 @@
 use answers::Reply;
 ghost use mathlib.Core.Path.{_≡_};
 ghost use mathlib.Core.List.{[]};
-ghost use Prim.Native.Nat.{_+_, _*_, _≤_};
+ghost use Prim.Native.Nat.{_+_, _*_};
 ghost use lib.ListN.{length};
 ghost use Rattle.model.specs.Bytes.{zeros};
-ghost use Rattle.model.specs.Layout.{groupsIn, homesIn};
 ghost use Rattle.model.specs.Effects.{formatEffect, formattedLog};
 ghost use Rattle.model.specs.Questions.{formatAnswer};
 ghost use Rattle.model.specs.Calls.{sizeOf, formatCall};

@@ -23,8 +23,9 @@ fn settle_state(state: &mut [u8], st: State)
     requires { ⌜ (length (now state) ≡ 1024) × (7 * st .next < 2 ^ 64) ⌝ }
     ensures { λ _. ⌜ now (state .exit) ≡ setFenced (setSettled (now (state .entry)) (st .fenced)) (7 * st .next) ⌝ }
 {
+    let next = 7 * st.next;
     strip::set_settled(state, st.fenced);
-    strip::set_fenced(state, 7 * st.next);
+    strip::set_fenced(state, next);
 }
 
 // Replays what closes below `end` into the data copy, and writes the records of the marked homes and a fence.

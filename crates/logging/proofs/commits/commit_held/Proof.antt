@@ -35,7 +35,15 @@ same-length-3 : tie.Need-same-length-3
 same-length-3 c = search needs
 
 returns : tie.Need-returns
-returns c = committed _ _ _ _ _ _ _ _ _ _ _ _ _ _ _ (c .before .before .before .before .before .before .before .before .before .before .before .before .before .before .before .before .before .before .before .before .next-position .ensures) (c .before .before .before .before .before .before .before .before .before .before .before .before .before .before .before .before .before .before .before .closing-word .ensures) (c .before .before .before .before .before .before .before .before .before .before .before .before .before .before .before .log-entry .ensures) (c .before .before .before .before .before .before .before .set-last .ensures) (c .before .before .before .idle .ensures) (c .before .before .set-writer .ensures)
+returns c =
+    let c6 = c .before .before in
+    let c5 = c6 .before in
+    let c4 = c5 .before .before .before .before in
+    let c3 = c4 .before .before .before .before .before .before .before .before in
+    let c2 = c3 .before .before .before .before in
+    let c1 = c2 .before in
+    committed _ _ _ _ _ _ _ _ _ _ _ _ _ _ _ (c1 .next-position .ensures) (c2 .closing-word .ensures) (c3 .log-entry .ensures)
+    (c4 .set-last .ensures) (c5 .idle .ensures) (c6 .set-writer .ensures)
 
 pub commit-held-spec : {M : Type 1} → statement M
 commit-held-spec =

@@ -13,36 +13,79 @@ returns : tie.Need-returns
 returns c = refuses _ _ _ _ _ _ (c .before .in-use .ensures) (c .if1 .taken)
 
 returns-2 : tie.Need-returns-2
-returns-2 c = writer-no _ _ _ _ (c .before .before .before .before .before .before .before .args .writer) _ (c .before .before .in-use .ensures) (c .before .if1 .left) (omega arith)
+returns-2 c =
+    let c3 = c .before in
+    let c2 = c3 .before in
+    let c1 = c2 .before .before .before .before .before in
+    writer-no _ _ _ _ (c1 .args .writer) _ (c2 .in-use .ensures) (c3 .if1 .left) (omega arith)
 
 writer-requires : tie.Need-writer-requires
-writer-requires c κs = let a = c .before .before .before .before .before .before .before .args in
-    let u = lent-use (a .log .now) (a .area .now) (a .state .now) (a .batch .now) (a .writer) _ (c .before .before .in-use .ensures) (c .before .if1 .left) in
+writer-requires c κs =
+    let c3 = c .before in
+    let c2 = c3 .before in
+    let c1 = c2 .before .before .before .before .before in
+    let a = c1 .args in
+    let u = lent-use (a .log .now) (a .area .now) (a .state .now) (a .batch .now) (a .writer) _ (c2 .in-use .ensures) (c3 .if1 .left) in
     (u .state-length, omega arith)
 
 is-open-requires : tie.Need-is-open-requires
 is-open-requires c κs = search needs
 
 returns-3 : tie.Need-returns-3
-returns-3 c = open-no _ _ _ _ (c .before .before .before .before .before .before .before .before .before .before .args .writer) _ (c .before .before .before .before .before .in-use .ensures) (c .before .before .before .before .if1 .left) _ _ (omega arith) (c .before .before .writer .ensures) (c .before .is-open .ensures) (c .if3 .taken)
+returns-3 c =
+    let c5 = c .before in
+    let c4 = c5 .before in
+    let c3 = c4 .before .before in
+    let c2 = c3 .before in
+    let c1 = c2 .before .before .before .before .before in
+    open-no _ _ _ _ (c1 .args .writer) _ (c2 .in-use .ensures) (c3 .if1 .left) _ _ (omega arith) (c4 .writer .ensures)
+    (c5 .is-open .ensures) (c .if3 .taken)
 
 holds-requires : tie.Need-holds-requires
 holds-requires c κs = search needs
 
 returns-4 : tie.Need-returns-4
-returns-4 c = none-yes _ _ _ _ (c .before .before .before .before .before .before .before .before .before .before .before .before .args .writer) _ (c .before .before .before .before .before .before .before .in-use .ensures) (c .before .before .before .before .before .before .if1 .left) _ _ (omega arith) (c .before .before .before .before .writer .ensures) (c .before .before .before .is-open .ensures) _ (c .before .before .if3 .left) (c .before .holds .ensures) (c .if4 .taken)
+returns-4 c =
+    let c7 = c .before in
+    let c6 = c7 .before in
+    let c5 = c6 .before in
+    let c4 = c5 .before in
+    let c3 = c4 .before .before in
+    let c2 = c3 .before in
+    let c1 = c2 .before .before .before .before .before in
+    none-yes _ _ _ _ (c1 .args .writer) _ (c2 .in-use .ensures) (c3 .if1 .left) _ _ (omega arith) (c4 .writer .ensures)
+    (c5 .is-open .ensures) _ (c6 .if3 .left) (c7 .holds .ensures) (c .if4 .taken)
 
 state-requires : tie.Need-state-requires
-state-requires c κs = let a = c .before .before .before .before .before .before .before .before .before .before .before .before .args in
-    lent-use (a .log .now) (a .area .now) (a .state .now) (a .batch .now) (a .writer) _ (c .before .before .before .before .before .before .before .in-use .ensures) (c .before .before .before .before .before .before .if1 .left) .state-length
+state-requires c κs =
+    let c3 = c .before .before .before .before .before .before in
+    let c2 = c3 .before in
+    let c1 = c2 .before .before .before .before .before in
+    let a = c1 .args in
+    lent-use (a .log .now) (a .area .now) (a .state .now) (a .batch .now) (a .writer) _ (c2 .in-use .ensures) (c3 .if1 .left) .state-length
 
 may-log-requires : tie.Need-may-log-requires
-may-log-requires c κs = let a = c .before .before .before .before .before .before .before .before .before .before .before .before .before .args in
-    let u = lent-use (a .log .now) (a .area .now) (a .state .now) (a .batch .now) (a .writer) _ (c .before .before .before .before .before .before .before .before .in-use .ensures) (c .before .before .before .before .before .before .before .if1 .left) in
+may-log-requires c κs =
+    let c3 = c .before .before .before .before .before .before .before in
+    let c2 = c3 .before in
+    let c1 = c2 .before .before .before .before .before in
+    let a = c1 .args in
+    let u = lent-use (a .log .now) (a .area .now) (a .state .now) (a .batch .now) (a .writer) _ (c2 .in-use .ensures) (c3 .if1 .left) in
     sums _ _ _ _ u (c .state .ensures)
 
 returns-5 : tie.Need-returns-5
-returns-5 c = held-asks _ _ _ _ (c .before .before .before .before .before .before .before .before .before .before .before .before .before .before .args .writer) _ (c .before .before .before .before .before .before .before .before .before .in-use .ensures) (c .before .before .before .before .before .before .before .before .if1 .left) _ _ (omega arith) (c .before .before .before .before .before .before .writer .ensures) (c .before .before .before .before .before .is-open .ensures) _ _ _ (c .before .before .before .before .if3 .left) (c .before .before .before .holds .ensures) (c .before .before .if4 .left) (c .before .state .ensures) (c .may-log .ensures)
+returns-5 c =
+    let c9 = c .before in
+    let c8 = c9 .before in
+    let c7 = c8 .before in
+    let c6 = c7 .before in
+    let c5 = c6 .before in
+    let c4 = c5 .before in
+    let c3 = c4 .before .before in
+    let c2 = c3 .before in
+    let c1 = c2 .before .before .before .before .before in
+    held-asks _ _ _ _ (c1 .args .writer) _ (c2 .in-use .ensures) (c3 .if1 .left) _ _ (omega arith) (c4 .writer .ensures)
+    (c5 .is-open .ensures) _ _ _ (c6 .if3 .left) (c7 .holds .ensures) (c8 .if4 .left) (c9 .state .ensures) (c .may-log .ensures)
 
 pub commit-verdict-spec : {M : Type 1} → statement M
 commit-verdict-spec =

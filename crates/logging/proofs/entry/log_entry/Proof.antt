@@ -35,8 +35,10 @@ part-enter-end : tie.Need-part-enter-end
 part-enter-end c = search needs
 
 enter-requires : tie.Need-enter-requires
-enter-requires c κs = let m = c .before .before .before .before .before .before .before .pre in
-    let a = c .before .before .before .before .before .before .before .args in
+enter-requires c κs =
+    let c1 = c .before .before .before .before .before .before .before in
+    let m = c1 .pre in
+    let a = c1 .args in
     let f = slot-fits (a .st .next) (a .st .groups) (length (a .log .now)) (omega (arith, m .some)) (omega (arith, m .log)) in
     (f, omega (arith, m .filled), ap length (held-lent (a .state .now) (a .w) _ refl) ∙ held-size (a .state .now) (a .w) (m .strip) (m .writer))
 
@@ -53,7 +55,12 @@ same-length-2 : tie.Need-same-length-2
 same-length-2 c = search needs
 
 returns : tie.Need-returns
-returns c = kept _ _ _ _ _ (c .before .before .before .before .before .before .before .before .before .before .before .before .before .before .before .before .before .pre) _ _ (held-lent _ _ _ refl) _ _ (c .before .before .before .before .before .if1 .taken) (c .before .before .before .before .before .before .before .before .before .enter .ensures) (c .before .before .set-filled .ensures)
+returns c =
+    let c4 = c .before .before in
+    let c3 = c4 .before .before .before in
+    let c2 = c3 .before .before .before .before in
+    let c1 = c2 .before .before .before .before .before .before .before .before in
+    kept _ _ _ _ _ (c1 .pre) _ _ (held-lent _ _ _ refl) _ _ (c3 .if1 .taken) (c2 .enter .ensures) (c4 .set-filled .ensures)
 
 add-set-next : tie.Need-add-set-next
 add-set-next c = search needs
@@ -65,11 +72,15 @@ set-filled-requires-2 : tie.Need-set-filled-requires-2
 set-filled-requires-2 c κs = search needs
 
 group-write-requires : tie.Need-group-write-requires
-group-write-requires c κs = let m = c .before .before .before .before .before .before .before .before .before .before .before .before .before .before .before .before .before .before .before .before .before .before .before .pre in
-    let a = c .before .before .before .before .before .before .before .before .before .before .before .before .before .before .before .before .before .before .before .before .before .before .before .args in
+group-write-requires c κs =
+    let c3 = c .before .before .before .before .before .before .before .before .before .before .before in
+    let c2 = c3 .before .before .before .before in
+    let c1 = c2 .before .before .before .before .before .before .before .before in
+    let m = c1 .pre in
+    let a = c1 .args in
     let f = slot-fits (a .st .next) (a .st .groups) (length (a .log .now)) (omega (arith, m .some)) (omega (arith, m .log)) in
-    let g = m .batch (omega (arith, c .before .before .before .before .before .before .before .before .before .before .before .if1 .left)) in
-    let e = ap length (c .before .before .before .before .before .before .before .before .before .before .before .before .before .before .before .enter .ensures) ∙ length-entered _ _ _ _ _ in
+    let g = m .batch (omega (arith, c3 .if1 .left)) in
+    let e = ap length (c2 .enter .ensures) ∙ length-entered _ _ _ _ _ in
     (omega arith, omega arith)
 
 same-length-3 : tie.Need-same-length-3
@@ -82,7 +93,15 @@ same-length-5 : tie.Need-same-length-5
 same-length-5 c = search needs
 
 returns-2 : tie.Need-returns-2
-returns-2 c = handed _ _ _ _ _ (c .before .before .before .before .before .before .before .before .before .before .before .before .before .before .before .before .before .before .before .before .before .before .before .before .before .before .pre) _ _ (held-lent _ _ _ refl) _ _ _ _ _ (omega (arith, c .before .before .before .before .before .before .before .before .before .before .before .before .before .before .if1 .left)) (c .before .before .before .before .before .before .before .before .before .before .before .before .before .before .before .before .before .before .enter .ensures) (c .before .before .before .before .before .before .before .before .before .before .before .set-next .ensures) (c .before .before .before .before .before .before .before .set-filled2 .ensures) (c .before .before .group-write .ensures .0) (c .before .before .group-write .ensures .1)
+returns-2 c =
+    let c6 = c .before .before in
+    let c5 = c6 .before .before .before .before .before in
+    let c4 = c5 .before .before .before .before in
+    let c3 = c4 .before .before .before in
+    let c2 = c3 .before .before .before .before in
+    let c1 = c2 .before .before .before .before .before .before .before .before in
+    handed _ _ _ _ _ (c1 .pre) _ _ (held-lent _ _ _ refl) _ _ _ _ _ (omega (arith, c3 .if1 .left)) (c2 .enter .ensures)
+    (c4 .set-next .ensures) (c5 .set-filled2 .ensures) (c6 .group-write .ensures .0) (c6 .group-write .ensures .1)
 
 pub log-entry-spec : {M : Type 1} → statement M
 log-entry-spec =

@@ -13,15 +13,21 @@ returns : tie.Need-returns
 returns c = let st = c .before .before .before .args .st in log-full (st .next) (st .start + st .groups) _ (omega arith)
 
 returns-2 : tie.Need-returns-2
-returns-2 c = let st = c .before .before .before .before .before .args .st in log-room (st .next) (st .start + st .groups) _ 0 (omega arith) (batch-any (st .filled) (c .before .before .before .before .before .args .batch) (omega arith))
+returns-2 c =
+    let c1 = c .before .before .before .before .before in
+    let st = c1 .args .st in log-room (st .next) (st .start + st .groups) _ 0 (omega arith) (batch-any (st .filled) (c1 .args .batch) (omega arith))
 
 returns-3 : tie.Need-returns-3
-returns-3 c = let st = c .before .before .before .before .before .before .args .st in
-    log-room (st .next) (st .start + st .groups) _ 9 (omega arith) (batch-short (st .filled) (c .before .before .before .before .before .before .args .batch) (omega arith) (omega arith))
+returns-3 c =
+    let c1 = c .before .before .before .before .before .before in
+    let st = c1 .args .st in
+    log-room (st .next) (st .start + st .groups) _ 9 (omega arith) (batch-short (st .filled) (c1 .args .batch) (omega arith) (omega arith))
 
 returns-4 : tie.Need-returns-4
-returns-4 c = let st = c .before .before .before .before .before .before .args .st in
-    log-room (st .next) (st .start + st .groups) _ 0 (omega arith) (batch-full (st .filled) (c .before .before .before .before .before .before .args .batch) (omega arith) (omega arith))
+returns-4 c =
+    let c1 = c .before .before .before .before .before .before in
+    let st = c1 .args .st in
+    log-room (st .next) (st .start + st .groups) _ 0 (omega arith) (batch-full (st .filled) (c1 .args .batch) (omega arith) (omega arith))
 
 pub may-log-spec : {M : Type 1} → statement M
 may-log-spec = tie.close (tie.spec add-if1 returns returns-2 returns-3 returns-4)

@@ -23,8 +23,13 @@ state-requires : tie.Need-state-requires
 state-requires c κs = sized _ _ _ _ _ (c .before .before .flush-verdict .ensures) (c .before .if1 .left)
 
 flush-none-requires : tie.Need-flush-none-requires
-flush-none-requires c κs = let k = known _ _ _ _ _ _ (c .before .before .before .before .before .before .before .flush-verdict .ensures) (c .before .before .before .before .before .before .if1 .left) (c .before .before .before .before .state .ensures) in
-    let f = fits-none _ _ _ _ _ _ (c .before .before .before .before .before .before .before .flush-verdict .ensures) (c .before .before .before .before .before .before .if1 .left) (c .before .before .before .before .state .ensures) (c .before .before .if2 .taken) in
+flush-none-requires c κs =
+    let c4 = c .before .before in
+    let c3 = c4 .before .before in
+    let c2 = c3 .before .before in
+    let c1 = c2 .before in
+    let k = known _ _ _ _ _ _ (c1 .flush-verdict .ensures) (c2 .if1 .left) (c3 .state .ensures) in
+    let f = fits-none _ _ _ _ _ _ (c1 .flush-verdict .ensures) (c2 .if1 .left) (c3 .state .ensures) (c4 .if2 .taken) in
     (k .strip, f, k .next)
 
 done-requires : tie.Need-done-requires
@@ -37,11 +42,23 @@ same-length-4 : tie.Need-same-length-4
 same-length-4 c = search needs
 
 returns-2 : tie.Need-returns-2
-returns-2 c = ends-none _ _ _ _ _ _ _ _ _ _ _ (c .before .before .before .before .before .before .before .before .before .before .before .before .before .flush-verdict .ensures) (c .before .before .before .before .before .before .before .before .before .before .before .before .if1 .left) (c .before .before .before .before .before .before .before .before .before .before .state .ensures) (c .before .before .before .before .before .before .before .before .if2 .taken) (c .before .before .before .before .before .flush-none .ensures .0) (c .before .before .before .before .before .flush-none .ensures .1) (c .done .ensures)
+returns-2 c =
+    let c5 = c .before .before .before .before .before in
+    let c4 = c5 .before .before .before in
+    let c3 = c4 .before .before in
+    let c2 = c3 .before .before in
+    let c1 = c2 .before in
+    ends-none _ _ _ _ _ _ _ _ _ _ _ (c1 .flush-verdict .ensures) (c2 .if1 .left) (c3 .state .ensures) (c4 .if2 .taken)
+    (c5 .flush-none .ensures .0) (c5 .flush-none .ensures .1) (c .done .ensures)
 
 flush-part-requires : tie.Need-flush-part-requires
-flush-part-requires c κs = let k = known _ _ _ _ _ _ (c .before .before .before .before .before .before .before .flush-verdict .ensures) (c .before .before .before .before .before .before .if1 .left) (c .before .before .before .before .state .ensures) in
-    let f = fits-part _ _ _ _ _ _ (c .before .before .before .before .before .before .before .flush-verdict .ensures) (c .before .before .before .before .before .before .if1 .left) (c .before .before .before .before .state .ensures) (c .before .before .if2 .left) in
+flush-part-requires c κs =
+    let c4 = c .before .before in
+    let c3 = c4 .before .before in
+    let c2 = c3 .before .before in
+    let c1 = c2 .before in
+    let k = known _ _ _ _ _ _ (c1 .flush-verdict .ensures) (c2 .if1 .left) (c3 .state .ensures) in
+    let f = fits-part _ _ _ _ _ _ (c1 .flush-verdict .ensures) (c2 .if1 .left) (c3 .state .ensures) (c4 .if2 .left) in
     (k .strip, f, k .some, k .log, k .next)
 
 add-done : tie.Need-add-done
@@ -57,7 +74,14 @@ same-length-6 : tie.Need-same-length-6
 same-length-6 c = search needs
 
 returns-3 : tie.Need-returns-3
-returns-3 c = ends-part _ _ _ _ _ _ _ _ _ _ _ (c .before .before .before .before .before .before .before .before .before .before .before .before .before .flush-verdict .ensures) (c .before .before .before .before .before .before .before .before .before .before .before .before .if1 .left) (c .before .before .before .before .before .before .before .before .before .before .state .ensures) (c .before .before .before .before .before .before .before .before .if2 .left) (c .before .before .before .before .before .flush-part .ensures .0) (c .before .before .before .before .before .flush-part .ensures .1) (c .done2 .ensures)
+returns-3 c =
+    let c5 = c .before .before .before .before .before in
+    let c4 = c5 .before .before .before in
+    let c3 = c4 .before .before in
+    let c2 = c3 .before .before in
+    let c1 = c2 .before in
+    ends-part _ _ _ _ _ _ _ _ _ _ _ (c1 .flush-verdict .ensures) (c2 .if1 .left) (c3 .state .ensures) (c4 .if2 .left)
+    (c5 .flush-part .ensures .0) (c5 .flush-part .ensures .1) (c .done2 .ensures)
 
 pub flush-spec : {M : Type 1} → statement M
 flush-spec =

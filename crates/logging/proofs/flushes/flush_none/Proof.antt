@@ -20,7 +20,10 @@ same-length-2 : tie.Need-same-length-2
 same-length-2 c = search needs
 
 returns : tie.Need-returns
-returns c = (c .before .before .set-fenced .ensures, none-written _ _ (c .before .before .before .before .before .before .before .fence .ensures .1))
+returns c =
+    let c2 = c .before .before in
+    let c1 = c2 .before .before .before .before .before in
+    (c2 .set-fenced .ensures, none-written _ _ (c1 .fence .ensures .1))
 
 pub flush-none-spec : {M : Type 1} → statement M
 flush-none-spec =

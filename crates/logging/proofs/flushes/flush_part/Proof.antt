@@ -11,7 +11,9 @@ rem-slot : tie.Need-rem-slot
 rem-slot c = search needs
 
 group-write-requires : tie.Need-group-write-requires
-group-write-requires c κs = let a = c .before .before .before .before .before .args in omega (arith, slot-fits (a .st .next) (a .st .groups) _ (c .before .before .before .before .before .pre .2) (c .before .before .before .before .before .pre .3))
+group-write-requires c κs =
+    let c1 = c .before .before .before .before .before in
+    let a = c1 .args in omega (arith, slot-fits (a .st .next) (a .st .groups) _ (c1 .pre .2) (c1 .pre .3))
 
 fence-requires : tie.Need-fence-requires
 fence-requires c κs = search needs
@@ -38,10 +40,18 @@ same-length-2 : tie.Need-same-length-2
 same-length-2 c = search needs
 
 returns : tie.Need-returns
-returns c = let p = c .before .before .before .before .before .before .before .before .before .before .before .before .before .before .before .before .before .before .before .before .before .before .before .before .before .pre in (
-  c .before .before .set-fenced .ensures ∙ rw (c .before .before .before .before .before .before .set-filled .ensures, c .before .before .before .before .before .before .before .before .before .before .set-next .ensures),
-  part-written _ _ _ _ _ _ (length-slot _ _ _ (p .2) (p .3)) (c .before .before .before .before .before .before .before .before .before .before .before .before .before .before .before .before .before .before .before .group-write .ensures .1) (c .before .before .before .before .before .before .before .before .before .before .before .before .before .before .before .before .before .before .before .group-write .ensures .0) (c .before .before .before .before .before .before .before .before .before .before .before .before .before .before .before .fence .ensures .1),
-)
+returns c =
+    let c6 = c .before .before in
+    let c5 = c6 .before .before .before .before in
+    let c4 = c5 .before .before .before .before in
+    let c3 = c4 .before .before .before .before .before in
+    let c2 = c3 .before .before .before .before in
+    let c1 = c2 .before .before .before .before .before .before in
+    let p = c1 .pre in (
+      c6 .set-fenced .ensures ∙ rw (c5 .set-filled .ensures, c4 .set-next .ensures),
+      part-written _ _ _ _ _ _ (length-slot _ _ _ (p .2) (p .3)) (c2 .group-write .ensures .1) (c2 .group-write .ensures .0)
+          (c3 .fence .ensures .1),
+    )
 
 pub flush-part-spec : {M : Type 1} → statement M
 flush-part-spec =

@@ -18,10 +18,20 @@ flush-size-requires : tie.Need-flush-size-requires
 flush-size-requires c κs = search needs
 
 returns-2 : tie.Need-returns-2
-returns-2 c = short _ _ _ _ _ _ _ (c .before .before .before .before .in-use .ensures) (c .before .before .before .if1 .left) (c .before .before .state .ensures) (c .before .flush-size .ensures) (c .if2 .taken)
+returns-2 c =
+    let c4 = c .before in
+    let c3 = c4 .before in
+    let c2 = c3 .before in
+    let c1 = c2 .before in
+    short _ _ _ _ _ _ _ (c1 .in-use .ensures) (c2 .if1 .left) (c3 .state .ensures) (c4 .flush-size .ensures) (c .if2 .taken)
 
 returns-3 : tie.Need-returns-3
-returns-3 c = passes _ _ _ _ _ _ _ (c .before .before .before .before .in-use .ensures) (c .before .before .before .if1 .left) (c .before .before .state .ensures) (c .before .flush-size .ensures) (omega arith)
+returns-3 c =
+    let c4 = c .before in
+    let c3 = c4 .before in
+    let c2 = c3 .before in
+    let c1 = c2 .before in
+    passes _ _ _ _ _ _ _ (c1 .in-use .ensures) (c2 .if1 .left) (c3 .state .ensures) (c4 .flush-size .ensures) (omega arith)
 
 pub flush-verdict-spec : {M : Type 1} → statement M
 flush-verdict-spec = tie.close (tie.spec in-use-requires returns state-requires flush-size-requires returns-2 returns-3)

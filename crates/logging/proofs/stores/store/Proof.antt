@@ -29,7 +29,10 @@ holds-requires : tie.Need-holds-requires
 holds-requires c κs = search needs
 
 store-first-requires : tie.Need-store-first-requires
-store-first-requires c κs = let k = known _ _ _ _ _ _ _ _ (c .before .before .before .before .before .before .store-verdict .ensures) (c .before .before .before .before .before .if1 .left) in (k .0, k .1, k .2)
+store-first-requires c κs =
+    let c2 = c .before .before .before .before .before in
+    let c1 = c2 .before in
+    let k = known _ _ _ _ _ _ _ _ (c1 .store-verdict .ensures) (c2 .if1 .left) in (k .0, k .1, k .2)
 
 done-requires : tie.Need-done-requires
 done-requires c κs = search needs
@@ -44,10 +47,21 @@ same-length-6 : tie.Need-same-length-6
 same-length-6 c = search needs
 
 returns-2 : tie.Need-returns-2
-returns-2 c = ends-first _ _ _ _ _ _ _ _ (c .before .before .before .before .before .before .before .before .before .before .store-verdict .ensures) (c .before .before .before .before .before .before .before .before .before .if1 .left) _ _ _ _ _ _ (c .before .before .before .before .before .before .before .writer .ensures) (c .before .before .before .before .before .before .holds .ensures) (c .before .before .before .before .before .if2 .taken) (c .before .before .before .store-first .ensures) (c .done .ensures)
+returns-2 c =
+    let c6 = c .before .before .before in
+    let c5 = c6 .before .before in
+    let c4 = c5 .before in
+    let c3 = c4 .before in
+    let c2 = c3 .before .before in
+    let c1 = c2 .before in
+    ends-first _ _ _ _ _ _ _ _ (c1 .store-verdict .ensures) (c2 .if1 .left) _ _ _ _ _ _ (c3 .writer .ensures) (c4 .holds .ensures)
+    (c5 .if2 .taken) (c6 .store-first .ensures) (c .done .ensures)
 
 set-held-requires : tie.Need-set-held-requires
-set-held-requires c κs = let k = known _ _ _ _ _ _ _ _ (c .before .before .before .before .before .before .before .before .store-verdict .ensures) (c .before .before .before .before .before .before .before .if1 .left) in (k .0, k .1, k .2)
+set-held-requires c κs =
+    let c2 = c .before .before .before .before .before .before .before in
+    let c1 = c2 .before in
+    let k = known _ _ _ _ _ _ _ _ (c1 .store-verdict .ensures) (c2 .if1 .left) in (k .0, k .1, k .2)
 
 done-requires-2 : tie.Need-done-requires-2
 done-requires-2 c κs = search needs
@@ -62,13 +76,34 @@ same-length-9 : tie.Need-same-length-9
 same-length-9 c = search needs
 
 returns-3 : tie.Need-returns-3
-returns-3 c = ends-again _ _ _ _ _ _ _ _ (c .before .before .before .before .before .before .before .before .before .before .before .before .store-verdict .ensures) (c .before .before .before .before .before .before .before .before .before .before .before .if1 .left) _ _ _ _ _ _ (c .before .before .before .before .before .before .before .before .before .writer .ensures) (c .before .before .before .before .before .before .before .before .holds .ensures) (c .before .before .before .before .before .before .before .if2 .left) (c .before .before .before .before .before .if3 .taken) (c .before .before .before .set-held .ensures) (c .done2 .ensures)
+returns-3 c =
+    let c7 = c .before .before .before in
+    let c6 = c7 .before .before in
+    let c5 = c6 .before .before in
+    let c4 = c5 .before in
+    let c3 = c4 .before in
+    let c2 = c3 .before .before in
+    let c1 = c2 .before in
+    ends-again _ _ _ _ _ _ _ _ (c1 .store-verdict .ensures) (c2 .if1 .left) _ _ _ _ _ _ (c3 .writer .ensures) (c4 .holds .ensures)
+    (c5 .if2 .left) (c6 .if3 .taken) (c7 .set-held .ensures) (c .done2 .ensures)
 
 state-requires : tie.Need-state-requires
-state-requires c κs = known _ _ _ _ _ _ _ _ (c .before .before .before .before .before .before .before .before .store-verdict .ensures) (c .before .before .before .before .before .before .before .if1 .left) .0
+state-requires c κs =
+    let c2 = c .before .before .before .before .before .before .before in
+    let c1 = c2 .before in
+    known _ _ _ _ _ _ _ _ (c1 .store-verdict .ensures) (c2 .if1 .left) .0
 
 store-other-requires : tie.Need-store-other-requires
-store-other-requires c κs = others _ _ _ _ _ _ _ _ (c .before .before .before .before .before .before .before .before .before .before .before .before .store-verdict .ensures) (c .before .before .before .before .before .before .before .before .before .before .before .if1 .left) _ _ _ (c .before .before .before .before .before .before .before .before .before .writer .ensures) (c .before .before .before .before .before .before .before .before .holds .ensures) (c .before .before .before .before .before .before .before .if2 .left) (c .before .before .before .before .before .if3 .left) (c .before .before .before .state3 .ensures)
+store-other-requires c κs =
+    let c7 = c .before .before .before in
+    let c6 = c7 .before .before in
+    let c5 = c6 .before .before in
+    let c4 = c5 .before in
+    let c3 = c4 .before in
+    let c2 = c3 .before .before in
+    let c1 = c2 .before in
+    others _ _ _ _ _ _ _ _ (c1 .store-verdict .ensures) (c2 .if1 .left) _ _ _ (c3 .writer .ensures) (c4 .holds .ensures)
+    (c5 .if2 .left) (c6 .if3 .left) (c7 .state3 .ensures)
 
 done-requires-3 : tie.Need-done-requires-3
 done-requires-3 c κs = search needs
@@ -83,7 +118,17 @@ same-length-12 : tie.Need-same-length-12
 same-length-12 c = search needs
 
 returns-4 : tie.Need-returns-4
-returns-4 c = ends-other _ _ _ _ _ _ _ _ (c .before .before .before .before .before .before .before .before .before .before .before .before .before .before .before .before .before .before .before .before .store-verdict .ensures) (c .before .before .before .before .before .before .before .before .before .before .before .before .before .before .before .before .before .before .before .if1 .left) _ _ _ _ _ _ _ _ _ _ (c .before .before .before .before .before .before .before .before .before .before .before .before .before .before .before .before .before .writer .ensures) (c .before .before .before .before .before .before .before .before .before .before .before .before .before .before .before .before .holds .ensures) (c .before .before .before .before .before .before .before .before .before .before .before .before .before .before .before .if2 .left) (c .before .before .before .before .before .before .before .before .before .before .before .before .before .if3 .left) (c .before .before .before .before .before .before .before .before .before .before .before .state3 .ensures) (c .before .before .before .before .before .before .before .store-other .ensures) (c .done3 .ensures)
+returns-4 c =
+    let c8 = c .before .before .before .before .before .before .before in
+    let c7 = c8 .before .before .before .before in
+    let c6 = c7 .before .before in
+    let c5 = c6 .before .before in
+    let c4 = c5 .before in
+    let c3 = c4 .before in
+    let c2 = c3 .before .before in
+    let c1 = c2 .before in
+    ends-other _ _ _ _ _ _ _ _ (c1 .store-verdict .ensures) (c2 .if1 .left) _ _ _ _ _ _ _ _ _ _ (c3 .writer .ensures)
+    (c4 .holds .ensures) (c5 .if2 .left) (c6 .if3 .left) (c7 .state3 .ensures) (c8 .store-other .ensures) (c .done3 .ensures)
 
 pub store-spec : {M : Type 1} → statement M
 store-spec =

@@ -14,7 +14,10 @@ log-entry-requires : tie.Need-log-entry-requires
 log-entry-requires c κs = search needs
 
 logged-for-requires : tie.Need-logged-for-requires
-logged-for-requires c κs = at-position _ _ _ _ (c .before .before .before .before .before .before .before .before .before .before .before .before .next-position .ensures) (c .before .before .before .before .before .before .before .before .before .before .before .before .before .before .before .before .before .pre .1)
+logged-for-requires c κs =
+    let c2 = c .before .before .before .before .before .before .before .before .before .before .before .before in
+    let c1 = c2 .before .before .before .before .before in
+    at-position _ _ _ _ (c2 .next-position .ensures) (c1 .pre .1)
 
 set-writer-requires : tie.Need-set-writer-requires
 set-writer-requires c κs = search needs
@@ -32,7 +35,15 @@ same-length-3 : tie.Need-same-length-3
 same-length-3 c = search needs
 
 returns : tie.Need-returns
-returns c = stored _ _ _ _ _ _ _ _ _ _ _ _ _ _ _ _ _ (c .before .before .before .before .before .before .before .before .before .before .before .before .before .before .before .before .before .before .before .before .next-position .ensures) (c .before .before .before .before .before .before .before .before .before .before .before .before .before .before .before .before .before .before .before .store-word .ensures) (c .before .before .before .before .before .before .before .before .before .before .before .before .before .before .before .log-entry .ensures) (c .before .before .before .before .before .before .before .logged-for .ensures) (c .before .before .before .before .before .before .set-writer .ensures) (c .before .before .set-held .ensures)
+returns c =
+    let c6 = c .before .before in
+    let c5 = c6 .before .before .before .before in
+    let c4 = c5 .before in
+    let c3 = c4 .before .before .before .before .before .before .before .before in
+    let c2 = c3 .before .before .before .before in
+    let c1 = c2 .before in
+    stored _ _ _ _ _ _ _ _ _ _ _ _ _ _ _ _ _ (c1 .next-position .ensures) (c2 .store-word .ensures) (c3 .log-entry .ensures)
+    (c4 .logged-for .ensures) (c5 .set-writer .ensures) (c6 .set-held .ensures)
 
 pub store-other-spec : {M : Type 1} → statement M
 store-other-spec =

@@ -30,13 +30,20 @@ data-homes-requires : tie.Need-data-homes-requires
 data-homes-requires c κs = search needs
 
 format-log-requires : tie.Need-format-log-requires
-format-log-requires c κs = omega (arith, formattable _ _ _ _ (c .before .before .before .before .may-format .ensures) (c .before .before .before .if1 .left), c .before .before .log-groups .ensures)
+format-log-requires c κs =
+    let c1 = c .before .before .before .before in
+    omega (arith, formattable _ _ _ _ (c1 .may-format .ensures) (c .before .before .before .if1 .left), c .before .before .log-groups .ensures)
 
 format-area-requires : tie.Need-format-area-requires
 format-area-requires c κs = search needs
 
 format-batch-requires : tie.Need-format-batch-requires
-format-batch-requires c κs = omega (arith, formattable _ _ _ _ (c .before .before .before .before .before .before .before .before .before .before .before .before .may-format .ensures) (c .before .before .before .before .before .before .before .before .before .before .before .if1 .left), c .before .before .before .before .before .before .before .before .before .before .log-groups .ensures, c .before .before .before .before .before .before .before .before .before .data-homes .ensures)
+format-batch-requires c κs =
+    let c1 = c .before .before .before .before .before .before .before .before .before in
+    let c2 = c1 .before in
+    let c3 = c2 .before in
+    let c4 = c3 .before in
+    omega (arith, formattable _ _ _ _ (c4 .may-format .ensures) (c3 .if1 .left), c2 .log-groups .ensures, c1 .data-homes .ensures)
 
 done-requires : tie.Need-done-requires
 done-requires c κs = search needs
@@ -51,7 +58,15 @@ same-length-6 : tie.Need-same-length-6
 same-length-6 c = search needs
 
 returns-2 : tie.Need-returns-2
-returns-2 c = format-done _ _ _ _ _ _ _ _ _ _ _ _ _ (c .before .before .before .before .before .before .before .before .before .before .before .before .before .before .before .before .may-format .ensures) (c .before .before .before .before .before .before .before .before .before .before .before .before .before .before .before .if1 .left) (c .done .ensures) (c .before .before .before .before .before .before .before .before .before .before .before .before .before .before .log-groups .ensures) (c .before .before .before .before .before .before .before .before .before .before .before .before .before .data-homes .ensures) (c .before .before .before .before .before .before .before .before .before .before .before .format-log .ensures) (c .before .before .before .before .before .before .before .format-area .ensures) (c .before .before .before .format-batch .ensures .0 .0) (c .before .before .before .format-batch .ensures .1)
+returns-2 c =
+    let c1 = c .before .before .before .before .before .before .before in
+    let c2 = c1 .before .before .before .before in
+    let c3 = c2 .before .before in
+    let c4 = c3 .before in
+    let c5 = c4 .before in
+    let c6 = c5 .before in
+    format-done _ _ _ _ _ _ _ _ _ _ _ _ _ (c6 .may-format .ensures) (c5 .if1 .left) (c .done .ensures) (c4 .log-groups .ensures) (c3 .data-homes .ensures)
+    (c2 .format-log .ensures) (c1 .format-area .ensures) (c .before .before .before .format-batch .ensures .0 .0) (c .before .before .before .format-batch .ensures .1)
 
 pub format-spec : {M : Type 1} → statement M
 format-spec =

@@ -14,7 +14,10 @@ same-length : tie.Need-same-length
 same-length c = search needs
 
 returns : tie.Need-returns
-returns c = log-formatted _ _ _ _ _ (c .before .before .before .before .before .before .before .before .before .pre) (c .before .before .before .before .before .before .clear .ensures) (c .before .before .put-header .ensures)
+returns c =
+    let c1 = c .before .before .before .before .before .before in
+    let c2 = c1 .before .before .before in
+    log-formatted _ _ _ _ _ (c2 .pre) (c1 .clear .ensures) (c .before .before .put-header .ensures)
 
 pub format-log-spec : {M : Type 1} → statement M
 format-log-spec = tie.close (tie.spec clear-requires put-header-requires same-length returns)

@@ -26,22 +26,86 @@ data-homes-requires : tie.Need-data-homes-requires
 data-homes-requires c κs = search needs
 
 mul-if3 : tie.Need-mul-if3
-mul-if3 c = omega (arith, groups-most _ (sym (answered-yes (c .before .before .before .before .before .log-right .ensures) (c .before .before .before .before .if1 .left))), homes-most _ (sym (answered-yes (c .before .before .before .data-right .ensures) (c .before .before .if2 .left))), c .before .log-groups .ensures, c .data-homes .ensures)
+mul-if3 c =
+    let c1 = c .before .before .before .before in
+    let c2 = c1 .before in
+    omega (
+      arith,
+      groups-most _ (sym (answered-yes (c2 .log-right .ensures) (c1 .if1 .left))),
+      homes-most _ (sym (answered-yes (c .before .before .before .data-right .ensures)
+          (c .before .before .if2 .left))),
+      c .before .log-groups .ensures,
+      c .data-homes .ensures,
+    )
 
 add-if3 : tie.Need-add-if3
-add-if3 c = omega (arith, groups-most _ (sym (answered-yes (c .before .before .before .before .before .log-right .ensures) (c .before .before .before .before .if1 .left))), homes-most _ (sym (answered-yes (c .before .before .before .data-right .ensures) (c .before .before .if2 .left))), c .before .log-groups .ensures, c .data-homes .ensures)
+add-if3 c =
+    let c1 = c .before .before .before .before in
+    let c2 = c1 .before in
+    omega (
+      arith,
+      groups-most _ (sym (answered-yes (c2 .log-right .ensures) (c1 .if1 .left))),
+      homes-most _ (sym (answered-yes (c .before .before .before .data-right .ensures)
+          (c .before .before .if2 .left))),
+      c .before .log-groups .ensures,
+      c .data-homes .ensures,
+    )
 
 mul-if3-2 : tie.Need-mul-if3-2
-mul-if3-2 c = omega (arith, groups-most _ (sym (answered-yes (c .before .before .before .before .before .log-right .ensures) (c .before .before .before .before .if1 .left))), homes-most _ (sym (answered-yes (c .before .before .before .data-right .ensures) (c .before .before .if2 .left))), c .before .log-groups .ensures, c .data-homes .ensures)
+mul-if3-2 c =
+    let c1 = c .before .before .before .before in
+    let c2 = c1 .before in
+    omega (
+      arith,
+      groups-most _ (sym (answered-yes (c2 .log-right .ensures) (c1 .if1 .left))),
+      homes-most _ (sym (answered-yes (c .before .before .before .data-right .ensures)
+          (c .before .before .if2 .left))),
+      c .before .log-groups .ensures,
+      c .data-homes .ensures,
+    )
 
 add-if3-2 : tie.Need-add-if3-2
-add-if3-2 c = omega (arith, groups-most _ (sym (answered-yes (c .before .before .before .before .before .log-right .ensures) (c .before .before .before .before .if1 .left))), homes-most _ (sym (answered-yes (c .before .before .before .data-right .ensures) (c .before .before .if2 .left))), c .before .log-groups .ensures, c .data-homes .ensures)
+add-if3-2 c =
+    let c1 = c .before .before .before .before in
+    let c2 = c1 .before in
+    omega (
+      arith,
+      groups-most _ (sym (answered-yes (c2 .log-right .ensures) (c1 .if1 .left))),
+      homes-most _ (sym (answered-yes (c .before .before .before .data-right .ensures)
+          (c .before .before .if2 .left))),
+      c .before .log-groups .ensures,
+      c .data-homes .ensures,
+    )
 
 returns-3 : tie.Need-returns-3
-returns-3 c = format-batch-short _ _ _ (sym (answered-yes (c .before .before .before .before .before .before .log-right .ensures) (c .before .before .before .before .before .if1 .left))) (sym (answered-yes (c .before .before .before .before .data-right .ensures) (c .before .before .before .if2 .left))) (omega (arith, groups-most _ (sym (answered-yes (c .before .before .before .before .before .before .log-right .ensures) (c .before .before .before .before .before .if1 .left))), homes-most _ (sym (answered-yes (c .before .before .before .before .data-right .ensures) (c .before .before .before .if2 .left))), c .before .before .log-groups .ensures, c .before .data-homes .ensures))
+returns-3 c =
+    let c1 = c .before .before .before .before in
+    let c2 = c1 .before in
+    let c3 = c2 .before in
+    format-batch-short _ _ _ (sym (answered-yes (c3 .log-right .ensures) (c2 .if1 .left))) (sym (answered-yes (c1 .data-right .ensures) (c .before .before .before .if2 .left)))
+    (omega (
+      arith,
+      groups-most _ (sym (answered-yes (c3 .log-right .ensures) (c2 .if1 .left))),
+      homes-most _ (sym (answered-yes (c1 .data-right .ensures)
+          (c .before .before .before .if2 .left))),
+      c .before .before .log-groups .ensures,
+      c .before .data-homes .ensures,
+    ))
 
 returns-4 : tie.Need-returns-4
-returns-4 c = format-allowed _ _ _ (sym (answered-yes (c .before .before .before .before .before .before .log-right .ensures) (c .before .before .before .before .before .if1 .left))) (sym (answered-yes (c .before .before .before .before .data-right .ensures) (c .before .before .before .if2 .left))) (omega (arith, groups-most _ (sym (answered-yes (c .before .before .before .before .before .before .log-right .ensures) (c .before .before .before .before .before .if1 .left))), homes-most _ (sym (answered-yes (c .before .before .before .before .data-right .ensures) (c .before .before .before .if2 .left))), c .before .before .log-groups .ensures, c .before .data-homes .ensures))
+returns-4 c =
+    let c1 = c .before .before .before .before in
+    let c2 = c1 .before in
+    let c3 = c2 .before in
+    format-allowed _ _ _ (sym (answered-yes (c3 .log-right .ensures) (c2 .if1 .left))) (sym (answered-yes (c1 .data-right .ensures) (c .before .before .before .if2 .left)))
+    (omega (
+      arith,
+      groups-most _ (sym (answered-yes (c3 .log-right .ensures) (c2 .if1 .left))),
+      homes-most _ (sym (answered-yes (c1 .data-right .ensures)
+          (c .before .before .before .if2 .left))),
+      c .before .before .log-groups .ensures,
+      c .before .data-homes .ensures,
+    ))
 
 pub may-format-spec : {M : Type 1} → statement M
 may-format-spec =

@@ -32,10 +32,18 @@ slice-aggregate-find-committed : tie.Need-slice-aggregate-find-committed
 slice-aggregate-find-committed c = search needs
 
 mul-find-committed : tie.Need-mul-find-committed
-mul-find-committed c = omega (arith, openable _ _ _ _ (c .before .before .before .before .before .before .may-open .ensures) (c .before .before .before .before .before .if1 .left), c .before .before .measure .ensures .0)
+mul-find-committed c =
+    let c1 = c .before .before .before .before .before in
+    let c2 = c1 .before in
+    omega (arith, openable _ _ _ _ (c2 .may-open .ensures) (c1 .if1 .left), c .before .before .measure .ensures .0)
 
 find-committed-requires : tie.Need-find-committed-requires
-find-committed-requires c κs = (open-searchable _ _ _ _ _ _ (openable _ _ _ _ (c .before .before .before .before .before .before .may-open .ensures) (c .before .before .before .before .before .if1 .left)) (c .before .before .measure .ensures), refl)
+find-committed-requires c κs =
+    let c1 = c .before .before .before .before .before in
+    let c2 = c1 .before in (
+      open-searchable _ _ _ _ _ _ _ (openable _ _ _ _ (c2 .may-open .ensures) (c1 .if1 .left)) (c .before .before .measure .ensures) (omega arith),
+      refl,
+    )
 
 mul-size : tie.Need-mul-size
 mul-size c = omega (arith, count-most _ _ _ _ _ _ _ _ _ (c .before .before .find-committed .ensures))
@@ -56,19 +64,36 @@ same-length-6 : tie.Need-same-length-6
 same-length-6 c = search needs
 
 returns-2 : tie.Need-returns-2
-returns-2 c = open-short _ _ _ _ _ _ _ _ _ _ _ _ (c .before .before .before .before .before .before .before .before .before .before .before .may-open .ensures) (c .before .before .before .before .before .before .before .before .before .before .if1 .left) (c .before .before .before .before .before .before .before .measure .ensures) (c .before .before .before .before .find-committed .ensures) _ _ _ (omega (arith, c .before .if2 .taken)) (c .refused2 .ensures)
+returns-2 c =
+    let c1 = c .before .before .before .before in
+    let c2 = c1 .before .before .before in
+    let c3 = c2 .before .before .before in
+    let c4 = c3 .before in
+    open-short _ _ _ _ _ _ _ _ _ _ _ _ (c4 .may-open .ensures) (c3 .if1 .left) (c2 .measure .ensures) (c1 .find-committed .ensures) _ _ _
+    (omega (arith, c .before .if2 .taken)) (c .refused2 .ensures)
 
 slice-aggregate-open-homes : tie.Need-slice-aggregate-open-homes
 slice-aggregate-open-homes c = search needs
 
 open-homes-requires : tie.Need-open-homes-requires
-open-homes-requires c κs = plan-replayable _ _ _ _ _ _ _ _ _ _ (c .before .before .before .before .before .before .before .find-committed .ensures) (area-homes _ _ _ _ (openable _ _ _ _ (c .before .before .before .before .before .before .before .before .before .before .before .before .before .before .may-open .ensures) (c .before .before .before .before .before .before .before .before .before .before .before .before .before .if1 .left)) (c .before .before .before .before .before .before .before .before .before .before .measure .ensures .1)) _ 70 (omega (arith, c .before .before .before .before .if2 .left))
+open-homes-requires c κs =
+    let c1 = c .before .before .before .before in
+    let c2 = c1 .before .before .before in
+    let c3 = c2 .before .before .before in
+    let c4 = c3 .before .before .before in
+    let c5 = c4 .before in
+    plan-replayable _ _ _ _ _ _ _ _ _ _ (c2 .find-committed .ensures) (area-homes _ _ _ _ (openable _ _ _ _ (c5 .may-open .ensures) (c4 .if1 .left))
+    (c3 .measure .ensures .1)) _ 70 (omega (arith, c1 .if2 .left))
 
 add-open-copies : tie.Need-add-open-copies
 add-open-copies c = search needs
 
 open-copies-requires : tie.Need-open-copies-requires
-open-copies-requires c κs = omega (arith, openable _ _ _ _ (c .before .before .before .before .before .before .before .before .before .before .before .before .before .before .before .before .before .before .before .before .before .may-open .ensures) (c .before .before .before .before .before .before .before .before .before .before .before .before .before .before .before .before .before .before .before .before .if1 .left), c .before .before .before .before .before .before .before .before .before .before .before .before .before .before .before .before .before .measure .ensures .0, c .before .before .before .before .before .before .before .before .before .before .before .before .before .before .before .before .before .measure .ensures .2)
+open-copies-requires c κs =
+    let c1 = c .before .before .before .before .before .before .before .before .before .before .before .before .before .before .before .before .before in
+    let c2 = c1 .before .before .before in
+    let c3 = c2 .before in
+    omega (arith, openable _ _ _ _ (c3 .may-open .ensures) (c2 .if1 .left), c1 .measure .ensures .0, c1 .measure .ensures .2)
 
 done-requires : tie.Need-done-requires
 done-requires c κs = search needs
@@ -86,7 +111,16 @@ same-length-10 : tie.Need-same-length-10
 same-length-10 c = search needs
 
 returns-3 : tie.Need-returns-3
-returns-3 c = open-done _ _ _ _ _ _ _ _ _ _ _ _ (c .before .before .before .before .before .before .before .before .before .before .before .before .before .before .before .before .before .before .before .before .before .before .before .before .before .before .before .may-open .ensures) (c .before .before .before .before .before .before .before .before .before .before .before .before .before .before .before .before .before .before .before .before .before .before .before .before .before .before .if1 .left) (c .before .before .before .before .before .before .before .before .before .before .before .before .before .before .before .before .before .before .before .before .before .before .before .measure .ensures) (c .before .before .before .before .before .before .before .before .before .before .before .before .before .before .before .before .before .before .before .before .find-committed .ensures) _ _ _ _ _ _ _ (omega (arith, c .before .before .before .before .before .before .before .before .before .before .before .before .before .before .before .before .before .if2 .left)) (c .done .ensures) (c .before .before .before .before .before .before .before .before .before .before .before .before .open-homes .ensures .0) (c .before .before .before .before .before .before .before .before .before .before .before .before .open-homes .ensures .1) (c .before .before .before .before .before .open-copies .ensures .0) (c .before .before .before .before .before .open-copies .ensures .1)
+returns-3 c =
+    let c1 = c .before .before .before .before .before in
+    let c2 = c1 .before .before .before .before .before .before .before in
+    let c3 = c2 .before .before .before .before .before in
+    let c4 = c3 .before .before .before in
+    let c5 = c4 .before .before .before in
+    let c6 = c5 .before .before .before in
+    let c7 = c6 .before in
+    open-done _ _ _ _ _ _ _ _ _ _ _ _ (c7 .may-open .ensures) (c6 .if1 .left) (c5 .measure .ensures) (c4 .find-committed .ensures) _ _ _ _ _ _ _
+    (omega (arith, c3 .if2 .left)) (c .done .ensures) (c2 .open-homes .ensures .0) (c2 .open-homes .ensures .1) (c1 .open-copies .ensures .0) (c1 .open-copies .ensures .1)
 
 pub reopen-spec : {M : Type 1} → statement M
 reopen-spec =

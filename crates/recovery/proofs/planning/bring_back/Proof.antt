@@ -9,7 +9,10 @@ restore-all-requires : tie.Need-restore-all-requires
 restore-all-requires c κs = search needs
 
 emit-requires : tie.Need-emit-requires
-emit-requires c κs = (restored-within _ _ _ _ _ _ _ _ _ (c .before .before .before .before .before .before .before .before .before .before .pre) _ _ _ (c .before .before .before .before .restore-all .ensures), (omega (arith, c .before .before .before .before .before .before .before .before .before .before .pre .batch-length), omega (arith, c .before .before .before .before .before .before .before .before .before .before .pre .words)))
+emit-requires c κs =
+    let c1 = c .before .before .before .before in
+    let c2 = c1 .before .before .before .before .before .before in
+    (restored-within _ _ _ _ _ _ _ _ _ (c2 .pre) _ _ _ (c1 .restore-all .ensures), (omega (arith, c2 .pre .batch-length), omega (arith, c2 .pre .words)))
 
 same-length : tie.Need-same-length
 same-length c = search needs

@@ -1,0 +1,88 @@
+// Runs a script of calls, read from standard input, on a newly formatted and opened store of 4 groups and 8 homes: the paper's
+// trial 14. Of standard input the first 65,536 bytes are read. A last line without a line end counts.
+mod line;
+mod show;
+mod text;
+
+use crate::line::Line;
+use answers::Reply;
+use libc::STDIN_FILENO;
+
+// Stores a block full of one byte.
+fn store(
+    log: &mut [u8],
+    area: &[u8],
+    state: &mut [u8],
+    batch: &mut [u8],
+    writer: u64,
+    home: u64,
+    fill: u8,
+) -> Reply {
+    let block = [fill; 64];
+    logging::store(log, area, state, &block, batch, writer, home)
+}
+
+// What stands for the code of a malformed line; no call answers with it.
+const MALFORMED: u64 = 11;
+
+// Makes the call that a line asks for.
+fn call(log: &mut [u8], area: &mut [u8], state: &mut [u8], batch: &mut [u8], asked: Line) -> Reply {
+    match asked {
+        Line::Begin(w) => {
+            return sessions::begin(log, area, state, w);
+        }
+        Line::Store(w, home, fill) => {
+            return store(log, area, state, batch, w, home, fill);
+        }
+        Line::Commit(w) => {
+            return logging::commit(log, area, state, batch, w);
+        }
+        Line::Flush => {
+            return logging::flush(log, area, state, batch);
+        }
+        Line::Settle => {
+            return recovery::settle(log, area, state, batch);
+        }
+        Line::Trim => {
+            return trimming::trim(log, area, state, batch);
+        }
+        Line::Malformed => {
+            return answers::refused(MALFORMED);
+        }
+    }
+}
+
+// Runs a line, and shows what came of it.
+fn run(log: &mut [u8], area: &mut [u8], state: &mut [u8], batch: &mut [u8], line: &[u8]) {
+    let reply = call(log, area, state, batch, line::parse(line));
+    if reply.code == MALFORMED {
+        show::malformed();
+        return;
+    }
+    show::show(batch, reply.size, reply.code);
+}
+
+// Runs each line of a script.
+fn run_all(log: &mut [u8], area: &mut [u8], state: &mut [u8], batch: &mut [u8], script: &[u8]) {
+    let mut at: usize = 0;
+    while at < script.len() {
+        let end = text::until(script, at, b'\n');
+        run(log, area, state, batch, &script[at..end]);
+        if end == script.len() {
+            return;
+        }
+        at = end + 1;
+    }
+}
+
+fn main() {
+    let mut log = [0u8; 2112];
+    let mut area = [0u8; 512];
+    let mut state = [0u8; 1024];
+    let mut batch = [0u8; 4096];
+    let mut input = io::large_buffer();
+    let n = io::read_full(STDIN_FILENO, &mut input);
+    recovery::format(&mut log, &mut area, &mut batch);
+    recovery::reopen(&mut log, &mut area, &mut state, &mut batch);
+    run_all(&mut log, &mut area, &mut state, &mut batch, &input[..n]);
+}
