@@ -5,13 +5,16 @@
 # make play       random histories on the second implementation alone
 # make install    header, library and pkg-config file, under DESTDIR and PREFIX
 
+SHELL = /bin/bash
+.SHELLFLAGS = -o pipefail -c
+
 SEED ?= 1
 CUTS ?= 300
 HISTORIES ?= 400
 
 LIB = target/staticlib/libkagutin.a
 
-.PHONY: all run test compare play second library clean
+.PHONY: all run test test-library compare play second library clean
 
 all: station inspect quickstart
 
@@ -36,12 +39,18 @@ compare: compare/target/release/compare
 play: second
 	second/target/release/play --seed $(SEED) --histories $(HISTORIES)
 
-test: second compare/target/release/compare
+# The proofs come first, so that the library is made from what they have just proved; their verdict is printed again as the last line.
+test: second
 	cd second && cargo test --release --offline --quiet
 	python3 tests/definitions.py $(SEED) 200
+	verdict=$$(mktemp) && trap 'rm -f "$$verdict"' EXIT && \
+	rt ci 2>&1 | tee "$$verdict" && \
+	$(MAKE) --no-print-directory test-library && \
+	tail -n 1 "$$verdict"
+
+test-library: compare/target/release/compare
 	compare/target/release/compare --seed $(SEED)
 	$(MAKE) --no-print-directory c-check
-	rt ci
 
 clean:
 	rm -rf target second/target compare/target
