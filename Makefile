@@ -21,7 +21,7 @@ all: station inspect quickstart
 include c.mk
 
 # The archive is made from proved crates only; rt proves what has changed.
-library $(LIB):
+library $(LIB): $(wildcard crates/*/src/*.rt)
 	rt staticlib kagutin
 
 run: station

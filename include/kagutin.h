@@ -205,7 +205,7 @@ struct kagutin_reply kagutin_commit(
  * Batch: GW if so, FN. Answers 1, 2, 9.
  */
 struct kagutin_reply kagutin_flush(
-    uint8_t *log, size_t log_size, const uint8_t *area, size_t area_size,
+    const uint8_t *log, size_t log_size, const uint8_t *area, size_t area_size,
     uint8_t *state, size_t state_size, uint8_t *batch, size_t batch_size);
 
 /*
