@@ -1,14 +1,14 @@
 -- Laws for read: the entry that a writer sees, found layer by layer, and the block that is shown. Assumes nothing.
 use mathlib.Core.Path.{_≡_, refl, sym, ap, _∙_}
-use mathlib.Core.Bool.{Bool, true, false, cond, _&&_}
+use mathlib.Core.Bool.{Bool, true, false}
 use mathlib.Core.Logic.{_⊎_, inl, inr}
 use mathlib.Core.List.{List}
 use mathlib.Core.Option.{Option, none, some}
-use Prim.Native.Nat.{ℕ, zero, suc, _+_, _-_, _*_, _/_, _%_, _^_, _≤_, _<_}
+use Prim.Native.Nat.{ℕ, zero, suc, _+_, _-_, _*_, _/_, _%_, _≤_, _<_}
 use native.Mathlib.Nat.{mod-lt}
 use native.Mathlib.Decide.{ℕ-discrete}
 use native.Mathlib.Omega.{arith}
-use lib.Dec.{leb, ltb, eqb}
+use lib.Dec.{ltb, eqb}
 use lib.ListN.{length}
 use borrow.Author.Tests.{ltb-true, lt-ltb, le-ltb}
 use Rattle.model.specs.Bytes.{part, puts}
@@ -20,7 +20,7 @@ use Rattle.model.specs.declared.Tag.{Tag}
 use Rattle.model.specs.declared.Writer.{Writer}
 use Rattle.model.specs.Effects.{Given, groups, homes, liveTags, liveBase, newestOwn, newestCommitted, blockOr, current, visible, readEffect}
 use Rattle.model.specs.Batch.{batchBytes}
-use Rattle.model.specs.Questions.{ask, writerKnown, homeKnown, askBlock, readAnswer}
+use Rattle.model.specs.Questions.{writerKnown, homeKnown, askBlock, readAnswer}
 use Rattle.model.specs.Calls.{readCall}
 use Rattle.model.proofs.ByteLaws.{part-within, puts-nil, puts-whole, length-part}
 use Rattle.model.proofs.Closings.{endOf}

@@ -1,32 +1,31 @@
 -- Laws for trim: the start that it moves to, what it writes, and how it ends. Assumes nothing.
 use mathlib.Core.Path.{_≡_, refl, sym, ap, _∙_}
-use mathlib.Core.Bool.{Bool, true, false, cond}
+use mathlib.Core.Bool.{true}
 use mathlib.Core.Logic.{_⊎_, inl, inr}
 use mathlib.Core.List.{List, [], _∷_, append-nil}
-use Prim.Native.Nat.{ℕ, zero, suc, _+_, _-_, _*_, _/_, _^_, _≤_, _<_}
+use Prim.Native.Nat.{ℕ, _+_, _-_, _*_, _/_, _^_, _≤_, _<_}
 use native.Mathlib.Decide.{ℕ-discrete}
 use native.Mathlib.Omega.{arith}
-use lib.Dec.{leb, eqb}
+use lib.Dec.{leb}
 use lib.ListN.{length, length-append}
 use borrow.Author.Tests.{le-leb, lt-leb, eq-eqb, ne-eqb}
 use Rattle.model.specs.Bytes.{puts}
-use Rattle.model.specs.Layout.{groupsIn, homesIn, maxStart, header, entryAt}
-use Rattle.model.specs.Commit.{Span, committed}
+use Rattle.model.specs.Layout.{maxStart, header, entryAt}
+use Rattle.model.specs.Commit.{committed}
 use Rattle.model.specs.State.{stateOf, nextPosition, setStart, setFenced, setLast}
 use Rattle.model.specs.Batch.{KW, FN, recordBytes, batchBytes}
-use Rattle.model.specs.Effects.{Given, Effect, groups, homes, newState, liveTags, liveBase, mayStart, largest, trimStart, trimTo, trimEffect}
-use Rattle.model.specs.Questions.{ask, startFits, batchFits, askState, trimAnswer}
+use Rattle.model.specs.Effects.{Given, groups, homes, newState, liveTags, liveBase, mayStart, largest, trimStart, trimTo, trimEffect}
+use Rattle.model.specs.Questions.{startFits, batchFits, askState, trimAnswer}
 use Rattle.model.specs.Calls.{sizeOf, outcome, trimCall}
 use Rattle.model.specs.declared.State.{State}
 use Rattle.model.specs.declared.Tag.{Tag}
-use Rattle.model.proofs.BatchLaws.{length-KW, length-FN, batch-one}
-use Rattle.model.proofs.ByteLaws.{puts-nil, puts-append}
+use Rattle.model.proofs.BatchLaws.{length-KW, length-FN}
+use Rattle.model.proofs.ByteLaws.{puts-append}
 use Rattle.model.proofs.Closings.{closings, endOf}
 use Rattle.model.proofs.ClosingLaws.{committed-closings, committed-within}
 use Rattle.model.proofs.LayoutLaws.{length-header}
 use Rattle.model.proofs.OrderLaws.{InOrder}
 use Rattle.model.proofs.QuestionLaws.{ask-yes, ask-no}
-use Rattle.model.proofs.TrimLaws.{largest-upto}
 use Rattle.answers.specs.Lent.{lent, leaves}
 use Rattle.answers.proofs.AnswerLaws.{Usable, state-refuses, state-passes, refused-by, done-by, strip-by}
 use Rattle.replay.specs.Walk.{Walkable}
@@ -157,7 +156,8 @@ module _ (g : Given) where
   not-moved start code figure size a e l m h f s =
       rw (← e, still start m)
       (strip-by g (g .state) _ 0 code figure size (g .state)
-      (state-passes g _ a ∙ ask-yes (leb start maxStart) 10 _ (le-leb start maxStart l) ∙ ask-yes (leb 0 (length (g .batch))) 9 0 (le-leb 0 (length (g .batch)) (omega arith)))
+      (state-passes g _ a ∙ ask-yes (leb start maxStart) 10 _ (le-leb start maxStart l)
+      ∙ ask-yes (leb 0 (length (g .batch))) 9 0 (le-leb 0 (length (g .batch)) (omega arith)))
       h f s refl)
 
   -- the start moves
@@ -168,7 +168,8 @@ module _ (g : Given) where
   moved-size : (start : ℕ) → sizeOf (trimTo g (stateOf (g .state)) start) ≡ 68
   unfolding sizeOf trimTo batchBytes
   moved-size start =
-      let l : length (recordBytes (KW (header start (groups g) (homes g)))) ≡ 66 = length-KW (header start (groups g) (homes g)) (length-header start (groups g) (homes g)) in
+      let l : length (recordBytes (KW (header start (groups g) (homes g)))) ≡ 66 =
+      length-KW (header start (groups g) (homes g)) (length-header start (groups g) (homes g)) in
       rw (length-append, length-append, l, length-FN)
 
   moved-ends : (start v code figure size : ℕ) (log state batch : List ℕ) → v ≡ 0 → code ≡ 0 → figure ≡ 0 → size ≡ 68
@@ -186,12 +187,14 @@ module _ (g : Given) where
   batch-refused start code figure size a e l n b h f s =
       rw (← e, moved start n)
       (refused-by g _ _ code figure size
-      (h ∙ sym (state-passes g _ a ∙ ask-yes (leb start maxStart) 10 _ (le-leb start maxStart l) ∙ ask-no (leb (sizeOf (trimTo g (stateOf (g .state)) start)) (length (g .batch))) 9 0 (rw (moved-size start) (lt-leb 68 (length (g .batch)) b))))
+      (h
+      ∙ sym (state-passes g _ a ∙ ask-yes (leb start maxStart) 10 _ (le-leb start maxStart l)
+      ∙ ask-no (leb (sizeOf (trimTo g (stateOf (g .state)) start)) (length (g .batch))) 9 0 (rw (moved-size start) (lt-leb 68 (length (g .batch)) b))))
       (omega arith) f s)
 
   pub start-moved : (st : State) (start code figure size : ℕ) (log state batch : List ℕ) → Usable (g .log) (g .area) (g .state) → askState g 0 ≡ 0
-      → st ≡ stateOf (g .state) → start ≡ trimStart g → start ≤ 2 ^ 47 → (start ≡ st .start → ⊥) → 68 ≤ length (g .batch) → code ≡ 0 → figure ≡ 0 → size ≡ 68
-      → log ≡ puts (g .log) 0 (header start (st .groups) (st .homes)) → state ≡ movedStrip (g .state) st start
+      → st ≡ stateOf (g .state) → start ≡ trimStart g → start ≤ 2 ^ 47 → (start ≡ st .start → ⊥) → 68 ≤ length (g .batch) → code ≡ 0
+      → figure ≡ 0 → size ≡ 68 → log ≡ puts (g .log) 0 (header start (st .groups) (st .homes)) → state ≡ movedStrip (g .state) st start
       → batch ≡ puts (g .batch) 0 (batchBytes (KW (header start (st .groups) (st .homes)) ∷ FN ∷ []))
       → leaves code figure size log (g .area) state (g .block) batch ≡ trimCall g
   unfolding trimCall trimAnswer startFits batchFits
@@ -199,7 +202,8 @@ module _ (g : Given) where
       let o = u .order in
       let eg : st .groups ≡ groups g = ap (λ (x : State). x .groups) es ∙ o .groups-same in
       let ed : st .homes ≡ homes g = ap (λ (x : State). x .homes) es ∙ o .homes-same in
-      let y = ask-yes (leb (sizeOf (trimTo g (stateOf (g .state)) start)) (length (g .batch))) 9 0 (rw (moved-size start) (le-leb 68 (length (g .batch)) b)) in
+      let z : leb (sizeOf (trimTo g (stateOf (g .state)) start)) (length (g .batch)) ≡ true = rw (moved-size start) (le-leb 68 (length (g .batch)) b) in
+      let y = ask-yes (leb (sizeOf (trimTo g (stateOf (g .state)) start)) (length (g .batch))) 9 0 z in
       rw (← e, moved start (λ z. n (z ∙ sym (ap (λ (x : State). x .start) es))))
       (moved-ends start _ code figure size log state batch
       (state-passes g _ a ∙ ask-yes (leb start maxStart) 10 _ (le-leb start maxStart l) ∙ y)

@@ -1,8 +1,9 @@
+-- `reading::judge` meets its contract. Assumes nothing.
 use mathlib.Core.Path.{sym, _∙_}
 use native.Mathlib.Omega.{arith}
+use borrow.Author.Needs.{needs}
 use Rattle.answers.proofs.AnswerLaws.{block-only}
 use Rattle.reading.proofs.ReadLaws.{first-refuse, writer-refused, home-refused, none-refused}
-use borrow.Author.Needs.{needs}
 use Rattle.reading.proofs.judge.Statement.{statement}
 use Rattle.reading.proofs.judge.Tie as tie
 

@@ -1,6 +1,7 @@
+-- `reading::read` meets its contract. Assumes nothing.
 use mathlib.Core.Path.{sym, _∙_}
-use Rattle.reading.proofs.ReadLaws.{ready, read-refused, read-done}
 use borrow.Author.Needs.{needs}
+use Rattle.reading.proofs.ReadLaws.{ready, read-refused, read-done}
 use Rattle.reading.proofs.read.Statement.{statement}
 use Rattle.reading.proofs.read.Tie as tie
 

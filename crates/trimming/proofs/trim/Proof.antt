@@ -49,7 +49,8 @@ returns-2 c =
     let r = c .refused2 .ensures in
     let n = c .before .before in
     let k = n .before .before .before .before .before in
-    start-refused _ _ _ _ _ (state-only _ _ _ _ _ _ _ _ ∙ sym (k .before .in-use .ensures) ∙ k .if1 .left) (n .new-start .ensures ∙ sym (start-only _ _ _ _ _ _ _)) (omega arith) (r .0) (r .1) (r .2)
+    start-refused _ _ _ _ _ (state-only _ _ _ _ _ _ _ _ ∙ sym (k .before .in-use .ensures) ∙ k .if1 .left)
+    (n .new-start .ensures ∙ sym (start-only _ _ _ _ _ _ _)) (omega arith) (r .0) (r .1) (r .2)
 
 done-requires : tie.Need-done-requires
 done-requires c κs = search needs
@@ -65,7 +66,9 @@ returns-3 c =
     let r = c .done .ensures in
     let n = c .before .before .before .before in
     let k = n .before .before .before .before .before in
-    not-moved _ _ _ _ _ (state-only _ _ _ _ _ _ _ _ ∙ sym (k .before .in-use .ensures) ∙ k .if1 .left) (n .new-start .ensures ∙ sym (start-only _ _ _ _ _ _ _)) (omega (arith, c .before .before .before .if2 .left)) (c .before .if3 .taken ∙ ap (λ (s : State). s .start) (n .before .before .before .state .ensures)) (r .0) (r .1) (r .2)
+    not-moved _ _ _ _ _ (state-only _ _ _ _ _ _ _ _ ∙ sym (k .before .in-use .ensures) ∙ k .if1 .left)
+    (n .new-start .ensures ∙ sym (start-only _ _ _ _ _ _ _)) (omega (arith, c .before .before .before .if2 .left))
+    (c .before .if3 .taken ∙ ap (λ (s : State). s .start) (n .before .before .before .state .ensures)) (r .0) (r .1) (r .2)
 
 refused-requires-3 : tie.Need-refused-requires-3
 refused-requires-3 c κs = search needs
@@ -81,7 +84,10 @@ returns-4 c =
     let r = c .refused3 .ensures in
     let n = c .before .before .before .before .before in
     let k = n .before .before .before .before .before in
-    batch-refused _ _ _ _ _ (state-only _ _ _ _ _ _ _ _ ∙ sym (k .before .in-use .ensures) ∙ k .if1 .left) (n .new-start .ensures ∙ sym (start-only _ _ _ _ _ _ _)) (omega (arith, c .before .before .before .before .if2 .left)) (λ z. c .before .before .if3 .left (z ∙ ap (λ (s : State). s .start) (sym (n .before .before .before .state .ensures)))) (c .before .if4 .taken) (r .0) (r .1) (r .2)
+    batch-refused _ _ _ _ _ (state-only _ _ _ _ _ _ _ _ ∙ sym (k .before .in-use .ensures) ∙ k .if1 .left)
+    (n .new-start .ensures ∙ sym (start-only _ _ _ _ _ _ _)) (omega (arith, c .before .before .before .before .if2 .left))
+    (λ z. c .before .before .if3 .left (z ∙ ap (λ (s : State). s .start) (sym (n .before .before .before .state .ensures)))) (c .before .if4 .taken)
+    (r .0) (r .1) (r .2)
 
 move-start-requires : tie.Need-move-start-requires
 move-start-requires c κs =
@@ -112,7 +118,9 @@ returns-5 c =
     let s = n .before .before .before .state .ensures in
     let u = state-usable _ (sym (k .before .in-use .ensures) ∙ k .if1 .left) in
     let e = v .move-start .ensures in
-    start-moved _ _ _ _ _ _ _ _ _ u (state-only _ _ _ _ _ _ _ _ ∙ sym (k .before .in-use .ensures) ∙ k .if1 .left) s (n .new-start .ensures ∙ sym (start-only _ _ _ _ _ _ _)) (omega (arith, v .before .before .before .before .before .before .before .if2 .left)) (v .before .before .before .before .before .if3 .left) (v .before .before .before .before .if4 .left) (r .0) (r .1) (r .2) (e .0) (e .1) (e .2)
+    start-moved _ _ _ _ _ _ _ _ _ u (state-only _ _ _ _ _ _ _ _ ∙ sym (k .before .in-use .ensures) ∙ k .if1 .left) s
+    (n .new-start .ensures ∙ sym (start-only _ _ _ _ _ _ _)) (omega (arith, v .before .before .before .before .before .before .before .if2 .left))
+    (v .before .before .before .before .before .if3 .left) (v .before .before .before .before .if4 .left) (r .0) (r .1) (r .2) (e .0) (e .1) (e .2)
 
 pub trim-spec : {M : Type 1} → statement M
 trim-spec =

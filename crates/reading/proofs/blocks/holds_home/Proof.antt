@@ -1,6 +1,7 @@
+-- `reading::holds_home` meets its contract. Assumes nothing.
 use borrow.Author.Tests.{not-true, not-false}
-use Rattle.reading.proofs.ReadLaws.{held-other, held-tested}
 use borrow.Author.Needs.{needs}
+use Rattle.reading.proofs.ReadLaws.{held-other, held-tested}
 use Rattle.reading.proofs.blocks.holds_home.Statement.{statement}
 use Rattle.reading.proofs.blocks.holds_home.Tie as tie
 

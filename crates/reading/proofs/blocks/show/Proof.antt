@@ -1,6 +1,7 @@
+-- `reading::show` meets its contract. Assumes nothing.
 use native.Mathlib.Omega.{arith}
-use Rattle.reading.proofs.ReadLaws.{searchable, own-first, shown-held, shown-home, shown-entry}
 use borrow.Author.Needs.{needs}
+use Rattle.reading.proofs.ReadLaws.{searchable, own-first, shown-held, shown-home, shown-entry}
 use Rattle.reading.proofs.blocks.show.Statement.{statement}
 use Rattle.reading.proofs.blocks.show.Tie as tie
 
@@ -22,7 +23,8 @@ same-length c = search needs
 returns : tie.Need-returns
 returns c =
     let a = c .before .before .before .before .before in
-    shown-held _ _ _ (a .before .before .state .ensures) (a .before .writer .ensures) _ _ (a .holds-home .ensures) (c .before .before .before .before .if1 .taken) (c .before .before .show-held .ensures)
+    shown-held _ _ _ (a .before .before .state .ensures) (a .before .writer .ensures) _ _ (a .holds-home .ensures)
+    (c .before .before .before .before .if1 .taken) (c .before .before .show-held .ensures)
 
 seen-requires : tie.Need-seen-requires
 seen-requires c κs =
@@ -40,7 +42,9 @@ returns-2 : tie.Need-returns-2
 returns-2 c =
     let a = c .before .before .before .before .before .before .before in
     let p = a .before .before .before .before .before .before .before .pre in
-    shown-home _ _ _ (a .before .before .state .ensures) (a .before .writer .ensures) _ _ _ (p .0 .order) (a .holds-home .ensures) (c .before .before .before .before .before .before .if1 .left) (c .before .before .before .before .before .seen .ensures) (c .before .before .before .before .if2 .taken) (c .before .before .get-home .ensures)
+    shown-home _ _ _ (a .before .before .state .ensures) (a .before .writer .ensures) _ _ _ (p .0 .order) (a .holds-home .ensures)
+    (c .before .before .before .before .before .before .if1 .left) (c .before .before .before .before .before .seen .ensures)
+    (c .before .before .before .before .if2 .taken) (c .before .before .get-home .ensures)
 
 sub-show-entry : tie.Need-sub-show-entry
 sub-show-entry c = search needs
@@ -58,7 +62,9 @@ returns-3 : tie.Need-returns-3
 returns-3 c =
     let a = c .before .before .before .before .before .before .before in
     let p = a .before .before .before .before .before .before .before .pre in
-    shown-entry _ _ _ (a .before .before .state .ensures) (a .before .writer .ensures) _ _ _ (p .0 .order) (a .holds-home .ensures) (c .before .before .before .before .before .before .if1 .left) (c .before .before .before .before .before .seen .ensures) (c .before .before .before .before .if2 .left) (c .before .before .show-entry .ensures)
+    shown-entry _ _ _ (a .before .before .state .ensures) (a .before .writer .ensures) _ _ _ (p .0 .order) (a .holds-home .ensures)
+    (c .before .before .before .before .before .before .if1 .left) (c .before .before .before .before .before .seen .ensures)
+    (c .before .before .before .before .if2 .left) (c .before .before .show-entry .ensures)
 
 pub show-spec : {M : Type 1} → statement M
 show-spec =

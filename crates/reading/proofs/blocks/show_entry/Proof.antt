@@ -1,14 +1,16 @@
+-- `reading::show_entry` meets its contract. Assumes nothing.
 use mathlib.Core.Path.{_∙_}
 use Prim.Native.Nat.{_/_, _%_, _<_}
 use native.Mathlib.Nat.{mod-lt}
 use native.Mathlib.Omega.{arith}
-use Rattle.reading.proofs.ReadLaws.{entry-copied}
 use borrow.Author.Needs.{needs}
+use Rattle.reading.proofs.ReadLaws.{entry-copied}
 use Rattle.reading.proofs.blocks.show_entry.Statement.{statement}
 use Rattle.reading.proofs.blocks.show_entry.Tie as tie
 
 -- the ring slot is one of the log's
-slot : (c : tie.After-copy-block-arg) → c .before .before .before .args .position / 7 % c .before .before .before .args .groups < c .before .before .before .args .groups
+slot : (c : tie.After-copy-block-arg)
+    → c .before .before .before .args .position / 7 % c .before .before .before .args .groups < c .before .before .before .args .groups
 slot c = mod-lt (c .before .before .before .args .position / 7) (omega arith)
 
 rem-slot : tie.Need-rem-slot

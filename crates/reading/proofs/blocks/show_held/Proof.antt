@@ -1,6 +1,7 @@
+-- `reading::show_held` meets its contract. Assumes nothing.
 use mathlib.Core.Path.{_∙_}
-use Rattle.reading.proofs.ReadLaws.{held-copied}
 use borrow.Author.Needs.{needs}
+use Rattle.reading.proofs.ReadLaws.{held-copied}
 use Rattle.reading.proofs.blocks.show_held.Statement.{statement}
 use Rattle.reading.proofs.blocks.show_held.Tie as tie
 

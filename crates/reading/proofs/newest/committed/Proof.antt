@@ -1,6 +1,7 @@
+-- `reading::committed` meets its contract. Assumes nothing.
 use native.Mathlib.Omega.{arith}
-use Rattle.reading.proofs.ReadLaws.{end-within, committed-found}
 use borrow.Author.Needs.{needs}
+use Rattle.reading.proofs.ReadLaws.{end-within, committed-found}
 use Rattle.reading.proofs.newest.committed.Statement.{statement}
 use Rattle.reading.proofs.newest.committed.Tie as tie
 

@@ -1,6 +1,7 @@
+-- `reading::live` meets its contract. Assumes nothing.
 use native.Mathlib.Omega.{arith}
-use Rattle.model.specs.State.{nextPosition}
 use borrow.Author.Needs.{needs}
+use Rattle.model.specs.State.{nextPosition}
 use Rattle.reading.proofs.newest.live.Statement.{statement}
 use Rattle.reading.proofs.newest.live.Tie as tie
 

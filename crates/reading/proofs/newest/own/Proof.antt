@@ -1,9 +1,10 @@
+-- `reading::own` meets its contract. Assumes nothing.
+use mathlib.Core.Path.{sym, _∙_}
 use native.Mathlib.Omega.{arith}
 use borrow.Author.Tests.{not-true, not-false, leb-true}
-use mathlib.Core.Path.{sym, _∙_}
+use borrow.Author.Needs.{needs}
 use Rattle.model.specs.State.{hasLogged}
 use Rattle.reading.proofs.ReadLaws.{own-none, own-found}
-use borrow.Author.Needs.{needs}
 use Rattle.reading.proofs.newest.own.Statement.{statement}
 use Rattle.reading.proofs.newest.own.Tie as tie
 

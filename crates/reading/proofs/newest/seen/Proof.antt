@@ -1,5 +1,6 @@
-use Rattle.reading.proofs.ReadLaws.{seen-own, seen-committed}
+-- `reading::seen` meets its contract. Assumes nothing.
 use borrow.Author.Needs.{needs}
+use Rattle.reading.proofs.ReadLaws.{seen-own, seen-committed}
 use Rattle.reading.proofs.newest.seen.Statement.{statement}
 use Rattle.reading.proofs.newest.seen.Tie as tie
 

@@ -27,7 +27,8 @@ returns : tie.Need-returns
 returns c =
     let a = c .before .before .before .before in
     let b = a .before .before .before in
-    strip-moved _ _ _ _ _ _ _ _ (b .before .before .before .before .before .set-start .ensures) (b .set-fenced .ensures) refl (a .kept-last .ensures) (c .before .before .set-last .ensures)
+    strip-moved _ _ _ _ _ _ _ _ (b .before .before .before .before .before .set-start .ensures) (b .set-fenced .ensures) refl (a .kept-last .ensures)
+    (c .before .before .set-last .ensures)
 
 pub move-strip-spec : {M : Type 1} → statement M
 move-strip-spec =

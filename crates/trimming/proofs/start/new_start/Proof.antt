@@ -31,14 +31,21 @@ trim-start-requires : tie.Need-trim-start-requires
 trim-start-requires c κs =
     let p = c .before .before .before .before .before .before .pre in
     let m = numbers _ _ _ _ (p .0) (p .1) in
-    let n = c .before .before .next-position .ensures in
-    (walkable _ _ _ _ m (ap (λ x. x - 7 * c .before .before .before .before .before .before .args .st .start) n) (c .walk .ensures .0), p .0 .state-length, order-own _ _ _ _ (p .0) (p .1), ap (λ (s : State). s .start) (sym (p .1)), m .settled, m .settled-most)
+    let n = c .before .before .next-position .ensures in (
+      walkable _ _ _ _ m (ap (λ x. x - 7 * c .before .before .before .before .before .before .args .st .start) n) (c .walk .ensures .0),
+      p .0 .state-length,
+      order-own _ _ _ _ (p .0) (p .1),
+      ap (λ (s : State). s .start) (sym (p .1)),
+      m .settled,
+      m .settled-most,
+    )
 
 returns : tie.Need-returns
 returns c =
     let p = c .before .before .before .before .before .before .before .pre in
     let n = c .before .before .before .next-position .ensures in
-    start-found _ _ _ _ _ _ _ (p .0) (p .1) (ap (λ x. x - 7 * c .before .before .before .before .before .before .before .args .st .start) n) (c .before .walk .ensures .0) (c .trim-start .ensures)
+    start-found _ _ _ _ _ _ _ (p .0) (p .1) (ap (λ x. x - 7 * c .before .before .before .before .before .before .before .args .st .start) n)
+    (c .before .walk .ensures .0) (c .trim-start .ensures)
 
 pub new-start-spec : {M : Type 1} → statement M
 new-start-spec =

@@ -1,0 +1,37 @@
+-- `trimming::move_start` meets its contract. Assumes nothing.
+use borrow.Author.Needs.{needs}
+use Rattle.trimming.proofs.moves.move_start.Statement.{statement}
+use Rattle.trimming.proofs.moves.move_start.Tie as tie
+
+write-header-requires : tie.Need-write-header-requires
+write-header-requires c κs = search needs
+
+put-header-requires : tie.Need-put-header-requires
+put-header-requires c κs = search needs
+
+move-strip-requires : tie.Need-move-strip-requires
+move-strip-requires c κs = search needs
+
+same-length : tie.Need-same-length
+same-length c = search needs
+
+same-length-2 : tie.Need-same-length-2
+same-length-2 c = search needs
+
+same-length-3 : tie.Need-same-length-3
+same-length-3 c = search needs
+
+returns : tie.Need-returns
+returns c = search needs
+
+pub move-start-spec : {M : Type 1} → statement M
+move-start-spec =
+    tie.close
+    (tie.spec
+    write-header-requires
+    put-header-requires
+    move-strip-requires
+    same-length
+    same-length-2
+    same-length-3
+    returns)
