@@ -1,4 +1,4 @@
--- Laws of home writes: one record in its buffer, the bytes and the length of some home writes, and homes within an area. Assumes nothing.
+-- Laws of home writes: their bytes and length, one after another, and homes within an area. Assumes nothing.
 use mathlib.Core.Path.{_≡_, refl, sym, ap, _∙_}
 use mathlib.Core.Bool.{Bool, true, false, cond}
 use mathlib.Core.List.{List, [], _∷_, _++_}
@@ -6,12 +6,12 @@ use Prim.Native.Nat.{ℕ, zero, suc, _+_, _-_, _*_, _≤_, _<_}
 use native.Mathlib.Omega.{arith}
 use borrow.Author.Tests.{leb-true, leb-false}
 use lib.Dec.{leb}
-use lib.ListN.{length, take, drop, getD, length-append}
-use Rattle.model.specs.Bytes.{part, puts, bytes, putNumber}
+use lib.ListN.{length, drop, getD, length-append}
+use Rattle.model.specs.Bytes.{puts}
 use Rattle.model.specs.Layout.{homeAt}
-use Rattle.model.specs.Batch.{Record, HW, homeWriteMark, recordBytes, batchBytes}
+use Rattle.model.specs.Batch.{Record, HW, recordBytes, batchBytes}
 use Rattle.model.specs.Effects.{marked, homeWrites}
-use Rattle.model.proofs.ByteLaws.{length-bytes, length-part, puts-append, puts-nil}
+use Rattle.model.proofs.ByteLaws.{length-part, puts-append, puts-nil}
 use Rattle.model.proofs.BatchLaws.{length-HW, batch-append}
 use Rattle.bitmap.specs.Marks.{marks, bitsOf, raised}
 use Rattle.bitmap.proofs.MarkedLaws.{raised-nil, raised-cons, marked-zero}
@@ -19,32 +19,9 @@ use Rattle.bitmap.proofs.WordLaws.{no-bits}
 use Rattle.bitmap.proofs.MapLaws.{marked-word}
 use Rattle.homes.specs.Within.{Within}
 
--- ---- one record
-
 pub length-home : (area : List ℕ) (h : ℕ) → 64 * h + 64 ≤ length area → length (homeAt area h) ≡ 64
 unfolding homeAt
 length-home area h l = length-part area (64 * h) 64 l
-
--- a record by its mark, its number and its block
-pub record-put : (d : List ℕ) (at h : ℕ) (b : List ℕ)
-    → puts (putNumber 2 (puts d at homeWriteMark) (at + 2) h) (at + 4) b ≡ puts d at (recordBytes (HW h b))
-unfolding recordBytes putNumber
-record-put d at h b =
-    let e : at + 2 + 2 ≡ at + 4 = omega arith in
-    sym (puts-append d at homeWriteMark (bytes 2 h ++ b)
-    ∙ puts-append (puts d at homeWriteMark) (at + 2) (bytes 2 h) b
-    ∙ rw (length-bytes, e))
-
--- a home as the part of the area that is lent
-pub home-part : (area : List ℕ) (h : ℕ) → take (64 * h + 64 - 64 * h) (drop (64 * h) area) ≡ homeAt area h
-unfolding homeAt part
-home-part area h = let e : 64 * h + 64 - 64 * h ≡ 64 = omega arith in rw e
-
--- the three steps that write a record
-pub record-steps : (d d1 d2 d3 area : List ℕ) (at h : ℕ) → d1 ≡ puts d at homeWriteMark → d2 ≡ putNumber 2 d1 (at + 2) h
-    → d3 ≡ puts d2 (at + 4) (take (64 * h + 64 - 64 * h) (drop (64 * h) area))
-    → d3 ≡ puts d at (recordBytes (HW h (homeAt area h)))
-record-steps d d1 d2 d3 area at h p q r = r ∙ rw (home-part, q, p) (record-put d at h (homeAt area h))
 
 -- ---- some home writes
 

@@ -4,22 +4,10 @@ ghost use mathlib.Core.Bool.{true};
 ghost use Prim.Native.Nat.{ℕ, _+_, _*_, _<_, _≤_};
 ghost use lib.ListN.{length};
 ghost use Rattle.model.specs.Bytes.{puts};
-ghost use Rattle.model.specs.Layout.{homeAt};
-ghost use Rattle.model.specs.Batch.{HW, recordBytes, batchBytes};
+ghost use Rattle.model.specs.Batch.{batchBytes};
 ghost use Rattle.model.specs.Effects.{marked, homeWrites};
 ghost use Rattle.bitmap.specs.Marks.{marks, bitsOf, raised};
 ghost use Rattle.homes.specs.Within.{Within};
-
-// Writes the record of one home from index `at` on: the mark of a home write, the home in two bytes, its 64 bytes of the area.
-pub fn put_home_write(batch: &mut [u8], at: usize, home: usize, area: &[u8])
-    requires { ⌜ (at + 68 ≤ length (now batch)) × (64 * home + 64 ≤ length (now area)) × (home < 65536) ⌝ }
-    ensures { λ _. ⌜ now (batch .exit) ≡ puts (now (batch .entry)) at (recordBytes (HW home (homeAt (now (area .entry)) home))) ⌝ }
-{
-    codec::put_home_write_mark(batch, at);
-    codec::put_number(batch, at + 2, 2, home as u64);
-    let from = 64 * home;
-    codec::copy(batch, at + 4, &area[from..from + 64]);
-}
 
 // Writes the records of the homes that one word marks, whose first home is `base`, rising, and returns the index past them.
 pub fn emit_word(batch: &mut [u8], at: usize, word: u64, base: usize, area: &[u8]) -> usize
@@ -32,8 +20,7 @@ pub fn emit_word(batch: &mut [u8], at: usize, word: u64, base: usize, area: &[u8
     let mut w = word;
     while w != 0 {
         let home = base + bitmap::lowest(w);
-        put_home_write(batch, next, home, area);
-        next += 68;
+        next = batch::home_write(batch, next, home, area);
         w = bitmap::clear_lowest(w);
     }
     next

@@ -17,6 +17,7 @@ use Rattle.model.specs.declared.Tag.{Tag}
 use Rattle.model.specs.declared.Tag.the-variants.{Nothing, Entry, Closing}
 use Rattle.model.proofs.Closings.{spanAt, closings}
 use Rattle.model.proofs.OrderLaws.{InOrder}
+use Rattle.model.proofs.LayoutLaws.{both}
 use Rattle.replay.specs.Codes.{firstClosed}
 use Rattle.replay.specs.Limits.{Highest, writerLimit, spanLimit}
 use Rattle.replay.proofs.CodeLaws.{closing-at-known}
@@ -24,10 +25,6 @@ use Rattle.replay.proofs.CodeLaws.{closing-at-known}
 and-false : (a : Bool) → (a && false) ≡ false
 and-false true = refl
 and-false false = refl
-
-both : (a b : Bool) → (a && b) ≡ true → (a ≡ true) × (b ≡ true)
-both true b h = (refl, h)
-both false b h = (h, cc)
 
 never : {A : Type 0} {b : Bool} → b ≡ true → b ≡ false → A
 never e f = let z : true ≡ false = sym e ∙ f in let k : _≡_ {A = ℕ} 0 1 = cc in absurd (omega arith)

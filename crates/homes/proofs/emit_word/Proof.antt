@@ -37,14 +37,11 @@ add-home c =
     let l = c .before .before .loop in
     omega (arith, first-within _ _ (l .w) _ (c .lowest .ensures .0) (l .inv .3))
 
-put-home-write-requires : tie.Need-put-home-write-requires Inv-loop μ-loop
-put-home-write-requires c κs =
+home-write-requires : tie.Need-home-write-requires Inv-loop μ-loop
+home-write-requires c κs =
     let l = c .before .before .before .loop in
     let e = ap length (c .before .lowest .ensures .0) in
-    (omega (arith, e), omega (arith, first-within _ _ (l .w) _ (c .before .lowest .ensures .0) (l .inv .3)), omega arith)
-
-add-next : tie.Need-add-next Inv-loop μ-loop
-add-next c = omega (arith, ap length (c .before .before .before .before .lowest .ensures .0))
+    (omega (arith, e), omega (arith, first-within _ _ (l .w) _ (c .before .lowest .ensures .0) (l .inv .3)))
 
 clear-lowest-requires : tie.Need-clear-lowest-requires Inv-loop μ-loop
 clear-lowest-requires c κs = omega arith
@@ -57,10 +54,10 @@ loop-again c =
     let b = c .before .before .before in
     let f = b .before .before .lowest .ensures .0 in
     let l = b .before .before .before .before .loop in
-    let p = b .put-home-write .ensures in
+    let p = b .home-write .ensures .1 in
     let r = c .clear-lowest .ensures .1 in (
-      rw p (word-turn _ _ (l .w) _ f (l .inv .3) (c .clear-lowest .result) r (l .batch) (l .next) ∙ l .inv .0),
-      omega (arith, ap length f, ap length r),
+      rw (b .home-write .ensures .0, p) (word-turn _ _ (l .w) _ f (l .inv .3) (c .clear-lowest .result) r (l .batch) (l .next) ∙ l .inv .0),
+      omega (arith, b .home-write .ensures .0, ap length f, ap length r),
       ap length p ∙ length-puts _ _ _ ∙ l .inv .2,
       rest-within _ _ (l .w) _ f (l .inv .3) (c .clear-lowest .result) r,
       omega arith,
@@ -84,8 +81,7 @@ emit-word-spec =
     loop-holds
     lowest-requires
     add-home
-    put-home-write-requires
-    add-next
+    home-write-requires
     clear-lowest-requires
     loop-less
     loop-again
