@@ -3,6 +3,8 @@
 # make test       runs every test and every proof; the prover's verdict is the last line
 # make compare    a long comparison of the library with the second implementation, call by call
 # make play       random histories on the second implementation alone
+# make bench      instructions and times of each call against the second implementation; other stores, if installed
+# make bench-plot docs/ring-cost.svg from the last bench
 # make install    header, library and pkg-config file, under DESTDIR and PREFIX
 
 SHELL = /bin/bash
@@ -14,7 +16,7 @@ HISTORIES ?= 400
 
 LIB = target/staticlib/libkagutin.a
 
-.PHONY: all run test test-library compare play second library clean
+.PHONY: all run test test-library compare play bench bench-plot second library clean
 
 all: station inspect quickstart
 
@@ -39,6 +41,16 @@ compare: compare/target/release/compare
 play: second
 	second/target/release/play --seed $(SEED) --histories $(HISTORIES)
 
+bench/target/release/bench: $(LIB) second
+	cd bench && cargo build --release --offline --quiet
+
+bench: bench/target/release/bench
+	bench/target/release/bench --seed $(SEED)
+	@if [ -x bench/peers/run.sh ]; then LIB=$(LIB) bench/peers/run.sh; fi
+
+bench-plot:
+	python3 bench/plot.py target/bench/bench.tsv docs/ring-cost.svg
+
 # The proofs come first, so that the library is made from what they have just proved; their verdict is printed again as the last line.
 test: second
 	cd second && cargo test --release --offline --quiet
@@ -53,4 +65,4 @@ test-library: compare/target/release/compare
 	$(MAKE) --no-print-directory c-check
 
 clean:
-	rm -rf target second/target compare/target
+	rm -rf target second/target compare/target bench/target

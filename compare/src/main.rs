@@ -6,13 +6,12 @@
 mod damaged;
 mod demand;
 mod histories;
-mod library;
 mod pair;
 mod part;
 mod table;
-mod trap;
 mod trials;
 
+use compare::{library, trap};
 use pair::Pair;
 use std::process::ExitCode;
 

@@ -3,17 +3,17 @@ use mathlib.Core.Path.{_≡_, refl, sym, ap, _∙_}
 use mathlib.Core.Bool.{Bool, true, false, cond}
 use mathlib.Core.List.{List, [], _∷_}
 use mathlib.Core.Logic.{_≢_}
-use Prim.Native.Nat.{ℕ, _+_, _-_, _*_, _%_, _≤_, _<_}
+use Prim.Native.Nat.{ℕ, _+_, _-_, _*_, _%_, _^_, _≤_, _<_}
 use native.Mathlib.Omega.{arith}
 use lib.Dec.{eqb, leb, ltb}
 use lib.ListN.{length, take, drop}
-use borrow.Author.Tests.{le-leb, lt-leb, lt-ltb, le-ltb, eq-eqb, ne-eqb}
+use borrow.Author.Tests.{le-leb, lt-leb, leb-false, lt-ltb, le-ltb, eq-eqb, ne-eqb}
 use Rattle.model.specs.Bytes.{part, puts}
 use Rattle.model.specs.Layout.{groupAt}
 use Rattle.model.specs.Batch.{GW, recordBytes, batchBytes}
 use Rattle.model.specs.declared.State.{State}
 use Rattle.model.specs.declared.Writer.{Writer}
-use Rattle.model.specs.State.{stateOf, setNext, setFilled, setLast, nextPosition, writerOffset, setWriter, heldOf, setHeld, idle, logging, firstFor, countFor}
+use Rattle.model.specs.State.{stateOf, setNext, setFilled, setLast, nextPosition, writerOffset, setWriter, heldOf, setHeld, idle, holding, logging, holds, hasLogged, firstFor, countFor}
 use Rattle.model.specs.Tag.{entryWord, closingWord}
 use Rattle.model.specs.Effects.{entered, submitted, logged, linkFrom}
 use Rattle.model.specs.Questions.{ask}
@@ -21,6 +21,10 @@ use Rattle.model.proofs.ByteLaws.{puts-nil}
 use Rattle.model.proofs.QuestionLaws.{ask-yes, ask-no}
 use Rattle.model.proofs.BatchLaws.{length-GW, batch-one}
 use Rattle.model.proofs.LogStep.{length-entered}
+use Rattle.writers.specs.Held.{heldFor}
+use Rattle.writers.specs.Frame.{SameElsewhere}
+use Rattle.writers.proofs.HeldLaws.{held-first, held-other}
+use Rattle.writers.proofs.FrameLaws.{elsewhere, setNext-writer, setFilled-writer}
 use Rattle.logging.specs.Logs.{MayLog, Fits, Wrote, loggedEntry, loggedClosing, StoredOther, Committed}
 use Rattle.logging.proofs.CallLaws.{length-slot}
 
@@ -108,27 +112,77 @@ logged-size s l word x st es h k = go (eqb (st .filled) 6) refl
         (ap length (batch-one _) ∙ length-GW _ _ (length-slot l′ (st .next) (st .groups) h (omega (arith, le))))
     go false e = rw (logged-as s l word x st false es e, submitted-part) (unfold batchBytes in refl)
 
+-- ---- a change of a writer's record before its held block is logged
+
+submitted-record : (t : Bool) (s : List ℕ) (st : State) (slot : ℕ) (l : List ℕ) (w : ℕ) (r : Writer)
+    → submitted t (setWriter s w r) st slot l
+    ≡ record { state = setWriter (submitted t s st slot l .state) w r; log = submitted t s st slot l .log; records = submitted t s st slot l .records }
+unfolding submitted
+submitted-record true s st slot l w r = rw (setNext-writer, setFilled-writer)
+submitted-record false s st slot l w r = rw setFilled-writer
+
+-- the numbers and the block that are logged stay, and logging leaves the record
+record-first : (s l : List ℕ) (word w : ℕ) (r : Writer)
+    → logged (setWriter s w r) l word (heldOf (setWriter s w r) w)
+    ≡ record {
+      state = setWriter (logged s l word (heldOf s w) .state) w r;
+      log = logged s l word (heldOf s w) .log;
+      records = logged s l word (heldOf s w) .records;
+    }
+unfolding logged
+record-first s l word w r =
+    let same : SameElsewhere w s (setWriter s w r) = elsewhere s w r in
+    rw (same .held w, same .numbers) (submitted-record (eqb (stateOf s .filled) 6) s (stateOf s) _ _ w r)
+
+-- the entry may still be logged
+pub may-after : (l s s₁ b : List ℕ) (st : State) (w : ℕ) (r : Writer) → MayLog l s b st w → s₁ ≡ setWriter s w r → MayLog l s₁ b st w
+may-after l s s₁ b st w r m e =
+    let same : SameElsewhere w s (setWriter s w r) = elsewhere s w r in
+    record {
+      state = m .state ∙ sym (ap stateOf e ∙ same .numbers);
+      strip = ap length e ∙ same .size ∙ m .strip;
+      writer = m .writer;
+      some = m .some;
+      few = m .few;
+      log = m .log;
+      high = m .high;
+      low = m .low;
+      room = m .room;
+      filled = m .filled;
+      batch = m .batch;
+    }
+
 -- ---- a store and a commit that log
 
 module _ (l s b : List ℕ) (st : State) (r : Writer) (w : ℕ) where
-  pub stored : (x : List ℕ) (home p word n : ℕ) (s₁ s₂ s′ l′ b′ : List ℕ) (r′ : Writer) → p ≡ nextPosition st
-      → word ≡ entryWord (r .home) (p - firstFor r p) → Wrote n s₁ l′ b′ b (logged s l word (heldOf s w))
-      → r′ ≡ logging home (firstFor r p) (countFor r + 1) → s₂ ≡ setWriter s₁ w r′ → s′ ≡ setHeld s₂ w x
-      → StoredOther n s′ l′ b′ s l b x st r w home
+  pub stored : (x : List ℕ) (home p word n : ℕ) (s₁ s₂ s′ l′ b′ : List ℕ) → p ≡ nextPosition st → word ≡ entryWord (r .home) (p - firstFor r p)
+      → holds r ≡ true → r .home ≢ home → s₁ ≡ setWriter s w (heldFor r home p)
+      → Wrote n s₂ l′ b′ b (logged s₁ l word (heldOf s₁ w)) → s′ ≡ setHeld s₂ w x → StoredOther n s′ l′ b′ s l b x st r w home
   unfolding loggedEntry
-  stored x home p word n s₁ s₂ s′ l′ b′ r′ ep ew h er h₂ hs =
+  stored x home p word n s₁ s₂ s′ l′ b′ ep ew ho hn h₁ h hs =
       let q : word ≡ entryWord (r .home) (nextPosition st - firstFor r (nextPosition st)) = ew ∙ rw ep in
-      let k = rw q at h in
-      record { size = k .size; state = hs ∙ rw (h₂, er, k .state, ep); log = k .log; batch = k .batch }
+      let e : s₁ ≡ setWriter s w (logging home (firstFor r (nextPosition st)) (countFor r + 1)) =
+      h₁ ∙ rw (held-other r home p ho hn, ep) in
+      let k = rw (e, record-first s l word w (logging home (firstFor r (nextPosition st)) (countFor r + 1)), q) at h in
+      record { size = k .size; state = hs ∙ rw (k .state); log = k .log; batch = k .batch }
 
-  pub committed : (p word n : ℕ) (s₁ s₂ s′ l′ b′ : List ℕ) (r′ : Writer) → p ≡ nextPosition st
+  pub committed : (p word n : ℕ) (s₁ s₂ s′ l′ b′ : List ℕ) → p ≡ nextPosition st
       → word ≡ closingWord (r .home) (p - firstFor r p) (linkFrom p st) (countFor r + 1) → Wrote n s₁ l′ b′ b (logged s l word (heldOf s w))
-      → s₂ ≡ setLast s₁ (p + 1) → r′ ≡ idle → s′ ≡ setWriter s₂ w r′ → Committed n s′ l′ b′ s l b st r w
+      → s₂ ≡ setLast s₁ (p + 1) → s′ ≡ setWriter s₂ w idle → Committed n s′ l′ b′ s l b st r w
   unfolding loggedClosing
-  committed p word n s₁ s₂ s′ l′ b′ r′ ep ew h h₂ er hs =
+  committed p word n s₁ s₂ s′ l′ b′ ep ew h h₂ hs =
       let q : word ≡ closingWord (r .home) (nextPosition st - firstFor r (nextPosition st)) (linkFrom (nextPosition st) st) (countFor r + 1) = ew ∙ rw ep in
       let k = rw q at h in
-      record { size = k .size; state = hs ∙ rw (h₂, er, k .state, ep); log = k .log; batch = k .batch }
+      record { size = k .size; state = hs ∙ rw (h₂, k .state, ep); log = k .log; batch = k .batch }
+
+-- a store that logs nothing
+pub none-logged : (r : Writer) → holds r ≡ false → countFor r + 1 < 2 ^ 64
+unfolding holds countFor hasLogged
+none-logged r h = let e : leb 3 (r .mode) ≡ false = lt-leb 3 (r .mode) (omega (arith, leb-false 2 (r .mode) h)) in rw e (omega arith)
+
+pub stored-first : (s s₁ s′ x : List ℕ) (r : Writer) (w home : ℕ) → holds r ≡ false → s₁ ≡ setWriter s w (heldFor r home 0) → s′ ≡ setHeld s₁ w x
+    → s′ ≡ setHeld (setWriter s w (holding home)) w x
+stored-first s s₁ s′ x r w home h h₁ hs = hs ∙ rw (h₁, held-first r home 0 h)
 
 pub at-position : (st : State) (r : Writer) (p q : ℕ) → p ≡ q → Fits st r q → Fits st r p
 at-position st r p q e f = rw e f

@@ -177,6 +177,10 @@ module _ (l a s x b : List ℕ) (v h : ℕ) where
       unfolding writerKnown
       known = (lentFor .0 .state-length, ltb-true v 8 (ready .writer), lentFor .1)
 
+      pub firsts : (r : Writer) (t : Bool) → t ≡ holds r → not t ≡ true
+          → (length s ≡ 1024) × (v < 8) × (length x ≡ 64) × (holds r ≡ false)
+      firsts r t et p = (known .0, known .1, known .2, sym et ∙ not-true t p)
+
       pub ends-first : (r : Writer) (t : Bool) (s′ : List ℕ) (c figure size : ℕ) → r ≡ writerOf s v → t ≡ holds r → not t ≡ true
           → s′ ≡ setHeld (setWriter s v (holding h)) v x → (c ≡ 0) × (figure ≡ 0) × (size ≡ 0)
           → leaves c figure size l a s′ x b ≡ storeCall (lent l a s x b v h)
@@ -194,7 +198,7 @@ module _ (l a s x b : List ℕ) (v h : ℕ) where
           (sym (puts-nil b 0))
 
       pub others : (r : Writer) (t : Bool) (st : State) → r ≡ writerOf s v → t ≡ holds r → not t ≡ false → r .home ≢ h → st ≡ stateOf s
-          → MayLog l s b st v × Fits st r (nextPosition st) × (length x ≡ 64)
+          → MayLog l s b st v × Fits st r (nextPosition st) × (length x ≡ 64) × (holds r ≡ true) × (r .home ≢ h)
       unfolding room
       others r t st er et p w es =
           let f : holds r ≡ true = sym et ∙ not-false t p in
@@ -206,7 +210,7 @@ module _ (l a s x b : List ℕ) (v h : ℕ) where
           let y : sizeOf (storeEffect (lent l a s x b v h)) ≡ cond (eqb (stateOf s .filled) 6) 516 0 =
           ap sizeOf (effect-other (lent l a s x b v h) r (stateOf s) er refl f w) ∙ size-other (lent l a s x b v h) r (stateOf s) refl g₁ g₂ in
           let i : cond (eqb (stateOf s .filled) 6) 516 0 ≤ length b = rw y at (fits (lent l a s x b v h) _ (ready .batch)) in
-          (may l a s b st v u es (known .1) (rw es k) (rw es i), fits-tag l a s st r v u es er (known .1) f (rw es k), lentFor .1)
+          (may l a s b st v u es (known .1) (rw es k) (rw es i), fits-tag l a s st r v u es er (known .1) f (rw es k), lentFor .1, f, w)
 
       pub ends-other : (r : Writer) (t : Bool) (st : State) (n : ℕ) (s′ l′ b′ : List ℕ) (c figure size : ℕ) → r ≡ writerOf s v → t ≡ holds r
           → not t ≡ false → r .home ≢ h → st ≡ stateOf s → StoredOther n s′ l′ b′ s l b x st r v h → (c ≡ 0) × (figure ≡ 0) × (size ≡ n)

@@ -21,7 +21,7 @@ fn commit_none(state: &mut [u8], w: usize)
     requires { ⌜ (length (now state) ≡ 1024) × (w < 8) ⌝ }
     ensures { λ _. ⌜ now (state .exit) ≡ setWriter (now (state .entry)) w idle ⌝ }
 {
-    strip::set_writer(state, w, strip::idle());
+    writers::abort(state, w);
 }
 
 // Logs the held block as the closing entry and ends the transaction.
@@ -40,7 +40,7 @@ fn commit_held(
     let word = closing_word(st, r, position);
     let size = log_entry(log, state, batch, st, word, w);
     strip::set_last(state, position + 1);
-    strip::set_writer(state, w, strip::idle());
+    writers::abort(state, w);
     size
 }
 

@@ -5,7 +5,7 @@ ghost use mathlib.Core.Path.{_≡_};
 ghost use mathlib.Core.Bool.{cond};
 ghost use Prim.Native.Nat.{_+_, _-_, _^_, _<_, _≤_};
 ghost use lib.Dec.{eqb, leb, ltb};
-ghost use Rattle.model.specs.State.{heldOf, firstFor, countFor, logging};
+ghost use Rattle.model.specs.State.{heldOf, firstFor, countFor};
 ghost use Rattle.model.specs.Tag.{entryWord, closingWord};
 ghost use Rattle.model.specs.Effects.{logged, linkFrom};
 ghost use Rattle.model.specs.Questions.{ask};
@@ -79,13 +79,4 @@ pub fn closing_word(st: State, r: Writer, position: u64) -> u64
     let back = position - strip::first_for(r, position);
     let link = link_from(position, st);
     codec::commit_word(r.home, back, link, strip::count_for(r) + 1)
-}
-
-// The record of a writer whose held block was logged at `position` and who holds the next one for `home`.
-pub fn logged_for(st: State, r: Writer, position: u64, home: u64) -> Writer
-    requires { ⌜ Fits st r position ⌝ }
-    ensures { λ x. ⌜ x ≡ logging home (firstFor r position) (countFor r + 1) ⌝ }
-{
-    let first = strip::first_for(r, position);
-    strip::logging(home, first, strip::count_for(r) + 1)
 }

@@ -1,15 +1,16 @@
 // Store: the writer holds one block; a block for another home first logs the held one.
 use crate::entry::log_entry;
-use crate::entry::logged_for;
 use crate::entry::may_log;
 use crate::entry::store_word;
 use answers::Reply;
 use model::State;
 use model::Writer;
 ghost use mathlib.Core.Path.{_≡_};
+ghost use mathlib.Core.Bool.{true, false};
+ghost use mathlib.Core.Logic.{_≢_};
 ghost use Prim.Native.Nat.{_<_};
 ghost use lib.ListN.{length};
-ghost use Rattle.model.specs.State.{nextPosition, setWriter, setHeld, holding};
+ghost use Rattle.model.specs.State.{nextPosition, setWriter, setHeld, holding, holds};
 ghost use Rattle.model.specs.Effects.{storeEffect};
 ghost use Rattle.model.specs.Questions.{storeAnswer};
 ghost use Rattle.model.specs.Calls.{sizeOf, storeCall};
@@ -17,15 +18,15 @@ ghost use Rattle.answers.specs.Lent.{lent, leaves};
 ghost use Rattle.logging.specs.Logs.{MayLog, Fits, StoredOther};
 
 // Holds the first block of a transaction.
-fn store_first(state: &mut [u8], block: &[u8], w: usize, home: u64)
-    requires { ⌜ (length (now state) ≡ 1024) × (w < 8) × (length (now block) ≡ 64) ⌝ }
+fn store_first(state: &mut [u8], block: &[u8], r: Writer, w: usize, home: u64)
+    requires { ⌜ (length (now state) ≡ 1024) × (w < 8) × (length (now block) ≡ 64) × (holds r ≡ false) ⌝ }
     ensures { λ _. ⌜ now (state .exit) ≡ setHeld (setWriter (now (state .entry)) w (holding home)) w (now (block .entry)) ⌝ }
 {
-    strip::set_writer(state, w, strip::holding(home));
+    writers::hold(state, w, r, home, 0);
     strip::set_held(state, w, block);
 }
 
-// Logs the held block and holds the next one, for another home.
+// Logs the held block and holds the next one, for another home. The record is changed first: the numbers and the block that are logged stay.
 fn store_other(
     log: &mut [u8],
     state: &mut [u8],
@@ -36,13 +37,13 @@ fn store_other(
     w: usize,
     home: u64,
 ) -> u64
-    requires { ⌜ MayLog (now log) (now state) (now batch) st w × Fits st r (nextPosition st) × (length (now block) ≡ 64) ⌝ }
+    requires { ⌜ MayLog (now log) (now state) (now batch) st w × Fits st r (nextPosition st) × (length (now block) ≡ 64) × (holds r ≡ true) × (r .home ≢ home) ⌝ }
     ensures { λ x. ⌜ StoredOther x (now (state .exit)) (now (log .exit)) (now (batch .exit)) (now (state .entry)) (now (log .entry)) (now (batch .entry)) (now (block .entry)) st r w home ⌝ }
 {
     let position = strip::next_position(st);
     let word = store_word(st, r, position);
+    writers::hold(state, w, r, home, position);
     let size = log_entry(log, state, batch, st, word, w);
-    strip::set_writer(state, w, logged_for(st, r, position, home));
     strip::set_held(state, w, block);
     size
 }
@@ -101,7 +102,7 @@ pub fn store(
     let w = writer as usize;
     let r = strip::writer(state, w);
     if !strip::holds(r) {
-        store_first(state, block, w, home);
+        store_first(state, block, r, w, home);
         return answers::done(0, 0);
     }
     if r.home == home {

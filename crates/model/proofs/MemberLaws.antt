@@ -73,7 +73,7 @@ unfolding orElse
 orElse-none none = refl
 orElse-none (some p) = refl
 
-orElse-assoc : (a b c : Option ℕ) → orElse (orElse a b) c ≡ orElse a (orElse b c)
+pub orElse-assoc : (a b c : Option ℕ) → orElse (orElse a b) c ≡ orElse a (orElse b c)
 unfolding orElse
 orElse-assoc none b c = refl
 orElse-assoc (some p) b c = refl

@@ -98,7 +98,7 @@ cond-entry : (b : Bool) (x t : Tag) → cond b x Nothing ≡ t → (t ≡ Nothin
 cond-entry true x t e = inr e
 cond-entry false x t e = inl (sym e)
 
-known : (log : List ℕ) (G D s p f : ℕ) (t : Tag) → entryAt log G D s p ≡ t → belongs f t ≡ true → homeOf t < D
+pub known : (log : List ℕ) (G D s p f : ℕ) (t : Tag) → entryAt log G D s p ≡ t → belongs f t ≡ true → homeOf t < D
 unfolding entryAt entryIn belongs homeOf
 known log G D s p f Nothing e b = absurd (false≢true b)
 known log G D s p f (Entry h g) e b = go (cond-entry (groupValid (groupAt log (slotOf G p)) G s (p / 7)) _ _ e)
@@ -127,7 +127,7 @@ module _ (log : List ℕ) (G D s : ℕ) (g : 0 < G) (l : length log ≡ 64 + 512
       (λ p b. (known log G D s p f (entryAt log G D s p) refl b, length-blockAt log G p g l)) (members (entryAt log G D s) f c n)
       (members-belong (entryAt log G D s) f c n)
 
-  good-each : (c : ℕ) (ss : List Span) → All (All (Good log G D (entryAt log G D s))) (eachEntries (entryAt log G D s) c ss)
+  pub good-each : (c : ℕ) (ss : List Span) → All (All (Good log G D (entryAt log G D s))) (eachEntries (entryAt log G D s) c ss)
   unfolding eachEntries entries
   good-each c [] = tt
   good-each c (x ∷ ss) = (good-members (x .first) c (suc (x .closing) - c), good-each c ss)

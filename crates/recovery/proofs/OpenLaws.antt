@@ -146,17 +146,17 @@ openable log area state v e z =
 pub area-homes : (log area state : List ℕ) (homes : ℕ) → Openable log area state → homes ≡ homesIn (length area) → length area ≡ 64 * homes
 area-homes log area state homes k e = omega arith
 
-pub open-searchable : (log area state : List ℕ) (groups homes start n : ℕ) → Openable log area state
+pub open-searchable : (log area state : List ℕ) (groups homes start : ℕ) → Openable log area state
     → (groups ≡ groupsIn (length log)) × (homes ≡ homesIn (length area)) × (start ≡ headerStart log) × (start < 2 ^ 48)
-    → n ≤ 7 * groups → Searchable log groups homes start n
-open-searchable log area state groups homes start n k q h =
+    → Searchable log groups homes start (7 * groups)
+open-searchable log area state groups homes start k q =
     record {
       long = omega arith;
       least = omega arith;
       most = omega arith;
       homes-most = omega arith;
       low = omega arith;
-      within = h;
+      within = omega arith;
     }
 
 -- ---- the records after those of the homes
@@ -174,7 +174,7 @@ three d h at n m l e f =
     let k : length (recordBytes (KW h)) ≡ 66 = length-KW h l in
     sym (rw (append-nil, puts-append d at (recordBytes FN), length-FN, ← e, puts-append (puts d at (recordBytes FN)) n (recordBytes (KW h)), k, ← f))
 
-module _ (log area map batch : List ℕ) (groups homes start end : ℕ) (r : Replayable log area map batch groups homes start end 70) where
+module _ (log area table map batch : List ℕ) (groups homes start end : ℕ) (r : Replayable log area table map batch groups homes start end 70) where
   pub header-after : (a d x y w : List ℕ) (at n m s : ℕ) (tags : ℕ → Tag) (ts : List (List ℕ))
       → at ≡ 68 * length (marked (marks map) (64 * length map)) → a ≡ replayed log groups tags ts area
       → d ≡ puts batch 0 (batchBytes (homeWrites a (marked (marks map) (64 * length map)))) → n ≡ at + 2 → x ≡ puts d at (recordBytes FN)
@@ -185,7 +185,7 @@ module _ (log area map batch : List ℕ) (groups homes start end : ℕ) (r : Rep
   header-after a d x y w at n m s tags ts e f g en ex em ey ew =
       ew
       ∙ rw (ey, ex, three d (header s groups homes) at n m (length-header s groups homes) en em, g)
-      (writes-then log area map batch groups homes start end 70 r a batch at (FN ∷ KW (header s groups homes) ∷ FN ∷ []) tags ts f e)
+      (writes-then log area table map batch groups homes start end 70 r a batch at (FN ∷ KW (header s groups homes) ∷ FN ∷ []) tags ts f e)
 
 -- ---- how the call ends
 
@@ -222,19 +222,19 @@ module _ (log area state batch : List ℕ) where
   open-refused v code figure size e h r =
       refused-by opening (openEffect opening) _ code figure size (r .0 ∙ open-stops v _ e h) (λ z. h (sym (r .0) ∙ z)) (r .1) (r .2)
 
-  module _ (v end number count groups homes start : ℕ) (m : List ℕ) (e : v ≡ askOpen (lent log area state [] [] 0 0) 0) (z : v ≡ 0)
+  module _ (v end number count groups homes start : ℕ) (table m : List ℕ) (e : v ≡ askOpen (lent log area state [] [] 0 0) 0) (z : v ≡ 0)
       (q : (groups ≡ groupsIn (length log)) × (homes ≡ homesIn (length area)) × (start ≡ headerStart log) × (start < 2 ^ 48))
-      (p : Planned log groups homes start (7 * groups) m end number count) where
+      (p : Planned log groups homes start (7 * groups) table m end number count) where
     area-long : length area ≡ 64 * homesIn (length area)
     area-long = openable log area state v e z .area-length
 
-    plan-all : Planned log (groupsIn (length log)) (homesIn (length area)) (headerStart log) (7 * groupsIn (length log)) m end number count
+    plan-all : Planned log (groupsIn (length log)) (homesIn (length area)) (headerStart log) (7 * groupsIn (length log)) table m end number count
     plan-all = rw (q .0, q .1, q .2) at p
 
     open-length : length (batchBytes (openEffect opening .records)) ≡ 68 * count + 70
     unfolding openEffect openTags
     open-length =
-        plan-size log area m _ _ _ _ end number count plan-all area-long
+        plan-size log area table m _ _ _ _ end number count plan-all area-long
         (FN ∷ KW (header (openStart opening) (groupsIn (length log)) (homesIn (length area))) ∷ FN ∷ [])
         ∙ ap (λ (k : ℕ). 68 * count + k)
         (length-last (header (openStart opening) (groupsIn (length log)) (homesIn (length area))) (length-header _ _ _))
@@ -266,6 +266,6 @@ module _ (log area state batch : List ℕ) where
         done-by opening (openEffect opening) _ code figure size l a s [] b
         (open-passes v _ e z ∙ ask-yes _ 9 0 (le-leb (sizeOf (openEffect opening)) (length batch) (omega (arith, open-size))))
         (r .0) (r .1 ∙ plan-all .numbered) (r .2 ∙ sym open-length) (el ∙ rw (q .0, q .1, q .2))
-        (plan-area log area m _ _ _ _ end number count plan-all area-long a ra)
+        (plan-area log area table m _ _ _ _ end number count plan-all area-long a ra)
         (es ∙ rw (q .0, q .1, q .2)) refl
-        (plan-batch log area m _ _ _ _ end number count plan-all area-long a b batch _ ra rb)
+        (plan-batch log area table m _ _ _ _ end number count plan-all area-long a b batch _ ra rb)

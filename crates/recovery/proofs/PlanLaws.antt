@@ -29,23 +29,9 @@ use Rattle.bitmap.proofs.MarkedLaws.{marked-agree, length-marked}
 use Rattle.homes.specs.Within.{Within}
 use Rattle.homes.proofs.HomeLaws.{length-writes, within-marked}
 use Rattle.replay.specs.Walk.{Walkable, closedBelow}
+use Rattle.replay.specs.Restore.{Gathered}
+use Rattle.replay.proofs.RestoreLaws.{marked-below}
 use Rattle.recovery.specs.Plans.{Searchable, Planned, Replayable}
-
--- ---- the homes that entries are for
-
-module _ (log : List ℕ) (G D : ℕ) (tags : ℕ → Tag) (h : ℕ) (k : D ≤ h) where
-  none-in : (ps : List ℕ) → All (Good log G D tags) ps → newestIn tags h ps ≡ none
-  unfolding newestIn
-  none-in [] g = refl
-  none-in (p ∷ ps) g =
-      let l : homeOf (tags p) < D = g .0 .0 in
-      let e : eqb (homeOf (tags p)) h ≡ false = ne-eqb (homeOf (tags p)) h (λ z. omega arith) in
-      rw e (none-in ps (g .1))
-
-  none-newest : (ts : List (List ℕ)) → All (All (Good log G D tags)) ts → newest tags h ts ≡ none
-  unfolding newest orElse
-  none-newest [] g = refl
-  none-newest (t ∷ ts) g = rw (none-newest ts (g .1)) (none-in t (g .0))
 
 -- ---- what is planned
 
@@ -53,9 +39,6 @@ length-each : (tags : ℕ → Tag) (base : ℕ) (ss : List Span) → length (eac
 unfolding eachEntries
 length-each tags base [] = refl
 length-each tags base (s ∷ ss) = ap suc (length-each tags base ss)
-
-pub no-words : {map : List ℕ} → map ≡ replicate 64 0 → length map ≡ 64
-no-words z = ap length z
 
 pub end-within : (log : List ℕ) (groups homes start n end : ℕ) → Searchable log groups homes start n
     → end ≡ endOf (committed (entryAt log groups homes start) (7 * start) n) → Walkable log groups start end
@@ -81,86 +64,77 @@ unfolding transactions
 below-end log groups homes start n end e =
     rw e (ap (eachEntries (entryAt log groups homes start) (7 * start)) (sym (committed-closings (entryAt log groups homes start) (7 * start) n)))
 
-module _ (log map m : List ℕ) (groups homes start n end number count : ℕ) (s : Searchable log groups homes start n) (z : map ≡ replicate 64 0)
-    (w : length m ≡ length map)
+module _ (log table m : List ℕ) (groups homes start n end number count : ℕ) (s : Searchable log groups homes start n)
     (e : end ≡ endOf (committed (entryAt log groups homes start) (7 * start) n))
     (u : number ≡ length (committed (entryAt log groups homes start) (7 * start) n))
-    (k : (h : ℕ) → marks m h ≡ (marks map h || found (newest (entryAt log groups homes start) h (closedBelow log groups homes start end)))) where
-  ts : List (List ℕ)
+    (g : Gathered log groups homes start end table m) where
+  abbrev ts : List (List ℕ)
   ts = transactions (entryAt log groups homes start) (7 * start) n
 
-  sixty-four : length m ≡ 64
-  sixty-four = w ∙ ap length z
-
-  marks-each : (h : ℕ) → marks m h ≡ found (newest (entryAt log groups homes start) h ts)
-  unfolding ts
-  marks-each h = k h ∙ rw (z, marks-none 64 h, below-end log groups homes start n end e)
+  marks-each : (h : ℕ) → h < homes → marks m h ≡ found (newest (entryAt log groups homes start) h ts)
+  marks-each h l = g .there h (omega (arith, s .homes-most)) ∙ rw (below-end log groups homes start n end e)
 
   marks-above : (h : ℕ) → homes ≤ h → marks m h ≡ false
-  unfolding ts found
-  marks-above h l =
-      marks-each h
-      ∙ rw (none-newest log groups homes (entryAt log groups homes start) h l ts
-      (good-found log groups homes start (omega arith) (s .long) (7 * start) n))
-
-  marks-below : (h : ℕ) → marks m h ≡ true → h < homes
-  marks-below h t = go (leb homes h) refl
+  marks-above h l = go (marks m h) refl
     where
-      go : (b : Bool) → leb homes h ≡ b → h < homes
-      go true p = let y : _≡_ {A = ℕ} 0 1 = cc (marks-above h (leb-true homes h p)) in absurd (omega arith)
-      go false p = leb-false homes h p
+      go : (b : Bool) → marks m h ≡ b → b ≡ false
+      go true p =
+          let k : h < homes = marked-below log groups homes start end table m (end-within log groups homes start n end s e) (s .homes-most) g h p in
+          absurd (omega arith)
+      go false p = refl
 
-  pub planned : count ≡ length (marked (marks m) (64 * length m)) → Planned log groups homes start n m end number count
-  unfolding ts touched transactions
+  pub planned : count ≡ length (marked (marks m) (64 * length m)) → Planned log groups homes start n table m end number count
+  unfolding touched transactions
   planned c =
       record {
         walkable = end-within log groups homes start n end s e;
+        few = s .homes-most;
         below = below-end log groups homes start n end e;
         numbered = u ∙ sym (length-each (entryAt log groups homes start) (7 * start) (committed (entryAt log groups homes start) (7 * start) n));
         touches =
             marked-agree (marks m) (64 * length m) (λ h. found (newest (entryAt log groups homes start) h ts)) homes
-            (omega (arith, sixty-four)) marks-above (λ j l. marks-each j);
+            (omega (arith, g .words, s .homes-most)) marks-above (λ j l. marks-each j l);
         counted = c;
-        within = marks-below;
-        words = sixty-four;
+        gathered = g;
       }
 
 -- ---- the records of the homes
 
-module _ (log area map batch : List ℕ) (groups homes start end more : ℕ) (r : Replayable log area map batch groups homes start end more) where
-  -- after replay, whatever is replayed
-  pub restored-within : (a : List ℕ) (tags : ℕ → Tag) (ts : List (List ℕ)) → a ≡ replayed log groups tags ts area → (h : ℕ) → marks map h ≡ true
-      → 64 * h + 64 ≤ length a
-  restored-within a tags ts e h t =
-      let l : h < homes = r .within h t in
-      omega (arith, ap length e ∙ length-replayed log groups homes tags ts area, r .area-length)
+module _ (log area table map batch : List ℕ) (groups homes start end more : ℕ) (r : Replayable log area table map batch groups homes start end more)
+  where
+    -- after replay, whatever is replayed
+    pub restored-within : (a : List ℕ) (tags : ℕ → Tag) (ts : List (List ℕ)) → a ≡ replayed log groups tags ts area → (h : ℕ) → marks map h ≡ true
+        → 64 * h + 64 ≤ length a
+    restored-within a tags ts e h t =
+        let l : h < homes = marked-below log groups homes start end table map (r .walkable) (r .few) (r .gathered) h t in
+        omega (arith, ap length e ∙ length-replayed log groups homes tags ts area, r .area-length)
 
-  -- records after those of the homes
-  pub writes-then : (a d : List ℕ) (at : ℕ) (rs : List Record) (tags : ℕ → Tag) (ts : List (List ℕ)) → a ≡ replayed log groups tags ts area → at ≡ 68 * length (marked (marks map) (64 * length map))
-      → puts (puts d 0 (batchBytes (homeWrites a (marked (marks map) (64 * length map))))) at (batchBytes rs)
-      ≡ puts d 0 (batchBytes (homeWrites a (marked (marks map) (64 * length map)) ++ rs))
-  writes-then a d at rs tags ts l e =
-      let hs : List ℕ = marked (marks map) (64 * length map) in
-      let n : length (batchBytes (homeWrites a hs)) ≡ at = length-writes a hs (within-marked a (marks map) (64 * length map) (restored-within a tags ts l)) ∙ sym e in
-      let z : 0 + at ≡ at = omega arith in
-      rw (batch-append, puts-append, n, z)
+    -- records after those of the homes
+    pub writes-then : (a d : List ℕ) (at : ℕ) (rs : List Record) (tags : ℕ → Tag) (ts : List (List ℕ)) → a ≡ replayed log groups tags ts area → at ≡ 68 * length (marked (marks map) (64 * length map))
+        → puts (puts d 0 (batchBytes (homeWrites a (marked (marks map) (64 * length map))))) at (batchBytes rs)
+        ≡ puts d 0 (batchBytes (homeWrites a (marked (marks map) (64 * length map)) ++ rs))
+    writes-then a d at rs tags ts l e =
+        let hs : List ℕ = marked (marks map) (64 * length map) in
+        let n : length (batchBytes (homeWrites a hs)) ≡ at = length-writes a hs (within-marked a (marks map) (64 * length map) (restored-within a tags ts l)) ∙ sym e in
+        let z : 0 + at ≡ at = omega arith in
+        rw (batch-append, puts-append, n, z)
 
-module _ (log area map batch : List ℕ) (groups homes start end : ℕ) (r : Replayable log area map batch groups homes start end 2) where
+module _ (log area table map batch : List ℕ) (groups homes start end : ℕ) (r : Replayable log area table map batch groups homes start end 2) where
   pub fence-after : (a d x : List ℕ) (at : ℕ) (tags : ℕ → Tag) (ts : List (List ℕ)) → at ≡ 68 * length (marked (marks map) (64 * length map))
       → a ≡ replayed log groups tags ts area → d ≡ puts batch 0 (batchBytes (homeWrites a (marked (marks map) (64 * length map))))
       → x ≡ puts d at (recordBytes FN)
       → x ≡ puts batch 0 (batchBytes (homeWrites a (marked (marks map) (64 * length map)) ++ (FN ∷ [])))
   fence-after a d x at tags ts e f g h =
-      h ∙ rw (g, ← batch-one FN) (writes-then log area map batch groups homes start end 2 r a batch at (FN ∷ []) tags ts f e)
+      h ∙ rw (g, ← batch-one FN) (writes-then log area table map batch groups homes start end 2 r a batch at (FN ∷ []) tags ts f e)
 
 -- ---- what a plan gives to the call
 
-pub count-most : (log : List ℕ) (groups homes start n : ℕ) (m : List ℕ) (end number count : ℕ) → Planned log groups homes start n m end number count
+pub count-most : (log : List ℕ) (groups homes start n : ℕ) (table m : List ℕ) (end number count : ℕ) → Planned log groups homes start n table m end number count
     → count ≤ 4096
-count-most log groups homes start n m end number count p =
-    omega (arith, p .counted, p .words, length-marked (marks m) (64 * length m))
+count-most log groups homes start n table m end number count p =
+    omega (arith, p .counted, p .gathered .words, length-marked (marks m) (64 * length m))
 
-module _ (log area m : List ℕ) (groups homes start n end number count : ℕ) (p : Planned log groups homes start n m end number count)
+module _ (log area table m : List ℕ) (groups homes start n end number count : ℕ) (p : Planned log groups homes start n table m end number count)
     (l : length area ≡ 64 * homes) where
   abbrev seen : ℕ → Tag
   seen = entryAt log groups homes start
@@ -171,14 +145,17 @@ module _ (log area m : List ℕ) (groups homes start n end number count : ℕ) (
   abbrev brought : List ℕ
   brought = replayed log groups seen closed area
 
+  below : (h : ℕ) → marks m h ≡ true → h < homes
+  below h t = marked-below log groups homes start end table m (p .walkable) (p .few) (p .gathered) h t
+
   pub plan-replayable : (batch : List ℕ) (more : ℕ) → 68 * count + more ≤ length batch
-      → Replayable log area m batch groups homes start end more
+      → Replayable log area table m batch groups homes start end more
   plan-replayable batch more h =
       record {
         walkable = p .walkable;
+        few = p .few;
         area-length = l;
-        within = p .within;
-        words = p .words;
+        gathered = p .gathered;
         batch-length = let c = p .counted in omega arith;
       }
 
@@ -186,7 +163,7 @@ module _ (log area m : List ℕ) (groups homes start n end number count : ℕ) (
   plan-size rs =
       let hs : List ℕ = touched seen closed homes in
       let e : length brought ≡ length area = length-replayed log groups homes seen closed area in
-      let f : (h : ℕ) → marks m h ≡ true → 64 * h + 64 ≤ length brought = λ h t. (let k : h < homes = p .within h t in omega arith) in
+      let f : (h : ℕ) → marks m h ≡ true → 64 * h + 64 ≤ length brought = λ h t. (let k : h < homes = below h t in omega arith) in
       let w : Within brought hs = rw (p .touches) at (within-marked brought (marks m) (64 * length m) f) in
       let c : count ≡ length hs = p .counted ∙ ap length (p .touches) in
       rw (batch-append, length-append) (omega (arith, length-writes brought hs w))

@@ -60,16 +60,16 @@ numbers log area state code st e z f =
 pub state-length : (log area state : List ℕ) (code : ℕ) → code ≡ askState (lent log area state [] [] 0 0) 0 → code ≡ 0 → length state ≡ 1024
 state-length log area state code e z = state-usable (lent log area state [] [] 0 0) (sym e ∙ z) .state-length
 
-pub settle-searchable : (log area state : List ℕ) (st : State) (n : ℕ) → Numbers log area state st → n ≤ 7 * st .groups
-    → Searchable log (st .groups) (st .homes) (st .start) n
-settle-searchable log area state st n k h =
+pub settle-searchable : (log area state : List ℕ) (st : State) → Numbers log area state st
+    → Searchable log (st .groups) (st .homes) (st .start) (st .fenced - 7 * st .start)
+settle-searchable log area state st k =
     record {
       long = k .log-length;
       least = k .groups-least;
       most = k .groups-most;
       homes-most = k .homes-most;
       low = k .start-most;
-      within = h;
+      within = omega (arith, k .fenced-most);
     }
 
 -- ---- how the call ends
@@ -85,23 +85,23 @@ module _ (log area state batch : List ℕ) where
       refused-by settling (settleEffect settling) _ code figure size
       (r .0 ∙ state-refuses settling v _ (e ∙ sym (state-only log area state [] batch 0 0 0)) h) (λ z. h (sym (r .0) ∙ z)) (r .1) (r .2)
 
-  module _ (v end number count : ℕ) (st : State) (m : List ℕ) (e : v ≡ askState (lent log area state [] [] 0 0) 0) (z : v ≡ 0)
+  module _ (v end number count : ℕ) (st : State) (table m : List ℕ) (e : v ≡ askState (lent log area state [] [] 0 0) 0) (z : v ≡ 0)
       (f : st ≡ stateOf state)
-      (p : Planned log (st .groups) (st .homes) (st .start) (st .fenced - 7 * st .start) m end number count) where
+      (p : Planned log (st .groups) (st .homes) (st .start) (st .fenced - 7 * st .start) table m end number count) where
     order : InOrder state (groupsIn (length log)) (homesIn (length area))
     order = state-usable (lent log area state [] [] 0 0) (sym e ∙ z) .order
 
     area-long : length area ≡ 64 * homesIn (length area)
     area-long = state-usable (lent log area state [] [] 0 0) (sym e ∙ z) .area-length
 
-    plan-live : Planned log (groupsIn (length log)) (homesIn (length area)) (stateOf state .start) (stateOf state .fenced - 7 * stateOf state .start) m
-        end number count
+    plan-live : Planned log (groupsIn (length log)) (homesIn (length area)) (stateOf state .start) (stateOf state .fenced - 7 * stateOf state .start)
+        table m end number count
     plan-live = rw (f, order .groups-same, order .homes-same) at p
 
     settle-size : sizeOf (settleEffect settling) ≡ 68 * count + 2
     unfolding sizeOf settleEffect liveTags liveBase
     settle-size =
-        plan-size log area m _ _ _ _ end number count plan-live area-long (FN ∷ []) ∙ ap (λ (k : ℕ). 68 * count + k) (ap length (batch-one FN) ∙ length-FN)
+        plan-size log area table m _ _ _ _ end number count plan-live area-long (FN ∷ []) ∙ ap (λ (k : ℕ). 68 * count + k) (ap length (batch-one FN) ∙ length-FN)
 
     settle-length : length (batchBytes (settleEffect settling .records)) ≡ 68 * count + 2
     unfolding sizeOf
@@ -130,6 +130,6 @@ module _ (log area state batch : List ℕ) where
         done-by settling (settleEffect settling) _ code figure size log a s [] b
         (asked ∙ ask-yes _ 9 0 (le-leb (sizeOf (settleEffect settling)) (length batch) (omega (arith, settle-size))))
         (r .0) (r .1) (r .2 ∙ sym settle-length) refl
-        (plan-area log area m _ _ _ _ end number count plan-live area-long a ra)
+        (plan-area log area table m _ _ _ _ end number count plan-live area-long a ra)
         (es ∙ rw f) refl
-        (plan-batch log area m _ _ _ _ end number count plan-live area-long a b batch (FN ∷ []) ra eb)
+        (plan-batch log area table m _ _ _ _ end number count plan-live area-long a b batch (FN ∷ []) ra eb)

@@ -1,6 +1,6 @@
 // Open: the committed transactions of the log come back, and the log is then empty from a new start on.
 use super::planning::bring_back;
-use super::planning::find_committed;
+use super::planning::touched_homes;
 use answers::Reply;
 ghost use mathlib.Core.Path.{_≡_};
 ghost use mathlib.Core.List.{[], _∷_, _++_};
@@ -68,13 +68,14 @@ fn open_homes(
     log: &[u8],
     area: &mut [u8],
     batch: &mut [u8],
+    table: &[u16],
     map: &[u64],
     groups: u64,
     homes: u64,
     start: u64,
     end: u64,
 )
-    requires { ⌜ Replayable (now log) (now area) (now map) (now batch) groups homes start end 70 ⌝ }
+    requires { ⌜ Replayable (now log) (now area) (now table) (now map) (now batch) groups homes start end 70 ⌝ }
     ensures { λ _. ⌜ now (area .exit)
         ≡ replayed (now (log .entry)) groups (entryAt (now (log .entry)) groups homes start)
         (closedBelow (now (log .entry)) groups homes start end) (now (area .entry)) ⌝ }
@@ -83,7 +84,7 @@ fn open_homes(
         (batchBytes (homeWrites (now (area .exit)) (marked (marks (now (map .entry))) (64 * length (now (map .entry))))
         ++ (FN ∷ KW (header (start + groups) groups homes) ∷ FN ∷ []))) ⌝ }
 {
-    let mut at = bring_back(log, area, batch, map, groups, homes, start, end);
+    let mut at = bring_back(log, area, batch, table, map, groups, homes, start, end);
     at = batch::fence(batch, at);
     at = batch::header_write(batch, at, start + groups, groups, homes);
     batch::fence(batch, at);
@@ -111,13 +112,16 @@ pub fn reopen(log: &mut [u8], area: &mut [u8], state: &mut [u8], batch: &mut [u8
     let groups = shape.groups;
     let homes = shape.homes;
     let start = shape.start;
+    let mut table = [0u16; 4096];
     let mut map = [0u64; 64];
-    let plan = find_committed(log, &mut map, groups, homes, start, 7 * groups);
-    let size = 68 * plan.count + 70;
+    let found = scan::walk(log, groups, homes, start, 7 * groups);
+    let end = found.end;
+    let count = touched_homes(log, &mut table, &mut map, groups, homes, start, end);
+    let size = 68 * count + 70;
     if (batch.len() as u64) < size {
         return answers::refused(9);
     }
-    open_homes(log, area, batch, &map, groups, homes, start, plan.end);
+    open_homes(log, area, batch, &table, &map, groups, homes, start, end);
     open_copies(log, state, groups, homes, start + groups);
-    answers::done(plan.number, size)
+    answers::done(found.number, size)
 }

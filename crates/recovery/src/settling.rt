@@ -1,6 +1,6 @@
 // Settle: the committed transactions below the fenced position go into the data copy and the data area.
 use super::planning::bring_back;
-use super::planning::find_committed;
+use super::planning::touched_homes;
 use answers::Reply;
 use model::State;
 ghost use mathlib.Core.Path.{_≡_};
@@ -29,8 +29,16 @@ fn settle_state(state: &mut [u8], st: State)
 }
 
 // Replays what closes below `end` into the data copy, and writes the records of the marked homes and a fence.
-fn settle_homes(log: &[u8], area: &mut [u8], batch: &mut [u8], map: &[u64], st: State, end: u64)
-    requires { ⌜ Replayable (now log) (now area) (now map) (now batch) (st .groups) (st .homes) (st .start) end 2 ⌝ }
+fn settle_homes(
+    log: &[u8],
+    area: &mut [u8],
+    batch: &mut [u8],
+    table: &[u16],
+    map: &[u64],
+    st: State,
+    end: u64,
+)
+    requires { ⌜ Replayable (now log) (now area) (now table) (now map) (now batch) (st .groups) (st .homes) (st .start) end 2 ⌝ }
     ensures { λ _. ⌜ now (area .exit)
         ≡ replayed (now (log .entry)) (st .groups) (entryAt (now (log .entry)) (st .groups) (st .homes) (st .start))
         (closedBelow (now (log .entry)) (st .groups) (st .homes) (st .start) end) (now (area .entry)) ⌝ }
@@ -38,7 +46,17 @@ fn settle_homes(log: &[u8], area: &mut [u8], batch: &mut [u8], map: &[u64], st: 
         ≡ puts (now (batch .entry)) 0
         (batchBytes (homeWrites (now (area .exit)) (marked (marks (now (map .entry))) (64 * length (now (map .entry)))) ++ (FN ∷ []))) ⌝ }
 {
-    let at = bring_back(log, area, batch, map, st.groups, st.homes, st.start, end);
+    let at = bring_back(
+        log,
+        area,
+        batch,
+        table,
+        map,
+        st.groups,
+        st.homes,
+        st.start,
+        end,
+    );
     batch::fence(batch, at);
 }
 
@@ -51,14 +69,25 @@ pub fn settle(log: &[u8], area: &mut [u8], state: &mut [u8], batch: &mut [u8]) -
         return answers::refused(code);
     }
     let st = strip::state(state);
+    let mut table = [0u16; 4096];
     let mut map = [0u64; 64];
     let n = st.fenced - 7 * st.start;
-    let plan = find_committed(log, &mut map, st.groups, st.homes, st.start, n);
-    let size = 68 * plan.count + 2;
+    let found = scan::walk(log, st.groups, st.homes, st.start, n);
+    let end = found.end;
+    let count = touched_homes(
+        log,
+        &mut table,
+        &mut map,
+        st.groups,
+        st.homes,
+        st.start,
+        end,
+    );
+    let size = 68 * count + 2;
     if (batch.len() as u64) < size {
         return answers::refused(9);
     }
-    settle_homes(log, area, batch, &map, st, plan.end);
+    settle_homes(log, area, batch, &table, &map, st, end);
     settle_state(state, st);
     answers::done(0, size)
 }

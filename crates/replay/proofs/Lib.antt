@@ -1,5 +1,6 @@
 pub mod CodeLaws
-pub mod RestoreLaws
-pub mod MarkLaws
 pub mod NewestLaws
 pub mod TrimLaws
+pub mod BestLaws
+pub mod GatherLaws
+pub mod RestoreLaws

@@ -1,3 +1,6 @@
 pub mod Codes
 pub mod Walk
 pub mod Limits
+pub mod Gather
+pub mod Best
+pub mod Restore

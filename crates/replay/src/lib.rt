@@ -1,14 +1,12 @@
 // Replay of committed transactions, the newest committed entry of a home, and the start that trim may move to.
 mod entries;
-mod mark;
+mod gathering;
 mod newest;
 mod restore;
 mod trim;
 
-pub use mark::mark_all;
-pub use mark::mark_one;
+pub use gathering::gather;
 pub use newest::newest_committed;
 pub use newest::newest_own;
 pub use restore::restore_all;
-pub use restore::restore_one;
 pub use trim::trim_start;

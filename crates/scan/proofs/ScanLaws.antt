@@ -119,11 +119,11 @@ entered-nothing tags base position (suc m) s h = rw (h m (omega arith)) (entered
 -- ---- a group's positions
 
 module _ (group : List ℕ) (groups homes start n : ℕ) where
-  hole-nothing : groupValid group groups start n ≡ false → (k : ℕ) → k < 7 → entryIn group groups homes start (7 * n + k) ≡ Nothing
+  pub hole-nothing : groupValid group groups start n ≡ false → (k : ℕ) → k < 7 → entryIn group groups homes start (7 * n + k) ≡ Nothing
   unfolding entryIn
   hole-nothing v k h = rw (position-group n k h, v)
 
-  valid-tag : groupValid group groups start n ≡ true → (k : ℕ) → k < 7
+  pub valid-tag : groupValid group groups start n ≡ true → (k : ℕ) → k < 7
       → entryIn group groups homes start (7 * n + k) ≡ readTag (groupTag group k) (7 * n + k) (7 * start) homes
   unfolding entryIn indexOf
   valid-tag v k h = rw (position-group n k h, position-rest n k h, v)
@@ -139,7 +139,7 @@ module _ (group : List ℕ) (groups homes start n : ℕ) where
   group-turn k position s t u v h e p q =
       p ∙ rw (e, entered-one (entryIn group groups homes start) (7 * start) (7 * n) k u, valid-tag v k h, ← q)
 
-group-tags : (log : List ℕ) (groups homes start n k : ℕ) → k < 7
+pub group-tags : (log : List ℕ) (groups homes start n k : ℕ) → k < 7
     → entryIn (groupAt log (n % groups)) groups homes start (7 * n + k) ≡ entryAt log groups homes start (7 * n + k)
 unfolding entryAt
 group-tags log groups homes start n k h = rw (position-slot groups n k h)

@@ -152,19 +152,17 @@ module _ (g : Given) (r : ℕ) (code figure size : ℕ) where
   unfolding confirmCall confirmAnswer
   confirm-refused e h c f n = refused-by g (confirmEffect g) (askState g 0) code figure size (c ∙ e) (λ z. h (sym c ∙ z)) f n
 
-  pub begin-done : (x : Writer) (s : List ℕ) → r ≡ beginAnswer g → r ≡ 0 → x ≡ begun → s ≡ setWriter (g .state) (g .writer) x → code ≡ 0
+  pub begin-done : (s : List ℕ) → r ≡ beginAnswer g → r ≡ 0 → s ≡ setWriter (g .state) (g .writer) begun → code ≡ 0
       → figure ≡ 0 → size ≡ 0 → leaves code figure size (g .log) (g .area) s (g .block) (g .batch) ≡ beginCall g
   unfolding beginCall beginEffect
-  begin-done x s e z ex es c f n =
-      strip-by g (setWriter (g .state) (g .writer) begun) (beginAnswer g) 0 code figure size s (sym e ∙ z) c f n
-      (es ∙ ap (setWriter (g .state) (g .writer)) ex)
+  begin-done s e z es c f n =
+      strip-by g (setWriter (g .state) (g .writer) begun) (beginAnswer g) 0 code figure size s (sym e ∙ z) c f n es
 
-  pub abort-done : (x : Writer) (s : List ℕ) → r ≡ abortAnswer g → r ≡ 0 → x ≡ idle → s ≡ setWriter (g .state) (g .writer) x → code ≡ 0
+  pub abort-done : (s : List ℕ) → r ≡ abortAnswer g → r ≡ 0 → s ≡ setWriter (g .state) (g .writer) idle → code ≡ 0
       → figure ≡ 0 → size ≡ 0 → leaves code figure size (g .log) (g .area) s (g .block) (g .batch) ≡ abortCall g
   unfolding abortCall abortEffect
-  abort-done x s e z ex es c f n =
-      strip-by g (setWriter (g .state) (g .writer) idle) (abortAnswer g) 0 code figure size s (sym e ∙ z) c f n
-      (es ∙ ap (setWriter (g .state) (g .writer)) ex)
+  abort-done s e z es c f n =
+      strip-by g (setWriter (g .state) (g .writer) idle) (abortAnswer g) 0 code figure size s (sym e ∙ z) c f n es
 
   pub confirm-done : (st : State) (s : List ℕ) → r ≡ askState g 0 → r ≡ 0 → st ≡ stateOf (g .state) → s ≡ setDurable (g .state) (st .fenced)
       → code ≡ 0 → figure ≡ st .fenced → size ≡ 0 → leaves code figure size (g .log) (g .area) s (g .block) (g .batch) ≡ confirmCall g

@@ -43,7 +43,7 @@ pub fn begin(log: &[u8], area: &[u8], state: &mut [u8], writer: u64) -> Reply
     if answer != 0 {
         return answers::refused(answer);
     }
-    strip::set_writer(state, writer as usize, strip::begun());
+    writers::begin(state, writer as usize);
     answers::done(0, 0)
 }
 
@@ -69,7 +69,7 @@ pub fn abort(log: &[u8], area: &[u8], state: &mut [u8], writer: u64) -> Reply
     if answer != 0 {
         return answers::refused(answer);
     }
-    strip::set_writer(state, writer as usize, strip::idle());
+    writers::abort(state, writer as usize);
     answers::done(0, 0)
 }
 

@@ -19,11 +19,8 @@ returns c =
     let d = c .refused .ensures in
     abort-refused _ _ _ _ _ (c .before .before .abort-answer .ensures) (c .before .if1 .taken) (d .0) (d .1) (d .2)
 
-idle-requires : tie.Need-idle-requires
-idle-requires c κs = search needs
-
-set-writer-requires : tie.Need-set-writer-requires
-set-writer-requires c κs = omega (arith, abort-fits _ _ (c .before .before .before .abort-answer .ensures) (c .before .before .if1 .left))
+abort-requires : tie.Need-abort-requires
+abort-requires c κs = omega (arith, abort-fits _ _ (c .before .before .abort-answer .ensures) (c .before .if1 .left))
 
 done-requires : tie.Need-done-requires
 done-requires c κs = search needs
@@ -35,12 +32,7 @@ returns-2 : tie.Need-returns-2
 returns-2 c =
     let k = c .before .before .before in
     let d = c .done .ensures in
-    abort-done _ _ _ _ _ _ _ (k .before .before .before .before .abort-answer .ensures) (k .before .before .before .if1 .left)
-    (k .before .idle .ensures)
-    (k .set-writer .ensures)
-    (d .0)
-    (d .1)
-    (d .2)
+    abort-done _ _ _ _ _ _ (k .before .before .before .abort-answer .ensures) (k .before .before .if1 .left) (k .abort .ensures) (d .0) (d .1) (d .2)
 
 pub abort-spec : {M : Type 1} → statement M
 abort-spec =
@@ -50,8 +42,7 @@ abort-spec =
     refused-requires
     same-length
     returns
-    idle-requires
-    set-writer-requires
+    abort-requires
     done-requires
     same-length-2
     returns-2)

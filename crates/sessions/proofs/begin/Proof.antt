@@ -19,11 +19,8 @@ returns c =
     let d = c .refused .ensures in
     begin-refused _ _ _ _ _ (c .before .before .begin-answer .ensures) (c .before .if1 .taken) (d .0) (d .1) (d .2)
 
-begun-requires : tie.Need-begun-requires
-begun-requires c κs = search needs
-
-set-writer-requires : tie.Need-set-writer-requires
-set-writer-requires c κs = omega (arith, begin-fits _ _ (c .before .before .before .begin-answer .ensures) (c .before .before .if1 .left))
+begin-requires : tie.Need-begin-requires
+begin-requires c κs = omega (arith, begin-fits _ _ (c .before .before .begin-answer .ensures) (c .before .if1 .left))
 
 done-requires : tie.Need-done-requires
 done-requires c κs = search needs
@@ -35,12 +32,7 @@ returns-2 : tie.Need-returns-2
 returns-2 c =
     let k = c .before .before .before in
     let d = c .done .ensures in
-    begin-done _ _ _ _ _ _ _ (k .before .before .before .before .begin-answer .ensures) (k .before .before .before .if1 .left)
-    (k .before .begun .ensures)
-    (k .set-writer .ensures)
-    (d .0)
-    (d .1)
-    (d .2)
+    begin-done _ _ _ _ _ _ (k .before .before .before .begin-answer .ensures) (k .before .before .if1 .left) (k .begin .ensures) (d .0) (d .1) (d .2)
 
 pub begin-spec : {M : Type 1} → statement M
 begin-spec =
@@ -50,8 +42,7 @@ begin-spec =
     refused-requires
     same-length
     returns
-    begun-requires
-    set-writer-requires
+    begin-requires
     done-requires
     same-length-2
     returns-2)

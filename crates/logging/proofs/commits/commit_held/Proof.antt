@@ -19,11 +19,8 @@ add-set-last c = search needs
 set-last-requires : tie.Need-set-last-requires
 set-last-requires c κs = search needs
 
-idle-requires : tie.Need-idle-requires
-idle-requires c κs = search needs
-
-set-writer-requires : tie.Need-set-writer-requires
-set-writer-requires c κs = search needs
+abort-requires : tie.Need-abort-requires
+abort-requires c κs = search needs
 
 same-length : tie.Need-same-length
 same-length c = search needs
@@ -36,14 +33,13 @@ same-length-3 c = search needs
 
 returns : tie.Need-returns
 returns c =
-    let c6 = c .before .before in
-    let c5 = c6 .before in
+    let c5 = c .before .before in
     let c4 = c5 .before .before .before .before in
     let c3 = c4 .before .before .before .before .before .before .before .before in
     let c2 = c3 .before .before .before .before in
     let c1 = c2 .before in
-    committed _ _ _ _ _ _ _ _ _ _ _ _ _ _ _ (c1 .next-position .ensures) (c2 .closing-word .ensures) (c3 .log-entry .ensures)
-    (c4 .set-last .ensures) (c5 .idle .ensures) (c6 .set-writer .ensures)
+    committed _ _ _ _ _ _ _ _ _ _ _ _ _ _ (c1 .next-position .ensures) (c2 .closing-word .ensures) (c3 .log-entry .ensures)
+    (c4 .set-last .ensures) (c5 .abort .ensures)
 
 pub commit-held-spec : {M : Type 1} → statement M
 commit-held-spec =
@@ -54,8 +50,7 @@ commit-held-spec =
     log-entry-requires
     add-set-last
     set-last-requires
-    idle-requires
-    set-writer-requires
+    abort-requires
     same-length
     same-length-2
     same-length-3

@@ -1,5 +1,5 @@
 -- `logging::store` meets its contract. Assumes nothing.
-use Rattle.logging.proofs.StoreLaws.{known, others, ends-refused, ends-first, ends-again, ends-other}
+use Rattle.logging.proofs.StoreLaws.{known, others, ends-refused, firsts, ends-first, ends-again, ends-other}
 use borrow.Author.Needs.{needs}
 use Rattle.logging.proofs.stores.store.Statement.{statement}
 use Rattle.logging.proofs.stores.store.Tie as tie
@@ -30,9 +30,11 @@ holds-requires c κs = search needs
 
 store-first-requires : tie.Need-store-first-requires
 store-first-requires c κs =
-    let c2 = c .before .before .before .before .before in
+    let c4 = c .before in
+    let c3 = c4 .before in
+    let c2 = c3 .before .before .before in
     let c1 = c2 .before in
-    let k = known _ _ _ _ _ _ _ _ (c1 .store-verdict .ensures) (c2 .if1 .left) in (k .0, k .1, k .2)
+    firsts _ _ _ _ _ _ _ _ (c1 .store-verdict .ensures) (c2 .if1 .left) _ _ (c3 .holds .ensures) (c4 .if2 .taken)
 
 done-requires : tie.Need-done-requires
 done-requires c κs = search needs

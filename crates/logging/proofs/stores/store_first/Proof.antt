@@ -1,13 +1,11 @@
 -- `logging::store_first` meets its contract. Assumes nothing.
+use Rattle.logging.proofs.LogLaws.{none-logged, stored-first}
 use borrow.Author.Needs.{needs}
 use Rattle.logging.proofs.stores.store_first.Statement.{statement}
 use Rattle.logging.proofs.stores.store_first.Tie as tie
 
-holding-requires : tie.Need-holding-requires
-holding-requires c κs = search needs
-
-set-writer-requires : tie.Need-set-writer-requires
-set-writer-requires c κs = search needs
+hold-requires : tie.Need-hold-requires
+hold-requires c κs = let p = c .before .before .before .pre in (p .0, p .1, none-logged _ (p .3))
 
 set-held-requires : tie.Need-set-held-requires
 set-held-requires c κs = search needs
@@ -16,8 +14,10 @@ same-length : tie.Need-same-length
 same-length c = search needs
 
 returns : tie.Need-returns
-returns c = cc
+returns c =
+    let c2 = c .before .before in
+    let c1 = c2 .before .before .before .before in
+    stored-first _ _ _ _ _ _ _ (c1 .before .before .before .before .pre .3) (c1 .hold .ensures) (c2 .set-held .ensures)
 
 pub store-first-spec : {M : Type 1} → statement M
-store-first-spec =
-    tie.close (tie.spec holding-requires set-writer-requires set-held-requires same-length returns)
+store-first-spec = tie.close (tie.spec hold-requires set-held-requires same-length returns)

@@ -1,5 +1,6 @@
 -- `logging::store_other` meets its contract. Assumes nothing.
-use Rattle.logging.proofs.LogLaws.{stored, at-position}
+use native.Mathlib.Omega.{arith}
+use Rattle.logging.proofs.LogLaws.{may-after, stored, at-position}
 use borrow.Author.Needs.{needs}
 use Rattle.logging.proofs.stores.store_other.Statement.{statement}
 use Rattle.logging.proofs.stores.store_other.Tie as tie
@@ -10,17 +11,15 @@ next-position-requires c κs = search needs
 store-word-requires : tie.Need-store-word-requires
 store-word-requires c κs = at-position _ _ _ _ (c .next-position .ensures) (c .before .before .before .before .before .pre .1)
 
+hold-requires : tie.Need-hold-requires
+hold-requires c κs =
+    let p = c .before .before .before .before .before .before .before .pre in
+    (p .0 .strip, p .0 .writer, omega (arith, p .1 .many))
+
 log-entry-requires : tie.Need-log-entry-requires
-log-entry-requires c κs = search needs
-
-logged-for-requires : tie.Need-logged-for-requires
-logged-for-requires c κs =
-    let c2 = c .before .before .before .before .before .before .before .before .before .before .before .before in
-    let c1 = c2 .before .before .before .before .before in
-    at-position _ _ _ _ (c2 .next-position .ensures) (c1 .pre .1)
-
-set-writer-requires : tie.Need-set-writer-requires
-set-writer-requires c κs = search needs
+log-entry-requires c κs =
+    let c1 = c .before .before .before .before .before in
+    may-after _ _ _ _ _ _ _ (c1 .before .before .before .before .before .before .before .before .pre .0) (c1 .hold .ensures)
 
 set-held-requires : tie.Need-set-held-requires
 set-held-requires c κs = search needs
@@ -36,14 +35,14 @@ same-length-3 c = search needs
 
 returns : tie.Need-returns
 returns c =
-    let c6 = c .before .before in
-    let c5 = c6 .before .before .before .before in
-    let c4 = c5 .before in
-    let c3 = c4 .before .before .before .before .before .before .before .before in
-    let c2 = c3 .before .before .before .before in
+    let c5 = c .before .before in
+    let c4 = c5 .before .before .before .before .before .before .before .before in
+    let c3 = c4 .before .before .before .before .before .before in
+    let c2 = c3 .before .before in
     let c1 = c2 .before in
-    stored _ _ _ _ _ _ _ _ _ _ _ _ _ _ _ _ _ (c1 .next-position .ensures) (c2 .store-word .ensures) (c3 .log-entry .ensures)
-    (c4 .logged-for .ensures) (c5 .set-writer .ensures) (c6 .set-held .ensures)
+    let p = c1 .before .before .before .before .before .pre in
+    stored _ _ _ _ _ _ _ _ _ _ _ _ _ _ _ _ (c1 .next-position .ensures) (c2 .store-word .ensures) (p .3) (p .4) (c3 .hold .ensures)
+    (c4 .log-entry .ensures) (c5 .set-held .ensures)
 
 pub store-other-spec : {M : Type 1} → statement M
 store-other-spec =
@@ -51,9 +50,8 @@ store-other-spec =
     (tie.spec
     next-position-requires
     store-word-requires
+    hold-requires
     log-entry-requires
-    logged-for-requires
-    set-writer-requires
     set-held-requires
     same-length
     same-length-2

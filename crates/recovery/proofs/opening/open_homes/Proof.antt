@@ -26,15 +26,12 @@ same-length-2 : tie.Need-same-length-2
 same-length-2 c = search needs
 
 returns : tie.Need-returns
-returns c =
-    let c1 = c .before .before .before .before .before .before in
-    let c2 = c1 .before .before .before .before in
-    let c3 = c2 .before .before .before .before .before .before in
-    let c4 = c3 .before .before .before .before .before .before .before in (
-      c3 .bring-back .ensures .1 .0,
-      header-after _ _ _ _ _ _ _ _ (c4 .pre) _ _ _ _ _ _ _ _ _ _ _ (c3 .bring-back .ensures .0) (c3 .bring-back .ensures .1 .0)
-          (c3 .bring-back .ensures .1 .1) (c2 .fence .ensures .0) (c2 .fence .ensures .1) (c1 .header-write .ensures .0) (c1 .header-write .ensures .1) (c .before .before .fence2 .ensures .1),
-    )
+returns c = (
+  c .before .before .before .before .before .before .before .before .before .before .before .before .before .before .before .before .bring-back .ensures .1 .0,
+  header-after _ _ _ _ _ _ _ _ _ (c .before .before .before .before .before .before .before .before .before .before .before .before .before .before .before .before .before .before .before .before .before .before .before .before .pre) _ _ _ _ _ _ _ _ _ _ _ (c .before .before .before .before .before .before .before .before .before .before .before .before .before .before .before .before .bring-back .ensures .0) (c .before .before .before .before .before .before .before .before .before .before .before .before .before .before .before .before .bring-back .ensures .1 .0)
+      (c .before .before .before .before .before .before .before .before .before .before .before .before .before .before .before .before .bring-back .ensures .1 .1) (c .before .before .before .before .before .before .before .before .before .before .fence .ensures .0) (c .before .before .before .before .before .before .before .before .before .before .fence .ensures .1) (c .before .before .before .before .before .before .header-write .ensures .0) (c .before .before .before .before .before .before .header-write .ensures .1)
+      (c .before .before .fence2 .ensures .1),
+)
 
 pub open-homes-spec : {M : Type 1} → statement M
 open-homes-spec =

@@ -10,9 +10,8 @@ restore-all-requires c κs = search needs
 
 emit-requires : tie.Need-emit-requires
 emit-requires c κs =
-    let c1 = c .before .before .before .before in
-    let c2 = c1 .before .before .before .before .before .before in
-    (restored-within _ _ _ _ _ _ _ _ _ (c2 .pre) _ _ _ (c1 .restore-all .ensures), (omega (arith, c2 .pre .batch-length), omega (arith, c2 .pre .words)))
+    let p = c .before .before .before .before .before .before .before .before .before .before .before .pre in
+    (restored-within _ _ _ _ _ _ _ _ _ _ p _ _ _ (c .before .before .before .before .restore-all .ensures), (omega (arith, p .batch-length), omega (arith, p .gathered .words)))
 
 same-length : tie.Need-same-length
 same-length c = search needs

@@ -17,13 +17,11 @@ same-length-2 : tie.Need-same-length-2
 same-length-2 c = search needs
 
 returns : tie.Need-returns
-returns c =
-    let c1 = c .before .before .before .before .before .before .before .before in
-    let c2 = c1 .before .before .before .before .before .before .before in (
-      c1 .bring-back .ensures .1 .0,
-      fence-after _ _ _ _ _ _ _ _ (c2 .pre) _ _ _ _ _ _ (c1 .bring-back .ensures .0) (c1 .bring-back .ensures .1 .0) (c1 .bring-back .ensures .1 .1)
-          (c .before .before .fence .ensures .1),
-    )
+returns c = (
+  c .before .before .before .before .before .before .before .before .bring-back .ensures .1 .0,
+  fence-after _ _ _ _ _ _ _ _ _ (c .before .before .before .before .before .before .before .before .before .before .before .before .before .before .before .before .pre) _ _ _ _ _ _ (c .before .before .before .before .before .before .before .before .bring-back .ensures .0) (c .before .before .before .before .before .before .before .before .bring-back .ensures .1 .0) (c .before .before .before .before .before .before .before .before .bring-back .ensures .1 .1)
+      (c .before .before .fence .ensures .1),
+)
 
 pub settle-homes-spec : {M : Type 1} → statement M
 settle-homes-spec =

@@ -1,48 +1,60 @@
--- `replay::restore_all` meets its contract. The loop's invariant: the transactions that close below `position` are replayed. Assumes nothing.
-use mathlib.Core.Path.{_≡_, refl}
+-- `replay::restore_all` meets its contract. The loop's invariant: the homes that the first `i` words mark are restored. Assumes nothing.
+use mathlib.Core.Path.{_≡_, ap, _∙_}
 use Prim.Native.Nat.{_-_, _*_, _≤_}
 use native.Mathlib.Omega.{arith}
 use lib.ListN.{length}
-use Rattle.model.specs.Layout.{entryAt}
-use Rattle.model.specs.Effects.{replayed}
-use Rattle.replay.specs.Walk.{closedBelow}
-use Rattle.replay.proofs.RestoreLaws.{replay-none, replay-turn, replay-end}
+use Rattle.model.specs.Effects.{marked}
+use Rattle.bitmap.specs.Marks.{marks}
+use Rattle.replay.specs.Restore.{restored}
+use Rattle.replay.proofs.RestoreLaws.{length-restored, map-start, map-turn, ready-word, fits-marked, restored-replayed}
 use Rattle.replay.proofs.restore.restore_all.Statement.{statement}
 use Rattle.replay.proofs.restore.restore_all.Tie as tie
 
 abbrev Inv-loop : tie.InvT-loop
-Inv-loop log area₀ groups homes start end position₀ area position =
-    (area ≡ replayed log groups (entryAt log groups homes start) (closedBelow log groups homes start position) area₀)
-    × (7 * start ≤ position) × (position - 7 * start ≤ end - 7 * start) × (length area ≡ length area₀)
+Inv-loop log area₀ table map groups homes start end i₀ area i =
+    (area ≡ restored log groups (7 * start) table (marked (marks map) (64 * i)) area₀) × (i ≤ length map)
 
 abbrev μ-loop : tie.MeasureT-loop
-μ-loop log area₀ groups homes start end position₀ area position = end - position
-
-mul-position : tie.Need-mul-position Inv-loop μ-loop
-mul-position c = omega arith
+μ-loop log area₀ table map groups homes start end i₀ area i = length map - i
 
 loop-holds : tie.Need-loop-holds Inv-loop μ-loop
-loop-holds c = (replay-none _ _ _ _ _ _ (omega arith), omega arith, omega arith, refl)
+loop-holds c = (map-start _ _ _ _ _ _, omega arith)
 
-restore-closed-requires : tie.Need-restore-closed-requires Inv-loop μ-loop
-restore-closed-requires c κs = omega arith
+mul-restore-word : tie.Need-mul-restore-word Inv-loop μ-loop
+mul-restore-word c = omega arith
 
-add-position : tie.Need-add-position Inv-loop μ-loop
-add-position c = omega arith
+shared-slice-read-restore-word : tie.Need-shared-slice-read-restore-word Inv-loop μ-loop
+shared-slice-read-restore-word c = omega arith
+
+mul-restore-word-2 : tie.Need-mul-restore-word-2 Inv-loop μ-loop
+mul-restore-word-2 c = omega arith
+
+restore-word-requires : tie.Need-restore-word-requires Inv-loop μ-loop
+restore-word-requires c κs =
+    let p = c .before .before .before .before .before .before .before .before .pre in
+    let l = c .before .before .before .loop in
+    let e = ap length (l .inv .0) ∙ length-restored _ _ _ _ _ _ in
+    let m : length (l .area) ≡ 64 * c .before .before .before .before .before .before .before .before .args .homes = e ∙ p .1 in
+    (omega arith, omega arith, omega arith, omega (arith, p .3 .words), ready-word _ _ _ (l .i) (fits-marked _ _ _ _ _ _ _ (p .0) (p .2) (p .3) (l .area) m))
+
+add-i : tie.Need-add-i Inv-loop μ-loop
+add-i c = omega arith
 
 loop-less : tie.Need-loop-less Inv-loop μ-loop
 loop-less c = omega arith
 
 loop-again : tie.Need-loop-again Inv-loop μ-loop
-loop-again c =
-    let l = c .before .before .before .before .before .loop in
-    (replay-turn _ _ _ _ _ _ _ _ (omega arith) (c .before .before .restore-closed .ensures) (l .inv .0), omega arith, omega arith, omega arith)
+loop-again c = let l = c .before .before .before .before .before .before .loop in (map-turn _ _ _ _ _ (l .i) _ _ _ (l .inv .0) (c .before .before .restore-word .ensures), omega arith)
 
 same-length : tie.Need-same-length Inv-loop μ-loop
-same-length c = omega arith
+same-length c = ap length (c .before .loop .inv .0) ∙ length-restored _ _ _ _ _ _
 
 returns : tie.Need-returns Inv-loop μ-loop
-returns c = replay-end _ _ _ _ _ _ _ _ (omega arith) (c .before .loop .inv .0)
+returns c =
+    let l = c .before .loop in
+    let p = c .before .before .before .before .before .before .pre in
+    let e : l .i ≡ length (c .before .before .before .before .before .before .args .map .now) = omega arith in
+    rw e at (l .inv .0) ∙ restored-replayed _ _ _ _ _ _ _ (p .0) (p .2) (p .3) _ (p .1)
 
 pub restore-all-spec : {M : Type 1} → statement M
 restore-all-spec =
@@ -50,10 +62,12 @@ restore-all-spec =
     (tie.spec
     Inv-loop
     μ-loop
-    mul-position
     loop-holds
-    restore-closed-requires
-    add-position
+    mul-restore-word
+    shared-slice-read-restore-word
+    mul-restore-word-2
+    restore-word-requires
+    add-i
     loop-less
     loop-again
     same-length

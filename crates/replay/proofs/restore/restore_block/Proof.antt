@@ -3,8 +3,8 @@ use mathlib.Core.Path.{refl}
 use Prim.Native.Nat.{_/_, _%_, _<_}
 use native.Mathlib.Nat.{mod-lt}
 use native.Mathlib.Omega.{arith}
-use borrow.Author.Needs.{needs}
 use Rattle.replay.proofs.RestoreLaws.{copied}
+use borrow.Author.Needs.{needs}
 use Rattle.replay.proofs.restore.restore_block.Statement.{statement}
 use Rattle.replay.proofs.restore.restore_block.Tie as tie
 
@@ -30,29 +30,17 @@ add-from-2 c = search needs
 add-from-3 : tie.Need-add-from-3
 add-from-3 c = omega (arith, slot c)
 
-mul-copy : tie.Need-mul-copy
-mul-copy c = search needs
+mul-copy-block : tie.Need-mul-copy-block
+mul-copy-block c = search needs
 
-add-copy : tie.Need-add-copy
-add-copy c = omega (arith, slot (c .before))
-
-sub-copy : tie.Need-sub-copy
-sub-copy c = search needs
-
-part-copy-start : tie.Need-part-copy-start
-part-copy-start c = search needs
-
-part-copy-end : tie.Need-part-copy-end
-part-copy-end c = omega (arith, slot (c .before))
-
-copy-requires : tie.Need-copy-requires
-copy-requires c κs = search needs
+copy-block-requires : tie.Need-copy-block-requires
+copy-block-requires c κs = (omega arith, omega (arith, slot (c .before)))
 
 same-length : tie.Need-same-length
 same-length c = search needs
 
 returns : tie.Need-returns
-returns c = copied _ _ _ _ _ _ _ (c .before .before .copy .ensures) refl
+returns c = copied _ _ _ _ _ _ _ (c .before .before .copy-block .ensures) refl
 
 pub restore-block-spec : {M : Type 1} → statement M
 restore-block-spec =
@@ -64,11 +52,7 @@ restore-block-spec =
     mul-from-2
     add-from-2
     add-from-3
-    mul-copy
-    add-copy
-    sub-copy
-    part-copy-start
-    part-copy-end
-    copy-requires
+    mul-copy-block
+    copy-block-requires
     same-length
     returns)

@@ -1,0 +1,83 @@
+//! The floor: how many bytes a done call must at least move. What a call only
+//! looks at (the strip for its check, the tags on a walk) is not in it.
+
+use second::batch::{FENCE_LEN, HEADER_WRITE_LEN, HOME_WRITE_LEN};
+use second::layout::{word, BLOCK, GROUP, HEADER, STATE};
+use second::lent::{Kind, Lent};
+use second::state::{at, Writer};
+
+/// A number of the strip.
+const NUMBER: usize = 8;
+/// The four numbers of a writer's record.
+const RECORD: usize = 4 * NUMBER;
+const TAG: usize = 8;
+
+/// What decides how much a call moves, as it stands before the call.
+pub struct Before {
+    areas: usize,
+    filled: u64,
+    record: Writer,
+}
+
+impl Before {
+    pub fn of(lent: &Lent, writer: u64) -> Before {
+        Before {
+            areas: lent.log.len() + lent.data.len(),
+            filled: word(&lent.state, at::FILLED),
+            record: Writer::load(&lent.state, writer),
+        }
+    }
+
+    /// Bytes that the call moves, having written `batch` bytes to the batch.
+    pub fn moved(&self, kind: Kind, home: u64, batch: usize) -> usize {
+        batch
+            + match kind {
+                // Log and area.
+                Kind::Format => self.areas,
+                // Homes of the copy, its header, the whole strip.
+                Kind::Open => {
+                    let header = HEADER_WRITE_LEN + FENCE_LEN;
+                    BLOCK * homes(batch - header) + HEADER + STATE
+                }
+                Kind::Begin | Kind::Abort => RECORD,
+                Kind::Store => self.store(home),
+                // The record, the closing entry, the strip's `last`.
+                Kind::Commit if self.record.holds() => RECORD + self.entry() + NUMBER,
+                Kind::Commit => RECORD,
+                // `fenced`, and with a group `next` and `filled`.
+                Kind::Flush if self.filled > 0 => 3 * NUMBER,
+                Kind::Flush => NUMBER,
+                // `durable`.
+                Kind::Confirm => NUMBER,
+                // Homes of the copy, `settled` and `fenced`.
+                Kind::Settle => BLOCK * homes(batch) + 2 * NUMBER,
+                // The header of the copy, `start`, `fenced` and `last`.
+                Kind::Trim if batch > 0 => HEADER + 3 * NUMBER,
+                Kind::Trim => 0,
+                Kind::Read => BLOCK,
+            }
+    }
+
+    /// The block into the strip; with a new home the record; if one was held
+    /// for another home, its entry.
+    fn store(&self, home: u64) -> usize {
+        match (self.record.holds(), self.record.home == home) {
+            (true, true) => BLOCK,
+            (true, false) => BLOCK + RECORD + self.entry(),
+            (false, _) => BLOCK + RECORD,
+        }
+    }
+
+    /// Tag and block into the log, `filled`; the first of a group blanks it,
+    /// the seventh moves `next`.
+    fn entry(&self) -> usize {
+        let blank = if self.filled == 0 { GROUP } else { 0 };
+        let next = if self.filled == 6 { NUMBER } else { 0 };
+        TAG + BLOCK + NUMBER + blank + next
+    }
+}
+
+/// Home writes in a batch of these and a fence.
+fn homes(batch: usize) -> usize {
+    (batch - FENCE_LEN) / HOME_WRITE_LEN
+}

@@ -1,0 +1,80 @@
+//! Logs to open, settle, trim and read: filled by eight writers in turn with
+//! short or long transactions, and one that no history of calls leaves.
+
+use crate::script::Recorder;
+use second::layout::{group_head, put_word, slot_range, BLOCK, PLACES, WRITERS};
+use second::lent::{Kind, Lent};
+use second::rng::Rng;
+use second::state::State;
+use second::tag::closing_tag;
+
+/// A log with this many groups in use, all committed and fenced: eight writers
+/// store one block each in turn, transactions have at most `blocks` blocks.
+pub fn filled(seed: u64, groups: u64, homes: u64, used: u64, blocks: u64) -> Lent {
+    let mut recorder = Recorder::opened(seed, groups, homes);
+    let mut left = PLACES * used;
+    while left > 0 {
+        left -= round(&mut recorder, left, blocks);
+    }
+    recorder.call(Kind::Flush, 0, 0);
+    recorder.call(Kind::Confirm, 0, 0);
+    assert_eq!(recorder.groups_used(), used);
+    recorder.lent
+}
+
+/// One transaction of each writer, interleaved, with at most `most` entries in
+/// all. Gives how many entries there are.
+fn round(recorder: &mut Recorder, most: u64, blocks: u64) -> u64 {
+    let length = |writer: u64| most.saturating_sub(writer * blocks).min(blocks);
+    let writers = || (0..WRITERS).filter(|&writer| length(writer) > 0);
+    for writer in writers() {
+        recorder.call(Kind::Begin, writer, 0);
+    }
+    let mut last = [u64::MAX; WRITERS as usize];
+    for turn in 0..=blocks {
+        for writer in writers() {
+            if turn < length(writer) {
+                let home = other_home(recorder, last[writer as usize]);
+                last[writer as usize] = home;
+                recorder.call(Kind::Store, writer, home);
+            } else if turn == length(writer) {
+                recorder.call(Kind::Commit, writer, 0);
+            }
+        }
+    }
+    writers().map(length).sum()
+}
+
+/// A random home that differs from the one stored before, so that each store
+/// makes an entry.
+pub fn other_home(recorder: &mut Recorder, last: u64) -> u64 {
+    loop {
+        let home = recorder.random_home();
+        if home != last {
+            return home;
+        }
+    }
+}
+
+/// A full log in which every entry closes a transaction that began at the
+/// first one: each counts one entry more than the one before and links to it.
+/// A replay that looks at each transaction's span anew takes quadratic time.
+pub fn shared_first(seed: u64, groups: u64, homes: u64) -> Lent {
+    let mut rng = Rng::new(seed);
+    let mut lent = Recorder::opened(seed, groups, homes).lent;
+    let mut state = State::load(&lent.log, &lent.data, &lent.state).expect("a state in order");
+    for offset in 0..PLACES * groups {
+        let number = state.start + offset / PLACES;
+        let group = &mut lent.log[slot_range((number % groups) as usize)];
+        put_word(group, 0, group_head(number));
+        let place = (offset % PLACES) as usize;
+        let tag = closing_tag(rng.below(homes), offset, offset.min(1), offset + 1);
+        put_word(group, 8 + 8 * place, tag);
+        group[BLOCK * (1 + place)..BLOCK * (2 + place)].fill(rng.next() as u8);
+    }
+    state.next = state.end_group();
+    state.last_closing = state.next_position();
+    state.fence();
+    state.save(&mut lent.state);
+    lent
+}

@@ -1,0 +1,6 @@
+//! The library's calls for programs in Rust.
+
+#![deny(warnings)]
+
+pub mod library;
+pub mod trap;

@@ -1,0 +1,5 @@
+pub mod HeldLaws
+pub mod FrameLaws
+pub mod Place
+pub mod Thin
+pub mod Lent
