@@ -1,7 +1,6 @@
 -- Laws for read: the entry that a writer sees, found layer by layer, and the block that is shown. Assumes nothing.
 use mathlib.Core.Path.{_≡_, refl, sym, ap, _∙_}
 use mathlib.Core.Bool.{Bool, true, false}
-use mathlib.Core.Logic.{_⊎_, inl, inr}
 use mathlib.Core.List.{List}
 use mathlib.Core.Option.{Option, none, some}
 use Prim.Native.Nat.{ℕ, zero, suc, _+_, _-_, _*_, _/_, _%_, _≤_, _<_}
@@ -13,24 +12,20 @@ use lib.ListN.{length}
 use borrow.Author.Tests.{ltb-true, lt-ltb, le-ltb}
 use Rattle.model.specs.Bytes.{part, puts}
 use Rattle.model.specs.Layout.{groupOffset, groupAt, blockOffset, groupBlock, slotOf, indexOf, blockAt, homesIn, homeAt}
-use Rattle.model.specs.Commit.{members, committed, transactions, newestIn, newest, orElse}
+use Rattle.model.specs.Commit.{members, transactions, newestIn, newest, orElse}
 use Rattle.model.specs.State.{stateOf, nextPosition, writerOffset, writerOf, heldOf, holds, hasLogged, holdsHome}
 use Rattle.model.specs.declared.State.{State}
-use Rattle.model.specs.declared.Tag.{Tag}
 use Rattle.model.specs.declared.Writer.{Writer}
 use Rattle.model.specs.Effects.{Given, groups, homes, liveTags, liveBase, newestOwn, newestCommitted, blockOr, current, visible, readEffect}
 use Rattle.model.specs.Batch.{batchBytes}
 use Rattle.model.specs.Questions.{writerKnown, homeKnown, askBlock, readAnswer}
 use Rattle.model.specs.Calls.{readCall}
 use Rattle.model.proofs.ByteLaws.{part-within, puts-nil, puts-whole, length-part}
-use Rattle.model.proofs.Closings.{endOf}
-use Rattle.model.proofs.ClosingLaws.{committed-closings, committed-within}
 use Rattle.model.proofs.OrderLaws.{InOrder}
 use Rattle.answers.proofs.AnswerLaws.{Usable, block-refuses, block-passes, block-stops, block-usable, refused-by, done-by}
 use Rattle.answers.specs.Lent.{leaves}
 use Rattle.model.proofs.QuestionLaws.{ask-yes, ask-no, ask-passed}
 use Rattle.replay.specs.Codes.{codeOf}
-use Rattle.replay.specs.Walk.{closedBelow}
 use Rattle.reading.specs.Newest.{tagsOf, live, ownEntry, committedEntry, seenEntry, Searchable}
 
 -- ---- what a usable store gives the search
@@ -78,13 +73,6 @@ code-some (some p) x e n = let q : p ≡ x - 1 = omega arith in ap some q
 
 -- ---- the newest entry
 
-pub end-within : (log : ℕ → Tag) (base n end : ℕ) → end ≡ endOf (committed log base n) → end ≤ base + n
-end-within log base n end e = go (committed-within log base n)
-  where
-    go : (endOf (committed log base n) ≡ 0) ⊎ ((base < endOf (committed log base n)) × (endOf (committed log base n) ≤ base + n)) → end ≤ base + n
-    go (inl z) = omega arith
-    go (inr h) = omega arith
-
 module _ (log : List ℕ) (st : State) where
   pub own-none : (r : Writer) (home : ℕ) (b : Bool) → b ≡ hasLogged r → b ≡ false → 0 ≡ codeOf (ownEntry log st r home)
   unfolding ownEntry codeOf
@@ -95,10 +83,10 @@ module _ (log : List ℕ) (st : State) where
   unfolding ownEntry
   own-found r home n x b e f g h = rw (sym e ∙ f) (rw g at h)
 
-  pub committed-found : (home n end x : ℕ) → n ≡ live st → end ≡ endOf (committed (tagsOf log st) (7 * st .start) n)
-      → x ≡ codeOf (newest (tagsOf log st) home (closedBelow log (st .groups) (st .homes) (st .start) end)) → x ≡ codeOf (committedEntry log st home)
-  unfolding committedEntry transactions
-  committed-found home n end x g e h = rw (← g, committed-closings (tagsOf log st) (7 * st .start) n, ← e) h
+  pub committed-found : (home n x : ℕ) → n ≡ live st
+      → x ≡ codeOf (newest (tagsOf log st) home (transactions (tagsOf log st) (7 * st .start) n)) → x ≡ codeOf (committedEntry log st home)
+  unfolding committedEntry
+  committed-found home n x g h = rw g at h
 
   pub seen-own : (r : Writer) (home x : ℕ) → x ≡ codeOf (ownEntry log st r home) → (x ≡ 0 → ⊥) → x ≡ codeOf (seenEntry log st r home)
   unfolding seenEntry orElse

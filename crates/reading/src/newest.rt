@@ -27,14 +27,13 @@ fn own(log: &[u8], st: State, r: Writer, home: u64) -> u64
     replay::newest_own(log, st.groups, st.homes, st.start, r.first, n, home)
 }
 
-// The newest committed entry for a home, after one walk over the log.
+// The newest committed entry for a home.
 fn committed(log: &[u8], st: State, home: u64) -> u64
     requires { ⌜ Searchable (now log) st home ⌝ }
     ensures { λ x. ⌜ x ≡ codeOf (committedEntry (now (log .entry)) st home) ⌝ }
 {
     let n = live(st);
-    let found = scan::walk(log, st.groups, st.homes, st.start, n);
-    replay::newest_committed(log, st.groups, st.homes, st.start, found.end, home)
+    replay::newest_committed(log, st.groups, st.homes, st.start, n, home)
 }
 
 // The newest entry for a home that a writer sees: one of its own, else a committed one.

@@ -21,7 +21,8 @@ use Rattle.model.proofs.ReplayLaws.{known}
 use Rattle.bitmap.specs.Marks.{marks, withMark}
 use Rattle.bitmap.proofs.MapLaws.{marks-none, length-mark, mark-each}
 use Rattle.scan.proofs.GroupLaws.{part-group}
-use Rattle.scan.proofs.ScanLaws.{Placed, placed, hole-nothing, valid-tag, group-tags}
+use Rattle.scan.proofs.PassLaws.{hole-nothing, valid-tag, group-tags}
+use Rattle.scan.proofs.ScanLaws.{Placed, placed}
 use Rattle.replay.specs.Restore.{Gathered}
 use Rattle.replay.specs.Gather.{maxEntries, maxHomes, Gather, fresh, closed, offered, note, noted, Roomy, offsetCode}
 use Rattle.replay.specs.Best.{closes, closer, from, Best, nothing, better, taken, best}

@@ -1,111 +1,96 @@
--- Laws of the newest entry for a home, for loops from the last position down. Assumes nothing.
-use mathlib.Core.Path.{_≡_, refl, sym, ap, _∙_}
-use mathlib.Core.Option.{Option, none, some}
-use mathlib.Core.List.{[]}
-use Prim.Native.Nat.{ℕ, _+_, _-_, _≤_, _<_}
-use native.Mathlib.Decide.{ℕ-discrete}
+-- The pass that looks for a home's newest entry of an open transaction: what it makes of a tag, and what it finds. Assumes nothing.
+use mathlib.Core.Path.{_≡_, refl, _∙_}
+use mathlib.Core.Bool.{Bool, true, false, cond, _&&_, and-false}
+use mathlib.Core.List.{List}
+use mathlib.Core.Option.{some}
+use Prim.Native.Nat.{ℕ, zero, suc, _+_, _-_, _≤_}
+use native.Mathlib.Nat.{add-zero, add-suc}
 use native.Mathlib.Omega.{arith}
-use borrow.Author.Tests.{eq-eqb, ne-eqb}
+use borrow.Author.Tests.{eq-eqb, ne-eqb, eqb-true, le-leb}
+use lib.Dec.{eqb, leb}
 use Rattle.model.specs.Tag.{belongs, homeOf}
-use Rattle.model.specs.Commit.{addIf, members, eachEntries, newestIn, newest, orElse}
+use Rattle.model.specs.Commit.{addIf, members, newestIn}
 use Rattle.model.specs.declared.Tag.{Tag}
-use Rattle.model.proofs.Closings.{spanAt, closings}
-use Rattle.replay.specs.Codes.{codeOf, homeIn, firstClosed}
-use Rattle.replay.proofs.CodeLaws.{home-found, home-none, span-found, span-none}
-use Rattle.model.proofs.MemberLaws.{members-none, members-turn, entries-at, each-turn, newest-if, newest-append}
+use Rattle.model.specs.declared.Tag.the-variants.{Nothing, Entry, Closing}
+use Rattle.model.proofs.MemberLaws.{members-none}
+use Rattle.scan.specs.Scan.{over}
+use Rattle.scan.proofs.ScanLaws.{Placed}
+use Rattle.replay.specs.Codes.{codeOf}
+use Rattle.replay.specs.Own.{pickOwn, ownStep}
 
--- ---- codes
+-- ---- an entry, test by test
 
-pub code-none : (o : Option ℕ) → codeOf o ≡ 0 → o ≡ none
-unfolding codeOf
-code-none none e = refl
-code-none (some p) e = absurd (omega arith)
+module _ (begun first written home position newest : ℕ) where
+  pub pick-other : (first ≡ begun → ⊥) → newest ≡ pickOwn (eqb first begun && eqb written home) position newest
+  unfolding pickOwn
+  pick-other e = rw (ne-eqb first begun e)
 
--- a newer one, if there is one, is the newest
-pub code-stop : (a b : Option ℕ) → (codeOf a ≡ 0 → ⊥) → codeOf a ≡ codeOf (orElse a b)
-unfolding codeOf orElse
-code-stop none b n = absurd (n refl)
-code-stop (some p) b n = refl
+  pub pick-elsewhere : (written ≡ home → ⊥) → newest ≡ pickOwn (eqb first begun && eqb written home) position newest
+  unfolding pickOwn
+  pick-elsewhere e = rw (ne-eqb written home e, and-false)
 
-pub code-pass : (a b : Option ℕ) → codeOf a ≡ 0 → codeOf b ≡ codeOf (orElse a b)
-unfolding orElse
-code-pass a b e = rw (code-none a e)
+  pub pick-own : first ≡ begun → written ≡ home → position + 1 ≡ pickOwn (eqb first begun && eqb written home) position newest
+  unfolding pickOwn
+  pick-own e f = rw (eq-eqb first begun e, eq-eqb written home f)
 
-module _ (tags : ℕ → Tag) (home : ℕ) where
-  -- ---- the entries of a transaction
+-- ---- a tag t, which says r, is taken into the pass
 
-  -- an entry for the home, and any other
-  one-found : (f p : ℕ) → homeIn f (tags p) ≡ home + 1 → newestIn tags home (addIf (belongs f (tags p)) p []) ≡ some p
-  unfolding newestIn addIf
-  one-found f p e =
-      let q = home-found f (tags p) (λ z. omega arith) in
-      let g : homeOf (tags p) ≡ home = omega arith in
-      rw (q .0, eq-eqb (homeOf (tags p)) home g)
+module _ (first home position newest : ℕ) (r t : Tag) (e : t ≡ r) where
+  pub own-nothing : t ≡ Nothing → newest ≡ ownStep first home position r newest
+  unfolding ownStep belongs pickOwn
+  own-nothing d = rw (← e, d)
 
-  one-other : (f p : ℕ) → (homeIn f (tags p) ≡ home + 1 → ⊥) → newestIn tags home (addIf (belongs f (tags p)) p []) ≡ none
-  unfolding newestIn addIf
-  one-other f p n = go (ℕ-discrete (homeIn f (tags p)) 0)
+  pub own-entry : (h f x : ℕ) → t ≡ Entry h f → x ≡ pickOwn (eqb first f && eqb h home) position newest → x ≡ ownStep first home position r newest
+  unfolding ownStep belongs homeOf
+  own-entry h f x d q = rw (← e, d) q
+
+  pub own-closing : (h f l n x : ℕ) → t ≡ Closing h f l n → x ≡ pickOwn (eqb first f && eqb h home) position newest
+      → x ≡ ownStep first home position r newest
+  unfolding ownStep belongs homeOf
+  own-closing h f l n x d q = rw (← e, d) q
+
+pub own-quiet : (first home p newest : ℕ) → ownStep first home p Nothing newest ≡ newest
+unfolding ownStep belongs pickOwn
+own-quiet first home p newest = refl
+
+-- ---- the pass and the model
+
+-- an entry of a transaction lies from its first one on
+belongs-from : (tags : ℕ → Tag) (base first p : ℕ) → Placed tags base → (t : Tag) → tags p ≡ t → belongs first t ≡ true → first ≤ p
+unfolding belongs
+belongs-from tags base first p q Nothing e b = let z : _≡_ {A = ℕ} 0 1 = cc in absurd (omega arith)
+belongs-from tags base first p q (Entry h f) e b = omega (arith, q .entry p h f e, eqb-true first f b)
+belongs-from tags base first p q (Closing h f l n) e b = omega (arith, q .closing p h f l n e, eqb-true first f b)
+
+module _ (tags : ℕ → Tag) (home base first : ℕ) (q : Placed tags base) where
+  -- one position more
+  own-more : (p : ℕ) (ps : List ℕ)
+      → ownStep first home p (tags p) (codeOf (newestIn tags home ps))
+      ≡ codeOf (newestIn tags home (addIf (leb first p && belongs first (tags p)) p ps))
+  unfolding ownStep
+  own-more p ps = go (belongs first (tags p)) refl
     where
-      go : Dec (homeIn f (tags p) ≡ 0) → newestIn tags home (addIf (belongs f (tags p)) p []) ≡ none
-      go (yes z) = rw (home-none f (tags p) z)
-      go (no z) =
-          let q = home-found f (tags p) z in
-          rw (q .0, ne-eqb (homeOf (tags p)) home (λ e. n (q .1 ∙ ap (λ (x : ℕ). x + 1) e)))
+      at : (b : Bool) → pickOwn b p (codeOf (newestIn tags home ps)) ≡ codeOf (cond b (some p) (newestIn tags home ps))
+      at true = unfold pickOwn codeOf in refl
+      at false = unfold pickOwn in refl
 
-  members-down : (f base q : ℕ) → base ≤ f → f < q
-      → newestIn tags home (members tags f base (q - base))
-      ≡ orElse (newestIn tags home (addIf (belongs f (tags (q - 1))) (q - 1) [])) (newestIn tags home (members tags f base (q - 1 - base)))
-  members-down f base q h k =
-      let e : q - base ≡ q - 1 + 1 - base = omega arith in
-      rw (e, members-turn tags f base (q - 1) (omega arith) (omega arith), newest-if)
+      go : (b : Bool) → belongs first (tags p) ≡ b
+          → pickOwn (b && eqb (homeOf (tags p)) home) p (codeOf (newestIn tags home ps)) ≡ codeOf (newestIn tags home (addIf (leb first p && b) p ps))
+      go true e = unfold addIf newestIn in rw (le-leb first p (belongs-from tags base first p q (tags p) refl e)) (at (eqb (homeOf (tags p)) home))
+      go false e = unfold addIf pickOwn in rw (and-false (leb first p))
 
-  pub own-stop : (f base q : ℕ) → base ≤ f → f < q → homeIn f (tags (q - 1)) ≡ home + 1 → q - 1 + 1 ≡ codeOf (newestIn tags home (members tags f base (q - base)))
-  unfolding codeOf orElse
-  own-stop f base q h k e = rw (members-down f base q h k, one-found f (q - 1) e)
+  own-over : (p i : ℕ) → base ≤ p → p ≤ first
+      → over (ownStep first home) tags p i 0 ≡ codeOf (newestIn tags home (members tags first base (p - base + i)))
+  unfolding over members
+  own-over p zero h k = rw (add-zero (p - base), members-none tags first base (p - base) (omega arith)) (unfold newestIn codeOf in refl)
+  own-over p (suc i) h k =
+      let e : base + (p - base + i) ≡ p + i = omega arith in
+      rw (own-over p i h k, add-suc (p - base) i, e) (own-more (p + i) (members tags first base (p - base + i)))
 
-  pub own-turn : (f base q : ℕ) → base ≤ f → f < q → (homeIn f (tags (q - 1)) ≡ home + 1 → ⊥)
-      → codeOf (newestIn tags home (members tags f base (q - 1 - base))) ≡ codeOf (newestIn tags home (members tags f base (q - base)))
-  unfolding orElse
-  own-turn f base q h k n = rw (members-down f base q h k, one-other f (q - 1) n)
+  pub own-found : (p i n x : ℕ) → base ≤ p → p ≤ first → p + i ≡ base + n → x ≡ over (ownStep first home) tags p i 0
+      → x ≡ codeOf (newestIn tags home (members tags first base n))
+  own-found p i n x h k e f = let d : p - base + i ≡ n = omega arith in f ∙ own-over p i h k ∙ rw d
 
-  pub own-end : (f base q : ℕ) → base ≤ f → q ≤ f → 0 ≡ codeOf (newestIn tags home (members tags f base (q - base)))
-  unfolding codeOf newestIn
-  own-end f base q h k = rw (members-none tags f base (q - base) (omega arith))
-
-  pub own-start : (f base q n : ℕ) → q - base ≡ n
-      → codeOf (newestIn tags home (members tags f base (q - base))) ≡ codeOf (newestIn tags home (members tags f base n))
-  own-start f base q n e = rw e
-
-  -- ---- the transactions
-
-  -- a closing entry, and any other
-  pub closed-found : (base p first r : ℕ) → first ≡ firstClosed (tags p) → (first ≡ 0 → ⊥)
-      → r ≡ codeOf (newestIn tags home (members tags (first - 1) base (p + 1 - base)))
-      → r ≡ codeOf (newest tags home (eachEntries tags base (spanAt (tags p) p)))
-  unfolding newest eachEntries orElse
-  closed-found base p first r e n h = rw (span-found (tags p) p (λ z. n (e ∙ z)), ← e, entries-at) h
-
-  pub closed-none : (base p first : ℕ) → first ≡ firstClosed (tags p) → first ≡ 0 → 0 ≡ codeOf (newest tags home (eachEntries tags base (spanAt (tags p) p)))
-  unfolding newest eachEntries codeOf
-  closed-none base p first e z = rw (span-none (tags p) p (sym e ∙ z))
-
-  closings-down : (base q : ℕ) → base < q
-      → newest tags home (eachEntries tags base (closings tags base (q - base)))
-      ≡ orElse (newest tags home (eachEntries tags base (spanAt (tags (q - 1)) (q - 1))))
-      (newest tags home (eachEntries tags base (closings tags base (q - 1 - base))))
-  closings-down base q h =
-      let e : q - base ≡ q - 1 + 1 - base = omega arith in
-      rw (e, each-turn tags base (q - 1) (omega arith), newest-append)
-
-  pub newest-stop : (base q r : ℕ) → base < q → r ≡ codeOf (newest tags home (eachEntries tags base (spanAt (tags (q - 1)) (q - 1)))) → (r ≡ 0 → ⊥)
-      → r ≡ codeOf (newest tags home (eachEntries tags base (closings tags base (q - base))))
-  newest-stop base q r h e n = e ∙ rw (closings-down base q h) (code-stop _ _ (λ z. n (e ∙ z)))
-
-  pub newest-turn : (base q r : ℕ) → base < q → r ≡ codeOf (newest tags home (eachEntries tags base (spanAt (tags (q - 1)) (q - 1)))) → r ≡ 0
-      → codeOf (newest tags home (eachEntries tags base (closings tags base (q - 1 - base))))
-      ≡ codeOf (newest tags home (eachEntries tags base (closings tags base (q - base))))
-  newest-turn base q r h e z = rw (closings-down base q h) (code-pass _ _ (sym e ∙ z))
-
-  pub newest-end : (base q : ℕ) → q ≤ base → 0 ≡ codeOf (newest tags home (eachEntries tags base (closings tags base (q - base))))
-  unfolding newest eachEntries closings codeOf
-  newest-end base q h = let e : q - base ≡ 0 = omega arith in rw e
+  pub own-none : (n : ℕ) → base + n ≤ first → 0 ≡ codeOf (newestIn tags home (members tags first base n))
+  unfolding newestIn codeOf
+  own-none n h = rw (members-none tags first base n h)

@@ -2,7 +2,7 @@
 use model::Tag;
 ghost use mathlib.Core.Path.{_≡_};
 ghost use mathlib.Core.Bool.{cond};
-ghost use Prim.Native.Nat.{_+_, _-_, _*_, _%_, _^_, min, _≤_, _<_};
+ghost use Prim.Native.Nat.{_+_, _-_, _*_, _%_, _^_, _≤_, _<_};
 ghost use lib.Dec.{ltb};
 ghost use lib.ListN.{length, getD, set, replicate};
 ghost use Rattle.model.specs.Tag.{readTag};
@@ -125,13 +125,6 @@ fn previous_slot(slot: u64, groups: u64) -> u64
     if slot == 0 { groups - 1 } else { slot - 1 }
 }
 
-// How many of the `left` positions from a group's first one on the group has.
-fn in_group(left: u64) -> usize
-    ensures { λ r. ⌜ r ≡ min left 7 ⌝ }
-{
-    if left < 7 { left as usize } else { 7 }
-}
-
 // Finds the newest entry of every home among the transactions of all closing entries below `end`, and marks the homes that have one.
 pub fn gather(
     log: &[u8],
@@ -158,7 +151,7 @@ pub fn gather(
         slot = previous_slot(slot, groups);
         let from = 64 + 512 * slot as usize;
         let group = &log[from..from + 512];
-        let m = in_group(end - 7 * number);
+        let m = scan::in_group(end - 7 * number);
         note_group(
             group,
             groups,

@@ -1,13 +1,15 @@
 -- What a group says, test by test of its bytes, a position of the log by its group, and the ring slots in order. Assumes nothing.
-use mathlib.Core.Path.{_≡_, refl, sym, _∙_}
+use mathlib.Core.Path.{_≡_, refl, sym, ap, _∙_}
 use mathlib.Core.Bool.{true, false, and-false}
 use mathlib.Core.List.{List}
-use Prim.Native.Nat.{ℕ, _+_, _-_, _*_, _/_, _%_, _≤_, _<_}
+use Prim.Native.Nat.{ℕ, _+_, _-_, _*_, _/_, _%_, _^_, _≤_, _<_}
+use native.Mathlib.Decide.{ℕ-discrete}
 use native.Mathlib.Nat.{mod-self, mod-eq-of-lt, mod-add-mod}
 use native.Mathlib.Omega.{arith}
 use borrow.Author.Tests.{eq-eqb, ne-eqb, le-leb, lt-leb}
 use lib.Dec.{ltb}
-use lib.ListN.{take, drop}
+use lib.ListN.{length, getD, set, take, drop}
+use lib.Seq.{getD-set-same, getD-set-other}
 use Rattle.model.specs.Bytes.{part, number, same}
 use Rattle.model.specs.Tag.{readTag}
 use Rattle.model.specs.Layout.{groupMark, groupOffset, groupAt, groupNumber, tagOffset, groupTag, groupValid, slotOf, indexOf, entryIn, entryAt}
@@ -19,6 +21,16 @@ pub tag-read : (group : List ℕ) (k word position base homes : ℕ) → word �
     → readTag word position base homes ≡ readTag (groupTag group k) position base homes
 unfolding groupTag tagOffset
 tag-read group k word position base homes e = rw e
+
+-- one word more of those read in a row
+pub words-more : (group words : List ℕ) (k word : ℕ) → length words ≡ 7 → k < 7 → word ≡ number 8 group (8 + 8 * k)
+    → ((j : ℕ) → j < k → getD words j 0 ≡ groupTag group j) → (j : ℕ) → j < k + 1 → getD (set words k word) j 0 ≡ groupTag group j
+unfolding groupTag tagOffset
+words-more group words k word l h e q j m = go (ℕ-discrete j k)
+  where
+    go : Dec (j ≡ k) → getD (set words k word) j 0 ≡ number 8 group (8 + 8 * j)
+    go (yes z) = rw z (getD-set-same words k word 0 (omega arith) ∙ e)
+    go (no z) = getD-set-other words k j word 0 z ∙ q j (omega arith)
 
 -- ---- a group's tests
 

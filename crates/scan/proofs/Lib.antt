@@ -1,4 +1,5 @@
 pub mod GroupLaws
 pub mod JudgeLaws
+pub mod PassLaws
 pub mod ScanLaws
 pub mod VisitLaws

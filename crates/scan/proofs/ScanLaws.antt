@@ -2,14 +2,14 @@
 use mathlib.Core.Path.{_≡_, refl, sym, ap, _∙_}
 use mathlib.Core.Bool.{Bool, true, false, cond, _&&_}
 use mathlib.Core.List.{List}
-use Prim.Native.Nat.{ℕ, zero, suc, _+_, _-_, _*_, _/_, _%_, _≤_, _<_}
+use Prim.Native.Nat.{ℕ, zero, suc, _+_, _-_, _*_, _/_, _≤_, _<_}
 use native.Mathlib.Decide.{decLt, ℕ-discrete}
-use native.Mathlib.Nat.{add-zero, add-suc}
+use native.Mathlib.Nat.{add-zero}
 use native.Mathlib.Numerals.{add-one}
 use native.Mathlib.Omega.{arith}
 use borrow.Author.Tests.{eq-eqb, ne-eqb}
 use lib.Dec.{eqb}
-use lib.ListN.{length, getD, set, length-set, length-append, take, drop}
+use lib.ListN.{length, getD, set, length-set, length-append}
 use lib.Seq.{getD-set-same, getD-set-other, set-out}
 use Rattle.model.specs.Tag.{belongs, readTag}
 use Rattle.model.specs.Layout.{groupAt, groupTag, groupValid, slotOf, indexOf, entryIn, entryAt}
@@ -21,10 +21,8 @@ use Rattle.model.proofs.ClosingLaws.{members-more, members-same, end-more, last
 use Rattle.model.proofs.ByteLaws.{length-zeros}
 use Rattle.model.proofs.OrderLaws.{byte-zeros}
 use Rattle.model.proofs.TagLaws.{entry-known, closing-known}
-use Rattle.model.proofs.LayoutLaws.{position-group, position-rest, position-slot}
 use Rattle.scan.specs.declared.commits.Progress.{Progress}
-use Rattle.scan.specs.Scan.{Scan, maxEntries, fresh, counted, taken, decided, enter, entered, Within}
-use Rattle.scan.proofs.GroupLaws.{part-group}
+use Rattle.scan.specs.Scan.{Scan, maxEntries, fresh, counted, taken, decided, enter, over, entered, Within}
 
 -- ---- the numbers of a pass stay small
 
@@ -70,7 +68,7 @@ module _ (base position : ℕ) (s : Scan) (h : base ≤ position) (k : Within ba
 
 entered-within : (tags : ℕ → Tag) (base position m : ℕ) (s : Scan) → base ≤ position → Within base position s
     → Within base (position + m) (entered tags base position m s)
-unfolding entered
+unfolding over
 entered-within tags base position zero s h k = rw add-zero k
 entered-within tags base position (suc m) s h k =
     let e : position + suc m ≡ position + m + 1 = omega arith in
@@ -85,64 +83,10 @@ unfolding fresh
 fresh-within base =
     record { room = length-zeros maxEntries; each = λ i. rw byte-zeros (omega arith); number = omega arith; end = omega arith }
 
--- ---- the pass by parts
-
--- one position more
-entered-one : (tags : ℕ → Tag) (base position m : ℕ) (s : Scan)
-    → entered tags base position (m + 1) s ≡ enter base (position + m) (tags (position + m)) (entered tags base position m s)
-unfolding entered
-entered-one tags base position m s = rw (add-one m)
-
-entered-more : (tags : ℕ → Tag) (base position i m : ℕ) (s : Scan)
-    → entered tags base position (i + m) s ≡ entered tags base (position + i) m (entered tags base position i s)
-unfolding entered
-entered-more tags base position i zero s = rw (add-zero i)
-entered-more tags base position i (suc m) s =
-    let e : position + (i + m) ≡ position + i + m = omega arith in
-    rw (add-suc i m, entered-more tags base position i m s, e)
-
--- it looks at no other position
-entered-local : (tags others : ℕ → Tag) (base position m : ℕ) (s : Scan) → ((k : ℕ) → k < m → tags (position + k) ≡ others (position + k))
-    → entered tags base position m s ≡ entered others base position m s
-unfolding entered
-entered-local tags others base position zero s h = refl
-entered-local tags others base position (suc m) s h =
-    rw (h m (omega arith), entered-local tags others base position m s (λ k l. h k (omega arith)))
-
--- positions that say nothing
-entered-nothing : (tags : ℕ → Tag) (base position m : ℕ) (s : Scan) → ((k : ℕ) → k < m → tags (position + k) ≡ Nothing)
-    → entered tags base position m s ≡ s
-unfolding entered enter
-entered-nothing tags base position zero s h = refl
-entered-nothing tags base position (suc m) s h = rw (h m (omega arith)) (entered-nothing tags base position m s (λ k l. h k (omega arith)))
-
--- ---- a group's positions
-
-module _ (group : List ℕ) (groups homes start n : ℕ) where
-  pub hole-nothing : groupValid group groups start n ≡ false → (k : ℕ) → k < 7 → entryIn group groups homes start (7 * n + k) ≡ Nothing
-  unfolding entryIn
-  hole-nothing v k h = rw (position-group n k h, v)
-
-  pub valid-tag : groupValid group groups start n ≡ true → (k : ℕ) → k < 7
-      → entryIn group groups homes start (7 * n + k) ≡ readTag (groupTag group k) (7 * n + k) (7 * start) homes
-  unfolding entryIn indexOf
-  valid-tag v k h = rw (position-group n k h, position-rest n k h, v)
-
-  pub group-hole : (m : ℕ) (s : Scan) → groupValid group groups start n ≡ false → m ≤ 7
-      → s ≡ entered (entryIn group groups homes start) (7 * start) (7 * n) m s
-  group-hole m s v h = sym (entered-nothing (entryIn group groups homes start) (7 * start) (7 * n) m s (λ k l. hole-nothing v k (omega arith)))
-
-  pub group-turn : (k position : ℕ) (s t u : Scan) → groupValid group groups start n ≡ true → k < 7 → position ≡ 7 * n + k
-      → t ≡ enter (7 * start) position (readTag (groupTag group k) position (7 * start) homes) s
-      → s ≡ entered (entryIn group groups homes start) (7 * start) (7 * n) k u
-      → t ≡ entered (entryIn group groups homes start) (7 * start) (7 * n) (k + 1) u
-  group-turn k position s t u v h e p q =
-      p ∙ rw (e, entered-one (entryIn group groups homes start) (7 * start) (7 * n) k u, valid-tag v k h, ← q)
-
-pub group-tags : (log : List ℕ) (groups homes start n k : ℕ) → k < 7
-    → entryIn (groupAt log (n % groups)) groups homes start (7 * n + k) ≡ entryAt log groups homes start (7 * n + k)
-unfolding entryAt
-group-tags log groups homes start n k h = rw (position-slot groups n k h)
+-- what says nothing leaves the pass as it is
+pub enter-quiet : (base p : ℕ) (s : Scan) → enter base p Nothing s ≡ s
+unfolding enter
+enter-quiet base p s = refl
 
 -- ---- the pass and the commit rule
 
@@ -261,7 +205,7 @@ agrees-enter tags base n s l q k (Closing h f link count) e =
     agrees-closing tags base n s l k h f link count (r .0) (r .1) e
 
 pub agrees : (tags : ℕ → Tag) (base n : ℕ) → n ≤ maxEntries → Placed tags base → Agrees tags base n (entered tags base base n fresh)
-unfolding entered fresh members walk started endOf
+unfolding over fresh members walk started endOf
 agrees tags base zero h q =
     record { room = length-zeros maxEntries; each = λ f a b. byte-zeros maxEntries (f - base); end = refl; number = refl; going = refl }
 agrees tags base (suc n) h q =
@@ -316,19 +260,3 @@ placed log groups homes start =
       entry = λ p h f e. in-entry (groupAt log (slotOf groups p)) groups homes start p h f e;
       closing = λ p h f link count e. in-closing (groupAt log (slotOf groups p)) groups homes start p h f link count e;
     }
-
--- ---- the pass over the log, group by group
-
-pub log-turn : (log : List ℕ) (groups homes start i m n slot from j : ℕ) (s t : Scan) → m ≤ 7 → 7 * start + i ≡ 7 * n → slot ≡ n % groups
-    → from ≡ 64 + 512 * slot → j ≡ i + m → s ≡ entered (entryAt log groups homes start) (7 * start) (7 * start) i fresh
-    → t ≡ entered (entryIn (take (from + 512 - from) (drop from log)) groups homes start) (7 * start) (7 * n) m s
-    → t ≡ entered (entryAt log groups homes start) (7 * start) (7 * start) j fresh
-log-turn log groups homes start i m n slot from j s t l e f g k p q =
-    let a : take (from + 512 - from) (drop from log) ≡ groupAt log (n % groups) = part-group log slot from g ∙ ap (groupAt log) f in
-    let b = entered-local (entryIn (groupAt log (n % groups)) groups homes start) (entryAt log groups homes start) (7 * start) (7 * n) m s
-    (λ k h. group-tags log groups homes start n k (omega arith)) in
-    q ∙ rw (a, b, k, entered-more (entryAt log groups homes start) (7 * start) (7 * start) i m fresh, e, ← p)
-
-pub log-start : (tags : ℕ → Tag) (base n : ℕ) → fresh ≡ entered tags base base (n - n) fresh
-unfolding entered
-log-start tags base n = let e : n - n ≡ 0 = omega arith in rw e

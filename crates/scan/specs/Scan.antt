@@ -48,10 +48,14 @@ enter base position (Closing h f link count) s =
       progress = decided base position link (eqb (getD (s .counts) (f - base) 0 + 1) count) (s .progress);
     }
 
--- the pass over the m positions from `position` on
-unfoldable pub entered : (ℕ → Tag) → ℕ → ℕ → ℕ → Scan → Scan
-entered tags base position zero s = s
-entered tags base position (suc m) s = enter base (position + m) (tags (position + m)) (entered tags base position m s)
+-- a pass over the m positions from `position` on, that takes what stands at each by `step`
+unfoldable pub over : {S : Type 0} → (ℕ → Tag → S → S) → (ℕ → Tag) → ℕ → ℕ → S → S
+over step tags position zero s = s
+over step tags position (suc m) s = step (position + m) (tags (position + m)) (over step tags position m s)
+
+-- the pass that applies the commit rule
+abbrev pub entered : (ℕ → Tag) → ℕ → ℕ → ℕ → Scan → Scan
+entered tags base position m s = over (enter base) tags position m s
 
 -- what bounds the numbers of a pass that has come to a position
 pub record Within (base position : ℕ) (s : Scan) : Type 0 where

@@ -1,12 +1,12 @@
 // The walk over the log's groups that applies the commit rule.
 use super::groups::group_valid;
-use super::groups::tag_in;
+use super::groups::tag_words;
 use model::Tag;
 ghost use mathlib.Core.Path.{_≡_};
 ghost use Prim.Native.Nat.{_+_, _*_, _%_, _^_, min, _<_, _≤_};
 ghost use lib.ListN.{length, getD};
 ghost use Rattle.model.specs.Tag.{readTag};
-ghost use Rattle.model.specs.Layout.{groupTag, entryIn, entryAt};
+ghost use Rattle.model.specs.Layout.{entryIn, entryAt};
 ghost use Rattle.model.specs.Commit.{linked, committed};
 ghost use Rattle.model.proofs.Closings.{endOf};
 ghost use Rattle.model.proofs.ClosingLaws.{lastAt};
@@ -26,7 +26,7 @@ pub struct Progress {
 }
 
 // Counts one entry more at index `i`, and returns how many there are now.
-fn count_entry(counts: &mut [u16], i: usize) -> u64
+pub fn count_entry(counts: &mut [u16], i: usize) -> u64
     requires { ⌜ (i < length (now counts)) × (getD (now counts) i 0 < 7168) ⌝ }
     ensures { λ r. ⌜ (now (counts .exit) ≡ counted (now (counts .entry)) i) × (r ≡ getD (now (counts .entry)) i 0 + 1) ⌝ }
 {
@@ -51,7 +51,7 @@ fn is_linked(end: u64, base: u64, position: u64, link: u64) -> bool
 }
 
 // Takes a closing entry, complete or not, at a position: it is committed, or the first that fails.
-fn judge(progress: Progress, base: u64, position: u64, link: u64, complete: bool) -> Progress
+pub fn judge(progress: Progress, base: u64, position: u64, link: u64, complete: bool) -> Progress
     requires { ⌜ (position < 2 ^ 62) × (base ≤ position) × (link < 2 ^ 13) × (progress .end ≤ position) × (progress .number ≤ position) ⌝ }
     ensures { λ r. ⌜ r ≡ decided base position link complete progress ⌝ }
 {
@@ -78,20 +78,19 @@ fn judge(progress: Progress, base: u64, position: u64, link: u64, complete: bool
     }
 }
 
-// Takes what tag `k` of a group says at a position.
+// Takes what the word of a tag says at a position.
 fn visit(
-    group: &[u8],
-    k: usize,
+    word: u64,
     position: u64,
     base: u64,
     homes: u64,
     counts: &mut [u16],
     progress: Progress,
 ) -> Progress
-    requires { ⌜ (length (now group) ≡ 512) × (k < 7) × (base ≤ position) × (position < base + 7168) × (base < 2 ^ 61) × Within base position (record { counts = now counts; progress = progress }) ⌝ }
-    ensures { λ r. ⌜ record { counts = now (counts .exit); progress = r } ≡ enter base position (readTag (groupTag (now (group .entry)) k) position base homes) (record { counts = now (counts .entry); progress = progress }) ⌝ }
+    requires { ⌜ (base ≤ position) × (position < base + 7168) × (base < 2 ^ 61) × Within base position (record { counts = now counts; progress = progress }) ⌝ }
+    ensures { λ r. ⌜ record { counts = now (counts .exit); progress = r } ≡ enter base position (readTag word position base homes) (record { counts = now (counts .entry); progress = progress }) ⌝ }
 {
-    match tag_in(group, k, position, base, homes) {
+    match codec::read_tag(word, position, base, homes) {
         Tag::Nothing => progress,
         Tag::Entry(_, first) => {
             count_entry(counts, (first - base) as usize);
@@ -121,12 +120,13 @@ fn visit_group(
     if !group_valid(group, groups, start, n) {
         return progress;
     }
+    let words = tag_words(group);
     let base = 7 * start;
     let mut reached = progress;
     let mut position = 7 * n;
     let mut k: usize = 0;
     while k < m {
-        reached = visit(group, k, position, base, homes, counts, reached);
+        reached = visit(words[k], position, base, homes, counts, reached);
         position += 1;
         k += 1;
     }
@@ -134,7 +134,7 @@ fn visit_group(
 }
 
 // The ring slot after `slot`.
-fn next_slot(slot: u64, groups: u64) -> u64
+pub fn next_slot(slot: u64, groups: u64) -> u64
     requires { ⌜ (slot < groups) × (groups ≤ 1024) ⌝ }
     ensures { λ r. ⌜ r ≡ (slot + 1) % groups ⌝ }
 {
@@ -142,7 +142,7 @@ fn next_slot(slot: u64, groups: u64) -> u64
 }
 
 // How many of the `left` positions the next group has.
-fn in_group(left: u64) -> usize
+pub fn in_group(left: u64) -> usize
     ensures { λ r. ⌜ r ≡ min left 7 ⌝ }
 {
     if left < 7 { left as usize } else { 7 }

@@ -1,8 +1,8 @@
 // What a group of the log says: whether it is valid, and its tags.
 use model::Tag;
 ghost use mathlib.Core.Path.{_≡_};
-ghost use Prim.Native.Nat.{_+_, _*_, _^_, _<_, _≤_};
-ghost use lib.ListN.{length};
+ghost use Prim.Native.Nat.{ℕ, _+_, _*_, _^_, _<_, _≤_};
+ghost use lib.ListN.{length, getD};
 ghost use Rattle.model.specs.Tag.{readTag};
 ghost use Rattle.model.specs.Layout.{groupTag, groupValid, entryAt};
 
@@ -12,6 +12,20 @@ pub fn tag_in(group: &[u8], k: usize, position: u64, base: u64, homes: u64) -> T
     ensures { λ r. ⌜ r ≡ readTag (groupTag (now (group .entry)) k) position base homes ⌝ }
 {
     codec::read_tag(codec::number(group, 8 + 8 * k, 8), position, base, homes)
+}
+
+// The words of a group's seven tags, read in a row.
+pub fn tag_words(group: &[u8]) -> [u64; 7]
+    requires { ⌜ length (now group) ≡ 512 ⌝ }
+    ensures { λ r. ⌜ ((k : ℕ) → k < 7 → getD r k 0 ≡ groupTag (now (group .entry)) k) ⌝ }
+{
+    let mut words = [0u64; 7];
+    let mut k: usize = 0;
+    while k < 7 {
+        words[k] = codec::number(group, 8 + 8 * k, 8);
+        k += 1;
+    }
+    words
 }
 
 // Whether the 512 bytes of a ring slot are a valid group with number `n`, in a log of `groups` groups from number `start` on.

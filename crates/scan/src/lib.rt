@@ -3,7 +3,13 @@ mod commits;
 mod groups;
 
 pub use commits::Found;
+pub use commits::Progress;
+pub use commits::count_entry;
+pub use commits::in_group;
+pub use commits::judge;
+pub use commits::next_slot;
 pub use commits::walk;
 pub use groups::entry_at;
 pub use groups::group_valid;
 pub use groups::tag_in;
+pub use groups::tag_words;

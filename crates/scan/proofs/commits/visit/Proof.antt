@@ -6,8 +6,8 @@ use Rattle.scan.proofs.VisitLaws.{entry-bounds, closing-bounds, below-m
 use Rattle.scan.proofs.commits.visit.Statement.{statement}
 use Rattle.scan.proofs.commits.visit.Tie as tie
 
-tag-in-requires : tie.Need-tag-in-requires
-tag-in-requires c κs = search needs
+read-tag-requires : tie.Need-read-tag-requires
+read-tag-requires c κs = search needs
 
 enum-told : tie.Need-enum-told
 enum-told c = search needs
@@ -18,14 +18,14 @@ enum-known-first c = search needs
 sub-count-entry : tie.Need-sub-count-entry
 sub-count-entry c =
     let f = c .before .before in
-    omega (arith, entry-bounds _ _ _ _ _ (f .before .before .tag-in .ensures) _ _ (f .first .given .1))
+    omega (arith, entry-bounds _ _ _ _ _ (f .before .before .read-tag .ensures) _ _ (f .first .given .1))
 
 count-entry-requires : tie.Need-count-entry-requires
 count-entry-requires c κs =
     let f = c .before .before in
     let t = f .before .before in
-    let p = t .before .before .before .pre in
-    (omega (arith, entry-bounds _ _ _ _ _ (t .tag-in .ensures) _ _ (f .first .given .1), p), below-most _ _ _ _ (p .5) (p .3))
+    let p = t .before .before .pre in
+    (omega (arith, entry-bounds _ _ _ _ _ (t .read-tag .ensures) _ _ (f .first .given .1), p), below-most _ _ _ _ (p .3) (p .1))
 
 enum-known-first-2 : tie.Need-enum-known-first-2
 enum-known-first-2 c = search needs
@@ -33,23 +33,23 @@ enum-known-first-2 c = search needs
 sub-count-entry-2 : tie.Need-sub-count-entry-2
 sub-count-entry-2 c =
     let f = c .before .before in
-    omega (arith, closing-bounds _ _ _ _ _ (f .before .before .tag-in .ensures) _ _ _ _ (f .first2 .given .1))
+    omega (arith, closing-bounds _ _ _ _ _ (f .before .before .read-tag .ensures) _ _ _ _ (f .first2 .given .1))
 
 count-entry-requires-2 : tie.Need-count-entry-requires-2
 count-entry-requires-2 c κs =
     let f = c .before .before in
     let t = f .before .before in
-    let p = t .before .before .before .pre in
-    (omega (arith, closing-bounds _ _ _ _ _ (t .tag-in .ensures) _ _ _ _ (f .first2 .given .1), p), below-most _ _ _ _ (p .5) (p .3))
+    let p = t .before .before .pre in
+    (omega (arith, closing-bounds _ _ _ _ _ (t .read-tag .ensures) _ _ _ _ (f .first2 .given .1), p), below-most _ _ _ _ (p .3) (p .1))
 
 judge-requires : tie.Need-judge-requires
 judge-requires c κs =
     let f = c .before .before .before .before .before in
     let t = f .before .before in
-    omega (arith, closing-bounds _ _ _ _ _ (t .tag-in .ensures) _ _ _ _ (f .first2 .given .1), t .before .before .before .pre)
+    omega (arith, closing-bounds _ _ _ _ _ (t .read-tag .ensures) _ _ _ _ (f .first2 .given .1), t .before .before .pre)
 
 returns : tie.Need-returns
-returns c = enter-nothing _ _ _ _ _ (c .before .before .tag-in .ensures) (c .enum-told .given .1)
+returns c = enter-nothing _ _ _ _ _ (c .before .before .read-tag .ensures) (c .enum-told .given .1)
 
 same-length : tie.Need-same-length
 same-length c = search needs
@@ -58,7 +58,7 @@ returns-2 : tie.Need-returns-2
 returns-2 c =
     let n = c .before .before in
     let f = n .before .before .before in
-    enter-entry _ _ _ _ _ (f .before .before .tag-in .ensures) _ _ _ (f .first .given .1) (n .count-entry .ensures .0)
+    enter-entry _ _ _ _ _ (f .before .before .read-tag .ensures) _ _ _ (f .first .given .1) (n .count-entry .ensures .0)
 
 same-length-2 : tie.Need-same-length-2
 same-length-2 c = search needs
@@ -67,14 +67,14 @@ returns-3 : tie.Need-returns-3
 returns-3 c =
     let n = c .before .before .before in
     let f = n .before .before .before in
-    enter-closing _ _ _ _ _ (f .before .before .tag-in .ensures) _ _ _ _ _ _ _ (f .first2 .given .1) (n .count-entry2 .ensures .0)
+    enter-closing _ _ _ _ _ (f .before .before .read-tag .ensures) _ _ _ _ _ _ _ (f .first2 .given .1) (n .count-entry2 .ensures .0)
     (n .count-entry2 .ensures .1) (c .judge .ensures)
 
 pub visit-spec : {M : Type 1} → statement M
 visit-spec =
     tie.close
     (tie.spec
-    tag-in-requires
+    read-tag-requires
     enum-told
     enum-known-first
     sub-count-entry

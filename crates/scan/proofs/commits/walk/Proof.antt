@@ -9,7 +9,8 @@ use Rattle.model.specs.Bytes.{zeros}
 use Rattle.model.specs.Layout.{entryAt}
 use Rattle.scan.specs.Scan.{Scan, fresh, entered, Within}
 use Rattle.scan.proofs.GroupLaws.{slot-more}
-use Rattle.scan.proofs.ScanLaws.{within-reached, fresh-within, found, found-stopped, placed, log-turn, log-start}
+use Rattle.scan.proofs.PassLaws.{over-start, log-turn}
+use Rattle.scan.proofs.ScanLaws.{within-reached, fresh-within, found, found-stopped, placed}
 use Rattle.scan.proofs.commits.walk.Statement.{statement}
 use Rattle.scan.proofs.commits.walk.Tie as tie
 
@@ -32,7 +33,7 @@ rem-slot c = omega arith
 
 loop-holds : tie.Need-loop-holds Inv-loop μ-loop
 unfolding fresh zeros
-loop-holds c = (log-start _ _ _, omega arith, refl, mod-lt (c .before .args .start) (omega arith), λ h. omega arith)
+loop-holds c = (over-start _ _ _ _ _, omega arith, refl, mod-lt (c .before .args .start) (omega arith), λ h. omega arith)
 
 -- the next group's positions come next, and the numbers of the pass are small
 module _ (c : tie.In-loop Inv-loop μ-loop) where
@@ -92,7 +93,7 @@ reached : (c : tie.After-visit-group Inv-loop μ-loop) (j : ℕ)
     (pass (c .before .before .before .before .before .before .before) j)
 reached c j e =
     let l = c .before .before .before .before in
-    log-turn _ _ _ _ _ _ _ _ _ _ _ _ (omega arith) (next l) (l .before .loop .inv .2) refl e (l .before .loop .inv .0) (c .visit-group .ensures)
+    log-turn _ _ _ _ _ _ _ _ _ _ _ _ _ _ _ (omega arith) (next l) (l .before .loop .inv .2) refl e (l .before .loop .inv .0) (c .visit-group .ensures)
 
 result-requires : tie.Need-result-requires Inv-loop μ-loop
 result-requires c κs = tt
