@@ -4,7 +4,7 @@
 # make compare    a long comparison of the library with the second implementation, call by call
 # make play       random histories on the second implementation alone
 # make bench      instructions and times of each call against the second implementation; other stores, if installed
-# make bench-plot docs/ring-cost.svg from the last bench
+# make bench-docs tables of docs/PERFORMANCE.md and docs/ring-cost.svg from the last bench
 # make install    header, library and pkg-config file, under DESTDIR and PREFIX
 
 SHELL = /bin/bash
@@ -16,7 +16,7 @@ HISTORIES ?= 400
 
 LIB = target/staticlib/libkagutin.a
 
-.PHONY: all run test test-library compare play bench bench-plot second library clean
+.PHONY: all run test test-library compare play bench bench-docs second library clean
 
 all: station inspect quickstart
 
@@ -48,8 +48,9 @@ bench: bench/target/release/bench
 	bench/target/release/bench --seed $(SEED)
 	@if [ -x bench/peers/run.sh ]; then LIB=$(LIB) bench/peers/run.sh; fi
 
-bench-plot:
+bench-docs:
 	python3 bench/plot.py target/bench/bench.tsv docs/ring-cost.svg
+	python3 bench/report.py target/bench/bench.tsv target/bench/peers.tsv docs/PERFORMANCE.md
 
 # The proofs come first, so that the library is made from what they have just proved; their verdict is printed again as the last line.
 test: second

@@ -1,0 +1,89 @@
+#!/usr/bin/env python3
+"""Puts the tables of the last bench into docs/PERFORMANCE.md, between its marks <!-- NAME --> and <!-- end -->.
+
+usage: report.py BENCH.TSV PEERS.TSV DOCUMENT
+"""
+
+import csv
+import os
+import re
+import sys
+
+
+def rows_of(path):
+    with open(path, newline="") as file:
+        return list(csv.DictReader(file, delimiter="\t"))
+
+
+def number(text, digits=0):
+    return f"{float(text):,.{digits}f}" if text else "–"
+
+
+def ratio(above, below):
+    if not above or not below or float(below) == 0:
+        return "–"
+    value = float(above) / float(below)
+    return f"**{value:.2f}**" if value > 1.2 else f"{value:.2f}"
+
+
+def table(head, lines):
+    rule = ["---"] + ["---:"] * (len(head) - 1)
+    return "\n".join("| " + " | ".join(cells) + " |" for cells in [head, rule] + lines)
+
+
+def call_table(rows):
+    head = ["case, call", "library", "second", "ratio", "floor", "library ns", "second ns"]
+    lines = []
+    for row in rows:
+        name = f"{row['case']}: {row['call']}"
+        counts = [number(row["library"]), number(row["second"]), ratio(row["library"], row["second"]), number(row["floor"])]
+        lines.append([name] + counts + [number(row["library_ns"]), number(row["second_ns"])])
+    return table(head, lines)
+
+
+def size_table(rows):
+    head = ["call, groups in use of G", "library", "per group of the ring", "per group in use", "second", "ratio"]
+    lines = []
+    for row in rows:
+        library, groups, used = float(row["library"]), int(row["groups"]), int(row["used"])
+        cells = [number(row["library"]), number(library / groups), number(library / used), number(row["second"])]
+        lines.append([f"{row['call']}, {used:,} of {groups:,}"] + cells + [ratio(row["library"], row["second"])])
+    return table(head, lines)
+
+
+def peer_table(rows):
+    head = ["store, blocks", "median ns", "best ns", "bytes written", "best ÷ Kagutin's best"]
+    lines = []
+    for row in rows:
+        written = number(row["bytes"]) if row["bytes"] not in ("", "n/a") else "–"
+        cells = [number(row["median_ns"]), number(row["best_ns"]), written, f"{float(row['ratio_of_best']):.2f}"]
+        lines.append([f"{row['store']}, {row['blocks']}"] + cells)
+    return table(head, lines)
+
+
+def main():
+    if len(sys.argv) != 4:
+        sys.exit(__doc__)
+    bench, peers, document = sys.argv[1:]
+    rows = rows_of(bench)
+    tables = {
+        "calls": call_table([row for row in rows if row["table"] == "calls"]),
+        "worst": call_table([row for row in rows if row["table"] == "worst"]),
+        "size": size_table([row for row in rows if row["table"] == "size"]),
+    }
+    if os.path.exists(peers):
+        stores = rows_of(peers)
+        tables["single"] = peer_table([row for row in stores if row["together"] == "1"])
+        tables["eight"] = peer_table([row for row in stores if row["together"] != "1"])
+    with open(document) as file:
+        text = file.read()
+    for name, body in tables.items():
+        mark = f"<!-- {name} -->"
+        if mark not in text:
+            sys.exit(f"{document} has no mark {mark}")
+        text = re.sub(re.escape(mark) + r".*?<!-- end -->", lambda _: f"{mark}\n{body}\n<!-- end -->", text, flags=re.S)
+    with open(document, "w") as file:
+        file.write(text)
+
+
+main()
