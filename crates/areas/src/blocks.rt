@@ -1,4 +1,4 @@
-// A block of 64 bytes copied in words of eight: wide moves, and no test whether the two slices overlap.
+// A block of 64 bytes copied from one area into another.
 ghost use mathlib.Core.Path.{_≡_};
 ghost use Prim.Native.Nat.{_+_, _≤_};
 ghost use lib.ListN.{length};
@@ -9,13 +9,5 @@ pub fn copy_block(dst: &mut [u8], at: usize, src: &[u8], from: usize)
     requires { ⌜ (at + 64 ≤ length (now dst)) × (from + 64 ≤ length (now src)) ⌝ }
     ensures { λ _. ⌜ now (dst .exit) ≡ puts (now (dst .entry)) at (part (now (src .entry)) from 64) ⌝ }
 {
-    let mut i = at;
-    let mut j = from;
-    let mut left: usize = 8;
-    while left > 0 {
-        codec::put_number(dst, i, 8, codec::number(src, j, 8));
-        i += 8;
-        j += 8;
-        left -= 1;
-    }
+    codec::copy(dst, at, &src[from..from + 64])
 }

@@ -1,4 +1,6 @@
 pub mod BlockLaws
+pub mod CopyLaws
+pub mod JoinLaws
 pub mod MarkLaws
 pub mod ReadLaws
 pub mod WordLaws

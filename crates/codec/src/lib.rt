@@ -7,7 +7,7 @@ mod tags;
 pub use blocks::all_zero;
 pub use blocks::clear;
 pub use blocks::copy;
-pub use marks::has_group_mark;
+pub use marks::has_group_head;
 pub use marks::has_header_mark;
 pub use marks::put_fence_mark;
 pub use marks::put_group_mark;

@@ -1,10 +1,16 @@
 // The two-byte marks that records, the log's header and groups begin with.
+use crate::numbers::number;
 ghost use mathlib.Core.Path.{_≡_};
-ghost use Prim.Native.Nat.{_+_, _≤_};
+ghost use mathlib.Core.Bool.{_&&_};
+ghost use Prim.Native.Nat.{_+_, _%_, _^_, _≤_};
+ghost use lib.Dec.{eqb};
 ghost use lib.ListN.{length};
-ghost use Rattle.model.specs.Bytes.{part, puts, same};
+ghost use Rattle.model.specs.Bytes.{part, puts, number, same};
 ghost use Rattle.model.specs.Layout.{headerMark, groupMark};
 ghost use Rattle.model.specs.Batch.{groupWriteMark, homeWriteMark, headerWriteMark, fenceMark};
+
+// The mark of a group, b"PG", as a number.
+const GROUP_MARK: u64 = 0x4750;
 
 // Writes the two bytes of `mark` at index `at`.
 fn put_mark(dst: &mut [u8], at: usize, mark: &[u8])
@@ -85,10 +91,14 @@ pub fn has_header_mark(s: &[u8], at: usize) -> bool
     has_mark(s, at, b"PH")
 }
 
-// Whether the mark of a group stands at index `at`.
-pub fn has_group_mark(s: &[u8], at: usize) -> bool
-    requires { ⌜ at + 2 ≤ length (now s) ⌝ }
-    ensures { λ r. ⌜ r ≡ same (part (now (s .entry)) at 2) groupMark ⌝ }
+// Whether the mark of a group and the number `n` stand in the eight bytes from index `at` on: one word, the number above the mark.
+// The mark alone goes first, so that an unused group is passed quickly.
+pub fn has_group_head(s: &[u8], at: usize, n: u64) -> bool
+    requires { ⌜ at + 8 ≤ length (now s) ⌝ }
+    ensures { λ r. ⌜ r ≡ (same (part (now (s .entry)) at 2) groupMark && eqb (number 6 (now (s .entry)) (at + 2)) (n % 2 ^ 48)) ⌝ }
 {
-    has_mark(s, at, b"PG")
+    if number(s, at, 2) != GROUP_MARK {
+        return false;
+    }
+    number(s, at, 8) == n % 0x1_0000_0000_0000 * 0x1_0000 + GROUP_MARK
 }

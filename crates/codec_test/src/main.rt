@@ -41,8 +41,8 @@ fn numbers() {
 // A mark, written and found, and zeros after it.
 fn marks() {
     let mut b = [0u8; 16];
-    codec::put_group_mark(&mut b, 0);
-    check::expect(codec::has_group_mark(&b, 0));
+    codec::put_header_mark(&mut b, 0);
+    check::expect(codec::has_header_mark(&b, 0));
     check::expect(codec::all_zero(&b, 2, 14));
 }
 

@@ -1,13 +1,13 @@
 -- What a group says, test by test of its bytes, a position of the log by its group, and the ring slots in order. Assumes nothing.
-use mathlib.Core.Path.{_≡_, refl, sym, ap, _∙_}
-use mathlib.Core.Bool.{true, false, and-false}
+use mathlib.Core.Path.{_≡_, refl, sym, _∙_}
+use mathlib.Core.Bool.{Bool, true, false, _&&_, and-false}
 use mathlib.Core.List.{List}
 use Prim.Native.Nat.{ℕ, _+_, _-_, _*_, _/_, _%_, _^_, _≤_, _<_}
 use native.Mathlib.Decide.{ℕ-discrete}
 use native.Mathlib.Nat.{mod-self, mod-eq-of-lt, mod-add-mod}
 use native.Mathlib.Omega.{arith}
-use borrow.Author.Tests.{eq-eqb, ne-eqb, le-leb, lt-leb}
-use lib.Dec.{ltb}
+use borrow.Author.Tests.{ltb-true, le-leb, lt-leb}
+use lib.Dec.{eqb, leb, ltb}
 use lib.ListN.{length, getD, set, take, drop}
 use lib.Seq.{getD-set-same, getD-set-other}
 use Rattle.model.specs.Bytes.{part, number, same}
@@ -35,21 +35,29 @@ words-more group words k word l h e q j m = go (ℕ-discrete j k)
 -- ---- a group's tests
 
 module _ (group : List ℕ) (groups start n : ℕ) where
-  pub valid-unmarked : same (part group 0 2) groupMark ≡ false → false ≡ groupValid group groups start n
-  unfolding groupValid
-  valid-unmarked e = simp e
+  -- its mark, and its number in six bytes
+  abbrev head : Bool
+  head = same (part group 0 2) groupMark && eqb (number 6 group 2) (n % 2 ^ 48)
 
-  pub valid-other : (number 6 group 2 ≡ n → ⊥) → false ≡ groupValid group groups start n
+  valid-head : start + groups < 2 ^ 48 → groupValid group groups start n ≡ (head && leb start n && ltb n (start + groups))
   unfolding groupValid groupNumber
-  valid-other e = simp (ne-eqb (number 6 group 2) n e, and-false)
+  valid-head h = go (ltb n (start + groups)) refl
+    where
+      go : (b : Bool) → ltb n (start + groups) ≡ b
+          → (same (part group 0 2) groupMark && eqb (number 6 group 2) n && leb start n && ltb n (start + groups)) ≡ (head && leb start n && ltb n (start + groups))
+      go false e = simp (e, and-false)
+      go true e = let f : n % 2 ^ 48 ≡ n = mod-eq-of-lt (omega (arith, ltb-true n (start + groups) e)) in rw f
+
+  pub valid-other : start + groups < 2 ^ 48 → (same (part group 0 2) groupMark && eqb (number 6 group 2) (n % 2 ^ 48)) ≡ false → false ≡ groupValid group groups start n
+  valid-other h e = rw (valid-head h, e)
 
   pub valid-before : n < start → false ≡ groupValid group groups start n
   unfolding groupValid
   valid-before h = simp (lt-leb start n h, and-false)
 
-  pub valid-range : same (part group 0 2) groupMark ≡ true → number 6 group 2 ≡ n → start ≤ n → ltb n (start + groups) ≡ groupValid group groups start n
-  unfolding groupValid groupNumber
-  valid-range e f h = simp (e, eq-eqb (number 6 group 2) n f, le-leb start n h)
+  pub valid-range : start + groups < 2 ^ 48 → (same (part group 0 2) groupMark && eqb (number 6 group 2) (n % 2 ^ 48)) ≡ true → start ≤ n
+      → ltb n (start + groups) ≡ groupValid group groups start n
+  valid-range h e g = rw (valid-head h, e, le-leb start n g)
 
 -- ---- a group as a part of the log
 

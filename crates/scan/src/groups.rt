@@ -33,10 +33,7 @@ pub fn group_valid(group: &[u8], groups: u64, start: u64, n: u64) -> bool
     requires { ⌜ (length (now group) ≡ 512) × (groups ≤ 1024) × (start ≤ 2 ^ 47) ⌝ }
     ensures { λ r. ⌜ r ≡ groupValid (now (group .entry)) groups start n ⌝ }
 {
-    if !codec::has_group_mark(group, 0) {
-        return false;
-    }
-    if codec::number(group, 2, 6) != n {
+    if !codec::has_group_head(group, 0, n) {
         return false;
     }
     if n < start {

@@ -1,72 +1,69 @@
--- `codec::number` meets its contract. The loop's invariant: `x` is the number that the `j` bytes from `i` on make.
--- Assumes nothing.
+-- `codec::number` meets its contract: each width in use is put together from its parts. Assumes nothing.
 use mathlib.Core.Path.{_≡_}
-use Prim.Native.Nat.{_+_, _*_, _-_, _^_, _≤_, _<_}
+use borrow.Author.Needs.{needs}
 use native.Mathlib.Omega.{arith}
-use lib.ListN.{getD}
-use Rattle.model.specs.Bytes.{number}
-use Rattle.model.proofs.ByteLaws.{number-none, digit, within, get-turn}
+use Rattle.codec.proofs.JoinLaws.{joined}
 use Rattle.codec.proofs.numbers.number.Statement.{statement}
 use Rattle.codec.proofs.numbers.number.Tie as tie
 
-abbrev Inv-loop : tie.InvT-loop
-Inv-loop s at k x₀ i₀ j₀ x i j = (x ≡ number j s i) × (x < 256 ^ j) × (i + j ≡ at + k) × (j ≤ k)
+four-bytes-requires : tie.Need-four-bytes-requires
+four-bytes-requires c κs = search needs
 
-abbrev μ-loop : tie.MeasureT-loop
-μ-loop s at k x₀ i₀ j₀ x i j = k - j
+add-four-bytes : tie.Need-add-four-bytes
+add-four-bytes c = search needs
 
--- the byte read is one, and the number with it is a digit longer
-byte : (c : tie.After-shared-slice-known Inv-loop μ-loop) → getD (c .before .before .before .args .s .now) (c .before .before .loop .i - 1) 0 < 256
-byte c = omega (arith, c .shared-slice-known .given (c .before .before .loop .i - 1))
+four-bytes-requires-2 : tie.Need-four-bytes-requires-2
+four-bytes-requires-2 c κs = search needs
 
-next : (c : tie.After-shared-slice-known Inv-loop μ-loop)
-    → c .before .before .loop .x * 256 + getD (c .before .before .before .args .s .now) (c .before .before .loop .i - 1) 0
-    < 256 ^ (c .before .before .loop .j + 1)
-next c = digit _ _ _ (c .before .before .loop .inv .1) (byte c)
-
-add-i : tie.Need-add-i Inv-loop μ-loop
-add-i c = omega arith
-
-loop-holds : tie.Need-loop-holds Inv-loop μ-loop
-unfolding number
-loop-holds c = (omega (arith, number-none (c .args .s .now) (c .args .at + c .args .k)), omega arith, omega arith, omega arith)
-
-sub-i : tie.Need-sub-i Inv-loop μ-loop
-sub-i c = omega arith
-
-mul-x : tie.Need-mul-x Inv-loop μ-loop
-mul-x c =
-    let l = c .before .loop in
-    let h = digit (l .x) 0 (l .j) (omega arith) (omega arith) in
-    omega (arith, within _ (l .j + 1) h (omega arith))
-
-shared-slice-read-x : tie.Need-shared-slice-read-x Inv-loop μ-loop
-shared-slice-read-x c = omega arith
-
-cast-x : tie.Need-cast-x Inv-loop μ-loop
-cast-x c = omega (arith, byte c)
-
-add-x : tie.Need-add-x Inv-loop μ-loop
-add-x c = omega (arith, within _ (c .before .before .loop .j + 1) (next c) (omega arith))
-
-add-j : tie.Need-add-j Inv-loop μ-loop
-add-j c = omega arith
-
-loop-less : tie.Need-loop-less Inv-loop μ-loop
-loop-less c = omega arith
-
-loop-again : tie.Need-loop-again Inv-loop μ-loop
-loop-again c =
-    let l = c .before .before .loop in
-    (get-turn _ _ (l .i) _ (omega arith) (l .inv .0), next c, omega arith, omega arith)
-
-returns : tie.Need-returns Inv-loop μ-loop
+returns : tie.Need-returns
 returns c =
-    let l = c .before .loop in
-    let a = c .before .before .args in
-    let e : l .j ≡ a .k = omega arith in
-    let f : l .i ≡ a .at = omega arith in
-    (rw (e, f) at (l .inv .0), rw e at (l .inv .1))
+    let a = c .before .before .before .before .args in
+    let e : a .k ≡ 8 = omega arith in
+    rw e (joined 4 4 (a .s .now) (a .at) _ _ (c .before .four-bytes .ensures) (c .four-bytes2 .ensures) (omega arith))
+
+four-bytes-requires-3 : tie.Need-four-bytes-requires-3
+four-bytes-requires-3 c κs = search needs
+
+add-two-bytes : tie.Need-add-two-bytes
+add-two-bytes c = search needs
+
+two-bytes-requires : tie.Need-two-bytes-requires
+two-bytes-requires c κs = search needs
+
+returns-2 : tie.Need-returns-2
+returns-2 c =
+    let a = c .before .before .before .before .before .args in
+    let e : a .k ≡ 6 = omega arith in
+    rw e (joined 4 2 (a .s .now) (a .at) _ _ (c .before .four-bytes3 .ensures) (c .two-bytes .ensures) (omega arith))
+
+two-bytes-requires-2 : tie.Need-two-bytes-requires-2
+two-bytes-requires-2 c κs = search needs
+
+returns-3 : tie.Need-returns-3
+returns-3 c =
+    let a = c .before .before .before .before .before .args in
+    let e : a .k ≡ 2 = omega arith in
+    rw e (c .two-bytes2 .ensures)
+
+each-byte-requires : tie.Need-each-byte-requires
+each-byte-requires c κs = search needs
+
+returns-4 : tie.Need-returns-4
+returns-4 c = search needs
 
 pub number-spec : {M : Type 1} → statement M
-number-spec = tie.close (tie.spec Inv-loop μ-loop add-i loop-holds sub-i mul-x shared-slice-read-x cast-x add-x add-j loop-less loop-again returns)
+number-spec =
+    tie.close
+    (tie.spec
+    four-bytes-requires
+    add-four-bytes
+    four-bytes-requires-2
+    returns
+    four-bytes-requires-3
+    add-two-bytes
+    two-bytes-requires
+    returns-2
+    two-bytes-requires-2
+    returns-3
+    each-byte-requires
+    returns-4)

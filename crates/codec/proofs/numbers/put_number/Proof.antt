@@ -1,51 +1,81 @@
--- `codec::put_number` meets its contract. The loop's invariant: the `left` bytes of `x`, stored from `i` on, make the whole write.
--- Assumes nothing.
-use mathlib.Core.Path.{_≡_, refl, sym, _∙_}
-use Prim.Native.Nat.{_+_}
-use native.Mathlib.Omega.{arith}
-use lib.ListN.{length, length-set}
-use Rattle.model.specs.Bytes.{puts, bytes, putNumber}
-use Rattle.model.proofs.ByteLaws.{put-turn, put-end}
+-- `codec::put_number` meets its contract: each width in use is written in its parts. Assumes nothing.
+use mathlib.Core.Path.{_∙_}
+use borrow.Author.Needs.{needs}
+use Rattle.codec.proofs.JoinLaws.{put-joined}
 use Rattle.codec.proofs.numbers.put_number.Statement.{statement}
 use Rattle.codec.proofs.numbers.put_number.Tie as tie
 
-abbrev Inv-loop : tie.InvT-loop
-Inv-loop s₀ at k v x₀ i₀ left₀ s x i left = (puts s i (bytes left x) ≡ putNumber k s₀ at v) × (i + left ≡ at + k) × (length s ≡ length s₀)
+put-four-bytes-requires : tie.Need-put-four-bytes-requires
+put-four-bytes-requires c κs = search needs
 
-abbrev μ-loop : tie.MeasureT-loop
-μ-loop s₀ at k v x₀ i₀ left₀ s x i left = left
+add-put-four-bytes : tie.Need-add-put-four-bytes
+add-put-four-bytes c = search needs
 
-loop-holds : tie.Need-loop-holds Inv-loop μ-loop
-unfolding putNumber
-loop-holds c = (refl, refl, refl)
+put-four-bytes-requires-2 : tie.Need-put-four-bytes-requires-2
+put-four-bytes-requires-2 c κs = search needs
 
-cast-s : tie.Need-cast-s Inv-loop μ-loop
-cast-s c = omega arith
+same-length : tie.Need-same-length
+same-length c = search needs
 
-slice-write-s : tie.Need-slice-write-s Inv-loop μ-loop
-slice-write-s c = omega arith
-
-add-i : tie.Need-add-i Inv-loop μ-loop
-add-i c = omega arith
-
-sub-left : tie.Need-sub-left Inv-loop μ-loop
-sub-left c = omega arith
-
-loop-less : tie.Need-loop-less Inv-loop μ-loop
-loop-less c = omega arith
-
-loop-again : tie.Need-loop-again Inv-loop μ-loop
-loop-again c =
-    let l = c .before .loop in
-    (put-turn _ _ (l .left) (l .x) (omega arith) ∙ l .inv .0, omega arith, simp length-set (omega arith))
-
-same-length : tie.Need-same-length Inv-loop μ-loop
-same-length c = omega arith
-
-returns : tie.Need-returns Inv-loop μ-loop
+returns : tie.Need-returns
 returns c =
-    let l = c .before .loop in
-    sym (put-end _ (l .i) (l .left) (l .x) (omega arith)) ∙ l .inv .0
+    let p = c .before .before .before .before .before .before in
+    let a = p .before .before .before .before .args in
+    rw (p .before .before .if1 .taken) (c .before .before .put-four-bytes2 .ensures ∙ rw (p .put-four-bytes .ensures) (put-joined 4 4 _ (a .at) (a .v)))
+
+put-four-bytes-requires-3 : tie.Need-put-four-bytes-requires-3
+put-four-bytes-requires-3 c κs = search needs
+
+add-put-two-bytes : tie.Need-add-put-two-bytes
+add-put-two-bytes c = search needs
+
+put-two-bytes-requires : tie.Need-put-two-bytes-requires
+put-two-bytes-requires c κs = search needs
+
+same-length-2 : tie.Need-same-length-2
+same-length-2 c = search needs
+
+returns-2 : tie.Need-returns-2
+returns-2 c =
+    let p = c .before .before .before .before .before .before in
+    let a = p .before .before .before .before .before .args in
+    rw (p .before .before .if2 .taken) (c .before .before .put-two-bytes .ensures ∙ rw (p .put-four-bytes3 .ensures) (put-joined 4 2 _ (a .at) (a .v)))
+
+put-two-bytes-requires-2 : tie.Need-put-two-bytes-requires-2
+put-two-bytes-requires-2 c κs = search needs
+
+same-length-3 : tie.Need-same-length-3
+same-length-3 c = search needs
+
+returns-3 : tie.Need-returns-3
+returns-3 c = rw (c .before .before .before .before .if3 .taken) (c .before .before .put-two-bytes2 .ensures)
+
+put-each-byte-requires : tie.Need-put-each-byte-requires
+put-each-byte-requires c κs = search needs
+
+same-length-4 : tie.Need-same-length-4
+same-length-4 c = search needs
+
+returns-4 : tie.Need-returns-4
+returns-4 c = search needs
 
 pub put-number-spec : {M : Type 1} → statement M
-put-number-spec = tie.close (tie.spec Inv-loop μ-loop loop-holds cast-s slice-write-s add-i sub-left loop-less loop-again same-length returns)
+put-number-spec =
+    tie.close
+    (tie.spec
+    put-four-bytes-requires
+    add-put-four-bytes
+    put-four-bytes-requires-2
+    same-length
+    returns
+    put-four-bytes-requires-3
+    add-put-two-bytes
+    put-two-bytes-requires
+    same-length-2
+    returns-2
+    put-two-bytes-requires-2
+    same-length-3
+    returns-3
+    put-each-byte-requires
+    same-length-4
+    returns-4)

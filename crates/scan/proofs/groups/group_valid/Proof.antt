@@ -2,33 +2,27 @@
 use mathlib.Core.Path.{sym, _∙_}
 use borrow.Author.Needs.{needs}
 use borrow.Author.Tests.{not-true, not-false}
-use Rattle.scan.proofs.GroupLaws.{valid-unmarked, valid-other, valid-before, valid-range}
+use native.Mathlib.Omega.{arith}
+use Rattle.scan.proofs.GroupLaws.{valid-other, valid-before, valid-range}
 use Rattle.scan.proofs.groups.group_valid.Statement.{statement}
 use Rattle.scan.proofs.groups.group_valid.Tie as tie
 
-has-group-mark-requires : tie.Need-has-group-mark-requires
-has-group-mark-requires c κs = search needs
+has-group-head-requires : tie.Need-has-group-head-requires
+has-group-head-requires c κs = search needs
 
 returns : tie.Need-returns
-returns c = valid-unmarked _ _ _ _ (sym (c .before .has-group-mark .ensures) ∙ not-true _ (c .if1 .taken))
-
-number-requires : tie.Need-number-requires
-number-requires c κs = search needs
+returns c = valid-other _ _ _ _ (omega arith) (sym (c .before .has-group-head .ensures) ∙ not-true _ (c .if1 .taken))
 
 returns-2 : tie.Need-returns-2
-returns-2 c = valid-other _ _ _ _ (λ e. c .if2 .taken (c .before .number .ensures .0 ∙ e))
-
-returns-3 : tie.Need-returns-3
-returns-3 c = valid-before _ _ _ _ (c .if3 .taken)
+returns-2 c = valid-before _ _ _ _ (c .if2 .taken)
 
 add-result : tie.Need-add-result
 add-result c = search needs
 
-returns-4 : tie.Need-returns-4
-returns-4 c =
-    let n = c .before .before in
-    let m = n .before .before in
-    valid-range _ _ _ _ (sym (m .has-group-mark .ensures) ∙ not-false _ (n .before .if1 .left)) (sym (n .number .ensures .0) ∙ c .before .if2 .left) (c .if3 .left)
+returns-3 : tie.Need-returns-3
+returns-3 c =
+    let m = c .before .before in
+    valid-range _ _ _ _ (omega arith) (sym (m .has-group-head .ensures) ∙ not-false _ (c .before .if1 .left)) (c .if2 .left)
 
 pub group-valid-spec : {M : Type 1} → statement M
-group-valid-spec = tie.close (tie.spec has-group-mark-requires returns number-requires returns-2 returns-3 add-result returns-4)
+group-valid-spec = tie.close (tie.spec has-group-head-requires returns returns-2 add-result returns-3)
