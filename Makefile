@@ -61,8 +61,9 @@ test: second
 	$(MAKE) --no-print-directory test-library && \
 	tail -n 1 "$$verdict"
 
-test-library: compare/target/release/compare
+test-library: compare/target/release/compare bench/target/release/bench
 	compare/target/release/compare --seed $(SEED)
+	bench/target/release/bench --seed $(SEED) --no-counts --out target/bench-test > /dev/null && echo "bench: the same answers on both sides"
 	$(MAKE) --no-print-directory c-check
 
 clean:
