@@ -1,6 +1,6 @@
 -- Laws for read: the entry that a writer sees, found layer by layer, and the block that is shown. Assumes nothing.
 use mathlib.Core.Path.{_≡_, refl, sym, ap, _∙_}
-use mathlib.Core.Bool.{Bool, true, false}
+use mathlib.Core.Bool.{Bool, true, false, cond}
 use mathlib.Core.List.{List}
 use mathlib.Core.Option.{Option, none, some}
 use Prim.Native.Nat.{ℕ, zero, suc, _+_, _-_, _*_, _/_, _%_, _≤_, _<_}
@@ -9,12 +9,13 @@ use native.Mathlib.Decide.{ℕ-discrete}
 use native.Mathlib.Omega.{arith}
 use lib.Dec.{ltb, eqb}
 use lib.ListN.{length}
-use borrow.Author.Tests.{ltb-true, lt-ltb, le-ltb}
+use borrow.Author.Tests.{ltb-true, lt-ltb, le-ltb, leb-true, ne-eqb}
 use Rattle.model.specs.Bytes.{part, puts}
 use Rattle.model.specs.Layout.{groupOffset, groupAt, blockOffset, groupBlock, slotOf, indexOf, blockAt, homesIn, homeAt}
-use Rattle.model.specs.Commit.{members, transactions, newestIn, newest, orElse}
+use Rattle.model.specs.Commit.{members, started, walk, committed, eachEntries, transactions, newestIn, newest, orElse}
 use Rattle.model.specs.State.{stateOf, nextPosition, writerOffset, writerOf, heldOf, holds, hasLogged, holdsHome}
 use Rattle.model.specs.declared.State.{State}
+use Rattle.model.specs.declared.Tag.{Tag}
 use Rattle.model.specs.declared.Writer.{Writer}
 use Rattle.model.specs.Effects.{Given, groups, homes, liveTags, liveBase, newestOwn, newestCommitted, blockOr, current, visible, readEffect}
 use Rattle.model.specs.Batch.{batchBytes}
@@ -26,7 +27,8 @@ use Rattle.answers.proofs.AnswerLaws.{Usable, block-refuses, block-passes, bloc
 use Rattle.answers.specs.Lent.{leaves}
 use Rattle.model.proofs.QuestionLaws.{ask-yes, ask-no, ask-passed}
 use Rattle.replay.specs.Codes.{codeOf}
-use Rattle.reading.specs.Newest.{tagsOf, live, ownEntry, committedEntry, seenEntry, Searchable}
+use Rattle.replay.specs.Seen.{ownBy, seenBy}
+use Rattle.reading.specs.Newest.{tagsOf, live, ownCode, ownEntry, committedEntry, seenEntry, Searchable}
 
 -- ---- what a usable store gives the search
 
@@ -56,8 +58,8 @@ searchable log area state st home u e h =
         go (no e) = omega arith
 
 pub own-first : (log area state : List ℕ) (st : State) (r : Writer) (w : ℕ) → Usable log area state → st ≡ stateOf state → r ≡ writerOf state w → w < 8
-    → 3 ≤ r .mode → 7 * st .start ≤ r .first
-own-first log area state st r w u es er h = rw (es, er) (λ m. u .order .writers w h .logged m .0)
+    → 3 ≤ r .mode → (7 * st .start ≤ r .first) × (r .first < nextPosition st)
+own-first log area state st r w u es er h = rw (es, er) (λ m. let k = u .order .writers w h .logged m in (k .0, k .1))
 
 -- ---- codes
 
@@ -71,31 +73,61 @@ unfolding codeOf
 code-some none x e n = absurd (n e)
 code-some (some p) x e n = let q : p ≡ x - 1 = omega arith in ap some q
 
+-- ---- the first position of a writer's transaction
+
+module _ (r : Writer) (b : Bool) (e : b ≡ hasLogged r) where
+  pub own-none : b ≡ false → 0 ≡ ownCode r
+  unfolding ownCode
+  own-none f = rw (sym e ∙ f)
+
+  pub own-some : b ≡ true → r .first + 1 ≡ ownCode r
+  unfolding ownCode
+  own-some f = rw (sym e ∙ f)
+
+  pub own-mode : b ≡ true → 3 ≤ r .mode
+  unfolding hasLogged
+  own-mode f = leb-true 3 (r .mode) (sym e ∙ f)
+
+pub own-within : (st : State) (r : Writer) (own n : ℕ) → (3 ≤ r .mode → (7 * st .start ≤ r .first) × (r .first < nextPosition st)) → own ≡ ownCode r
+    → n ≡ live st → 0 < own → (7 * st .start < own) × (own ≤ 7 * st .start + n)
+unfolding ownCode
+own-within st r own n p e d h = go (hasLogged r) refl
+  where
+    go : (b : Bool) → b ≡ hasLogged r → (7 * st .start < own) × (own ≤ 7 * st .start + n)
+    go true q =
+        let k = p (own-mode r true q refl) in
+        let f : own ≡ r .first + 1 = rw (← q) at e in
+        omega arith
+    go false q = let f : own ≡ 0 = rw (← q) at e in absurd (omega arith)
+
 -- ---- the newest entry
 
+none-seen : (tags : ℕ → Tag) (home own base : ℕ) → 0 ≡ codeOf (seenBy tags home own base 0)
+unfolding codeOf seenBy ownBy members newestIn transactions committed walk started eachEntries newest orElse
+none-seen tags home own base = go (eqb own 0)
+  where
+    go : (b : Bool) → 0 ≡ codeOf (orElse (cond b none none) none)
+    go true = refl
+    go false = refl
+
 module _ (log : List ℕ) (st : State) where
-  pub own-none : (r : Writer) (home : ℕ) (b : Bool) → b ≡ hasLogged r → b ≡ false → 0 ≡ codeOf (ownEntry log st r home)
-  unfolding ownEntry codeOf
-  own-none r home b e f = rw (sym e ∙ f)
+  pub seen-found : (r : Writer) (home n own x : ℕ) → n ≡ live st → own ≡ ownCode r
+      → x ≡ codeOf (seenBy (tagsOf log st) home own (7 * st .start) n) → x ≡ codeOf (seenEntry log st r home)
+  unfolding seenBy ownBy ownCode seenEntry ownEntry committedEntry
+  seen-found r home n own x e f h = (rw (e, f) at h) ∙ go (hasLogged r)
+    where
+      go : (b : Bool)
+          → codeOf (orElse (cond (eqb (cond b (r .first + 1) 0) 0) none (newestIn (tagsOf log st) home
+          (members (tagsOf log st) (cond b (r .first + 1) 0 - 1) (7 * st .start) (live st))))
+          (newest (tagsOf log st) home (transactions (tagsOf log st) (7 * st .start) (live st))))
+          ≡ codeOf (orElse (cond b (newestIn (tagsOf log st) home (members (tagsOf log st) (r .first) (7 * st .start) (live st))) none)
+          (newest (tagsOf log st) home (transactions (tagsOf log st) (7 * st .start) (live st))))
+      go true = let d : r .first + 1 - 1 ≡ r .first = omega arith in rw (ne-eqb (r .first + 1) 0 (λ z. omega arith), d)
+      go false = refl
 
-  pub own-found : (r : Writer) (home n x : ℕ) (b : Bool) → b ≡ hasLogged r → b ≡ true → n ≡ live st
-      → x ≡ codeOf (newestIn (tagsOf log st) home (members (tagsOf log st) (r .first) (7 * st .start) n)) → x ≡ codeOf (ownEntry log st r home)
-  unfolding ownEntry
-  own-found r home n x b e f g h = rw (sym e ∙ f) (rw g at h)
-
-  pub committed-found : (home n x : ℕ) → n ≡ live st
-      → x ≡ codeOf (newest (tagsOf log st) home (transactions (tagsOf log st) (7 * st .start) n)) → x ≡ codeOf (committedEntry log st home)
-  unfolding committedEntry
-  committed-found home n x g h = rw g at h
-
-  pub seen-own : (r : Writer) (home x : ℕ) → x ≡ codeOf (ownEntry log st r home) → (x ≡ 0 → ⊥) → x ≡ codeOf (seenEntry log st r home)
-  unfolding seenEntry orElse
-  seen-own r home x e n = let q = code-some (ownEntry log st r home) x e n in rw q (rw q at e)
-
-  pub seen-committed : (r : Writer) (home m x : ℕ) → m ≡ codeOf (ownEntry log st r home) → m ≡ 0 → x ≡ codeOf (committedEntry log st home)
-      → x ≡ codeOf (seenEntry log st r home)
-  unfolding seenEntry orElse
-  seen-committed r home m x e z h = rw (code-none (ownEntry log st r home) m e z) h
+  -- an empty log
+  pub seen-none : (r : Writer) (home n : ℕ) → n ≡ live st → n ≡ 0 → 0 ≡ codeOf (seenEntry log st r home)
+  seen-none r home n e z = seen-found r home n (ownCode r) 0 e refl (rw z (none-seen (tagsOf log st) home (ownCode r) (7 * st .start)))
 
 -- ---- blocks that are copied
 

@@ -20,6 +20,10 @@ tagsOf log st = entryAt log (st .groups) (st .homes) (st .start)
 abbrev pub live : State → ℕ
 live st = nextPosition st - 7 * st .start
 
+-- the first position of a writer's open transaction + 1, 0 if it has logged nothing
+unfoldable pub ownCode : Writer → ℕ
+ownCode r = cond (hasLogged r) (r .first + 1) 0
+
 -- the newest entry for a home in a writer's open transaction
 unfoldable pub ownEntry : List ℕ → State → Writer → ℕ → Option ℕ
 ownEntry log st r home =

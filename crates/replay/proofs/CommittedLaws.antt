@@ -1,4 +1,5 @@
--- The pass over the log finds the newest committed entry for a home as the model defines it. Assumes nothing.
+-- The pass over the log finds the newest entry for a home that a writer sees, and the newest committed one, as the model defines them. Assumes
+-- nothing.
 use mathlib.Core.Path.{_≡_, refl, sym, ap, _∙_}
 use mathlib.Core.Bool.{Bool, true, false, cond, _&&_}
 use mathlib.Core.List.{List, [], _∷_}
@@ -22,7 +23,8 @@ use Rattle.model.proofs.OrderLaws.{byte-zeros}
 use Rattle.scan.specs.Scan.{maxEntries, fresh, enter, over, entered}
 use Rattle.scan.proofs.ScanLaws.{Placed, agrees}
 use Rattle.replay.specs.Codes.{codeOf}
-use Rattle.replay.specs.Search.{Pass, unsought, noted, newer, seek, sought}
+use Rattle.replay.specs.Search.{Pass, unsought, noted, orOther, newer, seek, sought, chosen}
+use Rattle.replay.specs.Seen.{ownBy, seenBy}
 use Rattle.replay.proofs.SearchLaws.{sought-scan}
 
 -- ---- a position from base on, as its offset + 1, 0 for none
@@ -35,10 +37,10 @@ abbrev From : ℕ → Option ℕ → Type 0
 From base none = Unit {0}
 From base (some p) = base ≤ p
 
-newer-code : (base : ℕ) (a b : Option ℕ) → From base a → newer true base (offsetOf base a) (codeOf b) ≡ codeOf (orElse a b)
-unfolding newer offsetOf codeOf orElse
-newer-code base none b l = refl
-newer-code base (some p) b l = rw (ne-eqb (p + 1 - base) 0 (λ z. omega arith)) (omega arith)
+other-code : (base : ℕ) (a b : Option ℕ) → From base a → orOther base (offsetOf base a) (codeOf b) ≡ codeOf (orElse a b)
+unfolding orOther offsetOf codeOf orElse
+other-code base none b l = refl
+other-code base (some p) b l = rw (ne-eqb (p + 1 - base) 0 (λ z. omega arith)) (omega arith)
 
 -- ---- the entries of a transaction, one position more
 
@@ -83,11 +85,11 @@ module _ (tags : ℕ → Tag) (home base : ℕ) where
       → newer (judged b (record { first = g; closing = base + n }) w .going) base (offsetOf base (newestIn tags home (members tags g base (n + 1))))
       (codeOf (newest tags home (eachEntries tags base (w .spans))))
       ≡ codeOf (newest tags home (eachEntries tags base (judged b (record { first = g; closing = base + n }) w .spans)))
-  unfolding judged
+  unfolding judged newer
   newest-judged n g true w =
       let s : Span = record { first = g; closing = base + n } in
-      rw (each-append tags base (w .spans) (s ∷ []), newest-append tags home, newest-one n g) (newer-code base _ _ (newest-from g (n + 1)))
-  newest-judged n g false w = unfold newer in refl
+      rw (each-append tags base (w .spans) (s ∷ []), newest-append tags home, newest-one n g) (other-code base _ _ (newest-from g (n + 1)))
+  newest-judged n g false w = refl
 
 -- ---- the pass and the model
 
@@ -189,14 +191,37 @@ module _ (tags : ℕ → Tag) (home base : ℕ) (p : Placed tags base) where
   finds (suc n) h = rw (← add-one n) (finds-seek tags home base n _ (omega arith) (finds n (omega arith)) p (tags (base + n)) refl (next-going n (omega arith)))
 
   -- what the pass found is the newest committed entry: at the end, and where a failure has stopped it
-  pub found-newest : (n : ℕ) (s : Pass) → n ≤ maxEntries → s ≡ sought tags home base base n unsought
+  found-newest : (n : ℕ) (s : Pass) → n ≤ maxEntries → s ≡ sought tags home base base n unsought
       → s .newest ≡ codeOf (newest tags home (transactions tags base n))
   unfolding transactions committed
   found-newest n s h e = rw e (finds n h .newest)
 
-  pub stopped-newest : (n i : ℕ) (s : Pass) → n ≤ maxEntries → i ≤ n → s ≡ sought tags home base base i unsought → (s .scan .progress .failed ≡ 0 → ⊥)
+  stopped-newest : (n i : ℕ) (s : Pass) → n ≤ maxEntries → i ≤ n → s ≡ sought tags home base base i unsought → (s .scan .progress .failed ≡ 0 → ⊥)
       → s .newest ≡ codeOf (newest tags home (transactions tags base n))
   unfolding transactions
   stopped-newest n i s h l e g =
       let z : walk tags base i .going ≡ false = sym (same-going i s (omega arith) e) ∙ ne-eqb (s .scan .progress .failed) 0 g in
       rw (committed-stopped tags base i n l z) (unfold transactions in found-newest i s (omega arith) e)
+
+  -- what a writer sees: at the end, and where a failure has stopped the pass for one that has logged nothing
+  pub found-seen : (n own x : ℕ) (s : Pass) → n ≤ maxEntries → (0 < own → (base < own) × (own ≤ base + n)) → s ≡ sought tags home base base n unsought
+      → x ≡ chosen base (s .latest) own (s .newest) → x ≡ codeOf (seenBy tags home own base n)
+  unfolding chosen seenBy ownBy
+  found-seen n own x s h l e f = go (ℕ-discrete own 0)
+    where
+      k : Finds tags home base n s
+      k = rw e (finds n h)
+
+      go : Dec (own ≡ 0) → x ≡ codeOf (orElse (cond (eqb own 0) none (newestIn tags home (members tags (own - 1) base n))) (newest tags home (transactions tags base n)))
+      go (yes z) = rw (eq-eqb own 0 z) (unfold orElse in (rw (eq-eqb own 0 z) at f) ∙ found-newest n s h e)
+      go (no z) =
+          let m = l (omega arith) in
+          let d : own - base - 1 ≡ own - 1 - base = omega arith in
+          rw (ne-eqb own 0 z)
+          ((rw (ne-eqb own 0 z, d, k .each (own - 1) (omega arith) (omega arith), found-newest n s h e) at f)
+          ∙ other-code base _ _ (newest-from tags home base (own - 1) n))
+
+  pub stopped-seen : (n i own : ℕ) (s : Pass) → n ≤ maxEntries → i ≤ n → s ≡ sought tags home base base i unsought → own ≡ 0
+      → (s .scan .progress .failed ≡ 0 → ⊥) → s .newest ≡ codeOf (seenBy tags home own base n)
+  unfolding seenBy ownBy
+  stopped-seen n i own s h l e z g = rw (eq-eqb own 0 z) (unfold orElse in stopped-newest n i s h l e g)

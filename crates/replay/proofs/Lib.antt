@@ -1,5 +1,4 @@
 pub mod CodeLaws
-pub mod NewestLaws
 pub mod SearchLaws
 pub mod CommittedLaws
 pub mod TrimLaws

@@ -1,16 +1,22 @@
 -- What the pass that looks for a home's newest committed entry makes of an entry, case by case. Assumes nothing.
-use mathlib.Core.Path.{_≡_, refl, ap, _∙_}
+use mathlib.Core.Path.{_≡_, refl, sym, ap, _∙_}
+use mathlib.Core.Bool.{Bool, true, false, _&&_}
 use mathlib.Core.List.{List}
 use Prim.Native.Nat.{ℕ, zero, suc, _+_, _-_, _≤_}
-use borrow.Author.Tests.{eq-eqb, ne-eqb}
-use lib.Dec.{eqb}
+use native.Mathlib.Omega.{arith}
+use borrow.Author.Tests.{eq-eqb, ne-eqb, eqb-true, ltb-true}
+use lib.Dec.{eqb, ltb}
 use lib.ListN.{getD, set}
+use Rattle.model.specs.Bytes.{zeros}
 use Rattle.model.specs.declared.Tag.{Tag}
 use Rattle.model.specs.declared.Tag.the-variants.{Nothing, Entry, Closing}
-use Rattle.scan.specs.Scan.{counted, decided, enter, over, entered, Within}
+use Rattle.model.proofs.OrderLaws.{both}
+use Rattle.scan.specs.Scan.{maxEntries, fresh, counted, decided, enter, over, entered, Within}
+use Rattle.scan.proofs.PassLaws.{over-start}
 use Rattle.scan.proofs.ScanLaws.{within-reached}
 use Rattle.scan.specs.declared.commits.Progress.{Progress}
-use Rattle.replay.specs.Search.{Pass, noted, newer, seek, sought}
+use Rattle.replay.specs.declared.search.Search.{Search}
+use Rattle.replay.specs.Search.{Pass, unsought, noted, orOther, newer, seek, sought, chosen}
 
 -- ---- an entry is noted if it is for the home
 
@@ -23,6 +29,17 @@ module _ (latest : List ℕ) (i code written home : ℕ) where
   unfolding noted
   noted-other e = rw (ne-eqb written home e)
 
+-- ---- an entry that there may be
+
+module _ (base code other : ℕ) where
+  pub other-none : code ≡ 0 → other ≡ orOther base code other
+  unfolding orOther
+  other-none e = rw (eq-eqb code 0 e)
+
+  pub other-some : (code ≡ 0 → ⊥) → base + code ≡ orOther base code other
+  unfolding orOther
+  other-some e = rw (ne-eqb code 0 e)
+
 -- ---- the newest committed one after a closing entry
 
 module _ (failed base code newest : ℕ) where
@@ -30,13 +47,38 @@ module _ (failed base code newest : ℕ) where
   unfolding newer
   newer-failed e = rw (ne-eqb failed 0 e)
 
-  pub newer-none : failed ≡ 0 → code ≡ 0 → newest ≡ newer (eqb failed 0) base code newest
+  pub newer-going : (x : ℕ) → failed ≡ 0 → x ≡ orOther base code newest → x ≡ newer (eqb failed 0) base code newest
   unfolding newer
-  newer-none e f = rw (eq-eqb failed 0 e, eq-eqb code 0 f)
+  newer-going x e f = rw (eq-eqb failed 0 e) f
 
-  pub newer-some : failed ≡ 0 → (code ≡ 0 → ⊥) → base + code ≡ newer (eqb failed 0) base code newest
-  unfolding newer
-  newer-some e f = rw (eq-eqb failed 0 e, ne-eqb code 0 f)
+-- ---- where the pass begins and stops, and what it gives
+
+pub begun : (tags : ℕ → Tag) (home base n : ℕ) (s : Search) → s ≡ record { progress = record { end = 0; number = 0; failed = 0 }; newest = 0 }
+    → _≡_ {A = Pass} (record { scan = record { counts = zeros maxEntries; progress = s .progress }; latest = zeros maxEntries; newest = s .newest })
+    (sought tags home base base (n - n) unsought)
+unfolding unsought fresh
+begun tags home base n s e = rw e (over-start (seek home base) tags base n _)
+
+module _ (own failed : ℕ) where
+  pub stop-not : (own ≡ 0 → ⊥) → false ≡ (eqb own 0 && ltb 0 failed)
+  stop-not e = rw (ne-eqb own 0 e)
+
+  pub stop-asked : own ≡ 0 → ltb 0 failed ≡ (eqb own 0 && ltb 0 failed)
+  stop-asked e = rw (eq-eqb own 0 e)
+
+  pub stopped : (b : Bool) → b ≡ (eqb own 0 && ltb 0 failed) → b ≡ true → (own ≡ 0) × (failed ≡ 0 → ⊥)
+  stopped b e t =
+      let f = both (eqb own 0) (ltb 0 failed) .0 (sym e ∙ t) in
+      (eqb-true own 0 (f .0), λ z. omega (arith, ltb-true 0 failed (f .1)))
+
+module _ (base : ℕ) (latest : List ℕ) (own newest : ℕ) where
+  pub chosen-committed : own ≡ 0 → newest ≡ chosen base latest own newest
+  unfolding chosen
+  chosen-committed e = rw (eq-eqb own 0 e)
+
+  pub chosen-own : (x : ℕ) → (own ≡ 0 → ⊥) → x ≡ orOther base (getD latest (own - base - 1) 0) newest → x ≡ chosen base latest own newest
+  unfolding chosen
+  chosen-own x e f = rw (ne-eqb own 0 e) f
 
 -- ---- a tag t, which says r, is taken into the pass
 

@@ -1,8 +1,6 @@
 -- Numbers for what may be missing: 0 for none, else one more than what is there.
 use Prim.Native.Nat.{ℕ, _+_}
-use mathlib.Core.Bool.{cond}
 use mathlib.Core.Option.{Option, none, some}
-use Rattle.model.specs.Tag.{belongs, homeOf}
 use Rattle.model.specs.declared.Tag.{Tag}
 use Rattle.model.specs.declared.Tag.the-variants.{Nothing, Entry, Closing}
 
@@ -10,10 +8,6 @@ use Rattle.model.specs.declared.Tag.the-variants.{Nothing, Entry, Closing}
 unfoldable pub codeOf : Option ℕ → ℕ
 codeOf none = 0
 codeOf (some p) = p + 1
-
--- the home of an entry that belongs to the transaction with first position f
-unfoldable pub homeIn : ℕ → Tag → ℕ
-homeIn f t = cond (belongs f t) (homeOf t + 1) 0
 
 -- the first position of the transaction that a tag closes
 unfoldable pub firstClosed : Tag → ℕ

@@ -1,6 +1,6 @@
 pub mod Codes
-pub mod Own
 pub mod Search
+pub mod Seen
 pub mod Walk
 pub mod Limits
 pub mod Gather

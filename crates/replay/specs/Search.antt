@@ -1,5 +1,5 @@
--- The state of one pass over the log that looks for the newest committed entry for a home, and how each position changes it. Beside the walk it
--- notes the newest entry for the home of each transaction, which a closing entry that is committed makes the newest committed one.
+-- The state of one pass over the log that looks for the newest entry for a home that a writer sees, and how each position changes it. Beside the
+-- walk it notes the newest entry for the home of each transaction, which a closing entry that is committed makes the newest committed one.
 use Prim.Native.Nat.{ℕ, _+_, _-_}
 use mathlib.Core.Bool.{Bool, true, false, cond}
 use mathlib.Core.List.{List}
@@ -25,9 +25,13 @@ unfoldable pub noted : Bool → List ℕ → ℕ → ℕ → List ℕ
 noted true latest i code = set latest i code
 noted false latest i code = latest
 
+-- the entry with the code of its offset, or where there is none (0) another
+unfoldable pub orOther : ℕ → ℕ → ℕ → ℕ
+orOther base code other = cond (eqb code 0) other (base + code)
+
 -- the newest committed entry after a closing entry that is committed, or that fails: that of its transaction, if it has one
 unfoldable pub newer : Bool → ℕ → ℕ → ℕ → ℕ
-newer true base code newest = cond (eqb code 0) newest (base + code)
+newer true base code newest = orOther base code newest
 newer false base code newest = newest
 
 -- what stands at a position is taken into the pass
@@ -51,3 +55,8 @@ seek home base position (Closing h f link count) s =
 -- the pass over the m positions from `position` on
 abbrev pub sought : (ℕ → Tag) → ℕ → ℕ → ℕ → ℕ → Pass → Pass
 sought tags home base position m s = over (seek home base) tags position m s
+
+-- what a writer sees at the end of the pass: the newest entry of its own transaction, if it has logged entries (the first at `own` - 1) and one of
+-- them is for the home, else the newest committed one
+unfoldable pub chosen : ℕ → List ℕ → ℕ → ℕ → ℕ
+chosen base latest own newest = cond (eqb own 0) newest (orOther base (getD latest (own - base - 1) 0) newest)

@@ -1,33 +1,10 @@
-// What the entry at a position has to do with a transaction, as a number: 0 for nothing, else one more than what is found.
+// The transaction that the entry at a position closes.
 use model::Tag;
 ghost use mathlib.Core.Path.{_≡_};
 ghost use Prim.Native.Nat.{_+_};
 ghost use Rattle.model.specs.Layout.{entryAt};
-ghost use Rattle.replay.specs.Codes.{homeIn, firstClosed};
+ghost use Rattle.replay.specs.Codes.{firstClosed};
 ghost use Rattle.replay.specs.Walk.{Walkable};
-
-// The home + 1 of the entry at a position if it belongs to the transaction that begins at `first`, else 0.
-pub fn home_in(log: &[u8], groups: u64, homes: u64, start: u64, first: u64, position: u64) -> u64
-    requires { ⌜ Walkable (now log) groups start (position + 1) ⌝ }
-    ensures { λ r. ⌜ r ≡ homeIn first (entryAt (now (log .entry)) groups homes start position) ⌝ }
-{
-    let tag = scan::entry_at(log, groups, homes, start, position);
-    match tag {
-        Tag::Nothing => 0,
-        Tag::Entry(home, entry_first) => {
-            if entry_first == first {
-                return home + 1;
-            }
-            0
-        }
-        Tag::Closing(home, closing_first, _, _) => {
-            if closing_first == first {
-                return home + 1;
-            }
-            0
-        }
-    }
-}
 
 // The first position + 1 of the transaction that the entry at a position closes, 0 if it closes none.
 pub fn first_closed(log: &[u8], groups: u64, homes: u64, start: u64, position: u64) -> u64

@@ -1,13 +1,11 @@
-// Replay of committed transactions, the newest committed entry of a home, and the start that trim may move to.
+// Replay of committed transactions, the newest entry of a home that a writer sees, and the start that trim may move to.
 mod entries;
 mod gathering;
-mod newest;
 mod restore;
 mod search;
 mod trim;
 
 pub use gathering::gather;
-pub use newest::newest_own;
 pub use restore::restore_all;
-pub use search::newest_committed;
+pub use search::newest_seen;
 pub use trim::trim_start;

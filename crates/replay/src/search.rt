@@ -1,16 +1,17 @@
-// The newest committed entry for a home: one pass over the log's groups, beside the walk that applies the commit rule.
+// The newest entry for a home that a writer sees: one pass over the log's groups, beside the walk that applies the commit rule.
 use model::Tag;
 use scan::Progress;
 ghost use mathlib.Core.Path.{_≡_};
+ghost use mathlib.Core.Bool.{_&&_};
 ghost use Prim.Native.Nat.{_+_, _*_, _^_, _<_, _≤_};
-ghost use lib.Dec.{eqb};
+ghost use lib.Dec.{eqb, ltb};
 ghost use lib.ListN.{length, getD};
 ghost use Rattle.model.specs.Tag.{readTag};
 ghost use Rattle.model.specs.Layout.{entryIn, entryAt};
-ghost use Rattle.model.specs.Commit.{transactions, newest};
 ghost use Rattle.scan.specs.Scan.{Within};
 ghost use Rattle.replay.specs.Codes.{codeOf};
-ghost use Rattle.replay.specs.Search.{noted, newer, seek, sought};
+ghost use Rattle.replay.specs.Search.{noted, orOther, newer, seek, sought, chosen};
+ghost use Rattle.replay.specs.Seen.{seenBy};
 
 // The pass so far: the walk, and the newest committed entry for the home, as its position + 1, 0 for none.
 pub struct Search {
@@ -30,6 +31,17 @@ fn note(latest: &mut [u16], i: usize, code: u64, written: u64, home: u64) -> u64
     code
 }
 
+// The position + 1 of the entry with the offset `code` - 1, or where there is none (0) another one.
+fn or_other(base: u64, code: u64, other: u64) -> u64
+    requires { ⌜ (base < 2 ^ 61) × (code < 2 ^ 16) ⌝ }
+    ensures { λ r. ⌜ r ≡ orOther base code other ⌝ }
+{
+    if code == 0 {
+        return other;
+    }
+    base + code
+}
+
 // The newest committed entry once a closing entry is judged, whose transaction's newest entry for the home has the offset `code` - 1, or none (0).
 fn newest_after(failed: u64, base: u64, code: u64, newest: u64) -> u64
     requires { ⌜ (base < 2 ^ 61) × (code < 2 ^ 16) ⌝ }
@@ -38,10 +50,7 @@ fn newest_after(failed: u64, base: u64, code: u64, newest: u64) -> u64
     if failed != 0 {
         return newest;
     }
-    if code == 0 {
-        return newest;
-    }
-    base + code
+    or_other(base, code, newest)
 }
 
 // Takes what the word of a tag says at a position.
@@ -123,24 +132,61 @@ fn visit_group(
     reached
 }
 
-// The newest committed entry for a home among the `n` positions of the log from its start on.
-pub fn newest_committed(log: &[u8], groups: u64, homes: u64, start: u64, n: u64, home: u64) -> u64
-    requires { ⌜ (length (now log) ≡ 64 + 512 * groups) × (4 ≤ groups) × (groups ≤ 1024) × (homes ≤ 4096) × (start ≤ 2 ^ 47) × (n ≤ 7 * groups) × (home < homes) ⌝ }
-    ensures { λ r. ⌜ r
-        ≡ codeOf (newest (entryAt (now (log .entry)) groups homes start) home
-        (transactions (entryAt (now (log .entry)) groups homes start) (7 * start) n)) ⌝ }
+// The pass before it has taken anything.
+fn begin() -> Search
+    ensures { λ r. ⌜ r ≡ record { progress = record { end = 0; number = 0; failed = 0 }; newest = 0 } ⌝ }
 {
-    let mut counts = [0u16; 7168];
-    let mut latest = [0u16; 7168];
     let progress = Progress {
         end: 0,
         number: 0,
         failed: 0,
     };
-    let mut search = Search {
+    Search {
         progress,
         newest: 0,
-    };
+    }
+}
+
+// Whether the pass may stop: a closing entry has failed, and the writer has logged nothing.
+fn may_stop(own: u64, failed: u64) -> bool
+    ensures { λ r. ⌜ r ≡ (eqb own 0 && ltb 0 failed) ⌝ }
+{
+    if own != 0 {
+        return false;
+    }
+    failed > 0
+}
+
+// What the writer sees at the end of the pass: the newest entry of its own transaction, which begins at `own` - 1, else the newest committed one.
+fn choose(latest: &[u16], base: u64, own: u64, newest: u64) -> u64
+    requires { ⌜ (base < 2 ^ 61) × (length (now latest) ≡ 7168) × (0 < own → (base < own) × (own ≤ base + 7168)) ⌝ }
+    ensures { λ r. ⌜ r ≡ chosen base (now (latest .entry)) own newest ⌝ }
+{
+    if own == 0 {
+        return newest;
+    }
+    let code = latest[(own - base - 1) as usize];
+    or_other(base, code as u64, newest)
+}
+
+// The newest entry for a home that a writer sees, among the `n` positions of the log from its start on: `own` is the first position + 1 of its open
+// transaction, 0 if it has logged nothing.
+pub fn newest_seen(
+    log: &[u8],
+    groups: u64,
+    homes: u64,
+    start: u64,
+    n: u64,
+    home: u64,
+    own: u64,
+) -> u64
+    requires { ⌜ (length (now log) ≡ 64 + 512 * groups) × (4 ≤ groups) × (groups ≤ 1024) × (homes ≤ 4096) × (start ≤ 2 ^ 47) × (n ≤ 7 * groups) × (home < homes)
+        × (0 < own → (7 * start < own) × (own ≤ 7 * start + n)) ⌝ }
+    ensures { λ r. ⌜ r ≡ codeOf (seenBy (entryAt (now (log .entry)) groups homes start) home own (7 * start) n) ⌝ }
+{
+    let mut counts = [0u16; 7168];
+    let mut latest = [0u16; 7168];
+    let mut search = begin();
     let mut slot = start % groups;
     let mut number = start;
     let mut left = n;
@@ -160,12 +206,12 @@ pub fn newest_committed(log: &[u8], groups: u64, homes: u64, start: u64, n: u64,
             &mut latest,
             search,
         );
-        if search.progress.failed != 0 {
+        if may_stop(own, search.progress.failed) {
             return search.newest;
         }
         slot = scan::next_slot(slot, groups);
         number += 1;
         left -= m as u64;
     }
-    search.newest
+    choose(&latest, 7 * start, own, search.newest)
 }

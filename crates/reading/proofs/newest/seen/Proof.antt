@@ -1,20 +1,35 @@
 -- `reading::seen` meets its contract. Assumes nothing.
+use native.Mathlib.Omega.{arith}
+use Rattle.reading.proofs.ReadLaws.{own-within, seen-none, seen-found}
 use borrow.Author.Needs.{needs}
-use Rattle.reading.proofs.ReadLaws.{seen-own, seen-committed}
 use Rattle.reading.proofs.newest.seen.Statement.{statement}
 use Rattle.reading.proofs.newest.seen.Tie as tie
 
-own-requires : tie.Need-own-requires
-own-requires c κs = search needs
+live-requires : tie.Need-live-requires
+live-requires c κs = search needs
 
 returns : tie.Need-returns
-returns c = seen-own _ _ _ _ _ (c .before .own .ensures) (c .if1 .taken)
+returns c = seen-none _ _ _ _ _ (c .before .live .ensures) (c .if1 .taken)
 
-committed-requires : tie.Need-committed-requires
-committed-requires c κs = search needs
+own-requires : tie.Need-own-requires
+own-requires c κs = λ m. let k = c .before .before .before .pre .1 m in omega arith
+
+newest-seen-requires : tie.Need-newest-seen-requires
+newest-seen-requires c κs =
+    let p = c .before .before .before .before .pre in
+    let s = p .0 in (
+      s .long,
+      s .least,
+      s .most,
+      s .homes-most,
+      s .low,
+      omega arith,
+      s .known,
+      own-within _ _ _ _ (p .1) (c .own .ensures) (c .before .before .live .ensures),
+    )
 
 returns-2 : tie.Need-returns-2
-returns-2 c = seen-committed _ _ _ _ _ _ (c .before .before .own .ensures) (c .before .if1 .left) (c .committed .ensures)
+returns-2 c = seen-found _ _ _ _ _ _ _ (c .before .before .before .live .ensures) (c .before .own .ensures) (c .newest-seen .ensures)
 
 pub seen-spec : {M : Type 1} → statement M
-seen-spec = tie.close (tie.spec own-requires returns committed-requires returns-2)
+seen-spec = tie.close (tie.spec live-requires returns own-requires newest-seen-requires returns-2)

@@ -1,20 +1,17 @@
 -- `replay::newest_after` meets its contract. Assumes nothing.
 use borrow.Author.Needs.{needs}
-use Rattle.replay.proofs.SearchLaws.{newer-failed, newer-none, newer-some}
+use Rattle.replay.proofs.SearchLaws.{newer-failed, newer-going}
 use Rattle.replay.proofs.search.newest_after.Statement.{statement}
 use Rattle.replay.proofs.search.newest_after.Tie as tie
 
 returns : tie.Need-returns
 returns c = newer-failed _ _ _ _ (c .if1 .taken)
 
+or-other-requires : tie.Need-or-other-requires
+or-other-requires c κs = search needs
+
 returns-2 : tie.Need-returns-2
-returns-2 c = newer-none _ _ _ _ (c .before .if1 .left) (c .if2 .taken)
-
-add-result : tie.Need-add-result
-add-result c = search needs
-
-returns-3 : tie.Need-returns-3
-returns-3 c = newer-some _ _ _ _ (c .before .if1 .left) (c .if2 .left)
+returns-2 c = newer-going _ _ _ _ _ (c .before .if1 .left) (c .or-other .ensures)
 
 pub newest-after-spec : {M : Type 1} → statement M
-newest-after-spec = tie.close (tie.spec returns returns-2 add-result returns-3)
+newest-after-spec = tie.close (tie.spec returns or-other-requires returns-2)

@@ -18,7 +18,8 @@ cast-result c = omega (arith, c .slice-known .given (c .before .before .args .i)
 
 returns : tie.Need-returns
 returns c =
-    (noted-other _ _ _ _ _ (c .before .if1 .taken), refl, omega (arith, c .slice-known .given (c .before .before .args .i)))
+    let a = c .before .before .args in
+    (noted-other _ _ _ (a .written) (a .home) (λ z. omega (arith, c .before .if1 .taken)), refl, omega (arith, c .slice-known .given (a .i)))
 
 cast-latest : tie.Need-cast-latest
 cast-latest c = search needs
@@ -35,7 +36,7 @@ same-length c = search needs
 returns-2 : tie.Need-returns-2
 returns-2 c =
     let a = c .before .args in
-    (noted-home _ _ _ _ _ (c .if1 .left), sym (getD-set-same (a .latest .now) (a .i) (a .code) 0 (omega arith)), omega arith)
+    (noted-home _ _ _ (a .written) (a .home) (omega arith), sym (getD-set-same (a .latest .now) (a .i) (a .code) 0 (omega arith)), omega arith)
 
 pub note-spec : {M : Type 1} → statement M
 note-spec =

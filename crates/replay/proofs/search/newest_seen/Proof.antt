@@ -1,4 +1,4 @@
--- `replay::newest_committed` meets its contract. The loop's invariant: the pass has taken the first `n - left` positions, and `slot` is the ring
+-- `replay::newest_seen` meets its contract. The loop's invariant: the pass has taken the first `n - left` positions, and `slot` is the ring
 -- slot of group `number`, the next one. Assumes nothing.
 use mathlib.Core.Path.{_≡_, refl, sym}
 use Prim.Native.Nat.{ℕ, _+_, _-_, _*_, _%_, _≤_, _<_}
@@ -7,18 +7,18 @@ use native.Mathlib.Omega.{arith}
 use lib.ListN.{length, length-take, length-drop}
 use Rattle.model.specs.Bytes.{zeros}
 use Rattle.model.specs.Layout.{entryAt}
-use Rattle.scan.specs.Scan.{fresh, Within}
+use Rattle.scan.specs.Scan.{Within}
 use Rattle.scan.proofs.GroupLaws.{slot-more}
-use Rattle.scan.proofs.PassLaws.{over-start, log-turn}
+use Rattle.scan.proofs.PassLaws.{log-turn}
 use Rattle.scan.proofs.ScanLaws.{fresh-within, placed}
 use Rattle.replay.specs.Search.{Pass, unsought, sought}
-use Rattle.replay.proofs.SearchLaws.{small-reached}
-use Rattle.replay.proofs.CommittedLaws.{found-newest, stopped-newest}
-use Rattle.replay.proofs.search.newest_committed.Statement.{statement}
-use Rattle.replay.proofs.search.newest_committed.Tie as tie
+use Rattle.replay.proofs.SearchLaws.{begun, stopped, small-reached}
+use Rattle.replay.proofs.CommittedLaws.{found-seen, stopped-seen}
+use Rattle.replay.proofs.search.newest_seen.Statement.{statement}
+use Rattle.replay.proofs.search.newest_seen.Tie as tie
 
 abbrev Inv-loop : tie.InvT-loop
-Inv-loop log groups homes start n home counts₀ latest₀ search₀ slot₀ number₀ left₀ counts latest search slot number left =
+Inv-loop log groups homes start n home own counts₀ latest₀ search₀ slot₀ number₀ left₀ counts latest search slot number left =
     (
     _≡_ {A = Pass} (record { scan = record { counts = counts; progress = search .progress }; latest = latest; newest = search .newest })
     (sought (entryAt log groups homes start) home (7 * start) (7 * start) (n - left) unsought)
@@ -30,21 +30,25 @@ Inv-loop log groups homes start n home counts₀ latest₀ search₀ slot₀ num
     × (length latest ≡ 7168)
 
 abbrev μ-loop : tie.MeasureT-loop
-μ-loop log groups homes start n home counts₀ latest₀ search₀ slot₀ number₀ left₀ counts latest search slot number left = left
+μ-loop log groups homes start n home own counts₀ latest₀ search₀ slot₀ number₀ left₀ counts latest search slot number left = left
+
+begin-requires : tie.Need-begin-requires Inv-loop μ-loop
+begin-requires c κs = tt
 
 rem-slot : tie.Need-rem-slot Inv-loop μ-loop
 rem-slot c = omega arith
 
 loop-holds : tie.Need-loop-holds Inv-loop μ-loop
-unfolding unsought fresh zeros
-loop-holds c = (over-start _ _ _ _ _, omega arith, refl, mod-lt (c .before .args .start) (omega arith), λ h. omega arith, refl)
+unfolding zeros
+loop-holds c =
+    (begun _ _ _ _ _ (c .begin .ensures), omega arith, refl, mod-lt (c .before .before .args .start) (omega arith), λ h. omega arith, refl)
 
 -- the next group's positions come next, and the numbers of the pass are small
 module _ (c : tie.In-loop Inv-loop μ-loop) where
-  next : 7 * c .before .before .before .args .start + (c .before .before .before .args .n - c .before .loop .left) ≡ 7 * c .before .loop .number
+  next : 7 * c .before .before .before .before .args .start + (c .before .before .before .before .args .n - c .before .loop .left) ≡ 7 * c .before .loop .number
   next = c .before .loop .inv .4 (c .loop-test .taken)
 
-  small : Within (7 * c .before .before .before .args .start) (7 * c .before .loop .number)
+  small : Within (7 * c .before .before .before .before .args .start) (7 * c .before .loop .number)
       (record { counts = c .before .loop .counts; progress = c .before .loop .search .progress })
   unfolding unsought
   small = small-reached _ _ _ _ _ _ _ _ (omega arith) (sym next) (c .before .loop .inv .0) (fresh-within _)
@@ -96,7 +100,7 @@ pass c j =
 
 -- it has taken the group
 reached : (c : tie.After-visit-group Inv-loop μ-loop) (j : ℕ)
-    → j ≡ c .before .before .before .before .before .before .before .before .args .n - c .before .before .before .before .before .before .loop .left
+    → j ≡ c .before .before .before .before .before .before .before .before .before .args .n - c .before .before .before .before .before .before .loop .left
     + c .before .before .before .in-group .result
     → _≡_ {A = Pass}
     (record {
@@ -104,16 +108,20 @@ reached : (c : tie.After-visit-group Inv-loop μ-loop) (j : ℕ)
       latest = c .visit-group .last .1 .1 .1 .1 .1 .1 .1 .1 .0;
       newest = c .visit-group .result .newest;
     })
-    (pass (c .before .before .before .before .before .before .before .before) j)
+    (pass (c .before .before .before .before .before .before .before .before .before) j)
 reached c j e =
     let l = c .before .before .before .before .before in
     log-turn _ _ _ _ _ _ _ _ _ _ _ _ _ _ _ (omega arith) (next l) (l .before .loop .inv .2) refl e (l .before .loop .inv .0) (c .visit-group .ensures)
 
+may-stop-requires : tie.Need-may-stop-requires Inv-loop μ-loop
+may-stop-requires c κs = tt
+
 returns : tie.Need-returns Inv-loop μ-loop
 returns c =
     let v = c .before .before .before .before in
-    let a = v .before .before .before .before .before .before .before .before .args in
-    stopped-newest _ (a .home) _ (placed _ _ _ _) (a .n) _ _ (omega arith) (omega arith) (reached v _ refl) (c .if1 .taken)
+    let a = v .before .before .before .before .before .before .before .before .before .args in
+    let s = stopped _ _ _ (c .before .may-stop .ensures) (c .if1 .taken) in
+    stopped-seen _ (a .home) _ (placed _ _ _ _) (a .n) _ _ _ (omega arith) (omega arith) (reached v _ refl) (s .0) (s .1)
 
 next-slot-requires : tie.Need-next-slot-requires Inv-loop μ-loop
 next-slot-requires c κs = omega arith
@@ -142,19 +150,31 @@ loop-again c =
       omega (arith, v .visit-group .kept, l .inv .5),
     )
 
+slice-aggregate-choose : tie.Need-slice-aggregate-choose Inv-loop μ-loop
+slice-aggregate-choose c = sym (c .before .before .loop .inv .5)
+
+mul-choose : tie.Need-mul-choose Inv-loop μ-loop
+mul-choose c = omega arith
+
+choose-requires : tie.Need-choose-requires Inv-loop μ-loop
+choose-requires c κs =
+    let p = c .before .before .before .before .before .pre in
+    (omega arith, c .before .before .loop .inv .5, λ h. let k = p .7 h in (k .0, omega arith))
+
 returns-2 : tie.Need-returns-2 Inv-loop μ-loop
 returns-2 c =
-    let l = c .before .loop in
-    let a = c .before .before .before .args in
-    let e : a .n - l .left ≡ a .n = omega arith in
-    found-newest _ (a .home) _ (placed _ _ _ _) _ _ (omega arith) (rw e at (l .inv .0))
+    let l = c .before .before .before .loop in
+    let s = c .before .before .before .before .before .before in
+    let e : s .args .n - l .left ≡ s .args .n = omega arith in
+    found-seen _ (s .args .home) _ (placed _ _ _ _) _ _ _ _ (omega arith) (s .pre .7) (rw e at (l .inv .0)) (c .choose .ensures)
 
-pub newest-committed-spec : {M : Type 1} → statement M
-newest-committed-spec =
+pub newest-seen-spec : {M : Type 1} → statement M
+newest-seen-spec =
     tie.close
     (tie.spec
     Inv-loop
     μ-loop
+    begin-requires
     rem-slot
     loop-holds
     mul-from
@@ -167,10 +187,14 @@ newest-committed-spec =
     slice-aggregate-visit-group
     slice-aggregate-visit-group-2
     visit-group-requires
+    may-stop-requires
     returns
     next-slot-requires
     add-number
     sub-left
     loop-less
     loop-again
+    slice-aggregate-choose
+    mul-choose
+    choose-requires
     returns-2)
