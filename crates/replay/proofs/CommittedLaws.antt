@@ -20,7 +20,7 @@ use Rattle.model.proofs.ClosingLaws.{walk-more, committed-stopped}
 use Rattle.model.proofs.MemberLaws.{entries-at, each-append, newest-append}
 use Rattle.model.proofs.ByteLaws.{length-zeros}
 use Rattle.model.proofs.OrderLaws.{byte-zeros}
-use Rattle.scan.specs.Scan.{maxEntries, fresh, enter, over, entered}
+use Rattle.scan.specs.Scan.{fresh, enter, over, entered}
 use Rattle.scan.proofs.ScanLaws.{Placed, agrees}
 use Rattle.replay.specs.Codes.{codeOf}
 use Rattle.replay.specs.Search.{Pass, unsought, noted, orOther, newer, seek, sought, chosen}
@@ -99,15 +99,15 @@ length-noted true latest i code = length-set latest i code
 length-noted false latest i code = refl
 
 -- the pass over the n positions from base on holds the newest entries that the model defines
-record Finds (tags : ℕ → Tag) (home base n : ℕ) (s : Pass) : Type 0 where
-  room : length (s .latest) ≡ maxEntries
-  each : (f : ℕ) → base ≤ f → f < base + maxEntries → getD (s .latest) (f - base) 0 ≡ offsetOf base (newestIn tags home (members tags f base n))
+record Finds (size : ℕ) (tags : ℕ → Tag) (home base n : ℕ) (s : Pass) : Type 0 where
+  room : length (s .latest) ≡ size
+  each : (f : ℕ) → base ≤ f → f < base + size → getD (s .latest) (f - base) 0 ≡ offsetOf base (newestIn tags home (members tags f base n))
   newest : s .newest ≡ codeOf (newest tags home (eachEntries tags base (walk tags base n .spans)))
 
-module _ (tags : ℕ → Tag) (home base n : ℕ) (s : Pass) (l : n < maxEntries) (k : Finds tags home base n s) where
+module _ (size : ℕ) (tags : ℕ → Tag) (home base n : ℕ) (s : Pass) (l : n < size) (k : Finds size tags home base n s) where
   -- an entry of the transaction with first position g passes
   noted-each : (h g : ℕ) → base ≤ g → g ≤ base + n → homeOf (tags (base + n)) ≡ h → ((f : ℕ) → belongs f (tags (base + n)) ≡ eqb f g)
-      → (f : ℕ) → base ≤ f → f < base + maxEntries
+      → (f : ℕ) → base ≤ f → f < base + size
       → getD (noted (eqb h home) (s .latest) (g - base) (base + n + 1 - base)) (f - base) 0
       ≡ offsetOf base (newestIn tags home (members tags f base (n + 1)))
   unfolding noted newestIn offsetOf
@@ -127,7 +127,7 @@ module _ (tags : ℕ → Tag) (home base n : ℕ) (s : Pass) (l : n < maxEntries
       go (yes z) = rw (z, members-in tags g base n b (d g ∙ eq-eqb g g refl), e) (same (eqb h home))
       go (no z) = other z (eqb h home) ∙ k .each f i j ∙ sym (rw (members-out tags f base n (d f ∙ ne-eqb f g z)))
 
-  finds-nothing : tags (base + n) ≡ Nothing → Finds tags home base (n + 1) s
+  finds-nothing : tags (base + n) ≡ Nothing → Finds size tags home base (n + 1) s
   unfolding visit belongs
   finds-nothing e =
       let w : walk tags base (n + 1) ≡ walk tags base n = walk-more tags base n ∙ rw e in
@@ -137,7 +137,7 @@ module _ (tags : ℕ → Tag) (home base n : ℕ) (s : Pass) (l : n < maxEntries
         newest = rw w (k .newest);
       }
 
-  finds-entry : (h g : ℕ) → base ≤ g → g ≤ base + n → tags (base + n) ≡ Entry h g → Finds tags home base (n + 1) (seek home base (base + n) (Entry h g) s)
+  finds-entry : (h g : ℕ) → base ≤ g → g ≤ base + n → tags (base + n) ≡ Entry h g → Finds size tags home base (n + 1) (seek home base (base + n) (Entry h g) s)
   unfolding visit belongs homeOf seek
   finds-entry h g a b e =
       let w : walk tags base (n + 1) ≡ walk tags base n = walk-more tags base n ∙ rw e in
@@ -149,7 +149,7 @@ module _ (tags : ℕ → Tag) (home base n : ℕ) (s : Pass) (l : n < maxEntries
 
   finds-closing : (h g link count : ℕ) → base ≤ g → g ≤ base + n → tags (base + n) ≡ Closing h g link count
       → eqb (enter base (base + n) (Closing h g link count) (s .scan) .progress .failed) 0 ≡ walk tags base (n + 1) .going
-      → Finds tags home base (n + 1) (seek home base (base + n) (Closing h g link count) s)
+      → Finds size tags home base (n + 1) (seek home base (base + n) (Closing h g link count) s)
   unfolding visit belongs homeOf seek
   finds-closing h g link count a b e q =
       let v : Bool = walk tags base n .going && linked base (walk tags base n .last) (base + n) link && complete tags base n g count in
@@ -162,41 +162,41 @@ module _ (tags : ℕ → Tag) (home base n : ℕ) (s : Pass) (l : n < maxEntries
       }
 
   finds-seek : Placed tags base → (t : Tag) → tags (base + n) ≡ t → eqb (enter base (base + n) t (s .scan) .progress .failed) 0 ≡ walk tags base (n + 1) .going
-      → Finds tags home base (n + 1) (seek home base (base + n) t s)
+      → Finds size tags home base (n + 1) (seek home base (base + n) t s)
   finds-seek p Nothing e q = unfold seek in finds-nothing e
   finds-seek p (Entry h f) e q = let r = p .entry (base + n) h f e in finds-entry h f (r .0) (r .1) e
   finds-seek p (Closing h f link count) e q = let r = p .closing (base + n) h f link count e in finds-closing h f link count (r .0) (r .1) e q
 
-module _ (tags : ℕ → Tag) (home base : ℕ) (p : Placed tags base) where
+module _ (size : ℕ) (tags : ℕ → Tag) (home base : ℕ) (p : Placed tags base) where
   -- whether a closing entry has failed, by the pass and by the walk
-  same-going : (n : ℕ) (s : Pass) → n ≤ maxEntries → s ≡ sought tags home base base n unsought → eqb (s .scan .progress .failed) 0 ≡ walk tags base n .going
+  same-going : (n : ℕ) (s : Pass) → n ≤ size → s ≡ sought tags home base base n (unsought size) → eqb (s .scan .progress .failed) 0 ≡ walk tags base n .going
   unfolding unsought
   same-going n s h e =
-      let q : s .scan ≡ entered tags base base n fresh = ap (λ (x : Pass). x .scan) e ∙ sought-scan tags home base base n unsought in
-      rw q (agrees tags base n h p .going)
+      let q : s .scan ≡ entered tags base base n (fresh size) = ap (λ (x : Pass). x .scan) e ∙ sought-scan tags home base base n (unsought size) in
+      rw q (agrees size tags base n h p .going)
 
-  next-going : (n : ℕ) → n < maxEntries
-      → eqb (enter base (base + n) (tags (base + n)) (sought tags home base base n unsought .scan) .progress .failed) 0 ≡ walk tags base (n + 1) .going
+  next-going : (n : ℕ) → n < size
+      → eqb (enter base (base + n) (tags (base + n)) (sought tags home base base n (unsought size) .scan) .progress .failed) 0 ≡ walk tags base (n + 1) .going
   unfolding over unsought
-  next-going n h = rw (sought-scan tags home base base n unsought, add-one n) (agrees tags base (suc n) (omega arith) p .going)
+  next-going n h = rw (sought-scan tags home base base n (unsought size), add-one n) (agrees size tags base (suc n) (omega arith) p .going)
 
-  finds : (n : ℕ) → n ≤ maxEntries → Finds tags home base n (sought tags home base base n unsought)
+  finds : (n : ℕ) → n ≤ size → Finds size tags home base n (sought tags home base base n (unsought size))
   unfolding over unsought
   finds zero h =
       record {
-        room = length-zeros maxEntries;
-        each = λ f a b. unfold members newestIn offsetOf in byte-zeros maxEntries (f - base);
+        room = length-zeros size;
+        each = λ f a b. unfold members newestIn offsetOf in byte-zeros size (f - base);
         newest = unfold walk started eachEntries newest codeOf in refl;
       }
-  finds (suc n) h = rw (← add-one n) (finds-seek tags home base n _ (omega arith) (finds n (omega arith)) p (tags (base + n)) refl (next-going n (omega arith)))
+  finds (suc n) h = rw (← add-one n) (finds-seek size tags home base n _ (omega arith) (finds n (omega arith)) p (tags (base + n)) refl (next-going n (omega arith)))
 
   -- what the pass found is the newest committed entry: at the end, and where a failure has stopped it
-  found-newest : (n : ℕ) (s : Pass) → n ≤ maxEntries → s ≡ sought tags home base base n unsought
+  found-newest : (n : ℕ) (s : Pass) → n ≤ size → s ≡ sought tags home base base n (unsought size)
       → s .newest ≡ codeOf (newest tags home (transactions tags base n))
   unfolding transactions committed
   found-newest n s h e = rw e (finds n h .newest)
 
-  stopped-newest : (n i : ℕ) (s : Pass) → n ≤ maxEntries → i ≤ n → s ≡ sought tags home base base i unsought → (s .scan .progress .failed ≡ 0 → ⊥)
+  stopped-newest : (n i : ℕ) (s : Pass) → n ≤ size → i ≤ n → s ≡ sought tags home base base i (unsought size) → (s .scan .progress .failed ≡ 0 → ⊥)
       → s .newest ≡ codeOf (newest tags home (transactions tags base n))
   unfolding transactions
   stopped-newest n i s h l e g =
@@ -204,12 +204,12 @@ module _ (tags : ℕ → Tag) (home base : ℕ) (p : Placed tags base) where
       rw (committed-stopped tags base i n l z) (unfold transactions in found-newest i s (omega arith) e)
 
   -- what a writer sees: at the end, and where a failure has stopped the pass for one that has logged nothing
-  pub found-seen : (n own x : ℕ) (s : Pass) → n ≤ maxEntries → (0 < own → (base < own) × (own ≤ base + n)) → s ≡ sought tags home base base n unsought
+  pub found-seen : (n own x : ℕ) (s : Pass) → n ≤ size → (0 < own → (base < own) × (own ≤ base + n)) → s ≡ sought tags home base base n (unsought size)
       → x ≡ chosen base (s .latest) own (s .newest) → x ≡ codeOf (seenBy tags home own base n)
   unfolding chosen seenBy ownBy
   found-seen n own x s h l e f = go (ℕ-discrete own 0)
     where
-      k : Finds tags home base n s
+      k : Finds size tags home base n s
       k = rw e (finds n h)
 
       go : Dec (own ≡ 0) → x ≡ codeOf (orElse (cond (eqb own 0) none (newestIn tags home (members tags (own - 1) base n))) (newest tags home (transactions tags base n)))
@@ -221,7 +221,7 @@ module _ (tags : ℕ → Tag) (home base : ℕ) (p : Placed tags base) where
           ((rw (ne-eqb own 0 z, d, k .each (own - 1) (omega arith) (omega arith), found-newest n s h e) at f)
           ∙ other-code base _ _ (newest-from tags home base (own - 1) n))
 
-  pub stopped-seen : (n i own : ℕ) (s : Pass) → n ≤ maxEntries → i ≤ n → s ≡ sought tags home base base i unsought → own ≡ 0
+  pub stopped-seen : (n i own : ℕ) (s : Pass) → n ≤ size → i ≤ n → s ≡ sought tags home base base i (unsought size) → own ≡ 0
       → (s .scan .progress .failed ≡ 0 → ⊥) → s .newest ≡ codeOf (seenBy tags home own base n)
   unfolding seenBy ownBy
   stopped-seen n i own s h l e z g = rw (eq-eqb own 0 z) (unfold orElse in stopped-newest n i s h l e g)

@@ -6,14 +6,14 @@ use Prim.Native.Nat.{ℕ, zero, suc, _+_, _-_, _≤_}
 use native.Mathlib.Omega.{arith}
 use borrow.Author.Tests.{eq-eqb, ne-eqb, eqb-true, ltb-true}
 use lib.Dec.{eqb, ltb}
-use lib.ListN.{getD, set}
+use lib.ListN.{length, getD, set}
 use Rattle.model.specs.Bytes.{zeros}
 use Rattle.model.specs.declared.Tag.{Tag}
 use Rattle.model.specs.declared.Tag.the-variants.{Nothing, Entry, Closing}
 use Rattle.model.proofs.OrderLaws.{both}
-use Rattle.scan.specs.Scan.{maxEntries, fresh, counted, decided, enter, over, entered, Within}
+use Rattle.scan.specs.Scan.{fresh, counted, decided, enter, over, entered, Within}
 use Rattle.scan.proofs.PassLaws.{over-start}
-use Rattle.scan.proofs.ScanLaws.{within-reached}
+use Rattle.scan.proofs.ScanLaws.{within-reached, fresh-within}
 use Rattle.scan.specs.declared.commits.Progress.{Progress}
 use Rattle.replay.specs.declared.search.Search.{Search}
 use Rattle.replay.specs.Search.{Pass, unsought, noted, orOther, newer, seek, sought, chosen}
@@ -53,11 +53,19 @@ module _ (failed base code newest : ℕ) where
 
 -- ---- where the pass begins and stops, and what it gives
 
-pub begun : (tags : ℕ → Tag) (home base n : ℕ) (s : Search) → s ≡ record { progress = record { end = 0; number = 0; failed = 0 }; newest = 0 }
-    → _≡_ {A = Pass} (record { scan = record { counts = zeros maxEntries; progress = s .progress }; latest = zeros maxEntries; newest = s .newest })
-    (sought tags home base base (n - n) unsought)
+pub begun : (tags : ℕ → Tag) (home base n : ℕ) (counts latest : List ℕ) (s : Search) → counts ≡ zeros (length counts) → latest ≡ zeros (length counts)
+    → s ≡ record { progress = record { end = 0; number = 0; failed = 0 }; newest = 0 }
+    → _≡_ {A = Pass} (record { scan = record { counts = counts; progress = s .progress }; latest = latest; newest = s .newest })
+    (sought tags home base base (n - n) (unsought (length counts)))
 unfolding unsought fresh
-begun tags home base n s e = rw e (over-start (seek home base) tags base n _)
+begun tags home base n counts latest s c l e =
+    rw (e, l)
+    (ap (λ (x : List ℕ). record { scan = record { counts = x; progress = record { end = 0; number = 0; failed = 0 } }; latest = zeros (length counts); newest = 0 }) c
+    ∙ over-start (seek home base) tags base n _)
+
+pub unsought-within : (size base : ℕ) → Within base base (unsought size .scan)
+unfolding unsought
+unsought-within size base = fresh-within size base
 
 module _ (own failed : ℕ) where
   pub stop-not : (own ≡ 0 → ⊥) → false ≡ (eqb own 0 && ltb 0 failed)

@@ -8,7 +8,7 @@ use lib.ListN.{getD, set}
 use Rattle.model.specs.Bytes.{zeros}
 use Rattle.model.specs.declared.Tag.{Tag}
 use Rattle.model.specs.declared.Tag.the-variants.{Nothing, Entry, Closing}
-use Rattle.scan.specs.Scan.{Scan, maxEntries, fresh, enter, over}
+use Rattle.scan.specs.Scan.{Scan, fresh, enter, over}
 
 -- the state: `latest` holds at index i the newest entry for the home of the transaction with first position base + i, `newest` the newest
 -- committed one; the first as its offset from base + 1, the second as its position + 1, both 0 for none
@@ -17,8 +17,9 @@ pub record Pass : Type 0 where
   pub latest : List ℕ
   pub newest : ℕ
 
-unfoldable pub unsought : Pass
-unsought = record { scan = fresh; latest = zeros maxEntries; newest = 0 }
+-- a pass with room for `size` positions that has taken none
+unfoldable pub unsought : ℕ → Pass
+unsought size = record { scan = fresh size; latest = zeros size; newest = 0 }
 
 -- an entry for the home, or for another, with the code of its position
 unfoldable pub noted : Bool → List ℕ → ℕ → ℕ → List ℕ

@@ -6,6 +6,7 @@ ghost use mathlib.Core.Bool.{_&&_};
 ghost use Prim.Native.Nat.{_+_, _*_, _^_, _<_, _≤_};
 ghost use lib.Dec.{eqb, ltb};
 ghost use lib.ListN.{length, getD};
+ghost use Rattle.model.specs.Bytes.{zeros};
 ghost use Rattle.model.specs.Tag.{readTag};
 ghost use Rattle.model.specs.Layout.{entryIn, entryAt};
 ghost use Rattle.scan.specs.Scan.{Within};
@@ -64,7 +65,7 @@ fn visit(
     latest: &mut [u16],
     search: Search,
 ) -> Search
-    requires { ⌜ (base ≤ position) × (position < base + 7168) × (base < 2 ^ 61) × (length (now latest) ≡ 7168) × Within base position (record { counts = now counts; progress = search .progress }) ⌝ }
+    requires { ⌜ (base ≤ position) × (position < base + 7168) × (base < 2 ^ 61) × (position < base + length (now counts)) × (position < base + length (now latest)) × Within base position (record { counts = now counts; progress = search .progress }) ⌝ }
     ensures { λ r. ⌜ record { scan = record { counts = now (counts .exit); progress = r .progress }; latest = now (latest .exit); newest = r .newest }
         ≡ seek home base position (readTag word position base homes)
         (record { scan = record { counts = now (counts .entry); progress = search .progress }; latest = now (latest .entry); newest = search .newest }) ⌝ }
@@ -102,7 +103,7 @@ fn visit_group(
     latest: &mut [u16],
     search: Search,
 ) -> Search
-    requires { ⌜ (length (now group) ≡ 512) × (groups ≤ 1024) × (start ≤ 2 ^ 47) × (start ≤ n) × (n < start + 1024) × (m ≤ 7) × (length (now latest) ≡ 7168) × Within (7 * start) (7 * n) (record { counts = now counts; progress = search .progress }) ⌝ }
+    requires { ⌜ (length (now group) ≡ 512) × (groups ≤ 1024) × (start ≤ 2 ^ 47) × (start ≤ n) × (n < start + 1024) × (m ≤ 7) × (7 * n + m ≤ 7 * start + length (now counts)) × (7 * n + m ≤ 7 * start + length (now latest)) × Within (7 * start) (7 * n) (record { counts = now counts; progress = search .progress }) ⌝ }
     ensures { λ r. ⌜ record { scan = record { counts = now (counts .exit); progress = r .progress }; latest = now (latest .exit); newest = r .newest }
         ≡ sought (entryIn (now (group .entry)) groups homes start) home (7 * start) (7 * n) m
         (record { scan = record { counts = now (counts .entry); progress = search .progress }; latest = now (latest .entry); newest = search .newest }) ⌝ }
@@ -159,7 +160,7 @@ fn may_stop(own: u64, failed: u64) -> bool
 
 // What the writer sees at the end of the pass: the newest entry of its own transaction, which begins at `own` - 1, else the newest committed one.
 fn choose(latest: &[u16], base: u64, own: u64, newest: u64) -> u64
-    requires { ⌜ (base < 2 ^ 61) × (length (now latest) ≡ 7168) × (0 < own → (base < own) × (own ≤ base + 7168)) ⌝ }
+    requires { ⌜ (base < 2 ^ 61) × (0 < own → (base < own) × (own ≤ base + length (now latest))) ⌝ }
     ensures { λ r. ⌜ r ≡ chosen base (now (latest .entry)) own newest ⌝ }
 {
     if own == 0 {
@@ -169,9 +170,9 @@ fn choose(latest: &[u16], base: u64, own: u64, newest: u64) -> u64
     or_other(base, code as u64, newest)
 }
 
-// The newest entry for a home that a writer sees, among the `n` positions of the log from its start on: `own` is the first position + 1 of its open
-// transaction, 0 if it has logged nothing.
-pub fn newest_seen(
+// The pass over the `n` positions of the log from its start on, with a counter and a latest entry for each, all 0, and what it gives: the newest
+// entry for a home that a writer sees. `own` is the first position + 1 of the writer's open transaction, 0 if it has logged nothing.
+fn seek_with(
     log: &[u8],
     groups: u64,
     homes: u64,
@@ -179,13 +180,14 @@ pub fn newest_seen(
     n: u64,
     home: u64,
     own: u64,
+    counts: &mut [u16],
+    latest: &mut [u16],
 ) -> u64
     requires { ⌜ (length (now log) ≡ 64 + 512 * groups) × (4 ≤ groups) × (groups ≤ 1024) × (homes ≤ 4096) × (start ≤ 2 ^ 47) × (n ≤ 7 * groups) × (home < homes)
-        × (0 < own → (7 * start < own) × (own ≤ 7 * start + n)) ⌝ }
+        × (0 < own → (7 * start < own) × (own ≤ 7 * start + n))
+        × (n ≤ length (now counts)) × (now counts ≡ zeros (length (now counts))) × (now latest ≡ zeros (length (now counts))) ⌝ }
     ensures { λ r. ⌜ r ≡ codeOf (seenBy (entryAt (now (log .entry)) groups homes start) home own (7 * start) n) ⌝ }
 {
-    let mut counts = [0u16; 7168];
-    let mut latest = [0u16; 7168];
     let mut search = begin();
     let mut slot = start % groups;
     let mut number = start;
@@ -202,8 +204,8 @@ pub fn newest_seen(
             number,
             m,
             home,
-            &mut counts,
-            &mut latest,
+            counts,
+            latest,
             search,
         );
         if may_stop(own, search.progress.failed) {
@@ -213,5 +215,40 @@ pub fn newest_seen(
         number += 1;
         left -= m as u64;
     }
-    choose(&latest, 7 * start, own, search.newest)
+    choose(latest, 7 * start, own, search.newest)
+}
+
+// The newest entry for a home that a writer sees, among the `n` positions of the log from its start on: `own` is the first position + 1 of its open
+// transaction, 0 if it has logged nothing. A short log has small tables, since they are cleared first.
+pub fn newest_seen(
+    log: &[u8],
+    groups: u64,
+    homes: u64,
+    start: u64,
+    n: u64,
+    home: u64,
+    own: u64,
+) -> u64
+    requires { ⌜ (length (now log) ≡ 64 + 512 * groups) × (4 ≤ groups) × (groups ≤ 1024) × (homes ≤ 4096) × (start ≤ 2 ^ 47) × (n ≤ 7 * groups) × (home < homes)
+        × (0 < own → (7 * start < own) × (own ≤ 7 * start + n)) ⌝ }
+    ensures { λ r. ⌜ r ≡ codeOf (seenBy (entryAt (now (log .entry)) groups homes start) home own (7 * start) n) ⌝ }
+{
+    if n <= 448 {
+        let mut few = [0u16; 448];
+        let mut last = [0u16; 448];
+        return seek_with(log, groups, homes, start, n, home, own, &mut few, &mut last);
+    }
+    let mut counts = [0u16; 7168];
+    let mut latest = [0u16; 7168];
+    seek_with(
+        log,
+        groups,
+        homes,
+        start,
+        n,
+        home,
+        own,
+        &mut counts,
+        &mut latest,
+    )
 }

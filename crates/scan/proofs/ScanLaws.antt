@@ -11,6 +11,7 @@ use borrow.Author.Tests.{eq-eqb, ne-eqb}
 use lib.Dec.{eqb}
 use lib.ListN.{length, getD, set, length-set, length-append}
 use lib.Seq.{getD-set-same, getD-set-other, set-out}
+use Rattle.model.specs.Bytes.{zeros}
 use Rattle.model.specs.Tag.{belongs, readTag}
 use Rattle.model.specs.Layout.{groupAt, groupTag, groupValid, slotOf, indexOf, entryIn, entryAt}
 use Rattle.model.specs.Commit.{members, complete, linked, Walk, judged, visit, walk, started, committed}
@@ -22,7 +23,7 @@ use Rattle.model.proofs.ByteLaws.{length-zeros}
 use Rattle.model.proofs.OrderLaws.{byte-zeros}
 use Rattle.model.proofs.TagLaws.{entry-known, closing-known}
 use Rattle.scan.specs.declared.commits.Progress.{Progress}
-use Rattle.scan.specs.Scan.{Scan, maxEntries, fresh, counted, taken, decided, enter, over, entered, Within}
+use Rattle.scan.specs.Scan.{Scan, fresh, counted, taken, decided, enter, over, entered, Within}
 
 -- ---- the numbers of a pass stay small
 
@@ -41,13 +42,12 @@ length-counted counts i = length-set counts i (getD counts i 0 + 1)
 
 module _ (base position : ℕ) (s : Scan) (h : base ≤ position) (k : Within base position s) where
   within-same : Within base (position + 1) s
-  within-same = record { room = k .room; each = λ i. omega (arith, k .each i); number = omega arith; end = omega arith }
+  within-same = record { each = λ i. omega (arith, k .each i); number = omega arith; end = omega arith }
 
   within-counted : (i : ℕ) (p : Progress) → p .number ≤ s .progress .number + 1 → p .end ≤ position + 1
       → Within base (position + 1) (record { counts = counted (s .counts) i; progress = p })
   within-counted i p a b =
       record {
-        room = length-counted (s .counts) i ∙ k .room;
         each = λ j. omega (arith, getD-counted (s .counts) i j, k .each j);
         number = omega arith;
         end = b;
@@ -78,10 +78,9 @@ pub within-reached : (tags : ℕ → Tag) (base position m reached : ℕ) (s t :
     → t ≡ entered tags base position m s → Within base position s → Within base reached t
 within-reached tags base position m reached s t h e f k = rw (e, f) (entered-within tags base position m s h k)
 
-pub fresh-within : (base : ℕ) → Within base base fresh
+pub fresh-within : (size base : ℕ) → Within base base (fresh size)
 unfolding fresh
-fresh-within base =
-    record { room = length-zeros maxEntries; each = λ i. rw byte-zeros (omega arith); number = omega arith; end = omega arith }
+fresh-within size base = record { each = λ i. rw byte-zeros (omega arith); number = omega arith; end = omega arith }
 
 -- what says nothing leaves the pass as it is
 pub enter-quiet : (base p : ℕ) (s : Scan) → enter base p Nothing s ≡ s
@@ -95,10 +94,10 @@ pub record Placed (tags : ℕ → Tag) (base : ℕ) : Type 0 where
   pub entry : (p h f : ℕ) → tags p ≡ Entry h f → (base ≤ f) × (f ≤ p)
   pub closing : (p h f link count : ℕ) → tags p ≡ Closing h f link count → (base ≤ f) × (f ≤ p)
 
--- the pass over the n positions from base on holds what the walk over them says
-pub record Agrees (tags : ℕ → Tag) (base n : ℕ) (s : Scan) : Type 0 where
-  pub room : length (s .counts) ≡ maxEntries
-  pub each : (f : ℕ) → base ≤ f → f < base + maxEntries → getD (s .counts) (f - base) 0 ≡ length (members tags f base n)
+-- the pass over the n positions from base on, with counters for `size` positions, holds what the walk over them says
+pub record Agrees (size : ℕ) (tags : ℕ → Tag) (base n : ℕ) (s : Scan) : Type 0 where
+  pub room : length (s .counts) ≡ size
+  pub each : (f : ℕ) → base ≤ f → f < base + size → getD (s .counts) (f - base) 0 ≡ length (members tags f base n)
   pub end : s .progress .end ≡ endOf (walk tags base n .spans)
   pub number : s .progress .number ≡ length (walk tags base n .spans)
   pub going : eqb (s .progress .failed) 0 ≡ walk tags base n .going
@@ -120,10 +119,10 @@ matches-taken true position f p w e n =
     }
 matches-taken false position f p w e n = record { end = e; number = n; going = refl }
 
-module _ (tags : ℕ → Tag) (base n : ℕ) (s : Scan) (l : n < maxEntries) (k : Agrees tags base n s) where
+module _ (size : ℕ) (tags : ℕ → Tag) (base n : ℕ) (s : Scan) (l : n < size) (k : Agrees size tags base n s) where
   -- an entry of the transaction with first position g passes
   counted-each : (g : ℕ) → base ≤ g → g ≤ base + n → ((f : ℕ) → belongs f (tags (base + n)) ≡ eqb f g)
-      → (f : ℕ) → base ≤ f → f < base + maxEntries → getD (counted (s .counts) (g - base)) (f - base) 0 ≡ length (members tags f base (n + 1))
+      → (f : ℕ) → base ≤ f → f < base + size → getD (counted (s .counts) (g - base)) (f - base) 0 ≡ length (members tags f base (n + 1))
   unfolding counted
   counted-each g a b e f c d = go (ℕ-discrete f g)
     where
@@ -138,7 +137,7 @@ module _ (tags : ℕ → Tag) (base n : ℕ) (s : Scan) (l : n < maxEntries) (k 
           let m : length (members tags f base (n + 1)) ≡ length (members tags f base n) = members-same tags f base n (λ x. e f ∙ ne-eqb f g z) in
           getD-set-other (s .counts) (g - base) (f - base) (getD (s .counts) (g - base) 0 + 1) 0 (λ x. z (omega arith)) ∙ k .each f c d ∙ sym m
 
-  agrees-nothing : tags (base + n) ≡ Nothing → Agrees tags base (n + 1) s
+  agrees-nothing : tags (base + n) ≡ Nothing → Agrees size tags base (n + 1) s
   unfolding visit belongs
   agrees-nothing e =
       let w : walk tags base (n + 1) ≡ walk tags base n = walk-more tags base n ∙ rw e in
@@ -151,7 +150,7 @@ module _ (tags : ℕ → Tag) (base n : ℕ) (s : Scan) (l : n < maxEntries) (k 
       }
 
   agrees-entry : (h g : ℕ) → base ≤ g → g ≤ base + n → tags (base + n) ≡ Entry h g
-      → Agrees tags base (n + 1) (record { counts = counted (s .counts) (g - base); progress = s .progress })
+      → Agrees size tags base (n + 1) (record { counts = counted (s .counts) (g - base); progress = s .progress })
   unfolding visit belongs
   agrees-entry h g a b e =
       let w : walk tags base (n + 1) ≡ walk tags base n = walk-more tags base n ∙ rw e in
@@ -176,7 +175,7 @@ module _ (tags : ℕ → Tag) (base n : ℕ) (s : Scan) (l : n < maxEntries) (k 
       rw (k .going, k .end, q, walked tags base n .last)
 
   agrees-closing : (h g link count : ℕ) → base ≤ g → g ≤ base + n → tags (base + n) ≡ Closing h g link count
-      → Agrees tags base (n + 1) (record {
+      → Agrees size tags base (n + 1) (record {
         counts = counted (s .counts) (g - base);
         progress = decided base (base + n) link (eqb (getD (s .counts) (g - base) 0 + 1) count) (s .progress);
       })
@@ -193,37 +192,37 @@ module _ (tags : ℕ → Tag) (base n : ℕ) (s : Scan) (l : n < maxEntries) (k 
         going = rw (w, same-judgement h g link count a b e) (m .going);
       }
 
-agrees-enter : (tags : ℕ → Tag) (base n : ℕ) (s : Scan) → n < maxEntries → Placed tags base → Agrees tags base n s
-    → (t : Tag) → tags (base + n) ≡ t → Agrees tags base (n + 1) (enter base (base + n) t s)
+agrees-enter : (size : ℕ) (tags : ℕ → Tag) (base n : ℕ) (s : Scan) → n < size → Placed tags base → Agrees size tags base n s
+    → (t : Tag) → tags (base + n) ≡ t → Agrees size tags base (n + 1) (enter base (base + n) t s)
 unfolding enter
-agrees-enter tags base n s l q k Nothing e = agrees-nothing tags base n s l k e
-agrees-enter tags base n s l q k (Entry h f) e =
+agrees-enter size tags base n s l q k Nothing e = agrees-nothing size tags base n s l k e
+agrees-enter size tags base n s l q k (Entry h f) e =
     let r = q .entry (base + n) h f e in
-    agrees-entry tags base n s l k h f (r .0) (r .1) e
-agrees-enter tags base n s l q k (Closing h f link count) e =
+    agrees-entry size tags base n s l k h f (r .0) (r .1) e
+agrees-enter size tags base n s l q k (Closing h f link count) e =
     let r = q .closing (base + n) h f link count e in
-    agrees-closing tags base n s l k h f link count (r .0) (r .1) e
+    agrees-closing size tags base n s l k h f link count (r .0) (r .1) e
 
-pub agrees : (tags : ℕ → Tag) (base n : ℕ) → n ≤ maxEntries → Placed tags base → Agrees tags base n (entered tags base base n fresh)
+pub agrees : (size : ℕ) (tags : ℕ → Tag) (base n : ℕ) → n ≤ size → Placed tags base → Agrees size tags base n (entered tags base base n (fresh size))
 unfolding over fresh members walk started endOf
-agrees tags base zero h q =
-    record { room = length-zeros maxEntries; each = λ f a b. byte-zeros maxEntries (f - base); end = refl; number = refl; going = refl }
-agrees tags base (suc n) h q =
-    let r = agrees tags base n (omega arith) q in
-    rw (← add-one n) (agrees-enter tags base n (entered tags base base n fresh) (omega arith) q r (tags (base + n)) refl)
+agrees size tags base zero h q =
+    record { room = length-zeros size; each = λ f a b. byte-zeros size (f - base); end = refl; number = refl; going = refl }
+agrees size tags base (suc n) h q =
+    let r = agrees size tags base n (omega arith) q in
+    rw (← add-one n) (agrees-enter size tags base n (entered tags base base n (fresh size)) (omega arith) q r (tags (base + n)) refl)
 
 -- what the pass found is what the commit rule says: at the end, and where a failure has stopped it
-module _ (tags : ℕ → Tag) (base n : ℕ) (s : Scan) (h : n ≤ maxEntries) (q : Placed tags base) where
-  pub found : s ≡ entered tags base base n fresh
+module _ (size : ℕ) (tags : ℕ → Tag) (base n : ℕ) (s : Scan) (h : n ≤ size) (q : Placed tags base) where
+  pub found : s ≡ entered tags base base n (fresh size)
       → (s .progress .end ≡ endOf (committed tags base n)) × (s .progress .number ≡ length (committed tags base n))
   unfolding committed
-  found e = let r = agrees tags base n h q in rw e (r .end, r .number)
+  found e = let r = agrees size tags base n h q in rw e (r .end, r .number)
 
-  pub found-stopped : (i : ℕ) → i ≤ n → s ≡ entered tags base base i fresh → (s .progress .failed ≡ 0 → ⊥)
+  pub found-stopped : (i : ℕ) → i ≤ n → s ≡ entered tags base base i (fresh size) → (s .progress .failed ≡ 0 → ⊥)
       → (s .progress .end ≡ endOf (committed tags base n)) × (s .progress .number ≡ length (committed tags base n))
   unfolding committed
   found-stopped i l e g =
-      let r = agrees tags base i (omega arith) q in
+      let r = agrees size tags base i (omega arith) q in
       let z : walk tags base i .going ≡ false = sym (r .going) ∙ ap (λ (x : Scan). eqb (x .progress .failed) 0) (sym e) ∙ ne-eqb (s .progress .failed) 0 g in
       rw (committed-stopped tags base i n l z, e) (r .end, r .number)
 

@@ -22,8 +22,9 @@ pub record Scan : Type 0 where
 abbrev pub maxEntries : ℕ
 maxEntries = 7168
 
-unfoldable pub fresh : Scan
-fresh = record { counts = zeros maxEntries; progress = record { end = 0; number = 0; failed = 0 } }
+-- a pass with counters for `size` positions that has taken none
+unfoldable pub fresh : ℕ → Scan
+fresh size = record { counts = zeros size; progress = record { end = 0; number = 0; failed = 0 } }
 
 -- one entry more
 unfoldable pub counted : List ℕ → ℕ → List ℕ
@@ -59,7 +60,6 @@ entered tags base position m s = over (enter base) tags position m s
 
 -- what bounds the numbers of a pass that has come to a position
 pub record Within (base position : ℕ) (s : Scan) : Type 0 where
-  pub room : length (s .counts) ≡ maxEntries
   pub each : (i : ℕ) → getD (s .counts) i 0 ≤ position - base
   pub number : s .progress .number ≤ position - base
   pub end : s .progress .end ≤ position

@@ -87,7 +87,7 @@ fn visit(
     counts: &mut [u16],
     progress: Progress,
 ) -> Progress
-    requires { ⌜ (base ≤ position) × (position < base + 7168) × (base < 2 ^ 61) × Within base position (record { counts = now counts; progress = progress }) ⌝ }
+    requires { ⌜ (base ≤ position) × (position < base + 7168) × (base < 2 ^ 61) × (position < base + length (now counts)) × Within base position (record { counts = now counts; progress = progress }) ⌝ }
     ensures { λ r. ⌜ record { counts = now (counts .exit); progress = r } ≡ enter base position (readTag word position base homes) (record { counts = now (counts .entry); progress = progress }) ⌝ }
 {
     match codec::read_tag(word, position, base, homes) {
@@ -114,7 +114,7 @@ fn visit_group(
     counts: &mut [u16],
     progress: Progress,
 ) -> Progress
-    requires { ⌜ (length (now group) ≡ 512) × (groups ≤ 1024) × (start ≤ 2 ^ 47) × (start ≤ n) × (n < start + 1024) × (m ≤ 7) × Within (7 * start) (7 * n) (record { counts = now counts; progress = progress }) ⌝ }
+    requires { ⌜ (length (now group) ≡ 512) × (groups ≤ 1024) × (start ≤ 2 ^ 47) × (start ≤ n) × (n < start + 1024) × (m ≤ 7) × (7 * n + m ≤ 7 * start + length (now counts)) × Within (7 * start) (7 * n) (record { counts = now counts; progress = progress }) ⌝ }
     ensures { λ r. ⌜ record { counts = now (counts .exit); progress = r } ≡ entered (entryIn (now (group .entry)) groups homes start) (7 * start) (7 * n) m (record { counts = now (counts .entry); progress = progress }) ⌝ }
 {
     if !group_valid(group, groups, start, n) {

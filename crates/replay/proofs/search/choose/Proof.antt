@@ -11,16 +11,16 @@ returns : tie.Need-returns
 returns c = let a = c .before .before .args in chosen-committed (a .base) (a .latest .now) (a .own) (a .newest) (omega arith)
 
 sub-code : tie.Need-sub-code
-sub-code c = let k = c .before .before .pre .2 (omega arith) in omega arith
+sub-code c = let k = c .before .before .pre .1 (omega arith) in omega arith
 
 sub-code-2 : tie.Need-sub-code-2
-sub-code-2 c = let k = c .before .before .pre .2 (omega arith) in omega arith
+sub-code-2 c = let k = c .before .before .pre .1 (omega arith) in omega arith
 
 mul-code : tie.Need-mul-code
-mul-code c = let k = c .before .before .pre .2 (omega arith) in omega arith
+mul-code c = let k = c .before .before .pre .1 (omega arith) in omega arith
 
 shared-slice-read-code : tie.Need-shared-slice-read-code
-shared-slice-read-code c = let k = c .before .before .before .pre .2 (omega arith) in omega arith
+shared-slice-read-code c = let k = c .before .before .before .pre .1 (omega arith) in omega arith
 
 -- an entry of the table is small
 small : (c : tie.After-shared-slice-known2) (i : ℕ) → getD (c .before .before .before .args .latest .now) i 0 < 2 ^ 16

@@ -26,7 +26,7 @@ count-entry-requires c κs =
     let f = c .before .before in
     let t = f .before .before in
     let p = t .before .before .before .pre in
-    (omega (arith, entry-bounds _ _ _ _ _ (t .read-tag .ensures) _ _ (f .written .given .1), p), below-most _ _ _ _ (p .4) (p .1))
+    (omega (arith, entry-bounds _ _ _ _ _ (t .read-tag .ensures) _ _ (f .written .given .1), p), below-most _ _ _ _ (p .5) (p .1))
 
 add-note : tie.Need-add-note
 add-note c = search needs
@@ -54,7 +54,7 @@ count-entry-requires-2 c κs =
     let f = c .before .before in
     let t = f .before .before in
     let p = t .before .before .before .pre in
-    (omega (arith, closing-bounds _ _ _ _ _ (t .read-tag .ensures) _ _ _ _ (f .written2 .given .1), p), below-most _ _ _ _ (p .4) (p .1))
+    (omega (arith, closing-bounds _ _ _ _ _ (t .read-tag .ensures) _ _ _ _ (f .written2 .given .1), p), below-most _ _ _ _ (p .5) (p .1))
 
 add-note-2 : tie.Need-add-note-2
 add-note-2 c = search needs

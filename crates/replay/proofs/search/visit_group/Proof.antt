@@ -60,8 +60,9 @@ visit-requires c κs =
       omega arith,
       omega arith,
       omega arith,
-      omega (arith, l .inv .4, a .pre .6),
-      small-reached _ _ _ _ _ _ _ _ (omega arith) (l .inv .1) (l .inv .0) (a .pre .7),
+      omega arith,
+      omega (arith, l .inv .4, a .pre .7),
+      small-reached _ _ _ _ _ _ _ _ (omega arith) (l .inv .1) (l .inv .0) (a .pre .8),
     )
 
 add-position : tie.Need-add-position Inv-loop μ-loop

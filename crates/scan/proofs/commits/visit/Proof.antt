@@ -25,7 +25,7 @@ count-entry-requires c κs =
     let f = c .before .before in
     let t = f .before .before in
     let p = t .before .before .pre in
-    (omega (arith, entry-bounds _ _ _ _ _ (t .read-tag .ensures) _ _ (f .first .given .1), p), below-most _ _ _ _ (p .3) (p .1))
+    (omega (arith, entry-bounds _ _ _ _ _ (t .read-tag .ensures) _ _ (f .first .given .1), p), below-most _ _ _ _ (p .4) (p .1))
 
 enum-known-first-2 : tie.Need-enum-known-first-2
 enum-known-first-2 c = search needs
@@ -40,7 +40,7 @@ count-entry-requires-2 c κs =
     let f = c .before .before in
     let t = f .before .before in
     let p = t .before .before .pre in
-    (omega (arith, closing-bounds _ _ _ _ _ (t .read-tag .ensures) _ _ _ _ (f .first2 .given .1), p), below-most _ _ _ _ (p .3) (p .1))
+    (omega (arith, closing-bounds _ _ _ _ _ (t .read-tag .ensures) _ _ _ _ (f .first2 .given .1), p), below-most _ _ _ _ (p .4) (p .1))
 
 judge-requires : tie.Need-judge-requires
 judge-requires c κs =

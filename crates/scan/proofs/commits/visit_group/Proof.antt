@@ -54,7 +54,7 @@ visit-requires : tie.Need-visit-requires Inv-loop μ-loop
 visit-requires c κs =
     let l = c .before .before .loop in
     let a = c .before .before .before .before .before .before .before .before in
-    (omega arith, omega arith, omega arith, within-reached _ _ _ _ _ _ _ (omega arith) (l .inv .1) (l .inv .0) (a .pre .6))
+    (omega arith, omega arith, omega arith, omega arith, within-reached _ _ _ _ _ _ _ (omega arith) (l .inv .1) (l .inv .0) (a .pre .7))
 
 add-position : tie.Need-add-position Inv-loop μ-loop
 add-position c = omega arith

@@ -4,7 +4,7 @@ use mathlib.Core.Path.{_≡_, refl, sym, _∙_}
 use Prim.Native.Nat.{ℕ, _+_, _-_, _*_, _%_, _≤_, _<_}
 use native.Mathlib.Nat.{mod-lt}
 use native.Mathlib.Omega.{arith}
-use lib.ListN.{length-take, length-drop}
+use lib.ListN.{length, length-take, length-drop}
 use Rattle.model.specs.Bytes.{zeros}
 use Rattle.model.specs.Layout.{entryAt}
 use Rattle.scan.specs.Scan.{Scan, fresh, entered, Within}
@@ -18,12 +18,13 @@ abbrev Inv-loop : tie.InvT-loop
 Inv-loop log groups homes start n counts₀ progress₀ slot₀ number₀ left₀ counts progress slot number left =
     (
     _≡_ {A = Scan} (record { counts = counts; progress = progress })
-    (entered (entryAt log groups homes start) (7 * start) (7 * start) (n - left) fresh)
+    (entered (entryAt log groups homes start) (7 * start) (7 * start) (n - left) (fresh 7168))
     )
     × (left ≤ n)
     × (slot ≡ number % groups)
     × (slot < groups)
     × (0 < left → 7 * start + (n - left) ≡ 7 * number)
+    × (length counts ≡ 7168)
 
 abbrev μ-loop : tie.MeasureT-loop
 μ-loop log groups homes start n counts₀ progress₀ slot₀ number₀ left₀ counts progress slot number left = left
@@ -33,7 +34,7 @@ rem-slot c = omega arith
 
 loop-holds : tie.Need-loop-holds Inv-loop μ-loop
 unfolding fresh zeros
-loop-holds c = (over-start _ _ _ _ _, omega arith, refl, mod-lt (c .before .args .start) (omega arith), λ h. omega arith)
+loop-holds c = (over-start _ _ _ _ _, omega arith, refl, mod-lt (c .before .args .start) (omega arith), λ h. omega arith, refl)
 
 -- the next group's positions come next, and the numbers of the pass are small
 module _ (c : tie.In-loop Inv-loop μ-loop) where
@@ -42,7 +43,7 @@ module _ (c : tie.In-loop Inv-loop μ-loop) where
 
   small : Within (7 * c .before .before .before .args .start) (7 * c .before .loop .number)
       (record { counts = c .before .loop .counts; progress = c .before .loop .progress })
-  small = within-reached _ _ _ _ _ _ _ (omega arith) (sym next) (c .before .loop .inv .0) (fresh-within _)
+  small = within-reached _ _ _ _ _ _ _ (omega arith) (sym next) (c .before .loop .inv .0) (fresh-within _ _)
 
 mul-from : tie.Need-mul-from Inv-loop μ-loop
 mul-from c = omega arith
@@ -66,7 +67,7 @@ in-group-requires : tie.Need-in-group-requires Inv-loop μ-loop
 in-group-requires c κs = tt
 
 slice-aggregate-visit-group : tie.Need-slice-aggregate-visit-group Inv-loop μ-loop
-slice-aggregate-visit-group c = sym (small (c .before .before .before) .room)
+slice-aggregate-visit-group c = sym (c .before .before .before .before .loop .inv .5)
 
 visit-group-requires : tie.Need-visit-group-requires Inv-loop μ-loop
 visit-group-requires c κs =
@@ -77,13 +78,14 @@ visit-group-requires c κs =
       omega (arith, next l),
       omega (arith, next l),
       omega arith,
+      omega (arith, next l, c .before .in-group .ensures, l .before .loop .inv .5),
       small l,
     )
 
 -- the pass over the first j positions of the log that was lent
 abbrev pass : tie.Start Inv-loop μ-loop → ℕ → Scan
 pass c j =
-    entered (entryAt (c .args .log .now) (c .args .groups) (c .args .homes) (c .args .start)) (7 * c .args .start) (7 * c .args .start) j fresh
+    entered (entryAt (c .args .log .now) (c .args .groups) (c .args .homes) (c .args .start)) (7 * c .args .start) (7 * c .args .start) j (fresh 7168)
 
 -- it has taken the group
 reached : (c : tie.After-visit-group Inv-loop μ-loop) (j : ℕ)
@@ -102,7 +104,7 @@ returns : tie.Need-returns Inv-loop μ-loop
 returns c =
     let v = c .before .before .before .before in
     let a = v .before .before .before .before .before .before .before .args in
-    let f = found-stopped _ _ (a .n) _ (omega arith) (placed _ _ _ _) _ (omega arith) (reached v _ refl) (c .before .if1 .taken) in
+    let f = found-stopped _ _ _ (a .n) _ (omega arith) (placed _ _ _ _) _ (omega arith) (reached v _ refl) (c .before .if1 .taken) in
     (c .result .ensures .0 ∙ f .0, c .result .ensures .1 ∙ f .1)
 
 next-slot-requires : tie.Need-next-slot-requires Inv-loop μ-loop
@@ -129,6 +131,7 @@ loop-again c =
       slot-more _ _ _ _ (l .inv .2) (c .next-slot .ensures),
       rw (c .next-slot .ensures) (mod-lt (l .slot + 1) (omega (arith, l .inv .3))),
       λ h. omega (arith, next (m .before .before), m .in-group .ensures, l .inv .1),
+      omega (arith, v .visit-group .kept, l .inv .5),
     )
 
 result-requires-2 : tie.Need-result-requires-2 Inv-loop μ-loop
@@ -139,7 +142,7 @@ returns-2 c =
     let l = c .before .before .loop in
     let a = c .before .before .before .before .args in
     let e : a .n - l .left ≡ a .n = omega arith in
-    let f = found _ _ _ _ (omega arith) (placed _ _ _ _) (rw e at (l .inv .0)) in
+    let f = found _ _ _ _ _ (omega arith) (placed _ _ _ _) (rw e at (l .inv .0)) in
     (c .result2 .ensures .0 ∙ f .0, c .result2 .ensures .1 ∙ f .1)
 
 pub walk-spec : {M : Type 1} → statement M
