@@ -18,7 +18,7 @@ C_SANITIZE = -O1 -g -fno-omit-frame-pointer -fsanitize=address,undefined -fno-sa
 C_OUT = target/c
 C_HEADERS = include/kagutin.h $(wildcard c/*.h)
 
-C_STATION = station calls refusals tasks wear book rule driver driver_file
+C_STATION = station_main options power tasks wear calls refusals station book rule driver driver_file
 C_INSPECT = inspect inspect_print rule
 C_DRIVER_CHECK = driver_check driver driver_file
 C_QUICKSTART = quickstart

@@ -1,9 +1,11 @@
 /* The library's calls, each held against the book. */
+#include "calls.h"
+
 #include <stdlib.h>
 #include <string.h>
 
+#include "refusals.h"
 #include "rule.h"
-#include "station.h"
 
 #define AREAS(s) (s)->driver.log, (s)->driver.log_size, (s)->driver.area, (s)->driver.area_size
 #define STATE(s) (s)->driver.state, sizeof (s)->driver.state

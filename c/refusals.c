@@ -1,8 +1,7 @@
 /* Calls that must be refused, with every lent byte left as it was. */
-#include <string.h>
+#include "refusals.h"
 
-#include "rule.h"
-#include "station.h"
+#include <string.h>
 
 #define LOG(s) (s)->driver.log, (s)->driver.log_size
 #define AREA(s) (s)->driver.area, (s)->driver.area_size

@@ -1,6 +1,7 @@
 /*
- * A pump station on the driver: every call is checked against the book of
- * commits, and any difference ends the run with status 1.
+ * The state of a station's run, which all its parts share. They build on each
+ * other in this order, each including only what stands before it: station,
+ * refusals, calls, wear, tasks, power.
  */
 #ifndef STATION_H
 #define STATION_H
@@ -50,38 +51,6 @@ uint64_t station_random(struct station *station, uint64_t limit);
 void station_mismatch(struct station *station, const char *format, ...);
 void station_trouble(struct station *station);
 
-/* The driver has formatted: both copies and the image are those of an empty store. */
-void call_formatted(struct station *station);
-
-/* Calls that must be done, checked against the book, their batches queued. */
-void call_open(struct station *station);
-void call_begin(struct station *station, unsigned writer);
-void call_abort(struct station *station, unsigned writer);
-bool call_store(struct station *station, unsigned writer, size_t home, const uint8_t *block);
-bool call_commit(struct station *station, unsigned writer);
-void call_flush(struct station *station);
-void call_confirm(struct station *station);
-void call_settle(struct station *station);
-void call_trim(struct station *station);
-void call_read(struct station *station, unsigned writer, size_t home, uint8_t *block);
-
-/* Remember the lent memory; check that a call was refused and left it alone. */
-void refusal_prepare(struct station *station);
-void refusal_check(struct station *station, const char *call, struct kagutin_reply reply, uint64_t code);
-
-/* Make one call that must be refused, chosen at random. */
-void refusal_try(struct station *station);
-void refusal_try_open(struct station *station);
-
-/* One step of a task chosen at random; all tasks lose their work at a cut. */
-void tasks_step(struct station *station);
-void tasks_power_cut(struct station *station);
-
-/* Run seconds and starts of a pump as the homes hold them, from one moment. */
-bool wear_fits(const struct station *station);
-void wear_check(struct station *station);
-void wear_read(struct station *station, unsigned pump, uint64_t *serial, uint64_t *seconds, uint64_t *starts);
-void wear_blocks(unsigned pump, uint64_t serial, uint64_t seconds, uint64_t starts, uint8_t *run, uint8_t *start);
-void wear_sheet(struct station *station);
+void station_free(struct station *station);
 
 #endif

@@ -3,9 +3,12 @@
  * seconds (home 2w) and its starts (home 2w + 1) go into one transaction. Homes
  * from 16 on are notes that all tasks write.
  */
+#include "tasks.h"
+
 #include <string.h>
 
-#include "station.h"
+#include "calls.h"
+#include "wear.h"
 
 #define PUMP_HOMES STATION_MIN_HOMES
 

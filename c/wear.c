@@ -5,10 +5,12 @@
  * the update they come from and at byte 16 the figure. Both blocks of a pump
  * must come from the same update. A pump that never ran has two blocks of zeros.
  */
+#include "wear.h"
+
 #include <string.h>
 
+#include "calls.h"
 #include "rule.h"
-#include "station.h"
 
 static const char *const tasks[KAGUTIN_WRITERS] = {
     "level", "switching", "run hours", "alarms", "radio", "energy", "rain gauge", "service",
