@@ -16,13 +16,15 @@ CFLAGS ?= -O2 -g
 C_FLAGS = -std=c99 -D_POSIX_C_SOURCE=200809L -Wall -Wextra -pedantic -Wshadow -Wconversion -Iinclude -Ic
 C_SANITIZE = -O1 -g -fno-omit-frame-pointer -fsanitize=address,undefined -fno-sanitize-recover=all
 C_OUT = target/c
-C_HEADERS = include/kagutin.h $(wildcard c/*.h)
+C_HEADERS = $(wildcard include/*.h c/*.h c/store/*.h)
 
-C_STATION = station_main options power tasks wear calls refusals station book rule driver driver_file
+C_STORE = store/store store/batch store/memory store/file store/file_io store/fram
+C_STATION = station_main options power tasks wear calls refusals station book rule driver driver_file $(C_STORE)
 C_INSPECT = inspect inspect_print rule
-C_DRIVER_CHECK = driver_check driver driver_file
-C_QUICKSTART = quickstart
-C_PROGRAMS = station inspect quickstart driver_check
+C_DRIVER_CHECK = driver_check driver driver_file $(C_STORE)
+C_QUICKSTART = quickstart $(C_STORE)
+C_STORE_CHECK = store_check play $(C_STORE)
+C_PROGRAMS = station inspect quickstart driver_check store_check
 
 .PHONY: station inspect quickstart c-sanitize c-check install c-clean
 
@@ -60,6 +62,7 @@ $(eval $(call C_PROGRAM,station,$(C_STATION),$(LIB)))
 $(eval $(call C_PROGRAM,inspect,$(C_INSPECT),))
 $(eval $(call C_PROGRAM,quickstart,$(C_QUICKSTART),$(LIB)))
 $(eval $(call C_PROGRAM,driver_check,$(C_DRIVER_CHECK),$(LIB)))
+$(eval $(call C_PROGRAM,store_check,$(C_STORE_CHECK),$(LIB)))
 
 c-check: $(C_PROGRAMS:%=$(C_OUT)/%) c-sanitize
 	CC="$(CC)" LIB="$(LIB)" C_LIBS="$(C_LIBS)" sh tests/c-check.sh $(C_OUT)

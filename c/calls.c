@@ -36,10 +36,10 @@ static void submit(struct station *station, uint64_t size)
 static void expect_group(struct station *station, const char *call, uint64_t group)
 {
     const struct driver *driver = &station->driver;
-    struct record record;
+    struct kgt_record record;
 
-    if (!driver_read_record(driver->batch, KAGUTIN_GW_SIZE, driver->groups, driver->homes, &record)
-        || record.kind != RECORD_GW || record.place != group % driver->groups
+    if (!kgt_read_record(driver->batch, KAGUTIN_GW_SIZE, driver->groups, driver->homes, &record)
+        || record.kind != KGT_GW || record.place != group % driver->groups
         || rule_number(record.bytes + 2, 6) != group)
         station_mismatch(station, "%s did not submit group %llu", call, (unsigned long long)group);
 }
@@ -49,10 +49,10 @@ static size_t expect_homes(struct station *station, const char *call, size_t siz
 {
     const struct driver *driver = &station->driver;
     size_t at = 0, least = 0;
-    struct record record;
+    struct kgt_record record;
 
-    while (driver_read_record(driver->batch + at, size - at, driver->groups, driver->homes, &record)
-           && record.kind == RECORD_HW) {
+    while (kgt_read_record(driver->batch + at, size - at, driver->groups, driver->homes, &record)
+           && record.kind == KGT_HW) {
         if (record.place < least)
             station_mismatch(station, "%s writes home %lu after a higher one", call, (unsigned long)record.place);
         if (memcmp(record.bytes, driver->area + kagutin_area_size(record.place), KAGUTIN_BLOCK_SIZE) != 0)

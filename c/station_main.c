@@ -12,10 +12,10 @@
 #include "rule.h"
 #include "wear.h"
 
-static void on_persisted(void *context, const struct record *record)
+static void on_persisted(void *context, const struct kgt_record *record, uint64_t number)
 {
-    if (record->kind == RECORD_GW)
-        book_persisted(context, record->number);
+    if (record->kind == KGT_GW)
+        book_persisted(context, number);
 }
 
 /* A foreign image is refused before anything in it is changed. */
@@ -78,7 +78,7 @@ int main(int count, char **words)
 
     station.seed = 1;
     station.cuts = 300;
-    station.driver.file = -1;
+    driver_clear(&station.driver);
     options_read(&station, count, words);
     station.report = station.csv ? stderr : stdout;
     station.random = station.seed;
