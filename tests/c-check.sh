@@ -39,18 +39,28 @@ says() {
 
 quiet() { "$@" > /dev/null 2>&1; }
 
-# --- header ---
-echo '#include "kagutin.h"' > "$tmp/header.c"
-cp "$tmp/header.c" "$tmp/header.cpp"
+# Scratch images on a memory disk, if there is one: syncs cost nothing there.
+fast=$tmp
+if [ -d /dev/shm ] && [ -w /dev/shm ]; then
+    fast=$(mktemp -d /dev/shm/kagutin.XXXXXX) || exit 1
+    trap 'rm -rf "$tmp" "$fast"' EXIT
+fi
+
+# --- headers and the store's sources ---
+strict="-Wall -Wextra -pedantic -Wshadow -Wconversion -Werror -Iinclude"
+for header in include/*.h; do echo "#include \"${header#include/}\""; done > "$tmp/headers.c"
+cp "$tmp/headers.c" "$tmp/headers.cpp"
 for standard in c99 c11; do
-    gives 0 "header as $standard" "$cc" -std=$standard -Wall -Wextra -pedantic -Werror -Iinclude -fsyntax-only "$tmp/header.c"
+    gives 0 "headers as $standard" "$cc" -std=$standard $strict -fsyntax-only "$tmp/headers.c"
+    gives 0 "store object and drivers as $standard" "$cc" -std=$standard $strict -fsyntax-only c/store/*.c
 done
 if command -v g++ > /dev/null; then
     for standard in c++11 c++17; do
-        gives 0 "header as $standard" g++ -std=$standard -Wall -Wextra -pedantic -Werror -Iinclude -fsyntax-only "$tmp/header.cpp"
+        gives 0 "headers as $standard" g++ -std=$standard $strict -fsyntax-only "$tmp/headers.cpp"
+        gives 0 "store object and drivers as $standard" g++ -x c++ -std=$standard $strict -fsyntax-only c/store/*.c
     done
 else
-    echo "skipped header as C++: no g++"
+    echo "skipped headers as C++: no g++"
 fi
 
 # --- stack of each call ---
@@ -58,9 +68,26 @@ gives 0 "stack: built" "$cc" -std=c99 -D_GNU_SOURCE -Wall -Wextra -pedantic -O2 
 gives 0 "stack: every call below 32 KiB" "$tmp/stack"
 
 # --- quick start, driver, station ---
-gives 0 "quick start" "$san/quickstart"
-grep -q 'durable' "$tmp/out"; report $? "quick start: durable"
+gives 0 "quick start" "$san/quickstart" "$tmp/quickstart.img"
+gives 0 "quick start again" "$san/quickstart" "$tmp/quickstart.img"
+grep -q '^2 starts.*, durable' "$tmp/out"; report $? "quick start: two starts, durable"
 gives 0 "driver" "$san/driver_check" "$tmp/driver.img"
+
+# --- the store object and its drivers ---
+gives 0 "store: power gone after every byte, any words at a cut" "$out/store_check" 1 5000
+gives 0 "store: the same under sanitizers, every 17 bytes" "$san/store_check" 17 1500
+gives 0 "files: written and mapped, stopped inside writes, locks, failures" "$san/file_check" "$fast"
+gives 0 "FRAM: power gone after every byte" "$out/fram_check" 1
+gives 0 "FRAM: under sanitizers" "$san/fram_check" 13
+gives 0 "300 kills of a process at work" "$out/kill_check" "$fast/kills.img" 300 1
+gives 0 "40 kills on this disk, under sanitizers" "$san/kill_check" "$tmp/kills.img" 40 2
+if mkdir "$tmp/disk" && mount -t tmpfs -o size=16k none "$tmp/disk" 2> /dev/null; then
+    says "no room" 3 "station on a full disk of its own" "$san/station" --groups 1024 --file "$tmp/disk/full.img"
+    [ -z "$(ls "$tmp/disk")" ]; report $? "which stays empty"
+    umount "$tmp/disk"
+fi
+
+# --- station ---
 for seed in 1 2 3 4; do
     gives 0 "station, seed $seed" "$san/station" --seed $seed --cuts 120
 done
@@ -128,7 +155,7 @@ for length in 0 1 63 64 100 600 $((size - 1)) $((size - 64)); do
     gives 1 "inspect an image cut to $length bytes" "$san/inspect" "$tmp/short.img"
     gives 1 "inspect it with --groups" "$san/inspect" --json --groups 12 "$tmp/short.img"
 done
-cat "$tmp/kept.img" "$tmp/header.c" > "$tmp/long.img"
+cat "$tmp/kept.img" "$tmp/headers.c" > "$tmp/long.img"
 says "overlong" 3 "station on an overlong file" "$san/station" --file "$tmp/long.img"
 gives 1 "inspect an overlong file" "$san/inspect" "$tmp/long.img"
 says "no image" 3 "station on some other file" "$san/station" --file "$out/station"
@@ -163,7 +190,8 @@ if command -v valgrind > /dev/null; then
     memcheck="valgrind -q --error-exitcode=9 --leak-check=full"
     gives 0 "station under memcheck" $memcheck "$out/station" --seed 6 --cuts 25 --groups 6 --homes 20
     gives 0 "inspect under memcheck" $memcheck "$out/inspect" "$tmp/kept.img"
-    gives 0 "quick start under memcheck" $memcheck "$out/quickstart"
+    gives 0 "quick start under memcheck" $memcheck "$out/quickstart" "$tmp/memcheck.img"
+    gives 0 "store under memcheck" $memcheck "$out/store_check" 499 30
 else
     echo "skipped memcheck: valgrind is not installed"
 fi
@@ -174,10 +202,12 @@ if command -v pkg-config > /dev/null; then
     cp c/quickstart.c "$tmp/outside.c"
     flags=$(PKG_CONFIG_PATH="$tmp/root/opt/kagutin/lib/pkgconfig" PKG_CONFIG_SYSROOT_DIR="$tmp/root" pkg-config --cflags --libs kagutin)
     gives 0 "build outside with pkg-config" "$cc" "$tmp/outside.c" -o "$tmp/outside" $flags
-    gives 0 "run it" "$tmp/outside"
+    gives 0 "run it" "$tmp/outside" "$tmp/outside.img"
 else
     echo "skipped the build outside: no pkg-config"
 fi
+gives 0 "make uninstall" "${MAKE:-make}" -f c.mk DESTDIR="$tmp/root" PREFIX=/opt/kagutin uninstall
+[ -z "$(find "$tmp/root" -type f)" ]; report $? "and nothing is left"
 
 echo "c-check: $passed passed, $failed failed"
 [ $failed -eq 0 ]

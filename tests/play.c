@@ -44,20 +44,22 @@ static void fill(uint8_t *block, uint64_t number, uint64_t home)
         block[i] = (uint8_t)(number * 37 + home * 11 + i);
 }
 
-/* The block of a home after so many commits. */
+/* The transaction whose block a home holds after so many commits; 0 for none. */
+static uint64_t writer_of(const struct play *play, uint64_t commits, uint64_t home)
+{
+    while (commits-- > play->opened)
+        if (play->commits[commits - play->opened].homes >> home & 1)
+            return play->commits[commits - play->opened].transaction;
+    return play->blocks[home];
+}
+
 static void expected(const struct play *play, uint64_t commits, uint64_t home, uint8_t *block)
 {
+    uint64_t number = home == 0 ? commits : writer_of(play, commits, home);
+
     memset(block, 0, KAGUTIN_BLOCK_SIZE);
-    if (home == 0) {
-        if (commits)
-            fill(block, commits, 0);
-        return;
-    }
-    while (commits-- > 0)
-        if (play->commits[commits].homes >> home & 1) {
-            fill(block, play->commits[commits].transaction, home);
-            return;
-        }
+    if (number)
+        fill(block, number, home);
 }
 
 static bool reads(struct play *play, uint64_t writer, uint64_t home, uint64_t commits)
@@ -100,22 +102,18 @@ static bool commit(struct play *play, uint64_t writer)
     uint8_t block[KAGUTIN_BLOCK_SIZE];
     struct kagutin_reply reply;
 
-    if (play->committed == PLAY_MOST_COMMITS)
+    if (play->committed - play->opened == PLAY_MOST_COMMITS)
         return wrong(play, "the book is too short for this work");
     fill(block, play->committed + 1, 0);
     reply = kgt_store(play->store, writer, 0, block);
     if (reply.code != KAGUTIN_DONE)
         return give_up(play, writer, reply);
-    play->commits[play->committed] = play->writers[writer];
-    if (play->seen_started)
-        *play->seen_started = play->committed + 1;
-    play->in_flight = true;
+    play->commits[play->committed - play->opened] = play->writers[writer];
+    play->started = play->committed + 1;
     reply = kgt_commit(play->store, writer);
-    if (reply.code != KGT_DRIVER_FAILED)
-        play->in_flight = false;
     if (reply.code != KAGUTIN_DONE)
         return give_up(play, writer, reply);
-    play->committed++;
+    play->committed = play->committed + 1;
     play->open[writer] = false;
     return true;
 }
@@ -125,8 +123,6 @@ static bool sync_all(struct play *play)
     if (!done(play, kgt_sync(play->store), "sync"))
         return false;
     play->confirmed = play->committed;
-    if (play->seen_confirmed)
-        *play->seen_confirmed = play->confirmed;
     return true;
 }
 
@@ -173,13 +169,14 @@ bool play_opened(struct play *play)
         number = number << 8 | block[i];
     if (number < play->confirmed)
         return wrong(play, "a confirmed commit is lost");
-    if (number > play->committed + play->in_flight)
+    if (number > play->started)
         return wrong(play, "a commit came back that was never made");
     for (home = 0; home < play->homes; home++)
         if (!reads(play, 0, home, number))
             return false;
-    play->committed = play->confirmed = number;
-    play->in_flight = false;
+    for (home = 0; home < play->homes; home++)
+        play->blocks[home] = writer_of(play, number, home);
+    play->opened = play->started = play->committed = play->confirmed = number;
     memset(play->open, 0, sizeof play->open);
     return true;
 }

@@ -8,7 +8,7 @@
 
 #include "kagutin_store.h"
 
-#define PLAY_MOST_COMMITS 4096
+#define PLAY_MOST_COMMITS 65536 /* between two openings */
 #define PLAY_MOST_HOMES 64
 
 struct play_commit {
@@ -21,13 +21,12 @@ struct play {
     uint64_t random, homes;
     bool open[KAGUTIN_WRITERS];
     struct play_commit writers[KAGUTIN_WRITERS];
-    struct play_commit commits[PLAY_MOST_COMMITS];
-    uint64_t committed, confirmed; /* numbers of commits: done; sure to come back */
-    bool in_flight;                /* one more was asked for when the driver failed */
+    uint64_t opened; /* commits up to the last opening */
+    uint64_t blocks[PLAY_MOST_HOMES]; /* the homes then: numbers of transactions */
+    struct play_commit commits[PLAY_MOST_COMMITS]; /* those since */
+    volatile uint64_t started, committed, confirmed; /* commits: asked for, done, sure to come back */
     uint64_t transactions;
-    uint64_t full; /* answers 8 */
-    /* If set, these are kept up to date for another process. */
-    volatile uint64_t *seen_started, *seen_confirmed;
+    uint64_t full;     /* answers 8 */
     const char *wrong; /* what the store did wrong, or null */
 };
 

@@ -93,11 +93,6 @@ static void check_words(unsigned long rounds)
     power_on();
     reopen(0, true);
     for (round = 0; round < rounds; round++) {
-        if (play.committed > PLAY_MOST_COMMITS / 2) {
-            power_on();
-            play.random = round;
-            reopen(round, true);
-        }
         kgt_memory_stop_after(&medium, play_random(&play, 9000));
         play_work(&play, (unsigned)play_random(&play, 200));
         check(!play.wrong, "work", round);
