@@ -12,7 +12,7 @@ LIB ?= target/staticlib/libkagutin.a
 C_LIBS ?=
 PREFIX ?= /usr/local
 DESTDIR ?=
-VERSION ?= 1.0.0
+VERSION := $(shell sed -n 's/.define KAGUTIN_VERSION "\(.*\)"/\1/p' include/kagutin.h)
 CFLAGS ?= -O2 -g
 SEED ?= 1
 
@@ -22,7 +22,7 @@ C_OUT = target/c
 C_HEADERS = $(wildcard include/*.h c/*.h c/store/*.h)
 
 C_STORE = store/store store/batch store/memory store/file store/file_io store/fram
-C_STATION = station_main options power tasks wear calls refusals station book rule driver driver_file $(C_STORE)
+C_STATION = station_main options power tasks wear calls refusals report station book rule driver driver_file $(C_STORE)
 C_INSPECT = inspect inspect_print rule
 C_DRIVER_CHECK = driver_check driver driver_file $(C_STORE)
 C_QUICKSTART = quickstart $(C_STORE)

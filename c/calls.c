@@ -256,8 +256,16 @@ void call_trim(struct station *station)
 {
     uint64_t start = book_trim_start(&station->book);
     bool moves = start != station->book.start;
-    struct kagutin_reply reply = kagutin_trim(AREAS(station), STATE(station), BATCH(station));
+    struct kagutin_reply reply;
 
+    if (start > KAGUTIN_MAX_START)
+        refusal_prepare(station);
+    reply = kagutin_trim(AREAS(station), STATE(station), BATCH(station));
+    if (start > KAGUTIN_MAX_START) {
+        refusal_check(station, "trim", reply, KAGUTIN_WORN_OUT);
+        station->worn_out = true;
+        return;
+    }
     expect(station, "trim", reply, 0, moves ? KAGUTIN_TRIM_BATCH : 0);
     if (moves && expect_header(station, "trim", 0, (size_t)reply.size) != start)
         station_mismatch(station, "trim did not move the start to %llu", (unsigned long long)start);

@@ -112,6 +112,17 @@ size_t driver_issued(const struct driver *driver)
     return count_records(driver, 0, driver->issued);
 }
 
+uint64_t driver_groups_issued(const struct driver *driver)
+{
+    uint64_t count = driver->first_group;
+    struct kgt_record record;
+    size_t at;
+
+    for (at = 0; queued(driver, at, driver->issued, &record); at += record.size)
+        count += record.kind == KGT_GW;
+    return count;
+}
+
 bool driver_write_waits(const struct driver *driver)
 {
     struct kgt_record record;

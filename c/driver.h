@@ -83,6 +83,9 @@ bool driver_run(struct driver *driver);
 size_t driver_waiting(const struct driver *driver);
 size_t driver_issued(const struct driver *driver);
 
+/* Groups issued since the image was opened. */
+uint64_t driver_groups_issued(const struct driver *driver);
+
 /* Confirms if every fence has passed; otherwise fails without the call. */
 bool driver_confirm(struct driver *driver, struct kagutin_reply *reply);
 

@@ -6,16 +6,20 @@
 #include <string.h>
 
 static const char usage[] =
-    "usage: station [--seed N] [--cuts N] [--groups N] [--homes N] [--file PATH] [--keep-cut]\n               [--csv] [--help]\n"
+    "usage: station [--seed N] [--cuts N] [--groups N] [--homes N] [--file PATH] [--keep-cut]\n"
+    "               [--verbose] [--csv] [-h, --help] [--version]\n"
     "Runs a pump station on the store, cuts its power at random and checks what each opening brings back.\n"
     "  --seed N     repeats a run (default 1)\n"
     "  --cuts N     power cuts, 1 to 1000000 (default 300)\n"
     "  --groups N   groups of the log, 4 to 1024 (default 24)\n"
     "  --homes N    home blocks, 16 to 4096 (default 48)\n"
-    "  --file PATH  image file, made if missing, else gone on with; synced (default: a temporary file)\n"
-    "  --keep-cut   with --file: stops after the last cut, before the opening, so that the image can be inspected\n"
+    "  --file PATH  image file, made if missing, else gone on with; synced (default: in memory)\n"
+    "  --keep-cut   with --file: stops after the last cut, before the opening, so that the image can be\n"
+    "               inspected\n"
+    "  --verbose    every cut on a line of its own\n"
     "  --csv        wear sheet as CSV on standard output, all else on standard error\n"
-    "Status: 0 every opening was right, 1 a mismatch, 2 wrong options, 3 trouble with the file or memory.\n";
+    "Status: 0 every opening was right, 1 a mismatch, 2 wrong options, 3 trouble with the file or memory,\n"
+    "4 the image is worn out, 130 interrupted (the report is still printed).\n";
 
 static void usage_error(const char *format, ...)
 {
@@ -42,17 +46,25 @@ static uint64_t number_option(const char *name, const char *text, uint64_t least
     return number;
 }
 
+static void print_and_end(const char *text)
+{
+    fputs(text, stdout);
+    exit(fflush(stdout) == 0 ? EXIT_FINE : EXIT_TROUBLE);
+}
+
 /* Options without a value; false if this is none. */
 static bool read_flag(struct station *station, const char *name)
 {
-    if (strcmp(name, "--help") == 0) {
-        fputs(usage, stdout);
-        exit(fflush(stdout) == 0 ? EXIT_FINE : EXIT_TROUBLE);
-    }
+    if (strcmp(name, "--help") == 0 || strcmp(name, "-h") == 0)
+        print_and_end(usage);
+    if (strcmp(name, "--version") == 0)
+        print_and_end("station (Kagutin) " KAGUTIN_VERSION "\n");
     if (strcmp(name, "--csv") == 0)
         station->csv = true;
     else if (strcmp(name, "--keep-cut") == 0)
         station->keep_cut = true;
+    else if (strcmp(name, "--verbose") == 0)
+        station->verbose = true;
     else
         return false;
     return true;

@@ -5,6 +5,7 @@
 
 #include "calls.h"
 #include "refusals.h"
+#include "report.h"
 #include "tasks.h"
 #include "wear.h"
 
@@ -45,65 +46,68 @@ static void issue_some(struct station *station, uint64_t count)
             station_trouble(station);
 }
 
-static void power_cut(struct station *station, bool opening)
+static void power_cut(struct station *station, bool opening, struct report_cut *cut)
 {
     struct driver *driver = &station->driver;
-    struct counters *counters = &station->counters;
     struct choice choice = {station, (unsigned)station_random(station, 7), 0, 0};
-    struct book_cut cut;
-    size_t waiting, issued, i;
+    uint64_t groups;
 
     issue_some(station, station_random(station, driver_waiting(driver) + 1));
     if (station_random(station, 3))
         while (driver_write_waits(driver))
             issue_some(station, 1);
-    waiting = driver_waiting(driver);
-    issued = driver_issued(driver);
-    choice.one = (size_t)station_random(station, issued);
+    cut->opening = opening;
+    cut->waiting = driver_waiting(driver);
+    cut->issued = driver_issued(driver);
+    groups = driver_groups_issued(driver);
+    choice.one = (size_t)station_random(station, cut->issued);
     if (!driver_cut(driver, lands, &choice))
         station_trouble(station);
-    book_power_cut(&station->book, &cut);
+    cut->persisted = choice.persisted;
+    book_power_cut(&station->book, groups, &cut->book);
     tasks_power_cut(station);
-    counters->cuts++;
-    counters->opening_cuts += opening;
-    counters->kept += (unsigned long)cut.run;
-    counters->lost += (unsigned long)(cut.commits - cut.run);
-    for (i = 0; i < KAGUTIN_WRITERS; i++) {
-        counters->kept_of[i] += (unsigned long)cut.kept_of[i];
-        counters->lost_of[i] += (unsigned long)cut.lost_of[i];
-    }
-    fprintf(station->report,
-            "cut %4lu %-13s %3lu records unissued, %2lu of %2lu since the fence persisted"
-            " | commits %3lu, run %3lu, confirmed %3lu",
-            counters->cuts, opening ? "while opening" : "at work", (unsigned long)waiting,
-            (unsigned long)choice.persisted, (unsigned long)issued, (unsigned long)cut.commits,
-            (unsigned long)cut.run, (unsigned long)cut.confirmed);
-    if (cut.owed_lost) {
-        fputc('\n', station->report);
+    station->opened = false;
+    station->counters.cuts++;
+    station->counters.opening_cuts += opening;
+    report_cut(station, cut);
+    if (cut->book.owed_lost)
         station_mismatch(station, "a commit that was confirmed durable has an entry that did not persist");
-    }
 }
 
-/* Opens until it stays open; power may fail while opening, too. */
-static void power_up(struct station *station, bool may_cut)
+/* Loads and opens once; false if the image is worn out. */
+static bool open_once(struct station *station)
+{
+    if (!driver_load(&station->driver))
+        station_trouble(station);
+    if (refusal_if_worn_out(station))
+        return false;
+    if (station_random(station, 3) == 0)
+        refusal_try_open(station);
+    call_open(station);
+    station->opened = true;
+    return true;
+}
+
+/* Opens until it stays open; power may fail while opening, too. cut: the one before, or null. */
+static void power_up(struct station *station, struct report_cut *cut)
 {
     for (;;) {
         unsigned long replayed = station->counters.replayed;
 
-        if (!driver_load(&station->driver))
-            station_trouble(station);
-        if (station_random(station, 3) == 0)
-            refusal_try_open(station);
-        call_open(station);
-        if (station->counters.cuts == 0 && !wear_fits(station))
+        if (!open_once(station)) {
+            if (cut)
+                report_left(station, cut);
+            return;
+        }
+        if (!cut && !wear_fits(station))
             power_refuse_image(station, "its first homes are no pumps' blocks");
         wear_check(station);
-        if (station->counters.cuts)
-            fprintf(station->report, " | opened: %2lu replayed, homes equal\n",
-                    station->counters.replayed - replayed);
-        if (!may_cut || station->counters.cuts + 1 >= station->cuts || station_random(station, 5))
-            break;
-        power_cut(station, true);
+        if (!cut)
+            return;
+        report_opened(station, cut, station->counters.replayed - replayed);
+        if (station->counters.cuts + 1 >= station->cuts || station_random(station, 5))
+            return;
+        power_cut(station, true, cut);
     }
 }
 
@@ -119,7 +123,7 @@ static void work(struct station *station)
     uint64_t flushes = station_random(station, 2) ? 25 : 200; /* one in so many steps */
 
     station->abort_odds = station_random(station, 3) ? 10 : 2;
-    while (steps-- > 0) {
+    while (steps-- > 0 && !station_stops(station)) {
         tasks_step(station);
         if (station_random(station, flushes * calm) == 0)
             call_flush(station);
@@ -140,17 +144,22 @@ static void work(struct station *station)
 
 void power_run(struct station *station)
 {
-    power_up(station, false);
-    while (station->counters.cuts < station->cuts) {
+    struct report_cut cut;
+
+    power_up(station, NULL);
+    while (station->counters.cuts < station->cuts && !station_stops(station)) {
         work(station);
-        power_cut(station, false);
+        if (station_stops(station))
+            break;
+        power_cut(station, false, &cut);
         if (station->keep_cut && station->counters.cuts == station->cuts) {
-            fputs(" | left unopened\n", station->report);
+            report_left(station, &cut);
             return;
         }
-        power_up(station, true);
-        if (station->counters.cuts % 50 == 0)
-            fflush(station->report);
+        power_up(station, &cut);
     }
+    if (!station->opened)
+        return;
+    tasks_stop(station);
     call_confirm(station); /* leaves an image in which all has persisted */
 }

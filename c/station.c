@@ -1,6 +1,7 @@
 /* What every part of a run needs: numbers at random, and its ends. */
 #include "station.h"
 
+#include <signal.h>
 #include <stdarg.h>
 #include <stdlib.h>
 
@@ -44,4 +45,30 @@ void station_trouble(struct station *station)
     fprintf(stderr, "station: %s\n", driver_message(&station->driver));
     station_free(station);
     exit(EXIT_TROUBLE);
+}
+
+/* ---- interrupts ---- */
+
+static volatile sig_atomic_t interrupted;
+
+static void on_interrupt(int number)
+{
+    interrupted = 1;
+    signal(number, SIG_DFL); /* a second one ends the program at once */
+}
+
+void station_catch_interrupt(void)
+{
+    signal(SIGINT, on_interrupt);
+    signal(SIGTERM, on_interrupt);
+}
+
+bool station_interrupted(void)
+{
+    return interrupted != 0;
+}
+
+bool station_stops(const struct station *station)
+{
+    return interrupted || station->worn_out;
 }

@@ -1,7 +1,7 @@
 /*
  * The state of a station's run, which all its parts share. They build on each
  * other in this order, each including only what stands before it: station,
- * refusals, calls, wear, tasks, power.
+ * report, refusals, calls, wear, tasks, power.
  */
 #ifndef STATION_H
 #define STATION_H
@@ -13,7 +13,7 @@
 
 #define STATION_MIN_HOMES (2 * KAGUTIN_WRITERS)
 
-enum exit_status { EXIT_FINE = 0, EXIT_MISMATCH = 1, EXIT_USAGE = 2, EXIT_TROUBLE = 3 };
+enum exit_status { EXIT_FINE = 0, EXIT_MISMATCH = 1, EXIT_USAGE = 2, EXIT_TROUBLE = 3, EXIT_WORN_OUT = 4, EXIT_INTERRUPTED = 130 };
 
 /* What a task is about to do: stores still to come, then commit or abort. */
 struct task {
@@ -25,8 +25,9 @@ struct task {
 
 struct counters {
     unsigned long calls, refusals, full, reads, commits, aborts, given_up, confirms, trims;
-    unsigned long kept, lost, replayed, cuts, opening_cuts;
-    unsigned long kept_of[KAGUTIN_WRITERS], lost_of[KAGUTIN_WRITERS];
+    unsigned long replayed, cuts, opening_cuts;
+    unsigned long kept[KAGUTIN_WRITERS], lost[KAGUTIN_WRITERS], unissued[KAGUTIN_WRITERS]; /* commits by task */
+    unsigned long left; /* commits in an image that was not opened after its last cut */
 };
 
 struct station {
@@ -39,8 +40,10 @@ struct station {
     unsigned long cuts;
     size_t groups, homes;
     const char *path;
-    bool csv, keep_cut;
-    FILE *report;    /* what was cut and what came back */
+    bool csv, keep_cut, verbose, progress;
+    bool opened;   /* the store is open */
+    bool worn_out; /* the log's start can move no further */
+    FILE *report;  /* what was cut and what came back */
     uint8_t *before; /* the lent memory before a call that must be refused */
 };
 
@@ -52,5 +55,12 @@ void station_mismatch(struct station *station, const char *format, ...);
 void station_trouble(struct station *station);
 
 void station_free(struct station *station);
+
+/* After this an interrupt ends the run at its next step, with its report. */
+void station_catch_interrupt(void);
+bool station_interrupted(void);
+
+/* Is the run to end before its last cut? */
+bool station_stops(const struct station *station);
 
 #endif

@@ -9,7 +9,7 @@
 #include "calls.h"
 #include "options.h"
 #include "power.h"
-#include "rule.h"
+#include "report.h"
 #include "wear.h"
 
 static void on_persisted(void *context, const struct kgt_record *record, uint64_t number)
@@ -25,8 +25,6 @@ static void check_old_image(struct station *station)
 
     if (driver->homes < STATION_MIN_HOMES)
         power_refuse_image(station, "it has fewer than 16 homes");
-    if (rule_number(driver->log + 2, 6) + driver->groups > KAGUTIN_MAX_START)
-        power_refuse_image(station, "its start has reached 2^47");
     if ((station->groups && station->groups != driver->groups)
         || (station->homes && station->homes != driver->homes))
         power_refuse_image(station, "it has other numbers of groups and homes; leave --groups and --homes out");
@@ -57,24 +55,20 @@ static void attach_image(struct station *station)
     }
 }
 
-static void print_totals(const struct station *station)
+static int status_of(const struct station *station)
 {
-    const struct counters *counters = &station->counters;
-
-    fprintf(station->report,
-            "\n%lu power cuts, %lu of them while opening; %lu calls, %lu commits, %lu aborts (%lu in a full log),"
-            " %lu reads, %lu confirms, %lu trims\n"
-            "%lu refused calls left all lent bytes alone, %lu of them because the log was full\n"
-            "%lu commits came back, %lu were cut off; every opening gave exactly the run (seed %llu)\n",
-            counters->cuts, counters->opening_cuts, counters->calls, counters->commits, counters->aborts,
-            counters->given_up, counters->reads, counters->confirms, counters->trims, counters->refusals,
-            counters->full, counters->kept, counters->lost, (unsigned long long)station->seed);
+    if (fflush(stdout) != 0 || ferror(stdout)) {
+        fputs("station: cannot write the output\n", stderr);
+        return EXIT_TROUBLE;
+    }
+    if (station->worn_out)
+        return EXIT_WORN_OUT;
+    return station_interrupted() ? EXIT_INTERRUPTED : EXIT_FINE;
 }
 
 int main(int count, char **words)
 {
     static struct station station;
-    bool written;
 
     station.seed = 1;
     station.cuts = 300;
@@ -84,16 +78,12 @@ int main(int count, char **words)
     station.random = station.seed;
     signal(SIGXFSZ, SIG_IGN); /* a file-size limit then reads as a full disk */
     attach_image(&station);
-    fprintf(station.report, "station: seed %llu, %lu cuts, %lu groups, %lu homes, %s\n",
-            (unsigned long long)station.seed, station.cuts, (unsigned long)station.driver.groups,
-            (unsigned long)station.driver.homes, station.path ? station.path : "temporary file");
+    station_catch_interrupt();
+    report_start(&station);
     power_run(&station);
-    print_totals(&station);
-    if (!station.keep_cut)
+    report_summary(&station);
+    if (station.opened)
         wear_sheet(&station);
     station_free(&station);
-    written = fflush(stdout) == 0 && !ferror(stdout);
-    if (!written)
-        fputs("station: cannot write the output\n", stderr);
-    return written ? EXIT_FINE : EXIT_TROUBLE;
+    return status_of(&station);
 }

@@ -133,3 +133,13 @@ void tasks_power_cut(struct station *station)
 {
     memset(station->tasks, 0, sizeof station->tasks);
 }
+
+void tasks_stop(struct station *station)
+{
+    unsigned writer;
+
+    for (writer = 0; writer < KAGUTIN_WRITERS; writer++)
+        if (station->tasks[writer].open)
+            call_abort(station, writer);
+    memset(station->tasks, 0, sizeof station->tasks);
+}

@@ -8,4 +8,7 @@
 void tasks_step(struct station *station);
 void tasks_power_cut(struct station *station);
 
+/* The run ends: open transactions are given up. */
+void tasks_stop(struct station *station);
+
 #endif

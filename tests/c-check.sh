@@ -102,6 +102,15 @@ gives 0 "station, CSV" "$san/station" --cuts 20 --csv
 [ "$(wc -l < "$tmp/out")" -eq 9 ] && [ "$(head -n 1 "$tmp/out" | cut -d, -f1-4)" = pump,task,starts,run_seconds ]
 report $? "station, CSV: a heading and eight pumps"
 gives 0 "station --help" "$san/station" --help
+gives 0 "station -h" "$san/station" -h
+gives 0 "station --version" "$san/station" --version
+grep -q '^station (Kagutin) [0-9]' "$tmp/out"; report $? "station: says its version"
+gives 0 "station, every cut" "$san/station" --cuts 60 --verbose
+[ "$(grep -c '^ *[0-9]* *\(at work\|opening\) ' "$tmp/out")" -eq 60 ]; report $? "station --verbose: a line for each cut"
+[ "$(awk 'length > 99' "$tmp/out" | wc -l)" -eq 0 ]; report $? "station: no line of 100 columns"
+"$san/station" --cuts 1000000 --csv > "$tmp/out" 2> "$tmp/log" &
+sleep 1; kill -INT $!; wait $!; status=$?
+[ $status -eq 130 ] && [ "$(wc -l < "$tmp/out")" -eq 9 ]; report $? "station interrupted: its sheet is written"
 
 # --- options ---
 says "unknown option" 2 "station --frob" "$san/station" --frob
@@ -125,6 +134,8 @@ gives 0 "station on a new file" "$san/station" --seed 3 --cuts 10 --groups 12 --
 gives 0 "station goes on with it" "$san/station" --seed 4 --cuts 10 --file "$image"
 says "other numbers" 3 "station with another shape" "$san/station" --groups 4 --file "$image"
 gives 0 "station leaves a cut" "$san/station" --seed 11 --cuts 7 --file "$image" --keep-cut
+grep -q 'kept .*came back' "$tmp/out" && grep -q 'in the image' "$tmp/out"
+report $? "and counts what is in it as not opened"
 gives 0 "inspect a sound image" "$san/inspect" "$image"
 grep -q '^commits ([1-9]' "$tmp/out"; report $? "inspect: finds commits"
 grep -q '^the walk stopped: ' "$tmp/out"; report $? "inspect: says why the walk stopped"
@@ -136,6 +147,16 @@ cp "$image" "$tmp/kept.img"
 gives 0 "station opens what the cut left" "$san/station" --seed 5 --cuts 3 --file "$image"
 cp "$tmp/kept.img" "$image"
 size=$(wc -c < "$image")
+
+# --- images near the end of their numbers: 12 groups, so 2^47 - 12 and so on, little-endian ---
+start() { printf "$2" | dd of="$1" bs=1 seek=2 conv=notrunc 2> /dev/null; }
+for bytes in '\364\377\377\377\377\177' '\350\377\377\377\377\177' '\000\000\000\000\000\200'; do
+    rm -f "$tmp/worn.img"
+    quiet "$out/station" --seed 3 --cuts 1 --groups 12 --homes 20 --file "$tmp/worn.img"
+    start "$tmp/worn.img" "$bytes"
+    gives 4 "station on a worn-out image" "$san/station" --seed 3 --cuts 60 --file "$tmp/worn.img"
+    grep -q 'worn out' "$tmp/out"; report $? "and says so"
+done
 
 mkdir "$tmp/folder"
 says "regular file\|directory" 3 "station on a folder" "$san/station" --file "$tmp/folder"
