@@ -143,6 +143,29 @@ gives 0 "inspect --json" "$san/inspect" --json "$image"
 if command -v python3 > /dev/null; then
     quiet python3 -m json.tool "$tmp/out"; report $? "inspect: its JSON is JSON"
 fi
+if command -v python3 > /dev/null; then
+    cp "$image" "$tmp/Pumpenhäuschen.img"
+    "$san/inspect" --json "$tmp/Pumpenhäuschen.img" > "$tmp/out" 2> "$tmp/log"
+    python3 -c 'import json,sys; v = json.load(open(sys.argv[1])); sys.exit(not (v["image"].endswith("/Pumpenhäuschen.img")
+        and len(v["homes"]) == 20 and any(e["comes_back"] for s in v["slots"] for e in s.get("entries", []))))' "$tmp/out" 2>> "$tmp/log"
+    report $? "inspect: a name in UTF-8, every home, entries that come back"
+    bad=$(printf '%s/bad\377name.img' "$tmp"); cp "$image" "$bad"
+    "$san/inspect" --json "$bad" > "$tmp/out" 2> "$tmp/log"
+    quiet python3 -m json.tool "$tmp/out"; report $? "inspect: a name that is no UTF-8"
+fi
+gives 0 "inspect the quick start's image" "$san/inspect" "$tmp/quickstart.img"
+grep -q '^ *7 .*2 starts.*from position' "$tmp/out"; report $? "inspect: a home's value, in text, and where it comes from"
+gives 0 "inspect -h" "$san/inspect" -h
+gives 0 "inspect --version" "$san/inspect" --version
+mkfifo "$tmp/fifo"
+says "not a regular file" 3 "inspect a FIFO" timeout 10 "$san/inspect" "$tmp/fifo"
+says "not a regular file" 3 "station on a FIFO" timeout 10 "$san/station" --file "$tmp/fifo"
+cp "$image" "$tmp/huge.img"
+if dd if=/dev/null of="$tmp/huge.img" bs=1 seek=21474836480 2> /dev/null; then
+    gives 1 "inspect a file of 20 GiB" "$san/inspect" "$tmp/huge.img"
+    grep -q 'file: 21474836480 bytes, more than' "$tmp/out"; report $? "inspect: says its size"
+fi
+rm -f "$tmp/huge.img"
 cp "$image" "$tmp/kept.img"
 gives 0 "station opens what the cut left" "$san/station" --seed 5 --cuts 3 --file "$image"
 cp "$tmp/kept.img" "$image"
