@@ -159,6 +159,7 @@ const char *image_hole(const struct image *image, size_t slot)
     switch (rule_slot_kind(&image->log, slot)) {
     case SLOT_VALID: return NULL;
     case SLOT_ZEROS: return "never written";
+    case SLOT_PART: return "cut off while it was written, its number has not arrived";
     case SLOT_MARK: return "damaged, no group's mark";
     case SLOT_PLACE: return "damaged, its number belongs to another slot";
     case SLOT_TRIMMED: return "trimmed, below the start";

@@ -64,7 +64,7 @@ else
 fi
 
 # --- stack of each call ---
-gives 0 "stack: built" "$cc" -std=c99 -D_GNU_SOURCE -Wall -Wextra -pedantic -O2 -Iinclude tests/stack.c "$lib" -o "$tmp/stack"
+gives 0 "stack: built" "$cc" -std=c99 -D_GNU_SOURCE -Wall -Wextra -pedantic -O2 -Iinclude tests/stack.c "$lib" ${C_LIBS:-} -o "$tmp/stack"
 gives 0 "stack: every call below 32 KiB" "$tmp/stack"
 
 # --- quick start, driver, station ---
@@ -79,6 +79,9 @@ gives 0 "store: the same under sanitizers, every 17 bytes" "$san/store_check" 17
 gives 0 "files: written and mapped, stopped inside writes, locks, failures" "$san/file_check" "$fast"
 gives 0 "FRAM: power gone after every byte" "$out/fram_check" 1
 gives 0 "FRAM: under sanitizers" "$san/fram_check" 13
+objects="c/store/store.c c/store/batch.c c/store/memory.c"
+gives 0 "tasks: built" "$cc" -std=c99 -O1 -g -fsanitize=thread $strict tests/tasks_check.c $objects "$lib" ${C_LIBS:-} -pthread -o "$tmp/tasks"
+gives 0 "tasks: eight threads under a lock, no race" "$tmp/tasks"
 gives 0 "300 kills of a process at work" "$out/kill_check" "$fast/kills.img" 300 1
 gives 0 "40 kills on this disk, under sanitizers" "$san/kill_check" "$tmp/kills.img" 40 2
 if mkdir "$tmp/disk" && mount -t tmpfs -o size=16k none "$tmp/disk" 2> /dev/null; then
@@ -155,6 +158,9 @@ if command -v python3 > /dev/null; then
 fi
 gives 0 "inspect the quick start's image" "$san/inspect" "$tmp/quickstart.img"
 grep -q '^ *7 .*2 starts.*from position' "$tmp/out"; report $? "inspect: a home's value, in text, and where it comes from"
+printf 'torn' | dd of="$tmp/quickstart.img" bs=1 seek=$((64 + 512 * 9 + 70)) conv=notrunc 2> /dev/null
+gives 0 "inspect a group cut off before its number arrived" "$san/inspect" "$tmp/quickstart.img"
+grep -q 'its number has not arrived' "$tmp/out"; report $? "inspect: says so"
 gives 0 "inspect -h" "$san/inspect" -h
 gives 0 "inspect --version" "$san/inspect" --version
 mkfifo "$tmp/fifo"
