@@ -5,7 +5,7 @@
 # c-sanitize                     the same with address and undefined-behaviour sanitizers, in target/c/sanitize
 # c-check                        tests of all of these
 # c-kills                        longer: KILLS kills of a process at work, on this disk
-# c-dist                         the store object's headers and sources into dist/
+# c-dist                         headers and sources of the store object and its drivers into DIST
 # install, uninstall             headers, libraries and kagutin.pc, under DESTDIR and PREFIX
 
 LIB ?= target/staticlib/libkagutin.a
@@ -92,9 +92,12 @@ $(STORE_LIB): $(C_STORE:%=$(C_OUT)/%.o)
 
 C_PUBLIC = kagutin kagutin_store kagutin_file kagutin_memory kagutin_fram
 
-c-dist: $(C_PUBLIC:%=include/%.h) $(C_STORE:%=c/%.c) c/store/file_inner.h
-	install -d dist
-	install -m 644 $^ dist
+# c/store/NAME.c becomes kagutin_NAME.c there; all headers and sources of dist/ stand in one folder.
+DIST ?= dist
+c-dist: $(C_PUBLIC:%=include/%.h) $(C_STORE:%=c/%.c)
+	install -d $(DIST)
+	install -m 644 $(C_PUBLIC:%=include/%.h) c/store/kagutin_file_inner.h $(DIST)
+	for name in $(C_STORE:store/%=%); do install -m 644 c/store/$$name.c $(DIST)/kagutin_$$name.c; done
 
 install: $(LIB) $(STORE_LIB) $(C_PUBLIC:%=include/%.h) kagutin.pc.in
 	install -d $(DESTDIR)$(PREFIX)/include $(DESTDIR)$(PREFIX)/lib/pkgconfig

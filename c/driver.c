@@ -132,7 +132,8 @@ bool driver_write_waits(const struct driver *driver)
 
 /* ---- lasting memory ---- */
 
-bool driver_fail_for_good(struct driver *driver, int error)
+/* Lasting memory has failed: from now on every function that needs it does. */
+static bool fail_for_good(struct driver *driver, int error)
 {
     driver->failed = true;
     if (driver->file.message[0])
@@ -160,7 +161,7 @@ static bool persist_issued(struct driver *driver, bool (*lands)(void *, size_t),
     }
     if (!error)
         error = kgt_run_fence(&driver->runner);
-    return error ? driver_fail_for_good(driver, error) : true;
+    return error ? fail_for_good(driver, error) : true;
 }
 
 bool driver_step(struct driver *driver)
@@ -232,5 +233,5 @@ bool driver_load(struct driver *driver)
     error = lasting->load(lasting->context, KGT_LOG, 0, driver->log, driver->log_size);
     if (!error)
         error = lasting->load(lasting->context, KGT_HOMES, 0, driver->area, driver->area_size);
-    return error ? driver_fail_for_good(driver, error) : true;
+    return error ? fail_for_good(driver, error) : true;
 }

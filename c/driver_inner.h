@@ -7,7 +7,4 @@
 /* Leaves a message and returns false. */
 bool driver_fail(struct driver *driver, const char *format, ...);
 
-/* The same for good: lasting memory has failed with this error. */
-bool driver_fail_for_good(struct driver *driver, int error);
-
 #endif

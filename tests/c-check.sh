@@ -7,7 +7,8 @@ san=$out/sanitize
 cc=${CC:-cc}
 lib=${LIB:-target/staticlib/libkagutin.a}
 tmp=$(mktemp -d) || exit 1
-trap 'rm -rf "$tmp"' EXIT
+fast=$tmp
+trap 'umount "$tmp/disk" 2> /dev/null; rm -rf "$tmp" "$fast"' EXIT
 passed=0
 failed=0
 
@@ -40,10 +41,8 @@ says() {
 quiet() { "$@" > /dev/null 2>&1; }
 
 # Scratch images on a memory disk, if there is one: syncs cost nothing there.
-fast=$tmp
 if [ -d /dev/shm ] && [ -w /dev/shm ]; then
     fast=$(mktemp -d /dev/shm/kagutin.XXXXXX) || exit 1
-    trap 'rm -rf "$tmp" "$fast"' EXIT
 fi
 
 # --- headers and the store's sources ---
@@ -245,6 +244,11 @@ if command -v valgrind > /dev/null; then
 else
     echo "skipped memcheck: valgrind is not installed"
 fi
+
+# --- the sources of the object in one folder, and a program built from them ---
+gives 0 "make c-dist" "${MAKE:-make}" -f c.mk DIST="$tmp/dist" c-dist
+gives 0 "build from that folder" "$cc" -std=c99 -I"$tmp/dist" c/quickstart.c "$tmp"/dist/kagutin_*.c "$lib" ${C_LIBS:-} -o "$tmp/from-dist"
+gives 0 "run it" "$tmp/from-dist" "$tmp/from-dist.img"
 
 # --- install, and a program outside built against it ---
 gives 0 "make install" "${MAKE:-make}" -f c.mk LIB="$lib" C_LIBS="${C_LIBS:-}" DESTDIR="$tmp/root" PREFIX=/opt/kagutin install

@@ -2,7 +2,7 @@
 #define _DEFAULT_SOURCE 1
 #define _POSIX_C_SOURCE 200809L
 
-#include "file_inner.h"
+#include "kagutin_file_inner.h"
 
 #include <errno.h>
 #include <fcntl.h>

@@ -1,7 +1,7 @@
 /* Reading, writing and syncing image files. */
 #define _DEFAULT_SOURCE 1
 
-#include "file_inner.h"
+#include "kagutin_file_inner.h"
 
 #include <errno.h>
 #include <stdarg.h>

@@ -1,6 +1,6 @@
 /* Shared by the two files of the file driver. */
-#ifndef FILE_INNER_H
-#define FILE_INNER_H
+#ifndef KAGUTIN_FILE_INNER_H
+#define KAGUTIN_FILE_INNER_H
 
 #include "kagutin_file.h"
 
