@@ -66,6 +66,10 @@ fi
 gives 0 "stack: built" "$cc" -std=c99 -D_GNU_SOURCE -Wall -Wextra -pedantic -O2 -Iinclude tests/stack.c "$lib" ${C_LIBS:-} -o "$tmp/stack"
 gives 0 "stack: every call below 32 KiB" "$tmp/stack"
 
+# --- no heap in the object; nm prints what it calls ---
+quiet sh -c "nm -u $out/store/store.o $out/store/batch.o $out/store/fram.o | grep -E 'alloc|free'"
+[ $? -ne 0 ]; report $? "the object and the FRAM driver use no heap"
+
 # --- quick start, driver, station ---
 gives 0 "quick start" "$san/quickstart" "$tmp/quickstart.img"
 gives 0 "quick start again" "$san/quickstart" "$tmp/quickstart.img"

@@ -22,7 +22,12 @@ enum { GROUPS = 6, HOMES = 12 };
 static uint8_t memory[KGT_MEMORY_SIZE(GROUPS, HOMES)];
 static struct kgt_file file;
 static struct kagutin store;
-static struct play *play; /* shared with the process that is killed */
+/* Shared with the process that is killed. */
+static struct shared {
+    volatile bool ready; /* its opening is done */
+    struct play play;
+} *shared;
+static struct play *play;
 
 static void check(bool right, const char *what, unsigned long at)
 {
@@ -44,6 +49,7 @@ static void work_until_killed(const char *path, bool mapped, uint64_t seed)
     if (!open_store(path, mapped))
         _exit(1);
     play->random = seed;
+    shared->ready = true;
     if (!play_work(play, 1000000))
         _exit(1);
     for (;;)
@@ -59,9 +65,19 @@ static void wait_some(uint64_t microseconds)
     nanosleep(&time, NULL);
 }
 
+/* In one half of the rounds power also fails while the process opens the image. */
+static void wait_for_kill(struct play *chance)
+{
+    unsigned tries = play_random(chance, 2) ? 20000 : 0;
+
+    while (tries-- > 0 && !shared->ready)
+        wait_some(100);
+    wait_some(play_random(chance, play_random(chance, 2) ? 1000 : 16000));
+}
+
 int main(int count, char **words)
 {
-    unsigned long kills, kill_count, commits = 0;
+    unsigned long kills, kill_count;
     struct play chance;
     int status;
 
@@ -70,27 +86,29 @@ int main(int count, char **words)
         return 2;
     }
     kills = strtoul(words[2], NULL, 10);
-    play = (struct play *)mmap(NULL, sizeof *play, PROT_READ | PROT_WRITE, MAP_SHARED | MAP_ANONYMOUS, -1, 0);
-    if (play == MAP_FAILED || !kgt_file_create(&file, words[1], GROUPS, HOMES)) {
+    shared = (struct shared *)mmap(NULL, sizeof *shared, PROT_READ | PROT_WRITE, MAP_SHARED | MAP_ANONYMOUS, -1, 0);
+    if (shared == MAP_FAILED || !kgt_file_create(&file, words[1], GROUPS, HOMES)) {
         fprintf(stderr, "kill_check: %s\n", file.message);
         return 3;
     }
     kgt_file_close(&file);
+    play = &shared->play;
     play_start(play, &store, HOMES, 0);
     play_start(&chance, NULL, 1, strtoull(words[3], NULL, 10));
     for (kill_count = 0; kill_count < kills; kill_count++) {
         bool mapped = kill_count % 2 != 0;
-        pid_t child = fork();
+        pid_t child;
 
+        shared->ready = false;
+        child = fork();
         if (child == 0)
             work_until_killed(words[1], mapped, play_random(&chance, UINT64_MAX) + kill_count);
-        wait_some(play_random(&chance, play_random(&chance, 2) ? 1000 : 16000));
+        wait_for_kill(&chance);
         check(child > 0 && kill(child, SIGKILL) == 0 && waitpid(child, &status, 0) == child, "a process", kill_count);
         check(WIFSIGNALED(status), "the process stopped by itself", kill_count);
         check(open_store(words[1], !mapped) && play_opened(play), "an opening", kill_count);
         kgt_file_close(&file);
     }
-    commits = (unsigned long)play->committed;
-    printf("kill_check: right, %lu kills, %lu commits\n", kills, commits);
+    printf("kill_check: right, %lu kills, %llu commits\n", kills, (unsigned long long)play->committed);
     return 0;
 }
