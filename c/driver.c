@@ -141,8 +141,29 @@ static bool fail_for_good(struct driver *driver, int error)
     return driver_fail(driver, "lasting memory failed with error %d", error);
 }
 
-/* Persists the issued writes that lands() picks, all if it is null. */
-static bool persist_issued(struct driver *driver, bool (*lands)(void *, size_t), void *context)
+/* Whom a power cut asks what persists; null: everything does. */
+struct choices {
+    bool (*lands)(void *context, size_t index);
+    size_t (*tears)(void *context, size_t most);
+    void *context;
+};
+
+/* Writes the part of a group or home that arrives though the write as a whole does not. */
+static int tear(struct driver *driver, const struct choices *choices, const struct kgt_record *record)
+{
+    const struct kgt_driver *lasting = &driver->runner.driver;
+    bool group = record->kind == KGT_GW;
+    size_t skip = group ? 8 : 0, most = (group ? KAGUTIN_GROUP_SIZE : KAGUTIN_BLOCK_SIZE) - skip, size;
+
+    if (record->kind == KGT_KW || !choices->tears)
+        return 0;
+    size = choices->tears(choices->context, most) / 8 * 8;
+    if (group)
+        return lasting->write(lasting->context, KGT_LOG, KGT_LOG_SIZE(record->place) + skip, record->bytes + skip, size);
+    return lasting->write(lasting->context, KGT_HOMES, KGT_HOMES_SIZE(record->place), record->bytes, size);
+}
+
+static bool persist_issued(struct driver *driver, const struct choices *choices)
 {
     size_t at, index = 0;
     struct kgt_record record;
@@ -153,8 +174,10 @@ static bool persist_issued(struct driver *driver, bool (*lands)(void *, size_t),
     for (at = 0; !error && queued(driver, at, driver->issued, &record); at += record.size, index++) {
         uint64_t number = record.kind == KGT_GW ? driver->first_group++ : 0;
 
-        if (lands && !lands(context, index))
+        if (choices && !choices->lands(choices->context, index)) {
+            error = tear(driver, choices, &record);
             continue;
+        }
         error = kgt_run_record(&driver->runner, &record);
         if (!error && driver->persisted)
             driver->persisted(driver->context, &record, number);
@@ -175,7 +198,7 @@ bool driver_step(struct driver *driver)
         driver->issued += record.size;
         return true;
     }
-    if (!persist_issued(driver, NULL, NULL))
+    if (!persist_issued(driver, NULL))
         return false;
     passed = driver->issued + record.size;
     memmove(driver->queue, driver->queue + passed, driver->queue_size - passed);
@@ -204,12 +227,14 @@ bool driver_confirm(struct driver *driver, struct kagutin_reply *reply)
     return true;
 }
 
-bool driver_cut(struct driver *driver, bool (*lands)(void *context, size_t index), void *context)
+bool driver_cut(struct driver *driver, bool (*lands)(void *context, size_t index),
+                size_t (*tears)(void *context, size_t most), void *context)
 {
+    struct choices choices = {lands, tears, context};
     struct kgt_record record;
     size_t at;
 
-    if (!persist_issued(driver, lands, context))
+    if (!persist_issued(driver, &choices))
         return false;
     for (at = driver->issued; queued(driver, at, driver->queue_size, &record); at += record.size)
         driver->first_group += record.kind == KGT_GW;

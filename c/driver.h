@@ -92,8 +92,13 @@ bool driver_confirm(struct driver *driver, struct kagutin_reply *reply);
 /*
  * Power cut: of the issued writes those that lands() picks persist, the other
  * records are gone. The copies and the state are filled with noise.
+ *
+ * Of a group or home that is gone the first bytes that tears() allows arrive
+ * all the same, but for the group's first word: words land whole, and that one
+ * is written last. Null: none.
  */
-bool driver_cut(struct driver *driver, bool (*lands)(void *context, size_t index), void *context);
+bool driver_cut(struct driver *driver, bool (*lands)(void *context, size_t index),
+                size_t (*tears)(void *context, size_t most), void *context);
 
 /* Releases everything. Records not yet persisted are gone, as in a cut. */
 void driver_close(struct driver *driver);

@@ -21,6 +21,7 @@ struct choice {
     struct station *station;
     unsigned mode;
     size_t one, persisted;
+    bool torn;
 };
 
 static bool lands(void *context, size_t index)
@@ -39,6 +40,14 @@ static bool lands(void *context, size_t index)
     return picked;
 }
 
+/* In every other cut writes that do not land leave torn blocks behind. */
+static size_t tears(void *context, size_t most)
+{
+    struct choice *choice = context;
+
+    return choice->torn ? (size_t)station_random(choice->station, most + 8) : 0;
+}
+
 static void issue_some(struct station *station, uint64_t count)
 {
     while (count-- > 0)
@@ -49,7 +58,7 @@ static void issue_some(struct station *station, uint64_t count)
 static void power_cut(struct station *station, bool opening, struct report_cut *cut)
 {
     struct driver *driver = &station->driver;
-    struct choice choice = {station, (unsigned)station_random(station, 7), 0, 0};
+    struct choice choice = {station, (unsigned)station_random(station, 7), 0, 0, false};
     uint64_t groups;
 
     issue_some(station, station_random(station, driver_waiting(driver) + 1));
@@ -61,7 +70,8 @@ static void power_cut(struct station *station, bool opening, struct report_cut *
     cut->issued = driver_issued(driver);
     groups = driver_groups_issued(driver);
     choice.one = (size_t)station_random(station, cut->issued);
-    if (!driver_cut(driver, lands, &choice))
+    choice.torn = station_random(station, 2) != 0;
+    if (!driver_cut(driver, lands, tears, &choice))
         station_trouble(station);
     cut->persisted = choice.persisted;
     book_power_cut(&station->book, groups, &cut->book);

@@ -144,6 +144,7 @@ void report_summary(struct station *station)
         print_verbose_legend(station->report);
     fprintf(station->report, "\n%lu power cuts, %lu of them while opening: every opening gave exactly the commits kept.\n",
             counters->cuts, counters->opening_cuts);
+    fputs("In every other cut, chosen at random, groups and homes that did not arrive were left torn.\n", station->report);
     if (station_interrupted())
         fprintf(station->report, "Interrupted, %lu cuts were asked for.\n", station->cuts);
     if (station->worn_out)
