@@ -104,7 +104,7 @@ static void print_commits(const struct station *station)
     fprintf(report, "  # %8lu kept          came back at the opening after the cut\n", kept);
     fprintf(report, "  - %8lu lost          on the way to lasting memory; it, or one before it, did not arrive whole\n", lost);
     fprintf(report, "  . %8lu never issued  the driver had not begun to write all of it\n", unissued);
-    if (counters->left)
+    if (!station->opened)
         fprintf(report, "    %8lu in the image  it was not opened after its last cut; an opening brings them back\n",
                 counters->left);
     if (station->book.commit_count)
