@@ -2,21 +2,15 @@
 
 -- Bytes, tags, the log's header and groups, the homes: laws of specs/Bytes, Tag and Layout.
 pub mod bytes
-
 -- What a call is lent: batches, the state strip, question 2, the questions and their answers.
 pub mod strip
-
 -- The commit rule in the forms that the code's loops take: by the last closing entry, by counts, by newest entries.
 pub mod rule
-
 -- Which writes persist at a crash; what has been logged, as a ghost history; what the commit rule finds in what persisted: the longest prefix of its commits.
 pub mod trace
-
 -- What holds at every moment of a history, of memory and of strip and copies, and how it carries over when the log grows, a fence passes or an opening comes.
 pub mod invariant
-
 -- Each call and each crash keeps the invariant.
 pub mod steps
-
 -- The claims: demands 2 and 3, the facts stated in passing, the trials and the witnesses.
 pub mod claims

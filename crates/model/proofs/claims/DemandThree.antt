@@ -13,7 +13,7 @@ use Rattle.model.specs.Calls.{sizeOf, settleCall, trimCall}
 use Rattle.model.specs.Crash.{fences, persist, fates}
 use Rattle.model.specs.Book.{Commit, Book, run, ended, crash}
 use Rattle.model.specs.Demands.{Opened, Crashed, NoneOwed, lost, Holds, AllHold, CallHolds, Demand3}
-use Rattle.model.specs.History.{Call, opening, begin, abort, store, commit, flush, confirm, settle, trim, read, Event, call, crash as cut, World, afterFormat, lent, ends, isOpening, step, afterCrash, Allowed, AllAllowed}
+use Rattle.model.specs.History.{Change, begins, aborts, stores, commits, flushes, Service, settles, trims, reads, Call, opening, confirm, change, service, settle, trim, Event, call, crash as cut, World, afterFormat, lent, ends, serviceEnds, isOpening, step, afterCrash, Allowed, AllAllowed}
 use Rattle.model.proofs.strip.QuestionLaws.{settle-ready, trim-ready}
 use Rattle.model.proofs.steps.DoneLaws.{after, fits}
 use Rattle.model.proofs.steps.Beginning.{format-closed}
@@ -26,7 +26,7 @@ use Rattle.model.proofs.invariant.Invariant.{Sizes, Closed, Running, In
 
 module _ (G D : ℕ) (z : Sizes G D) where
   settle-keeps : (w : World) → Running G D w → (batch : List ℕ) → Running G D (step w (call (settle batch)))
-  unfolding ends settleCall
+  unfolding ends serviceEnds settleCall
   settle-keeps w r batch =
       let g : Given = lent w [] batch 0 0 in
       by-answer (Running G D) w (settle batch) g (settleAnswer g (sizeOf (settleEffect g))) (settleEffect g) refl r
@@ -37,7 +37,7 @@ module _ (G D : ℕ) (z : Sizes G D) where
       })
 
   trim-keeps : (w : World) → Running G D w → (batch : List ℕ) → Running G D (step w (call (trim batch)))
-  unfolding ends trimCall
+  unfolding ends serviceEnds trimCall
   trim-keeps w r batch =
       let g : Given = lent w [] batch 0 0 in
       let s : ℕ = trimStart g in
@@ -51,45 +51,39 @@ module _ (G D : ℕ) (z : Sizes G D) where
       })
 
   -- after an opening is done every call but another opening keeps the invariant
+  change-keeps : (w : World) → Running G D w → (c : Change) → Running G D (step w (call (change c)))
+  change-keeps w r (begins v) = begin-keeps G D z w r v
+  change-keeps w r (aborts v) = abort-keeps G D z w r v
+  change-keeps w r (stores v home block batch) = store-keeps G D z w r v home block batch
+  change-keeps w r (commits v batch) = commit-keeps G D z w r v batch
+  change-keeps w r (flushes batch) = flush-keeps G D z w r batch
+
+  service-keeps : (w : World) → Running G D w → (c : Service) → Running G D (step w (call (service c)))
+  service-keeps w r (settles batch) = settle-keeps w r batch
+  service-keeps w r (trims batch) = trim-keeps w r batch
+  service-keeps w r (reads v home block) = read-keeps G D z w r v home block
+
   call-keeps : (w : World) → Running G D w → (c : Call) → isOpening c ≡ false → Running G D (step w (call c))
   unfolding isOpening
   call-keeps w r (opening state batch) e = absurd (false≢true (sym e))
-  call-keeps w r (begin v) e = begin-keeps G D z w r v
-  call-keeps w r (abort v) e = abort-keeps G D z w r v
-  call-keeps w r (store v home block batch) e = store-keeps G D z w r v home block batch
-  call-keeps w r (commit v batch) e = commit-keeps G D z w r v batch
-  call-keeps w r (flush batch) e = flush-keeps G D z w r batch
   call-keeps w r confirm e = confirm-keeps G D z w r
-  call-keeps w r (settle batch) e = settle-keeps w r batch
-  call-keeps w r (trim batch) e = trim-keeps w r batch
-  call-keeps w r (read v home block) e = read-keeps G D z w r v home block
+  call-keeps w r (change c) e = change-keeps w r c
+  call-keeps w r (service c) e = service-keeps w r c
 
   -- before, only an opening is allowed
   opening-keeps : (w : World) → Closed G D w → (c : Call) → isOpening c ≡ true → Invariant G D (step w (call c)) × CallHolds w c (ends w c)
   unfolding isOpening
   opening-keeps w k (opening state batch) e = (open-keeps G D z w k state batch, open-holds G D z w k state batch)
-  opening-keeps w k (begin v) e = absurd (false≢true e)
-  opening-keeps w k (abort v) e = absurd (false≢true e)
-  opening-keeps w k (store v home block batch) e = absurd (false≢true e)
-  opening-keeps w k (commit v batch) e = absurd (false≢true e)
-  opening-keeps w k (flush batch) e = absurd (false≢true e)
   opening-keeps w k confirm e = absurd (false≢true e)
-  opening-keeps w k (settle batch) e = absurd (false≢true e)
-  opening-keeps w k (trim batch) e = absurd (false≢true e)
-  opening-keeps w k (read v home block) e = absurd (false≢true e)
+  opening-keeps w k (change c) e = absurd (false≢true e)
+  opening-keeps w k (service c) e = absurd (false≢true e)
 
   nothing-asked : (w : World) (c : Call) → isOpening c ≡ false → CallHolds w c (ends w c)
   unfolding isOpening
   nothing-asked w (opening state batch) e = absurd (false≢true (sym e))
-  nothing-asked w (begin v) e = tt
-  nothing-asked w (abort v) e = tt
-  nothing-asked w (store v home block batch) e = tt
-  nothing-asked w (commit v batch) e = tt
-  nothing-asked w (flush batch) e = tt
   nothing-asked w confirm e = tt
-  nothing-asked w (settle batch) e = tt
-  nothing-asked w (trim batch) e = tt
-  nothing-asked w (read v home block) e = tt
+  nothing-asked w (change c) e = tt
+  nothing-asked w (service c) e = tt
 
   pub keeps : (w : World) → Invariant G D w → (e : Event) → Allowed w e → Invariant G D (step w e) × Holds w e
   keeps w (inl k) (call c) a = opening-keeps w k c (a ∙ ap not (k .ready))

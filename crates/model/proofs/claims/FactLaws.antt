@@ -20,7 +20,7 @@ use Rattle.model.specs.Calls.{outcome, sizeOf, openCall, beginCall, abor
 use Rattle.model.specs.Book.{homesAfter}
 use Rattle.model.specs.Demands.{groupWrites}
 use Rattle.model.specs.Facts.{slotWritten, headerWritten, writtenOnce, FormatOnce, PendingOnce, RowsWritten}
-use Rattle.model.specs.History.{Call, opening, begin, abort, store, commit, flush, confirm, settle, trim, read, Event, call, crash, World, afterFormat, lent, loaded, ends, isOpening, afterCrash, step, after as along, Allowed, AllAllowed}
+use Rattle.model.specs.History.{Change, begins, aborts, stores, commits, flushes, Service, settles, trims, reads, change, service, changeEnds, serviceEnds, Call, opening, begin, abort, store, commit, flush, confirm, settle, trim, read, Event, call, crash, World, afterFormat, lent, loaded, ends, isOpening, afterCrash, step, after as along, Allowed, AllAllowed}
 use Rattle.model.proofs.bytes.LayoutLaws.{length-groupAt, group-fits, length-header}
 use Rattle.model.proofs.strip.BatchLaws.{AllFormed, formed-append}
 use Rattle.model.proofs.strip.QuestionLaws.{open-ready, store-ready, commit-ready, flush-ready, settle-ready, trim-ready}
@@ -197,7 +197,7 @@ module _ (G D : ℕ) (z : Sizes G D) (w : World) (r : Running G D w) where
         (λ o. record { formed = none-formed (e .records) n; fit = no-bytes g e n; next = rw n (rw (append-nil (w .pending)) h) })
 
     store-once : (v home : ℕ) (block batch : List ℕ) → Once (step w (call (store v home block batch)))
-    unfolding ends storeCall
+    unfolding ends changeEnds storeCall
     store-once v home block batch =
         let g : Given = lent w block batch v home in
         let e : Effect = storeEffect g in
@@ -210,7 +210,7 @@ module _ (G D : ℕ) (z : Sizes G D) (w : World) (r : Running G D w) where
         })
 
     commit-once : (v : ℕ) (batch : List ℕ) → Once (step w (call (commit v batch)))
-    unfolding ends commitCall
+    unfolding ends changeEnds commitCall
     commit-once v batch =
         let g : Given = lent w [] batch v 0 in
         let e : Effect = commitEffect g in
@@ -223,7 +223,7 @@ module _ (G D : ℕ) (z : Sizes G D) (w : World) (r : Running G D w) where
         })
 
     flush-once : (batch : List ℕ) → Once (step w (call (flush batch)))
-    unfolding ends flushCall
+    unfolding ends changeEnds flushCall
     flush-once batch =
         let g : Given = lent w [] batch 0 0 in
         let e : Effect = flushEffect g in
@@ -236,7 +236,7 @@ module _ (G D : ℕ) (z : Sizes G D) (w : World) (r : Running G D w) where
         })
 
     settle-once : (batch : List ℕ) → Once (step w (call (settle batch)))
-    unfolding ends settleCall
+    unfolding ends serviceEnds settleCall
     settle-once batch =
         let g : Given = lent w [] batch 0 0 in
         let e : Effect = settleEffect g in
@@ -251,7 +251,7 @@ module _ (G D : ℕ) (z : Sizes G D) (w : World) (r : Running G D w) where
         settle-adds g = (unfold settleEffect touched in once-fenced _ (once-homes _ _ (homes g)))
 
     trim-once : (batch : List ℕ) → Once (step w (call (trim batch)))
-    unfolding ends trimCall
+    unfolding ends serviceEnds trimCall
     trim-once batch =
         let g : Given = lent w [] batch 0 0 in
         let s : ℕ = trimStart g in
@@ -270,26 +270,32 @@ module _ (G D : ℕ) (z : Sizes G D) (w : World) (r : Running G D w) where
             go true = (unfold newState in once-none)
             go false = (unfold trimTo in once-fenced (KW (header s (groups g) (homes g)) ∷ []) (once-header (header s (groups g) (homes g))))
 
+    change-once : (c : Change) → Once (step w (call (change c)))
+    change-once (begins v) =
+        (unfold ends changeEnds beginCall in
+        quiet (begin v) (lent w [] [] v 0) (beginAnswer (lent w [] [] v 0)) (beginEffect (lent w [] [] v 0)) refl (unfold beginEffect newState in refl))
+    change-once (aborts v) =
+        (unfold ends changeEnds abortCall in
+        quiet (abort v) (lent w [] [] v 0) (abortAnswer (lent w [] [] v 0)) (abortEffect (lent w [] [] v 0)) refl (unfold abortEffect newState in refl))
+    change-once (stores v home block batch) = store-once v home block batch
+    change-once (commits v batch) = commit-once v batch
+    change-once (flushes batch) = flush-once batch
+
+    service-once : (c : Service) → Once (step w (call (service c)))
+    service-once (settles batch) = settle-once batch
+    service-once (trims batch) = trim-once batch
+    service-once (reads v home block) =
+        (unfold ends serviceEnds readCall in
+        quiet (read v home block) (lent w block [] v home) (readAnswer (lent w block [] v home)) (readEffect (lent w block [] v home)) refl (unfold readEffect in refl))
+
     pub call-once : (c : Call) → isOpening c ≡ false → Once (step w (call c))
     unfolding isOpening
     call-once (opening state batch) e = absurd (false≢true (sym e))
-    call-once (begin v) e =
-        (unfold ends beginCall in
-        quiet (begin v) (lent w [] [] v 0) (beginAnswer (lent w [] [] v 0)) (beginEffect (lent w [] [] v 0)) refl (unfold beginEffect newState in refl))
-    call-once (abort v) e =
-        (unfold ends abortCall in
-        quiet (abort v) (lent w [] [] v 0) (abortAnswer (lent w [] [] v 0)) (abortEffect (lent w [] [] v 0)) refl (unfold abortEffect newState in refl))
-    call-once (store v home block batch) e = store-once v home block batch
-    call-once (commit v batch) e = commit-once v batch
-    call-once (flush batch) e = flush-once batch
     call-once confirm e =
         (unfold ends confirmCall in
         quiet confirm (lent w [] [] 0 0) (confirmAnswer (lent w [] [] 0 0)) (confirmEffect (lent w [] [] 0 0)) refl (unfold confirmEffect newState in refl))
-    call-once (settle batch) e = settle-once batch
-    call-once (trim batch) e = trim-once batch
-    call-once (read v home block) e =
-        (unfold ends readCall in
-        quiet (read v home block) (lent w block [] v home) (readAnswer (lent w block [] v home)) (readEffect (lent w block [] v home)) refl (unfold readEffect in refl))
+    call-once (change c) e = change-once c
+    call-once (service c) e = service-once c
 
 -- ---- openings
 
@@ -326,15 +332,9 @@ module _ (G D : ℕ) (z : Sizes G D) where
   closed-once : (w : World) → Closed G D w → Once w → (c : Call) → isOpening c ≡ true → Once (step w (call c))
   unfolding isOpening
   closed-once w k h (opening state batch) e = opening-once G D z w k state batch h
-  closed-once w k h (begin v) e = absurd (false≢true e)
-  closed-once w k h (abort v) e = absurd (false≢true e)
-  closed-once w k h (store v home block batch) e = absurd (false≢true e)
-  closed-once w k h (commit v batch) e = absurd (false≢true e)
-  closed-once w k h (flush batch) e = absurd (false≢true e)
   closed-once w k h confirm e = absurd (false≢true e)
-  closed-once w k h (settle batch) e = absurd (false≢true e)
-  closed-once w k h (trim batch) e = absurd (false≢true e)
-  closed-once w k h (read v home block) e = absurd (false≢true e)
+  closed-once w k h (change c) e = absurd (false≢true e)
+  closed-once w k h (service c) e = absurd (false≢true e)
 
   pub once-keeps : (w : World) → Invariant G D w → Once w → (e : Event) → Allowed w e → Once (step w e)
   once-keeps w (inl k) h (call c) a = closed-once w k h c (a ∙ ap not (k .ready))

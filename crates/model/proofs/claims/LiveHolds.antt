@@ -20,7 +20,7 @@ use Rattle.model.specs.Questions.{writerKnown, homeKnown, readAnswer}
 use Rattle.model.specs.Calls.{Outcome, done, readCall}
 use Rattle.model.specs.Book.{Entry, Commit, Task, homesAfter, newestEntry, heldOr, ownOr, reads}
 use Rattle.model.specs.Demands.{contents, eachContents, foundIn, heldEntries, untrimmed, closedBelow, Live}
-use Rattle.model.specs.History.{World, lent, ends, read}
+use Rattle.model.specs.History.{World, lent, ends, read, serviceEnds}
 use Rattle.model.proofs.bytes.LayoutLaws.{groups-in}
 use Rattle.model.proofs.strip.OrderLaws.{order-in}
 use Rattle.model.proofs.strip.QuestionLaws.{read-ready}
@@ -256,7 +256,7 @@ module _ (G D : ℕ) (z : Sizes G D) (w : World) (r : Running G D w) where
       (ltb-true h D (rw (lent-homes G D (r .b) (r .tr) w z (r .copies) block [] v h) at d))
 
   pub read-yields : (v h : ℕ) (block : List ℕ) → ends w (read v h block) .code ≡ 0 → ends w (read v h block) .block ≡ reads (w .homes) (w .book) v h
-  unfolding ends readCall done readEffect
+  unfolding ends serviceEnds readCall done readEffect
   read-yields v h block e =
       let g : Given = lent w block [] v h in
       let a : readAnswer g ≡ 0 = sym (outcome-code g (readAnswer g) (readEffect g)) ∙ e in

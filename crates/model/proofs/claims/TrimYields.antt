@@ -17,7 +17,7 @@ use Rattle.model.specs.Questions.{trimAnswer, startFits}
 use Rattle.model.specs.Calls.{Outcome, outcome, done, sizeOf, trimCall}
 use Rattle.model.specs.Book.{Kept, row, persisted, Entry, Commit, Task, idle, opened}
 use Rattle.model.specs.Demands.{firstGroup, keptBefore, someBefore, across, anyAcross, openBefore, anyOpenBefore, free, Trimmed}
-use Rattle.model.specs.History.{Call, trim, World, lent, ends}
+use Rattle.model.specs.History.{Call, trim, World, lent, ends, serviceEnds}
 use Rattle.model.proofs.strip.StateLaws.{withStart, withFenced, withLast, state-setStart, length-setStart, state-setFenced, length-setFenced, state-setLast}
 use Rattle.model.proofs.strip.QuestionLaws.{and-true, trim-ready}
 use Rattle.model.proofs.trace.Trace.{Ev, hist, firstOf, closerOf, oldestOf, Apart}
@@ -265,7 +265,7 @@ module _ (G D : ℕ) (z : Sizes G D) (w : World) (r : Running G D w) where
   start-most s h = leb-true s (2 ^ 47) h
 
   pub trim-yields : (batch : List ℕ) → ends w (trim batch) .code ≡ 0 → Trimmed w (stateOf (ends w (trim batch) .state) .start)
-  unfolding ends trimCall
+  unfolding ends serviceEnds trimCall
   trim-yields batch h =
       let g : Given = lent w [] batch 0 0 in
       let s : ℕ = trimStart g in

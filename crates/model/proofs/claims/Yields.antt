@@ -17,7 +17,7 @@ use Rattle.model.specs.Calls.{Outcome, outcome, done, sizeOf, confirmCal
 use Rattle.model.specs.Crash.{isFence, fences}
 use Rattle.model.specs.Book.{row, Entry, Commit, homesAfter, owedBy}
 use Rattle.model.specs.Demands.{closedBelow, groupWrites, fencedRows, keptBelow, allBelow, owedRows}
-use Rattle.model.specs.History.{confirm, settle, World, lent, ends}
+use Rattle.model.specs.History.{confirm, settle, World, lent, ends, serviceEnds}
 use Rattle.model.proofs.bytes.LayoutLaws.{groups-in}
 use Rattle.model.proofs.strip.OrderLaws.{order-in}
 use Rattle.model.proofs.trace.CrashLaws.{submits, NoFence, none-submits, fences-append, fences-none, groupWrites-append, groupWrites-fence, groupWrites-submits}
@@ -192,7 +192,7 @@ module _ (G D : ℕ) (z : Sizes G D) (w : World) (r : Running G D w) where
   -- settle
   pub settle-yields : (batch : List ℕ) → ends w (settle batch) .code ≡ 0
       → ends w (settle batch) .area ≡ homesAfter (w .homes) (closedBelow (stateOf (w .state) .fenced) (w .book .commits))
-  unfolding ends settleCall
+  unfolding ends serviceEnds settleCall
   settle-yields batch h =
       let g : Given = lent w [] batch 0 0 in
       let e : done g (settleEffect g) .area ≡ settleEffect g .area = unfold done in refl in

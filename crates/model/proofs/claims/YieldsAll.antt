@@ -15,8 +15,8 @@ use Rattle.model.specs.Questions.{writerKnown, commitAnswer}
 use Rattle.model.specs.Calls.{Outcome, done, sizeOf, commitCall}
 use Rattle.model.specs.Book.{Commit, Task, idle, opened, Book, filledUp, submit, grown, withTask, addCommit, entryOf, storeTask, commitTask, owedBy, owedAll, withCommits}
 use Rattle.model.specs.Book as book
-use Rattle.model.specs.Demands.{Live, Yields, YieldsAt, LiveThroughout, Demand2}
-use Rattle.model.specs.History.{Call, opening, begin, abort, store, commit, flush, confirm, settle, trim, read, Event, call, crash, World, afterFormat, lent, ends, feed, isOpening, afterDone, afterCall, afterCrash, step, Allowed, AllAllowed}
+use Rattle.model.specs.Demands.{Live, Yields, ServiceYields, YieldsAt, LiveThroughout, Demand2}
+use Rattle.model.specs.History.{Change, begins, aborts, stores, commits, flushes, Service, settles, trims, reads, Call, opening, confirm, change, service, commit, Event, call, crash, World, afterFormat, lent, ends, changeEnds, feed, feedChange, isOpening, afterDone, afterCall, afterCrash, step, Allowed, AllAllowed}
 use Rattle.model.proofs.strip.QuestionLaws.{commit-ready}
 use Rattle.model.proofs.steps.DoneLaws.{outcome-code}
 use Rattle.model.proofs.trace.Trace.{Ev}
@@ -118,7 +118,7 @@ module _ (G D : ℕ) (z : Sizes G D) where
   -- the ticket of a done commit
   commit-ticketed : (w : World) → Running G D w → (v : ℕ) (batch : List ℕ) → ends w (commit v batch) .code ≡ 0
       → Ticketed (ends w (commit v batch) .figure) (w .book .tasks v)
-  unfolding ends commitCall
+  unfolding ends changeEnds commitCall
   commit-ticketed w r v batch h =
       let g : Given = lent w [] batch v 0 in
       let a : commitAnswer g (sizeOf (commitEffect g)) ≡ 0 = sym (outcome-code g (commitAnswer g (sizeOf (commitEffect g))) (commitEffect g)) ∙ h in
@@ -135,20 +135,23 @@ module _ (G D : ℕ) (z : Sizes G D) where
           idle-ticketed (r .b) (r .tr) (writerOf (w .state) v) (heldOf (w .state) v) _ (w .book .tasks v) _ (r .copies .tasks v l)
           (leb-false 2 (writerOf (w .state) v .mode) (unfold holds in e))
 
+  past-change : (w : World) → Running G D w → (c : Change) → ends w (change c) .code ≡ 0 → PastOwed (w .book .commits)
+      → PastOwed (feedChange (w .book) c (ends w (change c) .figure) .commits)
+  unfolding feedChange
+  past-change w r (begins v) h p = (unfold book.begin withTask in p)
+  past-change w r (aborts v) h p = (unfold book.abort withTask in p)
+  past-change w r (stores v home block batch) h p = (unfold book.store in rw (store-commits (w .book) v home block (w .book .tasks v)) p)
+  past-change w r (commits v batch) h p =
+      (unfold book.commit in commit-past (w .book) v (ends w (commit v batch) .figure) (w .book .tasks v) (commit-ticketed w r v batch h) p)
+  past-change w r (flushes batch) h p = rw (flush-commits (w .book)) p
+
   past-done : (w : World) → Running G D w → (c : Call) → isOpening c ≡ false → ends w c .code ≡ 0 → PastOwed (w .book .commits)
       → PastOwed (feed (w .book) c (ends w c .figure) .commits)
   unfolding isOpening feed
   past-done w r (opening state batch) e h p = absurd (false≢true (sym e))
-  past-done w r (begin v) e h p = (unfold book.begin withTask in p)
-  past-done w r (abort v) e h p = (unfold book.abort withTask in p)
-  past-done w r (store v home block batch) e h p = (unfold book.store in rw (store-commits (w .book) v home block (w .book .tasks v)) p)
-  past-done w r (commit v batch) e h p =
-      (unfold book.commit in commit-past (w .book) v (ends w (commit v batch) .figure) (w .book .tasks v) (commit-ticketed w r v batch h) p)
-  past-done w r (flush batch) e h p = rw (flush-commits (w .book)) p
   past-done w r confirm e h p = (unfold withCommits in past-by (ends w confirm .figure) (w .book .commits) p)
-  past-done w r (settle batch) e h p = p
-  past-done w r (trim batch) e h p = p
-  past-done w r (read v home block) e h p = p
+  past-done w r (change c) e h p = past-change w r c h p
+  past-done w r (service c) e h p = p
 
   pub running-owing : (w : World) → Running G D w → Owing w → (c : Call) → isOpening c ≡ false → Owing (step w (call c))
   unfolding afterDone
@@ -157,15 +160,9 @@ module _ (G D : ℕ) (z : Sizes G D) where
   opened-owing : (w : World) → Owing w → (c : Call) → isOpening c ≡ true → Owing (step w (call c))
   unfolding isOpening
   opened-owing w o (opening state batch) e = step-by Owing w (opening state batch) o (λ h q. (unfold afterDone feed withCommits in past-all (w .book .commits)))
-  opened-owing w o (begin v) e = absurd (false≢true e)
-  opened-owing w o (abort v) e = absurd (false≢true e)
-  opened-owing w o (store v home block batch) e = absurd (false≢true e)
-  opened-owing w o (commit v batch) e = absurd (false≢true e)
-  opened-owing w o (flush batch) e = absurd (false≢true e)
   opened-owing w o confirm e = absurd (false≢true e)
-  opened-owing w o (settle batch) e = absurd (false≢true e)
-  opened-owing w o (trim batch) e = absurd (false≢true e)
-  opened-owing w o (read v home block) e = absurd (false≢true e)
+  opened-owing w o (change c) e = absurd (false≢true e)
+  opened-owing w o (service c) e = absurd (false≢true e)
 
   pub owing-keeps : (w : World) → Invariant G D w → Owing w → (e : Event) → Allowed w e → Owing (step w e)
   owing-keeps w (inl k) o (call c) a = opened-owing w o c (a ∙ ap not (k .ready))
@@ -174,32 +171,25 @@ module _ (G D : ℕ) (z : Sizes G D) where
 
   -- ---- what a done call yields
 
+  service-yields : (w : World) (r : Running G D w) → Live w → (c : Service) → ends w (service c) .code ≡ 0 → ServiceYields w c (ends w (service c))
+  service-yields w r l (settles batch) h = settle-yields G D z w r batch h
+  service-yields w r l (trims batch) h = trim-yields G D z w r batch h
+  service-yields w r l (reads v home block) h = l .readable v home block h
+
   pub call-yields : (w : World) (r : Running G D w) → PastOwed (w .book .commits) → Live w → (c : Call) → isOpening c ≡ false
       → ends w c .code ≡ 0 → Yields w c (ends w c)
   unfolding isOpening
   call-yields w r p l (opening state batch) e h = tt
-  call-yields w r p l (begin v) e h = tt
-  call-yields w r p l (abort v) e h = tt
-  call-yields w r p l (store v home block batch) e h = tt
-  call-yields w r p l (commit v batch) e h = tt
-  call-yields w r p l (flush batch) e h = tt
   call-yields w r p l confirm e h = confirm-yields G D z w r p h
-  call-yields w r p l (settle batch) e h = settle-yields G D z w r batch h
-  call-yields w r p l (trim batch) e h = trim-yields G D z w r batch h
-  call-yields w r p l (read v home block) e h = l .readable v home block h
+  call-yields w r p l (change c) e h = tt
+  call-yields w r p l (service c) e h = service-yields w r l c h
 
   opening-yields : (w : World) (c : Call) → isOpening c ≡ true → ends w c .code ≡ 0 → Yields w c (ends w c)
   unfolding isOpening
   opening-yields w (opening state batch) e h = tt
-  opening-yields w (begin v) e h = tt
-  opening-yields w (abort v) e h = tt
-  opening-yields w (store v home block batch) e h = tt
-  opening-yields w (commit v batch) e h = tt
-  opening-yields w (flush batch) e h = tt
   opening-yields w confirm e h = absurd (false≢true e)
-  opening-yields w (settle batch) e h = absurd (false≢true e)
-  opening-yields w (trim batch) e h = absurd (false≢true e)
-  opening-yields w (read v home block) e h = absurd (false≢true e)
+  opening-yields w (change c) e h = tt
+  opening-yields w (service c) e h = absurd (false≢true e)
 
   pub event-yields : (w : World) → Invariant G D w → Owing w → (w .ready ≡ true → Live w) → (e : Event) → Allowed w e → YieldsAt w e
   event-yields w (inl k) o l (call c) a = opening-yields w c (a ∙ ap not (k .ready))

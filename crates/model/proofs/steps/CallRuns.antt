@@ -18,7 +18,7 @@ use Rattle.model.specs.Questions.{beginAnswer, abortAnswer, storeAnswer,
 use Rattle.model.specs.Calls.{Outcome, outcome, sizeOf, beginCall, abortCall, storeCall, commitCall, flushCall, confirmCall, readCall}
 use Rattle.model.specs.Book.{Task, opened, idle, Book, withTask}
 use Rattle.model.specs.Book as book
-use Rattle.model.specs.History.{Call, begin, abort, store, commit, flush, confirm, read, Event, call, World, lent, ends, feed, isConfirm, step}
+use Rattle.model.specs.History.{Call, begin, abort, store, commit, flush, confirm, read, Event, call, World, lent, ends, feed, isConfirm, step, changeEnds, feedChange, serviceEnds}
 use Rattle.model.proofs.bytes.LayoutLaws.{groups-in, homes-in, length-groupAt, group-fits}
 use Rattle.model.proofs.strip.BatchLaws.{AllFormed}
 use Rattle.model.proofs.strip.QuestionLaws.{StoreReady, CommitReady, begin-ready, abort-ready, store-ready, commit-ready, flush-ready, confirm-ready, read-ready}
@@ -65,21 +65,21 @@ module _ (G D : ℕ) (z : Sizes G D) (w : World) (r : Running G D w) where
   homes-are = ap homesIn (r .copies .areaSize) ∙ homes-in D
 
   pub begin-keeps : (v : ℕ) → Running G D (step w (call (begin v)))
-  unfolding ends beginCall
+  unfolding ends changeEnds beginCall
   begin-keeps v =
       let g : Given = lent w [] [] v 0 in
       by-answer (Running G D) w (begin v) g (beginAnswer g) (beginEffect g) refl r
       (λ a. record { formed = unfold beginEffect newState in tt; fit = no-bytes g (beginEffect g) (unfold beginEffect newState in refl); next = begin-runs G D w v r a })
 
   pub abort-keeps : (v : ℕ) → Running G D (step w (call (abort v)))
-  unfolding ends abortCall
+  unfolding ends changeEnds abortCall
   abort-keeps v =
       let g : Given = lent w [] [] v 0 in
       by-answer (Running G D) w (abort v) g (abortAnswer g) (abortEffect g) refl r
       (λ a. record {
         formed = unfold abortEffect newState in tt;
         fit = no-bytes g (abortEffect g) (unfold abortEffect newState in refl);
-        next = abort-runs G D w v r (unfold lent in writer-lt g (abort-ready g a .1)) (abort v) (unfold isConfirm in refl) (unfold feed book.abort in refl);
+        next = abort-runs G D w v r (unfold lent in writer-lt g (abort-ready g a .1)) (abort v) (unfold isConfirm in refl) (unfold feed feedChange book.abort in refl);
       })
 
   -- an entry that is logged
@@ -185,7 +185,7 @@ module _ (G D : ℕ) (z : Sizes G D) (w : World) (r : Running G D w) where
           go true e false f = other-done e f
 
     pub store-keeps : Running G D (step w (call (store v home block batch)))
-    unfolding ends storeCall
+    unfolding ends changeEnds storeCall
     store-keeps = by-answer (Running G D) w (store v home block batch) g₁ (storeAnswer g₁ (sizeOf (storeEffect g₁))) (storeEffect g₁) refl r store-done
 
   -- commit
@@ -233,7 +233,7 @@ module _ (G D : ℕ) (z : Sizes G D) (w : World) (r : Running G D w) where
             fit = size-ok₂;
             next =
                 rw (commit-is-abort h)
-                (unfold abortEffect newState lent in abort-runs G D w v r writer-ok₂ (commit v batch) (unfold isConfirm in refl) (unfold feed book.commit book.commitTask in rw t));
+                (unfold abortEffect newState lent in abort-runs G D w v r writer-ok₂ (commit v batch) (unfold isConfirm in refl) (unfold feed feedChange book.commit book.commitTask in rw t));
           }
 
       held-done : holds r₂ ≡ true → Done (Running G D) w (commit v batch) g₂ (commitEffect g₂)
@@ -253,7 +253,7 @@ module _ (G D : ℕ) (z : Sizes G D) (w : World) (r : Running G D w) where
           go true e = held-done e
 
     pub commit-keeps : Running G D (step w (call (commit v batch)))
-    unfolding ends commitCall
+    unfolding ends changeEnds commitCall
     commit-keeps = by-answer (Running G D) w (commit v batch) g₂ (commitAnswer g₂ (sizeOf (commitEffect g₂))) (commitEffect g₂) refl r commit-done
 
   -- flush
@@ -294,7 +294,7 @@ module _ (G D : ℕ) (z : Sizes G D) (w : World) (r : Running G D w) where
             }
 
     pub flush-keeps : Running G D (step w (call (flush batch)))
-    unfolding ends flushCall
+    unfolding ends changeEnds flushCall
     flush-keeps = by-answer (Running G D) w (flush batch) g₃ (flushAnswer g₃ (sizeOf (flushEffect g₃))) (flushEffect g₃) refl r flush-done
 
   pub confirm-keeps : Running G D (step w (call confirm))
@@ -306,11 +306,11 @@ module _ (G D : ℕ) (z : Sizes G D) (w : World) (r : Running G D w) where
 
   -- a read changes nothing
   read-same : (v home : ℕ) (block : List ℕ) → after w (read v home block) (readEffect (lent w block [] v home)) ≡ w
-  unfolding readEffect lent feed isConfirm
+  unfolding readEffect lent feed feedChange isConfirm
   read-same v home block = rw (append-nil (w .pending), ← r .ready)
 
   pub read-keeps : (v home : ℕ) (block : List ℕ) → Running G D (step w (call (read v home block)))
-  unfolding ends readCall
+  unfolding ends serviceEnds readCall
   read-keeps v home block =
       let g : Given = lent w block [] v home in
       by-answer (Running G D) w (read v home block) g (readAnswer g) (readEffect g) refl r

@@ -17,7 +17,7 @@ use Rattle.model.specs.Crash.{Memory, fences, persist, persistChosen, fa
 use Rattle.model.specs.Book.{Commit, Task, Book, submit, fateAt, homesAfter}
 use Rattle.model.specs.Book as book
 use Rattle.model.specs.Demands.{closedBelow, groupWrites}
-use Rattle.model.specs.History.{Call, World, lent, feed, isConfirm, flush}
+use Rattle.model.specs.History.{Call, World, lent, feed, isConfirm, flush, feedChange}
 use Rattle.model.proofs.strip.StateLaws.{withFenced, withNext, withFilled, state-setFenced, length-setFenced, writer-setFenced, held-setFenced, state-setNext, length-setNext, writer-setNext, held-setNext, state-setFilled, length-setFilled, writer-setFilled, held-setFilled}
 use Rattle.model.proofs.strip.OrderLaws.{InOrder, WriterInOrder}
 use Rattle.model.proofs.trace.CrashLaws.{writeRecords, submits, NoFence, trues, groupWrites-fence}
@@ -40,7 +40,7 @@ use Rattle.model.proofs.steps.NumberRuns.{Renumbered, copies-renumber}
 -- no part-filled group: only a fence
 pub flush-none-runs : (G D : ℕ) (z : Sizes G D) (w : World) (r : Running G D w) (batch : List ℕ) → stateOf (w .state) .filled ≡ 0
     → Running G D (after w (flush batch) (flushNone (lent w [] batch 0 0) (stateOf (w .state))))
-unfolding flushNone lent feed isConfirm book.flush
+unfolding flushNone lent feed feedChange isConfirm book.flush
 flush-none-runs G D z w r batch empty =
     let c = r .copies in
     let s = r .submitted in
@@ -292,7 +292,7 @@ module _ (G D : ℕ) (z : Sizes G D) (w : World) (r : Running G D w) (part : 0 <
   -- the world that flush leaves is that of a flush with nothing filled after the group write
   same-world : (batch : List ℕ)
       → after w₁ (flush batch) (flushNone (lent w₁ [] batch 0 0) (stateOf (w₁ .state))) ≡ after w (flush batch) (flushPart (lent w [] batch 0 0) (stateOf (w .state)))
-  unfolding flushNone flushPart lent feed isConfirm book.flush submit
+  unfolding flushNone flushPart lent feed feedChange isConfirm book.flush submit
   same-world batch =
       let e₁ : stateOf s₁ .next ≡ n₁ = rw numbers₁ in
       let e₂ : eqb (w .book .filled) 0 ≡ false = ne-eqb (w .book .filled) 0 (λ q. omega (arith, c .filled)) in

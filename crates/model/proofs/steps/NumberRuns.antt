@@ -15,7 +15,7 @@ use Rattle.model.specs.Crash.{Memory, fences, persistChosen}
 use Rattle.model.specs.Book.{Commit, Entry, Book, homesAfter, writeCommits, owedBy, withCommits, run, allSurvive}
 use Rattle.model.specs.Book as book
 use Rattle.model.specs.Demands.{closedBelow, groupWrites}
-use Rattle.model.specs.History.{Call, World, lent, feed, isConfirm, flush, confirm}
+use Rattle.model.specs.History.{Call, World, lent, feed, isConfirm, flush, confirm, feedChange}
 use Rattle.model.proofs.strip.StateLaws.{withDurable, state-setFenced, length-setFenced, writer-setFenced, held-setFenced, state-setDurable, length-setDurable, writer-setDurable, held-setDurable}
 use Rattle.model.proofs.strip.OrderLaws.{InOrder, WriterInOrder}
 use Rattle.model.proofs.trace.CrashLaws.{writeRecords, submits, NoFence, fences-append, fences-fence, fences-submits, groupWrites-append, groupWrites-fence, groupWrites-submits}
@@ -209,7 +209,7 @@ marked-below mark bound (c ∷ cs) o l = (go (c .owed) (lib.Dec.leb (c .ticket) 
     go false false ex et h k = absurd (false≢true (sym (rw (ex, et, borrow.Author.Tests.le-leb 1 (c .ticket) k)) ∙ h))
 
 pub confirm-runs : (G D : ℕ) (z : Sizes G D) (w : World) (r : Running G D w) → Running G D (after w confirm (confirmEffect (lent w [] [] 0 0)))
-unfolding confirmEffect newState lent feed isConfirm withCommits
+unfolding confirmEffect newState lent feed feedChange isConfirm withCommits
 confirm-runs G D z w r =
     let c = r .copies in
     let s = r .submitted in

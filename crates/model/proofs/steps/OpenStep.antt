@@ -18,7 +18,7 @@ use Rattle.model.specs.Questions.{openAnswer, startFits}
 use Rattle.model.specs.Crash.{Memory, fences, persist, persistChosen, fates}
 use Rattle.model.specs.Book.{Commit, Book, homesAfter, writeCommits, owedAll, withCommits, fateAt, run}
 use Rattle.model.specs.Demands.{closedBelow, groupWrites}
-use Rattle.model.specs.History.{Call, opening, World, loaded, feed, isConfirm}
+use Rattle.model.specs.History.{Call, opening, World, loaded, feed, isConfirm, feedChange}
 use Rattle.model.proofs.bytes.LayoutLaws.{groups-in, homes-in}
 use Rattle.model.proofs.strip.OrderLaws.{in-order, length-fresh, state-fresh, writer-fresh, in-order-fresh}
 use Rattle.model.proofs.strip.QuestionLaws.{open-ready}
@@ -166,7 +166,7 @@ module _ (G D : ℕ) (z : Sizes G D) (w : World) (c : Closed G D w) where
       groupWrites-append (homeWrites X (hs G D z m X o)) (FN ∷ KW (newHeader G D z m X o) ∷ []) ∙ omega (arith, groupWrites-homes X (hs G D z m X o))
 
   pub open-runs : (state batch : List ℕ) → b ≤ 2 ^ 47 → Running G D (after w (opening state batch) opens-with)
-  unfolding feed isConfirm withCommits hist
+  unfolding feed feedChange isConfirm withCommits hist
   open-runs state batch most =
       let u : World = after w (opening state batch) opens-with in
       record {

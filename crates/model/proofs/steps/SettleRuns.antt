@@ -17,7 +17,7 @@ use Rattle.model.specs.Batch.{FN}
 use Rattle.model.specs.Crash.{Memory, persistChosen}
 use Rattle.model.specs.Book.{Commit, writeCommits, homesAfter}
 use Rattle.model.specs.Demands.{closedBelow}
-use Rattle.model.specs.History.{World, lent, feed, isConfirm, settle}
+use Rattle.model.specs.History.{World, lent, feed, isConfirm, settle, feedChange}
 use Rattle.model.specs.declared.Tag.{Tag}
 use Rattle.model.proofs.bytes.ByteLaws.{length-part}
 use Rattle.model.proofs.strip.BatchLaws.{AllFormed, formed-append}
@@ -292,7 +292,7 @@ module _ (G D : ℕ) (z : Sizes G D) (w : World) (r : Running G D w) where
       (headerStart-submits chosen 0 G (s .group) (s .content) (s .count) m)
 
   running : (batch : List ℕ) → Running G D (after w (settle batch) effect)
-  unfolding feed isConfirm
+  unfolding feed feedChange isConfirm
   running batch =
       let o = c .order in
       let u : World = after w (settle batch) effect in

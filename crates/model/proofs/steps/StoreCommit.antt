@@ -18,7 +18,7 @@ use Rattle.model.specs.Crash.{Memory}
 use Rattle.model.specs.Book.{Kept, row, Entry, Commit, Held, Task, opened, Book, fateAt, homesAfter, entryOf, filledUp, withTask, addCommit}
 use Rattle.model.specs.Book as book
 use Rattle.model.specs.Demands.{closedBelow}
-use Rattle.model.specs.History.{Call, World, lent, feed, isConfirm, store, commit}
+use Rattle.model.specs.History.{Call, World, lent, feed, isConfirm, store, commit, feedChange}
 use Rattle.model.proofs.strip.StateLaws.{state-setLast, length-setLast, writer-setLast, held-setLast}
 use Rattle.model.proofs.strip.WriterLaws.{length-setWriter, length-setHeld, state-setWriter, writer-setWriter, writer-setWriter-other, held-setWriter, state-setHeld, writer-setHeld, held-setHeld, held-setHeld-other, fits-idle, fits-logging}
 use Rattle.model.proofs.strip.OrderLaws.{InOrder, WriterInOrder}
@@ -166,7 +166,7 @@ module _ (G D : ℕ) (z : Sizes G D) (w : World) (R : Running G D w) (v : ℕ) (
     adv = rw numbers-are (moves _)
 
     book-is : u .book ≡ withTask (filledUp (w .book)) v (opened (entriesFor b tr ps ++ (entryOf (w .book) (record { home = r .home; block = hd }) ∷ [])) (some (record { home = home; block = block })))
-    unfolding feed book.store book.storeTask book.hold
+    unfolding feed feedChange book.store book.storeTask book.hold
     book-is = rw (lg .task, ne-eqb (r .home) home differ)
 
     open-is : hist (7 * b) (e₀ ∷ tr) .openOf v ≡ (7 * b + length tr) ∷ mine (hist (7 * b) tr) e₀
@@ -313,7 +313,7 @@ module _ (G D : ℕ) (z : Sizes G D) (w : World) (R : Running G D w) (v : ℕ) (
         }
 
     c-book : y .book ≡ withTask (addCommit (filledUp (w .book)) cm) v book.idle
-    unfolding feed book.commit book.commitTask commitHeld
+    unfolding feed feedChange book.commit book.commitTask commitHeld
     c-book = rw (lg .task)
 
     c-commits : y .book .commits ≡ w .book .commits ++ (cm ∷ [])

@@ -17,7 +17,7 @@ use Rattle.model.specs.State.{State, stateOf, setStart, setFenced, setLa
 use Rattle.model.specs.Effects.{Given, groups, homes, newState, mayStart, largest, noneAcross, noneOpenBefore, trimStart, trimTo, trimEffect}
 use Rattle.model.specs.Crash.{Memory, isFence, persistChosen}
 use Rattle.model.specs.Demands.{groupWrites}
-use Rattle.model.specs.History.{World, lent, feed, isConfirm, trim}
+use Rattle.model.specs.History.{World, lent, feed, isConfirm, trim, feedChange}
 use Rattle.model.proofs.bytes.ByteLaws.{length-puts}
 use Rattle.model.proofs.bytes.LayoutLaws.{length-header, header-start, group-header}
 use Rattle.model.proofs.strip.BatchLaws.{AllFormed}
@@ -292,7 +292,7 @@ module _ (G D : ℕ) (z : Sizes G D) (w : World) (r : Running G D w) (batch : Li
 
   -- a trim that does not move the start leaves the world as it is
   pub stayed : after w (trim batch) (newState (lent w [] batch 0 0) (w .state) 0) ≡ w
-  unfolding newState lent feed isConfirm
+  unfolding newState lent feed feedChange isConfirm
   stayed = λ i.
       record {
         homes = w .homes;
@@ -308,7 +308,7 @@ module _ (G D : ℕ) (z : Sizes G D) (w : World) (r : Running G D w) (batch : Li
 
   same-world : (s : ℕ) (t : MayMove G D w r s) (most : s ≤ 2 ^ 47)
       → after w (trim batch) (trimTo (lent w [] batch 0 0) (stateOf (w .state)) s) ≡ moved G D z w r s t most
-  unfolding trimTo lent feed isConfirm lastKept
+  unfolding trimTo lent feed feedChange isConfirm lastKept
   same-world s t most =
       rw (lent-groups G D (r .b) (r .tr) w z (r .copies) [] batch 0 0, lent-homes G D (r .b) (r .tr) w z (r .copies) [] batch 0 0)
 

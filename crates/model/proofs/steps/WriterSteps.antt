@@ -14,7 +14,7 @@ use Rattle.model.specs.State.{State, stateOf, nextPosition, Writer, writ
 use Rattle.model.specs.Effects.{beginEffect, abortEffect, storeFirst, storeAgain, newState}
 use Rattle.model.specs.Questions.{beginAnswer, writerKnown}
 use Rattle.model.specs.Book.{Entry, Task, opened, idle as idle′, Book, Commit, withTask, setTask, begin as book-begin, store as book-store, storeTask as book-storeTask, hold as book-hold}
-use Rattle.model.specs.History.{Call, World, lent, feed, isConfirm, begin, store}
+use Rattle.model.specs.History.{Call, World, lent, feed, isConfirm, begin, store, feedChange}
 use Rattle.model.proofs.strip.QuestionLaws.{begin-ready}
 use Rattle.model.proofs.strip.WriterLaws.{length-setWriter, length-setHeld, state-setWriter, writer-setWriter, writer-setWriter-other, held-setWriter, state-setHeld, writer-setHeld, held-setHeld, held-setHeld-other, fits-begun, fits-idle, fits-holding}
 use Rattle.model.proofs.steps.DoneLaws.{after}
@@ -199,7 +199,7 @@ order-holding st home h = omega arith
 -- begin
 pub begin-runs : (G D : ℕ) (w : World) (v : ℕ) → Running G D w → beginAnswer (lent w [] [] v 0) ≡ 0
     → Running G D (after w (begin v) (beginEffect (lent w [] [] v 0)))
-unfolding beginEffect newState lent feed isConfirm book-begin writerKnown
+unfolding beginEffect newState lent feed feedChange isConfirm book-begin writerKnown
 begin-runs G D w v r a =
     let h = begin-ready (lent w [] [] v 0) a in
     let l : v < 8 = ltb-true v 8 (h .1) in
@@ -222,7 +222,7 @@ abort-runs G D w v r l c f eb =
 pub store-first-runs : (G D : ℕ) (w : World) (v home : ℕ) (block batch : List ℕ) → Running G D w → v < 8 → home < D → D ≤ 4096 → length block ≡ 64
     → writerOf (w .state) v .mode ≡ 1 → w .book .tasks v ≡ opened [] none
     → Running G D (after w (store v home block batch) (storeFirst (lent w block batch v home)))
-unfolding storeFirst newState lent feed isConfirm book-store book-storeTask book-hold
+unfolding storeFirst newState lent feed feedChange isConfirm book-store book-storeTask book-hold
 store-first-runs G D w v home block batch r l h d k m t =
     let c = r .copies in
     let s = w .state in
@@ -255,7 +255,7 @@ book-again b v home block old es x t e = rw (t, eq-eqb x home e, e)
 pub store-again-runs : (G D : ℕ) (w : World) (v home : ℕ) (block batch : List ℕ) → Running G D w → v < 8 → length block ≡ 64
     → 2 ≤ writerOf (w .state) v .mode → writerOf (w .state) v .home ≡ home
     → Running G D (after w (store v home block batch) (storeAgain (lent w block batch v home)))
-unfolding storeAgain newState lent feed isConfirm
+unfolding storeAgain newState lent feed feedChange isConfirm
 store-again-runs G D w v home block batch r l k m eh =
     let c = r .copies in
     let s = w .state in
