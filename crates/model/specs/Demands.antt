@@ -15,8 +15,8 @@ use Rattle.model.specs.State.{State, stateOf, nextPosition, inOrder}
 use Rattle.model.specs.Effects.{Given, groups, liveTags, liveBase}
 use Rattle.model.specs.Calls.{Outcome}
 use Rattle.model.specs.Crash.{fences, fates}
-use Rattle.model.specs.Book.{Kept, row, persisted, Entry, Commit, Held, Task, idle, opened, Book, run, homesAfter, reads, owedBy}
-use Rattle.model.specs.History.{Call, opening, begin, abort, store, commit, flush, confirm, settle, trim, read, Event, call, crash, World, afterFormat, lent, ends, step, AllAllowed}
+use Rattle.model.specs.Book.{Kept, row, persisted, Entry, Commit, Held, Task, idle, opened, Book, run, homesAfter, reads as readBy, owedBy}
+use Rattle.model.specs.History.{Service, settles, trims, reads, Call, opening, confirm, change, service, read, Event, call, crash, World, afterFormat, lent, ends, step, AllAllowed}
 
 -- Demand 3
 
@@ -69,7 +69,7 @@ pub record Live (w : World) : Type 0 where
   pub readable :
       (writer home : ℕ) (block : List ℕ) →
       ends w (read writer home block) .code ≡ 0 →
-      ends w (read writer home block) .block ≡ reads (w .homes) (w .book) writer home
+      ends w (read writer home block) .block ≡ readBy (w .homes) (w .book) writer home
 
 -- "settle: homes of the commits below F and no other"
 unfoldable pub closedBelow : ℕ → List Commit → List Commit
@@ -140,30 +140,23 @@ pub record Trimmed (w : World) (start : ℕ) : Type 0 where
   pub furthest : (s : ℕ) → 7 * s ≤ stateOf (w .state) .settled → free w s ≡ true → s ≤ start
 
 -- what a done call yields, in the book's terms
+abbrev pub ServiceYields : World → Service → Outcome → Type 0
+ServiceYields w (settles batch) o = o .area ≡ homesAfter (w .homes) (closedBelow (stateOf (w .state) .fenced) (w .book .commits))
+ServiceYields w (trims batch) o = Trimmed w (stateOf (o .state) .start)
+ServiceYields w (reads writer home block) o = o .block ≡ readBy (w .homes) (w .book) writer home
+
 abbrev pub Yields : World → Call → Outcome → Type 0
 Yields w (opening state batch) o = Unit {0}
-Yields w (begin writer) o = Unit {0}
-Yields w (abort writer) o = Unit {0}
-Yields w (store writer home block batch) o = Unit {0}
-Yields w (commit writer batch) o = Unit {0}
-Yields w (flush batch) o = Unit {0}
 Yields w confirm o = owedBy (o .figure) (w .book .commits) ≡ owedRows (fencedRows (w .pending)) (w .book .commits)
-Yields w (settle batch) o = o .area ≡ homesAfter (w .homes) (closedBelow (stateOf (w .state) .fenced) (w .book .commits))
-Yields w (trim batch) o = Trimmed w (stateOf (o .state) .start)
-Yields w (read writer home block) o = o .block ≡ reads (w .homes) (w .book) writer home
+Yields w (change c) o = Unit {0}
+Yields w (service c) o = ServiceYields w c o
 
 -- at each event
 abbrev pub CallHolds : World → Call → Outcome → Type 0
 CallHolds w (opening state batch) o = Opened w o
-CallHolds w (begin writer) o = Unit {0}
-CallHolds w (abort writer) o = Unit {0}
-CallHolds w (store writer home block batch) o = Unit {0}
-CallHolds w (commit writer batch) o = Unit {0}
-CallHolds w (flush batch) o = Unit {0}
 CallHolds w confirm o = Unit {0}
-CallHolds w (settle batch) o = Unit {0}
-CallHolds w (trim batch) o = Unit {0}
-CallHolds w (read writer home block) o = Unit {0}
+CallHolds w (change c) o = Unit {0}
+CallHolds w (service c) o = Unit {0}
 
 abbrev pub Holds : World → Event → Type 0
 Holds w (call c) = CallHolds w c (ends w c)

@@ -15,17 +15,50 @@ use Rattle.model.specs.Book.{Book}
 
 -- A call with what the caller chooses: its numbers, its block and its batch buffer, of any contents and length. Open is lent a strip of any
 -- contents and length; every other call the strip as the last call left it.
+
+-- the calls that change the book
+pub data Change : Type 0 where
+  begins : (writer : ℕ) → Change
+  aborts : (writer : ℕ) → Change
+  stores : (writer home : ℕ) (block batch : List ℕ) → Change
+  commits : (writer : ℕ) (batch : List ℕ) → Change
+  flushes : (batch : List ℕ) → Change
+
+-- those that change nothing in it
+pub data Service : Type 0 where
+  settles : (batch : List ℕ) → Service
+  trims : (batch : List ℕ) → Service
+  reads : (writer home : ℕ) (block : List ℕ) → Service
+
 pub data Call : Type 0 where
   opening : (state batch : List ℕ) → Call
-  begin : (writer : ℕ) → Call
-  abort : (writer : ℕ) → Call
-  store : (writer home : ℕ) (block batch : List ℕ) → Call
-  commit : (writer : ℕ) (batch : List ℕ) → Call
-  flush : (batch : List ℕ) → Call
   confirm : Call
-  settle : (batch : List ℕ) → Call
-  trim : (batch : List ℕ) → Call
-  read : (writer home : ℕ) (block : List ℕ) → Call
+  change : Change → Call
+  service : Service → Call
+
+abbrev pub begin : ℕ → Call
+begin writer = change (begins writer)
+
+abbrev pub abort : ℕ → Call
+abort writer = change (aborts writer)
+
+abbrev pub store : ℕ → ℕ → List ℕ → List ℕ → Call
+store writer home block batch = change (stores writer home block batch)
+
+abbrev pub commit : ℕ → List ℕ → Call
+commit writer batch = change (commits writer batch)
+
+abbrev pub flush : List ℕ → Call
+flush batch = change (flushes batch)
+
+abbrev pub settle : List ℕ → Call
+settle batch = service (settles batch)
+
+abbrev pub trim : List ℕ → Call
+trim batch = service (trims batch)
+
+abbrev pub read : ℕ → ℕ → List ℕ → Call
+read writer home block = service (reads writer home block)
 
 -- a crash: how many fences have passed, and which pieces of the stretch after the last of them persisted
 pub data Event : Type 0 where
@@ -70,54 +103,49 @@ loaded w state batch =
     record { state = state; log = w .memory .log; area = w .memory .area; block = []; batch = batch; writer = 0; home = 0 }
 
 -- how a call ends
+unfoldable pub changeEnds : World → Change → Outcome
+changeEnds w (begins writer) = beginCall (lent w [] [] writer 0)
+changeEnds w (aborts writer) = abortCall (lent w [] [] writer 0)
+changeEnds w (stores writer home block batch) = storeCall (lent w block batch writer home)
+changeEnds w (commits writer batch) = commitCall (lent w [] batch writer 0)
+changeEnds w (flushes batch) = flushCall (lent w [] batch 0 0)
+
+unfoldable pub serviceEnds : World → Service → Outcome
+serviceEnds w (settles batch) = settleCall (lent w [] batch 0 0)
+serviceEnds w (trims batch) = trimCall (lent w [] batch 0 0)
+serviceEnds w (reads writer home block) = readCall (lent w block [] writer home)
+
 unfoldable pub ends : World → Call → Outcome
 ends w (opening state batch) = openCall (loaded w state batch)
-ends w (begin writer) = beginCall (lent w [] [] writer 0)
-ends w (abort writer) = abortCall (lent w [] [] writer 0)
-ends w (store writer home block batch) = storeCall (lent w block batch writer home)
-ends w (commit writer batch) = commitCall (lent w [] batch writer 0)
-ends w (flush batch) = flushCall (lent w [] batch 0 0)
 ends w confirm = confirmCall (lent w [] [] 0 0)
-ends w (settle batch) = settleCall (lent w [] batch 0 0)
-ends w (trim batch) = trimCall (lent w [] batch 0 0)
-ends w (read writer home block) = readCall (lent w block [] writer home)
+ends w (change c) = changeEnds w c
+ends w (service c) = serviceEnds w c
 
 -- what the book is fed by a done call: its arguments and its figure
+unfoldable pub feedChange : Book → Change → ℕ → Book
+feedChange b (begins writer) figure = book.begin b writer
+feedChange b (aborts writer) figure = book.abort b writer
+feedChange b (stores writer home block batch) figure = book.store b writer home block
+feedChange b (commits writer batch) figure = book.commit b writer figure
+feedChange b (flushes batch) figure = book.flush b
+
 unfoldable pub feed : Book → Call → ℕ → Book
 feed b (opening state batch) figure = book.withCommits b (book.owedAll (b .commits))
-feed b (begin writer) figure = book.begin b writer
-feed b (abort writer) figure = book.abort b writer
-feed b (store writer home block batch) figure = book.store b writer home block
-feed b (commit writer batch) figure = book.commit b writer figure
-feed b (flush batch) figure = book.flush b
 feed b confirm figure = book.withCommits b (book.owedBy figure (b .commits))
-feed b (settle batch) figure = b
-feed b (trim batch) figure = b
-feed b (read writer home block) figure = b
+feed b (change c) figure = feedChange b c figure
+feed b (service c) figure = b
 
 unfoldable pub isOpening : Call → Bool
 isOpening (opening state batch) = true
-isOpening (begin writer) = false
-isOpening (abort writer) = false
-isOpening (store writer home block batch) = false
-isOpening (commit writer batch) = false
-isOpening (flush batch) = false
 isOpening confirm = false
-isOpening (settle batch) = false
-isOpening (trim batch) = false
-isOpening (read writer home block) = false
+isOpening (change c) = false
+isOpening (service c) = false
 
 unfoldable pub isConfirm : Call → Bool
 isConfirm (opening state batch) = false
-isConfirm (begin writer) = false
-isConfirm (abort writer) = false
-isConfirm (store writer home block batch) = false
-isConfirm (commit writer batch) = false
-isConfirm (flush batch) = false
 isConfirm confirm = true
-isConfirm (settle batch) = false
-isConfirm (trim batch) = false
-isConfirm (read writer home block) = false
+isConfirm (change c) = false
+isConfirm (service c) = false
 
 -- the world after a done call. The driver reads the records off the batch's bytes; "a fence is confirmed only when passed".
 unfoldable pub afterDone : World → Call → Outcome → World

@@ -21,11 +21,11 @@ use Rattle.model.specs.Effects.{Given, groups, homes, liveTags, liveBase, newes
 use Rattle.model.specs.Batch.{batchBytes}
 use Rattle.model.specs.Questions.{writerKnown, homeKnown, askBlock, readAnswer}
 use Rattle.model.specs.Calls.{readCall}
-use Rattle.model.proofs.ByteLaws.{part-within, puts-nil, puts-whole, length-part}
-use Rattle.model.proofs.OrderLaws.{InOrder}
+use Rattle.model.proofs.bytes.ByteLaws.{part-within, puts-nil, puts-whole, length-part}
+use Rattle.model.proofs.strip.OrderLaws.{InOrder}
 use Rattle.answers.proofs.AnswerLaws.{Usable, block-refuses, block-passes, block-stops, block-usable, refused-by, done-by}
 use Rattle.answers.specs.Lent.{leaves}
-use Rattle.model.proofs.QuestionLaws.{ask-yes, ask-no, ask-passed}
+use Rattle.model.proofs.strip.QuestionLaws.{ask-yes, ask-no, ask-passed}
 use Rattle.replay.specs.Codes.{codeOf}
 use Rattle.replay.specs.Seen.{ownBy, seenBy}
 use Rattle.reading.specs.Newest.{tagsOf, live, ownCode, ownEntry, committedEntry, seenEntry, Searchable}

@@ -17,12 +17,12 @@ use Rattle.model.specs.Commit.{Span, committed, eachEntries, transactions, newe
 use Rattle.model.specs.Batch.{Record, FN, recordBytes, batchBytes}
 use Rattle.model.specs.Effects.{marked, touched, replayed, homeWrites}
 use Rattle.model.specs.declared.Tag.{Tag}
-use Rattle.model.proofs.ByteLaws.{puts-append}
-use Rattle.model.proofs.BatchLaws.{batch-append, batch-one}
-use Rattle.model.proofs.TraceLaws.{All}
-use Rattle.model.proofs.Closings.{endOf}
-use Rattle.model.proofs.ClosingLaws.{committed-closings, committed-within}
-use Rattle.model.proofs.ReplayLaws.{Good, good-found, length-replayed}
+use Rattle.model.proofs.bytes.ByteLaws.{puts-append}
+use Rattle.model.proofs.strip.BatchLaws.{batch-append, batch-one}
+use Rattle.model.proofs.trace.TraceLaws.{All}
+use Rattle.model.proofs.rule.Closings.{endOf}
+use Rattle.model.proofs.rule.ClosingLaws.{committed-closings, committed-within}
+use Rattle.model.proofs.trace.ReplayLaws.{Good, good-found, length-replayed}
 use Rattle.bitmap.specs.Marks.{marks}
 use Rattle.bitmap.proofs.MapLaws.{marks-none}
 use Rattle.bitmap.proofs.MarkedLaws.{marked-agree, length-marked}

@@ -12,8 +12,8 @@ use Rattle.model.specs.Tag.{belongs, homeOf}
 use Rattle.model.specs.Commit.{Span, addIf, members, entries, eachEntries, newestIn, newest, orElse, found}
 use Rattle.model.specs.declared.Tag.{Tag}
 use Rattle.model.specs.declared.Tag.the-variants.{Nothing, Entry, Closing}
-use Rattle.model.proofs.Closings.{spanAt, closings}
-use Rattle.model.proofs.MemberLaws.{entries-at, each-append, newest-if, newest-append, orElse-none, orElse-assoc}
+use Rattle.model.proofs.rule.Closings.{spanAt, closings}
+use Rattle.model.proofs.rule.MemberLaws.{entries-at, each-append, newest-if, newest-append, orElse-none, orElse-assoc}
 use Rattle.scan.proofs.ScanLaws.{Placed}
 use Rattle.replay.specs.Gather.{offsetCode}
 use Rattle.replay.specs.Best.{closes, closer, from, Best, nothing, better, taken, best}

@@ -8,7 +8,7 @@ use Rattle.model.specs.Tag.{readTag}
 use Rattle.model.specs.Layout.{groupTag, groupValid, groupAt, slotOf, indexOf, entryIn, entryAt}
 use Rattle.model.specs.declared.Tag.{Tag}
 use Rattle.model.specs.declared.Tag.the-variants.{Nothing, Entry, Closing}
-use Rattle.model.proofs.TagLaws.{closing-known}
+use Rattle.model.proofs.bytes.TagLaws.{closing-known}
 use Rattle.replay.specs.Codes.{firstClosed}
 
 -- ---- the code by the tag

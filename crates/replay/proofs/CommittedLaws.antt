@@ -16,10 +16,10 @@ use Rattle.model.specs.Tag.{belongs, homeOf}
 use Rattle.model.specs.Commit.{addIf, members, complete, linked, Span, Walk, judged, visit, walk, started, committed, eachEntries, transactions, newestIn, orElse, newest}
 use Rattle.model.specs.declared.Tag.{Tag}
 use Rattle.model.specs.declared.Tag.the-variants.{Nothing, Entry, Closing}
-use Rattle.model.proofs.ClosingLaws.{walk-more, committed-stopped}
-use Rattle.model.proofs.MemberLaws.{entries-at, each-append, newest-append}
-use Rattle.model.proofs.ByteLaws.{length-zeros}
-use Rattle.model.proofs.OrderLaws.{byte-zeros}
+use Rattle.model.proofs.rule.ClosingLaws.{walk-more, committed-stopped}
+use Rattle.model.proofs.rule.MemberLaws.{entries-at, each-append, newest-append}
+use Rattle.model.proofs.bytes.ByteLaws.{length-zeros}
+use Rattle.model.proofs.strip.OrderLaws.{byte-zeros}
 use Rattle.scan.specs.Scan.{fresh, enter, over, entered}
 use Rattle.scan.proofs.ScanLaws.{Placed, agrees}
 use Rattle.replay.specs.Codes.{codeOf}

@@ -15,9 +15,9 @@ use Rattle.model.specs.Layout.{groupAt, groupTag, groupValid, entryIn, entryAt}
 use Rattle.model.specs.Commit.{eachEntries, newest, found}
 use Rattle.model.specs.declared.Tag.{Tag}
 use Rattle.model.specs.declared.Tag.the-variants.{Nothing, Entry, Closing}
-use Rattle.model.proofs.TagLaws.{entry-known, closing-known}
-use Rattle.model.proofs.Closings.{closings}
-use Rattle.model.proofs.ReplayLaws.{known}
+use Rattle.model.proofs.bytes.TagLaws.{entry-known, closing-known}
+use Rattle.model.proofs.rule.Closings.{closings}
+use Rattle.model.proofs.trace.ReplayLaws.{known}
 use Rattle.bitmap.specs.Marks.{marks, withMark}
 use Rattle.bitmap.proofs.MapLaws.{marks-none, length-mark, mark-each}
 use Rattle.scan.proofs.GroupLaws.{part-group}

@@ -16,12 +16,12 @@ use Rattle.model.specs.Layout.{groupOffset, groupAt, blockOffset, groupBlock, s
 use Rattle.model.specs.Commit.{Span, addIf, members, entries, eachEntries, newestIn, newest, orElse, found}
 use Rattle.model.specs.Effects.{marked, replayed}
 use Rattle.model.specs.declared.Tag.{Tag}
-use Rattle.model.proofs.ByteLaws.{part-within}
-use Rattle.model.proofs.Closings.{closings}
-use Rattle.model.proofs.LayoutLaws.{length-putHome, home-same, home-other, area-ext}
-use Rattle.model.proofs.TraceLaws.{All}
-use Rattle.model.proofs.HomeLaws.{In, in-marked, marked-in}
-use Rattle.model.proofs.ReplayLaws.{blockFor, Good, length-blockAt, length-replayed, replay-home, good-each}
+use Rattle.model.proofs.bytes.ByteLaws.{part-within}
+use Rattle.model.proofs.rule.Closings.{closings}
+use Rattle.model.proofs.bytes.LayoutLaws.{length-putHome, home-same, home-other, area-ext}
+use Rattle.model.proofs.trace.TraceLaws.{All}
+use Rattle.model.proofs.trace.HomeLaws.{In, in-marked, marked-in}
+use Rattle.model.proofs.trace.ReplayLaws.{blockFor, Good, length-blockAt, length-replayed, replay-home, good-each}
 use Rattle.bitmap.specs.Marks.{marks, bitsOf, raised}
 use Rattle.bitmap.proofs.MarkedLaws.{raised-nil, raised-cons, marked-zero}
 use Rattle.bitmap.proofs.WordLaws.{no-bits}

@@ -10,7 +10,7 @@ use lib.ListN.{length, getD, set}
 use Rattle.model.specs.Bytes.{zeros}
 use Rattle.model.specs.declared.Tag.{Tag}
 use Rattle.model.specs.declared.Tag.the-variants.{Nothing, Entry, Closing}
-use Rattle.model.proofs.OrderLaws.{both}
+use Rattle.model.proofs.strip.OrderLaws.{both}
 use Rattle.scan.specs.Scan.{fresh, counted, decided, enter, over, entered, Within}
 use Rattle.scan.proofs.PassLaws.{over-start}
 use Rattle.scan.proofs.ScanLaws.{within-reached, fresh-within}

@@ -15,9 +15,9 @@ use Rattle.model.specs.State.{stateOf, writerOffset, writerOf, hasLogged}
 use Rattle.model.specs.Effects.{noneAcross, noneOpenBefore, mayStart, largest}
 use Rattle.model.specs.declared.Tag.{Tag}
 use Rattle.model.specs.declared.Tag.the-variants.{Nothing, Entry, Closing}
-use Rattle.model.proofs.Closings.{spanAt, closings}
-use Rattle.model.proofs.OrderLaws.{InOrder}
-use Rattle.model.proofs.LayoutLaws.{both}
+use Rattle.model.proofs.rule.Closings.{spanAt, closings}
+use Rattle.model.proofs.strip.OrderLaws.{InOrder}
+use Rattle.model.proofs.bytes.LayoutLaws.{both}
 use Rattle.replay.specs.Codes.{firstClosed}
 use Rattle.replay.specs.Limits.{Highest, writerLimit, spanLimit}
 use Rattle.replay.proofs.CodeLaws.{closing-at-known}

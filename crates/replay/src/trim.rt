@@ -6,8 +6,8 @@ ghost use lib.ListN.{length};
 ghost use Rattle.model.specs.Layout.{entryAt};
 ghost use Rattle.model.specs.State.{stateOf, writerOf};
 ghost use Rattle.model.specs.Effects.{noneAcross, noneOpenBefore, mayStart, largest};
-ghost use Rattle.model.proofs.Closings.{closings};
-ghost use Rattle.model.proofs.OrderLaws.{InOrder};
+ghost use Rattle.model.proofs.rule.Closings.{closings};
+ghost use Rattle.model.proofs.strip.OrderLaws.{InOrder};
 ghost use Rattle.replay.specs.Limits.{Highest, writerLimit, spanLimit};
 ghost use Rattle.replay.specs.Walk.{Walkable};
 

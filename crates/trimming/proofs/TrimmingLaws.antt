@@ -19,13 +19,13 @@ use Rattle.model.specs.Questions.{startFits, batchFits, askState, trimAnswer}
 use Rattle.model.specs.Calls.{sizeOf, outcome, trimCall}
 use Rattle.model.specs.declared.State.{State}
 use Rattle.model.specs.declared.Tag.{Tag}
-use Rattle.model.proofs.BatchLaws.{length-KW, length-FN}
-use Rattle.model.proofs.ByteLaws.{puts-append}
-use Rattle.model.proofs.Closings.{closings, endOf}
-use Rattle.model.proofs.ClosingLaws.{committed-closings, committed-within}
-use Rattle.model.proofs.LayoutLaws.{length-header}
-use Rattle.model.proofs.OrderLaws.{InOrder}
-use Rattle.model.proofs.QuestionLaws.{ask-yes, ask-no}
+use Rattle.model.proofs.strip.BatchLaws.{length-KW, length-FN}
+use Rattle.model.proofs.bytes.ByteLaws.{puts-append}
+use Rattle.model.proofs.rule.Closings.{closings, endOf}
+use Rattle.model.proofs.rule.ClosingLaws.{committed-closings, committed-within}
+use Rattle.model.proofs.bytes.LayoutLaws.{length-header}
+use Rattle.model.proofs.strip.OrderLaws.{InOrder}
+use Rattle.model.proofs.strip.QuestionLaws.{ask-yes, ask-no}
 use Rattle.answers.specs.Lent.{lent, leaves}
 use Rattle.answers.proofs.AnswerLaws.{Usable, state-refuses, state-passes, refused-by, done-by, strip-by}
 use Rattle.replay.specs.Walk.{Walkable}

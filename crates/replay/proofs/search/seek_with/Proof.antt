@@ -6,7 +6,7 @@ use native.Mathlib.Nat.{mod-lt}
 use native.Mathlib.Omega.{arith}
 use lib.ListN.{length, length-take, length-drop}
 use Rattle.model.specs.Layout.{entryAt}
-use Rattle.model.proofs.ByteLaws.{length-zeros}
+use Rattle.model.proofs.bytes.ByteLaws.{length-zeros}
 use Rattle.scan.proofs.GroupLaws.{slot-more}
 use Rattle.scan.proofs.PassLaws.{log-turn}
 use Rattle.scan.proofs.ScanLaws.{placed}
