@@ -1,4 +1,5 @@
 -- The claims: demands 2 and 3, the facts stated in passing, the trials and the witnesses.
+pub mod RefusalsHold
 pub mod LiveHolds
 pub mod DemandThree
 pub mod TrimYields

@@ -1,4 +1,5 @@
 -- Each call and each crash keeps the invariant.
+pub mod RefusalLaws
 pub mod DoneLaws
 pub mod WriterSteps
 pub mod OpenStep

@@ -162,10 +162,25 @@ afterDone w c o =
       book = feed (w .book) c (o .figure);
     }
 
--- a refused call changes nothing
+-- The world after a refused call is what the call left, and the book is not fed. Of a refused opening strip and copies are dropped: the next one
+-- loads the areas afresh.
+unfoldable pub afterRefused : World → Call → Outcome → World
+afterRefused w c o =
+    record {
+      homes = w .homes;
+      state = cond (isOpening c) (w .state) (o .state);
+      log = cond (isOpening c) (w .log) (o .log);
+      area = cond (isOpening c) (w .area) (o .area);
+      memory = w .memory;
+      pending = w .pending ++ readBatch (take (o .size) (o .batch));
+      passed = w .passed;
+      ready = w .ready;
+      book = w .book;
+    }
+
 unfoldable pub afterCall : World → Call → Outcome → ℕ → World
 afterCall w c o zero = afterDone w c o
-afterCall w c o (suc code) = w
+afterCall w c o (suc code) = afterRefused w c o
 
 unfoldable pub afterCrash : World → ℕ → (ℕ → Bool) → World
 afterCrash w passed chosen =

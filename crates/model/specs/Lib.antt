@@ -7,6 +7,7 @@ pub mod State
 pub mod Effects
 pub mod Questions
 pub mod Calls
+pub mod Refusals
 pub mod Crash
 pub mod Book
 pub mod History

@@ -18,6 +18,7 @@ use Rattle.model.specs.Book as book
 use Rattle.model.specs.Demands.{Live, Yields, ServiceYields, YieldsAt, LiveThroughout, Demand2}
 use Rattle.model.specs.History.{Change, begins, aborts, stores, commits, flushes, Service, settles, trims, reads, Call, opening, confirm, change, service, commit, Event, call, crash, World, afterFormat, lent, ends, changeEnds, feed, feedChange, isOpening, afterDone, afterCall, afterCrash, step, Allowed, AllAllowed}
 use Rattle.model.proofs.strip.QuestionLaws.{commit-ready}
+use Rattle.model.proofs.steps.RefusalLaws.{left-as-lent}
 use Rattle.model.proofs.steps.DoneLaws.{outcome-code}
 use Rattle.model.proofs.trace.Trace.{Ev}
 use Rattle.model.proofs.invariant.Invariant.{Sizes, TaskOk, Running, Invariant}
@@ -87,7 +88,7 @@ step-by P w c p f = go (ends w c .code) refl
   where
     go : (n : ℕ) → ends w c .code ≡ n → P (afterCall w c (ends w c) n)
     go zero e = f e
-    go (suc n) e = p
+    go (suc n) e = rw (left-as-lent w c n e) p
 
 -- a writer that holds nothing has no block to commit
 idle-ticketed : (b : ℕ) (tr : List Ev) (r : Writer) (held ps : List ℕ) (t : Task) (ticket : ℕ) → TaskOk b tr r held ps t → r .mode < 2
