@@ -6,6 +6,8 @@ pub mod TrimYields
 pub mod Yields
 pub mod YieldsAll
 pub mod DemandTwo
+pub mod StoreLaws
+pub mod StoreAnswers
 pub mod OnceLaws
 pub mod FactLaws
 pub mod Computing

@@ -12,6 +12,7 @@ pub mod Crash
 pub mod Book
 pub mod History
 pub mod Demands
+pub mod Store
 pub mod Trials
 pub mod Witnesses
 pub mod Facts
