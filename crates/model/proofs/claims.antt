@@ -8,6 +8,7 @@ pub mod YieldsAll
 pub mod DemandTwo
 pub mod StoreLaws
 pub mod StoreAnswers
+pub mod StoreFollows
 pub mod OnceLaws
 pub mod FactLaws
 pub mod Computing

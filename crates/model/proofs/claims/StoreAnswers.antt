@@ -391,10 +391,12 @@ module _ (G D : ℕ) (z : Sizes G D) (w : World) (r : Running G D w) (s : Store)
           → (sizeOf (cond d (flushNone (lent w [] batch 0 0) (stateOf (w .state))) (flushPart (lent w [] batch 0 0) (stateOf (w .state)))) ≡ cond d 2 518)
           × (cond d (flushNone (lent w [] batch 0 0) (stateOf (w .state))) (flushPart (lent w [] batch 0 0) (stateOf (w .state))) .figure ≡ 0)
       go true = ((unfold sizeOf flushNone batchBytes recordBytes in refl), (unfold flushNone in refl))
-      go false =
-          ((unfold sizeOf flushPart batchBytes in
-          (length-append (recordBytes (GW (stateOf (w .state) .next % stateOf (w .state) .groups) (groupAt (w .log) (stateOf (w .state) .next % stateOf (w .state) .groups)))) (recordBytes FN ++ [])
-          ∙ omega (arith, length-GW (stateOf (w .state) .next % stateOf (w .state) .groups) (groupAt (w .log) (stateOf (w .state) .next % stateOf (w .state) .groups)) size, length-append (recordBytes FN) [], length-FN))), (unfold flushPart in refl))
+      go false = (
+        (unfold sizeOf flushPart batchBytes in
+            (length-append (recordBytes (GW (stateOf (w .state) .next % stateOf (w .state) .groups) (groupAt (w .log) (stateOf (w .state) .next % stateOf (w .state) .groups)))) (recordBytes FN ++ [])
+            ∙ omega (arith, length-GW (stateOf (w .state) .next % stateOf (w .state) .groups) (groupAt (w .log) (stateOf (w .state) .next % stateOf (w .state) .groups)) size, length-append (recordBytes FN) [], length-FN))),
+        (unfold flushPart in refl),
+      )
 
   flush-number : (batch : List ℕ)
       → flushAnswer (lent w [] batch 0 0) (sizeOf (flushEffect (lent w [] batch 0 0))) ≡ askBatch (cond (eqb (s .book .filled) 0) 2 518) batch
@@ -442,9 +444,11 @@ module _ (G D : ℕ) (z : Sizes G D) (w : World) (r : Running G D w) (s : Store)
   settle-bytes batch =
       let area : List ℕ = newArea G D z w r in
       let hs : List ℕ = due G D z w r in
-      rw (settle-effect G D z w r batch)
-      (ap length (batch-append (homeWrites area hs) (FN ∷ [])) ∙ length-append (batchBytes (homeWrites area hs)) (batchBytes (FN ∷ []))
-      ∙ omega (arith, bytes-homes D area hs (area-size G D z w r) (inside G D z w r), ap length (batch-one FN) ∙ length-FN, due-many), refl)
+      rw (settle-effect G D z w r batch) (
+        ap length (batch-append (homeWrites area hs) (FN ∷ [])) ∙ length-append (batchBytes (homeWrites area hs)) (batchBytes (FN ∷ []))
+            ∙ omega (arith, bytes-homes D area hs (area-size G D z w r) (inside G D z w r), ap length (batch-one FN) ∙ length-FN, due-many),
+        refl,
+      )
 
   settle-answers : (batch : List ℕ) → replyOf (settleCall (lent w [] batch 0 0)) ≡ replyService s (settles batch)
   unfolding settleCall replyService
@@ -463,7 +467,7 @@ module _ (G D : ℕ) (z : Sizes G D) (w : World) (r : Running G D w) (s : Store)
   pub start-is : (batch : List ℕ) → trimStart (lent w [] batch 0 0) ≡ nextStart s
   unfolding nextStart
   start-is batch =
-      omega (arith, low (largest-may (mayStart s) (s .start) range) , high (decLt (s .start) T))
+      omega (arith, low (largest-may (mayStart s) (s .start) range), high (decLt (s .start) T))
     where
       T : ℕ
       T = trimStart (lent w [] batch 0 0)
@@ -499,10 +503,12 @@ module _ (G D : ℕ) (z : Sizes G D) (w : World) (r : Running G D w) (s : Store)
           → (sizeOf (cond d (newState (lent w [] batch 0 0) (w .state) 0) (trimTo (lent w [] batch 0 0) (stateOf (w .state)) x)) ≡ cond d 0 68)
           × (cond d (newState (lent w [] batch 0 0) (w .state) 0) (trimTo (lent w [] batch 0 0) (stateOf (w .state)) x) .figure ≡ 0)
       go true = (size-none (newState (lent w [] batch 0 0) (w .state) 0) (unfold newState in refl), (unfold newState in refl))
-      go false =
-          ((unfold sizeOf trimTo batchBytes in
-          (length-append (recordBytes (KW (header x (groups (lent w [] batch 0 0)) (homes (lent w [] batch 0 0))))) (recordBytes FN ++ [])
-          ∙ omega (arith, length-KW (header x (groups (lent w [] batch 0 0)) (homes (lent w [] batch 0 0))) size, length-append (recordBytes FN) [], length-FN))), (unfold trimTo in refl))
+      go false = (
+        (unfold sizeOf trimTo batchBytes in
+            (length-append (recordBytes (KW (header x (groups (lent w [] batch 0 0)) (homes (lent w [] batch 0 0))))) (recordBytes FN ++ [])
+            ∙ omega (arith, length-KW (header x (groups (lent w [] batch 0 0)) (homes (lent w [] batch 0 0))) size, length-append (recordBytes FN) [], length-FN))),
+        (unfold trimTo in refl),
+      )
 
   trim-number : (batch : List ℕ)
       → trimAnswer (lent w [] batch 0 0) (trimStart (lent w [] batch 0 0)) (sizeOf (trimEffect (lent w [] batch 0 0) (trimStart (lent w [] batch 0 0))))

@@ -194,7 +194,7 @@ module _ (G D : ℕ) (z : Sizes G D) (w : World) (r : Running G D w) (passed : �
   pending-fences : fences (w .pending) ≡ fences (s .fenced ++ (FN ∷ []))
   pending-fences = ap fences (s .split) ∙ fences-append (s .fenced ++ (FN ∷ [])) (submits G (s .group) (s .content) (s .count)) ∙ omega (arith, fences-submits G (s .group) (s .content) (s .count))
 
-  image : ImageOk G D (r .b) (w .memory .log) (r .tr) (r .old) (w .book .commits) m fs
+  pub image : ImageOk G D (r .b) (w .memory .log) (r .tr) (r .old) (w .book .commits) m fs
   image = go (decLt passed (fences (s .fenced ++ (FN ∷ []))))
     where
       go : Dec (passed < fences (s .fenced ++ (FN ∷ []))) → ImageOk G D (r .b) (w .memory .log) (r .tr) (r .old) (w .book .commits) m fs
@@ -251,7 +251,7 @@ unfolding run
 run-all D fs cs o = ap (run fs) (sym (append-nil cs)) ∙ run-old D fs cs [] o ∙ append-nil cs
 
 module _ (G D : ℕ) (w : World) (c : Closed G D w) (passed : ℕ) (chosen : ℕ → Bool) where
-  same-memory : persist passed chosen (w .pending) (w .memory) ≡ w .memory
+  pub same-memory : persist passed chosen (w .pending) (w .memory) ≡ w .memory
   same-memory = rw (c .pending) (go passed)
     where
       go : (n : ℕ) → persist n chosen [] (w .memory) ≡ w .memory
