@@ -4,6 +4,7 @@ pub mod DoneLaws
 pub mod WriterSteps
 pub mod OpenStep
 pub mod Beginning
+pub mod FormatRuns
 pub mod LogRuns
 pub mod LogSubmits
 pub mod HeldLogs

@@ -17,7 +17,7 @@ use Rattle.model.specs.declared.Tag.{Tag}
 use Rattle.model.specs.Calls.{Outcome}
 use Rattle.model.specs.Crash.{fences, fates}
 use Rattle.model.specs.Book.{Kept, row, persisted, Entry, Commit, Held, Task, idle, opened, Book, run, homesAfter, reads as readBy, owedBy}
-use Rattle.model.specs.History.{Service, settles, trims, reads, Call, opening, confirm, change, service, read, Event, call, crash, World, afterFormat, lent, ends, step, AllAllowed}
+use Rattle.model.specs.History.{Service, settles, trims, reads, Call, opening, confirm, change, service, read, Event, call, crash, World, lent, ends, step, Always}
 
 -- Demand 3
 
@@ -179,13 +179,9 @@ abbrev pub LiveThroughout : World → List Event → Type 0
 LiveThroughout w [] = w .ready ≡ true → Live w
 LiveThroughout w (e ∷ es) = (w .ready ≡ true → Live w) × YieldsAt w e × LiveThroughout (step w e) es
 
--- The demands, for every G and D and every list of events under the premises
+-- The demands, for every G and D, every done format and every list of events after it under the premises
 abbrev pub Demand3 : Type 0
-Demand3 =
-    (groups homes : ℕ) → 4 ≤ groups → groups ≤ 1024 → 1 ≤ homes → homes ≤ 4096 → (es : List Event) → AllAllowed (afterFormat groups homes) es →
-    AllHold (afterFormat groups homes) es
+Demand3 = Always AllHold
 
 abbrev pub Demand2 : Type 0
-Demand2 =
-    (groups homes : ℕ) → 4 ≤ groups → groups ≤ 1024 → 1 ≤ homes → homes ≤ 4096 → (es : List Event) → AllAllowed (afterFormat groups homes) es →
-    LiveThroughout (afterFormat groups homes) es
+Demand2 = Always LiveThroughout

@@ -1,7 +1,7 @@
 -- The abstract store: what every call answers, in terms of the calls before it. It is fed each call's arguments and answer and, at a crash, which
 -- writes persisted; nothing from the strip, the copies or the bytes of the log. An engineer reads here when a call is done, with which number it is
 -- refused, what figure it gives and how many bytes of records it writes.
-use Prim.Native.Nat.{ℕ, zero, suc, _+_, _-_, _*_, _/_, _≤_}
+use Prim.Native.Nat.{ℕ, zero, suc, _+_, _-_, _*_, _/_}
 use mathlib.Core.Path.{_≡_}
 use mathlib.Core.Bool.{Bool, true, false, cond, not, _&&_, _||_}
 use mathlib.Core.List.{List, [], _∷_, _++_}
@@ -16,7 +16,7 @@ use Rattle.model.specs.Calls.{Outcome}
 use Rattle.model.specs.Crash.{Memory, persist, fates}
 use Rattle.model.specs.Book.{Held, Commit, Task, idle, opened, Book, run}
 use Rattle.model.specs.Book as book
-use Rattle.model.specs.History.{Change, begins, aborts, stores, commits, flushes, Service, settles, trims, reads, Call, opening, confirm, change, service, Event, call, crash, World, afterFormat, ends, feed, step, AllAllowed}
+use Rattle.model.specs.History.{Change, begins, aborts, stores, commits, flushes, Service, settles, trims, reads, Call, opening, confirm, change, service, Event, call, crash, World, Formatting, afterFormat, ends, feed, step, AllAllowed}
 use Rattle.model.specs.Demands.{eachContents, untrimmed, closedBelow, anyAcross, anyOpenBefore}
 
 -- G and D; whether an opening is done since the last crash; the start that the header in lasting memory says, as the last crash (or format) left
@@ -37,8 +37,8 @@ pub record Store : Type 0 where
   pub book : Book
 
 -- a new format
-unfoldable pub emptyStore : ℕ → ℕ → Store
-emptyStore groups homes =
+unfoldable pub newStore : ℕ → ℕ → Store
+newStore groups homes =
     record {
       groups = groups;
       homes = homes;
@@ -274,5 +274,5 @@ AnswersThroughout w s (e ∷ es) =
 
 abbrev pub Answers : Type 0
 Answers =
-    (groups homes : ℕ) → 4 ≤ groups → groups ≤ 1024 → 1 ≤ homes → homes ≤ 4096 → (es : List Event) → AllAllowed (afterFormat groups homes) es →
-    AnswersThroughout (afterFormat groups homes) (emptyStore groups homes) es
+    (groups homes : ℕ) (f : Formatting groups homes) (es : List Event) → AllAllowed (afterFormat f) es →
+    AnswersThroughout (afterFormat f) (newStore groups homes) es

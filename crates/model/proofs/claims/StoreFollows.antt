@@ -18,8 +18,8 @@ use Rattle.model.specs.Crash.{Memory, fences, persist, fates}
 use Rattle.model.specs.Book.{Book, homesAfter, run}
 use Rattle.model.specs.Book as book
 use Rattle.model.specs.Demands.{untrimmed}
-use Rattle.model.specs.History.{Change, begins, aborts, stores, commits, flushes, Service, settles, trims, reads, Call, opening, confirm, change, service, Event, call, crash, World, afterFormat, lent, loaded, ends, changeEnds, serviceEnds, feed, isOpening, afterDone, afterCall, afterCrash, step, Allowed, AllAllowed}
-use Rattle.model.specs.Store.{Store, emptyStore, firstGroup, nextGroup, nextOf, nextStart, replyOf, reply, lastAfter, fencedAfter, numbered, trimmedTo, afterService, afterReply, follow, foundInMemory, AnswersAt, AnswersThroughout, Answers}
+use Rattle.model.specs.History.{Change, begins, aborts, stores, commits, flushes, Service, settles, trims, reads, Call, opening, confirm, change, service, Event, call, crash, World, unopened, emptyStore, lent, loaded, ends, changeEnds, serviceEnds, feed, isOpening, afterDone, afterCall, afterCrash, step, Allowed, AllAllowed}
+use Rattle.model.specs.Store.{Store, newStore, firstGroup, nextGroup, nextOf, nextStart, replyOf, reply, lastAfter, fencedAfter, numbered, trimmedTo, afterService, afterReply, follow, foundInMemory, AnswersAt, AnswersThroughout, Answers}
 use Rattle.model.specs.Store as store
 use Rattle.model.proofs.bytes.LayoutLaws.{groups-in}
 use Rattle.model.proofs.strip.StateLaws.{withStart, withFenced, withSettled, withLast, withDurable, withNext, withFilled, length-setNext, length-setFilled, state-setNext, state-setFilled, state-setFenced, state-setDurable, state-setLast}
@@ -37,6 +37,7 @@ use Rattle.model.proofs.steps.TrimRuns.{MayMove, trim-may, lastKept, mo
 use Rattle.model.proofs.steps.CrashRuns.{image, same-memory}
 use Rattle.model.proofs.steps.OpenStep.{opens-with, open-effect}
 use Rattle.model.proofs.steps.Beginning.{format-closed, formatted-start, formatted-found}
+use Rattle.model.proofs.steps.FormatRuns.{sizes, after-format}
 use Rattle.model.proofs.claims.DemandThree.{keeps}
 use Rattle.model.proofs.claims.Yields.{ends-done}
 use Rattle.model.proofs.claims.StoreAnswers.{Numbers, Agrees, first-is, next-is, filled-is, position-is, start-is, call-answers, open-answers}
@@ -532,8 +533,8 @@ module _ (G D : ℕ) (z : Sizes G D) where
       let k = follows w i s a e (h .0) in
       (found-now w s a, k .0, throughout es (step w e) (follow s w e) (keeps G D z w i e (h .0) .0) (k .1) (h .1))
 
-  empty-agrees : Agrees G D (afterFormat G D) (emptyStore G D)
-  unfolding emptyStore afterFormat
+  empty-agrees : Agrees G D (emptyStore G D) (newStore G D)
+  unfolding emptyStore unopened newStore
   empty-agrees =
       record {
         groups = refl;
@@ -545,6 +546,7 @@ module _ (G D : ℕ) (z : Sizes G D) where
       }
 
 pub answers-hold : Answers
-answers-hold groups homes low high least most es h =
-    let z : Sizes groups homes = record { low = low; high = high; some-home = least; homes = most } in
-    throughout groups homes z es (afterFormat groups homes) (emptyStore groups homes) (inl (format-closed groups homes z)) (empty-agrees groups homes z) h
+answers-hold G D f es h =
+    let z : Sizes G D = sizes f in
+    rw (after-format f)
+    (throughout G D z es (emptyStore G D) (newStore G D) (inl (format-closed G D z)) (empty-agrees G D z) (rw (after-format f) at h))

@@ -19,7 +19,7 @@ use Rattle.model.specs.Effects.{Given, formattedLog, replayed}
 use Rattle.model.specs.Questions.{ask, areasRight, stateRight, headerFits, startFits, batchFits, openAnswer}
 use Rattle.model.specs.Crash.{Memory}
 use Rattle.model.specs.Book.{Commit, homesAfter, writeCommits, empty}
-use Rattle.model.specs.History.{World, afterFormat, loaded}
+use Rattle.model.specs.History.{World, unopened, emptyStore, loaded}
 use Rattle.model.specs.Demands.{eachContents}
 use Rattle.model.specs.Store.{foundInMemory}
 use Rattle.model.specs.declared.Tag.{Tag}
@@ -55,7 +55,7 @@ nothing-found log G D s g f n =
     ∙ (unfold transactions committed walk started eachEntries in refl)
 
 -- zeros hold no group
-part-zeros : (n at k : ℕ) → at + k ≤ n → part (zeros n) at k ≡ zeros k
+pub part-zeros : (n at k : ℕ) → at + k ≤ n → part (zeros n) at k ≡ zeros k
 unfolding part
 part-zeros n at k h =
     let l : length (part (zeros n) at k) ≡ k = length-part (zeros n) at k (omega (arith, length-zeros n)) in
@@ -105,8 +105,8 @@ module _ (G D : ℕ) (z : Sizes G D) where
       right : headerRight (formattedLog G D) G D ≡ true
       right = unfold formattedLog in header-right (zeros (64 + 512 * G)) 0 G D (omega arith) (omega arith) (omega (arith, length-zeros (64 + 512 * G)))
 
-  pub format-closed : Closed G D (afterFormat G D)
-  unfolding afterFormat empty homesAfter writeCommits
+  pub format-closed : Closed G D (emptyStore G D)
+  unfolding emptyStore unopened empty homesAfter writeCommits
   format-closed =
       record {
         ready = refl;
