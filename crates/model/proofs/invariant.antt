@@ -6,6 +6,7 @@ pub mod GrowImages
 pub mod LogStep
 pub mod RunLaws
 pub mod BookReplay
+pub mod ReadBack
 pub mod TouchLaws
 pub mod LateOpens
 pub mod Now

@@ -1,8 +1,10 @@
 -- Each call and each crash keeps the invariant.
+pub mod RefusalLaws
 pub mod DoneLaws
 pub mod WriterSteps
 pub mod OpenStep
 pub mod Beginning
+pub mod FormatRuns
 pub mod LogRuns
 pub mod LogSubmits
 pub mod HeldLogs

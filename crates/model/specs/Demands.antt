@@ -13,10 +13,11 @@ use Rattle.model.specs.Commit.{transactions}
 use Rattle.model.specs.Batch.{Record, GW, HW, KW, FN}
 use Rattle.model.specs.State.{State, stateOf, nextPosition, inOrder}
 use Rattle.model.specs.Effects.{Given, groups, liveTags, liveBase}
+use Rattle.model.specs.declared.Tag.{Tag}
 use Rattle.model.specs.Calls.{Outcome}
 use Rattle.model.specs.Crash.{fences, fates}
 use Rattle.model.specs.Book.{Kept, row, persisted, Entry, Commit, Held, Task, idle, opened, Book, run, homesAfter, reads as readBy, owedBy}
-use Rattle.model.specs.History.{Service, settles, trims, reads, Call, opening, confirm, change, service, read, Event, call, crash, World, afterFormat, lent, ends, step, AllAllowed}
+use Rattle.model.specs.History.{Service, settles, trims, reads, Call, opening, confirm, change, service, read, Event, call, crash, World, lent, ends, step, Always}
 
 -- Demand 3
 
@@ -40,17 +41,21 @@ Crashed w passed chosen = NoneOwed (lost (fates passed chosen (w .pending)) (w .
 
 -- Demand 2
 
--- what the commit rule finds in the log copy, as homes and blocks, oldest first
-unfoldable pub contents : Given → List ℕ → List Held
-contents g [] = []
-contents g (p ∷ ps) = contents g ps ++ (record { home = homeOf (liveTags g p); block = blockAt (g .log) (groups g) p } ∷ [])
+-- the entries at some positions of a log, newest first, as homes and blocks, oldest first
+unfoldable pub contents : (ℕ → Tag) → List ℕ → ℕ → List ℕ → List Held
+contents tags log groups [] = []
+contents tags log groups (p ∷ ps) =
+    contents tags log groups ps ++ (record { home = homeOf (tags p); block = blockAt log groups p } ∷ [])
 
-unfoldable pub eachContents : Given → List (List ℕ) → List (List Held)
-eachContents g [] = []
-eachContents g (t ∷ ts) = contents g t ∷ eachContents g ts
+unfoldable pub eachContents : (ℕ → Tag) → List ℕ → ℕ → List (List ℕ) → List (List Held)
+eachContents tags log groups [] = []
+eachContents tags log groups (t ∷ ts) = contents tags log groups t ∷ eachContents tags log groups ts
 
+-- what the commit rule finds in the log copy
 unfoldable pub foundIn : Given → List (List Held)
-foundIn g = eachContents g (transactions (liveTags g) (liveBase g) (nextPosition (stateOf (g .state)) - liveBase g))
+foundIn g =
+    eachContents (liveTags g) (g .log) (groups g)
+    (transactions (liveTags g) (liveBase g) (nextPosition (stateOf (g .state)) - liveBase g))
 
 -- the book's commits that are not trimmed: their closing entry lies at or above the start's position
 unfoldable pub heldEntries : List Entry → List Held
@@ -174,13 +179,9 @@ abbrev pub LiveThroughout : World → List Event → Type 0
 LiveThroughout w [] = w .ready ≡ true → Live w
 LiveThroughout w (e ∷ es) = (w .ready ≡ true → Live w) × YieldsAt w e × LiveThroughout (step w e) es
 
--- The demands, for every G and D and every list of events under the premises
+-- The demands, for every G and D, every done format and every list of events after it under the premises
 abbrev pub Demand3 : Type 0
-Demand3 =
-    (groups homes : ℕ) → 4 ≤ groups → groups ≤ 1024 → 1 ≤ homes → homes ≤ 4096 → (es : List Event) → AllAllowed (afterFormat groups homes) es →
-    AllHold (afterFormat groups homes) es
+Demand3 = Always AllHold
 
 abbrev pub Demand2 : Type 0
-Demand2 =
-    (groups homes : ℕ) → 4 ≤ groups → groups ≤ 1024 → 1 ≤ homes → homes ≤ 4096 → (es : List Event) → AllAllowed (afterFormat groups homes) es →
-    LiveThroughout (afterFormat groups homes) es
+Demand2 = Always LiveThroughout

@@ -4,11 +4,11 @@ use mathlib.Core.Path.{_≡_}
 use mathlib.Core.Bool.{Bool, true, false, cond, not}
 use mathlib.Core.List.{List, [], _∷_, _++_}
 use lib.Dec.{eqb}
-use lib.ListN.{take}
+use lib.ListN.{length, take}
 use Rattle.model.specs.Bytes.{zeros}
 use Rattle.model.specs.Batch.{Record, readBatch}
 use Rattle.model.specs.Effects.{Given, formattedLog}
-use Rattle.model.specs.Calls.{Outcome, openCall, beginCall, abortCall, storeCall, commitCall, flushCall, confirmCall, settleCall, trimCall, readCall}
+use Rattle.model.specs.Calls.{Outcome, formatCall, openCall, beginCall, abortCall, storeCall, commitCall, flushCall, confirmCall, settleCall, trimCall, readCall}
 use Rattle.model.specs.Crash.{Memory, fences, persist, fates}
 use Rattle.model.specs.Book as book
 use Rattle.model.specs.Book.{Book}
@@ -78,20 +78,45 @@ pub record World : Type 0 where
   pub ready : Bool
   pub book : Book
 
--- "At its start format's train has all landed."
-unfoldable pub afterFormat : ℕ → ℕ → World
-afterFormat groups homes =
+-- before an opening is done: a memory, with nothing pending and an empty book
+unfoldable pub unopened : ℕ → Memory → World
+unopened homes memory =
     record {
       homes = homes;
       state = [];
       log = [];
       area = [];
-      memory = record { log = formattedLog groups homes; area = zeros (64 * homes) };
+      memory = memory;
       pending = [];
       passed = 0;
       ready = false;
       book = book.empty;
     }
+
+-- A done format over a memory of any contents: what the call is lent, of any contents too. G and D are those of the memory and of the copies.
+pub record Formatting (groups homes : ℕ) : Type 0 where
+  pub memory : Memory
+  pub given : Given
+  pub logSize : length (memory .log) ≡ 64 + 512 * groups
+  pub areaSize : length (memory .area) ≡ 64 * homes
+  pub logCopy : length (given .log) ≡ 64 + 512 * groups
+  pub areaCopy : length (given .area) ≡ 64 * homes
+  pub done : formatCall given .code ≡ 0
+
+-- the records that the driver reads off its batch's bytes
+unfoldable pub formatRecords : {groups homes : ℕ} → Formatting groups homes → List Record
+formatRecords f = let o : Outcome = formatCall (f .given) in readBatch (take (o .size) (o .batch))
+
+-- "At its start format's train has all landed."
+unfoldable pub landed : List Record → Memory → Memory
+landed rs m = persist (fences rs) (λ i. true) rs m
+
+unfoldable pub afterFormat : {groups homes : ℕ} → Formatting groups homes → World
+afterFormat {homes = homes} f = unopened homes (landed (formatRecords f) (f .memory))
+
+-- the store that every format leaves
+unfoldable pub emptyStore : ℕ → ℕ → World
+emptyStore groups homes = unopened homes (record { log = formattedLog groups homes; area = zeros (64 * homes) })
 
 -- what a call is lent. An opening gets copies of both areas, loaded afresh; no other call comes before one is done, so there is nothing pending.
 unfoldable pub lent : World → List ℕ → List ℕ → ℕ → ℕ → Given
@@ -162,10 +187,25 @@ afterDone w c o =
       book = feed (w .book) c (o .figure);
     }
 
--- a refused call changes nothing
+-- The world after a refused call is what the call left, and the book is not fed. Of a refused opening strip and copies are dropped: the next one
+-- loads the areas afresh.
+unfoldable pub afterRefused : World → Call → Outcome → World
+afterRefused w c o =
+    record {
+      homes = w .homes;
+      state = cond (isOpening c) (w .state) (o .state);
+      log = cond (isOpening c) (w .log) (o .log);
+      area = cond (isOpening c) (w .area) (o .area);
+      memory = w .memory;
+      pending = w .pending ++ readBatch (take (o .size) (o .batch));
+      passed = w .passed;
+      ready = w .ready;
+      book = w .book;
+    }
+
 unfoldable pub afterCall : World → Call → Outcome → ℕ → World
 afterCall w c o zero = afterDone w c o
-afterCall w c o (suc code) = w
+afterCall w c o (suc code) = afterRefused w c o
 
 unfoldable pub afterCrash : World → ℕ → (ℕ → Bool) → World
 afterCrash w passed chosen =
@@ -198,3 +238,7 @@ Allowed w (crash passed chosen) = (w .passed ≤ passed) × (passed ≤ fences (
 abbrev pub AllAllowed : World → List Event → Type 0
 AllAllowed w [] = Unit {0}
 AllAllowed w (e ∷ es) = Allowed w e × AllAllowed (step w e) es
+
+-- a claim about every history that begins with a done format and meets the premises
+abbrev pub Always : (World → List Event → Type 0) → Type 0
+Always Claim = (groups homes : ℕ) (f : Formatting groups homes) (es : List Event) → AllAllowed (afterFormat f) es → Claim (afterFormat f) es

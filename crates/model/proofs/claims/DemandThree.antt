@@ -13,9 +13,10 @@ use Rattle.model.specs.Calls.{sizeOf, settleCall, trimCall}
 use Rattle.model.specs.Crash.{fences, persist, fates}
 use Rattle.model.specs.Book.{Commit, Book, run, ended, crash}
 use Rattle.model.specs.Demands.{Opened, Crashed, NoneOwed, lost, Holds, AllHold, CallHolds, Demand3}
-use Rattle.model.specs.History.{Change, begins, aborts, stores, commits, flushes, Service, settles, trims, reads, Call, opening, confirm, change, service, settle, trim, Event, call, crash as cut, World, afterFormat, lent, ends, serviceEnds, isOpening, step, afterCrash, Allowed, AllAllowed}
+use Rattle.model.specs.History.{Change, begins, aborts, stores, commits, flushes, Service, settles, trims, reads, Call, opening, confirm, change, service, settle, trim, Event, call, crash as cut, World, emptyStore, lent, ends, serviceEnds, isOpening, step, afterCrash, Allowed, AllAllowed}
 use Rattle.model.proofs.strip.QuestionLaws.{settle-ready, trim-ready}
 use Rattle.model.proofs.steps.DoneLaws.{after, fits}
+use Rattle.model.proofs.steps.FormatRuns.{from-format}
 use Rattle.model.proofs.steps.Beginning.{format-closed}
 use Rattle.model.proofs.steps.CallRuns.{Done, by-answer, begin-keeps, abort-keeps, store-keeps, commit-keeps, flush-keeps, confirm-keeps, read-keeps}
 use Rattle.model.proofs.steps.SettleRuns.{settle-runs, settle-formed}
@@ -96,6 +97,4 @@ module _ (G D : ℕ) (z : Sizes G D) where
   all-hold (e ∷ es) w i a = let k = keeps w i e (a .0) in (k .1, all-hold es (step w e) (k .0) (a .1))
 
 pub demand3 : Demand3
-demand3 groups homes low high some most es a =
-    all-hold groups homes (record { low = low; high = high; some-home = some; homes = most }) es (afterFormat groups homes)
-    (inl (format-closed groups homes (record { low = low; high = high; some-home = some; homes = most }))) a
+demand3 = from-format AllHold (λ G D z es a. all-hold G D z es (emptyStore G D) (inl (format-closed G D z)) a)

@@ -20,7 +20,7 @@ use Rattle.model.specs.Calls.{outcome, sizeOf, openCall, beginCall, abor
 use Rattle.model.specs.Book.{homesAfter}
 use Rattle.model.specs.Demands.{groupWrites}
 use Rattle.model.specs.Facts.{slotWritten, headerWritten, writtenOnce, FormatOnce, PendingOnce, RowsWritten}
-use Rattle.model.specs.History.{Change, begins, aborts, stores, commits, flushes, Service, settles, trims, reads, change, service, changeEnds, serviceEnds, Call, opening, begin, abort, store, commit, flush, confirm, settle, trim, read, Event, call, crash, World, afterFormat, lent, loaded, ends, isOpening, afterCrash, step, after as along, Allowed, AllAllowed}
+use Rattle.model.specs.History.{Change, begins, aborts, stores, commits, flushes, Service, settles, trims, reads, change, service, changeEnds, serviceEnds, Call, opening, begin, abort, store, commit, flush, confirm, settle, trim, read, Event, call, crash, World, unopened, emptyStore, lent, loaded, ends, isOpening, afterCrash, step, after as along, Allowed, AllAllowed}
 use Rattle.model.proofs.bytes.LayoutLaws.{length-groupAt, group-fits, length-header}
 use Rattle.model.proofs.strip.BatchLaws.{AllFormed, formed-append}
 use Rattle.model.proofs.strip.QuestionLaws.{open-ready, store-ready, commit-ready, flush-ready, settle-ready, trim-ready}
@@ -34,6 +34,7 @@ use Rattle.model.proofs.steps.OpenStep.{open-effect}
 use Rattle.model.proofs.steps.OpenKeeps.{homes-formed}
 use Rattle.model.proofs.steps.SettleRuns.{settle-formed}
 use Rattle.model.proofs.steps.TrimRuns.{trim-formed}
+use Rattle.model.proofs.steps.FormatRuns.{from-format}
 use Rattle.model.proofs.steps.Beginning.{format-closed}
 use Rattle.model.proofs.claims.DemandThree.{keeps}
 use Rattle.model.proofs.claims.Yields.{rows-pending}
@@ -356,13 +357,15 @@ pub format-once : FormatOnce
 format-once groups homes = once-formatted groups homes
 
 pub pending-once : PendingOnce
-pending-once groups homes low high least most es a =
-    let z : Sizes groups homes = record { low = low; high = high; some-home = least; homes = most } in
-    along-history groups homes z Once (once-keeps groups homes z) es (afterFormat groups homes) (inl (format-closed groups homes z))
-    (unfold afterFormat writtenOnce in refl) a .1
+pending-once =
+    from-format (λ w es. Once (along w es))
+    (λ G D z es a.
+    along-history G D z Once (once-keeps G D z) es (emptyStore G D) (inl (format-closed G D z))
+    (unfold emptyStore unopened writtenOnce in refl) a .1)
 
 pub rows-with-writes : RowsWritten
-rows-with-writes groups homes low high least most es a =
-    let z : Sizes groups homes = record { low = low; high = high; some-home = least; homes = most } in
-    rows-written groups homes z (along (afterFormat groups homes) es)
-    (along-history groups homes z (λ w. Unit {0}) (λ w i p e b. tt) es (afterFormat groups homes) (inl (format-closed groups homes z)) tt a .0)
+rows-with-writes =
+    from-format (λ w es. along w es .book .rows ≡ groupWrites (along w es .pending))
+    (λ G D z es a.
+    rows-written G D z (along (emptyStore G D) es)
+    (along-history G D z (λ w. Unit {0}) (λ w i p e b. tt) es (emptyStore G D) (inl (format-closed G D z)) tt a .0))

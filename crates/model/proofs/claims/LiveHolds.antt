@@ -19,7 +19,7 @@ use Rattle.model.specs.Effects.{Given, groups, homes, replayed, liveTags
 use Rattle.model.specs.Questions.{writerKnown, homeKnown, readAnswer}
 use Rattle.model.specs.Calls.{Outcome, done, readCall}
 use Rattle.model.specs.Book.{Entry, Commit, Task, homesAfter, newestEntry, heldOr, ownOr, reads}
-use Rattle.model.specs.Demands.{contents, eachContents, foundIn, heldEntries, untrimmed, closedBelow, Live}
+use Rattle.model.specs.Demands.{foundIn, untrimmed, closedBelow, Live}
 use Rattle.model.specs.History.{World, lent, ends, read, serviceEnds}
 use Rattle.model.proofs.bytes.LayoutLaws.{groups-in}
 use Rattle.model.proofs.strip.OrderLaws.{order-in}
@@ -34,45 +34,11 @@ use Rattle.model.proofs.invariant.RunLaws.{closedBelow-old}
 use Rattle.model.proofs.invariant.Invariant.{Sizes, entryFor, entriesFor, Matches, OldCommits, Commits, TaskOk, Copies, Running}
 use Rattle.model.proofs.invariant.LiveLog.{tagsIn, baseOf, endOf, keptIn, Shown, all-each, live-from, live-order, lent-groups, lent-homes, lent-tags, live-tags, live-transactions, kept-shown, open-shown}
 use Rattle.model.proofs.steps.SettleRuns.{settle-area}
-use Rattle.model.proofs.invariant.BookReplay.{ticket-above}
+use Rattle.model.proofs.invariant.ReadBack.{SeenIn, untrimmed-old, untrimmed-matches}
 
 -- what is lent shows, at a position, the home and the block that the trace has there
 abbrev Seen : Given → ℕ → List Ev → ℕ → Type 0
-Seen g b tr p = (homeOf (liveTags g p) ≡ homeOn (7 * b) tr p) × (blockAt (g .log) (groups g) p ≡ blockOn (7 * b) tr p)
-
--- ---- the log copy, read back
-
-held-append : (xs ys : List Entry) → heldEntries (xs ++ ys) ≡ heldEntries xs ++ heldEntries ys
-unfolding heldEntries
-held-append [] ys = refl
-held-append (e ∷ xs) ys = rw (held-append xs ys)
-
-contents-held : (g : Given) (b : ℕ) (tr : List Ev) (t : List ℕ) → All (Seen g b tr) t → contents g t ≡ heldEntries (entriesFor b tr t)
-unfolding contents heldEntries entriesFor entryFor
-contents-held g b tr [] a = refl
-contents-held g b tr (p ∷ ps) a =
-    rw (contents-held g b tr ps (a .1), a .0 .0, a .0 .1, held-append (entriesFor b tr ps) (entryFor b tr p ∷ []))
-
-untrimmed-old : (D c : ℕ) (old new : List Commit) → OldCommits D old → untrimmed c (old ++ new) ≡ untrimmed c new
-unfolding untrimmed
-untrimmed-old D c [] new h = refl
-untrimmed-old D c (k ∷ ks) new h = rw (h .0, le-ltb c 0 (omega arith)) (untrimmed-old D c ks new (h .2))
-
-untrimmed-matches : (g : Given) (b : ℕ) (tr : List Ev) (c : ℕ) (cs : List Commit) (ts : List (List ℕ)) → Matches b tr cs ts
-    → All (All (Seen g b tr)) (closingFrom c ts) → eachContents g (closingFrom c ts) ≡ untrimmed c cs
-unfolding untrimmed closingFrom eachContents
-untrimmed-matches g b tr c [] [] m a = refl
-untrimmed-matches g b tr c [] (t ∷ ts) m a = absurd m
-untrimmed-matches g b tr c (k ∷ cs) [] m a = absurd m
-untrimmed-matches g b tr c (k ∷ cs) (t ∷ ts) m a =
-    rw (m .0, m .1, ticket-above (closerOf t) c) (go (leb c (closerOf t)) a (untrimmed-matches g b tr c cs ts (m .2)))
-  where
-    go : (d : Bool) → All (All (Seen g b tr)) (cond d (t ∷ closingFrom c ts) (closingFrom c ts))
-        → (All (All (Seen g b tr)) (closingFrom c ts) → eachContents g (closingFrom c ts) ≡ untrimmed c cs)
-        → eachContents g (cond d (t ∷ closingFrom c ts) (closingFrom c ts))
-        ≡ cond d (heldEntries (entriesFor b tr t) ∷ untrimmed c cs) (untrimmed c cs)
-    go true a ih = rw (contents-held g b tr t (a .0), ih (a .1))
-    go false a ih = ih a
+Seen g b tr p = SeenIn (liveTags g) (g .log) (groups g) b tr p
 
 -- ---- the book's commits close below the next position
 
@@ -185,9 +151,9 @@ module _ (G D b : ℕ) (tr : List Ev) (old : List Commit) (w : World) (z : Sizes
     found-entries : foundIn g ≡ untrimmed (baseOf w) (w .book .commits)
     unfolding foundIn lent liveBase
     found-entries =
-        rw (lent-tags G D b tr w z c block [] v h, live-transactions G D b tr w z c, k .split, untrimmed-old D (baseOf w) old (k .new) (k .past))
-        (untrimmed-matches g b tr (baseOf w) (k .new) (hist (7 * b) tr .done) (k .matches)
-        (all-each (Shown G D b tr w) (Seen g b tr) seen (keptIn b tr w) (kept-shown G D b tr w z c)))
+        rw (lent-tags G D b tr w z c block [] v h, lent-groups G D b tr w z c block [] v h, live-transactions G D b tr w z c, k .split, untrimmed-old D (baseOf w) old (k .new) (k .past))
+        (untrimmed-matches (tagsIn G D w) (w .log) G b tr (baseOf w) (k .new) (hist (7 * b) tr .done) (k .matches)
+        (all-each (Shown G D b tr w) (SeenIn (tagsIn G D w) (w .log) G b tr) (λ p s. (s .home, s .block)) (keptIn b tr w) (kept-shown G D b tr w z c)))
 
     -- the newest committed block, else the data copy's
     current-is : h < D → current g ≡ homeAt (homesAfter D (w .book .commits)) h

@@ -4,14 +4,18 @@ use mathlib.Core.Bool.{Bool, true, false, not, _&&_, false≢true}
 use mathlib.Core.List.{List, [], _∷_}
 use Prim.Native.Nat.{ℕ, zero, suc}
 use native.Mathlib.Omega.{arith}
-use lib.Dec.{leb, lit≤}
-use lib.ListN.{length}
+use lib.Dec.{leb}
+use lib.ListN.{length, length-replicate}
 use borrow.Author.Tests.{leb-true}
+use Rattle.model.specs.Calls.{formatCall}
 use Rattle.model.specs.Crash.{fences}
 use Rattle.model.specs.Demands.{AllHold}
-use Rattle.model.specs.History.{Call, Event, call, crash, World, afterFormat, isOpening, step, Allowed, AllAllowed}
-use Rattle.model.specs.Witnesses.{alike, allowed, allAllowed, history4, history5, historyInside, commitsAfter, readyAfter}
+use Rattle.model.specs.History.{Call, Event, call, crash, World, Formatting, afterFormat, emptyStore, isOpening, step, Allowed, AllAllowed}
+use Rattle.model.specs.Trials.{unformatted}
+use Rattle.model.specs.Witnesses.{usedBefore, alike, allowed, allAllowed, history4, history5, historyInside, commitsAfter, readyAfter}
 use Rattle.model.proofs.strip.QuestionLaws.{and-true}
+use Rattle.model.proofs.bytes.ByteLaws.{length-zeros}
+use Rattle.model.proofs.steps.FormatRuns.{after-format}
 use Rattle.model.proofs.claims.Computing.{all-definitions}
 use Rattle.model.proofs.claims.DemandThree.{demand3}
 
@@ -36,13 +40,34 @@ premises-met (e ∷ es) w h =
     let k = and-true (allowed w e) (allAllowed (step w e) es) h in
     (allowed-true w e (k .0), premises-met es (step w e) (k .1))
 
+-- a format that is done, of sizes 4 and 8
+format-done : formatCall unformatted .code ≡ 0
+unfolding all-definitions
+format-done = refl
+
+pub format : Formatting 4 8
+unfolding usedBefore unformatted
+format =
+    record {
+      memory = usedBefore;
+      given = unformatted;
+      logSize = length-replicate {A = ℕ} 2112 255;
+      areaSize = length-replicate {A = ℕ} 512 255;
+      logCopy = length-zeros 2112;
+      areaCopy = length-zeros 512;
+      done = format-done;
+    }
+
+met-after : (es : List Event) → allAllowed (emptyStore 4 8) es ≡ true → AllAllowed (afterFormat format) es
+met-after es h = rw (after-format format) (premises-met es (emptyStore 4 8) h)
+
 -- trial 4: the premises are met, the claim holds, the last opening is done, and one commit is in the run
-met4 : allAllowed (afterFormat 4 8) history4 ≡ true
+met4 : allAllowed (emptyStore 4 8) history4 ≡ true
 unfolding all-definitions
 met4 = refl
 
-pub holds4 : AllHold (afterFormat 4 8) history4
-holds4 = demand3 4 8 (lit≤ tt) (lit≤ tt) (lit≤ tt) (lit≤ tt) history4 (premises-met history4 (afterFormat 4 8) met4)
+pub holds4 : AllHold (afterFormat format) history4
+holds4 = demand3 4 8 format history4 (met-after history4 met4)
 
 pub one-survives : commitsAfter history4 ≡ 1
 unfolding all-definitions
@@ -53,24 +78,24 @@ unfolding all-definitions
 ready4 = refl
 
 -- trial 5: none
-met5 : allAllowed (afterFormat 4 8) history5 ≡ true
+met5 : allAllowed (emptyStore 4 8) history5 ≡ true
 unfolding all-definitions
 met5 = refl
 
-pub holds5 : AllHold (afterFormat 4 8) history5
-holds5 = demand3 4 8 (lit≤ tt) (lit≤ tt) (lit≤ tt) (lit≤ tt) history5 (premises-met history5 (afterFormat 4 8) met5)
+pub holds5 : AllHold (afterFormat format) history5
+holds5 = demand3 4 8 format history5 (met-after history5 met5)
 
 pub none-survives : commitsAfter history5 ≡ 0
 unfolding all-definitions
 none-survives = refl
 
 -- a crash inside an opening: the next one brings the commit back
-met-inside : allAllowed (afterFormat 4 8) historyInside ≡ true
+met-inside : allAllowed (emptyStore 4 8) historyInside ≡ true
 unfolding all-definitions
 met-inside = refl
 
-pub holds-inside : AllHold (afterFormat 4 8) historyInside
-holds-inside = demand3 4 8 (lit≤ tt) (lit≤ tt) (lit≤ tt) (lit≤ tt) historyInside (premises-met historyInside (afterFormat 4 8) met-inside)
+pub holds-inside : AllHold (afterFormat format) historyInside
+holds-inside = demand3 4 8 format historyInside (met-after historyInside met-inside)
 
 pub one-comes-back : commitsAfter historyInside ≡ 1
 unfolding all-definitions

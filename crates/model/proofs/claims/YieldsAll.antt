@@ -16,11 +16,13 @@ use Rattle.model.specs.Calls.{Outcome, done, sizeOf, commitCall}
 use Rattle.model.specs.Book.{Commit, Task, idle, opened, Book, filledUp, submit, grown, withTask, addCommit, entryOf, storeTask, commitTask, owedBy, owedAll, withCommits}
 use Rattle.model.specs.Book as book
 use Rattle.model.specs.Demands.{Live, Yields, ServiceYields, YieldsAt, LiveThroughout, Demand2}
-use Rattle.model.specs.History.{Change, begins, aborts, stores, commits, flushes, Service, settles, trims, reads, Call, opening, confirm, change, service, commit, Event, call, crash, World, afterFormat, lent, ends, changeEnds, feed, feedChange, isOpening, afterDone, afterCall, afterCrash, step, Allowed, AllAllowed}
+use Rattle.model.specs.History.{Change, begins, aborts, stores, commits, flushes, Service, settles, trims, reads, Call, opening, confirm, change, service, commit, Event, call, crash, World, unopened, emptyStore, lent, ends, changeEnds, feed, feedChange, isOpening, afterDone, afterCall, afterCrash, step, Allowed, AllAllowed}
 use Rattle.model.proofs.strip.QuestionLaws.{commit-ready}
+use Rattle.model.proofs.steps.RefusalLaws.{left-as-lent}
 use Rattle.model.proofs.steps.DoneLaws.{outcome-code}
 use Rattle.model.proofs.trace.Trace.{Ev}
 use Rattle.model.proofs.invariant.Invariant.{Sizes, TaskOk, Running, Invariant}
+use Rattle.model.proofs.steps.FormatRuns.{from-format}
 use Rattle.model.proofs.steps.Beginning.{format-closed}
 use Rattle.model.proofs.claims.DemandThree.{keeps}
 use Rattle.model.proofs.claims.Yields.{PastOwed, ends-done, confirm-yields, settle-yields}
@@ -87,7 +89,7 @@ step-by P w c p f = go (ends w c .code) refl
   where
     go : (n : ℕ) → ends w c .code ≡ n → P (afterCall w c (ends w c) n)
     go zero e = f e
-    go (suc n) e = p
+    go (suc n) e = rw (left-as-lent w c n e) p
 
 -- a writer that holds nothing has no block to commit
 idle-ticketed : (b : ℕ) (tr : List Ev) (r : Writer) (held ps : List ℕ) (t : Task) (ticket : ℕ) → TaskOk b tr r held ps t → r .mode < 2
@@ -211,12 +213,11 @@ module _ (G D : ℕ) (z : Sizes G D) where
       live-throughout es (step w e) (keeps G D z w i e (a .0) .0) (owing-keeps w i o e (a .0)) (a .1),
     )
 
-pub format-owing : (groups homes : ℕ) → Owing (afterFormat groups homes)
-unfolding afterFormat
+pub format-owing : (groups homes : ℕ) → Owing (emptyStore groups homes)
+unfolding emptyStore unopened
 format-owing groups homes h = absurd (false≢true h)
 
 pub demand2-from : ((G D : ℕ) → Sizes G D → (w : World) → Running G D w → Live w) → Demand2
-demand2-from live groups homes low high least most es a =
-    let z : Sizes groups homes = record { low = low; high = high; some-home = least; homes = most } in
-    live-throughout groups homes z (live groups homes z) es (afterFormat groups homes) (inl (format-closed groups homes z))
-    (format-owing groups homes) a
+demand2-from live =
+    from-format LiveThroughout
+    (λ G D z es a. live-throughout G D z (live G D z) es (emptyStore G D) (inl (format-closed G D z)) (format-owing G D) a)

@@ -128,12 +128,12 @@ module _ (G D b : ℕ) (e : Ev) (tr : List Ev) (cs : List Commit) (m : Memory) (
       late : 7 * headerStart (m .log) < c .ticket
       late = omega (arith, oldest-upto (7 * b) e tr .1)
 
-module _ (G D b : ℕ) (e : Ev) (tr : List Ev) (old cs : List Commit) (m : Memory) (fs : List (ℕ → Bool)) where
-  pub image-gap : e .used ≡ false → ImageOk G D b tr old cs m fs → ImageOk G D b (e ∷ tr) old cs m fs
+module _ (G D b : ℕ) (was : List ℕ) (e : Ev) (tr : List Ev) (old cs : List Commit) (m : Memory) (fs : List (ℕ → Bool)) where
+  pub image-gap : e .used ≡ false → ImageOk G D b was tr old cs m fs → ImageOk G D b was (e ∷ tr) old cs m fs
   image-gap u (inl i) = inl i
   image-gap u (inr l) = inr (late-gap G D b e tr cs m fs u l)
 
-  pub image-open : e .final ≡ false → ImageOk G D b tr old cs m fs → ImageOk G D b (e ∷ tr) old cs m fs
+  pub image-open : e .final ≡ false → ImageOk G D b was tr old cs m fs → ImageOk G D b was (e ∷ tr) old cs m fs
   image-open f (inl i) = inl i
   image-open f (inr l) = inr (late-open G D b e tr cs m fs f l)
 
@@ -141,6 +141,6 @@ module _ (G D b : ℕ) (e : Ev) (tr : List Ev) (old cs : List Commit) (m : Memor
       → c .entries ≡ entriesFor b (e ∷ tr) ((7 * b + length tr) ∷ mine (hist (7 * b) tr) e) → c .ticket ≡ 7 * b + length tr + 1
       → fateAt fs ((7 * b + length tr) / 7 - b) 0 ≡ false
       → (Late G D b tr cs m fs → 7 * headerStart (m .log) ≤ oldestOf ((7 * b + length tr) ∷ mine (hist (7 * b) tr) e))
-      → ImageOk G D b tr old cs m fs → ImageOk G D b (e ∷ tr) old (cs ++ (c ∷ [])) m fs
+      → ImageOk G D b was tr old cs m fs → ImageOk G D b was (e ∷ tr) old (cs ++ (c ∷ [])) m fs
   image-close c u f es k a h (inl i) = inl i
   image-close c u f es k a h (inr l) = inr (late-close G D b e tr cs m fs c u f es k a (h l) l)

@@ -158,13 +158,14 @@ pub record Late (G D b : ℕ) (tr : List Ev) (commits : List Commit) (m : Memory
       (homeAt (m .area) h ≡ homeAt (homesAfter D (closedBelow (7 * headerStart (m .log)) commits)) h)
       ⊎ (touchesAbove (7 * headerStart (m .log)) h (run fs commits) ≡ true)
 
--- the header of this era has not persisted: no group of it has, and opening gives what the last opening gave
-pub record Early (G D : ℕ) (old : List Commit) (m : Memory) (fs : List (ℕ → Bool)) : Type 0 where
+-- the header of this era has not persisted: no group of it has, the log is as the last opening found it, and opening gives what that one gave
+pub record Early (G D : ℕ) (was : List ℕ) (old : List Commit) (m : Memory) (fs : List (ℕ → Bool)) : Type 0 where
+  pub same : m .log ≡ was
   pub opens : Opens G D m (homesAfter D old)
   pub nothing : (r k : ℕ) → fateAt fs r k ≡ false
 
-abbrev pub ImageOk : (G D b : ℕ) → List Ev → List Commit → List Commit → Memory → List (ℕ → Bool) → Type 0
-ImageOk G D b tr old commits m fs = Early G D old m fs ⊎ Late G D b tr commits m fs
+abbrev pub ImageOk : (G D b : ℕ) → List ℕ → List Ev → List Commit → List Commit → Memory → List (ℕ → Bool) → Type 0
+ImageOk G D b was tr old commits m fs = Early G D was old m fs ⊎ Late G D b tr commits m fs
 
 -- What the program holds
 
@@ -229,7 +230,7 @@ pub record Submitted (G D b : ℕ) (tr : List Ev) (old : List Commit) (w : World
   pub images :
       (passed : ℕ) (chosen : ℕ → Bool) →
       passed < fences (fenced ++ (FN ∷ [])) →
-      ImageOk G D b tr old (w .book .commits) (persist passed chosen (fenced ++ (FN ∷ [])) (w .memory)) (fates passed chosen (fenced ++ (FN ∷ [])))
+      ImageOk G D b (w .memory .log) tr old (w .book .commits) (persist passed chosen (fenced ++ (FN ∷ [])) (w .memory)) (fates passed chosen (fenced ++ (FN ∷ [])))
   -- none of them has a header from the time to come
   pub bounded :
       (passed : ℕ) (chosen : ℕ → Bool) →

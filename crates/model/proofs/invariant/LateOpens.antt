@@ -18,7 +18,8 @@ use Rattle.model.specs.Commit.{transactions, replay}
 use Rattle.model.specs.Effects.{restore, replayed}
 use Rattle.model.specs.Crash.{Memory}
 use Rattle.model.specs.Book.{Commit, fateAt, run, writeCommits, homesAfter}
-use Rattle.model.specs.Demands.{closedBelow}
+use Rattle.model.specs.Demands.{eachContents, untrimmed, closedBelow}
+use Rattle.model.specs.Store.{foundInMemory}
 use Rattle.model.proofs.bytes.ByteLaws.{length-zeros}
 use Rattle.model.proofs.trace.Trace.{Ev, hist, tagAt, homeOn, blockOn, firstIn, surviving, closerOf, oldestOf, closingFrom, allLanded, whole, Apart}
 use Rattle.model.proofs.trace.TraceLaws.{All, all-map, Falling, falling-inside, Names, Named, tagAt-beyond, tagAt-back, tagAt-home, done-falling, done-rising, done-named, surviving-nothing}
@@ -26,6 +27,7 @@ use Rattle.model.proofs.trace.WalkLaws.{Agree, transactions-local, tran
 use Rattle.model.proofs.trace.Survivors.{survivors-if}
 use Rattle.model.proofs.invariant.RunLaws.{run-matches, run-old, closedBelow-old, closedBelow-matches, SafeBelow, whole-split, whole-above}
 use Rattle.model.proofs.invariant.BookReplay.{place, writeCommits-append, replay-append, commits-replay, replay-ext, restore-place, hitsAny, Fits, fits-used, replay-area, touches-hits, touches-old, length-writeCommits}
+use Rattle.model.proofs.invariant.ReadBack.{SeenIn, untrimmed-old, untrimmed-matches}
 use Rattle.model.proofs.invariant.LogStep.{used-present, entry-of-holds, entry-of-notgroup, block-of-holds}
 use Rattle.model.proofs.invariant.Invariant.{Sizes, usedAt, Sound, Holds, Commits, Opens, touchesAbove, landedIn, Late}
 
@@ -201,22 +203,28 @@ module _ (G D b : ℕ) (tr : List Ev) (old commits : List Commit) (m : Memory) (
   unfolding surviving says
   rest-kept p e l = rw (e, le-leb c (firstIn (log p)) l, says)
 
-  restored-at : (p : ℕ) → landed p ≡ true → c ≤ firstIn (log p) → present (log p) ≡ true → (a : List ℕ)
-      → restore (m .log) G tags p a ≡ place b tr p a
-  restored-at p e l h =
+  -- the log shows what the trace has at an entry that persisted
+  seen-at : (p : ℕ) → landed p ≡ true → c ≤ firstIn (log p) → present (log p) ≡ true → SeenIn tags (m .log) G b tr p
+  seen-at p e l h =
       let o : c ≤ p = omega (arith, tagAt-back (7 * b) tr p) in
-      let g = group-held p o e in
-      restore-place (m .log) G tags b tr p
-      (ap homeOf (tags-rest p o (omega (arith, g .0)) ∙ rest-kept p e l) ∙ tagAt-home (7 * b) tr p h)
-      (block-held p (g .1) (used-present (7 * b) tr p ∙ h))
+      let g = group-held p o e in (
+        ap homeOf (tags-rest p o (omega (arith, g .0)) ∙ rest-kept p e l) ∙ tagAt-home (7 * b) tr p h,
+        block-held p (g .1) (used-present (7 * b) tr p ∙ h),
+      )
+
+  seen : All (All (SeenIn tags (m .log) G b tr)) saved
+  seen =
+      all-taken landed c (Named log) (All (SeenIn tags (m .log) G b tr))
+      (λ t n l a.
+      all-both (Names log (oldestOf t)) (λ p. landed p ≡ true) (SeenIn tags (m .log) G b tr)
+      (λ p k e. seen-at p e (omega (arith, k .1)) (k .0)) t n (landed-each landed t a))
+      done (done-named (7 * b) tr) (late .apart)
 
   placed : All (All (λ p. (a : List ℕ) → restore (m .log) G tags p a ≡ place b tr p a)) saved
   placed =
-      all-taken landed c (Named log) (All (λ p. (a : List ℕ) → restore (m .log) G tags p a ≡ place b tr p a))
-      (λ t n l a.
-      all-both (Names log (oldestOf t)) (λ p. landed p ≡ true) (λ p. (x : List ℕ) → restore (m .log) G tags p x ≡ place b tr p x)
-      (λ p k e. restored-at p e (omega (arith, k .1)) (k .0)) t n (landed-each landed t a))
-      done (done-named (7 * b) tr) (late .apart)
+      all-map (All (SeenIn tags (m .log) G b tr)) (All (λ p. (a : List ℕ) → restore (m .log) G tags p a ≡ place b tr p a))
+      (all-map (SeenIn tags (m .log) G b tr) (λ p. (a : List ℕ) → restore (m .log) G tags p a ≡ place b tr p a)
+      (λ p k. restore-place (m .log) G tags b tr p (k .0) (k .1))) saved seen
 
   fits : All (All (Fits D b tr)) saved
   fits =
@@ -280,3 +288,12 @@ module _ (G D b : ℕ) (tr : List Ev) (old commits : List Commit) (m : Memory) (
         numbers = late .numbers;
         restored = brought-back;
       }
+
+  -- what the rule finds, entry by entry: the commits of the run that the header has not trimmed
+  pub late-found : foundInMemory G D m ≡ untrimmed c (run fs commits)
+  unfolding foundInMemory
+  late-found =
+      ap (eachContents tags (m .log) G) (found ∙ sym (whole-above landed c done safe))
+      ∙ untrimmed-matches tags (m .log) G b tr c (run fs (known .new)) (whole landed done) (run-matches b tr fs (known .new) done (known .matches))
+      (rw (whole-above landed c done safe) seen)
+      ∙ sym (rw (known .split, run-old D fs old (known .new) (known .past)) (untrimmed-old D c old (run fs (known .new)) (known .past)))

@@ -19,7 +19,9 @@ use Rattle.model.specs.Effects.{Given, formattedLog, replayed}
 use Rattle.model.specs.Questions.{ask, areasRight, stateRight, headerFits, startFits, batchFits, openAnswer}
 use Rattle.model.specs.Crash.{Memory}
 use Rattle.model.specs.Book.{Commit, homesAfter, writeCommits, empty}
-use Rattle.model.specs.History.{World, afterFormat, loaded}
+use Rattle.model.specs.History.{World, unopened, emptyStore, loaded}
+use Rattle.model.specs.Demands.{eachContents}
+use Rattle.model.specs.Store.{foundInMemory}
 use Rattle.model.specs.declared.Tag.{Tag}
 use Rattle.model.specs.declared.Tag.the-variants.{Nothing}
 use Rattle.model.proofs.bytes.ByteLaws.{length-puts, length-zeros, length-part, part-within}
@@ -53,7 +55,7 @@ nothing-found log G D s g f n =
     ∙ (unfold transactions committed walk started eachEntries in refl)
 
 -- zeros hold no group
-part-zeros : (n at k : ℕ) → at + k ≤ n → part (zeros n) at k ≡ zeros k
+pub part-zeros : (n at k : ℕ) → at + k ≤ n → part (zeros n) at k ≡ zeros k
 unfolding part
 part-zeros n at k h =
     let l : length (part (zeros n) at k) ≡ k = length-part (zeros n) at k (omega (arith, length-zeros n)) in
@@ -72,9 +74,18 @@ module _ (G D : ℕ) (z : Sizes G D) where
       let e : groupAt (puts (zeros N) 0 (header 0 G D)) slot ≡ groupAt (zeros N) slot = group-header (zeros N) (header 0 G D) slot (omega (arith, length-header 0 G D)) in
       absurd (false≢true (sym (zero-group N slot (omega (arith, group-fits slot (zeros N) G l (length-zeros N), length-zeros N))) ∙ rw e at h))
 
-  formatted-start : headerStart (formattedLog G D) ≡ 0
+  pub formatted-start : headerStart (formattedLog G D) ≡ 0
   unfolding formattedLog
   formatted-start = header-start (zeros (64 + 512 * G)) 0 G D (omega arith) (omega (arith, length-zeros (64 + 512 * G)))
+
+  -- the rule finds nothing in it
+  formatted-transactions : transactions (entryAt (formattedLog G D) G D (headerStart (formattedLog G D))) (7 * headerStart (formattedLog G D)) (7 * G) ≡ []
+  formatted-transactions =
+      nothing-found (formattedLog G D) G D (headerStart (formattedLog G D)) (omega arith) (rw formatted-start formatted-numbers) (7 * G)
+
+  pub formatted-found : foundInMemory G D (record { log = formattedLog G D; area = zeros (64 * D) }) ≡ []
+  unfolding foundInMemory
+  formatted-found = rw formatted-transactions (unfold eachContents in refl)
 
   formatted-opens : Opens G D (record { log = formattedLog G D; area = zeros (64 * D) }) (zeros (64 * D))
   unfolding replayed replay
@@ -85,7 +96,7 @@ module _ (G D : ℕ) (z : Sizes G D) where
         header = right;
         start = omega (arith, formatted-start);
         numbers = λ slot l h. let k = formatted-numbers slot l h in absurd (omega arith);
-        restored = rw (nothing-found (formattedLog G D) G D (headerStart (formattedLog G D)) (omega arith) (rw formatted-start formatted-numbers) (7 * G));
+        restored = rw formatted-transactions;
       }
     where
       size : length (formattedLog G D) ≡ 64 + 512 * G
@@ -94,8 +105,8 @@ module _ (G D : ℕ) (z : Sizes G D) where
       right : headerRight (formattedLog G D) G D ≡ true
       right = unfold formattedLog in header-right (zeros (64 + 512 * G)) 0 G D (omega arith) (omega arith) (omega (arith, length-zeros (64 + 512 * G)))
 
-  pub format-closed : Closed G D (afterFormat G D)
-  unfolding afterFormat empty homesAfter writeCommits
+  pub format-closed : Closed G D (emptyStore G D)
+  unfolding emptyStore unopened empty homesAfter writeCommits
   format-closed =
       record {
         ready = refl;

@@ -22,7 +22,8 @@ use Rattle.model.specs.History.{Call, begin, abort, store, commit, flush
 use Rattle.model.proofs.bytes.LayoutLaws.{groups-in, homes-in, length-groupAt, group-fits}
 use Rattle.model.proofs.strip.BatchLaws.{AllFormed}
 use Rattle.model.proofs.strip.QuestionLaws.{StoreReady, CommitReady, begin-ready, abort-ready, store-ready, commit-ready, flush-ready, confirm-ready, read-ready}
-use Rattle.model.proofs.steps.DoneLaws.{outcome-code, outcome-done, step-refused, step-done, after, fits}
+use Rattle.model.proofs.steps.RefusalLaws.{step-refused}
+use Rattle.model.proofs.steps.DoneLaws.{outcome-code, outcome-done, step-done, after, fits}
 use Rattle.model.proofs.steps.LogRuns.{logged-records, logged-log}
 use Rattle.model.proofs.invariant.LogStep.{length-entered}
 use Rattle.model.proofs.steps.WriterSteps.{begin-runs, abort-runs, store-first-runs, store-again-runs}

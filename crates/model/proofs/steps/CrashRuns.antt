@@ -194,10 +194,10 @@ module _ (G D : ℕ) (z : Sizes G D) (w : World) (r : Running G D w) (passed : �
   pending-fences : fences (w .pending) ≡ fences (s .fenced ++ (FN ∷ []))
   pending-fences = ap fences (s .split) ∙ fences-append (s .fenced ++ (FN ∷ [])) (submits G (s .group) (s .content) (s .count)) ∙ omega (arith, fences-submits G (s .group) (s .content) (s .count))
 
-  image : ImageOk G D (r .b) (r .tr) (r .old) (w .book .commits) m fs
+  pub image : ImageOk G D (r .b) (w .memory .log) (r .tr) (r .old) (w .book .commits) m fs
   image = go (decLt passed (fences (s .fenced ++ (FN ∷ []))))
     where
-      go : Dec (passed < fences (s .fenced ++ (FN ∷ []))) → ImageOk G D (r .b) (r .tr) (r .old) (w .book .commits) m fs
+      go : Dec (passed < fences (s .fenced ++ (FN ∷ []))) → ImageOk G D (r .b) (w .memory .log) (r .tr) (r .old) (w .book .commits) m fs
       go (yes h) =
           let e₁ : m ≡ persist passed chosen (s .fenced ++ (FN ∷ [])) (w .memory) = ap (λ (x : List Record). persist passed chosen x (w .memory)) (s .split) ∙ persist-stop passed chosen (s .fenced ++ (FN ∷ [])) _ (w .memory) h in
           let e₂ : fs ≡ fates passed chosen (s .fenced ++ (FN ∷ [])) = ap (fates passed chosen) (s .split) ∙ fates-stop passed chosen (s .fenced ++ (FN ∷ [])) _ h in
@@ -215,7 +215,7 @@ module _ (G D : ℕ) (z : Sizes G D) (w : World) (r : Running G D w) (passed : �
   opens-to : Opens G D m (homesAfter D (run fs (w .book .commits)))
   opens-to = go image
     where
-      go : ImageOk G D (r .b) (r .tr) (r .old) (w .book .commits) m fs → Opens G D m (homesAfter D (run fs (w .book .commits)))
+      go : ImageOk G D (r .b) (w .memory .log) (r .tr) (r .old) (w .book .commits) m fs → Opens G D m (homesAfter D (run fs (w .book .commits)))
       go (inl e) = rw (run-early D (r .b) (r .tr) (r .old) (w .book .commits) fs (r .commits) (e .nothing)) (e .opens)
       go (inr l) = late-opens G D (r .b) (r .tr) (r .old) (w .book .commits) m fs z (r .copies .sound) (r .commits) l
 
@@ -251,7 +251,7 @@ unfolding run
 run-all D fs cs o = ap (run fs) (sym (append-nil cs)) ∙ run-old D fs cs [] o ∙ append-nil cs
 
 module _ (G D : ℕ) (w : World) (c : Closed G D w) (passed : ℕ) (chosen : ℕ → Bool) where
-  same-memory : persist passed chosen (w .pending) (w .memory) ≡ w .memory
+  pub same-memory : persist passed chosen (w .pending) (w .memory) ≡ w .memory
   same-memory = rw (c .pending) (go passed)
     where
       go : (n : ℕ) → persist n chosen [] (w .memory) ≡ w .memory

@@ -27,11 +27,6 @@ unfolding outcome
 outcome-done g zero e h = refl
 outcome-done g (suc k) e h = absurd (omega arith)
 
--- a refused call leaves the world as it is
-pub step-refused : (w : World) (c : Call) (k : ℕ) → ends w c .code ≡ suc k → step w (call c) ≡ w
-unfolding step afterCall
-step-refused w c k h = rw h
-
 -- the records that a driver reads off a batch are those of the effect
 pub records-read : (g : Given) (e : Effect) → AllFormed (e .records) → sizeOf e ≤ length (g .batch)
     → readBatch (take (done g e .size) (done g e .batch)) ≡ e .records

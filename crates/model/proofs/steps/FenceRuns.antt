@@ -128,7 +128,7 @@ module _ (G D b : ℕ) (tr : List Ev) (old : List Commit) (w : World) (s : Submi
         start = rw (em, upto-written, es) (n .headStart);
         numbers = rw (em, upto-written) (n .numbers);
         there = rw (em, upto-written, es) (n .there);
-        images = rw (em, ec) (each-passed (λ m fs. ImageOk G D b tr old (w .book .commits) m fs) (s .images) (λ chosen. inr (late chosen)));
+        images = rw (em, ec) (each-passed (λ m fs. ImageOk G D b (w .memory .log) tr old (w .book .commits) m fs) (s .images) (λ chosen. inr (late chosen)));
         bounded = rw (em, es) (each-passed (λ m fs. headerStart (m .log) ≤ start) (λ passed chosen l. let h = s .bounded passed chosen l in omega arith) bound);
       }
     where

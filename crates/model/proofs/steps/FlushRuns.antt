@@ -260,8 +260,8 @@ module _ (G D : ℕ) (z : Sizes G D) (w : World) (r : Running G D w) (part : 0 <
         numbers = s .numbers;
         there = rw numbers₁ (λ n x y. holds₁ _ n (s .there n x y));
         images = λ passed chosen l.
-            gaps-keep (λ t. ImageOk G D b t (r .old) (w .book .commits) (persist passed chosen (s .fenced ++ (FN ∷ [])) (w .memory)) (fates passed chosen (s .fenced ++ (FN ∷ []))))
-            (λ t k. image-gap G D b gap t (r .old) (w .book .commits) _ _ unused k) (7 - st .filled) (r .tr) (s .images passed chosen l);
+            gaps-keep (λ t. ImageOk G D b (w .memory .log) t (r .old) (w .book .commits) (persist passed chosen (s .fenced ++ (FN ∷ [])) (w .memory)) (fates passed chosen (s .fenced ++ (FN ∷ []))))
+            (λ t k. image-gap G D b (w .memory .log) gap t (r .old) (w .book .commits) _ _ unused k) (7 - st .filled) (r .tr) (s .images passed chosen l);
         bounded = rw numbers₁ (s .bounded);
       }
     where

@@ -41,7 +41,7 @@ pub submitted-logged : (G D b : ℕ) (tr : List Ev) (old : List Commit) (w u : W
     → u .pending ≡ w .pending ++ cond (eqb (stateOf (w .state) .filled) 6) (GW (stateOf (w .state) .next % G) (groupAt (u .log) (stateOf (w .state) .next % G)) ∷ []) []
     → u .memory ≡ w .memory → u .area ≡ w .area
     → ((m : Memory) (fs : List (ℕ → Bool)) → headerStart (m .log) ≤ stateOf (w .state) .start → fateAt fs ((7 * b + length tr) / 7 - b) 0 ≡ false
-    → ImageOk G D b tr old (w .book .commits) m fs → ImageOk G D b (e ∷ tr) old (u .book .commits) m fs)
+    → ImageOk G D b (w .memory .log) tr old (w .book .commits) m fs → ImageOk G D b (w .memory .log) (e ∷ tr) old (u .book .commits) m fs)
     → Submitted G D b (e ∷ tr) old u
 submitted-logged G D b tr old w u e last s c c′ a room up um ua ig = go (a .moved)
   where
@@ -55,7 +55,7 @@ submitted-logged G D b tr old w u e last s c c′ a room up um ua ig = go (a .mo
     older bytes n l h = holds-older (7 * b) e tr bytes n (omega (arith, q)) h
 
     images′ : (passed : ℕ) (chosen : ℕ → Bool) → passed < fences (s .fenced ++ (FN ∷ []))
-        → ImageOk G D b (e ∷ tr) old (u .book .commits) (persist passed chosen (s .fenced ++ (FN ∷ [])) (w .memory)) (fates passed chosen (s .fenced ++ (FN ∷ [])))
+        → ImageOk G D b (w .memory .log) (e ∷ tr) old (u .book .commits) (persist passed chosen (s .fenced ++ (FN ∷ [])) (w .memory)) (fates passed chosen (s .fenced ++ (FN ∷ [])))
     images′ passed chosen l =
         ig _ _ (s .bounded passed chosen l)
         (fateAt-none passed chosen (s .fenced ++ (FN ∷ [])) ((7 * b + length tr) / 7 - b) 0 (omega (arith, groupWrites-fence (s .fenced), s .written, s .next, s .low, c .order .filled-most, q)))

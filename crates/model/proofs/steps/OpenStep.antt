@@ -103,13 +103,13 @@ module _ (G D : ℕ) (z : Sizes G D) (w : World) (c : Closed G D w) where
   written-area = ap (λ (x : Memory). x .area) written ∙ area-header-wrote (newHeader G D z m X o) (writeRecords (homeWrites X (hs G D z m X o)) m) ∙ all-written G D z m X o
 
   -- memory that a crash may leave before the opening's last fence
-  image-none : (chosen : ℕ → Bool) → ImageOk G D b [] old old (persist 0 chosen (fenced ++ (FN ∷ [])) m) (fates 0 chosen (fenced ++ (FN ∷ [])))
+  image-none : (chosen : ℕ → Bool) → ImageOk G D b (m .log) [] old old (persist 0 chosen (fenced ++ (FN ∷ [])) m) (fates 0 chosen (fenced ++ (FN ∷ [])))
   unfolding fateAt
   image-none chosen =
       rw (whole-batch, ← append-nil (homeWrites X (hs G D z m X o) ++ (FN ∷ KW (newHeader G D z m X o) ∷ FN ∷ [])), opening-none, opening-none-fates)
-      (inl (record { opens = rw (← homes-same) (early-chosen G D z m X o chosen); nothing = λ r k. refl }))
+      (inl (record { same = log-homes chosen 0 X (hs G D z m X o) m; opens = rw (← homes-same) (early-chosen G D z m X o chosen); nothing = λ r k. refl }))
 
-  image-one : (chosen : ℕ → Bool) → b ≤ 2 ^ 47 → ImageOk G D b [] old old (persist 1 chosen (fenced ++ (FN ∷ [])) m) (fates 1 chosen (fenced ++ (FN ∷ [])))
+  image-one : (chosen : ℕ → Bool) → b ≤ 2 ^ 47 → ImageOk G D b (m .log) [] old old (persist 1 chosen (fenced ++ (FN ∷ [])) m) (fates 1 chosen (fenced ++ (FN ∷ [])))
   image-one chosen most =
       rw (whole-batch, ← append-nil (homeWrites X (hs G D z m X o) ++ (FN ∷ KW (newHeader G D z m X o) ∷ FN ∷ [])), opening-one, opening-one-fates)
       (go (chosen 0) refl)
@@ -123,20 +123,20 @@ module _ (G D : ℕ) (z : Sizes G D) (w : World) (c : Closed G D w) where
       e-area : n .area ≡ writeRecords (homeWrites X (hs G D z m X o)) m .area
       e-area = area-header chosen 0 (newHeader G D z m X o) (writeRecords (homeWrites X (hs G D z m X o)) m)
 
-      go : (t : Bool) → chosen 0 ≡ t → ImageOk G D b [] old old n []
+      go : (t : Bool) → chosen 0 ≡ t → ImageOk G D b (m .log) [] old old n []
       go true e =
           inr (late-begin G D z m X o old n most past homes-same
           (e-log ∙ ap (λ (t : Bool). cond t (puts (writeRecords (homeWrites X (hs G D z m X o)) m .log) 0 (newHeader G D z m X o)) (writeRecords (homeWrites X (hs G D z m X o)) m .log)) e
           ∙ ap (λ (l : List ℕ). puts l 0 (newHeader G D z m X o)) (log-homes-wrote X (hs G D z m X o) m))
           (e-area ∙ all-written G D z m X o))
       go false e =
-          inl (record { opens = rw (← homes-same) (same n (e-log ∙ ap (λ (t : Bool). cond t (puts (writeRecords (homeWrites X (hs G D z m X o)) m .log) 0 (newHeader G D z m X o)) (writeRecords (homeWrites X (hs G D z m X o)) m .log)) e) e-area); nothing = λ r k. unfold fateAt in refl })
+          inl (record { same = e-log ∙ ap (λ (t : Bool). cond t (puts (writeRecords (homeWrites X (hs G D z m X o)) m .log) 0 (newHeader G D z m X o)) (writeRecords (homeWrites X (hs G D z m X o)) m .log)) e ∙ log-homes-wrote X (hs G D z m X o) m; opens = rw (← homes-same) (same n (e-log ∙ ap (λ (t : Bool). cond t (puts (writeRecords (homeWrites X (hs G D z m X o)) m .log) 0 (newHeader G D z m X o)) (writeRecords (homeWrites X (hs G D z m X o)) m .log)) e) e-area); nothing = λ r k. unfold fateAt in refl })
         where
           same : (x : Memory) → x .log ≡ writeRecords (homeWrites X (hs G D z m X o)) m .log → x .area ≡ writeRecords (homeWrites X (hs G D z m X o)) m .area → Opens G D x X
           same x p q = subst (λ (y : Memory). Opens G D y X) (sym (λ i. record { log = p i; area = q i })) (early-written G D z m X o)
 
   images-of : (passed : ℕ) (chosen : ℕ → Bool) → b ≤ 2 ^ 47 → passed < 2
-      → ImageOk G D b [] old old (persist passed chosen (fenced ++ (FN ∷ [])) m) (fates passed chosen (fenced ++ (FN ∷ [])))
+      → ImageOk G D b (m .log) [] old old (persist passed chosen (fenced ++ (FN ∷ [])) m) (fates passed chosen (fenced ++ (FN ∷ [])))
   images-of zero chosen most l = image-none chosen
   images-of (suc zero) chosen most l = image-one chosen most
   images-of (suc (suc n)) chosen most l = absurd (omega arith)

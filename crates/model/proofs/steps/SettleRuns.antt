@@ -203,23 +203,23 @@ module _ (G D : ℕ) (z : Sizes G D) (w : World) (r : Running G D w) where
   s = r .submitted
 
   -- the data copy that it leaves, and the homes that it writes
-  abbrev newArea : List ℕ
+  abbrev pub newArea : List ℕ
   newArea = homesAfter D (closedBelow (stateOf (w .state) .fenced) (w .book .commits))
 
-  abbrev due : List ℕ
+  abbrev pub due : List ℕ
   due = dueIn G D (r .b) (r .tr) w (stateOf (w .state) .fenced)
 
-  abbrev newState : List ℕ
+  abbrev pub newState : List ℕ
   newState = setFenced (setSettled (w .state) (stateOf (w .state) .fenced)) (7 * stateOf (w .state) .next)
 
-  abbrev effect : Effect
+  abbrev pub effect : Effect
   effect = record { figure = 0; state = newState; log = w .log; area = newArea; block = []; records = homeWrites newArea due ++ (FN ∷ []) }
 
   fenced-inside : st .fenced ≤ endOf w
   unfolding nextPosition
   fenced-inside = omega (arith, c .order .fenced-next)
 
-  settle-effect : (batch : List ℕ) → settleEffect (lent w [] batch 0 0) ≡ effect
+  pub settle-effect : (batch : List ℕ) → settleEffect (lent w [] batch 0 0) ≡ effect
   unfolding lent liveBase
   settle-effect batch =
       settle-at (lent w [] batch 0 0) G D (tagsIn G D w) (closingBelow (st .fenced) (keptIn (r .b) (r .tr) w)) newArea
@@ -228,7 +228,7 @@ module _ (G D : ℕ) (z : Sizes G D) (w : World) (r : Running G D w) where
       (live-upto G D (r .b) (r .tr) w z c (st .fenced) (omega (arith, c .order .start-settled, c .order .settled-fenced)) fenced-inside)
       (settle-replay G D (r .b) (r .tr) (r .old) w z (r .commits) c (st .fenced) (c .order .settled-fenced))
 
-  numbers : stateOf newState ≡ withFenced (withSettled st (st .fenced)) (7 * st .next)
+  pub numbers : stateOf newState ≡ withFenced (withSettled st (st .fenced)) (7 * st .next)
   numbers =
       let o = c .order in
       state-setFenced (setSettled (w .state) (st .fenced)) (7 * st .next) (length-setSettled (w .state) (st .fenced) ∙ c .stateSize)
@@ -266,10 +266,10 @@ module _ (G D : ℕ) (z : Sizes G D) (w : World) (r : Running G D w) where
   settles : newArea ≡ homesAfter D (closedBelow (7 * s .group) (w .book .commits))
   settles = rw (s .atFence)
 
-  area-size : length newArea ≡ 64 * D
+  pub area-size : length newArea ≡ 64 * D
   area-size = length-homesAfter D (closedBelow (st .fenced) (w .book .commits))
 
-  inside : (h : ℕ) → In h due → h < D
+  pub inside : (h : ℕ) → In h due → h < D
   inside h i = due-below G D (r .b) (r .tr) (r .old) w z (r .commits) c (st .fenced) h i
 
   covers : (h : ℕ) → h < D → touchesAbove (st .settled) h (closedBelow (7 * s .group) (w .book .commits)) ≡ true → In h due

@@ -246,7 +246,7 @@ module _ (G D : ℕ) (z : Sizes G D) (w : World) (R : Running G D w) (v : ℕ) (
           copies = copies-are;
           submitted =
               submitted-logged G D b tr (R .old) w u e₀ (st .last) (R .submitted) c copies-are adv roomy pending-is refl refl
-              (λ k fs hs ff i. rw commits-are (image-open G D b e₀ tr (R .old) (w .book .commits) k fs refl i));
+              (λ k fs hs ff i. rw commits-are (image-open G D b (w .memory .log) e₀ tr (R .old) (w .book .commits) k fs refl i));
           confirmed = confirmed-more b w u _ (R .confirmed) pending-is refl (omega (arith, adv .fenced)) (λ bound o. rw commits-are o);
         }
 
@@ -381,6 +381,6 @@ module _ (G D : ℕ) (z : Sizes G D) (w : World) (R : Running G D w) (v : ℕ) (
           copies = c-copies;
           submitted =
               submitted-logged G D b tr (R .old) w y e₁ (P + 1) (R .submitted) c c-copies c-adv roomy c-pending refl refl
-              (λ k fs hs ff i. rw c-commits (image-close G D b e₁ tr (R .old) (w .book .commits) k fs cm refl refl (sym (entry-is true lk)) (omega (arith, position)) ff (λ lt. omega (arith, low-first true lk)) i));
+              (λ k fs hs ff i. rw c-commits (image-close G D b (w .memory .log) e₁ tr (R .old) (w .book .commits) k fs cm refl refl (sym (entry-is true lk)) (omega (arith, position)) ff (λ lt. omega (arith, low-first true lk)) i));
           confirmed = confirmed-more b w y _ (R .confirmed) c-pending refl (omega (arith, c-adv .fenced)) (λ bound o. rw c-commits (owed-snoc bound (w .book .commits) cm refl o));
         }
