@@ -11,7 +11,7 @@ use Rattle.model.specs.Layout.{groupAt, groupTag, slotOf, indexOf, homeA
 use Rattle.model.specs.State.{State, stateOf, nextPosition}
 use Rattle.model.specs.Effects.{Given}
 use Rattle.model.specs.Calls.{Outcome, formatCall}
-use Rattle.model.specs.History.{Call, opening, begin, abort, store, commit, flush, confirm, settle, trim, read, Event, call, crash, World, afterFormat, ends, step}
+use Rattle.model.specs.History.{Call, opening, begin, abort, store, commit, flush, confirm, settle, trim, read, Event, call, crash, World, emptyStore, ends, step}
 
 -- a batch buffer that suffices, and a block of one byte
 unfoldable pub room : List ℕ
@@ -34,7 +34,7 @@ answers w (c ∷ cs) = answerOf (ends w c) ++ answers (step w (call c)) cs
 
 -- just after opening a new format: start 4, position 28
 unfoldable pub fresh : World
-fresh = step (afterFormat 4 8) (call (opening (zeros 1024) room))
+fresh = step (emptyStore 4 8) (call (opening (zeros 1024) room))
 
 unfoldable pub base : ℕ
 base = 28
@@ -143,7 +143,7 @@ unformatted =
     record { state = []; log = zeros (64 + 512 * 4); area = zeros (64 * 8); block = []; batch = zeros 2746; writer = 0; home = 0 }
 
 unfoldable pub trial10 : List ℕ
-trial10 = reopened (afterFormat 4 8) ++ answerOf (formatCall unformatted)
+trial10 = reopened (emptyStore 4 8) ++ answerOf (formatCall unformatted)
 
 -- the table: what a trial yields, and what the paper says. An answer is the number, the figure and the batch length.
 pub record Trial : Type 0 where

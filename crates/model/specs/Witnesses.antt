@@ -1,14 +1,18 @@
 -- Histories that meet the premises, so that the claims over all histories are not empty: trials 4 and 5 with the crash that loses the first group,
 -- and a crash inside an opening after which the next one brings the commit back.
-use Prim.Native.Nat.{ℕ, zero, suc}
+use Prim.Native.Nat.{ℕ, zero, suc, _+_, _*_}
 use mathlib.Core.Bool.{Bool, true, false, not, _&&_}
 use mathlib.Core.List.{List, [], _∷_, _++_}
 use lib.Dec.{eqb, leb}
-use lib.ListN.{length}
+use lib.ListN.{length, replicate}
 use Rattle.model.specs.Bytes.{zeros}
-use Rattle.model.specs.Crash.{fences}
-use Rattle.model.specs.History.{Call, opening, begin, abort, store, commit, flush, confirm, settle, trim, read, Event, call, crash, World, afterFormat, ends, isOpening, step, after}
+use Rattle.model.specs.Crash.{Memory, fences}
+use Rattle.model.specs.History.{Call, opening, begin, abort, store, commit, flush, confirm, settle, trim, read, Event, call, crash, World, emptyStore, ends, isOpening, step, after}
 use Rattle.model.specs.Trials.{room, fill, stores, commits}
+
+-- the memory over which the histories' format is done
+unfoldable pub usedBefore : Memory
+usedBefore = record { log = replicate (64 + 512 * 4) 255; area = replicate (64 * 8) 255 }
 
 -- the premises as a test
 unfoldable pub alike : Bool → Bool → Bool
@@ -48,7 +52,7 @@ historyInside =
 
 -- how many commits the book has after a history, and whether an opening is done
 unfoldable pub commitsAfter : List Event → ℕ
-commitsAfter es = length (after (afterFormat 4 8) es .book .commits)
+commitsAfter es = length (after (emptyStore 4 8) es .book .commits)
 
 unfoldable pub readyAfter : List Event → Bool
-readyAfter es = after (afterFormat 4 8) es .ready
+readyAfter es = after (emptyStore 4 8) es .ready
