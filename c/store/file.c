@@ -11,6 +11,9 @@
 #include <sys/file.h>
 #include <sys/mman.h>
 #include <sys/stat.h>
+#ifdef __linux__
+#include <sys/syscall.h>
+#endif
 #include <unistd.h>
 
 static void clear(struct kgt_file *file)
@@ -89,10 +92,24 @@ static bool fill(struct kgt_file *file, const char *path)
     return true;
 }
 
+/* For file systems without links, as on memory cards: a rename that replaces nothing. */
+static bool rename_new(const char *temporary, const char *path)
+{
+#ifdef SYS_renameat2
+    return syscall(SYS_renameat2, AT_FDCWD, temporary, AT_FDCWD, path, 1u /* RENAME_NOREPLACE */) == 0;
+#else
+    (void)temporary;
+    (void)path;
+    return false;
+#endif
+}
+
 /* Gives the finished file its name; never replaces another. */
 static bool give_name(struct kgt_file *file, const char *temporary, const char *path)
 {
     if (link(temporary, path) == 0)
+        return true;
+    if ((errno == EPERM || errno == ENOTSUP || errno == ENOSYS) && rename_new(temporary, path))
         return true;
     if (errno == EEXIST)
         return kgt_file_say(file, "%s: exists already", path);
