@@ -1,4 +1,4 @@
--- The claims: demands 2 and 3, the facts stated in passing, the trials and the witnesses.
+-- The claims: demands 2 and 3, the facts stated in passing, and histories that meet their premises.
 pub mod LiveHolds
 pub mod DemandThree
 pub mod TrimYields
@@ -7,6 +7,4 @@ pub mod YieldsAll
 pub mod DemandTwo
 pub mod OnceLaws
 pub mod FactLaws
-pub mod Computing
-pub mod TrialsHold
 pub mod WitnessesHold

@@ -1,16 +1,16 @@
 -- The paper's marked trials (G 4, D 8), as one table: what each yields, against the figures of the paper. Trials 1 to 9 begin just after opening a
 -- new format and count positions and starts from that opening's.
-use Prim.Native.Nat.{ℕ, zero, suc, _+_, _-_, _*_, _/_, _%_}
+use Prim.Native.Nat.{ℕ, zero, suc, _+_, _-_, _*_, _/_, _%_, _^_}
 use mathlib.Core.Bool.{Bool, true, false, cond, not, _&&_}
 use mathlib.Core.List.{List, [], _∷_, _++_}
 use lib.Dec.{eqb}
 use lib.ListN.{length, getD, replicate}
-use Rattle.model.specs.Bytes.{zeros, same}
+use Rattle.model.specs.Bytes.{puts, zeros, same}
 use Rattle.model.specs.Tag.{closingWord}
-use Rattle.model.specs.Layout.{groupAt, groupTag, slotOf, indexOf, homeAt}
+use Rattle.model.specs.Layout.{header, groupAt, groupTag, slotOf, indexOf, homeAt}
 use Rattle.model.specs.State.{State, stateOf, nextPosition}
 use Rattle.model.specs.Effects.{Given}
-use Rattle.model.specs.Calls.{Outcome, formatCall}
+use Rattle.model.specs.Calls.{Outcome, formatCall, openCall}
 use Rattle.model.specs.History.{Call, opening, begin, abort, store, commit, flush, confirm, settle, trim, read, Event, call, crash, World, emptyStore, ends, step}
 
 -- a batch buffer that suffices, and a block of one byte
@@ -145,6 +145,24 @@ unformatted =
 unfoldable pub trial10 : List ℕ
 trial10 = reopened (emptyStore 4 8) ++ answerOf (formatCall unformatted)
 
+-- 13. "Open with start 2^47 − 4: done; 2^47 − 3: 10." It is not marked, but no history reaches such a start. Without a batch too it answers 10:
+-- question 9 comes before question 10.
+unfoldable pub startingAt : ℕ → List ℕ → Given
+startingAt start batch =
+    record {
+      state = zeros 1024;
+      log = puts (zeros (64 + 512 * 4)) 0 (header start 4 8);
+      area = zeros (64 * 8);
+      block = [];
+      batch = batch;
+      writer = 0;
+      home = 0;
+    }
+
+unfoldable pub trial13 : List ℕ
+trial13 =
+    openCall (startingAt (2 ^ 47 - 4) room) .code ∷ openCall (startingAt (2 ^ 47 - 3) room) .code ∷ openCall (startingAt (2 ^ 47 - 3) []) .code ∷ []
+
 -- the table: what a trial yields, and what the paper says. An answer is the number, the figure and the batch length.
 pub record Trial : Type 0 where
   pub yields : List ℕ
@@ -157,7 +175,7 @@ trials =
     ∷ record { yields = trial5; paper = 0 ∷ 0 ∷ 70 ∷ [] } ∷ record { yields = trial6; paper = 0 ∷ 8 ∷ 8 ∷ [] }
     ∷ record { yields = trial7; paper = 0 ∷ 0 ∷ 0 ∷ 0 ∷ 0 ∷ 2 ∷ 0 ∷ 0 ∷ 2 ∷ 0 ∷ 0 ∷ 68 ∷ 4 ∷ 0 ∷ [] }
     ∷ record { yields = trial8; paper = 0 ∷ 0 ∷ 0 ∷ 0 ∷ 0 ∷ 0 ∷ 0 ∷ [] } ∷ record { yields = trial9; paper = 0 ∷ 0 ∷ 0 ∷ 0 ∷ [] }
-    ∷ record { yields = trial10; paper = 0 ∷ 0 ∷ 70 ∷ 0 ∷ 0 ∷ 2746 ∷ [] } ∷ []
+    ∷ record { yields = trial10; paper = 0 ∷ 0 ∷ 70 ∷ 0 ∷ 0 ∷ 2746 ∷ [] } ∷ record { yields = trial13; paper = 0 ∷ 10 ∷ 10 ∷ [] } ∷ []
 
 unfoldable pub allMatch : List Trial → Bool
 allMatch [] = true

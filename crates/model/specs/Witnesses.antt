@@ -4,11 +4,11 @@ use Prim.Native.Nat.{ℕ, zero, suc, _+_, _*_}
 use mathlib.Core.Bool.{Bool, true, false, not, _&&_}
 use mathlib.Core.List.{List, [], _∷_, _++_}
 use lib.Dec.{eqb, leb}
-use lib.ListN.{length, replicate}
-use Rattle.model.specs.Bytes.{zeros}
+use lib.ListN.{length, take, drop, replicate}
+use Rattle.model.specs.Bytes.{zeros, same}
 use Rattle.model.specs.Crash.{Memory, fences}
-use Rattle.model.specs.History.{Call, opening, begin, abort, store, commit, flush, confirm, settle, trim, read, Event, call, crash, World, emptyStore, ends, isOpening, step, after}
-use Rattle.model.specs.Trials.{room, fill, stores, commits}
+use Rattle.model.specs.History.{Call, opening, begin, abort, store, commit, flush, confirm, settle, trim, read, Event, call, crash, World, emptyStore, ends, isOpening, step}
+use Rattle.model.specs.Trials.{room, fill, stores, commits, answerOf}
 
 -- the memory over which the histories' format is done
 unfoldable pub usedBefore : Memory
@@ -22,10 +22,6 @@ alike false b = not b
 unfoldable pub allowed : World → Event → Bool
 allowed w (call c) = alike (isOpening c) (not (w .ready))
 allowed w (crash passed chosen) = leb (w .passed) passed && leb passed (fences (w .pending))
-
-unfoldable pub allAllowed : World → List Event → Bool
-allAllowed w [] = true
-allAllowed w (e ∷ es) = allowed w e && allAllowed (step w e) es
 
 unfoldable pub calls : List Call → List Event
 calls [] = []
@@ -50,9 +46,123 @@ historyInside =
     reopen ∷ (calls (begin 0 ∷ store 0 3 (fill 5) room ∷ commit 0 room ∷ flush room ∷ [])
     ++ (crash 3 (λ i. false) ∷ reopen ∷ crash 0 (λ i. false) ∷ reopen ∷ []))
 
--- how many commits the book has after a history, and whether an opening is done
-unfoldable pub commitsAfter : List Event → ℕ
-commitsAfter es = length (after (emptyStore 4 8) es .book .commits)
+-- One history of two eras with every call, every refusal number that a history can meet (1 and 4 to 9; strip and header stay in order, and 10 needs
+-- 2^47 groups), a confirm, settles, trims, a ring that wraps, a crash that loses one group of two, and a crash inside an opening.
 
-unfoldable pub readyAfter : List Event → Bool
-readyAfter es = after (emptyStore 4 8) es .ready
+-- two refused openings and a done one; refusals
+unfoldable pub refusals : List Event
+refusals =
+    call (opening [] room) ∷ call (opening (zeros 1024) []) ∷ reopen
+    ∷ calls (begin 8 ∷ begin 0 ∷ begin 0 ∷ store 0 8 (fill 1) room ∷ store 1 0 (fill 1) room ∷ store 0 0 [] room ∷ read 0 0 (zeros 64) ∷ [])
+
+-- writer 0 fills group 4, which is not fenced yet: nothing to settle, nothing to trim
+unfoldable pub seven : List Event
+seven =
+    calls (store 0 0 (fill 9) room ∷ store 0 1 (fill 9) room ∷ store 0 2 (fill 9) room ∷ store 0 3 (fill 9) room ∷ store 0 4 (fill 9) room
+    ∷ store 0 5 (fill 9) room ∷ store 0 6 (fill 9) room ∷ commit 0 room ∷ settle room ∷ trim room ∷ [])
+
+-- a commit in a group of its own
+unfoldable pub alone : ℕ → ℕ → List Event
+alone home byte = calls (begin 0 ∷ store 0 home (fill byte) room ∷ commit 0 room ∷ flush room ∷ [])
+
+-- the log is full, until it is settled and trimmed; writer 1's commit then takes the first ring slot again
+unfoldable pub wraps : List Event
+wraps =
+    calls (begin 1 ∷ store 1 4 (fill 14) room ∷ commit 1 room ∷ confirm ∷ settle [] ∷ settle room ∷ trim room ∷ commit 1 room ∷ [])
+
+-- writer 0's commit lies in two groups, of which the crash loses the second
+unfoldable pub loses : List Event
+loses =
+    calls (begin 0 ∷ store 0 0 (fill 7) room ∷ store 0 1 (fill 7) room ∷ store 0 2 (fill 7) room ∷ store 0 3 (fill 7) room
+    ∷ store 0 4 (fill 7) room ∷ store 0 5 (fill 7) room ∷ store 0 6 (fill 7) (zeros 515) ∷ store 0 6 (fill 7) room ∷ store 0 7 (fill 7) room
+    ∷ commit 0 room ∷ flush room ∷ abort 0 ∷ [])
+    ++ (crash 8 (λ i. eqb i 0) ∷ [])
+
+-- a refused opening, one whose header is lost, and the second era
+unfoldable pub again : List Event
+again =
+    call (opening (zeros 1024) []) ∷ reopen ∷ crash 1 (λ i. false) ∷ reopen
+    ∷ calls (begin 2 ∷ abort 2 ∷ begin 0 ∷ store 0 4 (fill 20) room ∷ commit 0 room ∷ flush room ∷ confirm ∷ [])
+    ++ (crash 3 (λ i. false) ∷ reopen ∷ [])
+
+unfoldable pub historyAll : List Event
+historyAll = refusals ++ (seven ++ (alone 0 10 ++ (alone 1 11 ++ (alone 2 12 ++ (wraps ++ (loses ++ again))))))
+
+-- those of a call without figure and batch
+unfoldable pub plain : List ℕ → List ℕ
+plain [] = []
+plain (n ∷ ns) = n ∷ 0 ∷ 0 ∷ plain ns
+
+-- what historyAll's calls answer
+unfoldable pub answersAll : List ℕ
+answersAll =
+    plain (1 ∷ 9 ∷ []) ++ (0 ∷ 0 ∷ 70 ∷ plain (4 ∷ 0 ∷ 6 ∷ 5 ∷ 7 ∷ 1 ∷ 0 ∷ []))
+    ++ (plain (0 ∷ 0 ∷ 0 ∷ 0 ∷ 0 ∷ 0 ∷ 0 ∷ []) ++ (0 ∷ 35 ∷ 516 ∷ 0 ∷ 0 ∷ 2 ∷ 0 ∷ 0 ∷ 0 ∷ []))
+    ++ (plain (0 ∷ 0 ∷ []) ++ (0 ∷ 36 ∷ 0 ∷ 0 ∷ 0 ∷ 518 ∷ []))
+    ++ (plain (0 ∷ 0 ∷ []) ++ (0 ∷ 43 ∷ 0 ∷ 0 ∷ 0 ∷ 518 ∷ []))
+    ++ (plain (0 ∷ 0 ∷ []) ++ (0 ∷ 50 ∷ 0 ∷ 0 ∷ 0 ∷ 518 ∷ []))
+    ++ (plain (0 ∷ 0 ∷ 8 ∷ []) ++ (0 ∷ 56 ∷ 0 ∷ 9 ∷ 0 ∷ 0 ∷ 0 ∷ 0 ∷ 478 ∷ 0 ∷ 0 ∷ 68 ∷ 0 ∷ 57 ∷ 0 ∷ []))
+    ++ (plain (0 ∷ 0 ∷ 0 ∷ 0 ∷ 0 ∷ 0 ∷ 0 ∷ 9 ∷ []) ++ (0 ∷ 0 ∷ 516 ∷ 0 ∷ 0 ∷ 0 ∷ 0 ∷ 65 ∷ 0 ∷ 0 ∷ 0 ∷ 518 ∷ 7 ∷ 0 ∷ 0 ∷ []))
+    ++ (9 ∷ 0 ∷ 0 ∷ 0 ∷ 1 ∷ 138 ∷ 0 ∷ 1 ∷ 138 ∷ plain (0 ∷ 0 ∷ 0 ∷ 0 ∷ []))
+    ++ (0 ∷ 85 ∷ 0 ∷ 0 ∷ 0 ∷ 518 ∷ 0 ∷ 91 ∷ 0 ∷ 0 ∷ 1 ∷ 138 ∷ [])
+
+-- eight homes, each of one byte throughout
+unfoldable pub filledWith : List ℕ → List ℕ
+filledWith [] = []
+filledWith (b ∷ bs) = fill b ++ filledWith bs
+
+-- What is expected of a history: the number, figure and batch length of each call, and at its end, an opening done, so many commits in the book and
+-- a byte for each home of the data copy.
+pub record Expected : Type 0 where
+  pub events : List Event
+  pub answers : List ℕ
+  pub commits : ℕ
+  pub homes : List ℕ
+
+unfoldable pub expected4 : Expected
+expected4 =
+    record {
+      events = history4;
+      answers =
+          0 ∷ 0 ∷ 70 ∷ plain (0 ∷ 0 ∷ 0 ∷ 0 ∷ 0 ∷ 0 ∷ 0 ∷ 0 ∷ [])
+          ++ (0 ∷ 0 ∷ 516 ∷ plain (0 ∷ 0 ∷ 0 ∷ []) ++ (0 ∷ 36 ∷ 0 ∷ 0 ∷ 0 ∷ 518 ∷ 0 ∷ 1 ∷ 138 ∷ []));
+      commits = 1;
+      homes = 0 ∷ 0 ∷ 0 ∷ 0 ∷ 0 ∷ 9 ∷ 0 ∷ 0 ∷ [];
+    }
+
+unfoldable pub expected5 : Expected
+expected5 =
+    record {
+      events = history5;
+      answers =
+          0 ∷ 0 ∷ 70 ∷ plain (0 ∷ 0 ∷ 0 ∷ 0 ∷ 0 ∷ 0 ∷ 0 ∷ 0 ∷ [])
+          ++ (0 ∷ 0 ∷ 516 ∷ 0 ∷ 36 ∷ 0 ∷ plain (0 ∷ 0 ∷ []) ++ (0 ∷ 37 ∷ 0 ∷ 0 ∷ 0 ∷ 518 ∷ 0 ∷ 0 ∷ 70 ∷ []));
+      commits = 0;
+      homes = 0 ∷ 0 ∷ 0 ∷ 0 ∷ 0 ∷ 0 ∷ 0 ∷ 0 ∷ [];
+    }
+
+unfoldable pub expectedInside : Expected
+expectedInside =
+    record {
+      events = historyInside;
+      answers = 0 ∷ 0 ∷ 70 ∷ plain (0 ∷ 0 ∷ []) ++ (0 ∷ 29 ∷ 0 ∷ 0 ∷ 0 ∷ 518 ∷ 0 ∷ 1 ∷ 138 ∷ 0 ∷ 1 ∷ 138 ∷ []);
+      commits = 1;
+      homes = 0 ∷ 0 ∷ 0 ∷ 5 ∷ 0 ∷ 0 ∷ 0 ∷ 0 ∷ [];
+    }
+
+unfoldable pub expectedAll : Expected
+expectedAll = record { events = historyAll; answers = answersAll; commits = 6; homes = 10 ∷ 11 ∷ 12 ∷ 9 ∷ 20 ∷ 9 ∷ 9 ∷ 0 ∷ [] }
+
+-- whether a history meets the premises and goes as expected
+unfoldable pub endsSo : World → ℕ → List ℕ → Bool
+endsSo w commits homes = w .ready && eqb (length (w .book .commits)) commits && same (w .area) (filledWith homes)
+
+unfoldable pub goesSo : World → List Event → List ℕ → ℕ → List ℕ → Bool
+goesSo w [] answers commits homes = same answers [] && endsSo w commits homes
+goesSo w (call c ∷ es) answers commits homes =
+    allowed w (call c) && same (answerOf (ends w c)) (take 3 answers) && goesSo (step w (call c)) es (drop 3 answers) commits homes
+goesSo w (crash passed chosen ∷ es) answers commits homes =
+    allowed w (crash passed chosen) && goesSo (step w (crash passed chosen)) es answers commits homes
+
+unfoldable pub comesOut : Expected → Bool
+comesOut x = goesSo (emptyStore 4 8) (x .events) (x .answers) (x .commits) (x .homes)

@@ -1,23 +1,27 @@
--- The histories of specs/Witnesses meet the premises of demand 3, and its claim says something of them.
+-- The histories of specs/Witnesses meet the premises of demands 2 and 3, which therefore say something of them.
 use mathlib.Core.Path.{_≡_, refl, sym, ap, _∙_}
 use mathlib.Core.Bool.{Bool, true, false, not, _&&_, false≢true}
 use mathlib.Core.List.{List, [], _∷_}
 use Prim.Native.Nat.{ℕ, zero, suc}
 use native.Mathlib.Omega.{arith}
 use lib.Dec.{leb}
-use lib.ListN.{length, length-replicate}
+use lib.ListN.{length, take, drop, length-replicate}
 use borrow.Author.Tests.{leb-true}
+use Rattle.model.specs.Bytes.{same}
 use Rattle.model.specs.Calls.{formatCall}
 use Rattle.model.specs.Crash.{fences}
-use Rattle.model.specs.Demands.{AllHold}
-use Rattle.model.specs.History.{Call, Event, call, crash, World, Formatting, afterFormat, emptyStore, isOpening, step, Allowed, AllAllowed}
-use Rattle.model.specs.Trials.{unformatted}
-use Rattle.model.specs.Witnesses.{usedBefore, alike, allowed, allAllowed, history4, history5, historyInside, commitsAfter, readyAfter}
+use Rattle.model.specs.Demands.{AllHold, LiveThroughout}
+use Rattle.model.specs.History.{Call, Event, call, crash, World, Formatting, afterFormat, emptyStore, ends, isOpening, step, Allowed, AllAllowed}
+use Rattle.model.specs.Trials.{unformatted, answerOf}
+use Rattle.model.specs.Witnesses.{usedBefore, alike, allowed, Expected, expected4, expected5, expectedInside, expectedAll, goesSo, comesOut}
 use Rattle.model.proofs.strip.QuestionLaws.{and-true}
 use Rattle.model.proofs.bytes.ByteLaws.{length-zeros}
+use Rattle.model.proofs.bytes.LayoutLaws.{three}
 use Rattle.model.proofs.steps.FormatRuns.{after-format}
-use Rattle.model.proofs.claims.Computing.{all-definitions}
+use Rattle.model.proofs.answers.Computing.{all-definitions}
+use Rattle.model.proofs.answers.HistoriesHold.{comes4, comes5, comes-inside, comes-all}
 use Rattle.model.proofs.claims.DemandThree.{demand3}
+use Rattle.model.proofs.claims.DemandTwo.{demand2}
 
 -- the test for the premises is right
 alike-true : (a b : Bool) → alike a b ≡ true → a ≡ b
@@ -33,12 +37,18 @@ allowed-true w (crash passed chosen) h =
     let k = and-true (leb (w .passed) passed) (leb passed (fences (w .pending))) h in
     (leb-true (w .passed) passed (k .0), leb-true passed (fences (w .pending)) (k .1))
 
-pub premises-met : (es : List Event) (w : World) → allAllowed w es ≡ true → AllAllowed w es
-unfolding allAllowed
-premises-met [] w h = tt
-premises-met (e ∷ es) w h =
-    let k = and-true (allowed w e) (allAllowed (step w e) es) h in
-    (allowed-true w e (k .0), premises-met es (step w e) (k .1))
+-- a history that comes out as expected meets the premises
+goes-allowed : (w : World) (es : List Event) (answers : List ℕ) (commits : ℕ) (homes : List ℕ) → goesSo w es answers commits homes ≡ true
+    → AllAllowed w es
+unfolding goesSo
+goes-allowed w [] answers commits homes h = tt
+goes-allowed w (call c ∷ es) answers commits homes h =
+    let on : Bool = goesSo (step w (call c)) es (drop 3 answers) commits homes in
+    let k = three (allowed w (call c)) (same (answerOf (ends w c)) (take 3 answers)) on h in
+    (allowed-true w (call c) (k .0), goes-allowed (step w (call c)) es (drop 3 answers) commits homes (k .2))
+goes-allowed w (crash passed chosen ∷ es) answers commits homes h =
+    let k = and-true (allowed w (crash passed chosen)) (goesSo (step w (crash passed chosen)) es answers commits homes) h in
+    (allowed-true w (crash passed chosen) (k .0), goes-allowed (step w (crash passed chosen)) es answers commits homes (k .1))
 
 -- a format that is done, of sizes 4 and 8
 format-done : formatCall unformatted .code ≡ 0
@@ -58,49 +68,24 @@ format =
       done = format-done;
     }
 
-met-after : (es : List Event) → allAllowed (emptyStore 4 8) es ≡ true → AllAllowed (afterFormat format) es
-met-after es h = rw (after-format format) (premises-met es (emptyStore 4 8) h)
+-- the premises are met after that format, so the demands say something of the history
+met-after : (x : Expected) → comesOut x ≡ true → AllAllowed (afterFormat format) (x .events)
+unfolding comesOut
+met-after x h = rw (after-format format) (goes-allowed (emptyStore 4 8) (x .events) (x .answers) (x .commits) (x .homes) h)
 
--- trial 4: the premises are met, the claim holds, the last opening is done, and one commit is in the run
-met4 : allAllowed (emptyStore 4 8) history4 ≡ true
-unfolding all-definitions
-met4 = refl
+pub demands-met : (x : Expected) → comesOut x ≡ true
+    → AllHold (afterFormat format) (x .events) × LiveThroughout (afterFormat format) (x .events)
+demands-met x h = (demand3 4 8 format (x .events) (met-after x h), demand2 4 8 format (x .events) (met-after x h))
 
-pub holds4 : AllHold (afterFormat format) history4
-holds4 = demand3 4 8 format history4 (met-after history4 met4)
+-- trials 4 and 5, a crash inside an opening, and the history of all calls
+pub holds4 : AllHold (afterFormat format) (expected4 .events) × LiveThroughout (afterFormat format) (expected4 .events)
+holds4 = demands-met expected4 comes4
 
-pub one-survives : commitsAfter history4 ≡ 1
-unfolding all-definitions
-one-survives = refl
+pub holds5 : AllHold (afterFormat format) (expected5 .events) × LiveThroughout (afterFormat format) (expected5 .events)
+holds5 = demands-met expected5 comes5
 
-pub ready4 : readyAfter history4 ≡ true
-unfolding all-definitions
-ready4 = refl
+pub holds-inside : AllHold (afterFormat format) (expectedInside .events) × LiveThroughout (afterFormat format) (expectedInside .events)
+holds-inside = demands-met expectedInside comes-inside
 
--- trial 5: none
-met5 : allAllowed (emptyStore 4 8) history5 ≡ true
-unfolding all-definitions
-met5 = refl
-
-pub holds5 : AllHold (afterFormat format) history5
-holds5 = demand3 4 8 format history5 (met-after history5 met5)
-
-pub none-survives : commitsAfter history5 ≡ 0
-unfolding all-definitions
-none-survives = refl
-
--- a crash inside an opening: the next one brings the commit back
-met-inside : allAllowed (emptyStore 4 8) historyInside ≡ true
-unfolding all-definitions
-met-inside = refl
-
-pub holds-inside : AllHold (afterFormat format) historyInside
-holds-inside = demand3 4 8 format historyInside (met-after historyInside met-inside)
-
-pub one-comes-back : commitsAfter historyInside ≡ 1
-unfolding all-definitions
-one-comes-back = refl
-
-pub ready-inside : readyAfter historyInside ≡ true
-unfolding all-definitions
-ready-inside = refl
+pub holds-all : AllHold (afterFormat format) (expectedAll .events) × LiveThroughout (afterFormat format) (expectedAll .events)
+holds-all = demands-met expectedAll comes-all

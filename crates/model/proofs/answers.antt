@@ -1,0 +1,5 @@
+-- What the definitions come to, by computation: the paper's trials and whole histories. They rest on no law, so a definition that goes wrong is
+-- refused here first.
+pub mod Computing
+pub mod TrialsHold
+pub mod HistoriesHold
