@@ -1,6 +1,6 @@
 -- The proofs, in reading order, a folder for each layer.
 
--- What the definitions come to: the trials and whole histories, computed.
+-- What the definitions come to: the trials and a history of every call, computed.
 pub mod answers
 -- Bytes, tags, the log's header and groups, the homes: laws of specs/Bytes, Tag and Layout.
 pub mod bytes
@@ -14,5 +14,5 @@ pub mod trace
 pub mod invariant
 -- Each call and each crash keeps the invariant.
 pub mod steps
--- The claims: demands 2 and 3, the facts stated in passing, and histories that meet their premises.
+-- The claims: demands 2 and 3, the facts stated in passing, and a history that meets their premises.
 pub mod claims

@@ -1,5 +1,5 @@
--- What the definitions come to, by computation: the paper's trials and whole histories. They rest on no law, so a definition that goes wrong is
+-- What the definitions come to, by computation: the paper's trials and a history of every call. They rest on no law, so a definition that goes wrong is
 -- refused here first.
 pub mod Computing
 pub mod TrialsHold
-pub mod HistoriesHold
+pub mod HistoryHolds

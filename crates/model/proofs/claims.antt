@@ -1,4 +1,4 @@
--- The claims: demands 2 and 3, the facts stated in passing, and histories that meet their premises.
+-- The claims: demands 2 and 3, the facts stated in passing, and a history that meets their premises.
 pub mod LiveHolds
 pub mod DemandThree
 pub mod TrimYields
@@ -7,4 +7,4 @@ pub mod YieldsAll
 pub mod DemandTwo
 pub mod OnceLaws
 pub mod FactLaws
-pub mod WitnessesHold
+pub mod WitnessHolds

@@ -4,7 +4,7 @@ use Prim.Native.Nat.{ℕ, zero, suc, _+_, _-_, _*_, _/_, _%_, _^_}
 use mathlib.Core.Bool.{Bool, true, false, cond, not, _&&_}
 use mathlib.Core.List.{List, [], _∷_, _++_}
 use lib.Dec.{eqb}
-use lib.ListN.{length, getD, replicate}
+use lib.ListN.{length, getD, drop, replicate}
 use Rattle.model.specs.Bytes.{puts, zeros, same}
 use Rattle.model.specs.Tag.{closingWord}
 use Rattle.model.specs.Layout.{header, groupAt, groupTag, slotOf, indexOf, homeAt}
@@ -104,26 +104,21 @@ unfoldable pub inTurn : ℕ → List Call
 inTurn zero = []
 inTurn (suc n) = store 0 0 (fill 3) room ∷ store 0 1 (fill 4) room ∷ inTurn n
 
--- after 28 stores
-unfoldable pub nearlyFull : World
-nearlyFull = goes fresh (begin 0 ∷ inTurn 14)
+-- the answers of some calls, and after them something of the world that they leave
+unfoldable pub answersThen : World → List Call → (World → List ℕ) → List ℕ
+answersThen w [] last = last w
+answersThen w (c ∷ cs) last = answerOf (ends w c) ++ answersThen (step w (call c)) cs last
 
-unfoldable pub one : Call
-one = store 0 0 (fill 3) room
+-- after 28 stores: the 29th, which hands the last group on, the 30th and a commit; then the rest
+unfoldable pub fullAndFreed : List Call
+fullAndFreed =
+    store 0 0 (fill 3) room ∷ store 0 1 (fill 4) room ∷ commit 0 room ∷ abort 0 ∷ flush room ∷ settle room ∷ trim room ∷ []
 
 -- 6. "Writer 0 stores homes 0 and 1 in turn: the 29th is taken, the 30th answers 8. Commit answers 8."
-unfoldable pub trial6 : List ℕ
-trial6 =
-    let w : World = nearlyFull in
-    let full : World = step w (call one) in
-    ends w one .code ∷ ends full (store 0 1 (fill 4) room) .code ∷ ends full (commit 0 room) .code ∷ []
-
 -- 7. "Then abort, flush (2 bytes), settle (2), trim (68): start 4, all places free." All are free where the next position is the start's.
-unfoldable pub trial7 : List ℕ
-trial7 =
-    let full : World = step nearlyFull (call one) in
-    let w : World = goes full (abort 0 ∷ flush room ∷ settle room ∷ trim room ∷ []) in
-    answers full (abort 0 ∷ flush room ∷ settle room ∷ trim room ∷ []) ++ (startOf w ∷ (nextOf w - 7 * startOf w) ∷ [])
+unfoldable pub trial6and7 : List ℕ
+trial6and7 =
+    drop (3 * 29) (answersThen fresh (begin 0 ∷ inTurn 14 ++ fullAndFreed) (λ w. startOf w ∷ (nextOf w - 7 * startOf w) ∷ []))
 
 -- 8. "Commit with no store: ticket 0, no entry."
 unfoldable pub trial8 : List ℕ
@@ -172,8 +167,12 @@ unfoldable pub trials : List Trial
 trials =
     record { yields = trial1; paper = 5 ∷ 2199023271947 ∷ 518 ∷ [] } ∷ record { yields = trial2; paper = 3298534916119 ∷ [] }
     ∷ record { yields = trial3; paper = 65 ∷ 65 ∷ [] } ∷ record { yields = trial4; paper = 0 ∷ 1 ∷ 138 ∷ [] }
-    ∷ record { yields = trial5; paper = 0 ∷ 0 ∷ 70 ∷ [] } ∷ record { yields = trial6; paper = 0 ∷ 8 ∷ 8 ∷ [] }
-    ∷ record { yields = trial7; paper = 0 ∷ 0 ∷ 0 ∷ 0 ∷ 0 ∷ 2 ∷ 0 ∷ 0 ∷ 2 ∷ 0 ∷ 0 ∷ 68 ∷ 4 ∷ 0 ∷ [] }
+    ∷ record { yields = trial5; paper = 0 ∷ 0 ∷ 70 ∷ [] } 
+    ∷ record {
+      yields = trial6and7;
+      paper =
+          0 ∷ 0 ∷ 516 ∷ 8 ∷ 0 ∷ 0 ∷ 8 ∷ 0 ∷ 0 ∷ 0 ∷ 0 ∷ 0 ∷ 0 ∷ 0 ∷ 2 ∷ 0 ∷ 0 ∷ 2 ∷ 0 ∷ 0 ∷ 68 ∷ 4 ∷ 0 ∷ [];
+    }
     ∷ record { yields = trial8; paper = 0 ∷ 0 ∷ 0 ∷ 0 ∷ 0 ∷ 0 ∷ 0 ∷ [] } ∷ record { yields = trial9; paper = 0 ∷ 0 ∷ 0 ∷ 0 ∷ [] }
     ∷ record { yields = trial10; paper = 0 ∷ 0 ∷ 70 ∷ 0 ∷ 0 ∷ 2746 ∷ [] } ∷ record { yields = trial13; paper = 0 ∷ 10 ∷ 10 ∷ [] } ∷ []
 

@@ -1,5 +1,4 @@
--- Histories that meet the premises, so that the claims over all histories are not empty: trials 4 and 5 with the crash that loses the first group,
--- and a crash inside an opening after which the next one brings the commit back.
+-- A history that meets the premises, so that the claims over all histories are not empty.
 use Prim.Native.Nat.{ℕ, zero, suc, _+_, _*_}
 use mathlib.Core.Bool.{Bool, true, false, not, _&&_}
 use mathlib.Core.List.{List, [], _∷_, _++_}
@@ -8,9 +7,9 @@ use lib.ListN.{length, take, drop, replicate}
 use Rattle.model.specs.Bytes.{zeros, same}
 use Rattle.model.specs.Crash.{Memory, fences}
 use Rattle.model.specs.History.{Call, opening, begin, abort, store, commit, flush, confirm, settle, trim, read, Event, call, crash, World, emptyStore, ends, isOpening, step}
-use Rattle.model.specs.Trials.{room, fill, stores, commits, answerOf}
+use Rattle.model.specs.Trials.{room, fill, answerOf}
 
--- the memory over which the histories' format is done
+-- the memory over which its format is done
 unfoldable pub usedBefore : Memory
 usedBefore = record { log = replicate (64 + 512 * 4) 255; area = replicate (64 * 8) 255 }
 
@@ -30,23 +29,7 @@ calls (c ∷ cs) = call c ∷ calls cs
 unfoldable pub reopen : Event
 reopen = call (opening (zeros 1024) room)
 
--- "group 0 lost": the opening's fences have passed, the first group written since has not persisted
-unfoldable pub loseFirst : Event
-loseFirst = crash 2 (λ i. not (eqb i 0))
-
-unfoldable pub history4 : List Event
-history4 = reopen ∷ (calls (stores ++ (abort 0 ∷ commits)) ++ (loseFirst ∷ reopen ∷ []))
-
-unfoldable pub history5 : List Event
-history5 = reopen ∷ (calls (stores ++ (commit 0 room ∷ commits)) ++ (loseFirst ∷ reopen ∷ []))
-
--- one commit, a flush and a crash after its fence; an opening of which nothing persists; another
-unfoldable pub historyInside : List Event
-historyInside =
-    reopen ∷ (calls (begin 0 ∷ store 0 3 (fill 5) room ∷ commit 0 room ∷ flush room ∷ [])
-    ++ (crash 3 (λ i. false) ∷ reopen ∷ crash 0 (λ i. false) ∷ reopen ∷ []))
-
--- One history of two eras with every call, every refusal number that a history can meet (1 and 4 to 9; strip and header stay in order, and 10 needs
+-- Two eras with every call, every refusal number that a history can meet (1 and 4 to 9; strip and header stay in order, and 10 needs
 -- 2^47 groups), a confirm, settles, trims, a ring that wraps, a crash that loses one group of two, and a crash inside an opening.
 
 -- two refused openings and a done one; refusals
@@ -85,17 +68,17 @@ again =
     ∷ calls (begin 2 ∷ abort 2 ∷ begin 0 ∷ store 0 4 (fill 20) room ∷ commit 0 room ∷ flush room ∷ confirm ∷ [])
     ++ (crash 3 (λ i. false) ∷ reopen ∷ [])
 
-unfoldable pub historyAll : List Event
-historyAll = refusals ++ (seven ++ (alone 0 10 ++ (alone 1 11 ++ (alone 2 12 ++ (wraps ++ (loses ++ again))))))
+unfoldable pub history : List Event
+history = refusals ++ (seven ++ (alone 0 10 ++ (alone 1 11 ++ (alone 2 12 ++ (wraps ++ (loses ++ again))))))
 
 -- those of a call without figure and batch
 unfoldable pub plain : List ℕ → List ℕ
 plain [] = []
 plain (n ∷ ns) = n ∷ 0 ∷ 0 ∷ plain ns
 
--- what historyAll's calls answer
-unfoldable pub answersAll : List ℕ
-answersAll =
+-- what its calls answer
+unfoldable pub answered : List ℕ
+answered =
     plain (1 ∷ 9 ∷ []) ++ (0 ∷ 0 ∷ 70 ∷ plain (4 ∷ 0 ∷ 6 ∷ 5 ∷ 7 ∷ 1 ∷ 0 ∷ []))
     ++ (plain (0 ∷ 0 ∷ 0 ∷ 0 ∷ 0 ∷ 0 ∷ 0 ∷ []) ++ (0 ∷ 35 ∷ 516 ∷ 0 ∷ 0 ∷ 2 ∷ 0 ∷ 0 ∷ 0 ∷ []))
     ++ (plain (0 ∷ 0 ∷ []) ++ (0 ∷ 36 ∷ 0 ∷ 0 ∷ 0 ∷ 518 ∷ []))
@@ -111,49 +94,8 @@ unfoldable pub filledWith : List ℕ → List ℕ
 filledWith [] = []
 filledWith (b ∷ bs) = fill b ++ filledWith bs
 
--- What is expected of a history: the number, figure and batch length of each call, and at its end, an opening done, so many commits in the book and
--- a byte for each home of the data copy.
-pub record Expected : Type 0 where
-  pub events : List Event
-  pub answers : List ℕ
-  pub commits : ℕ
-  pub homes : List ℕ
-
-unfoldable pub expected4 : Expected
-expected4 =
-    record {
-      events = history4;
-      answers =
-          0 ∷ 0 ∷ 70 ∷ plain (0 ∷ 0 ∷ 0 ∷ 0 ∷ 0 ∷ 0 ∷ 0 ∷ 0 ∷ [])
-          ++ (0 ∷ 0 ∷ 516 ∷ plain (0 ∷ 0 ∷ 0 ∷ []) ++ (0 ∷ 36 ∷ 0 ∷ 0 ∷ 0 ∷ 518 ∷ 0 ∷ 1 ∷ 138 ∷ []));
-      commits = 1;
-      homes = 0 ∷ 0 ∷ 0 ∷ 0 ∷ 0 ∷ 9 ∷ 0 ∷ 0 ∷ [];
-    }
-
-unfoldable pub expected5 : Expected
-expected5 =
-    record {
-      events = history5;
-      answers =
-          0 ∷ 0 ∷ 70 ∷ plain (0 ∷ 0 ∷ 0 ∷ 0 ∷ 0 ∷ 0 ∷ 0 ∷ 0 ∷ [])
-          ++ (0 ∷ 0 ∷ 516 ∷ 0 ∷ 36 ∷ 0 ∷ plain (0 ∷ 0 ∷ []) ++ (0 ∷ 37 ∷ 0 ∷ 0 ∷ 0 ∷ 518 ∷ 0 ∷ 0 ∷ 70 ∷ []));
-      commits = 0;
-      homes = 0 ∷ 0 ∷ 0 ∷ 0 ∷ 0 ∷ 0 ∷ 0 ∷ 0 ∷ [];
-    }
-
-unfoldable pub expectedInside : Expected
-expectedInside =
-    record {
-      events = historyInside;
-      answers = 0 ∷ 0 ∷ 70 ∷ plain (0 ∷ 0 ∷ []) ++ (0 ∷ 29 ∷ 0 ∷ 0 ∷ 0 ∷ 518 ∷ 0 ∷ 1 ∷ 138 ∷ 0 ∷ 1 ∷ 138 ∷ []);
-      commits = 1;
-      homes = 0 ∷ 0 ∷ 0 ∷ 5 ∷ 0 ∷ 0 ∷ 0 ∷ 0 ∷ [];
-    }
-
-unfoldable pub expectedAll : Expected
-expectedAll = record { events = historyAll; answers = answersAll; commits = 6; homes = 10 ∷ 11 ∷ 12 ∷ 9 ∷ 20 ∷ 9 ∷ 9 ∷ 0 ∷ [] }
-
--- whether a history meets the premises and goes as expected
+-- whether a history meets the premises, each call answers the number, figure and batch length that are listed, and at the end an opening is done, the
+-- book has so many commits and the data copy so many bytes a home
 unfoldable pub endsSo : World → ℕ → List ℕ → Bool
 endsSo w commits homes = w .ready && eqb (length (w .book .commits)) commits && same (w .area) (filledWith homes)
 
@@ -164,5 +106,6 @@ goesSo w (call c ∷ es) answers commits homes =
 goesSo w (crash passed chosen ∷ es) answers commits homes =
     allowed w (crash passed chosen) && goesSo (step w (crash passed chosen)) es answers commits homes
 
-unfoldable pub comesOut : Expected → Bool
-comesOut x = goesSo (emptyStore 4 8) (x .events) (x .answers) (x .commits) (x .homes)
+-- six commits survive; of the lost one nothing stays
+unfoldable pub goesAsListed : Bool
+goesAsListed = goesSo (emptyStore 4 8) history answered 6 (10 ∷ 11 ∷ 12 ∷ 9 ∷ 20 ∷ 9 ∷ 9 ∷ 0 ∷ [])

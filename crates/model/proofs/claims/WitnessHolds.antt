@@ -1,4 +1,4 @@
--- The histories of specs/Witnesses meet the premises of demands 2 and 3, which therefore say something of them.
+-- The history of specs/Witnesses meets the premises of demands 2 and 3, which therefore say something of it.
 use mathlib.Core.Path.{_≡_, refl, sym, ap, _∙_}
 use mathlib.Core.Bool.{Bool, true, false, not, _&&_, false≢true}
 use mathlib.Core.List.{List, [], _∷_}
@@ -13,13 +13,13 @@ use Rattle.model.specs.Crash.{fences}
 use Rattle.model.specs.Demands.{AllHold, LiveThroughout}
 use Rattle.model.specs.History.{Call, Event, call, crash, World, Formatting, afterFormat, emptyStore, ends, isOpening, step, Allowed, AllAllowed}
 use Rattle.model.specs.Trials.{unformatted, answerOf}
-use Rattle.model.specs.Witnesses.{usedBefore, alike, allowed, Expected, expected4, expected5, expectedInside, expectedAll, goesSo, comesOut}
+use Rattle.model.specs.Witnesses.{usedBefore, alike, allowed, history, answered, goesSo, goesAsListed}
 use Rattle.model.proofs.strip.QuestionLaws.{and-true}
 use Rattle.model.proofs.bytes.ByteLaws.{length-zeros}
 use Rattle.model.proofs.bytes.LayoutLaws.{three}
 use Rattle.model.proofs.steps.FormatRuns.{after-format}
 use Rattle.model.proofs.answers.Computing.{all-definitions}
-use Rattle.model.proofs.answers.HistoriesHold.{comes4, comes5, comes-inside, comes-all}
+use Rattle.model.proofs.answers.HistoryHolds.{goes-as-listed}
 use Rattle.model.proofs.claims.DemandThree.{demand3}
 use Rattle.model.proofs.claims.DemandTwo.{demand2}
 
@@ -37,7 +37,7 @@ allowed-true w (crash passed chosen) h =
     let k = and-true (leb (w .passed) passed) (leb passed (fences (w .pending))) h in
     (leb-true (w .passed) passed (k .0), leb-true passed (fences (w .pending)) (k .1))
 
--- a history that comes out as expected meets the premises
+-- a history that goes as listed meets the premises
 goes-allowed : (w : World) (es : List Event) (answers : List ℕ) (commits : ℕ) (homes : List ℕ) → goesSo w es answers commits homes ≡ true
     → AllAllowed w es
 unfolding goesSo
@@ -69,23 +69,12 @@ format =
     }
 
 -- the premises are met after that format, so the demands say something of the history
-met-after : (x : Expected) → comesOut x ≡ true → AllAllowed (afterFormat format) (x .events)
-unfolding comesOut
-met-after x h = rw (after-format format) (goes-allowed (emptyStore 4 8) (x .events) (x .answers) (x .commits) (x .homes) h)
+met : AllAllowed (afterFormat format) history
+unfolding goesAsListed
+met = rw (after-format format) (goes-allowed (emptyStore 4 8) history answered 6 (10 ∷ 11 ∷ 12 ∷ 9 ∷ 20 ∷ 9 ∷ 9 ∷ 0 ∷ []) goes-as-listed)
 
-pub demands-met : (x : Expected) → comesOut x ≡ true
-    → AllHold (afterFormat format) (x .events) × LiveThroughout (afterFormat format) (x .events)
-demands-met x h = (demand3 4 8 format (x .events) (met-after x h), demand2 4 8 format (x .events) (met-after x h))
+pub all-hold-there : AllHold (afterFormat format) history
+all-hold-there = demand3 4 8 format history met
 
--- trials 4 and 5, a crash inside an opening, and the history of all calls
-pub holds4 : AllHold (afterFormat format) (expected4 .events) × LiveThroughout (afterFormat format) (expected4 .events)
-holds4 = demands-met expected4 comes4
-
-pub holds5 : AllHold (afterFormat format) (expected5 .events) × LiveThroughout (afterFormat format) (expected5 .events)
-holds5 = demands-met expected5 comes5
-
-pub holds-inside : AllHold (afterFormat format) (expectedInside .events) × LiveThroughout (afterFormat format) (expectedInside .events)
-holds-inside = demands-met expectedInside comes-inside
-
-pub holds-all : AllHold (afterFormat format) (expectedAll .events) × LiveThroughout (afterFormat format) (expectedAll .events)
-holds-all = demands-met expectedAll comes-all
+pub live-there : LiveThroughout (afterFormat format) history
+live-there = demand2 4 8 format history met
