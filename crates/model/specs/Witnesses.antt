@@ -4,14 +4,41 @@ use mathlib.Core.Bool.{Bool, true, false, not, _&&_}
 use mathlib.Core.List.{List, [], _∷_, _++_}
 use lib.Dec.{eqb, leb}
 use lib.ListN.{length, take, drop, replicate}
-use Rattle.model.specs.Bytes.{zeros, same}
-use Rattle.model.specs.Crash.{Memory, fences}
-use Rattle.model.specs.History.{Call, opening, begin, abort, store, commit, flush, confirm, settle, trim, read, Event, call, crash, World, emptyStore, ends, isOpening, step}
+use Rattle.model.specs.Bytes.{puts, zeros, same}
+use Rattle.model.specs.Layout.{header}
+use Rattle.model.specs.Batch.{readBatch}
+use Rattle.model.specs.Effects.{Given}
+use Rattle.model.specs.Calls.{Outcome, formatCall, openCall}
+use Rattle.model.specs.Crash.{Memory, fences, persist}
+use Rattle.model.specs.History.{Call, opening, begin, abort, store, commit, flush, confirm, settle, trim, read, Event, call, crash, World, unopened, emptyStore, loaded, ends, isOpening, step}
 use Rattle.model.specs.Trials.{room, fill, answerOf}
 
--- the memory over which its format is done
+-- A format over a store in use, with copies of the same: a header that opens, bytes of 255 elsewhere.
 unfoldable pub usedBefore : Memory
-usedBefore = record { log = replicate (64 + 512 * 4) 255; area = replicate (64 * 8) 255 }
+usedBefore = record { log = puts (replicate (64 + 512 * 4) 255) 0 (header 8 4 8); area = replicate (64 * 8) 255 }
+
+unfoldable pub usedCopies : Given
+usedCopies =
+    record { state = []; log = usedBefore .log; area = usedBefore .area; block = []; batch = zeros 2746; writer = 0; home = 0 }
+
+-- what its train leaves after some fences, with all or none of the writes up to the next
+unfoldable pub formatLeaves : ℕ → Bool → Memory
+formatLeaves passed all = let o : Outcome = formatCall usedCopies in persist passed (λ i. all) (readBatch (take (o .size) (o .batch))) usedBefore
+
+-- what an opening of a memory answers
+unfoldable pub opensWith : Memory → ℕ
+opensWith m = openCall (loaded (unopened 8 m) (zeros 1024) room) .code
+
+-- landed whole, it is the empty store, and the copies hold the same; cut, it is the old store, none that opens, or the new one
+unfoldable pub formatsSo : Bool
+formatsSo =
+    let o : Outcome = formatCall usedCopies in
+    let m : Memory = formatLeaves 3 false in
+    same (m .log) (emptyStore 4 8 .memory .log) && same (m .area) (zeros (64 * 8)) && same (o .log) (m .log) && same (o .area) (m .area)
+    && same
+    (opensWith (formatLeaves 0 false) ∷ opensWith (formatLeaves 0 true) ∷ opensWith (formatLeaves 1 false) ∷ opensWith (formatLeaves 1 true)
+    ∷ opensWith (formatLeaves 2 false) ∷ opensWith (formatLeaves 2 true) ∷ opensWith m ∷ [])
+    (0 ∷ 3 ∷ 3 ∷ 3 ∷ 3 ∷ 0 ∷ 0 ∷ [])
 
 -- the premises as a test
 unfoldable pub alike : Bool → Bool → Bool

@@ -5,17 +5,18 @@ use mathlib.Core.List.{List, [], _∷_}
 use Prim.Native.Nat.{ℕ, zero, suc}
 use native.Mathlib.Omega.{arith}
 use lib.Dec.{leb}
-use lib.ListN.{length, take, drop, length-replicate}
+use lib.ListN.{length, take, drop, replicate, length-replicate}
 use borrow.Author.Tests.{leb-true}
 use Rattle.model.specs.Bytes.{same}
+use Rattle.model.specs.Layout.{header}
 use Rattle.model.specs.Calls.{formatCall}
 use Rattle.model.specs.Crash.{fences}
 use Rattle.model.specs.Demands.{AllHold, LiveThroughout}
 use Rattle.model.specs.History.{Call, Event, call, crash, World, Formatting, afterFormat, emptyStore, ends, isOpening, step, Allowed, AllAllowed}
-use Rattle.model.specs.Trials.{unformatted, answerOf}
-use Rattle.model.specs.Witnesses.{usedBefore, alike, allowed, history, answered, goesSo, goesAsListed}
+use Rattle.model.specs.Trials.{answerOf}
+use Rattle.model.specs.Witnesses.{usedBefore, usedCopies, alike, allowed, history, answered, goesSo, goesAsListed}
 use Rattle.model.proofs.strip.QuestionLaws.{and-true}
-use Rattle.model.proofs.bytes.ByteLaws.{length-zeros}
+use Rattle.model.proofs.bytes.ByteLaws.{length-puts}
 use Rattle.model.proofs.bytes.LayoutLaws.{three}
 use Rattle.model.proofs.steps.FormatRuns.{after-format}
 use Rattle.model.proofs.answers.Computing.{all-definitions}
@@ -51,20 +52,24 @@ goes-allowed w (crash passed chosen ∷ es) answers commits homes h =
     (allowed-true w (crash passed chosen) (k .0), goes-allowed (step w (crash passed chosen)) es answers commits homes (k .1))
 
 -- a format that is done, of sizes 4 and 8
-format-done : formatCall unformatted .code ≡ 0
+format-done : formatCall usedCopies .code ≡ 0
 unfolding all-definitions
 format-done = refl
 
+log-used : length (usedBefore .log) ≡ 2112
+unfolding usedBefore
+log-used = length-puts (replicate 2112 255) 0 (header 8 4 8) ∙ length-replicate {A = ℕ} 2112 255
+
 pub format : Formatting 4 8
-unfolding usedBefore unformatted
+unfolding usedBefore usedCopies
 format =
     record {
       memory = usedBefore;
-      given = unformatted;
-      logSize = length-replicate {A = ℕ} 2112 255;
+      given = usedCopies;
+      logSize = log-used;
       areaSize = length-replicate {A = ℕ} 512 255;
-      logCopy = length-zeros 2112;
-      areaCopy = length-zeros 512;
+      logCopy = log-used;
+      areaCopy = length-replicate {A = ℕ} 512 255;
       done = format-done;
     }
 
