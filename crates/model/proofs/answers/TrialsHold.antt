@@ -3,8 +3,8 @@ use mathlib.Core.Path.{_≡_, refl}
 use mathlib.Core.Bool.{Bool, true}
 use mathlib.Core.List.{List, [], _∷_}
 use Rattle.model.specs.Bytes.{same}
-use Rattle.model.specs.Trials.{trial1, trial2, trial3, trial4, trial5, trial6, trial7, trial8, trial9, trial10, trials, allMatch}
-use Rattle.model.proofs.claims.Computing.{all-definitions}
+use Rattle.model.specs.Trials.{trial1, trial2, trial3, trial4, trial5, trial6and7, trial8, trial9, trial10, trial13, trials, allMatch}
+use Rattle.model.proofs.answers.Computing.{all-definitions}
 
 is1 : same trial1 (5 ∷ 2199023271947 ∷ 518 ∷ []) ≡ true
 unfolding all-definitions
@@ -26,13 +26,9 @@ is5 : same trial5 (0 ∷ 0 ∷ 70 ∷ []) ≡ true
 unfolding all-definitions
 is5 = refl
 
-is6 : same trial6 (0 ∷ 8 ∷ 8 ∷ []) ≡ true
+is6and7 : same trial6and7 (0 ∷ 0 ∷ 516 ∷ 8 ∷ 0 ∷ 0 ∷ 8 ∷ 0 ∷ 0 ∷ 0 ∷ 0 ∷ 0 ∷ 0 ∷ 0 ∷ 2 ∷ 0 ∷ 0 ∷ 2 ∷ 0 ∷ 0 ∷ 68 ∷ 4 ∷ 0 ∷ []) ≡ true
 unfolding all-definitions
-is6 = refl
-
-is7 : same trial7 (0 ∷ 0 ∷ 0 ∷ 0 ∷ 0 ∷ 2 ∷ 0 ∷ 0 ∷ 2 ∷ 0 ∷ 0 ∷ 68 ∷ 4 ∷ 0 ∷ []) ≡ true
-unfolding all-definitions
-is7 = refl
+is6and7 = refl
 
 is8 : same trial8 (0 ∷ 0 ∷ 0 ∷ 0 ∷ 0 ∷ 0 ∷ 0 ∷ []) ≡ true
 unfolding all-definitions
@@ -46,6 +42,10 @@ is10 : same trial10 (0 ∷ 0 ∷ 70 ∷ 0 ∷ 0 ∷ 2746 ∷ []) ≡ true
 unfolding all-definitions
 is10 = refl
 
+is13 : same trial13 (0 ∷ 10 ∷ 10 ∷ []) ≡ true
+unfolding all-definitions
+is13 = refl
+
 pub trials-hold : allMatch trials ≡ true
 unfolding trials allMatch
-trials-hold = rw (is1, is2, is3, is4, is5, is6, is7, is8, is9, is10)
+trials-hold = rw (is1, is2, is3, is4, is5, is6and7, is8, is9, is10, is13)
