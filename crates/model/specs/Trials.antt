@@ -109,10 +109,10 @@ unfoldable pub answersThen : World → List Call → (World → List ℕ) → Li
 answersThen w [] last = last w
 answersThen w (c ∷ cs) last = answerOf (ends w c) ++ answersThen (step w (call c)) cs last
 
--- after 28 stores: the 29th, which hands the last group on, the 30th and a commit; then the rest
+-- after 28 stores: the 29th, which hands the last group on, the 30th, one for the held home, which is taken, and a commit; then the rest
 unfoldable pub fullAndFreed : List Call
 fullAndFreed =
-    store 0 0 (fill 3) room ∷ store 0 1 (fill 4) room ∷ commit 0 room ∷ abort 0 ∷ flush room ∷ settle room ∷ trim room ∷ []
+    store 0 0 (fill 3) room ∷ store 0 1 (fill 4) room ∷ store 0 0 (fill 5) room ∷ commit 0 room ∷ abort 0 ∷ flush room ∷ settle room ∷ trim room ∷ []
 
 -- 6. "Writer 0 stores homes 0 and 1 in turn: the 29th is taken, the 30th answers 8. Commit answers 8."
 -- 7. "Then abort, flush (2 bytes), settle (2), trim (68): start 4, all places free." All are free where the next position is the start's.
@@ -167,11 +167,11 @@ unfoldable pub trials : List Trial
 trials =
     record { yields = trial1; paper = 5 ∷ 2199023271947 ∷ 518 ∷ [] } ∷ record { yields = trial2; paper = 3298534916119 ∷ [] }
     ∷ record { yields = trial3; paper = 65 ∷ 65 ∷ [] } ∷ record { yields = trial4; paper = 0 ∷ 1 ∷ 138 ∷ [] }
-    ∷ record { yields = trial5; paper = 0 ∷ 0 ∷ 70 ∷ [] } 
+    ∷ record { yields = trial5; paper = 0 ∷ 0 ∷ 70 ∷ [] }
     ∷ record {
       yields = trial6and7;
       paper =
-          0 ∷ 0 ∷ 516 ∷ 8 ∷ 0 ∷ 0 ∷ 8 ∷ 0 ∷ 0 ∷ 0 ∷ 0 ∷ 0 ∷ 0 ∷ 0 ∷ 2 ∷ 0 ∷ 0 ∷ 2 ∷ 0 ∷ 0 ∷ 68 ∷ 4 ∷ 0 ∷ [];
+          0 ∷ 0 ∷ 516 ∷ 8 ∷ 0 ∷ 0 ∷ 0 ∷ 0 ∷ 0 ∷ 8 ∷ 0 ∷ 0 ∷ 0 ∷ 0 ∷ 0 ∷ 0 ∷ 0 ∷ 2 ∷ 0 ∷ 0 ∷ 2 ∷ 0 ∷ 0 ∷ 68 ∷ 4 ∷ 0 ∷ [];
     }
     ∷ record { yields = trial8; paper = 0 ∷ 0 ∷ 0 ∷ 0 ∷ 0 ∷ 0 ∷ 0 ∷ [] } ∷ record { yields = trial9; paper = 0 ∷ 0 ∷ 0 ∷ 0 ∷ [] }
     ∷ record { yields = trial10; paper = 0 ∷ 0 ∷ 70 ∷ 0 ∷ 0 ∷ 2746 ∷ [] } ∷ record { yields = trial13; paper = 0 ∷ 10 ∷ 10 ∷ [] } ∷ []

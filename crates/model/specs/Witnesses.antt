@@ -136,3 +136,7 @@ goesSo w (crash passed chosen ∷ es) answers commits homes =
 -- six commits survive; of the lost one nothing stays
 unfoldable pub goesAsListed : Bool
 goesAsListed = goesSo (emptyStore 4 8) history answered 6 (10 ∷ 11 ∷ 12 ∷ 9 ∷ 20 ∷ 9 ∷ 9 ∷ 0 ∷ [])
+
+-- an opening of a new format is done with more groups too
+unfoldable pub opensLarger : List ℕ
+opensLarger = answerOf (ends (emptyStore 5 1) (opening (zeros 1024) room))

@@ -26,7 +26,7 @@ is5 : same trial5 (0 ∷ 0 ∷ 70 ∷ []) ≡ true
 unfolding all-definitions
 is5 = refl
 
-is6and7 : same trial6and7 (0 ∷ 0 ∷ 516 ∷ 8 ∷ 0 ∷ 0 ∷ 8 ∷ 0 ∷ 0 ∷ 0 ∷ 0 ∷ 0 ∷ 0 ∷ 0 ∷ 2 ∷ 0 ∷ 0 ∷ 2 ∷ 0 ∷ 0 ∷ 68 ∷ 4 ∷ 0 ∷ []) ≡ true
+is6and7 : same trial6and7 (0 ∷ 0 ∷ 516 ∷ 8 ∷ 0 ∷ 0 ∷ 0 ∷ 0 ∷ 0 ∷ 8 ∷ 0 ∷ 0 ∷ 0 ∷ 0 ∷ 0 ∷ 0 ∷ 0 ∷ 2 ∷ 0 ∷ 0 ∷ 2 ∷ 0 ∷ 0 ∷ 68 ∷ 4 ∷ 0 ∷ []) ≡ true
 unfolding all-definitions
 is6and7 = refl
 
