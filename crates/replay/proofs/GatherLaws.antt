@@ -4,7 +4,6 @@ use mathlib.Core.Bool.{Bool, true, false, cond}
 use mathlib.Core.List.{List}
 use Prim.Native.Nat.{ℕ, zero, suc, _+_, _-_, _*_, _%_, min, _≤_, _<_}
 use native.Mathlib.Decide.{decLt, ℕ-discrete}
-use native.Mathlib.Nat.{mod-lt, mod-self, mod-eq-of-lt, mod-add-mod}
 use native.Mathlib.Omega.{arith}
 use borrow.Author.Tests.{eq-eqb, ne-eqb, lt-ltb, ltb-true}
 use lib.Dec.{eqb, ltb}
@@ -50,39 +49,6 @@ noted-local tags other base p (suc m) g e =
     let z : p + 0 ≡ p = omega arith in
     rw (noted-local tags other base (suc p) m g (λ k h. let y : p + suc k ≡ suc p + k = omega arith in rw y at (e (suc k) (omega arith))))
     (ap (λ (t : Tag). note base (p - base) t (noted other base (suc p) m g)) (rw z at (e 0 (omega arith))))
-
--- ---- ring slots, down
-
-pub slot-last : (slot groups : ℕ) → slot ≡ 0 → 0 < groups → (groups - 1 + 1) % groups ≡ slot
-slot-last slot groups e h = let z : groups - 1 + 1 ≡ groups = omega arith in rw (z, e) (mod-self groups)
-
-pub slot-before : (slot groups : ℕ) → (slot ≡ 0 → ⊥) → slot < groups → (slot - 1 + 1) % groups ≡ slot
-slot-before slot groups n h = let z : slot - 1 + 1 ≡ slot = omega arith in rw z (mod-eq-of-lt h)
-
--- the slot r before that of group n is that of the group before
-pub slot-less : (n groups slot r : ℕ) → 0 < n → slot ≡ n % groups → r < groups → (r + 1) % groups ≡ slot → r ≡ (n - 1) % groups
-slot-less n groups slot r p e l f = go (ℕ-discrete (r + 1) groups) (ℕ-discrete ((n - 1) % groups + 1) groups)
-  where
-    q : (n - 1) % groups < groups
-    q = mod-lt (n - 1) (omega arith)
-
-    same : (r + 1) % groups ≡ ((n - 1) % groups + 1) % groups
-    same = let z : n - 1 + 1 ≡ n = omega arith in f ∙ e ∙ sym (rw (mod-add-mod, z))
-
-    go : Dec (r + 1 ≡ groups) → Dec ((n - 1) % groups + 1 ≡ groups) → r ≡ (n - 1) % groups
-    go (yes a) (yes b) = omega arith
-    go (yes a) (no b) =
-        let x : (r + 1) % groups ≡ 0 = rw a (mod-self groups) in
-        let y : ((n - 1) % groups + 1) % groups ≡ (n - 1) % groups + 1 = mod-eq-of-lt (omega (arith, q)) in
-        absurd (omega (arith, same))
-    go (no a) (yes b) =
-        let x : (r + 1) % groups ≡ r + 1 = mod-eq-of-lt (omega arith) in
-        let y : ((n - 1) % groups + 1) % groups ≡ 0 = rw b (mod-self groups) in
-        absurd (omega (arith, same))
-    go (no a) (no b) =
-        let x : (r + 1) % groups ≡ r + 1 = mod-eq-of-lt (omega arith) in
-        let y : ((n - 1) % groups + 1) % groups ≡ (n - 1) % groups + 1 = mod-eq-of-lt (omega (arith, q)) in
-        omega (arith, same)
 
 -- ---- a tag that was read
 

@@ -12,7 +12,7 @@ use Rattle.model.specs.Layout.{maxStart, header, entryAt}
 use Rattle.model.specs.Commit.{committed}
 use Rattle.model.specs.State.{stateOf, nextPosition, setStart, setFenced, setLast}
 use Rattle.model.specs.Batch.{KW, FN, recordBytes, batchBytes}
-use Rattle.model.specs.Effects.{Given, groups, homes, newState, liveTags, liveBase, mayStart, largest, trimStart, trimTo, trimEffect}
+use Rattle.model.specs.Effects.{Given, groups, homes, newState, liveTags, liveBase, noneOpenBefore, mayStart, largest, trimStart, trimTo, trimEffect}
 use Rattle.model.specs.Questions.{startFits, batchFits, askState, trimAnswer}
 use Rattle.model.specs.Calls.{sizeOf, outcome, trimCall}
 use Rattle.model.specs.declared.State.{State}
@@ -26,6 +26,8 @@ use Rattle.model.proofs.strip.QuestionLaws.{ask-yes, ask-no}
 use Rattle.answers.specs.Lent.{lent, leaves}
 use Rattle.answers.proofs.AnswerLaws.{Usable, state-refuses, state-passes, refused-by, done-by, strip-by}
 use Rattle.scan.specs.Walk.{Walkable}
+use Rattle.limits.specs.Limits.{Highest}
+use Rattle.limits.proofs.LimitLaws.{trim-none}
 use Rattle.trimming.specs.Moved.{keptLast, movedStrip}
 
 -- ---- the numbers of a strip in order
@@ -89,6 +91,12 @@ start-found log area state st n end x u es g e h =
     let o = u .order in
     let c = committed-closings (entryAt log (st .groups) (st .homes) (st .start)) (7 * st .start) n in
     rw (← o .groups-same, ← o .homes-same, ← es, ← g, c, ← e) h
+
+-- open transactions leave no start but the log's own
+pub start-kept : (log area state : List ℕ) (st : State) (x : ℕ) → st ≡ stateOf state → Highest (λ t. noneOpenBefore (7 * t) state 8) (st .settled / 7) x
+    → x ≡ st .start → x ≡ trimStart (lent log area state [] [] 0 0)
+unfolding trimStart
+start-kept log area state st x es h e = rw (← es) (e ∙ trim-none state _ (st .start) (st .settled / 7) (rw e at h))
 
 -- ---- what is written
 
