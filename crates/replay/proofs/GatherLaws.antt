@@ -25,7 +25,7 @@ use Rattle.scan.proofs.ScanLaws.{Placed, placed}
 use Rattle.replay.specs.Restore.{Gathered}
 use Rattle.replay.specs.Gather.{maxEntries, maxHomes, Gather, fresh, closed, offered, note, noted, Roomy, offsetCode}
 use Rattle.replay.specs.Best.{closes, closer, from, Best, nothing, better, taken, best}
-use Rattle.replay.proofs.BestLaws.{from-here, from-past, from-same, closer-most, closer-least, closer-closes, best-newest}
+use Rattle.replay.proofs.BestLaws.{from-here, from-past, from-same, closer-most, closer-least, closer-closes, best-newest, best-most}
 
 -- ---- by groups
 
@@ -390,12 +390,13 @@ module _ (tags : ℕ → Tag) (base N : ℕ) (some : N ≤ maxEntries) (placed :
   pub gathered : (g : Gather) → g ≡ noted tags base base N fresh → (h : ℕ) → h < maxHomes
       → (getD (g .table) h 0 ≡ offsetCode base (newest tags h (eachEntries tags base (closings tags base N))))
       × (marks (g .map) h ≡ found (newest tags h (eachEntries tags base (closings tags base N))))
+      × (getD (g .table) h 0 ≤ N)
   gathered g e h p =
       let z : base + 0 ≡ base = omega arith in
       let k : Agrees 0 N g = rw e (rw z at (agrees N 0 (omega arith))) in
       let q = k .home h p in
       let r = best-newest tags base h placed N N (omega arith) in
-      (q .entry ∙ r .entry, q .there ∙ r .there)
+      (q .entry ∙ r .entry, q .there ∙ r .there, omega (arith, q .entry, best-most c tags base h 0 N))
 
 -- ---- the log's tags
 
@@ -418,6 +419,7 @@ module _ (log : List ℕ) (groups homes start end : ℕ) (table map : List ℕ) 
         each = length-replicate {A = ℕ} maxHomes 0;
         words = length-replicate {A = ℕ} 64 0;
         entry = λ h k. rw e (getD-zeros maxHomes h);
+        below = λ h k. omega (arith, getD-zeros maxHomes h);
         there = λ h k. rw e (marks-none 64 h);
       })
 
@@ -429,7 +431,7 @@ module _ (log : List ℕ) (groups homes start end : ℕ) (table map : List ℕ) 
       (record { last = last; closers = closers; table = table; map = map }) fresh e (room-fresh 0 (omega arith)) in
       let g = gathered (entryAt log groups homes start) (7 * start) (end - 7 * start) n (placed log groups homes start) (housed log groups homes start l)
       (record { last = last; closers = closers; table = table; map = map }) (rw z at e) in
-      record { each = r .each; words = r .words; entry = λ h k. g h k .0; there = λ h k. g h k .1 }
+      record { each = r .each; words = r .words; entry = λ h k. g h k .0; below = λ h k. g h k .2; there = λ h k. g h k .1 }
 
 pub none-noted : (tags : ℕ → Tag) (base p m : ℕ) (last closers table map : List ℕ) → m ≡ 0 → last ≡ replicate maxEntries 0 → closers ≡ replicate maxHomes 0
     → table ≡ replicate maxHomes 0 → map ≡ replicate 64 0

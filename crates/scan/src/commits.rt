@@ -154,14 +154,7 @@ fn result(progress: Progress) -> Found
 }
 
 // The walk over the `n` positions of the log from its start on, group by group, with a counter for each, all 0.
-fn walk_with(
-    log: &[u8],
-    groups: u64,
-    homes: u64,
-    start: u64,
-    n: u64,
-    counts: &mut [u16],
-) -> Found
+fn walk_with(log: &[u8], groups: u64, homes: u64, start: u64, n: u64, counts: &mut [u16]) -> Found
     requires { ⌜ (length (now log) ≡ 64 + 512 * groups) × (4 ≤ groups) × (groups ≤ 1024) × (homes ≤ 4096) × (start ≤ 2 ^ 47) × (n ≤ 7 * groups)
         × (n ≤ length (now counts)) × (now counts ≡ zeros (length (now counts))) ⌝ }
     ensures { λ r. ⌜ (r .end ≡ endOf (committed (entryAt (now (log .entry)) groups homes start) (7 * start) n)) × (r .number ≡ length (committed (entryAt (now (log .entry)) groups homes start) (7 * start) n)) ⌝ }
@@ -178,16 +171,7 @@ fn walk_with(
         let from = 64 + 512 * slot as usize;
         let group = &log[from..from + 512];
         let m = in_group(left);
-        progress = visit_group(
-            group,
-            groups,
-            homes,
-            start,
-            number,
-            m,
-            counts,
-            progress,
-        );
+        progress = visit_group(group, groups, homes, start, number, m, counts, progress);
         if progress.failed != 0 {
             return result(progress);
         }

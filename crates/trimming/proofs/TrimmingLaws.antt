@@ -27,6 +27,7 @@ use Rattle.answers.specs.Lent.{lent, leaves}
 use Rattle.answers.proofs.AnswerLaws.{Usable, state-refuses, state-passes, refused-by, done-by, strip-by}
 use Rattle.scan.specs.Walk.{Walkable}
 use Rattle.limits.specs.Limits.{Highest}
+use Rattle.limits.proofs.WriterLaws.{open-from}
 use Rattle.limits.proofs.LimitLaws.{trim-none}
 use Rattle.trimming.specs.Moved.{keptLast, movedStrip}
 
@@ -91,6 +92,16 @@ start-found log area state st n end x u es g e h =
     let o = u .order in
     let c = committed-closings (entryAt log (st .groups) (st .homes) (st .start)) (7 * st .start) n in
     rw (← o .groups-same, ← o .homes-same, ← es, ← g, c, ← e) h
+
+-- the highest start that no open transaction lies across is one of the log's groups or the next
+pub limit-within : (log area state : List ℕ) (st : State) (x : ℕ) → Usable log area state → st ≡ stateOf state
+    → Highest (λ t. noneOpenBefore (7 * t) state 8) (st .settled / 7) x → (st .start ≤ x) × (x ≤ st .start + st .groups)
+limit-within log area state st x u es h =
+    let m = numbers log area state st u es in (
+      open-from state (st .groups) (st .homes) (st .start) (st .settled / 7) x (order-own log area state st u es) (ap (λ (s : State). s .start) (sym es))
+          (omega (arith, m .settled)) h,
+      omega (arith, h .most, m .settled-most),
+    )
 
 -- open transactions leave no start but the log's own
 pub start-kept : (log area state : List ℕ) (st : State) (x : ℕ) → st ≡ stateOf state → Highest (λ t. noneOpenBefore (7 * t) state 8) (st .settled / 7) x
