@@ -4,7 +4,7 @@ use Prim.Native.Nat.{_*_, _-_}
 use native.Mathlib.Omega.{arith}
 use borrow.Author.Needs.{needs}
 use Rattle.limits.proofs.LimitLaws.{trim-is}
-use Rattle.trimming.proofs.TrimmingLaws.{numbers, walkable, limit-within, start-found, start-kept}
+use Rattle.trimming.proofs.TrimmingLaws.{numbers, walkable, limit-within, start-found, start-kept, start-past}
 use Rattle.trimming.proofs.start.new_start.Statement.{statement}
 use Rattle.trimming.proofs.start.new_start.Tie as tie
 
@@ -19,39 +19,49 @@ next-position-requires c κs =
     let p = c .before .before .before .before .before .before .before .pre in
     omega (arith, numbers _ _ _ _ (p .0) (p .1))
 
+mul-if2 : tie.Need-mul-if2
+mul-if2 c = search needs
+
+returns-2 : tie.Need-returns-2
+returns-2 c =
+    let o = c .before .before .before .before in
+    let p = o .before .before .before .before .before .pre in
+    start-past _ _ _ _ _ (p .0) (p .1) (o .open-limit .ensures) (omega (arith, c .if2 .taken, c .before .next-position .ensures))
+
 mul-n : tie.Need-mul-n
 mul-n c =
-    let p = c .before .before .before .before .before .before .before .before .before .pre in
+    let p = c .before .before .before .before .before .before .before .before .before .before .pre in
     omega (arith, numbers _ _ _ _ (p .0) (p .1))
 
 sub-n : tie.Need-sub-n
 sub-n c =
-    let p = c .before .before .before .before .before .before .before .before .before .pre in
+    let p = c .before .before .before .before .before .before .before .before .before .before .pre in
     omega (arith, numbers _ _ _ _ (p .0) (p .1))
 
 walk-requires : tie.Need-walk-requires
 walk-requires c κs =
-    let p = c .before .before .before .before .before .before .before .before .before .pre in
+    let p = c .before .before .before .before .before .before .before .before .before .before .pre in
     omega (arith, numbers _ _ _ _ (p .0) (p .1))
 
 closed-limit-requires : tie.Need-closed-limit-requires
 closed-limit-requires c κs =
-    let o = c .before .before .before .before .before in
-    let p = o .before .before .before .before .before .pre in
+    let o = c .before .before .before .before .before .before in
+    let a = o .before .before .before .before .before in
+    let p = a .pre in
     let w = limit-within _ _ _ _ _ (p .0) (p .1) (o .open-limit .ensures) in
-    let n = c .before .before .next-position .ensures in (
-      walkable _ _ _ _ (numbers _ _ _ _ (p .0) (p .1)) (ap (λ x. x - 7 * c .before .before .before .before .before .before .before .before .before .before .args .st .start) n) (c .walk .ensures .0),
+    let n = c .before .before .before .next-position .ensures in (
+      walkable _ _ _ _ (numbers _ _ _ _ (p .0) (p .1)) (ap (λ x. x - 7 * a .args .st .start) n) (c .walk .ensures .0),
       w .0,
       w .1,
     )
 
-returns-2 : tie.Need-returns-2
-returns-2 c =
-    let o = c .before .before .before .before .before .before in
+returns-3 : tie.Need-returns-3
+returns-3 c =
+    let o = c .before .before .before .before .before .before .before in
     let a = o .before .before .before .before .before in
     let p = a .pre in
     let m = numbers _ _ _ _ (p .0) (p .1) in
-    let n = c .before .before .before .next-position .ensures in
+    let n = c .before .before .before .before .next-position .ensures in
     start-found _ _ _ _ _ _ _ (p .0) (p .1) (ap (λ x. x - 7 * a .args .st .start) n) (c .before .walk .ensures .0)
     (trim-is _ _ _ _ _ _ (c .closed-limit .ensures .0) (omega (arith, m .settled)) (o .open-limit .ensures) (c .closed-limit .ensures .1))
 
@@ -62,8 +72,10 @@ new-start-spec =
     open-limit-requires
     returns
     next-position-requires
+    mul-if2
+    returns-2
     mul-n
     sub-n
     walk-requires
     closed-limit-requires
-    returns-2)
+    returns-3)
