@@ -7,7 +7,6 @@ use model::Tag;
 ghost use mathlib.Core.Path.{_≡_};
 ghost use Prim.Native.Nat.{_+_, _*_, _^_, min, _<_, _≤_};
 ghost use lib.ListN.{length, getD};
-ghost use Rattle.model.specs.Bytes.{zeros};
 ghost use Rattle.model.specs.Tag.{readTag};
 ghost use Rattle.model.specs.Layout.{entryIn, entryAt};
 ghost use Rattle.model.specs.Commit.{linked, committed};
@@ -153,12 +152,12 @@ fn result(progress: Progress) -> Found
     }
 }
 
-// The walk over the `n` positions of the log from its start on, group by group, with a counter for each, all 0.
-fn walk_with(log: &[u8], groups: u64, homes: u64, start: u64, n: u64, counts: &mut [u16]) -> Found
-    requires { ⌜ (length (now log) ≡ 64 + 512 * groups) × (4 ≤ groups) × (groups ≤ 1024) × (homes ≤ 4096) × (start ≤ 2 ^ 47) × (n ≤ 7 * groups)
-        × (n ≤ length (now counts)) × (now counts ≡ zeros (length (now counts))) ⌝ }
+// Walks the `n` positions of the log from its start on, group by group, and finds where the committed transactions end and how many they are.
+pub fn walk(log: &[u8], groups: u64, homes: u64, start: u64, n: u64) -> Found
+    requires { ⌜ (length (now log) ≡ 64 + 512 * groups) × (4 ≤ groups) × (groups ≤ 1024) × (homes ≤ 4096) × (start ≤ 2 ^ 47) × (n ≤ 7 * groups) ⌝ }
     ensures { λ r. ⌜ (r .end ≡ endOf (committed (entryAt (now (log .entry)) groups homes start) (7 * start) n)) × (r .number ≡ length (committed (entryAt (now (log .entry)) groups homes start) (7 * start) n)) ⌝ }
 {
+    let mut counts = [0u16; 7168];
     let mut progress = Progress {
         end: 0,
         number: 0,
@@ -171,7 +170,16 @@ fn walk_with(log: &[u8], groups: u64, homes: u64, start: u64, n: u64, counts: &m
         let from = 64 + 512 * slot as usize;
         let group = &log[from..from + 512];
         let m = in_group(left);
-        progress = visit_group(group, groups, homes, start, number, m, counts, progress);
+        progress = visit_group(
+            group,
+            groups,
+            homes,
+            start,
+            number,
+            m,
+            &mut counts,
+            progress,
+        );
         if progress.failed != 0 {
             return result(progress);
         }
@@ -180,18 +188,4 @@ fn walk_with(log: &[u8], groups: u64, homes: u64, start: u64, n: u64, counts: &m
         left -= m as u64;
     }
     result(progress)
-}
-
-// Walks the `n` positions of the log from its start on, and finds where the committed transactions end and how many they are. A short log has a
-// small table of counters, since it is cleared first.
-pub fn walk(log: &[u8], groups: u64, homes: u64, start: u64, n: u64) -> Found
-    requires { ⌜ (length (now log) ≡ 64 + 512 * groups) × (4 ≤ groups) × (groups ≤ 1024) × (homes ≤ 4096) × (start ≤ 2 ^ 47) × (n ≤ 7 * groups) ⌝ }
-    ensures { λ r. ⌜ (r .end ≡ endOf (committed (entryAt (now (log .entry)) groups homes start) (7 * start) n)) × (r .number ≡ length (committed (entryAt (now (log .entry)) groups homes start) (7 * start) n)) ⌝ }
-{
-    if n <= 448 {
-        let mut few = [0u16; 448];
-        return walk_with(log, groups, homes, start, n, &mut few);
-    }
-    let mut counts = [0u16; 7168];
-    walk_with(log, groups, homes, start, n, &mut counts)
 }
