@@ -1,4 +1,4 @@
-pub mod CodeLaws
+pub mod EntryLaws
 pub mod WriterLaws
 pub mod SpanLaws
 pub mod LimitLaws

@@ -1,5 +1,5 @@
 -- The highest start that neither an open nor a committed transaction lies across is the one that the definition takes. Assumes nothing.
-use mathlib.Core.Path.{_≡_}
+use mathlib.Core.Path.{_≡_, refl}
 use mathlib.Core.Bool.{Bool, true, false, cond, _&&_, and-false}
 use mathlib.Core.List.{List}
 use Prim.Native.Nat.{ℕ, zero, suc, _+_, _-_, _*_, _≤_, _<_}
@@ -33,3 +33,13 @@ trim-is s spans start limit r₁ r a b h k =
     go : (t : ℕ) → r < t → t ≤ limit → Dec (t ≤ r₁) → (noneAcross (7 * t) spans && noneOpenBefore (7 * t) s 8) ≡ false
     go t l m (yes q) = rw (k .above t l q)
     go t l m (no q) = rw (h .above t (omega arith) m) (and-false (noneAcross (7 * t) spans))
+
+-- where open transactions leave no start but the log's own, committed ones change nothing
+pub trim-none : (s : List ℕ) (spans : List Span) (start limit : ℕ) → Highest (λ t. noneOpenBefore (7 * t) s 8) limit start
+    → start ≡ largest (mayStart s spans) start (limit - start)
+unfolding mayStart largest
+trim-none s spans start limit h = none (limit - start) (λ t i j. rw (h .above t i (omega (arith, h .most))) (and-false (noneAcross (7 * t) spans)))
+  where
+    none : (n : ℕ) → ((t : ℕ) → start < t → t ≤ start + n → mayStart s spans t ≡ false) → start ≡ largest (mayStart s spans) start n
+    none zero f = refl
+    none (suc n) f = rw (f (start + suc n) (omega arith) (omega arith)) (none n (λ t i j. f t i (omega arith)))

@@ -1,8 +1,9 @@
 -- Starts that trim may move to, below a limit.
 use mathlib.Core.Path.{_≡_}
 use mathlib.Core.Bool.{Bool, true, false, cond}
-use Prim.Native.Nat.{ℕ, _+_, _/_, min, _≤_, _<_}
+use Prim.Native.Nat.{ℕ, _/_, min, _≤_, _<_}
 use Rattle.model.specs.State.{hasLogged}
+use Rattle.scan.specs.Scan.{over}
 use Rattle.model.specs.declared.Writer.{Writer}
 use Rattle.model.specs.declared.Tag.{Tag}
 use Rattle.model.specs.declared.Tag.the-variants.{Nothing, Entry, Closing}
@@ -23,8 +24,6 @@ spanLimit Nothing limit = limit
 spanLimit (Entry h f) limit = limit
 spanLimit (Closing h f link count) limit = min (f / 7) limit
 
--- the first position + 1 of the transaction that a tag closes, 0 if it closes none
-unfoldable pub firstClosed : Tag → ℕ
-firstClosed Nothing = 0
-firstClosed (Entry h f) = 0
-firstClosed (Closing h f link count) = f + 1
+-- a limit lowered by the m positions from `position` on
+abbrev pub lowered : (ℕ → Tag) → ℕ → ℕ → ℕ → ℕ
+lowered tags position m limit = over (λ p. spanLimit) tags position m limit

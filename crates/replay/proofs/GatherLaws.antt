@@ -4,7 +4,6 @@ use mathlib.Core.Bool.{Bool, true, false, cond}
 use mathlib.Core.List.{List}
 use Prim.Native.Nat.{ℕ, zero, suc, _+_, _-_, _*_, _%_, min, _≤_, _<_}
 use native.Mathlib.Decide.{decLt, ℕ-discrete}
-use native.Mathlib.Nat.{mod-lt, mod-self, mod-eq-of-lt, mod-add-mod}
 use native.Mathlib.Omega.{arith}
 use borrow.Author.Tests.{eq-eqb, ne-eqb, lt-ltb, ltb-true}
 use lib.Dec.{eqb, ltb}
@@ -26,7 +25,7 @@ use Rattle.scan.proofs.ScanLaws.{Placed, placed}
 use Rattle.replay.specs.Restore.{Gathered}
 use Rattle.replay.specs.Gather.{maxEntries, maxHomes, Gather, fresh, closed, offered, note, noted, Roomy, offsetCode}
 use Rattle.replay.specs.Best.{closes, closer, from, Best, nothing, better, taken, best}
-use Rattle.replay.proofs.BestLaws.{from-here, from-past, from-same, closer-most, closer-least, closer-closes, best-newest}
+use Rattle.replay.proofs.BestLaws.{from-here, from-past, from-same, closer-most, closer-least, closer-closes, best-newest, best-most}
 
 -- ---- by groups
 
@@ -50,39 +49,6 @@ noted-local tags other base p (suc m) g e =
     let z : p + 0 ≡ p = omega arith in
     rw (noted-local tags other base (suc p) m g (λ k h. let y : p + suc k ≡ suc p + k = omega arith in rw y at (e (suc k) (omega arith))))
     (ap (λ (t : Tag). note base (p - base) t (noted other base (suc p) m g)) (rw z at (e 0 (omega arith))))
-
--- ---- ring slots, down
-
-pub slot-last : (slot groups : ℕ) → slot ≡ 0 → 0 < groups → (groups - 1 + 1) % groups ≡ slot
-slot-last slot groups e h = let z : groups - 1 + 1 ≡ groups = omega arith in rw (z, e) (mod-self groups)
-
-pub slot-before : (slot groups : ℕ) → (slot ≡ 0 → ⊥) → slot < groups → (slot - 1 + 1) % groups ≡ slot
-slot-before slot groups n h = let z : slot - 1 + 1 ≡ slot = omega arith in rw z (mod-eq-of-lt h)
-
--- the slot r before that of group n is that of the group before
-pub slot-less : (n groups slot r : ℕ) → 0 < n → slot ≡ n % groups → r < groups → (r + 1) % groups ≡ slot → r ≡ (n - 1) % groups
-slot-less n groups slot r p e l f = go (ℕ-discrete (r + 1) groups) (ℕ-discrete ((n - 1) % groups + 1) groups)
-  where
-    q : (n - 1) % groups < groups
-    q = mod-lt (n - 1) (omega arith)
-
-    same : (r + 1) % groups ≡ ((n - 1) % groups + 1) % groups
-    same = let z : n - 1 + 1 ≡ n = omega arith in f ∙ e ∙ sym (rw (mod-add-mod, z))
-
-    go : Dec (r + 1 ≡ groups) → Dec ((n - 1) % groups + 1 ≡ groups) → r ≡ (n - 1) % groups
-    go (yes a) (yes b) = omega arith
-    go (yes a) (no b) =
-        let x : (r + 1) % groups ≡ 0 = rw a (mod-self groups) in
-        let y : ((n - 1) % groups + 1) % groups ≡ (n - 1) % groups + 1 = mod-eq-of-lt (omega (arith, q)) in
-        absurd (omega (arith, same))
-    go (no a) (yes b) =
-        let x : (r + 1) % groups ≡ r + 1 = mod-eq-of-lt (omega arith) in
-        let y : ((n - 1) % groups + 1) % groups ≡ 0 = rw b (mod-self groups) in
-        absurd (omega (arith, same))
-    go (no a) (no b) =
-        let x : (r + 1) % groups ≡ r + 1 = mod-eq-of-lt (omega arith) in
-        let y : ((n - 1) % groups + 1) % groups ≡ (n - 1) % groups + 1 = mod-eq-of-lt (omega (arith, q)) in
-        omega (arith, same)
 
 -- ---- a tag that was read
 
@@ -424,12 +390,13 @@ module _ (tags : ℕ → Tag) (base N : ℕ) (some : N ≤ maxEntries) (placed :
   pub gathered : (g : Gather) → g ≡ noted tags base base N fresh → (h : ℕ) → h < maxHomes
       → (getD (g .table) h 0 ≡ offsetCode base (newest tags h (eachEntries tags base (closings tags base N))))
       × (marks (g .map) h ≡ found (newest tags h (eachEntries tags base (closings tags base N))))
+      × (getD (g .table) h 0 ≤ N)
   gathered g e h p =
       let z : base + 0 ≡ base = omega arith in
       let k : Agrees 0 N g = rw e (rw z at (agrees N 0 (omega arith))) in
       let q = k .home h p in
       let r = best-newest tags base h placed N N (omega arith) in
-      (q .entry ∙ r .entry, q .there ∙ r .there)
+      (q .entry ∙ r .entry, q .there ∙ r .there, omega (arith, q .entry, best-most c tags base h 0 N))
 
 -- ---- the log's tags
 
@@ -452,6 +419,7 @@ module _ (log : List ℕ) (groups homes start end : ℕ) (table map : List ℕ) 
         each = length-replicate {A = ℕ} maxHomes 0;
         words = length-replicate {A = ℕ} 64 0;
         entry = λ h k. rw e (getD-zeros maxHomes h);
+        below = λ h k. omega (arith, getD-zeros maxHomes h);
         there = λ h k. rw e (marks-none 64 h);
       })
 
@@ -463,7 +431,7 @@ module _ (log : List ℕ) (groups homes start end : ℕ) (table map : List ℕ) 
       (record { last = last; closers = closers; table = table; map = map }) fresh e (room-fresh 0 (omega arith)) in
       let g = gathered (entryAt log groups homes start) (7 * start) (end - 7 * start) n (placed log groups homes start) (housed log groups homes start l)
       (record { last = last; closers = closers; table = table; map = map }) (rw z at e) in
-      record { each = r .each; words = r .words; entry = λ h k. g h k .0; there = λ h k. g h k .1 }
+      record { each = r .each; words = r .words; entry = λ h k. g h k .0; below = λ h k. g h k .2; there = λ h k. g h k .1 }
 
 pub none-noted : (tags : ℕ → Tag) (base p m : ℕ) (last closers table map : List ℕ) → m ≡ 0 → last ≡ replicate maxEntries 0 → closers ≡ replicate maxHomes 0
     → table ≡ replicate maxHomes 0 → map ≡ replicate 64 0

@@ -6,6 +6,7 @@ use mathlib.Core.List.{List, [], _∷_, _++_}
 use mathlib.Core.Option.{Option, none, some}
 use Prim.Native.Nat.{ℕ, zero, suc, _+_, _-_, _*_, _/_, _%_, _≤_, _<_}
 use native.Mathlib.Decide.{decLt, ℕ-discrete}
+use native.Mathlib.Nat.{mod-add-mod, mod-eq-of-lt, mod-eq-sub-mod}
 use native.Mathlib.Omega.{arith}
 use borrow.Author.Tests.{ne-eqb}
 use lib.Dec.{eqb, leb}
@@ -28,7 +29,14 @@ use Rattle.bitmap.proofs.WordLaws.{no-bits}
 use Rattle.bitmap.proofs.MapLaws.{marked-word, marks-past}
 use Rattle.scan.specs.Walk.{Walkable, closedBelow}
 use Rattle.replay.specs.Gather.{maxHomes, offsetCode}
-use Rattle.replay.specs.Restore.{Gathered, restored, Ready}
+use Rattle.replay.specs.Restore.{Gathered, restored, Ready, Short}
+
+-- a group's ring slot, where its number is below 2 × G
+pub slot-within : (n groups : ℕ) → n < groups → n ≡ n % groups
+slot-within n groups h = sym (mod-eq-of-lt h)
+
+pub slot-around : (n groups : ℕ) → groups ≤ n → n < 2 * groups → n - groups ≡ n % groups
+slot-around n groups h k = sym (mod-eq-sub-mod h ∙ mod-eq-of-lt (omega arith))
 
 -- the part of the log that is a position's block
 block-part : (log : List ℕ) (groups p : ℕ) → blockAt log groups p ≡ part log (64 + 512 * (p / 7 % groups) + (64 + 64 * (p % 7))) 64
@@ -111,6 +119,25 @@ pub ready-word : (area table map : List ℕ) (i : ℕ) → ((h : ℕ) → marks 
 ready-word area table map i k =
     ready-right area table (marked (marks map) (64 * i)) (raised (64 * i) (bitsOf (getD map i 0)))
     (rw (← marked-word map i) (ready-marked area table (marks map) (64 * (i + 1)) k))
+
+-- ---- a log that starts at a ring slot has the blocks of one that starts at the group
+
+block-ring : (log : List ℕ) (groups start code : ℕ) → 0 < code → blockAt log groups (7 * (start % groups) + code - 1) ≡ blockAt log groups (7 * start + code - 1)
+unfolding blockAt slotOf indexOf
+block-ring log groups start code h =
+    let a : (7 * (start % groups) + code - 1) / 7 ≡ start % groups + (code - 1) / 7 = omega arith in
+    let b : (7 * start + code - 1) / 7 ≡ start + (code - 1) / 7 = omega arith in
+    let c : (7 * (start % groups) + code - 1) % 7 ≡ (7 * start + code - 1) % 7 = omega arith in
+    rw (a, b, c, mod-add-mod)
+
+restored-ring : (log : List ℕ) (groups start first : ℕ) (area table hs now : List ℕ) → first ≡ start % groups → Ready area table hs
+    → restored log groups (7 * first) table hs now ≡ restored log groups (7 * start) table hs now
+unfolding restored
+restored-ring log groups start first area table [] now e r = refl
+restored-ring log groups start first area table (h ∷ hs) now e r =
+    let b : blockAt log groups (7 * first + getD table h 0 - 1) ≡ blockAt log groups (7 * start + getD table h 0 - 1) =
+    rw e (block-ring log groups start (getD table h 0) (r .2)) in
+    rw b (restored-ring log groups start first area table hs _ e (r .3))
 
 -- ---- the whole replay
 
@@ -241,6 +268,9 @@ module _ (log : List ℕ) (groups homes start end : ℕ) (table map : List ℕ) 
           let e : none ≡ some (n .0) = sym (none-newest log groups homes tags h (omega arith) ts good) ∙ n .1 in
           let z : _≡_ {A = ℕ} 0 1 = cc in absurd (omega arith)
 
+  pub short : Short groups table
+  short = record { below = λ h l. omega (arith, g .below h (omega (arith, g .each)), w .within) }
+
   module _ (area : List ℕ) (size : length area ≡ 64 * homes) where
     pub fits-marked : (h : ℕ) → marks map h ≡ true → Fits area table h
     fits-marked h m =
@@ -248,7 +278,7 @@ module _ (log : List ℕ) (groups homes start end : ℕ) (table map : List ℕ) 
         let l = marked-below h m in
         (omega arith, omega (arith, small h m, g .each), omega (arith, n .2))
 
-    pub restored-replayed : restored log groups (7 * start) table (marked (marks map) (64 * length map)) area ≡ replayed log groups tags ts area
+    restored-replayed : restored log groups (7 * start) table (marked (marks map) (64 * length map)) area ≡ replayed log groups tags ts area
     restored-replayed =
         area-ext _ _ homes (length-restored log groups (7 * start) table (marked (marks map) (64 * length map)) area ∙ size)
         (length-replayed log groups homes tags ts area ∙ size) (λ h l. go h l (marks map h) refl)
@@ -280,3 +310,10 @@ module _ (log : List ℕ) (groups homes start end : ℕ) (table map : List ℕ) 
             → homeAt (restored log groups (7 * start) table (marked (marks map) (64 * length map)) area) h ≡ homeAt (replayed log groups tags ts area) h
         go h l true m = here h l m ∙ sym (replay-home log groups homes tags ts area h good size l)
         go h l false m = other h l m ∙ sym (replay-home log groups homes tags ts area h good size l)
+
+    pub restored-from : (first : ℕ) → first ≡ start % groups
+        → restored log groups (7 * first) table (marked (marks map) (64 * length map)) area ≡ replayed log groups tags ts area
+    restored-from first e =
+        restored-ring log groups start first area table (marked (marks map) (64 * length map)) area e
+        (ready-marked area table (marks map) (64 * length map) fits-marked)
+        ∙ restored-replayed

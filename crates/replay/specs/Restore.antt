@@ -15,6 +15,7 @@ pub record Gathered (log : List ℕ) (groups homes start end : ℕ) (table map :
   pub words : length map ≡ 64
   pub entry : (h : ℕ) → h < maxHomes
       → getD table h 0 ≡ offsetCode (7 * start) (newest (entryAt log groups homes start) h (closedBelow log groups homes start end))
+  pub below : (h : ℕ) → h < maxHomes → getD table h 0 ≤ end - 7 * start
   pub there : (h : ℕ) → h < maxHomes → marks map h ≡ found (newest (entryAt log groups homes start) h (closedBelow log groups homes start end))
 
 -- each of some homes gets the block of its newest entry, where offsets count from position `base`
@@ -27,3 +28,7 @@ restored log groups base table (h ∷ hs) area =
 abbrev pub Ready : List ℕ → List ℕ → List ℕ → Type 0
 Ready area table [] = Unit {0}
 Ready area table (h ∷ hs) = (64 * h + 64 ≤ length area) × (h < length table) × (0 < getD table h 0) × Ready area table hs
+
+-- no entry of a table lies past a log of some groups
+pub record Short (groups : ℕ) (table : List ℕ) : Type 0 where
+  pub below : (h : ℕ) → h < length table → getD table h 0 ≤ 7 * groups

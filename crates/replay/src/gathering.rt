@@ -2,7 +2,7 @@
 use model::Tag;
 ghost use mathlib.Core.Path.{_≡_};
 ghost use mathlib.Core.Bool.{cond};
-ghost use Prim.Native.Nat.{_+_, _-_, _*_, _%_, _^_, _≤_, _<_};
+ghost use Prim.Native.Nat.{_+_, _-_, _*_, _^_, _≤_, _<_};
 ghost use lib.Dec.{ltb};
 ghost use lib.ListN.{length, getD, set, replicate};
 ghost use Rattle.model.specs.Tag.{readTag};
@@ -117,14 +117,6 @@ fn note_group(
     }
 }
 
-// The ring slot before `slot`.
-fn previous_slot(slot: u64, groups: u64) -> u64
-    requires { ⌜ (slot < groups) × (groups ≤ 1024) ⌝ }
-    ensures { λ r. ⌜ (r < groups) × ((r + 1) % groups ≡ slot) ⌝ }
-{
-    if slot == 0 { groups - 1 } else { slot - 1 }
-}
-
 // Finds the newest entry of every home among the transactions of all closing entries below `end`, and marks the homes that have one.
 pub fn gather(
     log: &[u8],
@@ -145,10 +137,10 @@ pub fn gather(
     let mut last = [0u16; 7168];
     let mut closers = [0u16; 4096];
     let mut number = start + (end - base + 6) / 7;
-    let mut slot = number % groups;
+    let mut slot = scan::first_slot(number, groups);
     while number > start {
         number -= 1;
-        slot = previous_slot(slot, groups);
+        slot = scan::previous_slot(slot, groups);
         let from = 64 + 512 * slot as usize;
         let group = &log[from..from + 512];
         let m = scan::in_group(end - 7 * number);

@@ -11,7 +11,6 @@ use borrow.Author.Tests.{eq-eqb, ne-eqb}
 use lib.Dec.{eqb}
 use lib.ListN.{length, getD, set, length-set, length-append}
 use lib.Seq.{getD-set-same, getD-set-other, set-out}
-use Rattle.model.specs.Bytes.{zeros}
 use Rattle.model.specs.Tag.{belongs, readTag}
 use Rattle.model.specs.Layout.{groupAt, groupTag, groupValid, slotOf, indexOf, entryIn, entryAt}
 use Rattle.model.specs.Commit.{members, complete, linked, Walk, judged, visit, walk, started, committed}

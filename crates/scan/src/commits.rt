@@ -1,9 +1,11 @@
 // The walk over the log's groups that applies the commit rule.
 use super::groups::group_valid;
 use super::groups::tag_words;
+use super::slots::first_slot;
+use super::slots::next_slot;
 use model::Tag;
 ghost use mathlib.Core.Path.{_≡_};
-ghost use Prim.Native.Nat.{_+_, _*_, _%_, _^_, min, _<_, _≤_};
+ghost use Prim.Native.Nat.{_+_, _*_, _^_, min, _<_, _≤_};
 ghost use lib.ListN.{length, getD};
 ghost use Rattle.model.specs.Tag.{readTag};
 ghost use Rattle.model.specs.Layout.{entryIn, entryAt};
@@ -133,14 +135,6 @@ fn visit_group(
     reached
 }
 
-// The ring slot after `slot`.
-pub fn next_slot(slot: u64, groups: u64) -> u64
-    requires { ⌜ (slot < groups) × (groups ≤ 1024) ⌝ }
-    ensures { λ r. ⌜ r ≡ (slot + 1) % groups ⌝ }
-{
-    if slot + 1 == groups { 0 } else { slot + 1 }
-}
-
 // How many of the `left` positions the next group has.
 pub fn in_group(left: u64) -> usize
     ensures { λ r. ⌜ r ≡ min left 7 ⌝ }
@@ -169,7 +163,7 @@ pub fn walk(log: &[u8], groups: u64, homes: u64, start: u64, n: u64) -> Found
         number: 0,
         failed: 0,
     };
-    let mut slot = start % groups;
+    let mut slot = first_slot(start, groups);
     let mut number = start;
     let mut left = n;
     while left > 0 {

@@ -189,7 +189,7 @@ fn seek_with(
     ensures { λ r. ⌜ r ≡ codeOf (seenBy (entryAt (now (log .entry)) groups homes start) home own (7 * start) n) ⌝ }
 {
     let mut search = begin();
-    let mut slot = start % groups;
+    let mut slot = scan::first_slot(start, groups);
     let mut number = start;
     let mut left = n;
     while left > 0 {

@@ -1,13 +1,13 @@
 -- `replay::gather` meets its contract. The loop's invariant: the groups from `number` on have been taken, and `slot` is the ring slot of group
 -- `number`. Assumes nothing.
-use mathlib.Core.Path.{_≡_, refl, sym, ap, _∙_}
-use Prim.Native.Nat.{_+_, _-_, _*_, _%_, _≤_, _<_}
-use native.Mathlib.Nat.{mod-lt}
+use mathlib.Core.Path.{_≡_, refl, ap}
+use Prim.Native.Nat.{_+_, _-_, _*_, _≤_}
 use native.Mathlib.Omega.{arith}
 use lib.ListN.{length, length-take, length-drop}
 use Rattle.model.specs.Layout.{entryAt}
+use Rattle.scan.specs.Slots.{Kept}
 use Rattle.replay.specs.Gather.{Gather, fresh, noted}
-use Rattle.replay.proofs.GatherLaws.{slot-less, room-fresh, room-reached, log-turn, none-noted, gathered-none, gathered-all}
+use Rattle.replay.proofs.GatherLaws.{room-fresh, room-reached, log-turn, none-noted, gathered-none, gathered-all}
 use Rattle.replay.proofs.gathering.gather.Statement.{statement}
 use Rattle.replay.proofs.gathering.gather.Tie as tie
 
@@ -19,8 +19,7 @@ Inv-loop log table₀ map₀ groups homes start end base last₀ closers₀ numb
     )
     × (start ≤ number)
     × (7 * number ≤ end + 6)
-    × (slot ≡ number % groups)
-    × (slot < groups)
+    × Kept groups number slot
 
 abbrev μ-loop : tie.MeasureT-loop
 μ-loop log table₀ map₀ groups homes start end base last₀ closers₀ number₀ slot₀ table map last closers number slot = number - start
@@ -40,13 +39,13 @@ add-number c = omega arith
 add-number-2 : tie.Need-add-number-2 Inv-loop μ-loop
 add-number-2 c = omega arith
 
-rem-slot : tie.Need-rem-slot Inv-loop μ-loop
-rem-slot c = omega arith
+first-slot-requires : tie.Need-first-slot-requires Inv-loop μ-loop
+first-slot-requires c κs = omega arith
 
 loop-holds : tie.Need-loop-holds Inv-loop μ-loop
 loop-holds c =
-    let p = c .before .before .before .before .pre in
-    (none-noted _ _ _ _ _ _ _ _ (omega arith) refl refl (p .2) (p .3), omega arith, omega arith, refl, mod-lt _ (omega arith))
+    let p = c .before .before .before .before .before .pre in
+    (none-noted _ _ _ _ _ _ _ _ (omega arith) refl refl (p .2) (p .3), omega arith, omega arith, c .first-slot .ensures)
 
 sub-number-2 : tie.Need-sub-number-2 Inv-loop μ-loop
 sub-number-2 c = omega arith
@@ -96,7 +95,7 @@ note-group-requires c κs =
       omega arith,
       omega arith,
       omega (arith, c .before .before .before .before .in-group .ensures),
-      room-reached _ _ _ _ _ _ _ (l .inv .0) (room-fresh _ (c .before .before .before .before .before .before .before .before .before .before .before .before .before .pre .1)),
+      room-reached _ _ _ _ _ _ _ (l .inv .0) (room-fresh _ (c .before .before .before .before .before .before .before .before .before .before .before .before .before .before .pre .1)),
     )
 
 loop-less : tie.Need-loop-less Inv-loop μ-loop
@@ -105,26 +104,25 @@ loop-less c = omega arith
 loop-again : tie.Need-loop-again Inv-loop μ-loop
 loop-again c =
     let l = c .before .before .before .before .before .before .before .before .before .before .before .before .before .before .before .loop in
-    let s = slot-less _ _ _ _ (omega arith) (l .inv .3) (c .before .before .before .before .before .before .before .before .before .before .before .before .before .previous-slot .ensures .0) (c .before .before .before .before .before .before .before .before .before .before .before .before .before .previous-slot .ensures .1) in
+    let s = c .before .before .before .before .before .before .before .before .before .before .before .before .before .previous-slot .ensures .1 _ (omega arith) (l .inv .3) in
     let e : l .number - 1 + 1 ≡ l .number = omega (arith, c .before .before .before .before .before .before .before .before .before .before .before .before .before .before .loop-test .taken) in (
-      log-turn _ _ _ _ _ _ (l .number - 1) _ _ _ _ (omega arith) (omega arith) (c .before .before .before .before .before .before .before .before .before .before .before .in-group .ensures) s refl (rw e (l .inv .0))
+      log-turn _ _ _ _ _ _ (l .number - 1) _ _ _ _ (omega arith) (omega arith) (c .before .before .before .before .before .before .before .before .before .before .before .in-group .ensures) (s .same) refl (rw e (l .inv .0))
           (c .before .before .before .before .before .before .note-group .ensures),
       omega arith,
       omega arith,
       s,
-      c .before .before .before .before .before .before .before .before .before .before .before .before .before .previous-slot .ensures .0,
     )
 
 same-length : tie.Need-same-length Inv-loop μ-loop
-same-length c = omega (arith, room-reached _ _ _ _ _ _ _ (c .before .loop .inv .0) (room-fresh 0 (omega arith)) .each, ap length (c .before .before .before .before .before .before .pre .2))
+same-length c = omega (arith, room-reached _ _ _ _ _ _ _ (c .before .loop .inv .0) (room-fresh 0 (omega arith)) .each, ap length (c .before .before .before .before .before .before .before .pre .2))
 
 same-length-2 : tie.Need-same-length-2 Inv-loop μ-loop
-same-length-2 c = omega (arith, room-reached _ _ _ _ _ _ _ (c .before .loop .inv .0) (room-fresh 0 (omega arith)) .words, ap length (c .before .before .before .before .before .before .pre .3))
+same-length-2 c = omega (arith, room-reached _ _ _ _ _ _ _ (c .before .loop .inv .0) (room-fresh 0 (omega arith)) .words, ap length (c .before .before .before .before .before .before .before .pre .3))
 
 returns-2 : tie.Need-returns-2 Inv-loop μ-loop
 returns-2 c =
     let l = c .before .loop in
-    gathered-all _ _ _ _ _ _ _ _ _ (l .number) (c .before .before .before .before .before .before .pre .1) (omega arith) (omega arith) (l .inv .0)
+    gathered-all _ _ _ _ _ _ _ _ _ (l .number) (c .before .before .before .before .before .before .before .pre .1) (omega arith) (omega arith) (l .inv .0)
 
 pub gather-spec : {M : Type 1} → statement M
 gather-spec =
@@ -137,7 +135,7 @@ gather-spec =
     sub-number
     add-number
     add-number-2
-    rem-slot
+    first-slot-requires
     loop-holds
     sub-number-2
     previous-slot-requires

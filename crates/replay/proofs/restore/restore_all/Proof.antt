@@ -6,16 +6,19 @@ use lib.ListN.{length}
 use Rattle.model.specs.Effects.{marked}
 use Rattle.bitmap.specs.Marks.{marks}
 use Rattle.replay.specs.Restore.{restored}
-use Rattle.replay.proofs.RestoreLaws.{length-restored, map-start, map-turn, ready-word, fits-marked, restored-replayed}
+use Rattle.replay.proofs.RestoreLaws.{length-restored, map-start, map-turn, ready-word, short, fits-marked, restored-from}
 use Rattle.replay.proofs.restore.restore_all.Statement.{statement}
 use Rattle.replay.proofs.restore.restore_all.Tie as tie
 
 abbrev Inv-loop : tie.InvT-loop
-Inv-loop log area₀ table map groups homes start end i₀ area i =
-    (area ≡ restored log groups (7 * start) table (marked (marks map) (64 * i)) area₀) × (i ≤ length map)
+Inv-loop log area₀ table map groups homes start end first i₀ area i =
+    (area ≡ restored log groups (7 * first) table (marked (marks map) (64 * i)) area₀) × (i ≤ length map)
 
 abbrev μ-loop : tie.MeasureT-loop
-μ-loop log area₀ table map groups homes start end i₀ area i = length map - i
+μ-loop log area₀ table map groups homes start end first i₀ area i = length map - i
+
+first-slot-requires : tie.Need-first-slot-requires Inv-loop μ-loop
+first-slot-requires c κs = omega arith
 
 loop-holds : tie.Need-loop-holds Inv-loop μ-loop
 loop-holds c = (map-start _ _ _ _ _ _, omega arith)
@@ -31,11 +34,11 @@ mul-restore-word-2 c = omega arith
 
 restore-word-requires : tie.Need-restore-word-requires Inv-loop μ-loop
 restore-word-requires c κs =
-    let p = c .before .before .before .before .before .before .before .before .pre in
+    let p = c .before .before .before .before .before .before .before .before .before .pre in
     let l = c .before .before .before .loop in
     let e = ap length (l .inv .0) ∙ length-restored _ _ _ _ _ _ in
-    let m : length (l .area) ≡ 64 * c .before .before .before .before .before .before .before .before .args .homes = e ∙ p .1 in
-    (omega arith, omega arith, omega arith, omega (arith, p .3 .words), ready-word _ _ _ (l .i) (fits-marked _ _ _ _ _ _ _ (p .0) (p .2) (p .3) (l .area) m))
+    let m : length (l .area) ≡ 64 * c .before .before .before .before .before .before .before .before .before .args .homes = e ∙ p .1 in
+    (omega arith, omega arith, omega arith, omega (arith, p .3 .words), ready-word _ _ _ (l .i) (fits-marked _ _ _ _ _ _ _ (p .0) (p .2) (p .3) (l .area) m), short _ _ _ _ _ _ _ (p .0) (p .2) (p .3))
 
 add-i : tie.Need-add-i Inv-loop μ-loop
 add-i c = omega arith
@@ -52,9 +55,10 @@ same-length c = ap length (c .before .loop .inv .0) ∙ length-restored _ _ _ _ 
 returns : tie.Need-returns Inv-loop μ-loop
 returns c =
     let l = c .before .loop in
-    let p = c .before .before .before .before .before .before .pre in
-    let e : l .i ≡ length (c .before .before .before .before .before .before .args .map .now) = omega arith in
-    rw e at (l .inv .0) ∙ restored-replayed _ _ _ _ _ _ _ (p .0) (p .2) (p .3) _ (p .1)
+    let p = c .before .before .before .before .before .before .before .pre in
+    let e : l .i ≡ length (c .before .before .before .before .before .before .before .args .map .now) = omega arith in
+    let k = c .before .before .first-slot .ensures in
+    rw e at (l .inv .0) ∙ restored-from _ _ _ _ _ _ _ (p .0) (p .2) (p .3) _ (p .1) _ (k .same)
 
 pub restore-all-spec : {M : Type 1} → statement M
 restore-all-spec =
@@ -62,6 +66,7 @@ restore-all-spec =
     (tie.spec
     Inv-loop
     μ-loop
+    first-slot-requires
     loop-holds
     mul-restore-word
     shared-slice-read-restore-word

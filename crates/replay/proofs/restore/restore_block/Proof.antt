@@ -1,6 +1,6 @@
 -- `replay::restore_block` meets its contract. Assumes nothing.
-use mathlib.Core.Path.{refl}
-use Prim.Native.Nat.{_/_, _%_, _<_}
+use mathlib.Core.Path.{ap}
+use Prim.Native.Nat.{ℕ, _+_, _*_, _/_, _%_, _<_}
 use native.Mathlib.Nat.{mod-lt}
 use native.Mathlib.Omega.{arith}
 use Rattle.replay.proofs.RestoreLaws.{copied}
@@ -8,12 +8,12 @@ use borrow.Author.Needs.{needs}
 use Rattle.replay.proofs.restore.restore_block.Statement.{statement}
 use Rattle.replay.proofs.restore.restore_block.Tie as tie
 
--- the ring slot is one of the log's
-slot : (c : tie.After-slice-known) → c .before .before .args .position / 7 % c .before .before .args .groups < c .before .before .args .groups
-slot c = mod-lt (c .before .before .args .position / 7) (omega arith)
+ring-slot-requires : tie.Need-ring-slot-requires
+ring-slot-requires c κs = omega arith
 
-rem-from : tie.Need-rem-from
-rem-from c = search needs
+-- the ring slot is one of the log's
+slot : (c : tie.After-ring-slot) → c .ring-slot .result < c .before .before .before .args .groups
+slot c = rw (c .ring-slot .ensures) (mod-lt (c .before .before .before .args .position / 7) (omega arith))
 
 mul-from : tie.Need-mul-from
 mul-from c = omega (arith, slot c)
@@ -40,13 +40,15 @@ same-length : tie.Need-same-length
 same-length c = search needs
 
 returns : tie.Need-returns
-returns c = copied _ _ _ _ _ _ _ (c .before .before .copy-block .ensures) refl
+returns c =
+    let b = c .before .before in
+    copied _ _ _ _ _ _ _ (b .copy-block .ensures) (ap (λ (s : ℕ). 64 + 512 * s + (64 + 64 * (b .before .before .before .before .before .args .position % 7))) (b .before .before .ring-slot .ensures))
 
 pub restore-block-spec : {M : Type 1} → statement M
 restore-block-spec =
     tie.close
     (tie.spec
-    rem-from
+    ring-slot-requires
     mul-from
     add-from
     mul-from-2

@@ -13,14 +13,14 @@ use Rattle.replay.proofs.restore.restore_word.Statement.{statement}
 use Rattle.replay.proofs.restore.restore_word.Tie as tie
 
 abbrev Inv-loop : tie.InvT-loop
-Inv-loop log area₀ table groups start word base from w₀ area w =
-    (restored log groups (7 * start) table (raised base (bitsOf w)) area ≡ restored log groups (7 * start) table (raised base (bitsOf word)) area₀)
+Inv-loop log area₀ table groups first word base from w₀ area w =
+    (restored log groups (7 * first) table (raised base (bitsOf w)) area ≡ restored log groups (7 * first) table (raised base (bitsOf word)) area₀)
     × (length area ≡ length area₀)
     × Ready area₀ table (raised base (bitsOf w))
     × (w ≤ word)
 
 abbrev μ-loop : tie.MeasureT-loop
-μ-loop log area₀ table groups start word base from w₀ area w = w
+μ-loop log area₀ table groups first word base from w₀ area w = w
 
 mul-from : tie.Need-mul-from Inv-loop μ-loop
 mul-from c = omega arith
@@ -50,7 +50,10 @@ sub-restore-block : tie.Need-sub-restore-block Inv-loop μ-loop
 sub-restore-block c = omega (arith, first-ready [] 0 0 _ _ _ (c .before .before .before .before .loop .w) _ (c .before .before .lowest .ensures .0) (c .before .before .before .before .loop .inv .2))
 
 restore-block-requires : tie.Need-restore-block-requires Inv-loop μ-loop
-restore-block-requires c κs = (omega arith, omega arith, omega (arith, first-ready [] 0 0 _ _ _ (c .before .before .before .before .loop .w) _ (c .before .before .lowest .ensures .0) (c .before .before .before .before .loop .inv .2)))
+restore-block-requires c κs =
+    let f = first-ready [] 0 0 _ _ _ (c .before .before .before .before .loop .w) _ (c .before .before .lowest .ensures .0) (c .before .before .before .before .loop .inv .2) in
+    let t = c .before .before .before .before .before .before .before .before .pre .5 .below _ (f .1) in
+    (omega arith, omega (arith, f, t), omega (arith, f))
 
 clear-lowest-requires : tie.Need-clear-lowest-requires Inv-loop μ-loop
 clear-lowest-requires c κs = omega arith

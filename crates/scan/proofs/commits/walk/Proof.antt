@@ -1,14 +1,13 @@
 -- `scan::walk` meets its contract. The loop's invariant: the pass has taken the first `n - left` positions, and `slot` is the ring slot of group
 -- `number`, the next one. Assumes nothing.
 use mathlib.Core.Path.{_≡_, refl, sym, _∙_}
-use Prim.Native.Nat.{ℕ, _+_, _-_, _*_, _%_, _≤_, _<_}
-use native.Mathlib.Nat.{mod-lt}
+use Prim.Native.Nat.{ℕ, _+_, _-_, _*_, _≤_, _<_}
 use native.Mathlib.Omega.{arith}
 use lib.ListN.{length, length-take, length-drop}
 use Rattle.model.specs.Bytes.{zeros}
 use Rattle.model.specs.Layout.{entryAt}
 use Rattle.scan.specs.Scan.{Scan, fresh, entered, Within}
-use Rattle.scan.proofs.GroupLaws.{slot-more}
+use Rattle.scan.specs.Slots.{Kept}
 use Rattle.scan.proofs.PassLaws.{over-start, log-turn}
 use Rattle.scan.proofs.ScanLaws.{within-reached, fresh-within, found, found-stopped, placed}
 use Rattle.scan.proofs.commits.walk.Statement.{statement}
@@ -21,27 +20,26 @@ Inv-loop log groups homes start n counts₀ progress₀ slot₀ number₀ left�
     (entered (entryAt log groups homes start) (7 * start) (7 * start) (n - left) (fresh 7168))
     )
     × (left ≤ n)
-    × (slot ≡ number % groups)
-    × (slot < groups)
+    × Kept groups number slot
     × (0 < left → 7 * start + (n - left) ≡ 7 * number)
     × (length counts ≡ 7168)
 
 abbrev μ-loop : tie.MeasureT-loop
 μ-loop log groups homes start n counts₀ progress₀ slot₀ number₀ left₀ counts progress slot number left = left
 
-rem-slot : tie.Need-rem-slot Inv-loop μ-loop
-rem-slot c = omega arith
+first-slot-requires : tie.Need-first-slot-requires Inv-loop μ-loop
+first-slot-requires c κs = omega arith
 
 loop-holds : tie.Need-loop-holds Inv-loop μ-loop
 unfolding fresh zeros
-loop-holds c = (over-start _ _ _ _ _, omega arith, refl, mod-lt (c .before .args .start) (omega arith), λ h. omega arith, refl)
+loop-holds c = (over-start _ _ _ _ _, omega arith, c .first-slot .ensures, λ h. omega arith, refl)
 
 -- the next group's positions come next, and the numbers of the pass are small
 module _ (c : tie.In-loop Inv-loop μ-loop) where
-  next : 7 * c .before .before .before .args .start + (c .before .before .before .args .n - c .before .loop .left) ≡ 7 * c .before .loop .number
-  next = c .before .loop .inv .4 (c .loop-test .taken)
+  next : 7 * c .before .before .before .before .args .start + (c .before .before .before .before .args .n - c .before .loop .left) ≡ 7 * c .before .loop .number
+  next = c .before .loop .inv .3 (c .loop-test .taken)
 
-  small : Within (7 * c .before .before .before .args .start) (7 * c .before .loop .number)
+  small : Within (7 * c .before .before .before .before .args .start) (7 * c .before .loop .number)
       (record { counts = c .before .loop .counts; progress = c .before .loop .progress })
   small = within-reached _ _ _ _ _ _ _ (omega arith) (sym next) (c .before .loop .inv .0) (fresh-within _ _)
 
@@ -67,7 +65,7 @@ in-group-requires : tie.Need-in-group-requires Inv-loop μ-loop
 in-group-requires c κs = tt
 
 slice-aggregate-visit-group : tie.Need-slice-aggregate-visit-group Inv-loop μ-loop
-slice-aggregate-visit-group c = sym (c .before .before .before .before .loop .inv .5)
+slice-aggregate-visit-group c = sym (c .before .before .before .before .loop .inv .4)
 
 visit-group-requires : tie.Need-visit-group-requires Inv-loop μ-loop
 visit-group-requires c κs =
@@ -78,7 +76,7 @@ visit-group-requires c κs =
       omega (arith, next l),
       omega (arith, next l),
       omega arith,
-      omega (arith, next l, c .before .in-group .ensures, l .before .loop .inv .5),
+      omega (arith, next l, c .before .in-group .ensures, l .before .loop .inv .4),
       small l,
     )
 
@@ -89,13 +87,13 @@ pass c j =
 
 -- it has taken the group
 reached : (c : tie.After-visit-group Inv-loop μ-loop) (j : ℕ)
-    → j ≡ c .before .before .before .before .before .before .before .args .n - c .before .before .before .before .before .loop .left
+    → j ≡ c .before .before .before .before .before .before .before .before .args .n - c .before .before .before .before .before .loop .left
     + c .before .before .in-group .result
     → _≡_ {A = Scan} (record { counts = c .visit-group .last .1 .1 .1 .1 .1 .1 .0; progress = c .visit-group .result })
-    (pass (c .before .before .before .before .before .before .before) j)
+    (pass (c .before .before .before .before .before .before .before .before) j)
 reached c j e =
     let l = c .before .before .before .before in
-    log-turn _ _ _ _ _ _ _ _ _ _ _ _ _ _ _ (omega arith) (next l) (l .before .loop .inv .2) refl e (l .before .loop .inv .0) (c .visit-group .ensures)
+    log-turn _ _ _ _ _ _ _ _ _ _ _ _ _ _ _ (omega arith) (next l) (l .before .loop .inv .2 .same) refl e (l .before .loop .inv .0) (c .visit-group .ensures)
 
 result-requires : tie.Need-result-requires Inv-loop μ-loop
 result-requires c κs = tt
@@ -103,7 +101,7 @@ result-requires c κs = tt
 returns : tie.Need-returns Inv-loop μ-loop
 returns c =
     let v = c .before .before .before .before in
-    let a = v .before .before .before .before .before .before .before .args in
+    let a = v .before .before .before .before .before .before .before .before .args in
     let f = found-stopped _ _ _ (a .n) _ (omega arith) (placed _ _ _ _) _ (omega arith) (reached v _ refl) (c .before .if1 .taken) in
     (c .result .ensures .0 ∙ f .0, c .result .ensures .1 ∙ f .1)
 
@@ -128,10 +126,9 @@ loop-again c =
     let l = m .before .before .before .loop in (
       reached v _ (omega (arith, m .in-group .ensures, l .inv .1)),
       omega (arith, l .inv .1),
-      slot-more _ _ _ _ (l .inv .2) (c .next-slot .ensures),
-      rw (c .next-slot .ensures) (mod-lt (l .slot + 1) (omega (arith, l .inv .3))),
+      c .next-slot .ensures .1 _ (l .inv .2),
       λ h. omega (arith, next (m .before .before), m .in-group .ensures, l .inv .1),
-      omega (arith, v .visit-group .kept, l .inv .5),
+      omega (arith, v .visit-group .kept, l .inv .4),
     )
 
 result-requires-2 : tie.Need-result-requires-2 Inv-loop μ-loop
@@ -140,7 +137,7 @@ result-requires-2 c κs = tt
 returns-2 : tie.Need-returns-2 Inv-loop μ-loop
 returns-2 c =
     let l = c .before .before .loop in
-    let a = c .before .before .before .before .args in
+    let a = c .before .before .before .before .before .args in
     let e : a .n - l .left ≡ a .n = omega arith in
     let f = found _ _ _ _ _ (omega arith) (placed _ _ _ _) (rw e at (l .inv .0)) in
     (c .result2 .ensures .0 ∙ f .0, c .result2 .ensures .1 ∙ f .1)
@@ -151,7 +148,7 @@ walk-spec =
     (tie.spec
     Inv-loop
     μ-loop
-    rem-slot
+    first-slot-requires
     loop-holds
     mul-from
     add-from

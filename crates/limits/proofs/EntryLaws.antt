@@ -1,32 +1,14 @@
--- The transaction that the entry at a position closes, case by case of its tag, and what is known of an entry that closes one. Assumes nothing.
+-- What is known of an entry of the log that closes a transaction. Assumes nothing.
 use mathlib.Core.Path.{_≡_, sym}
 use mathlib.Core.Bool.{Bool, true, false, cond}
 use mathlib.Core.List.{List}
-use Prim.Native.Nat.{ℕ, _+_, _*_, _/_, _≤_, _<_}
+use Prim.Native.Nat.{ℕ, _*_, _/_, _≤_, _<_}
 use native.Mathlib.Omega.{arith}
 use Rattle.model.specs.Tag.{readTag}
 use Rattle.model.specs.Layout.{groupTag, groupValid, groupAt, slotOf, indexOf, entryIn, entryAt}
 use Rattle.model.specs.declared.Tag.{Tag}
-use Rattle.model.specs.declared.Tag.the-variants.{Nothing, Entry, Closing}
+use Rattle.model.specs.declared.Tag.the-variants.{Nothing, Closing}
 use Rattle.model.proofs.bytes.TagLaws.{closing-known}
-use Rattle.limits.specs.Limits.{firstClosed}
-
--- ---- the code by the tag
-
-module _ (t : Tag) where
-  pub first-nothing : t ≡ Nothing → 0 ≡ firstClosed t
-  unfolding firstClosed
-  first-nothing e = rw e
-
-  pub first-entry : (h f : ℕ) → t ≡ Entry h f → 0 ≡ firstClosed t
-  unfolding firstClosed
-  first-entry h f e = rw e
-
-  pub first-closing : (h f l n : ℕ) → t ≡ Closing h f l n → f + 1 ≡ firstClosed t
-  unfolding firstClosed
-  first-closing h f l n e = rw e
-
--- ---- what is known of an entry of the log
 
 valid : (b : Bool) (t u : Tag) → cond b t Nothing ≡ u → (u ≡ Nothing → ⊥) → t ≡ u
 valid true t u e n = e
