@@ -5,3 +5,7 @@ pub mod MergeLaws
 pub mod LoopLaws
 pub mod CountLaws
 pub mod CallLaws
+pub mod StrictLaws
+pub mod MemberLaws
+pub mod DifferentLaws
+pub mod Promised
