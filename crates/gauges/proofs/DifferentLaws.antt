@@ -43,7 +43,7 @@ passing-one g k (suc n) h = go (eqb k n) refl (passing-one g k n)
     go true e rec =
         let q = eqb-true k n e in
         let s : passing (λ m. eqb k m || g m) n ≡ passing g n =
-            passing-same (λ m. eqb k m || g m) g n (λ m l. ap (λ (b : Bool). b || g m) (ne-eqb k m (λ d. omega arith))) in
+        passing-same (λ m. eqb k m || g m) g n (λ m l. ap (λ (b : Bool). b || g m) (ne-eqb k m (λ d. omega arith))) in
         rw (e, s, q) (same (g n))
     go false e rec =
         let d = eqb-false k n e in

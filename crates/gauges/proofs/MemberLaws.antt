@@ -41,11 +41,11 @@ has-level lowest m a [] e h = absurd (List·Memᴰ·not-nil h)
 has-level lowest m a (r ∷ rs) e h =
     ⊎-elim
     (λ q.
-        let e₁ : m ≡ r .minute = ap (λ (x : Reading). x .minute) q in
-        let e₂ : a ≡ r .level = ap (λ (x : Reading). x .level) q in
-        rw (e₁, e₂) (level-here r rs))
+    let e₁ : m ≡ r .minute = ap (λ (x : Reading). x .minute) q in
+    let e₂ : a ≡ r .level = ap (λ (x : Reading). x .level) q in
+    rw (e₁, e₂) (level-here r rs))
     (λ t. let k = has-low (r .minute + 1) m a rs (rising-next lowest r rs e) t in
-        level-other m r rs (λ q. omega arith) ∙ has-level (r .minute + 1) m a rs (rising-next lowest r rs e) t) (List·Memᴰ·cases-cons h)
+    level-other m r rs (λ q. omega arith) ∙ has-level (r .minute + 1) m a rs (rising-next lowest r rs e) t) (List·Memᴰ·cases-cons h)
 
 level-lacks : (lowest m : ℕ) (rs : List Reading) → rising lowest rs ≡ true → levelAt m rs ≡ none → Lacks rs m
 level-lacks lowest m rs e n a h =

@@ -65,7 +65,8 @@ module _ (tolerance : ℕ) (xs ys : List Reading) (bx : Below 65536 (minutesOf x
         rises = report-rises tolerance xs ys;
         right = report-right tolerance xs ys ex ey;
         all = λ m k r. report-all tolerance xs ys ex ey m k (right-below 65536 tolerance m k xs ys bx by r) r;
-        sum = report-total tolerance xs ys ∙ lines-different }
+        sum = report-total tolerance xs ys ∙ lines-different;
+      }
 
 -- ---- the call
 
@@ -78,22 +79,25 @@ refused-fields first second output tolerance e =
       differing = ap (λ (o : Outcome). o .differing) e;
       onlyFirst = ap (λ (o : Outcome). o .onlyFirst) e;
       onlySecond = ap (λ (o : Outcome). o .onlySecond) e;
-      untouched = ap (λ (o : Outcome). o .output) e }
+      untouched = ap (λ (o : Outcome). o .output) e;
+    }
 
 done-fields : (first second output : List ℕ) (tolerance : ℕ) (lines : List Line) → compareGauges first second output tolerance ≡ done lines output
     → Reported tolerance (readings first) (readings second) lines
     → (compareGauges first second output tolerance .code ≡ 0) × Done first second output tolerance lines
 unfolding done written
-done-fields first second output tolerance lines e r =
-    (ap (λ (o : Outcome). o .code) e,
-    record {
-      reported = r;
-      agreeing = ap (λ (o : Outcome). o .agreeing) e;
-      differing = ap (λ (o : Outcome). o .differing) e;
-      onlyFirst = ap (λ (o : Outcome). o .onlyFirst) e;
-      onlySecond = ap (λ (o : Outcome). o .onlySecond) e;
-      front = ap (λ (o : Outcome). take (3 * length lines) (o .output)) e ∙ take-at (encode lines) _ (3 * length lines) (length-encode lines);
-      rest = ap (λ (o : Outcome). drop (3 * length lines) (o .output)) e ∙ drop-at (encode lines) _ (3 * length lines) (length-encode lines) })
+done-fields first second output tolerance lines e r = (
+  ap (λ (o : Outcome). o .code) e,
+  record {
+    reported = r;
+    agreeing = ap (λ (o : Outcome). o .agreeing) e;
+    differing = ap (λ (o : Outcome). o .differing) e;
+    onlyFirst = ap (λ (o : Outcome). o .onlyFirst) e;
+    onlySecond = ap (λ (o : Outcome). o .onlySecond) e;
+    front = ap (λ (o : Outcome). take (3 * length lines) (o .output)) e ∙ take-at (encode lines) _ (3 * length lines) (length-encode lines);
+    rest = ap (λ (o : Outcome). drop (3 * length lines) (o .output)) e ∙ drop-at (encode lines) _ (3 * length lines) (length-encode lines);
+  },
+)
 
 module _ (first second output : List ℕ) (tolerance : ℕ) (fb : Bytes first) (sb : Bytes second) where
   count : length (report tolerance (readings first) (readings second)) ≡ different (minutesOf (readings first) ++ minutesOf (readings second))

@@ -61,7 +61,8 @@ acceptable-sound s e =
     record {
       whole = p .whole;
       short = omega (arith, rows-whole s (p .whole), acceptable-short s e);
-      strict = rising-rises 0 (readings s) (sym (acceptable-rest s (p .whole) (acceptable-short s e)) ∙ e) }
+      strict = rising-rises 0 (readings s) (sym (acceptable-rest s (p .whole) (acceptable-short s e)) ∙ e);
+    }
 
 -- ---- one more at the end
 
