@@ -73,25 +73,29 @@ fn strip(rows: &[(u16, u16)]) -> Vec<u8> {
     rows.iter().flat_map(|&(minute, level)| [minute.to_le_bytes(), level.to_le_bytes()].concat()).collect()
 }
 
-/// All lists of at most two rows with minutes and levels from few values, rising or not.
+/// All lists of at most two rows with minutes and levels from few values, rising or not, and all of three rows that rise.
 fn small_lists(minutes: &[u16], levels: &[u16]) -> Vec<Vec<u8>> {
     let rows: Vec<(u16, u16)> = minutes.iter().flat_map(|&m| levels.iter().map(move |&l| (m, l))).collect();
     let mut lists = vec![Vec::new()];
     for &row in &rows {
         lists.push(strip(&[row]));
-        lists.extend(rows.iter().map(|&next| strip(&[row, next])));
+        for &next in &rows {
+            lists.push(strip(&[row, next]));
+            let last = rows.iter().filter(|last| row.0 < next.0 && next.0 < last.0);
+            lists.extend(last.map(|&last| strip(&[row, next, last])));
+        }
     }
     lists
 }
 
-/// Every pair of small lists, at every tolerance of a few and with room for 0 to 5 lines.
+/// Every pair of small lists, at every tolerance of a few and with room for none, for the report, for a byte less and for more.
 fn all_small(pair: &mut Pair, minutes: &[u16], levels: &[u16], tolerances: &[u16]) -> Result<(), String> {
     let lists = small_lists(minutes, levels);
     for first in &lists {
         for second in &lists {
             for &tolerance in tolerances {
-                let lines = second::gauges::compare(first, second, &mut [0; 15], tolerance).counts.iter().sum::<u64>();
-                for room in [0, 3 * lines as usize, (3 * lines as usize).saturating_sub(1), 15] {
+                let lines = second::gauges::compare(first, second, &mut [0; 18], tolerance).counts.iter().sum::<u64>();
+                for room in [0, 3 * lines as usize, (3 * lines as usize).saturating_sub(1), 20] {
                     pair.ask(first, second, &vec![0xc3; room], tolerance)?;
                 }
             }

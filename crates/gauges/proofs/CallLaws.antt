@@ -1,15 +1,14 @@
 -- The call's outcome, question by question. Assumes nothing.
-use mathlib.Core.Path.{_≡_, refl, sym, _∙_}
-use mathlib.Core.Bool.{Bool, true, false, _&&_, cond}
+use mathlib.Core.Path.{_≡_}
+use mathlib.Core.Bool.{true, false}
 use mathlib.Core.List.{List}
 use Prim.Native.Nat.{ℕ, _+_, _*_, _≤_, _<_}
 use native.Mathlib.Omega.{arith}
 use borrow.Author.Tests.{le-leb, lt-leb}
-use lib.Dec.{leb}
 use lib.ListN.{length}
 use Rattle.gauges.specs.Readings.{readings, acceptable}
-use Rattle.gauges.specs.Report.{Line, report, ofKind}
-use Rattle.gauges.specs.Compare.{Outcome, leaves, written, done, refused, accepted, answer, compareGauges}
+use Rattle.gauges.specs.Report.{Line, report}
+use Rattle.gauges.specs.Compare.{leaves, written, done, refused, accepted, answer, compareGauges}
 use Rattle.gauges.specs.Merge.{Counted}
 use Rattle.gauges.proofs.CountLaws.{report-total, report-short}
 

@@ -1,15 +1,15 @@
 -- The lines of a report are as many as the different minutes of both lists. Assumes nothing.
-use mathlib.Core.Path.{_≡_, refl, sym, ap, _∙_}
+use mathlib.Core.Path.{_≡_, refl, ap, _∙_}
 use mathlib.Core.Bool.{Bool, true, false, _||_, cond}
 use mathlib.Core.List.{List, [], _∷_, _++_}
 use mathlib.Core.Option.{Option, none, some}
-use Prim.Native.Nat.{ℕ, zero, suc, _+_, _*_, _≤_, _<_}
+use Prim.Native.Nat.{ℕ, zero, suc, _+_, _<_}
 use native.Mathlib.Omega.{arith}
-use borrow.Author.Tests.{eqb-true, eqb-false, eq-eqb, ne-eqb}
+use borrow.Author.Tests.{eqb-true, eqb-false, ne-eqb}
 use lib.Dec.{eqb}
-use lib.ListN.{length, getD, length-append}
+use lib.ListN.{length, length-append}
 use Rattle.gauges.specs.Readings.{Reading, levelAt}
-use Rattle.gauges.specs.Report.{Line, line, lineOf, lineAt, gather, minutes, report}
+use Rattle.gauges.specs.Report.{Line, lineOf, lineAt, gather, minutes, report}
 use Rattle.gauges.specs.Promises.{minutesOf, among, different}
 use Rattle.gauges.proofs.StrictLaws.{Below}
 

@@ -1,18 +1,17 @@
 -- The report's lines by membership: which lines stand in it, and that their minutes rise. Assumes nothing.
-use mathlib.Core.Path.{_≡_, refl, sym, ap, ap₂, _∙_, subst}
-use mathlib.Core.Logic.{_⊎_, ⊎-elim, inl, inr}
+use mathlib.Core.Path.{_≡_, refl, ap, _∙_, subst}
+use mathlib.Core.Logic.{_⊎_, ⊎-elim}
 use mathlib.Core.Bool.{Bool, true, false, cond}
-use mathlib.Core.List.{List, [], _∷_, _++_, append-nil, List·Memᴰ, List·Memᴰ·head, List·Memᴰ·tail, List·Memᴰ·not-nil, List·Memᴰ·cases-cons, List·Memᴰ·append-cases, List·Memᴰ·eq-of-singleton, Memᴰ·append-left, Memᴰ·append-right, Memᴰ·cast}
+use mathlib.Core.List.{List, [], _∷_, _++_, append-nil, List·Memᴰ, List·Memᴰ·head, List·Memᴰ·tail, List·Memᴰ·not-nil, List·Memᴰ·cases-cons, List·Memᴰ·append-cases, List·Memᴰ·eq-of-singleton, Memᴰ·append-left, Memᴰ·append-right}
 use mathlib.Core.Option.{Option, none, some}
-use Prim.Native.Nat.{ℕ, zero, suc, _+_, _*_, _≤_, _<_}
+use Prim.Native.Nat.{ℕ, zero, suc, _+_, _≤_, _<_}
 use native.Mathlib.Omega.{arith}
-use borrow.Author.Tests.{eqb-true, eqb-false, leb-true, leb-false, le-leb, lt-leb, eq-eqb}
+use borrow.Author.Tests.{eqb-true, eqb-false, leb-true, leb-false, le-leb, lt-leb}
 use lib.Dec.{eqb, leb}
-use lib.ListN.{length, getD}
-use Rattle.gauges.specs.Readings.{Reading, reading, readings, rising, levelAt}
+use Rattle.gauges.specs.Readings.{Reading, rising, levelAt}
 use Rattle.gauges.specs.Report.{Line, line, difference, kindOf, lineOf, lineAt, gather, minutes, report}
 use Rattle.gauges.specs.Promises.{Has, Lacks, Rises, minutesIn, Right, agreeing, differing, onlyFirst, onlySecond}
-use Rattle.gauges.proofs.ReadingLaws.{rising-low, rising-next, level-here, level-other, level-below}
+use Rattle.gauges.proofs.ReadingLaws.{rising-low, rising-next, level-here, level-other}
 use Rattle.gauges.proofs.StrictLaws.{Below, below-snoc, rises-snoc}
 
 -- ---- the level at a minute, and what the list has
@@ -83,6 +82,10 @@ gathers f (suc n) m l h t = go (eqb m n) refl (λ k. gathers f n m l k t)
     go true e rec = Memᴰ·append-right (gather f n) (subst (λ (k : ℕ). List·Memᴰ l (f k)) (eqb-true m n e) t)
     go false e rec = let d = eqb-false m n e in Memᴰ·append-left (f n) (rec (omega arith))
 
+told-minute : (m k : ℕ) {ls : List Line} → List·Memᴰ (line m k) ls → List·Memᴰ m (minutesIn ls)
+told-minute m k (List·Memᴰ·head e) = List·Memᴰ·head (ap (λ (l : Line). l .minute) e)
+told-minute m k (List·Memᴰ·tail t) = List·Memᴰ·tail (told-minute m k t)
+
 -- ---- the line of a minute
 
 kind-agreeing : (tolerance a b : ℕ) → difference a b ≤ tolerance → kindOf tolerance a b ≡ 1
@@ -136,6 +139,21 @@ module _ (tolerance : ℕ) (xs ys : List Reading) (ex : rising 0 xs ≡ true) (e
   pub report-all : (m k : ℕ) → m < 65536 → Right tolerance xs ys m k → List·Memᴰ (line m k) (report tolerance xs ys)
   unfolding report minutes
   report-all m k h r = gathers (lineAt tolerance xs ys) 65536 m (line m k) h (line-all m k r)
+
+  -- a minute that a list has is told
+  pub first-told : (m a : ℕ) → m < 65536 → Has xs m a → List·Memᴰ m (minutesIn (report tolerance xs ys))
+  first-told m a h hx = go (levelAt m ys) refl
+    where
+      go : (o : Option ℕ) → levelAt m ys ≡ o → List·Memᴰ m (minutesIn (report tolerance xs ys))
+      go none e = told-minute m 3 (report-all m 3 h (onlyFirst hx (level-lacks 0 m ys ey e)))
+      go (some b) e = told-minute m (kindOf tolerance a b) (report-all m (kindOf tolerance a b) h (both-right m a b hx (level-has m b ys e)))
+
+  pub second-told : (m b : ℕ) → m < 65536 → Has ys m b → List·Memᴰ m (minutesIn (report tolerance xs ys))
+  second-told m b h hy = go (levelAt m xs) refl
+    where
+      go : (o : Option ℕ) → levelAt m xs ≡ o → List·Memᴰ m (minutesIn (report tolerance xs ys))
+      go none e = told-minute m 4 (report-all m 4 h (onlySecond (level-lacks 0 m xs ex e) hy))
+      go (some a) e = told-minute m (kindOf tolerance a b) (report-all m (kindOf tolerance a b) h (both-right m a b (level-has m a xs e) hy))
 
 -- ---- the minutes of the lines
 

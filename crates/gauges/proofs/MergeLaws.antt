@@ -1,16 +1,16 @@
 -- What each way out of the merge's step shows, and where it begins and ends. Assumes nothing.
-use mathlib.Core.Path.{_≡_, refl, sym, ap, ap₂, _∙_, subst}
-use mathlib.Core.Bool.{Bool, true, false, _&&_, cond}
+use mathlib.Core.Path.{_≡_, refl, sym, ap₂, _∙_, subst}
+use mathlib.Core.Bool.{Bool, true, false, cond}
 use mathlib.Core.List.{List, [], _∷_}
-use Prim.Native.Nat.{ℕ, zero, suc, _+_, _*_, _%_, _≤_, _<_}
+use Prim.Native.Nat.{ℕ, _+_, _*_, _%_, _≤_, _<_}
 use native.Mathlib.Omega.{arith}
 use borrow.Author.Tests.{eqb-true, leb-true, lt-leb}
 use lib.Dec.{eqb, leb}
 use lib.ListN.{length, getD}
 use Rattle.gauges.specs.Readings.{Reading, reading, readings, rising, acceptable}
-use Rattle.gauges.specs.Report.{Line, line, difference, kindOf, report}
+use Rattle.gauges.specs.Report.{line, difference, kindOf, report}
 use Rattle.gauges.specs.Merge.{rest, Place, left, Stepped}
-use Rattle.gauges.proofs.ReadingLaws.{both-left, both-right, rowAt, rest-row, rest-end, rest-all, rising-nil, rising-low, rising-next, rising-cons, rising-step, rising-lower}
+use Rattle.gauges.proofs.ReadingLaws.{both-left, both-right, rowAt, rest-row, rest-end, rest-all, rising-nil, rising-next, rising-cons, rising-step, rising-lower}
 use Rattle.gauges.proofs.ReportLaws.{report-first, report-second, report-both, report-end}
 
 abbrev pub numberAt : List ℕ → ℕ → ℕ

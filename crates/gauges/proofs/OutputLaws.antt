@@ -1,12 +1,12 @@
 -- Laws of the report's bytes: how many they are, and how they are written over a strip line by line. Assumes nothing.
-use mathlib.Core.Path.{_≡_, refl, sym, ap, _∙_}
+use mathlib.Core.Path.{_≡_, refl, ap, _∙_}
 use mathlib.Core.Bool.{Bool, true, false, cond}
 use mathlib.Core.List.{List, [], _∷_, _++_}
-use Prim.Native.Nat.{ℕ, zero, suc, _+_, _*_, _/_, _%_, _≤_, _<_}
+use Prim.Native.Nat.{ℕ, zero, suc, _+_, _*_, _/_, _%_, _≤_}
 use native.Mathlib.Numerals.{add-one}
 use native.Mathlib.Omega.{arith}
 use lib.Dec.{eqb}
-use lib.ListN.{length, drop, set, getD}
+use lib.ListN.{length, drop, set}
 use Rattle.gauges.specs.Report.{Line, line, hit, ofKind, encode}
 use Rattle.gauges.specs.Compare.{written}
 use Rattle.gauges.specs.Merge.{puts}

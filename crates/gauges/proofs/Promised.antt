@@ -1,23 +1,23 @@
 -- What the definitions promise, for bytes of any contents and length.
-use mathlib.Core.Path.{_≡_, refl, sym, ap, _∙_}
+use mathlib.Core.Path.{_≡_, refl, ap, _∙_}
 use mathlib.Core.Bool.{Bool, true, false}
 use mathlib.Core.List.{List, [], _∷_, _++_, List·Memᴰ·not-nil, List·Memᴰ·cases-cons}
 use mathlib.Core.Logic.{⊎-elim}
-use Prim.Native.Nat.{ℕ, zero, suc, _+_, _-_, _*_, _%_, _≤_, _<_}
+use Prim.Native.Nat.{ℕ, zero, suc, _+_, _-_, _*_, _<_}
 use native.Mathlib.Omega.{arith}
-use borrow.Author.Tests.{eqb-true, eqb-false, leb-true, leb-false, ltb-true, ltb-false}
-use lib.Dec.{eqb, leb, ltb}
+use borrow.Author.Tests.{leb-true, leb-false, ltb-true, ltb-false}
+use lib.Dec.{leb, ltb}
 use lib.ListN.{length, take, drop, getD, length-append, List·getD-append}
 use lib.Seq.{take-at, drop-at, getD-append-add}
 use Rattle.gauges.specs.Readings.{Reading, reading, readings, rising, acceptable}
 use Rattle.gauges.specs.Report.{Line, report, encode}
 use Rattle.gauges.specs.Compare.{Outcome, written, done, refused, compareGauges}
-use Rattle.gauges.specs.Promises.{Bytes, Has, Right, agreeing, differing, onlyFirst, onlySecond, minutesOf, different, Reported, Sound, Asked, Done, Refused, Promise}
+use Rattle.gauges.specs.Promises.{Bytes, Has, Right, agreeing, differing, onlyFirst, onlySecond, minutesOf, different, Reported, Asked, Done, Refused, Promise}
 use Rattle.gauges.proofs.OutputLaws.{length-encode}
 use Rattle.gauges.proofs.CountLaws.{report-total}
 use Rattle.gauges.proofs.CallLaws.{refused-first, refused-second, refused-room, done-report}
 use Rattle.gauges.proofs.StrictLaws.{Below, sound-acceptable, acceptable-sound, rises-rising}
-use Rattle.gauges.proofs.MemberLaws.{report-right, report-all, report-rises}
+use Rattle.gauges.proofs.MemberLaws.{report-right, report-all, first-told, second-told, report-rises}
 use Rattle.gauges.proofs.DifferentLaws.{report-different}
 
 -- ---- minutes of bytes are 16 bits
@@ -62,6 +62,8 @@ module _ (tolerance : ℕ) (xs ys : List Reading) (bx : Below 65536 (minutesOf x
   reported-holds : rising 0 xs ≡ true → rising 0 ys ≡ true → Reported tolerance xs ys (report tolerance xs ys)
   reported-holds ex ey =
       record {
+        everyFirst = λ m a h. first-told tolerance xs ys ex ey m a (has-below 65536 m a xs bx h) h;
+        everySecond = λ m b h. second-told tolerance xs ys ex ey m b (has-below 65536 m b ys by h) h;
         rises = report-rises tolerance xs ys;
         right = report-right tolerance xs ys ex ey;
         all = λ m k r. report-all tolerance xs ys ex ey m k (right-below 65536 tolerance m k xs ys bx by r) r;

@@ -1,15 +1,15 @@
 -- The report taken line by line from the front, as the merge finds it. Assumes nothing.
-use mathlib.Core.Path.{_≡_, refl, sym, ap, _∙_}
+use mathlib.Core.Path.{_≡_, refl, _∙_}
 use mathlib.Core.Bool.{Bool, true, false}
 use mathlib.Core.List.{List, [], _∷_, _++_, append-nil, append-assoc}
-use mathlib.Core.Option.{Option, none, some}
-use Prim.Native.Nat.{ℕ, zero, suc, _+_, _*_, _≤_, _<_}
+use mathlib.Core.Option.{none, some}
+use Prim.Native.Nat.{ℕ, zero, suc, _+_, _<_}
 use native.Mathlib.Omega.{arith}
-use borrow.Author.Tests.{ltb-true, ltb-false, eqb-true, eqb-false}
-use lib.Dec.{eqb, ltb}
+use borrow.Author.Tests.{eqb-true, eqb-false}
+use lib.Dec.{eqb}
 use Rattle.gauges.specs.Readings.{Reading, rising, levelAt}
 use Rattle.gauges.specs.Report.{Line, line, kindOf, lineOf, lineAt, gather, minutes, report}
-use Rattle.gauges.proofs.ReadingLaws.{rising-nil, rising-low, rising-next, rising-cons, level-here, level-other, level-below}
+use Rattle.gauges.proofs.ReadingLaws.{rising-nil, rising-next, level-here, level-other, level-below}
 
 -- ---- lines gathered: where f gives nothing below t, and g is f but gives nothing at t
 

@@ -1,5 +1,5 @@
 -- Strips that are acceptable are those that the request asks for: whole rows, at most 1,440, minutes that rise strictly. Assumes nothing.
-use mathlib.Core.Path.{_≡_, refl, sym, ap, _∙_}
+use mathlib.Core.Path.{_≡_, refl, sym, _∙_}
 use mathlib.Core.Bool.{Bool, true, false}
 use mathlib.Core.List.{List, [], _∷_, _++_}
 use Prim.Native.Nat.{ℕ, zero, suc, _+_, _*_, _%_, _≤_, _<_, suc-le-suc}
@@ -11,7 +11,7 @@ use lib.ListN.{length, getD, length-append, List·getD-append}
 use lib.Seq.{getD-append-seam}
 use Rattle.gauges.specs.Readings.{Reading, readings, rising, acceptable}
 use Rattle.gauges.specs.Promises.{Rises, minutesOf, Sound}
-use Rattle.gauges.proofs.ReadingLaws.{rest-all, rising-nil, rising-low, rising-next, rising-cons, acceptable-rest}
+use Rattle.gauges.proofs.ReadingLaws.{rising-nil, rising-low, rising-next, rising-cons, acceptable-rest}
 use Rattle.gauges.proofs.MergeLaws.{place-front, acceptable-short}
 
 -- ---- minutes that rise, asked one by one and by index

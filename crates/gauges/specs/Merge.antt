@@ -1,7 +1,7 @@
 -- What the functions of the merge pass to each other: a place in both strips, and one line and the places behind it.
 use Prim.Native.Nat.{ℕ, zero, suc, _+_, _%_, _≤_, _<_}
 use mathlib.Core.Path.{_≡_}
-use mathlib.Core.Bool.{Bool, true}
+use mathlib.Core.Bool.{true}
 use mathlib.Core.List.{List, [], _∷_}
 use lib.ListN.{length, drop}
 use Rattle.gauges.specs.Readings.{Reading, readings, rising}

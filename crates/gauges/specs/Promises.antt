@@ -1,8 +1,7 @@
 -- What the definitions promise, read off the request and not off their text.
 use Prim.Native.Nat.{ℕ, _+_, _*_, _%_, _≤_, _<_}
 use mathlib.Core.Path.{_≡_}
-use mathlib.Core.Logic.{_⊎_}
-use mathlib.Core.Bool.{Bool, true, false, _||_, cond}
+use mathlib.Core.Bool.{Bool, false, _||_, cond}
 use mathlib.Core.List.{List, [], _∷_, _++_, List·Memᴰ}
 use lib.Dec.{eqb}
 use lib.ListN.{length, take, drop, getD}
@@ -51,6 +50,8 @@ pub data Right (tolerance : ℕ) (xs ys : List Reading) (m : ℕ) : ℕ → Type
 
 -- "Every minute in either is reported once, rising, and the four counts given, each the lines of its kind, add up to the different minutes."
 pub record Reported (tolerance : ℕ) (xs ys : List Reading) (lines : List Line) : Type 0 where
+  pub everyFirst : (m a : ℕ) → Has xs m a → List·Memᴰ m (minutesIn lines)
+  pub everySecond : (m b : ℕ) → Has ys m b → List·Memᴰ m (minutesIn lines)
   pub rises : Rises (minutesIn lines)
   pub right : (m k : ℕ) → List·Memᴰ (line m k) lines → Right tolerance xs ys m k
   pub all : (m k : ℕ) → Right tolerance xs ys m k → List·Memᴰ (line m k) lines

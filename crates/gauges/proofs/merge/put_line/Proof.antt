@@ -1,6 +1,6 @@
 -- `gauges::merge::put_line` meets its contract. Assumes nothing.
 use lib.ListN.{length-set}
-use Prim.Native.Nat.{_+_, _%_}
+use Prim.Native.Nat.{_%_}
 use mathlib.Core.Path.{_≡_, sym}
 use native.Mathlib.Omega.{arith}
 use borrow.Author.Needs.{needs}

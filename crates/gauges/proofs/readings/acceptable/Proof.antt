@@ -1,6 +1,5 @@
 -- `gauges::readings::acceptable` meets its contract. Assumes nothing.
 use mathlib.Core.Path.{sym, _∙_}
-use native.Mathlib.Omega.{arith}
 use borrow.Author.Needs.{needs}
 use Rattle.gauges.proofs.ReadingLaws.{acceptable-parted, acceptable-long, acceptable-rest}
 use Rattle.gauges.proofs.readings.acceptable.Statement.{statement}
