@@ -7,36 +7,7 @@ san=$out/sanitize
 cc=${CC:-cc}
 lib=${LIB:-target/staticlib/libkagutin.a}
 gauges=${GAUGES_LIB:-target/staticlib/libgauges.a}
-tmp=$(mktemp -d) || exit 1
-trap 'rm -rf "$tmp"' EXIT
-passed=0
-failed=0
-
-report() { # status, name
-    if [ "$1" -eq 0 ]; then
-        passed=$((passed + 1)); echo "ok      $2"
-    else
-        failed=$((failed + 1)); echo "FAILED  $2"
-        sed 's/^/        /' "$tmp/log" | tail -n 12
-    fi
-}
-
-# status, name, command: the command must end with that status, and no sanitizer may speak.
-gives() {
-    want=$1; name=$2; shift 2
-    "$@" > "$tmp/out" 2> "$tmp/log"
-    got=$?
-    if grep -q 'Sanitizer\|runtime error' "$tmp/log"; then got=sanitizer; fi
-    [ "$got" = "$want" ] || echo "status $got, not $want: $*" >> "$tmp/log"
-    [ "$got" = "$want" ]; report $? "$name"
-}
-
-# The same, and a message on standard error.
-says() {
-    text=$1; shift
-    gives "$@"
-    grep -q -e "$text" "$tmp/log"; report $? "$2: says '$text'"
-}
+. tests/c-helpers.sh
 
 # A row of the report on standard output.
 shows() {
@@ -142,5 +113,4 @@ else
     echo "skipped cost and memcheck: valgrind is not installed"
 fi
 
-echo "gauges-check: $passed passed, $failed failed"
-[ $failed -eq 0 ]
+count gauges-check

@@ -3,11 +3,11 @@ use mathlib.Core.Path.{_≡_, refl, ap, _∙_}
 use mathlib.Core.Bool.{Bool, true, false}
 use mathlib.Core.List.{List, [], _∷_, _++_, List·Memᴰ·not-nil, List·Memᴰ·cases-cons}
 use mathlib.Core.Logic.{⊎-elim}
-use Prim.Native.Nat.{ℕ, zero, suc, _+_, _-_, _*_, _<_}
+use Prim.Native.Nat.{ℕ, zero, suc, _+_, _-_, _*_, _≤_, _<_}
 use native.Mathlib.Omega.{arith}
 use borrow.Author.Tests.{leb-true, leb-false, ltb-true, ltb-false}
 use lib.Dec.{leb, ltb}
-use lib.ListN.{length, take, drop, getD, length-append, List·getD-append}
+use lib.ListN.{length, take, drop, getD, length-append, length-drop, List·getD-append}
 use lib.Seq.{take-at, drop-at, getD-append-add}
 use Rattle.gauges.specs.Readings.{Reading, reading, readings, rising, acceptable}
 use Rattle.gauges.specs.Report.{Line, report, encode}
@@ -84,11 +84,11 @@ refused-fields first second output tolerance e =
       untouched = ap (λ (o : Outcome). o .output) e;
     }
 
-done-fields : (first second output : List ℕ) (tolerance : ℕ) (lines : List Line) → compareGauges first second output tolerance ≡ done lines output
-    → Reported tolerance (readings first) (readings second) lines
+done-fields : (first second output : List ℕ) (tolerance : ℕ) (lines : List Line) → 3 * length lines ≤ length output
+    → compareGauges first second output tolerance ≡ done lines output → Reported tolerance (readings first) (readings second) lines
     → (compareGauges first second output tolerance .code ≡ 0) × Done first second output tolerance lines
 unfolding done written
-done-fields first second output tolerance lines e r = (
+done-fields first second output tolerance lines h e r = (
   ap (λ (o : Outcome). o .code) e,
   record {
     reported = r;
@@ -96,6 +96,9 @@ done-fields first second output tolerance lines e r = (
     differing = ap (λ (o : Outcome). o .differing) e;
     onlyFirst = ap (λ (o : Outcome). o .onlyFirst) e;
     onlySecond = ap (λ (o : Outcome). o .onlySecond) e;
+    size =
+        ap (λ (o : Outcome). length (o .output)) e ∙ length-append (encode lines) (drop (3 * length lines) output)
+        ∙ omega (arith, length-encode lines, length-drop (3 * length lines) output);
     front = ap (λ (o : Outcome). take (3 * length lines) (o .output)) e ∙ take-at (encode lines) _ (3 * length lines) (length-encode lines);
     rest = ap (λ (o : Outcome). drop (3 * length lines) (o .output)) e ∙ drop-at (encode lines) _ (3 * length lines) (length-encode lines);
   },
@@ -108,7 +111,7 @@ module _ (first second output : List ℕ) (tolerance : ℕ) (fb : Bytes first) (
   asked-done : Asked first second output
       → (compareGauges first second output tolerance .code ≡ 0) × Done first second output tolerance (report tolerance (readings first) (readings second))
   asked-done a =
-      done-fields first second output tolerance (report tolerance (readings first) (readings second))
+      done-fields first second output tolerance (report tolerance (readings first) (readings second)) (omega (arith, count, a .room))
       (done-report first second output tolerance (sound-acceptable first (a .firstSound)) (sound-acceptable second (a .secondSound)) (omega (arith, count, a .room)))
       (reported-holds tolerance (readings first) (readings second) (small-minutes first fb) (small-minutes second sb)
       (rises-rising 0 (readings first) (a .firstSound .strict) (λ l. omega arith)) (rises-rising 0 (readings second) (a .secondSound .strict) (λ l. omega arith)))

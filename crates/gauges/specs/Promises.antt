@@ -75,6 +75,7 @@ pub record Done (first second output : List ℕ) (tolerance : ℕ) (lines : List
   pub differing : compareGauges first second output tolerance .differing ≡ ofKind 2 lines
   pub onlyFirst : compareGauges first second output tolerance .onlyFirst ≡ ofKind 3 lines
   pub onlySecond : compareGauges first second output tolerance .onlySecond ≡ ofKind 4 lines
+  pub size : length (compareGauges first second output tolerance .output) ≡ length output
   pub front : take (3 * length lines) (compareGauges first second output tolerance .output) ≡ encode lines
   pub rest : drop (3 * length lines) (compareGauges first second output tolerance .output) ≡ drop (3 * length lines) output
 
