@@ -35,7 +35,7 @@ unfoldable pub gather : (ℕ → List Line) → ℕ → List Line
 gather f zero = []
 gather f (suc n) = gather f n ++ f n
 
--- "minutes are any 16 bits"
+-- "all 16 bits": minutes are below this
 unfoldable pub minutes : ℕ
 minutes = 65536
 
