@@ -1,15 +1,17 @@
-//! Links libkagutin.a from the folder KAGUTIN_LIB_DIR (a relative one counts
-//! from this package), by default ../target/staticlib.
+//! Links libkagutin.a and libgauges.a from the folder KAGUTIN_LIB_DIR (a relative
+//! one counts from this package), by default ../target/staticlib.
 
 use std::path::Path;
 
 fn main() {
     let folder = std::env::var("KAGUTIN_LIB_DIR").unwrap_or_else(|_| "../target/staticlib".to_string());
     let folder = Path::new(&std::env::var("CARGO_MANIFEST_DIR").unwrap()).join(folder);
-    let library = folder.join("libkagutin.a");
     println!("cargo:rerun-if-env-changed=KAGUTIN_LIB_DIR");
-    println!("cargo:rerun-if-changed={}", library.display());
     println!("cargo:rustc-link-search=native={}", folder.display());
-    println!("cargo:rustc-link-lib=static=kagutin");
-    assert!(library.is_file(), "no library {}", library.display());
+    for name in ["kagutin", "gauges"] {
+        let library = folder.join(format!("lib{name}.a"));
+        println!("cargo:rerun-if-changed={}", library.display());
+        println!("cargo:rustc-link-lib=static={name}");
+        assert!(library.is_file(), "no library {}", library.display());
+    }
 }

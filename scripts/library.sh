@@ -1,8 +1,10 @@
 #!/usr/bin/env bash
-# Proves the crates of the library and writes target/staticlib/libkagutin.a. Prints one line for each crate that is proved
-# now; what the prover says goes to target/library.log.
+# library.sh [CRATE]: proves the crates of a library, by default kagutin, and writes target/staticlib/libCRATE.a. Prints one
+# line for each crate that is proved now; what the prover says goes to target/library.log.
 set -uo pipefail
 cd "$(dirname "$0")/.."
+crate=${1:-kagutin}
+archive=target/staticlib/lib$crate.a
 log=target/library.log
 pinned=$(sed -n 's/^RATTLE = //p' Makefile)
 
@@ -12,9 +14,9 @@ if ! command -v rt > /dev/null; then
 fi
 [ "$(rt version)" = "$pinned" ] || echo "library: rt is '$(rt version)'; this repository was checked with '$pinned'" >&2
 
-# The library's crates: kagutin and all that it depends on.
+# The library's crates: the one named and all that it depends on.
 crates() {
-    sed 's/#.*//' crates.txt | awk -F: '
+    sed 's/#.*//' crates.txt | awk -F: -v crate="$crate" '
         NF > 1 { deps[$1] = $2 }
         function visit(name,   list, n, i) {
             if (name in seen || !(name in deps)) return
@@ -22,15 +24,15 @@ crates() {
             n = split(deps[name], list, " ")
             for (i = 1; i <= n; i++) visit(list[i])
         }
-        END { visit("kagutin"); print count }'
+        END { visit(crate); print count }'
 }
 
 total=$(crates)
 mkdir -p target
-[ -e target/staticlib/libkagutin.a ] || echo "library: proving $total crates, some 8 minutes on two cores the first time; the prover's lines go to $log"
+[ -e "$archive" ] || [ "$total" -lt 5 ] || echo "library: proving $total crates, some 8 minutes on two cores the first time; the prover's lines go to $log"
 clock() { printf '%d:%02d' $((SECONDS / 60)) $((SECONDS % 60)); }
 
-rt staticlib kagutin 2>&1 | tee "$log" | {
+rt staticlib "$crate" 2>&1 | tee "$log" | {
     done=0
     while IFS= read -r line; do
         case $line in
@@ -48,5 +50,5 @@ if [ "$status" -ne 0 ]; then
     echo "library: not proved or not built; all of it is in $log" >&2
     exit "$status"
 fi
-touch target/staticlib/libkagutin.a
-echo "library: $total crates proved, target/staticlib/libkagutin.a written, $(clock)"
+touch "$archive"
+echo "library: $total crates proved, $archive written, $(clock)"

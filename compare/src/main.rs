@@ -5,6 +5,7 @@
 
 mod damaged;
 mod demand;
+mod gauges;
 mod histories;
 mod pair;
 mod part;
@@ -139,6 +140,8 @@ fn run(options: &Options) -> Result<(), String> {
     );
     println!("  {} commits, {} of them lost to cuts", tally.commits, tally.commits_lost);
     println!("in all {} calls compared", pair.case);
+    let played = gauges::play(seed, calls / 50, options.guarded)?;
+    println!("gauges: {} comparisons done and {} refused, the same on both sides", played.done, played.refused);
     Ok(())
 }
 

@@ -13,6 +13,7 @@ mod check;
 pub mod craft;
 pub mod damage;
 mod expect;
+pub mod gauges;
 pub mod landing;
 pub mod layout;
 pub mod lent;

@@ -1,0 +1,19 @@
+/* A plot of two lists of levels and of the minutes at which they differ, as an SVG file. */
+#ifndef LEVELS_PLOT_H
+#define LEVELS_PLOT_H
+
+#include <stdio.h>
+
+#include "readings.h"
+
+struct levels_plot {
+    const struct readings *first, *second;
+    const uint8_t *report; /* lines as the library writes them */
+    size_t lines;
+    unsigned tolerance;
+};
+
+/* Writes the plot; the caller looks for errors of the file. */
+void levels_plot_write(const struct levels_plot *plot, FILE *file);
+
+#endif
