@@ -8,36 +8,7 @@ cc=${CC:-cc}
 lib=${LIB:-target/staticlib/libkagutin.a}
 gauges=${GAUGES_LIB:-target/staticlib/libgauges.a}
 inflow=${INFLOW_LIB:-target/staticlib/libinflow.a}
-tmp=$(mktemp -d) || exit 1
-trap 'rm -rf "$tmp"' EXIT
-passed=0
-failed=0
-
-report() { # status, name
-    if [ "$1" -eq 0 ]; then
-        passed=$((passed + 1)); echo "ok      $2"
-    else
-        failed=$((failed + 1)); echo "FAILED  $2"
-        sed 's/^/        /' "$tmp/log" | tail -n 12
-    fi
-}
-
-# status, name, command: the command must end with that status, and no sanitizer may speak.
-gives() {
-    want=$1; name=$2; shift 2
-    "$@" > "$tmp/out" 2> "$tmp/log"
-    got=$?
-    if grep -q 'Sanitizer\|runtime error' "$tmp/log"; then got=sanitizer; fi
-    [ "$got" = "$want" ] || echo "status $got, not $want: $*" >> "$tmp/log"
-    [ "$got" = "$want" ]; report $? "$name"
-}
-
-# The same, and a message on standard error.
-says() {
-    text=$1; shift
-    gives "$@"
-    grep -q -e "$text" "$tmp/log"; report $? "$2: says '$text'"
-}
+. tests/c-helpers.sh
 
 # Least and most in litres and in cm² × mm, then the options.
 bounds() {
@@ -98,5 +69,4 @@ if command -v valgrind > /dev/null; then
     gives 0 "under memcheck" valgrind -q --error-exitcode=9 --leak-check=full "$out/inflow" --area 10000 0..10 5..20
 fi
 
-echo "inflow-check: $passed passed, $failed failed"
-[ $failed -eq 0 ]
+count inflow-check
