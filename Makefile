@@ -6,7 +6,7 @@
 # make bench      instructions and times of each call against the second implementation; other stores, if installed
 # make bench-docs tables of docs/PERFORMANCE.md and docs/ring-cost.svg from the last bench
 # make install    headers, libraries and pkg-config file, under DESTDIR and PREFIX; make uninstall takes them away
-# make inspect    the inspector, target/c/inspect; make station, make quickstart and make gauges the other programs
+# make inspect    the inspector, target/c/inspect; make station, quickstart, gauges and inflow the other programs
 # make c-check    tests of the C side alone; make c-kills KILLS=N kills a process at work N times
 # make clean      removes all that was built and proved
 # make help       this list
@@ -20,13 +20,14 @@ HISTORIES ?= 400
 
 LIB = target/staticlib/libkagutin.a
 GAUGES_LIB = target/staticlib/libgauges.a
+INFLOW_LIB = target/staticlib/libinflow.a
 
 .PHONY: all help run test test-library compare play bench bench-docs second library clean
 
 # The toolchain that this repository was checked with, as 'rt version' prints it.
 RATTLE = rattle-kit-5b-plain logic 097e4c862dff5811
 
-all: station inspect quickstart gauges
+all: station inspect quickstart gauges inflow
 
 help:
 	@sed -n '/^#/!q; s/^# //p' Makefile
@@ -40,13 +41,16 @@ library $(LIB): crates.txt $(shell find crates -name '*.rt' -o -name '*.antt')
 $(GAUGES_LIB): $(shell find crates/gauges -name '*.rt' -o -name '*.antt')
 	@scripts/library.sh gauges
 
+$(INFLOW_LIB): $(shell find crates/inflow -name '*.rt' -o -name '*.antt')
+	@scripts/library.sh inflow
+
 run: station
 	target/c/station --seed $(SEED) --cuts $(CUTS)
 
 second:
 	cd second && cargo build --release --offline --quiet
 
-compare/target/release/compare: $(LIB) $(GAUGES_LIB) second
+compare/target/release/compare: $(LIB) $(GAUGES_LIB) $(INFLOW_LIB) second
 	cd compare && cargo build --release --offline --quiet
 
 compare: compare/target/release/compare
@@ -55,7 +59,7 @@ compare: compare/target/release/compare
 play: second
 	second/target/release/play --seed $(SEED) --histories $(HISTORIES)
 
-bench/target/release/bench: $(LIB) $(GAUGES_LIB) second
+bench/target/release/bench: $(LIB) $(GAUGES_LIB) $(INFLOW_LIB) second
 	cd bench && cargo build --release --offline --quiet
 
 bench: bench/target/release/bench

@@ -3,6 +3,7 @@
 #
 # station, inspect, quickstart   programs in target/c
 # gauges                         two CSV files of levels compared; a program over libgauges.a alone
+# inflow                         least and most inflow of a pit; a program over libinflow.a alone
 # c-sanitize                     the same with address and undefined-behaviour sanitizers, in target/c/sanitize
 # c-check                        tests of all of these
 # c-kills                        longer: KILLS kills of a process at work, on this disk
@@ -11,6 +12,7 @@
 
 LIB ?= target/staticlib/libkagutin.a
 GAUGES_LIB ?= target/staticlib/libgauges.a
+INFLOW_LIB ?= target/staticlib/libinflow.a
 C_LIBS ?=
 PREFIX ?= /usr/local
 DESTDIR ?=
@@ -34,14 +36,16 @@ C_KILL_CHECK = kill_check play $(C_STORE)
 C_FRAM_CHECK = fram_check play $(C_STORE)
 C_GAUGES = gauges readings levels_plot
 C_GAUGES_COST = gauges_cost
-C_PROGRAMS = station inspect quickstart driver_check store_check file_check kill_check fram_check gauges gauges_cost
+C_INFLOW = inflow
+C_PROGRAMS = station inspect quickstart driver_check store_check file_check kill_check fram_check gauges gauges_cost inflow
 
-.PHONY: station inspect quickstart gauges c-sanitize c-check c-kills c-dist install uninstall c-clean
+.PHONY: station inspect quickstart gauges inflow c-sanitize c-check c-kills c-dist install uninstall c-clean
 
 station: $(C_OUT)/station
 inspect: $(C_OUT)/inspect
 quickstart: $(C_OUT)/quickstart
 gauges: $(C_OUT)/gauges
+inflow: $(C_OUT)/inflow
 c-sanitize: $(C_PROGRAMS:%=$(C_OUT)/sanitize/%)
 
 $(C_OUT)/%.o: c/%.c $(C_HEADERS)
@@ -79,10 +83,12 @@ $(eval $(call C_PROGRAM,kill_check,$(C_KILL_CHECK),$(LIB)))
 $(eval $(call C_PROGRAM,fram_check,$(C_FRAM_CHECK),$(LIB)))
 $(eval $(call C_PROGRAM,gauges,$(C_GAUGES),$(GAUGES_LIB)))
 $(eval $(call C_PROGRAM,gauges_cost,$(C_GAUGES_COST),$(GAUGES_LIB)))
+$(eval $(call C_PROGRAM,inflow,$(C_INFLOW),$(INFLOW_LIB)))
 
 c-check: $(C_PROGRAMS:%=$(C_OUT)/%) c-sanitize
 	CC="$(CC)" LIB="$(LIB)" C_LIBS="$(C_LIBS)" sh tests/c-check.sh $(C_OUT)
 	CC="$(CC)" LIB="$(LIB)" GAUGES_LIB="$(GAUGES_LIB)" sh tests/gauges-check.sh $(C_OUT)
+	CC="$(CC)" LIB="$(LIB)" GAUGES_LIB="$(GAUGES_LIB)" INFLOW_LIB="$(INFLOW_LIB)" sh tests/inflow-check.sh $(C_OUT)
 
 # A process killed at random instants, long.
 KILLS ?= 1000
@@ -108,14 +114,15 @@ c-dist: $(C_PUBLIC:%=include/%.h) $(C_STORE:%=c/%.c)
 	for name in $(C_STORE:store/%=%); do install -m 644 c/store/$$name.c $(DIST)/kagutin_$$name.c; done
 
 # Calls beside the store, each a header and an archive.
-C_BESIDE = kagutin_gauges
+C_BESIDE = kagutin_gauges kagutin_inflow
 
-install: $(LIB) $(STORE_LIB) $(GAUGES_LIB) $(C_PUBLIC:%=include/%.h) $(C_BESIDE:%=include/%.h) kagutin.pc.in
+install: $(LIB) $(STORE_LIB) $(GAUGES_LIB) $(INFLOW_LIB) $(C_PUBLIC:%=include/%.h) $(C_BESIDE:%=include/%.h) kagutin.pc.in
 	install -d $(DESTDIR)$(PREFIX)/include $(DESTDIR)$(PREFIX)/lib/pkgconfig
 	install -m 644 $(C_PUBLIC:%=include/%.h) $(C_BESIDE:%=include/%.h) $(DESTDIR)$(PREFIX)/include
 	install -m 644 $(LIB) $(DESTDIR)$(PREFIX)/lib/libkagutin.a
 	install -m 644 $(STORE_LIB) $(DESTDIR)$(PREFIX)/lib/libkagutin_store.a
 	install -m 644 $(GAUGES_LIB) $(DESTDIR)$(PREFIX)/lib/libkagutin_gauges.a
+	install -m 644 $(INFLOW_LIB) $(DESTDIR)$(PREFIX)/lib/libkagutin_inflow.a
 	sed -e 's|@PREFIX@|$(PREFIX)|' -e 's|@VERSION@|$(VERSION)|' -e 's|@LIBS@|$(C_LIBS)|' -e 's/ *$$//' kagutin.pc.in \
 	    > $(DESTDIR)$(PREFIX)/lib/pkgconfig/kagutin.pc
 	chmod 644 $(DESTDIR)$(PREFIX)/lib/pkgconfig/kagutin.pc

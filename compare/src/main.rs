@@ -7,6 +7,7 @@ mod damaged;
 mod demand;
 mod gauges;
 mod histories;
+mod inflow;
 mod pair;
 mod part;
 mod table;
@@ -142,6 +143,8 @@ fn run(options: &Options) -> Result<(), String> {
     println!("in all {} calls compared", pair.case);
     let played = gauges::play(seed, calls / 50, options.guarded)?;
     println!("gauges: {} comparisons done and {} refused, the same on both sides", played.done, played.refused);
+    let played = inflow::play(seed, calls / 10)?;
+    println!("inflow: {} calls done and {} refused, {} choices inside the ranges", played.done, played.refused, played.choices);
     Ok(())
 }
 
