@@ -177,10 +177,10 @@ LiveThroughout w (e ∷ es) = (w .ready ≡ true → Live w) × YieldsAt w e × 
 -- The demands, for every G and D and every list of events under the premises
 abbrev pub Demand3 : Type 0
 Demand3 =
-    (groups homes : ℕ) → 4 ≤ groups → groups ≤ 1024 → 1 ≤ homes → homes ≤ 4096 → (es : List Event) → AllAllowed (afterFormat groups homes) es →
+    (groups homes : ℕ) → 4 ≤ groups → groups ≤ 1024 → 1 ≤ homes → homes ≤ 65535 → (es : List Event) → AllAllowed (afterFormat groups homes) es →
     AllHold (afterFormat groups homes) es
 
 abbrev pub Demand2 : Type 0
 Demand2 =
-    (groups homes : ℕ) → 4 ≤ groups → groups ≤ 1024 → 1 ≤ homes → homes ≤ 4096 → (es : List Event) → AllAllowed (afterFormat groups homes) es →
+    (groups homes : ℕ) → 4 ≤ groups → groups ≤ 1024 → 1 ≤ homes → homes ≤ 65535 → (es : List Event) → AllAllowed (afterFormat groups homes) es →
     LiveThroughout (afterFormat groups homes) es

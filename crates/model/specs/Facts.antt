@@ -47,12 +47,12 @@ FormatOnce = (groups homes : ℕ) → writtenOnce (formatted groups homes) ≡ t
 
 abbrev pub PendingOnce : Type 0
 PendingOnce =
-    (groups homes : ℕ) → 4 ≤ groups → groups ≤ 1024 → 1 ≤ homes → homes ≤ 4096 → (es : List Event) → AllAllowed (afterFormat groups homes) es →
+    (groups homes : ℕ) → 4 ≤ groups → groups ≤ 1024 → 1 ≤ homes → homes ≤ 65535 → (es : List Event) → AllAllowed (afterFormat groups homes) es →
     writtenOnce (after (afterFormat groups homes) es .pending) ≡ true
 
 -- "its entries land with that call's GW": the book's rows submitted since the last crash are as many as the group writes since, at every moment of
 -- a history; so each call submits as many rows as it writes groups
 abbrev pub RowsWritten : Type 0
 RowsWritten =
-    (groups homes : ℕ) → 4 ≤ groups → groups ≤ 1024 → 1 ≤ homes → homes ≤ 4096 → (es : List Event) → AllAllowed (afterFormat groups homes) es →
+    (groups homes : ℕ) → 4 ≤ groups → groups ≤ 1024 → 1 ≤ homes → homes ≤ 65535 → (es : List Event) → AllAllowed (afterFormat groups homes) es →
     after (afterFormat groups homes) es .book .rows ≡ groupWrites (after (afterFormat groups homes) es .pending)
