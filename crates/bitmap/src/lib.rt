@@ -2,7 +2,7 @@
 ghost use mathlib.Core.Path.{_≡_};
 ghost use mathlib.Core.Bool.{_||_};
 ghost use mathlib.Core.List.{_∷_};
-ghost use Prim.Native.Nat.{ℕ, _*_, _^_, _<_};
+ghost use Prim.Native.Nat.{ℕ, _*_, _^_, _≤_, _<_};
 ghost use lib.Dec.{eqb};
 ghost use lib.ListN.{length, drop};
 ghost use Rattle.model.specs.Effects.{marked};
@@ -37,6 +37,13 @@ pub fn count(ws: &[u64]) -> u64
         i += 1;
     }
     n
+}
+
+// How many bits are set in a word, by its count of ones.
+pub fn ones(w: u64) -> u64
+    ensures { λ r. ⌜ (r ≡ length (bitsOf w)) × (r ≤ 64) ⌝ }
+{
+    u64::count_ones(w) as u64
 }
 
 // The lowest bit that is set in a word, by its trailing zeros.
