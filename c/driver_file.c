@@ -53,7 +53,7 @@ static bool check_shape(struct driver *driver, size_t groups, size_t homes)
 {
     if (groups < KAGUTIN_MIN_GROUPS || groups > KAGUTIN_MAX_GROUPS || homes < KAGUTIN_MIN_HOMES
         || homes > KAGUTIN_MAX_HOMES)
-        return driver_fail(driver, "%lu groups and %lu homes: groups go from 4 to 1024, homes from 1 to 4096",
+        return driver_fail(driver, "%lu groups and %lu homes: groups go from 4 to 1024, homes from 1 to 65535",
                            (unsigned long)groups, (unsigned long)homes);
     return true;
 }

@@ -15,7 +15,7 @@
 #define GROUP 512u
 #define BLOCK 64u
 #define MAX_GROUPS 1024u
-#define MAX_HOMES 4096u
+#define MAX_HOMES 65535u
 #define MAX_IMAGE (HEADER + GROUP * MAX_GROUPS + BLOCK * MAX_HOMES)
 #define MAX_START ((uint64_t)1 << 47)
 #define NOT_GIVEN UINT64_MAX
@@ -33,7 +33,7 @@ static const char usage[] =
     "Prints the header of an image, its groups and entries, and which transactions the commit rule finds.\n"
     "  --json      the same as JSON\n"
     "  --groups N  groups of the log, 4 to 1024, if the header is damaged\n"
-    "  --homes N   home blocks, 1 to 4096 (default: as the header or the file's size says)\n"
+    "  --homes N   home blocks, 1 to 65535 (default: as the header or the file's size says)\n"
     "  --start N   lowest live group number (default: the header's, or a guess from the groups)\n"
     "Status: 0 the image is sound, 1 it is damaged, 2 wrong options, 3 the file cannot be read.\n";
 
@@ -148,7 +148,7 @@ static void check_header(struct image *image)
     if (set && (groups < 4 || groups > MAX_GROUPS))
         image_note(image, "header: %lu groups, they go from 4 to 1024", (unsigned long)groups);
     if (set && (homes < 1 || homes > MAX_HOMES))
-        image_note(image, "header: %lu homes, they go from 1 to 4096", (unsigned long)homes);
+        image_note(image, "header: %lu homes, they go from 1 to 65535", (unsigned long)homes);
     if (rule_number(header + 2, 6) > MAX_START)
         image_note(image, "header: start %llu is above 2^47", (unsigned long long)rule_number(header + 2, 6));
     for (i = 12; i < HEADER && !header[i]; i++)
@@ -196,7 +196,7 @@ static void choose_shape(struct image *image, const struct options *options)
         homes = image->file_size > HEADER + GROUP * groups ? (image->file_size - HEADER - GROUP * groups) / BLOCK : 0;
     if (homes < 1 || homes > MAX_HOMES) {
         homes = MAX_HOMES;
-        image_note(image, "homes: their number is unknown and taken as 4096; --homes N sets it");
+        image_note(image, "homes: their number is unknown and taken as 65535; --homes N sets it");
     }
     image->log.bytes = image->bytes;
     image->log.groups = (size_t)groups;

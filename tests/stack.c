@@ -1,4 +1,4 @@
-/* Deepest stack of each call in bytes, on a painted stack, at G 1,024 and D 4,096 with a full log. Status 1 above 32 KiB. */
+/* Deepest stack of each call in bytes, on a painted stack, at G 1,024 and D 65,535 with a full log. Status 1 above 32 KiB. */
 #include <stdio.h>
 #include <stdlib.h>
 #include <string.h>
@@ -6,7 +6,7 @@
 
 #include "kagutin.h"
 
-enum { GROUPS = 1024, HOMES = 4096, STACK = 1 << 18, LIMIT = 32768 };
+enum { GROUPS = 1024, HOMES = 65535, STACK = 1 << 18, LIMIT = 32768 };
 enum { FORMAT, OPEN, BEGIN, STORE, COMMIT, FLUSH, CONFIRM, SETTLE, TRIM, READ, ABORT, EMPTY };
 
 static uint8_t log_area[KAGUTIN_HEADER_SIZE + KAGUTIN_GROUP_SIZE * GROUPS], area[KAGUTIN_BLOCK_SIZE * HOMES];

@@ -13,7 +13,7 @@ pub type Counts = [[u64; 11]; 11];
 
 /// Sizes that are counted apart, and one more row and column for all others.
 pub const GROUPS: [usize; 4] = [4, 5, 64, 1024];
-pub const HOMES: [usize; 4] = [1, 7, 64, 4096];
+pub const HOMES: [usize; 5] = [1, 7, 64, 4096, 65535];
 pub type Sizes = [[u64; 5]; 5];
 
 pub struct Pair {

@@ -9,15 +9,16 @@ use borrow.Author.Tests.{eq-eqb, ne-eqb, eqb-true}
 use lib.Dec.{eqb}
 use lib.ListN.{length, getD, set, replicate, length-set, length-replicate}
 use lib.Seq.{getD-set-same, getD-set-other}
-use Rattle.model.specs.Tag.{belongs, homeOf, present, readTag}
+use Rattle.model.specs.Tag.{belongs, homeOf, readTag}
+use Rattle.model.proofs.bytes.TagLaws.{entry-known, closing-known}
 use Rattle.model.specs.Layout.{entryAt}
 use Rattle.model.specs.declared.Tag.{Tag}
 use Rattle.model.specs.declared.Tag.the-variants.{Nothing, Entry, Closing}
 use Rattle.scan.specs.Scan.{over}
 use Rattle.scan.proofs.ScanLaws.{Placed, placed}
-use Rattle.replay.specs.Best.{closes, closer}
-use Rattle.replay.proofs.BestLaws.{closer-same, closer-now}
-use Rattle.replay.proofs.CommittedLaws.{known}
+use Rattle.chains.specs.Best.{closes, closer}
+use Rattle.chains.proofs.BestLaws.{closer-same, closer-now}
+use Rattle.model.proofs.trace.ReplayLaws.{known}
 use Rattle.chains.specs.Chains.{maxEntries, maxWords, maxHomes, Chains, fresh, chained, note, Roomy, inWord, top, Holds, Chained}
 
 -- ---- the last entry for a word
@@ -83,6 +84,37 @@ room-note base position (Closing h f link count) g r =
       words = length-set (g .heads) (h / 64) (position - base + 1) ∙ r .words;
       each = length-set (g .links) (position - base) (getD (g .heads) (h / 64) 0) ∙ r .each;
     }
+
+-- a tag t that was read from a word
+module _ (word position base homes : ℕ) (t : Tag) (e : t ≡ readTag word position base homes) where
+  pub entry-bounds : (h f : ℕ) → t ≡ Entry h f → (h < homes) × (base ≤ f) × (f ≤ position)
+  entry-bounds h f d = entry-known word position base homes h f (sym e ∙ d)
+
+  pub closing-bounds : (h f link count : ℕ) → t ≡ Closing h f link count → (h < homes) × (base ≤ f) × (f ≤ position)
+  closing-bounds h f link count d = let r = closing-known word position base homes h f link count (sym e ∙ d) in (r .0, r .1, r .2)
+
+-- a tag t, which says r, is taken into the pass
+module _ (base position : ℕ) (g : Chains) (r t : Tag) (e : t ≡ r) where
+  pub note-nothing : t ≡ Nothing → g ≡ note base position r g
+  unfolding note
+  note-nothing d = rw (← e, d)
+
+  pub note-entry : (h f : ℕ) (heads links : List ℕ) → t ≡ Entry h f → heads ≡ set (g .heads) (h / 64) (position - base + 1)
+      → links ≡ set (g .links) (position - base) (getD (g .heads) (h / 64) 0)
+      → _≡_ {A = Chains} (record { last = g .last; heads = heads; links = links }) (note base position r g)
+  unfolding note chained
+  note-entry h f heads links d a b = rw (← e, d, a, b)
+
+  pub note-closing : (h f link count : ℕ) (last heads links : List ℕ) → t ≡ Closing h f link count
+      → last ≡ set (g .last) (f - base) (position - base + 1) → heads ≡ set (g .heads) (h / 64) (position - base + 1)
+      → links ≡ set (g .links) (position - base) (getD (g .heads) (h / 64) 0)
+      → _≡_ {A = Chains} (record { last = last; heads = heads; links = links }) (note base position r g)
+  unfolding note chained
+  note-closing h f link count last heads links d l a b = rw (← e, d, l, a, b)
+
+pub note-quiet : (base position : ℕ) (g : Chains) → note base position Nothing g ≡ g
+unfolding note
+note-quiet base position g = refl
 
 -- entries are for homes that there are
 pub record Housed (tags : ℕ → Tag) : Type 0 where
@@ -191,14 +223,28 @@ module _ (tags : ℕ → Tag) (base : ℕ) (at : Placed tags base) (home : House
         holds-note n (over (note base) tags base n fresh) (omega arith) (k .0) (k .1) (tags (base + n)) refl,
       )
 
+room-same : (g s : Chains) → g ≡ s → Room s → Room g
+room-same g s e r = rw e r
+
 -- the whole pass
 pub chained-all : (log : List ℕ) (groups homes start end n : ℕ) (last heads links : List ℕ) → homes ≤ maxHomes → n ≡ end - 7 * start → n ≤ maxEntries
     → _≡_ {A = Chains} (record { last = last; heads = heads; links = links }) (over (note (7 * start)) (entryAt log groups homes start) (7 * start) n fresh)
     → Chained log groups homes start end last heads links
 chained-all log groups homes start end n last heads links few d l e =
     let k = holds-over (entryAt log groups homes start) (7 * start) (placed log groups homes start) (housed log groups homes start few) n l in
-    let r : Room (record { last = last; heads = heads; links = links }) = rw e (k .0) in
+    let r = room-same (record { last = last; heads = heads; links = links }) _ e (k .0) in
     record {
       room = record { few = few; lasts = r .lasts; words = r .words; each = r .each };
       holds = rw (← d, e) (k .1);
     }
+
+pub chained-none : (log : List ℕ) (groups homes start end : ℕ) (last heads links : List ℕ) → homes ≤ maxHomes → end ≤ 7 * start
+    → last ≡ replicate maxEntries 0 → heads ≡ replicate maxWords 0 → links ≡ replicate maxEntries 0 → Chained log groups homes start end last heads links
+chained-none log groups homes start end last heads links few h a b c =
+    chained-all log groups homes start end 0 last heads links few (omega arith) (omega arith) (unfold over fresh in rw (a, b, c))
+
+-- the pass begins with empty tables
+pub none-over : (tags : ℕ → Tag) (base m : ℕ) (last heads links : List ℕ) → m ≡ 0 → last ≡ replicate maxEntries 0 → heads ≡ replicate maxWords 0
+    → links ≡ replicate maxEntries 0 → _≡_ {A = Chains} (record { last = last; heads = heads; links = links }) (over (note base) tags base m fresh)
+unfolding over fresh
+none-over tags base m last heads links z a b c = rw (z, a, b, c)

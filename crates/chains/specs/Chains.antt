@@ -9,7 +9,7 @@ use lib.ListN.{length, getD, set, replicate}
 use Rattle.model.specs.Layout.{entryAt}
 use Rattle.model.specs.declared.Tag.{Tag}
 use Rattle.model.specs.declared.Tag.the-variants.{Nothing, Entry, Closing}
-use Rattle.replay.specs.Best.{closer}
+use Rattle.chains.specs.Best.{closer}
 
 -- the most positions, words of homes and homes that there are
 abbrev pub maxEntries : ℕ

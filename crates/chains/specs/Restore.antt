@@ -7,7 +7,7 @@ use lib.ListN.{length, getD}
 use Rattle.model.specs.Layout.{entryAt, blockAt, putHome}
 use Rattle.model.specs.Commit.{newest}
 use Rattle.model.specs.Effects.{touched}
-use Rattle.replay.specs.Walk.{Walkable, closedBelow}
+use Rattle.scan.specs.Walk.{Walkable, closedBelow}
 use Rattle.chains.specs.Chains.{maxHomes, Chained}
 
 -- each of some homes gets the block at its position

@@ -1,5 +1,5 @@
 -- The newest committed entries of the homes of one word, found along the word's chain.
-use Prim.Native.Nat.{ℕ, _+_, _-_, _*_, _%_, _<_}
+use Prim.Native.Nat.{ℕ, _+_, _-_, _*_, _%_, _≤_, _<_}
 use mathlib.Core.Path.{_≡_}
 use mathlib.Core.Bool.{Bool, cond}
 use mathlib.Core.List.{List}
@@ -11,9 +11,9 @@ use Rattle.model.specs.Effects.{marked}
 use Rattle.model.specs.declared.Tag.{Tag}
 use Rattle.model.specs.declared.Tag.the-variants.{Nothing, Entry, Closing}
 use Rattle.bitmap.specs.Marks.{bit, raised, withMark}
-use Rattle.replay.specs.Walk.{closedBelow}
-use Rattle.replay.specs.Gather.{offsetCode}
-use Rattle.replay.specs.Best.{from}
+use Rattle.scan.specs.Walk.{closedBelow}
+use Rattle.chains.specs.Best.{offsetCode}
+use Rattle.chains.specs.Best.{from}
 
 -- for each home of a word the closing entry of the newest transaction with an entry for it and that entry; and the homes that have one, marked
 pub record Word : Type 0 where
@@ -59,4 +59,5 @@ pub record Newest (log : List ℕ) (groups homes start end w : ℕ) (table : Lis
   pub each : length table ≡ 64
   pub entry : (k : ℕ) → k < 64
       → getD table k 0 ≡ offsetCode (7 * start) (newest (entryAt log groups homes start) (64 * w + k) (closedBelow log groups homes start end))
+  pub most : (k : ℕ) → k < 64 → getD table k 0 ≤ end - 7 * start
   pub there : (k : ℕ) → k < 64 → bit bits k ≡ touches log groups homes start end (64 * w + k)

@@ -6,7 +6,7 @@ ghost use lib.ListN.{length, getD, set, replicate};
 ghost use Rattle.model.specs.Tag.{readTag};
 ghost use Rattle.model.specs.Layout.{entryIn};
 ghost use Rattle.scan.specs.Scan.{over};
-ghost use Rattle.replay.specs.Walk.{Walkable};
+ghost use Rattle.scan.specs.Walk.{Walkable};
 ghost use Rattle.chains.specs.Chains.{note, Roomy, Chained};
 
 // Puts the entry at an offset first into the chain of a word of homes.

@@ -9,7 +9,7 @@ ghost use Rattle.model.specs.Layout.{entryAt};
 ghost use Rattle.model.specs.Batch.{batchBytes};
 ghost use Rattle.model.specs.Effects.{touched, replayed, homeWrites};
 ghost use Rattle.bitmap.specs.Marks.{bitsOf, raised};
-ghost use Rattle.replay.specs.Walk.{Walkable, closedBelow};
+ghost use Rattle.scan.specs.Walk.{Walkable, closedBelow};
 ghost use Rattle.chains.specs.Chains.{Chained};
 ghost use Rattle.chains.specs.Words.{touches, wordHomes};
 ghost use Rattle.chains.specs.Restore.{restored, newestAt, Ready, Replayable};

@@ -8,7 +8,7 @@ ghost use lib.ListN.{length, replicate};
 ghost use Rattle.model.specs.Tag.{present};
 ghost use Rattle.model.specs.Layout.{entryAt};
 ghost use Rattle.model.specs.Effects.{touched};
-ghost use Rattle.replay.specs.Walk.{Walkable, closedBelow};
+ghost use Rattle.scan.specs.Walk.{Walkable, closedBelow};
 ghost use Rattle.chains.specs.Chains.{Chained};
 ghost use Rattle.chains.specs.Words.{offered, takenIn, take, Sized, Newest, touches, wordHomes};
 
