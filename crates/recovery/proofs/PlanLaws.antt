@@ -21,7 +21,7 @@ use Rattle.bitmap.proofs.MarkedLaws.{length-marked}
 use Rattle.homes.specs.Within.{Within}
 use Rattle.homes.proofs.HomeLaws.{length-writes, within-marked}
 use Rattle.scan.specs.Walk.{Walkable, closedBelow}
-use Rattle.chains.proofs.RestoreLaws.{touches-below}
+use Rattle.replay.proofs.RestoreLaws.{touches-below}
 use Rattle.recovery.specs.Plans.{Searchable, Planned}
 
 -- ---- what is planned

@@ -27,7 +27,7 @@ pub fn bring_back(
     let mut last = [0u16; 7168];
     let mut heads = [0u16; 1024];
     let mut links = [0u16; 7168];
-    chains::gather(
+    replay::gather(
         log,
         &mut last,
         &mut heads,
@@ -37,12 +37,12 @@ pub fn bring_back(
         start,
         end,
     );
-    let count = chains::count(log, &last, &heads, &links, groups, homes, start, end);
+    let count = replay::count(log, &last, &heads, &links, groups, homes, start, end);
     let size = 68 * count + more;
     if (batch.len() as u64) < size {
         return size;
     }
-    chains::bring_back(
+    replay::bring_back(
         log,
         area,
         batch,

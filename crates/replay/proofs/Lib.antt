@@ -1,7 +1,5 @@
-pub mod CodeLaws
-pub mod SearchLaws
-pub mod CommittedLaws
-pub mod TrimLaws
 pub mod BestLaws
-pub mod GatherLaws
+pub mod ChainLaws
+pub mod NewestLaws
+pub mod PlaceLaws
 pub mod RestoreLaws

@@ -1,10 +1,10 @@
--- What a group says, test by test of its bytes, a position of the log by its group, and the ring slots in order. Assumes nothing.
-use mathlib.Core.Path.{_≡_, refl, sym, _∙_}
+-- What a group says, test by test of its bytes, and a group as a part of the log. Assumes nothing.
+use mathlib.Core.Path.{_≡_, refl, _∙_}
 use mathlib.Core.Bool.{Bool, true, false, _&&_, and-false}
 use mathlib.Core.List.{List}
-use Prim.Native.Nat.{ℕ, _+_, _-_, _*_, _/_, _%_, _^_, _≤_, _<_}
+use Prim.Native.Nat.{ℕ, _+_, _-_, _*_, _%_, _^_, _≤_, _<_}
 use native.Mathlib.Decide.{ℕ-discrete}
-use native.Mathlib.Nat.{mod-self, mod-eq-of-lt, mod-add-mod}
+use native.Mathlib.Nat.{mod-eq-of-lt}
 use native.Mathlib.Omega.{arith}
 use borrow.Author.Tests.{ltb-true, le-leb, lt-leb}
 use lib.Dec.{eqb, leb, ltb}
@@ -12,8 +12,7 @@ use lib.ListN.{length, getD, set, take, drop}
 use lib.Seq.{getD-set-same, getD-set-other}
 use Rattle.model.specs.Bytes.{part, number, same}
 use Rattle.model.specs.Tag.{readTag}
-use Rattle.model.specs.Layout.{groupMark, groupOffset, groupAt, groupNumber, tagOffset, groupTag, groupValid, slotOf, indexOf, entryIn, entryAt}
-use Rattle.model.specs.declared.Tag.the-variants.{Nothing}
+use Rattle.model.specs.Layout.{groupMark, groupOffset, groupAt, groupNumber, tagOffset, groupTag, groupValid}
 
 -- ---- a group's tags
 
@@ -64,31 +63,3 @@ module _ (group : List ℕ) (groups start n : ℕ) where
 pub part-group : (log : List ℕ) (slot from : ℕ) → from ≡ 64 + 512 * slot → take (from + 512 - from) (drop from log) ≡ groupAt log slot
 unfolding groupAt part groupOffset
 part-group log slot from e = let d : from + 512 - from ≡ 512 = omega arith in rw (d, e)
-
--- ---- a position of the log
-
-module _ (log : List ℕ) (groups homes start position : ℕ) where
-  entry-group : entryAt log groups homes start position ≡ entryIn (groupAt log (position / 7 % groups)) groups homes start position
-  unfolding entryAt slotOf
-  entry-group = refl
-
-  pub entry-there : (group : List ℕ) → group ≡ groupAt log (position / 7 % groups) → groupValid group groups start (position / 7) ≡ true
-      → readTag (groupTag group (position % 7)) position (7 * start) homes ≡ entryAt log groups homes start position
-  unfolding entryIn indexOf
-  entry-there group e v = sym (rw (entry-group, ← e, v))
-
-  pub entry-hole : (group : List ℕ) → group ≡ groupAt log (position / 7 % groups) → groupValid group groups start (position / 7) ≡ false
-      → Nothing ≡ entryAt log groups homes start position
-  unfolding entryIn
-  entry-hole group e v = sym (rw (entry-group, ← e, v))
-
--- ---- the next ring slot
-
-pub slot-wraps : (slot groups : ℕ) → slot + 1 ≡ groups → 0 ≡ (slot + 1) % groups
-slot-wraps slot groups e = rw e (sym (mod-self groups))
-
-pub slot-next : (slot groups : ℕ) → slot < groups → (slot + 1 ≡ groups → ⊥) → slot + 1 ≡ (slot + 1) % groups
-slot-next slot groups h e = sym (mod-eq-of-lt (omega arith))
-
-pub slot-more : (n groups slot next : ℕ) → slot ≡ n % groups → next ≡ (slot + 1) % groups → next ≡ (n + 1) % groups
-slot-more n groups slot next e f = f ∙ rw (e, mod-add-mod)

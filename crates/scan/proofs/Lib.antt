@@ -2,4 +2,5 @@ pub mod GroupLaws
 pub mod JudgeLaws
 pub mod PassLaws
 pub mod ScanLaws
+pub mod SlotLaws
 pub mod VisitLaws

@@ -23,6 +23,7 @@ use Rattle.model.proofs.bytes.ByteLaws.{length-zeros}
 use Rattle.model.proofs.strip.OrderLaws.{byte-zeros}
 use Rattle.model.proofs.bytes.TagLaws.{entry-known, closing-known}
 use Rattle.scan.specs.declared.commits.Progress.{Progress}
+use Rattle.scan.proofs.PassLaws.{over-start}
 use Rattle.scan.specs.Scan.{Scan, fresh, counted, taken, decided, enter, over, entered, Within}
 
 -- ---- the numbers of a pass stay small
@@ -77,6 +78,12 @@ entered-within tags base position (suc m) s h k =
 pub within-reached : (tags : ℕ → Tag) (base position m reached : ℕ) (s t : Scan) → base ≤ position → reached ≡ position + m
     → t ≡ entered tags base position m s → Within base position s → Within base reached t
 within-reached tags base position m reached s t h e f k = rw (e, f) (entered-within tags base position m s h k)
+
+pub begun : (tags : ℕ → Tag) (base n : ℕ) (counts : List ℕ) → counts ≡ zeros (length counts)
+    → _≡_ {A = Scan} (record { counts = counts; progress = record { end = 0; number = 0; failed = 0 } }) (entered tags base base (n - n) (fresh (length counts)))
+unfolding fresh
+begun tags base n counts c =
+    ap (λ (x : List ℕ). record { counts = x; progress = record { end = 0; number = 0; failed = 0 } }) c ∙ over-start (enter base) tags base n _
 
 pub fresh-within : (size base : ℕ) → Within base base (fresh size)
 unfolding fresh

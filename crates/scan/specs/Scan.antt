@@ -1,11 +1,10 @@
 -- The state of one pass over the log, and how each position changes it. Beside what the walk has found it counts the entries of each transaction,
 -- so that a closing entry is complete if the count at its first position, itself included, is its own.
 use Prim.Native.Nat.{ℕ, zero, suc, _+_, _-_, _≤_}
-use mathlib.Core.Path.{_≡_}
 use mathlib.Core.Bool.{Bool, true, false, _&&_}
 use mathlib.Core.List.{List}
 use lib.Dec.{eqb}
-use lib.ListN.{length, getD, set}
+use lib.ListN.{getD, set}
 use Rattle.model.specs.Bytes.{zeros}
 use Rattle.model.specs.Commit.{linked}
 use Rattle.model.specs.declared.Tag.{Tag}

@@ -1,10 +1,13 @@
 // The walk over the log's groups that applies the commit rule.
 use super::groups::group_valid;
 use super::groups::tag_words;
+use super::slots::first_slot;
+use super::slots::next_slot;
 use model::Tag;
 ghost use mathlib.Core.Path.{_≡_};
-ghost use Prim.Native.Nat.{_+_, _*_, _%_, _^_, min, _<_, _≤_};
+ghost use Prim.Native.Nat.{_+_, _*_, _^_, min, _<_, _≤_};
 ghost use lib.ListN.{length, getD};
+ghost use Rattle.model.specs.Bytes.{zeros};
 ghost use Rattle.model.specs.Tag.{readTag};
 ghost use Rattle.model.specs.Layout.{entryIn, entryAt};
 ghost use Rattle.model.specs.Commit.{linked, committed};
@@ -133,14 +136,6 @@ fn visit_group(
     reached
 }
 
-// The ring slot after `slot`.
-pub fn next_slot(slot: u64, groups: u64) -> u64
-    requires { ⌜ (slot < groups) × (groups ≤ 1024) ⌝ }
-    ensures { λ r. ⌜ r ≡ (slot + 1) % groups ⌝ }
-{
-    if slot + 1 == groups { 0 } else { slot + 1 }
-}
-
 // How many of the `left` positions the next group has.
 pub fn in_group(left: u64) -> usize
     ensures { λ r. ⌜ r ≡ min left 7 ⌝ }
@@ -158,18 +153,25 @@ fn result(progress: Progress) -> Found
     }
 }
 
-// Walks the `n` positions of the log from its start on, group by group, and finds where the committed transactions end and how many they are.
-pub fn walk(log: &[u8], groups: u64, homes: u64, start: u64, n: u64) -> Found
-    requires { ⌜ (length (now log) ≡ 64 + 512 * groups) × (4 ≤ groups) × (groups ≤ 1024) × (homes ≤ 65535) × (start ≤ 2 ^ 47) × (n ≤ 7 * groups) ⌝ }
+// The walk over the `n` positions of the log from its start on, group by group, with a counter for each, all 0.
+fn walk_with(
+    log: &[u8],
+    groups: u64,
+    homes: u64,
+    start: u64,
+    n: u64,
+    counts: &mut [u16],
+) -> Found
+    requires { ⌜ (length (now log) ≡ 64 + 512 * groups) × (4 ≤ groups) × (groups ≤ 1024) × (homes ≤ 65535) × (start ≤ 2 ^ 47) × (n ≤ 7 * groups)
+        × (n ≤ length (now counts)) × (now counts ≡ zeros (length (now counts))) ⌝ }
     ensures { λ r. ⌜ (r .end ≡ endOf (committed (entryAt (now (log .entry)) groups homes start) (7 * start) n)) × (r .number ≡ length (committed (entryAt (now (log .entry)) groups homes start) (7 * start) n)) ⌝ }
 {
-    let mut counts = [0u16; 7168];
     let mut progress = Progress {
         end: 0,
         number: 0,
         failed: 0,
     };
-    let mut slot = start % groups;
+    let mut slot = first_slot(start, groups);
     let mut number = start;
     let mut left = n;
     while left > 0 {
@@ -183,7 +185,7 @@ pub fn walk(log: &[u8], groups: u64, homes: u64, start: u64, n: u64) -> Found
             start,
             number,
             m,
-            &mut counts,
+            counts,
             progress,
         );
         if progress.failed != 0 {
@@ -194,4 +196,18 @@ pub fn walk(log: &[u8], groups: u64, homes: u64, start: u64, n: u64) -> Found
         left -= m as u64;
     }
     result(progress)
+}
+
+// Walks the `n` positions of the log from its start on, and finds where the committed transactions end and how many they are. A short log has a
+// small table of counters, since it is cleared first.
+pub fn walk(log: &[u8], groups: u64, homes: u64, start: u64, n: u64) -> Found
+    requires { ⌜ (length (now log) ≡ 64 + 512 * groups) × (4 ≤ groups) × (groups ≤ 1024) × (homes ≤ 65535) × (start ≤ 2 ^ 47) × (n ≤ 7 * groups) ⌝ }
+    ensures { λ r. ⌜ (r .end ≡ endOf (committed (entryAt (now (log .entry)) groups homes start) (7 * start) n)) × (r .number ≡ length (committed (entryAt (now (log .entry)) groups homes start) (7 * start) n)) ⌝ }
+{
+    if n <= 448 {
+        let mut few = [0u16; 448];
+        return walk_with(log, groups, homes, start, n, &mut few);
+    }
+    let mut counts = [0u16; 7168];
+    walk_with(log, groups, homes, start, n, &mut counts)
 }

@@ -4,7 +4,7 @@ ghost use mathlib.Core.Path.{_≡_};
 ghost use Prim.Native.Nat.{ℕ, _+_, _*_, _^_, _<_, _≤_};
 ghost use lib.ListN.{length, getD};
 ghost use Rattle.model.specs.Tag.{readTag};
-ghost use Rattle.model.specs.Layout.{groupTag, groupValid, entryAt};
+ghost use Rattle.model.specs.Layout.{groupTag, groupValid};
 
 // What tag `k` of a group says at a position of a log that starts at position `base` and has `homes` homes.
 pub fn tag_in(group: &[u8], k: usize, position: u64, base: u64, homes: u64) -> Tag
@@ -40,19 +40,4 @@ pub fn group_valid(group: &[u8], groups: u64, start: u64, n: u64) -> bool
         return false;
     }
     n < start + groups
-}
-
-// What the log says at a position.
-pub fn entry_at(log: &[u8], groups: u64, homes: u64, start: u64, position: u64) -> Tag
-    requires { ⌜ (length (now log) ≡ 64 + 512 * groups) × (0 < groups) × (groups ≤ 1024) × (start ≤ 2 ^ 47) × (position < 7 * (start + groups)) ⌝ }
-    ensures { λ r. ⌜ r ≡ entryAt (now (log .entry)) groups homes start position ⌝ }
-{
-    let n = position / 7;
-    let from = 64 + 512 * (n % groups) as usize;
-    let group = &log[from..from + 512];
-    if group_valid(group, groups, start, n) {
-        tag_in(group, (position % 7) as usize, position, 7 * start, homes)
-    } else {
-        Tag::Nothing
-    }
 }

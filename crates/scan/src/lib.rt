@@ -1,15 +1,17 @@
 // The log's groups, and the walk over them that applies the commit rule, as model/specs defines both.
 mod commits;
 mod groups;
+mod slots;
 
 pub use commits::Found;
 pub use commits::Progress;
 pub use commits::count_entry;
 pub use commits::in_group;
 pub use commits::judge;
-pub use commits::next_slot;
 pub use commits::walk;
-pub use groups::entry_at;
 pub use groups::group_valid;
 pub use groups::tag_in;
 pub use groups::tag_words;
+pub use slots::first_slot;
+pub use slots::next_slot;
+pub use slots::previous_slot;

@@ -1,5 +1,0 @@
-pub mod BestLaws
-pub mod ChainLaws
-pub mod NewestLaws
-pub mod PlaceLaws
-pub mod RestoreLaws

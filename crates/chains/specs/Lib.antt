@@ -1,4 +1,0 @@
-pub mod Best
-pub mod Chains
-pub mod Words
-pub mod Restore

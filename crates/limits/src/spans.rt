@@ -1,0 +1,74 @@
+// The highest start that no transaction of the closing entries below a position lies across: one pass over the log's groups, from the last down.
+use model::Tag;
+ghost use mathlib.Core.Path.{_≡_};
+ghost use Prim.Native.Nat.{_+_, _-_, _*_, _^_, _≤_, _<_};
+ghost use lib.ListN.{length};
+ghost use Rattle.model.specs.Tag.{readTag};
+ghost use Rattle.model.specs.Layout.{entryIn, entryAt};
+ghost use Rattle.model.specs.Effects.{noneAcross};
+ghost use Rattle.model.proofs.rule.Closings.{closings};
+ghost use Rattle.limits.specs.Limits.{Highest, spanLimit, lowered};
+ghost use Rattle.scan.specs.Walk.{Walkable};
+
+// A limit lowered to the group in which the transaction begins that the word of a tag closes, if it closes one.
+fn word_limit(word: u64, position: u64, base: u64, homes: u64, limit: u64) -> u64
+    ensures { λ r. ⌜ r ≡ spanLimit (readTag word position base homes) limit ⌝ }
+{
+    match codec::read_tag(word, position, base, homes) {
+        Tag::Nothing => limit,
+        Tag::Entry(_, _) => limit,
+        Tag::Closing(_, first, _, _) => {
+            let group = first / 7;
+            if group < limit { group } else { limit }
+        }
+    }
+}
+
+// A limit lowered by the first `m` tags of a group, which says nothing where it is not the valid group with number `n`.
+fn group_limit(
+    group: &[u8],
+    groups: u64,
+    homes: u64,
+    start: u64,
+    n: u64,
+    m: usize,
+    limit: u64,
+) -> u64
+    requires { ⌜ (length (now group) ≡ 512) × (groups ≤ 1024) × (start ≤ 2 ^ 47) × (n < start + 1024) × (m ≤ 7) ⌝ }
+    ensures { λ r. ⌜ r ≡ lowered (entryIn (now (group .entry)) groups homes start) (7 * n) m limit ⌝ }
+{
+    if !scan::group_valid(group, groups, start, n) {
+        return limit;
+    }
+    let words = scan::tag_words(group);
+    let base = 7 * start;
+    let mut lowest = limit;
+    let mut position = 7 * n;
+    let mut k: usize = 0;
+    while k < m {
+        lowest = word_limit(words[k], position, base, homes, lowest);
+        position += 1;
+        k += 1;
+    }
+    lowest
+}
+
+// The highest start up to `limit` that no transaction of a closing entry below `end` lies across.
+pub fn closed_limit(log: &[u8], groups: u64, homes: u64, start: u64, end: u64, limit: u64) -> u64
+    requires { ⌜ Walkable (now log) groups start end × (start ≤ limit) × (limit ≤ start + groups) ⌝ }
+    ensures { λ r. ⌜ (start ≤ r)
+        × Highest (λ s. noneAcross (7 * s) (closings (entryAt (now (log .entry)) groups homes start) (7 * start) (end - 7 * start))) limit r ⌝ }
+{
+    let mut lowest = limit;
+    let mut number = (end + 6) / 7;
+    let mut slot = scan::first_slot(number, groups);
+    while number > lowest {
+        number -= 1;
+        slot = scan::previous_slot(slot, groups);
+        let from = 64 + 512 * slot as usize;
+        let group = &log[from..from + 512];
+        let m = scan::in_group(end - 7 * number);
+        lowest = group_limit(group, groups, homes, start, number, m, lowest);
+    }
+    lowest
+}
