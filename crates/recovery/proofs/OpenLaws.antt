@@ -244,11 +244,11 @@ module _ (log area state batch : List ℕ) where
         → d
         ≡ puts batch 0
         (batchBytes (homeWrites a (touched (entryAt log groups homes start) (closedBelow log groups homes start end) homes)))
-        → at ≡ 68 * count → b ≡ puts d at (batchBytes (FN ∷ KW (header (start + groups) groups homes) ∷ FN ∷ []))
+        → b ≡ puts d at (batchBytes (FN ∷ KW (header (start + groups) groups homes) ∷ FN ∷ [])) → at ≡ 68 * count
         → l ≡ puts log 0 (header (start + groups) groups homes) → s ≡ freshState groups homes (start + groups)
         → leaves code figure size l a s [] b ≡ openCall opening
     unfolding openCall batchFits openEffect openTags openStart
-    open-done code figure size at l a s d b h r ea ed et eb el es =
+    open-done code figure size at l a s d b h r ea ed eb et el es =
         let ra = rw (q .0, q .1, q .2) at ea in
         let rd = rw (q .0, q .1, q .2) at ed in
         let rb = rw (q .0, q .1, q .2) at eb in

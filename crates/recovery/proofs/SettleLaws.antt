@@ -125,11 +125,11 @@ module _ (log area state batch : List ℕ) where
         ≡ puts batch 0
         (batchBytes (homeWrites a
         (touched (entryAt log (st .groups) (st .homes) (st .start)) (closedBelow log (st .groups) (st .homes) (st .start) end) (st .homes))))
-        → at ≡ 68 * count → b ≡ puts d at (recordBytes FN)
+        → b ≡ puts d at (recordBytes FN) → at ≡ 68 * count
         → s ≡ setFenced (setSettled state (st .fenced)) (7 * st .next)
         → leaves code figure size log a s [] b ≡ settleCall settling
     unfolding settleCall settleAnswer batchFits settleEffect liveTags liveBase
-    settle-done code figure size at a s d b h r ea ed et eb es =
+    settle-done code figure size at a s d b h r ea ed eb et es =
         let ra = rw (f, order .groups-same, order .homes-same) at ea in
         let rd = rw (f, order .groups-same, order .homes-same) at ed in
         done-by settling (settleEffect settling) _ code figure size log a s [] b
