@@ -7,7 +7,7 @@ use native.Mathlib.Decide.{ℕ-discrete}
 use native.Mathlib.Omega.{arith}
 use borrow.Author.Tests.{eq-eqb, ne-eqb, eqb-true}
 use lib.Dec.{eqb}
-use lib.ListN.{length, getD, set, replicate, length-set, length-replicate}
+use lib.ListN.{getD, set, replicate, length-set, length-replicate}
 use lib.Seq.{getD-set-same, getD-set-other}
 use Rattle.model.specs.Tag.{belongs, homeOf, readTag}
 use Rattle.model.proofs.bytes.TagLaws.{entry-known, closing-known}
@@ -217,8 +217,7 @@ module _ (tags : ℕ → Tag) (base : ℕ) (at : Placed tags base) (home : House
     },
   )
   holds-over (suc n) l =
-      let k = holds-over n (omega arith) in
-      (
+      let k = holds-over n (omega arith) in (
         room-note base (base + n) (tags (base + n)) (over (note base) tags base n fresh) (k .0),
         holds-note n (over (note base) tags base n fresh) (omega arith) (k .0) (k .1) (tags (base + n)) refl,
       )

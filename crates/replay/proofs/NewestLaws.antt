@@ -8,7 +8,7 @@ use native.Mathlib.Decide.{ℕ-discrete}
 use native.Mathlib.Omega.{arith}
 use borrow.Author.Tests.{eq-eqb, ne-eqb, eqb-true, eqb-false, lt-ltb, le-ltb, ltb-true}
 use lib.Dec.{eqb, ltb}
-use lib.ListN.{length, getD, set, replicate, length-set, length-replicate}
+use lib.ListN.{getD, set, replicate, length-set, length-replicate}
 use lib.Seq.{getD-set-same, getD-set-other}
 use Rattle.model.specs.Tag.{present}
 use Rattle.model.specs.Layout.{entryAt}
@@ -21,9 +21,9 @@ use Rattle.scan.proofs.ScanLaws.{Placed, placed}
 use Rattle.replay.specs.Best.{closer, from, Best, nothing, better, taken, best}
 use Rattle.scan.specs.Walk.{closedBelow}
 use Rattle.replay.proofs.BestLaws.{from-here, from-past, Says, best-newest}
-use Rattle.replay.specs.Chains.{maxEntries, inWord, top, Chained}
+use Rattle.replay.specs.Chains.{maxEntries, inWord, top}
 use Rattle.replay.specs.Words.{Word, unseen, Sized, offered, takenIn, take, Newest}
-use Rattle.replay.proofs.ChainLaws.{top-most, top-here, top-same, top-zero, top-again, top-in}
+use Rattle.replay.proofs.ChainLaws.{top-here, top-same, top-zero, top-in}
 
 -- ---- between two entries of a chain
 
@@ -198,8 +198,7 @@ module _ (tags : ℕ → Tag) (base N w : ℕ) (last : List ℕ) (at : Placed ta
   agrees-take i m g l r k (Entry h f) e q =
       let p = at .entry (base + i) h f e in
       let u : getD last (f - base) 0 ≡ closer tags base N f = closing f (p .0) (omega arith) in
-      rw (e, u)
-      (
+      rw (e, u) (
         room-offered g (h % 64) (i + 1) (from i (closer tags base N f)) (omega arith) r,
         λ j b. rw (← same-home h w j b q)
             (holds-offered g (h % 64) (i + 1) (from i (closer tags base N f)) (omega arith) r j (best (closer tags base N) tags base (64 * w + j) (suc i) m) (k j b)),
@@ -207,8 +206,7 @@ module _ (tags : ℕ → Tag) (base N w : ℕ) (last : List ℕ) (at : Placed ta
   agrees-take i m g l r k (Closing h f link count) e q =
       let p = at .closing (base + i) h f link count e in
       let u : getD last (f - base) 0 ≡ closer tags base N f = closing f (p .0) (omega arith) in
-      rw (e, u)
-      (
+      rw (e, u) (
         room-offered g (h % 64) (i + 1) (from i (closer tags base N f)) (omega arith) r,
         λ j b. rw (← same-home h w j b q)
             (holds-offered g (h % 64) (i + 1) (from i (closer tags base N f)) (omega arith) r j (best (closer tags base N) tags base (64 * w + j) (suc i) m) (k j b)),
@@ -262,8 +260,11 @@ newest-all log groups homes start end w closers table map a =
       entry = λ k l. (let z : end - 7 * start - 0 ≡ end - 7 * start = omega arith in rw z at (a .home k l .entry) ∙ says k .entry);
       most = λ k l.
           (let z : end - 7 * start - 0 ≡ end - 7 * start = omega arith in
-          omega (arith, rw z at (a .home k l .entry),
-          best-most (closer (entryAt log groups homes start) (7 * start) (end - 7 * start)) (entryAt log groups homes start) (7 * start) w (64 * w + k) 0 (end - 7 * start)));
+          omega (
+            arith,
+            rw z at (a .home k l .entry),
+            best-most (closer (entryAt log groups homes start) (7 * start) (end - 7 * start)) (entryAt log groups homes start) (7 * start) w (64 * w + k) 0 (end - 7 * start),
+          ));
       there = λ k l. (let z : end - 7 * start - 0 ≡ end - 7 * start = omega arith in sym (bits k l) ∙ rw z at (a .home k l .there) ∙ says k .there);
     }
   where

@@ -5,7 +5,7 @@ use mathlib.Core.List.{List}
 use Prim.Native.Nat.{ℕ, _+_, _-_, _*_, _/_, _%_, _≤_, _<_}
 use native.Mathlib.Nat.{mod-eq-of-lt, mod-eq-sub-mod, mod-add-mod}
 use native.Mathlib.Omega.{arith}
-use lib.ListN.{length, take, drop}
+use lib.ListN.{take, drop}
 use Rattle.model.specs.Bytes.{part, puts}
 use Rattle.model.specs.Tag.{present, readTag}
 use Rattle.model.specs.Layout.{groupOffset, groupAt, groupTag, groupValid, blockOffset, groupBlock, slotOf, indexOf, entryIn, entryAt, blockAt, putHome}

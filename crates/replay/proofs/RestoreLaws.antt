@@ -1,7 +1,7 @@
 -- Laws of replay into the data copy word by word: the homes of a word, the newest entries of all of them, and the records in the batch.
 -- Assumes nothing.
 use mathlib.Core.Path.{_≡_, refl, sym, ap, _∙_}
-use mathlib.Core.Logic.{_⊎_, inl, inr}
+use mathlib.Core.Logic.{inl, inr}
 use mathlib.Core.Bool.{Bool, true, false, cond, _&&_, false≢true}
 use mathlib.Core.List.{List, [], _∷_, _++_}
 use mathlib.Core.Option.{Option, none, some}
@@ -15,7 +15,7 @@ use Rattle.model.specs.Bytes.{puts}
 use Rattle.model.specs.Tag.{belongs, homeOf}
 use Rattle.model.specs.Layout.{entryAt, blockAt, homeAt, putHome}
 use Rattle.model.specs.Commit.{Span, addIf, members, entries, eachEntries, newestIn, newest, orElse, found}
-use Rattle.model.specs.Batch.{Record, HW, batchBytes}
+use Rattle.model.specs.Batch.{batchBytes}
 use Rattle.model.specs.Effects.{marked, touched, replayed, homeWrites}
 use Rattle.model.specs.declared.Tag.{Tag}
 use Rattle.model.proofs.rule.Closings.{closings}
@@ -31,9 +31,9 @@ use Rattle.homes.specs.Within.{Within}
 use Rattle.homes.proofs.HomeLaws.{bytes-append, bytes-nil, length-writes, within-right, within-marked}
 use Rattle.scan.specs.Walk.{Walkable, closedBelow}
 use Rattle.replay.specs.Best.{offsetCode}
-use Rattle.replay.specs.Chains.{maxHomes, maxWords, inWord, top, Chained}
-use Rattle.replay.specs.Words.{Word, unseen, Newest, touches, wordHomes}
-use Rattle.replay.specs.Restore.{restored, placeOf, newestAt, Ready, Replayable}
+use Rattle.replay.specs.Chains.{maxHomes, maxWords, top, Chained}
+use Rattle.replay.specs.Words.{unseen, Newest, touches, wordHomes}
+use Rattle.replay.specs.Restore.{restored, placeOf, newestAt, Ready}
 use Rattle.replay.proofs.NewestLaws.{agrees-start, newest-all}
 
 -- ---- lists of homes

@@ -43,5 +43,10 @@ pub fn restore_block(
     ensures { λ _. ⌜ now (area .exit) ≡ putHome (now (area .entry)) home (blockAt (now (log .entry)) groups (7 * start + offset)) ⌝ }
 {
     let from = 64 + 512 * slot_after(slot, offset / 7, groups) as usize;
-    areas::copy_block(area, 64 * home, log, from + (64 + 64 * (offset % 7) as usize));
+    areas::copy_block(
+        area,
+        64 * home,
+        log,
+        from + (64 + 64 * (offset % 7) as usize),
+    );
 }

@@ -33,7 +33,15 @@ fn restore_word(
     let mut w = word;
     while w != 0 {
         let k = bitmap::lowest(w);
-        restore_block(log, area, groups, start, slot, table[k] as u64 - 1, base + k);
+        restore_block(
+            log,
+            area,
+            groups,
+            start,
+            slot,
+            table[k] as u64 - 1,
+            base + k,
+        );
         w = bitmap::clear_lowest(w);
     }
 }

@@ -13,14 +13,7 @@ ghost use Rattle.replay.specs.Chains.{Chained};
 ghost use Rattle.replay.specs.Words.{offered, takenIn, take, Sized, Newest, touches, wordHomes};
 
 // Takes an entry as the newest of its home, the one with index `k` in its word, if its transaction closes later than that of the newest so far.
-fn offer(
-    closers: &mut [u16],
-    table: &mut [u16],
-    map: &mut [u64],
-    k: usize,
-    closer: u16,
-    code: u16,
-)
+fn offer(closers: &mut [u16], table: &mut [u16], map: &mut [u64], k: usize, closer: u16, code: u16)
     requires { ⌜ (k < 64) × Sized (now closers) (now table) (now map) ⌝ }
     ensures { λ _. ⌜ record { closers = now (closers .exit); table = now (table .exit); map = now (map .exit) }
         ≡ offered k closer code (record { closers = now (closers .entry); table = now (table .entry); map = now (map .entry) }) ⌝ }
@@ -48,7 +41,14 @@ fn take_entry(
 {
     let closer = last[first as usize];
     if closer as u64 > offset {
-        offer(closers, table, map, (home % 64) as usize, closer, (offset + 1) as u16);
+        offer(
+            closers,
+            table,
+            map,
+            (home % 64) as usize,
+            closer,
+            (offset + 1) as u16,
+        );
     }
 }
 

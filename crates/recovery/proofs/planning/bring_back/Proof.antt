@@ -53,16 +53,15 @@ add-size c =
     )
 
 returns : tie.Need-returns
-returns c =
-    (
-      omega (arith, c .before .count .ensures),
-      record {
-        copied = λ h. absurd (omega (arith, c .if1 .taken, h));
-        written = λ h. absurd (omega (arith, c .if1 .taken, h));
-        same-area = λ h. refl;
-        same-batch = λ h. refl;
-      },
-    )
+returns c = (
+  omega (arith, c .before .count .ensures),
+  record {
+    copied = λ h. absurd (omega (arith, c .if1 .taken, h));
+    written = λ h. absurd (omega (arith, c .if1 .taken, h));
+    same-area = λ h. refl;
+    same-batch = λ h. refl;
+  },
+)
 
 slice-aggregate-bring-back : tie.Need-slice-aggregate-bring-back
 slice-aggregate-bring-back c = sym (c .before .before .before .before .before .before .before .before .before .before .before .gather .ensures .room .lasts)
@@ -91,16 +90,15 @@ same-length-2 : tie.Need-same-length-2
 same-length-2 c = search needs
 
 returns-2 : tie.Need-returns-2
-returns-2 c =
-    (
-      omega (arith, c .before .before .before .before .before .before .before .before .before .before .before .count .ensures),
-      record {
-        copied = λ h. c .before .before .before .before .bring-back .ensures .1 .0;
-        written = λ h. c .before .before .before .before .bring-back .ensures .1 .1;
-        same-area = λ h. absurd (omega (arith, c .before .before .before .before .before .before .before .before .before .before .if1 .left, h));
-        same-batch = λ h. absurd (omega (arith, c .before .before .before .before .before .before .before .before .before .before .if1 .left, h));
-      },
-    )
+returns-2 c = (
+  omega (arith, c .before .before .before .before .before .before .before .before .before .before .before .count .ensures),
+  record {
+    copied = λ h. c .before .before .before .before .bring-back .ensures .1 .0;
+    written = λ h. c .before .before .before .before .bring-back .ensures .1 .1;
+    same-area = λ h. absurd (omega (arith, c .before .before .before .before .before .before .before .before .before .before .if1 .left, h));
+    same-batch = λ h. absurd (omega (arith, c .before .before .before .before .before .before .before .before .before .before .if1 .left, h));
+  },
+)
 
 pub bring-back-spec : {M : Type 1} → statement M
 bring-back-spec =

@@ -1,6 +1,6 @@
 -- `replay::gather` meets its contract. The loop's invariant: the pass has taken all positions but `left`, and `slot` is the ring slot of group
 -- `number`, the next one. Assumes nothing.
-use mathlib.Core.Path.{_≡_, refl, sym, ap, _∙_}
+use mathlib.Core.Path.{_≡_, refl, ap, _∙_}
 use Prim.Native.Nat.{ℕ, _+_, _-_, _*_, _≤_, _<_}
 use native.Mathlib.Omega.{arith}
 use lib.ListN.{length, length-take, length-drop, length-replicate}

@@ -1,9 +1,8 @@
 -- `replay::bring_word` meets its contract. Assumes nothing.
-use mathlib.Core.Path.{_≡_, refl, sym, ap, _∙_}
-use Prim.Native.Nat.{_+_, _*_}
+use mathlib.Core.Path.{refl, sym, ap, _∙_}
 use native.Mathlib.Omega.{arith}
 use lib.ListN.{length}
-use Rattle.replay.proofs.RestoreLaws.{length-restored, empty-word, none-brought, word-bits, word-length, word-ready, word-within, word-restored, word-written}
+use Rattle.replay.proofs.RestoreLaws.{length-restored, empty-word, none-brought, word-length, word-ready, word-within, word-restored, word-written}
 use Rattle.replay.proofs.restore.bring_word.Statement.{statement}
 use Rattle.replay.proofs.restore.bring_word.Tie as tie
 

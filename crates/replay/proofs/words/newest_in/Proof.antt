@@ -1,14 +1,14 @@
 -- `replay::newest_in` meets its contract. The loop's invariant: the entries of the chain from `code` on have been taken, and `code` is one past the
 -- last entry before them. Assumes nothing.
-use mathlib.Core.Path.{_≡_, refl, sym, ap, _∙_}
-use Prim.Native.Nat.{ℕ, suc, _+_, _-_, _*_, _≤_, _<_}
+use mathlib.Core.Path.{_≡_, sym, ap}
+use Prim.Native.Nat.{ℕ, suc, _-_, _*_, _≤_, _<_}
 use native.Mathlib.Omega.{arith}
 use lib.ListN.{length, getD}
 use Rattle.model.specs.Layout.{entryAt}
 use Rattle.model.specs.declared.Tag.{Tag}
 use Rattle.scan.proofs.ScanLaws.{placed}
 use Rattle.replay.specs.Chains.{top}
-use Rattle.replay.specs.Words.{Word, unseen}
+use Rattle.replay.specs.Words.{unseen}
 use Rattle.replay.proofs.ChainLaws.{top-most, top-again, top-in}
 use Rattle.replay.proofs.NewestLaws.{Agrees, agrees-start, agrees-next, present-in, newest-all}
 use Rattle.replay.proofs.words.newest_in.Statement.{statement}
@@ -102,8 +102,7 @@ loop-again c =
     let a = c .before .before .before .before .before .before .before .before .before .before .before .before .before .before .before .before .before .args in
     let l = c .before .before .before .before .before .before .before .before .before .before .loop in
     let o = offset-below (c .before .before .before .before .before .before .before .before .before) in
-    rw (link-top c)
-    (
+    rw (link-top c) (
       agrees-next (tags c) (7 * a .start) (a .end - 7 * a .start) (a .w) (a .last .now) (placed _ _ _ _) (p .1 .holds .closing) (l .code - 1) _ _ (o .1)
           (omega (arith, p .0 .within, p .0 .most)) (code-top c) (rw (o .0) (l .inv .0)) (c .before .before .before .before .before .take-at .ensures),
       top-again (tags c) (7 * a .start) (a .w) (l .code - 1),
