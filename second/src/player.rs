@@ -289,7 +289,8 @@ pub fn large_history(seed: u64, tally: &mut Tally) -> Result<(), String> {
 /// The same, all calls being performed by `runner`.
 pub fn large_history_with(seed: u64, tally: &mut Tally, runner: Runner) -> Result<(), String> {
     let mut rng = Rng::new(seed);
-    let shape = Shape { groups: 1024, homes: rng.pick(&[1, 40, 4096, 65535]) };
+    let homes = if rng.chance(8) { 65535 } else { rng.pick(&[1, 40, 4096]) };
+    let shape = Shape { groups: 1024, homes };
     let profile = Profile::filling(&mut rng);
     play(rng, &profile, (shape, 12_000), tally, |at| at % 1000 == 999, runner)
 }

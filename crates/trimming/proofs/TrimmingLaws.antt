@@ -27,7 +27,9 @@ use Rattle.answers.specs.Lent.{lent, leaves}
 use Rattle.answers.proofs.AnswerLaws.{Usable, state-refuses, state-passes, refused-by, done-by, strip-by}
 use Rattle.scan.specs.Walk.{Walkable}
 use Rattle.limits.specs.Limits.{Highest}
-use Rattle.limits.proofs.LimitLaws.{trim-none}
+use Rattle.limits.proofs.WriterLaws.{open-from}
+use Rattle.limits.proofs.SpanLaws.{lowered-none, lowered-end}
+use Rattle.limits.proofs.LimitLaws.{trim-none, trim-is}
 use Rattle.trimming.specs.Moved.{keptLast, movedStrip}
 
 -- ---- the numbers of a strip in order
@@ -92,11 +94,35 @@ start-found log area state st n end x u es g e h =
     let c = committed-closings (entryAt log (st .groups) (st .homes) (st .start)) (7 * st .start) n in
     rw (← o .groups-same, ← o .homes-same, ← es, ← g, c, ← e) h
 
+-- the highest start that no open transaction lies across is one of the log's groups or the next
+pub limit-within : (log area state : List ℕ) (st : State) (x : ℕ) → Usable log area state → st ≡ stateOf state
+    → Highest (λ t. noneOpenBefore (7 * t) state 8) (st .settled / 7) x → (st .start ≤ x) × (x ≤ st .start + st .groups)
+limit-within log area state st x u es h =
+    let m = numbers log area state st u es in (
+      open-from state (st .groups) (st .homes) (st .start) (st .settled / 7) x (order-own log area state st u es) (ap (λ (s : State). s .start) (sym es))
+          (omega (arith, m .settled)) h,
+      omega (arith, h .most, m .settled-most),
+    )
+
 -- open transactions leave no start but the log's own
 pub start-kept : (log area state : List ℕ) (st : State) (x : ℕ) → st ≡ stateOf state → Highest (λ t. noneOpenBefore (7 * t) state 8) (st .settled / 7) x
     → x ≡ st .start → x ≡ trimStart (lent log area state [] [] 0 0)
 unfolding trimStart
 start-kept log area state st x es h e = rw (← es) (e ∙ trim-none state _ (st .start) (st .settled / 7) (rw e at h))
+
+-- no entry lies past the highest start that open transactions leave
+pub start-past : (log area state : List ℕ) (st : State) (x : ℕ) → Usable log area state → st ≡ stateOf state
+    → Highest (λ t. noneOpenBefore (7 * t) state 8) (st .settled / 7) x → nextPosition st ≤ 7 * x → x ≡ trimStart (lent log area state [] [] 0 0)
+start-past log area state st x u es h k =
+    let m = numbers log area state st u es in
+    let w = limit-within log area state st x u es h in
+    let n : ℕ = nextPosition st - 7 * st .start in
+    let end : ℕ = endOf (committed (entryAt log (st .groups) (st .homes) (st .start)) (7 * st .start) n) in
+    let l : end ≤ 7 * x = omega (arith, committed-most (entryAt log (st .groups) (st .homes) (st .start)) (7 * st .start) n, m .first) in
+    start-found log area state st n end x u es refl refl
+    (trim-is state _ (st .start) (st .settled / 7) x x (w .0) (omega (arith, m .settled)) h
+    (lowered-end (entryAt log (st .groups) (st .homes) (st .start)) (7 * st .start) end end x x (omega (arith, w .0)) l
+    (lowered-none (entryAt log (st .groups) (st .homes) (st .start)) (7 * st .start) end end end x (omega arith))))
 
 -- ---- what is written
 

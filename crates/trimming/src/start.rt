@@ -7,8 +7,8 @@ ghost use Rattle.model.specs.Effects.{trimStart};
 ghost use Rattle.answers.specs.Lent.{lent};
 ghost use Rattle.answers.proofs.AnswerLaws.{Usable};
 
-// The highest start up to the settled position that no open or committed transaction lies across. Where open transactions leave none but the log's
-// own, the log is not looked at.
+// The highest start up to the settled position that no open or committed transaction lies across. The log is not looked at where open transactions
+// leave no start but its own, or where the highest that they leave lies past all entries.
 pub fn new_start(log: &[u8], area: &[u8], state: &[u8], st: State) -> u64
     requires { ⌜ Usable (now log) (now area) (now state) × (st ≡ stateOf (now state)) ⌝ }
     ensures { λ r. ⌜ r ≡ trimStart (lent (now (log .entry)) (now (area .entry)) (now (state .entry)) [] [] 0 0) ⌝ }
@@ -17,7 +17,11 @@ pub fn new_start(log: &[u8], area: &[u8], state: &[u8], st: State) -> u64
     if limit == st.start {
         return limit;
     }
-    let n = strip::next_position(st) - 7 * st.start;
+    let next = strip::next_position(st);
+    if next <= 7 * limit {
+        return limit;
+    }
+    let n = next - 7 * st.start;
     let found = scan::walk(log, st.groups, st.homes, st.start, n);
     limits::closed_limit(log, st.groups, st.homes, st.start, found.end, limit)
 }
