@@ -19,7 +19,7 @@ static const char usage[] =
     "each home's value as an opening would give it. Changes nothing.\n"
     "  --json      the same as JSON\n"
     "  --groups N  groups of the log, 4 to 1024, if the header is damaged\n"
-    "  --homes N   home blocks, 1 to 4096 (default: as the header or the file's size says)\n"
+    "  --homes N   home blocks, 1 to 65535 (default: as the header or the file's size says)\n"
     "  --start N   lowest live group number (default: the header's, or a guess from the groups)\n"
     "Status: 0 the image is sound, 1 it is damaged, 2 wrong options, 3 the file cannot be read.\n";
 

@@ -6,7 +6,7 @@
 
 #define MAX_NOTES 200
 #define MAX_GROUPS 1024u
-#define MAX_HOMES 4096u
+#define MAX_HOMES 65535u
 #define MAX_START ((uint64_t)1 << 47)
 #define NOT_GIVEN UINT64_MAX
 

@@ -87,7 +87,7 @@ void image_check_header(struct image *image)
     if (set && (groups < 4 || groups > MAX_GROUPS))
         image_note(image, "header: %lu groups, they go from 4 to 1024", (unsigned long)groups);
     if (set && (homes < 1 || homes > MAX_HOMES))
-        image_note(image, "header: %lu homes, they go from 1 to 4096", (unsigned long)homes);
+        image_note(image, "header: %lu homes, they go from 1 to 65535", (unsigned long)homes);
     if (rule_number(header + 2, 6) > MAX_START)
         image_note(image, "header: start %llu is above 2^47", (unsigned long long)rule_number(header + 2, 6));
     for (i = 12; i < HEADER && !header[i]; i++)
@@ -135,7 +135,7 @@ void image_choose_shape(struct image *image, const struct options *options)
         homes = image->file_size > HEADER + GROUP * groups ? (image->file_size - HEADER - GROUP * groups) / BLOCK : 0;
     if (homes < 1 || homes > MAX_HOMES) {
         homes = MAX_HOMES;
-        image_note(image, "homes: their number is unknown and taken as 4096; --homes N sets it");
+        image_note(image, "homes: their number is unknown and taken as 65535; --homes N sets it");
     }
     image->log.bytes = image->bytes;
     image->log.groups = (size_t)groups;

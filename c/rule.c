@@ -52,9 +52,9 @@ bool rule_present(const struct rule_log *log, uint64_t position)
 /* Why a tag reads as nothing; null if it reads as an entry. */
 static const char *tag_fault(const struct rule_log *log, uint64_t position, uint64_t word, const struct tag *tag)
 {
-    if (word >> 53)
-        return "one of bits 53 to 63 is set";
-    if (!(word & 2) && word >> 27)
+    if (word >> 57)
+        return "one of bits 57 to 63 is set";
+    if (!(word & 2) && (word >> 27 & 0x3FFFFFF))
         return "not closing, but one of bits 27 to 52 is set";
     if (tag->home >= log->homes)
         return "its home is not below D";
@@ -72,7 +72,7 @@ struct tag rule_tag(const struct rule_log *log, uint64_t position)
     struct tag tag;
 
     tag.kind = TAG_NOTHING;
-    tag.home = word >> 2 & 0xFFF;
+    tag.home = (word >> 2 & 0xFFF) | (word >> 53 & 0xF) << 12;
     tag.back = word >> 14 & 0x1FFF;
     tag.link = word >> 27 & 0x1FFF;
     tag.count = word >> 40 & 0x1FFF;

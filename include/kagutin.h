@@ -5,7 +5,7 @@
  * any instant. The library works on copies of two areas in ordinary memory:
  *
  *   log    a 64-byte header and G groups of 512 bytes, G from 4 to 1,024
- *   area   D home blocks of 64 bytes, D from 1 to 4,096
+ *   area   D home blocks of 64 bytes, D from 1 to 65,535
  *   state  1,024 bytes that carry everything else from call to call
  *
  * It reaches lasting memory only by the batch: records that a call asks the
@@ -55,7 +55,7 @@ extern "C" {
 #define KAGUTIN_MIN_GROUPS 4
 #define KAGUTIN_MAX_GROUPS 1024
 #define KAGUTIN_MIN_HOMES 1
-#define KAGUTIN_MAX_HOMES 4096
+#define KAGUTIN_MAX_HOMES 65535
 #define KAGUTIN_WRITERS 8
 #define KAGUTIN_GROUP_ENTRIES 7
 #define KAGUTIN_MAX_START ((uint64_t)1 << 47)

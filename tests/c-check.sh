@@ -101,11 +101,11 @@ fi
 for seed in 1 2 3 4; do
     gives 0 "station, seed $seed" "$san/station" --seed $seed --cuts 120
 done
-for shape in "4 16" "4 17" "5 24" "16 4096" "1024 16"; do
+for shape in "4 16" "4 17" "5 24" "16 4096" "16 65535" "1024 16"; do
     set -- $shape
     gives 0 "station, $1 groups, $2 homes" "$san/station" --seed 9 --cuts 40 --groups "$1" --homes "$2"
 done
-gives 0 "station, largest" "$out/station" --seed 5 --cuts 3 --groups 1024 --homes 4096
+gives 0 "station, largest" "$out/station" --seed 5 --cuts 3 --groups 1024 --homes 65535
 "$out/station" --seed 7 --cuts 30 > "$tmp/one"; "$out/station" --seed 7 --cuts 30 > "$tmp/two"
 cmp -s "$tmp/one" "$tmp/two"; report $? "station: a seed repeats a run"
 gives 0 "station, CSV" "$san/station" --cuts 20 --csv

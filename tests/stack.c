@@ -1,4 +1,4 @@
-/* Deepest stack of each call in bytes, on a painted stack, at G 1,024 and D 4,096 with a full log. Status 1 above 32 KiB. */
+/* Deepest stack of each call in bytes, on a painted stack, at G 1,024 and D 65,535 with a full log. Status 1 above 32 KiB. */
 #include <stdio.h>
 #include <stdlib.h>
 #include <string.h>
@@ -6,11 +6,11 @@
 
 #include "kagutin.h"
 
-enum { GROUPS = 1024, HOMES = 4096, STACK = 1 << 18, LIMIT = 32768 };
+enum { GROUPS = 1024, HOMES = 65535, STACK = 1 << 18, LIMIT = 32768 };
 enum { FORMAT, OPEN, BEGIN, STORE, COMMIT, FLUSH, CONFIRM, SETTLE, TRIM, READ, ABORT, EMPTY };
 
 static uint8_t log_area[KAGUTIN_HEADER_SIZE + KAGUTIN_GROUP_SIZE * GROUPS], area[KAGUTIN_BLOCK_SIZE * HOMES];
-static uint8_t state[KAGUTIN_STATE_SIZE], block[KAGUTIN_BLOCK_SIZE], batch[1 << 20];
+static uint8_t state[KAGUTIN_STATE_SIZE], block[KAGUTIN_BLOCK_SIZE], batch[5 << 20];
 static unsigned char stack[STACK];
 static ucontext_t main_context, call_context;
 static int which;

@@ -40,7 +40,7 @@ static bool set_shape(struct kgt_file *file, size_t groups, size_t homes)
     file->size = file->log_size + KGT_HOMES_SIZE(homes);
     if (groups < KAGUTIN_MIN_GROUPS || groups > KAGUTIN_MAX_GROUPS || homes < KAGUTIN_MIN_HOMES
         || homes > KAGUTIN_MAX_HOMES)
-        return kgt_file_say(file, "%lu groups and %lu homes: groups go from 4 to 1024, homes from 1 to 4096",
+        return kgt_file_say(file, "%lu groups and %lu homes: groups go from 4 to 1024, homes from 1 to 65535",
                             (unsigned long)groups, (unsigned long)homes);
     return true;
 }

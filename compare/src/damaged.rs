@@ -68,7 +68,7 @@ pub fn play(
 
 fn one(rng: &mut Rng, large: bool, source: &mut Option<Source>, pair: &mut Pair) -> Result<(), String> {
     let shape_of = |rng: &mut Rng| match large {
-        true => Shape { groups: MOST_GROUPS, homes: rng.pick(&[1, 64, 4096]) },
+        true => Shape { groups: MOST_GROUPS, homes: rng.pick(&[1, 64, 4096, 65535]) },
         false => random_shape(rng),
     };
     let (shape, mut lent) = if rng.chance(50) {
@@ -245,17 +245,17 @@ fn tags(rng: &mut Rng, lent: &mut Lent, shape: Shape) {
         let back = rng.pick(&[0, 0, 0, 1, 2, offset, offset + 1, 8191]);
         let link = rng.pick(&[0, 1, 1, 2, offset, offset + 1, 8191]);
         let count = rng.pick(&[1, 1, 1, 2, back + 1, 0, 8191]);
-        let home = rng.pick(&[0, shape.homes - 1, shape.homes - 1, shape.homes, 4095]);
+        let home = rng.pick(&[0, shape.homes - 1, shape.homes - 1, shape.homes, 4095, 4096, 65535]);
         let closing = if chain { [0, 1, 1] } else { [link, count, rng.below(2)] };
         let back = if chain { 0 } else { back };
         let [mut link, count, closes] = closing;
         if chain && word(&lent.log, place) != 0 {
             link = rng.pick(&[0, 1, 1, 1]);
         }
-        let fields = [(home, 2, 0xfff), (back, 14, 0x1fff), (link, 27, 0x1fff), (count, 40, 0x1fff)];
+        let fields = [(home, 2, 0xfff), (back, 14, 0x1fff), (link, 27, 0x1fff), (count, 40, 0x1fff), (home >> 12, 53, 0xf)];
         let mut tag = 1 | closes << 1;
         for (value, shift, mask) in fields {
-            let unused = closes == 0 && shift > 14 && !rng.chance(5);
+            let unused = closes == 0 && (shift == 27 || shift == 40) && !rng.chance(5);
             tag |= if unused { 0 } else { (value & mask) << shift };
         }
         put_word(&mut lent.log, place, tag);

@@ -33,7 +33,8 @@ pub fn random_homes(rng: &mut Rng) -> u64 {
         20..=64 => 7,
         65..=84 => 64,
         85..=94 => rng.between(2, 70),
-        _ => 4096,
+        95..=98 => 4096,
+        _ => 65535,
     }
 }
 
@@ -97,7 +98,7 @@ fn history(
     played: &mut Played,
 ) -> Result<(), String> {
     let shape = match large {
-        true => Shape { groups: MOST_GROUPS, homes: rng.pick(&[1, 7, 64, 4096]) },
+        true => Shape { groups: MOST_GROUPS, homes: rng.pick(&[1, 7, 64, 4096, 65535]) },
         false => random_shape(rng),
     };
     let first = pair.borrow().case;

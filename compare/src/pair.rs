@@ -13,8 +13,8 @@ pub type Counts = [[u64; 11]; 11];
 
 /// Sizes that are counted apart, and one more row and column for all others.
 pub const GROUPS: [usize; 4] = [4, 5, 64, 1024];
-pub const HOMES: [usize; 4] = [1, 7, 64, 4096];
-pub type Sizes = [[u64; 5]; 5];
+pub const HOMES: [usize; 5] = [1, 7, 64, 4096, 65535];
+pub type Sizes = [[u64; 6]; 5];
 
 pub struct Pair {
     /// Log, area, state, block, batch.
@@ -74,7 +74,7 @@ impl Pair {
         self.counts[kind as usize][answer.code as usize] += 1;
         let row = GROUPS.iter().position(|groups| lent.log.len() == 64 + 512 * groups);
         let column = HOMES.iter().position(|homes| lent.data.len() == 64 * homes);
-        self.sizes[row.unwrap_or(4)][column.unwrap_or(4)] += 1;
+        self.sizes[row.unwrap_or(4)][column.unwrap_or(5)] += 1;
         if let Some(what) = self.compare(kind, reply, answer, lent) {
             let lengths = views(lent).map(<[u8]>::len);
             let seed_case = format!("seed {}, case {}", self.seed, self.case);

@@ -38,16 +38,16 @@ pub fn show(title: &str, counts: &Counts) {
 
 /// One row for each G, one column for each D.
 pub fn show_sizes(sizes: &Sizes) {
-    let name = |letter: char, marks: [usize; 4], at: usize| match marks.get(at) {
+    let name = |letter: char, marks: &[usize], at: usize| match marks.get(at) {
         Some(mark) => format!("{letter} {mark}"),
         None => format!("other {letter}"),
     };
     println!("Calls compared, by size");
     print!("{:9}", "");
-    (0..5).for_each(|at| print!("{:>10}", name('D', HOMES, at)));
+    (0..6).for_each(|at| print!("{:>10}", name('D', &HOMES, at)));
     println!();
     for (at, row) in sizes.iter().enumerate() {
-        print!("{:9}", name('G', GROUPS, at));
+        print!("{:9}", name('G', &GROUPS, at));
         row.iter().for_each(|count| print!("{count:>10}"));
         println!();
     }

@@ -41,13 +41,13 @@ pub fn play(pair: &mut Pair) -> Result<(), String> {
 
 fn sizes(pair: &mut Pair) -> Result<(), String> {
     let name = "trial 11, sizes";
-    for (groups, homes) in [(3, 8), (1025, 8), (4, 0), (4, 4097)] {
+    for (groups, homes) in [(3, 8), (1025, 8), (4, 0), (4, 65536)] {
         for kind in Kind::ALL {
             let mut trial = Trial { name, lent: Lent::new(groups, homes), pair };
             trial.expect(kind, 0, 0, 1)?;
         }
     }
-    for (groups, homes) in [(4, 1), (1024, 1), (4, 4096), (1024, 4096)] {
+    for (groups, homes) in [(4, 1), (1024, 1), (4, 4096), (4, 4097), (4, 65535), (1024, 65535)] {
         let mut trial = Trial { name, lent: Lent::new(groups, homes), pair };
         trial.expect(Kind::Format, 0, 0, 0)?;
         trial.expect(Kind::Open, 0, 0, 0)?;

@@ -146,7 +146,7 @@ fn arguments(rng: &mut Rng, kind: Kind, shape: Shape, lent: &Lent) -> (u64, u64)
         writer = rng.pick(&[8, 9, 256, 1 << 32, u64::MAX]);
     }
     if rng.chance(6) {
-        home = rng.pick(&[shape.homes, shape.homes + 1, 4096, 1 << 32, u64::MAX]);
+        home = rng.pick(&[shape.homes, shape.homes + 1, 4096, 65535, 65536, 1 << 32, u64::MAX]);
     }
     (writer, home)
 }

@@ -58,7 +58,7 @@ fn craft_tags(rng: &mut Rng, shape: Shape, start: u64) -> Vec<u64> {
             tags.push(0);
             continue;
         }
-        let home = if rng.chance(wrong / 4) { rng.below(4096) } else { rng.below(shape.homes) };
+        let home = if rng.chance(wrong / 4) { rng.below(65536) } else { rng.below(shape.homes) };
         let index = rng.below(firsts.len() as u64 + 1) as usize;
         if index == firsts.len() {
             firsts.push((offset.saturating_sub(if rng.chance(wrong) { rng.below(4) } else { 0 }), 0));

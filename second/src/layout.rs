@@ -7,7 +7,7 @@ pub const STATE: usize = 1024;
 /// Data blocks of one group, and tags in its metadata block.
 pub const PLACES: u64 = 7;
 pub const MAX_GROUPS: usize = 1024;
-pub const MAX_HOMES: usize = 4096;
+pub const MAX_HOMES: usize = 65535;
 pub const MAX_OFFSETS: usize = 7 * MAX_GROUPS;
 pub const WRITERS: u64 = 8;
 /// The highest start a header may carry.

@@ -78,10 +78,10 @@ pub fn present(log: &[u8], homes: u64, start: u64, next: Option<u64>) -> BTreeMa
 fn entry(tag: i128, position: i128, homes: u64, start: i128, block: &[u8]) -> Option<Found> {
     let used = bits(tag, 0, 0) == 1;
     let closing = bits(tag, 1, 1) == 1;
-    let home = bits(tag, 2, 13) as u64;
+    let home = (bits(tag, 2, 13) + 4096 * bits(tag, 53, 56)) as u64;
     let first = position - bits(tag, 14, 26);
     let (link, count) = (bits(tag, 27, 39), bits(tag, 40, 52));
-    let zero_bit_set = bits(tag, 53, 63) != 0 || (!closing && bits(tag, 27, 52) != 0);
+    let zero_bit_set = bits(tag, 57, 63) != 0 || (!closing && bits(tag, 27, 52) != 0);
     let before_start = first < 7 * start;
     if !used || zero_bit_set || home >= homes || before_start || (closing && count == 0) {
         return None;

@@ -127,7 +127,7 @@ impl Call {
     fn distort(&mut self, rng: &mut Rng, world: &World) {
         match rng.below(5) {
             0 => self.writer = rng.pick(&[8, 9, 255, 256, 1 << 32, u64::MAX]),
-            1 => self.home = rng.pick(&[world.shape.homes, 4096, 65536, 1 << 32, u64::MAX]),
+            1 => self.home = rng.pick(&[world.shape.homes, 4096, 65535, 65536, 1 << 32, u64::MAX]),
             2 | 3 => {
                 let need = world.expected(self).len as u64;
                 let short = [0, 1, need.saturating_sub(1), need / 2, need, need + 1];
@@ -289,7 +289,8 @@ pub fn large_history(seed: u64, tally: &mut Tally) -> Result<(), String> {
 /// The same, all calls being performed by `runner`.
 pub fn large_history_with(seed: u64, tally: &mut Tally, runner: Runner) -> Result<(), String> {
     let mut rng = Rng::new(seed);
-    let shape = Shape { groups: 1024, homes: rng.pick(&[1, 40, 4096]) };
+    let homes = if rng.chance(8) { 65535 } else { rng.pick(&[1, 40, 4096]) };
+    let shape = Shape { groups: 1024, homes };
     let profile = Profile::filling(&mut rng);
     play(rng, &profile, (shape, 12_000), tally, |at| at % 1000 == 999, runner)
 }

@@ -11,9 +11,12 @@ const HOME_SHIFT: u32 = 2;
 const BACK_SHIFT: u32 = 14;
 const LINK_SHIFT: u32 = 27;
 const COUNT_SHIFT: u32 = 40;
-const ZERO_SHIFT: u32 = 53;
+const HIGH_SHIFT: u32 = 53;
+const ZERO_SHIFT: u32 = 57;
 const THIRTEEN: u64 = 0x1fff;
 const TWELVE: u64 = 0xfff;
+const FOUR: u64 = 0xf;
+const UPPER: u64 = 0x3ff_ffff;
 
 /// What a tag reads as. `first` is an offset; `link` is a distance, 0 for none.
 #[derive(Clone, Copy, Debug, PartialEq, Eq)]
@@ -27,18 +30,18 @@ pub enum Tag {
 /// Reads the tag word found at `offset`.
 #[inline]
 pub fn read_tag(tag: u64, offset: u32, homes: u32) -> Tag {
-    let home = (tag >> HOME_SHIFT & TWELVE) as u32;
+    let home = (tag >> HOME_SHIFT & TWELVE | (tag >> HIGH_SHIFT & FOUR) << 12) as u32;
     let back = (tag >> BACK_SHIFT & THIRTEEN) as u32;
-    if tag & USED == 0 || home >= homes || back > offset {
+    if tag & USED == 0 || tag >> ZERO_SHIFT != 0 || home >= homes || back > offset {
         return Tag::Nothing;
     }
     let first = offset - back;
     if tag & CLOSING == 0 {
-        return if tag >> LINK_SHIFT == 0 { Tag::Entry { home, first } } else { Tag::Nothing };
+        return if tag >> LINK_SHIFT & UPPER == 0 { Tag::Entry { home, first } } else { Tag::Nothing };
     }
     let link = (tag >> LINK_SHIFT & THIRTEEN) as u32;
     let count = (tag >> COUNT_SHIFT & THIRTEEN) as u32;
-    if tag >> ZERO_SHIFT == 0 && count != 0 {
+    if count != 0 {
         Tag::Closing { home, first, link, count }
     } else {
         Tag::Nothing
@@ -48,7 +51,7 @@ pub fn read_tag(tag: u64, offset: u32, homes: u32) -> Tag {
 /// The tag of an entry that does not close.
 pub fn entry_tag(home: u64, back: u64) -> u64 {
     debug_assert!(home < MAX_HOMES as u64 && back < MAX_OFFSETS as u64);
-    USED | home << HOME_SHIFT | back << BACK_SHIFT
+    USED | (home & TWELVE) << HOME_SHIFT | back << BACK_SHIFT | home >> 12 << HIGH_SHIFT
 }
 
 /// The tag of a commit entry.
@@ -71,12 +74,26 @@ mod tests {
     }
 
     #[test]
+    fn sixteen_bits() {
+        assert_eq!(entry_tag(65534, 0), 0x01e0_0000_0000_3ff9);
+        for home in [0, 4095, 4096, 32768, 65534] {
+            assert_eq!(read_tag(entry_tag(home, 3), 9, 65535), Tag::Entry { home: home as u32, first: 6 });
+            let read = read_tag(closing_tag(home, 3, 1, 2), 9, 65535);
+            assert_eq!(read, Tag::Closing { home: home as u32, first: 6, link: 1, count: 2 });
+        }
+        assert_eq!(read_tag(entry_tag(4096, 0), 0, 4096), Tag::Nothing);
+    }
+
+    #[test]
     fn zero_bits() {
         for bit in 53..64 {
             assert_eq!(read_tag(closing_tag(0, 0, 0, 1) | 1 << bit, 0, 8), Tag::Nothing);
         }
         for bit in 27..64 {
             assert_eq!(read_tag(entry_tag(0, 0) | 1 << bit, 0, 8), Tag::Nothing);
+        }
+        for bit in 57..64 {
+            assert_eq!(read_tag(entry_tag(9, 0) | 1 << bit, 0, 65535), Tag::Nothing);
         }
         assert_eq!(read_tag(closing_tag(0, 0, 4, 0), 9, 8), Tag::Nothing);
         assert_eq!(read_tag(entry_tag(0, 0) & !1, 9, 8), Tag::Nothing);

@@ -3,7 +3,7 @@
 //! Offsets count positions from 7 x start. The entries of each first position
 //! are counted as they pass, so a commit entry is judged when it is reached.
 
-use crate::layout::{group_head, slot_range, word, Shape, BLOCK, MAX_GROUPS, MAX_HOMES, MAX_OFFSETS};
+use crate::layout::{group_head, slot_range, word, Shape, BLOCK, MAX_GROUPS, MAX_OFFSETS};
 use crate::tag::{read_tag, Tag};
 
 /// The part of the log that a call looks at.
@@ -113,8 +113,8 @@ fn parts(tag: Tag) -> (u32, u32) {
 pub struct Newest {
     /// For a touched home: offset plus one of its newest transaction's commit
     /// entry in the upper half, offset of the newest entry in the lower.
-    keys: [u32; MAX_HOMES],
-    touched: [u64; MAX_HOMES / 64],
+    keys: Vec<u32>,
+    touched: Vec<u64>,
     pub commits: u64,
 }
 
@@ -122,7 +122,8 @@ impl Newest {
     /// Transactions that share a first position share entries; each entry
     /// counts with the last of them that closes at or after it.
     pub fn gather(view: &View) -> Newest {
-        let mut newest = Newest { keys: [0; MAX_HOMES], touched: [0; MAX_HOMES / 64], commits: 0 };
+        let homes = view.shape.homes as usize;
+        let mut newest = Newest { keys: vec![0; homes], touched: vec![0; homes.div_ceil(64)], commits: 0 };
         with_tallies(view.end, |tallies| {
             let mut walk = Walk::default();
             view.each(|offset, tag| {

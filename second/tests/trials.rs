@@ -196,7 +196,7 @@ fn trial_10() {
 #[test]
 fn trial_11() {
     for (groups, homes, code) in
-        [(3, 8, 1), (1025, 8, 1), (4, 0, 1), (4, 4097, 1), (4, 8, 0), (1024, 4096, 0)]
+        [(3, 8, 1), (1025, 8, 1), (4, 0, 1), (4, 65536, 1), (4, 8, 0), (4, 4097, 0), (1024, 65535, 0)]
     {
         let mut lent = Lent::new(groups, homes);
         assert_eq!(lent.run(Kind::Format, 0, 0).code, code);

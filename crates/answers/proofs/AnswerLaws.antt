@@ -78,7 +78,7 @@ pub record Usable (log area state : List ℕ) : Type 0 where
   pub groups-most : groupsIn (length log) ≤ 1024
   pub area-length : length area ≡ 64 * homesIn (length area)
   pub homes-least : 1 ≤ homesIn (length area)
-  pub homes-most : homesIn (length area) ≤ 4096
+  pub homes-most : homesIn (length area) ≤ 65535
   pub state-length : length state ≡ 1024
   pub order : InOrder state (groupsIn (length log)) (homesIn (length area))
 
@@ -86,7 +86,7 @@ log-facts : (n : ℕ) → logLengthRight n ≡ true → (n ≡ 64 + 512 * groups
 unfolding logLengthRight
 log-facts n h = let f = simp tests at h in omega arith
 
-area-facts : (n : ℕ) → dataLengthRight n ≡ true → (n ≡ 64 * homesIn n) × (1 ≤ homesIn n) × (homesIn n ≤ 4096)
+area-facts : (n : ℕ) → dataLengthRight n ≡ true → (n ≡ 64 * homesIn n) × (1 ≤ homesIn n) × (homesIn n ≤ 65535)
 unfolding dataLengthRight
 area-facts n h = let f = simp tests at h in omega arith
 

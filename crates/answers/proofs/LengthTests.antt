@@ -36,7 +36,7 @@ yes g r e h = sym (same-lengths g) ∙ sym e ∙ not-false r h
 -- what right lengths give
 pub record Sizes (log area state : ℕ) : Type 0 where
   pub groups-most : groupsIn log ≤ 1024
-  pub homes-most : homesIn area ≤ 4096
+  pub homes-most : homesIn area ≤ 65535
   pub state-length : state ≡ 1024
 
 pub sizes : (log area state : ℕ) (r : Bool) → r ≡ (logLengthRight log && (dataLengthRight area && eqb state 1024)) → not r ≡ false

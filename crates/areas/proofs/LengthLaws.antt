@@ -26,10 +26,10 @@ module _ (n d : ℕ) (e : d ≡ homesIn n) where
   unfolding dataLengthRight
   homes-few h = rw (← e) (simp (lt-leb 1 d h, and-false))
 
-  pub homes-many : 4096 < d → false ≡ dataLengthRight n
+  pub homes-many : 65535 < d → false ≡ dataLengthRight n
   unfolding dataLengthRight
-  homes-many h = rw (← e) (simp (lt-leb d 4096 h, and-false))
+  homes-many h = rw (← e) (simp (lt-leb d 65535 h, and-false))
 
-  pub homes-whole : 1 ≤ d → d ≤ 4096 → eqb n (64 * d) ≡ dataLengthRight n
+  pub homes-whole : 1 ≤ d → d ≤ 65535 → eqb n (64 * d) ≡ dataLengthRight n
   unfolding dataLengthRight
-  homes-whole h l = rw (← e) (simp (le-leb 1 d h, le-leb d 4096 l, and-true))
+  homes-whole h l = rw (← e) (simp (le-leb 1 d h, le-leb d 65535 l, and-true))

@@ -33,7 +33,7 @@ pub fn log_right(len: usize) -> bool
     len == 64 + 512 * groups as usize
 }
 
-// Whether a data area may have `len` bytes: 1 to 4,096 whole homes.
+// Whether a data area may have `len` bytes: 1 to 65,535 whole homes.
 pub fn data_right(len: usize) -> bool
     ensures { λ r. ⌜ r ≡ dataLengthRight len ⌝ }
 {
@@ -41,7 +41,7 @@ pub fn data_right(len: usize) -> bool
     if homes < 1 {
         return false;
     }
-    if homes > 4096 {
+    if homes > 65535 {
         return false;
     }
     len == 64 * homes as usize

@@ -1,18 +1,16 @@
--- Laws of maps of marks: word by word, past the end, an empty map, and a mark that is set. Assumes nothing.
+-- Laws of maps of marks: word by word, an empty map, and a mark that is set. Assumes nothing.
 use mathlib.Core.Path.{_≡_, refl, ap, _∙_}
 use mathlib.Core.Bool.{Bool, true, false, _||_}
-use mathlib.Core.List.{List, _++_}
-use Prim.Native.Nat.{ℕ, zero, suc, _+_, _*_, _/_, _%_, _^_, _≤_, _<_}
+use mathlib.Core.List.{List}
+use Prim.Native.Nat.{ℕ, zero, suc, _+_, _*_, _/_, _%_, _^_, _<_}
 use native.Mathlib.Omega.{arith}
-use borrow.Author.Tests.{eqb-true, eqb-false, ne-eqb}
+use borrow.Author.Tests.{eqb-true, eqb-false}
 use lib.Bits.{bitAnd, bitOr}
 use lib.Dec.{eqb}
-use lib.ListN.{length, getD, set, replicate, length-set, length-append, List·getD-eq-default}
+use lib.ListN.{length, getD, set, replicate, length-set}
 use lib.Seq.{getD-set-same, getD-set-other}
-use Rattle.model.specs.Effects.{marked}
-use Rattle.bitmap.specs.Marks.{bit, marks, bitsOf, raised, withBit, withMark}
-use Rattle.bitmap.proofs.MarkedLaws.{length-raised, marked-same, marked-add}
-use Rattle.bitmap.proofs.WordLaws.{bit-zero, bit-shifted, or-pow, one-shifted, with-same, with-other}
+use Rattle.bitmap.specs.Marks.{bit, marks, withBit, withMark}
+use Rattle.bitmap.proofs.WordLaws.{bit-zero, or-pow, one-shifted, with-same, with-other}
 
 -- ---- word by word
 
@@ -23,30 +21,7 @@ marks-in ws n k h =
     let f : (64 * n + k) % 64 ≡ k = omega arith in
     rw (e, f)
 
--- `(ws[i >> 6] >> (i & 63)) & 1 == 1`
-pub marks-shifted : (ws : List ℕ) (i : ℕ) → eqb (bitAnd (getD ws (i / 64) 0 / 2 ^ bitAnd i 63) 1) 1 ≡ marks ws i
-unfolding marks
-marks-shifted ws i = bit-shifted (getD ws (i / 64) 0) i
-
--- one word more: its bits, raised by its first home
-pub marked-word : (ws : List ℕ) (n : ℕ) → marked (marks ws) (64 * (n + 1)) ≡ marked (marks ws) (64 * n) ++ raised (64 * n) (bitsOf (getD ws n 0))
-unfolding bitsOf
-marked-word ws n =
-    let e : 64 * (n + 1) ≡ 64 * n + 64 = omega arith in
-    ap (marked (marks ws)) e ∙ marked-add (marks ws) (64 * n) 64
-    ∙ ap (λ (r : List ℕ). marked (marks ws) (64 * n) ++ raised (64 * n) r)
-    (marked-same (λ j. marks ws (64 * n + j)) 64 (bit (getD ws n 0)) (λ j l. marks-in ws n j l))
-
-pub length-word : (ws : List ℕ) (n : ℕ) → length (marked (marks ws) (64 * (n + 1))) ≡ length (marked (marks ws) (64 * n)) + length (bitsOf (getD ws n 0))
-length-word ws n = rw (marked-word, length-append, length-raised)
-
--- ---- past the end, and an empty map
-
-pub marks-past : (ws : List ℕ) (j : ℕ) → 64 * length ws ≤ j → marks ws j ≡ false
-unfolding marks
-marks-past ws j h =
-    let l : length ws ≤ j / 64 = omega arith in
-    rw (List·getD-eq-default ws 0 l) (bit-zero (j % 64))
+-- ---- an empty map
 
 pub marks-none : (n j : ℕ) → marks (replicate n 0) j ≡ false
 unfolding marks
@@ -92,7 +67,3 @@ module _ (ws : List ℕ) (i : ℕ) (h : i < 64 * length ws) where
       go : (b : Bool) → eqb i j ≡ b → marks (withMark ws i) j ≡ (b || marks ws j)
       go true e = let q : i ≡ j = eqb-true i j e in rw (← q) mark-here
       go false e = mark-other j (eqb-false i j e)
-
-  -- a map that marks none from n on stays so
-  pub mark-up-to : (n : ℕ) → i < n → ((j : ℕ) → n ≤ j → marks ws j ≡ false) → (j : ℕ) → n ≤ j → marks (withMark ws i) j ≡ false
-  mark-up-to n l k j g = rw (mark-each j, ne-eqb i j (λ e. omega arith)) (k j g)

@@ -93,13 +93,9 @@ length-marked-le f m n l =
 pub marked-more : (f : ℕ → Bool) (n k : ℕ) → ((j : ℕ) → n ≤ j → f j ≡ false) → marked f (n + k) ≡ marked f n
 marked-more f n k h = rw (marked-add f n k, marked-none (λ j. f (n + j)) k (λ j l. h (n + j) (omega arith)), raised-nil, append-nil)
 
--- the same for a larger bound, and for a test that agrees with another below n
+-- the same for a larger bound
 pub marked-up-to : (f : ℕ → Bool) (m n : ℕ) → n ≤ m → ((j : ℕ) → n ≤ j → f j ≡ false) → marked f m ≡ marked f n
 marked-up-to f m n l h = let e : m ≡ n + (m - n) = omega arith in ap (marked f) e ∙ marked-more f n (m - n) h
-
-pub marked-agree : (f : ℕ → Bool) (m : ℕ) (g : ℕ → Bool) (n : ℕ) → n ≤ m → ((j : ℕ) → n ≤ j → f j ≡ false) → ((j : ℕ) → j < n → f j ≡ g j)
-    → marked f m ≡ marked g n
-marked-agree f m g n l h k = marked-up-to f m n l h ∙ marked-same f n g k
 
 -- ---- the lowest that a test marks, and the rest
 

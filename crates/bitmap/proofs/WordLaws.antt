@@ -14,7 +14,7 @@ use lib.Pow.{shl-shr, shl-exact, mod-pow-add, pow-pos}
 use lib.Count.{ones, ones-cat, trailingZeros, under}
 use Rattle.model.specs.Effects.{marked}
 use Rattle.bitmap.specs.Marks.{bit, bitsOf, withBit}
-use Rattle.bitmap.proofs.MarkedLaws.{marked-none, marked-lowest, marked-rest, length-marked}
+use Rattle.bitmap.proofs.MarkedLaws.{marked-none, marked-lowest, marked-rest}
 
 -- ---- one bit as a digit: the lowest, and the next
 
@@ -120,10 +120,6 @@ pub no-bits : bitsOf 0 ≡ []
 unfolding bitsOf
 no-bits = marked-none (bit 0) 64 (λ j l. bit-zero j)
 
-pub length-bits : (w : ℕ) → length (bitsOf w) ≤ 64
-unfolding bitsOf
-length-bits w = length-marked (bit w) 64
-
 module _ (w : ℕ) (some : 0 < w) (fits : w < 2 ^ 64) where
   pub lowest-lt : trailingZeros 64 w < 64
   lowest-lt = lowest-is 64 w some fits .0
@@ -226,10 +222,3 @@ with-other w k j n =
 pub one-shifted : (i : ℕ) → (1 * 2 ^ bitAnd i 63) % 2 ^ 64 ≡ 2 ^ (i % 64)
 one-shifted i =
     ap (λ (x : ℕ). (1 * 2 ^ x) % 2 ^ 64) (and-mask i 6) ∙ shl-exact 1 (i % 64) 64 (lit< tt) (omega arith) ∙ one-mul (2 ^ (i % 64))
-
--- ---- a bit that is tested
-
--- `(w >> (i & 63)) & 1 == 1`
-pub bit-shifted : (w i : ℕ) → eqb (bitAnd (w / 2 ^ bitAnd i 63) 1) 1 ≡ bit w (i % 64)
-unfolding bit
-bit-shifted w i = rw (and-mask i 6, and-mask (w / 2 ^ (i % 64)) 1)

@@ -2,10 +2,9 @@
 ghost use mathlib.Core.Path.{_≡_};
 ghost use mathlib.Core.Bool.{_||_};
 ghost use mathlib.Core.List.{_∷_};
-ghost use Prim.Native.Nat.{ℕ, _*_, _^_, _<_};
+ghost use Prim.Native.Nat.{ℕ, _*_, _≤_, _<_};
 ghost use lib.Dec.{eqb};
 ghost use lib.ListN.{length, drop};
-ghost use Rattle.model.specs.Effects.{marked};
 ghost use Rattle.bitmap.specs.Marks.{marks, withMark, bitsOf};
 
 // Marks `i`, and leaves every other mark as it was.
@@ -17,26 +16,11 @@ pub fn mark(ws: &mut [u64], i: usize)
     ws[i >> 6] |= 1 << (i & 63);
 }
 
-// Whether `i` is marked.
-pub fn is_marked(ws: &[u64], i: usize) -> bool
-    requires { ⌜ i < 64 * length (now ws) ⌝ }
-    ensures { λ r. ⌜ r ≡ marks (now (ws .entry)) i ⌝ }
+// How many bits are set in a word, by its count of ones.
+pub fn ones(w: u64) -> u64
+    ensures { λ r. ⌜ (r ≡ length (bitsOf w)) × (r ≤ 64) ⌝ }
 {
-    (ws[i >> 6] >> (i & 63)) & 1 == 1
-}
-
-// How many are marked, by the counts of ones of the words.
-pub fn count(ws: &[u64]) -> u64
-    requires { ⌜ 64 * length (now ws) < 2 ^ 64 ⌝ }
-    ensures { λ r. ⌜ r ≡ length (marked (marks (now (ws .entry))) (64 * length (now (ws .entry)))) ⌝ }
-{
-    let mut n: u64 = 0;
-    let mut i = 0;
-    while i < ws.len() {
-        n += u64::count_ones(ws[i]) as u64;
-        i += 1;
-    }
-    n
+    u64::count_ones(w) as u64
 }
 
 // The lowest bit that is set in a word, by its trailing zeros.

@@ -1,12 +1,13 @@
 -- What a tag's word says, test by test of its shifted and masked fields: one that fails, or all that hold. Assumes nothing.
 use mathlib.Core.Path.{_≡_, refl, sym, _∙_}
 use mathlib.Core.Bool.{Bool, true, false}
-use Prim.Native.Nat.{ℕ, _+_, _-_, _/_, _%_, _^_, _≤_, _<_}
+use Prim.Native.Nat.{ℕ, _+_, _-_, _*_, _/_, _%_, _^_, _≤_, _<_}
 use native.Mathlib.Omega.{arith}
 use borrow.Author.Tests.{eq-eqb, ne-eqb, le-leb, lt-leb}
-use lib.Bits.{bitAnd, and-mask, mask-lt}
-use Rattle.model.specs.Tag.{field, says, readFields, readTag}
+use lib.Bits.{bitAnd, bitOr, and-mask, mask-lt}
+use Rattle.model.specs.Tag.{field, homeField, says, readFields, readTag}
 use Rattle.model.specs.declared.Tag.the-variants.{Nothing, Entry, Closing}
+use Rattle.codec.proofs.WordLaws.{field-or}
 
 says-nothing : (b : Bool) → says b Nothing ≡ Nothing
 unfolding says
@@ -55,22 +56,35 @@ module _ (used closing above upper home back link count position base homes : �
       nonzero : (n : ℕ) → (n ≡ 0 → ⊥) → 1 ≤ n
       nonzero n z = omega arith
 
+-- a word's home by shifts and masks
+abbrev homeBits : ℕ → ℕ
+homeBits w = bitOr (bitAnd (w / 2 ^ 2) 0xfff) ((bitAnd (w / 2 ^ 53) 0xf * 2 ^ 12) % 2 ^ 64)
+
+home-bits : (w : ℕ) → homeField w ≡ homeBits w
+unfolding field
+home-bits w =
+    let low : bitAnd (w / 2 ^ 2) 0xfff ≡ w / 2 ^ 2 % 2 ^ 12 = and-mask (w / 2 ^ 2) 12 in
+    let high : bitAnd (w / 2 ^ 53) 0xf ≡ w / 2 ^ 53 % 2 ^ 4 = and-mask (w / 2 ^ 53) 4 in
+    let e : homeBits w ≡ bitAnd (w / 2 ^ 53) 0xf * 2 ^ 12 + bitAnd (w / 2 ^ 2) 0xfff =
+    field-or 4 12 (bitAnd (w / 2 ^ 53) 0xf) (bitAnd (w / 2 ^ 2) 0xfff) (mask-lt (w / 2 ^ 53) 4) (mask-lt (w / 2 ^ 2) 12) (omega arith) in
+    sym (e ∙ omega (arith, low, high))
+
 -- a tag's fields by shifts and masks
 masked : (w p b d : ℕ) → w < 2 ^ 64
     → readTag w p b d
-    ≡ readFields (bitAnd w 1) (bitAnd (w / 2) 1) (w / 2 ^ 53) (bitAnd (w / 2 ^ 27) 0x3ff_ffff) (bitAnd (w / 2 ^ 2) 0xfff) (bitAnd (w / 2 ^ 14) 0x1fff)
+    ≡ readFields (bitAnd w 1) (bitAnd (w / 2) 1) (w / 2 ^ 57) (bitAnd (w / 2 ^ 27) 0x3ff_ffff) (homeBits w) (bitAnd (w / 2 ^ 14) 0x1fff)
     (bitAnd (w / 2 ^ 27) 0x1fff) (bitAnd (w / 2 ^ 40) 0x1fff) p b d
 unfolding readTag field
 masked w p b d h =
     let e0 : w / 2 ^ 0 % 2 ^ 1 ≡ w % 2 ^ 1 = omega arith in
-    let e1 : w / 2 ^ 53 % 2 ^ 11 ≡ w / 2 ^ 53 = omega arith in
+    let e1 : w / 2 ^ 57 % 2 ^ 7 ≡ w / 2 ^ 57 = omega arith in
     rw (
       e0,
       e1,
       and-mask w 1,
       and-mask (w / 2) 1,
       and-mask (w / 2 ^ 27) 26,
-      and-mask (w / 2 ^ 2) 12,
+      home-bits w,
       and-mask (w / 2 ^ 14) 13,
       and-mask (w / 2 ^ 27) 13,
       and-mask (w / 2 ^ 40) 13,
@@ -81,10 +95,10 @@ module _ (w position base homes : ℕ) (fits : w < 2 ^ 64) where
   pub word-unused : bitAnd w 1 ≡ 0 → Nothing ≡ readTag w position base homes
   word-unused e = sym (masked w position base homes fits ∙ unused _ _ _ _ _ _ _ _ _ _ _ e)
 
-  pub word-above : (w / 2 ^ 53 ≡ 0 → ⊥) → Nothing ≡ readTag w position base homes
+  pub word-above : (w / 2 ^ 57 ≡ 0 → ⊥) → Nothing ≡ readTag w position base homes
   word-above e = sym (masked w position base homes fits ∙ bits-above _ _ _ _ _ _ _ _ _ _ _ e)
 
-  pub word-home : homes ≤ bitAnd (w / 2 ^ 2) 0xfff → Nothing ≡ readTag w position base homes
+  pub word-home : homes ≤ homeBits w → Nothing ≡ readTag w position base homes
   word-home e = sym (masked w position base homes fits ∙ no-home _ _ _ _ _ _ _ _ _ _ _ e)
 
   pub word-start : position < base + bitAnd (w / 2 ^ 14) 0x1fff → Nothing ≡ readTag w position base homes
@@ -97,16 +111,16 @@ module _ (w position base homes : ℕ) (fits : w < 2 ^ 64) where
   word-count e f = sym (masked w position base homes fits ∙ no-count _ _ _ _ _ _ _ _ _ _ _ e f)
 
   -- where the first four tests hold
-  module _ (used : bitAnd w 1 ≡ 0 → ⊥) (above : w / 2 ^ 53 ≡ 0) (known : bitAnd (w / 2 ^ 2) 0xfff < homes)
+  module _ (used : bitAnd w 1 ≡ 0 → ⊥) (above : w / 2 ^ 57 ≡ 0) (known : homeBits w < homes)
       (started : base + bitAnd (w / 2 ^ 14) 0x1fff ≤ position) where
     one : bitAnd w 1 ≡ 1
     one = omega (arith, mask-lt w 1)
 
     pub word-entry : bitAnd (w / 2) 1 ≡ 0 → bitAnd (w / 2 ^ 27) 0x3ff_ffff ≡ 0
-        → Entry (bitAnd (w / 2 ^ 2) 0xfff) (position - bitAnd (w / 2 ^ 14) 0x1fff) ≡ readTag w position base homes
+        → Entry (homeBits w) (position - bitAnd (w / 2 ^ 14) 0x1fff) ≡ readTag w position base homes
     word-entry e f = sym (masked w position base homes fits ∙ is-entry _ _ _ _ _ _ _ _ _ _ _ one above known started e f)
 
     pub word-closing : (bitAnd (w / 2) 1 ≡ 0 → ⊥) → (bitAnd (w / 2 ^ 40) 0x1fff ≡ 0 → ⊥)
-        → Closing (bitAnd (w / 2 ^ 2) 0xfff) (position - bitAnd (w / 2 ^ 14) 0x1fff) (bitAnd (w / 2 ^ 27) 0x1fff) (bitAnd (w / 2 ^ 40) 0x1fff)
+        → Closing (homeBits w) (position - bitAnd (w / 2 ^ 14) 0x1fff) (bitAnd (w / 2 ^ 27) 0x1fff) (bitAnd (w / 2 ^ 40) 0x1fff)
         ≡ readTag w position base homes
     word-closing e f = sym (masked w position base homes fits ∙ is-closing _ _ _ _ _ _ _ _ _ _ _ one above known started e f)

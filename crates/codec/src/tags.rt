@@ -1,4 +1,5 @@
-// The 64-bit word of a tag: bit 0 used, bit 1 closing, bits 2 to 13 home, 14 to 26 distance back, 27 to 39 link, 40 to 52 count.
+// The 64-bit word of a tag: bit 0 used, bit 1 closing, bits 2 to 13 the home's low 12 bits, 14 to 26 distance back, 27 to 39 link, 40 to 52 count,
+// 53 to 56 the home's high four bits.
 use model::Tag;
 ghost use mathlib.Core.Path.{_≡_};
 ghost use Prim.Native.Nat.{_^_, _<_};
@@ -6,18 +7,18 @@ ghost use Rattle.model.specs.Tag.{entryWord, closingWord, readTag};
 
 // The word of an entry that does not close its transaction.
 pub fn entry_word(home: u64, back: u64) -> u64
-    requires { ⌜ (home < 2 ^ 12) × (back < 2 ^ 13) ⌝ }
+    requires { ⌜ (home < 2 ^ 16) × (back < 2 ^ 13) ⌝ }
     ensures { λ r. ⌜ r ≡ entryWord home back ⌝ }
 {
-    1 | home << 2 | back << 14
+    1 | (home & 0xfff) << 2 | back << 14 | (home >> 12) << 53
 }
 
 // The word of the entry that commits a transaction of `count` entries, with the distance `link` back to the previous commit entry.
 pub fn commit_word(home: u64, back: u64, link: u64, count: u64) -> u64
-    requires { ⌜ (home < 2 ^ 12) × (back < 2 ^ 13) × (link < 2 ^ 13) × (count < 2 ^ 13) ⌝ }
+    requires { ⌜ (home < 2 ^ 16) × (back < 2 ^ 13) × (link < 2 ^ 13) × (count < 2 ^ 13) ⌝ }
     ensures { λ r. ⌜ r ≡ closingWord home back link count ⌝ }
 {
-    3 | home << 2 | back << 14 | link << 27 | count << 40
+    3 | (home & 0xfff) << 2 | back << 14 | link << 27 | count << 40 | (home >> 12) << 53
 }
 
 // What a word says at a position of a log that starts at position `base` and has `homes` homes.
@@ -27,10 +28,10 @@ pub fn read_tag(word: u64, position: u64, base: u64, homes: u64) -> Tag
     if word & 1 == 0 {
         return Tag::Nothing;
     }
-    if word >> 53 != 0 {
+    if word >> 57 != 0 {
         return Tag::Nothing;
     }
-    let home = (word >> 2) & 0xfff;
+    let home = (word >> 2) & 0xfff | ((word >> 53) & 0xf) << 12;
     if homes <= home {
         return Tag::Nothing;
     }

@@ -14,19 +14,22 @@ fn home(t: Tag) -> u64
     }
 }
 
-// The words of the paper's three tags.
+// The words of the paper's three tags, and of the highest home.
 fn words() {
     check::expect(codec::entry_word(1, 0) == 5);
     check::expect(codec::commit_word(2, 1, 0, 2) == 2199023271947);
     check::expect(codec::commit_word(5, 2, 0, 3) == 3298534916119);
+    check::expect(codec::entry_word(65534, 0) == 0x01e0_0000_0000_3ff9);
 }
 
-// The same words read where they stand, and one whose first entry would lie before the start.
+// The same words read where they stand, one whose first entry would lie before the start, and one for a home that a small station has not.
 fn tags() {
     check::expect(home(codec::read_tag(5, 0, 0, 8)) == 1);
     check::expect(home(codec::read_tag(2199023271947, 1, 0, 8)) == 2);
     check::expect(home(codec::read_tag(3298534916119, 9, 7, 8)) == 5);
     check::expect(home(codec::read_tag(3298534916119, 8, 7, 8)) == 0);
+    check::expect(home(codec::read_tag(0x01e0_0000_0000_3ff9, 0, 0, 65535)) == 65534);
+    check::expect(home(codec::read_tag(0x01e0_0000_0000_3ff9, 0, 0, 4096)) == 0);
 }
 
 // A number of six bytes, written and read.

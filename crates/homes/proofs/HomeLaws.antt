@@ -2,21 +2,18 @@
 use mathlib.Core.Path.{_≡_, refl, sym, ap, _∙_}
 use mathlib.Core.Bool.{Bool, true, false, cond}
 use mathlib.Core.List.{List, [], _∷_, _++_}
-use Prim.Native.Nat.{ℕ, zero, suc, _+_, _-_, _*_, _≤_, _<_}
+use Prim.Native.Nat.{ℕ, zero, suc, _+_, _*_, _≤_}
 use native.Mathlib.Omega.{arith}
-use borrow.Author.Tests.{leb-true, leb-false}
-use lib.Dec.{leb}
-use lib.ListN.{length, drop, getD, length-append}
+use lib.ListN.{length, drop, length-append}
 use Rattle.model.specs.Bytes.{puts}
 use Rattle.model.specs.Layout.{homeAt}
 use Rattle.model.specs.Batch.{Record, HW, recordBytes, batchBytes}
 use Rattle.model.specs.Effects.{marked, homeWrites}
 use Rattle.model.proofs.bytes.ByteLaws.{length-part, puts-append, puts-nil}
 use Rattle.model.proofs.strip.BatchLaws.{length-HW, batch-append}
-use Rattle.bitmap.specs.Marks.{marks, bitsOf, raised}
-use Rattle.bitmap.proofs.MarkedLaws.{raised-nil, raised-cons, marked-zero}
+use Rattle.bitmap.specs.Marks.{bitsOf, raised}
+use Rattle.bitmap.proofs.MarkedLaws.{raised-nil, raised-cons}
 use Rattle.bitmap.proofs.WordLaws.{no-bits}
-use Rattle.bitmap.proofs.MapLaws.{marked-word}
 use Rattle.homes.specs.Within.{Within}
 
 pub length-home : (area : List ℕ) (h : ℕ) → 64 * h + 64 ≤ length area → length (homeAt area h) ≡ 64
@@ -80,22 +77,6 @@ within-marked area f (suc n) k = within-append area (marked f n) _ (within-marke
     go true e = (k n e, tt)
     go false e = tt
 
--- what marks none from n on, over an area of n homes
-pub marks-within : (f : ℕ → Bool) (n : ℕ) (area : List ℕ) → length area ≡ 64 * n → ((j : ℕ) → n ≤ j → f j ≡ false) → (h : ℕ) → f h ≡ true
-    → 64 * h + 64 ≤ length area
-marks-within f n area e k h t = go (leb n h) refl
-  where
-    go : (b : Bool) → leb n h ≡ b → 64 * h + 64 ≤ length area
-    go true p = let z : true ≡ false = sym t ∙ k h (leb-true n h p) in let y : _≡_ {A = ℕ} 0 1 = cc in absurd (omega arith)
-    go false p = let l : h < n = leb-false n h p in omega arith
-
--- the homes that word i of a map marks
-pub within-word : (area map : List ℕ) (i : ℕ) → ((h : ℕ) → marks map h ≡ true → 64 * h + 64 ≤ length area)
-    → Within area (raised (64 * i) (bitsOf (getD map i 0)))
-within-word area map i k =
-    within-right area (marked (marks map) (64 * i)) (raised (64 * i) (bitsOf (getD map i 0)))
-    (rw (← marked-word map i) (within-marked area (marks map) (64 * (i + 1)) k))
-
 -- ---- the homes of a word, the lowest first
 
 module _ (area : List ℕ) (base w t : ℕ) (first : bitsOf w ≡ t ∷ drop 1 (bitsOf w)) (within : Within area (raised base (bitsOf w))) where
@@ -120,18 +101,3 @@ module _ (area : List ℕ) (base w t : ℕ) (first : bitsOf w ≡ t ∷ drop 1 (
 
 pub word-end : (d : List ℕ) (at : ℕ) (area : List ℕ) (base w : ℕ) → w ≡ 0 → puts d at (batchBytes (homeWrites area (raised base (bitsOf w)))) ≡ d
 word-end d at area base w e = rw (e, no-bits, raised-nil) (write-end d at area)
-
--- ---- the homes of a map, word by word
-
--- word i's records after those of the words before it
-pub map-turn : (d : List ℕ) (at : ℕ) (area map : List ℕ) (i : ℕ) → ((h : ℕ) → marks map h ≡ true → 64 * h + 64 ≤ length area)
-    → puts (puts d at (batchBytes (homeWrites area (marked (marks map) (64 * i))))) (at + 68 * length (marked (marks map) (64 * i)))
-    (batchBytes (homeWrites area (raised (64 * i) (bitsOf (getD map i 0)))))
-    ≡ puts d at (batchBytes (homeWrites area (marked (marks map) (64 * (i + 1)))))
-map-turn d at area map i k =
-    let e : length (batchBytes (homeWrites area (marked (marks map) (64 * i)))) ≡ 68 * length (marked (marks map) (64 * i)) =
-    length-writes area (marked (marks map) (64 * i)) (within-marked area (marks map) (64 * i) k) in
-    rw (marked-word, bytes-append, puts-append, e)
-
-pub map-start : (d : List ℕ) (at : ℕ) (area map : List ℕ) → d ≡ puts d at (batchBytes (homeWrites area (marked (marks map) 0)))
-map-start d at area map = sym (rw (marked-zero (marks map)) (write-end d at area))

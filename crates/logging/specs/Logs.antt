@@ -27,7 +27,7 @@ pub record MayLog (l s b : List ℕ) (st : State) (w : ℕ) : Type 0 where
 
 -- the fields of a held block's tag fit
 pub record Fits (st : State) (r : Writer) (position : ℕ) : Type 0 where
-  pub home : r .home < 2 ^ 12
+  pub home : r .home < 2 ^ 16
   pub upto : firstFor r position ≤ position
   pub near : position < firstFor r position + 2 ^ 13
   pub many : countFor r + 1 < 2 ^ 13

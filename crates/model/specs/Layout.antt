@@ -1,6 +1,7 @@
 -- The two areas: the log's header and groups, the homes.
 -- "The data area is D home blocks of 64 bytes, D from 1 to 4,096. Homes count from 0. The log area is a 64-byte head and then G groups of 512
--- bytes, G from 4 to 1,024. G and D follow from the lent lengths 64 + 512 × G and 64 × D."
+-- bytes, G from 4 to 1,024. G and D follow from the lent lengths 64 + 512 × G and 64 × D." "D goes up to 65,535, the most the head's field can
+-- say."
 use Prim.Native.Nat.{ℕ, zero, suc, _+_, _-_, _*_, _/_, _%_, _^_}
 use mathlib.Core.Bool.{Bool, true, false, cond, _&&_}
 use mathlib.Core.List.{List, [], _∷_, _++_}
@@ -25,7 +26,7 @@ abbrev pub maxGroups : ℕ
 maxGroups = 1024
 
 abbrev pub maxHomes : ℕ
-maxHomes = 4096
+maxHomes = 65535
 
 -- the highest start ("start ≤ 2^47")
 abbrev pub maxStart : ℕ

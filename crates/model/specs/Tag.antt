@@ -1,6 +1,6 @@
 -- "A tag is a 64-bit word: bit 0 used, bit 1 closing, bits 2–13 home, bits 14–26 distance back to the transaction's first entry, bits 27–39
 -- distance back to the previous closing entry (0: none since the start), bits 40–52 number of entries, 53–63 zero. Bits 27–52 are zero unless
--- closing."
+-- closing." "Tag bits 53 to 56 carry the home's bits 12 to 15, so they leave the zero bits of document 01, and a tag reads a 16-bit home."
 use Prim.Native.Nat.{ℕ, zero, suc, _+_, _-_, _*_, _/_, _%_, _^_}
 use mathlib.Core.Bool.{Bool, true, false, cond}
 use lib.Dec.{eqb, leb}
@@ -9,7 +9,8 @@ use Rattle.model.specs.declared.Tag.the-variants.{Nothing, Entry, Closin
 
 -- the word of a tag; `closing` is 0 or 1
 unfoldable pub tagWord : ℕ → ℕ → ℕ → ℕ → ℕ → ℕ
-tagWord closing home back link count = 1 + 2 * closing + 2 ^ 2 * home + 2 ^ 14 * back + 2 ^ 27 * link + 2 ^ 40 * count
+tagWord closing home back link count =
+    1 + 2 * closing + 2 ^ 2 * (home % 2 ^ 12) + 2 ^ 14 * back + 2 ^ 27 * link + 2 ^ 40 * count + 2 ^ 53 * (home / 2 ^ 12)
 
 -- an entry that does not close, and a closing one
 unfoldable pub entryWord : ℕ → ℕ → ℕ
@@ -27,7 +28,11 @@ unfoldable pub says : Bool → Tag → Tag
 says true t = t
 says false t = Nothing
 
--- the tag that the fields make: used, closing, bits 53 to 63, bits 27 to 52, home, distance back, link and count, at a position, with the
+-- the home in a word: its low 12 bits, and above them bits 12 to 15
+abbrev pub homeField : ℕ → ℕ
+homeField word = field word 2 12 + 2 ^ 12 * field word 53 4
+
+-- the tag that the fields make: used, closing, bits 57 to 63, bits 27 to 52, home, distance back, link and count, at a position, with the
 -- position where the log starts and the number of homes.
 -- "It reads as nothing if unused, if a zero bit is set, if home ≥ D, if the first entry would lie before the start, or if it closes with
 -- number 0."
@@ -44,6 +49,13 @@ readFields used closing above upper home back link count position base homes =
 -- the tag that a word reads as
 unfoldable pub readTag : ℕ → ℕ → ℕ → ℕ → Tag
 readTag word position base homes =
+    readFields (field word 0 1) (field word 1 1) (field word 57 7) (field word 27 26) (homeField word) (field word 14 13) (field word 27 13)
+    (field word 40 13) position base homes
+
+-- "Logs of smaller stations read as they did": how a word read while a home had 12 bits, the ones above bit 52 all zero. Only the law that
+-- compares the two readers names it.
+unfoldable pub readSmallTag : ℕ → ℕ → ℕ → ℕ → Tag
+readSmallTag word position base homes =
     readFields (field word 0 1) (field word 1 1) (field word 53 11) (field word 27 26) (field word 2 12) (field word 14 13) (field word 27 13)
     (field word 40 13) position base homes
 

@@ -43,7 +43,7 @@ pub record Searchable (log : List ℕ) (st : State) (home : ℕ) : Type 0 where
   pub long : length log ≡ 64 + 512 * st .groups
   pub least : 4 ≤ st .groups
   pub most : st .groups ≤ 1024
-  pub homes-most : st .homes ≤ 4096
+  pub homes-most : st .homes ≤ 65535
   pub low : st .start ≤ 2 ^ 47
   pub first : 7 * st .start ≤ nextPosition st
   pub within : nextPosition st ≤ 7 * (st .start + st .groups)

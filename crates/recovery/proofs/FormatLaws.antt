@@ -68,7 +68,7 @@ pub groups-most : (n : ℕ) → logLengthRight n ≡ true → groupsIn n ≤ 102
 unfolding logLengthRight
 groups-most n h = let f = simp tests at h in omega arith
 
-pub homes-most : (n : ℕ) → dataLengthRight n ≡ true → homesIn n ≤ 4096
+pub homes-most : (n : ℕ) → dataLengthRight n ≡ true → homesIn n ≤ 65535
 unfolding dataLengthRight
 homes-most n h = let f = simp tests at h in omega arith
 
@@ -77,7 +77,7 @@ pub record Formattable (log area batch : List ℕ) : Type 0 where
   pub log-length : length log ≡ 64 + 512 * groupsIn (length log)
   pub groups-most : groupsIn (length log) ≤ 1024
   pub area-length : length area ≡ 64 * homesIn (length area)
-  pub homes-most : homesIn (length area) ≤ 4096
+  pub homes-most : homesIn (length area) ≤ 65535
   pub batch-length : 138 + 516 * groupsIn (length log) + 68 * homesIn (length area) ≤ length batch
 
 pub formattable : (log area batch : List ℕ) (v : ℕ) → v ≡ formatAnswer (asked log area batch) (sizeOf (formatEffect (asked log area batch)))

@@ -2,7 +2,7 @@
 use mathlib.Core.Path.{_≡_, refl, sym, ap, _∙_}
 use mathlib.Core.Bool.{Bool, true, false, not, _&&_}
 use mathlib.Core.Logic.{_≢_}
-use mathlib.Core.List.{List, [], _∷_, _++_, append-nil}
+use mathlib.Core.List.{List, [], _∷_, append-nil}
 use Prim.Native.Nat.{ℕ, _+_, _-_, _*_, _^_, _≤_, _<_}
 use native.Mathlib.Omega.{arith}
 use lib.Dec.{eqb, leb}
@@ -12,22 +12,20 @@ use Rattle.model.specs.Bytes.{puts}
 use Rattle.model.specs.Layout.{groupsIn, homesIn, logLengthRight, dataLengthRight, header, headerStart, headerRight, entryAt}
 use Rattle.model.specs.Batch.{FN, KW, recordBytes, batchBytes}
 use Rattle.model.specs.State.{freshState}
-use Rattle.model.specs.Effects.{Given, marked, replayed, homeWrites, openTags, openStart, openEffect}
+use Rattle.model.specs.Effects.{Given, touched, replayed, homeWrites, openTags, openStart, openEffect}
 use Rattle.model.specs.Questions.{ask, areasRight, stateRight, headerFits, startFits, batchFits, openAnswer}
 use Rattle.model.specs.Calls.{sizeOf, openCall}
-use Rattle.model.specs.declared.Tag.{Tag}
 use Rattle.model.proofs.bytes.ByteLaws.{puts-append}
 use Rattle.model.proofs.bytes.LayoutLaws.{length-header}
 use Rattle.model.proofs.strip.BatchLaws.{length-FN, length-KW}
 use Rattle.model.proofs.strip.QuestionLaws.{ask-yes, ask-no, ask-passed}
 use Rattle.model.proofs.strip.OrderLaws.{tests}
-use Rattle.bitmap.specs.Marks.{marks}
 use Rattle.scan.specs.Walk.{closedBelow}
 use Rattle.answers.specs.Lent.{lent, leaves}
 use Rattle.answers.proofs.AnswerLaws.{refused-by, done-by}
 use Rattle.recovery.specs.Opens.{askOpen}
-use Rattle.recovery.specs.Plans.{Searchable, Planned, Replayable}
-use Rattle.recovery.proofs.PlanLaws.{writes-then, plan-size, plan-area, plan-batch}
+use Rattle.recovery.specs.Plans.{Searchable, Planned}
+use Rattle.recovery.proofs.PlanLaws.{plan-size, plan-area, plan-batch}
 
 -- ---- the questions
 
@@ -41,7 +39,7 @@ pub record Lengths (log area state : List ℕ) : Type 0 where
   pub groups-least : 4 ≤ groupsIn (length log)
   pub groups-most : groupsIn (length log) ≤ 1024
   pub area-length : length area ≡ 64 * homesIn (length area)
-  pub homes-most : homesIn (length area) ≤ 4096
+  pub homes-most : homesIn (length area) ≤ 65535
   pub state-length : length state ≡ 1024
 
 module _ (log area state : List ℕ) where
@@ -121,7 +119,7 @@ pub record Openable (log area state : List ℕ) : Type 0 where
   pub groups-least : 4 ≤ groupsIn (length log)
   pub groups-most : groupsIn (length log) ≤ 1024
   pub area-length : length area ≡ 64 * homesIn (length area)
-  pub homes-most : homesIn (length area) ≤ 4096
+  pub homes-most : homesIn (length area) ≤ 65535
   pub state-length : length state ≡ 1024
   pub start-most : headerStart log + groupsIn (length log) ≤ 2 ^ 47
 
@@ -167,25 +165,13 @@ length-last h l =
     let k : length (recordBytes (KW h)) ≡ 66 = length-KW h l in
     rw (length-append, length-append, append-nil, length-FN, k)
 
-three : (d h : List ℕ) (at n m : ℕ) → length h ≡ 64 → n ≡ at + 2 → m ≡ n + 66
-    → puts (puts (puts d at (recordBytes FN)) n (recordBytes (KW h))) m (recordBytes FN) ≡ puts d at (batchBytes (FN ∷ KW h ∷ FN ∷ []))
+pub last-records : (d x y w h : List ℕ) (at n m : ℕ) → length h ≡ 64 → n ≡ at + 2 → x ≡ puts d at (recordBytes FN) → m ≡ n + 66
+    → y ≡ puts x n (recordBytes (KW h)) → w ≡ puts y m (recordBytes FN) → w ≡ puts d at (batchBytes (FN ∷ KW h ∷ FN ∷ []))
 unfolding batchBytes
-three d h at n m l e f =
+last-records d x y w h at n m l e ex f ey ew =
     let k : length (recordBytes (KW h)) ≡ 66 = length-KW h l in
-    sym (rw (append-nil, puts-append d at (recordBytes FN), length-FN, ← e, puts-append (puts d at (recordBytes FN)) n (recordBytes (KW h)), k, ← f))
-
-module _ (log area table map batch : List ℕ) (groups homes start end : ℕ) (r : Replayable log area table map batch groups homes start end 70) where
-  pub header-after : (a d x y w : List ℕ) (at n m s : ℕ) (tags : ℕ → Tag) (ts : List (List ℕ))
-      → at ≡ 68 * length (marked (marks map) (64 * length map)) → a ≡ replayed log groups tags ts area
-      → d ≡ puts batch 0 (batchBytes (homeWrites a (marked (marks map) (64 * length map)))) → n ≡ at + 2 → x ≡ puts d at (recordBytes FN)
-      → m ≡ n + 66 → y ≡ puts x n (recordBytes (KW (header s groups homes))) → w ≡ puts y m (recordBytes FN)
-      → w
-      ≡ puts batch 0
-      (batchBytes (homeWrites a (marked (marks map) (64 * length map)) ++ (FN ∷ KW (header s groups homes) ∷ FN ∷ [])))
-  header-after a d x y w at n m s tags ts e f g en ex em ey ew =
-      ew
-      ∙ rw (ey, ex, three d (header s groups homes) at n m (length-header s groups homes) en em, g)
-      (writes-then log area table map batch groups homes start end 70 r a batch at (FN ∷ KW (header s groups homes) ∷ FN ∷ []) tags ts f e)
+    ew ∙ rw (ey, ex)
+    (sym (rw (append-nil, puts-append d at (recordBytes FN), length-FN, ← e, puts-append (puts d at (recordBytes FN)) n (recordBytes (KW h)), k, ← f)))
 
 -- ---- how the call ends
 
@@ -222,19 +208,19 @@ module _ (log area state batch : List ℕ) where
   open-refused v code figure size e h r =
       refused-by opening (openEffect opening) _ code figure size (r .0 ∙ open-stops v _ e h) (λ z. h (sym (r .0) ∙ z)) (r .1) (r .2)
 
-  module _ (v end number count groups homes start : ℕ) (table m : List ℕ) (e : v ≡ askOpen (lent log area state [] [] 0 0) 0) (z : v ≡ 0)
+  module _ (v end number count groups homes start : ℕ) (e : v ≡ askOpen (lent log area state [] [] 0 0) 0) (z : v ≡ 0)
       (q : (groups ≡ groupsIn (length log)) × (homes ≡ homesIn (length area)) × (start ≡ headerStart log) × (start < 2 ^ 48))
-      (p : Planned log groups homes start (7 * groups) table m end number count) where
+      (p : Planned log groups homes start (7 * groups) end number count) where
     area-long : length area ≡ 64 * homesIn (length area)
     area-long = openable log area state v e z .area-length
 
-    plan-all : Planned log (groupsIn (length log)) (homesIn (length area)) (headerStart log) (7 * groupsIn (length log)) table m end number count
+    plan-all : Planned log (groupsIn (length log)) (homesIn (length area)) (headerStart log) (7 * groupsIn (length log)) end number count
     plan-all = rw (q .0, q .1, q .2) at p
 
     open-length : length (batchBytes (openEffect opening .records)) ≡ 68 * count + 70
     unfolding openEffect openTags
     open-length =
-        plan-size log area table m _ _ _ _ end number count plan-all area-long
+        plan-size log area _ _ _ _ end number count plan-all area-long
         (FN ∷ KW (header (openStart opening) (groupsIn (length log)) (homesIn (length area))) ∷ FN ∷ [])
         ∙ ap (λ (k : ℕ). 68 * count + k)
         (length-last (header (openStart opening) (groupsIn (length log)) (homesIn (length area))) (length-header _ _ _))
@@ -243,29 +229,32 @@ module _ (log area state batch : List ℕ) where
     unfolding sizeOf
     open-size = open-length
 
-    pub open-short : (code figure size : ℕ) → length batch < 68 * count + 70 → (code ≡ 9) × (figure ≡ 0) × (size ≡ 0)
-        → leaves code figure size log area state [] batch ≡ openCall opening
+    pub open-short : (code figure size : ℕ) (a b : List ℕ) → length batch < 68 * count + 70 → (code ≡ 9) × (figure ≡ 0) × (size ≡ 0)
+        → a ≡ area → b ≡ batch → leaves code figure size log a state [] b ≡ openCall opening
     unfolding openCall batchFits
-    open-short code figure size h r =
-        refused-by opening (openEffect opening) _ code figure size
+    open-short code figure size a b h r ea eb =
+        rw (ea, eb)
+        (refused-by opening (openEffect opening) _ code figure size
         (r .0 ∙ sym (open-passes v _ e z ∙ ask-no _ 9 0 (lt-leb (sizeOf (openEffect opening)) (length batch) (omega (arith, open-size)))))
-        (λ y. let w = r .0 in omega arith) (r .1) (r .2)
+        (λ y. let w = r .0 in omega arith) (r .1) (r .2))
 
-    pub open-done : (code figure size : ℕ) (l a s b : List ℕ) → 68 * count + 70 ≤ length batch
+    pub open-done : (code figure size at : ℕ) (l a s d b : List ℕ) → 68 * count + 70 ≤ length batch
         → (code ≡ 0) × (figure ≡ number) × (size ≡ 68 * count + 70)
         → a ≡ replayed log groups (entryAt log groups homes start) (closedBelow log groups homes start end) area
-        → b
+        → d
         ≡ puts batch 0
-        (batchBytes (homeWrites a (marked (marks m) (64 * length m)) ++ (FN ∷ KW (header (start + groups) groups homes) ∷ FN ∷ [])))
+        (batchBytes (homeWrites a (touched (entryAt log groups homes start) (closedBelow log groups homes start end) homes)))
+        → b ≡ puts d at (batchBytes (FN ∷ KW (header (start + groups) groups homes) ∷ FN ∷ [])) → at ≡ 68 * count
         → l ≡ puts log 0 (header (start + groups) groups homes) → s ≡ freshState groups homes (start + groups)
         → leaves code figure size l a s [] b ≡ openCall opening
     unfolding openCall batchFits openEffect openTags openStart
-    open-done code figure size l a s b h r ea eb el es =
+    open-done code figure size at l a s d b h r ea ed eb et el es =
         let ra = rw (q .0, q .1, q .2) at ea in
+        let rd = rw (q .0, q .1, q .2) at ed in
         let rb = rw (q .0, q .1, q .2) at eb in
         done-by opening (openEffect opening) _ code figure size l a s [] b
         (open-passes v _ e z ∙ ask-yes _ 9 0 (le-leb (sizeOf (openEffect opening)) (length batch) (omega (arith, open-size))))
         (r .0) (r .1 ∙ plan-all .numbered) (r .2 ∙ sym open-length) (el ∙ rw (q .0, q .1, q .2))
-        (plan-area log area table m _ _ _ _ end number count plan-all area-long a ra)
+        (plan-area log area _ _ _ _ end number count plan-all area-long a ra)
         (es ∙ rw (q .0, q .1, q .2)) refl
-        (plan-batch log area table m _ _ _ _ end number count plan-all area-long a b batch _ ra rb)
+        (plan-batch log area _ _ _ _ end number count plan-all area-long a d b batch at _ ra rd et rb)

@@ -1,23 +1,22 @@
 -- Settle: what its first questions give, what it does to the strip and the batch, and how the call ends. Assumes nothing.
 use mathlib.Core.Path.{_≡_, refl, sym, ap, _∙_}
 use mathlib.Core.Logic.{_≢_}
-use mathlib.Core.List.{List, [], _∷_, _++_}
+use mathlib.Core.List.{List, [], _∷_}
 use Prim.Native.Nat.{ℕ, _+_, _-_, _*_, _^_, _≤_, _<_}
 use native.Mathlib.Omega.{arith}
 use lib.ListN.{length}
 use borrow.Author.Tests.{le-leb, lt-leb}
 use Rattle.model.specs.Bytes.{puts}
 use Rattle.model.specs.Layout.{groupsIn, homesIn, entryAt}
-use Rattle.model.specs.Batch.{FN, batchBytes}
+use Rattle.model.specs.Batch.{FN, recordBytes, batchBytes}
 use Rattle.model.specs.declared.State.{State}
 use Rattle.model.specs.State.{stateOf, setSettled, setFenced}
-use Rattle.model.specs.Effects.{Given, marked, replayed, homeWrites, liveTags, liveBase, settleEffect}
+use Rattle.model.specs.Effects.{Given, touched, replayed, homeWrites, liveTags, liveBase, settleEffect}
 use Rattle.model.specs.Questions.{ask, askState, batchFits, settleAnswer}
 use Rattle.model.specs.Calls.{sizeOf, settleCall}
 use Rattle.model.proofs.strip.BatchLaws.{batch-one, length-FN}
 use Rattle.model.proofs.strip.QuestionLaws.{ask-yes, ask-no}
 use Rattle.model.proofs.strip.OrderLaws.{InOrder}
-use Rattle.bitmap.specs.Marks.{marks}
 use Rattle.scan.specs.Walk.{closedBelow}
 use Rattle.answers.specs.Lent.{lent, leaves}
 use Rattle.answers.proofs.AnswerLaws.{Usable, state-usable, state-only, state-refuses, state-passes, refused-by, done-by}
@@ -31,7 +30,7 @@ pub record Numbers (log area state : List ℕ) (st : State) : Type 0 where
   pub groups-least : 4 ≤ st .groups
   pub groups-most : st .groups ≤ 1024
   pub area-length : length area ≡ 64 * st .homes
-  pub homes-most : st .homes ≤ 4096
+  pub homes-most : st .homes ≤ 65535
   pub state-length : length state ≡ 1024
   pub start-most : st .start ≤ 2 ^ 47
   pub start-fenced : 7 * st .start ≤ st .fenced
@@ -85,9 +84,9 @@ module _ (log area state batch : List ℕ) where
       refused-by settling (settleEffect settling) _ code figure size
       (r .0 ∙ state-refuses settling v _ (e ∙ sym (state-only log area state [] batch 0 0 0)) h) (λ z. h (sym (r .0) ∙ z)) (r .1) (r .2)
 
-  module _ (v end number count : ℕ) (st : State) (table m : List ℕ) (e : v ≡ askState (lent log area state [] [] 0 0) 0) (z : v ≡ 0)
+  module _ (v end number count : ℕ) (st : State) (e : v ≡ askState (lent log area state [] [] 0 0) 0) (z : v ≡ 0)
       (f : st ≡ stateOf state)
-      (p : Planned log (st .groups) (st .homes) (st .start) (st .fenced - 7 * st .start) table m end number count) where
+      (p : Planned log (st .groups) (st .homes) (st .start) (st .fenced - 7 * st .start) end number count) where
     order : InOrder state (groupsIn (length log)) (homesIn (length area))
     order = state-usable (lent log area state [] [] 0 0) (sym e ∙ z) .order
 
@@ -95,13 +94,13 @@ module _ (log area state batch : List ℕ) where
     area-long = state-usable (lent log area state [] [] 0 0) (sym e ∙ z) .area-length
 
     plan-live : Planned log (groupsIn (length log)) (homesIn (length area)) (stateOf state .start) (stateOf state .fenced - 7 * stateOf state .start)
-        table m end number count
+        end number count
     plan-live = rw (f, order .groups-same, order .homes-same) at p
 
     settle-size : sizeOf (settleEffect settling) ≡ 68 * count + 2
     unfolding sizeOf settleEffect liveTags liveBase
     settle-size =
-        plan-size log area table m _ _ _ _ end number count plan-live area-long (FN ∷ []) ∙ ap (λ (k : ℕ). 68 * count + k) (ap length (batch-one FN) ∙ length-FN)
+        plan-size log area _ _ _ _ end number count plan-live area-long (FN ∷ []) ∙ ap (λ (k : ℕ). 68 * count + k) (ap length (batch-one FN) ∙ length-FN)
 
     settle-length : length (batchBytes (settleEffect settling .records)) ≡ 68 * count + 2
     unfolding sizeOf
@@ -110,26 +109,32 @@ module _ (log area state batch : List ℕ) where
     asked : askState settling (ask (batchFits settling (sizeOf (settleEffect settling))) 9 0) ≡ ask (batchFits settling (sizeOf (settleEffect settling))) 9 0
     asked = state-passes settling _ (state-only log area state [] batch 0 0 0 ∙ sym e ∙ z)
 
-    pub settle-short : (code figure size : ℕ) → length batch < 68 * count + 2 → (code ≡ 9) × (figure ≡ 0) × (size ≡ 0)
-        → leaves code figure size log area state [] batch ≡ settleCall settling
+    pub settle-short : (code figure size : ℕ) (a b : List ℕ) → length batch < 68 * count + 2 → (code ≡ 9) × (figure ≡ 0) × (size ≡ 0)
+        → a ≡ area → b ≡ batch → leaves code figure size log a state [] b ≡ settleCall settling
     unfolding settleCall settleAnswer batchFits
-    settle-short code figure size h r =
-        refused-by settling (settleEffect settling) _ code figure size
+    settle-short code figure size a b h r ea eb =
+        rw (ea, eb)
+        (refused-by settling (settleEffect settling) _ code figure size
         (r .0 ∙ sym (asked ∙ ask-no _ 9 0 (lt-leb (sizeOf (settleEffect settling)) (length batch) (omega (arith, settle-size)))))
-        (λ y. let w = r .0 in omega arith) (r .1) (r .2)
+        (λ y. let w = r .0 in omega arith) (r .1) (r .2))
 
-    pub settle-done : (code figure size : ℕ) (a s b : List ℕ) → 68 * count + 2 ≤ length batch
+    pub settle-done : (code figure size at : ℕ) (a s d b : List ℕ) → 68 * count + 2 ≤ length batch
         → (code ≡ 0) × (figure ≡ 0) × (size ≡ 68 * count + 2)
         → a ≡ replayed log (st .groups) (entryAt log (st .groups) (st .homes) (st .start)) (closedBelow log (st .groups) (st .homes) (st .start) end) area
-        → b ≡ puts batch 0 (batchBytes (homeWrites a (marked (marks m) (64 * length m)) ++ (FN ∷ [])))
+        → d
+        ≡ puts batch 0
+        (batchBytes (homeWrites a
+        (touched (entryAt log (st .groups) (st .homes) (st .start)) (closedBelow log (st .groups) (st .homes) (st .start) end) (st .homes))))
+        → b ≡ puts d at (recordBytes FN) → at ≡ 68 * count
         → s ≡ setFenced (setSettled state (st .fenced)) (7 * st .next)
         → leaves code figure size log a s [] b ≡ settleCall settling
     unfolding settleCall settleAnswer batchFits settleEffect liveTags liveBase
-    settle-done code figure size a s b h r ea eb es =
+    settle-done code figure size at a s d b h r ea ed eb et es =
         let ra = rw (f, order .groups-same, order .homes-same) at ea in
+        let rd = rw (f, order .groups-same, order .homes-same) at ed in
         done-by settling (settleEffect settling) _ code figure size log a s [] b
         (asked ∙ ask-yes _ 9 0 (le-leb (sizeOf (settleEffect settling)) (length batch) (omega (arith, settle-size))))
         (r .0) (r .1) (r .2 ∙ sym settle-length) refl
-        (plan-area log area table m _ _ _ _ end number count plan-live area-long a ra)
+        (plan-area log area _ _ _ _ end number count plan-live area-long a ra)
         (es ∙ rw f) refl
-        (plan-batch log area table m _ _ _ _ end number count plan-live area-long a b batch (FN ∷ []) ra eb)
+        (plan-batch log area _ _ _ _ end number count plan-live area-long a d b batch at (FN ∷ []) ra rd et (eb ∙ rw (← batch-one FN)))

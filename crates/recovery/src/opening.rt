@@ -1,22 +1,17 @@
 // Open: the committed transactions of the log come back, and the log is then empty from a new start on.
 use super::planning::bring_back;
-use super::planning::touched_homes;
 use answers::Reply;
 ghost use mathlib.Core.Path.{_≡_};
-ghost use mathlib.Core.List.{[], _∷_, _++_};
+ghost use mathlib.Core.List.{[], _∷_};
 ghost use Prim.Native.Nat.{_+_, _*_, _^_, _≤_, _<_};
 ghost use lib.ListN.{length};
 ghost use Rattle.model.specs.Bytes.{puts};
-ghost use Rattle.model.specs.Layout.{groupsIn, homesIn, header, headerStart, entryAt};
+ghost use Rattle.model.specs.Layout.{groupsIn, homesIn, header, headerStart};
 ghost use Rattle.model.specs.Batch.{KW, FN, batchBytes};
 ghost use Rattle.model.specs.State.{freshState};
-ghost use Rattle.model.specs.Effects.{marked, replayed, homeWrites};
 ghost use Rattle.model.specs.Calls.{openCall};
-ghost use Rattle.bitmap.specs.Marks.{marks};
-ghost use Rattle.scan.specs.Walk.{closedBelow};
 ghost use Rattle.answers.specs.Lent.{lent, leaves};
 ghost use Rattle.recovery.specs.Opens.{askOpen};
-ghost use Rattle.recovery.specs.Plans.{Replayable};
 
 // The highest group number that a log may start at.
 const MAX_START: u64 = 0x8000_0000_0000;
@@ -63,31 +58,14 @@ fn may_open(log: &[u8], area: &[u8], state: &[u8]) -> u64
     0
 }
 
-// Replays what closes below `end` into the data copy, and writes the records of the marked homes and of the new header, fenced.
-fn open_homes(
-    log: &[u8],
-    area: &mut [u8],
-    batch: &mut [u8],
-    table: &[u16],
-    map: &[u64],
-    groups: u64,
-    homes: u64,
-    start: u64,
-    end: u64,
-)
-    requires { ⌜ Replayable (now log) (now area) (now table) (now map) (now batch) groups homes start end 70 ⌝ }
-    ensures { λ _. ⌜ now (area .exit)
-        ≡ replayed (now (log .entry)) groups (entryAt (now (log .entry)) groups homes start)
-        (closedBelow (now (log .entry)) groups homes start end) (now (area .entry)) ⌝ }
-    ensures { λ _. ⌜ now (batch .exit)
-        ≡ puts (now (batch .entry)) 0
-        (batchBytes (homeWrites (now (area .exit)) (marked (marks (now (map .entry))) (64 * length (now (map .entry))))
-        ++ (FN ∷ KW (header (start + groups) groups homes) ∷ FN ∷ []))) ⌝ }
+// Writes a fence, the header with a new start and another fence at an index of the batch.
+fn open_records(batch: &mut [u8], at: usize, start: u64, groups: u64, homes: u64)
+    requires { ⌜ at + 70 ≤ length (now batch) ⌝ }
+    ensures { λ _. ⌜ now (batch .exit) ≡ puts (now (batch .entry)) at (batchBytes (FN ∷ KW (header start groups homes) ∷ FN ∷ [])) ⌝ }
 {
-    let mut at = bring_back(log, area, batch, table, map, groups, homes, start, end);
-    at = batch::fence(batch, at);
-    at = batch::header_write(batch, at, start + groups, groups, homes);
-    batch::fence(batch, at);
+    let mut next = batch::fence(batch, at);
+    next = batch::header_write(batch, next, start, groups, homes);
+    batch::fence(batch, next);
 }
 
 // Puts the header with a new start into the log copy, and makes the strip that of an empty log.
@@ -112,16 +90,13 @@ pub fn reopen(log: &mut [u8], area: &mut [u8], state: &mut [u8], batch: &mut [u8
     let groups = shape.groups;
     let homes = shape.homes;
     let start = shape.start;
-    let mut table = [0u16; 4096];
-    let mut map = [0u64; 64];
     let found = scan::walk(log, groups, homes, start, 7 * groups);
     let end = found.end;
-    let count = touched_homes(log, &mut table, &mut map, groups, homes, start, end);
-    let size = 68 * count + 70;
+    let size = bring_back(log, area, batch, groups, homes, start, end, 70);
     if (batch.len() as u64) < size {
         return answers::refused(9);
     }
-    open_homes(log, area, batch, &table, &map, groups, homes, start, end);
+    open_records(batch, size as usize - 70, start + groups, groups, homes);
     open_copies(log, state, groups, homes, start + groups);
     answers::done(found.number, size)
 }

@@ -1,56 +1,58 @@
-// Replay for settle and open: first what is to be brought back, and then the data copy and the homes' records.
+// Replay for settle and open, if the batch has room for its records.
 ghost use mathlib.Core.Path.{_≡_};
-ghost use Prim.Native.Nat.{_*_, _≤_};
-ghost use lib.ListN.{length, replicate};
-ghost use Rattle.model.specs.Bytes.{puts};
+ghost use Prim.Native.Nat.{_+_, _*_, _≤_};
+ghost use lib.ListN.{length};
 ghost use Rattle.model.specs.Layout.{entryAt};
-ghost use Rattle.model.specs.Batch.{batchBytes};
-ghost use Rattle.model.specs.Effects.{marked, replayed, homeWrites};
-ghost use Rattle.bitmap.specs.Marks.{marks};
+ghost use Rattle.model.specs.Effects.{touched};
 ghost use Rattle.scan.specs.Walk.{Walkable, closedBelow};
-ghost use Rattle.replay.specs.Restore.{Gathered};
-ghost use Rattle.recovery.specs.Plans.{Replayable};
+ghost use Rattle.recovery.specs.Plans.{Brought};
 
-// Notes the newest entry of each home that the transactions of all closing entries below `end` touch in an empty table, marks those homes in
-// an empty map, and returns how many they are.
-pub fn touched_homes(
-    log: &[u8],
-    table: &mut [u16],
-    map: &mut [u64],
-    groups: u64,
-    homes: u64,
-    start: u64,
-    end: u64,
-) -> u64
-    requires { ⌜ Walkable (now log) groups start end × (homes ≤ 4096) × (now table ≡ replicate 4096 0) × (now map ≡ replicate 64 0) ⌝ }
-    ensures { λ r. ⌜ Gathered (now (log .entry)) groups homes start end (now (table .exit)) (now (map .exit))
-        × (r ≡ length (marked (marks (now (map .exit))) (64 * length (now (map .exit))))) ⌝ }
-{
-    replay::gather(log, table, map, groups, homes, start, end);
-    bitmap::count(map)
-}
-
-// Replays the transactions that close below `end` into the data copy, and writes the records of the marked homes at the batch's beginning.
+// Returns how many bytes the records of the homes that the transactions of all closing entries below `end` touch take, and `more`. If the batch has
+// them, those transactions are replayed into the data copy, and the homes' records stand at the batch's beginning.
 pub fn bring_back(
     log: &[u8],
     area: &mut [u8],
     batch: &mut [u8],
-    table: &[u16],
-    map: &[u64],
     groups: u64,
     homes: u64,
     start: u64,
     end: u64,
-) -> usize
-    requires { ⌜ Replayable (now log) (now area) (now table) (now map) (now batch) groups homes start end 0 ⌝ }
-    ensures { λ r. ⌜ r ≡ 68 * length (marked (marks (now (map .entry))) (64 * length (now (map .entry)))) ⌝ }
-    ensures { λ _. ⌜ now (area .exit)
-        ≡ replayed (now (log .entry)) groups (entryAt (now (log .entry)) groups homes start)
-        (closedBelow (now (log .entry)) groups homes start end) (now (area .entry)) ⌝ }
-    ensures { λ _. ⌜ now (batch .exit)
-        ≡ puts (now (batch .entry)) 0
-        (batchBytes (homeWrites (now (area .exit)) (marked (marks (now (map .entry))) (64 * length (now (map .entry)))))) ⌝ }
+    more: u64,
+) -> u64
+    requires { ⌜ Walkable (now log) groups start end × (homes ≤ 65535) × (length (now area) ≡ 64 * homes) × (more ≤ 70) ⌝ }
+    ensures { λ r. ⌜ r
+        ≡ 68 * length (touched (entryAt (now (log .entry)) groups homes start) (closedBelow (now (log .entry)) groups homes start end) homes) + more ⌝ }
+    ensures { λ r. ⌜ Brought (now (log .entry)) groups homes start end r (now (area .entry)) (now (batch .entry)) (now (area .exit)) (now (batch .exit)) ⌝ }
 {
-    replay::restore_all(log, area, table, map, groups, homes, start, end);
-    homes::emit(batch, 0, map, area)
+    let mut last = [0u16; 7168];
+    let mut heads = [0u16; 1024];
+    let mut links = [0u16; 7168];
+    replay::gather(
+        log,
+        &mut last,
+        &mut heads,
+        &mut links,
+        groups,
+        homes,
+        start,
+        end,
+    );
+    let count = replay::count(log, &last, &heads, &links, groups, homes, start, end);
+    let size = 68 * count + more;
+    if (batch.len() as u64) < size {
+        return size;
+    }
+    replay::bring_back(
+        log,
+        area,
+        batch,
+        &last,
+        &heads,
+        &links,
+        groups,
+        homes,
+        start,
+        end,
+    );
+    size
 }

@@ -15,8 +15,7 @@ use Rattle.model.specs.declared.Tag.the-variants.{Nothing, Entry, Closing}
 use Rattle.model.proofs.rule.Closings.{spanAt, closings}
 use Rattle.model.proofs.rule.MemberLaws.{entries-at, each-append, newest-if, newest-append, orElse-none, orElse-assoc}
 use Rattle.scan.proofs.ScanLaws.{Placed}
-use Rattle.replay.specs.Gather.{offsetCode}
-use Rattle.replay.specs.Best.{closes, closer, from, Best, nothing, better, taken, best}
+use Rattle.replay.specs.Best.{closes, closer, from, Best, nothing, better, taken, best, offsetCode}
 
 -- ---- closing entries from an offset on
 
@@ -360,20 +359,3 @@ module _ (tags : ℕ → Tag) (base home : ℕ) where
             )
             (says-over n (newestIn tags home (members tags g (base + 0) (n + 1 - 0))) (newest tags home (eachEntries tags base (closings tags base n)))
             (best (closer tags base n) tags base home 0 N) k)
-
--- the best of some offsets is one of them
-pub best-most : (c : ℕ → ℕ) (tags : ℕ → Tag) (base home i m : ℕ) → best c tags base home i m .entry ≤ i + m
-unfolding best nothing taken better
-best-most c tags base home i zero = omega arith
-best-most c tags base home i (suc m) = go (tags (base + i)) (best-most c tags base home (suc i) m)
-  where
-    pick : (a b : Bool) (x : ℕ) → best c tags base home (suc i) m .entry ≤ suc i + m
-        → cond a (cond b (record { closer = x; entry = i + 1 }) (best c tags base home (suc i) m)) (best c tags base home (suc i) m) .entry ≤ i + suc m
-    pick true true x k = omega arith
-    pick true false x k = omega arith
-    pick false b x k = omega arith
-
-    go : (t : Tag) → best c tags base home (suc i) m .entry ≤ suc i + m → taken c home i t (best c tags base home (suc i) m) .entry ≤ i + suc m
-    go Nothing k = omega arith
-    go (Entry h f) k = pick (eqb h home) (ltb (best c tags base home (suc i) m .closer) (from i (c f))) (from i (c f)) k
-    go (Closing h f link count) k = pick (eqb h home) (ltb (best c tags base home (suc i) m .closer) (from i (c f))) (from i (c f)) k

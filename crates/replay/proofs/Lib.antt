@@ -1,3 +1,5 @@
 pub mod BestLaws
-pub mod GatherLaws
+pub mod ChainLaws
+pub mod NewestLaws
+pub mod PlaceLaws
 pub mod RestoreLaws

@@ -1,6 +1,7 @@
--- What the pass from the log's end down finds, home by home: the entry whose transaction closes last, and of that transaction the last entry.
-use Prim.Native.Nat.{ℕ, zero, suc, _+_}
+-- What the chains give, home by home: the entry whose transaction closes last, and of that transaction the last entry.
+use Prim.Native.Nat.{ℕ, zero, suc, _+_, _-_}
 use mathlib.Core.Bool.{Bool, false, cond}
+use mathlib.Core.Option.{Option, none, some}
 use lib.Dec.{eqb, ltb}
 use Rattle.model.specs.declared.Tag.{Tag}
 use Rattle.model.specs.declared.Tag.the-variants.{Nothing, Entry, Closing}
@@ -40,3 +41,8 @@ taken c home i (Closing h f link count) r = cond (eqb h home) (better (from i (c
 unfoldable pub best : (ℕ → ℕ) → (ℕ → Tag) → ℕ → ℕ → ℕ → ℕ → Best
 best c tags base home i zero = nothing
 best c tags base home i (suc m) = taken c home i (tags (base + i)) (best c tags base home (suc i) m)
+
+-- a position as one past its offset from a base, 0 for none
+unfoldable pub offsetCode : ℕ → Option ℕ → ℕ
+offsetCode base none = 0
+offsetCode base (some p) = p - base + 1

@@ -1,3 +1,4 @@
-pub mod Gather
 pub mod Best
+pub mod Chains
+pub mod Words
 pub mod Restore

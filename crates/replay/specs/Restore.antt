@@ -1,34 +1,39 @@
--- Replay by a table of newest entries: for each home one past the offset of its newest entry, 0 for none.
-use Prim.Native.Nat.{ℕ, _+_, _-_, _*_, _≤_, _<_}
+-- Replay home by home: the block of each touched home's newest entry.
+use Prim.Native.Nat.{ℕ, _+_, _*_, _≤_, _<_}
 use mathlib.Core.Path.{_≡_}
 use mathlib.Core.List.{List, [], _∷_}
+use mathlib.Core.Option.{Option, none, some}
 use lib.ListN.{length, getD}
 use Rattle.model.specs.Layout.{entryAt, blockAt, putHome}
-use Rattle.model.specs.Commit.{newest, found}
-use Rattle.bitmap.specs.Marks.{marks}
-use Rattle.scan.specs.Walk.{closedBelow}
-use Rattle.replay.specs.Gather.{maxHomes, offsetCode}
+use Rattle.model.specs.Commit.{newest}
+use Rattle.model.specs.Effects.{touched}
+use Rattle.scan.specs.Walk.{Walkable, closedBelow}
+use Rattle.replay.specs.Chains.{maxHomes, Chained}
 
--- the table and the map hold the newest entries of the transactions of all closing entries below `end`
-pub record Gathered (log : List ℕ) (groups homes start end : ℕ) (table map : List ℕ) : Type 0 where
-  pub each : length table ≡ maxHomes
-  pub words : length map ≡ 64
-  pub entry : (h : ℕ) → h < maxHomes
-      → getD table h 0 ≡ offsetCode (7 * start) (newest (entryAt log groups homes start) h (closedBelow log groups homes start end))
-  pub below : (h : ℕ) → h < maxHomes → getD table h 0 ≤ end - 7 * start
-  pub there : (h : ℕ) → h < maxHomes → marks map h ≡ found (newest (entryAt log groups homes start) h (closedBelow log groups homes start end))
+-- each of some homes gets the block at its position
+unfoldable pub restored : List ℕ → ℕ → (ℕ → ℕ) → List ℕ → List ℕ → List ℕ
+restored log groups at [] area = area
+restored log groups at (h ∷ hs) area = restored log groups at hs (putHome area h (blockAt log groups (at h)))
 
--- each of some homes gets the block of its newest entry, where offsets count from position `base`
-unfoldable pub restored : List ℕ → ℕ → ℕ → List ℕ → List ℕ → List ℕ → List ℕ
-restored log groups base table [] area = area
-restored log groups base table (h ∷ hs) area =
-    restored log groups base table hs (putHome area h (blockAt log groups (base + getD table h 0 - 1)))
+-- the position of an entry, where there is one
+unfoldable pub placeOf : Option ℕ → ℕ
+placeOf none = 0
+placeOf (some p) = p
 
--- each of some homes lies within the area and has a newest entry
-abbrev pub Ready : List ℕ → List ℕ → List ℕ → Type 0
-Ready area table [] = Unit {0}
-Ready area table (h ∷ hs) = (64 * h + 64 ≤ length area) × (h < length table) × (0 < getD table h 0) × Ready area table hs
+-- where the newest entry of a home lies among the transactions of all closing entries below `end`
+abbrev pub newestAt : List ℕ → ℕ → ℕ → ℕ → ℕ → ℕ → ℕ
+newestAt log groups homes start end h = placeOf (newest (entryAt log groups homes start) h (closedBelow log groups homes start end))
 
--- no entry of a table lies past a log of some groups
-pub record Short (groups : ℕ) (table : List ℕ) : Type 0 where
-  pub below : (h : ℕ) → h < length table → getD table h 0 ≤ 7 * groups
+-- each of some homes of a word that begins at home `base`, given by their indexes, lies within the area and has a newest entry
+abbrev pub Ready : List ℕ → ℕ → List ℕ → ℕ → List ℕ → Type 0
+Ready area groups table base [] = Unit {0}
+Ready area groups table base (k ∷ ks) =
+    (64 * (base + k) + 64 ≤ length area) × (k < length table) × (0 < getD table k 0) × (getD table k 0 ≤ 7 * groups) × Ready area groups table base ks
+
+-- what bringing back is handed, where `more` bytes of the batch follow the homes' records
+pub record Replayable (log area last heads links batch : List ℕ) (groups homes start end more : ℕ) : Type 0 where
+  pub walkable : Walkable log groups start end
+  pub few : homes ≤ maxHomes
+  pub area-length : length area ≡ 64 * homes
+  pub chained : Chained log groups homes start end last heads links
+  pub batch-length : 68 * length (touched (entryAt log groups homes start) (closedBelow log groups homes start end) homes) + more ≤ length batch

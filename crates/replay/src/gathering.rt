@@ -1,83 +1,54 @@
-// The newest committed entry of every home, found in one pass over the log from its end down.
+// The pass over the log that finds the last closing entry of each transaction, by its first position, and chains the entries of each word of homes.
 use model::Tag;
 ghost use mathlib.Core.Path.{_≡_};
-ghost use mathlib.Core.Bool.{cond};
 ghost use Prim.Native.Nat.{_+_, _-_, _*_, _^_, _≤_, _<_};
-ghost use lib.Dec.{ltb};
 ghost use lib.ListN.{length, getD, set, replicate};
 ghost use Rattle.model.specs.Tag.{readTag};
-ghost use Rattle.model.specs.Layout.{groupTag, entryIn};
-ghost use Rattle.bitmap.specs.Marks.{withMark};
+ghost use Rattle.model.specs.Layout.{entryIn};
+ghost use Rattle.scan.specs.Scan.{over};
 ghost use Rattle.scan.specs.Walk.{Walkable};
-ghost use Rattle.replay.specs.Gather.{closed, note, noted, Roomy};
-ghost use Rattle.replay.specs.Restore.{Gathered};
+ghost use Rattle.replay.specs.Chains.{note, Roomy, Chained};
 
-// Takes a closing entry as the last one of the transaction with the first position at index `first`, if none has passed.
-fn close(last: &mut [u16], first: usize, code: u16)
-    requires { ⌜ first < length (now last) ⌝ }
-    ensures { λ _. ⌜ now (last .exit) ≡ closed (now (last .entry)) first code ⌝ }
+// Puts the entry at an offset first into the chain of a word of homes.
+fn chain(heads: &mut [u16], links: &mut [u16], word: usize, offset: usize)
+    requires { ⌜ (word < length (now heads)) × (offset < length (now links)) × (offset < 7168) ⌝ }
+    ensures { λ _. ⌜ now (heads .exit) ≡ set (now (heads .entry)) word (offset + 1) ⌝ }
+    ensures { λ _. ⌜ now (links .exit) ≡ set (now (links .entry)) offset (getD (now (heads .entry)) word 0) ⌝ }
 {
-    if last[first] == 0 {
-        last[first] = code;
-    }
+    links[offset] = heads[word];
+    heads[word] = (offset + 1) as u16;
 }
 
-// Takes an entry as its home's newest, if its transaction closes later than that of the newest so far.
-fn offer(
-    closers: &mut [u16],
-    table: &mut [u16],
-    map: &mut [u64],
-    home: usize,
-    closer: u16,
-    code: u16,
-)
-    requires { ⌜ (home < length (now closers)) × (home < length (now table)) × (home < 64 * length (now map)) ⌝ }
-    ensures { λ _. ⌜ now (closers .exit) ≡ cond (ltb (getD (now (closers .entry)) home 0) closer) (set (now (closers .entry)) home closer) (now (closers .entry)) ⌝ }
-    ensures { λ _. ⌜ now (table .exit) ≡ cond (ltb (getD (now (closers .entry)) home 0) closer) (set (now (table .entry)) home code) (now (table .entry)) ⌝ }
-    ensures { λ _. ⌜ now (map .exit) ≡ cond (ltb (getD (now (closers .entry)) home 0) closer) (withMark (now (map .entry)) home) (now (map .entry)) ⌝ }
-{
-    if closers[home] < closer {
-        closers[home] = closer;
-        table[home] = code;
-        bitmap::mark(map, home);
-    }
-}
-
-// Takes what tag `k` of a group says at a position.
-fn note_tag(
-    group: &[u8],
-    k: usize,
+// Takes what the word of a tag says at a position.
+fn visit(
+    word: u64,
     position: u64,
     base: u64,
     homes: u64,
     last: &mut [u16],
-    closers: &mut [u16],
-    table: &mut [u16],
-    map: &mut [u64],
+    heads: &mut [u16],
+    links: &mut [u16],
 )
-    requires { ⌜ (length (now group) ≡ 512) × (k < 7) × (base ≤ position) × (position < base + 7168) × Roomy homes (now last) (now closers) (now table) (now map) ⌝ }
-    ensures { λ _. ⌜ record { last = now (last .exit); closers = now (closers .exit); table = now (table .exit); map = now (map .exit) }
-        ≡ note base (position - base) (readTag (groupTag (now (group .entry)) k) position base homes)
-        (record { last = now (last .entry); closers = now (closers .entry); table = now (table .entry); map = now (map .entry) }) ⌝ }
+    requires { ⌜ (base ≤ position) × (position < base + 7168) × Roomy homes (now last) (now heads) (now links) ⌝ }
+    ensures { λ _. ⌜ record { last = now (last .exit); heads = now (heads .exit); links = now (links .exit) }
+        ≡ note base position (readTag word position base homes)
+        (record { last = now (last .entry); heads = now (heads .entry); links = now (links .entry) }) ⌝ }
 {
-    let code = (position - base + 1) as u16;
-    match scan::tag_in(group, k, position, base, homes) {
+    let offset = (position - base) as usize;
+    match codec::read_tag(word, position, base, homes) {
         Tag::Nothing => {}
-        Tag::Entry(home, first) => {
-            let closer = last[(first - base) as usize];
-            offer(closers, table, map, home as usize, closer, code);
+        Tag::Entry(home, _) => {
+            chain(heads, links, (home / 64) as usize, offset);
         }
         Tag::Closing(home, first, _, _) => {
-            let at = (first - base) as usize;
-            close(last, at, code);
-            let closer = last[at];
-            offer(closers, table, map, home as usize, closer, code);
+            last[(first - base) as usize] = (offset + 1) as u16;
+            chain(heads, links, (home / 64) as usize, offset);
         }
     }
 }
 
-// Takes the first `m` tags of a group from the last of them down, which says nothing where it is not the valid group with number `n`.
-fn note_group(
+// Takes the first `m` tags of a group, which says nothing where it is not the valid group with number `n`.
+fn visit_group(
     group: &[u8],
     groups: u64,
     homes: u64,
@@ -85,76 +56,58 @@ fn note_group(
     n: u64,
     m: usize,
     last: &mut [u16],
-    closers: &mut [u16],
-    table: &mut [u16],
-    map: &mut [u64],
+    heads: &mut [u16],
+    links: &mut [u16],
 )
     requires { ⌜ (length (now group) ≡ 512) × (groups ≤ 1024) × (start ≤ 2 ^ 47) × (start ≤ n) × (n < start + 1024) × (m ≤ 7)
-        × Roomy homes (now last) (now closers) (now table) (now map) ⌝ }
-    ensures { λ _. ⌜ record { last = now (last .exit); closers = now (closers .exit); table = now (table .exit); map = now (map .exit) }
-        ≡ noted (entryIn (now (group .entry)) groups homes start) (7 * start) (7 * n) m
-        (record { last = now (last .entry); closers = now (closers .entry); table = now (table .entry); map = now (map .entry) }) ⌝ }
+        × Roomy homes (now last) (now heads) (now links) ⌝ }
+    ensures { λ _. ⌜ record { last = now (last .exit); heads = now (heads .exit); links = now (links .exit) }
+        ≡ over (note (7 * start)) (entryIn (now (group .entry)) groups homes start) (7 * n) m
+        (record { last = now (last .entry); heads = now (heads .entry); links = now (links .entry) }) ⌝ }
 {
     if !scan::group_valid(group, groups, start, n) {
         return;
     }
+    let words = scan::tag_words(group);
     let base = 7 * start;
-    let from = 7 * n;
-    let mut k = m;
-    while k > 0 {
-        k -= 1;
-        note_tag(
-            group,
-            k,
-            from + k as u64,
-            base,
-            homes,
-            last,
-            closers,
-            table,
-            map,
-        );
+    let mut position = 7 * n;
+    let mut k: usize = 0;
+    while k < m {
+        visit(words[k], position, base, homes, last, heads, links);
+        position += 1;
+        k += 1;
     }
 }
 
-// Finds the newest entry of every home among the transactions of all closing entries below `end`, and marks the homes that have one.
+// Finds in empty tables the last closing entries and the chains of all entries below `end`.
 pub fn gather(
     log: &[u8],
-    table: &mut [u16],
-    map: &mut [u64],
+    last: &mut [u16],
+    heads: &mut [u16],
+    links: &mut [u16],
     groups: u64,
     homes: u64,
     start: u64,
     end: u64,
 )
-    requires { ⌜ Walkable (now log) groups start end × (homes ≤ 4096) × (now table ≡ replicate 4096 0) × (now map ≡ replicate 64 0) ⌝ }
-    ensures { λ _. ⌜ Gathered (now (log .entry)) groups homes start end (now (table .exit)) (now (map .exit)) ⌝ }
+    requires { ⌜ Walkable (now log) groups start end × (homes ≤ 65535)
+        × (now last ≡ replicate 7168 0) × (now heads ≡ replicate 1024 0) × (now links ≡ replicate 7168 0) ⌝ }
+    ensures { λ _. ⌜ Chained (now (log .entry)) groups homes start end (now (last .exit)) (now (heads .exit)) (now (links .exit)) ⌝ }
 {
     let base = 7 * start;
     if end <= base {
         return;
     }
-    let mut last = [0u16; 7168];
-    let mut closers = [0u16; 4096];
-    let mut number = start + (end - base + 6) / 7;
-    let mut slot = scan::first_slot(number, groups);
-    while number > start {
-        number -= 1;
-        slot = scan::previous_slot(slot, groups);
+    let mut left = end - base;
+    let mut number = start;
+    let mut slot = scan::first_slot(start, groups);
+    while left > 0 {
         let from = 64 + 512 * slot as usize;
         let group = &log[from..from + 512];
-        let m = scan::in_group(end - 7 * number);
-        note_group(
-            group,
-            groups,
-            homes,
-            start,
-            number,
-            m,
-            &mut last,
-            &mut closers,
-            table,
-            map,
-        );
+        let m = scan::in_group(left);
+        visit_group(group, groups, homes, start, number, m, last, heads, links);
+        slot = scan::next_slot(slot, groups);
+        number += 1;
+        left -= m as u64;
     }
 }

@@ -154,7 +154,7 @@ fn result(progress: Progress) -> Found
 
 // Walks the `n` positions of the log from its start on, group by group, and finds where the committed transactions end and how many they are.
 pub fn walk(log: &[u8], groups: u64, homes: u64, start: u64, n: u64) -> Found
-    requires { ⌜ (length (now log) ≡ 64 + 512 * groups) × (4 ≤ groups) × (groups ≤ 1024) × (homes ≤ 4096) × (start ≤ 2 ^ 47) × (n ≤ 7 * groups) ⌝ }
+    requires { ⌜ (length (now log) ≡ 64 + 512 * groups) × (4 ≤ groups) × (groups ≤ 1024) × (homes ≤ 65535) × (start ≤ 2 ^ 47) × (n ≤ 7 * groups) ⌝ }
     ensures { λ r. ⌜ (r .end ≡ endOf (committed (entryAt (now (log .entry)) groups homes start) (7 * start) n)) × (r .number ≡ length (committed (entryAt (now (log .entry)) groups homes start) (7 * start) n)) ⌝ }
 {
     let mut counts = [0u16; 7168];

@@ -183,7 +183,7 @@ fn seek_with(
     counts: &mut [u16],
     latest: &mut [u16],
 ) -> u64
-    requires { ⌜ (length (now log) ≡ 64 + 512 * groups) × (4 ≤ groups) × (groups ≤ 1024) × (homes ≤ 4096) × (start ≤ 2 ^ 47) × (n ≤ 7 * groups) × (home < homes)
+    requires { ⌜ (length (now log) ≡ 64 + 512 * groups) × (4 ≤ groups) × (groups ≤ 1024) × (homes ≤ 65535) × (start ≤ 2 ^ 47) × (n ≤ 7 * groups) × (home < homes)
         × (0 < own → (7 * start < own) × (own ≤ 7 * start + n))
         × (n ≤ length (now counts)) × (now counts ≡ zeros (length (now counts))) × (now latest ≡ zeros (length (now counts))) ⌝ }
     ensures { λ r. ⌜ r ≡ codeOf (seenBy (entryAt (now (log .entry)) groups homes start) home own (7 * start) n) ⌝ }
@@ -229,7 +229,7 @@ pub fn newest_seen(
     home: u64,
     own: u64,
 ) -> u64
-    requires { ⌜ (length (now log) ≡ 64 + 512 * groups) × (4 ≤ groups) × (groups ≤ 1024) × (homes ≤ 4096) × (start ≤ 2 ^ 47) × (n ≤ 7 * groups) × (home < homes)
+    requires { ⌜ (length (now log) ≡ 64 + 512 * groups) × (4 ≤ groups) × (groups ≤ 1024) × (homes ≤ 65535) × (start ≤ 2 ^ 47) × (n ≤ 7 * groups) × (home < homes)
         × (0 < own → (7 * start < own) × (own ≤ 7 * start + n)) ⌝ }
     ensures { λ r. ⌜ r ≡ codeOf (seenBy (entryAt (now (log .entry)) groups homes start) home own (7 * start) n) ⌝ }
 {

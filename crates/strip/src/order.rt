@@ -120,7 +120,7 @@ fn writers_in_order(s: &[u8], st: State) -> bool
 
 // Whether the strip is in order for a log of `groups` groups and `homes` homes.
 pub fn in_order(s: &[u8], groups: u64, homes: u64) -> bool
-    requires { ⌜ (length (now s) ≡ 1024) × (groups ≤ 1024) × (homes ≤ 4096) ⌝ }
+    requires { ⌜ (length (now s) ≡ 1024) × (groups ≤ 1024) × (homes ≤ 65535) ⌝ }
     ensures { λ r. ⌜ r ≡ inOrder (now (s .entry)) groups homes ⌝ }
 {
     let st = state(s);

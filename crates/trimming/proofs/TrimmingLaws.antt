@@ -38,7 +38,7 @@ pub record Numbers (log : List ℕ) (st : State) : Type 0 where
   pub long : length log ≡ 64 + 512 * st .groups
   pub least : 4 ≤ st .groups
   pub most : st .groups ≤ 1024
-  pub homes-most : st .homes ≤ 4096
+  pub homes-most : st .homes ≤ 65535
   pub low : st .start ≤ 2 ^ 47
   pub next : 7 * st .next + st .filled ≡ nextPosition st
   pub next-most : st .next ≤ st .start + st .groups

@@ -29,7 +29,7 @@ fn put(bytes: &mut [u8], at: usize, value: u64) {
 /// Question 1.
 fn lengths(kind: Kind, lent: &Lent) -> bool {
     let log = (4..=1024).any(|g| lent.log.len() == 64 + 512 * g);
-    let data = (1..=4096).any(|d| lent.data.len() == 64 * d);
+    let data = lent.data.len() % 64 == 0 && (1..=65535).contains(&(lent.data.len() / 64));
     let state = !kind.takes_state() || lent.state.len() == 1024;
     let block = !kind.takes_block() || lent.block.len() == 64;
     log && data && state && block

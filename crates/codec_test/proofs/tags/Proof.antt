@@ -46,6 +46,26 @@ expect-requires-4 : tie.Need-expect-requires-4
 unfolding homeOf readTag readFields field says
 expect-requires-4 c κs = eq-eqb (c .home4 .result) 0 (c .home4 .ensures ∙ ap homeOf (c .before .read-tag4 .ensures))
 
+read-tag-requires-5 : tie.Need-read-tag-requires-5
+read-tag-requires-5 c κs = search needs
+
+home-requires-5 : tie.Need-home-requires-5
+home-requires-5 c κs = search needs
+
+expect-requires-5 : tie.Need-expect-requires-5
+unfolding homeOf readTag readFields field says
+expect-requires-5 c κs = eq-eqb (c .home5 .result) 65534 (c .home5 .ensures ∙ ap homeOf (c .before .read-tag5 .ensures))
+
+read-tag-requires-6 : tie.Need-read-tag-requires-6
+read-tag-requires-6 c κs = search needs
+
+home-requires-6 : tie.Need-home-requires-6
+home-requires-6 c κs = search needs
+
+expect-requires-6 : tie.Need-expect-requires-6
+unfolding homeOf readTag readFields field says
+expect-requires-6 c κs = eq-eqb (c .home6 .result) 0 (c .home6 .ensures ∙ ap homeOf (c .before .read-tag6 .ensures))
+
 returns : tie.Need-returns
 returns c = search needs
 
@@ -65,4 +85,10 @@ tags-spec =
     read-tag-requires-4
     home-requires-4
     expect-requires-4
+    read-tag-requires-5
+    home-requires-5
+    expect-requires-5
+    read-tag-requires-6
+    home-requires-6
+    expect-requires-6
     returns)

@@ -26,6 +26,13 @@ expect-requires-3 : tie.Need-expect-requires-3
 unfolding closingWord tagWord
 expect-requires-3 c κs = eq-eqb (c .commit-word2 .result) 3298534916119 (c .commit-word2 .ensures)
 
+entry-word-requires-2 : tie.Need-entry-word-requires-2
+entry-word-requires-2 c κs = search needs
+
+expect-requires-4 : tie.Need-expect-requires-4
+unfolding entryWord tagWord
+expect-requires-4 c κs = eq-eqb (c .entry-word2 .result) 0x01e0_0000_0000_3ff9 (c .entry-word2 .ensures)
+
 returns : tie.Need-returns
 returns c = search needs
 
@@ -39,4 +46,6 @@ words-spec =
     expect-requires-2
     commit-word-requires-2
     expect-requires-3
+    entry-word-requires-2
+    expect-requires-4
     returns)

@@ -398,11 +398,11 @@ log-length n h =
     let p = three (eqb n (64 + 512 * groupsIn n)) (leb 4 (groupsIn n)) (leb (groupsIn n) 1024) h in
     (eqb-true n _ (p .0), leb-true 4 _ (p .1), leb-true _ 1024 (p .2))
 
-pub data-length : (n : ℕ) → dataLengthRight n ≡ true → (n ≡ 64 * homesIn n) × (1 ≤ homesIn n) × (homesIn n ≤ 4096)
+pub data-length : (n : ℕ) → dataLengthRight n ≡ true → (n ≡ 64 * homesIn n) × (1 ≤ homesIn n) × (homesIn n ≤ 65535)
 unfolding dataLengthRight
 data-length n h =
-    let p = three (eqb n (64 * homesIn n)) (leb 1 (homesIn n)) (leb (homesIn n) 4096) h in
-    (eqb-true n _ (p .0), leb-true 1 _ (p .1), leb-true _ 4096 (p .2))
+    let p = three (eqb n (64 * homesIn n)) (leb 1 (homesIn n)) (leb (homesIn n) 65535) h in
+    (eqb-true n _ (p .0), leb-true 1 _ (p .1), leb-true _ 65535 (p .2))
 
 pub groups-in : (g : ℕ) → groupsIn (64 + 512 * g) ≡ g
 unfolding groupsIn
@@ -416,6 +416,6 @@ pub log-length-right : (g : ℕ) → 4 ≤ g → g ≤ 1024 → (groupsIn (64 + 
 unfolding logLengthRight
 log-length-right g h l = (groups-in g, rw (groups-in, eq-eqb (64 + 512 * g) (64 + 512 * g) refl, le-leb 4 g h, le-leb g 1024 l))
 
-pub data-length-right : (d : ℕ) → 1 ≤ d → d ≤ 4096 → (homesIn (64 * d) ≡ d) × (dataLengthRight (64 * d) ≡ true)
+pub data-length-right : (d : ℕ) → 1 ≤ d → d ≤ 65535 → (homesIn (64 * d) ≡ d) × (dataLengthRight (64 * d) ≡ true)
 unfolding dataLengthRight
-data-length-right d h l = (homes-in d, rw (homes-in, eq-eqb (64 * d) (64 * d) refl, le-leb 1 d h, le-leb d 4096 l))
+data-length-right d h l = (homes-in d, rw (homes-in, eq-eqb (64 * d) (64 * d) refl, le-leb 1 d h, le-leb d 65535 l))

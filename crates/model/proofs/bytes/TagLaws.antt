@@ -1,14 +1,15 @@
 -- Laws of the definitions of specs/Tag: what was packed into a word is read from it, and what a tag that was read says of its word. A law takes
 -- its variables in the order in which its left side first names them, then its premises. Assumes nothing.
-use mathlib.Core.Path.{_≡_, refl, ap, _∙_}
+use mathlib.Core.Path.{_≡_, refl, sym, ap, _∙_}
 use mathlib.Core.Bool.{Bool, true, false, cond, false≢true}
 use Prim.Native.Nat.{ℕ, _+_, _-_, _*_, _/_, _%_, _^_, _≤_, _<_}
 use native.Mathlib.Nat.{mod-lt}
 use native.Mathlib.Omega.{arith}
-use borrow.Author.Tests.{le-leb, leb-true}
+use native.Mathlib.Decide.{ℕ-discrete}
+use borrow.Author.Tests.{le-leb, lt-leb, leb-true, ne-eqb}
 use lib.Dec.{eqb, leb}
 use lib.Pow.{high, low, pow-pos}
-use Rattle.model.specs.Tag.{tagWord, entryWord, closingWord, field, says, readFields, readTag, present}
+use Rattle.model.specs.Tag.{tagWord, entryWord, closingWord, field, homeField, says, readFields, readTag, readSmallTag, present}
 use Rattle.model.specs.declared.Tag.{Tag}
 use Rattle.model.specs.declared.Tag.the-variants.{Nothing, Entry, Closing}
 
@@ -23,7 +24,7 @@ pub field-of : (j k q f l : ℕ) {w : ℕ} → w ≡ (q * 2 ^ j + f) * 2 ^ k + l
 unfolding field
 field-of j k q f l {w} e hf hl = ap (λ (x : ℕ). x / 2 ^ k % 2 ^ j) e ∙ ap (λ (x : ℕ). x % 2 ^ j) (high (q * 2 ^ j + f) k hl) ∙ low q j hf
 
-module _ (closing home back link count : ℕ) (hk : closing < 2) (hh : home < 2 ^ 12) (hb : back < 2 ^ 13) (hl : link < 2 ^ 13) (hn : count < 2 ^ 13) where
+module _ (closing home back link count : ℕ) (hk : closing < 2) (hh : home < 2 ^ 16) (hb : back < 2 ^ 13) (hl : link < 2 ^ 13) (hn : count < 2 ^ 13) where
   pub word-fits : tagWord closing home back link count < 2 ^ 64
   unfolding tagWord
   word-fits = omega arith
@@ -35,38 +36,47 @@ module _ (closing home back link count : ℕ) (hk : closing < 2) (hh : home < 2 
   unfolding tagWord readTag
   read-word position base homes =
       let w : ℕ = tagWord closing home back link count in
-      let l3 : ℕ = 1 + 2 * closing + 4 * home + 2 ^ 14 * back in
+      let low : ℕ = home % 2 ^ 12 in
+      let high : ℕ = home / 2 ^ 12 in
+      let small : low < 2 ^ 12 = omega arith in
+      let few : high < 2 ^ 4 = omega arith in
+      let whole : low + 2 ^ 12 * high ≡ home = omega arith in
+      let l3 : ℕ = 1 + 2 * closing + 4 * low + 2 ^ 14 * back in
+      let l5 : ℕ = l3 + 2 ^ 27 * link + 2 ^ 40 * count in
       let e0 : field w 0 1 ≡ 1 =
-      field-of 1 0 (closing + 2 * home + 2 ^ 13 * back + 2 ^ 26 * link + 2 ^ 39 * count) 1 0 (omega arith) (omega arith) (omega arith) in
+      field-of 1 0 (closing + 2 * low + 2 ^ 13 * back + 2 ^ 26 * link + 2 ^ 39 * count + 2 ^ 52 * high) 1 0 (omega arith) (omega arith) (omega arith) in
       let e1 : field w 1 1 ≡ closing =
-      field-of 1 1 (home + 2 ^ 12 * back + 2 ^ 25 * link + 2 ^ 38 * count) closing 1 (omega arith) (omega arith) (omega arith) in
-      let e2 : field w 53 11 ≡ 0 = field-of 11 53 0 0 w (omega arith) (omega arith) (omega arith) in
-      let e3 : field w 27 26 ≡ count * 2 ^ 13 + link = field-of 26 27 0 (count * 2 ^ 13 + link) l3 (omega arith) (omega arith) (omega arith) in
-      let e4 : field w 2 12 ≡ home = field-of 12 2 (back + 2 ^ 13 * link + 2 ^ 26 * count) home (1 + 2 * closing) (omega arith) (omega arith) (omega arith) in
-      let e5 : field w 14 13 ≡ back = field-of 13 14 (link + 2 ^ 13 * count) back (1 + 2 * closing + 4 * home) (omega arith) (omega arith) (omega arith) in
-      let e6 : field w 27 13 ≡ link = field-of 13 27 count link l3 (omega arith) (omega arith) (omega arith) in
-      let e7 : field w 40 13 ≡ count = field-of 13 40 0 count (l3 + 2 ^ 27 * link) (omega arith) (omega arith) (omega arith) in
-      rw (e0, e1, e2, e3, e4, e5, e6, e7)
+      field-of 1 1 (low + 2 ^ 12 * back + 2 ^ 25 * link + 2 ^ 38 * count + 2 ^ 51 * high) closing 1 (omega arith) (omega arith) (omega arith) in
+      let e2 : field w 57 7 ≡ 0 = field-of 7 57 0 0 w (omega arith) (omega arith) (omega arith) in
+      let e3 : field w 27 26 ≡ count * 2 ^ 13 + link = field-of 26 27 high (count * 2 ^ 13 + link) l3 (omega arith) (omega arith) (omega arith) in
+      let e4 : field w 2 12 ≡ low =
+      field-of 12 2 (back + 2 ^ 13 * link + 2 ^ 26 * count + 2 ^ 39 * high) low (1 + 2 * closing) (omega arith) (omega arith) (omega arith) in
+      let e5 : field w 14 13 ≡ back =
+      field-of 13 14 (link + 2 ^ 13 * count + 2 ^ 26 * high) back (1 + 2 * closing + 4 * low) (omega arith) (omega arith) (omega arith) in
+      let e6 : field w 27 13 ≡ link = field-of 13 27 (count + 2 ^ 13 * high) link l3 (omega arith) (omega arith) (omega arith) in
+      let e7 : field w 40 13 ≡ count = field-of 13 40 high count (l3 + 2 ^ 27 * link) (omega arith) (omega arith) (omega arith) in
+      let e8 : field w 53 4 ≡ high = field-of 4 53 0 high l5 (omega arith) (omega arith) (omega arith) in
+      rw (e0, e1, e2, e3, e4, e5, e6, e7, e8, whole)
 
-pub entry-fits : (home back : ℕ) → home < 2 ^ 12 → back < 2 ^ 13 → entryWord home back < 2 ^ 64
+pub entry-fits : (home back : ℕ) → home < 2 ^ 16 → back < 2 ^ 13 → entryWord home back < 2 ^ 64
 unfolding entryWord
 entry-fits home back hh hb = word-fits 0 home back 0 0 (omega arith) hh hb (omega arith) (omega arith)
 
-pub closing-fits : (home back link count : ℕ) → home < 2 ^ 12 → back < 2 ^ 13 → link < 2 ^ 13 → count < 2 ^ 13
+pub closing-fits : (home back link count : ℕ) → home < 2 ^ 16 → back < 2 ^ 13 → link < 2 ^ 13 → count < 2 ^ 13
     → closingWord home back link count < 2 ^ 64
 unfolding closingWord
 closing-fits home back link count hh hb hl hn = word-fits 1 home back link count (omega arith) hh hb hl hn
 
 -- ---- there and back
 
-pub read-entry : (home back position base homes : ℕ) → home < 2 ^ 12 → back < 2 ^ 13 → home < homes → base + back ≤ position
+pub read-entry : (home back position base homes : ℕ) → home < 2 ^ 16 → back < 2 ^ 13 → home < homes → base + back ≤ position
     → readTag (entryWord home back) position base homes ≡ Entry home (position - back)
 unfolding entryWord readFields says
 read-entry home back position base homes hh hb hd hp =
     read-word 0 home back 0 0 (omega arith) hh hb (omega arith) (omega arith) position base homes
     ∙ simp (le-leb (home + 1) homes (omega arith), le-leb (base + back) position hp)
 
-pub read-closing : (home back link count position base homes : ℕ) → home < 2 ^ 12 → back < 2 ^ 13 → link < 2 ^ 13 → count < 2 ^ 13 → 1 ≤ count
+pub read-closing : (home back link count position base homes : ℕ) → home < 2 ^ 16 → back < 2 ^ 13 → link < 2 ^ 13 → count < 2 ^ 13 → 1 ≤ count
     → home < homes → base + back ≤ position
     → readTag (closingWord home back link count) position base homes ≡ Closing home (position - back) link count
 unfolding closingWord readFields says
@@ -82,6 +92,59 @@ read-zero position base homes = refl
 pub trial-word : closingWord 5 2 0 3 ≡ 3298534916119
 unfolding closingWord tagWord
 trial-word = refl
+
+-- ---- logs of smaller stations
+
+-- bits 53 to 63 are the home's four, and above them the zero bits
+above-parts : (w : ℕ) → field w 53 11 ≡ field w 53 4 + 2 ^ 4 * field w 57 7
+unfolding field
+above-parts w = omega arith
+
+-- the fields of a word with some of the four bits set, which the reader of 12 bits took for zero bits: its home is none of 4,096
+read-high : (used closing above upper home back link count position base homes : ℕ) → homes ≤ home
+    → readFields used closing above upper home back link count position base homes ≡ Nothing
+unfolding readFields says
+read-high used closing above upper home back link count position base homes h =
+    rw (lt-leb (home + 1) homes (omega arith)) (both (eqb used 1) (eqb above 0))
+  where
+    both : (b c : Bool) → says b (says c Nothing) ≡ Nothing
+    both true true = refl
+    both true false = refl
+    both false c = refl
+
+read-above : (used closing above upper home back link count position base homes : ℕ) → (above ≡ 0 → ⊥)
+    → readFields used closing above upper home back link count position base homes ≡ Nothing
+unfolding readFields says
+read-above used closing above upper home back link count position base homes h = rw (ne-eqb above 0 h) (both (eqb used 1))
+  where
+    both : (b : Bool) → says b Nothing ≡ Nothing
+    both true = refl
+    both false = refl
+
+-- "Logs of smaller stations read as they did": on every word
+pub read-small : (word position base homes : ℕ) → homes ≤ 4096 → readTag word position base homes ≡ readSmallTag word position base homes
+unfolding readTag readSmallTag
+read-small word position base homes few = go (ℕ-discrete (field word 53 4) 0) (ℕ-discrete (field word 57 7) 0)
+  where
+    go : Dec (field word 53 4 ≡ 0) → Dec (field word 57 7 ≡ 0)
+        → readFields (field word 0 1) (field word 1 1) (field word 57 7) (field word 27 26) (field word 2 12 + 2 ^ 12 * field word 53 4) (field word 14 13)
+        (field word 27 13) (field word 40 13) position base homes
+        ≡ readFields (field word 0 1) (field word 1 1) (field word 53 11) (field word 27 26) (field word 2 12) (field word 14 13) (field word 27 13)
+        (field word 40 13) position base homes
+    go (yes a) b =
+        let e : field word 53 11 ≡ 2 ^ 4 * field word 57 7 = omega (arith, above-parts word) in
+        let h : field word 2 12 + 2 ^ 12 * field word 53 4 ≡ field word 2 12 = omega arith in
+        rw (e, h) (same b)
+      where
+        same : Dec (field word 57 7 ≡ 0)
+            → readFields (field word 0 1) (field word 1 1) (field word 57 7) (field word 27 26) (field word 2 12) (field word 14 13)
+            (field word 27 13) (field word 40 13) position base homes
+            ≡ readFields (field word 0 1) (field word 1 1) (2 ^ 4 * field word 57 7) (field word 27 26) (field word 2 12) (field word 14 13) (field word 27 13)
+            (field word 40 13) position base homes
+        same (yes z) = rw z
+        same (no z) = read-above _ _ _ _ _ _ _ _ _ _ _ z ∙ sym (read-above _ _ _ _ _ _ _ _ _ _ _ (λ k. z (omega arith)))
+    go (no a) b =
+        read-high _ _ _ _ _ _ _ _ _ _ _ (omega arith) ∙ sym (read-above _ _ _ _ _ _ _ _ _ _ _ (λ k. a (omega (arith, above-parts word))))
 
 -- ---- what a tag that was read says
 
@@ -174,13 +237,13 @@ closing-said used closing above upper home back link count position base homes h
 
 -- an entry that was read
 module _ (w position base homes h f : ℕ) (e : readTag w position base homes ≡ Entry h f) where
-  said-by-entry : EntrySaid (field w 2 12) (field w 14 13) position base homes h f
+  said-by-entry : EntrySaid (homeField w) (field w 14 13) position base homes h f
   unfolding readTag
   said-by-entry =
-      entry-said (field w 0 1) (field w 1 1) (field w 53 11) (field w 27 26) (field w 2 12) (field w 14 13) (field w 27 13) (field w 40 13)
+      entry-said (field w 0 1) (field w 1 1) (field w 57 7) (field w 27 26) (homeField w) (field w 14 13) (field w 27 13) (field w 40 13)
       position base homes h f e
 
-  pub entry-fields : (h ≡ field w 2 12) × (f + field w 14 13 ≡ position)
+  pub entry-fields : (h ≡ homeField w) × (f + field w 14 13 ≡ position)
   entry-fields = let s = said-by-entry in (s .sameHome, omega arith)
 
   pub entry-known : (h < homes) × (base ≤ f) × (f ≤ position)
@@ -188,13 +251,13 @@ module _ (w position base homes h f : ℕ) (e : readTag w position base homes �
 
 -- a closing entry that was read
 module _ (w position base homes h f l c : ℕ) (e : readTag w position base homes ≡ Closing h f l c) where
-  said-by-closing : ClosingSaid (field w 2 12) (field w 14 13) (field w 27 13) (field w 40 13) position base homes h f l c
+  said-by-closing : ClosingSaid (homeField w) (field w 14 13) (field w 27 13) (field w 40 13) position base homes h f l c
   unfolding readTag
   said-by-closing =
-      closing-said (field w 0 1) (field w 1 1) (field w 53 11) (field w 27 26) (field w 2 12) (field w 14 13) (field w 27 13) (field w 40 13)
+      closing-said (field w 0 1) (field w 1 1) (field w 57 7) (field w 27 26) (homeField w) (field w 14 13) (field w 27 13) (field w 40 13)
       position base homes h f l c e
 
-  pub closing-fields : (h ≡ field w 2 12) × (f + field w 14 13 ≡ position) × (l ≡ field w 27 13) × (c ≡ field w 40 13)
+  pub closing-fields : (h ≡ homeField w) × (f + field w 14 13 ≡ position) × (l ≡ field w 27 13) × (c ≡ field w 40 13)
   closing-fields = let s = said-by-closing in (s .sameHome, omega arith, s .sameLink, s .sameCount)
 
   pub closing-known : (h < homes) × (base ≤ f) × (f ≤ position) × (1 ≤ c)

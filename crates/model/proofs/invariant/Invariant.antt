@@ -28,7 +28,7 @@ pub record Sizes (G D : ℕ) : Type 0 where
   pub low : 4 ≤ G
   pub high : G ≤ 1024
   pub some-home : 1 ≤ D
-  pub homes : D ≤ 4096
+  pub homes : D ≤ 65535
 
 -- The trace in bytes
 

@@ -24,7 +24,7 @@ use Rattle.model.proofs.invariant.GrowLaws.{word-other, used-other, wor
 
 -- ---- the word of an event
 
-pub wordOf-fits : (D p : ℕ) (e : Ev) (ps : List ℕ) (u f : Bool) → D ≤ 4096 → SoundAt D p e ps → wordOf p e ps u f < 256 ^ 8
+pub wordOf-fits : (D p : ℕ) (e : Ev) (ps : List ℕ) (u f : Bool) → D ≤ 65535 → SoundAt D p e ps → wordOf p e ps u f < 256 ^ 8
 unfolding wordOf
 wordOf-fits D p e ps false f d s = omega arith
 wordOf-fits D p e ps true true d s =
@@ -155,21 +155,21 @@ says-nothing true = refl
 says-nothing false = refl
 
 -- a word whose first entry lies before the start
-early-entry : (home back position base homes : ℕ) → home < 2 ^ 12 → back < 2 ^ 13 → position < base + back
+early-entry : (home back position base homes : ℕ) → home < 2 ^ 16 → back < 2 ^ 13 → position < base + back
     → readTag (entryWord home back) position base homes ≡ Nothing
 unfolding entryWord readFields says
 early-entry home back position base homes hh hb hp =
     read-word 0 home back 0 0 (omega arith) hh hb (omega arith) (omega arith) position base homes
     ∙ rw (lt-leb (base + back) position hp) (says-nothing (leb (home + 1) homes))
 
-early-closing : (home back link count position base homes : ℕ) → home < 2 ^ 12 → back < 2 ^ 13 → link < 2 ^ 13 → count < 2 ^ 13
+early-closing : (home back link count position base homes : ℕ) → home < 2 ^ 16 → back < 2 ^ 13 → link < 2 ^ 13 → count < 2 ^ 13
     → position < base + back → readTag (closingWord home back link count) position base homes ≡ Nothing
 unfolding closingWord readFields says
 early-closing home back link count position base homes hh hb hl hn hp =
     read-word 1 home back link count (omega arith) hh hb hl hn position base homes
     ∙ rw (lt-leb (base + back) position hp) (says-nothing (leb (home + 1) homes))
 
-read-of : (D p c : ℕ) (e : Ev) (ps : List ℕ) (u f : Bool) → D ≤ 4096 → (u ≡ true → SoundAt D p e ps) → firstOf p ps ≤ p
+read-of : (D p c : ℕ) (e : Ev) (ps : List ℕ) (u f : Bool) → D ≤ 65535 → (u ≡ true → SoundAt D p e ps) → firstOf p ps ≤ p
     → readTag (wordOf p e ps u f) p c D ≡ says (leb c (firstIn (tagOf p e ps u f))) (tagOf p e ps u f)
 unfolding wordOf tagOf firstIn says
 read-of D p c e ps false f d s l = read-zero p c D ∙ sym (says-nothing (leb c 0))
@@ -200,7 +200,7 @@ read-of D p c e ps true false d s l = go (leb c (firstOf p ps)) refl (s refl)
         early-entry (e .home) (p - firstOf p ps) p c D (omega arith) (a .back) (omega arith)
 
 -- at a log that starts at position c
-pub tag-read : (base D : ℕ) (tr : List Ev) (p c : ℕ) → D ≤ 4096 → Sound base D tr
+pub tag-read : (base D : ℕ) (tr : List Ev) (p c : ℕ) → D ≤ 65535 → Sound base D tr
     → readTag (wordAt base tr p) p c D ≡ says (leb c (firstIn (tagAt base tr p))) (tagAt base tr p)
 unfolding wordAt tagAt firstIn
 tag-read base D [] p c d s = read-zero p c D ∙ sym (says-nothing (leb c 0))
@@ -231,7 +231,7 @@ module _ (log : List ℕ) (G D s n k : ℕ) where
   unfolding entryAt entryIn
   entry-in i = rw (position-slot G n k i, position-group n k i, position-index n k i)
 
-  pub entry-of-holds : (b : ℕ) (tr : List Ev) → D ≤ 4096 → Sound (7 * b) D tr → s ≤ n → n < s + G → k < 7
+  pub entry-of-holds : (b : ℕ) (tr : List Ev) → D ≤ 65535 → Sound (7 * b) D tr → s ≤ n → n < s + G → k < 7
       → Holds (7 * b) tr (groupAt log (n % G)) n
       → entryAt log G D s (7 * n + k) ≡ says (leb (7 * s) (firstIn (tagAt (7 * b) tr (7 * n + k)))) (tagAt (7 * b) tr (7 * n + k))
   unfolding groupValid

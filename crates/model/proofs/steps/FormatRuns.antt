@@ -36,7 +36,7 @@ unfolding unusedGroups
 formed-unused zero h = tt
 formed-unused (suc n) h = formed-append (unusedGroups n) _ (formed-unused n (omega arith)) ((omega arith, length-unusedGroup), tt)
 
-formed-zeros : (n : ℕ) → n ≤ 4096 → AllFormed (zeroHomes n)
+formed-zeros : (n : ℕ) → n ≤ 65535 → AllFormed (zeroHomes n)
 unfolding zeroHomes
 formed-zeros zero h = tt
 formed-zeros (suc n) h = formed-append (zeroHomes n) _ (formed-zeros n (omega arith)) ((omega arith, length-zeros 64), tt)

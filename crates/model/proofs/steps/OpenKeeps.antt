@@ -27,7 +27,7 @@ use Rattle.model.proofs.steps.Beginning.{open-answers}
 use Rattle.model.proofs.steps.CallRuns.{Done, by-answer}
 use Rattle.model.proofs.invariant.Invariant.{Sizes, Closed, Running, Invariant}
 
-pub homes-formed : (D : ℕ) (area hs : List ℕ) → D ≤ 4096 → length area ≡ 64 * D → ((h : ℕ) → In h hs → h < D) → AllFormed (homeWrites area hs)
+pub homes-formed : (D : ℕ) (area hs : List ℕ) → D ≤ 65535 → length area ≡ 64 * D → ((h : ℕ) → In h hs → h < D) → AllFormed (homeWrites area hs)
 unfolding homeWrites homeAt
 homes-formed D area [] d l b = tt
 homes-formed D area (x ∷ hs) d l b =

@@ -185,7 +185,7 @@ unfolding settleEffect
 settle-at g n d tags ts area en ed et es ea = rw (en, ed, et, es, ea)
 
 -- a settle's home writes are well formed
-formed-homes : (area hs : List ℕ) (D : ℕ) → D ≤ 4096 → length area ≡ 64 * D → ((h : ℕ) → In h hs → h < D) → AllFormed (homeWrites area hs)
+formed-homes : (area hs : List ℕ) (D : ℕ) → D ≤ 65535 → length area ≡ 64 * D → ((h : ℕ) → In h hs → h < D) → AllFormed (homeWrites area hs)
 unfolding homeWrites homeAt
 formed-homes area [] D d l u = tt
 formed-homes area (h ∷ hs) D d l u =

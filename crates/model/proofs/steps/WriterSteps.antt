@@ -219,7 +219,7 @@ abort-runs G D w v r l c f eb =
     (rw e (inl (unfold idle in (refl, refl)))) refl refl refl refl (append-nil (w .pending)) (rw f refl) refl eb
 
 -- a store that holds a first block
-pub store-first-runs : (G D : ℕ) (w : World) (v home : ℕ) (block batch : List ℕ) → Running G D w → v < 8 → home < D → D ≤ 4096 → length block ≡ 64
+pub store-first-runs : (G D : ℕ) (w : World) (v home : ℕ) (block batch : List ℕ) → Running G D w → v < 8 → home < D → D ≤ 65535 → length block ≡ 64
     → writerOf (w .state) v .mode ≡ 1 → w .book .tasks v ≡ opened [] none
     → Running G D (after w (store v home block batch) (storeFirst (lent w block batch v home)))
 unfolding storeFirst newState lent feed feedChange isConfirm book-store book-storeTask book-hold

@@ -197,7 +197,7 @@ module _ (groups homes start : ℕ) where
   unfolding freshState
   writer-fresh w = simp (writer-laws, writer-zeros)
 
-  pub in-order-fresh : start ≤ 2 ^ 47 → groups ≤ 1024 → homes ≤ 4096 → inOrder (freshState groups homes start) groups homes ≡ true
+  pub in-order-fresh : start ≤ 2 ^ 47 → groups ≤ 1024 → homes ≤ 65535 → inOrder (freshState groups homes start) groups homes ≡ true
   unfolding inOrder numbersInOrder nextPosition
   in-order-fresh h g d =
       rw (state-fresh (omega arith) (omega arith) (omega arith))

@@ -1,7 +1,7 @@
 -- `recovery::settle` meets its contract: a refusal leaves all as it was, and what is done is what the definition says. Assumes nothing.
-use mathlib.Core.Path.{refl}
+use mathlib.Core.Path.{refl, _∙_}
 use native.Mathlib.Omega.{arith}
-use Rattle.recovery.proofs.PlanLaws.{end-within, planned, count-most, plan-replayable}
+use Rattle.recovery.proofs.PlanLaws.{end-within, planned}
 use Rattle.recovery.proofs.SettleLaws.{state-length, numbers, settle-searchable, settle-refused, settle-short, settle-done}
 use borrow.Author.Needs.{needs}
 use Rattle.recovery.proofs.settling.settle.Statement.{statement}
@@ -34,31 +34,11 @@ sub-n c = omega (arith, numbers _ _ _ _ _ (c .before .before .before .before .be
 walk-requires : tie.Need-walk-requires
 walk-requires c κs = let n = numbers _ _ _ _ _ (c .before .before .before .before .before .in-use .ensures) (c .before .before .before .before .if1 .left) (c .before .before .state .ensures) in omega (arith, n)
 
-slice-aggregate-touched-homes : tie.Need-slice-aggregate-touched-homes
-slice-aggregate-touched-homes c = search needs
-
-slice-aggregate-touched-homes-2 : tie.Need-slice-aggregate-touched-homes-2
-slice-aggregate-touched-homes-2 c = search needs
-
-touched-homes-requires : tie.Need-touched-homes-requires
-touched-homes-requires c κs =
+bring-back-requires : tie.Need-bring-back-requires
+bring-back-requires c κs =
     let n = numbers _ _ _ _ _ (c .before .before .before .before .before .before .before .before .in-use .ensures) (c .before .before .before .before .before .before .before .if1 .left) (c .before .before .before .before .before .state .ensures) in
     let s = settle-searchable _ _ _ _ n in
-    (end-within _ _ _ _ _ _ s (c .before .before .walk .ensures .0), omega (arith, n), refl, refl)
-
-mul-size : tie.Need-mul-size
-mul-size c =
-    let n = numbers _ _ _ _ _ (c .before .before .before .before .before .before .before .before .before .before .before .in-use .ensures) (c .before .before .before .before .before .before .before .before .before .before .if1 .left) (c .before .before .before .before .before .before .before .before .state .ensures) in
-    let s = settle-searchable _ _ _ _ n in
-    let p = planned _ _ _ _ _ _ _ _ _ _ s (c .before .before .before .before .before .walk .ensures .0) (c .before .before .before .before .before .walk .ensures .1) (c .before .before .touched-homes .ensures .0) (c .before .before .touched-homes .ensures .1) in
-    omega (arith, count-most _ _ _ _ _ _ _ _ _ _ p)
-
-add-size : tie.Need-add-size
-add-size c =
-    let n = numbers _ _ _ _ _ (c .before .before .before .before .before .before .before .before .before .before .before .in-use .ensures) (c .before .before .before .before .before .before .before .before .before .before .if1 .left) (c .before .before .before .before .before .before .before .before .state .ensures) in
-    let s = settle-searchable _ _ _ _ n in
-    let p = planned _ _ _ _ _ _ _ _ _ _ s (c .before .before .before .before .before .walk .ensures .0) (c .before .before .before .before .before .walk .ensures .1) (c .before .before .touched-homes .ensures .0) (c .before .before .touched-homes .ensures .1) in
-    omega (arith, count-most _ _ _ _ _ _ _ _ _ _ p)
+    (end-within _ _ _ _ _ _ s (c .before .before .walk .ensures .0), n .homes-most, n .area-length, omega arith)
 
 refused-requires-2 : tie.Need-refused-requires-2
 refused-requires-2 c κs = search needs
@@ -69,35 +49,30 @@ same-length-3 c = search needs
 same-length-4 : tie.Need-same-length-4
 same-length-4 c = search needs
 
+same-length-5 : tie.Need-same-length-5
+same-length-5 c = search needs
+
 returns-2 : tie.Need-returns-2
 returns-2 c =
-    let n = numbers _ _ _ _ _ (c .before .before .before .before .before .before .before .before .before .before .before .before .before .in-use .ensures) (c .before .before .before .before .before .before .before .before .before .before .before .before .if1 .left) (c .before .before .before .before .before .before .before .before .before .before .state .ensures) in
+    let n = numbers _ _ _ _ _ (c .before .before .before .before .before .before .before .before .before .before .before .before .before .before .before .in-use .ensures) (c .before .before .before .before .before .before .before .before .before .before .before .before .before .before .if1 .left) (c .before .before .before .before .before .before .before .before .before .before .before .before .state .ensures) in
     let s = settle-searchable _ _ _ _ n in
-    let p = planned _ _ _ _ _ _ _ _ _ _ s (c .before .before .before .before .before .before .before .walk .ensures .0) (c .before .before .before .before .before .before .before .walk .ensures .1) (c .before .before .before .before .touched-homes .ensures .0) (c .before .before .before .before .touched-homes .ensures .1) in
-    settle-short _ _ _ _ _ _ _ _ _ _ _ (c .before .before .before .before .before .before .before .before .before .before .before .before .before .in-use .ensures) (c .before .before .before .before .before .before .before .before .before .before .before .before .if1 .left) (c .before .before .before .before .before .before .before .before .before .before .state .ensures) p _ _ _
-    (omega (arith, c .before .if2 .taken)) (c .refused2 .ensures)
+    let b = c .before .before .before .before .before .before .bring-back in
+    let p = planned _ _ _ _ _ _ _ _ s (c .before .before .before .before .before .before .before .before .before .walk .ensures .0) (c .before .before .before .before .before .before .before .before .before .walk .ensures .1) refl in
+    settle-short _ _ _ _ _ _ _ _ _ (c .before .before .before .before .before .before .before .before .before .before .before .before .before .before .before .in-use .ensures) (c .before .before .before .before .before .before .before .before .before .before .before .before .before .before .if1 .left) (c .before .before .before .before .before .before .before .before .before .before .before .before .state .ensures) p _ _ _ _ _
+    (omega (arith, c .before .if2 .taken, b .ensures .0, b .kept)) (c .refused2 .ensures) (b .ensures .1 .same-area (omega (arith, c .before .if2 .taken, b .kept)))
+    (b .ensures .1 .same-batch (omega (arith, c .before .if2 .taken, b .kept)))
 
-slice-aggregate-settle-homes : tie.Need-slice-aggregate-settle-homes
-slice-aggregate-settle-homes c = search needs
+sub-fence : tie.Need-sub-fence
+sub-fence c = omega (arith, c .before .before .before .before .before .before .bring-back .ensures .0)
 
-slice-aggregate-settle-homes-2 : tie.Need-slice-aggregate-settle-homes-2
-slice-aggregate-settle-homes-2 c = search needs
-
-settle-homes-requires : tie.Need-settle-homes-requires
-settle-homes-requires c κs =
-    let n = numbers _ _ _ _ _ (c .before .before .before .before .before .before .before .before .before .before .before .before .before .before .before .before .in-use .ensures) (c .before .before .before .before .before .before .before .before .before .before .before .before .before .before .before .if1 .left) (c .before .before .before .before .before .before .before .before .before .before .before .before .before .state .ensures) in
-    let s = settle-searchable _ _ _ _ n in
-    let p = planned _ _ _ _ _ _ _ _ _ _ s (c .before .before .before .before .before .before .before .before .before .before .walk .ensures .0) (c .before .before .before .before .before .before .before .before .before .before .walk .ensures .1) (c .before .before .before .before .before .before .before .touched-homes .ensures .0) (c .before .before .before .before .before .before .before .touched-homes .ensures .1) in
-    plan-replayable _ _ _ _ _ _ _ _ _ _ _ p (n .area-length) _ 2 (omega (arith, c .before .before .before .before .if2 .left))
+fence-requires : tie.Need-fence-requires
+fence-requires c κs = omega (arith, c .before .if2 .left, c .before .before .before .before .before .before .bring-back .ensures .0)
 
 settle-state-requires : tie.Need-settle-state-requires
-settle-state-requires c κs = omega (arith, numbers _ _ _ _ _ (c .before .before .before .before .before .before .before .before .before .before .before .before .before .before .before .before .before .before .before .before .before .before .in-use .ensures) (c .before .before .before .before .before .before .before .before .before .before .before .before .before .before .before .before .before .before .before .before .before .if1 .left) (c .before .before .before .before .before .before .before .before .before .before .before .before .before .before .before .before .before .before .before .state .ensures))
+settle-state-requires c κs = omega (arith, numbers _ _ _ _ _ (c .before .before .before .before .before .before .before .before .before .before .before .before .before .before .before .before .before .before .before .in-use .ensures) (c .before .before .before .before .before .before .before .before .before .before .before .before .before .before .before .before .before .before .if1 .left) (c .before .before .before .before .before .before .before .before .before .before .before .before .before .before .before .before .state .ensures))
 
 done-requires : tie.Need-done-requires
 done-requires c κs = search needs
-
-same-length-5 : tie.Need-same-length-5
-same-length-5 c = search needs
 
 same-length-6 : tie.Need-same-length-6
 same-length-6 c = search needs
@@ -105,13 +80,20 @@ same-length-6 c = search needs
 same-length-7 : tie.Need-same-length-7
 same-length-7 c = search needs
 
+same-length-8 : tie.Need-same-length-8
+same-length-8 c = search needs
+
 returns-3 : tie.Need-returns-3
 returns-3 c =
-    let n = numbers _ _ _ _ _ (c .before .before .before .before .before .before .before .before .before .before .before .before .before .before .before .before .before .before .before .before .before .before .before .before .before .before .in-use .ensures) (c .before .before .before .before .before .before .before .before .before .before .before .before .before .before .before .before .before .before .before .before .before .before .before .before .before .if1 .left) (c .before .before .before .before .before .before .before .before .before .before .before .before .before .before .before .before .before .before .before .before .before .before .before .state .ensures) in
+    let n = numbers _ _ _ _ _ (c .before .before .before .before .before .before .before .before .before .before .before .before .before .before .before .before .before .before .before .before .before .before .before .in-use .ensures) (c .before .before .before .before .before .before .before .before .before .before .before .before .before .before .before .before .before .before .before .before .before .before .if1 .left) (c .before .before .before .before .before .before .before .before .before .before .before .before .before .before .before .before .before .before .before .before .state .ensures) in
     let s = settle-searchable _ _ _ _ n in
-    let p = planned _ _ _ _ _ _ _ _ _ _ s (c .before .before .before .before .before .before .before .before .before .before .before .before .before .before .before .before .before .before .before .before .walk .ensures .0) (c .before .before .before .before .before .before .before .before .before .before .before .before .before .before .before .before .before .before .before .before .walk .ensures .1) (c .before .before .before .before .before .before .before .before .before .before .before .before .before .before .before .before .before .touched-homes .ensures .0) (c .before .before .before .before .before .before .before .before .before .before .before .before .before .before .before .before .before .touched-homes .ensures .1) in
-    settle-done _ _ _ _ _ _ _ _ _ _ _ (c .before .before .before .before .before .before .before .before .before .before .before .before .before .before .before .before .before .before .before .before .before .before .before .before .before .before .in-use .ensures) (c .before .before .before .before .before .before .before .before .before .before .before .before .before .before .before .before .before .before .before .before .before .before .before .before .before .if1 .left) (c .before .before .before .before .before .before .before .before .before .before .before .before .before .before .before .before .before .before .before .before .before .before .before .state .ensures) p _ _ _ _ _ _
-    (omega (arith, c .before .before .before .before .before .before .before .before .before .before .before .before .before .before .if2 .left)) (c .done .ensures) (c .before .before .before .before .before .before .before .before .before .settle-homes .ensures .0) (c .before .before .before .before .before .before .before .before .before .settle-homes .ensures .1) (c .before .before .before .settle-state .ensures)
+    let b = c .before .before .before .before .before .before .before .before .before .before .before .before .before .before .bring-back in
+    let d = c .done .ensures in
+    let p = planned _ _ _ _ _ _ _ _ s (c .before .before .before .before .before .before .before .before .before .before .before .before .before .before .before .before .before .walk .ensures .0) (c .before .before .before .before .before .before .before .before .before .before .before .before .before .before .before .before .before .walk .ensures .1) refl in
+    settle-done _ _ _ _ _ _ _ _ _ (c .before .before .before .before .before .before .before .before .before .before .before .before .before .before .before .before .before .before .before .before .before .before .before .in-use .ensures) (c .before .before .before .before .before .before .before .before .before .before .before .before .before .before .before .before .before .before .before .before .before .before .if1 .left) (c .before .before .before .before .before .before .before .before .before .before .before .before .before .before .before .before .before .before .before .before .state .ensures) p _ _ _ _ _ _ _ _
+    (omega (arith, c .before .before .before .before .before .before .before .before .before .if2 .left, b .ensures .0, b .kept)) (d .0, d .1, d .2 ∙ b .ensures .0)
+    (b .ensures .1 .copied (omega (arith, c .before .before .before .before .before .before .before .before .before .if2 .left, b .kept))) (b .ensures .1 .written (omega (arith, c .before .before .before .before .before .before .before .before .before .if2 .left, b .kept)))
+    (c .before .before .before .before .before .before .before .fence .ensures .1) (omega (arith, b .ensures .0)) (c .before .before .before .settle-state .ensures)
 
 pub settle-spec : {M : Type 1} → statement M
 settle-spec =
@@ -126,21 +108,17 @@ settle-spec =
     mul-n
     sub-n
     walk-requires
-    slice-aggregate-touched-homes
-    slice-aggregate-touched-homes-2
-    touched-homes-requires
-    mul-size
-    add-size
+    bring-back-requires
     refused-requires-2
     same-length-3
     same-length-4
+    same-length-5
     returns-2
-    slice-aggregate-settle-homes
-    slice-aggregate-settle-homes-2
-    settle-homes-requires
+    sub-fence
+    fence-requires
     settle-state-requires
     done-requires
-    same-length-5
     same-length-6
     same-length-7
+    same-length-8
     returns-3)
