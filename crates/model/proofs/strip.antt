@@ -2,5 +2,6 @@
 pub mod BatchLaws
 pub mod StateLaws
 pub mod WriterLaws
+pub mod PromiseLaws
 pub mod OrderLaws
 pub mod QuestionLaws

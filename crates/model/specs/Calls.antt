@@ -1,4 +1,4 @@
--- The eleven calls, each as one definition of its answer and of everything it was lent.
+-- The calls, each as one definition of its answer and of everything it was lent.
 use Prim.Native.Nat.{ℕ, zero, suc, _+_}
 use mathlib.Core.Bool.{Bool, true, false}
 use mathlib.Core.List.{List, []}
@@ -6,8 +6,8 @@ use lib.Dec.{eqb}
 use lib.ListN.{length}
 use Rattle.model.specs.Bytes.{puts}
 use Rattle.model.specs.Batch.{Record, batchBytes}
-use Rattle.model.specs.Effects.{Given, Effect, formatEffect, openEffect, openStart, beginEffect, abortEffect, storeEffect, commitEffect, flushEffect, confirmEffect, settleEffect, trimStart, trimEffect, readEffect}
-use Rattle.model.specs.Questions.{formatAnswer, openAnswer, beginAnswer, abortAnswer, storeAnswer, commitAnswer, flushAnswer, confirmAnswer, settleAnswer, trimAnswer, readAnswer}
+use Rattle.model.specs.Effects.{Given, Effect, formatEffect, openEffect, openStart, beginEffect, reserveEffect, abortEffect, storeEffect, commitEffect, flushEffect, confirmEffect, settleEffect, trimStart, trimEffect, readEffect}
+use Rattle.model.specs.Questions.{formatAnswer, openAnswer, beginAnswer, reserveAnswer, abortAnswer, storeAnswer, commitAnswer, flushAnswer, confirmAnswer, settleAnswer, trimAnswer, readAnswer}
 
 -- all that a call gives and leaves: its number, figure and batch length, the strip, both copies, the block and the whole batch buffer
 pub record Outcome : Type 0 where
@@ -56,6 +56,9 @@ openCall g = let e : Effect = openEffect g in outcome g (openAnswer g (openStart
 
 unfoldable pub beginCall : Given → Outcome
 beginCall g = let e : Effect = beginEffect g in outcome g (beginAnswer g) e
+
+unfoldable pub reserveCall : Given → ℕ → Outcome
+reserveCall g n = let e : Effect = reserveEffect g n in outcome g (reserveAnswer g n) e
 
 unfoldable pub abortCall : Given → Outcome
 abortCall g = let e : Effect = abortEffect g in outcome g (abortAnswer g) e

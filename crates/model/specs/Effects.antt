@@ -10,7 +10,7 @@ use Rattle.model.specs.Tag.{entryWord, closingWord, homeOf}
 use Rattle.model.specs.Layout.{groupsIn, homesIn, header, headerStart, groupAt, unusedGroup, putBlank, putEntry, entryAt, blockAt, homeAt, putHome}
 use Rattle.model.specs.Commit.{Span, committed, transactions, replay, members, newestIn, newest, found}
 use Rattle.model.specs.Batch.{Record, GW, HW, KW, FN}
-use Rattle.model.specs.State.{State, stateOf, setStart, setNext, setFilled, setSettled, setFenced, setDurable, setLast, nextPosition, Writer, writerOf, setWriter, heldOf, setHeld, idle, begun, holding, logging, isOpen, holds, hasLogged, holdsHome, firstFor, countFor, freshState}
+use Rattle.model.specs.State.{State, stateOf, setStart, setNext, setFilled, setSettled, setFenced, setDurable, setLast, nextPosition, Writer, writerOf, setWriter, heldOf, setHeld, setPromise, promiseLeft, idle, begun, holding, logging, isOpen, holds, hasLogged, holdsHome, firstFor, countFor, freshState}
 use Rattle.model.specs.declared.Tag.{Tag}
 
 -- what a call is lent: state strip, log copy, data copy, block and batch buffer, and its two numbers. What a call is not lent is empty or 0.
@@ -124,8 +124,12 @@ openEffect g =
 unfoldable pub beginEffect : Given → Effect
 beginEffect g = newState g (setWriter (g .state) (g .writer) begun) 0
 
+-- Reserve: "An idle writer may ask for n places; when granted, its transaction opens". "Commit and abort give unused ones back."
+unfoldable pub reserveEffect : Given → ℕ → Effect
+reserveEffect g n = newState g (setPromise (setWriter (g .state) (g .writer) begun) (g .writer) n) 0
+
 unfoldable pub abortEffect : Given → Effect
-abortEffect g = newState g (setWriter (g .state) (g .writer) idle) 0
+abortEffect g = newState g (setPromise (setWriter (g .state) (g .writer) idle) (g .writer) 0) 0
 
 -- Logging: "Logging takes the next position, blank group first where needed, and the seventh place hands the group on (GW)."
 
@@ -171,7 +175,10 @@ storeOther g r position =
     record {
       figure = 0;
       state =
-          setHeld (setWriter (l .state) (g .writer) (logging (g .home) (firstFor r position) (countFor r + 1))) (g .writer) (g .block);
+          setPromise
+          (setHeld (setWriter (l .state) (g .writer) (logging (g .home) (firstFor r position) (countFor r + 1))) (g .writer) (g .block))
+          (g .writer)
+          (promiseLeft (g .state) (g .writer));
       log = l .log;
       area = g .area;
       block = g .block;
@@ -203,7 +210,7 @@ commitHeld g r position =
     let l : Logged = logClosing g r position in
     record {
       figure = position + 1;
-      state = setWriter (setLast (l .state) (position + 1)) (g .writer) idle;
+      state = setPromise (setWriter (setLast (l .state) (position + 1)) (g .writer) idle) (g .writer) 0;
       log = l .log;
       area = g .area;
       block = g .block;

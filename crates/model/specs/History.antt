@@ -8,7 +8,7 @@ use lib.ListN.{length, take}
 use Rattle.model.specs.Bytes.{zeros}
 use Rattle.model.specs.Batch.{Record, readBatch}
 use Rattle.model.specs.Effects.{Given, formattedLog}
-use Rattle.model.specs.Calls.{Outcome, formatCall, openCall, beginCall, abortCall, storeCall, commitCall, flushCall, confirmCall, settleCall, trimCall, readCall}
+use Rattle.model.specs.Calls.{Outcome, formatCall, openCall, beginCall, reserveCall, abortCall, storeCall, commitCall, flushCall, confirmCall, settleCall, trimCall, readCall}
 use Rattle.model.specs.Crash.{Memory, fences, persist, fates}
 use Rattle.model.specs.Book as book
 use Rattle.model.specs.Book.{Book}
@@ -19,6 +19,7 @@ use Rattle.model.specs.Book.{Book}
 -- the calls that change the book
 pub data Change : Type 0 where
   begins : (writer : ℕ) → Change
+  reserves : (writer places : ℕ) → Change
   aborts : (writer : ℕ) → Change
   stores : (writer home : ℕ) (block batch : List ℕ) → Change
   commits : (writer : ℕ) (batch : List ℕ) → Change
@@ -38,6 +39,9 @@ pub data Call : Type 0 where
 
 abbrev pub begin : ℕ → Call
 begin writer = change (begins writer)
+
+abbrev pub reserve : ℕ → ℕ → Call
+reserve writer places = change (reserves writer places)
 
 abbrev pub abort : ℕ → Call
 abort writer = change (aborts writer)
@@ -130,6 +134,7 @@ loaded w state batch =
 -- how a call ends
 unfoldable pub changeEnds : World → Change → Outcome
 changeEnds w (begins writer) = beginCall (lent w [] [] writer 0)
+changeEnds w (reserves writer places) = reserveCall (lent w [] [] writer 0) places
 changeEnds w (aborts writer) = abortCall (lent w [] [] writer 0)
 changeEnds w (stores writer home block batch) = storeCall (lent w block batch writer home)
 changeEnds w (commits writer batch) = commitCall (lent w [] batch writer 0)
@@ -147,8 +152,10 @@ ends w (change c) = changeEnds w c
 ends w (service c) = serviceEnds w c
 
 -- what the book is fed by a done call: its arguments and its figure
+-- ("This call joins demand 3's list, as a begin in 01's book": reserve)
 unfoldable pub feedChange : Book → Change → ℕ → Book
 feedChange b (begins writer) figure = book.begin b writer
+feedChange b (reserves writer places) figure = book.begin b writer
 feedChange b (aborts writer) figure = book.abort b writer
 feedChange b (stores writer home block batch) figure = book.store b writer home block
 feedChange b (commits writer batch) figure = book.commit b writer figure

@@ -1,13 +1,13 @@
--- The ten questions, and which of them each call puts.
+-- The ten questions of the paper, those of later requests, and which of them each call puts.
 -- "Format puts 1 and 10; open 1, 3, 9 and 10; every other call 1 and 2, then 4 if it names a writer, 5 if a home, and what names it or its
 -- train. 0 is done."
-use Prim.Native.Nat.{ℕ, zero, suc, _+_, _*_}
+use Prim.Native.Nat.{ℕ, zero, suc, _+_, _-_, _*_}
 use mathlib.Core.Bool.{Bool, true, false, cond, not, _&&_, _||_}
 use mathlib.Core.List.{List, []}
 use lib.Dec.{eqb, leb, ltb}
 use lib.ListN.{length}
 use Rattle.model.specs.Layout.{maxStart, logLengthRight, dataLengthRight, headerRight, headerStart}
-use Rattle.model.specs.State.{State, stateOf, stateBytes, inOrder, Writer, writerOf, isOpen, holds, holdsHome}
+use Rattle.model.specs.State.{State, stateOf, stateBytes, inOrder, promiseOf, promised, places, freePlaces, Writer, writerOf, isOpen, holds, holdsHome}
 use Rattle.model.specs.Effects.{Given, groups, homes}
 
 -- a question: if it is answered no, the call's answer is `number`; else the next question follows
@@ -45,9 +45,13 @@ homeKnown g = ltb (g .home) (homes g)
 unfoldable pub writerOpen : Given → Bool
 writerOpen g = isOpen (writerOf (g .state) (g .writer))
 
--- 8. "If an entry must be logged, is its group number below start + G? No: 8."
+-- 8. "If an entry must be logged, is its group number below start + G? No: 8." "its first n entries, each using one up, never meet answer 8";
+-- "Other entries meet 8 when only promised places are left." Without promises a place is left just if the group number is below start + G.
+unfoldable pub roomFor : List ℕ → ℕ → Bool
+roomFor s w = leb 1 (promiseOf s w) || ltb (promised s 8) (places (stateOf s))
+
 unfoldable pub room : Given → Bool
-room g = let st : State = stateOf (g .state) in ltb (st .next) (st .start + st .groups)
+room g = roomFor (g .state) (g .writer)
 
 -- a store logs if a block is held for another home, a commit if one is held
 unfoldable pub storeLogs : Given → Bool
@@ -63,6 +67,16 @@ startFits start = leb start maxStart
 -- 10. "Is the train as long as what this call writes? No: 9."
 unfoldable pub batchFits : Given → ℕ → Bool
 batchFits g size = leb size (length (g .batch))
+
+-- 17. "n is 0 or more than the free places, after 6"
+unfoldable pub mayPromise : List ℕ → ℕ → Bool
+mayPromise s n = leb 1 n && leb n (freePlaces s)
+
+-- 18. "A flush that would leave fewer places than are promised is refused": one of a part-filled group, before 9
+unfoldable pub keepsPromises : List ℕ → Bool
+keepsPromises s =
+    let st : State = stateOf s in
+    eqb (st .filled) 0 || leb (promised s 8) (7 * (st .start + st .groups) - 7 * (st .next + 1))
 
 -- The calls' questions in order. `size` is the number of bytes that the call writes.
 
@@ -84,6 +98,9 @@ askBlock g next = ask (areasRight g && stateRight g && blockRight g) 1 (ask (str
 unfoldable pub beginAnswer : Given → ℕ
 beginAnswer g = askState g (ask (writerKnown g) 4 (ask (not (writerOpen g)) 6 0))
 
+unfoldable pub reserveAnswer : Given → ℕ → ℕ
+reserveAnswer g n = askState g (ask (writerKnown g) 4 (ask (not (writerOpen g)) 6 (ask (mayPromise (g .state) n) 17 0)))
+
 unfoldable pub abortAnswer : Given → ℕ
 abortAnswer g = askState g (ask (writerKnown g) 4 (ask (writerOpen g) 7 0))
 
@@ -99,7 +116,7 @@ commitAnswer g size =
     (ask (writerKnown g) 4 (ask (writerOpen g) 7 (ask (not (commitLogs g) || room g) 8 (ask (batchFits g size) 9 0))))
 
 unfoldable pub flushAnswer : Given → ℕ → ℕ
-flushAnswer g size = askState g (ask (batchFits g size) 9 0)
+flushAnswer g size = askState g (ask (keepsPromises (g .state)) 18 (ask (batchFits g size) 9 0))
 
 unfoldable pub confirmAnswer : Given → ℕ
 confirmAnswer g = askState g 0

@@ -1,15 +1,21 @@
--- "A refused call changes none and gives one of ten numbers", field by field, for everything that a call can be lent.
-use Prim.Native.Nat.{ℕ, _≤_}
+-- "A refused call changes none and gives one of ten numbers", field by field, for everything that a call can be lent. Later requests' numbers "join
+-- demand 1's ten": 17 and 18.
+use Prim.Native.Nat.{ℕ}
+use mathlib.Core.Bool.{Bool, true, _&&_, _||_}
+use lib.Dec.{eqb, leb}
 use mathlib.Core.Path.{_≡_}
 use mathlib.Core.Logic.{_⊎_}
 use mathlib.Core.List.{List, [], _∷_}
 use Rattle.model.specs.Effects.{Given}
-use Rattle.model.specs.Calls.{Outcome, formatCall, openCall, beginCall, abortCall, storeCall, commitCall, flushCall, confirmCall, settleCall, trimCall, readCall}
+use Rattle.model.specs.Calls.{Outcome, formatCall, openCall, beginCall, reserveCall, abortCall, storeCall, commitCall, flushCall, confirmCall, settleCall, trimCall, readCall}
+
+-- the numbers that refuse
+unfoldable pub refuses : ℕ → Bool
+refuses k = (leb 1 k && leb k 10) || eqb k 17 || eqb k 18
 
 -- "A refusal returns its number, no other figure but zero, no train bytes, and all lent memory untouched."
 pub record Untouched (g : Given) (o : Outcome) : Type 0 where
-  pub least : 1 ≤ o .code
-  pub most : o .code ≤ 10
+  pub number : refuses (o .code) ≡ true
   pub figure : o .figure ≡ 0
   pub size : o .size ≡ 0
   pub state : o .state ≡ g .state
@@ -25,9 +31,9 @@ abbrev pub EachDoneOrUntouched : List (Given → Outcome) → Type 0
 EachDoneOrUntouched [] = Unit {0}
 EachDoneOrUntouched (c ∷ cs) = DoneOrUntouched c × EachDoneOrUntouched cs
 
-abbrev pub everyCall : List (Given → Outcome)
-everyCall =
-    formatCall ∷ openCall ∷ beginCall ∷ abortCall ∷ storeCall ∷ commitCall ∷ flushCall ∷ confirmCall ∷ settleCall ∷ trimCall ∷ readCall ∷ []
+abbrev pub everyCall : ℕ → List (Given → Outcome)
+everyCall n =
+    formatCall ∷ openCall ∷ beginCall ∷ (λ g. reserveCall g n) ∷ abortCall ∷ storeCall ∷ commitCall ∷ flushCall ∷ confirmCall ∷ settleCall ∷ trimCall ∷ readCall ∷ []
 
 abbrev pub Refusals : Type 0
-Refusals = EachDoneOrUntouched everyCall
+Refusals = (n : ℕ) → EachDoneOrUntouched (everyCall n)

@@ -1,4 +1,4 @@
--- The state strip of 1,024 bytes: numbers of eight bytes at fixed offsets. Bytes that no field has are spare: no call but open changes them, and
+-- The state strip of 1,024 bytes: numbers of eight bytes at fixed offsets, the writers' promises of two. Bytes that no field has are spare: no call but open changes them, and
 -- none reads them. docs/FORMAT.md has the layout as a table.
 use Prim.Native.Nat.{ℕ, zero, suc, _+_, _-_, _*_}
 use mathlib.Core.Bool.{Bool, true, false, cond, _&&_, _||_}
@@ -58,6 +58,35 @@ setLast s v = putNumber 8 s 64 v
 -- "such a call looks only at positions below the next one (7 × next group + places filled)"
 unfoldable pub nextPosition : State → ℕ
 nextPosition s = 7 * s .next + s .filled
+
+-- promises
+-- "The state strip gains the promises": the places promised to each writer that no entry has used up yet.
+
+unfoldable pub promiseOffset : ℕ → ℕ
+promiseOffset w = 72 + 2 * w
+
+unfoldable pub promiseOf : List ℕ → ℕ → ℕ
+promiseOf s w = number 2 s (promiseOffset w)
+
+unfoldable pub setPromise : List ℕ → ℕ → ℕ → List ℕ
+setPromise s w n = putNumber 2 s (promiseOffset w) n
+
+-- those of the first n writers together
+unfoldable pub promised : List ℕ → ℕ → ℕ
+promised s zero = 0
+promised s (suc n) = promised s n + promiseOf s n
+
+-- the places "from the next position to the end of group start + G − 1"
+unfoldable pub places : State → ℕ
+places st = 7 * (st .start + st .groups) - nextPosition st
+
+-- "Free places are those from the next position to the end of group start + G − 1, less those promised."
+unfoldable pub freePlaces : List ℕ → ℕ
+freePlaces s = places (stateOf s) - promised s 8
+
+-- "its first n entries, each using one up": what one more entry leaves of a writer's promise
+unfoldable pub promiseLeft : List ℕ → ℕ → ℕ
+promiseLeft s w = promiseOf s w - 1
 
 -- writers
 -- The struct `Writer` of the crate's source: a writer's record but for the held block.
@@ -147,13 +176,20 @@ writerInOrder s r =
     && (ltb (r .mode) 3
     || leb (7 * s .start) (r .first) && ltb (r .first) (nextPosition s) && leb 1 (r .count) && leb (r .first + r .count) (nextPosition s))
 
+-- "question 2 also asks that together they are at most the places from the next position on, and none for an idle writer"
+unfoldable pub promiseInOrder : Writer → ℕ → Bool
+promiseInOrder r n = isOpen r || eqb n 0
+
+unfoldable pub writerAtInOrder : List ℕ → State → ℕ → Bool
+writerAtInOrder s st w = writerInOrder st (writerOf s w) && promiseInOrder (writerOf s w) (promiseOf s w)
+
 -- the first n writers
 unfoldable pub writersInOrder : List ℕ → State → ℕ → Bool
 writersInOrder s st zero = true
-writersInOrder s st (suc n) = writersInOrder s st n && writerInOrder st (writerOf s n)
+writersInOrder s st (suc n) = writersInOrder s st n && writerAtInOrder s st n
 
 -- "Is the strip in order: G and D agree; .."
 unfoldable pub inOrder : List ℕ → ℕ → ℕ → Bool
 inOrder s groups homes =
     let st : State = stateOf s in
-    eqb (st .groups) groups && eqb (st .homes) homes && numbersInOrder st && writersInOrder s st 8
+    eqb (st .groups) groups && eqb (st .homes) homes && numbersInOrder st && leb (promised s 8) (places st) && writersInOrder s st 8

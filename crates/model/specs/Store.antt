@@ -16,13 +16,13 @@ use Rattle.model.specs.Calls.{Outcome}
 use Rattle.model.specs.Crash.{Memory, persist, fates}
 use Rattle.model.specs.Book.{Held, Commit, Task, idle, opened, Book, run}
 use Rattle.model.specs.Book as book
-use Rattle.model.specs.History.{Change, begins, aborts, stores, commits, flushes, Service, settles, trims, reads, Call, opening, confirm, change, service, Event, call, crash, World, Formatting, afterFormat, ends, feed, step, AllAllowed}
+use Rattle.model.specs.History.{Change, begins, reserves, aborts, stores, commits, flushes, Service, settles, trims, reads, Call, opening, confirm, change, service, Event, call, crash, World, Formatting, afterFormat, ends, feed, step, AllAllowed}
 use Rattle.model.specs.Demands.{eachContents, untrimmed, closedBelow, anyAcross, anyOpenBefore}
 
 -- G and D; whether an opening is done since the last crash; the start that the header in lasting memory says, as the last crash (or format) left
 -- it, and what the run's commits that this header has not trimmed wrote: the next opening, or the last, brings these back. Then the numbers since the
 -- last done opening: the log's start, the settled position, the fenced position F, the durable mark, the ticket of the last commit at or above the
--- start (0: none). Last the book.
+-- start (0: none), and for each writer the places promised to it that no entry has used up. Last the book.
 pub record Store : Type 0 where
   pub groups : ℕ
   pub homes : ℕ
@@ -34,6 +34,7 @@ pub record Store : Type 0 where
   pub fenced : ℕ
   pub durable : ℕ
   pub last : ℕ
+  pub promises : ℕ → ℕ
   pub book : Book
 
 -- a new format
@@ -50,6 +51,7 @@ newStore groups homes =
       fenced = 0;
       durable = 0;
       last = 0;
+      promises = λ v. 0;
       book = book.empty;
     }
 
@@ -65,9 +67,24 @@ nextGroup s = firstGroup s + s .book .rows
 unfoldable pub nextOf : Store → ℕ
 nextOf s = 7 * nextGroup s + s .book .filled
 
--- "If an entry must be logged, is its group number below start + G?"
-unfoldable pub hasRoom : Store → Bool
-hasRoom s = ltb (nextGroup s) (s .start + s .groups)
+-- "Free places are those from the next position to the end of group start + G − 1, less those promised."
+unfoldable pub placesLeft : Store → ℕ
+placesLeft s = 7 * (s .start + s .groups) - nextOf s
+
+unfoldable pub promisedTo : (ℕ → ℕ) → ℕ → ℕ
+promisedTo promises zero = 0
+promisedTo promises (suc n) = promisedTo promises n + promises n
+
+unfoldable pub freeLeft : Store → ℕ
+freeLeft s = placesLeft s - promisedTo (s .promises) 8
+
+-- "its first n entries, each using one up, never meet answer 8"; "Other entries meet 8 when only promised places are left."
+unfoldable pub hasRoom : Store → ℕ → Bool
+hasRoom s writer = leb 1 (s .promises writer) || ltb (promisedTo (s .promises) 8) (placesLeft s)
+
+-- "A flush that would leave fewer places than are promised is refused."
+unfoldable pub mayFlush : Store → Bool
+mayFlush s = eqb (s .book .filled) 0 || leb (promisedTo (s .promises) 8) (7 * (s .start + s .groups) - 7 * (nextGroup s + 1))
 
 -- the bytes that logging an entry writes: a group's record with its seventh
 unfoldable pub entryBytes : Store → ℕ
@@ -132,6 +149,11 @@ askBatch size batch = ask (leb size (length batch)) 9 0
 
 unfoldable pub replyChange : Store → Change → Reply
 replyChange s (begins writer) = told (ask (ltb writer 8) 4 (ask (isIdle (s .book .tasks writer)) 6 0)) 0 0
+replyChange s (reserves writer places) =
+    told
+    (ask (ltb writer 8) 4 (ask (isIdle (s .book .tasks writer)) 6 (ask (leb 1 places && leb places (freeLeft s)) 17 0)))
+    0
+    0
 replyChange s (aborts writer) = told (ask (ltb writer 8) 4 (ask (not (isIdle (s .book .tasks writer))) 7 0)) 0 0
 replyChange s (stores writer home block batch) =
     let logs : Bool = storeMustLog (s .book .tasks writer) home in
@@ -139,19 +161,19 @@ replyChange s (stores writer home block batch) =
     told
     (ask (eqb (length block) 64) 1
     (ask (ltb writer 8) 4
-    (ask (ltb home (s .homes)) 5 (ask (not (isIdle (s .book .tasks writer))) 7 (ask (not logs || hasRoom s) 8 (askBatch size batch))))))
+    (ask (ltb home (s .homes)) 5 (ask (not (isIdle (s .book .tasks writer))) 7 (ask (not logs || hasRoom s writer) 8 (askBatch size batch))))))
     0
     size
 replyChange s (commits writer batch) =
     let logs : Bool = commitMustLog (s .book .tasks writer) in
     let size : ℕ = cond logs (entryBytes s) 0 in
     told
-    (ask (ltb writer 8) 4 (ask (not (isIdle (s .book .tasks writer))) 7 (ask (not logs || hasRoom s) 8 (askBatch size batch))))
+    (ask (ltb writer 8) 4 (ask (not (isIdle (s .book .tasks writer))) 7 (ask (not logs || hasRoom s writer) 8 (askBatch size batch))))
     (cond logs (nextOf s + 1) 0)
     size
 replyChange s (flushes batch) =
     let size : ℕ = cond (eqb (s .book .filled) 0) 2 518 in
-    told (askBatch size batch) 0 size
+    told (ask (mayFlush s) 18 (askBatch size batch)) 0 size
 
 unfoldable pub replyService : Store → Service → Reply
 replyService s (settles batch) = let size : ℕ = 68 * manyHomes (s .homes) (toSettle s) + 2 in told (askBatch size batch) 0 size
@@ -176,6 +198,7 @@ reply s (service c) = replyService s c
 -- the ticket of the last commit, and F after a fence of a flush
 unfoldable pub lastAfter : ℕ → Change → ℕ → ℕ
 lastAfter last (begins writer) figure = last
+lastAfter last (reserves writer places) figure = last
 lastAfter last (aborts writer) figure = last
 lastAfter last (stores writer home block batch) figure = last
 lastAfter last (commits writer batch) figure = cond (eqb figure 0) last figure
@@ -183,14 +206,28 @@ lastAfter last (flushes batch) figure = last
 
 unfoldable pub fencedAfter : Store → Change → ℕ
 fencedAfter s (begins writer) = s .fenced
+fencedAfter s (reserves writer places) = s .fenced
 fencedAfter s (aborts writer) = s .fenced
 fencedAfter s (stores writer home block batch) = s .fenced
 fencedAfter s (commits writer batch) = s .fenced
 fencedAfter s (flushes batch) = 7 * (firstGroup s + book.flush (s .book) .rows)
 
--- the store with other numbers: start, settled, fenced, durable, last
-unfoldable pub numbered : Store → ℕ → ℕ → ℕ → ℕ → ℕ → Book → Store
-numbered s start settled fenced durable last b =
+-- the promises: "Commit and abort give unused ones back."
+unfoldable pub setFor : (ℕ → ℕ) → ℕ → ℕ → ℕ → ℕ
+setFor promises writer n x = cond (eqb writer x) n (promises x)
+
+unfoldable pub promisesAfter : Store → Change → ℕ → ℕ
+promisesAfter s (begins writer) = s .promises
+promisesAfter s (reserves writer places) = setFor (s .promises) writer places
+promisesAfter s (aborts writer) = setFor (s .promises) writer 0
+promisesAfter s (stores writer home block batch) =
+    cond (storeMustLog (s .book .tasks writer) home) (setFor (s .promises) writer (s .promises writer - 1)) (s .promises)
+promisesAfter s (commits writer batch) = setFor (s .promises) writer 0
+promisesAfter s (flushes batch) = s .promises
+
+-- the store with other numbers: start, settled, fenced, durable, last, promises
+unfoldable pub numbered : Store → ℕ → ℕ → ℕ → ℕ → ℕ → (ℕ → ℕ) → Book → Store
+numbered s start settled fenced durable last promises b =
     record {
       groups = s .groups;
       homes = s .homes;
@@ -202,26 +239,28 @@ numbered s start settled fenced durable last b =
       fenced = fenced;
       durable = durable;
       last = last;
+      promises = promises;
       book = b;
     }
 
 -- a trim that moves
 unfoldable pub trimmedTo : Store → ℕ → Store
 trimmedTo s start =
-    numbered s start (s .settled) (7 * nextGroup s) (s .durable) (cond (leb (s .last) (7 * start)) 0 (s .last)) (s .book)
+    numbered s start (s .settled) (7 * nextGroup s) (s .durable) (cond (leb (s .last) (7 * start)) 0 (s .last)) (s .promises) (s .book)
 
 unfoldable pub afterService : Store → Service → Store
-afterService s (settles batch) = numbered s (s .start) (s .fenced) (7 * nextGroup s) (s .durable) (s .last) (s .book)
+afterService s (settles batch) = numbered s (s .start) (s .fenced) (7 * nextGroup s) (s .durable) (s .last) (s .promises) (s .book)
 afterService s (trims batch) = let moved : Store = trimmedTo s (nextStart s) in cond (eqb (nextStart s) (s .start)) s moved
 afterService s (reads writer home block) = s
 
 unfoldable pub afterDone : Store → Call → ℕ → Store
 afterDone s (opening state batch) figure =
     let first : ℕ = firstGroup s in
-    numbered s first (7 * first) (7 * first) (7 * first) 0 (feed (s .book) (opening state batch) figure)
-afterDone s confirm figure = numbered s (s .start) (s .settled) (s .fenced) figure (s .last) (feed (s .book) confirm figure)
+    numbered s first (7 * first) (7 * first) (7 * first) 0 (λ v. 0) (feed (s .book) (opening state batch) figure)
+afterDone s confirm figure = numbered s (s .start) (s .settled) (s .fenced) figure (s .last) (s .promises) (feed (s .book) confirm figure)
 afterDone s (change c) figure =
-    numbered s (s .start) (s .settled) (fencedAfter s c) (s .durable) (lastAfter (s .last) c figure) (feed (s .book) (change c) figure)
+    numbered s (s .start) (s .settled) (fencedAfter s c) (s .durable) (lastAfter (s .last) c figure) (promisesAfter s c)
+    (feed (s .book) (change c) figure)
 afterDone s (service c) figure = afterService s c
 
 unfoldable pub afterReply : Store → Call → Reply → Store
@@ -242,6 +281,7 @@ afterCrash s fs head =
       fenced = s .fenced;
       durable = s .durable;
       last = s .last;
+      promises = s .promises;
       book = book.crash (s .book) fs;
     }
 

@@ -13,12 +13,12 @@ use Rattle.model.specs.Calls.{sizeOf, settleCall, trimCall}
 use Rattle.model.specs.Crash.{fences, persist, fates}
 use Rattle.model.specs.Book.{Commit, Book, run, ended, crash}
 use Rattle.model.specs.Demands.{Opened, Crashed, NoneOwed, lost, Holds, AllHold, CallHolds, Demand3}
-use Rattle.model.specs.History.{Change, begins, aborts, stores, commits, flushes, Service, settles, trims, reads, Call, opening, confirm, change, service, settle, trim, Event, call, crash as cut, World, emptyStore, lent, ends, serviceEnds, isOpening, step, afterCrash, Allowed, AllAllowed}
+use Rattle.model.specs.History.{Change, begins, reserves, aborts, stores, commits, flushes, Service, settles, trims, reads, Call, opening, confirm, change, service, settle, trim, Event, call, crash as cut, World, emptyStore, lent, ends, serviceEnds, isOpening, step, afterCrash, Allowed, AllAllowed}
 use Rattle.model.proofs.strip.QuestionLaws.{settle-ready, trim-ready}
 use Rattle.model.proofs.steps.DoneLaws.{after, fits}
 use Rattle.model.proofs.steps.FormatRuns.{from-format}
 use Rattle.model.proofs.steps.Beginning.{format-closed}
-use Rattle.model.proofs.steps.CallRuns.{Done, by-answer, begin-keeps, abort-keeps, store-keeps, commit-keeps, flush-keeps, confirm-keeps, read-keeps}
+use Rattle.model.proofs.steps.CallRuns.{Done, by-answer, begin-keeps, reserve-keeps, abort-keeps, store-keeps, commit-keeps, flush-keeps, confirm-keeps, read-keeps}
 use Rattle.model.proofs.steps.SettleRuns.{settle-runs, settle-formed}
 use Rattle.model.proofs.steps.TrimRuns.{trim-runs, trim-formed}
 use Rattle.model.proofs.steps.OpenKeeps.{open-keeps, open-holds}
@@ -54,6 +54,7 @@ module _ (G D : ℕ) (z : Sizes G D) where
   -- after an opening is done every call but another opening keeps the invariant
   change-keeps : (w : World) → Running G D w → (c : Change) → Running G D (step w (call (change c)))
   change-keeps w r (begins v) = begin-keeps G D z w r v
+  change-keeps w r (reserves v n) = reserve-keeps G D z w r v n
   change-keeps w r (aborts v) = abort-keeps G D z w r v
   change-keeps w r (stores v home block batch) = store-keeps G D z w r v home block batch
   change-keeps w r (commits v batch) = commit-keeps G D z w r v batch

@@ -14,13 +14,13 @@ use borrow.Author.Tests.{eqb-true, eqb-false}
 use Rattle.model.specs.Layout.{groupAt, header}
 use Rattle.model.specs.Batch.{Record, GW, KW, FN, batchBytes}
 use Rattle.model.specs.State.{stateOf, nextPosition, writerOf, holds}
-use Rattle.model.specs.Effects.{Given, Effect, groups, homes, newState, marked, touched, homeWrites, openEffect, openStart, beginEffect, abortEffect, logged, logHeld, logClosing, storeFirst, storeAgain, storeOther, storeEffect, commitHeld, commitEffect, flushNone, flushPart, flushEffect, confirmEffect, settleEffect, trimStart, trimTo, trimEffect, readEffect}
-use Rattle.model.specs.Questions.{openAnswer, beginAnswer, abortAnswer, storeAnswer, commitAnswer, flushAnswer, confirmAnswer, settleAnswer, trimAnswer, readAnswer}
-use Rattle.model.specs.Calls.{outcome, sizeOf, openCall, beginCall, abortCall, storeCall, commitCall, flushCall, confirmCall, settleCall, trimCall, readCall}
+use Rattle.model.specs.Effects.{Given, Effect, groups, homes, newState, marked, touched, homeWrites, openEffect, openStart, beginEffect, reserveEffect, abortEffect, logged, logHeld, logClosing, storeFirst, storeAgain, storeOther, storeEffect, commitHeld, commitEffect, flushNone, flushPart, flushEffect, confirmEffect, settleEffect, trimStart, trimTo, trimEffect, readEffect}
+use Rattle.model.specs.Questions.{openAnswer, beginAnswer, reserveAnswer, abortAnswer, storeAnswer, commitAnswer, flushAnswer, confirmAnswer, settleAnswer, trimAnswer, readAnswer}
+use Rattle.model.specs.Calls.{outcome, sizeOf, openCall, beginCall, reserveCall, abortCall, storeCall, commitCall, flushCall, confirmCall, settleCall, trimCall, readCall}
 use Rattle.model.specs.Book.{homesAfter}
 use Rattle.model.specs.Demands.{groupWrites}
 use Rattle.model.specs.Facts.{slotWritten, headerWritten, writtenOnce, FormatOnce, PendingOnce, RowsWritten}
-use Rattle.model.specs.History.{Change, begins, aborts, stores, commits, flushes, Service, settles, trims, reads, change, service, changeEnds, serviceEnds, Call, opening, begin, abort, store, commit, flush, confirm, settle, trim, read, Event, call, crash, World, unopened, emptyStore, lent, loaded, ends, isOpening, afterCrash, step, after as along, Allowed, AllAllowed}
+use Rattle.model.specs.History.{Change, begins, reserves, aborts, stores, commits, flushes, Service, settles, trims, reads, change, service, changeEnds, serviceEnds, Call, opening, begin, reserve, abort, store, commit, flush, confirm, settle, trim, read, Event, call, crash, World, unopened, emptyStore, lent, loaded, ends, isOpening, afterCrash, step, after as along, Allowed, AllAllowed}
 use Rattle.model.proofs.bytes.LayoutLaws.{length-groupAt, group-fits, length-header}
 use Rattle.model.proofs.strip.BatchLaws.{AllFormed, formed-append}
 use Rattle.model.proofs.strip.QuestionLaws.{open-ready, store-ready, commit-ready, flush-ready, settle-ready, trim-ready}
@@ -232,7 +232,7 @@ module _ (G D : ℕ) (z : Sizes G D) (w : World) (r : Running G D w) where
         by-answer Once w (flush batch) g (flushAnswer g (sizeOf e)) e refl h
         (λ a. record {
           formed = rw (k .1) (formed-append (k .0) (FN ∷ []) (handed-formed (k .0) (k .2)) (tt, tt));
-          fit = fits g (sizeOf e) (flush-ready g (sizeOf e) a .1);
+          fit = fits g (sizeOf e) (flush-ready g (sizeOf e) a .2);
           next = added (e .records) h (rw (k .1) (once-fenced (k .0) (once-handed (k .0) (k .2))));
         })
 
@@ -275,6 +275,10 @@ module _ (G D : ℕ) (z : Sizes G D) (w : World) (r : Running G D w) where
     change-once (begins v) =
         (unfold ends changeEnds beginCall in
         quiet (begin v) (lent w [] [] v 0) (beginAnswer (lent w [] [] v 0)) (beginEffect (lent w [] [] v 0)) refl (unfold beginEffect newState in refl))
+    change-once (reserves v n) =
+        (unfold ends changeEnds reserveCall in
+        quiet (reserve v n) (lent w [] [] v 0) (reserveAnswer (lent w [] [] v 0) n) (reserveEffect (lent w [] [] v 0) n) refl
+        (unfold reserveEffect newState in refl))
     change-once (aborts v) =
         (unfold ends changeEnds abortCall in
         quiet (abort v) (lent w [] [] v 0) (abortAnswer (lent w [] [] v 0)) (abortEffect (lent w [] [] v 0)) refl (unfold abortEffect newState in refl))

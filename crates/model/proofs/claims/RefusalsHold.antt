@@ -2,88 +2,89 @@
 use mathlib.Core.Path.{_≡_, refl}
 use mathlib.Core.Logic.{_⊎_, inl, inr}
 use mathlib.Core.Bool.{Bool, true, false, not, _&&_, _||_}
-use Prim.Native.Nat.{ℕ, zero, suc, _≤_}
+use Prim.Native.Nat.{ℕ, zero, suc}
 use native.Mathlib.Omega.{arith}
-use Rattle.model.specs.Effects.{Given, Effect, formatEffect, openEffect, openStart, beginEffect, abortEffect, storeEffect, commitEffect, flushEffect, confirmEffect, settleEffect, trimStart, trimEffect, readEffect}
-use Rattle.model.specs.Questions.{ask, askState, askBlock, formatAnswer, openAnswer, beginAnswer, abortAnswer, storeAnswer, commitAnswer, flushAnswer, confirmAnswer, settleAnswer, trimAnswer, readAnswer}
-use Rattle.model.specs.Calls.{Outcome, refused, done, sizeOf, outcome, formatCall, openCall, beginCall, abortCall, storeCall, commitCall, flushCall, confirmCall, settleCall, trimCall, readCall}
-use Rattle.model.specs.Refusals.{Untouched, DoneOrUntouched, Refusals}
+use lib.Dec.{eqb}
+use borrow.Author.Tests.{ne-eqb}
+use Rattle.model.specs.Effects.{Given, Effect, formatEffect, openEffect, openStart, beginEffect, reserveEffect, abortEffect, storeEffect, commitEffect, flushEffect, confirmEffect, settleEffect, trimStart, trimEffect, readEffect}
+use Rattle.model.specs.Questions.{ask, askState, askBlock, formatAnswer, openAnswer, beginAnswer, reserveAnswer, abortAnswer, storeAnswer, commitAnswer, flushAnswer, confirmAnswer, settleAnswer, trimAnswer, readAnswer}
+use Rattle.model.specs.Calls.{Outcome, refused, done, sizeOf, outcome, formatCall, openCall, beginCall, reserveCall, abortCall, storeCall, commitCall, flushCall, confirmCall, settleCall, trimCall, readCall}
+use Rattle.model.specs.Refusals.{refuses, Untouched, DoneOrUntouched, Refusals}
+
+-- an answer is 0 or one of the numbers that refuse
+abbrev Known : ℕ → Type 0
+Known k = (eqb k 0 || refuses k) ≡ true
 
 -- by the answer
-by-number : (g : Given) (a : ℕ) (e : Effect) → a ≤ 10 → (outcome g a e .code ≡ 0) ⊎ Untouched g (outcome g a e)
+by-number : (g : Given) (a : ℕ) (e : Effect) → Known a → (outcome g a e .code ≡ 0) ⊎ Untouched g (outcome g a e)
 unfolding outcome done refused
 by-number g zero e l = inl refl
 by-number g (suc k) e l =
-    inr (record { least = omega arith; most = l; figure = refl; size = refl; state = refl; log = refl; area = refl; block = refl; batch = refl })
+    inr (record { number = rw (ne-eqb (suc k) 0 (λ x. omega arith)) at l; figure = refl; size = refl; state = refl; log = refl; area = refl; block = refl; batch = refl })
 
--- a question whose number is one of the ten, before answers that are
-one-of-ten : (b : Bool) (k v : ℕ) → k ≤ 10 → v ≤ 10 → ask b k v ≤ 10
+-- a question whose number refuses, before answers that are known
+known : (b : Bool) (k v : ℕ) → Known k → Known v → Known (ask b k v)
 unfolding ask
-one-of-ten true k v m l = l
-one-of-ten false k v m l = m
+known true k v m l = l
+known false k v m l = m
 
-last : (b : Bool) (k : ℕ) → k ≤ 10 → ask b k 0 ≤ 10
-last b k m = one-of-ten b k 0 m (omega arith)
+state-known : (g : Given) (v : ℕ) → Known v → Known (askState g v)
+unfolding askState refuses
+state-known g v l = known _ 1 _ refl (known _ 2 v refl l)
 
-state-ten : (g : Given) (v : ℕ) → v ≤ 10 → askState g v ≤ 10
-unfolding askState
-state-ten g v l = one-of-ten _ 1 _ (omega arith) (one-of-ten _ 2 v (omega arith) l)
-
-block-ten : (g : Given) (v : ℕ) → v ≤ 10 → askBlock g v ≤ 10
-unfolding askBlock
-block-ten g v l = one-of-ten _ 1 _ (omega arith) (one-of-ten _ 2 v (omega arith) l)
+block-known : (g : Given) (v : ℕ) → Known v → Known (askBlock g v)
+unfolding askBlock refuses
+block-known g v l = known _ 1 _ refl (known _ 2 v refl l)
 
 format-untouched : DoneOrUntouched formatCall
-unfolding formatCall formatAnswer
-format-untouched g = by-number g _ _ (one-of-ten _ 1 _ (omega arith) (last _ 9 (omega arith)))
+unfolding formatCall formatAnswer refuses
+format-untouched g = by-number g _ _ (known _ 1 _ refl (known _ 9 0 refl refl))
 
 open-untouched : DoneOrUntouched openCall
-unfolding openCall openAnswer
-open-untouched g =
-    by-number g _ _ (one-of-ten _ 1 _ (omega arith) (one-of-ten _ 3 _ (omega arith) (one-of-ten _ 10 _ (omega arith) (last _ 9 (omega arith)))))
+unfolding openCall openAnswer refuses
+open-untouched g = by-number g _ _ (known _ 1 _ refl (known _ 3 _ refl (known _ 10 _ refl (known _ 9 0 refl refl))))
 
 begin-untouched : DoneOrUntouched beginCall
-unfolding beginCall beginAnswer
-begin-untouched g = by-number g _ _ (state-ten g _ (one-of-ten _ 4 _ (omega arith) (last _ 6 (omega arith))))
+unfolding beginCall beginAnswer refuses
+begin-untouched g = by-number g _ _ (state-known g _ (known _ 4 _ refl (known _ 6 0 refl refl)))
+
+reserve-untouched : (n : ℕ) → DoneOrUntouched (λ g. reserveCall g n)
+unfolding reserveCall reserveAnswer refuses
+reserve-untouched n g = by-number g _ _ (state-known g _ (known _ 4 _ refl (known _ 6 _ refl (known _ 17 0 refl refl))))
 
 abort-untouched : DoneOrUntouched abortCall
-unfolding abortCall abortAnswer
-abort-untouched g = by-number g _ _ (state-ten g _ (one-of-ten _ 4 _ (omega arith) (last _ 7 (omega arith))))
+unfolding abortCall abortAnswer refuses
+abort-untouched g = by-number g _ _ (state-known g _ (known _ 4 _ refl (known _ 7 0 refl refl)))
 
 store-untouched : DoneOrUntouched storeCall
-unfolding storeCall storeAnswer
+unfolding storeCall storeAnswer refuses
 store-untouched g =
-    by-number g _ _
-    (block-ten g _
-    (one-of-ten _ 4 _ (omega arith)
-    (one-of-ten _ 5 _ (omega arith) (one-of-ten _ 7 _ (omega arith) (one-of-ten _ 8 _ (omega arith) (last _ 9 (omega arith)))))))
+    by-number g _ _ (block-known g _ (known _ 4 _ refl (known _ 5 _ refl (known _ 7 _ refl (known _ 8 _ refl (known _ 9 0 refl refl))))))
 
 commit-untouched : DoneOrUntouched commitCall
-unfolding commitCall commitAnswer
-commit-untouched g =
-    by-number g _ _
-    (state-ten g _ (one-of-ten _ 4 _ (omega arith) (one-of-ten _ 7 _ (omega arith) (one-of-ten _ 8 _ (omega arith) (last _ 9 (omega arith))))))
+unfolding commitCall commitAnswer refuses
+commit-untouched g = by-number g _ _ (state-known g _ (known _ 4 _ refl (known _ 7 _ refl (known _ 8 _ refl (known _ 9 0 refl refl)))))
 
 flush-untouched : DoneOrUntouched flushCall
-unfolding flushCall flushAnswer
-flush-untouched g = by-number g _ _ (state-ten g _ (last _ 9 (omega arith)))
+unfolding flushCall flushAnswer refuses
+flush-untouched g = by-number g _ _ (state-known g _ (known _ 18 _ refl (known _ 9 0 refl refl)))
 
 confirm-untouched : DoneOrUntouched confirmCall
 unfolding confirmCall confirmAnswer
-confirm-untouched g = by-number g _ _ (state-ten g 0 (omega arith))
+confirm-untouched g = by-number g _ _ (state-known g 0 refl)
 
 settle-untouched : DoneOrUntouched settleCall
-unfolding settleCall settleAnswer
-settle-untouched g = by-number g _ _ (state-ten g _ (last _ 9 (omega arith)))
+unfolding settleCall settleAnswer refuses
+settle-untouched g = by-number g _ _ (state-known g _ (known _ 9 0 refl refl))
 
 trim-untouched : DoneOrUntouched trimCall
-unfolding trimCall trimAnswer
-trim-untouched g = by-number g _ _ (state-ten g _ (one-of-ten _ 10 _ (omega arith) (last _ 9 (omega arith))))
+unfolding trimCall trimAnswer refuses
+trim-untouched g = by-number g _ _ (state-known g _ (known _ 10 _ refl (known _ 9 0 refl refl)))
 
 read-untouched : DoneOrUntouched readCall
-unfolding readCall readAnswer
-read-untouched g = by-number g _ _ (block-ten g _ (one-of-ten _ 4 _ (omega arith) (last _ 5 (omega arith))))
+unfolding readCall readAnswer refuses
+read-untouched g = by-number g _ _ (block-known g _ (known _ 4 _ refl (known _ 5 0 refl refl)))
 
 pub refusals : Refusals
-refusals =
-    (format-untouched, (open-untouched, (begin-untouched, (abort-untouched, (store-untouched, (commit-untouched, (flush-untouched, (confirm-untouched, (settle-untouched, (trim-untouched, (read-untouched, tt)))))))))))
+refusals n =
+    (format-untouched, (open-untouched, (begin-untouched, (reserve-untouched n, (abort-untouched, (store-untouched, (commit-untouched, (flush-untouched, (confirm-untouched, (settle-untouched, (trim-untouched, (read-untouched, tt))))))))))))

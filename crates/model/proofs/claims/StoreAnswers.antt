@@ -14,14 +14,14 @@ use borrow.Author.Tests.{leb-true, ltb-true, eqb-true, eqb-false, le-leb, lt-leb
 use Rattle.model.specs.Layout.{groupsIn, homesIn, logLengthRight, dataLengthRight, groupAt, header, headerStart, entryAt, maxStart}
 use Rattle.model.specs.Commit.{transactions, newest, found}
 use Rattle.model.specs.Batch.{Record, GW, KW, FN, recordBytes, batchBytes}
-use Rattle.model.specs.State.{State, stateOf, nextPosition, Writer, writerOf, heldOf, isOpen, holds}
-use Rattle.model.specs.Effects.{Given, Effect, groups, homes, logged, logHeld, logClosing, beginEffect, abortEffect, storeFirst, storeAgain, storeOther, storeEffect, commitHeld, commitEffect, flushNone, flushPart, flushEffect, confirmEffect, settleEffect, trimStart, trimTo, trimEffect, readEffect, newState, openEffect, openStart, touched, marked, homeWrites, largest}
-use Rattle.model.specs.Questions.{ask, areasRight, stateRight, blockRight, stripInOrder, headerFits, writerKnown, homeKnown, writerOpen, room, storeLogs, commitLogs, startFits, batchFits, openAnswer, askState, askBlock, beginAnswer, abortAnswer, storeAnswer, commitAnswer, flushAnswer, confirmAnswer, settleAnswer, trimAnswer, readAnswer}
-use Rattle.model.specs.Calls.{Outcome, outcome, sizeOf, openCall, beginCall, abortCall, storeCall, commitCall, flushCall, confirmCall, settleCall, trimCall, readCall}
+use Rattle.model.specs.State.{State, stateOf, nextPosition, promiseOf, promised, places, freePlaces, Writer, writerOf, heldOf, isOpen, holds}
+use Rattle.model.specs.Effects.{Given, Effect, groups, homes, logged, logHeld, logClosing, beginEffect, reserveEffect, abortEffect, storeFirst, storeAgain, storeOther, storeEffect, commitHeld, commitEffect, flushNone, flushPart, flushEffect, confirmEffect, settleEffect, trimStart, trimTo, trimEffect, readEffect, newState, openEffect, openStart, touched, marked, homeWrites, largest}
+use Rattle.model.specs.Questions.{ask, areasRight, stateRight, blockRight, stripInOrder, headerFits, writerKnown, homeKnown, writerOpen, roomFor, room, mayPromise, keepsPromises, storeLogs, commitLogs, startFits, batchFits, openAnswer, askState, askBlock, beginAnswer, reserveAnswer, abortAnswer, storeAnswer, commitAnswer, flushAnswer, confirmAnswer, settleAnswer, trimAnswer, readAnswer}
+use Rattle.model.specs.Calls.{Outcome, outcome, sizeOf, openCall, beginCall, reserveCall, abortCall, storeCall, commitCall, flushCall, confirmCall, settleCall, trimCall, readCall}
 use Rattle.model.specs.Book.{Held, Task, idle, opened, Book, homesAfter}
-use Rattle.model.specs.History.{Change, begins, aborts, stores, commits, flushes, Service, settles, trims, reads, Call, opening, confirm, change, service, World, lent, loaded, ends, changeEnds, serviceEnds, isOpening}
+use Rattle.model.specs.History.{Change, begins, reserves, aborts, stores, commits, flushes, Service, settles, trims, reads, Call, opening, confirm, change, service, World, lent, loaded, ends, changeEnds, serviceEnds, isOpening}
 use Rattle.model.specs.Demands.{eachContents, untrimmed, closedBelow, free, firstGroup as groupOfRow, Trimmed}
-use Rattle.model.specs.Store.{Store, firstGroup, nextGroup, nextOf, hasRoom, entryBytes, isIdle, storeMustLog, commitMustLog, anyWrote, manyHomes, toSettle, mayStart, nextStart, Reply, told, askBatch, replyChange, replyService, reply, replyOf, foundInMemory}
+use Rattle.model.specs.Store.{Store, firstGroup, nextGroup, nextOf, placesLeft, promisedTo, freeLeft, hasRoom, mayFlush, entryBytes, isIdle, storeMustLog, commitMustLog, anyWrote, manyHomes, toSettle, mayStart, nextStart, Reply, told, askBatch, replyChange, replyService, reply, replyOf, foundInMemory}
 use Rattle.model.proofs.bytes.LayoutLaws.{groups-in, homes-in, log-length-right, data-length-right, length-groupAt, group-fits, length-header}
 use Rattle.model.proofs.strip.BatchLaws.{length-GW, length-KW, length-FN, batch-append, batch-one}
 use Rattle.model.proofs.strip.OrderLaws.{InOrder, order-in}
@@ -59,6 +59,13 @@ pub record Agrees (G D : ℕ) (w : World) (s : Store) : Type 0 where
   pub found : foundInMemory G D (w .memory) ≡ s .back
   pub book : s .book ≡ w .book
   pub numbers : w .ready ≡ true → Numbers s (stateOf (w .state))
+  pub promises : w .ready ≡ true → (v : ℕ) → v < 8 → s .promises v ≡ promiseOf (w .state) v
+
+-- the promises together
+promised-same : (p : ℕ → ℕ) (strip : List ℕ) (n : ℕ) → ((v : ℕ) → v < n → p v ≡ promiseOf strip v) → promisedTo p n ≡ promised strip n
+unfolding promisedTo promised
+promised-same p strip zero f = refl
+promised-same p strip (suc n) f = rw (promised-same p strip n (λ v l. f v (omega arith)), f n (omega arith))
 
 -- ---- a writer's record and the book's task
 
@@ -166,7 +173,7 @@ module _ (G D : ℕ) (z : Sizes G D) (w : World) (r : Running G D w) (s : Store)
   unfolding writerOpen lent
   open-is block batch v h l = rw (task-is v) (open-task (r .b) (r .tr) _ _ _ _ (r .copies .tasks v l))
 
-  store-logs : (block batch : List ℕ) (v h : ℕ) → v < 8 → storeLogs (lent w block batch v h) ≡ storeMustLog (s .book .tasks v) h
+  pub store-logs : (block batch : List ℕ) (v h : ℕ) → v < 8 → storeLogs (lent w block batch v h) ≡ storeMustLog (s .book .tasks v) h
   unfolding storeLogs lent
   store-logs block batch v h l = rw (task-is v) (logs-task (r .b) (r .tr) _ _ _ _ h (r .copies .tasks v l))
 
@@ -174,9 +181,21 @@ module _ (G D : ℕ) (z : Sizes G D) (w : World) (r : Running G D w) (s : Store)
   unfolding commitLogs lent
   commit-logs block batch v h l = rw (task-is v) (holds-task (r .b) (r .tr) _ _ _ _ (r .copies .tasks v l))
 
-  room-is : (block batch : List ℕ) (v h : ℕ) → room (lent w block batch v h) ≡ hasRoom s
-  unfolding room hasRoom lent
-  room-is block batch v h = rw (next-is, n .start, a .groups, o .groups-same)
+  promised-is : promisedTo (s .promises) 8 ≡ promised (w .state) 8
+  promised-is = promised-same (s .promises) (w .state) 8 (a .promises (r .ready))
+
+  places-are : placesLeft s ≡ places st
+  unfolding placesLeft places
+  places-are =
+      ap (λ (x : ℕ). 7 * x - nextOf s) (ap (λ (x : ℕ). x + s .groups) (n .start) ∙ ap (λ (x : ℕ). st .start + x) (a .groups ∙ sym (o .groups-same)))
+      ∙ ap (λ (x : ℕ). 7 * (st .start + st .groups) - x) position-is
+
+  room-is : (block batch : List ℕ) (v h : ℕ) → v < 8 → room (lent w block batch v h) ≡ hasRoom s v
+  unfolding room roomFor hasRoom lent
+  room-is block batch v h l =
+      ap (λ (x : ℕ). leb 1 x || ltb (promised (w .state) 8) (places st)) (sym (a .promises (r .ready) v l))
+      ∙ ap (λ (x : ℕ). leb 1 (s .promises v) || ltb x (places st)) (sym promised-is)
+      ∙ ap (λ (x : ℕ). leb 1 (s .promises v) || ltb (promisedTo (s .promises) 8) x) (sym places-are)
 
   home-is : (block batch : List ℕ) (v h : ℕ) → homeKnown (lent w block batch v h) ≡ ltb h (s .homes)
   unfolding homeKnown
@@ -201,6 +220,34 @@ module _ (G D : ℕ) (z : Sizes G D) (w : World) (r : Running G D w) (s : Store)
       let g : Given = lent w [] [] v 0 in
       answers g (beginAnswer g) (beginEffect g) (ask (ltb v 8) 4 (ask (isIdle (s .book .tasks v)) 6 0)) 0 0 (begin-number v)
       (λ e. (unfold beginEffect newState in refl, size-none (beginEffect g) (unfold beginEffect newState in refl)))
+
+  promise-is : (places : ℕ) → mayPromise (w .state) places ≡ (leb 1 places && leb places (freeLeft s))
+  unfolding mayPromise freePlaces freeLeft
+  promise-is places =
+      ap (λ (x : ℕ). leb 1 places && leb places (x - promised (w .state) 8)) (sym places-are)
+      ∙ ap (λ (x : ℕ). leb 1 places && leb places (placesLeft s - x)) (sym promised-is)
+
+  reserve-inner : (v places : ℕ) → v < 8
+      → ask (not (writerOpen (lent w [] [] v 0))) 6 (ask (mayPromise (lent w [] [] v 0 .state) places) 17 0)
+      ≡ ask (isIdle (s .book .tasks v)) 6 (ask (leb 1 places && leb places (freeLeft s)) 17 0)
+  unfolding lent
+  reserve-inner v places l =
+      ap (λ (b : Bool). ask b 6 (ask (mayPromise (w .state) places) 17 0)) (ap not (open-is [] [] v 0 l) ∙ double-not (isIdle (s .book .tasks v)))
+      ∙ ap (λ (b : Bool). ask (isIdle (s .book .tasks v)) 6 (ask b 17 0)) (promise-is places)
+
+  reserve-number : (v places : ℕ)
+      → reserveAnswer (lent w [] [] v 0) places
+      ≡ ask (ltb v 8) 4 (ask (isIdle (s .book .tasks v)) 6 (ask (leb 1 places && leb places (freeLeft s)) 17 0))
+  unfolding reserveAnswer writerKnown lent
+  reserve-number v places = asked [] [] v 0 _ ∙ ask-same (ltb v 8) 4 _ _ (λ l. reserve-inner v places (ltb-true v 8 l))
+
+  reserve-answers : (v places : ℕ) → replyOf (reserveCall (lent w [] [] v 0) places) ≡ replyChange s (reserves v places)
+  unfolding reserveCall replyChange
+  reserve-answers v places =
+      let g : Given = lent w [] [] v 0 in
+      answers g (reserveAnswer g places) (reserveEffect g places)
+      (ask (ltb v 8) 4 (ask (isIdle (s .book .tasks v)) 6 (ask (leb 1 places && leb places (freeLeft s)) 17 0))) 0 0 (reserve-number v places)
+      (λ e. (unfold reserveEffect newState in refl, size-none (reserveEffect g places) (unfold reserveEffect newState in refl)))
 
   abort-number : (v : ℕ) → abortAnswer (lent w [] [] v 0) ≡ ask (ltb v 8) 4 (ask (not (isIdle (s .book .tasks v))) 7 0)
   unfolding abortAnswer writerKnown lent
@@ -282,12 +329,12 @@ module _ (G D : ℕ) (z : Sizes G D) (w : World) (r : Running G D w) (s : Store)
       (ask (batchFits (lent w block batch v h) (sizeOf (storeEffect (lent w block batch v h)))) 9 0)))
       ≡ ask (ltb h (s .homes)) 5
       (ask (not (isIdle (s .book .tasks v))) 7
-      (ask (not (storeMustLog (s .book .tasks v) h) || hasRoom s) 8 (askBatch (cond (storeMustLog (s .book .tasks v) h) (entryBytes s) 0) batch)))
+      (ask (not (storeMustLog (s .book .tasks v) h) || hasRoom s v) 8 (askBatch (cond (storeMustLog (s .book .tasks v) h) (entryBytes s) 0) batch)))
   store-inner v h block batch l =
       rw (
         home-is block batch v h,
         open-is block batch v h l,
-        room-is block batch v h,
+        room-is block batch v h l,
         batch-is block batch v h _ _ (store-size v h block batch l),
         store-logs block batch v h l,
       )
@@ -298,7 +345,7 @@ module _ (G D : ℕ) (z : Sizes G D) (w : World) (r : Running G D w) (s : Store)
       (ask (ltb v 8) 4
       (ask (ltb h (s .homes)) 5
       (ask (not (isIdle (s .book .tasks v))) 7
-      (ask (not (storeMustLog (s .book .tasks v) h) || hasRoom s) 8 (askBatch (cond (storeMustLog (s .book .tasks v) h) (entryBytes s) 0) batch)))))
+      (ask (not (storeMustLog (s .book .tasks v) h) || hasRoom s v) 8 (askBatch (cond (storeMustLog (s .book .tasks v) h) (entryBytes s) 0) batch)))))
   unfolding storeAnswer writerKnown lent
   store-number v h block batch =
       asked-block block batch v h _
@@ -352,15 +399,15 @@ module _ (G D : ℕ) (z : Sizes G D) (w : World) (r : Running G D w) (s : Store)
       (ask (not (commitLogs (lent w [] batch v 0)) || room (lent w [] batch v 0)) 8
       (ask (batchFits (lent w [] batch v 0) (sizeOf (commitEffect (lent w [] batch v 0)))) 9 0))
       ≡ ask (not (isIdle (s .book .tasks v))) 7
-      (ask (not (commitMustLog (s .book .tasks v)) || hasRoom s) 8 (askBatch (cond (commitMustLog (s .book .tasks v)) (entryBytes s) 0) batch))
+      (ask (not (commitMustLog (s .book .tasks v)) || hasRoom s v) 8 (askBatch (cond (commitMustLog (s .book .tasks v)) (entryBytes s) 0) batch))
   commit-inner v batch l =
-      rw (open-is [] batch v 0 l, room-is [] batch v 0, batch-is [] batch v 0 _ _ (commit-size v batch l), commit-logs [] batch v 0 l)
+      rw (open-is [] batch v 0 l, room-is [] batch v 0 l, batch-is [] batch v 0 _ _ (commit-size v batch l), commit-logs [] batch v 0 l)
 
   commit-number : (v : ℕ) (batch : List ℕ)
       → commitAnswer (lent w [] batch v 0) (sizeOf (commitEffect (lent w [] batch v 0)))
       ≡ ask (ltb v 8) 4
       (ask (not (isIdle (s .book .tasks v))) 7
-      (ask (not (commitMustLog (s .book .tasks v)) || hasRoom s) 8 (askBatch (cond (commitMustLog (s .book .tasks v)) (entryBytes s) 0) batch)))
+      (ask (not (commitMustLog (s .book .tasks v)) || hasRoom s v) 8 (askBatch (cond (commitMustLog (s .book .tasks v)) (entryBytes s) 0) batch)))
   unfolding commitAnswer writerKnown lent
   commit-number v batch = asked [] batch v 0 _ ∙ ask-same (ltb v 8) 4 _ _ (λ l. commit-inner v batch (ltb-true v 8 l))
 
@@ -398,10 +445,23 @@ module _ (G D : ℕ) (z : Sizes G D) (w : World) (r : Running G D w) (s : Store)
         (unfold flushPart in refl),
       )
 
+  flush-keeps : keepsPromises (w .state) ≡ mayFlush s
+  unfolding keepsPromises mayFlush
+  flush-keeps =
+      ap (λ (x : ℕ). eqb x 0 || leb (promised (w .state) 8) (7 * (st .start + st .groups) - 7 * (st .next + 1))) (sym filled-is)
+      ∙ ap (λ (x : ℕ). eqb (s .book .filled) 0 || leb x (7 * (st .start + st .groups) - 7 * (st .next + 1))) (sym promised-is)
+      ∙ ap (λ (x : ℕ). eqb (s .book .filled) 0 || leb (promisedTo (s .promises) 8) (7 * x - 7 * (st .next + 1)))
+      (sym (ap (λ (x : ℕ). x + s .groups) (n .start) ∙ ap (λ (x : ℕ). st .start + x) (a .groups ∙ sym (o .groups-same))))
+      ∙ ap (λ (x : ℕ). eqb (s .book .filled) 0 || leb (promisedTo (s .promises) 8) (7 * (s .start + s .groups) - 7 * (x + 1))) (sym next-is)
+
   flush-number : (batch : List ℕ)
-      → flushAnswer (lent w [] batch 0 0) (sizeOf (flushEffect (lent w [] batch 0 0))) ≡ askBatch (cond (eqb (s .book .filled) 0) 2 518) batch
+      → flushAnswer (lent w [] batch 0 0) (sizeOf (flushEffect (lent w [] batch 0 0)))
+      ≡ ask (mayFlush s) 18 (askBatch (cond (eqb (s .book .filled) 0) 2 518) batch)
   unfolding flushAnswer
-  flush-number batch = asked [] batch 0 0 _ ∙ batch-is [] batch 0 0 _ _ (flush-bytes batch .0)
+  flush-number batch =
+      asked [] batch 0 0 _
+      ∙ ap (λ (k : ℕ). ask (keepsPromises (lent w [] batch 0 0 .state)) 18 k) (batch-is [] batch 0 0 _ _ (flush-bytes batch .0))
+      ∙ (unfold lent in ap (λ (b : Bool). ask b 18 (askBatch (cond (eqb (s .book .filled) 0) 2 518) batch)) flush-keeps)
 
   flush-answers : (batch : List ℕ) → replyOf (flushCall (lent w [] batch 0 0)) ≡ replyChange s (flushes batch)
   unfolding flushCall replyChange
@@ -531,6 +591,7 @@ module _ (G D : ℕ) (z : Sizes G D) (w : World) (r : Running G D w) (s : Store)
   change-answers : (c : Change) → replyOf (ends w (change c)) ≡ replyChange s c
   unfolding ends changeEnds
   change-answers (begins v) = begin-answers v
+  change-answers (reserves v places) = reserve-answers v places
   change-answers (aborts v) = abort-answers v
   change-answers (stores v home block batch) = store-answers v home block batch
   change-answers (commits v batch) = commit-answers v batch

@@ -2,30 +2,31 @@
 use Prim.Native.Nat.{ℕ, zero, suc, _+_, _-_, _*_, _/_, _%_, _^_, _≤_, _<_}
 use mathlib.Core.Path.{_≡_, refl, sym, ap, _∙_, subst}
 use mathlib.Core.Logic.{_⊎_, inl, inr}
-use mathlib.Core.Bool.{Bool, true, false, cond, not, false≢true}
+use mathlib.Core.Bool.{Bool, true, false, cond, not, _&&_, false≢true}
 use mathlib.Core.List.{List, [], _∷_, _++_}
 use native.Mathlib.Omega.{arith}
 use lib.Dec.{eqb, leb, ltb}
 use lib.ListN.{length}
-use borrow.Author.Tests.{leb-true, eqb-true, le-leb, lt-leb, ne-eqb}
+use borrow.Author.Tests.{leb-true, ltb-true, eqb-true, eqb-false, le-leb, lt-leb, ne-eqb}
 use Rattle.model.specs.Tag.{entryWord, closingWord}
 use Rattle.model.specs.Layout.{groupsIn, headerStart}
-use Rattle.model.specs.State.{State, stateOf, setStart, setNext, setFilled, setFenced, setSettled, setLast, setDurable, nextPosition, Writer, writerOf, setWriter, heldOf, setHeld, freshState, idle, begun, holding, logging, holds, firstFor, countFor}
-use Rattle.model.specs.Effects.{Given, Effect, Logged, logged, linkFrom, logHeld, logClosing, beginEffect, abortEffect, storeFirst, storeAgain, storeOther, storeEffect, commitHeld, commitEffect, flushNone, flushPart, flushEffect, confirmEffect, settleEffect, trimStart, trimTo, trimEffect, readEffect, newState, openEffect, openStart}
-use Rattle.model.specs.Questions.{blockRight, startFits, openAnswer, beginAnswer, abortAnswer, storeAnswer, commitAnswer, flushAnswer, confirmAnswer, settleAnswer, trimAnswer, readAnswer}
-use Rattle.model.specs.Calls.{Outcome, done, outcome, sizeOf, openCall, beginCall, abortCall, storeCall, commitCall, flushCall, confirmCall, settleCall, trimCall, readCall}
+use Rattle.model.specs.State.{State, stateOf, setStart, setNext, setFilled, setFenced, setSettled, setLast, setDurable, nextPosition, promiseOf, setPromise, promised, promiseLeft, places, freePlaces, Writer, writerOf, setWriter, heldOf, setHeld, freshState, idle, begun, holding, logging, holds, firstFor, countFor}
+use Rattle.model.specs.Effects.{Given, Effect, Logged, logged, linkFrom, logHeld, logClosing, beginEffect, reserveEffect, abortEffect, storeFirst, storeAgain, storeOther, storeEffect, commitHeld, commitEffect, flushNone, flushPart, flushEffect, confirmEffect, settleEffect, trimStart, trimTo, trimEffect, readEffect, newState, openEffect, openStart}
+use Rattle.model.specs.Questions.{blockRight, writerKnown, mayPromise, storeLogs, startFits, openAnswer, beginAnswer, reserveAnswer, abortAnswer, storeAnswer, commitAnswer, flushAnswer, confirmAnswer, settleAnswer, trimAnswer, readAnswer}
+use Rattle.model.specs.Calls.{Outcome, done, outcome, sizeOf, openCall, beginCall, reserveCall, abortCall, storeCall, commitCall, flushCall, confirmCall, settleCall, trimCall, readCall}
 use Rattle.model.specs.Crash.{Memory, fences, persist, fates}
 use Rattle.model.specs.Book.{Book, homesAfter, run}
 use Rattle.model.specs.Book as book
 use Rattle.model.specs.Demands.{untrimmed}
-use Rattle.model.specs.History.{Change, begins, aborts, stores, commits, flushes, Service, settles, trims, reads, Call, opening, confirm, change, service, Event, call, crash, World, unopened, emptyStore, lent, loaded, ends, changeEnds, serviceEnds, feed, isOpening, afterDone, afterCall, afterCrash, step, Allowed, AllAllowed}
-use Rattle.model.specs.Store.{Store, newStore, firstGroup, nextGroup, nextOf, nextStart, replyOf, reply, lastAfter, fencedAfter, numbered, trimmedTo, afterService, afterReply, follow, foundInMemory, AnswersAt, AnswersThroughout, Answers}
+use Rattle.model.specs.History.{Change, begins, reserves, aborts, stores, commits, flushes, Service, settles, trims, reads, Call, opening, confirm, change, service, Event, call, crash, World, unopened, emptyStore, lent, loaded, ends, changeEnds, serviceEnds, feed, isOpening, afterDone, afterCall, afterCrash, step, Allowed, AllAllowed}
+use Rattle.model.specs.Store.{Store, newStore, firstGroup, nextGroup, nextOf, nextStart, replyOf, reply, storeMustLog, lastAfter, fencedAfter, setFor, promisesAfter, numbered, trimmedTo, afterService, afterReply, follow, foundInMemory, AnswersAt, AnswersThroughout, Answers}
 use Rattle.model.specs.Store as store
 use Rattle.model.proofs.bytes.LayoutLaws.{groups-in}
-use Rattle.model.proofs.strip.StateLaws.{withStart, withFenced, withSettled, withLast, withDurable, withNext, withFilled, length-setNext, length-setFilled, state-setNext, state-setFilled, state-setFenced, state-setDurable, state-setLast}
-use Rattle.model.proofs.strip.WriterLaws.{state-setWriter, state-setHeld}
-use Rattle.model.proofs.strip.OrderLaws.{InOrder, state-fresh}
-use Rattle.model.proofs.strip.QuestionLaws.{store-ready, trim-ready, open-ready}
+use Rattle.model.proofs.strip.StateLaws.{withStart, withFenced, withSettled, withLast, withDurable, withNext, withFilled, length-setNext, length-setFilled, state-setNext, state-setFilled, state-setFenced, state-setDurable, state-setLast, length-setLast}
+use Rattle.model.proofs.strip.WriterLaws.{length-setWriter, length-setHeld, state-setWriter, state-setHeld}
+use Rattle.model.proofs.strip.PromiseLaws.{promise-setStart, promise-setNext, promise-setFilled, promise-setSettled, promise-setFenced, promise-setDurable, promise-setLast, promise-setWriter, promise-setHeld, state-setPromise, promise-setPromise, promise-setPromise-other, promise-most}
+use Rattle.model.proofs.strip.OrderLaws.{InOrder, state-fresh, promise-fresh}
+use Rattle.model.proofs.strip.QuestionLaws.{reserve-ready, may-promise, abort-ready, store-ready, commit-ready, trim-ready, open-ready}
 use Rattle.model.proofs.invariant.Invariant.{Sizes, Running, Closed, Invariant, Early, Late, ImageOk}
 use Rattle.model.proofs.invariant.OpenLaws.{newStart}
 use Rattle.model.proofs.invariant.LateOpens.{late-found}
@@ -40,7 +41,7 @@ use Rattle.model.proofs.steps.Beginning.{format-closed, formatted-start
 use Rattle.model.proofs.steps.FormatRuns.{sizes, after-format}
 use Rattle.model.proofs.claims.DemandThree.{keeps}
 use Rattle.model.proofs.claims.Yields.{ends-done}
-use Rattle.model.proofs.claims.StoreAnswers.{Numbers, Agrees, first-is, next-is, filled-is, position-is, start-is, call-answers, open-answers}
+use Rattle.model.proofs.claims.StoreAnswers.{Numbers, Agrees, first-is, next-is, filled-is, position-is, start-is, store-logs, call-answers, open-answers}
 
 -- what a done call leaves in the strip and gives as its figure
 done-state : (o : Outcome) (g : Given) (a : ℕ) (e : Effect) → o ≡ outcome g a e → o .code ≡ 0 → o .state ≡ e .state
@@ -50,10 +51,10 @@ done-figure : (o : Outcome) (g : Given) (a : ℕ) (e : Effect) → o ≡ outcome
 done-figure o g a e q h = ap (λ (x : Outcome). x .figure) (ends-done o g a e q h) ∙ (unfold done in refl)
 
 -- where the strip has the numbers, the store numbered so agrees
-numbers-as : (s : Store) (b : Book) (start settled fenced durable last : ℕ) (st : State) → start ≡ st .start → settled ≡ st .settled
-    → fenced ≡ st .fenced → durable ≡ st .durable → last ≡ st .last → Numbers (numbered s start settled fenced durable last b) st
+numbers-as : (s : Store) (p : ℕ → ℕ) (b : Book) (start settled fenced durable last : ℕ) (st : State) → start ≡ st .start → settled ≡ st .settled
+    → fenced ≡ st .fenced → durable ≡ st .durable → last ≡ st .last → Numbers (numbered s start settled fenced durable last p b) st
 unfolding numbered
-numbers-as s b start settled fenced durable last st e₁ e₂ e₃ e₄ e₅ = record { start = e₁; settled = e₂; fenced = e₃; durable = e₄; last = e₅ }
+numbers-as s p b start settled fenced durable last st e₁ e₂ e₃ e₄ e₅ = record { start = e₁; settled = e₂; fenced = e₃; durable = e₄; last = e₅ }
 
 start-small : (x : ℕ) → startFits x ≡ true → x ≤ 2 ^ 47
 unfolding startFits
@@ -82,8 +83,8 @@ module _ (G D : ℕ) (z : Sizes G D) (w : World) (r : Running G D w) (s : Store)
   n = a .numbers (r .ready)
 
   -- the same numbers
-  stays : (b : Book) (t : List ℕ) → stateOf t ≡ st → Numbers (numbered s (s .start) (s .settled) (s .fenced) (s .durable) (s .last) b) (stateOf t)
-  stays b t e = rw e (numbers-as s b (s .start) (s .settled) (s .fenced) (s .durable) (s .last) st (n .start) (n .settled) (n .fenced) (n .durable) (n .last))
+  stays : (p : ℕ → ℕ) (b : Book) (t : List ℕ) → stateOf t ≡ st → Numbers (numbered s (s .start) (s .settled) (s .fenced) (s .durable) (s .last) p b) (stateOf t)
+  stays p b t e = rw e (numbers-as s p b (s .start) (s .settled) (s .fenced) (s .durable) (s .last) st (n .start) (n .settled) (n .fenced) (n .durable) (n .last))
 
   next-small : 7 * st .next + 7 < 2 ^ 64
   next-small = omega (arith, o .next-most, o .start-most, o .groups-same, z .high)
@@ -95,68 +96,72 @@ module _ (G D : ℕ) (z : Sizes G D) (w : World) (r : Running G D w) (s : Store)
   logged-size word block = logged-writers (w .state) (w .log) word block (r .copies .stateSize) .size
 
   -- an entry logged changes none of them
-  logged-stays : (b : Book) (word : ℕ) (block : List ℕ)
-      → Numbers (numbered s (s .start) (s .settled) (s .fenced) (s .durable) (s .last) b) (stateOf (logged (w .state) (w .log) word block .state))
-  logged-stays b word block =
+  logged-stays : (p : ℕ → ℕ) (b : Book) (word : ℕ) (block : List ℕ)
+      → Numbers (numbered s (s .start) (s .settled) (s .fenced) (s .durable) (s .last) p b) (stateOf (logged (w .state) (w .log) word block .state))
+  logged-stays p b word block =
       let ad = advanced word block in
-      numbers-as s b (s .start) (s .settled) (s .fenced) (s .durable) (s .last) (stateOf (logged (w .state) (w .log) word block .state))
+      numbers-as s p b (s .start) (s .settled) (s .fenced) (s .durable) (s .last) (stateOf (logged (w .state) (w .log) word block .state))
       (n .start ∙ sym (ad .start)) (n .settled ∙ sym (ad .settled)) (n .fenced ∙ sym (ad .fenced)) (n .durable ∙ sym (ad .durable)) (n .last ∙ sym (ad .last))
 
   -- ---- store
 
-  other-numbers : (v h : ℕ) (block batch : List ℕ) (b : Book) → length block ≡ 64
-      → Numbers (numbered s (s .start) (s .settled) (s .fenced) (s .durable) (s .last) b)
+  other-numbers : (v h : ℕ) (block batch : List ℕ) (p : ℕ → ℕ) (b : Book) → length block ≡ 64
+      → Numbers (numbered s (s .start) (s .settled) (s .fenced) (s .durable) (s .last) p b)
       (stateOf (storeOther (lent w block batch v h) (writerOf (w .state) v) (nextPosition (stateOf (w .state))) .state))
   unfolding storeOther logHeld lent
-  other-numbers v h block batch b l =
+  other-numbers v h block batch ps b l =
       let x : Writer = writerOf (w .state) v in
       let p : ℕ = nextPosition (stateOf (w .state)) in
       let word : ℕ = entryWord (x .home) (p - firstFor x p) in
       let after : List ℕ = logged (w .state) (w .log) word (heldOf (w .state) v) .state in
       let y : Writer = logging h (firstFor x p) (countFor x + 1) in
-      subst (λ (q : State). Numbers (numbered s (s .start) (s .settled) (s .fenced) (s .durable) (s .last) b) q)
-      (sym (state-setHeld (setWriter after v y) v block l ∙ state-setWriter after v y)) (logged-stays b word (heldOf (w .state) v))
+      subst (λ (q : State). Numbers (numbered s (s .start) (s .settled) (s .fenced) (s .durable) (s .last) ps b) q)
+      (sym (state-setPromise (setHeld (setWriter after v y) v block) v (promiseLeft (w .state) v) ∙ state-setHeld (setWriter after v y) v block l ∙ state-setWriter after v y))
+      (logged-stays ps b word (heldOf (w .state) v))
 
-  store-numbers : (v h : ℕ) (block batch : List ℕ) (b : Book) → length block ≡ 64
-      → Numbers (numbered s (s .start) (s .settled) (s .fenced) (s .durable) (s .last) b) (stateOf (storeEffect (lent w block batch v h) .state))
+  store-numbers : (v h : ℕ) (block batch : List ℕ) (p : ℕ → ℕ) (b : Book) → length block ≡ 64
+      → Numbers (numbered s (s .start) (s .settled) (s .fenced) (s .durable) (s .last) p b) (stateOf (storeEffect (lent w block batch v h) .state))
   unfolding storeEffect storeFirst storeAgain newState lent
-  store-numbers v h block batch b l = go (holds (writerOf (w .state) v)) (eqb (writerOf (w .state) v .home) h)
+  store-numbers v h block batch p b l = go (holds (writerOf (w .state) v)) (eqb (writerOf (w .state) v .home) h)
     where
       go : (d e : Bool)
-          → Numbers (numbered s (s .start) (s .settled) (s .fenced) (s .durable) (s .last) b)
+          → Numbers (numbered s (s .start) (s .settled) (s .fenced) (s .durable) (s .last) p b)
           (stateOf
           (cond d (cond e (storeAgain (lent w block batch v h)) (storeOther (lent w block batch v h) (writerOf (w .state) v) (nextPosition (stateOf (w .state)))))
           (storeFirst (lent w block batch v h)) .state))
-      go true true = stays b (setHeld (w .state) v block) (state-setHeld (w .state) v block l)
-      go true false = other-numbers v h block batch b l
+      go true true = stays p b (setHeld (w .state) v block) (state-setHeld (w .state) v block l)
+      go true false = other-numbers v h block batch p b l
       go false e =
-          stays b (setHeld (setWriter (w .state) v (holding h)) v block)
+          stays p b (setHeld (setWriter (w .state) v (holding h)) v block)
           (state-setHeld (setWriter (w .state) v (holding h)) v block l ∙ state-setWriter (w .state) v (holding h))
 
   -- ---- commit
 
-  held-numbers : (v : ℕ) (batch : List ℕ) (b : Book)
-      → Numbers (numbered s (s .start) (s .settled) (s .fenced) (s .durable) (nextPosition (stateOf (w .state)) + 1) b)
+  idle-state : (v : ℕ) → stateOf (setPromise (setWriter (w .state) v idle) v 0) ≡ stateOf (w .state)
+  idle-state v = state-setPromise (setWriter (w .state) v idle) v 0 ∙ state-setWriter (w .state) v idle
+
+  held-numbers : (v : ℕ) (batch : List ℕ) (p : ℕ → ℕ) (b : Book)
+      → Numbers (numbered s (s .start) (s .settled) (s .fenced) (s .durable) (nextPosition (stateOf (w .state)) + 1) p b)
       (stateOf (commitHeld (lent w [] batch v 0) (writerOf (w .state) v) (nextPosition (stateOf (w .state))) .state))
   unfolding commitHeld logClosing lent
-  held-numbers v batch b =
+  held-numbers v batch ps b =
       let x : Writer = writerOf (w .state) v in
       let p : ℕ = nextPosition (stateOf (w .state)) in
       let word : ℕ = closingWord (x .home) (p - firstFor x p) (linkFrom p (stateOf (w .state))) (countFor x + 1) in
       let after : List ℕ = logged (w .state) (w .log) word (heldOf (w .state) v) .state in
       let ad = advanced word (heldOf (w .state) v) in
       let q : p ≡ 7 * st .next + st .filled = unfold nextPosition in refl in
-      subst (λ (q : State). Numbers (numbered s (s .start) (s .settled) (s .fenced) (s .durable) (p + 1) b) q)
-      (sym (state-setWriter (setLast after (p + 1)) v idle
+      subst (λ (q : State). Numbers (numbered s (s .start) (s .settled) (s .fenced) (s .durable) (p + 1) ps b) q)
+      (sym (state-setPromise (setWriter (setLast after (p + 1)) v idle) v 0 ∙ state-setWriter (setLast after (p + 1)) v idle
       ∙ state-setLast after (p + 1) (logged-size word (heldOf (w .state) v)) (omega (arith, next-small, q, o .filled-most))))
-      (numbers-as s b (s .start) (s .settled) (s .fenced) (s .durable) (p + 1) (withLast (stateOf after) (p + 1)) (n .start ∙ sym (ad .start))
+      (numbers-as s ps b (s .start) (s .settled) (s .fenced) (s .durable) (p + 1) (withLast (stateOf after) (p + 1)) (n .start ∙ sym (ad .start))
       (n .settled ∙ sym (ad .settled)) (n .fenced ∙ sym (ad .fenced)) (n .durable ∙ sym (ad .durable)) refl)
 
-  commit-numbers : (v : ℕ) (batch : List ℕ) (b : Book)
-      → Numbers (numbered s (s .start) (s .settled) (s .fenced) (s .durable) (lastAfter (s .last) (commits v batch) (commitEffect (lent w [] batch v 0) .figure)) b)
+  commit-numbers : (v : ℕ) (batch : List ℕ) (p : ℕ → ℕ) (b : Book)
+      → Numbers (numbered s (s .start) (s .settled) (s .fenced) (s .durable) (lastAfter (s .last) (commits v batch) (commitEffect (lent w [] batch v 0) .figure)) p b)
       (stateOf (commitEffect (lent w [] batch v 0) .state))
   unfolding commitEffect lastAfter lent
-  commit-numbers v batch b = go (holds (writerOf (w .state) v))
+  commit-numbers v batch p b = go (holds (writerOf (w .state) v))
     where
       go : (d : Bool)
           → Numbers
@@ -165,14 +170,14 @@ module _ (G D : ℕ) (z : Sizes G D) (w : World) (r : Running G D w) (s : Store)
           (eqb (cond d (commitHeld (lent w [] batch v 0) (writerOf (w .state) v) (nextPosition (stateOf (w .state)))) (abortEffect (lent w [] batch v 0)) .figure) 0)
           (s .last)
           (cond d (commitHeld (lent w [] batch v 0) (writerOf (w .state) v) (nextPosition (stateOf (w .state)))) (abortEffect (lent w [] batch v 0)) .figure))
-          b)
+          p b)
           (stateOf
           (cond d (commitHeld (lent w [] batch v 0) (writerOf (w .state) v) (nextPosition (stateOf (w .state)))) (abortEffect (lent w [] batch v 0)) .state))
       go true =
           let f : commitHeld (lent w [] batch v 0) (writerOf (w .state) v) (nextPosition (stateOf (w .state))) .figure ≡ nextPosition (stateOf (w .state)) + 1 =
           unfold commitHeld in refl in
-          rw (f, ne-eqb (nextPosition (stateOf (w .state)) + 1) 0 (λ e. omega arith)) (held-numbers v batch b)
-      go false = (unfold abortEffect newState in stays b (setWriter (w .state) v idle) (state-setWriter (w .state) v idle))
+          rw (f, ne-eqb (nextPosition (stateOf (w .state)) + 1) 0 (λ e. omega arith)) (held-numbers v batch p b)
+      go false = (unfold abortEffect newState in stays p b (setPromise (setWriter (w .state) v idle) v 0) (idle-state v))
 
   -- ---- flush
 
@@ -180,13 +185,13 @@ module _ (G D : ℕ) (z : Sizes G D) (w : World) (r : Running G D w) (s : Store)
   unfolding nextGroup
   rows = next-is G D z w r s a
 
-  flush-numbers : (batch : List ℕ) (b : Book)
-      → Numbers (numbered s (s .start) (s .settled) (fencedAfter s (flushes batch)) (s .durable) (s .last) b) (stateOf (flushEffect (lent w [] batch 0 0) .state))
+  flush-numbers : (batch : List ℕ) (p : ℕ → ℕ) (b : Book)
+      → Numbers (numbered s (s .start) (s .settled) (fencedAfter s (flushes batch)) (s .durable) (s .last) p b) (stateOf (flushEffect (lent w [] batch 0 0) .state))
   unfolding flushEffect fencedAfter book.flush lent
-  flush-numbers batch b =
+  flush-numbers batch p b =
       subst
       (λ (f : ℕ).
-      Numbers (numbered s (s .start) (s .settled) (7 * (firstGroup s + cond (eqb f 0) (s .book) (book.submit (s .book)) .rows)) (s .durable) (s .last) b)
+      Numbers (numbered s (s .start) (s .settled) (7 * (firstGroup s + cond (eqb f 0) (s .book) (book.submit (s .book)) .rows)) (s .durable) (s .last) p b)
       (stateOf
       (cond (eqb (stateOf (w .state) .filled) 0) (flushNone (lent w [] batch 0 0) (stateOf (w .state))) (flushPart (lent w [] batch 0 0) (stateOf (w .state))) .state)))
       (sym (filled-is G D z w r s a)) (go (eqb (stateOf (w .state) .filled) 0))
@@ -208,17 +213,17 @@ module _ (G D : ℕ) (z : Sizes G D) (w : World) (r : Running G D w) (s : Store)
           )
 
       go : (d : Bool)
-          → Numbers (numbered s (s .start) (s .settled) (7 * (firstGroup s + cond d (s .book) (book.submit (s .book)) .rows)) (s .durable) (s .last) b)
+          → Numbers (numbered s (s .start) (s .settled) (7 * (firstGroup s + cond d (s .book) (book.submit (s .book)) .rows)) (s .durable) (s .last) p b)
           (stateOf (cond d (flushNone (lent w [] batch 0 0) (stateOf (w .state))) (flushPart (lent w [] batch 0 0) (stateOf (w .state))) .state))
       go true =
           (unfold flushNone in
           rw none-state
-          (numbers-as s b (s .start) (s .settled) (7 * (firstGroup s + s .book .rows)) (s .durable) (s .last)
+          (numbers-as s p b (s .start) (s .settled) (7 * (firstGroup s + s .book .rows)) (s .durable) (s .last)
           (withFenced (stateOf (w .state)) (7 * stateOf (w .state) .next)) (n .start) (n .settled) (omega (arith, rows)) (n .durable) (n .last)))
       go false =
           (unfold flushPart book.submit in
           rw part-state
-          (numbers-as s b (s .start) (s .settled) (7 * (firstGroup s + (s .book .rows + 1))) (s .durable) (s .last)
+          (numbers-as s p b (s .start) (s .settled) (7 * (firstGroup s + (s .book .rows + 1))) (s .durable) (s .last)
           (withFenced (withFilled (withNext (stateOf (w .state)) (stateOf (w .state) .next + 1)) 0) (7 * (stateOf (w .state) .next + 1))) (n .start) (n .settled)
           (omega (arith, rows)) (n .durable) (n .last)))
 
@@ -231,27 +236,222 @@ module _ (G D : ℕ) (z : Sizes G D) (w : World) (r : Running G D w) (s : Store)
       let g : Given = lent w [] [] v 0 in
       (unfold beginCall in
       rw (done-state _ g (beginAnswer g) (beginEffect g) refl h)
-      (unfold beginEffect newState lent fencedAfter lastAfter in stays _ (setWriter (w .state) v begun) (state-setWriter (w .state) v begun)))
+      (unfold beginEffect newState lent fencedAfter lastAfter in stays _ _ (setWriter (w .state) v begun) (state-setWriter (w .state) v begun)))
+  change-numbers (reserves v places) h =
+      let g : Given = lent w [] [] v 0 in
+      (unfold reserveCall in
+      rw (done-state _ g (reserveAnswer g places) (reserveEffect g places) refl h)
+      (unfold reserveEffect newState lent fencedAfter lastAfter in
+      stays _ _ (setPromise (setWriter (w .state) v begun) v places)
+      (state-setPromise (setWriter (w .state) v begun) v places ∙ state-setWriter (w .state) v begun)))
   change-numbers (aborts v) h =
       let g : Given = lent w [] [] v 0 in
       (unfold abortCall in
       rw (done-state _ g (abortAnswer g) (abortEffect g) refl h)
-      (unfold abortEffect newState lent fencedAfter lastAfter in stays _ (setWriter (w .state) v idle) (state-setWriter (w .state) v idle)))
+      (unfold abortEffect newState lent fencedAfter lastAfter in stays _ _ (setPromise (setWriter (w .state) v idle) v 0) (idle-state v)))
   change-numbers (stores v home block batch) h =
       let g : Given = lent w block batch v home in
       (unfold storeCall in
       rw (done-state _ g (storeAnswer g (sizeOf (storeEffect g))) (storeEffect g) refl h)
-      (unfold fencedAfter lastAfter in store-numbers v home block batch _ (block-ok w v home block batch h)))
+      (unfold fencedAfter lastAfter in store-numbers v home block batch _ _ (block-ok w v home block batch h)))
   change-numbers (commits v batch) h =
       let g : Given = lent w [] batch v 0 in
       (unfold commitCall in
       rw (done-state _ g (commitAnswer g (sizeOf (commitEffect g))) (commitEffect g) refl h, done-figure _ g (commitAnswer g (sizeOf (commitEffect g))) (commitEffect g) refl h)
-      (unfold fencedAfter in commit-numbers v batch _))
+      (unfold fencedAfter in commit-numbers v batch _ _))
   change-numbers (flushes batch) h =
       let g : Given = lent w [] batch 0 0 in
       (unfold flushCall in
       rw (done-state _ g (flushAnswer g (sizeOf (flushEffect g))) (flushEffect g) refl h)
-      (unfold lastAfter in flush-numbers batch _))
+      (unfold lastAfter in flush-numbers batch _ _))
+
+  -- ---- promises
+
+  ps : (x : ℕ) → x < 8 → s .promises x ≡ promiseOf (w .state) x
+  ps = a .promises (r .ready)
+
+  -- a strip with the writers' promises as they were, but for one writer's
+  set-promise : (t : List ℕ) (v k x : ℕ) → length t ≡ 1024 → v < 8 → k < 2 ^ 16 → x < 8 → ((y : ℕ) → y < 8 → promiseOf t y ≡ promiseOf (w .state) y)
+      → setFor (s .promises) v k x ≡ promiseOf (setPromise t v k) x
+  unfolding setFor
+  set-promise t v k x size lv lk lx f = go (eqb v x) refl
+    where
+      go : (d : Bool) → eqb v x ≡ d → cond d k (s .promises x) ≡ promiseOf (setPromise t v k) x
+      go true e = let q : v ≡ x = eqb-true v x e in subst (λ (y : ℕ). k ≡ promiseOf (setPromise t v k) y) q (sym (promise-setPromise t v k size lv lk))
+      go false e =
+          let q = eqb-false v x e in
+          ps x lx ∙ sym (f x lx) ∙ sym (promise-setPromise-other t v k x (λ i. q (sym i)))
+
+  writer-size : (v : ℕ) (y : Writer) → length (setWriter (w .state) v y) ≡ 1024
+  writer-size v y = length-setWriter (w .state) v y ∙ r .copies .stateSize
+
+  few : (v : ℕ) → v < 8 → promiseOf (w .state) v < 2 ^ 16
+  few v l =
+      let q : places st ≤ 7 * (st .start + st .groups) - 7 * st .start = unfold places nextPosition in omega (arith, o .start-next) in
+      omega (arith, promise-most (w .state) v 8 l, o .promises .within, o .groups-same, z .high)
+
+  few-places : (k : ℕ) → mayPromise (w .state) k ≡ true → k < 2 ^ 16
+  few-places k h =
+      let q : places st ≤ 7 * (st .start + st .groups) - 7 * st .start = unfold places nextPosition in omega (arith, o .start-next) in
+      let m : k ≤ places st - promised (w .state) 8 = unfold freePlaces in may-promise (w .state) k h .1 in
+      omega (arith, o .groups-same, z .high)
+
+  may-of : (v m : ℕ) → mayPromise (lent w [] [] v 0 .state) m ≡ true → mayPromise (w .state) m ≡ true
+  unfolding lent
+  may-of v m e = e
+
+  known-writer : (block batch : List ℕ) (v h : ℕ) → writerKnown (lent w block batch v h) ≡ true → v < 8
+  unfolding writerKnown lent
+  known-writer block batch v h e = ltb-true v 8 e
+
+  idle-promises : (v x : ℕ) → v < 8 → x < 8 → setFor (s .promises) v 0 x ≡ promiseOf (setPromise (setWriter (w .state) v idle) v 0) x
+  idle-promises v x lv lx =
+      set-promise (setWriter (w .state) v idle) v 0 x (writer-size v idle) lv (omega arith) lx (λ y l. promise-setWriter (w .state) v idle y l)
+
+  other-promises : (v h : ℕ) (block batch : List ℕ) (x : ℕ) → length block ≡ 64 → v < 8 → x < 8
+      → setFor (s .promises) v (s .promises v - 1) x
+      ≡ promiseOf (storeOther (lent w block batch v h) (writerOf (w .state) v) (nextPosition (stateOf (w .state))) .state) x
+  unfolding storeOther logHeld lent promiseLeft
+  other-promises v h block batch x l lv lx =
+      let R : Writer = writerOf (w .state) v in
+      let p : ℕ = nextPosition (stateOf (w .state)) in
+      let word : ℕ = entryWord (R .home) (p - firstFor R p) in
+      let after : List ℕ = logged (w .state) (w .log) word (heldOf (w .state) v) .state in
+      let k = logged-writers (w .state) (w .log) word (heldOf (w .state) v) (r .copies .stateSize) in
+      let y : Writer = logging h (firstFor R p) (countFor R + 1) in
+      ap (λ (q : ℕ). setFor (s .promises) v (q - 1) x) (ps v lv)
+      ∙ set-promise (setHeld (setWriter after v y) v block) v (promiseOf (w .state) v - 1) x
+      (length-setHeld (setWriter after v y) v block ∙ length-setWriter after v y ∙ k .size) lv (omega (arith, few v lv)) lx
+      (λ i m. promise-setHeld (setWriter after v y) v block i l m ∙ promise-setWriter after v y i m ∙ k .promise i)
+
+  store-promises : (v h : ℕ) (block batch : List ℕ) (x : ℕ) → length block ≡ 64 → v < 8 → x < 8
+      → cond (storeLogs (lent w block batch v h)) (setFor (s .promises) v (s .promises v - 1)) (s .promises) x
+      ≡ promiseOf (storeEffect (lent w block batch v h) .state) x
+  unfolding storeEffect storeLogs storeFirst storeAgain newState lent
+  store-promises v h block batch x l lv lx = go (holds (writerOf (w .state) v)) (eqb (writerOf (w .state) v .home) h)
+    where
+      go : (d e : Bool)
+          → cond (d && not e) (setFor (s .promises) v (s .promises v - 1)) (s .promises) x
+          ≡ promiseOf
+          (cond d (cond e (storeAgain (lent w block batch v h)) (storeOther (lent w block batch v h) (writerOf (w .state) v) (nextPosition (stateOf (w .state)))))
+          (storeFirst (lent w block batch v h)) .state)
+          x
+      go true true = ps x lx ∙ sym (promise-setHeld (w .state) v block x l lx)
+      go true false = other-promises v h block batch x l lv lx
+      go false e =
+          ps x lx
+          ∙ sym (promise-setHeld (setWriter (w .state) v (holding h)) v block x l lx ∙ promise-setWriter (w .state) v (holding h) x lx)
+
+  held-promises : (v : ℕ) (batch : List ℕ) (x : ℕ) → v < 8 → x < 8
+      → setFor (s .promises) v 0 x ≡ promiseOf (commitHeld (lent w [] batch v 0) (writerOf (w .state) v) (nextPosition (stateOf (w .state))) .state) x
+  unfolding commitHeld logClosing lent
+  held-promises v batch x lv lx =
+      let R : Writer = writerOf (w .state) v in
+      let p : ℕ = nextPosition (stateOf (w .state)) in
+      let word : ℕ = closingWord (R .home) (p - firstFor R p) (linkFrom p (stateOf (w .state))) (countFor R + 1) in
+      let after : List ℕ = logged (w .state) (w .log) word (heldOf (w .state) v) .state in
+      let k = logged-writers (w .state) (w .log) word (heldOf (w .state) v) (r .copies .stateSize) in
+      set-promise (setWriter (setLast after (p + 1)) v idle) v 0 x
+      (length-setWriter (setLast after (p + 1)) v idle ∙ length-setLast after (p + 1) ∙ k .size) lv (omega arith) lx
+      (λ y m. promise-setWriter (setLast after (p + 1)) v idle y m ∙ promise-setLast after (p + 1) y ∙ k .promise y)
+
+  commit-promises : (v : ℕ) (batch : List ℕ) (x : ℕ) → v < 8 → x < 8
+      → setFor (s .promises) v 0 x ≡ promiseOf (commitEffect (lent w [] batch v 0) .state) x
+  unfolding commitEffect lent
+  commit-promises v batch x lv lx = go (holds (writerOf (w .state) v))
+    where
+      go : (d : Bool)
+          → setFor (s .promises) v 0 x
+          ≡ promiseOf
+          (cond d (commitHeld (lent w [] batch v 0) (writerOf (w .state) v) (nextPosition (stateOf (w .state)))) (abortEffect (lent w [] batch v 0)) .state)
+          x
+      go true = held-promises v batch x lv lx
+      go false = (unfold abortEffect newState in idle-promises v x lv lx)
+
+  flush-promises : (batch : List ℕ) (x : ℕ) → x < 8 → s .promises x ≡ promiseOf (flushEffect (lent w [] batch 0 0) .state) x
+  unfolding flushEffect flushNone flushPart lent
+  flush-promises batch x lx = go (eqb (stateOf (w .state) .filled) 0)
+    where
+      go : (d : Bool)
+          → s .promises x
+          ≡ promiseOf (cond d (flushNone (lent w [] batch 0 0) (stateOf (w .state))) (flushPart (lent w [] batch 0 0) (stateOf (w .state))) .state) x
+      go true = ps x lx ∙ sym (promise-setFenced (w .state) (7 * st .next) x)
+      go false =
+          ps x lx
+          ∙ sym (promise-setFenced (setFilled (setNext (w .state) (st .next + 1)) 0) (7 * (st .next + 1)) x
+          ∙ promise-setFilled (setNext (w .state) (st .next + 1)) 0 x ∙ promise-setNext (w .state) (st .next + 1) x)
+
+  reserve-passed : (v m : ℕ) → reserveCall (lent w [] [] v 0) m .code ≡ 0 → (v < 8) × (m < 2 ^ 16)
+  unfolding reserveCall
+  reserve-passed v m h =
+      let g : Given = lent w [] [] v 0 in
+      let e : reserveAnswer g m ≡ 0 = sym (outcome-code g (reserveAnswer g m) (reserveEffect g m)) ∙ h in
+      (known-writer [] [] v 0 (reserve-ready g m e .1), few-places m (may-of v m (reserve-ready g m e .3)))
+
+  reserved : (v m x : ℕ) → reserveCall (lent w [] [] v 0) m .code ≡ 0 → x < 8
+      → setFor (s .promises) v m x ≡ promiseOf (reserveEffect (lent w [] [] v 0) m .state) x
+  unfolding reserveEffect newState lent
+  reserved v m x h l =
+      set-promise (setWriter (w .state) v begun) v m x (writer-size v begun) (reserve-passed v m h .0) (reserve-passed v m h .1) l
+      (λ y i. promise-setWriter (w .state) v begun y i)
+
+  abort-passed : (v : ℕ) → abortCall (lent w [] [] v 0) .code ≡ 0 → v < 8
+  unfolding abortCall
+  abort-passed v h =
+      let g : Given = lent w [] [] v 0 in
+      known-writer [] [] v 0 (abort-ready g (sym (outcome-code g (abortAnswer g) (abortEffect g)) ∙ h) .1)
+
+  aborted : (v x : ℕ) → abortCall (lent w [] [] v 0) .code ≡ 0 → x < 8 → setFor (s .promises) v 0 x ≡ promiseOf (abortEffect (lent w [] [] v 0) .state) x
+  unfolding abortEffect newState lent
+  aborted v x h l = idle-promises v x (abort-passed v h) l
+
+  stored : (v home : ℕ) (block batch : List ℕ) (x : ℕ) → storeCall (lent w block batch v home) .code ≡ 0 → x < 8
+      → cond (storeMustLog (s .book .tasks v) home) (setFor (s .promises) v (s .promises v - 1)) (s .promises) x
+      ≡ promiseOf (storeEffect (lent w block batch v home) .state) x
+  unfolding storeCall
+  stored v home block batch x h l =
+      let g : Given = lent w block batch v home in
+      let k = store-ready g (sizeOf (storeEffect g)) (sym (outcome-code g (storeAnswer g (sizeOf (storeEffect g))) (storeEffect g)) ∙ h) in
+      let lv : v < 8 = known-writer block batch v home (k .writer) in
+      ap (λ (d : Bool). cond d (setFor (s .promises) v (s .promises v - 1)) (s .promises) x) (sym (store-logs G D z w r s a block batch v home lv))
+      ∙ store-promises v home block batch x (block-ok w v home block batch (unfold storeCall in h)) lv l
+
+  committed-writer : (v : ℕ) (batch : List ℕ) → commitCall (lent w [] batch v 0) .code ≡ 0 → v < 8
+  unfolding commitCall
+  committed-writer v batch h =
+      let g : Given = lent w [] batch v 0 in
+      known-writer [] batch v 0 (commit-ready g (sizeOf (commitEffect g)) (sym (outcome-code g (commitAnswer g (sizeOf (commitEffect g))) (commitEffect g)) ∙ h) .writer)
+
+  change-promises : (c : Change) → ends w (change c) .code ≡ 0 → (x : ℕ) → x < 8 → promisesAfter s c x ≡ promiseOf (ends w (change c) .state) x
+  unfolding promisesAfter ends changeEnds
+  change-promises (begins v) h x l =
+      let g : Given = lent w [] [] v 0 in
+      (unfold beginCall in
+      ps x l
+      ∙ sym (ap (λ (t : List ℕ). promiseOf t x) (done-state _ g (beginAnswer g) (beginEffect g) refl h)
+      ∙ (unfold beginEffect newState lent in promise-setWriter (w .state) v begun x l)))
+  change-promises (reserves v places) h x l =
+      let g : Given = lent w [] [] v 0 in
+      (unfold reserveCall in
+      reserved v places x h l ∙ sym (ap (λ (t : List ℕ). promiseOf t x) (done-state _ g (reserveAnswer g places) (reserveEffect g places) refl h)))
+  change-promises (aborts v) h x l =
+      let g : Given = lent w [] [] v 0 in
+      (unfold abortCall in
+      aborted v x h l ∙ sym (ap (λ (t : List ℕ). promiseOf t x) (done-state _ g (abortAnswer g) (abortEffect g) refl h)))
+  change-promises (stores v home block batch) h x l =
+      let g : Given = lent w block batch v home in
+      (unfold storeCall in
+      stored v home block batch x h l
+      ∙ sym (ap (λ (t : List ℕ). promiseOf t x) (done-state _ g (storeAnswer g (sizeOf (storeEffect g))) (storeEffect g) refl h)))
+  change-promises (commits v batch) h x l =
+      let g : Given = lent w [] batch v 0 in
+      (unfold commitCall in
+      commit-promises v batch x (committed-writer v batch h) l
+      ∙ sym (ap (λ (t : List ℕ). promiseOf t x) (done-state _ g (commitAnswer g (sizeOf (commitEffect g))) (commitEffect g) refl h)))
+  change-promises (flushes batch) h x l =
+      let g : Given = lent w [] batch 0 0 in
+      (unfold flushCall in
+      flush-promises batch x l ∙ sym (ap (λ (t : List ℕ). promiseOf t x) (done-state _ g (flushAnswer g (sizeOf (flushEffect g))) (flushEffect g) refl h)))
 
   -- ---- confirm and the calls that change nothing in the book
 
@@ -265,8 +465,16 @@ module _ (G D : ℕ) (z : Sizes G D) (w : World) (r : Running G D w) (s : Store)
         done-figure _ g (confirmAnswer g) e refl h,
         state-setDurable (w .state) (st .fenced) (r .copies .stateSize) (omega (arith, next-small, o .fenced-next)),
       )
-      (numbers-as s _ (s .start) (s .settled) (s .fenced) (st .fenced) (s .last) (withDurable (stateOf (w .state)) (stateOf (w .state) .fenced)) (n .start)
+      (numbers-as s _ _ (s .start) (s .settled) (s .fenced) (st .fenced) (s .last) (withDurable (stateOf (w .state)) (stateOf (w .state) .fenced)) (n .start)
       (n .settled) (n .fenced) refl (n .last))
+
+  confirm-promises : ends w confirm .code ≡ 0 → (x : ℕ) → x < 8 → s .promises x ≡ promiseOf (ends w confirm .state) x
+  unfolding ends confirmCall
+  confirm-promises h x l =
+      let g : Given = lent w [] [] 0 0 in
+      ps x l
+      ∙ sym (ap (λ (t : List ℕ). promiseOf t x) (done-state _ g (confirmAnswer g) (confirmEffect g) refl h)
+      ∙ (unfold confirmEffect newState lent in promise-setDurable (w .state) (st .fenced) x))
 
   settle-numbers : (batch : List ℕ) → ends w (service (settles batch)) .code ≡ 0
       → Numbers (afterService s (settles batch)) (stateOf (ends w (service (settles batch)) .state))
@@ -274,7 +482,7 @@ module _ (G D : ℕ) (z : Sizes G D) (w : World) (r : Running G D w) (s : Store)
   settle-numbers batch h =
       let g : Given = lent w [] batch 0 0 in
       rw (done-state _ g (settleAnswer g (sizeOf (settleEffect g))) (settleEffect g) refl h, settle-effect G D z w r batch, numbers G D z w r)
-      (numbers-as s (s .book) (s .start) (s .fenced) (7 * nextGroup s) (s .durable) (s .last)
+      (numbers-as s (s .promises) (s .book) (s .start) (s .fenced) (7 * nextGroup s) (s .durable) (s .last)
       (withFenced (withSettled (stateOf (w .state)) (stateOf (w .state) .fenced)) (7 * stateOf (w .state) .next)) (n .start) (n .fenced)
       (ap (λ (x : ℕ). 7 * x) (next-is G D z w r s a)) (n .durable) (n .last))
 
@@ -285,23 +493,23 @@ module _ (G D : ℕ) (z : Sizes G D) (w : World) (r : Running G D w) (s : Store)
   trim-to-numbers batch x t most =
       subst
       (λ (f : ℕ).
-      Numbers (cond (eqb x f) s (numbered s x (s .settled) (7 * nextGroup s) (s .durable) (cond (leb (s .last) (7 * x)) 0 (s .last)) (s .book)))
+      Numbers (cond (eqb x f) s (numbered s x (s .settled) (7 * nextGroup s) (s .durable) (cond (leb (s .last) (7 * x)) 0 (s .last)) (s .promises) (s .book)))
       (stateOf
       (cond (eqb x (stateOf (w .state) .start)) (newState (lent w [] batch 0 0) (w .state) 0) (trimTo (lent w [] batch 0 0) (stateOf (w .state)) x) .state)))
       (sym (n .start)) (go (eqb x (stateOf (w .state) .start)))
     where
-      moved : Numbers (numbered s x (s .settled) (7 * nextGroup s) (s .durable) (cond (leb (s .last) (7 * x)) 0 (s .last)) (s .book))
+      moved : Numbers (numbered s x (s .settled) (7 * nextGroup s) (s .durable) (cond (leb (s .last) (7 * x)) 0 (s .last)) (s .promises) (s .book))
           (stateOf
           (setLast (setFenced (setStart (w .state) x) (7 * stateOf (w .state) .next)) (cond (leb (stateOf (w .state) .last) (7 * x)) 0 (stateOf (w .state) .last))))
       moved =
-          subst (λ (q : State). Numbers (numbered s x (s .settled) (7 * nextGroup s) (s .durable) (cond (leb (s .last) (7 * x)) 0 (s .last)) (s .book)) q)
+          subst (λ (q : State). Numbers (numbered s x (s .settled) (7 * nextGroup s) (s .durable) (cond (leb (s .last) (7 * x)) 0 (s .last)) (s .promises) (s .book)) q)
           (sym (moved-numbers G D z w r x t most))
-          (numbers-as s (s .book) x (s .settled) (7 * nextGroup s) (s .durable) (cond (leb (s .last) (7 * x)) 0 (s .last))
+          (numbers-as s (s .promises) (s .book) x (s .settled) (7 * nextGroup s) (s .durable) (cond (leb (s .last) (7 * x)) 0 (s .last))
           (withLast (withFenced (withStart (stateOf (w .state)) x) (7 * stateOf (w .state) .next)) (cond (leb (stateOf (w .state) .last) (7 * x)) 0 (stateOf (w .state) .last)))
           refl (n .settled) (ap (λ (y : ℕ). 7 * y) (next-is G D z w r s a)) (n .durable) (ap (λ (y : ℕ). cond (leb y (7 * x)) 0 y) (n .last)))
 
       go : (d : Bool)
-          → Numbers (cond d s (numbered s x (s .settled) (7 * nextGroup s) (s .durable) (cond (leb (s .last) (7 * x)) 0 (s .last)) (s .book)))
+          → Numbers (cond d s (numbered s x (s .settled) (7 * nextGroup s) (s .durable) (cond (leb (s .last) (7 * x)) 0 (s .last)) (s .promises) (s .book)))
           (stateOf (cond d (newState (lent w [] batch 0 0) (w .state) 0) (trimTo (lent w [] batch 0 0) (stateOf (w .state)) x) .state))
       go true = n
       go false = moved
@@ -327,22 +535,62 @@ module _ (G D : ℕ) (z : Sizes G D) (w : World) (r : Running G D w) (s : Store)
       (unfold afterService ends serviceEnds readCall in
       rw (done-state _ g (readAnswer g) (readEffect g) refl h) (unfold readEffect lent in n))
 
+  kept-promises : (batch : List ℕ) (y x : ℕ) → promiseOf (trimEffect (lent w [] batch 0 0) y .state) x ≡ promiseOf (w .state) x
+  unfolding trimEffect trimTo newState lent
+  kept-promises batch y x = go (eqb y (stateOf (w .state) .start))
+    where
+      go : (d : Bool)
+          → promiseOf (cond d (newState (lent w [] batch 0 0) (w .state) 0) (trimTo (lent w [] batch 0 0) (stateOf (w .state)) y) .state) x
+          ≡ promiseOf (w .state) x
+      go true = refl
+      go false =
+          promise-setLast (setFenced (setStart (w .state) y) (7 * st .next)) (cond (leb (st .last) (7 * y)) 0 (st .last)) x
+          ∙ promise-setFenced (setStart (w .state) y) (7 * st .next) x ∙ promise-setStart (w .state) y x
+
+  settle-promises : (batch : List ℕ) (x : ℕ) → x < 8 → ends w (service (settles batch)) .code ≡ 0
+      → s .promises x ≡ promiseOf (ends w (service (settles batch)) .state) x
+  unfolding ends serviceEnds settleCall
+  settle-promises batch x l h =
+      let g : Given = lent w [] batch 0 0 in
+      ps x l
+      ∙ sym (ap (λ (t : List ℕ). promiseOf t x)
+      (done-state _ g (settleAnswer g (sizeOf (settleEffect g))) (settleEffect g) refl h ∙ ap (λ (e : Effect). e .state) (settle-effect G D z w r batch))
+      ∙ promise-setFenced (setSettled (w .state) (st .fenced)) (7 * st .next) x ∙ promise-setSettled (w .state) (st .fenced) x)
+
+  trim-promises : (batch : List ℕ) (x : ℕ) → x < 8 → ends w (service (trims batch)) .code ≡ 0
+      → s .promises x ≡ promiseOf (ends w (service (trims batch)) .state) x
+  unfolding ends serviceEnds trimCall
+  trim-promises batch x l h =
+      let g : Given = lent w [] batch 0 0 in
+      let y : ℕ = trimStart g in
+      ps x l
+      ∙ sym (ap (λ (t : List ℕ). promiseOf t x) (done-state _ g (trimAnswer g y (sizeOf (trimEffect g y))) (trimEffect g y) refl h)
+      ∙ kept-promises batch y x)
+
+  service-promises : (c : Service) → ends w (service c) .code ≡ 0 → (x : ℕ) → x < 8 → s .promises x ≡ promiseOf (ends w (service c) .state) x
+  service-promises (settles batch) h x l = settle-promises batch x l h
+  service-promises (trims batch) h x l = trim-promises batch x l h
+  service-promises (reads v home block) h x l =
+      let g : Given = lent w block [] v home in
+      (unfold ends serviceEnds readCall in
+      ps x l ∙ sym (ap (λ (t : List ℕ). promiseOf t x) (done-state _ g (readAnswer g) (readEffect g) refl h) ∙ (unfold readEffect lent in refl)))
+
   -- ---- what the service calls leave of the store
 
   service-same : (c : Service)
       → (afterService s c .groups ≡ s .groups) × (afterService s c .homes ≡ s .homes) × (afterService s c .head ≡ s .head) × (afterService s c .back ≡ s .back)
-      × (afterService s c .book ≡ s .book)
+      × (afterService s c .book ≡ s .book) × (afterService s c .promises ≡ s .promises)
   unfolding afterService numbered trimmedTo
-  service-same (settles batch) = (refl, refl, refl, refl, refl)
+  service-same (settles batch) = (refl, refl, refl, refl, refl, refl)
   service-same (trims batch) = go (eqb (nextStart s) (s .start))
     where
       go : (d : Bool)
           → (cond d s (trimmedTo s (nextStart s)) .groups ≡ s .groups) × (cond d s (trimmedTo s (nextStart s)) .homes ≡ s .homes)
           × (cond d s (trimmedTo s (nextStart s)) .head ≡ s .head) × (cond d s (trimmedTo s (nextStart s)) .back ≡ s .back)
-          × (cond d s (trimmedTo s (nextStart s)) .book ≡ s .book)
-      go true = (refl, refl, refl, refl, refl)
-      go false = (refl, refl, refl, refl, refl)
-  service-same (reads v home block) = (refl, refl, refl, refl, refl)
+          × (cond d s (trimmedTo s (nextStart s)) .book ≡ s .book) × (cond d s (trimmedTo s (nextStart s)) .promises ≡ s .promises)
+      go true = (refl, refl, refl, refl, refl, refl)
+      go false = (refl, refl, refl, refl, refl, refl)
+  service-same (reads v home block) = (refl, refl, refl, refl, refl, refl)
 
   -- ---- a done call
 
@@ -358,6 +606,7 @@ module _ (G D : ℕ) (z : Sizes G D) (w : World) (r : Running G D w) (s : Store)
         found = unfold store.afterDone numbered in a .found;
         book = unfold store.afterDone numbered in ap (λ (b : Book). feed b confirm (ends w confirm .figure)) (a .book);
         numbers = λ k. confirm-numbers h;
+        promises = λ k x l. unfold store.afterDone numbered in confirm-promises h x l;
       }
   done-agrees (change c) e h =
       record {
@@ -367,6 +616,7 @@ module _ (G D : ℕ) (z : Sizes G D) (w : World) (r : Running G D w) (s : Store)
         found = unfold store.afterDone numbered in a .found;
         book = unfold store.afterDone numbered in ap (λ (b : Book). feed b (change c) (ends w (change c) .figure)) (a .book);
         numbers = λ k. change-numbers c h;
+        promises = λ k x l. unfold store.afterDone numbered in change-promises c h x l;
       }
   done-agrees (service c) e h =
       let q = service-same c in
@@ -377,6 +627,7 @@ module _ (G D : ℕ) (z : Sizes G D) (w : World) (r : Running G D w) (s : Store)
         found = unfold store.afterDone in (a .found ∙ sym (q .3));
         book = unfold store.afterDone in (q .4 ∙ a .book);
         numbers = λ k. unfold store.afterDone in service-numbers c h;
+        promises = λ k x l. unfold store.afterDone in (ap (λ (p : ℕ → ℕ). p x) (q .5) ∙ service-promises c h x l);
       }
 
 -- ---- a done opening
@@ -416,7 +667,7 @@ module _ (G D : ℕ) (z : Sizes G D) (w : World) (c : Closed G D w) (s : Store) 
   opened-numbers =
       let m : b ≤ 2 ^ 47 = opened-small in
       rw (opened-state, state-fresh G D b (omega (arith, z .high)) (omega (arith, z .homes)) (omega arith))
-      (numbers-as s _ (firstGroup s) (7 * firstGroup s) (7 * firstGroup s) (7 * firstGroup s) 0 _ opened-first (omega (arith, opened-first))
+      (numbers-as s _ _ (firstGroup s) (7 * firstGroup s) (7 * firstGroup s) (7 * firstGroup s) 0 _ opened-first (omega (arith, opened-first))
       (omega (arith, opened-first)) (omega (arith, opened-first)) refl)
 
   pub opened-agrees : Agrees G D (afterDone w (opening state batch) (ends w (opening state batch)))
@@ -430,6 +681,7 @@ module _ (G D : ℕ) (z : Sizes G D) (w : World) (c : Closed G D w) (s : Store) 
         found = unfold store.afterDone numbered in a .found;
         book = unfold store.afterDone numbered in ap (λ (x : Book). feed x (opening state batch) (ends w (opening state batch) .figure)) (a .book);
         numbers = λ k. opened-numbers;
+        promises = λ k x l. unfold store.afterDone numbered in sym (ap (λ (t : List ℕ). promiseOf t x) opened-state ∙ promise-fresh G D b x);
       }
 
 -- ---- a call, done or refused
@@ -483,6 +735,7 @@ module _ (G D : ℕ) (z : Sizes G D) (w : World) (s : Store) (a : Agrees G D w s
         found = unfold store.afterCrash in f;
         book = unfold store.afterCrash in ap (λ (b : Book). book.crash b fs) (a .book);
         numbers = λ e. absurd (false≢true e);
+        promises = λ e. absurd (false≢true e);
       }
 
   -- in an era
@@ -543,6 +796,7 @@ module _ (G D : ℕ) (z : Sizes G D) where
         found = formatted-found G D z;
         book = refl;
         numbers = λ e. absurd (false≢true e);
+        promises = λ e. absurd (false≢true e);
       }
 
 pub answers-hold : Answers

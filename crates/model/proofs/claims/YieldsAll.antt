@@ -16,7 +16,7 @@ use Rattle.model.specs.Calls.{Outcome, done, sizeOf, commitCall}
 use Rattle.model.specs.Book.{Commit, Task, idle, opened, Book, filledUp, submit, grown, withTask, addCommit, entryOf, storeTask, commitTask, owedBy, owedAll, withCommits}
 use Rattle.model.specs.Book as book
 use Rattle.model.specs.Demands.{Live, Yields, ServiceYields, YieldsAt, LiveThroughout, Demand2}
-use Rattle.model.specs.History.{Change, begins, aborts, stores, commits, flushes, Service, settles, trims, reads, Call, opening, confirm, change, service, commit, Event, call, crash, World, unopened, emptyStore, lent, ends, changeEnds, feed, feedChange, isOpening, afterDone, afterCall, afterCrash, step, Allowed, AllAllowed}
+use Rattle.model.specs.History.{Change, begins, reserves, aborts, stores, commits, flushes, Service, settles, trims, reads, Call, opening, confirm, change, service, commit, Event, call, crash, World, unopened, emptyStore, lent, ends, changeEnds, feed, feedChange, isOpening, afterDone, afterCall, afterCrash, step, Allowed, AllAllowed}
 use Rattle.model.proofs.strip.QuestionLaws.{commit-ready}
 use Rattle.model.proofs.steps.RefusalLaws.{left-as-lent}
 use Rattle.model.proofs.steps.DoneLaws.{outcome-code}
@@ -141,6 +141,7 @@ module _ (G D : ℕ) (z : Sizes G D) where
       → PastOwed (feedChange (w .book) c (ends w (change c) .figure) .commits)
   unfolding feedChange
   past-change w r (begins v) h p = (unfold book.begin withTask in p)
+  past-change w r (reserves v n) h p = (unfold book.begin withTask in p)
   past-change w r (aborts v) h p = (unfold book.abort withTask in p)
   past-change w r (stores v home block batch) h p = (unfold book.store in rw (store-commits (w .book) v home block (w .book .tasks v)) p)
   past-change w r (commits v batch) h p =

@@ -12,21 +12,21 @@ use lib.Dec.{eqb, leb, ltb}
 use borrow.Author.Tests.{leb-true, leb-false, ltb-true, eqb-true, eqb-false, eq-eqb, ne-eqb}
 use Rattle.model.specs.Layout.{groupsIn, homesIn, groupAt}
 use Rattle.model.specs.Batch.{Record, GW, FN, batchBytes}
-use Rattle.model.specs.State.{State, stateOf, nextPosition, Writer, writerOf, heldOf, isOpen, holds}
-use Rattle.model.specs.Effects.{Given, Effect, logged, logHeld, logClosing, beginEffect, abortEffect, storeFirst, storeAgain, storeOther, storeEffect, commitHeld, commitEffect, flushNone, flushPart, flushEffect, confirmEffect, readEffect, newState}
-use Rattle.model.specs.Questions.{beginAnswer, abortAnswer, storeAnswer, commitAnswer, flushAnswer, confirmAnswer, readAnswer, areasRight, blockRight, writerKnown, homeKnown, writerOpen, storeLogs, commitLogs, room, batchFits}
-use Rattle.model.specs.Calls.{Outcome, outcome, sizeOf, beginCall, abortCall, storeCall, commitCall, flushCall, confirmCall, readCall}
+use Rattle.model.specs.State.{State, stateOf, nextPosition, promised, Writer, writerOf, heldOf, isOpen, holds}
+use Rattle.model.specs.Effects.{Given, Effect, logged, logHeld, logClosing, beginEffect, reserveEffect, abortEffect, storeFirst, storeAgain, storeOther, storeEffect, commitHeld, commitEffect, flushNone, flushPart, flushEffect, confirmEffect, readEffect, newState}
+use Rattle.model.specs.Questions.{beginAnswer, reserveAnswer, abortAnswer, storeAnswer, commitAnswer, flushAnswer, confirmAnswer, readAnswer, areasRight, blockRight, writerKnown, homeKnown, writerOpen, storeLogs, commitLogs, room, batchFits}
+use Rattle.model.specs.Calls.{Outcome, outcome, sizeOf, beginCall, reserveCall, abortCall, storeCall, commitCall, flushCall, confirmCall, readCall}
 use Rattle.model.specs.Book.{Task, opened, idle, Book, withTask}
 use Rattle.model.specs.Book as book
-use Rattle.model.specs.History.{Call, begin, abort, store, commit, flush, confirm, read, Event, call, World, lent, ends, feed, isConfirm, step, changeEnds, feedChange, serviceEnds}
+use Rattle.model.specs.History.{Call, begin, reserve, abort, store, commit, flush, confirm, read, Event, call, World, lent, ends, feed, isConfirm, step, changeEnds, feedChange, serviceEnds}
 use Rattle.model.proofs.bytes.LayoutLaws.{groups-in, homes-in, length-groupAt, group-fits}
 use Rattle.model.proofs.strip.BatchLaws.{AllFormed}
-use Rattle.model.proofs.strip.QuestionLaws.{StoreReady, CommitReady, begin-ready, abort-ready, store-ready, commit-ready, flush-ready, confirm-ready, read-ready}
 use Rattle.model.proofs.steps.RefusalLaws.{step-refused}
+use Rattle.model.proofs.strip.QuestionLaws.{StoreReady, CommitReady, Roomy, room-true, begin-ready, abort-ready, store-ready, commit-ready, flush-ready, keeps-promises, confirm-ready, read-ready}
 use Rattle.model.proofs.steps.DoneLaws.{outcome-code, outcome-done, step-done, after, fits}
 use Rattle.model.proofs.steps.LogRuns.{logged-records, logged-log}
 use Rattle.model.proofs.invariant.LogStep.{length-entered}
-use Rattle.model.proofs.steps.WriterSteps.{begin-runs, abort-runs, store-first-runs, store-again-runs}
+use Rattle.model.proofs.steps.WriterSteps.{begin-runs, reserve-runs, abort-runs, store-first-runs, store-again-runs}
 use Rattle.model.proofs.steps.StoreCommit.{store-other-runs, commit-held-runs}
 use Rattle.model.proofs.steps.FlushRuns.{flush-none-runs, flush-part-runs}
 use Rattle.model.proofs.steps.NumberRuns.{confirm-runs}
@@ -71,6 +71,17 @@ module _ (G D : ℕ) (z : Sizes G D) (w : World) (r : Running G D w) where
       let g : Given = lent w [] [] v 0 in
       by-answer (Running G D) w (begin v) g (beginAnswer g) (beginEffect g) refl r
       (λ a. record { formed = unfold beginEffect newState in tt; fit = no-bytes g (beginEffect g) (unfold beginEffect newState in refl); next = begin-runs G D w v r a })
+
+  pub reserve-keeps : (v n : ℕ) → Running G D (step w (call (reserve v n)))
+  unfolding ends changeEnds reserveCall
+  reserve-keeps v n =
+      let g : Given = lent w [] [] v 0 in
+      by-answer (Running G D) w (reserve v n) g (reserveAnswer g n) (reserveEffect g n) refl r
+      (λ a. record {
+        formed = unfold reserveEffect newState in tt;
+        fit = no-bytes g (reserveEffect g n) (unfold reserveEffect newState in refl);
+        next = reserve-runs G D w v n r (z .high) a;
+      })
 
   pub abort-keeps : (v : ℕ) → Running G D (step w (call (abort v)))
   unfolding ends changeEnds abortCall
@@ -140,9 +151,9 @@ module _ (G D : ℕ) (z : Sizes G D) (w : World) (r : Running G D w) where
       unfolding writerOpen isOpen lent
       is-open = leb-true 1 (r₁ .mode) (k .opened)
 
-      room-ok : holds r₁ ≡ true → eqb (r₁ .home) home ≡ false → stateOf (w .state) .next < stateOf (w .state) .start + G
+      room-ok : holds r₁ ≡ true → eqb (r₁ .home) home ≡ false → Roomy (w .state) v
       unfolding storeLogs room lent
-      room-ok h f = let q = ltb-true (stateOf (w .state) .next) (stateOf (w .state) .start + stateOf (w .state) .groups) (k .roomy (rw (h, f))) in omega (arith, r .copies .order .groups-same)
+      room-ok h f = room-true (w .state) v (k .roomy (rw (h, f)))
 
       size-ok : sizeOf (storeEffect g₁) ≤ length (g₁ .batch)
       size-ok = fits g₁ (sizeOf (storeEffect g₁)) (k .batch)
@@ -217,9 +228,9 @@ module _ (G D : ℕ) (z : Sizes G D) (w : World) (r : Running G D w) where
       unfolding writerOpen isOpen lent
       is-open₂ = leb-true 1 (r₂ .mode) (k₂ .opened)
 
-      room-ok₂ : holds r₂ ≡ true → stateOf (w .state) .next < stateOf (w .state) .start + G
+      room-ok₂ : holds r₂ ≡ true → Roomy (w .state) v
       unfolding commitLogs room lent
-      room-ok₂ h = let q = ltb-true (stateOf (w .state) .next) (stateOf (w .state) .start + stateOf (w .state) .groups) (k₂ .roomy h) in omega (arith, r .copies .order .groups-same)
+      room-ok₂ h = room-true (w .state) v (k₂ .roomy h)
 
       size-ok₂ : sizeOf (commitEffect g₂) ≤ length (g₂ .batch)
       size-ok₂ = fits g₂ (sizeOf (commitEffect g₂)) (k₂ .batch)
@@ -266,7 +277,13 @@ module _ (G D : ℕ) (z : Sizes G D) (w : World) (r : Running G D w) where
     flush-done a = go (eqb (stateOf (w .state) .filled) 0) refl
       where
         size-ok₃ : sizeOf (flushEffect g₃) ≤ length (g₃ .batch)
-        size-ok₃ = fits g₃ (sizeOf (flushEffect g₃)) (flush-ready g₃ (sizeOf (flushEffect g₃)) a .1)
+        size-ok₃ = fits g₃ (sizeOf (flushEffect g₃)) (flush-ready g₃ (sizeOf (flushEffect g₃)) a .2)
+
+        kept₃ : eqb (stateOf (w .state) .filled) 0 ≡ false
+            → promised (w .state) 8 ≤ 7 * (stateOf (w .state) .start + stateOf (w .state) .groups) - 7 * (stateOf (w .state) .next + 1)
+        kept₃ e =
+            ⊎-elim (λ h. absurd (eqb-false (stateOf (w .state) .filled) 0 e h)) (λ h. h)
+            (keeps-promises (w .state) (unfold lent in flush-ready g₃ (sizeOf (flushEffect g₃)) a .1))
 
         is-none : eqb (stateOf (w .state) .filled) 0 ≡ true → flushEffect g₃ ≡ flushNone g₃ (stateOf (w .state))
         is-none e = unfold flushEffect lent in rw e
@@ -291,7 +308,7 @@ module _ (G D : ℕ) (z : Sizes G D) (w : World) (r : Running G D w) where
             record {
               formed = rw (is-part e) (unfold flushPart lent in ((omega (arith, below), length-groupAt (w .log) slot (group-fits slot (w .log) G below (r .copies .logSize))), (tt, tt)));
               fit = size-ok₃;
-              next = rw (is-part e) (flush-part-runs G D z w r (let q = eqb-false (stateOf (w .state) .filled) 0 e in omega arith) batch);
+              next = rw (is-part e) (flush-part-runs G D z w r (let q = eqb-false (stateOf (w .state) .filled) 0 e in omega arith) (kept₃ e) batch);
             }
 
     pub flush-keeps : Running G D (step w (call (flush batch)))

@@ -10,7 +10,7 @@ use lib.ListN.{length}
 use lib.Dec.{eqb, leb}
 use borrow.Author.Tests.{eqb-true, eqb-false, eq-eqb, ne-eqb}
 use Rattle.model.specs.Layout.{groupAt, headerStart}
-use Rattle.model.specs.State.{State, stateOf, setFenced, setNext, setFilled, nextPosition, Writer, writerOf, heldOf}
+use Rattle.model.specs.State.{State, stateOf, setFenced, setNext, setFilled, nextPosition, promiseOf, promised, places, Writer, writerOf, heldOf}
 use Rattle.model.specs.Effects.{Effect, flushNone, flushPart}
 use Rattle.model.specs.Batch.{Record, GW, FN}
 use Rattle.model.specs.Crash.{Memory, fences, persist, persistChosen, fates, fatesChosen}
@@ -19,7 +19,8 @@ use Rattle.model.specs.Book as book
 use Rattle.model.specs.Demands.{closedBelow, groupWrites}
 use Rattle.model.specs.History.{Call, World, lent, feed, isConfirm, flush, feedChange}
 use Rattle.model.proofs.strip.StateLaws.{withFenced, withNext, withFilled, state-setFenced, length-setFenced, writer-setFenced, held-setFenced, state-setNext, length-setNext, writer-setNext, held-setNext, state-setFilled, length-setFilled, writer-setFilled, held-setFilled}
-use Rattle.model.proofs.strip.OrderLaws.{InOrder, WriterInOrder}
+use Rattle.model.proofs.strip.OrderLaws.{InOrder, WriterInOrder, Promises}
+use Rattle.model.proofs.strip.PromiseLaws.{promise-setFenced, promise-setNext, promise-setFilled, promised-agree}
 use Rattle.model.proofs.trace.CrashLaws.{writeRecords, submits, NoFence, trues, groupWrites-fence}
 use Rattle.model.proofs.trace.SubmitLaws.{headerStart-submits, area-wrote}
 use Rattle.model.proofs.trace.Trace.{Ev, Hist, hist, tagAt, closerOf, Apart, Linked}
@@ -62,6 +63,7 @@ flush-none-runs G D z w r batch empty =
           copies-renumber G D (r .b) (r .tr) w u c
           (rw e (record { groups = refl; homes = refl; next = refl; filled = refl; start = omega arith; most = o .start-most; upto = o .start-next; low = o .start-settled; settled = omega (arith, o .settled-fenced, o .fenced-next); fenced = omega arith; durable = omega (arith, o .durable-fenced, o .fenced-next) }))
           (length-setFenced (w .state) (7 * st .next) ∙ c .stateSize) (λ x. writer-setFenced (w .state) (7 * st .next) x) (λ x. held-setFenced (w .state) (7 * st .next) x)
+          (λ x. promise-setFenced (w .state) (7 * st .next) x)
           (rw e (o .last-closing)) (λ x l h. rw e (o .writers x l .logged h .0)) refl refl (λ slot. refl) refl
           (ap (λ (k : Book). k .tasks) eb) (ap (λ (k : Book). k .rows) eb) (ap (λ (k : Book). k .filled) eb)
           (rw (e, eb) (c .settledHomes)) (rw e (c .settledGroup)) (rw e (c .apart)) (rw e (c .links)) (rw e (c .last));
@@ -96,7 +98,8 @@ unfolding gaps
 length-gaps zero tr = omega arith
 length-gaps (suc n) tr = omega (arith, length-gaps n tr)
 
-module _ (G D : ℕ) (z : Sizes G D) (w : World) (r : Running G D w) (part : 0 < stateOf (w .state) .filled) where
+module _ (G D : ℕ) (z : Sizes G D) (w : World) (r : Running G D w) (part : 0 < stateOf (w .state) .filled)
+    (kept : promised (w .state) 8 ≤ 7 * (stateOf (w .state) .start + stateOf (w .state) .groups) - 7 * (stateOf (w .state) .next + 1)) where
   abbrev b : ℕ
   b = r .b
 
@@ -160,6 +163,9 @@ module _ (G D : ℕ) (z : Sizes G D) (w : World) (r : Running G D w) (part : 0 <
   held₁ : (x : ℕ) → heldOf s₁ x ≡ heldOf (w .state) x
   held₁ x = held-setFilled (setNext (w .state) n₁) 0 x ∙ held-setNext (w .state) n₁ x
 
+  promises₁ : (x : ℕ) → promiseOf s₁ x ≡ promiseOf (w .state) x
+  promises₁ x = promise-setFilled (setNext (w .state) n₁) 0 x ∙ promise-setNext (w .state) n₁ x
+
   holds₁ : (bytes : List ℕ) (n : ℕ) → Holds (7 * b) (r .tr) bytes n → Holds (7 * b) tr₁ bytes n
   holds₁ bytes n h = gaps-keep (λ t. Holds (7 * b) t bytes n) (λ t k. holds-gap (7 * b) gap t bytes n unused k) (7 - st .filled) (r .tr) h
 
@@ -214,6 +220,10 @@ module _ (G D : ℕ) (z : Sizes G D) (w : World) (r : Running G D w) (part : 0 <
           fenced-next = rw numbers₁ (omega (arith, o .fenced-next));
           durable-fenced = rw numbers₁ (o .durable-fenced);
           last-closing = rw numbers₁ (later (o .last-closing));
+          promises = record {
+            within = rw (numbers₁, promised-agree (w .state) s₁ 8 (λ x l. promises₁ x)) (unfold places nextPosition in omega (arith, kept));
+            none-idle = λ x l. rw (writers₁ x, promises₁ x) (o .promises .none-idle x l);
+          };
           writers = λ x l. rw (numbers₁, writers₁ x) (let k = o .writers x l in
               record {
                 mode = k .mode;

@@ -10,14 +10,16 @@ use lib.ListN.{length}
 use lib.Dec.{eqb, leb}
 use borrow.Author.Tests.{eqb-true, eqb-false, eq-eqb, ne-eqb, le-leb, lt-leb}
 use Rattle.model.specs.Layout.{groupAt}
-use Rattle.model.specs.State.{State, stateOf, setNext, setFilled, setLast, nextPosition, Writer, writerOf, heldOf, hasLogged, firstFor, countFor}
+use Rattle.model.specs.State.{State, stateOf, setNext, setFilled, setLast, nextPosition, Writer, writerOf, heldOf, promiseOf, promised, places, hasLogged, firstFor, countFor}
 use Rattle.model.specs.Effects.{Logged, entered, submitted, logged}
 use Rattle.model.specs.Batch.{Record, GW, FN}
 use Rattle.model.specs.Book.{Kept, row, Entry, Commit, Held, Task, opened, idle, Book, homesAfter, entryOf, submit, grown, filledUp, withTask}
 use Rattle.model.specs.Demands.{closedBelow}
 use Rattle.model.specs.History.{World}
 use Rattle.model.proofs.strip.StateLaws.{state-laws, writer-laws, held-laws, length-laws, state-setNext, state-setFilled, length-setNext, length-setFilled, writer-setNext, writer-setFilled, held-setNext, held-setFilled}
-use Rattle.model.proofs.strip.OrderLaws.{InOrder, WriterInOrder}
+use Rattle.model.proofs.strip.OrderLaws.{InOrder, WriterInOrder, Promises}
+use Rattle.model.proofs.strip.QuestionLaws.{Roomy}
+use Rattle.model.proofs.strip.PromiseLaws.{promise-setNext, promise-setFilled, promised-change}
 use Rattle.model.proofs.trace.Trace.{Ev, Hist, mine, hist, firstOf, tagAt, tagOf, linkIn, closerOf, oldestOf, Apart, LinkOk, Linked}
 use Rattle.model.proofs.trace.TraceLaws.{tagAt-here}
 use Rattle.model.proofs.trace.LinkLaws.{linked-more, linked-ext, lastFrom}
@@ -42,11 +44,12 @@ pub advance-position : (st st′ : State) (last : ℕ) → Advance st st′ last
 unfolding nextPosition
 advance-position st st′ last a = ⊎-elim (λ h. omega arith) (λ h. omega arith) (a .moved)
 
--- a strip that logging left: the writers' records and blocks as they were
+-- a strip that logging left: the writers' records, blocks and promises as they were
 pub record Kept-writers (s t : List ℕ) : Type 0 where
   pub size : length t ≡ 1024
   pub writer : (x : ℕ) → writerOf t x ≡ writerOf s x
   pub held : (x : ℕ) → heldOf t x ≡ heldOf s x
+  pub promise : (x : ℕ) → promiseOf t x ≡ promiseOf s x
 
 pub logged-writers : (s log : List ℕ) (word : ℕ) (block : List ℕ) → length s ≡ 1024 → Kept-writers s (logged s log word block .state)
 unfolding logged submitted
@@ -57,11 +60,13 @@ logged-writers s log word block h = go (eqb (stateOf s .filled) 6)
       size = length-setFilled (setNext s (stateOf s .next + 1)) 0 ∙ length-setNext s (stateOf s .next + 1) ∙ h;
       writer = λ x. writer-setFilled (setNext s (stateOf s .next + 1)) 0 x ∙ writer-setNext s (stateOf s .next + 1) x;
       held = λ x. held-setFilled (setNext s (stateOf s .next + 1)) 0 x ∙ held-setNext s (stateOf s .next + 1) x;
+      promise = λ x. promise-setFilled (setNext s (stateOf s .next + 1)) 0 x ∙ promise-setNext s (stateOf s .next + 1) x;
     }
     go false = record {
       size = length-setFilled s (stateOf s .filled + 1) ∙ h;
       writer = λ x. writer-setFilled s (stateOf s .filled + 1) x;
       held = λ x. held-setFilled s (stateOf s .filled + 1) x;
+      promise = λ x. promise-setFilled s (stateOf s .filled + 1) x;
     }
 
 pub logged-numbers : (s log : List ℕ) (word : ℕ) (block : List ℕ) → length s ≡ 1024 → stateOf s .filled ≤ 6 → stateOf s .next < 2 ^ 62
@@ -129,12 +134,30 @@ order-grows st st′ last r a o =
       logged = λ h. let k = o .logged h in (omega (arith, a .start), omega (arith, p), k .2, omega (arith, p));
     }
 
+-- the promises once a writer with room has logged an entry: its own, if it had one, has become less
+pub promises-logged : (s t : List ℕ) (v last : ℕ) → v < 8 → Promises s → Advance (stateOf s) (stateOf t) last → Roomy s v
+    → ((x : ℕ) → x < 8 → (x ≡ v → ⊥) → promiseOf t x ≡ promiseOf s x) → ((x : ℕ) → x < 8 → (x ≡ v → ⊥) → writerOf t x ≡ writerOf s x)
+    → promiseOf t v ≤ promiseOf s v - 1 → (writerOf t v .mode ≡ 0 → promiseOf t v ≡ 0) → Promises t
+unfolding places
+promises-logged s t v last l p a r f g k h =
+    record {
+      within = fits r;
+      none-idle = λ x m. each-writer (λ y. writerOf t y .mode ≡ 0 → promiseOf t y ≡ 0) v x h (λ n. rw (g x m n, f x m n) (p .none-idle x m));
+    }
+  where
+    q : nextPosition (stateOf t) ≡ nextPosition (stateOf s) + 1
+    q = advance-position (stateOf s) (stateOf t) last a
+
+    fits : Roomy s v → promised t 8 ≤ places (stateOf t)
+    fits (inl x) = omega (arith, promised-change s t v 8 l f, k, q, a .start, a .groups, p .within)
+    fits (inr x) = omega (arith, promised-change s t v 8 l f, k, q, a .start, a .groups)
+
 pub copies-logged : (G D b : ℕ) (tr : List Ev) (w u : World) (v : ℕ) (e : Ev) (t : Task) (last : ℕ)
     → Sizes G D → Copies G D b tr w → v < 8 → stateOf (w .state) .next < stateOf (w .state) .start + G
     → e .used ≡ true → e .writer ≡ v → SoundAt D (7 * b + length tr) e (mine (hist (7 * b) tr) e)
     → Advance (stateOf (w .state)) (stateOf (u .state)) last → length (u .state) ≡ 1024
     → ((x : ℕ) → (x ≡ v → ⊥) → writerOf (u .state) x ≡ writerOf (w .state) x) → ((x : ℕ) → (x ≡ v → ⊥) → heldOf (u .state) x ≡ heldOf (w .state) x)
-    → WriterInOrder (stateOf (u .state)) (writerOf (u .state) v)
+    → WriterInOrder (stateOf (u .state)) (writerOf (u .state) v) → Promises (u .state)
     → TaskOk b (e ∷ tr) (writerOf (u .state) v) (heldOf (u .state) v) (hist (7 * b) (e ∷ tr) .openOf v) t
     → u .homes ≡ w .homes
     → u .log ≡ entered (stateOf (w .state)) (stateOf (w .state) .next % G) (w .log) (wordOf (7 * b + length tr) e (mine (hist (7 * b) tr) e) true (e .final)) (e .block)
@@ -146,7 +169,7 @@ pub copies-logged : (G D b : ℕ) (tr : List Ev) (w u : World) (v : ℕ) (e : Ev
     → LastOk (stateOf (w .state) .start) last (lastCloser (hist (7 * b) (e ∷ tr) .done))
     → (last ≡ 0) ⊎ ((7 * stateOf (w .state) .start < last) × (last ≤ nextPosition (stateOf (w .state)) + 1))
     → Copies G D b (e ∷ tr) u
-copies-logged G D b tr w u v e t last z c l room us who sd a size ow oh wo tk eh el ea tv to er ef eh′ ap′ ln lo lc =
+copies-logged G D b tr w u v e t last z c l room us who sd a size ow oh wo pr tk eh el ea tv to er ef eh′ ap′ ln lo lc =
     let st = stateOf (w .state) in
     let st′ = stateOf (u .state) in
     let o = c .order in
@@ -173,6 +196,7 @@ copies-logged G D b tr w u v e t last z c l room us who sd a size ow oh wo tk eh
         fenced-next = ⊎-elim (λ h. omega (arith, a .fenced, o .fenced-next)) (λ h. omega (arith, a .fenced, o .fenced-next)) (a .moved);
         durable-fenced = omega (arith, a .durable, a .fenced, o .durable-fenced);
         last-closing = ⊎-elim (λ h. inl (a .last ∙ h)) (λ h. inr (omega (arith, a .start, a .last), omega (arith, a .last, p))) lc;
+        promises = pr;
         writers = λ x h. each-writer (λ y. WriterInOrder st′ (writerOf (u .state) y)) v x wo (λ n. rw (ow x n) (order-grows st st′ last (writerOf (w .state) x) a (o .writers x h)));
       };
       from = omega (arith, a .start, c .from);

@@ -8,7 +8,7 @@ use Prim.Native.Nat.{ℕ, zero, suc, _+_, _-_, _*_, _/_, _%_, _^_, _≤_, _<_}
 use native.Mathlib.Omega.{arith}
 use lib.ListN.{length}
 use Rattle.model.specs.Layout.{groupAt, headerStart}
-use Rattle.model.specs.State.{State, stateOf, setFenced, setDurable, nextPosition, Writer, writerOf, heldOf}
+use Rattle.model.specs.State.{State, stateOf, setFenced, setDurable, nextPosition, promiseOf, promised, places, Writer, writerOf, heldOf}
 use Rattle.model.specs.Effects.{Effect, flushNone, confirmEffect, newState}
 use Rattle.model.specs.Batch.{Record, FN}
 use Rattle.model.specs.Crash.{Memory, fences, persistChosen}
@@ -17,7 +17,8 @@ use Rattle.model.specs.Book as book
 use Rattle.model.specs.Demands.{closedBelow, groupWrites}
 use Rattle.model.specs.History.{Call, World, lent, feed, isConfirm, flush, confirm, feedChange}
 use Rattle.model.proofs.strip.StateLaws.{withDurable, state-setFenced, length-setFenced, writer-setFenced, held-setFenced, state-setDurable, length-setDurable, writer-setDurable, held-setDurable}
-use Rattle.model.proofs.strip.OrderLaws.{InOrder, WriterInOrder}
+use Rattle.model.proofs.strip.OrderLaws.{InOrder, WriterInOrder, Promises}
+use Rattle.model.proofs.strip.PromiseLaws.{promise-setDurable, promised-agree}
 use Rattle.model.proofs.trace.CrashLaws.{writeRecords, submits, NoFence, fences-append, fences-fence, fences-submits, groupWrites-append, groupWrites-fence, groupWrites-submits}
 use Rattle.model.proofs.trace.SubmitLaws.{headerStart-submits, area-wrote}
 use Rattle.model.proofs.trace.Trace.{Ev, Hist, hist, tagAt, Apart, Linked}
@@ -43,10 +44,21 @@ pub record Renumbered (st st′ : State) : Type 0 where
   pub fenced : st′ .fenced ≤ 7 * st .next
   pub durable : st′ .durable ≤ st′ .fenced
 
+-- the start goes up at most, so there are no fewer places
+promises-renumber : (s t : List ℕ) → Promises s → Renumbered (stateOf s) (stateOf t) → ((x : ℕ) → writerOf t x ≡ writerOf s x)
+    → ((x : ℕ) → promiseOf t x ≡ promiseOf s x) → Promises t
+unfolding places nextPosition
+promises-renumber s t p n ew ep =
+    record {
+      within = omega (arith, promised-agree s t 8 (λ x l. ep x), p .within, n .start, n .groups, n .next, n .filled);
+      none-idle = λ x l. rw (ew x, ep x) (p .none-idle x l);
+    }
+
 pub order-renumber : (G D : ℕ) (s t : List ℕ) → InOrder s G D → Renumbered (stateOf s) (stateOf t) → ((x : ℕ) → writerOf t x ≡ writerOf s x)
+    → ((x : ℕ) → promiseOf t x ≡ promiseOf s x)
     → (stateOf t .last ≡ 0) ⊎ ((7 * stateOf t .start < stateOf t .last) × (stateOf t .last ≤ nextPosition (stateOf s)))
     → ((x : ℕ) → x < 8 → 3 ≤ writerOf s x .mode → 7 * stateOf t .start ≤ writerOf s x .first) → InOrder t G D
-order-renumber G D s t o n ew lc fs =
+order-renumber G D s t o n ew ep lc fs =
     let p : nextPosition (stateOf t) ≡ nextPosition (stateOf s) = unfold nextPosition in omega (arith, n .next, n .filled) in
     record {
       groups-same = n .groups ∙ o .groups-same;
@@ -61,6 +73,7 @@ order-renumber G D s t o n ew lc fs =
       fenced-next = omega (arith, n .fenced, n .next);
       durable-fenced = n .durable;
       last-closing = ⊎-elim inl (λ h. inr (h .0, omega (arith, p))) lc;
+      promises = promises-renumber s t (o .promises) n ew ep;
       writers = λ x l. rw (ew x) (let k = o .writers x l in
           record {
             mode = k .mode;
@@ -71,6 +84,7 @@ order-renumber G D s t o n ew lc fs =
 
 pub copies-renumber : (G D b : ℕ) (tr : List Ev) (w u : World) → Copies G D b tr w → Renumbered (stateOf (w .state)) (stateOf (u .state))
     → length (u .state) ≡ 1024 → ((x : ℕ) → writerOf (u .state) x ≡ writerOf (w .state) x) → ((x : ℕ) → heldOf (u .state) x ≡ heldOf (w .state) x)
+    → ((x : ℕ) → promiseOf (u .state) x ≡ promiseOf (w .state) x)
     → (stateOf (u .state) .last ≡ 0) ⊎ ((7 * stateOf (u .state) .start < stateOf (u .state) .last) × (stateOf (u .state) .last ≤ nextPosition (stateOf (w .state))))
     → ((x : ℕ) → x < 8 → 3 ≤ writerOf (w .state) x .mode → 7 * stateOf (u .state) .start ≤ writerOf (w .state) x .first)
     → u .homes ≡ w .homes → length (u .log) ≡ length (w .log) → ((slot : ℕ) → groupAt (u .log) slot ≡ groupAt (w .log) slot) → length (u .area) ≡ length (w .area)
@@ -78,14 +92,14 @@ pub copies-renumber : (G D b : ℕ) (tr : List Ev) (w u : World) → Copies G D 
     → u .area ≡ homesAfter D (closedBelow (stateOf (u .state) .settled) (u .book .commits)) → (n : ℕ) × (stateOf (u .state) .settled ≡ 7 * n)
     → Apart (7 * stateOf (u .state) .start) (hist (7 * b) tr .done) → Linked (7 * stateOf (u .state) .start) (tagAt (7 * b) tr) none (hist (7 * b) tr .done)
     → LastOk (stateOf (u .state) .start) (stateOf (u .state) .last) (lastCloser (hist (7 * b) tr .done)) → Copies G D b tr u
-copies-renumber G D b tr w u c n size ew eh lc fs ho ll lg la et er ef ar sg ap′ ln lo =
+copies-renumber G D b tr w u c n size ew eh ep lc fs ho ll lg la et er ef ar sg ap′ ln lo =
     let p : nextPosition (stateOf (u .state)) ≡ nextPosition (stateOf (w .state)) = unfold nextPosition in omega (arith, n .next, n .filled) in
     record {
       homes = ho ∙ c .homes;
       stateSize = size;
       logSize = ll ∙ c .logSize;
       areaSize = la ∙ c .areaSize;
-      order = order-renumber G D (w .state) (u .state) (c .order) n ew lc fs;
+      order = order-renumber G D (w .state) (u .state) (c .order) n ew ep lc fs;
       from = omega (arith, n .start, c .from);
       position = p ∙ c .position;
       sound = c .sound;
@@ -229,7 +243,7 @@ confirm-runs G D z w r =
       copies =
           copies-renumber G D (r .b) (r .tr) w u c
           (rw e (record { groups = refl; homes = refl; next = refl; filled = refl; start = omega arith; most = o .start-most; upto = o .start-next; low = o .start-settled; settled = o .settled-fenced; fenced = o .fenced-next; durable = omega arith }))
-          (length-setDurable (w .state) F ∙ c .stateSize) (λ x. writer-setDurable (w .state) F x) (λ x. held-setDurable (w .state) F x)
+          (length-setDurable (w .state) F ∙ c .stateSize) (λ x. writer-setDurable (w .state) F x) (λ x. held-setDurable (w .state) F x) (λ x. promise-setDurable (w .state) F x)
           (rw e (o .last-closing)) (λ x l h. rw e (o .writers x l .logged h .0)) refl refl (λ slot. refl) refl refl refl refl
           (rw e (c .settledHomes ∙ sym (owed-homes D F (st .settled) (w .book .commits)))) (rw e (c .settledGroup)) (rw e (c .apart)) (rw e (c .links)) (rw e (c .last));
       submitted = record {

@@ -6,10 +6,10 @@ use Prim.Native.Nat.{ℕ, zero, suc, _+_, _≤_, _<_}
 use native.Mathlib.Omega.{arith}
 use lib.ListN.{length, take}
 use Rattle.model.specs.Batch.{Record, readBatch, readRecords}
-use Rattle.model.specs.Effects.{Given, Effect, openEffect, openStart, beginEffect, abortEffect, storeEffect, commitEffect, flushEffect, confirmEffect, settleEffect, trimStart, trimEffect, readEffect}
-use Rattle.model.specs.Questions.{openAnswer, beginAnswer, abortAnswer, storeAnswer, commitAnswer, flushAnswer, confirmAnswer, settleAnswer, trimAnswer, readAnswer}
-use Rattle.model.specs.Calls.{Outcome, refused, done, sizeOf, outcome, openCall, beginCall, abortCall, storeCall, commitCall, flushCall, confirmCall, settleCall, trimCall, readCall}
-use Rattle.model.specs.History.{Change, begins, aborts, stores, commits, flushes, Service, settles, trims, reads, Call, opening, confirm, change, service, Event, call, World, lent, loaded, ends, changeEnds, serviceEnds, isOpening, afterRefused, afterCall, step}
+use Rattle.model.specs.Effects.{Given, Effect, openEffect, openStart, beginEffect, reserveEffect, abortEffect, storeEffect, commitEffect, flushEffect, confirmEffect, settleEffect, trimStart, trimEffect, readEffect}
+use Rattle.model.specs.Questions.{openAnswer, beginAnswer, reserveAnswer, abortAnswer, storeAnswer, commitAnswer, flushAnswer, confirmAnswer, settleAnswer, trimAnswer, readAnswer}
+use Rattle.model.specs.Calls.{Outcome, refused, done, sizeOf, outcome, openCall, beginCall, reserveCall, abortCall, storeCall, commitCall, flushCall, confirmCall, settleCall, trimCall, readCall}
+use Rattle.model.specs.History.{Change, begins, reserves, aborts, stores, commits, flushes, Service, settles, trims, reads, Call, opening, confirm, change, service, Event, call, World, lent, loaded, ends, changeEnds, serviceEnds, isOpening, afterRefused, afterCall, step}
 
 -- a number other than 0 refuses
 outcome-refused : (g : Given) (a k : ℕ) (e : Effect) → outcome g a e .code ≡ suc k → outcome g a e ≡ refused g (suc k)
@@ -53,9 +53,11 @@ lent-refused w c g a k e q h s = ap (afterRefused w c) (q ∙ outcome-refused g 
 
 -- a refused call leaves the world as it is
 change-refused : (w : World) (c : Change) (k : ℕ) → ends w (change c) .code ≡ suc k → afterRefused w (change c) (ends w (change c)) ≡ w
-unfolding ends changeEnds beginCall abortCall storeCall commitCall flushCall
+unfolding ends changeEnds beginCall reserveCall abortCall storeCall commitCall flushCall
 change-refused w (begins v) k h =
     let g : Given = lent w [] [] v 0 in lent-refused w _ g (beginAnswer g) k (beginEffect g) refl h (refused-world w _ [] [] v 0 _)
+change-refused w (reserves v places) k h =
+    let g : Given = lent w [] [] v 0 in lent-refused w _ g (reserveAnswer g places) k (reserveEffect g places) refl h (refused-world w _ [] [] v 0 _)
 change-refused w (aborts v) k h =
     let g : Given = lent w [] [] v 0 in lent-refused w _ g (abortAnswer g) k (abortEffect g) refl h (refused-world w _ [] [] v 0 _)
 change-refused w (stores v home block batch) k h =

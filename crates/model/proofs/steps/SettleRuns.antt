@@ -11,7 +11,7 @@ use borrow.Author.Tests.{leb-true, leb-false, lt-ltb, le-ltb}
 use Rattle.model.specs.Bytes.{zeros}
 use Rattle.model.specs.Layout.{headerStart, homeAt}
 use Rattle.model.specs.Commit.{transactions, replay, newest, found}
-use Rattle.model.specs.State.{State, stateOf, setSettled, setFenced, nextPosition, writerOf, heldOf}
+use Rattle.model.specs.State.{State, stateOf, setSettled, setFenced, nextPosition, promiseOf, writerOf, heldOf}
 use Rattle.model.specs.Effects.{Given, groups, homes, Effect, restore, replayed, touched, homeWrites, liveTags, liveBase, settleEffect}
 use Rattle.model.specs.Batch.{FN}
 use Rattle.model.specs.Crash.{Memory, persistChosen}
@@ -21,6 +21,7 @@ use Rattle.model.specs.History.{World, lent, feed, isConfirm, settle, fe
 use Rattle.model.specs.declared.Tag.{Tag}
 use Rattle.model.proofs.bytes.ByteLaws.{length-part}
 use Rattle.model.proofs.strip.BatchLaws.{AllFormed, formed-append}
+use Rattle.model.proofs.strip.PromiseLaws.{promise-setSettled, promise-setFenced}
 use Rattle.model.proofs.strip.StateLaws.{withSettled, withFenced, length-setSettled, length-setFenced, state-setSettled, state-setFenced, writer-setSettled, writer-setFenced, held-setSettled, held-setFenced}
 use Rattle.model.proofs.trace.CrashLaws.{writeRecords, submits, none-submits, none-homes, groupWrites-homes, chosen-append}
 use Rattle.model.proofs.trace.SubmitLaws.{headerStart-submits}
@@ -263,6 +264,9 @@ module _ (G D : ℕ) (z : Sizes G D) (w : World) (r : Running G D w) where
   held : (x : ℕ) → heldOf newState x ≡ heldOf (w .state) x
   held x = held-setFenced (setSettled (w .state) (st .fenced)) (7 * st .next) x ∙ held-setSettled (w .state) (st .fenced) x
 
+  promises : (x : ℕ) → promiseOf newState x ≡ promiseOf (w .state) x
+  promises x = promise-setFenced (setSettled (w .state) (st .fenced)) (7 * st .next) x ∙ promise-setSettled (w .state) (st .fenced) x
+
   settles : newArea ≡ homesAfter D (closedBelow (7 * s .group) (w .book .commits))
   settles = rw (s .atFence)
 
@@ -307,7 +311,7 @@ module _ (G D : ℕ) (z : Sizes G D) (w : World) (r : Running G D w) where
         commits = r .commits;
         copies =
             copies-renumber G D (r .b) (r .tr) w u c
-            (rw numbers renumbered) size writers held (rw numbers (o .last-closing)) (λ x l h. rw numbers (o .writers x l .logged h .0)) refl refl
+            (rw numbers renumbered) size writers held promises (rw numbers (o .last-closing)) (λ x l h. rw numbers (o .writers x l .logged h .0)) refl refl
             (λ slot. refl) (area-size ∙ sym (c .areaSize)) refl refl refl (rw numbers) (s .group, rw numbers (s .atFence))
             (rw numbers (c .apart)) (rw numbers (c .links)) (rw numbers (c .last));
         submitted =

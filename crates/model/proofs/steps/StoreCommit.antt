@@ -11,7 +11,7 @@ use lib.Dec.{eqb, leb}
 use borrow.Author.Tests.{eqb-true, eqb-false, eq-eqb, ne-eqb}
 use Rattle.model.specs.Tag.{entryWord, closingWord}
 use Rattle.model.specs.Layout.{groupAt, headerStart}
-use Rattle.model.specs.State.{State, stateOf, setLast, nextPosition, Writer, writerOf, setWriter, heldOf, setHeld, firstFor, countFor, logging, idle}
+use Rattle.model.specs.State.{State, stateOf, setLast, nextPosition, Writer, writerOf, setWriter, heldOf, setHeld, promiseOf, setPromise, promiseLeft, promised, places, firstFor, countFor, logging, idle}
 use Rattle.model.specs.Effects.{Given, Effect, Logged, entered, logged, logHeld, storeOther, linkFrom, logClosing, commitHeld}
 use Rattle.model.specs.Batch.{Record, GW, FN}
 use Rattle.model.specs.Crash.{Memory}
@@ -21,7 +21,9 @@ use Rattle.model.specs.Demands.{closedBelow}
 use Rattle.model.specs.History.{Call, World, lent, feed, isConfirm, store, commit, feedChange}
 use Rattle.model.proofs.strip.StateLaws.{state-setLast, length-setLast, writer-setLast, held-setLast}
 use Rattle.model.proofs.strip.WriterLaws.{length-setWriter, length-setHeld, state-setWriter, writer-setWriter, writer-setWriter-other, held-setWriter, state-setHeld, writer-setHeld, held-setHeld, held-setHeld-other, fits-idle, fits-logging}
-use Rattle.model.proofs.strip.OrderLaws.{InOrder, WriterInOrder}
+use Rattle.model.proofs.strip.OrderLaws.{InOrder, WriterInOrder, Promises, place-below}
+use Rattle.model.proofs.strip.QuestionLaws.{Roomy}
+use Rattle.model.proofs.strip.PromiseLaws.{promise-setLast, promise-setWriter, promise-setHeld, length-setPromise, state-setPromise, writer-setPromise, held-setPromise, promise-setPromise, promise-setPromise-other, promise-most}
 use Rattle.model.proofs.trace.Trace.{Ev, Hist, mine, hist, firstOf, tagAt, tagOf, linkIn, closerOf, oldestOf, Apart, LinkOk, Linked}
 use Rattle.model.proofs.trace.TraceLaws.{tagAt-here, done-rising, all-map}
 use Rattle.model.proofs.trace.LinkLaws.{linked-more, linked-ext, lastFrom}
@@ -29,13 +31,13 @@ use Rattle.model.proofs.invariant.GrowLaws.{open-done, open-mine, close
 use Rattle.model.proofs.invariant.GrowImages.{apart-snoc, closers-older, image-open, image-close}
 use Rattle.model.proofs.steps.DoneLaws.{after}
 use Rattle.model.proofs.steps.WriterSteps.{task-here, task-other, order-idle}
-use Rattle.model.proofs.steps.LogRuns.{Advance, advance-position, Kept-writers, logged-writers, logged-numbers, logged-log, logged-records, copies-logged}
+use Rattle.model.proofs.steps.LogRuns.{Advance, advance-position, Kept-writers, logged-writers, logged-numbers, logged-log, logged-records, promises-logged, copies-logged}
 use Rattle.model.proofs.steps.LogSubmits.{submitted-logged, confirmed-more, owed-snoc}
 use Rattle.model.proofs.steps.HeldLogs.{filled-tasks, filled-commits, event, soFar, Logging, logging-task, mine-event, Bounds, bounds, held-size, last-closes, link-ok, link-small}
 use Rattle.model.proofs.invariant.Invariant.{Sizes, SoundAt, wordOf, entriesFor, TaskOk, Copies, Submitted, Confirmed, Commits, Running, ImageOk, LastOk, lastCloser, OwedBelow}
 
 module _ (G D : ℕ) (z : Sizes G D) (w : World) (R : Running G D w) (v : ℕ) (l : v < 8) (m : 2 ≤ writerOf (w .state) v .mode)
-    (roomy : stateOf (w .state) .next < stateOf (w .state) .start + G) where
+    (left : Roomy (w .state) v) where
   abbrev b : ℕ
   b = R .b
 
@@ -63,6 +65,13 @@ module _ (G D : ℕ) (z : Sizes G D) (w : World) (R : Running G D w) (v : ℕ) (
   abbrev ev : Bool → ℕ → Ev
   ev final link = event v (writerOf (w .state) v) (heldOf (w .state) v) final link
 
+  roomy : stateOf (w .state) .next < stateOf (w .state) .start + G
+  roomy = omega (arith, place-below (w .state) G D v (c .order) l left, c .order .groups-same)
+
+  -- no promise is more than the ring has places
+  few : promiseOf (w .state) v < 2 ^ 16
+  few = unfold places nextPosition in omega (arith, promise-most (w .state) v 8 l, c .order .promises .within, c .order .groups-same, c .order .start-next, z .high)
+
   position : P ≡ 7 * b + length tr
   position = c .position
 
@@ -73,7 +82,7 @@ module _ (G D : ℕ) (z : Sizes G D) (w : World) (R : Running G D w) (v : ℕ) (
   bs = bounds st r (c .order .writers v l) (unfold nextPosition in omega (arith, c .order .start-next))
 
   in-room : P < 7 * (st .start + G)
-  in-room = unfold nextPosition in omega (arith, c .order .filled-most)
+  in-room = unfold nextPosition in omega (arith, c .order .filled-most, roomy)
 
   first-is : firstOf (7 * b + length tr) ps ≡ firstFor r P
   first-is = rw (← position) (lg .first)
@@ -147,20 +156,42 @@ module _ (G D : ℕ) (z : Sizes G D) (w : World) (R : Running G D w) (v : ℕ) (
     size₁ : length s₁ ≡ 1024
     size₁ = length-setWriter (lo .state) v _ ∙ keeps _ .size
 
-    state-is : u .state ≡ setHeld s₁ v block
+    abbrev s₃ : List ℕ
+    s₃ = setHeld (setWriter (lo .state) v (logging home (firstFor r P) (countFor r + 1))) v block
+
+    abbrev n₃ : ℕ
+    n₃ = promiseLeft (w .state) v
+
+    size₃ : length s₃ ≡ 1024
+    size₃ = length-setHeld s₁ v block ∙ size₁
+
+    state-is : u .state ≡ setPromise s₃ v n₃
     unfolding storeOther logHeld lent
     state-is = refl
 
     numbers-are : stateOf (u .state) ≡ stateOf (lo .state)
-    numbers-are = rw state-is (state-setHeld s₁ v block hb ∙ state-setWriter (lo .state) v _)
+    numbers-are = rw state-is (state-setPromise s₃ v n₃ ∙ state-setHeld s₁ v block hb ∙ state-setWriter (lo .state) v _)
 
     writer-is : writerOf (u .state) v ≡ logging home (firstFor r P) (countFor r + 1)
     writer-is =
-        rw state-is (writer-setHeld s₁ v block v hb ∙ writer-setWriter (lo .state) v _ (keeps _ .size) l
+        rw state-is (writer-setPromise s₃ v n₃ v l ∙ writer-setHeld s₁ v block v hb ∙ writer-setWriter (lo .state) v _ (keeps _ .size) l
         (fits-logging home (firstFor r P) (countFor r + 1) (omega arith) (omega (arith, bs .upto, in-room, c .order .start-most)) (omega (arith, bs .many, bs .low, in-room, c .order .start-most))))
 
     held-is : heldOf (u .state) v ≡ block
-    held-is = rw state-is (held-setHeld s₁ v block size₁ l hb)
+    held-is = rw state-is (held-setPromise s₃ v n₃ v l ∙ held-setHeld s₁ v block size₁ l hb)
+
+    writer-others : (x : ℕ) → (x ≡ v → ⊥) → writerOf (u .state) x ≡ writerOf (w .state) x
+    writer-others x n =
+        rw state-is (writer-setPromise s₃ v n₃ x l ∙ writer-setHeld s₁ v block x hb ∙ writer-setWriter-other (lo .state) v _ x n ∙ keeps _ .writer x)
+
+    promise-others : (x : ℕ) → x < 8 → (x ≡ v → ⊥) → promiseOf (u .state) x ≡ promiseOf (w .state) x
+    promise-others x m n =
+        rw state-is
+        (promise-setPromise-other s₃ v n₃ x n ∙ promise-setHeld s₁ v block x hb m ∙ promise-setWriter (lo .state) v _ x m ∙ keeps _ .promise x)
+
+    promise-is : promiseOf (u .state) v ≡ promiseOf (w .state) v - 1
+    unfolding promiseLeft
+    promise-is = rw state-is (promise-setPromise s₃ v n₃ size₃ l (omega (arith, few)))
 
     adv : Advance st (stateOf (u .state)) (st .last)
     adv = rw numbers-are (moves _)
@@ -205,6 +236,12 @@ module _ (G D : ℕ) (z : Sizes G D) (w : World) (R : Running G D w) (v : ℕ) (
           logged = λ h. (omega (arith, adv .start, bs .low), omega (arith, p, bs .upto), omega arith, omega (arith, p, bs .many));
         })
 
+    promises-are : Promises (u .state)
+    unfolding logging
+    promises-are =
+        promises-logged (w .state) (u .state) v (st .last) l (c .order .promises) adv left promise-others (λ x m. writer-others x) (omega (arith, promise-is))
+        (rw writer-is (λ h. absurd (omega arith)))
+
     links-are : Linked (7 * st .start) (tagAt (7 * b) (e₀ ∷ tr)) none (hist (7 * b) (e₀ ∷ tr) .done)
     links-are =
         rw done-is (linked-ext (7 * st .start) (tagAt (7 * b) tr) (tagAt (7 * b) (e₀ ∷ tr)) none (hist (7 * b) tr .done)
@@ -220,10 +257,9 @@ module _ (G D : ℕ) (z : Sizes G D) (w : World) (R : Running G D w) (v : ℕ) (
     copies-are =
         copies-logged G D b tr w u v e₀
         (opened (entriesFor b tr ps ++ (entryOf (w .book) (record { home = r .home; block = hd }) ∷ [])) (some (record { home = home; block = block })))
-        (st .last) z c l roomy refl refl (sound-event false 0 (omega arith)) adv (rw state-is (length-setHeld s₁ v block ∙ size₁))
-        (λ x n. rw state-is (writer-setHeld s₁ v block x hb ∙ writer-setWriter-other (lo .state) v _ x n ∙ keeps _ .writer x))
-        (λ x n. rw state-is (held-setHeld-other s₁ v block x n hb ∙ held-setWriter (lo .state) v _ x ∙ keeps _ .held x))
-        in-order-is task-is refl log-becomes refl
+        (st .last) z c l roomy refl refl (sound-event false 0 (omega arith)) adv (rw state-is (length-setPromise s₃ v n₃ ∙ size₃)) writer-others
+        (λ x n. rw state-is (held-setPromise s₃ v n₃ x l ∙ held-setHeld-other s₁ v block x n hb ∙ held-setWriter (lo .state) v _ x ∙ keeps _ .held x))
+        in-order-is promises-are task-is refl log-becomes refl
         (ap (λ (k : Book). k .tasks v) book-is ∙ task-here (filledUp (w .book)) v _)
         (λ x n. ap (λ (k : Book). k .tasks x) book-is ∙ task-other (filledUp (w .book)) v x _ n ∙ ap (λ (f : ℕ → Task). f x) (filled-tasks (w .book)))
         (ap (λ (k : Book). k .rows) book-is) (ap (λ (k : Book). k .filled) book-is) (rw commits-are) (rw done-is (c .apart)) links-are (rw done-is (c .last))
@@ -279,15 +315,33 @@ module _ (G D : ℕ) (z : Sizes G D) (w : World) (R : Running G D w) (v : ℕ) (
     size₂ : length s₂ ≡ 1024
     size₂ = length-setLast (lc .state) (P + 1) ∙ keeps _ .size
 
-    c-state-is : y .state ≡ setWriter s₂ v idle
+    abbrev s₄ : List ℕ
+    s₄ = setWriter (setLast (lc .state) (P + 1)) v idle
+
+    size₄ : length s₄ ≡ 1024
+    size₄ = length-setWriter s₂ v idle ∙ size₂
+
+    c-state-is : y .state ≡ setPromise s₄ v 0
     unfolding commitHeld logClosing lent
     c-state-is = refl
 
     c-numbers : stateOf (y .state) ≡ stateOf s₂
-    c-numbers = rw c-state-is (state-setWriter s₂ v idle)
+    c-numbers = rw c-state-is (state-setPromise s₄ v 0 ∙ state-setWriter s₂ v idle)
 
     c-writer : writerOf (y .state) v ≡ idle
-    c-writer = rw c-state-is (writer-setWriter s₂ v idle size₂ l fits-idle)
+    c-writer = rw c-state-is (writer-setPromise s₄ v 0 v l ∙ writer-setWriter s₂ v idle size₂ l fits-idle)
+
+    c-writers : (x : ℕ) → (x ≡ v → ⊥) → writerOf (y .state) x ≡ writerOf (w .state) x
+    c-writers x n =
+        rw c-state-is (writer-setPromise s₄ v 0 x l ∙ writer-setWriter-other s₂ v idle x n ∙ writer-setLast (lc .state) (P + 1) x ∙ keeps _ .writer x)
+
+    c-promises : (x : ℕ) → x < 8 → (x ≡ v → ⊥) → promiseOf (y .state) x ≡ promiseOf (w .state) x
+    c-promises x m n =
+        rw c-state-is
+        (promise-setPromise-other s₄ v 0 x n ∙ promise-setWriter s₂ v idle x m ∙ promise-setLast (lc .state) (P + 1) x ∙ keeps _ .promise x)
+
+    c-promise : promiseOf (y .state) v ≡ 0
+    c-promise = rw c-state-is (promise-setPromise s₄ v 0 size₄ l (omega arith))
 
     c-adv : Advance st (stateOf (y .state)) (P + 1)
     c-adv =
@@ -303,6 +357,10 @@ module _ (G D : ℕ) (z : Sizes G D) (w : World) (R : Running G D w) (v : ℕ) (
           last = refl;
           moved = a .moved;
         })
+
+    c-in-order : Promises (y .state)
+    c-in-order =
+        promises-logged (w .state) (y .state) v (P + 1) l (c .order .promises) c-adv left c-promises (λ x m. c-writers x) (omega (arith, c-promise)) (λ h. c-promise)
 
     abbrev cm : Commit
     cm =
@@ -350,10 +408,9 @@ module _ (G D : ℕ) (z : Sizes G D) (w : World) (R : Running G D w) (v : ℕ) (
     c-copies : Copies G D b (e₁ ∷ tr) y
     unfolding event commitHeld lent withTask addCommit
     c-copies =
-        copies-logged G D b tr w y v e₁ book.idle (P + 1) z c l roomy refl refl (sound-event true lk lk-small) c-adv (rw c-state-is (length-setWriter s₂ v idle ∙ size₂))
-        (λ x n. rw c-state-is (writer-setWriter-other s₂ v idle x n ∙ writer-setLast (lc .state) (P + 1) x ∙ keeps _ .writer x))
-        (λ x n. rw c-state-is (held-setWriter s₂ v idle x ∙ held-setLast (lc .state) (P + 1) x ∙ keeps _ .held x))
-        (rw c-writer (order-idle _)) (rw c-writer (inl ((unfold idle in refl), refl))) refl c-log refl
+        copies-logged G D b tr w y v e₁ book.idle (P + 1) z c l roomy refl refl (sound-event true lk lk-small) c-adv (rw c-state-is (length-setPromise s₄ v 0 ∙ size₄)) c-writers
+        (λ x n. rw c-state-is (held-setPromise s₄ v 0 x l ∙ held-setWriter s₂ v idle x ∙ held-setLast (lc .state) (P + 1) x ∙ keeps _ .held x))
+        (rw c-writer (order-idle _)) c-in-order (rw c-writer (inl ((unfold idle in refl), refl))) refl c-log refl
         (ap (λ (k : Book). k .tasks v) c-book ∙ task-here (addCommit (filledUp (w .book)) cm) v book.idle)
         (λ x n. ap (λ (k : Book). k .tasks x) c-book ∙ task-other (addCommit (filledUp (w .book)) cm) v x book.idle n ∙ ap (λ (f : ℕ → Task). f x) (filled-tasks (w .book)))
         (ap (λ (k : Book). k .rows) c-book) (ap (λ (k : Book). k .filled) c-book) c-homes

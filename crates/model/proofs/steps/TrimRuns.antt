@@ -13,7 +13,7 @@ use borrow.Author.Tests.{eqb-true, leb-true, leb-false}
 use Rattle.model.specs.Bytes.{puts}
 use Rattle.model.specs.Layout.{header, headerStart}
 use Rattle.model.specs.Batch.{Record, KW, FN}
-use Rattle.model.specs.State.{State, stateOf, setStart, setFenced, setLast, nextPosition, writerOf, heldOf}
+use Rattle.model.specs.State.{State, stateOf, setStart, setFenced, setLast, nextPosition, promiseOf, writerOf, heldOf}
 use Rattle.model.specs.Effects.{Given, groups, homes, newState, mayStart, largest, noneAcross, noneOpenBefore, trimStart, trimTo, trimEffect}
 use Rattle.model.specs.Crash.{Memory, isFence, persistChosen}
 use Rattle.model.specs.Demands.{groupWrites}
@@ -22,6 +22,7 @@ use Rattle.model.proofs.bytes.ByteLaws.{length-puts}
 use Rattle.model.proofs.bytes.LayoutLaws.{length-header, header-start, group-header}
 use Rattle.model.proofs.strip.BatchLaws.{AllFormed}
 use Rattle.model.proofs.strip.StateLaws.{withStart, withFenced, withLast, state-setStart, length-setStart, writer-setStart, held-setStart, state-setFenced, length-setFenced, writer-setFenced, held-setFenced, state-setLast, length-setLast, writer-setLast, held-setLast}
+use Rattle.model.proofs.strip.PromiseLaws.{promise-setStart, promise-setFenced, promise-setLast}
 use Rattle.model.proofs.strip.QuestionLaws.{and-true}
 use Rattle.model.proofs.trace.CrashLaws.{writeRecords, submits, none-submits, pieceCount, chosen-append, write-append}
 use Rattle.model.proofs.trace.SubmitLaws.{headerStart-submits, area-wrote, length-submits}
@@ -149,6 +150,11 @@ module _ (G D : ℕ) (z : Sizes G D) (w : World) (r : Running G D w) (s : ℕ) (
       held-setLast (setFenced (setStart (w .state) s) (7 * st .next)) last x ∙ held-setFenced (setStart (w .state) s) (7 * st .next) x
       ∙ held-setStart (w .state) s x
 
+  promises : (x : ℕ) → promiseOf strip x ≡ promiseOf (w .state) x
+  promises x =
+      promise-setLast (setFenced (setStart (w .state) s) (7 * st .next)) last x ∙ promise-setFenced (setStart (w .state) s) (7 * st .next) x
+      ∙ promise-setStart (w .state) s x
+
   renumbered : Renumbered st (stateOf strip)
   renumbered =
       rw moved-numbers
@@ -169,7 +175,7 @@ module _ (G D : ℕ) (z : Sizes G D) (w : World) (r : Running G D w) (s : ℕ) (
 
   copies′ : Copies G D (r .b) (r .tr) moved
   copies′ =
-      copies-renumber G D (r .b) (r .tr) w moved c renumbered size writers blocks
+      copies-renumber G D (r .b) (r .tr) w moved c renumbered size writers blocks promises
       (rw moved-numbers (last-order (st .start) s (st .last) (nextPosition st) (c .order .last-closing))) (rw moved-numbers (t .opens)) refl
       (length-puts (w .log) 0 head) (λ slot. group-header (w .log) head slot (omega (arith, length-header s G D))) refl refl refl refl
       (rw moved-numbers (c .settledHomes)) (rw moved-numbers (c .settledGroup)) (rw moved-numbers (t .apart))

@@ -1,33 +1,35 @@
--- Calls that change one writer's record and nothing else: begin, abort, a store that logs nothing, a commit of nothing.
+-- Calls that change one writer's record and promise and nothing else: begin, reserve, abort, a store that logs nothing, a commit of nothing.
 use mathlib.Core.Path.{_≡_, refl, sym, ap, _∙_, subst}
 use mathlib.Core.Logic.{_⊎_, inl, inr}
 use mathlib.Core.Bool.{Bool, true, false, cond}
 use mathlib.Core.List.{List, [], _∷_, _++_, append-nil}
 use mathlib.Core.Option.{Option, none, some}
-use Prim.Native.Nat.{ℕ, zero, suc, _+_, _-_, _*_, _≤_, _<_}
+use Prim.Native.Nat.{ℕ, zero, suc, _+_, _-_, _*_, _^_, _≤_, _<_}
 use native.Mathlib.Omega.{arith}
 use native.Mathlib.Decide.{ℕ-discrete}
 use lib.ListN.{length}
 use lib.Dec.{eqb}
-use borrow.Author.Tests.{eq-eqb, ne-eqb, ltb-true}
-use Rattle.model.specs.State.{State, stateOf, nextPosition, Writer, writerOf, setWriter, heldOf, setHeld, idle, begun, holding}
-use Rattle.model.specs.Effects.{beginEffect, abortEffect, storeFirst, storeAgain, newState}
-use Rattle.model.specs.Questions.{beginAnswer, writerKnown}
+use borrow.Author.Tests.{eq-eqb, ne-eqb, ltb-true, leb-false}
+use Rattle.model.specs.State.{State, stateOf, nextPosition, Writer, writerOf, setWriter, heldOf, setHeld, promiseOf, setPromise, promised, places, freePlaces, isOpen, idle, begun, holding}
+use Rattle.model.specs.Effects.{beginEffect, reserveEffect, abortEffect, storeFirst, storeAgain, newState}
+use Rattle.model.specs.Questions.{beginAnswer, reserveAnswer, writerKnown, writerOpen}
 use Rattle.model.specs.Book.{Entry, Task, opened, idle as idle′, Book, Commit, withTask, setTask, begin as book-begin, store as book-store, storeTask as book-storeTask, hold as book-hold}
-use Rattle.model.specs.History.{Call, World, lent, feed, isConfirm, begin, store, feedChange}
-use Rattle.model.proofs.strip.QuestionLaws.{begin-ready}
+use Rattle.model.specs.History.{Call, World, lent, feed, isConfirm, begin, reserve, store, feedChange}
+use Rattle.model.proofs.strip.QuestionLaws.{begin-ready, reserve-ready, may-promise}
 use Rattle.model.proofs.strip.WriterLaws.{length-setWriter, length-setHeld, state-setWriter, writer-setWriter, writer-setWriter-other, held-setWriter, state-setHeld, writer-setHeld, held-setHeld, held-setHeld-other, fits-begun, fits-idle, fits-holding}
+use Rattle.model.proofs.strip.PromiseLaws.{promise-setWriter, promise-setHeld, length-setPromise, state-setPromise, writer-setPromise, held-setPromise, promise-setPromise, promise-setPromise-other, promised-change}
 use Rattle.model.proofs.steps.DoneLaws.{after}
-use Rattle.model.proofs.strip.OrderLaws.{InOrder, WriterInOrder}
+use Rattle.model.proofs.strip.OrderLaws.{InOrder, WriterInOrder, Promises}
 use Rattle.model.proofs.trace.Trace.{Ev, Hist, hist}
 use Rattle.model.proofs.invariant.Invariant.{Copies, Submitted, Confirmed, Commits, Running, TaskOk, entriesFor}
 
--- a strip that differs from another in the record and the block of one writer at most
+-- a strip that differs from another in the record, the block and the promise of one writer at most
 pub record SameBut (v : ℕ) (s t : List ℕ) : Type 0 where
   pub size : length t ≡ 1024
   pub numbers : stateOf t ≡ stateOf s
   pub writer : (x : ℕ) → (x ≡ v → ⊥) → writerOf t x ≡ writerOf s x
   pub held : (x : ℕ) → (x ≡ v → ⊥) → heldOf t x ≡ heldOf s x
+  pub promise : (x : ℕ) → x < 8 → (x ≡ v → ⊥) → promiseOf t x ≡ promiseOf s x
 
 -- what holds of writer v, and of every other
 by-writer : (P : ℕ → Type 0) (v x : ℕ) → P v → ((x ≡ v → ⊥) → P x) → Dec (x ≡ v) → P x
@@ -37,8 +39,24 @@ by-writer P v x h f (no n) = f n
 pub each-writer : (P : ℕ → Type 0) (v x : ℕ) → P v → ((x ≡ v → ⊥) → P x) → P x
 each-writer P v x h f = by-writer P v x h f (ℕ-discrete x v)
 
-pub order-same : (v : ℕ) (s t : List ℕ) (G D : ℕ) → SameBut v s t → InOrder s G D → WriterInOrder (stateOf s) (writerOf t v) → InOrder t G D
-order-same v s t G D b o h =
+-- its promises are in order if that writer's is, and all of them together find places
+pub promises-same : (v : ℕ) (s t : List ℕ) → v < 8 → SameBut v s t → Promises s → (writerOf t v .mode ≡ 0 → promiseOf t v ≡ 0)
+    → promised s 8 + promiseOf t v ≤ places (stateOf s) + promiseOf s v → Promises t
+promises-same v s t l b p h k =
+    let e : stateOf s ≡ stateOf t = sym (b .numbers) in
+    let c = promised-change s t v 8 l (b .promise) in
+    let q : promised t 8 ≤ places (stateOf s) = omega (arith, c) in
+    record {
+      within = rw e at q;
+      none-idle = λ x m. each-writer (λ y. writerOf t y .mode ≡ 0 → promiseOf t y ≡ 0) v x h (λ n. rw (b .writer x n, b .promise x m n) (p .none-idle x m));
+    }
+
+-- as they are if the promise stays and the writer is open
+pub promises-kept : (v : ℕ) (s t : List ℕ) → v < 8 → SameBut v s t → Promises s → promiseOf t v ≡ promiseOf s v → 1 ≤ writerOf t v .mode → Promises t
+promises-kept v s t l b p e m = promises-same v s t l b p (λ z. absurd (omega arith)) (omega (arith, e, p .within))
+
+pub order-same : (v : ℕ) (s t : List ℕ) (G D : ℕ) → SameBut v s t → InOrder s G D → WriterInOrder (stateOf s) (writerOf t v) → Promises t → InOrder t G D
+order-same v s t G D b o h p =
     let e : stateOf s ≡ stateOf t = sym (b .numbers) in
     record {
       groups-same = rw e at (o .groups-same);
@@ -53,6 +71,7 @@ order-same v s t G D b o h =
       fenced-next = rw e at (o .fenced-next);
       durable-fenced = rw e at (o .durable-fenced);
       last-closing = rw e at (o .last-closing);
+      promises = p;
       writers = λ x l.
           each-writer (λ y. WriterInOrder (stateOf t) (writerOf t y)) v x (rw e at h) (λ n. rw (b .writer x n) (rw e at (o .writers x l)));
     }
@@ -67,18 +86,18 @@ task-other b v x t n = rw (ne-eqb v x (λ e. n (sym e)))
 
 -- the copies after such a call
 pub copies-writer : (G D b : ℕ) (tr : List Ev) (w u : World) (v : ℕ) (t : Task) → Copies G D b tr w → SameBut v (w .state) (u .state) → v < 8
-    → WriterInOrder (stateOf (w .state)) (writerOf (u .state) v)
+    → WriterInOrder (stateOf (w .state)) (writerOf (u .state) v) → Promises (u .state)
     → TaskOk b tr (writerOf (u .state) v) (heldOf (u .state) v) (hist (7 * b) tr .openOf v) t
     → u .homes ≡ w .homes → u .log ≡ w .log → u .area ≡ w .area → u .book ≡ withTask (w .book) v t → Copies G D b tr u
 unfolding withTask
-copies-writer G D b tr w u v t c s l o k eh el ea eb =
+copies-writer G D b tr w u v t c s l o p k eh el ea eb =
     let e : stateOf (w .state) ≡ stateOf (u .state) = sym (s .numbers) in
     record {
       homes = eh ∙ c .homes;
       stateSize = s .size;
       logSize = ap length el ∙ c .logSize;
       areaSize = ap length ea ∙ c .areaSize;
-      order = order-same v (w .state) (u .state) G D s (c .order) o;
+      order = order-same v (w .state) (u .state) G D s (c .order) o p;
       from = rw e at (c .from);
       position = rw e at (c .position);
       sound = c .sound;
@@ -136,12 +155,12 @@ confirmed-same b w u c es ep eq ec =
     }
 
 pub running-writer : (G D : ℕ) (w u : World) (v : ℕ) (t : Task) (r : Running G D w) → SameBut v (w .state) (u .state) → v < 8
-    → WriterInOrder (stateOf (w .state)) (writerOf (u .state) v)
+    → WriterInOrder (stateOf (w .state)) (writerOf (u .state) v) → Promises (u .state)
     → TaskOk (r .b) (r .tr) (writerOf (u .state) v) (heldOf (u .state) v) (hist (7 * r .b) (r .tr) .openOf v) t
     → u .homes ≡ w .homes → u .log ≡ w .log → u .area ≡ w .area → u .memory ≡ w .memory → u .pending ≡ w .pending → u .passed ≡ w .passed
     → u .ready ≡ true → u .book ≡ withTask (w .book) v t → Running G D u
 unfolding withTask
-running-writer G D w u v t r s l o k eh el ea em ep eq er eb =
+running-writer G D w u v t r s l o p k eh el ea em ep eq er eb =
     let ec : u .book .commits ≡ w .book .commits = ap (λ (z : Book). z .commits) eb in
     record {
       b = r .b;
@@ -150,7 +169,7 @@ running-writer G D w u v t r s l o k eh el ea em ep eq er eb =
       ready = er;
       since = rw em (r .since);
       commits = rw ec (r .commits);
-      copies = copies-writer G D (r .b) (r .tr) w u v t (r .copies) s l o k eh el ea eb;
+      copies = copies-writer G D (r .b) (r .tr) w u v t (r .copies) s l o p k eh el ea eb;
       submitted = submitted-same G D (r .b) (r .tr) (r .old) w u (r .submitted) (s .numbers) ep em ea ec;
       confirmed = confirmed-same (r .b) w u (r .confirmed) (s .numbers) ep eq ec;
     }
@@ -163,6 +182,7 @@ same-writer s v r h =
       numbers = state-setWriter s v r;
       writer = λ x n. writer-setWriter-other s v r x n;
       held = λ x n. held-setWriter s v r x;
+      promise = λ x l n. promise-setWriter s v r x l;
     }
 
 pub same-held : (s : List ℕ) (v : ℕ) (block : List ℕ) → length s ≡ 1024 → length block ≡ 64 → SameBut v s (setHeld s v block)
@@ -172,6 +192,17 @@ same-held s v block h k =
       numbers = state-setHeld s v block k;
       writer = λ x n. writer-setHeld s v block x k;
       held = λ x n. held-setHeld-other s v block x n k;
+      promise = λ x l n. promise-setHeld s v block x k l;
+    }
+
+pub same-promise : (s : List ℕ) (v n : ℕ) → length s ≡ 1024 → v < 8 → SameBut v s (setPromise s v n)
+same-promise s v n h l =
+    record {
+      size = length-setPromise s v n ∙ h;
+      numbers = state-setPromise s v n;
+      writer = λ x d. writer-setPromise s v n x l;
+      held = λ x d. held-setPromise s v n x l;
+      promise = λ x m d. promise-setPromise-other s v n x d;
     }
 
 pub same-then : (v : ℕ) (s t u : List ℕ) → SameBut v s t → SameBut v t u → SameBut v s u
@@ -181,6 +212,7 @@ same-then v s t u a b =
       numbers = b .numbers ∙ a .numbers;
       writer = λ x n. b .writer x n ∙ a .writer x n;
       held = λ x n. b .held x n ∙ a .held x n;
+      promise = λ x l n. b .promise x l n ∙ a .promise x l n;
     }
 
 -- records that are in order
@@ -205,7 +237,33 @@ begin-runs G D w v r a =
     let l : v < 8 = ltb-true v 8 (h .1) in
     let c = r .copies in
     let e : writerOf (setWriter (w .state) v begun) v ≡ begun = writer-setWriter (w .state) v begun (c .stateSize) l fits-begun in
-    running-writer G D w _ v (opened [] none) r (same-writer (w .state) v begun (c .stateSize)) l (rw e (order-begun _))
+    let b = same-writer (w .state) v begun (c .stateSize) in
+    running-writer G D w _ v (opened [] none) r b l (rw e (order-begun _))
+    (promises-kept v (w .state) (setWriter (w .state) v begun) l b (c .order .promises) (promise-setWriter (w .state) v begun v l) (rw e (unfold begun in omega arith)))
+    (rw e (inr (inl (unfold begun in (refl, refl))))) refl refl refl refl (append-nil (w .pending)) refl refl refl
+
+-- reserve
+pub reserve-runs : (G D : ℕ) (w : World) (v n : ℕ) → Running G D w → G ≤ 1024 → reserveAnswer (lent w [] [] v 0) n ≡ 0
+    → Running G D (after w (reserve v n) (reserveEffect (lent w [] [] v 0) n))
+unfolding reserveEffect newState lent feed feedChange isConfirm book-begin writerKnown
+reserve-runs G D w v n r g a =
+    let h = reserve-ready (lent w [] [] v 0) n a in
+    let l : v < 8 = ltb-true v 8 (h .1) in
+    let c = r .copies in
+    let s = w .state in
+    let s₁ = setWriter s v begun in
+    let t = setPromise s₁ v n in
+    let size : length s₁ ≡ 1024 = length-setWriter s v begun ∙ c .stateSize in
+    let b : SameBut v s t = same-then v s s₁ t (same-writer s v begun (c .stateSize)) (same-promise s₁ v n size l) in
+    let k = may-promise s n (h .3) in
+    let m : writerOf s v .mode ≡ 0 = (unfold writerOpen isOpen in omega (arith, leb-false 1 (writerOf s v .mode) (h .2))) in
+    let q : n ≤ places (stateOf s) - promised s 8 = unfold freePlaces in k .1 in
+    let few : n < 2 ^ 16 = unfold places nextPosition in omega (arith, c .order .groups-same, c .order .start-next) in
+    let e : writerOf t v ≡ begun = writer-setPromise s₁ v n v l ∙ writer-setWriter s v begun (c .stateSize) l fits-begun in
+    let z : promiseOf t v ≡ n = promise-setPromise s₁ v n size l few in
+    running-writer G D w _ v (opened [] none) r b l (rw e (order-begun _))
+    (promises-same v s t l b (c .order .promises) (rw e (unfold begun in (λ x. absurd (omega arith))))
+    (omega (arith, z, c .order .promises .none-idle v l m, c .order .promises .within)))
     (rw e (inr (inl (unfold begun in (refl, refl))))) refl refl refl refl (append-nil (w .pending)) refl refl refl
 
 -- abort
@@ -214,8 +272,15 @@ pub abort-runs : (G D : ℕ) (w : World) (v : ℕ) → Running G D w → v < 8 �
 unfolding abortEffect newState lent
 abort-runs G D w v r l c f eb =
     let k = r .copies in
-    let e : writerOf (setWriter (w .state) v idle) v ≡ idle = writer-setWriter (w .state) v idle (k .stateSize) l fits-idle in
-    running-writer G D w _ v idle′ r (same-writer (w .state) v idle (k .stateSize)) l (rw e (order-idle _))
+    let s = w .state in
+    let s₁ = setWriter s v idle in
+    let t = setPromise s₁ v 0 in
+    let size : length s₁ ≡ 1024 = length-setWriter s v idle ∙ k .stateSize in
+    let b : SameBut v s t = same-then v s s₁ t (same-writer s v idle (k .stateSize)) (same-promise s₁ v 0 size l) in
+    let e : writerOf t v ≡ idle = writer-setPromise s₁ v 0 v l ∙ writer-setWriter s v idle (k .stateSize) l fits-idle in
+    let z : promiseOf t v ≡ 0 = promise-setPromise s₁ v 0 size l (omega arith) in
+    running-writer G D w _ v idle′ r b l (rw e (order-idle _))
+    (promises-same v s t l b (k .order .promises) (λ x. z) (omega (arith, z, k .order .promises .within)))
     (rw e (inl (unfold idle in (refl, refl)))) refl refl refl refl (append-nil (w .pending)) (rw f refl) refl eb
 
 -- a store that holds a first block
@@ -231,9 +296,12 @@ store-first-runs G D w v home block batch r l h d k m t =
     let size : length s₁ ≡ 1024 = length-setWriter s v (holding home) ∙ c .stateSize in
     let e₂ : writerOf (setHeld s₁ v block) v ≡ holding home = writer-setHeld s₁ v block v k ∙ e₁ in
     let e₃ : heldOf (setHeld s₁ v block) v ≡ block = held-setHeld s₁ v block size l k in
-    running-writer G D w _ v (opened [] (some (record { home = home; block = block }))) r
-    (same-then v s s₁ (setHeld s₁ v block) (same-writer s v (holding home) (c .stateSize)) (same-held s₁ v block size k)) l
+    let b : SameBut v s (setHeld s₁ v block) =
+    same-then v s s₁ (setHeld s₁ v block) (same-writer s v (holding home) (c .stateSize)) (same-held s₁ v block size k) in
+    running-writer G D w _ v (opened [] (some (record { home = home; block = block }))) r b l
     (rw e₂ (order-holding (stateOf s) home (rw (c .order .homes-same) h)))
+    (promises-kept v s (setHeld s₁ v block) l b (c .order .promises) (promise-setHeld s₁ v block v k l ∙ promise-setWriter s v (holding home) v l)
+    (rw e₂ (unfold holding in omega arith)))
     (rw (e₂, e₃) (inr (inr (inl (unfold holding in (refl, refl)))))) refl refl refl refl (append-nil (w .pending)) refl refl (rw t)
 
 -- the task of a writer that holds a block, with another block held for the same home
@@ -263,5 +331,7 @@ store-again-runs G D w v home block batch r l k m eh =
     let e₂ : writerOf (setHeld s v block) v ≡ writerOf s v = writer-setHeld s v block v k in
     let e₃ : heldOf (setHeld s v block) v ≡ block = held-setHeld s v block (c .stateSize) l k in
     running-writer G D w _ v (opened (a .0) (some (record { home = writerOf s v .home; block = block }))) r (same-held s v block (c .stateSize) k) l
-    (rw e₂ (c .order .writers v l)) (rw (e₂, e₃) (a .2)) refl refl refl refl (append-nil (w .pending)) refl refl
+    (rw e₂ (c .order .writers v l))
+    (promises-kept v s (setHeld s v block) l (same-held s v block (c .stateSize) k) (c .order .promises) (promise-setHeld s v block v k l) (rw e₂ (omega arith)))
+    (rw (e₂, e₃) (a .2)) refl refl refl refl (append-nil (w .pending)) refl refl
     (book-again (w .book) v home block (heldOf s v) (a .0) (writerOf s v .home) (a .1) eh)

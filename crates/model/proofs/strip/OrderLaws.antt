@@ -11,9 +11,10 @@ use borrow.Author.Tests.{leb-true, leb-false, eqb-true, eqb-false, le-leb, lt-le
 use lib.Dec.{leb, eqb}
 use lib.ListN.{length, getD}
 use Rattle.model.specs.Bytes.{zeros, number}
-use Rattle.model.specs.State.{State, stateOf, Writer, writerOf, idle, freshState, nextPosition, numbersInOrder, writerInOrder, writersInOrder, inOrder}
+use Rattle.model.specs.State.{State, stateOf, Writer, writerOf, idle, isOpen, promiseOf, promised, places, freshState, nextPosition, numbersInOrder, writerInOrder, promiseInOrder, writerAtInOrder, writersInOrder, inOrder}
 use Rattle.model.proofs.bytes.ByteLaws.{length-zeros, number-none, number-more}
 use Rattle.model.proofs.strip.StateLaws.{length-laws, state-laws, writer-laws}
+use Rattle.model.proofs.strip.PromiseLaws.{promise-laws, promise-zeros, promised-none, promise-most}
 use Rattle.model.proofs.bytes.LayoutLaws.{number-zeros}
 
 -- ---- tests and what they tell: simp by the set turns a chain of tests into its facts, and back
@@ -48,6 +49,11 @@ pub record WriterInOrder (st : State) (r : Writer) : Type 0 where
   pub logged : 3 ≤ r .mode
       → (7 * st .start ≤ r .first) × (r .first < nextPosition st) × (1 ≤ r .count) × (r .first + r .count ≤ nextPosition st)
 
+-- the promises: together at most the places from the next position on, and none for an idle writer
+pub record Promises (s : List ℕ) : Type 0 where
+  pub within : promised s 8 ≤ places (stateOf s)
+  pub none-idle : (w : ℕ) → w < 8 → writerOf s w .mode ≡ 0 → promiseOf s w ≡ 0
+
 pub record InOrder (s : List ℕ) (groups homes : ℕ) : Type 0 where
   pub groups-same : stateOf s .groups ≡ groups
   pub homes-same : stateOf s .homes ≡ homes
@@ -61,6 +67,7 @@ pub record InOrder (s : List ℕ) (groups homes : ℕ) : Type 0 where
   pub fenced-next : stateOf s .fenced ≤ 7 * stateOf s .next
   pub durable-fenced : stateOf s .durable ≤ stateOf s .fenced
   pub last-closing : (stateOf s .last ≡ 0) ⊎ ((7 * stateOf s .start < stateOf s .last) × (stateOf s .last ≤ nextPosition (stateOf s)))
+  pub promises : Promises s
   pub writers : (w : ℕ) → w < 8 → WriterInOrder (stateOf s) (writerOf s w)
 
 -- ---- a writer, and the first n writers
@@ -75,24 +82,45 @@ pub order-writer : (st : State) (r : Writer) → WriterInOrder st r → writerIn
 unfolding writerInOrder
 order-writer st r h = simp tests ((h .mode, λ k. h .home (omega arith)), λ k. let g = h .logged (omega arith) in omega arith)
 
-writer-among : (s : List ℕ) (st : State) (n w : ℕ) → writersInOrder s st n ≡ true → w < n → writerInOrder st (writerOf s w) ≡ true
+promise-order : (r : Writer) (n : ℕ) → promiseInOrder r n ≡ true → r .mode ≡ 0 → n ≡ 0
+unfolding promiseInOrder isOpen
+promise-order r n h e = let f = simp tests at h in f (omega arith)
+
+order-promise : (r : Writer) (n : ℕ) → (r .mode ≡ 0 → n ≡ 0) → promiseInOrder r n ≡ true
+unfolding promiseInOrder isOpen
+order-promise r n h = simp tests (λ k. h (omega arith))
+
+writer-among : (s : List ℕ) (st : State) (n w : ℕ) → writersInOrder s st n ≡ true → w < n → writerAtInOrder s st w ≡ true
 unfolding writersInOrder
 writer-among s st zero w h k = absurd (omega arith)
 writer-among s st (suc n) w h k =
-    let f = both (writersInOrder s st n) (writerInOrder st (writerOf s n)) .0 h in
+    let f = both (writersInOrder s st n) (writerAtInOrder s st n) .0 h in
     go (decLt w n) (writer-among s st n w (f .0)) (f .1)
   where
-    go : Dec (w < n) → (w < n → writerInOrder st (writerOf s w) ≡ true) → writerInOrder st (writerOf s n) ≡ true
-        → writerInOrder st (writerOf s w) ≡ true
+    go : Dec (w < n) → (w < n → writerAtInOrder s st w ≡ true) → writerAtInOrder s st n ≡ true → writerAtInOrder s st w ≡ true
     go (yes l) f g = f l
     go (no l) f g = let e : w ≡ n = omega arith in rw e g
 
-among-writers : (s : List ℕ) (st : State) (n : ℕ) → ((w : ℕ) → w < n → writerInOrder st (writerOf s w) ≡ true)
-    → writersInOrder s st n ≡ true
+among-writers : (s : List ℕ) (st : State) (n : ℕ) → ((w : ℕ) → w < n → writerAtInOrder s st w ≡ true) → writersInOrder s st n ≡ true
 unfolding writersInOrder
 among-writers s st zero f = refl
 among-writers s st (suc n) f =
-    both (writersInOrder s st n) (writerInOrder st (writerOf s n)) .1 (among-writers s st n (λ w k. f w (omega arith)), f n (omega arith))
+    both (writersInOrder s st n) (writerAtInOrder s st n) .1 (among-writers s st n (λ w k. f w (omega arith)), f n (omega arith))
+
+-- a writer's record and its promise
+at-order : (s : List ℕ) (st : State) (w : ℕ) → writerAtInOrder s st w ≡ true
+    → WriterInOrder st (writerOf s w) × (writerOf s w .mode ≡ 0 → promiseOf s w ≡ 0)
+unfolding writerAtInOrder
+at-order s st w h =
+    let f = both (writerInOrder st (writerOf s w)) (promiseInOrder (writerOf s w) (promiseOf s w)) .0 h in
+    (writer-order st (writerOf s w) (f .0), promise-order (writerOf s w) (promiseOf s w) (f .1))
+
+order-at : (s : List ℕ) (st : State) (w : ℕ) → WriterInOrder st (writerOf s w) → (writerOf s w .mode ≡ 0 → promiseOf s w ≡ 0)
+    → writerAtInOrder s st w ≡ true
+unfolding writerAtInOrder
+order-at s st w o p =
+    both (writerInOrder st (writerOf s w)) (promiseInOrder (writerOf s w) (promiseOf s w)) .1
+    (order-writer st (writerOf s w) o, order-promise (writerOf s w) (promiseOf s w) p)
 
 -- ---- the whole strip
 
@@ -107,13 +135,15 @@ in-order s groups homes h =
       start-next = omega arith;
       next-most = omega arith;
       filled-most = omega arith;
-      filled-none = λ e. f .0 .1 .0 .0 .0 .0 .0 .1 (omega arith);
+      filled-none = λ e. f .0 .0 .1 .0 .0 .0 .0 .0 .1 (omega arith);
       start-settled = omega arith;
       settled-fenced = omega arith;
       fenced-next = omega arith;
       durable-fenced = omega arith;
-      last-closing = last (ℕ-discrete (stateOf s .last) 0) (f .0 .1 .1);
-      writers = λ w k. writer-order (stateOf s) (writerOf s w) (writer-among s (stateOf s) 8 w (f .1) k);
+      last-closing = last (ℕ-discrete (stateOf s .last) 0) (f .0 .0 .1 .1);
+      promises =
+          record { within = f .0 .1; none-idle = λ w k. at-order s (stateOf s) w (writer-among s (stateOf s) 8 w (f .1) k) .1 };
+      writers = λ w k. at-order s (stateOf s) w (writer-among s (stateOf s) 8 w (f .1) k) .0;
     }
   where
     last : {A : Type 0} {n : ℕ} → Dec (n ≡ 0) → (n ≢ 0 → A) → (n ≡ 0) ⊎ A
@@ -125,18 +155,28 @@ unfolding inOrder numbersInOrder
 order-in s groups homes o =
     simp tests (
       (
-        (o .groups-same, o .homes-same),
         (
-          (((((omega arith, λ h. o .filled-none (omega arith)), o .start-settled), o .settled-fenced), o .fenced-next), o .durable-fenced),
-          last (o .last-closing),
+          (o .groups-same, o .homes-same),
+          (
+            (((((omega arith, λ h. o .filled-none (omega arith)), o .start-settled), o .settled-fenced), o .fenced-next), o .durable-fenced),
+            last (o .last-closing),
+          ),
         ),
+        o .promises .within,
       ),
-      among-writers s (stateOf s) 8 (λ w k. order-writer (stateOf s) (writerOf s w) (o .writers w k)),
+      among-writers s (stateOf s) 8 (λ w k. order-at s (stateOf s) w (o .writers w k) (o .promises .none-idle w k)),
     )
   where
     last : {A : Type 0} {n : ℕ} → (n ≡ 0) ⊎ A → n ≢ 0 → A
     last (inl e) k = absurd (k e)
     last (inr a) k = a
+
+-- where a place is left the next group is below start + G
+pub place-below : (s : List ℕ) (groups homes w : ℕ) → InOrder s groups homes → w < 8 → (1 ≤ promiseOf s w) ⊎ (promised s 8 < places (stateOf s))
+    → stateOf s .next < stateOf s .start + stateOf s .groups
+unfolding places nextPosition
+place-below s groups homes w o l (inl h) = omega (arith, promise-most s w 8 l, o .promises .within)
+place-below s groups homes w o l (inr h) = omega arith
 
 -- the next position is at most one past the ring's last
 pub next-within : (s : List ℕ) (groups homes : ℕ) → InOrder s groups homes → nextPosition (stateOf s) ≤ 7 * (stateOf s .start + groups)
@@ -197,8 +237,16 @@ module _ (groups homes start : ℕ) where
   unfolding freshState
   writer-fresh w = simp (writer-laws, writer-zeros)
 
+  pub promise-fresh : (w : ℕ) → promiseOf (freshState groups homes start) w ≡ 0
+  unfolding freshState
+  promise-fresh w = simp (promise-laws, promise-zeros)
+
   pub in-order-fresh : start ≤ 2 ^ 47 → groups ≤ 1024 → homes ≤ 65535 → inOrder (freshState groups homes start) groups homes ≡ true
   unfolding inOrder numbersInOrder nextPosition
   in-order-fresh h g d =
-      rw (state-fresh (omega arith) (omega arith) (omega arith))
-      (simp tests (omega arith, among-writers (freshState groups homes start) _ 8 (λ w k. rw writer-fresh (idle-in-order _))))
+      rw (state-fresh (omega arith) (omega arith) (omega arith), promised-none (freshState groups homes start) 8 promise-fresh)
+      (simp tests (
+        omega arith,
+        among-writers (freshState groups homes start) _ 8
+            (λ w k. order-at (freshState groups homes start) _ w (rw writer-fresh (writer-order _ idle (idle-in-order _))) (λ e. promise-fresh w)),
+      ))

@@ -1,13 +1,17 @@
 -- The questions: what an answer of 0 says of what was lent, and which of two failing questions answers.
 use mathlib.Core.Path.{_≡_, refl, sym, ap, _∙_}
 use mathlib.Core.Bool.{Bool, true, false, not, _&&_, _||_, false≢true}
-use Prim.Native.Nat.{ℕ, zero, suc, _+_, _≤_, _<_}
+use mathlib.Core.Logic.{_⊎_, inl, inr, _↔_}
+use mathlib.Core.List.{List}
+use Prim.Native.Nat.{ℕ, zero, suc, _+_, _-_, _*_, _≤_, _<_}
 use native.Mathlib.Omega.{arith}
 use lib.ListN.{length}
-use borrow.Author.Tests.{leb-true, ltb-true, lt-leb}
+use lib.Dec.{leb, ltb, eqb}
+use borrow.Author.Tests.{leb-true, leb-false, ltb-true, eqb-true, eqb-false, lt-leb, le-leb, eq-eqb, ne-eqb}
 use Rattle.model.specs.Layout.{maxStart}
+use Rattle.model.specs.State.{State, stateOf, nextPosition, promiseOf, promised, places, freePlaces}
 use Rattle.model.specs.Effects.{Given}
-use Rattle.model.specs.Questions.{ask, areasRight, stateRight, blockRight, stripInOrder, headerFits, writerKnown, homeKnown, writerOpen, room, storeLogs, commitLogs, startFits, batchFits, formatAnswer, openAnswer, askState, askBlock, beginAnswer, abortAnswer, storeAnswer, commitAnswer, flushAnswer, confirmAnswer, settleAnswer, trimAnswer, readAnswer}
+use Rattle.model.specs.Questions.{ask, areasRight, stateRight, blockRight, stripInOrder, headerFits, writerKnown, homeKnown, writerOpen, roomFor, room, mayPromise, keepsPromises, storeLogs, commitLogs, startFits, batchFits, formatAnswer, openAnswer, askState, askBlock, beginAnswer, reserveAnswer, abortAnswer, storeAnswer, commitAnswer, flushAnswer, confirmAnswer, settleAnswer, trimAnswer, readAnswer}
 
 -- a question answered no, answered yes, and one that let an answer of 0 through
 pub ask-no : (b : Bool) (k v : ℕ) → b ≡ false → ask b k v ≡ k
@@ -91,6 +95,20 @@ begin-ready g e =
     let c = ask-passed (not (writerOpen g)) 5 0 (b .1) in
     (a .0, b .0, not-true (writerOpen g) (c .0))
 
+pub reserve-ready : (g : Given) (n : ℕ) → reserveAnswer g n ≡ 0
+    → InUse g × (writerKnown g ≡ true) × (writerOpen g ≡ false) × (mayPromise (g .state) n ≡ true)
+unfolding reserveAnswer
+reserve-ready g n e =
+    let a = state-passed g _ e in
+    let b = ask-passed (writerKnown g) 3 _ (a .1) in
+    let c = ask-passed (not (writerOpen g)) 5 _ (b .1) in
+    let d = ask-passed (mayPromise (g .state) n) 16 0 (c .1) in
+    (a .0, b .0, not-true (writerOpen g) (c .0), d .0)
+
+pub may-promise : (s : List ℕ) (n : ℕ) → mayPromise s n ≡ true → (1 ≤ n) × (n ≤ freePlaces s)
+unfolding mayPromise
+may-promise s n e = let a = and-true (leb 1 n) (leb n (freePlaces s)) e in (leb-true 1 n (a .0), leb-true n (freePlaces s) (a .1))
+
 pub abort-ready : (g : Given) → abortAnswer g ≡ 0 → InUse g × (writerKnown g ≡ true) × (writerOpen g ≡ true)
 unfolding abortAnswer
 abort-ready g e =
@@ -98,6 +116,18 @@ abort-ready g e =
     let b = ask-passed (writerKnown g) 3 _ (a .1) in
     let c = ask-passed (writerOpen g) 6 0 (b .1) in
     (a .0, b .0, c .0)
+
+-- a writer's entry has room: a place promised to it is left, or one that is promised to nobody
+abbrev pub Roomy : List ℕ → ℕ → Type 0
+Roomy s w = (1 ≤ promiseOf s w) ⊎ (promised s 8 < places (stateOf s))
+
+pub room-true : (s : List ℕ) (w : ℕ) → roomFor s w ≡ true → Roomy s w
+unfolding roomFor
+room-true s w e = go (leb 1 (promiseOf s w)) refl e
+  where
+    go : (b : Bool) → leb 1 (promiseOf s w) ≡ b → (b || ltb (promised s 8) (places (stateOf s))) ≡ true → Roomy s w
+    go true h e = inl (leb-true 1 (promiseOf s w) h)
+    go false h e = inr (ltb-true (promised s 8) (places (stateOf s)) e)
 
 -- room where an entry must be logged
 room-for : (logs has : Bool) → (not logs || has) ≡ true → logs ≡ true → has ≡ true
@@ -149,12 +179,23 @@ commit-ready g size e =
     let h = ask-passed (batchFits g size) 8 0 (f .1) in
     record { inUse = a .0; writer = b .0; opened = d .0; roomy = room-for (commitLogs g) (room g) (f .0); batch = h .0 }
 
-pub flush-ready : (g : Given) (size : ℕ) → flushAnswer g size ≡ 0 → InUse g × (batchFits g size ≡ true)
+pub flush-ready : (g : Given) (size : ℕ) → flushAnswer g size ≡ 0 → InUse g × (keepsPromises (g .state) ≡ true) × (batchFits g size ≡ true)
 unfolding flushAnswer
 flush-ready g size e =
     let a = state-passed g _ e in
-    let b = ask-passed (batchFits g size) 8 0 (a .1) in
-    (a .0, b .0)
+    let b = ask-passed (keepsPromises (g .state)) 17 _ (a .1) in
+    let c = ask-passed (batchFits g size) 8 0 (b .1) in
+    (a .0, b .0, c .0)
+
+pub keeps-promises : (s : List ℕ) → keepsPromises s ≡ true
+    → (stateOf s .filled ≡ 0) ⊎ (promised s 8 ≤ 7 * (stateOf s .start + stateOf s .groups) - 7 * (stateOf s .next + 1))
+unfolding keepsPromises
+keeps-promises s e = go (eqb (stateOf s .filled) 0) refl e
+  where
+    go : (b : Bool) → eqb (stateOf s .filled) 0 ≡ b → (b || leb (promised s 8) (7 * (stateOf s .start + stateOf s .groups) - 7 * (stateOf s .next + 1))) ≡ true
+        → (stateOf s .filled ≡ 0) ⊎ (promised s 8 ≤ 7 * (stateOf s .start + stateOf s .groups) - 7 * (stateOf s .next + 1))
+    go true h e = inl (eqb-true (stateOf s .filled) 0 h)
+    go false h e = inr (leb-true (promised s 8) (7 * (stateOf s .start + stateOf s .groups) - 7 * (stateOf s .next + 1)) e)
 
 pub confirm-ready : (g : Given) → confirmAnswer g ≡ 0 → InUse g
 unfolding confirmAnswer

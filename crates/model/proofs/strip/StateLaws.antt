@@ -56,7 +56,7 @@ byte-agree s t i e = sym (byte-number s i) ∙ number-same-part 1 s i t i e ∙ 
 
 -- the bytes that no field has
 abbrev pub Spare : ℕ → Type 0
-Spare i = ((72 ≤ i) × (i < 128)) ⊎ (896 ≤ i)
+Spare i = ((88 ≤ i) × (i < 128)) ⊎ (896 ≤ i)
 
 module _ (s : List ℕ) (o v : ℕ) (h : o + 8 ≤ 72) where
   part-put : (a n : ℕ) → 72 ≤ a → part (putNumber 8 s o v) a n ≡ part s a n
