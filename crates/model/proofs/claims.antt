@@ -8,5 +8,7 @@ pub mod DemandTwo
 pub mod OnceLaws
 pub mod FactLaws
 pub mod Computing
+pub mod Ledger
+pub mod PromisesHold
 pub mod TrialsHold
 pub mod WitnessesHold

@@ -13,4 +13,5 @@ pub mod History
 pub mod Demands
 pub mod Trials
 pub mod Witnesses
+pub mod Promises
 pub mod Facts
