@@ -239,5 +239,5 @@ module _ (groups homes start : ℕ) where
       (simp tests (
         omega arith,
         among-writers (freshState groups homes start) _ 8
-        (λ w k. order-at (freshState groups homes start) _ w (rw writer-fresh (writer-order _ idle (idle-in-order _))) (λ e. promise-fresh w)),
+            (λ w k. order-at (freshState groups homes start) _ w (rw writer-fresh (writer-order _ idle (idle-in-order _))) (λ e. promise-fresh w)),
       ))
