@@ -1,8 +1,8 @@
--- `logging::commit_held` meets its contract. Assumes nothing.
+-- `logging::close_held` meets its contract. Assumes nothing.
 use Rattle.logging.proofs.LogLaws.{committed, at-position}
 use borrow.Author.Needs.{needs}
-use Rattle.logging.proofs.commits.commit_held.Statement.{statement}
-use Rattle.logging.proofs.commits.commit_held.Tie as tie
+use Rattle.logging.proofs.commits.close_held.Statement.{statement}
+use Rattle.logging.proofs.commits.close_held.Tie as tie
 
 next-position-requires : tie.Need-next-position-requires
 next-position-requires c κs = search needs
@@ -41,8 +41,8 @@ returns c =
     committed _ _ _ _ _ _ _ _ _ _ _ _ _ _ (c1 .next-position .ensures) (c2 .closing-word .ensures) (c3 .log-entry .ensures)
     (c4 .set-last .ensures) (c5 .abort .ensures)
 
-pub commit-held-spec : {M : Type 1} → statement M
-commit-held-spec =
+pub close-held-spec : {M : Type 1} → statement M
+close-held-spec =
     tie.close
     (tie.spec
     next-position-requires

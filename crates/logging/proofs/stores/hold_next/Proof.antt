@@ -1,9 +1,9 @@
--- `logging::store_other` meets its contract. Assumes nothing.
+-- `logging::hold_next` meets its contract. Assumes nothing.
 use native.Mathlib.Omega.{arith}
 use Rattle.logging.proofs.LogLaws.{may-after, stored, at-position}
 use borrow.Author.Needs.{needs}
-use Rattle.logging.proofs.stores.store_other.Statement.{statement}
-use Rattle.logging.proofs.stores.store_other.Tie as tie
+use Rattle.logging.proofs.stores.hold_next.Statement.{statement}
+use Rattle.logging.proofs.stores.hold_next.Tie as tie
 
 next-position-requires : tie.Need-next-position-requires
 next-position-requires c κs = search needs
@@ -44,8 +44,8 @@ returns c =
     stored _ _ _ _ _ _ _ _ _ _ _ _ _ _ _ _ (c1 .next-position .ensures) (c2 .store-word .ensures) (p .3) (p .4) (c3 .hold .ensures)
     (c4 .log-entry .ensures) (c5 .set-held .ensures)
 
-pub store-other-spec : {M : Type 1} → statement M
-store-other-spec =
+pub hold-next-spec : {M : Type 1} → statement M
+hold-next-spec =
     tie.close
     (tie.spec
     next-position-requires
