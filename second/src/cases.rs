@@ -173,7 +173,7 @@ fn finish(rng: &mut Rng, kind: Kind, shape: Shape, writer: u64, home: u64, mut l
     let mut after = lent.clone();
     let answer = after.run(kind, writer, home);
     let writer = if kind.takes_writer() { writer } else { 0 };
-    let home = if kind.takes_home() { home } else { 0 };
+    let home = if kind.takes_home() || kind == Kind::Reserve { home } else { 0 };
     Case { kind, shape, writer, home, before: lent, after, answer }
 }
 

@@ -45,7 +45,7 @@ fn rounds(seed: u64, count: u64, shape: impl Fn(&mut Rng) -> Shape) {
             back += figure;
         }
     }
-    assert!(done > 3 * count, "{done} of {count} times {} done", Kind::COUNT");
+    assert!(done > 3 * count, "{done} of {count} times {} done", Kind::COUNT);
     assert!(back > count / 2, "{back} transactions brought back");
 }
 
