@@ -40,6 +40,7 @@ impl Before {
                     BLOCK * homes(batch - header) + HEADER + STATE
                 }
                 Kind::Begin | Kind::Abort => RECORD,
+                Kind::Reserve => RECORD + 2,
                 Kind::Store => self.store(home),
                 // The record, the closing entry, the strip's `last`.
                 Kind::Commit if self.record.holds() => RECORD + self.entry() + NUMBER,

@@ -45,7 +45,7 @@ const ENOUGH: Duration = Duration::from_millis(1500);
 /// Times of one side, in nanoseconds: calls by kind, and whole scripts.
 #[derive(Default)]
 struct Times {
-    calls: [Vec<u64>; 11],
+    calls: [Vec<u64>; Kind::COUNT],
     whole: Vec<u64>,
 }
 
@@ -83,7 +83,7 @@ fn repeat(mut once: impl FnMut(Side)) {
     }
 }
 
-fn time_calls(side: Side, script: &Script, times: &mut [Vec<u64>; 11]) {
+fn time_calls(side: Side, script: &Script, times: &mut [Vec<u64>; Kind::COUNT]) {
     play(script, |lent, step| {
         let start = Instant::now();
         let answer = side.run(lent, step);

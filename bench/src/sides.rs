@@ -48,6 +48,7 @@ wrap! {
     second_format: format [log g area d batch n] [];
     second_open: open [log g area d state s batch n] [];
     second_begin: begin [log g area d state s] [writer];
+    second_reserve: reserve [log g area d state s] [writer places];
     second_abort: abort [log g area d state s] [writer];
     second_store: store [log g area d state s block k batch n] [writer home];
     second_commit: commit [log g area d state s batch n] [writer];
@@ -68,6 +69,7 @@ fn call(kind: Kind, slices: Slices, writer: u64, home: u64) -> Reply {
             Kind::Format => second_format(log, g, area, d, batch, n),
             Kind::Open => second_open(log, g, area, d, state, s, batch, n),
             Kind::Begin => second_begin(log, g, area, d, state, s, writer),
+            Kind::Reserve => second_reserve(log, g, area, d, state, s, writer, home),
             Kind::Abort => second_abort(log, g, area, d, state, s, writer),
             Kind::Store => second_store(log, g, area, d, state, s, block, k, batch, n, writer, home),
             Kind::Commit => second_commit(log, g, area, d, state, s, batch, n, writer),
@@ -107,6 +109,7 @@ floors! {
     Format floor_format
     Open floor_open
     Begin floor_begin
+    Reserve floor_reserve
     Abort floor_abort
     Store floor_store
     Commit floor_commit

@@ -7,7 +7,7 @@ use second::damage::{damage_group, damage_header, damage_lengths, damage_state};
 use second::layout::{group_head, header, put_word, slot_range, word, Shape, START_LIMIT};
 use second::lent::{ample, Kind, Lent};
 use second::rng::Rng;
-use second::state::{at, Writer};
+use second::state::{at, promised, Writer};
 use second::world::World;
 
 /// A history that damaged images are taken from.
@@ -119,12 +119,21 @@ fn arguments(rng: &mut Rng, kind: Kind, shape: Shape, lent: &Lent) -> (u64, u64)
     let mut home = rng.below(shape.homes);
     if lent.state.len() >= 1024 {
         let mode = |writer: u64| Writer::load(&lent.state, writer).mode;
-        let fits = |writer: &u64| (mode(*writer) == 0) == (kind == Kind::Begin);
+        let fits = |writer: &u64| (mode(*writer) == 0) == kind.begins();
         if rng.chance(70) {
             writer = (0..8).map(|add| (writer + add) % 8).find(fits).unwrap_or(writer);
         }
         if rng.chance(15) {
             home = Writer::load(&lent.state, writer).home;
+        }
+        if kind == Kind::Reserve {
+            let free = |bytes: &[u8]| {
+                let [groups, start, next, filled] = [0, 16, 24, 32].map(|from| word(bytes, from));
+                let end = start.wrapping_add(groups).wrapping_mul(7);
+                let places = end.wrapping_sub(next.wrapping_mul(7)).wrapping_sub(filled);
+                places.wrapping_sub(promised(bytes))
+            };
+            home = rng.pick(&[0, 1, 3, free(&lent.state), free(&lent.state).wrapping_add(1)]);
         }
     }
     if rng.chance(4) {

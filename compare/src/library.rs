@@ -40,6 +40,7 @@ declare! {
     kagutin_format: [log area batch] [];
     kagutin_open: [log area state batch] [];
     kagutin_begin: [log area state] [writer];
+    kagutin_reserve: [log area state] [writer places];
     kagutin_abort: [log area state] [writer];
     kagutin_store: [log area state block batch] [writer home];
     kagutin_commit: [log area state batch] [writer];
@@ -62,6 +63,7 @@ pub fn call(kind: Kind, slices: Slices, writer: u64, home: u64) -> Reply {
             Kind::Format => kagutin_format(log, g, area, d, batch, n),
             Kind::Open => kagutin_open(log, g, area, d, state, s, batch, n),
             Kind::Begin => kagutin_begin(log, g, area, d, state, s, writer),
+            Kind::Reserve => kagutin_reserve(log, g, area, d, state, s, writer, home),
             Kind::Abort => kagutin_abort(log, g, area, d, state, s, writer),
             Kind::Store => kagutin_store(log, g, area, d, state, s, block, k, batch, n, writer, home),
             Kind::Commit => kagutin_commit(log, g, area, d, state, s, batch, n, writer),

@@ -3,13 +3,14 @@
 use crate::library::{call, Reply};
 use crate::part::Part;
 use crate::trap;
+use second::layout::refuse;
 use second::lent::{Kind, Lent, Runner};
 use second::Answer;
 use std::cell::RefCell;
 use std::rc::Rc;
 
 /// How many calls were compared: by call, by answer.
-pub type Counts = [[u64; 11]; 11];
+pub type Counts = [[u64; refuse::END]; Kind::COUNT];
 
 /// Sizes that are counted apart, and one more row and column for all others.
 pub const GROUPS: [usize; 4] = [4, 5, 64, 1024];

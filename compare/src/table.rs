@@ -9,25 +9,31 @@ fn answers(kind: Kind) -> &'static [usize] {
         Kind::Format => &[0, 1, 9],
         Kind::Open => &[0, 1, 3, 9, 10],
         Kind::Begin => &[0, 1, 2, 4, 6],
+        Kind::Reserve => &[0, 1, 2, 4, 6, 17],
         Kind::Abort => &[0, 1, 2, 4, 7],
         Kind::Store => &[0, 1, 2, 4, 5, 7, 8, 9],
         Kind::Commit => &[0, 1, 2, 4, 7, 8, 9],
-        Kind::Flush | Kind::Settle => &[0, 1, 2, 9],
+        Kind::Flush => &[0, 1, 2, 9, 18],
+        Kind::Settle => &[0, 1, 2, 9],
         Kind::Confirm => &[0, 1, 2],
         Kind::Trim => &[0, 1, 2, 9, 10],
         Kind::Read => &[0, 1, 2, 4, 5],
     }
 }
 
+/// All answers that calls give.
+const ANSWERS: [usize; 13] = [0, 1, 2, 3, 4, 5, 6, 7, 8, 9, 10, 17, 18];
+
 /// One row for each call, one column for each answer.
 pub fn show(title: &str, counts: &Counts) {
     println!("{title}: calls compared, by answer (0 is done)");
     print!("{:9}", "");
-    (0..=10).for_each(|answer| print!("{answer:>8}"));
+    ANSWERS.iter().for_each(|answer| print!("{answer:>8}"));
     println!();
     for kind in Kind::ALL {
         print!("{:9}", kind.name());
-        for (answer, &count) in counts[kind as usize].iter().enumerate() {
+        for answer in ANSWERS {
+            let count = counts[kind as usize][answer];
             let possible = count > 0 || answers(kind).contains(&answer);
             print!("{:>8}", if possible { count.to_string() } else { "-".to_string() });
         }

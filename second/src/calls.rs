@@ -1,9 +1,11 @@
-//! The calls of a writer, and those that only move the fence: begin, abort,
-//! store, commit, flush, confirm, read.
+//! The calls of a writer, and those that only move the fence: begin, reserve,
+//! abort, store, commit, flush, confirm, read.
 
 use crate::batch::{check_batch, Batch, FENCE_LEN, GROUP_WRITE_LEN};
 use crate::layout::{group_head, home_range, put_word, refuse, slot_range, Answer, BLOCK};
-use crate::state::{check_home, check_writer, mode, pending_range, State, Writer};
+use crate::state::{
+    check_home, check_writer, mode, pending_range, promise, promised, set_promise, State, Writer,
+};
 use crate::tag::{closing_tag, entry_tag};
 use crate::walk::{newest_of_home, View};
 
@@ -21,6 +23,30 @@ fn try_begin(log: &[u8], data: &[u8], bytes: &mut [u8], writer: u64) -> Result<A
     Ok(Answer::DONE)
 }
 
+pub fn reserve(log: &[u8], data: &[u8], state: &mut [u8], writer: u64, places: u64) -> Answer {
+    Answer::of(try_reserve(log, data, state, writer, places))
+}
+
+fn try_reserve(
+    log: &[u8],
+    data: &[u8],
+    bytes: &mut [u8],
+    writer: u64,
+    places: u64,
+) -> Result<Answer, u32> {
+    let state = State::load(log, data, bytes)?;
+    check_writer(writer)?;
+    if Writer::load(bytes, writer).mode != mode::IDLE {
+        return Err(refuse::NOT_IDLE);
+    }
+    if places == 0 || places > state.places() - promised(bytes) {
+        return Err(refuse::NO_PLACES);
+    }
+    Writer::OPEN.save(bytes, writer);
+    set_promise(bytes, writer, places);
+    Ok(Answer::DONE)
+}
+
 pub fn abort(log: &[u8], data: &[u8], state: &mut [u8], writer: u64) -> Answer {
     Answer::of(try_abort(log, data, state, writer))
 }
@@ -30,6 +56,7 @@ fn try_abort(log: &[u8], data: &[u8], bytes: &mut [u8], writer: u64) -> Result<A
     check_writer(writer)?;
     load_open(bytes, writer)?;
     Writer::IDLE.save(bytes, writer);
+    set_promise(bytes, writer, 0);
     Ok(Answer::DONE)
 }
 
@@ -68,12 +95,13 @@ fn try_store(
     if !record.holds() {
         Writer { mode: mode::HOLDING, home, first: 0, count: 0 }.save(bytes, writer);
     } else if record.home != home {
-        check_room(&state, batch)?;
+        check_room(&state, bytes, batch, writer)?;
         let position = state.next_position();
         let (first, count) = record.logged().unwrap_or((position, 0));
         let tag = entry_tag(record.home, position - first);
         len = append(log, state, bytes, batch, writer, tag);
         Writer { mode: mode::LOGGING, home, first, count: count + 1 }.save(bytes, writer);
+        set_promise(bytes, writer, promise(bytes, writer).saturating_sub(1));
     }
     bytes[pending_range(writer)].copy_from_slice(block);
     Ok(Answer::wrote(len))
@@ -87,9 +115,10 @@ fn load_with_block(log: &[u8], data: &[u8], bytes: &[u8], block: &[u8]) -> Resul
     State::load(log, data, bytes)
 }
 
-/// Questions 8 and 10 for a call that logs one entry.
-fn check_room(state: &State, batch: &[u8]) -> Result<(), u32> {
-    if state.next >= state.end_group() {
+/// Questions 8 and 10 for a call that logs one entry: a place promised to the
+/// writer is left, or one promised to nobody.
+fn check_room(state: &State, bytes: &[u8], batch: &[u8], writer: u64) -> Result<(), u32> {
+    if promise(bytes, writer) == 0 && state.places() <= promised(bytes) {
         return Err(refuse::FULL);
     }
     check_batch(batch, if state.filled == 6 { GROUP_WRITE_LEN } else { 0 })
@@ -142,7 +171,7 @@ fn try_commit(
     let record = load_open(bytes, writer)?;
     let mut answer = Answer::DONE;
     if record.holds() {
-        check_room(&state, batch)?;
+        check_room(&state, bytes, batch, writer)?;
         let position = state.next_position();
         let (first, count) = record.logged().unwrap_or((position, 0));
         let link = if state.last_closing == 0 { 0 } else { position + 1 - state.last_closing };
@@ -152,6 +181,7 @@ fn try_commit(
         answer.len = append(log, state, bytes, batch, writer, tag);
     }
     Writer::IDLE.save(bytes, writer);
+    set_promise(bytes, writer, 0);
     Ok(answer)
 }
 
@@ -162,6 +192,9 @@ pub fn flush(log: &[u8], data: &[u8], state: &mut [u8], batch: &mut [u8]) -> Ans
 fn try_flush(log: &[u8], data: &[u8], bytes: &mut [u8], batch: &mut [u8]) -> Result<Answer, u32> {
     let mut state = State::load(log, data, bytes)?;
     let part = state.filled > 0;
+    if part && state.places() - (7 - state.filled) < promised(bytes) {
+        return Err(refuse::PROMISED);
+    }
     check_batch(batch, if part { GROUP_WRITE_LEN + FENCE_LEN } else { FENCE_LEN })?;
     let mut out = Batch::new(batch);
     if part {

@@ -30,7 +30,7 @@ pub struct Cases {
 }
 
 /// In the order of `Kind::ALL`.
-const WEIGHTS: [u64; 11] = [3, 14, 6, 6, 22, 18, 8, 5, 12, 14, 14];
+const WEIGHTS: [u64; Kind::COUNT] = [3, 14, 6, 8, 6, 22, 18, 8, 5, 12, 14, 14];
 
 impl Cases {
     pub fn new(seed: u64) -> Cases {
@@ -124,7 +124,7 @@ fn damage(rng: &mut Rng, lent: &mut Lent, shape: Shape, kind: Kind) {
     if kind == Kind::Open && rng.chance(80) {
         lent.state.fill(0xee);
     } else if rng.chance(15) {
-        let spare = rng.pick(&[72, 100, 127, 896, 1000, 1023]);
+        let spare = rng.pick(&[88, 100, 127, 896, 1000, 1023]);
         lent.state[spare] ^= 0x5a;
     }
 }
@@ -136,11 +136,14 @@ fn arguments(rng: &mut Rng, kind: Kind, shape: Shape, lent: &Lent) -> (u64, u64)
     let mut home = rng.below(shape.homes);
     if rng.chance(70) {
         let mode = |w: u64| Writer::load(&lent.state, w).mode;
-        let fits = |w: &u64| (mode(*w) == 0) == (kind == Kind::Begin);
+        let fits = |w: &u64| (mode(*w) == 0) == kind.begins();
         writer = (0..8).map(|add| (writer + add) % 8).find(fits).unwrap_or(writer);
     }
     if rng.chance(15) {
         home = Writer::load(&lent.state, writer).home;
+    }
+    if kind == Kind::Reserve {
+        home = rng.pick(&[0, 1, 2, 5, 7, 14, 28, 29]);
     }
     if rng.chance(6) {
         writer = rng.pick(&[8, 9, 256, 1 << 32, u64::MAX]);
@@ -170,7 +173,7 @@ fn finish(rng: &mut Rng, kind: Kind, shape: Shape, writer: u64, home: u64, mut l
     let mut after = lent.clone();
     let answer = after.run(kind, writer, home);
     let writer = if kind.takes_writer() { writer } else { 0 };
-    let home = if kind.takes_home() { home } else { 0 };
+    let home = if kind.takes_home() || kind == Kind::Reserve { home } else { 0 };
     Case { kind, shape, writer, home, before: lent, after, answer }
 }
 

@@ -3,7 +3,7 @@
 use crate::layout::{word, Answer};
 use crate::lent::Kind;
 use crate::literal;
-use crate::state::{mode, pending_range, State, Writer};
+use crate::state::{mode, pending_range, promise, State, Writer};
 use crate::world::{Call, Odd, World};
 
 fn must(holds: bool, what: &str) -> Result<(), String> {
@@ -116,7 +116,8 @@ impl World {
                 want.count = open.logged.len() as u64;
             }
         }
-        must(record == want, &format!("writer {writer}: {record:?}, expected {want:?}"))
+        must(record == want, &format!("writer {writer}: {record:?}, expected {want:?}"))?;
+        must(promise(&self.lent.state, writer) == self.promise(writer), "promise")
     }
 
     /// Demand 2 over the whole copies.

@@ -4,7 +4,7 @@
 use crate::layout::{group_head, header, put_word, slot_range, Shape, BLOCK, START_LIMIT};
 use crate::lent::Lent;
 use crate::rng::Rng;
-use crate::state::{at, mode, State, Writer};
+use crate::state::{at, mode, set_promise, State, Writer};
 use crate::tag::{closing_tag, entry_tag};
 
 /// A made-up log, data area and state, with blocks of one byte each.
@@ -142,6 +142,18 @@ fn craft_state(rng: &mut Rng, lent: &mut Lent, shape: Shape, start: u64, tags: &
     let modes = rng.pick(&[3, 4]);
     for writer in 0..8 {
         craft_writer(rng, lent, &state, tags, (writer, modes));
+    }
+    craft_promises(rng, lent, state.places());
+}
+
+/// Promises of the open writers: none, or up to all places there are.
+fn craft_promises(rng: &mut Rng, lent: &mut Lent, places: u64) {
+    let mut left = if rng.chance(50) { 0 } else { places };
+    for writer in 0..8 {
+        let open = Writer::load(&lent.state, writer).mode != mode::IDLE;
+        let n = if open { rng.pick(&[0, 1, left / 2, left]).min(left) } else { 0 };
+        set_promise(&mut lent.state, writer, n);
+        left -= n;
     }
 }
 

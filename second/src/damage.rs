@@ -4,7 +4,7 @@ use crate::craft::distort;
 use crate::layout::{group_head, header, put_word, slot_range, word, Shape, START_LIMIT};
 use crate::lent::Lent;
 use crate::rng::Rng;
-use crate::state::{at, State};
+use crate::state::{at, promise, promised, set_promise, State};
 
 pub fn damage_header(rng: &mut Rng, lent: &mut Lent, shape: Shape) {
     let start = word(&lent.log, 0) >> 16;
@@ -46,6 +46,9 @@ pub fn damage_state(rng: &mut Rng, lent: &mut Lent) {
     if field >= at::WRITER {
         return damage_writer(rng, bytes);
     }
+    if field == at::PROMISE {
+        return damage_promise(rng, bytes);
+    }
     let [groups, homes, start, next, filled, settled, fenced] =
         [0, 8, 16, 24, 32, 40, 48].map(|from| word(bytes, from));
     let position = next.wrapping_mul(7).wrapping_add(filled);
@@ -65,7 +68,7 @@ pub fn damage_state(rng: &mut Rng, lent: &mut Lent) {
     put_word(bytes, field, rng.pick(&limits).wrapping_add(off));
 }
 
-const FIELDS: [usize; 13] = [
+const FIELDS: [usize; 15] = [
     at::GROUPS,
     at::HOMES,
     at::START,
@@ -75,11 +78,25 @@ const FIELDS: [usize; 13] = [
     at::FENCED,
     at::DURABLE,
     at::LAST_CLOSING,
+    at::PROMISE,
+    at::PROMISE,
     at::WRITER,
     at::WRITER,
     at::WRITER,
     at::WRITER,
 ];
+
+/// A promise about as large as the others leave room for.
+fn damage_promise(rng: &mut Rng, bytes: &mut [u8]) {
+    let writer = rng.below(8);
+    let [groups, start, next, filled] =
+        [at::GROUPS, at::START, at::NEXT, at::FILLED].map(|from| word(bytes, from));
+    let end = start.wrapping_add(groups).wrapping_mul(7);
+    let places = end.wrapping_sub(next.wrapping_mul(7).wrapping_add(filled));
+    let most = places.wrapping_sub(promised(bytes).wrapping_sub(promise(bytes, writer)));
+    let off = rng.pick(&[0, 1, u64::MAX]);
+    set_promise(bytes, writer, rng.pick(&[0, 1, most, 0xffff]).wrapping_add(off));
+}
 
 fn damage_writer(rng: &mut Rng, bytes: &mut [u8]) {
     let from = at::WRITER + at::WRITER_SIZE * rng.below(8) as usize;

@@ -29,8 +29,10 @@ impl World {
         }
         match call.kind {
             Kind::Open => self.foresee_open(),
-            Kind::Begin | Kind::Abort | Kind::Store | Kind::Commit => self.foresee_writer(call),
-            Kind::Flush => Ok(Answer::wrote(self.group_write(1) + FENCE_LEN)),
+            Kind::Begin | Kind::Reserve | Kind::Abort | Kind::Store | Kind::Commit => {
+                self.foresee_writer(call)
+            }
+            Kind::Flush => self.foresee_flush(),
             Kind::Confirm => Ok(Answer { code: 0, figure: self.shadow.fenced, len: 0 }),
             Kind::Settle => Ok(Answer::wrote(self.settled_homes() * HOME_WRITE_LEN + FENCE_LEN)),
             Kind::Trim => self.foresee_trim(),
@@ -44,10 +46,24 @@ impl World {
         if self.book.row.len() >= places { GROUP_WRITE_LEN } else { 0 }
     }
 
+    /// A part-filled group passes over the places behind it.
+    fn foresee_flush(&self) -> Result<Answer, u32> {
+        let row = self.book.row.len() as u64;
+        if row > 0 && self.places() - (7 - row) < self.promised() {
+            return Err(18);
+        }
+        Ok(Answer::wrote(self.group_write(1) + FENCE_LEN))
+    }
+
     fn foresee_writer(&self, call: &Call) -> Result<Answer, u32> {
         let open = self.book.writers[call.writer as usize].as_ref();
-        if call.kind == Kind::Begin {
-            return if open.is_none() { Ok(Answer::DONE) } else { Err(6) };
+        if call.kind.begins() {
+            let fits = (1..=self.free_places()).contains(&call.home);
+            return match open {
+                Some(_) => Err(6),
+                None if call.kind == Kind::Reserve && !fits => Err(17),
+                None => Ok(Answer::DONE),
+            };
         }
         let open = open.ok_or(7u32)?;
         let logs = match call.kind {
@@ -58,7 +74,7 @@ impl World {
         if !logs {
             return Ok(Answer::DONE);
         }
-        if self.shadow.next >= self.shadow.start + self.shape.groups {
+        if self.promise(call.writer) == 0 && self.free_places() == 0 {
             return Err(8);
         }
         let ticket = self.next_position() + 1;

@@ -28,9 +28,13 @@ pub mod refuse {
     pub const FULL: u32 = 8;
     pub const BATCH: u32 = 9;
     pub const START: u32 = 10;
+    pub const NO_PLACES: u32 = 17;
+    pub const PROMISED: u32 = 18;
+    /// One more than the highest.
+    pub const END: usize = 19;
 }
 
-/// What every call gives back. A refusal has `code` 1 to 10 and zeros.
+/// What every call gives back. A refusal has its number as `code`, and zeros.
 #[derive(Clone, Copy, Debug, PartialEq, Eq, Default)]
 pub struct Answer {
     pub code: u32,

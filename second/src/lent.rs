@@ -1,4 +1,4 @@
-//! The memory lent to a call, and one entry point for all eleven calls.
+//! The memory lent to a call, and one entry point for all calls.
 
 use crate::batch::{FENCE_LEN, GROUP_WRITE_LEN, HEADER_WRITE_LEN, HOME_WRITE_LEN};
 use crate::layout::{Answer, BLOCK, STATE};
@@ -8,6 +8,7 @@ pub enum Kind {
     Format,
     Open,
     Begin,
+    Reserve,
     Abort,
     Store,
     Commit,
@@ -19,10 +20,13 @@ pub enum Kind {
 }
 
 impl Kind {
-    pub const ALL: [Kind; 11] = [
+    pub const COUNT: usize = 12;
+
+    pub const ALL: [Kind; Kind::COUNT] = [
         Kind::Format,
         Kind::Open,
         Kind::Begin,
+        Kind::Reserve,
         Kind::Abort,
         Kind::Store,
         Kind::Commit,
@@ -38,6 +42,7 @@ impl Kind {
             Kind::Format => "format",
             Kind::Open => "open",
             Kind::Begin => "begin",
+            Kind::Reserve => "reserve",
             Kind::Abort => "abort",
             Kind::Store => "store",
             Kind::Commit => "commit",
@@ -58,11 +63,19 @@ impl Kind {
     }
 
     pub fn takes_batch(self) -> bool {
-        !matches!(self, Kind::Begin | Kind::Abort | Kind::Confirm | Kind::Read)
+        !matches!(self, Kind::Begin | Kind::Reserve | Kind::Abort | Kind::Confirm | Kind::Read)
     }
 
     pub fn takes_writer(self) -> bool {
-        matches!(self, Kind::Begin | Kind::Abort | Kind::Store | Kind::Commit | Kind::Read)
+        matches!(
+            self,
+            Kind::Begin | Kind::Reserve | Kind::Abort | Kind::Store | Kind::Commit | Kind::Read
+        )
+    }
+
+    /// Does it open a transaction?
+    pub fn begins(self) -> bool {
+        matches!(self, Kind::Begin | Kind::Reserve)
     }
 
     pub fn takes_home(self) -> bool {
@@ -93,12 +106,14 @@ impl Lent {
         }
     }
 
+    /// `home` is the number of places for a reserve.
     pub fn run(&mut self, kind: Kind, writer: u64, home: u64) -> Answer {
         let Lent { log, data, state, block, batch } = self;
         match kind {
             Kind::Format => crate::format(log, data, batch),
             Kind::Open => crate::open(log, data, state, batch),
             Kind::Begin => crate::begin(log, data, state, writer),
+            Kind::Reserve => crate::reserve(log, data, state, writer, home),
             Kind::Abort => crate::abort(log, data, state, writer),
             Kind::Store => crate::store(log, data, state, block, batch, writer, home),
             Kind::Commit => crate::commit(log, data, state, batch, writer),

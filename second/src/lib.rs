@@ -28,5 +28,5 @@ pub mod walk;
 pub mod world;
 
 pub use areas::{format, open, settle, trim};
-pub use calls::{abort, begin, commit, confirm, flush, read, store};
+pub use calls::{abort, begin, commit, confirm, flush, read, reserve, store};
 pub use layout::Answer;

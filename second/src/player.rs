@@ -1,6 +1,6 @@
 //! Random histories: calls, refused ones included, and crashes.
 
-use crate::layout::{Answer, Shape, START_LIMIT};
+use crate::layout::{refuse, Answer, Shape, START_LIMIT};
 use crate::lent::{ample, Kind, Lent, Runner};
 use crate::rng::Rng;
 use crate::world::{Call, Odd, World};
@@ -18,11 +18,12 @@ pub struct Tally {
     pub trims: u64,
     pub settles: u64,
     /// Answers by number.
-    pub answers: [u64; 11],
+    pub answers: [u64; refuse::END],
 }
 
-const LIVE: [Kind; 9] = [
+const LIVE: [Kind; 10] = [
     Kind::Begin,
+    Kind::Reserve,
     Kind::Abort,
     Kind::Store,
     Kind::Commit,
@@ -36,7 +37,7 @@ const LIVE: [Kind; 9] = [
 /// How likely each thing is in one history.
 #[derive(Clone, Debug)]
 pub struct Profile {
-    weights: [u64; 9],
+    weights: [u64; 10],
     /// Crashes in a thousand steps.
     crash: u64,
     /// Unusual arguments in a hundred calls.
@@ -46,14 +47,14 @@ pub struct Profile {
 
 impl Profile {
     pub fn random(rng: &mut Rng) -> Profile {
-        let base = [12, 2, 40, 12, 5, 3, 4, 4, 6];
+        let base = [9, 4, 2, 40, 12, 5, 3, 4, 4, 6];
         let mut weights = base.map(|weight| 1 + weight * rng.pick(&[1, 2, 2, 2, 4]) / 2);
-        for weight in &mut weights[3..8] {
+        for weight in &mut weights[4..9] {
             *weight *= rng.pick(&[1, 1, 1, 2, 5]);
         }
         if rng.chance(50) {
             // Few fences, so that several groups are under way at a crash.
-            weights = [15, 2, rng.pick(&[60, 150]), rng.pick(&[8, 30]), 1, 1, 1, 1, 3];
+            weights = [11, 5, 2, rng.pick(&[60, 150]), rng.pick(&[8, 30]), 1, 1, 1, 1, 3];
         }
         Profile {
             weights,
@@ -66,7 +67,7 @@ impl Profile {
     /// One that fills a large log.
     pub fn filling(rng: &mut Rng) -> Profile {
         let mut profile = Profile::random(rng);
-        profile.weights = [10, 1, rng.pick(&[60, 200]), 10, 1, 1, 1, 1, 2];
+        profile.weights = [6, 4, 1, rng.pick(&[60, 200]), 10, 1, 1, 1, 1, 2];
         profile.crash = 1;
         profile
     }
@@ -114,6 +115,9 @@ impl Call {
         if matches!(kind, Kind::Store) && rng.chance(30) {
             call.home = rng.below(2).min(world.shape.homes - 1);
         }
+        if kind == Kind::Reserve {
+            call.home = random_places(rng, world);
+        }
         if kind.takes_writer() && kind != Kind::Read && rng.chance(80) {
             call.writer = likely_writer(rng, profile, world, kind);
         }
@@ -147,13 +151,24 @@ fn block_of(call: usize) -> [u8; 64] {
     block
 }
 
+/// Places to reserve: few, or about all that are free.
+fn random_places(rng: &mut Rng, world: &World) -> u64 {
+    let free = world.free_places();
+    match rng.below(10) {
+        0 => rng.pick(&[0, free + 1, 1 << 16, 1 << 32 | 1, u64::MAX]),
+        1 | 2 => free,
+        3 => free / 2,
+        _ => rng.between(1, 6),
+    }
+}
+
 /// A writer for which the call is likely to be done.
 fn likely_writer(rng: &mut Rng, profile: &Profile, world: &World, kind: Kind) -> u64 {
     let mut writer = 0;
     for _ in 0..6 {
         writer = rng.below(profile.writers);
         let open = world.book.writers[writer as usize].is_some();
-        if open != (kind == Kind::Begin) {
+        if open != kind.begins() {
             break;
         }
     }

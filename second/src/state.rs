@@ -1,4 +1,5 @@
-//! The state between calls (the paper's "strip"): 1,024 bytes, eight-byte numbers.
+//! The state between calls (the paper's "strip"): 1,024 bytes, eight-byte numbers
+//! and two-byte promises.
 
 use crate::layout::{put_word, refuse, word, Shape, PLACES, START_LIMIT, STATE, WRITERS};
 
@@ -13,6 +14,8 @@ pub mod at {
     pub const FENCED: usize = 48;
     pub const DURABLE: usize = 56;
     pub const LAST_CLOSING: usize = 64;
+    pub const PROMISE: usize = 72;
+    pub const PROMISE_SIZE: usize = 2;
     pub const WRITER: usize = 128;
     pub const WRITER_SIZE: usize = 96;
     pub const MODE: usize = 0;
@@ -75,7 +78,9 @@ impl State {
         let named = Shape { groups: word(bytes, at::GROUPS), homes: word(bytes, at::HOMES) };
         let in_order = named == shape
             && state.numbers_in_order()
-            && (0..WRITERS).all(|w| state.writer_in_order(Writer::load(bytes, w)));
+            && (0..WRITERS).all(|w| state.writer_in_order(Writer::load(bytes, w)))
+            && promised(bytes) <= state.places()
+            && (0..WRITERS).all(|w| Writer::load(bytes, w).mode != mode::IDLE || promise(bytes, w) == 0);
         if in_order { Ok(state) } else { Err(refuse::STATE) }
     }
 
@@ -125,6 +130,11 @@ impl State {
         PLACES * self.next + self.filled
     }
 
+    /// The places from the next position to the end of the last group in reach.
+    pub fn places(&self) -> u64 {
+        PLACES * self.end_group() - self.next_position()
+    }
+
     /// What a fence (FN) does to the state.
     pub fn fence(&mut self) {
         self.fenced = PLACES * self.next;
@@ -163,6 +173,22 @@ impl State {
 
 fn record(writer: u64) -> usize {
     at::WRITER + at::WRITER_SIZE * writer as usize
+}
+
+/// Places promised to a writer and not used up yet.
+pub fn promise(bytes: &[u8], writer: u64) -> u64 {
+    let from = at::PROMISE + at::PROMISE_SIZE * writer as usize;
+    u64::from(u16::from_le_bytes([bytes[from], bytes[from + 1]]))
+}
+
+pub fn set_promise(bytes: &mut [u8], writer: u64, places: u64) {
+    let from = at::PROMISE + at::PROMISE_SIZE * writer as usize;
+    bytes[from..from + at::PROMISE_SIZE].copy_from_slice(&(places as u16).to_le_bytes());
+}
+
+/// Places promised to all writers together.
+pub fn promised(bytes: &[u8]) -> u64 {
+    (0..WRITERS).map(|w| promise(bytes, w)).sum()
 }
 
 /// The bytes of a writer's pending block.

@@ -12,6 +12,7 @@ use std::collections::HashSet;
 pub struct Call {
     pub kind: Kind,
     pub writer: u64,
+    /// The places of a reserve.
     pub home: u64,
     pub block: Block,
     pub batch_len: usize,
@@ -37,6 +38,8 @@ pub struct Shadow {
     pub durable: u64,
     /// First position of each writer's logged entries.
     pub first: [Option<u64>; 8],
+    /// Places that the reserve of each open transaction was granted.
+    pub granted: [u64; 8],
 }
 
 /// Where a commit lies: first position and commit entry's position.
@@ -103,6 +106,26 @@ impl World {
         7 * self.shadow.next + self.book.row.len() as u64
     }
 
+    /// Places promised to a writer: what it was granted less what it has logged.
+    pub fn promise(&self, writer: u64) -> u64 {
+        let open = self.book.writers[writer as usize].as_ref();
+        let logged = open.map_or(0, |open| open.logged.len() as u64);
+        self.shadow.granted[writer as usize].saturating_sub(logged)
+    }
+
+    pub fn promised(&self) -> u64 {
+        (0..8).map(|writer| self.promise(writer)).sum()
+    }
+
+    /// Places up to the end of the last group in reach.
+    pub fn places(&self) -> u64 {
+        7 * (self.shadow.start + self.shape.groups) - self.next_position()
+    }
+
+    pub fn free_places(&self) -> u64 {
+        self.places() - self.promised()
+    }
+
     /// The copies of both areas, loaded afresh for an opening.
     pub fn load(&mut self) {
         self.lent.log.copy_from_slice(&self.image.log);
@@ -129,7 +152,7 @@ impl World {
     pub fn follow(&mut self, call: &Call, answer: Answer, records: &[Record]) {
         let position = self.next_position();
         match call.kind {
-            Kind::Begin => self.book.begin(call.writer),
+            Kind::Begin | Kind::Reserve => self.book.begin(call.writer),
             Kind::Abort => self.book.abort(call.writer),
             Kind::Store => {
                 if self.book.store_logs(call.writer, call.home) {
@@ -148,8 +171,10 @@ impl World {
             Kind::Settle => self.shadow.settled = self.shadow.fenced,
             _ => {}
         }
-        if matches!(call.kind, Kind::Begin | Kind::Abort | Kind::Commit) {
+        if call.kind.begins() || matches!(call.kind, Kind::Abort | Kind::Commit) {
+            let granted = if call.kind == Kind::Reserve { call.home } else { 0 };
             self.shadow.first[call.writer as usize] = None;
+            self.shadow.granted[call.writer as usize] = granted;
         }
         self.follow_records(records);
         if call.kind == Kind::Open {
@@ -178,6 +203,7 @@ impl World {
             fenced: position,
             durable: position,
             first: [None; 8],
+            granted: [0; 8],
         };
         self.opened = true;
         self.brought = self.book.commits.len();

@@ -3,14 +3,16 @@ use mathlib.Core.Path.{_≡_, refl, sym, ap, _∙_}
 use mathlib.Core.Bool.{Bool, true, false, _&&_}
 use mathlib.Core.List.{List, []}
 use mathlib.Core.Logic.{_≢_}
-use Prim.Native.Nat.{ℕ, zero, suc, _+_, _*_, _≤_, _<_}
+use Prim.Native.Nat.{ℕ, zero, suc, _+_, _*_, _^_, _≤_, _<_}
 use native.Mathlib.Omega.{arith}
 use lib.Dec.{eqb, leb}
 use lib.ListN.{length}
 use borrow.Author.Tests.{eqb-true}
 use Rattle.model.specs.Bytes.{puts}
 use Rattle.model.specs.Layout.{groupsIn, homesIn, logLengthRight, dataLengthRight}
-use Rattle.model.specs.State.{inOrder}
+use Rattle.model.specs.State.{stateOf, inOrder}
+use Rattle.model.specs.declared.State.{State}
+use Rattle.strip.specs.Order.{GroupsInOrder}
 use Rattle.model.specs.Batch.{batchBytes}
 use Rattle.model.specs.Effects.{Given, Effect, newState}
 use Rattle.model.specs.Questions.{ask, areasRight, stateRight, blockRight, stripInOrder, askState, askBlock}
@@ -81,6 +83,20 @@ pub record Usable (log area state : List ℕ) : Type 0 where
   pub homes-most : homesIn (length area) ≤ 65535
   pub state-length : length state ≡ 1024
   pub order : InOrder state (groupsIn (length log)) (homesIn (length area))
+
+-- the group numbers of its strip are in order
+pub usable-groups : (l a s : List ℕ) (st : State) → Usable l a s → st ≡ stateOf s → GroupsInOrder st
+usable-groups l a s st u e =
+    let o = u .order in
+    let k : GroupsInOrder (stateOf s) = record {
+      groups-most = omega (arith, o .groups-same, u .groups-most);
+      start-most = o .start-most;
+      start-next = o .start-next;
+      next-most = o .next-most;
+      filled-most = o .filled-most;
+      filled-none = o .filled-none;
+    } in
+    rw e k
 
 log-facts : (n : ℕ) → logLengthRight n ≡ true → (n ≡ 64 + 512 * groupsIn n) × (4 ≤ groupsIn n) × (groupsIn n ≤ 1024)
 unfolding logLengthRight

@@ -2,7 +2,7 @@
 use answers::Reply;
 ghost use mathlib.Core.Path.{_≡_};
 ghost use mathlib.Core.List.{[]};
-ghost use Rattle.model.specs.Calls.{formatCall, openCall, beginCall, abortCall, storeCall, commitCall, flushCall, confirmCall, settleCall, trimCall, readCall};
+ghost use Rattle.model.specs.Calls.{formatCall, openCall, beginCall, reserveCall, abortCall, storeCall, commitCall, flushCall, confirmCall, settleCall, trimCall, readCall};
 ghost use Rattle.answers.specs.Lent.{lent, leaves};
 
 // Writes an empty store: every group unused, every home zeros, then the header.
@@ -34,7 +34,21 @@ pub extern "C" fn kagutin_begin(log: &[u8], area: &[u8], state: &mut [u8], write
     sessions::begin(log, area, state, writer)
 }
 
-// Drops a writer's open transaction with the block that it holds.
+// Begins a transaction of a writer that has none open, and promises it `n` places: its first `n` entries find room.
+#[no_mangle]
+pub extern "C" fn kagutin_reserve(
+    log: &[u8],
+    area: &[u8],
+    state: &mut [u8],
+    writer: u64,
+    n: u64,
+) -> Reply
+    ensures { λ r. ⌜ leaves (r .code) (r .figure) (r .size) (now (log .entry)) (now (area .entry)) (now (state .exit)) [] [] ≡ reserveCall (lent (now (log .entry)) (now (area .entry)) (now (state .entry)) [] [] writer 0) n ⌝ }
+{
+    sessions::reserve(log, area, state, writer, n)
+}
+
+// Drops a writer's open transaction with the block that it holds, and gives back the places promised to it.
 #[no_mangle]
 pub extern "C" fn kagutin_abort(log: &[u8], area: &[u8], state: &mut [u8], writer: u64) -> Reply
     ensures { λ r. ⌜ leaves (r .code) (r .figure) (r .size) (now (log .entry)) (now (area .entry)) (now (state .exit)) [] [] ≡ abortCall (lent (now (log .entry)) (now (area .entry)) (now (state .entry)) [] [] writer 0) ⌝ }

@@ -11,13 +11,14 @@ use borrow.Author.Tests.{not-true, not-false, ltb-true, lt-ltb, le-ltb}
 use Rattle.model.specs.Batch.{batchBytes}
 use Rattle.model.specs.declared.State.{State}
 use Rattle.model.specs.declared.Writer.{Writer}
-use Rattle.model.specs.State.{stateOf, nextPosition, writerOf, setWriter, idle, isOpen, holds}
+use Rattle.model.specs.State.{stateOf, nextPosition, writerOf, setWriter, setPromise, idle, isOpen, holds}
 use Rattle.model.specs.Effects.{Given, newState, abortEffect, logClosing, commitHeld, commitEffect}
-use Rattle.model.specs.Questions.{ask, askState, writerKnown, writerOpen, room, commitLogs, batchFits, commitAnswer}
+use Rattle.model.specs.Questions.{ask, askState, writerKnown, writerOpen, roomFor, room, commitLogs, batchFits, commitAnswer}
 use Rattle.model.specs.Calls.{sizeOf, commitCall}
 use Rattle.model.proofs.bytes.ByteLaws.{puts-nil}
 use Rattle.model.proofs.steps.DoneLaws.{fits}
-use Rattle.model.proofs.strip.QuestionLaws.{ask-yes, ask-no, CommitReady, commit-ready}
+use Rattle.model.proofs.strip.OrderLaws.{place-below}
+use Rattle.model.proofs.strip.QuestionLaws.{ask-yes, ask-no, room-true, CommitReady, commit-ready}
 use Rattle.answers.specs.Lent.{lent, leaves}
 use Rattle.answers.proofs.AnswerLaws.{Usable, state-usable, state-refuses, state-passes, state-only, refused-by}
 use Rattle.logging.specs.Logs.{MayLog, Fits, loggedClosing, Committed}
@@ -96,7 +97,7 @@ module _ (l a s b : List ℕ) (v : ℕ) where
             (ap sizeOf (effect-none (lent l a s [] b v 0) r er f) ∙ size-none (lent l a s [] b v 0)))
 
         pub held-asks : (t : Bool) (st : State) (y : ℕ) → not o ≡ false → t ≡ holds r → not t ≡ false → st ≡ stateOf s
-            → y ≡ ask (ltb (st .next) (st .start + st .groups)) 8 (ask (leb (cond (eqb (st .filled) 6) 516 0) (length b)) 9 0)
+            → y ≡ ask (roomFor s v) 8 (ask (leb (cond (eqb (st .filled) 6) 516 0) (length b)) 9 0)
             → y ≡ commitAnswer (lent l a s [] b v 0) (sizeOf (commitEffect (lent l a s [] b v 0)))
         unfolding room
         held-asks t st y p et q es ey =
@@ -130,7 +131,7 @@ module _ (l a s b : List ℕ) (v : ℕ) where
       known = (lentFor .state-length, ltb-true v 8 (ready .writer))
 
       pub ends-none : (r : Writer) (t : Bool) (s′ : List ℕ) (c figure size : ℕ) → r ≡ writerOf s v → t ≡ holds r → not t ≡ true
-          → s′ ≡ setWriter s v idle → (c ≡ 0) × (figure ≡ 0) × (size ≡ 0) → leaves c figure size l a s′ [] b ≡ commitCall (lent l a s [] b v 0)
+          → s′ ≡ setPromise (setWriter s v idle) v 0 → (c ≡ 0) × (figure ≡ 0) × (size ≡ 0) → leaves c figure size l a s′ [] b ≡ commitCall (lent l a s [] b v 0)
       unfolding commitCall abortEffect newState batchBytes
       ends-none r t s′ c figure size er et p hs q =
           ends (lent l a s [] b v 0) (commitEffect (lent l a s [] b v 0)) (abortEffect (lent l a s [] b v 0)) _ c figure size l a s′ [] b
@@ -145,7 +146,7 @@ module _ (l a s b : List ℕ) (v : ℕ) where
           let g₁ : 1 ≤ stateOf s .groups = omega (arith, u .order .groups-same, u .groups-least) in
           let g₂ : 64 + 512 * stateOf s .groups ≤ length l = omega (arith, u .order .groups-same, u .log-length) in
           let k : stateOf s .next < stateOf s .start + stateOf s .groups =
-          ltb-true _ _ (ready .roomy (logs-is (lent l a s [] b v 0) r true er f)) in
+          place-below s _ _ v (u .order) (known .1) (room-true s v (ready .roomy (logs-is (lent l a s [] b v 0) r true er f))) in
           let y : sizeOf (commitEffect (lent l a s [] b v 0)) ≡ cond (eqb (stateOf s .filled) 6) 516 0 =
           ap sizeOf (effect-held (lent l a s [] b v 0) r (stateOf s) er refl f) ∙ size-held (lent l a s [] b v 0) r (stateOf s) refl g₁ g₂ in
           let i : cond (eqb (stateOf s .filled) 6) 516 0 ≤ length b = rw y at (fits (lent l a s [] b v 0) _ (ready .batch)) in

@@ -1,26 +1,27 @@
 -- Flush: what it writes, its answer and how it ends. Assumes nothing.
 use mathlib.Core.Path.{_≡_, refl, sym, ap, _∙_}
-use mathlib.Core.Bool.{Bool, true, false, cond}
+use mathlib.Core.Bool.{Bool, true, false, cond, not}
 use mathlib.Core.List.{List, [], _∷_}
 use mathlib.Core.Logic.{_≢_}
 use Prim.Native.Nat.{ℕ, _+_, _*_, _%_, _^_, _≤_, _<_}
 use native.Mathlib.Omega.{arith}
 use lib.Dec.{eqb, leb}
 use lib.ListN.{length, length-append}
-use borrow.Author.Tests.{leb-true, le-leb, lt-leb, eq-eqb, ne-eqb}
+use borrow.Author.Tests.{leb-true, le-leb, lt-leb, eq-eqb, ne-eqb, not-true, not-false}
 use Rattle.model.specs.Bytes.{puts}
 use Rattle.model.specs.Layout.{groupAt, groupsIn}
 use Rattle.model.specs.Batch.{GW, FN, recordBytes, batchBytes}
 use Rattle.model.specs.declared.State.{State}
 use Rattle.model.specs.State.{stateOf, setNext, setFilled, setFenced}
 use Rattle.model.specs.Effects.{Given, flushEffect, flushNone, flushPart}
-use Rattle.model.specs.Questions.{ask, askState, batchFits, flushAnswer}
+use Rattle.model.specs.Questions.{ask, askState, keepsPromises, batchFits, flushAnswer}
 use Rattle.model.specs.Calls.{sizeOf, flushCall}
 use Rattle.model.proofs.bytes.ByteLaws.{puts-append}
 use Rattle.model.proofs.strip.QuestionLaws.{ask-yes, ask-no, ask-passed}
 use Rattle.model.proofs.strip.BatchLaws.{length-GW, length-FN, batch-one}
 use Rattle.answers.specs.Lent.{lent, leaves}
-use Rattle.answers.proofs.AnswerLaws.{Usable, state-usable, state-refuses, state-passes, state-only, refused-by}
+use Rattle.answers.proofs.AnswerLaws.{Usable, usable-groups, state-usable, state-refuses, state-passes, state-only, refused-by}
+use Rattle.strip.specs.Order.{GroupsInOrder}
 use Rattle.logging.proofs.CallLaws.{state-first, length-slot, batch-two, ends}
 
 -- ---- what it writes
@@ -97,20 +98,31 @@ module _ (l a s b : List ℕ) where
   pub stripped : (r : ℕ) → r ≡ askState (lent l a s [] [] 0 0) 0 → r ≡ 0 → length s ≡ 1024
   stripped r e z = state-usable (given l a s b) (zeroed r e z) .state-length
 
-  asks : (r : ℕ) (st : State) (n : ℕ) → r ≡ askState (lent l a s [] [] 0 0) 0 → r ≡ 0 → st ≡ stateOf s → n ≡ cond (eqb (st .filled) 0) 2 (516 + 2)
+  pub grouped : (r : ℕ) (st : State) → r ≡ askState (lent l a s [] [] 0 0) 0 → r ≡ 0 → st ≡ stateOf s → GroupsInOrder st
+  grouped r st e z es = usable-groups l a s st (state-usable (given l a s b) (zeroed r e z)) es
+
+  pub broken : (r : ℕ) (k : Bool) → r ≡ askState (lent l a s [] [] 0 0) 0 → r ≡ 0 → k ≡ keepsPromises s → not k ≡ true
+      → 18 ≡ flushAnswer (given l a s b) (sizeOf (flushEffect (given l a s b)))
+  unfolding flushAnswer
+  broken r k e z ek h = sym (state-passes (given l a s b) _ (zeroed r e z) ∙ ask-no (keepsPromises s) 18 _ (sym ek ∙ not-true k h))
+
+  asks : (r : ℕ) (st : State) (n : ℕ) (k : Bool) → r ≡ askState (lent l a s [] [] 0 0) 0 → r ≡ 0 → st ≡ stateOf s
+      → n ≡ cond (eqb (st .filled) 0) 2 (516 + 2) → k ≡ keepsPromises s → not k ≡ false
       → flushAnswer (given l a s b) (sizeOf (flushEffect (given l a s b))) ≡ ask (leb n (length b)) 9 0
   unfolding flushAnswer batchFits
-  asks r st n e z es en =
+  asks r st n k e z es en ek h =
       let q : sizeOf (flushEffect (given l a s b)) ≡ n = size-by l a s b (state-usable (given l a s b) (zeroed r e z)) ∙ sym (en ∙ rw es) in
-      state-passes (given l a s b) _ (zeroed r e z) ∙ rw q
+      state-passes (given l a s b) _ (zeroed r e z) ∙ ask-yes (keepsPromises s) 18 _ (sym ek ∙ not-false k h) ∙ rw q
 
-  pub short : (r : ℕ) (st : State) (n : ℕ) → r ≡ askState (lent l a s [] [] 0 0) 0 → r ≡ 0 → st ≡ stateOf s → n ≡ cond (eqb (st .filled) 0) 2 (516 + 2)
+  pub short : (r : ℕ) (st : State) (n : ℕ) (k : Bool) → r ≡ askState (lent l a s [] [] 0 0) 0 → r ≡ 0 → st ≡ stateOf s
+      → n ≡ cond (eqb (st .filled) 0) 2 (516 + 2) → k ≡ keepsPromises s → not k ≡ false
       → length b < n → 9 ≡ flushAnswer (given l a s b) (sizeOf (flushEffect (given l a s b)))
-  short r st n e z es en h = sym (asks r st n e z es en ∙ ask-no _ 9 0 (lt-leb n (length b) h))
+  short r st n k e z es en ek p h = sym (asks r st n k e z es en ek p ∙ ask-no _ 9 0 (lt-leb n (length b) h))
 
-  pub passes : (r : ℕ) (st : State) (n : ℕ) → r ≡ askState (lent l a s [] [] 0 0) 0 → r ≡ 0 → st ≡ stateOf s → n ≡ cond (eqb (st .filled) 0) 2 (516 + 2)
+  pub passes : (r : ℕ) (st : State) (n : ℕ) (k : Bool) → r ≡ askState (lent l a s [] [] 0 0) 0 → r ≡ 0 → st ≡ stateOf s
+      → n ≡ cond (eqb (st .filled) 0) 2 (516 + 2) → k ≡ keepsPromises s → not k ≡ false
       → n ≤ length b → 0 ≡ flushAnswer (given l a s b) (sizeOf (flushEffect (given l a s b)))
-  passes r st n e z es en h = sym (asks r st n e z es en ∙ ask-yes _ 9 0 (le-leb n (length b) h))
+  passes r st n k e z es en ek p h = sym (asks r st n k e z es en ek p ∙ ask-yes _ 9 0 (le-leb n (length b) h))
 
   -- ---- how it ends
 
@@ -132,7 +144,8 @@ module _ (l a s b : List ℕ) where
       let q : sizeOf (flushEffect (given l a s b)) ≡ cond (eqb (st .filled) 0) 2 518 = size-by l a s b (usable code e z) ∙ rw es in
       let p = state-first (given l a s b) _ (sym e ∙ z) in
       let n : ℕ = sizeOf (flushEffect (given l a s b)) in
-      rw q at (leb-true n (length b) (ask-passed (leb n (length b)) 8 0 (p .1) .0))
+      let k = ask-passed (keepsPromises s) 17 _ (p .1) in
+      rw q at (leb-true n (length b) (ask-passed (leb n (length b)) 8 0 (k .1) .0))
 
   pub fits-none : (code : ℕ) (st : State) → code ≡ flushAnswer (given l a s b) (sizeOf (flushEffect (given l a s b))) → code ≡ 0 → st ≡ stateOf s
       → st .filled ≡ 0 → 2 ≤ length b

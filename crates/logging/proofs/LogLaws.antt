@@ -1,19 +1,19 @@
 -- An entry logged: whether it may be, and what it leaves. Assumes nothing.
 use mathlib.Core.Path.{_≡_, refl, sym, ap, _∙_}
-use mathlib.Core.Bool.{Bool, true, false, cond}
+use mathlib.Core.Bool.{Bool, true, false, cond, not}
 use mathlib.Core.List.{List, [], _∷_}
 use mathlib.Core.Logic.{_≢_}
 use Prim.Native.Nat.{ℕ, _+_, _-_, _*_, _%_, _^_, _≤_, _<_}
 use native.Mathlib.Omega.{arith}
-use lib.Dec.{eqb, leb, ltb}
+use lib.Dec.{eqb, leb}
 use lib.ListN.{length, take, drop}
-use borrow.Author.Tests.{le-leb, lt-leb, leb-false, lt-ltb, le-ltb, eq-eqb, ne-eqb}
+use borrow.Author.Tests.{le-leb, lt-leb, leb-false, not-true, not-false, eq-eqb, ne-eqb}
 use Rattle.model.specs.Bytes.{part, puts}
 use Rattle.model.specs.Layout.{groupAt}
 use Rattle.model.specs.Batch.{GW, recordBytes, batchBytes}
 use Rattle.model.specs.declared.State.{State}
 use Rattle.model.specs.declared.Writer.{Writer}
-use Rattle.model.specs.State.{stateOf, setNext, setFilled, setLast, nextPosition, writerOffset, setWriter, heldOf, setHeld, idle, holding, logging, holds, hasLogged, firstFor, countFor}
+use Rattle.model.specs.State.{stateOf, setNext, setFilled, setLast, nextPosition, writerOffset, setWriter, heldOf, setHeld, setPromise, promiseLeft, idle, holding, logging, holds, hasLogged, firstFor, countFor}
 use Rattle.model.specs.Tag.{entryWord, closingWord}
 use Rattle.model.specs.Effects.{entered, submitted, logged, linkFrom}
 use Rattle.model.specs.Questions.{ask}
@@ -25,16 +25,16 @@ use Rattle.writers.specs.Held.{heldFor}
 use Rattle.writers.specs.Frame.{SameElsewhere}
 use Rattle.writers.proofs.HeldLaws.{held-first, held-other}
 use Rattle.writers.proofs.FrameLaws.{elsewhere, setNext-writer, setFilled-writer}
-use Rattle.logging.specs.Logs.{MayLog, Fits, Wrote, loggedEntry, loggedClosing, StoredOther, Committed}
+use Rattle.logging.specs.Logs.{MayLog, Fits, Wrote, loggedEntry, loggedClosing, HeldNext, StoredOther, Closed, Committed}
 use Rattle.logging.proofs.CallLaws.{length-slot}
 
 -- ---- room in the log and in the batch
 
-pub log-full : (n m v : ℕ) → m ≤ n → 8 ≡ ask (ltb n m) 8 v
-log-full n m v h = sym (ask-no (ltb n m) 8 v (le-ltb n m h))
+pub log-full : (b has : Bool) (v : ℕ) → b ≡ has → not b ≡ true → 8 ≡ ask has 8 v
+log-full b has v e h = sym (ask-no has 8 v (sym e ∙ not-true b h))
 
-pub log-room : (n m v r : ℕ) → n < m → r ≡ v → r ≡ ask (ltb n m) 8 v
-log-room n m v r h e = e ∙ sym (ask-yes (ltb n m) 8 v (lt-ltb n m h))
+pub log-room : (b has : Bool) (v r : ℕ) → b ≡ has → not b ≡ false → r ≡ v → r ≡ ask has 8 v
+log-room b has v r e h k = k ∙ sym (ask-yes has 8 v (sym e ∙ not-false b h))
 
 pub batch-any : (f len : ℕ) → f ≢ 6 → 0 ≡ ask (leb (cond (eqb f 6) 516 0) len) 9 0
 batch-any f len h = rw (ne-eqb f 6 h) (sym (ask-yes (leb 0 len) 9 0 (le-leb 0 len (omega arith))))
@@ -157,7 +157,7 @@ may-after l s s₁ b st w r m e =
 module _ (l s b : List ℕ) (st : State) (r : Writer) (w : ℕ) where
   pub stored : (x : List ℕ) (home p word n : ℕ) (s₁ s₂ s′ l′ b′ : List ℕ) → p ≡ nextPosition st → word ≡ entryWord (r .home) (p - firstFor r p)
       → holds r ≡ true → r .home ≢ home → s₁ ≡ setWriter s w (heldFor r home p)
-      → Wrote n s₂ l′ b′ b (logged s₁ l word (heldOf s₁ w)) → s′ ≡ setHeld s₂ w x → StoredOther n s′ l′ b′ s l b x st r w home
+      → Wrote n s₂ l′ b′ b (logged s₁ l word (heldOf s₁ w)) → s′ ≡ setHeld s₂ w x → HeldNext n s′ l′ b′ s l b x st r w home
   unfolding loggedEntry
   stored x home p word n s₁ s₂ s′ l′ b′ ep ew ho hn h₁ h hs =
       let q : word ≡ entryWord (r .home) (nextPosition st - firstFor r (nextPosition st)) = ew ∙ rw ep in
@@ -168,12 +168,20 @@ module _ (l s b : List ℕ) (st : State) (r : Writer) (w : ℕ) where
 
   pub committed : (p word n : ℕ) (s₁ s₂ s′ l′ b′ : List ℕ) → p ≡ nextPosition st
       → word ≡ closingWord (r .home) (p - firstFor r p) (linkFrom p st) (countFor r + 1) → Wrote n s₁ l′ b′ b (logged s l word (heldOf s w))
-      → s₂ ≡ setLast s₁ (p + 1) → s′ ≡ setWriter s₂ w idle → Committed n s′ l′ b′ s l b st r w
+      → s₂ ≡ setLast s₁ (p + 1) → s′ ≡ setWriter s₂ w idle → Closed n s′ l′ b′ s l b st r w
   unfolding loggedClosing
   committed p word n s₁ s₂ s′ l′ b′ ep ew h h₂ hs =
       let q : word ≡ closingWord (r .home) (nextPosition st - firstFor r (nextPosition st)) (linkFrom (nextPosition st) st) (countFor r + 1) = ew ∙ rw ep in
       let k = rw q at h in
       record { size = k .size; state = hs ∙ rw (h₂, k .state, ep); log = k .log; batch = k .batch }
+
+  -- and the promise
+  pub stored-used : (x : List ℕ) (home n k : ℕ) (s₁ s′ l′ b′ : List ℕ) → k ≡ promiseLeft s w → HeldNext n s₁ l′ b′ s l b x st r w home
+      → s′ ≡ setPromise s₁ w k → StoredOther n s′ l′ b′ s l b x st r w home
+  stored-used x home n k s₁ s′ l′ b′ ek h e = record { size = h .size; state = e ∙ rw (h .state, ek); log = h .log; batch = h .batch }
+
+  pub committed-back : (n : ℕ) (s₁ s′ l′ b′ : List ℕ) → Closed n s₁ l′ b′ s l b st r w → s′ ≡ setPromise s₁ w 0 → Committed n s′ l′ b′ s l b st r w
+  committed-back n s₁ s′ l′ b′ h e = record { size = h .size; state = e ∙ rw (h .state); log = h .log; batch = h .batch }
 
 -- a store that logs nothing
 pub none-logged : (r : Writer) → holds r ≡ false → countFor r + 1 < 2 ^ 64

@@ -26,13 +26,6 @@ quiet logs has size len e z = rw (e, z) (ask-yes true 8 _ refl ∙ ask-yes (leb 
 pub loud : (logs has : Bool) (v : ℕ) → logs ≡ true → ask (not logs || has) 8 v ≡ ask has 8 v
 loud logs has v e = rw e
 
--- a sum of group numbers does not wrap
-pub sums : (l a s : List ℕ) (st : State) → Usable l a s → st ≡ stateOf s → st .start + st .groups < 2 ^ 64
-sums l a s st u e =
-    let o = u .order in
-    let h : stateOf s .start + stateOf s .groups < 2 ^ 64 = omega (arith, o .start-most, o .groups-same, u .groups-most) in
-    rw e h
-
 -- an entry may be logged
 pub may : (l a s b : List ℕ) (st : State) (v : ℕ) → Usable l a s → st ≡ stateOf s → v < 8 → st .next < st .start + st .groups
     → cond (eqb (st .filled) 6) 516 0 ≤ length b → MayLog l s b st v

@@ -14,11 +14,12 @@ use Rattle.model.specs.declared.State.{State}
 use Rattle.model.specs.declared.Writer.{Writer}
 use Rattle.model.specs.State.{stateOf, nextPosition, writerOf, setWriter, setHeld, holding, isOpen, holds}
 use Rattle.model.specs.Effects.{Given, newState, logHeld, storeFirst, storeAgain, storeOther, storeEffect}
-use Rattle.model.specs.Questions.{ask, askBlock, writerKnown, homeKnown, writerOpen, room, storeLogs, batchFits, storeAnswer}
+use Rattle.model.specs.Questions.{ask, askBlock, writerKnown, homeKnown, writerOpen, roomFor, room, storeLogs, batchFits, storeAnswer}
 use Rattle.model.specs.Calls.{sizeOf, storeCall}
 use Rattle.model.proofs.bytes.ByteLaws.{puts-nil}
 use Rattle.model.proofs.steps.DoneLaws.{fits}
-use Rattle.model.proofs.strip.QuestionLaws.{ask-yes, ask-no, StoreReady, store-ready}
+use Rattle.model.proofs.strip.OrderLaws.{place-below}
+use Rattle.model.proofs.strip.QuestionLaws.{ask-yes, ask-no, room-true, StoreReady, store-ready}
 use Rattle.answers.specs.Lent.{lent, leaves}
 use Rattle.answers.proofs.AnswerLaws.{Usable, block-usable, block-refuses, block-passes, block-only, refused-by}
 use Rattle.logging.specs.Logs.{MayLog, Fits, loggedEntry, StoredOther}
@@ -144,7 +145,7 @@ module _ (l a s x b : List ℕ) (v h : ℕ) where
             (ap sizeOf (effect-again (lent l a s x b v h) r er f w) ∙ size-again (lent l a s x b v h)))
 
         pub other-asks : (t : Bool) (st : State) (y : ℕ) → not o ≡ false → t ≡ holds r → not t ≡ false → r .home ≢ h → st ≡ stateOf s
-            → y ≡ ask (ltb (st .next) (st .start + st .groups)) 8 (ask (leb (cond (eqb (st .filled) 6) 516 0) (length b)) 9 0)
+            → y ≡ ask (roomFor s v) 8 (ask (leb (cond (eqb (st .filled) 6) 516 0) (length b)) 9 0)
             → y ≡ storeAnswer (lent l a s x b v h) (sizeOf (storeEffect (lent l a s x b v h)))
         unfolding room
         other-asks t st y p et q w es ey =
@@ -206,7 +207,7 @@ module _ (l a s x b : List ℕ) (v h : ℕ) where
           let g₁ : 1 ≤ stateOf s .groups = omega (arith, u .order .groups-same, u .groups-least) in
           let g₂ : 64 + 512 * stateOf s .groups ≤ length l = omega (arith, u .order .groups-same, u .log-length) in
           let k : stateOf s .next < stateOf s .start + stateOf s .groups =
-          ltb-true _ _ (ready .roomy (logs-other (lent l a s x b v h) r er f w)) in
+          place-below s _ _ v (u .order) (known .1) (room-true s v (ready .roomy (logs-other (lent l a s x b v h) r er f w))) in
           let y : sizeOf (storeEffect (lent l a s x b v h)) ≡ cond (eqb (stateOf s .filled) 6) 516 0 =
           ap sizeOf (effect-other (lent l a s x b v h) r (stateOf s) er refl f w) ∙ size-other (lent l a s x b v h) r (stateOf s) refl g₁ g₂ in
           let i : cond (eqb (stateOf s .filled) 6) 516 0 ≤ length b = rw y at (fits (lent l a s x b v h) _ (ready .batch)) in

@@ -5,7 +5,7 @@ use mathlib.Core.List.{List}
 use lib.ListN.{length}
 use Rattle.model.specs.Bytes.{puts}
 use Rattle.model.specs.Batch.{batchBytes}
-use Rattle.model.specs.State.{stateOf, setLast, nextPosition, setWriter, heldOf, setHeld, idle, logging, firstFor, countFor}
+use Rattle.model.specs.State.{stateOf, setLast, nextPosition, setWriter, heldOf, setHeld, setPromise, promiseLeft, idle, logging, firstFor, countFor}
 use Rattle.model.specs.declared.State.{State}
 use Rattle.model.specs.declared.Writer.{Writer}
 use Rattle.model.specs.Tag.{entryWord, closingWord}
@@ -53,16 +53,30 @@ loggedClosing s log st r w =
     (closingWord (r .home) (nextPosition st - firstFor r (nextPosition st)) (linkFrom (nextPosition st) st) (countFor r + 1))
     (heldOf s w)
 
--- a store that logs the held block
-pub record StoredOther (n : ℕ) (s l b : List ℕ) (s₀ l₀ b₀ x : List ℕ) (st : State) (r : Writer) (w home : ℕ) : Type 0 where
+-- a store that logs the held block: the entry and the next block, and with the promise that it uses up
+pub record HeldNext (n : ℕ) (s l b : List ℕ) (s₀ l₀ b₀ x : List ℕ) (st : State) (r : Writer) (w home : ℕ) : Type 0 where
   pub size : n ≡ length (batchBytes (loggedEntry s₀ l₀ st r w .records))
   pub state : s ≡ setHeld (setWriter (loggedEntry s₀ l₀ st r w .state) w (logging home (firstFor r (nextPosition st)) (countFor r + 1))) w x
   pub log : l ≡ loggedEntry s₀ l₀ st r w .log
   pub batch : b ≡ puts b₀ 0 (batchBytes (loggedEntry s₀ l₀ st r w .records))
 
--- a commit that logs the held block
-pub record Committed (n : ℕ) (s l b : List ℕ) (s₀ l₀ b₀ : List ℕ) (st : State) (r : Writer) (w : ℕ) : Type 0 where
+pub record StoredOther (n : ℕ) (s l b : List ℕ) (s₀ l₀ b₀ x : List ℕ) (st : State) (r : Writer) (w home : ℕ) : Type 0 where
+  pub size : n ≡ length (batchBytes (loggedEntry s₀ l₀ st r w .records))
+  pub state : s
+      ≡ setPromise (setHeld (setWriter (loggedEntry s₀ l₀ st r w .state) w (logging home (firstFor r (nextPosition st)) (countFor r + 1))) w x) w
+      (promiseLeft s₀ w)
+  pub log : l ≡ loggedEntry s₀ l₀ st r w .log
+  pub batch : b ≡ puts b₀ 0 (batchBytes (loggedEntry s₀ l₀ st r w .records))
+
+-- a commit that logs the held block: the closing entry, and with the promise given back
+pub record Closed (n : ℕ) (s l b : List ℕ) (s₀ l₀ b₀ : List ℕ) (st : State) (r : Writer) (w : ℕ) : Type 0 where
   pub size : n ≡ length (batchBytes (loggedClosing s₀ l₀ st r w .records))
   pub state : s ≡ setWriter (setLast (loggedClosing s₀ l₀ st r w .state) (nextPosition st + 1)) w idle
+  pub log : l ≡ loggedClosing s₀ l₀ st r w .log
+  pub batch : b ≡ puts b₀ 0 (batchBytes (loggedClosing s₀ l₀ st r w .records))
+
+pub record Committed (n : ℕ) (s l b : List ℕ) (s₀ l₀ b₀ : List ℕ) (st : State) (r : Writer) (w : ℕ) : Type 0 where
+  pub size : n ≡ length (batchBytes (loggedClosing s₀ l₀ st r w .records))
+  pub state : s ≡ setPromise (setWriter (setLast (loggedClosing s₀ l₀ st r w .state) (nextPosition st + 1)) w idle) w 0
   pub log : l ≡ loggedClosing s₀ l₀ st r w .log
   pub batch : b ≡ puts b₀ 0 (batchBytes (loggedClosing s₀ l₀ st r w .records))

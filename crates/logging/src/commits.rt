@@ -9,22 +9,43 @@ ghost use mathlib.Core.Path.{_≡_};
 ghost use mathlib.Core.List.{[]};
 ghost use Prim.Native.Nat.{_<_};
 ghost use lib.ListN.{length};
-ghost use Rattle.model.specs.State.{nextPosition, setWriter, idle};
+ghost use Rattle.model.specs.State.{nextPosition, setWriter, setPromise, idle};
 ghost use Rattle.model.specs.Effects.{commitEffect};
 ghost use Rattle.model.specs.Questions.{commitAnswer};
 ghost use Rattle.model.specs.Calls.{sizeOf, commitCall};
 ghost use Rattle.answers.specs.Lent.{lent, leaves};
-ghost use Rattle.logging.specs.Logs.{MayLog, Fits, Committed};
+ghost use Rattle.logging.specs.Logs.{MayLog, Fits, Closed, Committed};
 
-// Ends the transaction of a writer that holds nothing.
+// Ends the transaction of a writer that holds nothing, and gives back the places promised to it.
 fn commit_none(state: &mut [u8], w: usize)
     requires { ⌜ (length (now state) ≡ 1024) × (w < 8) ⌝ }
-    ensures { λ _. ⌜ now (state .exit) ≡ setWriter (now (state .entry)) w idle ⌝ }
+    ensures { λ _. ⌜ now (state .exit) ≡ setPromise (setWriter (now (state .entry)) w idle) w 0 ⌝ }
 {
     writers::abort(state, w);
+    strip::set_promise(state, w, 0);
 }
 
 // Logs the held block as the closing entry and ends the transaction.
+fn close_held(
+    log: &mut [u8],
+    state: &mut [u8],
+    batch: &mut [u8],
+    st: State,
+    r: Writer,
+    w: usize,
+) -> u64
+    requires { ⌜ MayLog (now log) (now state) (now batch) st w × Fits st r (nextPosition st) ⌝ }
+    ensures { λ x. ⌜ Closed x (now (state .exit)) (now (log .exit)) (now (batch .exit)) (now (state .entry)) (now (log .entry)) (now (batch .entry)) st r w ⌝ }
+{
+    let position = strip::next_position(st);
+    let word = closing_word(st, r, position);
+    let size = log_entry(log, state, batch, st, word, w);
+    strip::set_last(state, position + 1);
+    writers::abort(state, w);
+    size
+}
+
+// The same, and the places promised to the writer are given back.
 fn commit_held(
     log: &mut [u8],
     state: &mut [u8],
@@ -36,11 +57,8 @@ fn commit_held(
     requires { ⌜ MayLog (now log) (now state) (now batch) st w × Fits st r (nextPosition st) ⌝ }
     ensures { λ x. ⌜ Committed x (now (state .exit)) (now (log .exit)) (now (batch .exit)) (now (state .entry)) (now (log .entry)) (now (batch .entry)) st r w ⌝ }
 {
-    let position = strip::next_position(st);
-    let word = closing_word(st, r, position);
-    let size = log_entry(log, state, batch, st, word, w);
-    strip::set_last(state, position + 1);
-    writers::abort(state, w);
+    let size = close_held(log, state, batch, st, r, w);
+    strip::set_promise(state, w, 0);
     size
 }
 
@@ -62,7 +80,7 @@ fn commit_verdict(log: &[u8], area: &[u8], state: &[u8], batch: &[u8], writer: u
     if !strip::holds(r) {
         return 0;
     }
-    may_log(strip::state(state), batch.len())
+    may_log(state, strip::state(state), writer as usize, batch.len())
 }
 
 // Commits a writer's open transaction: its held block is logged as the closing entry, whose position + 1 is the ticket.

@@ -4,19 +4,21 @@ use model::Writer;
 ghost use mathlib.Core.Path.{_≡_};
 ghost use mathlib.Core.Bool.{cond};
 ghost use Prim.Native.Nat.{_+_, _-_, _^_, _<_, _≤_};
-ghost use lib.Dec.{eqb, leb, ltb};
-ghost use Rattle.model.specs.State.{heldOf, firstFor, countFor};
+ghost use lib.Dec.{eqb, leb};
+ghost use lib.ListN.{length};
+ghost use Rattle.model.specs.State.{stateOf, heldOf, firstFor, countFor};
 ghost use Rattle.model.specs.Tag.{entryWord, closingWord};
 ghost use Rattle.model.specs.Effects.{logged, linkFrom};
-ghost use Rattle.model.specs.Questions.{ask};
+ghost use Rattle.model.specs.Questions.{ask, roomFor};
+ghost use Rattle.strip.specs.Order.{GroupsInOrder};
 ghost use Rattle.logging.specs.Logs.{MayLog, Fits, Wrote};
 
-// Questions 8 and 10 of a call that logs an entry: 0 if the log has room for it, and the batch for the group that it may fill.
-pub fn may_log(st: State, batch: usize) -> u64
-    requires { ⌜ st .start + st .groups < 2 ^ 64 ⌝ }
-    ensures { λ r. ⌜ r ≡ ask (ltb (st .next) (st .start + st .groups)) 8 (ask (leb (cond (eqb (st .filled) 6) 516 0) batch) 9 0) ⌝ }
+// Questions 8 and 10 of a call that logs an entry of writer `w`: 0 if the log has room for it, and the batch for the group that it may fill.
+pub fn may_log(state: &[u8], st: State, w: usize, batch: usize) -> u64
+    requires { ⌜ (length (now state) ≡ 1024) × (w < 8) × GroupsInOrder st × (st ≡ stateOf (now state)) ⌝ }
+    ensures { λ r. ⌜ r ≡ ask (roomFor (now (state .entry)) w) 8 (ask (leb (cond (eqb (st .filled) 6) 516 0) batch) 9 0) ⌝ }
 {
-    if st.next >= st.start + st.groups {
+    if !strip::room_for(state, st, w) {
         return 8;
     }
     if st.filled != 6 {

@@ -59,7 +59,11 @@ fn flush_verdict(log: &[u8], area: &[u8], state: &[u8], batch: &[u8]) -> u64
     if asked != 0 {
         return asked;
     }
-    if batch.len() < flush_size(strip::state(state)) {
+    let st = strip::state(state);
+    if !strip::keeps_promises(state, st) {
+        return 18;
+    }
+    if batch.len() < flush_size(st) {
         return 9;
     }
     0

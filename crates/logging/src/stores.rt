@@ -15,7 +15,7 @@ ghost use Rattle.model.specs.Effects.{storeEffect};
 ghost use Rattle.model.specs.Questions.{storeAnswer};
 ghost use Rattle.model.specs.Calls.{sizeOf, storeCall};
 ghost use Rattle.answers.specs.Lent.{lent, leaves};
-ghost use Rattle.logging.specs.Logs.{MayLog, Fits, StoredOther};
+ghost use Rattle.logging.specs.Logs.{MayLog, Fits, HeldNext, StoredOther};
 
 // Holds the first block of a transaction.
 fn store_first(state: &mut [u8], block: &[u8], r: Writer, w: usize, home: u64)
@@ -27,6 +27,28 @@ fn store_first(state: &mut [u8], block: &[u8], r: Writer, w: usize, home: u64)
 }
 
 // Logs the held block and holds the next one, for another home. The record is changed first: the numbers and the block that are logged stay.
+fn hold_next(
+    log: &mut [u8],
+    state: &mut [u8],
+    block: &[u8],
+    batch: &mut [u8],
+    st: State,
+    r: Writer,
+    w: usize,
+    home: u64,
+) -> u64
+    requires { ⌜ MayLog (now log) (now state) (now batch) st w × Fits st r (nextPosition st) × (length (now block) ≡ 64) × (holds r ≡ true) × (r .home ≢ home) ⌝ }
+    ensures { λ x. ⌜ HeldNext x (now (state .exit)) (now (log .exit)) (now (batch .exit)) (now (state .entry)) (now (log .entry)) (now (batch .entry)) (now (block .entry)) st r w home ⌝ }
+{
+    let position = strip::next_position(st);
+    let word = store_word(st, r, position);
+    writers::hold(state, w, r, home, position);
+    let size = log_entry(log, state, batch, st, word, w);
+    strip::set_held(state, w, block);
+    size
+}
+
+// The same, and the entry uses up one of the places promised to the writer, if any is left.
 fn store_other(
     log: &mut [u8],
     state: &mut [u8],
@@ -40,11 +62,9 @@ fn store_other(
     requires { ⌜ MayLog (now log) (now state) (now batch) st w × Fits st r (nextPosition st) × (length (now block) ≡ 64) × (holds r ≡ true) × (r .home ≢ home) ⌝ }
     ensures { λ x. ⌜ StoredOther x (now (state .exit)) (now (log .exit)) (now (batch .exit)) (now (state .entry)) (now (log .entry)) (now (batch .entry)) (now (block .entry)) st r w home ⌝ }
 {
-    let position = strip::next_position(st);
-    let word = store_word(st, r, position);
-    writers::hold(state, w, r, home, position);
-    let size = log_entry(log, state, batch, st, word, w);
-    strip::set_held(state, w, block);
+    let left = strip::promise_left(state, w);
+    let size = hold_next(log, state, block, batch, st, r, w, home);
+    strip::set_promise(state, w, left);
     size
 }
 
@@ -80,7 +100,7 @@ fn store_verdict(
     if r.home == home {
         return 0;
     }
-    may_log(strip::state(state), batch.len())
+    may_log(state, strip::state(state), writer as usize, batch.len())
 }
 
 // Holds a block for a home in a writer's open transaction; a block held for another home is logged first.

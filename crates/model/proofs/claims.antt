@@ -11,4 +11,6 @@ pub mod StoreAnswers
 pub mod StoreFollows
 pub mod OnceLaws
 pub mod FactLaws
+pub mod Ledger
+pub mod PromisesHold
 pub mod WitnessHolds

@@ -15,4 +15,5 @@ pub mod Demands
 pub mod Store
 pub mod Trials
 pub mod Witnesses
+pub mod Promises
 pub mod Facts

@@ -1,4 +1,4 @@
--- Begin, abort and confirm: their questions one by one, and how they end. Assumes nothing.
+-- Begin, reserve, abort and confirm: their questions one by one, and how they end. Assumes nothing.
 use mathlib.Core.Path.{_≡_, refl, sym, ap, _∙_}
 use mathlib.Core.Bool.{Bool, true, false, not, _&&_}
 use mathlib.Core.List.{List, []}
@@ -9,14 +9,15 @@ use borrow.Author.Tests.{eqb-true, ltb-true, lt-ltb, le-ltb, not-true, not-false
 use lib.ListN.{length}
 use Rattle.model.specs.declared.Writer.{Writer}
 use Rattle.model.specs.declared.State.{State}
-use Rattle.model.specs.State.{stateOf, setDurable, writerOf, setWriter, idle, begun, isOpen}
-use Rattle.model.specs.Effects.{Given, beginEffect, abortEffect, confirmEffect}
-use Rattle.model.specs.Questions.{ask, areasRight, stateRight, stripInOrder, writerKnown, writerOpen, askState, beginAnswer, abortAnswer, confirmAnswer}
-use Rattle.model.specs.Calls.{beginCall, abortCall, confirmCall}
-use Rattle.model.proofs.strip.QuestionLaws.{ask-yes, ask-no, ask-passed, and-true, InUse, begin-ready, abort-ready, confirm-ready}
+use Rattle.model.specs.State.{stateOf, setDurable, writerOf, setWriter, setPromise, idle, begun, isOpen}
+use Rattle.model.specs.Effects.{Given, beginEffect, reserveEffect, abortEffect, confirmEffect}
+use Rattle.model.specs.Questions.{ask, areasRight, stateRight, stripInOrder, writerKnown, writerOpen, mayPromise, askState, beginAnswer, reserveAnswer, abortAnswer, confirmAnswer}
+use Rattle.model.specs.Calls.{beginCall, reserveCall, abortCall, confirmCall}
+use Rattle.model.proofs.strip.QuestionLaws.{ask-yes, ask-no, ask-passed, and-true, InUse, begin-ready, reserve-ready, abort-ready, confirm-ready}
+use Rattle.strip.specs.Order.{GroupsInOrder}
 use Rattle.answers.specs.Lent.{lent, leaves}
 use Rattle.sessions.specs.Writers.{askWriter}
-use Rattle.answers.proofs.AnswerLaws.{state-refuses, state-passes, state-only, refused-by, strip-by}
+use Rattle.answers.proofs.AnswerLaws.{Usable, usable-groups, state-usable, state-refuses, state-passes, state-only, refused-by, strip-by}
 
 -- ---- the fourth question
 
@@ -101,6 +102,52 @@ module _ (g : Given) (r : ℕ) (e : r ≡ askWriter g 0) where
     unfolding abortAnswer askWriter
     abort-opened t = sym (lets g r _ e z ∙ ask-yes _ 7 0 (sym (opened g x b ex eb) ∙ not-false b t))
 
+-- ---- the questions of reserve: those of begin, and one more
+
+four : (x y z o : Bool) (r v : ℕ) → r ≡ ask x 1 (ask y 2 (ask z 4 (ask o 6 0))) → r ≢ 0 → r ≡ ask x 1 (ask y 2 (ask z 4 (ask o 6 v)))
+unfolding ask
+four true true true true r v e h = absurd (h e)
+four true true true false r v e h = e
+four true true false o r v e h = e
+four true false z o r v e h = e
+four false y z o r v e h = e
+
+all-four : (x y z o : Bool) (v : ℕ) → ask x 1 (ask y 2 (ask z 4 (ask o 6 0))) ≡ 0
+    → (ask x 1 (ask y 2 (ask z 4 (ask o 6 v))) ≡ v) × (ask x 1 (ask y 2 0) ≡ 0)
+unfolding ask
+all-four true true true true v e = (refl, refl)
+all-four true true true false v e = absurd (omega arith)
+all-four true true false o v e = absurd (omega arith)
+all-four true false z o v e = absurd (omega arith)
+all-four false y z o v e = absurd (omega arith)
+
+module _ (g : Given) (n r : ℕ) (e : r ≡ beginAnswer g) where
+  pub reserve-first : r ≢ 0 → r ≡ reserveAnswer g n
+  unfolding beginAnswer reserveAnswer askState
+  reserve-first h = four (areasRight g && stateRight g) (stripInOrder g) (writerKnown g) (not (writerOpen g)) r _ e h
+
+  module _ (z : r ≡ 0) where
+    begun-asks : (v : ℕ) → (ask (areasRight g && stateRight g) 1 (ask (stripInOrder g) 2 (ask (writerKnown g) 4 (ask (not (writerOpen g)) 6 v))) ≡ v)
+        × (ask (areasRight g && stateRight g) 1 (ask (stripInOrder g) 2 0) ≡ 0)
+    unfolding beginAnswer askState
+    begun-asks v = all-four (areasRight g && stateRight g) (stripInOrder g) (writerKnown g) (not (writerOpen g)) v (sym e ∙ z)
+
+    pub reserve-usable : Usable (g .log) (g .area) (g .state)
+    unfolding askState
+    reserve-usable = state-usable g (begun-asks 0 .1)
+
+    pub reserve-groups : (st : State) → st ≡ stateOf (g .state) → (length (g .state) ≡ 1024) × GroupsInOrder st × (st ≡ stateOf (g .state))
+    reserve-groups st es = (reserve-usable .state-length, usable-groups (g .log) (g .area) (g .state) st reserve-usable es, es)
+
+    module _ (b : Bool) (eb : b ≡ mayPromise (g .state) n) where
+      pub reserve-beyond : not b ≡ true → 17 ≡ reserveAnswer g n
+      unfolding reserveAnswer askState
+      reserve-beyond t = sym (begun-asks _ .0 ∙ ask-no _ 17 0 (sym eb ∙ not-true b t))
+
+      pub reserve-within : not b ≡ false → 0 ≡ reserveAnswer g n
+      unfolding reserveAnswer askState
+      reserve-within t = sym (begun-asks _ .0 ∙ ask-yes _ 17 0 (sym eb ∙ not-false b t))
+
 -- ---- what an answer of 0 gives
 
 strip-length : (g : Given) → InUse g → length (g .state) ≡ 1024
@@ -125,6 +172,11 @@ begin-fits g r e z =
     let h = begin-ready g (sym e ∙ z) in
     (strip-length g (h .0), writer-below g (h .1))
 
+pub reserve-fits : (g : Given) (n r : ℕ) → r ≡ reserveAnswer g n → r ≡ 0 → (length (g .state) ≡ 1024) × (g .writer < 8)
+reserve-fits g n r e z =
+    let h = reserve-ready g n (sym e ∙ z) in
+    (strip-length g (h .0), writer-below g (h .1))
+
 pub abort-fits : (g : Given) (r : ℕ) → r ≡ abortAnswer g → r ≡ 0 → (length (g .state) ≡ 1024) × (g .writer < 8)
 abort-fits g r e z =
     let h = abort-ready g (sym e ∙ z) in
@@ -142,6 +194,11 @@ module _ (g : Given) (r : ℕ) (code figure size : ℕ) where
   unfolding beginCall
   begin-refused e h c f n = refused-by g (beginEffect g) (beginAnswer g) code figure size (c ∙ e) (λ z. h (sym c ∙ z)) f n
 
+  pub reserve-refused : (k : ℕ) → r ≡ reserveAnswer g k → r ≢ 0 → code ≡ r → figure ≡ 0 → size ≡ 0
+      → leaves code figure size (g .log) (g .area) (g .state) (g .block) (g .batch) ≡ reserveCall g k
+  unfolding reserveCall
+  reserve-refused k e h c f n = refused-by g (reserveEffect g k) (reserveAnswer g k) code figure size (c ∙ e) (λ z. h (sym c ∙ z)) f n
+
   pub abort-refused : r ≡ abortAnswer g → r ≢ 0 → code ≡ r → figure ≡ 0 → size ≡ 0
       → leaves code figure size (g .log) (g .area) (g .state) (g .block) (g .batch) ≡ abortCall g
   unfolding abortCall
@@ -158,11 +215,21 @@ module _ (g : Given) (r : ℕ) (code figure size : ℕ) where
   begin-done s e z es c f n =
       strip-by g (setWriter (g .state) (g .writer) begun) (beginAnswer g) 0 code figure size s (sym e ∙ z) c f n es
 
-  pub abort-done : (s : List ℕ) → r ≡ abortAnswer g → r ≡ 0 → s ≡ setWriter (g .state) (g .writer) idle → code ≡ 0
+  pub reserve-done : (k : ℕ) (s₁ s : List ℕ) → r ≡ reserveAnswer g k → r ≡ 0 → s₁ ≡ setWriter (g .state) (g .writer) begun
+      → s ≡ setPromise s₁ (g .writer) k → code ≡ 0
+      → figure ≡ 0 → size ≡ 0 → leaves code figure size (g .log) (g .area) s (g .block) (g .batch) ≡ reserveCall g k
+  unfolding reserveCall reserveEffect
+  reserve-done k s₁ s e z e₁ es c f n =
+      strip-by g (setPromise (setWriter (g .state) (g .writer) begun) (g .writer) k) (reserveAnswer g k) 0 code figure size s (sym e ∙ z) c f n
+      (es ∙ rw e₁)
+
+  pub abort-done : (s₁ s : List ℕ) → r ≡ abortAnswer g → r ≡ 0 → s₁ ≡ setWriter (g .state) (g .writer) idle
+      → s ≡ setPromise s₁ (g .writer) 0 → code ≡ 0
       → figure ≡ 0 → size ≡ 0 → leaves code figure size (g .log) (g .area) s (g .block) (g .batch) ≡ abortCall g
   unfolding abortCall abortEffect
-  abort-done s e z es c f n =
-      strip-by g (setWriter (g .state) (g .writer) idle) (abortAnswer g) 0 code figure size s (sym e ∙ z) c f n es
+  abort-done s₁ s e z e₁ es c f n =
+      strip-by g (setPromise (setWriter (g .state) (g .writer) idle) (g .writer) 0) (abortAnswer g) 0 code figure size s (sym e ∙ z) c f n
+      (es ∙ rw e₁)
 
   pub confirm-done : (st : State) (s : List ℕ) → r ≡ askState g 0 → r ≡ 0 → st ≡ stateOf (g .state) → s ≡ setDurable (g .state) (st .fenced)
       → code ≡ 0 → figure ≡ st .fenced → size ≡ 0 → leaves code figure size (g .log) (g .area) s (g .block) (g .batch) ≡ confirmCall g

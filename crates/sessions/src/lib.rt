@@ -1,9 +1,9 @@
-// The calls that change only the strip: begin and abort a writer's transaction, and confirm the fences that have passed.
+// The calls that change only the strip: begin, reserve for and abort a writer's transaction, and confirm the fences that have passed.
 use answers::Reply;
 ghost use mathlib.Core.Path.{_≡_};
 ghost use mathlib.Core.List.{[]};
-ghost use Rattle.model.specs.Questions.{beginAnswer, abortAnswer};
-ghost use Rattle.model.specs.Calls.{beginCall, abortCall, confirmCall};
+ghost use Rattle.model.specs.Questions.{beginAnswer, reserveAnswer, abortAnswer};
+ghost use Rattle.model.specs.Calls.{beginCall, reserveCall, abortCall, confirmCall};
 ghost use Rattle.answers.specs.Lent.{lent, leaves};
 ghost use Rattle.sessions.specs.Writers.{askWriter};
 
@@ -47,6 +47,33 @@ pub fn begin(log: &[u8], area: &[u8], state: &mut [u8], writer: u64) -> Reply
     answers::done(0, 0)
 }
 
+// Whether a writer may begin with `n` places promised to it: 0, or the number of the refusal.
+fn reserve_answer(log: &[u8], area: &[u8], state: &[u8], writer: u64, n: u64) -> u64
+    ensures { λ r. ⌜ r ≡ reserveAnswer (lent (now (log .entry)) (now (area .entry)) (now (state .entry)) [] [] writer 0) n ⌝ }
+{
+    let first = begin_answer(log, area, state, writer);
+    if first != 0 {
+        return first;
+    }
+    if !strip::may_promise(state, strip::state(state), n) {
+        return 17;
+    }
+    0
+}
+
+// Begins a transaction of a writer that has none open, and promises it `n` places: its first `n` entries find room.
+pub fn reserve(log: &[u8], area: &[u8], state: &mut [u8], writer: u64, n: u64) -> Reply
+    ensures { λ r. ⌜ leaves (r .code) (r .figure) (r .size) (now (log .entry)) (now (area .entry)) (now (state .exit)) [] [] ≡ reserveCall (lent (now (log .entry)) (now (area .entry)) (now (state .entry)) [] [] writer 0) n ⌝ }
+{
+    let answer = reserve_answer(log, area, state, writer, n);
+    if answer != 0 {
+        return answers::refused(answer);
+    }
+    writers::begin(state, writer as usize);
+    strip::set_promise(state, writer as usize, n);
+    answers::done(0, 0)
+}
+
 // Whether a writer may abort: 0, or the number of the refusal.
 fn abort_answer(log: &[u8], area: &[u8], state: &[u8], writer: u64) -> u64
     ensures { λ r. ⌜ r ≡ abortAnswer (lent (now (log .entry)) (now (area .entry)) (now (state .entry)) [] [] writer 0) ⌝ }
@@ -61,7 +88,7 @@ fn abort_answer(log: &[u8], area: &[u8], state: &[u8], writer: u64) -> u64
     0
 }
 
-// Drops a writer's open transaction with the block that it holds.
+// Drops a writer's open transaction with the block that it holds, and gives back the places promised to it.
 pub fn abort(log: &[u8], area: &[u8], state: &mut [u8], writer: u64) -> Reply
     ensures { λ r. ⌜ leaves (r .code) (r .figure) (r .size) (now (log .entry)) (now (area .entry)) (now (state .exit)) [] [] ≡ abortCall (lent (now (log .entry)) (now (area .entry)) (now (state .entry)) [] [] writer 0) ⌝ }
 {
@@ -70,6 +97,7 @@ pub fn abort(log: &[u8], area: &[u8], state: &mut [u8], writer: u64) -> Reply
         return answers::refused(answer);
     }
     writers::abort(state, writer as usize);
+    strip::set_promise(state, writer as usize, 0);
     answers::done(0, 0)
 }
 

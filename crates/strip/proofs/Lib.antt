@@ -1,1 +1,2 @@
 pub mod OrderTests
+pub mod PromiseSums

@@ -7,10 +7,11 @@ use Prim.Native.Nat.{ℕ, zero, suc, _+_, _*_, _≤_, _<_}
 use native.Mathlib.Decide.{decLt}
 use native.Mathlib.Numerals.{add-one}
 use native.Mathlib.Omega.{arith}
-use borrow.Author.Tests.{eq-eqb, ne-eqb, not-true, not-false}
+use borrow.Author.Tests.{eq-eqb, ne-eqb, le-leb, lt-leb, not-true, not-false}
 use Rattle.model.specs.declared.State.{State}
 use Rattle.model.specs.declared.Writer.{Writer}
-use Rattle.model.specs.State.{stateOf, writerOf, nextPosition, numbersInOrder, writerInOrder, writersInOrder, inOrder}
+use lib.Dec.{leb}
+use Rattle.model.specs.State.{stateOf, writerOf, isOpen, promiseOf, promised, places, nextPosition, numbersInOrder, writerInOrder, promiseInOrder, writerAtInOrder, writersInOrder, inOrder}
 use Rattle.model.proofs.strip.OrderLaws.{tests, WriterInOrder, writer-order}
 use Rattle.strip.specs.Order.{GroupsInOrder}
 
@@ -81,22 +82,36 @@ module _ (st : State) where
 pub writer-refused : (st : State) (r : Writer) → (WriterInOrder st r → ⊥) → false ≡ writerInOrder st r
 writer-refused st r h = refuted (writerInOrder st r) (λ e. h (writer-order st r e))
 
+module _ (s : List ℕ) (st : State) (w : ℕ) where
+  pub record-refused : false ≡ writerInOrder st (writerOf s w) → false ≡ writerAtInOrder s st w
+  unfolding writerAtInOrder
+  record-refused h = rw (← h)
+
+  pub open-held : true ≡ writerInOrder st (writerOf s w) → true ≡ isOpen (writerOf s w) → true ≡ writerAtInOrder s st w
+  unfolding writerAtInOrder promiseInOrder
+  open-held h k = rw (← h, ← k)
+
+  pub idle-held : true ≡ writerInOrder st (writerOf s w) → false ≡ isOpen (writerOf s w) → (b : Bool) → b ≡ lib.Dec.eqb (promiseOf s w) 0
+      → b ≡ writerAtInOrder s st w
+  unfolding writerAtInOrder promiseInOrder
+  idle-held h k b e = rw (← h, ← k, ← e)
+
 module _ (s : List ℕ) (st : State) where
   pub writers-none : true ≡ writersInOrder s st 0
   unfolding writersInOrder
   writers-none = refl
 
-  pub writers-turn : (w : ℕ) → true ≡ writersInOrder s st w → true ≡ writerInOrder st (writerOf s w) → true ≡ writersInOrder s st (w + 1)
+  pub writers-turn : (w : ℕ) → true ≡ writersInOrder s st w → true ≡ writerAtInOrder s st w → true ≡ writersInOrder s st (w + 1)
   unfolding writersInOrder
   writers-turn w h k = rw (add-one w, ← h, ← k)
 
-  pub writers-stop : (w n : ℕ) → w < n → false ≡ writerInOrder st (writerOf s w) → false ≡ writersInOrder s st n
+  pub writers-stop : (w n : ℕ) → w < n → false ≡ writerAtInOrder s st w → false ≡ writersInOrder s st n
   unfolding writersInOrder
   writers-stop w zero h k = absurd (omega arith)
   writers-stop w (suc n) h k = go (decLt w n) (writers-stop w n)
     where
-      go : Dec (w < n) → (w < n → false ≡ writerInOrder st (writerOf s w) → false ≡ writersInOrder s st n)
-          → false ≡ (writersInOrder s st n && writerInOrder st (writerOf s n))
+      go : Dec (w < n) → (w < n → false ≡ writerAtInOrder s st w → false ≡ writersInOrder s st n)
+          → false ≡ (writersInOrder s st n && writerAtInOrder s st n)
       go (yes l) f = rw (← f l k)
       go (no l) f = let e : n ≡ w = omega arith in rw (e, ← k, and-false)
 
@@ -115,6 +130,11 @@ module _ (s : List ℕ) (st : State) (groups homes : ℕ) (e : st ≡ stateOf s)
   unfolding inOrder
   numbers-not h = rw (← e, ← h, and-false)
 
-  pub by-writers : st .groups ≡ groups → st .homes ≡ homes → true ≡ numbersInOrder st → writersInOrder s st 8 ≡ inOrder s groups homes
+  pub too-many : places st < promised s 8 → false ≡ inOrder s groups homes
   unfolding inOrder
-  by-writers g h k = rw (← e, eq-eqb (st .groups) groups g, eq-eqb (st .homes) homes h, ← k)
+  too-many h = rw (← e, lt-leb (promised s 8) (places st) h, and-false)
+
+  pub by-writers : st .groups ≡ groups → st .homes ≡ homes → true ≡ numbersInOrder st → promised s 8 ≤ places st
+      → writersInOrder s st 8 ≡ inOrder s groups homes
+  unfolding inOrder
+  by-writers g h k p = rw (← e, eq-eqb (st .groups) groups g, eq-eqb (st .homes) homes h, ← k, le-leb (promised s 8) (places st) p)

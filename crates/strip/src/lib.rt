@@ -1,6 +1,7 @@
-// The state strip of 1,024 bytes as model/specs/State defines it: its numbers, its writers' records and held blocks, and whether it is in order.
+// The state strip of 1,024 bytes as model/specs/State defines it: its numbers, its writers' records, held blocks and promises, and whether it is in order.
 mod fields;
 mod order;
+mod promises;
 mod writers;
 
 pub use fields::fresh;
@@ -16,6 +17,11 @@ pub use fields::state;
 pub use order::in_order;
 pub use order::numbers_in_order;
 pub use order::writer_in_order;
+pub use promises::keeps_promises;
+pub use promises::may_promise;
+pub use promises::promise_left;
+pub use promises::room_for;
+pub use promises::set_promise;
 pub use writers::begun;
 pub use writers::count_for;
 pub use writers::first_for;

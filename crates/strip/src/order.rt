@@ -1,13 +1,17 @@
 // Whether the state strip is in order (question 2).
 use crate::fields::next_position;
 use crate::fields::state;
+use crate::promises::places;
+use crate::promises::promise;
+use crate::promises::promised;
+use crate::writers::is_open;
 use crate::writers::writer;
 use model::State;
 use model::Writer;
 ghost use mathlib.Core.Path.{_≡_};
 ghost use Prim.Native.Nat.{_+_, _*_, _^_, _≤_, _<_};
 ghost use lib.ListN.{length};
-ghost use Rattle.model.specs.State.{numbersInOrder, writerInOrder, writersInOrder, inOrder};
+ghost use Rattle.model.specs.State.{numbersInOrder, writerInOrder, writerAtInOrder, writersInOrder, inOrder};
 ghost use Rattle.strip.specs.Order.{GroupsInOrder};
 
 // The highest group number that a log may start at.
@@ -102,6 +106,21 @@ pub fn writer_in_order(st: State, r: Writer) -> bool
     true
 }
 
+// Whether the record of writer `w` is in order in the strip `s` with the numbers `st`, and nothing is promised to it while it is idle.
+fn writer_at_in_order(s: &[u8], st: State, w: usize) -> bool
+    requires { ⌜ (length (now s) ≡ 1024) × (w < 8) × (7 * st .start < 2 ^ 64) × (7 * st .next + st .filled < 2 ^ 64) ⌝ }
+    ensures { λ b. ⌜ b ≡ writerAtInOrder (now (s .entry)) st w ⌝ }
+{
+    let r = writer(s, w);
+    if !writer_in_order(st, r) {
+        return false;
+    }
+    if is_open(r) {
+        return true;
+    }
+    promise(s, w) == 0
+}
+
 // Whether the records of all eight writers are in order in the strip `s` with the numbers `st`.
 fn writers_in_order(s: &[u8], st: State) -> bool
     requires { ⌜ (length (now s) ≡ 1024) × (7 * st .start < 2 ^ 64) × (7 * st .next + st .filled < 2 ^ 64) ⌝ }
@@ -109,8 +128,7 @@ fn writers_in_order(s: &[u8], st: State) -> bool
 {
     let mut w: usize = 0;
     while w < 8 {
-        let r = writer(s, w);
-        if !writer_in_order(st, r) {
+        if !writer_at_in_order(s, st, w) {
             return false;
         }
         w += 1;
@@ -131,6 +149,9 @@ pub fn in_order(s: &[u8], groups: u64, homes: u64) -> bool
         return false;
     }
     if !numbers_in_order(st) {
+        return false;
+    }
+    if places(st) < promised(s) {
         return false;
     }
     writers_in_order(s, st)

@@ -35,6 +35,20 @@ fn lengths(kind: Kind, lent: &Lent) -> bool {
     log && data && state && block
 }
 
+/// The places promised to a writer, two bytes each from byte 72 on.
+fn promise(state: &[u8], writer: usize) -> i128 {
+    i128::from(state[72 + 2 * writer]) + 256 * i128::from(state[73 + 2 * writer])
+}
+
+fn promised(state: &[u8]) -> i128 {
+    (0..8).map(|writer| promise(state, writer)).sum()
+}
+
+/// The places from the next position on.
+fn places(state: &[u8]) -> i128 {
+    7 * (big(state, 16) + big(state, 0)) - (7 * big(state, 24) + big(state, 32))
+}
+
 /// Question 2, in signed numbers that cannot wrap.
 pub fn in_order(lent: &Lent) -> bool {
     let s = &lent.state;
@@ -49,6 +63,7 @@ pub fn in_order(lent: &Lent) -> bool {
         let holds = mode == 2 || mode == 3;
         let in_range = 7 * start <= first && first < position;
         mode <= 3
+            && (mode > 0 || promise(s, w) == 0)
             && (!holds || home < d)
             && (mode != 3 || (in_range && 1 <= count && count <= position - first))
     };
@@ -65,6 +80,7 @@ pub fn in_order(lent: &Lent) -> bool {
         && durable <= fenced
         && (last == -1 || (7 * start <= last && last < position))
         && (0..8).all(writer)
+        && promised(s) <= places(s)
 }
 
 pub fn run(kind: Kind, writer: u64, home: u64, before: &Lent) -> (Answer, Lent) {

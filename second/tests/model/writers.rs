@@ -1,7 +1,7 @@
-//! The plain model of the other calls: format, begin, abort, store, commit,
-//! flush, confirm. Tags are put together by sums, not by shifts.
+//! The plain model of the other calls: format, begin, reserve, abort, store,
+//! commit, flush, confirm. Tags are put together by sums, not by shifts.
 
-use super::{head_write, number, put, shape, Outcome};
+use super::{head_write, number, places, promise, promised, put, shape, Outcome};
 use second::lent::{Kind, Lent};
 
 pub fn format(before: &Lent, after: &mut Lent) -> Outcome {
@@ -30,19 +30,33 @@ fn put_record(after: &mut Lent, writer: u64, numbers: [u64; 4]) {
     }
 }
 
+fn put_promise(after: &mut Lent, writer: u64, places: u64) {
+    let at = 72 + 2 * writer as usize;
+    after.state[at] = places as u8;
+    after.state[at + 1] = (places >> 8) as u8;
+}
+
 pub fn writer_call(kind: Kind, writer: u64, home: u64, before: &Lent, after: &mut Lent) -> Outcome {
     let record = 128 + 96 * writer as usize;
     let [mode, held, first, count] = [0, 8, 16, 24].map(|at| number(&before.state, record + at));
     match kind {
-        Kind::Begin if mode != 0 => return Err(6),
+        Kind::Begin | Kind::Reserve if mode != 0 => return Err(6),
+        Kind::Reserve => {
+            let free = places(&before.state) - promised(&before.state);
+            if home == 0 || i128::from(home) > free {
+                return Err(17);
+            }
+            put_record(after, writer, [1, 0, 0, 0]);
+            put_promise(after, writer, home);
+        }
         Kind::Begin => put_record(after, writer, [1, 0, 0, 0]),
         _ if mode == 0 => return Err(7),
-        Kind::Abort => put_record(after, writer, [0; 4]),
-        Kind::Commit if mode == 1 => put_record(after, writer, [0; 4]),
+        Kind::Abort => end(after, writer),
+        Kind::Commit if mode == 1 => end(after, writer),
         Kind::Commit => {
             let (position, batch) = log_held(writer, true, before, after)?;
             put(&mut after.state, 64, position + 1);
-            put_record(after, writer, [0; 4]);
+            end(after, writer);
             return Ok((position + 1, batch));
         }
         _ => {
@@ -55,6 +69,8 @@ pub fn writer_call(kind: Kind, writer: u64, home: u64, before: &Lent, after: &mu
                 batch = bytes;
                 let logged = if mode == 3 { [first, count + 1] } else { [position, 1] };
                 put_record(after, writer, [3, home, logged[0], logged[1]]);
+                let left = (promise(&before.state, writer as usize) - 1).max(0);
+                put_promise(after, writer, left as u64);
             }
             after.state[record + 32..record + 96].copy_from_slice(&block);
             return Ok((0, batch));
@@ -63,13 +79,19 @@ pub fn writer_call(kind: Kind, writer: u64, home: u64, before: &Lent, after: &mu
     Ok((0, Vec::new()))
 }
 
+/// The writer is idle, and nothing is promised to it.
+fn end(after: &mut Lent, writer: u64) {
+    put_record(after, writer, [0; 4]);
+    put_promise(after, writer, 0);
+}
+
 /// Logs the held block; gives its position and the batch.
 fn log_held(writer: u64, closing: bool, before: &Lent, after: &mut Lent) -> Outcome {
     let state = &before.state;
     let record = 128 + 96 * writer as usize;
     let groups = shape(before).groups;
     let (next, filled, last) = (number(state, 24), number(state, 32), number(state, 64));
-    if next >= number(state, 16) + groups {
+    if promise(state, writer as usize) == 0 && places(state) <= promised(state) {
         return Err(8);
     }
     let position = 7 * next + filled;
@@ -110,6 +132,10 @@ fn hand_on(next: u64, groups: u64, after: &mut Lent, batch: &mut Vec<u8>) {
 pub fn flush(before: &Lent, after: &mut Lent) -> Outcome {
     let mut batch = Vec::new();
     if number(&before.state, 32) > 0 {
+        let left = 7 * (number(&before.state, 16) + shape(before).groups) - 7 * (number(&before.state, 24) + 1);
+        if i128::from(left) < promised(&before.state) {
+            return Err(18);
+        }
         hand_on(number(&before.state, 24), shape(before).groups, after, &mut batch);
     }
     batch.extend([0x46, 0x4e]);

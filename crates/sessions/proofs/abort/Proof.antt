@@ -1,4 +1,4 @@
--- `sessions::abort` meets its contract: refused by the verdict, or done by the one change of the strip. Assumes nothing.
+-- `sessions::abort` meets its contract: refused by the verdict, or done by two changes of the strip. Assumes nothing.
 use native.Mathlib.Omega.{arith}
 use Rattle.sessions.proofs.SessionLaws.{abort-fits, abort-refused, abort-done}
 use borrow.Author.Needs.{needs}
@@ -22,6 +22,11 @@ returns c =
 abort-requires : tie.Need-abort-requires
 abort-requires c κs = omega (arith, abort-fits _ _ (c .before .before .abort-answer .ensures) (c .before .if1 .left))
 
+set-promise-requires : tie.Need-set-promise-requires
+set-promise-requires c κs =
+    let k = c .before .before .before in
+    omega (arith, abort-fits _ _ (k .before .before .before .abort-answer .ensures) (k .before .before .if1 .left))
+
 done-requires : tie.Need-done-requires
 done-requires c κs = search needs
 
@@ -31,8 +36,10 @@ same-length-2 c = search needs
 returns-2 : tie.Need-returns-2
 returns-2 c =
     let k = c .before .before .before in
+    let j = k .before .before .before .before in
     let d = c .done .ensures in
-    abort-done _ _ _ _ _ _ (k .before .before .before .abort-answer .ensures) (k .before .before .if1 .left) (k .abort .ensures) (d .0) (d .1) (d .2)
+    abort-done _ _ _ _ _ _ _ (j .before .before .before .abort-answer .ensures) (j .before .before .if1 .left) (j .abort .ensures)
+    (k .set-promise .ensures) (d .0) (d .1) (d .2)
 
 pub abort-spec : {M : Type 1} → statement M
 abort-spec =
@@ -43,6 +50,7 @@ abort-spec =
     same-length
     returns
     abort-requires
+    set-promise-requires
     done-requires
     same-length-2
     returns-2)

@@ -1,6 +1,6 @@
 -- `logging::commit_verdict` meets its contract. Assumes nothing.
 use native.Mathlib.Omega.{arith}
-use Rattle.logging.proofs.ReadyLaws.{sums}
+use Rattle.answers.proofs.AnswerLaws.{usable-groups}
 use Rattle.logging.proofs.CommitLaws.{refuses, lent-use, writer-no, open-no, none-yes, held-asks}
 use borrow.Author.Needs.{needs}
 use Rattle.logging.proofs.commits.commit_verdict.Statement.{statement}
@@ -71,7 +71,7 @@ may-log-requires c κs =
     let c1 = c2 .before .before .before .before .before in
     let a = c1 .args in
     let u = lent-use (a .log .now) (a .area .now) (a .state .now) (a .batch .now) (a .writer) _ (c2 .in-use .ensures) (c3 .if1 .left) in
-    sums _ _ _ _ u (c .state .ensures)
+    (u .state-length, omega (arith, c .before .before .before .before .before .before .if2 .left), usable-groups _ _ _ _ u (c .state .ensures), c .state .ensures)
 
 returns-5 : tie.Need-returns-5
 returns-5 c =

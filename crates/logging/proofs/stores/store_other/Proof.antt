@@ -1,28 +1,17 @@
 -- `logging::store_other` meets its contract. Assumes nothing.
-use native.Mathlib.Omega.{arith}
-use Rattle.logging.proofs.LogLaws.{may-after, stored, at-position}
+use Rattle.logging.proofs.LogLaws.{stored-used}
 use borrow.Author.Needs.{needs}
 use Rattle.logging.proofs.stores.store_other.Statement.{statement}
 use Rattle.logging.proofs.stores.store_other.Tie as tie
 
-next-position-requires : tie.Need-next-position-requires
-next-position-requires c κs = search needs
+promise-left-requires : tie.Need-promise-left-requires
+promise-left-requires c κs = search needs
 
-store-word-requires : tie.Need-store-word-requires
-store-word-requires c κs = at-position _ _ _ _ (c .next-position .ensures) (c .before .before .before .before .before .pre .1)
+hold-next-requires : tie.Need-hold-next-requires
+hold-next-requires c κs = search needs
 
-hold-requires : tie.Need-hold-requires
-hold-requires c κs =
-    let p = c .before .before .before .before .before .before .before .pre in
-    (p .0 .strip, p .0 .writer, omega (arith, p .1 .many))
-
-log-entry-requires : tie.Need-log-entry-requires
-log-entry-requires c κs =
-    let c1 = c .before .before .before .before .before in
-    may-after _ _ _ _ _ _ _ (c1 .before .before .before .before .before .before .before .before .pre .0) (c1 .hold .ensures)
-
-set-held-requires : tie.Need-set-held-requires
-set-held-requires c κs = search needs
+set-promise-requires : tie.Need-set-promise-requires
+set-promise-requires c κs = search needs
 
 same-length : tie.Need-same-length
 same-length c = search needs
@@ -35,25 +24,11 @@ same-length-3 c = search needs
 
 returns : tie.Need-returns
 returns c =
-    let c5 = c .before .before in
-    let c4 = c5 .before .before .before .before .before .before .before .before in
-    let c3 = c4 .before .before .before .before .before .before in
-    let c2 = c3 .before .before in
-    let c1 = c2 .before in
-    let p = c1 .before .before .before .before .before .pre in
-    stored _ _ _ _ _ _ _ _ _ _ _ _ _ _ _ _ (c1 .next-position .ensures) (c2 .store-word .ensures) (p .3) (p .4) (c3 .hold .ensures)
-    (c4 .log-entry .ensures) (c5 .set-held .ensures)
+    let c3 = c .before .before in
+    let c2 = c3 .before .before .before .before .before .before .before .before in
+    stored-used _ _ _ _ _ _ _ _ _ _ _ _ _ _ (c2 .before .before .before .before .promise-left .ensures) (c2 .hold-next .ensures) (c3 .set-promise .ensures)
 
 pub store-other-spec : {M : Type 1} → statement M
 store-other-spec =
     tie.close
-    (tie.spec
-    next-position-requires
-    store-word-requires
-    hold-requires
-    log-entry-requires
-    set-held-requires
-    same-length
-    same-length-2
-    same-length-3
-    returns)
+    (tie.spec promise-left-requires hold-next-requires set-promise-requires same-length same-length-2 same-length-3 returns)

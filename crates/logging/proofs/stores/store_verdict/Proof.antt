@@ -1,6 +1,6 @@
 -- `logging::store_verdict` meets its contract. Assumes nothing.
 use native.Mathlib.Omega.{arith}
-use Rattle.logging.proofs.ReadyLaws.{sums}
+use Rattle.answers.proofs.AnswerLaws.{usable-groups}
 use Rattle.logging.proofs.StoreLaws.{refuses, lent-use, writer-no, home-no, open-no, first-yes, again-yes, other-asks}
 use borrow.Author.Needs.{needs}
 use Rattle.logging.proofs.stores.store_verdict.Statement.{statement}
@@ -106,7 +106,7 @@ may-log-requires c κs =
     let c1 = c2 .before .before .before .before .before .before in
     let a = c1 .args in
     let u = lent-use (a .log .now) (a .area .now) (a .state .now) (a .block .now) (a .batch .now) (a .writer) (a .home) _ (c2 .in-use-block .ensures) (c3 .if1 .left) in
-    sums _ _ _ _ u (c .state .ensures)
+    (u .state-length, omega (arith, c .before .before .before .before .before .before .before .before .before .before .if2 .left), usable-groups _ _ _ _ u (c .state .ensures), c .state .ensures)
 
 returns-7 : tie.Need-returns-7
 returns-7 c =

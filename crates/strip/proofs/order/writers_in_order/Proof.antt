@@ -1,9 +1,9 @@
 -- `strip::writers_in_order` meets its contract. The loop's invariant: the writers before `w` are in order. Assumes nothing.
-use mathlib.Core.Path.{_≡_, ap, _∙_}
+use mathlib.Core.Path.{_≡_}
 use mathlib.Core.Bool.{true}
 use Prim.Native.Nat.{_-_, _≤_}
 use native.Mathlib.Omega.{arith}
-use Rattle.model.specs.State.{writerInOrder, writersInOrder}
+use Rattle.model.specs.State.{writersInOrder}
 use Rattle.strip.proofs.OrderTests.{answered-no, answered-yes, writers-none, writers-turn, writers-stop}
 use Rattle.strip.proofs.order.writers_in_order.Statement.{statement}
 use Rattle.strip.proofs.order.writers_in_order.Tie as tie
@@ -17,17 +17,13 @@ abbrev μ-loop : tie.MeasureT-loop
 loop-holds : tie.Need-loop-holds Inv-loop μ-loop
 loop-holds c = (writers-none _ _, omega arith)
 
-writer-requires : tie.Need-writer-requires Inv-loop μ-loop
-writer-requires c κs = omega arith
-
-writer-in-order-requires : tie.Need-writer-in-order-requires Inv-loop μ-loop
-writer-in-order-requires c κs = omega arith
+writer-at-in-order-requires : tie.Need-writer-at-in-order-requires Inv-loop μ-loop
+writer-at-in-order-requires c κs = omega arith
 
 returns : tie.Need-returns Inv-loop μ-loop
 returns c =
-    let l = c .before .before .before .before .loop in
-    let e = c .before .writer-in-order .ensures ∙ ap (writerInOrder _) (c .before .before .writer .ensures) in
-    writers-stop _ _ (l .w) 8 (omega arith) (answered-no e (c .if1 .taken))
+    let l = c .before .before .before .loop in
+    writers-stop _ _ (l .w) 8 (omega arith) (answered-no (c .before .writer-at-in-order .ensures) (c .if1 .taken))
 
 add-w : tie.Need-add-w Inv-loop μ-loop
 add-w c = omega arith
@@ -37,9 +33,8 @@ loop-less c = omega arith
 
 loop-again : tie.Need-loop-again Inv-loop μ-loop
 loop-again c =
-    let l = c .before .before .before .before .loop in
-    let e = c .before .writer-in-order .ensures ∙ ap (writerInOrder _) (c .before .before .writer .ensures) in
-    (writers-turn _ _ (l .w) (l .inv .0) (answered-yes e (c .if1 .left)), omega arith)
+    let l = c .before .before .before .loop in
+    (writers-turn _ _ (l .w) (l .inv .0) (answered-yes (c .before .writer-at-in-order .ensures) (c .if1 .left)), omega arith)
 
 returns-2 : tie.Need-returns-2 Inv-loop μ-loop
 returns-2 c = let e : c .before .loop .w ≡ 8 = omega arith in rw e at (c .before .loop .inv .0)
@@ -51,8 +46,7 @@ writers-in-order-spec =
     Inv-loop
     μ-loop
     loop-holds
-    writer-requires
-    writer-in-order-requires
+    writer-at-in-order-requires
     returns
     add-w
     loop-less
