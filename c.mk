@@ -21,7 +21,7 @@ C_SANITIZE = -O1 -g -fno-omit-frame-pointer -fsanitize=address,undefined -fno-sa
 C_OUT = target/c
 C_HEADERS = $(wildcard include/*.h c/*.h c/store/*.h)
 
-C_STORE = store/store store/batch store/memory store/file store/file_io store/fram
+C_STORE = store/store store/usage store/batch store/memory store/file store/file_io store/fram
 C_STATION = station_main options power tasks wear calls refusals report station book rule driver driver_file $(C_STORE)
 C_INSPECT = inspect inspect_image inspect_fate inspect_text inspect_json rule
 C_DRIVER_CHECK = driver_check driver driver_file $(C_STORE)

@@ -7,8 +7,8 @@
 #define STATE(s) (s)->state, (size_t)KAGUTIN_STATE_SIZE
 #define BATCH(s) (s)->batch, (s)->batch_size
 
-/* Writers' records in the state, and what stands there; docs/FORMAT.md. */
-enum { STATE_START = 16, WRITERS_AT = 128, WRITER_SIZE = 96, WRITER_FIRST = 16, MODE_LOGGING = 3 };
+/* Where the log's start stands in the state; docs/FORMAT.md. */
+enum { STATE_START = 16 };
 
 const char *kgt_answer_text(uint64_t code)
 {
@@ -139,41 +139,23 @@ struct kagutin_reply kgt_open(struct kagutin *store)
 
 /* ---- a full log ---- */
 
-static uint64_t number(const uint8_t *bytes)
+static uint64_t start_of(const struct kagutin *store)
 {
-    uint64_t value = 0;
+    uint64_t start = 0;
     int i;
 
     for (i = 7; i >= 0; i--)
-        value = value << 8 | bytes[i];
-    return value;
-}
-
-/* The writer whose open transaction begins first in the log, and where; 8 if none has entries there. */
-static uint64_t oldest_writer(const struct kagutin *store, uint64_t *first)
-{
-    uint64_t oldest = KAGUTIN_WRITERS, writer;
-
-    for (writer = 0; writer < KAGUTIN_WRITERS; writer++) {
-        const uint8_t *record = store->state + WRITERS_AT + WRITER_SIZE * writer;
-
-        if (number(record) != MODE_LOGGING)
-            continue;
-        if (oldest == KAGUTIN_WRITERS || number(record + WRITER_FIRST) < *first) {
-            oldest = writer;
-            *first = number(record + WRITER_FIRST);
-        }
-    }
-    return oldest;
+        start = start << 8 | store->state[STATE_START + i];
+    return start;
 }
 
 /* Flush, settle, trim, unless the log's first group is held. False: tried in vain, or not done as reply says. */
 static bool make_room(struct kagutin *store, struct kagutin_reply *reply)
 {
-    uint64_t first = 0, start = number(store->state + STATE_START);
+    uint64_t first, start = start_of(store);
     struct kagutin_reply done;
 
-    if (oldest_writer(store, &first) < KAGUTIN_WRITERS && first / KAGUTIN_GROUP_ENTRIES == start)
+    if (kgt_holder(store->state, &first) < KAGUTIN_WRITERS && first / KAGUTIN_GROUP_ENTRIES == start)
         return false;
     done = run(store, store->batch, kagutin_flush(AREAS(store), STATE(store), BATCH(store)));
     if (done.code == KAGUTIN_DONE)
@@ -182,15 +164,15 @@ static bool make_room(struct kagutin *store, struct kagutin_reply *reply)
         done = run(store, store->batch, kagutin_trim(AREAS(store), STATE(store), BATCH(store)));
     if (done.code != KAGUTIN_DONE)
         *reply = done;
-    return done.code == KAGUTIN_DONE && number(store->state + STATE_START) != start;
+    return done.code == KAGUTIN_DONE && start_of(store) != start;
 }
 
 static struct kagutin_reply say_holder(const struct kagutin *store, struct kagutin_reply reply)
 {
-    uint64_t first = 0;
+    uint64_t first;
 
     if (reply.code == KAGUTIN_FULL)
-        reply.figure = oldest_writer(store, &first);
+        reply.figure = kgt_holder(store->state, &first);
     return reply;
 }
 
@@ -283,4 +265,14 @@ struct kagutin_reply kgt_maintain(struct kagutin *store, uint64_t most)
     if (reply.code == KAGUTIN_DONE)
         reply = run(store, store->batch, kagutin_trim(AREAS(store), STATE(store), BATCH(store)));
     return leave(store, reply);
+}
+
+struct kagutin_reply kgt_usage(struct kagutin *store, struct kgt_usage *usage)
+{
+    struct kagutin_reply reply;
+
+    if (!enter(store, &reply))
+        return reply;
+    kgt_count(store->log, store->state, usage);
+    return leave(store, answer(KAGUTIN_DONE, 0));
 }
