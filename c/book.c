@@ -137,6 +137,7 @@ static void log_held(struct book *book, struct book_writer *record)
     entry = &record->entries[record->count++];
     entry->home = record->home;
     entry->row = book->rows;
+    entry->position = next_position(book);
     memcpy(entry->block, record->block, sizeof entry->block);
     record->holds = false;
     if (++book->filled == KAGUTIN_GROUP_ENTRIES)
@@ -237,6 +238,38 @@ void book_trim(struct book *book)
         return;
     book->start = start;
     book->fenced = KAGUTIN_GROUP_ENTRIES * book->next;
+}
+
+/* How many entries lie in the log from a position on. */
+static uint64_t entries_from(const struct book_entry *entries, size_t count, uint64_t position)
+{
+    while (count > 0 && entries[0].position < position) {
+        entries++;
+        count--;
+    }
+    return count;
+}
+
+void book_usage(const struct book *book, struct kgt_usage *usage)
+{
+    uint64_t from = KAGUTIN_GROUP_ENTRIES * book->start;
+    size_t i;
+
+    memset(usage, 0, sizeof *usage);
+    usage->holder = KAGUTIN_WRITERS;
+    for (i = 0; i < KAGUTIN_WRITERS; i++) {
+        const struct book_writer *record = &book->writers[i];
+
+        usage->live += entries_from(record->entries, record->count, from);
+        if (record->count && (usage->holder == KAGUTIN_WRITERS || record->first < usage->first)) {
+            usage->holder = i;
+            usage->first = record->first;
+        }
+    }
+    for (i = book->commit_count; i > 0 && book->commits[i - 1].ticket > from; i--)
+        usage->live += entries_from(book->commits[i - 1].entries, book->commits[i - 1].count, from);
+    usage->dead = next_position(book) - from - usage->live;
+    usage->free = KAGUTIN_GROUP_ENTRIES * book->groups - usage->live - usage->dead;
 }
 
 const uint8_t *book_read(const struct book *book, unsigned writer, size_t home)

@@ -14,11 +14,12 @@
 #include <stddef.h>
 #include <stdint.h>
 
-#include "kagutin.h"
+#include "kagutin_store.h"
 
 struct book_entry {
     size_t home;
     uint64_t row; /* rows are numbered as groups are written, since the start */
+    uint64_t position;
     uint8_t block[KAGUTIN_BLOCK_SIZE];
 };
 
@@ -93,6 +94,9 @@ void book_settle(struct book *book);
 /* The start to which a trim must move; the present one if it must not. */
 uint64_t book_trim_start(const struct book *book);
 void book_trim(struct book *book);
+
+/* The log's places by what the calls made of them. */
+void book_usage(const struct book *book, struct kgt_usage *usage);
 
 /* The block that a read must give. */
 const uint8_t *book_read(const struct book *book, unsigned writer, size_t home);

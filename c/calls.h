@@ -22,4 +22,7 @@ void call_settle(struct station *station);
 void call_trim(struct station *station);
 void call_read(struct station *station, unsigned writer, size_t home, uint8_t *block);
 
+/* Counts what fills the log. */
+void call_usage(struct station *station);
+
 #endif

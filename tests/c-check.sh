@@ -118,6 +118,8 @@ grep -q '^station (Kagutin) [0-9]' "$tmp/out"; report $? "station: says its vers
 gives 0 "station, every cut" "$san/station" --cuts 60 --verbose
 [ "$(grep -c '^ *[0-9]* *\(at work\|opening\) ' "$tmp/out")" -eq 60 ]; report $? "station --verbose: a line for each cut"
 [ "$(awk 'length > 99' "$tmp/out" | wc -l)" -eq 0 ]; report $? "station: no line of 100 columns"
+grep -q '^log full (.* 0 free; task [0-7] holds it' "$tmp/out"; report $? "station: says why the log is full"
+grep -q '^ *[0-9]* live at the end, [0-9]* dead, [0-9]* free$' "$tmp/out"; report $? "station: what fills the log at the end"
 "$san/station" --cuts 1000000 --csv > "$tmp/out" 2> "$tmp/log" &
 sleep 1; kill -INT $!; wait $!; status=$?
 [ $status -eq 130 ] && [ "$(wc -l < "$tmp/out")" -eq 9 ]; report $? "station interrupted: its sheet is written"
@@ -159,6 +161,10 @@ if command -v python3 > /dev/null; then
     python3 -c 'import json,sys; v = json.load(open(sys.argv[1])); sys.exit(not (v["image"].endswith("/Pumpenhäuschen.img")
         and len(v["homes"]) == 20 and any(e["comes_back"] for s in v["slots"] for e in s.get("entries", []))))' "$tmp/out" 2>> "$tmp/log"
     report $? "inspect: a name in UTF-8, every home, entries that come back"
+    python3 -c 'import json,sys; v = json.load(open(sys.argv[1])); p = v["places"]
+e = [x["comes_back"] for s in v["slots"] for x in s.get("entries", []) if x["kind"] != "nothing"]
+sys.exit(not (sum(p.values()) == 7 * len(v["slots"]) and p["committed"] == sum(e) and p["others"] == len(e) - sum(e) > 0))' "$tmp/out" 2>> "$tmp/log"
+    report $? "inspect: places with entries that come back, with others, unused"
     bad=$(printf '%s/bad\377name.img' "$tmp"); cp "$image" "$bad"
     "$san/inspect" --json "$bad" > "$tmp/out" 2> "$tmp/log"
     quiet python3 -m json.tool "$tmp/out"; report $? "inspect: a name that is no UTF-8"

@@ -1,6 +1,6 @@
 /*
  * Eight threads on one store, one writer each, under the lock hooks; a ninth
- * syncs and maintains. Each writes a pair of homes in one transaction, again
+ * syncs, maintains and counts the places. Each writes a pair of homes in one transaction, again
  * and again. Then power is cut, and every pair must be whole.
  */
 #define _POSIX_C_SOURCE 200809L
@@ -62,11 +62,14 @@ static void *task(void *argument)
 
 static void *housekeeping(void *argument)
 {
+    struct kgt_usage usage;
     unsigned round;
 
     (void)argument;
     for (round = 0; round < ROUNDS; round++)
-        failures[KAGUTIN_WRITERS] += kgt_sync(&store).code != KAGUTIN_DONE || kgt_maintain(&store, 4).code != KAGUTIN_DONE;
+        failures[KAGUTIN_WRITERS] += kgt_sync(&store).code != KAGUTIN_DONE || kgt_maintain(&store, 4).code != KAGUTIN_DONE
+            || kgt_usage(&store, &usage).code != KAGUTIN_DONE
+            || usage.live + usage.dead + usage.free != KAGUTIN_GROUP_ENTRIES * GROUPS;
     return NULL;
 }
 
