@@ -151,7 +151,7 @@ void call_open(struct station *station)
 
 void call_usage(struct station *station)
 {
-    struct kgt_usage *usage = &station->usage, book;
+    struct kgt_places *usage = &station->usage, book;
 
     kgt_count(station->driver.log, station->driver.state, usage);
     book_usage(&station->book, &book);

@@ -142,7 +142,7 @@ int kgt_run_fence(struct kgt_runner *runner);
  * live, dead or free. Dead places and those of committed transactions come free
  * by sync and maintain, up to the group in which the holder's transaction begins.
  */
-struct kgt_usage {
+struct kgt_places {
     uint64_t live;     /* entries of open transactions, and of committed ones that are not trimmed */
     uint64_t dead;     /* aborted, or passed over by a flush, and not trimmed */
     uint64_t free;     /* from the next position on, promised ones included */
@@ -152,7 +152,7 @@ struct kgt_usage {
 };
 
 /* For programs that use the bare calls: the same of a store that is open; its holder alone. */
-void kgt_count(const uint8_t *log, const uint8_t *state, struct kgt_usage *usage);
+void kgt_count(const uint8_t *log, const uint8_t *state, struct kgt_places *places);
 uint64_t kgt_holder(const uint8_t *state, uint64_t *first);
 
 /* ---- the object ---- */
@@ -230,9 +230,9 @@ struct kagutin_reply kgt_maintain(struct kagutin *store, uint64_t most);
 /*
  * Tells what fills the log at this moment, and which writer holds it back. A
  * held block has no place yet. Writes nothing; takes a few steps for each
- * commit that is not trimmed. Answers 64, 65, 66, which leave usage as it was.
+ * commit that is not trimmed. Answers 64, 65, 66, which leave places as they were.
  */
-struct kagutin_reply kgt_usage(struct kagutin *store, struct kgt_usage *usage);
+struct kagutin_reply kgt_usage(struct kagutin *store, struct kgt_places *places);
 
 #ifdef __cplusplus
 }

@@ -141,7 +141,7 @@ static void check_refused(struct kagutin_reply reply, unsigned long at)
 static void check_shut(unsigned long at)
 {
     uint8_t block[KAGUTIN_BLOCK_SIZE] = {0};
-    struct kgt_usage usage;
+    struct kgt_places usage;
 
     calls_left = 1000;
     memcpy(before, memory, sizeof memory);
@@ -212,7 +212,7 @@ static void check_lock_refused(struct kagutin_reply reply)
 static void check_locks(void)
 {
     uint8_t block[KAGUTIN_BLOCK_SIZE] = {0};
-    struct kgt_usage usage;
+    struct kgt_places usage;
 
     power_on();
     kgt_set_lock(&store, take, give, NULL);
@@ -294,7 +294,7 @@ static void check_full(void)
 static void check_usage(uint64_t live, uint64_t dead, uint64_t holder, uint64_t first)
 {
     static unsigned long at;
-    struct kgt_usage usage;
+    struct kgt_places usage;
 
     at++;
     check(kgt_usage(&store, &usage).code == KAGUTIN_DONE, "usage", at);
@@ -323,7 +323,7 @@ static void begin_and_store(uint64_t writer, uint64_t count)
 
 static void check_classes(void)
 {
-    struct kgt_usage usage = {1, 2, 3, 4, 5, 6};
+    struct kgt_places usage = {1, 2, 3, 4, 5, 6};
 
     power_on();
     check(kgt_usage(&store, &usage).code == KGT_CLOSED && usage.live == 1 && usage.first == 6, "usage of a closed store", 0);

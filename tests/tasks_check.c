@@ -62,7 +62,7 @@ static void *task(void *argument)
 
 static void *housekeeping(void *argument)
 {
-    struct kgt_usage usage;
+    struct kgt_places usage;
     unsigned round;
 
     (void)argument;

@@ -267,12 +267,12 @@ struct kagutin_reply kgt_maintain(struct kagutin *store, uint64_t most)
     return leave(store, reply);
 }
 
-struct kagutin_reply kgt_usage(struct kagutin *store, struct kgt_usage *usage)
+struct kagutin_reply kgt_usage(struct kagutin *store, struct kgt_places *places)
 {
     struct kagutin_reply reply;
 
     if (!enter(store, &reply))
         return reply;
-    kgt_count(store->log, store->state, usage);
+    kgt_count(store->log, store->state, places);
     return leave(store, answer(KAGUTIN_DONE, 0));
 }

@@ -55,20 +55,20 @@ static uint64_t committed_entries(const uint8_t *log, const uint8_t *state, uint
     return entries;
 }
 
-void kgt_count(const uint8_t *log, const uint8_t *state, struct kgt_usage *usage)
+void kgt_count(const uint8_t *log, const uint8_t *state, struct kgt_places *places)
 {
     uint64_t from = KAGUTIN_GROUP_ENTRIES * number(state + START, 8), writer;
     uint64_t next = KAGUTIN_GROUP_ENTRIES * number(state + NEXT, 8) + number(state + FILLED, 8);
 
-    usage->live = committed_entries(log, state, from);
-    usage->promised = 0;
+    places->live = committed_entries(log, state, from);
+    places->promised = 0;
     for (writer = 0; writer < KAGUTIN_WRITERS; writer++) {
         const uint8_t *record = logging(state, writer);
 
-        usage->live += record ? number(record + COUNT, 8) : 0;
-        usage->promised += number(state + PROMISES + 2 * writer, 2);
+        places->live += record ? number(record + COUNT, 8) : 0;
+        places->promised += number(state + PROMISES + 2 * writer, 2);
     }
-    usage->dead = next - from - usage->live;
-    usage->free = from + KAGUTIN_GROUP_ENTRIES * number(state + GROUPS, 8) - next;
-    usage->holder = kgt_holder(state, &usage->first);
+    places->dead = next - from - places->live;
+    places->free = from + KAGUTIN_GROUP_ENTRIES * number(state + GROUPS, 8) - next;
+    places->holder = kgt_holder(state, &places->first);
 }
