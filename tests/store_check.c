@@ -367,6 +367,22 @@ static void check_drain(void)
     }
 }
 
+/* A trim that leaves a commit whose link leads to one before the start. */
+static void check_part_trimmed(void)
+{
+    power_on();
+    check(kgt_open(&store).code == KAGUTIN_DONE, "open", 0);
+    begin_and_store(0, 2);
+    check(kgt_commit(&store, 0).code == KAGUTIN_DONE && kgt_sync(&store).code == KAGUTIN_DONE, "commit, sync", 0);
+    check_usage(2, 5, 8, 0);
+    begin_and_store(1, 2);
+    begin_and_store(0, 1);
+    check(kgt_commit(&store, 0).code == KAGUTIN_DONE && kgt_sync(&store).code == KAGUTIN_DONE, "commit, sync", 1);
+    check_usage(4, 10, 1, 7);
+    check(kgt_maintain(&store, 0).code == KAGUTIN_DONE, "maintain", 0);
+    check_usage(2, 5, 1, 7);
+}
+
 /* The log is full: of aborted entries, of one transaction. */
 static void check_full_usage(void)
 {
@@ -397,6 +413,7 @@ int main(int count, char **words)
     check_full();
     check_classes();
     check_drain();
+    check_part_trimmed();
     check_full_usage();
     check_locks();
     check_failures();
