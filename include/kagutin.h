@@ -72,7 +72,7 @@ extern "C" {
 #define KAGUTIN_FLUSH_BATCH (KAGUTIN_GW_SIZE + KAGUTIN_FN_SIZE)
 #define KAGUTIN_TRIM_BATCH (KAGUTIN_KW_SIZE + KAGUTIN_FN_SIZE)
 
-/* Answers. A call asks its questions in the order 1 to 8, 10, 9. */
+/* Answers. A call asks its questions in the order 1 to 8, 17, 18, 10, 9. */
 enum kagutin_answer {
     KAGUTIN_DONE = 0,
     KAGUTIN_BAD_LENGTH = 1,   /* log, area, state or block has a wrong length */
@@ -80,11 +80,13 @@ enum kagutin_answer {
     KAGUTIN_BAD_HEADER = 3,   /* open: the log's header is not one */
     KAGUTIN_BAD_WRITER = 4,   /* writer above 7 */
     KAGUTIN_BAD_HOME = 5,     /* home not below D */
-    KAGUTIN_NOT_IDLE = 6,     /* begin: the writer has a transaction open */
+    KAGUTIN_NOT_IDLE = 6,     /* begin, reserve: the writer has one open */
     KAGUTIN_NOT_OPEN = 7,     /* store, commit, abort: it has none open */
     KAGUTIN_FULL = 8,         /* no place left in the log for an entry */
     KAGUTIN_SHORT_BATCH = 9,  /* the batch cannot hold what the call writes */
-    KAGUTIN_WORN_OUT = 10     /* open, trim: the new start would exceed 2^47 */
+    KAGUTIN_WORN_OUT = 10,    /* open, trim: the new start would exceed 2^47 */
+    KAGUTIN_NO_PLACES = 17,   /* reserve: n is 0 or more than are free */
+    KAGUTIN_PROMISED = 18     /* flush: it would leave too few for promises */
 };
 
 struct kagutin_reply {
@@ -140,6 +142,8 @@ static inline const char *kagutin_answer_text(uint64_t code)
     case KAGUTIN_FULL: return "the log is full";
     case KAGUTIN_SHORT_BATCH: return "the batch is too short";
     case KAGUTIN_WORN_OUT: return "the new start would exceed 2^47";
+    case KAGUTIN_NO_PLACES: return "not so many places are free";
+    case KAGUTIN_PROMISED: return "too few places would be left for promises";
     default: return "not an answer";
     }
 }
@@ -170,8 +174,19 @@ struct kagutin_reply kagutin_begin(
     uint8_t *state, size_t state_size, uint64_t writer);
 
 /*
- * Drops the writer's transaction; its entries in the log never count.
- * Answers 1, 2, 4, 7.
+ * Opens a transaction of an idle writer and promises it n places of the log:
+ * its first n entries, the commit's own among them, are not answered 8. Free
+ * places are those up to the end of the ring less those promised; a store to
+ * the same home again and a refused call use none up. Commit and abort give
+ * the rest back, an opening all. Answers 1, 2, 4, 6, 17.
+ */
+struct kagutin_reply kagutin_reserve(
+    const uint8_t *log, size_t log_size, const uint8_t *area, size_t area_size,
+    uint8_t *state, size_t state_size, uint64_t writer, uint64_t n);
+
+/*
+ * Drops the writer's transaction; its entries in the log never count, and
+ * places promised to it are free again. Answers 1, 2, 4, 7.
  */
 struct kagutin_reply kagutin_abort(
     const uint8_t *log, size_t log_size, const uint8_t *area, size_t area_size,
@@ -203,8 +218,9 @@ struct kagutin_reply kagutin_commit(
     uint64_t writer);
 
 /*
- * Submits a part-filled group, if there is one, and fences.
- * Batch: GW if so, FN. Answers 1, 2, 9.
+ * Submits a part-filled group, if there is one, and fences. 18: the places
+ * passed over are promised; store on, or let a writer commit or abort.
+ * Batch: GW if so, FN. Answers 1, 2, 18, 9.
  */
 struct kagutin_reply kagutin_flush(
     const uint8_t *log, size_t log_size, const uint8_t *area, size_t area_size,
