@@ -27,10 +27,11 @@ C_INSPECT = inspect inspect_image inspect_fate inspect_text inspect_json rule
 C_DRIVER_CHECK = driver_check driver driver_file $(C_STORE)
 C_QUICKSTART = quickstart $(C_STORE)
 C_STORE_CHECK = store_check play $(C_STORE)
+C_RESERVE_CHECK = reserve_check $(C_STORE)
 C_FILE_CHECK = file_check play $(C_STORE)
 C_KILL_CHECK = kill_check play $(C_STORE)
 C_FRAM_CHECK = fram_check play $(C_STORE)
-C_PROGRAMS = station inspect quickstart driver_check store_check file_check kill_check fram_check
+C_PROGRAMS = station inspect quickstart driver_check store_check reserve_check file_check kill_check fram_check
 
 .PHONY: station inspect quickstart c-sanitize c-check c-kills c-dist install uninstall c-clean
 
@@ -69,6 +70,7 @@ $(eval $(call C_PROGRAM,inspect,$(C_INSPECT),))
 $(eval $(call C_PROGRAM,quickstart,$(C_QUICKSTART),$(LIB)))
 $(eval $(call C_PROGRAM,driver_check,$(C_DRIVER_CHECK),$(LIB)))
 $(eval $(call C_PROGRAM,store_check,$(C_STORE_CHECK),$(LIB)))
+$(eval $(call C_PROGRAM,reserve_check,$(C_RESERVE_CHECK),$(LIB)))
 $(eval $(call C_PROGRAM,file_check,$(C_FILE_CHECK),$(LIB)))
 $(eval $(call C_PROGRAM,kill_check,$(C_KILL_CHECK),$(LIB)))
 $(eval $(call C_PROGRAM,fram_check,$(C_FRAM_CHECK),$(LIB)))

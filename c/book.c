@@ -75,9 +75,10 @@ void book_opened(struct book *book, uint64_t start)
     book->fenced = book->settled = KAGUTIN_GROUP_ENTRIES * start;
 }
 
-void book_begin(struct book *book, unsigned writer)
+void book_begin(struct book *book, unsigned writer, uint64_t promised)
 {
     book->writers[writer].open = true;
+    book->writers[writer].promised = promised;
 }
 
 void book_abort(struct book *book, unsigned writer)
@@ -98,14 +99,34 @@ bool book_commit_logs(const struct book *book, unsigned writer)
     return book->writers[writer].holds;
 }
 
-bool book_has_place(const struct book *book)
-{
-    return book->next < book->start + book->groups;
-}
-
 static uint64_t next_position(const struct book *book)
 {
     return KAGUTIN_GROUP_ENTRIES * book->next + book->filled;
+}
+
+static uint64_t promised_places(const struct book *book)
+{
+    uint64_t places = 0;
+    size_t i;
+
+    for (i = 0; i < KAGUTIN_WRITERS; i++)
+        places += book->writers[i].promised;
+    return places;
+}
+
+uint64_t book_free_places(const struct book *book)
+{
+    return KAGUTIN_GROUP_ENTRIES * (book->start + book->groups) - next_position(book) - promised_places(book);
+}
+
+bool book_has_place(const struct book *book, unsigned writer)
+{
+    return book->writers[writer].promised || book_free_places(book);
+}
+
+bool book_may_flush(const struct book *book)
+{
+    return book->filled == 0 || book_free_places(book) >= KAGUTIN_GROUP_ENTRIES - book->filled;
 }
 
 /* The row goes to lasting memory as the next group. */
@@ -140,6 +161,7 @@ static void log_held(struct book *book, struct book_writer *record)
     entry->position = next_position(book);
     memcpy(entry->block, record->block, sizeof entry->block);
     record->holds = false;
+    record->promised -= record->promised > 0;
     if (++book->filled == KAGUTIN_GROUP_ENTRIES)
         submit_row(book);
 }
@@ -270,6 +292,7 @@ void book_usage(const struct book *book, struct kgt_places *usage)
         usage->live += entries_from(book->commits[i - 1].entries, book->commits[i - 1].count, from);
     usage->dead = next_position(book) - from - usage->live;
     usage->free = KAGUTIN_GROUP_ENTRIES * book->groups - usage->live - usage->dead;
+    usage->promised = promised_places(book);
 }
 
 const uint8_t *book_read(const struct book *book, unsigned writer, size_t home)

@@ -39,6 +39,7 @@ struct book_writer {
     struct book_entry *entries;
     size_t count, room;
     uint64_t first;
+    uint64_t promised; /* places that no entry has used up */
 };
 
 struct book {
@@ -76,13 +77,18 @@ void book_free(struct book *book);
 /* A done opening with this new start. */
 void book_opened(struct book *book, uint64_t start);
 
-void book_begin(struct book *book, unsigned writer);
+/* A begin with this many places promised, or none. */
+void book_begin(struct book *book, unsigned writer, uint64_t promised);
 void book_abort(struct book *book, unsigned writer);
 
-/* Must this store, or a commit, log an entry? Is there a place for one? */
+/* Must this store, or a commit, log an entry? Is there a place for one of this writer? */
 bool book_store_logs(const struct book *book, unsigned writer, size_t home);
 bool book_commit_logs(const struct book *book, unsigned writer);
-bool book_has_place(const struct book *book);
+bool book_has_place(const struct book *book, unsigned writer);
+
+/* Places that can be promised. Does a flush leave all that are? */
+uint64_t book_free_places(const struct book *book);
+bool book_may_flush(const struct book *book);
 
 /* Done calls. book_commit returns the ticket. */
 void book_store(struct book *book, unsigned writer, size_t home, const uint8_t *block);

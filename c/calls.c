@@ -155,6 +155,9 @@ void call_usage(struct station *station)
 
     kgt_count(station->driver.log, station->driver.state, usage);
     book_usage(&station->book, &book);
+    if (usage->promised != book.promised)
+        station_mismatch(station, "%llu places are promised, by the book %llu", (unsigned long long)usage->promised,
+                         (unsigned long long)book.promised);
     if (usage->live != book.live || usage->dead != book.dead || usage->free != book.free)
         station_mismatch(station, "%llu places are live, %llu dead and %llu free, by the book %llu, %llu and %llu",
                          (unsigned long long)usage->live, (unsigned long long)usage->dead, (unsigned long long)usage->free,
@@ -176,7 +179,26 @@ static void refused_full(struct station *station, const char *call, struct kagut
 void call_begin(struct station *station, unsigned writer)
 {
     expect(station, "begin", kagutin_begin(AREAS(station), STATE(station), writer), 0, 0);
-    book_begin(&station->book, writer);
+    book_begin(&station->book, writer, 0);
+}
+
+bool call_reserve(struct station *station, unsigned writer, uint64_t places)
+{
+    bool granted = places > 0 && places <= book_free_places(&station->book);
+    struct kagutin_reply reply;
+
+    if (!granted)
+        refusal_prepare(station);
+    reply = kagutin_reserve(AREAS(station), STATE(station), writer, places);
+    if (!granted) {
+        refusal_check(station, "reserve", reply, KAGUTIN_NO_PLACES);
+        return false;
+    }
+    expect(station, "reserve", reply, 0, 0);
+    book_begin(&station->book, writer, places);
+    station->counters.reserves++;
+    call_usage(station);
+    return true;
 }
 
 void call_abort(struct station *station, unsigned writer)
@@ -197,7 +219,7 @@ static uint64_t entry_size(const struct book *book)
 bool call_store(struct station *station, unsigned writer, size_t home, const uint8_t *block)
 {
     bool logs = book_store_logs(&station->book, writer, home);
-    bool full = logs && !book_has_place(&station->book);
+    bool full = logs && !book_has_place(&station->book, writer);
     uint64_t size = logs ? entry_size(&station->book) : 0, group = station->book.next;
     struct kagutin_reply reply;
 
@@ -220,7 +242,7 @@ bool call_store(struct station *station, unsigned writer, size_t home, const uin
 bool call_commit(struct station *station, unsigned writer)
 {
     bool logs = book_commit_logs(&station->book, writer);
-    bool full = logs && !book_has_place(&station->book);
+    bool full = logs && !book_has_place(&station->book, writer);
     uint64_t size = logs ? entry_size(&station->book) : 0, group = station->book.next;
     struct kagutin_reply reply;
 
@@ -239,12 +261,19 @@ bool call_commit(struct station *station, unsigned writer)
     return true;
 }
 
-void call_flush(struct station *station)
+bool call_flush(struct station *station)
 {
-    bool part = station->book.filled > 0;
+    bool part = station->book.filled > 0, may = book_may_flush(&station->book);
     uint64_t group = station->book.next;
-    struct kagutin_reply reply = kagutin_flush(AREAS(station), STATE(station), BATCH(station));
+    struct kagutin_reply reply;
 
+    if (!may)
+        refusal_prepare(station);
+    reply = kagutin_flush(AREAS(station), STATE(station), BATCH(station));
+    if (!may) {
+        refusal_check(station, "flush", reply, KAGUTIN_PROMISED);
+        return false;
+    }
     expect(station, "flush", reply, 0, part ? KAGUTIN_FLUSH_BATCH : KAGUTIN_FN_SIZE);
     if (part)
         expect_group(station, "flush", group);
@@ -253,6 +282,7 @@ void call_flush(struct station *station)
     book_flush(&station->book);
     submit(station, reply.size);
     call_usage(station);
+    return true;
 }
 
 /* The driver confirms only what passed: all that waits is run first. */

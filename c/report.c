@@ -160,6 +160,8 @@ static void print_log(const struct station *station)
                 counters->full_live / counters->full, counters->full_dead / counters->full);
     if (counters->holds[most])
         fprintf(station->report, "  %10lu of them held back by task %lu, which did so most often\n", counters->holds[most], most);
+    fprintf(station->report, "  %10lu times the radio task had its places promised, %lu times it waited for them\n",
+            counters->reserves, counters->waits);
     if (station->opened)
         fprintf(station->report, "  %10lu live at the end, %lu dead, %lu free\n", (unsigned long)usage->live,
                 (unsigned long)usage->dead, (unsigned long)usage->free);

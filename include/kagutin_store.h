@@ -15,9 +15,9 @@
  *
  * Tasks. Every call but kgt_init and kgt_set_lock takes the lock, if one is
  * set, and gives it back before it returns; without a lock all calls must come
- * from one task. Begin, store, commit, abort, read, sync, maintain and usage
- * may come from any task at any time; a writer belongs to one task at a time.
- * Format and open come from one task before the others start, or after a
+ * from one task. Begin, reserve, store, commit, abort, read, sync, maintain and
+ * usage may come from any task at any time; a writer belongs to one task at a
+ * time. Format and open come from one task before the others start, or after a
  * failure. No call may come from an interrupt or a signal handler, or from a
  * driver's function: hand the block to a task. A call holds the lock while its
  * driver writes, so the lock should pass priority on.
@@ -214,8 +214,19 @@ struct kagutin_reply kgt_abort(struct kagutin *store, uint64_t writer);
 struct kagutin_reply kgt_read(struct kagutin *store, uint64_t writer, uint64_t home, uint8_t *block);
 
 /*
+ * As begin, and promises the transaction so many places of the log: its first
+ * entries, the commit's own among them, are never answered 8. Each store takes
+ * at most one, and so does the commit. What is left comes back at commit or
+ * abort. If there are too few free places it makes room once. Answer 17: there
+ * still are, and the writer stays idle; figure: as for 8. Also if places is 0.
+ */
+struct kagutin_reply kgt_reserve(struct kagutin *store, uint64_t writer, uint64_t places);
+
+/*
  * Flush, fence, confirm. figure: the durable mark; commits with that ticket or
- * less are durable.
+ * less are durable. Answer 18: the flush would pass over places that are
+ * promised, and making room did not help; nothing is confirmed. Sync again when
+ * a transaction that reserved places has ended.
  */
 struct kagutin_reply kgt_sync(struct kagutin *store);
 

@@ -146,6 +146,7 @@ static void check_shut(unsigned long at)
     calls_left = 1000;
     memcpy(before, memory, sizeof memory);
     check_refused(kgt_begin(&store, 0), at);
+    check_refused(kgt_reserve(&store, 0, 1), at);
     check_refused(kgt_store(&store, 0, 1, block), at);
     check_refused(kgt_commit(&store, 0), at);
     check_refused(kgt_abort(&store, 0), at);
@@ -221,6 +222,7 @@ static void check_locks(void)
     memcpy(before, memory, sizeof memory);
     locks_left = 1;
     check_lock_refused(kgt_begin(&store, 0));
+    check_lock_refused(kgt_reserve(&store, 0, 1));
     check_lock_refused(kgt_store(&store, 0, 1, block));
     check_lock_refused(kgt_commit(&store, 0));
     check_lock_refused(kgt_abort(&store, 0));

@@ -149,6 +149,33 @@ static uint64_t start_of(const struct kagutin *store)
     return start;
 }
 
+static struct kagutin_reply flush(struct kagutin *store)
+{
+    return run(store, store->batch, kagutin_flush(AREAS(store), STATE(store), BATCH(store)));
+}
+
+static struct kagutin_reply settle(struct kagutin *store)
+{
+    return run(store, store->batch, kagutin_settle(AREAS(store), STATE(store), BATCH(store)));
+}
+
+static struct kagutin_reply settle_and_trim(struct kagutin *store)
+{
+    struct kagutin_reply reply = settle(store);
+
+    if (reply.code == KAGUTIN_DONE)
+        reply = run(store, store->batch, kagutin_trim(AREAS(store), STATE(store), BATCH(store)));
+    return reply;
+}
+
+/* Fences the log: where promises forbid a flush a settle does, without the part-filled group. */
+static struct kagutin_reply fence_log(struct kagutin *store)
+{
+    struct kagutin_reply reply = flush(store);
+
+    return reply.code == KAGUTIN_PROMISED ? settle(store) : reply;
+}
+
 /* Flush, settle, trim, unless the log's first group is held. False: tried in vain, or not done as reply says. */
 static bool make_room(struct kagutin *store, struct kagutin_reply *reply)
 {
@@ -157,11 +184,9 @@ static bool make_room(struct kagutin *store, struct kagutin_reply *reply)
 
     if (kgt_holder(store->state, &first) < KAGUTIN_WRITERS && first / KAGUTIN_GROUP_ENTRIES == start)
         return false;
-    done = run(store, store->batch, kagutin_flush(AREAS(store), STATE(store), BATCH(store)));
+    done = fence_log(store);
     if (done.code == KAGUTIN_DONE)
-        done = run(store, store->batch, kagutin_settle(AREAS(store), STATE(store), BATCH(store)));
-    if (done.code == KAGUTIN_DONE)
-        done = run(store, store->batch, kagutin_trim(AREAS(store), STATE(store), BATCH(store)));
+        done = settle_and_trim(store);
     if (done.code != KAGUTIN_DONE)
         *reply = done;
     return done.code == KAGUTIN_DONE && start_of(store) != start;
@@ -171,7 +196,7 @@ static struct kagutin_reply say_holder(const struct kagutin *store, struct kagut
 {
     uint64_t first;
 
-    if (reply.code == KAGUTIN_FULL)
+    if (reply.code == KAGUTIN_FULL || reply.code == KAGUTIN_NO_PLACES)
         reply.figure = kgt_holder(store->state, &first);
     return reply;
 }
@@ -185,6 +210,24 @@ struct kagutin_reply kgt_begin(struct kagutin *store, uint64_t writer)
     if (!enter(store, &reply))
         return reply;
     return leave(store, kagutin_begin(AREAS(store), STATE(store), writer));
+}
+
+static struct kagutin_reply reserve_once(struct kagutin *store, uint64_t writer, uint64_t places)
+{
+    return kagutin_reserve(AREAS(store), STATE(store), writer, places);
+}
+
+struct kagutin_reply kgt_reserve(struct kagutin *store, uint64_t writer, uint64_t places)
+{
+    bool possible = places > 0 && places <= KAGUTIN_GROUP_ENTRIES * store->runner.groups;
+    struct kagutin_reply reply;
+
+    if (!enter(store, &reply))
+        return reply;
+    reply = reserve_once(store, writer, places);
+    if (reply.code == KAGUTIN_NO_PLACES && possible && make_room(store, &reply))
+        reply = reserve_once(store, writer, places);
+    return leave(store, say_holder(store, reply));
 }
 
 struct kagutin_reply kgt_abort(struct kagutin *store, uint64_t writer)
@@ -248,7 +291,9 @@ struct kagutin_reply kgt_sync(struct kagutin *store)
 
     if (!enter(store, &reply))
         return reply;
-    reply = run(store, store->batch, kagutin_flush(AREAS(store), STATE(store), BATCH(store)));
+    reply = flush(store);
+    if (reply.code == KAGUTIN_PROMISED && make_room(store, &reply))
+        reply = flush(store);
     if (reply.code == KAGUTIN_DONE)
         reply = kagutin_confirm(AREAS(store), STATE(store));
     return leave(store, reply);
@@ -261,10 +306,7 @@ struct kagutin_reply kgt_maintain(struct kagutin *store, uint64_t most)
     (void)most;
     if (!enter(store, &reply))
         return reply;
-    reply = run(store, store->batch, kagutin_settle(AREAS(store), STATE(store), BATCH(store)));
-    if (reply.code == KAGUTIN_DONE)
-        reply = run(store, store->batch, kagutin_trim(AREAS(store), STATE(store), BATCH(store)));
-    return leave(store, reply);
+    return leave(store, settle_and_trim(store));
 }
 
 struct kagutin_reply kgt_usage(struct kagutin *store, struct kgt_places *places)
