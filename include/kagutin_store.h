@@ -214,11 +214,11 @@ struct kagutin_reply kgt_abort(struct kagutin *store, uint64_t writer);
 struct kagutin_reply kgt_read(struct kagutin *store, uint64_t writer, uint64_t home, uint8_t *block);
 
 /*
- * As begin, and promises the transaction so many places of the log: its first
- * entries, the commit's own among them, are never answered 8. Each store takes
- * at most one, and so does the commit. What is left comes back at commit or
- * abort. If there are too few free places it makes room once. Answer 17: there
- * still are, and the writer stays idle; figure: as for 8. Also if places is 0.
+ * As begin, and promises the transaction so many places of the log: a store or
+ * commit whose entry is among its first so many is never answered 8. A
+ * transaction of n stores has at most n entries. Unused places come back at
+ * commit and abort. If too few are free it makes room once. Answer 17: too few
+ * still, or places is 0; figure as for 8; the writer stays idle.
  */
 struct kagutin_reply kgt_reserve(struct kagutin *store, uint64_t writer, uint64_t places);
 
