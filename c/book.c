@@ -75,9 +75,10 @@ void book_opened(struct book *book, uint64_t start)
     book->fenced = book->settled = KAGUTIN_GROUP_ENTRIES * start;
 }
 
-void book_begin(struct book *book, unsigned writer)
+void book_begin(struct book *book, unsigned writer, uint64_t promised)
 {
     book->writers[writer].open = true;
+    book->writers[writer].promised = promised;
 }
 
 void book_abort(struct book *book, unsigned writer)
@@ -98,14 +99,34 @@ bool book_commit_logs(const struct book *book, unsigned writer)
     return book->writers[writer].holds;
 }
 
-bool book_has_place(const struct book *book)
-{
-    return book->next < book->start + book->groups;
-}
-
 static uint64_t next_position(const struct book *book)
 {
     return KAGUTIN_GROUP_ENTRIES * book->next + book->filled;
+}
+
+static uint64_t promised_places(const struct book *book)
+{
+    uint64_t places = 0;
+    size_t i;
+
+    for (i = 0; i < KAGUTIN_WRITERS; i++)
+        places += book->writers[i].promised;
+    return places;
+}
+
+uint64_t book_free_places(const struct book *book)
+{
+    return KAGUTIN_GROUP_ENTRIES * (book->start + book->groups) - next_position(book) - promised_places(book);
+}
+
+bool book_has_place(const struct book *book, unsigned writer)
+{
+    return book->writers[writer].promised || book_free_places(book);
+}
+
+bool book_may_flush(const struct book *book)
+{
+    return book->filled == 0 || book_free_places(book) >= KAGUTIN_GROUP_ENTRIES - book->filled;
 }
 
 /* The row goes to lasting memory as the next group. */
@@ -137,8 +158,10 @@ static void log_held(struct book *book, struct book_writer *record)
     entry = &record->entries[record->count++];
     entry->home = record->home;
     entry->row = book->rows;
+    entry->position = next_position(book);
     memcpy(entry->block, record->block, sizeof entry->block);
     record->holds = false;
+    record->promised -= record->promised > 0;
     if (++book->filled == KAGUTIN_GROUP_ENTRIES)
         submit_row(book);
 }
@@ -237,6 +260,39 @@ void book_trim(struct book *book)
         return;
     book->start = start;
     book->fenced = KAGUTIN_GROUP_ENTRIES * book->next;
+}
+
+/* How many entries lie in the log from a position on. */
+static uint64_t entries_from(const struct book_entry *entries, size_t count, uint64_t position)
+{
+    while (count > 0 && entries[0].position < position) {
+        entries++;
+        count--;
+    }
+    return count;
+}
+
+void book_usage(const struct book *book, struct kgt_places *usage)
+{
+    uint64_t from = KAGUTIN_GROUP_ENTRIES * book->start;
+    size_t i;
+
+    memset(usage, 0, sizeof *usage);
+    usage->holder = KAGUTIN_WRITERS;
+    for (i = 0; i < KAGUTIN_WRITERS; i++) {
+        const struct book_writer *record = &book->writers[i];
+
+        usage->live += entries_from(record->entries, record->count, from);
+        if (record->count && (usage->holder == KAGUTIN_WRITERS || record->first < usage->first)) {
+            usage->holder = i;
+            usage->first = record->first;
+        }
+    }
+    for (i = book->commit_count; i > 0 && book->commits[i - 1].ticket > from; i--)
+        usage->live += entries_from(book->commits[i - 1].entries, book->commits[i - 1].count, from);
+    usage->dead = next_position(book) - from - usage->live;
+    usage->free = KAGUTIN_GROUP_ENTRIES * book->groups - usage->live - usage->dead;
+    usage->promised = promised_places(book);
 }
 
 const uint8_t *book_read(const struct book *book, unsigned writer, size_t home)

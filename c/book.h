@@ -14,11 +14,12 @@
 #include <stddef.h>
 #include <stdint.h>
 
-#include "kagutin.h"
+#include "kagutin_store.h"
 
 struct book_entry {
     size_t home;
     uint64_t row; /* rows are numbered as groups are written, since the start */
+    uint64_t position;
     uint8_t block[KAGUTIN_BLOCK_SIZE];
 };
 
@@ -38,6 +39,7 @@ struct book_writer {
     struct book_entry *entries;
     size_t count, room;
     uint64_t first;
+    uint64_t promised; /* places that no entry has used up */
 };
 
 struct book {
@@ -75,13 +77,18 @@ void book_free(struct book *book);
 /* A done opening with this new start. */
 void book_opened(struct book *book, uint64_t start);
 
-void book_begin(struct book *book, unsigned writer);
+/* A begin with this many places promised, or none. */
+void book_begin(struct book *book, unsigned writer, uint64_t promised);
 void book_abort(struct book *book, unsigned writer);
 
-/* Must this store, or a commit, log an entry? Is there a place for one? */
+/* Must this store, or a commit, log an entry? Is there a place for one of this writer? */
 bool book_store_logs(const struct book *book, unsigned writer, size_t home);
 bool book_commit_logs(const struct book *book, unsigned writer);
-bool book_has_place(const struct book *book);
+bool book_has_place(const struct book *book, unsigned writer);
+
+/* Places that can be promised. Does a flush leave all that are? */
+uint64_t book_free_places(const struct book *book);
+bool book_may_flush(const struct book *book);
 
 /* Done calls. book_commit returns the ticket. */
 void book_store(struct book *book, unsigned writer, size_t home, const uint8_t *block);
@@ -93,6 +100,9 @@ void book_settle(struct book *book);
 /* The start to which a trim must move; the present one if it must not. */
 uint64_t book_trim_start(const struct book *book);
 void book_trim(struct book *book);
+
+/* The log's places by what the calls made of them. */
+void book_usage(const struct book *book, struct kgt_places *usage);
 
 /* The block that a read must give. */
 const uint8_t *book_read(const struct book *book, unsigned writer, size_t home);

@@ -5,6 +5,7 @@
 #include <string.h>
 
 #include "refusals.h"
+#include "report.h"
 #include "rule.h"
 
 #define AREAS(s) (s)->driver.log, (s)->driver.log_size, (s)->driver.area, (s)->driver.area_size
@@ -148,10 +149,56 @@ void call_open(struct station *station)
     submit(station, reply.size);
 }
 
+void call_usage(struct station *station)
+{
+    struct kgt_places *usage = &station->usage, book;
+
+    kgt_count(station->driver.log, station->driver.state, usage);
+    book_usage(&station->book, &book);
+    if (usage->promised != book.promised)
+        station_mismatch(station, "%llu places are promised, by the book %llu", (unsigned long long)usage->promised,
+                         (unsigned long long)book.promised);
+    if (usage->live != book.live || usage->dead != book.dead || usage->free != book.free)
+        station_mismatch(station, "%llu places are live, %llu dead and %llu free, by the book %llu, %llu and %llu",
+                         (unsigned long long)usage->live, (unsigned long long)usage->dead, (unsigned long long)usage->free,
+                         (unsigned long long)book.live, (unsigned long long)book.dead, (unsigned long long)book.free);
+    if (usage->holder != book.holder || usage->first != book.first)
+        station_mismatch(station, "writer %llu holds the log from position %llu on, by the book %llu from %llu on",
+                         (unsigned long long)usage->holder, (unsigned long long)usage->first,
+                         (unsigned long long)book.holder, (unsigned long long)book.first);
+}
+
+/* A call was refused since the log is full: says why it is. */
+static void refused_full(struct station *station, const char *call, struct kagutin_reply reply, unsigned writer)
+{
+    refusal_check(station, call, reply, KAGUTIN_FULL);
+    call_usage(station);
+    report_full(station, call, writer);
+}
+
 void call_begin(struct station *station, unsigned writer)
 {
     expect(station, "begin", kagutin_begin(AREAS(station), STATE(station), writer), 0, 0);
-    book_begin(&station->book, writer);
+    book_begin(&station->book, writer, 0);
+}
+
+bool call_reserve(struct station *station, unsigned writer, uint64_t places)
+{
+    bool granted = places > 0 && places <= book_free_places(&station->book);
+    struct kagutin_reply reply;
+
+    if (!granted)
+        refusal_prepare(station);
+    reply = kagutin_reserve(AREAS(station), STATE(station), writer, places);
+    if (!granted) {
+        refusal_check(station, "reserve", reply, KAGUTIN_NO_PLACES);
+        return false;
+    }
+    expect(station, "reserve", reply, 0, 0);
+    book_begin(&station->book, writer, places);
+    station->counters.reserves++;
+    call_usage(station);
+    return true;
 }
 
 void call_abort(struct station *station, unsigned writer)
@@ -159,6 +206,7 @@ void call_abort(struct station *station, unsigned writer)
     expect(station, "abort", kagutin_abort(AREAS(station), STATE(station), writer), 0, 0);
     book_abort(&station->book, writer);
     station->counters.aborts++;
+    call_usage(station);
 }
 
 /* Bytes that logging one entry writes. */
@@ -171,7 +219,7 @@ static uint64_t entry_size(const struct book *book)
 bool call_store(struct station *station, unsigned writer, size_t home, const uint8_t *block)
 {
     bool logs = book_store_logs(&station->book, writer, home);
-    bool full = logs && !book_has_place(&station->book);
+    bool full = logs && !book_has_place(&station->book, writer);
     uint64_t size = logs ? entry_size(&station->book) : 0, group = station->book.next;
     struct kagutin_reply reply;
 
@@ -179,7 +227,7 @@ bool call_store(struct station *station, unsigned writer, size_t home, const uin
         refusal_prepare(station);
     reply = kagutin_store(AREAS(station), STATE(station), block, KAGUTIN_BLOCK_SIZE, BATCH(station), writer, home);
     if (full) {
-        refusal_check(station, "store", reply, KAGUTIN_FULL);
+        refused_full(station, "store", reply, writer);
         return false;
     }
     expect(station, "store", reply, 0, size);
@@ -194,7 +242,7 @@ bool call_store(struct station *station, unsigned writer, size_t home, const uin
 bool call_commit(struct station *station, unsigned writer)
 {
     bool logs = book_commit_logs(&station->book, writer);
-    bool full = logs && !book_has_place(&station->book);
+    bool full = logs && !book_has_place(&station->book, writer);
     uint64_t size = logs ? entry_size(&station->book) : 0, group = station->book.next;
     struct kagutin_reply reply;
 
@@ -202,7 +250,7 @@ bool call_commit(struct station *station, unsigned writer)
         refusal_prepare(station);
     reply = kagutin_commit(AREAS(station), STATE(station), BATCH(station), writer);
     if (full) {
-        refusal_check(station, "commit", reply, KAGUTIN_FULL);
+        refused_full(station, "commit", reply, writer);
         return false;
     }
     expect(station, "commit", reply, book_commit(&station->book, writer), size);
@@ -213,12 +261,19 @@ bool call_commit(struct station *station, unsigned writer)
     return true;
 }
 
-void call_flush(struct station *station)
+bool call_flush(struct station *station)
 {
-    bool part = station->book.filled > 0;
+    bool part = station->book.filled > 0, may = book_may_flush(&station->book);
     uint64_t group = station->book.next;
-    struct kagutin_reply reply = kagutin_flush(AREAS(station), STATE(station), BATCH(station));
+    struct kagutin_reply reply;
 
+    if (!may)
+        refusal_prepare(station);
+    reply = kagutin_flush(AREAS(station), STATE(station), BATCH(station));
+    if (!may) {
+        refusal_check(station, "flush", reply, KAGUTIN_PROMISED);
+        return false;
+    }
     expect(station, "flush", reply, 0, part ? KAGUTIN_FLUSH_BATCH : KAGUTIN_FN_SIZE);
     if (part)
         expect_group(station, "flush", group);
@@ -226,6 +281,8 @@ void call_flush(struct station *station)
         station_mismatch(station, "flush wrote no fence");
     book_flush(&station->book);
     submit(station, reply.size);
+    call_usage(station);
+    return true;
 }
 
 /* The driver confirms only what passed: all that waits is run first. */
@@ -272,6 +329,7 @@ void call_trim(struct station *station)
     book_trim(&station->book);
     station->counters.trims += moves;
     submit(station, reply.size);
+    call_usage(station);
 }
 
 void call_read(struct station *station, unsigned writer, size_t home, uint8_t *block)

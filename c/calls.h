@@ -9,17 +9,23 @@ void call_formatted(struct station *station);
 
 /*
  * Calls that must be done, checked against the book, their batches queued.
- * Store and commit give false, and leave all untouched, if the log is full.
+ * They give false, and leave all untouched: store and commit if the log is
+ * full, reserve if too few places are free, flush if it would pass over
+ * promised ones.
  */
 void call_open(struct station *station);
 void call_begin(struct station *station, unsigned writer);
+bool call_reserve(struct station *station, unsigned writer, uint64_t places);
 void call_abort(struct station *station, unsigned writer);
 bool call_store(struct station *station, unsigned writer, size_t home, const uint8_t *block);
 bool call_commit(struct station *station, unsigned writer);
-void call_flush(struct station *station);
+bool call_flush(struct station *station);
 void call_confirm(struct station *station);
 void call_settle(struct station *station);
 void call_trim(struct station *station);
 void call_read(struct station *station, unsigned writer, size_t home, uint8_t *block);
+
+/* Counts what fills the log. */
+void call_usage(struct station *station);
 
 #endif

@@ -39,6 +39,7 @@ static void mark_commits(struct fates *fates, const struct image *image, const s
 
         for (position = commit->first; position <= commit->closing; position++)
             if (image_belongs(image, commit, position)) {
+                fates->committed += fates->entries[position - base] != FATE_BACK;
                 fates->entries[position - base] = FATE_BACK;
                 fates->newest[rule_tag(&image->log, position).home] = position + 1;
             }
@@ -60,6 +61,7 @@ bool fates_find(struct fates *fates, const struct image *image, const struct rul
 
     fates->entries = calloc((size_t)size, sizeof *fates->entries);
     fates->newest = calloc(image->log.homes, sizeof *fates->newest);
+    fates->committed = fates->others = 0;
     if (!closing || !fates->entries || !fates->newest) {
         free(closing);
         fates_free(fates);
@@ -78,9 +80,11 @@ bool fates_find(struct fates *fates, const struct image *image, const struct rul
         if (tag.kind == TAG_CLOSING)
             *next = base + offset + 1;
         fates->entries[offset] = *next ? fate_at(walk, *next - 1) : FATE_OPEN;
+        fates->others++;
     }
     free(closing);
     mark_commits(fates, image, walk);
+    fates->others -= fates->committed;
     return true;
 }
 

@@ -122,9 +122,12 @@ void print_text(const struct image *image, const struct rule_walk *walk, const s
     printf("image   %s, %llu bytes\n", image->path, (number)image->file_size);
     printf("header  %s; start %llu %s, %lu groups, %lu homes\n", image->header_fits ? "fits" : "DAMAGED",
            (number)log->start, image->start_from, (unsigned long)log->groups, (unsigned long)log->homes);
-    printf("live    groups %llu to %llu, positions %llu to %llu\n\ngroups\n", (number)log->start,
+    printf("live    groups %llu to %llu, positions %llu to %llu\n", (number)log->start,
            (number)(log->start + log->groups - 1), (number)(7 * log->start),
            (number)(7 * (log->start + log->groups) - 1));
+    printf("places  %lu: %lu with entries that come back, %lu with others, %lu unused\n\ngroups\n",
+           (unsigned long)(7 * log->groups), (unsigned long)fates->committed, (unsigned long)fates->others,
+           (unsigned long)(7 * log->groups - fates->committed - fates->others));
     for (i = 0; i < log->groups; i++)
         text_slot(image, fates, i);
     printf("\ncommits (%lu)\n", (unsigned long)walk->commit_count);

@@ -16,7 +16,7 @@ static const char usage[] =
     "  --file PATH  image file, made if missing, else gone on with; synced (default: in memory)\n"
     "  --keep-cut   with --file: stops after the last cut, before the opening, so that the image can be\n"
     "               inspected\n"
-    "  --verbose    every cut on a line of its own\n"
+    "  --verbose    every cut on a line of its own, and every time the log is full\n"
     "  --csv        wear sheet as CSV on standard output, all else on standard error\n"
     "Status: 0 every opening was right, 1 a mismatch, 2 wrong options, 3 trouble with the file or memory,\n"
     "4 the image is worn out, 130 interrupted (the report is still printed).\n";

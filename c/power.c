@@ -172,4 +172,5 @@ void power_run(struct station *station)
         return;
     tasks_stop(station);
     call_confirm(station); /* leaves an image in which all has persisted */
+    call_usage(station);
 }

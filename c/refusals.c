@@ -104,8 +104,12 @@ static void try_turns(struct station *s)
 
     if (s->book.writers[writer].open) {
         refusal_check(s, "begin", kagutin_begin(LOG(s), AREA(s), STATE(s), writer), KAGUTIN_NOT_IDLE);
+        refusal_check(s, "reserve", kagutin_reserve(LOG(s), AREA(s), STATE(s), writer, 0), KAGUTIN_NOT_IDLE);
         return;
     }
+    refusal_check(s, "reserve", kagutin_reserve(LOG(s), AREA(s), STATE(s), writer, 0), KAGUTIN_NO_PLACES);
+    refusal_check(s, "reserve", kagutin_reserve(LOG(s), AREA(s), STATE(s), writer, book_free_places(&s->book) + 1),
+                  KAGUTIN_NO_PLACES);
     refusal_check(s, "abort", kagutin_abort(LOG(s), AREA(s), STATE(s), writer), KAGUTIN_NOT_OPEN);
     refusal_check(s, "commit", kagutin_commit(LOG(s), AREA(s), STATE(s), BATCH(s), writer), KAGUTIN_NOT_OPEN);
     refusal_check(s, "store", kagutin_store(LOG(s), AREA(s), STATE(s), block, sizeof block, BATCH(s), writer, 0),
@@ -118,7 +122,7 @@ static void try_short_batches(struct station *s)
     size_t flush = s->book.filled ? KAGUTIN_FLUSH_BATCH : KAGUTIN_FN_SIZE;
 
     refusal_check(s, "flush", kagutin_flush(LOG(s), AREA(s), STATE(s), s->driver.batch, flush - 1),
-                  KAGUTIN_SHORT_BATCH);
+                  book_may_flush(&s->book) ? KAGUTIN_SHORT_BATCH : KAGUTIN_PROMISED);
     refusal_check(s, "settle", kagutin_settle(LOG(s), AREA(s), STATE(s), s->driver.batch, 1), KAGUTIN_SHORT_BATCH);
 }
 

@@ -68,6 +68,25 @@ void report_left(struct station *station, const struct report_cut *cut)
         fputs("  not opened\n", station->report);
 }
 
+void report_full(struct station *station, const char *call, unsigned writer)
+{
+    const struct kgt_places *usage = &station->usage;
+    struct counters *counters = &station->counters;
+
+    counters->full_live += (unsigned long)usage->live;
+    counters->full_dead += (unsigned long)usage->dead;
+    if (usage->holder < KAGUTIN_WRITERS)
+        counters->holds[usage->holder]++;
+    if (!station->verbose && counters->full > 1)
+        return;
+    fprintf(station->report, "%slog full (%s of task %u): %lu live, %lu dead, %lu free", station->progress ? "\r\033[K" : "",
+            call, writer, (unsigned long)usage->live, (unsigned long)usage->dead, (unsigned long)usage->free);
+    if (usage->holder < KAGUTIN_WRITERS)
+        fprintf(station->report, "; task %lu holds it from position %llu on", (unsigned long)usage->holder,
+                (unsigned long long)usage->first);
+    fputc('\n', station->report);
+}
+
 /* ---- summary ---- */
 
 /* A part of the whole in columns of the bar; something is never nothing. */
@@ -125,6 +144,29 @@ static void print_calls(const struct station *station)
             counters->given_up);
 }
 
+/* Why the log was full, and what fills it now. */
+static void print_log(const struct station *station)
+{
+    const struct counters *counters = &station->counters;
+    const struct kgt_places *usage = &station->usage;
+    unsigned long most = 0, task;
+
+    for (task = 1; task < KAGUTIN_WRITERS; task++)
+        if (counters->holds[task] > counters->holds[most])
+            most = task;
+    fprintf(station->report, "\nLog of %lu places\n", (unsigned long)(KAGUTIN_GROUP_ENTRIES * station->driver.groups));
+    if (counters->full)
+        fprintf(station->report, "  %10lu times full, with %lu live and %lu dead on average\n", counters->full,
+                counters->full_live / counters->full, counters->full_dead / counters->full);
+    if (counters->holds[most])
+        fprintf(station->report, "  %10lu of them held back by task %lu, which did so most often\n", counters->holds[most], most);
+    fprintf(station->report, "  %10lu times the radio task had its places promised, %lu times it waited for them\n",
+            counters->reserves, counters->waits);
+    if (station->opened)
+        fprintf(station->report, "  %10lu live at the end, %lu dead, %lu free\n", (unsigned long)usage->live,
+                (unsigned long)usage->dead, (unsigned long)usage->free);
+}
+
 static void print_verbose_legend(FILE *report)
 {
     fputs("\n  unissued   records that the driver had not begun to write when power failed\n"
@@ -151,4 +193,5 @@ void report_summary(struct station *station)
         fputs("The image is worn out: its log's start can move no further than 2^47. Make a new one.\n", station->report);
     print_commits(station);
     print_calls(station);
+    print_log(station);
 }

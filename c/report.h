@@ -19,6 +19,9 @@ void report_cut(struct station *station, const struct report_cut *cut);
 void report_opened(struct station *station, const struct report_cut *cut, unsigned long replayed);
 void report_left(struct station *station, const struct report_cut *cut);
 
+/* A store or commit was refused since the log is full, and its places are counted. Printed the first time, or each if asked for. */
+void report_full(struct station *station, const char *call, unsigned writer);
+
 void report_summary(struct station *station);
 
 #endif

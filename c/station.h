@@ -24,7 +24,8 @@ struct task {
 };
 
 struct counters {
-    unsigned long calls, refusals, full, reads, commits, aborts, given_up, confirms, trims;
+    unsigned long calls, refusals, full, reserves, waits, reads, commits, aborts, given_up, confirms, trims;
+    unsigned long full_live, full_dead, holds[KAGUTIN_WRITERS]; /* places, and who held the log, when it was full */
     unsigned long replayed, cuts, opening_cuts;
     unsigned long kept[KAGUTIN_WRITERS], lost[KAGUTIN_WRITERS], unissued[KAGUTIN_WRITERS]; /* commits by task */
     unsigned long left; /* commits in an image that was not opened after its last cut */
@@ -35,6 +36,7 @@ struct station {
     struct book book;
     struct task tasks[KAGUTIN_WRITERS];
     struct counters counters;
+    struct kgt_places usage; /* of the log when it was last counted */
     uint64_t seed, random;
     uint64_t abort_odds; /* one transaction in so many is given up */
     unsigned long cuts;

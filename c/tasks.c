@@ -1,7 +1,7 @@
 /*
  * The eight tasks. Task w looks after pump w: when the pump has run, its run
  * seconds (home 2w) and its starts (home 2w + 1) go into one transaction. Homes
- * from 16 on are notes that all tasks write.
+ * from 16 on are notes that all tasks write. The radio task reserves its places.
  */
 #include "tasks.h"
 
@@ -11,6 +11,8 @@
 #include "wear.h"
 
 #define PUMP_HOMES STATION_MIN_HOMES
+
+enum { RADIO = 4 };
 
 /* Homes of the notes, with repetitions; the log's size bounds the long ones. */
 static void plan_notes(struct station *station, struct task *task)
@@ -47,17 +49,42 @@ static void plan_pump(struct station *station, struct task *task, unsigned write
     task->seconds += 20 + station_random(station, 1800);
 }
 
-static void task_begin(struct station *station, struct task *task, unsigned writer)
+/* The log is full: free what can be freed. Open transactions may hold it. */
+static void make_room(struct station *station)
 {
-    call_begin(station, writer);
+    if (!call_flush(station))
+        call_settle(station); /* its fence is as good, but for the part-filled group */
+    call_settle(station);
+    if (station_random(station, 2))
+        call_confirm(station);
+    call_trim(station);
+}
+
+static void plan(struct station *station, struct task *task, unsigned writer)
+{
     memset(task, 0, sizeof *task);
-    task->open = true;
     task->gives_up = station_random(station, station->abort_odds) == 0;
     if (station_random(station, 30) == 0)
         return; /* a transaction without a store */
     plan_notes(station, task);
     if (station_random(station, 4))
         plan_pump(station, task, writer);
+}
+
+/* The radio task must not fail half way: it reserves a place for each block of its plan, or waits. */
+static void task_begin(struct station *station, struct task *task, unsigned writer)
+{
+    plan(station, task, writer);
+    task->open = true;
+    if (writer != RADIO || task->count == 0) {
+        call_begin(station, writer);
+        return;
+    }
+    if (call_reserve(station, writer, task->count))
+        return;
+    make_room(station);
+    task->open = call_reserve(station, writer, task->count);
+    station->counters.waits += !task->open;
 }
 
 static void fill_block(struct station *station, const struct task *task, unsigned writer, size_t home, uint8_t *block)
@@ -73,16 +100,6 @@ static void fill_block(struct station *station, const struct task *task, unsigne
         for (i = 0; i < KAGUTIN_BLOCK_SIZE; i++)
             block[i] = (uint8_t)station_random(station, 256);
     }
-}
-
-/* The log is full: free what can be freed. Open transactions may hold it. */
-static void make_room(struct station *station)
-{
-    call_flush(station);
-    call_settle(station);
-    if (station_random(station, 2))
-        call_confirm(station);
-    call_trim(station);
 }
 
 /* Stores the next block of the plan, or ends the transaction; false if the log is full. */
@@ -121,6 +138,8 @@ void tasks_step(struct station *station)
     }
     if (task_advance(station, task, writer))
         return;
+    if (writer == RADIO)
+        station_mismatch(station, "the radio task was refused a place that it had reserved");
     make_room(station);
     if (task_advance(station, task, writer))
         return;

@@ -15,12 +15,12 @@
  *
  * Tasks. Every call but kgt_init and kgt_set_lock takes the lock, if one is
  * set, and gives it back before it returns; without a lock all calls must come
- * from one task. Begin, store, commit, abort, read, sync and maintain may come
- * from any task at any time; a writer belongs to one task at a time. Format
- * and open come from one task before the others start, or after a failure. No
- * call may come from an interrupt or a signal handler, or from a driver's
- * function: hand the block to a task. A call holds the lock while its driver
- * writes, so the lock should pass priority on.
+ * from one task. Begin, reserve, store, commit, abort, read, sync, maintain and
+ * usage may come from any task at any time; a writer belongs to one task at a
+ * time. Format and open come from one task before the others start, or after a
+ * failure. No call may come from an interrupt or a signal handler, or from a
+ * driver's function: hand the block to a task. A call holds the lock while its
+ * driver writes, so the lock should pass priority on.
  */
 #ifndef KAGUTIN_STORE_H
 #define KAGUTIN_STORE_H
@@ -135,6 +135,26 @@ int kgt_run_record(struct kgt_runner *runner, const struct kgt_record *record);
 int kgt_run(struct kgt_runner *runner, const uint8_t *batch, size_t size);
 int kgt_run_fence(struct kgt_runner *runner);
 
+/* ---- what fills a log ---- */
+
+/*
+ * The 7 x G places from the log's start to the end of group start + G - 1, each
+ * live, dead or free. Dead places and those of committed transactions come free
+ * by sync and maintain, up to the group in which the holder's transaction begins.
+ */
+struct kgt_places {
+    uint64_t live;     /* entries of open transactions, and of committed ones that are not trimmed */
+    uint64_t dead;     /* aborted, or passed over by a flush, and not trimmed */
+    uint64_t free;     /* from the next position on, promised ones included */
+    uint64_t promised; /* of the free ones: to writers that reserved them */
+    uint64_t holder;   /* writer whose open transaction begins first in the log; 8: none has entries there */
+    uint64_t first;    /* position of that transaction's first entry; 0 with holder 8 */
+};
+
+/* For programs that use the bare calls: the same of a store that is open; its holder alone. */
+void kgt_count(const uint8_t *log, const uint8_t *state, struct kgt_places *places);
+uint64_t kgt_holder(const uint8_t *state, uint64_t *first);
+
 /* ---- the object ---- */
 
 enum kgt_condition { KGT_IS_CLOSED, KGT_IS_OPEN, KGT_HAS_FAILED };
@@ -194,8 +214,19 @@ struct kagutin_reply kgt_abort(struct kagutin *store, uint64_t writer);
 struct kagutin_reply kgt_read(struct kagutin *store, uint64_t writer, uint64_t home, uint8_t *block);
 
 /*
+ * As begin, and promises the transaction so many places of the log: a store or
+ * commit whose entry is among its first so many is never answered 8. A
+ * transaction of n stores has at most n entries. Unused places come back at
+ * commit and abort. If too few are free it makes room once. Answer 17: too few
+ * still, or places is 0; figure as for 8; the writer stays idle.
+ */
+struct kagutin_reply kgt_reserve(struct kagutin *store, uint64_t writer, uint64_t places);
+
+/*
  * Flush, fence, confirm. figure: the durable mark; commits with that ticket or
- * less are durable.
+ * less are durable. Answer 18: the flush would pass over places that are
+ * promised, and making room did not help; nothing is confirmed. Sync again when
+ * a transaction that reserved places has ended.
  */
 struct kagutin_reply kgt_sync(struct kagutin *store);
 
@@ -206,6 +237,13 @@ struct kagutin_reply kgt_sync(struct kagutin *store);
  * call does all of it whatever the bound.
  */
 struct kagutin_reply kgt_maintain(struct kagutin *store, uint64_t most);
+
+/*
+ * Tells what fills the log at this moment, and which writer holds it back. A
+ * held block has no place yet. Writes nothing; takes a few steps for each
+ * commit that is not trimmed. Answers 64, 65, 66, which leave places as they were.
+ */
+struct kagutin_reply kgt_usage(struct kagutin *store, struct kgt_places *places);
 
 #ifdef __cplusplus
 }

@@ -67,7 +67,7 @@ gives 0 "stack: built" "$cc" -std=c99 -D_GNU_SOURCE -Wall -Wextra -pedantic -O2 
 gives 0 "stack: every call below 32 KiB" "$tmp/stack"
 
 # --- no heap in the object; nm prints what it calls ---
-quiet sh -c "nm -u $out/store/store.o $out/store/batch.o $out/store/fram.o | grep -E 'alloc|free'"
+quiet sh -c "nm -u $out/store/store.o $out/store/usage.o $out/store/batch.o $out/store/fram.o | grep -E 'alloc|free'"
 [ $? -ne 0 ]; report $? "the object and the FRAM driver use no heap"
 
 # --- quick start, driver, station ---
@@ -79,10 +79,11 @@ gives 0 "driver" "$san/driver_check" "$tmp/driver.img"
 # --- the store object and its drivers ---
 gives 0 "store: power gone after every byte, any words at a cut" "$out/store_check" 1 5000
 gives 0 "store: the same under sanitizers, every 17 bytes" "$san/store_check" 17 1500
+gives 0 "store: places promised beforehand" "$san/reserve_check"
 gives 0 "files: written and mapped, stopped inside writes, locks, failures" "$san/file_check" "$fast"
 gives 0 "FRAM: power gone after every byte" "$out/fram_check" 1
 gives 0 "FRAM: under sanitizers" "$san/fram_check" 13
-objects="c/store/store.c c/store/batch.c c/store/memory.c"
+objects="c/store/store.c c/store/usage.c c/store/batch.c c/store/memory.c"
 build_tasks() { "$cc" -std=c99 -O1 -g "$@" $strict tests/tasks_check.c $objects "$lib" ${C_LIBS:-} -pthread -o "$tmp/tasks"; }
 gives 0 "tasks: built" build_tasks -fsanitize=thread
 if "$tmp/tasks" 2>&1 | grep -q 'unexpected memory mapping'; then # some kernels give the race detector no room
@@ -118,6 +119,9 @@ grep -q '^station (Kagutin) [0-9]' "$tmp/out"; report $? "station: says its vers
 gives 0 "station, every cut" "$san/station" --cuts 60 --verbose
 [ "$(grep -c '^ *[0-9]* *\(at work\|opening\) ' "$tmp/out")" -eq 60 ]; report $? "station --verbose: a line for each cut"
 [ "$(awk 'length > 99' "$tmp/out" | wc -l)" -eq 0 ]; report $? "station: no line of 100 columns"
+grep -q '^log full (.* 0 free; task [0-7] holds it' "$tmp/out"; report $? "station: says why the log is full"
+grep -q '^ *[0-9]* live at the end, [0-9]* dead, [0-9]* free$' "$tmp/out"; report $? "station: what fills the log at the end"
+grep -q '[1-9][0-9]* times the radio task had its places promised' "$tmp/out"; report $? "station: the radio task has places promised"
 "$san/station" --cuts 1000000 --csv > "$tmp/out" 2> "$tmp/log" &
 sleep 1; kill -INT $!; wait $!; status=$?
 [ $status -eq 130 ] && [ "$(wc -l < "$tmp/out")" -eq 9 ]; report $? "station interrupted: its sheet is written"
@@ -159,6 +163,10 @@ if command -v python3 > /dev/null; then
     python3 -c 'import json,sys; v = json.load(open(sys.argv[1])); sys.exit(not (v["image"].endswith("/Pumpenhäuschen.img")
         and len(v["homes"]) == 20 and any(e["comes_back"] for s in v["slots"] for e in s.get("entries", []))))' "$tmp/out" 2>> "$tmp/log"
     report $? "inspect: a name in UTF-8, every home, entries that come back"
+    python3 -c 'import json,sys; v = json.load(open(sys.argv[1])); p = v["places"]
+e = [x["comes_back"] for s in v["slots"] for x in s.get("entries", []) if x["kind"] != "nothing"]
+sys.exit(not (sum(p.values()) == 7 * len(v["slots"]) and p["committed"] == sum(e) and p["others"] == len(e) - sum(e) > 0))' "$tmp/out" 2>> "$tmp/log"
+    report $? "inspect: places with entries that come back, with others, unused"
     bad=$(printf '%s/bad\377name.img' "$tmp"); cp "$image" "$bad"
     "$san/inspect" --json "$bad" > "$tmp/out" 2> "$tmp/log"
     quiet python3 -m json.tool "$tmp/out"; report $? "inspect: a name that is no UTF-8"

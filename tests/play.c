@@ -72,12 +72,22 @@ static bool reads(struct play *play, uint64_t writer, uint64_t home, uint64_t co
     return memcmp(block, right, sizeof block) == 0 || wrong(play, "a home holds another block than the book has");
 }
 
+/* A store or commit that is done has used up at most one promised place. */
+static void use_place(struct play *play, uint64_t writer)
+{
+    play->sure[writer] -= play->sure[writer] > 0;
+}
+
 /* The log is full: gives the transaction up. */
 static bool give_up(struct play *play, uint64_t writer, struct kagutin_reply reply)
 {
-    if (reply.code != KAGUTIN_FULL)
+    if (reply.code != KAGUTIN_FULL) {
+        use_place(play, writer);
         return done(play, reply, "store or commit");
+    }
     play->full++;
+    if (play->sure[writer])
+        return wrong(play, "a promised place is refused");
     if (reply.figure > KAGUTIN_WRITERS || (reply.figure < KAGUTIN_WRITERS && !play->open[reply.figure]))
         return wrong(play, "the writer that holds the log has no transaction");
     play->open[writer] = false;
@@ -108,6 +118,7 @@ static bool commit(struct play *play, uint64_t writer)
     reply = kgt_store(play->store, writer, 0, block);
     if (reply.code != KAGUTIN_DONE)
         return give_up(play, writer, reply);
+    use_place(play, writer);
     play->commits[play->committed - play->opened] = play->writers[writer];
     play->started = play->committed + 1;
     reply = kgt_commit(play->store, writer);
@@ -118,12 +129,45 @@ static bool commit(struct play *play, uint64_t writer)
     return true;
 }
 
+static bool any_reserved(const struct play *play)
+{
+    size_t writer;
+
+    for (writer = 0; writer < KAGUTIN_WRITERS; writer++)
+        if (play->open[writer] && play->reserved[writer])
+            return true;
+    return false;
+}
+
+/* Promises may forbid it. */
 static bool sync_all(struct play *play)
 {
-    if (!done(play, kgt_sync(play->store), "sync"))
+    struct kagutin_reply reply = kgt_sync(play->store);
+
+    if (reply.code == KAGUTIN_PROMISED && any_reserved(play))
+        return true;
+    if (!done(play, reply, "sync"))
         return false;
     play->confirmed = play->committed;
     return true;
+}
+
+/* A begin, or with places promised, for which the log may be too full. */
+static bool begin(struct play *play, uint64_t writer)
+{
+    uint64_t places = play_random(play, 4) ? 0 : 1 + play_random(play, 12);
+    struct kagutin_reply reply = places ? kgt_reserve(play->store, writer, places) : kgt_begin(play->store, writer);
+
+    if (reply.code == KAGUTIN_NO_PLACES && places) {
+        play->full++;
+        return true;
+    }
+    play->open[writer] = true;
+    play->reserved[writer] = places > 0;
+    play->sure[writer] = places;
+    play->writers[writer].transaction = ++play->transactions;
+    play->writers[writer].homes = 0;
+    return done(play, reply, "begin or reserve");
 }
 
 static bool step(struct play *play)
@@ -136,12 +180,8 @@ static bool step(struct play *play)
         return done(play, kgt_maintain(play->store, 0), "maintain");
     if (what == 2)
         return reads(play, 7, play_random(play, play->homes), play->committed);
-    if (!play->open[writer]) {
-        play->open[writer] = true;
-        play->writers[writer].transaction = ++play->transactions;
-        play->writers[writer].homes = 0;
-        return done(play, kgt_begin(play->store, writer), "begin");
-    }
+    if (!play->open[writer])
+        return begin(play, writer);
     if (what == 3) {
         play->open[writer] = false;
         return done(play, kgt_abort(play->store, writer), "abort");

@@ -7,7 +7,7 @@
 #include "kagutin.h"
 
 enum { GROUPS = 1024, HOMES = 65535, STACK = 1 << 18, LIMIT = 32768 };
-enum { FORMAT, OPEN, BEGIN, STORE, COMMIT, FLUSH, CONFIRM, SETTLE, TRIM, READ, ABORT, EMPTY };
+enum { FORMAT, OPEN, BEGIN, STORE, COMMIT, FLUSH, CONFIRM, SETTLE, TRIM, READ, ABORT, RESERVE, EMPTY };
 
 static uint8_t log_area[KAGUTIN_HEADER_SIZE + KAGUTIN_GROUP_SIZE * GROUPS], area[KAGUTIN_BLOCK_SIZE * HOMES];
 static uint8_t state[KAGUTIN_STATE_SIZE], block[KAGUTIN_BLOCK_SIZE], batch[5 << 20];
@@ -35,6 +35,7 @@ static void body(void)
     case TRIM: reply = kagutin_trim(AREAS, STATE, BATCH); break;
     case READ: reply = kagutin_read(AREAS, STATE, block, sizeof block, who, where); break;
     case ABORT: reply = kagutin_abort(AREAS, STATE, who); break;
+    case RESERVE: reply = kagutin_reserve(AREAS, STATE, who, 1); break;
     default: break;
     }
 }
@@ -64,7 +65,7 @@ static uint64_t call(int k)
 int main(void)
 {
     static const char *names[] = { "format", "open", "begin", "store", "commit", "flush", "confirm", "settle", "trim", "read",
-                                   "abort" };
+                                   "abort", "reserve" };
     int k, over = 0;
     unsigned i;
 
@@ -87,6 +88,7 @@ int main(void)
     call(SETTLE);
     call(TRIM);
     call(OPEN);
+    call(RESERVE);
     for (k = 0; k < EMPTY; k++) {
         printf("%-8s %zu\n", names[k], deepest[k]);
         if (deepest[k] > LIMIT)

@@ -141,16 +141,19 @@ static void check_refused(struct kagutin_reply reply, unsigned long at)
 static void check_shut(unsigned long at)
 {
     uint8_t block[KAGUTIN_BLOCK_SIZE] = {0};
+    struct kgt_places usage;
 
     calls_left = 1000;
     memcpy(before, memory, sizeof memory);
     check_refused(kgt_begin(&store, 0), at);
+    check_refused(kgt_reserve(&store, 0, 1), at);
     check_refused(kgt_store(&store, 0, 1, block), at);
     check_refused(kgt_commit(&store, 0), at);
     check_refused(kgt_abort(&store, 0), at);
     check_refused(kgt_read(&store, 0, 1, block), at);
     check_refused(kgt_sync(&store), at);
     check_refused(kgt_maintain(&store, 0), at);
+    check_refused(kgt_usage(&store, &usage), at);
     check(calls_left == 1000 && memcmp(before, memory, sizeof memory) == 0, "a refused call does nothing", at);
 }
 
@@ -210,6 +213,7 @@ static void check_lock_refused(struct kagutin_reply reply)
 static void check_locks(void)
 {
     uint8_t block[KAGUTIN_BLOCK_SIZE] = {0};
+    struct kgt_places usage;
 
     power_on();
     kgt_set_lock(&store, take, give, NULL);
@@ -218,12 +222,14 @@ static void check_locks(void)
     memcpy(before, memory, sizeof memory);
     locks_left = 1;
     check_lock_refused(kgt_begin(&store, 0));
+    check_lock_refused(kgt_reserve(&store, 0, 1));
     check_lock_refused(kgt_store(&store, 0, 1, block));
     check_lock_refused(kgt_commit(&store, 0));
     check_lock_refused(kgt_abort(&store, 0));
     check_lock_refused(kgt_read(&store, 0, 1, block));
     check_lock_refused(kgt_sync(&store));
     check_lock_refused(kgt_maintain(&store, 0));
+    check_lock_refused(kgt_usage(&store, &usage));
     check_lock_refused(kgt_open(&store));
     check_lock_refused(kgt_format(&store, scratch, sizeof scratch));
     locks_left = 0;
@@ -284,6 +290,121 @@ static void check_full(void)
               "aborted entries never fill the log", i);
 }
 
+/* ---- what fills the log ---- */
+
+/* Numbers of places; the holder's first place counted from the start that the opening gave; 8, 0: no holder. */
+static void check_usage(uint64_t live, uint64_t dead, uint64_t holder, uint64_t first)
+{
+    static unsigned long at;
+    struct kgt_places usage;
+
+    at++;
+    check(kgt_usage(&store, &usage).code == KAGUTIN_DONE, "usage", at);
+    check(usage.live == live, "places that are live", at);
+    check(usage.dead == dead, "places that are dead", at);
+    check(usage.free == KAGUTIN_GROUP_ENTRIES * GROUPS - live - dead && usage.promised == 0, "places that are free", at);
+    check(usage.holder == holder, "the writer that holds the log back", at);
+    check(usage.first == (holder < KAGUTIN_WRITERS ? KAGUTIN_GROUP_ENTRIES * GROUPS + first : 0), "from where on", at);
+}
+
+/* A writer stores so many blocks, of which the last has no place yet. */
+static void store_blocks(uint64_t writer, uint64_t count)
+{
+    uint8_t block[KAGUTIN_BLOCK_SIZE] = {0};
+    uint64_t i;
+
+    for (i = 0; i < count; i++)
+        check(kgt_store(&store, writer, i % HOMES, block).code == KAGUTIN_DONE, "store", i);
+}
+
+static void begin_and_store(uint64_t writer, uint64_t count)
+{
+    check(kgt_begin(&store, writer).code == KAGUTIN_DONE, "begin", writer);
+    store_blocks(writer, count);
+}
+
+static void check_classes(void)
+{
+    struct kgt_places usage = {1, 2, 3, 4, 5, 6};
+
+    power_on();
+    check(kgt_usage(&store, &usage).code == KGT_CLOSED && usage.live == 1 && usage.first == 6, "usage of a closed store", 0);
+    check(kgt_open(&store).code == KAGUTIN_DONE, "open", 0);
+    check_usage(0, 0, 8, 0);
+    begin_and_store(0, 1);
+    check_usage(0, 0, 8, 0); /* a held block has no place */
+    begin_and_store(1, 3);
+    check_usage(2, 0, 1, 0);
+    store_blocks(0, 3);
+    check_usage(4, 0, 1, 0);
+    check(kgt_commit(&store, 1).figure == KAGUTIN_GROUP_ENTRIES * GROUPS + 5, "commit", 1);
+    check_usage(5, 0, 0, 2);
+    begin_and_store(5, 2);
+    check(kgt_abort(&store, 5).code == KAGUTIN_DONE, "abort", 5);
+    check_usage(5, 1, 0, 2);
+    check(kgt_sync(&store).code == KAGUTIN_DONE, "sync", 0);
+    check_usage(5, 2, 0, 2); /* one place passed over */
+}
+
+/* Goes on: trims that an open transaction holds back, the drain, and the same around the ring. */
+static void check_drain(void)
+{
+    unsigned round;
+
+    check(kgt_maintain(&store, 0).code == KAGUTIN_DONE, "maintain", 0);
+    check_usage(5, 2, 0, 2); /* writer 0 holds the first group */
+    begin_and_store(7, 4);
+    check(kgt_commit(&store, 0).code == KAGUTIN_DONE, "commit", 0);
+    check_usage(9, 2, 7, 7);
+    check(kgt_sync(&store).code == KAGUTIN_DONE && kgt_maintain(&store, 0).code == KAGUTIN_DONE, "sync, maintain", 0);
+    check_usage(9, 5, 7, 7); /* writer 0's transaction crosses into the second group, where writer 7's begins */
+    check(kgt_abort(&store, 7).code == KAGUTIN_DONE, "abort", 7);
+    check_usage(6, 8, 8, 0);
+    for (round = 0; round < 3 * GROUPS; round++) {
+        check(kgt_sync(&store).code == KAGUTIN_DONE && kgt_maintain(&store, 0).code == KAGUTIN_DONE, "drain", round);
+        check_usage(0, 0, 8, 0);
+        begin_and_store(round % 8, 2 + round % 9);
+        check(kgt_commit(&store, round % 8).code == KAGUTIN_DONE, "commit", round);
+        check_usage(2 + round % 9, 0, 8, 0);
+    }
+}
+
+/* A trim that leaves a commit whose link leads to one before the start. */
+static void check_part_trimmed(void)
+{
+    power_on();
+    check(kgt_open(&store).code == KAGUTIN_DONE, "open", 0);
+    begin_and_store(0, 2);
+    check(kgt_commit(&store, 0).code == KAGUTIN_DONE && kgt_sync(&store).code == KAGUTIN_DONE, "commit, sync", 0);
+    check_usage(2, 5, 8, 0);
+    begin_and_store(1, 2);
+    begin_and_store(0, 1);
+    check(kgt_commit(&store, 0).code == KAGUTIN_DONE && kgt_sync(&store).code == KAGUTIN_DONE, "commit, sync", 1);
+    check_usage(4, 10, 1, 7);
+    check(kgt_maintain(&store, 0).code == KAGUTIN_DONE, "maintain", 0);
+    check_usage(2, 5, 1, 7);
+}
+
+/* The log is full: of aborted entries, of one transaction. */
+static void check_full_usage(void)
+{
+    uint64_t i;
+
+    power_on();
+    check(kgt_open(&store).code == KAGUTIN_DONE, "open", 0);
+    for (i = 0; i < KAGUTIN_GROUP_ENTRIES * GROUPS; i++) {
+        begin_and_store(3, 2);
+        check(kgt_abort(&store, 3).code == KAGUTIN_DONE, "abort", 3);
+        check_usage(0, i + 1, 8, 0);
+    }
+    begin_and_store(4, 2);
+    check_usage(1, 0, 4, KAGUTIN_GROUP_ENTRIES * GROUPS); /* the store has made room by itself */
+    store_blocks(4, KAGUTIN_GROUP_ENTRIES * GROUPS - 1);
+    check_usage(KAGUTIN_GROUP_ENTRIES * GROUPS, 0, 4, KAGUTIN_GROUP_ENTRIES * GROUPS);
+    check(kgt_commit(&store, 4).code == KAGUTIN_FULL, "full", 4);
+    check_usage(KAGUTIN_GROUP_ENTRIES * GROUPS, 0, 4, KAGUTIN_GROUP_ENTRIES * GROUPS);
+}
+
 int main(int count, char **words)
 {
     unsigned every = count > 1 ? (unsigned)atoi(words[1]) : 1;
@@ -292,6 +413,10 @@ int main(int count, char **words)
     prepare();
     check_sizes();
     check_full();
+    check_classes();
+    check_drain();
+    check_part_trimmed();
+    check_full_usage();
     check_locks();
     check_failures();
     check_stops(every ? every : 1);

@@ -1,7 +1,8 @@
 /*
  * Eight threads on one store, one writer each, under the lock hooks; a ninth
- * syncs and maintains. Each writes a pair of homes in one transaction, again
- * and again. Then power is cut, and every pair must be whole.
+ * syncs, maintains and counts the places. Each writes a pair of homes in one
+ * transaction, again and again; one reserves its places and then never meets a
+ * full log. Then power is cut, and every pair must be whole.
  */
 #define _POSIX_C_SOURCE 200809L
 
@@ -11,7 +12,7 @@
 
 #include "kagutin_memory.h"
 
-enum { GROUPS = 12, HOMES = 2 * KAGUTIN_WRITERS, ROUNDS = 400 };
+enum { GROUPS = 12, HOMES = 2 * KAGUTIN_WRITERS, ROUNDS = 400, RADIO = 4 };
 
 static uint8_t memory[KGT_MEMORY_SIZE(GROUPS, HOMES)], scratch[KGT_FORMAT_SIZE(GROUPS, HOMES)];
 static uint8_t lasting[KGT_LOG_SIZE(GROUPS) + KGT_HOMES_SIZE(HOMES)], written[sizeof lasting];
@@ -41,7 +42,12 @@ static void *task(void *argument)
         struct kagutin_reply reply;
 
         memset(block, (int)((commits[writer] + 1) % 251), sizeof block);
-        failures[writer] += kgt_begin(&store, writer).code != KAGUTIN_DONE;
+        reply = writer == RADIO ? kgt_reserve(&store, writer, 2) : kgt_begin(&store, writer);
+        if (reply.code == KAGUTIN_NO_PLACES) {
+            full[writer]++;
+            continue;
+        }
+        failures[writer] += reply.code != KAGUTIN_DONE;
         reply = kgt_store(&store, writer, 2 * writer, block);
         if (reply.code == KAGUTIN_DONE)
             reply = kgt_store(&store, writer, 2 * writer + 1, block);
@@ -55,18 +61,24 @@ static void *task(void *argument)
             continue;
         }
         full[writer]++;
-        failures[writer] += reply.code != KAGUTIN_FULL || kgt_abort(&store, writer).code != KAGUTIN_DONE;
+        failures[writer] += writer == RADIO || reply.code != KAGUTIN_FULL || kgt_abort(&store, writer).code != KAGUTIN_DONE;
     }
     return NULL;
 }
 
 static void *housekeeping(void *argument)
 {
+    struct kgt_places places;
     unsigned round;
 
     (void)argument;
-    for (round = 0; round < ROUNDS; round++)
-        failures[KAGUTIN_WRITERS] += kgt_sync(&store).code != KAGUTIN_DONE || kgt_maintain(&store, 4).code != KAGUTIN_DONE;
+    for (round = 0; round < ROUNDS; round++) {
+        uint64_t code = kgt_sync(&store).code;
+
+        failures[KAGUTIN_WRITERS] += (code != KAGUTIN_DONE && code != KAGUTIN_PROMISED)
+            || kgt_maintain(&store, 4).code != KAGUTIN_DONE || kgt_usage(&store, &places).code != KAGUTIN_DONE
+            || places.live + places.dead + places.free != KAGUTIN_GROUP_ENTRIES * GROUPS;
+    }
     return NULL;
 }
 

@@ -7,8 +7,8 @@
 #define STATE(s) (s)->state, (size_t)KAGUTIN_STATE_SIZE
 #define BATCH(s) (s)->batch, (s)->batch_size
 
-/* Writers' records in the state, and what stands there; docs/FORMAT.md. */
-enum { STATE_START = 16, WRITERS_AT = 128, WRITER_SIZE = 96, WRITER_FIRST = 16, MODE_LOGGING = 3 };
+/* Where the log's start stands in the state; docs/FORMAT.md. */
+enum { STATE_START = 16 };
 
 const char *kgt_answer_text(uint64_t code)
 {
@@ -139,58 +139,65 @@ struct kagutin_reply kgt_open(struct kagutin *store)
 
 /* ---- a full log ---- */
 
-static uint64_t number(const uint8_t *bytes)
+static uint64_t start_of(const struct kagutin *store)
 {
-    uint64_t value = 0;
+    uint64_t start = 0;
     int i;
 
     for (i = 7; i >= 0; i--)
-        value = value << 8 | bytes[i];
-    return value;
+        start = start << 8 | store->state[STATE_START + i];
+    return start;
 }
 
-/* The writer whose open transaction begins first in the log, and where; 8 if none has entries there. */
-static uint64_t oldest_writer(const struct kagutin *store, uint64_t *first)
+static struct kagutin_reply flush(struct kagutin *store)
 {
-    uint64_t oldest = KAGUTIN_WRITERS, writer;
+    return run(store, store->batch, kagutin_flush(AREAS(store), STATE(store), BATCH(store)));
+}
 
-    for (writer = 0; writer < KAGUTIN_WRITERS; writer++) {
-        const uint8_t *record = store->state + WRITERS_AT + WRITER_SIZE * writer;
+static struct kagutin_reply settle(struct kagutin *store)
+{
+    return run(store, store->batch, kagutin_settle(AREAS(store), STATE(store), BATCH(store)));
+}
 
-        if (number(record) != MODE_LOGGING)
-            continue;
-        if (oldest == KAGUTIN_WRITERS || number(record + WRITER_FIRST) < *first) {
-            oldest = writer;
-            *first = number(record + WRITER_FIRST);
-        }
-    }
-    return oldest;
+static struct kagutin_reply settle_and_trim(struct kagutin *store)
+{
+    struct kagutin_reply reply = settle(store);
+
+    if (reply.code == KAGUTIN_DONE)
+        reply = run(store, store->batch, kagutin_trim(AREAS(store), STATE(store), BATCH(store)));
+    return reply;
+}
+
+/* Fences the log: where promises forbid a flush a settle does, without the part-filled group. */
+static struct kagutin_reply fence_log(struct kagutin *store)
+{
+    struct kagutin_reply reply = flush(store);
+
+    return reply.code == KAGUTIN_PROMISED ? settle(store) : reply;
 }
 
 /* Flush, settle, trim, unless the log's first group is held. False: tried in vain, or not done as reply says. */
 static bool make_room(struct kagutin *store, struct kagutin_reply *reply)
 {
-    uint64_t first = 0, start = number(store->state + STATE_START);
+    uint64_t first, start = start_of(store);
     struct kagutin_reply done;
 
-    if (oldest_writer(store, &first) < KAGUTIN_WRITERS && first / KAGUTIN_GROUP_ENTRIES == start)
+    if (kgt_holder(store->state, &first) < KAGUTIN_WRITERS && first / KAGUTIN_GROUP_ENTRIES == start)
         return false;
-    done = run(store, store->batch, kagutin_flush(AREAS(store), STATE(store), BATCH(store)));
+    done = fence_log(store);
     if (done.code == KAGUTIN_DONE)
-        done = run(store, store->batch, kagutin_settle(AREAS(store), STATE(store), BATCH(store)));
-    if (done.code == KAGUTIN_DONE)
-        done = run(store, store->batch, kagutin_trim(AREAS(store), STATE(store), BATCH(store)));
+        done = settle_and_trim(store);
     if (done.code != KAGUTIN_DONE)
         *reply = done;
-    return done.code == KAGUTIN_DONE && number(store->state + STATE_START) != start;
+    return done.code == KAGUTIN_DONE && start_of(store) != start;
 }
 
 static struct kagutin_reply say_holder(const struct kagutin *store, struct kagutin_reply reply)
 {
-    uint64_t first = 0;
+    uint64_t first;
 
-    if (reply.code == KAGUTIN_FULL)
-        reply.figure = oldest_writer(store, &first);
+    if (reply.code == KAGUTIN_FULL || reply.code == KAGUTIN_NO_PLACES)
+        reply.figure = kgt_holder(store->state, &first);
     return reply;
 }
 
@@ -203,6 +210,24 @@ struct kagutin_reply kgt_begin(struct kagutin *store, uint64_t writer)
     if (!enter(store, &reply))
         return reply;
     return leave(store, kagutin_begin(AREAS(store), STATE(store), writer));
+}
+
+static struct kagutin_reply reserve_once(struct kagutin *store, uint64_t writer, uint64_t places)
+{
+    return kagutin_reserve(AREAS(store), STATE(store), writer, places);
+}
+
+struct kagutin_reply kgt_reserve(struct kagutin *store, uint64_t writer, uint64_t places)
+{
+    bool possible = places > 0 && places <= KAGUTIN_GROUP_ENTRIES * store->runner.groups;
+    struct kagutin_reply reply;
+
+    if (!enter(store, &reply))
+        return reply;
+    reply = reserve_once(store, writer, places);
+    if (reply.code == KAGUTIN_NO_PLACES && possible && make_room(store, &reply))
+        reply = reserve_once(store, writer, places);
+    return leave(store, say_holder(store, reply));
 }
 
 struct kagutin_reply kgt_abort(struct kagutin *store, uint64_t writer)
@@ -266,7 +291,9 @@ struct kagutin_reply kgt_sync(struct kagutin *store)
 
     if (!enter(store, &reply))
         return reply;
-    reply = run(store, store->batch, kagutin_flush(AREAS(store), STATE(store), BATCH(store)));
+    reply = flush(store);
+    if (reply.code == KAGUTIN_PROMISED && make_room(store, &reply))
+        reply = flush(store);
     if (reply.code == KAGUTIN_DONE)
         reply = kagutin_confirm(AREAS(store), STATE(store));
     return leave(store, reply);
@@ -279,8 +306,15 @@ struct kagutin_reply kgt_maintain(struct kagutin *store, uint64_t most)
     (void)most;
     if (!enter(store, &reply))
         return reply;
-    reply = run(store, store->batch, kagutin_settle(AREAS(store), STATE(store), BATCH(store)));
-    if (reply.code == KAGUTIN_DONE)
-        reply = run(store, store->batch, kagutin_trim(AREAS(store), STATE(store), BATCH(store)));
-    return leave(store, reply);
+    return leave(store, settle_and_trim(store));
+}
+
+struct kagutin_reply kgt_usage(struct kagutin *store, struct kgt_places *places)
+{
+    struct kagutin_reply reply;
+
+    if (!enter(store, &reply))
+        return reply;
+    kgt_count(store->log, store->state, places);
+    return leave(store, answer(KAGUTIN_DONE, 0));
 }
