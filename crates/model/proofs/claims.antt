@@ -11,6 +11,7 @@ pub mod StoreAnswers
 pub mod StoreFollows
 pub mod LedgerLaws
 pub mod LedgerSteps
+pub mod PlacesHold
 pub mod OnceLaws
 pub mod FactLaws
 pub mod Computing
