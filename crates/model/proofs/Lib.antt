@@ -1,5 +1,7 @@
 -- The proofs, in reading order, a folder for each layer.
 
+-- What the definitions come to: the trials and a history of every call, computed.
+pub mod answers
 -- Bytes, tags, the log's header and groups, the homes: laws of specs/Bytes, Tag and Layout.
 pub mod bytes
 -- What a call is lent: batches, the state strip, question 2, the questions and their answers.
@@ -12,5 +14,5 @@ pub mod trace
 pub mod invariant
 -- Each call and each crash keeps the invariant.
 pub mod steps
--- The claims: demands 2 and 3, the facts stated in passing, the trials and the witnesses.
+-- The claims: the refusals, demands 2 and 3, what every call answers, the facts stated in passing, and a history that meets the premises.
 pub mod claims

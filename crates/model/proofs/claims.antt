@@ -1,4 +1,4 @@
--- The claims: demands 2 and 3, the facts stated in passing, the trials and the witnesses.
+-- The claims: the refusals, demands 2 and 3, what every call answers, the facts stated in passing, and a history that meets the premises.
 pub mod RefusalsHold
 pub mod LiveHolds
 pub mod DemandThree
@@ -14,6 +14,4 @@ pub mod LedgerSteps
 pub mod PlacesHold
 pub mod OnceLaws
 pub mod FactLaws
-pub mod Computing
-pub mod TrialsHold
-pub mod WitnessesHold
+pub mod WitnessHolds

@@ -22,7 +22,7 @@ use Rattle.model.proofs.strip.BatchLaws.{length-FN, length-KW}
 use Rattle.model.proofs.strip.QuestionLaws.{ask-yes, ask-no, ask-passed}
 use Rattle.model.proofs.strip.OrderLaws.{tests}
 use Rattle.bitmap.specs.Marks.{marks}
-use Rattle.replay.specs.Walk.{closedBelow}
+use Rattle.scan.specs.Walk.{closedBelow}
 use Rattle.answers.specs.Lent.{lent, leaves}
 use Rattle.answers.proofs.AnswerLaws.{refused-by, done-by}
 use Rattle.recovery.specs.Opens.{askOpen}

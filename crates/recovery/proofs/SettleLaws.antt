@@ -18,7 +18,7 @@ use Rattle.model.proofs.strip.BatchLaws.{batch-one, length-FN}
 use Rattle.model.proofs.strip.QuestionLaws.{ask-yes, ask-no}
 use Rattle.model.proofs.strip.OrderLaws.{InOrder}
 use Rattle.bitmap.specs.Marks.{marks}
-use Rattle.replay.specs.Walk.{closedBelow}
+use Rattle.scan.specs.Walk.{closedBelow}
 use Rattle.answers.specs.Lent.{lent, leaves}
 use Rattle.answers.proofs.AnswerLaws.{Usable, state-usable, state-only, state-refuses, state-passes, refused-by, done-by}
 use Rattle.recovery.specs.Plans.{Searchable, Planned}

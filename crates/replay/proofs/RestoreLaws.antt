@@ -1,6 +1,6 @@
 -- Laws of replay into the data copy by a table of newest entries. Assumes nothing.
 use mathlib.Core.Path.{_≡_, refl, sym, ap, _∙_}
-use mathlib.Core.Logic.{_⊎_, inl, inr}
+use mathlib.Core.Logic.{inl, inr}
 use mathlib.Core.Bool.{Bool, true, false, cond, _&&_, false≢true}
 use mathlib.Core.List.{List, [], _∷_, _++_}
 use mathlib.Core.Option.{Option, none, some}
@@ -26,7 +26,7 @@ use Rattle.bitmap.specs.Marks.{marks, bitsOf, raised}
 use Rattle.bitmap.proofs.MarkedLaws.{raised-nil, raised-cons, marked-zero}
 use Rattle.bitmap.proofs.WordLaws.{no-bits}
 use Rattle.bitmap.proofs.MapLaws.{marked-word, marks-past}
-use Rattle.replay.specs.Walk.{Walkable, closedBelow}
+use Rattle.scan.specs.Walk.{Walkable, closedBelow}
 use Rattle.replay.specs.Gather.{maxHomes, offsetCode}
 use Rattle.replay.specs.Restore.{Gathered, restored, Ready}
 

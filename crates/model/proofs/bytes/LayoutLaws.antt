@@ -1,7 +1,7 @@
 -- Laws of the definitions of specs/Layout: the header, the groups and the entries in them, positions, the homes.
 -- A law takes its variables in the order in which its left side first names them, then its premises. Assumes nothing.
 use mathlib.Core.Path.{_≡_, refl, sym, ap, _∙_}
-use mathlib.Core.Bool.{Bool, true, false, _&&_}
+use mathlib.Core.Bool.{Bool, true, false, _&&_, and-eq-true-iff}
 use mathlib.Core.List.{List, _++_}
 use Prim.Native.Nat.{ℕ, zero, suc, _+_, _-_, _*_, _/_, _%_, _^_, _≤_, _<_}
 use native.Mathlib.Nat.{mod-lt, div-add-mod, mul-le-mul-left, mul-suc}
@@ -16,12 +16,8 @@ use Rattle.model.proofs.bytes.ByteLaws.{length-puts, length-zeros, leng
 
 -- ---- tests joined
 
-pub both : (a b : Bool) → (a && b) ≡ true → (a ≡ true) × (b ≡ true)
-both true b h = (refl, h)
-both false b h = (h, cc)
-
 pub three : (a b c : Bool) → (a && b && c) ≡ true → (a ≡ true) × (b ≡ true) × (c ≡ true)
-three true b c h = let p = both b c h in (refl, p .0, p .1)
+three true b c h = let p = and-eq-true-iff b c .0 h in (refl, p .0, p .1)
 three false b c h = (h, cc, cc)
 
 -- ---- parts and numbers of lists that are joined, and of zeros
@@ -337,7 +333,7 @@ pub valid-number : (group : List ℕ) (groups start n : ℕ) → groupValid grou
 unfolding groupValid
 valid-number group groups start n h =
     let p = three (same (part group 0 2) groupMark && eqb (groupNumber group) n) (leb start n) (ltb n (start + groups)) h in
-    let q = both (same (part group 0 2) groupMark) (eqb (groupNumber group) n) (p .0) in
+    let q = and-eq-true-iff (same (part group 0 2) groupMark) (eqb (groupNumber group) n) .0 (p .0) in
     (eqb-true (groupNumber group) n (q .1), leb-true start n (p .1), ltb-true n (start + groups) (p .2))
 
 -- a ring slot has one number in the range

@@ -1,11 +1,10 @@
 -- What the calls of an era see of the log copy: at each position what the trace has there, and the committed transactions that are not trimmed.
 -- Assumes nothing.
 use Prim.Native.Nat.{ℕ, _+_, _-_, _*_, _/_, _%_, _≤_, _<_}
-use mathlib.Core.Path.{_≡_, refl, sym, ap, _∙_}
+use mathlib.Core.Path.{_≡_, refl, ap, _∙_}
 use mathlib.Core.Bool.{Bool, true, false, cond, _||_, or-comm}
 use mathlib.Core.List.{List, [], _∷_}
 use mathlib.Core.Option.{Option, none, some}
-use native.Mathlib.Decide.{decLt}
 use native.Mathlib.Omega.{arith}
 use lib.Dec.{eqb, ltb}
 use lib.ListN.{length}
@@ -18,7 +17,7 @@ use Rattle.model.specs.State.{stateOf, nextPosition}
 use Rattle.model.specs.Effects.{groups, homes, liveTags, liveBase}
 use Rattle.model.specs.History.{World, lent}
 use Rattle.model.proofs.bytes.LayoutLaws.{groups-in, homes-in}
-use Rattle.model.proofs.strip.OrderLaws.{InOrder}
+use Rattle.model.proofs.strip.OrderLaws.{next-within}
 use Rattle.model.proofs.invariant.GrowLaws.{used-inside}
 use Rattle.model.proofs.trace.Trace.{Ev, hist, tagAt, homeOn, blockOn, firstIn, surviving, closerOf, oldestOf, closingFrom}
 use Rattle.model.proofs.trace.TraceLaws.{All, all-map, Names, Named, tagAt-back, tagAt-home, open-named, done-named}
@@ -114,18 +113,7 @@ module _ (G D b : ℕ) (tr : List Ev) (w : World) (z : Sizes G D) (c : Copies G 
   live-order = omega (arith, c .order .start-next)
 
   pub live-room : endOf w ≤ 7 * (stateOf (w .state) .start + G)
-  unfolding nextPosition
-  live-room = go (decLt (stateOf (w .state) .next) (stateOf (w .state) .start + stateOf (w .state) .groups))
-    where
-      o : InOrder (w .state) G D
-      o = c .order
-
-      go : Dec (stateOf (w .state) .next < stateOf (w .state) .start + stateOf (w .state) .groups)
-          → 7 * stateOf (w .state) .next + stateOf (w .state) .filled ≤ 7 * (stateOf (w .state) .start + G)
-      go (yes h) = omega (arith, o .groups-same, o .filled-most)
-      go (no h) =
-          let e : stateOf (w .state) .next ≡ stateOf (w .state) .start + stateOf (w .state) .groups = omega (arith, o .next-most) in
-          omega (arith, o .groups-same, o .filled-none e)
+  live-room = next-within (w .state) G D (c .order)
 
   -- ---- what is lent
 

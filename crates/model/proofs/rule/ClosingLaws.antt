@@ -133,6 +133,13 @@ pub committed-within : (log : ℕ → Tag) (base n : ℕ)
 unfolding committed
 committed-within log base n = walked log base n .within
 
+pub committed-most : (log : ℕ → Tag) (base n : ℕ) → endOf (committed log base n) ≤ base + n
+committed-most log base n = go (committed-within log base n)
+  where
+    go : {e : ℕ} → (e ≡ 0) ⊎ ((base < e) × (e ≤ base + n)) → e ≤ base + n
+    go (inl z) = omega arith
+    go (inr h) = h .1
+
 -- the first failure ends the walk
 visit-stopped : (log : ℕ → Tag) (base n : ℕ) (t : Tag) (w : Walk) → w .going ≡ false
     → (visit log base n t w .spans ≡ w .spans) × (visit log base n t w .going ≡ false)

@@ -178,6 +178,15 @@ unfolding places nextPosition
 place-below s groups homes w o l (inl h) = omega (arith, promise-most s w 8 l, o .promises .within)
 place-below s groups homes w o l (inr h) = omega arith
 
+-- the next position is at most one past the ring's last
+pub next-within : (s : List ℕ) (groups homes : ℕ) → InOrder s groups homes → nextPosition (stateOf s) ≤ 7 * (stateOf s .start + groups)
+unfolding nextPosition
+next-within s groups homes o = go (ℕ-discrete (stateOf s .next) (stateOf s .start + stateOf s .groups))
+  where
+    go : Dec (stateOf s .next ≡ stateOf s .start + stateOf s .groups) → 7 * stateOf s .next + stateOf s .filled ≤ 7 * (stateOf s .start + groups)
+    go (yes e) = omega (arith, o .groups-same, o .filled-none e)
+    go (no e) = omega (arith, o .groups-same, o .next-most, o .filled-most)
+
 -- ---- zeros
 
 pub byte-zeros : (n i : ℕ) → getD (zeros n) i 0 ≡ 0

@@ -14,16 +14,16 @@ use Rattle.model.proofs.bytes.ByteLaws.{length-putNumber, number-same, 
 -- ---- a number of eight bytes, written and read
 
 -- read eight bytes away or more
-pub number-apart : (s : List ℕ) (o v i : ℕ) → (i + 8 ≤ o) ⊎ (o + 8 ≤ i) → number 8 (putNumber 8 s o v) i ≡ number 8 s i
-number-apart s o v i (inl h) = number-put-below 8 8 s o v i h
-number-apart s o v i (inr h) = number-put-above 8 8 s o v i h
+pub number-put-apart : (s : List ℕ) (o v i : ℕ) → (i + 8 ≤ o) ⊎ (o + 8 ≤ i) → number 8 (putNumber 8 s o v) i ≡ number 8 s i
+number-put-apart s o v i (inl h) = number-put-below 8 8 s o v i h
+number-put-apart s o v i (inr h) = number-put-above 8 8 s o v i h
 
 -- read back; 2 ^ 64 is 256 ^ 8
 pub number-back : (s : List ℕ) (o v : ℕ) → length s ≡ 1024 → o + 8 ≤ 1024 → v < 2 ^ 64 → number 8 (putNumber 8 s o v) o ≡ v
 number-back s o v l h g = number-same 8 s o v (omega arith) g
 
 -- at offsets that are numerals: leb-true compares them
-ruleset at-numerals = (number-apart, number-back, inl, inr, leb-true)
+ruleset at-numerals = (number-put-apart, number-back, inl, inr, leb-true)
 
 -- ---- strips that agree in a part
 
