@@ -9,6 +9,9 @@ pub mod DemandTwo
 pub mod StoreLaws
 pub mod StoreAnswers
 pub mod StoreFollows
+pub mod LedgerLaws
+pub mod LedgerSteps
+pub mod PlacesHold
 pub mod OnceLaws
 pub mod FactLaws
 pub mod Ledger

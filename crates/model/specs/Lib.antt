@@ -13,6 +13,7 @@ pub mod Book
 pub mod History
 pub mod Demands
 pub mod Store
+pub mod Places
 pub mod Trials
 pub mod Witnesses
 pub mod Promises

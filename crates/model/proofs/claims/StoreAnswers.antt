@@ -520,7 +520,7 @@ module _ (G D : ℕ) (z : Sizes G D) (w : World) (r : Running G D w) (s : Store)
 
   -- ---- trim
 
-  may-is : (x : ℕ) → mayStart s x ≡ free w x
+  pub may-is : (x : ℕ) → mayStart s x ≡ free w x
   unfolding mayStart free
   may-is x = rw (first-is, a .book, first-group G D z w r)
 

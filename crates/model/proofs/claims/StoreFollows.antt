@@ -577,7 +577,7 @@ module _ (G D : ℕ) (z : Sizes G D) (w : World) (r : Running G D w) (s : Store)
 
   -- ---- what the service calls leave of the store
 
-  service-same : (c : Service)
+  pub service-same : (c : Service)
       → (afterService s c .groups ≡ s .groups) × (afterService s c .homes ≡ s .homes) × (afterService s c .head ≡ s .head) × (afterService s c .back ≡ s .back)
       × (afterService s c .book ≡ s .book) × (afterService s c .promises ≡ s .promises)
   unfolding afterService numbered trimmedTo
@@ -768,7 +768,7 @@ module _ (G D : ℕ) (z : Sizes G D) where
   opening-follows w k s a (change c) e = absurd (false≢true e)
   opening-follows w k s a (service c) e = absurd (false≢true e)
 
-  follows : (w : World) → Invariant G D w → (s : Store) → Agrees G D w s → (e : Event) → Allowed w e
+  pub follows : (w : World) → Invariant G D w → (s : Store) → Agrees G D w s → (e : Event) → Allowed w e
       → AnswersAt w s e × Agrees G D (step w e) (follow s w e)
   follows w (inl k) s a (call c) h = opening-follows w k s a c (h ∙ ap not (k .ready))
   follows w (inr r) s a (call c) h =
@@ -786,7 +786,7 @@ module _ (G D : ℕ) (z : Sizes G D) where
       let k = follows w i s a e (h .0) in
       (found-now w s a, k .0, throughout es (step w e) (follow s w e) (keeps G D z w i e (h .0) .0) (k .1) (h .1))
 
-  empty-agrees : Agrees G D (emptyStore G D) (newStore G D)
+  pub empty-agrees : Agrees G D (emptyStore G D) (newStore G D)
   unfolding emptyStore unopened newStore
   empty-agrees =
       record {

@@ -128,7 +128,7 @@ unfolding anyOpenBefore
 open-none b q tasks zero f = refl
 open-none b q tasks (suc n) f = rw (f n (omega arith)) (open-none b q tasks n (λ x l. f x (omega arith)))
 
-none-open : (b q : ℕ) (tasks : ℕ → Task) (n : ℕ) → anyOpenBefore b q tasks n ≡ false → (x : ℕ) → x < n → openBefore b q (tasks x) ≡ false
+pub none-open : (b q : ℕ) (tasks : ℕ → Task) (n : ℕ) → anyOpenBefore b q tasks n ≡ false → (x : ℕ) → x < n → openBefore b q (tasks x) ≡ false
 unfolding anyOpenBefore
 none-open b q tasks zero h x l = absurd (omega arith)
 none-open b q tasks (suc n) h x l =
