@@ -167,7 +167,7 @@ unfoldable pub trials : List Trial
 trials =
     record { yields = trial1; paper = 5 ∷ 2199023271947 ∷ 518 ∷ [] } ∷ record { yields = trial2; paper = 3298534916119 ∷ [] }
     ∷ record { yields = trial3; paper = 65 ∷ 65 ∷ [] } ∷ record { yields = trial4; paper = 0 ∷ 1 ∷ 138 ∷ [] }
-    ∷ record { yields = trial5; paper = 0 ∷ 0 ∷ 70 ∷ [] } 
+    ∷ record { yields = trial5; paper = 0 ∷ 0 ∷ 70 ∷ [] }
     ∷ record {
       yields = trial6and7;
       paper =

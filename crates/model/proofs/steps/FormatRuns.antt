@@ -43,10 +43,14 @@ formed-zeros (suc n) h = formed-append (zeroHomes n) _ (formed-zeros n (omega ar
 
 formed-format : (G D : ℕ) → Sizes G D → AllFormed (formatted G D)
 unfolding formatted
-formed-format G D z =
-    (simp (length-zeros, length-header), (tt,
+formed-format G D z = (
+  simp (length-zeros, length-header),
+  (
+    tt,
     formed-append (unusedGroups G) _ (formed-unused G (z .high))
-    (formed-append (zeroHomes D) _ (formed-zeros D (z .homes)) (tt, (length-header 0 G D, (tt, tt))))))
+        (formed-append (zeroHomes D) _ (formed-zeros D (z .homes)) (tt, (length-header 0 G D, (tt, tt)))),
+  ),
+)
 
 -- what an answer of 0 says of the sizes, and how the call ends
 module _ {G D : ℕ} (f : Formatting G D) where
