@@ -1,12 +1,14 @@
 // Runs a script of calls, read from standard input, on a newly formatted and opened store of 4 groups and 8 homes: the paper's
 // trial 14. Of standard input the first 65,536 bytes are read. A last line without a line end counts.
-mod line;
 mod show;
-mod text;
 
-use crate::line::Line;
 use answers::Reply;
 use libc::STDIN_FILENO;
+use lines::Line;
+ghost use mathlib.Core.Path.{_≡_};
+ghost use lib.ListN.{replicate};
+ghost use Rattle.model.specs.Calls.{storeCall};
+ghost use Rattle.answers.specs.Lent.{lent, leaves};
 
 // Stores a block full of one byte.
 fn store(
@@ -17,7 +19,9 @@ fn store(
     writer: u64,
     home: u64,
     fill: u8,
-) -> Reply {
+) -> Reply
+    ensures { λ r. ⌜ leaves (r .code) (r .figure) (r .size) (now (log .exit)) (now (area .entry)) (now (state .exit)) (replicate 64 fill) (now (batch .exit)) ≡ storeCall (lent (now (log .entry)) (now (area .entry)) (now (state .entry)) (replicate 64 fill) (now (batch .entry)) writer home) ⌝ }
+{
     let block = [fill; 64];
     logging::store(log, area, state, &block, batch, writer, home)
 }
@@ -54,7 +58,7 @@ fn call(log: &mut [u8], area: &mut [u8], state: &mut [u8], batch: &mut [u8], ask
 
 // Runs a line, and shows what came of it.
 fn run(log: &mut [u8], area: &mut [u8], state: &mut [u8], batch: &mut [u8], line: &[u8]) {
-    let reply = call(log, area, state, batch, line::parse(line));
+    let reply = call(log, area, state, batch, lines::parse(line));
     if reply.code == MALFORMED {
         show::malformed();
         return;
@@ -66,7 +70,7 @@ fn run(log: &mut [u8], area: &mut [u8], state: &mut [u8], batch: &mut [u8], line
 fn run_all(log: &mut [u8], area: &mut [u8], state: &mut [u8], batch: &mut [u8], script: &[u8]) {
     let mut at: usize = 0;
     while at < script.len() {
-        let end = text::until(script, at, b'\n');
+        let end = lines::until(script, at, b'\n');
         run(log, area, state, batch, &script[at..end]);
         if end == script.len() {
             return;

@@ -2,10 +2,14 @@
 //
 // A field stands after exactly one space, and a line ends with its last field. Leading zeros are fine. A line that is empty, that
 // has too few or too many fields, or a field that is no number or too large, is malformed; so is one with any other letter.
-use crate::text::number;
-use crate::text::until;
+mod text;
+
+use text::number;
+pub use text::until;
+ghost use mathlib.Core.Path.{_≡_};
 ghost use Prim.Native.Nat.{_≤_};
-ghost use lib.ListN.{length};
+ghost use lib.ListN.{length, drop};
+ghost use Rattle.lines.specs.Line.{bareLine, writerLine, storeLine, lineOf};
 
 pub enum Line {
     Begin(u64),
@@ -19,7 +23,9 @@ pub enum Line {
 }
 
 // A line of one letter and nothing else.
-fn bare(letter: u8) -> Line {
+fn bare(letter: u8) -> Line
+    ensures { λ r. ⌜ r ≡ bareLine letter ⌝ }
+{
     match letter {
         b'f' => Line::Flush,
         b'w' => Line::Settle,
@@ -31,6 +37,7 @@ fn bare(letter: u8) -> Line {
 // The line `b W` or `c W`.
 fn of_writer(line: &[u8], letter: u8) -> Line
     requires { ⌜ 2 ≤ length (now line) ⌝ }
+    ensures { λ r. ⌜ r ≡ writerLine letter (drop 2 (now (line .entry))) ⌝ }
 {
     let writer = number(line, 2, line.len());
     if writer > 65535 {
@@ -45,6 +52,7 @@ fn of_writer(line: &[u8], letter: u8) -> Line
 // The line `s W HOME FILL`.
 fn of_store(line: &[u8]) -> Line
     requires { ⌜ 2 ≤ length (now line) ⌝ }
+    ensures { λ r. ⌜ r ≡ storeLine (drop 2 (now (line .entry))) ⌝ }
 {
     let first = until(line, 2, b' ');
     if first == line.len() {
@@ -70,7 +78,9 @@ fn of_store(line: &[u8]) -> Line
 }
 
 // Reads a line, without its line end.
-pub fn parse(line: &[u8]) -> Line {
+pub fn parse(line: &[u8]) -> Line
+    ensures { λ r. ⌜ r ≡ lineOf (now (line .entry)) ⌝ }
+{
     if line.len() == 0 {
         return Line::Malformed;
     }
