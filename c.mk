@@ -1,12 +1,12 @@
 # The C side: header, driver, station, inspector. Included by the Makefile; also
-# make -f c.mk LIB=path/to/libkagutin.a station
+# make -f c.mk LIB=path/to/libkagutin.a station; without LIB the library is built from dist/kagutin.c
 #
 # station, inspect, quickstart   programs in target/c
 # c-sanitize                     the same with address and undefined-behaviour sanitizers, in target/c/sanitize
 # c-check                        tests of all of these
 # install                        header, library and kagutin.pc, under DESTDIR and PREFIX
 
-LIB ?= target/staticlib/libkagutin.a
+LIB ?= $(C_OUT)/libkagutin.a
 C_LIBS ?=
 PREFIX ?= /usr/local
 DESTDIR ?=
@@ -52,7 +52,7 @@ define C_PROGRAM
 $(C_OUT)/$(1): $(2:%=$(C_OUT)/%.o) $(3)
 	$$(CC) $$(CFLAGS) $$^ $(if $(3),$$(C_LIBS)) -o $$@
 
-$(C_OUT)/sanitize/$(1): $(2:%=$(C_OUT)/sanitize/%.o) $(3)
+$(C_OUT)/sanitize/$(1): $(2:%=$(C_OUT)/sanitize/%.o) $(3:$(C_OUT)/%=$(C_OUT)/sanitize/%)
 	$$(CC) $$(C_SANITIZE) $$^ $(if $(3),$$(C_LIBS)) -o $$@
 endef
 
@@ -71,6 +71,8 @@ install: $(LIB) include/kagutin.h kagutin.pc.in
 	sed -e 's|@PREFIX@|$(PREFIX)|' -e 's|@VERSION@|$(VERSION)|' -e 's|@LIBS@|$(C_LIBS)|' -e 's/ *$$//' kagutin.pc.in \
 	    > $(DESTDIR)$(PREFIX)/lib/pkgconfig/kagutin.pc
 	chmod 644 $(DESTDIR)$(PREFIX)/lib/pkgconfig/kagutin.pc
+
+include port.mk
 
 c-clean:
 	rm -rf $(C_OUT)

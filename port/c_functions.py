@@ -1,0 +1,238 @@
+"""Statements and functions as C text."""
+import re
+import textwrap
+
+from c_types import c_name
+from c_values import Values
+from fold import read_locals
+from forms import (BOOL, UNIT, Array, Assign, Binary, Block, Call, Exit, If, Int, IntType, Copy, Loop, Named, Place, Ref, Repeat,
+                   Return, Slice, Stop, Store, Switch, U64, U8, Unary, inside, statements, values_of)
+
+WIDTH = 130         # columns of a line
+
+
+class Around:
+    """A block or loop around a statement. `c_loop`: it is a C loop, or a block that ends where its one C loop ends."""
+
+    def __init__(self, is_loop, label, c_loop):
+        self.is_loop, self.label, self.c_loop, self.used = is_loop, label, c_loop, False
+
+
+class FunctionText(Values):
+    """The text of one function after another."""
+
+    def __init__(self, types, program):
+        super().__init__(types)
+        self.program, self.out = program, []
+
+    def line(self, depth, text):
+        self.out += textwrap.wrap(text, WIDTH, initial_indent='    ' * depth, subsequent_indent='    ' * (depth + 2),
+                                  break_long_words=False, break_on_hyphens=False)
+
+    # ---- statements
+
+    def body(self, f, body, depth, around, last):
+        """`around`: blocks and loops, outermost first. `last`: the function ends after this body."""
+        for n, statement in enumerate(body):
+            returned = body[n + 1:n + 2] == (Return(),) and f.types[0] != UNIT and self.returned(f, statement)
+            if returned:
+                self.line(depth, f'return {returned};')
+                return
+            self.statement(f, statement, depth, around, last and n == len(body) - 1)
+            if isinstance(statement, (Return, Exit)):
+                return
+
+    def returned(self, f, statement):
+        """The result that the statement before a `return` gives, where it needs no name."""
+        if isinstance(statement, Assign) and statement.place == Place(0) and not isinstance(statement.value, Repeat):
+            return self.as_type(f, statement.value, f.types[0])
+        if isinstance(statement, Call) and statement.place == Place(0):
+            return self.call_text(f, statement)
+        return None
+
+    def statement(self, f, statement, depth, around, last):
+        if isinstance(statement, Return):
+            if f.types[0] != UNIT:
+                self.line(depth, f'return {f.names[0]};')
+            elif not last:
+                self.line(depth, 'return;')
+        elif isinstance(statement, Assign):
+            self.assign(f, statement, depth)
+        elif isinstance(statement, Store):
+            self.store(f, statement, depth)
+        elif isinstance(statement, Call):
+            self.call(f, statement, depth)
+        elif isinstance(statement, If):
+            self.branch(f, statement, depth, around, last)
+        elif isinstance(statement, Switch):
+            self.switch(f, statement, depth, around, last)
+        elif isinstance(statement, Block):
+            self.block(f, statement, depth, around)
+        elif isinstance(statement, Loop):
+            self.loop(f, statement, depth, around)
+        elif isinstance(statement, Exit):
+            self.leave(statement, depth, around)
+        else:
+            raise Stop(f'statement {statement}')
+
+    def is_read(self, f, place):
+        return bool(place.steps) or place.base in f.read
+
+    def assign(self, f, statement, depth):
+        text, t = self.place(f, statement.place)
+        value = statement.value
+        if t == UNIT or not self.is_read(f, statement.place):
+            return
+        if isinstance(value, Repeat):
+            if not isinstance(t, Array) or value.count != t.count or value.item != Int(getattr(t.item, 'width', 0), 0):
+                raise Stop(f'repeat {value} into {t}')
+            self.line(depth, f'memset(&{text}, 0, sizeof {text});')
+        else:
+            self.line(depth, f'{text} = {self.as_type(f, value, t)};')
+
+    def store(self, f, statement, depth):
+        self.helpers.add(f'store_{statement.size}')
+        pointer = self.as_type(f, statement.pointer, Ref(True, U8))
+        self.line(depth, f'store_{statement.size}({pointer}, {self.as_type(f, statement.value, U64)});')
+
+    def call_text(self, f, call):
+        callee = self.program.function(call.name)
+        if len(call.args) != callee.params or self.place(f, call.place)[1] != callee.types[0]:
+            raise Stop(f'a call of {call.name} at another type')
+        args = [self.as_type(f, arg, callee.types[i + 1]) for i, arg in enumerate(call.args) if callee.types[i + 1] != UNIT]
+        return f'{c_name(call.name)}({", ".join(args)})'
+
+    def call(self, f, call, depth):
+        text, (to, t) = self.call_text(f, call), self.place(f, call.place)
+        if t != UNIT:
+            text = f'{to} = {text}' if self.is_read(f, call.place) else f'(void){text}'
+        self.line(depth, text + ';')
+
+    def branch(self, f, statement, depth, around, last):
+        test, then, other = self.as_type(f, statement.test, BOOL), statement.then, statement.other
+        if not then:
+            test, then, other = self.negated(statement.test, test), other, ()
+        self.line(depth, f'if ({test}) {{')
+        self.body(f, then, depth + 1, around, last and not other)
+        if other:
+            self.line(depth, '} else {')
+            self.body(f, other, depth + 1, around, last)
+        self.line(depth, '}')
+
+    def negated(self, test, text):
+        if isinstance(test, Unary):
+            return text[1:]
+        return f'!({text})' if isinstance(test, Binary) else f'!{text}'
+
+    def switch(self, f, statement, depth, around, last):
+        """A chain of `if`, so that `break` keeps its meaning. Without a default no other number can occur, so the last arm is `else`."""
+        text, t = self.value(f, statement.value)
+        if not isinstance(t, IntType) or not isinstance(statement.value, Copy):
+            raise Stop(f'switch on {t}')
+        for k, (keys, body) in enumerate(statement.arms):
+            final = k == len(statement.arms) - 1
+            test = ' || '.join(f'{text} == {key}u' for key in keys or ())
+            self.line(depth, ('} else ' if k else '') + ('{' if final and k else f'if ({test}) {{'))
+            self.body(f, body, depth + 1, around, last and final)
+        self.line(depth, '}')
+
+    def block(self, f, statement, depth, around):
+        is_loop = len(statement.body) == 1 and isinstance(statement.body[0], Loop)
+        mark = Around(False, self.label('after'), is_loop)
+        self.body(f, statement.body, depth, around + [mark], False)
+        if mark.used:
+            self.line(depth, f'{mark.label}:;')
+
+    def loop(self, f, statement, depth, around):
+        """Turns for ever by itself; a test at its head that leaves the block around it makes it a `while`."""
+        mark, where, body = Around(True, self.label('again'), True), len(self.out), statement.body
+        first = body[0] if body else None
+        if isinstance(first, If) and not first.then and first.other == (Exit(1),) and around and around[-1].c_loop and not around[-1].is_loop:
+            self.line(depth, f'while ({self.as_type(f, first.test, BOOL)}) {{')
+            body = body[1:]
+        else:
+            self.line(depth, 'for (;;) {')
+        self.body(f, body, depth + 1, around + [mark], False)
+        self.line(depth, '}')
+        if mark.used:
+            self.out.insert(where, '    ' * depth + f'{mark.label}:;')
+
+    def leave(self, statement, depth, around):
+        """`exit n` counts the blocks and loops around it: at a block it goes on after it, at a loop it begins the next turn."""
+        mark = around[-1 - statement.depth]
+        loops = [a for a in around if a.is_loop]
+        if loops and mark is loops[-1]:
+            self.line(depth, 'continue;')
+        elif loops and not mark.is_loop and mark.c_loop and around[around.index(mark) + 1] is loops[-1]:
+            self.line(depth, 'break;')
+        else:
+            mark.used = True
+            self.line(depth, f'goto {mark.label};')
+
+    def label(self, word):
+        self.labels += 1
+        return f'{word}_{self.labels}'
+
+    # ---- functions
+
+    def parameters(self, f):
+        return [(f.types[i], f.names[i]) for i in f.parameters() if f.types[i] != UNIT]
+
+    def function(self, f, inline):
+        f.read, self.labels = read_locals(f), 0
+        start = len(self.out)
+        self.body(f, f.body, 1, [], True)
+        code = self.out[start:]
+        del self.out[start:]
+        used = set(re.findall(r'\w+', ' '.join(code)))
+        self.comment(f.comment)
+        signature = ', '.join(self.types.declare(t, n) for t, n in self.parameters(f)) or 'void'
+        self.line(0, ('static inline ' if inline else 'static ') + self.types.declare(f.types[0], f'{c_name(f.name)}({signature})'))
+        self.out.append('{')
+        self.declarations(f, used)
+        self.out += code + ['}', '']
+
+    def comment(self, text):
+        if text:
+            self.out += textwrap.wrap(f'/* {text} */', WIDTH, subsequent_indent='   ')
+
+    def declarations(self, f, used):
+        groups = {}
+        for i, t in enumerate(f.types):
+            if i not in f.parameters() and t != UNIT and f.names[i] in used:
+                groups.setdefault(self.types.c(t), []).append(f.names[i])
+        for c, names in groups.items():
+            self.line(1, (c + ', *'.join(names) if c.endswith('*') else f'{c} {", ".join(names)}') + ';')
+        unused = [n for _, n in self.parameters(f) if n not in used]
+        for name in unused:
+            self.line(1, f'(void){name};')
+        if groups or unused:
+            self.out.append('')
+
+    def exported(self, f, export, results):
+        """The function that C calls: a slice arrives as a pointer and a size, a declared result is the header's struct."""
+        params, args = [], []
+        for i in f.parameters():
+            t, n = f.types[i], f.names[i]
+            if isinstance(t, Slice):
+                params += [self.types.declare(Ref(t.mutable, t.item), n), f'size_t {n}_size']
+                args.append(f'({self.types.c(t)}){{{n}, {n}_size}}')
+            elif isinstance(t, IntType) or t == BOOL:
+                params.append(f'size_t {n}' if export.types[i - 1] == 'usize' else self.types.declare(t, n))
+                args.append(n)
+            else:
+                raise Stop(f'exported with a parameter of {t}')
+        call = f'{c_name(f.name)}({", ".join(args)})'
+        if isinstance(f.types[0], Named):
+            if f.types[0].name not in results:
+                raise Stop(f'exported with the result {f.types[0].name}, for which no struct of the header is named')
+            struct = 'struct ' + results[f.types[0].name]
+            parts = ', '.join(f'.{n} = r.{n}' for n, _ in self.types.members(f.types[0]))
+            lines = [f'    {self.types.c(f.types[0])} r = {call};', '', f'    return ({struct}){{{parts}}};']
+        elif isinstance(f.types[0], IntType) or f.types[0] in (BOOL, UNIT):
+            struct = 'size_t' if export.result == 'usize' else self.types.c(f.types[0])
+            lines = [f'    {"" if f.types[0] == UNIT else "return "}{call};']
+        else:
+            raise Stop(f'exported with a result of {f.types[0]}')
+        self.line(0, f'{struct} {export.name}({", ".join(params)})')
+        self.out += ['{'] + lines + ['}', '']
