@@ -40,18 +40,18 @@ $(C_OUT)/sanitize/libkagutin.a: $(DIST) $(C_HEADERS)
 	rm -f $@
 	$(AR) rcs $@ $(C_OUT)/sanitize/kagutin.o
 
-# Shared objects that compare loads. plain.c is the same program without the generator's passes.
+# Shared objects that compare loads. no-passes.c is the same program without the generator's passes, gcc-plain without quicker helpers.
 PORT_SHARED = -std=c99 -Iinclude -fPIC -shared
 PORT_LEVELS = O0 O2 O3
 PORT_COMPILERS = gcc $(shell command -v clang > /dev/null && echo clang)
-PORT_BUILDS = $(foreach c,$(PORT_COMPILERS),$(PORT_LEVELS:%=$(PORT_OUT)/$(c)-%.so)) $(PORT_OUT)/plain.so
+PORT_BUILDS = $(foreach c,$(PORT_COMPILERS),$(PORT_LEVELS:%=$(PORT_OUT)/$(c)-%.so)) $(PORT_OUT)/gcc-plain.so $(PORT_OUT)/no-passes.so
 
-$(PORT_OUT)/plain.c: $(DIST) $(wildcard port/*.py)
+$(PORT_OUT)/no-passes.c: $(DIST) $(wildcard port/*.py)
 	@mkdir -p $(@D)
-	$(GENERATE) --plain --out $@
+	$(GENERATE) --no-passes --out $@
 	@touch $@
 
-$(PORT_OUT)/plain.so: $(PORT_OUT)/plain.c include/kagutin.h
+$(PORT_OUT)/no-passes.so: $(PORT_OUT)/no-passes.c include/kagutin.h
 	gcc $(PORT_SHARED) -O1 $< -o $@
 
 $(PORT_OUT)/gcc-%.so: $(DIST) include/kagutin.h
@@ -61,6 +61,10 @@ $(PORT_OUT)/gcc-%.so: $(DIST) include/kagutin.h
 $(PORT_OUT)/clang-%.so: $(DIST) include/kagutin.h
 	@mkdir -p $(@D)
 	clang $(PORT_SHARED) -$* $< -o $@
+
+$(PORT_OUT)/gcc-plain.so: $(DIST) include/kagutin.h
+	@mkdir -p $(@D)
+	gcc $(PORT_SHARED) -O2 -DKAGUTIN_PLAIN_C $< -o $@
 
 $(PORT_OUT)/gcc-sanitize.so: $(DIST) include/kagutin.h
 	@mkdir -p $(@D)
@@ -77,8 +81,9 @@ GCC_TIGHT = $(call COMPARE_TIGHT,gcc,libasan.so)
 CLANG_TIGHT = $(call COMPARE_TIGHT,clang,libclang_rt.asan-x86_64.so)
 
 # What the gate runs.
-port-check: $(COMPARE) $(PORT_OUT)/gcc-O2.so $(PORT_OUT)/plain.so $(PORT_OUT)/gcc-sanitize.so
-	$(COMPARE) --seed $(SEED) --build $(PORT_OUT)/gcc-O2.so --build $(PORT_OUT)/plain.so
+PORT_CHECKED = gcc-O2 gcc-plain no-passes
+port-check: $(COMPARE) $(PORT_CHECKED:%=$(PORT_OUT)/%.so) $(PORT_OUT)/gcc-sanitize.so
+	$(COMPARE) --seed $(SEED) $(PORT_CHECKED:%=--build $(PORT_OUT)/%.so)
 	$(GCC_TIGHT) --seed $(SEED) --calls 20000 --damaged 4000 --histories 60 --large 3 | tail -n 2
 
 port-compare: $(COMPARE) $(PORT_BUILDS) $(PORT_COMPILERS:%=$(PORT_OUT)/%-sanitize.so)

@@ -3,7 +3,8 @@
  * Do not edit: change the sources under crates/ and run `make dist`.
  *
  * Needs kagutin.h, memcpy and memset; no heap, no other library, no state
- * of its own. All that is not declared there is static.
+ * of its own. All that is not declared there is static. Where a compiler is
+ * known, some helpers have a quicker form; -DKAGUTIN_PLAIN_C leaves them out.
  */
 #include <stdbool.h>
 #include <stddef.h>
@@ -121,10 +122,22 @@ struct array_u16_448 {
     uint16_t at[448];
 };
 
-#if defined(__BYTE_ORDER__) && defined(__ORDER_LITTLE_ENDIAN__) && __BYTE_ORDER__ == __ORDER_LITTLE_ENDIAN__
+#if defined(__GNUC__) && !defined(KAGUTIN_PLAIN_C)
+#define QUICK_C 1
+#else
+#define QUICK_C 0
+#endif
+
+#if QUICK_C && defined(__BYTE_ORDER__) && defined(__ORDER_LITTLE_ENDIAN__) && __BYTE_ORDER__ == __ORDER_LITTLE_ENDIAN__
 #define LITTLE_ENDIAN_BYTES 1
 #else
 #define LITTLE_ENDIAN_BYTES 0
+#endif
+
+#if QUICK_C && !defined(__clang__) && !defined(__OPTIMIZE_SIZE__) && __GNUC__ >= 8
+#define UNROLL _Pragma("GCC unroll 4")
+#else
+#define UNROLL
 #endif
 
 /* The number that 2 bytes make, lowest byte first. */
@@ -136,7 +149,7 @@ static inline uint64_t load_2(const uint8_t *p)
     memcpy(&x, p, 2);
     return x;
 #else
-    return (uint64_t)p[0] | (uint64_t)p[1] << 8;
+    return p[0] | (uint64_t)p[1] << 8;
 #endif
 }
 
@@ -149,7 +162,7 @@ static inline uint64_t load_4(const uint8_t *p)
     memcpy(&x, p, 4);
     return x;
 #else
-    return (uint64_t)p[0] | (uint64_t)p[1] << 8 | (uint64_t)p[2] << 16 | (uint64_t)p[3] << 24;
+    return p[0] | (uint64_t)p[1] << 8 | (uint64_t)p[2] << 16 | (uint64_t)p[3] << 24;
 #endif
 }
 
@@ -162,7 +175,8 @@ static inline uint64_t load_8(const uint8_t *p)
     memcpy(&x, p, 8);
     return x;
 #else
-    return (uint64_t)p[0] | (uint64_t)p[1] << 8 | (uint64_t)p[2] << 16 | (uint64_t)p[3] << 24 | (uint64_t)p[4] << 32 | (uint64_t)p[5] << 40 | (uint64_t)p[6] << 48 | (uint64_t)p[7] << 56;
+    return p[0] | (uint64_t)p[1] << 8 | (uint64_t)p[2] << 16 | (uint64_t)p[3] << 24
+        | (uint64_t)p[4] << 32 | (uint64_t)p[5] << 40 | (uint64_t)p[6] << 48 | (uint64_t)p[7] << 56;
 #endif
 }
 
@@ -213,18 +227,25 @@ static inline void store_8(uint8_t *p, uint64_t v)
 #endif
 }
 
+/* How many bits are set. */
 static inline uint32_t count_ones(uint64_t x)
 {
+    if (x == 0u)
+        return 0u;
     x = x - (x >> 1 & UINT64_C(0x5555555555555555));
     x = (x & UINT64_C(0x3333333333333333)) + (x >> 2 & UINT64_C(0x3333333333333333));
     x = (x + (x >> 4)) & UINT64_C(0x0f0f0f0f0f0f0f0f);
     return (uint32_t)(x * UINT64_C(0x0101010101010101) >> 56);
 }
 
-/* The ones below the lowest one; 64 of zero. */
+/* How many bits below the lowest one that is set; 64 of zero. */
 static inline uint32_t trailing_zeros(uint64_t x)
 {
+#if QUICK_C
+    return x == 0u ? 64u : (uint32_t)__builtin_ctzll(x);
+#else
     return count_ones(~x & (x - 1u));
+#endif
 }
 
 /* The number of groups in a log area of `len` bytes. */
@@ -237,7 +258,7 @@ static inline uint64_t areas__lengths__log_groups(uint64_t len)
 }
 
 /* Whether a log area may have `len` bytes: a header and 4 to 1,024 whole groups. */
-static bool areas__lengths__log_right(uint64_t len)
+static inline bool areas__lengths__log_right(uint64_t len)
 {
     uint64_t t2;
 
@@ -267,7 +288,7 @@ static inline bool areas__lengths__data_right(uint64_t len)
 }
 
 /* Whether the lengths of both copies and of the strip are right. */
-static bool answers__lengths_right(struct slice_u8 log, struct slice_u8 area, struct slice_u8 state)
+static inline bool answers__lengths_right(struct slice_u8 log, struct slice_u8 area, struct slice_u8 state)
 {
     bool t4;
 
@@ -313,7 +334,7 @@ static inline bool strip__order__positions_in_order(struct model__State st)
 }
 
 /* Whether the numbers of the strip are in order. */
-static bool strip__order__numbers_in_order(struct model__State st)
+static inline bool strip__order__numbers_in_order(struct model__State st)
 {
     uint64_t t2;
 
@@ -372,7 +393,7 @@ static inline bool strip__order__writer_in_order(struct model__State st, struct 
 }
 
 /* Whether the records of all eight writers are in order in the strip `s` with the numbers `st`. */
-static bool strip__order__writers_in_order(struct slice_u8 s, struct model__State st)
+static inline bool strip__order__writers_in_order(struct slice_u8 s, struct model__State st)
 {
     uint64_t t3, t8;
     bool t5;
@@ -391,7 +412,7 @@ static bool strip__order__writers_in_order(struct slice_u8 s, struct model__Stat
 }
 
 /* Whether the strip is in order for a log of `groups` groups and `homes` homes. */
-static bool strip__order__in_order(struct slice_u8 s, uint64_t groups, uint64_t homes)
+static inline bool strip__order__in_order(struct slice_u8 s, uint64_t groups, uint64_t homes)
 {
     struct model__State t4;
     bool t5;
@@ -413,7 +434,7 @@ static bool strip__order__in_order(struct slice_u8 s, uint64_t groups, uint64_t 
 }
 
 /* Questions 1 and 2: 0 if the lengths are right and the strip is in order, else the number of the refusal. */
-static uint64_t answers__in_use(struct slice_u8 log, struct slice_u8 area, struct slice_u8 state)
+static inline uint64_t answers__in_use(struct slice_u8 log, struct slice_u8 area, struct slice_u8 state)
 {
     uint64_t t4;
     bool t6;
@@ -431,7 +452,7 @@ static uint64_t answers__in_use(struct slice_u8 log, struct slice_u8 area, struc
 }
 
 /* Questions 1, 2 and 4, which a call that names a writer puts first: 0, or the number of the refusal. */
-static uint64_t sessions__writer_answer(struct slice_u8 log, struct slice_u8 area, struct slice_u8 state, uint64_t writer)
+static inline uint64_t sessions__writer_answer(struct slice_u8 log, struct slice_u8 area, struct slice_u8 state, uint64_t writer)
 {
     uint64_t t5;
 
@@ -446,7 +467,7 @@ static uint64_t sessions__writer_answer(struct slice_u8 log, struct slice_u8 are
 }
 
 /* Whether a writer may abort: 0, or the number of the refusal. */
-static uint64_t sessions__abort_answer(struct slice_u8 log, struct slice_u8 area, struct slice_u8 state, uint64_t writer)
+static inline uint64_t sessions__abort_answer(struct slice_u8 log, struct slice_u8 area, struct slice_u8 state, uint64_t writer)
 {
     uint64_t t5, t11;
     struct model__Writer t7;
@@ -487,7 +508,7 @@ static inline void strip__writers__set_writer(struct slice_mut_u8 s, uint64_t w,
 }
 
 /* Ends the transaction in the record of writer `w`. */
-static void writers__abort(struct slice_mut_u8 s, uint64_t w)
+static inline void writers__abort(struct slice_mut_u8 s, uint64_t w)
 {
     struct model__Writer t9;
     uint64_t t11;
@@ -499,7 +520,7 @@ static void writers__abort(struct slice_mut_u8 s, uint64_t w)
 }
 
 /* Drops a writer's open transaction with the block that it holds. */
-static struct answers__Reply sessions__abort(struct slice_u8 log, struct slice_u8 area, struct slice_mut_u8 state, uint64_t
+static inline struct answers__Reply sessions__abort(struct slice_u8 log, struct slice_u8 area, struct slice_mut_u8 state, uint64_t
         writer)
 {
     uint64_t t5;
@@ -513,14 +534,14 @@ static struct answers__Reply sessions__abort(struct slice_u8 log, struct slice_u
 }
 
 /* Drops a writer's open transaction with the block that it holds. */
-static struct answers__Reply kagutin__kagutin_abort(struct slice_u8 log, struct slice_u8 area, struct slice_mut_u8 state, uint64_t
-        writer)
+static inline struct answers__Reply kagutin__kagutin_abort(struct slice_u8 log, struct slice_u8 area, struct slice_mut_u8 state,
+        uint64_t writer)
 {
     return sessions__abort(log, area, state, writer);
 }
 
 /* Whether a writer may begin: 0, or the number of the refusal. */
-static uint64_t sessions__begin_answer(struct slice_u8 log, struct slice_u8 area, struct slice_u8 state, uint64_t writer)
+static inline uint64_t sessions__begin_answer(struct slice_u8 log, struct slice_u8 area, struct slice_u8 state, uint64_t writer)
 {
     uint64_t t5, t11;
     struct model__Writer t8;
@@ -549,7 +570,7 @@ static inline struct model__Writer writers__places__begun(struct model__Writer r
 }
 
 /* Begins a transaction in the record of writer `w`. */
-static void writers__begin(struct slice_mut_u8 s, uint64_t w)
+static inline void writers__begin(struct slice_mut_u8 s, uint64_t w)
 {
     struct model__Writer t9;
     uint64_t t11;
@@ -561,7 +582,7 @@ static void writers__begin(struct slice_mut_u8 s, uint64_t w)
 }
 
 /* Begins a transaction of a writer that has none open. */
-static struct answers__Reply sessions__begin(struct slice_u8 log, struct slice_u8 area, struct slice_mut_u8 state, uint64_t
+static inline struct answers__Reply sessions__begin(struct slice_u8 log, struct slice_u8 area, struct slice_mut_u8 state, uint64_t
         writer)
 {
     uint64_t t5;
@@ -575,8 +596,8 @@ static struct answers__Reply sessions__begin(struct slice_u8 log, struct slice_u
 }
 
 /* Begins a transaction of a writer that has none open. */
-static struct answers__Reply kagutin__kagutin_begin(struct slice_u8 log, struct slice_u8 area, struct slice_mut_u8 state, uint64_t
-        writer)
+static inline struct answers__Reply kagutin__kagutin_begin(struct slice_u8 log, struct slice_u8 area, struct slice_mut_u8 state,
+        uint64_t writer)
 {
     return sessions__begin(log, area, state, writer);
 }
@@ -597,8 +618,8 @@ static inline uint64_t logging__entry__may_log(struct model__State st, uint64_t 
 }
 
 /* The answer of a commit: 0, or the number of the question that refuses it. */
-static uint64_t logging__commits__commit_verdict(struct slice_u8 log, struct slice_u8 area, struct slice_u8 state, struct slice_u8
-        batch, uint64_t writer)
+static inline uint64_t logging__commits__commit_verdict(struct slice_u8 log, struct slice_u8 area, struct slice_u8 state, struct
+        slice_u8 batch, uint64_t writer)
 {
     uint64_t t6, t13;
     struct model__Writer t7;
@@ -626,7 +647,7 @@ static uint64_t logging__commits__commit_verdict(struct slice_u8 log, struct sli
 }
 
 /* Ends the transaction of a writer that holds nothing. */
-static void logging__commits__commit_none(struct slice_mut_u8 state, uint64_t w)
+static inline void logging__commits__commit_none(struct slice_mut_u8 state, uint64_t w)
 {
     writers__abort(state, w);
 }
@@ -667,7 +688,7 @@ static inline uint64_t strip__writers__count_for(struct model__Writer r)
 }
 
 /* The tag of a held block that is logged at `position` and commits its transaction. */
-static uint64_t logging__entry__closing_word(struct model__State st, struct model__Writer r, uint64_t position)
+static inline uint64_t logging__entry__closing_word(struct model__State st, struct model__Writer r, uint64_t position)
 {
     uint64_t t4, t5, t6;
 
@@ -691,7 +712,7 @@ static inline void codec__marks__put_group_mark(struct slice_mut_u8 dst, uint64_
 }
 
 /* Writes `n` zeros from index `at` on, and leaves the other bytes as they were. */
-static void codec__blocks__clear(struct slice_mut_u8 dst, uint64_t at, uint64_t n)
+static inline void codec__blocks__clear(struct slice_mut_u8 dst, uint64_t at, uint64_t n)
 {
     uint64_t t4, t5;
 
@@ -705,7 +726,7 @@ static void codec__blocks__clear(struct slice_mut_u8 dst, uint64_t at, uint64_t 
 }
 
 /* Writes the blank group of number `n` into a ring slot. */
-static void areas__groups__put_blank(struct slice_mut_u8 log, uint64_t slot, uint64_t n)
+static inline void areas__groups__put_blank(struct slice_mut_u8 log, uint64_t slot, uint64_t n)
 {
     uint64_t t4, t14;
 
@@ -718,12 +739,13 @@ static void areas__groups__put_blank(struct slice_mut_u8 log, uint64_t slot, uin
 }
 
 /* Writes the bytes of `src` from index `at` on, and leaves the other bytes as they were. */
-static void codec__blocks__copy(struct slice_mut_u8 dst, uint64_t at, struct slice_u8 src)
+static inline void codec__blocks__copy(struct slice_mut_u8 dst, uint64_t at, struct slice_u8 src)
 {
     uint64_t t4, t5, t19;
 
     t4 = at;
     t5 = 0u;
+    UNROLL
     while (16u <= ((uint64_t)src.len - t5)) {
         t19 = load_8(src.ptr + (t5 + 8u));
         store_8(dst.ptr + t4, load_8(src.ptr + t5));
@@ -739,13 +761,14 @@ static void codec__blocks__copy(struct slice_mut_u8 dst, uint64_t at, struct sli
 }
 
 /* Writes the block that stands in `src` from index `from` on into `dst` from index `at` on. */
-static void areas__blocks__copy_block(struct slice_mut_u8 dst, uint64_t at, struct slice_u8 src, uint64_t from)
+static inline void areas__blocks__copy_block(struct slice_mut_u8 dst, uint64_t at, struct slice_u8 src, uint64_t from)
 {
     codec__blocks__copy(dst, at, (struct slice_u8){src.ptr + from, (size_t)((from + 64u) - from)});
 }
 
 /* Writes an entry's tag and its block at index `k` of the group in a ring slot. */
-static void areas__groups__put_entry(struct slice_mut_u8 log, uint64_t slot, uint64_t k, uint64_t word, struct slice_u8 block)
+static inline void areas__groups__put_entry(struct slice_mut_u8 log, uint64_t slot, uint64_t k, uint64_t word, struct slice_u8
+        block)
 {
     uint64_t t6;
 
@@ -755,8 +778,8 @@ static void areas__groups__put_entry(struct slice_mut_u8 log, uint64_t slot, uin
 }
 
 /* Writes an entry's tag and block at the next position, and a blank group first where the position is a group's first. */
-static void areas__groups__enter(struct slice_mut_u8 log, uint64_t slot, struct model__State st, uint64_t word, struct slice_u8
-        block)
+static inline void areas__groups__enter(struct slice_mut_u8 log, uint64_t slot, struct model__State st, uint64_t word, struct
+        slice_u8 block)
 {
     uint64_t t6;
 
@@ -780,7 +803,7 @@ static inline void codec__marks__put_group_write_mark(struct slice_mut_u8 dst, u
 }
 
 /* Appends the write of the group that the log holds in a ring slot. */
-static uint64_t batch__records__group_write(struct slice_mut_u8 batch, uint64_t at, uint64_t slot, struct slice_u8 log)
+static inline uint64_t batch__records__group_write(struct slice_mut_u8 batch, uint64_t at, uint64_t slot, struct slice_u8 log)
 {
     uint64_t t5;
 
@@ -792,8 +815,8 @@ static uint64_t batch__records__group_write(struct slice_mut_u8 batch, uint64_t 
 }
 
 /* Logs the held block of writer `w` with the tag `word` at the next position; the seventh place of a group hands it on. */
-static uint64_t logging__entry__log_entry(struct slice_mut_u8 log, struct slice_mut_u8 state, struct slice_mut_u8 batch, struct
-        model__State st, uint64_t word, uint64_t w)
+static inline uint64_t logging__entry__log_entry(struct slice_mut_u8 log, struct slice_mut_u8 state, struct slice_mut_u8 batch,
+        struct model__State st, uint64_t word, uint64_t w)
 {
     uint64_t t7, t8, t10;
 
@@ -811,8 +834,8 @@ static uint64_t logging__entry__log_entry(struct slice_mut_u8 log, struct slice_
 }
 
 /* Logs the held block as the closing entry and ends the transaction. */
-static uint64_t logging__commits__commit_held(struct slice_mut_u8 log, struct slice_mut_u8 state, struct slice_mut_u8 batch,
-        struct model__State st, struct model__Writer r, uint64_t w)
+static inline uint64_t logging__commits__commit_held(struct slice_mut_u8 log, struct slice_mut_u8 state, struct slice_mut_u8
+        batch, struct model__State st, struct model__Writer r, uint64_t w)
 {
     uint64_t t7, t8, t9;
 
@@ -825,8 +848,8 @@ static uint64_t logging__commits__commit_held(struct slice_mut_u8 log, struct sl
 }
 
 /* Commits a writer's open transaction: its held block is logged as the closing entry, whose position + 1 is the ticket. */
-static struct answers__Reply logging__commits__commit(struct slice_mut_u8 log, struct slice_u8 area, struct slice_mut_u8 state,
-        struct slice_mut_u8 batch, uint64_t writer)
+static inline struct answers__Reply logging__commits__commit(struct slice_mut_u8 log, struct slice_u8 area, struct slice_mut_u8
+        state, struct slice_mut_u8 batch, uint64_t writer)
 {
     uint64_t t6, t7, t11, t36;
     struct model__Writer t8;
@@ -853,14 +876,14 @@ static struct answers__Reply logging__commits__commit(struct slice_mut_u8 log, s
 }
 
 /* Ends a writer's transaction: logs the held block as its closing entry, and returns the ticket. */
-static struct answers__Reply kagutin__kagutin_commit(struct slice_mut_u8 log, struct slice_u8 area, struct slice_mut_u8 state,
-        struct slice_mut_u8 batch, uint64_t writer)
+static inline struct answers__Reply kagutin__kagutin_commit(struct slice_mut_u8 log, struct slice_u8 area, struct slice_mut_u8
+        state, struct slice_mut_u8 batch, uint64_t writer)
 {
     return logging__commits__commit(log, area, state, batch, writer);
 }
 
 /* Makes the fenced position the durable mark, and returns it: all fences so far have passed. */
-static struct answers__Reply sessions__confirm(struct slice_u8 log, struct slice_u8 area, struct slice_mut_u8 state)
+static inline struct answers__Reply sessions__confirm(struct slice_u8 log, struct slice_u8 area, struct slice_mut_u8 state)
 {
     uint64_t t4, t5;
     struct model__State t9;
@@ -878,7 +901,7 @@ static struct answers__Reply sessions__confirm(struct slice_u8 log, struct slice
 }
 
 /* Makes the fenced position the durable mark, and returns it. */
-static struct answers__Reply kagutin__kagutin_confirm(struct slice_u8 log, struct slice_u8 area, struct slice_mut_u8 state)
+static inline struct answers__Reply kagutin__kagutin_confirm(struct slice_u8 log, struct slice_u8 area, struct slice_mut_u8 state)
 {
     return sessions__confirm(log, area, state);
 }
@@ -893,8 +916,8 @@ static inline uint64_t logging__flushes__flush_size(struct model__State st)
 }
 
 /* The answer of a flush: 0, or the number of the question that refuses it. */
-static uint64_t logging__flushes__flush_verdict(struct slice_u8 log, struct slice_u8 area, struct slice_u8 state, struct slice_u8
-        batch)
+static inline uint64_t logging__flushes__flush_verdict(struct slice_u8 log, struct slice_u8 area, struct slice_u8 state, struct
+        slice_u8 batch)
 {
     uint64_t t5, t8;
 
@@ -925,21 +948,21 @@ static inline void codec__marks__put_fence_mark(struct slice_mut_u8 dst, uint64_
 }
 
 /* Appends a fence. */
-static uint64_t batch__records__fence(struct slice_mut_u8 batch, uint64_t at)
+static inline uint64_t batch__records__fence(struct slice_mut_u8 batch, uint64_t at)
 {
     codec__marks__put_fence_mark(batch, at);
     return at + 2u;
 }
 
 /* Writes a fence where no group is part-filled. */
-static void logging__flushes__flush_none(struct slice_mut_u8 state, struct slice_mut_u8 batch, struct model__State st)
+static inline void logging__flushes__flush_none(struct slice_mut_u8 state, struct slice_mut_u8 batch, struct model__State st)
 {
     (void)batch__records__fence(batch, 0u);
     store_8(state.ptr + 48u, 7u * st.next);
 }
 
 /* Hands on the part-filled group and writes a fence. */
-static void logging__flushes__flush_part(struct slice_u8 log, struct slice_mut_u8 state, struct slice_mut_u8 batch, struct
+static inline void logging__flushes__flush_part(struct slice_u8 log, struct slice_mut_u8 state, struct slice_mut_u8 batch, struct
         model__State st)
 {
     uint64_t t6, t7;
@@ -953,8 +976,8 @@ static void logging__flushes__flush_part(struct slice_u8 log, struct slice_mut_u
 }
 
 /* Hands on a part-filled group, if there is one, and writes a fence. */
-static struct answers__Reply logging__flushes__flush(struct slice_u8 log, struct slice_u8 area, struct slice_mut_u8 state, struct
-        slice_mut_u8 batch)
+static inline struct answers__Reply logging__flushes__flush(struct slice_u8 log, struct slice_u8 area, struct slice_mut_u8 state,
+        struct slice_mut_u8 batch)
 {
     uint64_t t5;
     struct model__State t6;
@@ -976,14 +999,14 @@ static struct answers__Reply logging__flushes__flush(struct slice_u8 log, struct
 }
 
 /* Submits the group that is being filled, and a fence. */
-static struct answers__Reply kagutin__kagutin_flush(struct slice_u8 log, struct slice_u8 area, struct slice_mut_u8 state, struct
-        slice_mut_u8 batch)
+static inline struct answers__Reply kagutin__kagutin_flush(struct slice_u8 log, struct slice_u8 area, struct slice_mut_u8 state,
+        struct slice_mut_u8 batch)
 {
     return logging__flushes__flush(log, area, state, batch);
 }
 
 /* The questions of format: 0, or the number of the refusal. */
-static uint64_t recovery__formatting__may_format(struct slice_u8 log, struct slice_u8 area, struct slice_u8 batch)
+static inline uint64_t recovery__formatting__may_format(struct slice_u8 log, struct slice_u8 area, struct slice_u8 batch)
 {
     uint64_t t4;
     bool t6;
@@ -1016,7 +1039,8 @@ static inline void codec__marks__put_header_mark(struct slice_mut_u8 dst, uint64
 }
 
 /* Writes a header of 64 bytes from index `at` on, and leaves the other bytes as they were. */
-static void areas__header__put_header(struct slice_mut_u8 dst, uint64_t at, uint64_t start, uint64_t groups, uint64_t homes)
+static inline void areas__header__put_header(struct slice_mut_u8 dst, uint64_t at, uint64_t start, uint64_t groups, uint64_t
+        homes)
 {
     uint64_t t19;
 
@@ -1030,14 +1054,14 @@ static void areas__header__put_header(struct slice_mut_u8 dst, uint64_t at, uint
 }
 
 /* Makes the log copy as it is after formatting. */
-static void recovery__formatting__format_log(struct slice_mut_u8 log, uint64_t groups, uint64_t homes)
+static inline void recovery__formatting__format_log(struct slice_mut_u8 log, uint64_t groups, uint64_t homes)
 {
     codec__blocks__clear(log, 0u, (uint64_t)log.len);
     areas__header__put_header(log, 0u, 0u, groups, homes);
 }
 
 /* Makes every byte of the data copy zero. */
-static void recovery__formatting__format_area(struct slice_mut_u8 area)
+static inline void recovery__formatting__format_area(struct slice_mut_u8 area)
 {
     codec__blocks__clear(area, 0u, (uint64_t)area.len);
 }
@@ -1055,7 +1079,7 @@ static inline void codec__marks__put_header_write_mark(struct slice_mut_u8 dst, 
 }
 
 /* Appends the write of zeros to the header. */
-static uint64_t batch__records__zero_header_write(struct slice_mut_u8 batch, uint64_t at)
+static inline uint64_t batch__records__zero_header_write(struct slice_mut_u8 batch, uint64_t at)
 {
     codec__marks__put_header_write_mark(batch, at);
     codec__blocks__clear(batch, at + 2u, 64u);
@@ -1063,7 +1087,7 @@ static uint64_t batch__records__zero_header_write(struct slice_mut_u8 batch, uin
 }
 
 /* Appends the write of zeros to a ring slot. */
-static uint64_t batch__records__zero_group_write(struct slice_mut_u8 batch, uint64_t at, uint64_t slot)
+static inline uint64_t batch__records__zero_group_write(struct slice_mut_u8 batch, uint64_t at, uint64_t slot)
 {
     codec__marks__put_group_write_mark(batch, at);
     store_2(batch.ptr + (at + 2u), slot);
@@ -1072,7 +1096,7 @@ static uint64_t batch__records__zero_group_write(struct slice_mut_u8 batch, uint
 }
 
 /* Appends the writes of zeros to the first `groups` ring slots, rising. */
-static uint64_t batch__format__all_groups(struct slice_mut_u8 batch, uint64_t at, uint64_t groups)
+static inline uint64_t batch__format__all_groups(struct slice_mut_u8 batch, uint64_t at, uint64_t groups)
 {
     uint64_t t4, t5;
 
@@ -1098,7 +1122,7 @@ static inline void codec__marks__put_home_write_mark(struct slice_mut_u8 dst, ui
 }
 
 /* Appends the write of zeros to a home. */
-static uint64_t batch__records__zero_home_write(struct slice_mut_u8 batch, uint64_t at, uint64_t home)
+static inline uint64_t batch__records__zero_home_write(struct slice_mut_u8 batch, uint64_t at, uint64_t home)
 {
     codec__marks__put_home_write_mark(batch, at);
     store_2(batch.ptr + (at + 2u), home);
@@ -1107,7 +1131,7 @@ static uint64_t batch__records__zero_home_write(struct slice_mut_u8 batch, uint6
 }
 
 /* Appends the writes of zeros to the first `homes` homes, rising. */
-static uint64_t batch__format__all_homes(struct slice_mut_u8 batch, uint64_t at, uint64_t homes)
+static inline uint64_t batch__format__all_homes(struct slice_mut_u8 batch, uint64_t at, uint64_t homes)
 {
     uint64_t t4, t5;
 
@@ -1121,8 +1145,8 @@ static uint64_t batch__format__all_homes(struct slice_mut_u8 batch, uint64_t at,
 }
 
 /* Appends the write of the header with a start and the numbers of groups and homes. */
-static uint64_t batch__records__header_write(struct slice_mut_u8 batch, uint64_t at, uint64_t start, uint64_t groups, uint64_t
-        homes)
+static inline uint64_t batch__records__header_write(struct slice_mut_u8 batch, uint64_t at, uint64_t start, uint64_t groups,
+        uint64_t homes)
 {
     codec__marks__put_header_write_mark(batch, at);
     areas__header__put_header(batch, at + 2u, start, groups, homes);
@@ -1130,7 +1154,7 @@ static uint64_t batch__records__header_write(struct slice_mut_u8 batch, uint64_t
 }
 
 /* Writes the whole batch of format from the buffer's first byte on. */
-static uint64_t batch__format__format_batch(struct slice_mut_u8 batch, uint64_t groups, uint64_t homes)
+static inline uint64_t batch__format__format_batch(struct slice_mut_u8 batch, uint64_t groups, uint64_t homes)
 {
     uint64_t t4;
 
@@ -1144,8 +1168,8 @@ static uint64_t batch__format__format_batch(struct slice_mut_u8 batch, uint64_t 
 }
 
 /* Formats both copies, and writes the batch that formats the areas. */
-static struct answers__Reply recovery__formatting__format(struct slice_mut_u8 log, struct slice_mut_u8 area, struct slice_mut_u8
-        batch)
+static inline struct answers__Reply recovery__formatting__format(struct slice_mut_u8 log, struct slice_mut_u8 area, struct
+        slice_mut_u8 batch)
 {
     uint64_t t4, t5, t6, t7;
 
@@ -1163,13 +1187,14 @@ static struct answers__Reply recovery__formatting__format(struct slice_mut_u8 lo
 }
 
 /* Writes an empty store: every group unused, every home zeros, then the header. */
-static struct answers__Reply kagutin__kagutin_format(struct slice_mut_u8 log, struct slice_mut_u8 area, struct slice_mut_u8 batch)
+static inline struct answers__Reply kagutin__kagutin_format(struct slice_mut_u8 log, struct slice_mut_u8 area, struct slice_mut_u8
+        batch)
 {
     return recovery__formatting__format(log, area, batch);
 }
 
 /* Reads the shape of a log copy and a data copy. */
-static struct recovery__opening__Shape recovery__opening__measure(struct slice_u8 log, struct slice_u8 area)
+static inline struct recovery__opening__Shape recovery__opening__measure(struct slice_u8 log, struct slice_u8 area)
 {
     uint64_t t3;
 
@@ -1191,7 +1216,7 @@ static inline bool codec__marks__has_mark(struct slice_u8 s, uint64_t at, struct
 }
 
 /* Whether the mark of the log's header stands at index `at`. */
-static bool codec__marks__has_header_mark(struct slice_u8 s, uint64_t at)
+static inline bool codec__marks__has_header_mark(struct slice_u8 s, uint64_t at)
 {
     struct array_u8_2 t3;
 
@@ -1200,7 +1225,7 @@ static bool codec__marks__has_header_mark(struct slice_u8 s, uint64_t at)
 }
 
 /* Whether the `n` bytes from index `at` on are all zero. */
-static bool codec__blocks__all_zero(struct slice_u8 s, uint64_t at, uint64_t n)
+static inline bool codec__blocks__all_zero(struct slice_u8 s, uint64_t at, uint64_t n)
 {
     uint64_t t4, t5;
 
@@ -1224,7 +1249,7 @@ static bool codec__blocks__all_zero(struct slice_u8 s, uint64_t at, uint64_t n)
 }
 
 /* Whether the log begins with a header's mark, these numbers of groups and homes, and a header's zeros. */
-static bool areas__header__header_right(struct slice_u8 log, uint64_t groups, uint64_t homes)
+static inline bool areas__header__header_right(struct slice_u8 log, uint64_t groups, uint64_t homes)
 {
     bool t4;
 
@@ -1242,7 +1267,7 @@ static bool areas__header__header_right(struct slice_u8 log, uint64_t groups, ui
 }
 
 /* The questions of open but the last: 0, or the number of the refusal. */
-static uint64_t recovery__opening__may_open(struct slice_u8 log, struct slice_u8 area, struct slice_u8 state)
+static inline uint64_t recovery__opening__may_open(struct slice_u8 log, struct slice_u8 area, struct slice_u8 state)
 {
     struct recovery__opening__Shape t4;
     bool t5;
@@ -1289,7 +1314,7 @@ static inline bool codec__marks__has_group_head(struct slice_u8 s, uint64_t at, 
 }
 
 /* Whether the 512 bytes of a ring slot are a valid group with number `n`, in a log of `groups` groups from number `start` on. */
-static bool scan__groups__group_valid(struct slice_u8 group, uint64_t groups, uint64_t start, uint64_t n)
+static inline bool scan__groups__group_valid(struct slice_u8 group, uint64_t groups, uint64_t start, uint64_t n)
 {
     bool t5;
 
@@ -1304,7 +1329,7 @@ static bool scan__groups__group_valid(struct slice_u8 group, uint64_t groups, ui
 }
 
 /* The words of a group's seven tags, read in a row. */
-static struct array_u64_7 scan__groups__tag_words(struct slice_u8 group)
+static inline struct array_u64_7 scan__groups__tag_words(struct slice_u8 group)
 {
     struct array_u64_7 t2;
     uint64_t t3;
@@ -1368,7 +1393,7 @@ static inline bool scan__commits__is_linked(uint64_t end, uint64_t base, uint64_
 }
 
 /* Takes a closing entry, complete or not, at a position: it is committed, or the first that fails. */
-static struct scan__commits__Progress scan__commits__judge(struct scan__commits__Progress progress, uint64_t base, uint64_t
+static inline struct scan__commits__Progress scan__commits__judge(struct scan__commits__Progress progress, uint64_t base, uint64_t
         position, uint64_t link, bool complete)
 {
     uint64_t t6, t7;
@@ -1392,8 +1417,8 @@ static struct scan__commits__Progress scan__commits__judge(struct scan__commits_
 }
 
 /* Takes what the word of a tag says at a position. */
-static struct scan__commits__Progress scan__commits__visit(uint64_t word, uint64_t position, uint64_t base, uint64_t homes, struct
-        slice_mut_u16 counts, struct scan__commits__Progress progress)
+static inline struct scan__commits__Progress scan__commits__visit(uint64_t word, uint64_t position, uint64_t base, uint64_t homes,
+        struct slice_mut_u16 counts, struct scan__commits__Progress progress)
 {
     struct model__Tag t12;
     struct scan__commits__Progress t13;
@@ -1417,8 +1442,8 @@ static struct scan__commits__Progress scan__commits__visit(uint64_t word, uint64
 }
 
 /* Takes the first `m` tags of a group, which says nothing where it is not the valid group with number `n`. */
-static struct scan__commits__Progress scan__commits__visit_group(struct slice_u8 group, uint64_t groups, uint64_t homes, uint64_t
-        start, uint64_t n, uint64_t m, struct slice_mut_u16 counts, struct scan__commits__Progress progress)
+static inline struct scan__commits__Progress scan__commits__visit_group(struct slice_u8 group, uint64_t groups, uint64_t homes,
+        uint64_t start, uint64_t n, uint64_t m, struct slice_mut_u16 counts, struct scan__commits__Progress progress)
 {
     struct array_u64_7 t9, t16;
     uint64_t t10, t12, t13;
@@ -1458,8 +1483,8 @@ static inline uint64_t scan__commits__next_slot(uint64_t slot, uint64_t groups)
 
 /* Walks the `n` positions of the log from its start on, group by group, and finds where the committed transactions end and how
    many they are. */
-static struct scan__commits__Found scan__commits__walk(struct slice_u8 log, uint64_t groups, uint64_t homes, uint64_t start,
-        uint64_t n)
+static inline struct scan__commits__Found scan__commits__walk(struct slice_u8 log, uint64_t groups, uint64_t homes, uint64_t
+        start, uint64_t n)
 {
     struct array_u16_7168 t6;
     struct scan__commits__Progress t7;
@@ -1499,7 +1524,8 @@ static inline uint64_t replay__gathering__previous_slot(uint64_t slot, uint64_t 
 }
 
 /* What tag `k` of a group says at a position of a log that starts at position `base` and has `homes` homes. */
-static struct model__Tag scan__groups__tag_in(struct slice_u8 group, uint64_t k, uint64_t position, uint64_t base, uint64_t homes)
+static inline struct model__Tag scan__groups__tag_in(struct slice_u8 group, uint64_t k, uint64_t position, uint64_t base, uint64_t
+        homes)
 {
     return codec__tags__read_tag(load_8(group.ptr + (8u + (8u * k))), position, base, homes);
 }
@@ -1527,8 +1553,8 @@ static inline void replay__gathering__close(struct slice_mut_u16 last, uint64_t 
 }
 
 /* Takes what tag `k` of a group says at a position. */
-static void replay__gathering__note_tag(struct slice_u8 group, uint64_t k, uint64_t position, uint64_t base, uint64_t homes,
-        struct slice_mut_u16 last, struct slice_mut_u16 closers, struct slice_mut_u16 table, struct slice_mut_u64 map)
+static inline void replay__gathering__note_tag(struct slice_u8 group, uint64_t k, uint64_t position, uint64_t base, uint64_t
+        homes, struct slice_mut_u16 last, struct slice_mut_u16 closers, struct slice_mut_u16 table, struct slice_mut_u64 map)
 {
     uint16_t t10;
     uint64_t t16;
@@ -1548,8 +1574,9 @@ static void replay__gathering__note_tag(struct slice_u8 group, uint64_t k, uint6
 
 /* Takes the first `m` tags of a group from the last of them down, which says nothing where it is not the valid group with number
    `n`. */
-static void replay__gathering__note_group(struct slice_u8 group, uint64_t groups, uint64_t homes, uint64_t start, uint64_t n,
-        uint64_t m, struct slice_mut_u16 last, struct slice_mut_u16 closers, struct slice_mut_u16 table, struct slice_mut_u64 map)
+static inline void replay__gathering__note_group(struct slice_u8 group, uint64_t groups, uint64_t homes, uint64_t start, uint64_t
+        n, uint64_t m, struct slice_mut_u16 last, struct slice_mut_u16 closers, struct slice_mut_u16 table, struct slice_mut_u64
+        map)
 {
     uint64_t t11, t12, t13;
     bool t14;
@@ -1569,8 +1596,8 @@ static void replay__gathering__note_group(struct slice_u8 group, uint64_t groups
 
 /* Finds the newest entry of every home among the transactions of all closing entries below `end`, and marks the homes that have
    one. */
-static void replay__gathering__gather(struct slice_u8 log, struct slice_mut_u16 table, struct slice_mut_u64 map, uint64_t groups,
-        uint64_t homes, uint64_t start, uint64_t end)
+static inline void replay__gathering__gather(struct slice_u8 log, struct slice_mut_u16 table, struct slice_mut_u64 map, uint64_t
+        groups, uint64_t homes, uint64_t start, uint64_t end)
 {
     uint64_t t8, t11, t12, t13, t15;
     struct array_u16_7168 t9;
@@ -1595,7 +1622,7 @@ static void replay__gathering__gather(struct slice_u8 log, struct slice_mut_u16 
 }
 
 /* How many are marked, by the counts of ones of the words. */
-static uint64_t bitmap__count(struct slice_u64 ws)
+static inline uint64_t bitmap__count(struct slice_u64 ws)
 {
     uint64_t t2, t3;
 
@@ -1610,24 +1637,24 @@ static uint64_t bitmap__count(struct slice_u64 ws)
 
 /* Notes the newest entry of each home that the transactions of all closing entries below `end` touch in an empty table, marks
    those homes in an empty map, and returns how many they are. */
-static uint64_t recovery__planning__touched_homes(struct slice_u8 log, struct slice_mut_u16 table, struct slice_mut_u64 map,
-        uint64_t groups, uint64_t homes, uint64_t start, uint64_t end)
+static inline uint64_t recovery__planning__touched_homes(struct slice_u8 log, struct slice_mut_u16 table, struct slice_mut_u64
+        map, uint64_t groups, uint64_t homes, uint64_t start, uint64_t end)
 {
     replay__gathering__gather(log, table, map, groups, homes, start, end);
     return bitmap__count((struct slice_u64){map.ptr, map.len});
 }
 
 /* Copies the block at a position to a home. */
-static void replay__restore__restore_block(struct slice_u8 log, struct slice_mut_u8 area, uint64_t groups, uint64_t position,
-        uint64_t home)
+static inline void replay__restore__restore_block(struct slice_u8 log, struct slice_mut_u8 area, uint64_t groups, uint64_t
+        position, uint64_t home)
 {
     areas__blocks__copy_block(area, 64u * home, log, (64u + (512u * ((position / 7u) % groups))) + (64u + (64u * (position %
             7u))));
 }
 
 /* Copies to each home that one word marks, whose first home is `base`, the block of its newest entry. */
-static void replay__restore__restore_word(struct slice_u8 log, struct slice_mut_u8 area, struct slice_u16 table, uint64_t groups,
-        uint64_t start, uint64_t word, uint64_t base)
+static inline void replay__restore__restore_word(struct slice_u8 log, struct slice_mut_u8 area, struct slice_u16 table, uint64_t
+        groups, uint64_t start, uint64_t word, uint64_t base)
 {
     uint64_t t8, t9, t10;
 
@@ -1641,8 +1668,8 @@ static void replay__restore__restore_word(struct slice_u8 log, struct slice_mut_
 }
 
 /* Replays the transactions of all closing entries below `end` into the data copy, by the newest entries that were gathered. */
-static void replay__restore__restore_all(struct slice_u8 log, struct slice_mut_u8 area, struct slice_u16 table, struct slice_u64
-        map, uint64_t groups, uint64_t homes, uint64_t start, uint64_t end)
+static inline void replay__restore__restore_all(struct slice_u8 log, struct slice_mut_u8 area, struct slice_u16 table, struct
+        slice_u64 map, uint64_t groups, uint64_t homes, uint64_t start, uint64_t end)
 {
     uint64_t t9;
     (void)homes;
@@ -1656,7 +1683,7 @@ static void replay__restore__restore_all(struct slice_u8 log, struct slice_mut_u
 }
 
 /* Appends the write of the block that the data area holds in a home. */
-static uint64_t batch__records__home_write(struct slice_mut_u8 batch, uint64_t at, uint64_t home, struct slice_u8 area)
+static inline uint64_t batch__records__home_write(struct slice_mut_u8 batch, uint64_t at, uint64_t home, struct slice_u8 area)
 {
     codec__marks__put_home_write_mark(batch, at);
     store_2(batch.ptr + (at + 2u), home);
@@ -1665,7 +1692,8 @@ static uint64_t batch__records__home_write(struct slice_mut_u8 batch, uint64_t a
 }
 
 /* Writes the records of the homes that one word marks, whose first home is `base`, rising, and returns the index past them. */
-static uint64_t homes__emit_word(struct slice_mut_u8 batch, uint64_t at, uint64_t word, uint64_t base, struct slice_u8 area)
+static inline uint64_t homes__emit_word(struct slice_mut_u8 batch, uint64_t at, uint64_t word, uint64_t base, struct slice_u8
+        area)
 {
     uint64_t t6, t7;
 
@@ -1679,7 +1707,7 @@ static uint64_t homes__emit_word(struct slice_mut_u8 batch, uint64_t at, uint64_
 }
 
 /* Writes the records of all marked homes, rising, and returns the index past them. */
-static uint64_t homes__emit(struct slice_mut_u8 batch, uint64_t at, struct slice_u64 map, struct slice_u8 area)
+static inline uint64_t homes__emit(struct slice_mut_u8 batch, uint64_t at, struct slice_u64 map, struct slice_u8 area)
 {
     uint64_t t5, t6;
 
@@ -1694,8 +1722,8 @@ static uint64_t homes__emit(struct slice_mut_u8 batch, uint64_t at, struct slice
 
 /* Replays the transactions that close below `end` into the data copy, and writes the records of the marked homes at the batch's
    beginning. */
-static uint64_t recovery__planning__bring_back(struct slice_u8 log, struct slice_mut_u8 area, struct slice_mut_u8 batch, struct
-        slice_u16 table, struct slice_u64 map, uint64_t groups, uint64_t homes, uint64_t start, uint64_t end)
+static inline uint64_t recovery__planning__bring_back(struct slice_u8 log, struct slice_mut_u8 area, struct slice_mut_u8 batch,
+        struct slice_u16 table, struct slice_u64 map, uint64_t groups, uint64_t homes, uint64_t start, uint64_t end)
 {
     replay__restore__restore_all(log, area, table, map, groups, homes, start, end);
     return homes__emit(batch, 0u, map, (struct slice_u8){area.ptr, area.len});
@@ -1703,7 +1731,7 @@ static uint64_t recovery__planning__bring_back(struct slice_u8 log, struct slice
 
 /* Replays what closes below `end` into the data copy, and writes the records of the marked homes and of the new header, fenced.
    */
-static void recovery__opening__open_homes(struct slice_u8 log, struct slice_mut_u8 area, struct slice_mut_u8 batch, struct
+static inline void recovery__opening__open_homes(struct slice_u8 log, struct slice_mut_u8 area, struct slice_mut_u8 batch, struct
         slice_u16 table, struct slice_u64 map, uint64_t groups, uint64_t homes, uint64_t start, uint64_t end)
 {
     uint64_t t10;
@@ -1715,13 +1743,13 @@ static void recovery__opening__open_homes(struct slice_u8 log, struct slice_mut_
 }
 
 /* Makes every byte of the strip zero. */
-static void strip__fields__clear(struct slice_mut_u8 s)
+static inline void strip__fields__clear(struct slice_mut_u8 s)
 {
     codec__blocks__clear(s, 0u, 1024u);
 }
 
 /* Makes `s` the strip of an opened store whose log is empty at the group number `start`. */
-static void strip__fields__fresh(struct slice_mut_u8 s, uint64_t groups, uint64_t homes, uint64_t start)
+static inline void strip__fields__fresh(struct slice_mut_u8 s, uint64_t groups, uint64_t homes, uint64_t start)
 {
     uint64_t t5;
 
@@ -1737,16 +1765,16 @@ static void strip__fields__fresh(struct slice_mut_u8 s, uint64_t groups, uint64_
 }
 
 /* Puts the header with a new start into the log copy, and makes the strip that of an empty log. */
-static void recovery__opening__open_copies(struct slice_mut_u8 log, struct slice_mut_u8 state, uint64_t groups, uint64_t homes,
-        uint64_t start)
+static inline void recovery__opening__open_copies(struct slice_mut_u8 log, struct slice_mut_u8 state, uint64_t groups, uint64_t
+        homes, uint64_t start)
 {
     areas__header__put_header(log, 0u, start, groups, homes);
     strip__fields__fresh(state, groups, homes, start);
 }
 
 /* Brings the committed transactions back, and empties the log; returns how many they are. */
-static struct answers__Reply recovery__opening__reopen(struct slice_mut_u8 log, struct slice_mut_u8 area, struct slice_mut_u8
-        state, struct slice_mut_u8 batch)
+static inline struct answers__Reply recovery__opening__reopen(struct slice_mut_u8 log, struct slice_mut_u8 area, struct
+        slice_mut_u8 state, struct slice_mut_u8 batch)
 {
     uint64_t t5, t7, t8, t9, t13, t14, t15;
     struct recovery__opening__Shape t6;
@@ -1780,14 +1808,15 @@ static struct answers__Reply recovery__opening__reopen(struct slice_mut_u8 log, 
 }
 
 /* Brings back what a power cut left: replays the committed transactions into the data copy and starts the log anew. */
-static struct answers__Reply kagutin__kagutin_open(struct slice_mut_u8 log, struct slice_mut_u8 area, struct slice_mut_u8 state,
-        struct slice_mut_u8 batch)
+static inline struct answers__Reply kagutin__kagutin_open(struct slice_mut_u8 log, struct slice_mut_u8 area, struct slice_mut_u8
+        state, struct slice_mut_u8 batch)
 {
     return recovery__opening__reopen(log, area, state, batch);
 }
 
 /* The same for a call that is lent a block. */
-static uint64_t answers__in_use_block(struct slice_u8 log, struct slice_u8 area, struct slice_u8 state, struct slice_u8 block)
+static inline uint64_t answers__in_use_block(struct slice_u8 log, struct slice_u8 area, struct slice_u8 state, struct slice_u8
+        block)
 {
     uint64_t t5;
     bool t7, t8;
@@ -1808,8 +1837,8 @@ static uint64_t answers__in_use_block(struct slice_u8 log, struct slice_u8 area,
 }
 
 /* The questions of a read: 0 if none refuses it, else the number of the refusal. */
-static uint64_t reading__judge(struct slice_u8 log, struct slice_u8 area, struct slice_u8 state, struct slice_u8 block, uint64_t
-        writer, uint64_t home)
+static inline uint64_t reading__judge(struct slice_u8 log, struct slice_u8 area, struct slice_u8 state, struct slice_u8 block,
+        uint64_t writer, uint64_t home)
 {
     uint64_t t7;
 
@@ -1836,7 +1865,7 @@ static inline bool reading__blocks__holds_home(struct model__Writer r, uint64_t 
 }
 
 /* Copies the block that a writer holds. */
-static void reading__blocks__show_held(struct slice_mut_u8 block, struct slice_u8 state, uint64_t w)
+static inline void reading__blocks__show_held(struct slice_mut_u8 block, struct slice_u8 state, uint64_t w)
 {
     areas__blocks__copy_block(block, 0u, state, (128u + (96u * w)) + 32u);
 }
@@ -1872,7 +1901,7 @@ static inline uint64_t replay__search__or_other(uint64_t base, uint64_t code, ui
 
 /* The newest committed entry once a closing entry is judged, whose transaction's newest entry for the home has the offset `code`
    - 1, or none (0). */
-static uint64_t replay__search__newest_after(uint64_t failed, uint64_t base, uint64_t code, uint64_t newest)
+static inline uint64_t replay__search__newest_after(uint64_t failed, uint64_t base, uint64_t code, uint64_t newest)
 {
     if (failed != 0u) {
         return newest;
@@ -1881,7 +1910,7 @@ static uint64_t replay__search__newest_after(uint64_t failed, uint64_t base, uin
 }
 
 /* Takes what the word of a tag says at a position. */
-static struct replay__search__Search replay__search__visit(uint64_t word, uint64_t position, uint64_t base, uint64_t homes,
+static inline struct replay__search__Search replay__search__visit(uint64_t word, uint64_t position, uint64_t base, uint64_t homes,
         uint64_t home, struct slice_mut_u16 counts, struct slice_mut_u16 latest, struct replay__search__Search search)
 {
     uint64_t t11, t16, t18, t21, t24;
@@ -1914,8 +1943,8 @@ static struct replay__search__Search replay__search__visit(uint64_t word, uint64
 }
 
 /* Takes the first `m` tags of a group, which says nothing where it is not the valid group with number `n`. */
-static struct replay__search__Search replay__search__visit_group(struct slice_u8 group, uint64_t groups, uint64_t homes, uint64_t
-        start, uint64_t n, uint64_t m, uint64_t home, struct slice_mut_u16 counts, struct slice_mut_u16 latest, struct
+static inline struct replay__search__Search replay__search__visit_group(struct slice_u8 group, uint64_t groups, uint64_t homes,
+        uint64_t start, uint64_t n, uint64_t m, uint64_t home, struct slice_mut_u16 counts, struct slice_mut_u16 latest, struct
         replay__search__Search search)
 {
     struct array_u64_7 t11, t18;
@@ -1952,7 +1981,7 @@ static inline bool replay__search__may_stop(uint64_t own, uint64_t failed)
 
 /* What the writer sees at the end of the pass: the newest entry of its own transaction, which begins at `own` - 1, else the
    newest committed one. */
-static uint64_t replay__search__choose(struct slice_u16 latest, uint64_t base, uint64_t own, uint64_t newest)
+static inline uint64_t replay__search__choose(struct slice_u16 latest, uint64_t base, uint64_t own, uint64_t newest)
 {
     if (own == 0u) {
         return newest;
@@ -1963,7 +1992,7 @@ static uint64_t replay__search__choose(struct slice_u16 latest, uint64_t base, u
 /* The pass over the `n` positions of the log from its start on, with a counter and a latest entry for each, all 0, and what it
    gives: the newest entry for a home that a writer sees. `own` is the first position + 1 of the writer's open transaction, 0 if
    it has logged nothing. */
-static uint64_t replay__search__seek_with(struct slice_u8 log, uint64_t groups, uint64_t homes, uint64_t start, uint64_t n,
+static inline uint64_t replay__search__seek_with(struct slice_u8 log, uint64_t groups, uint64_t homes, uint64_t start, uint64_t n,
         uint64_t home, uint64_t own, struct slice_mut_u16 counts, struct slice_mut_u16 latest)
 {
     struct replay__search__Search t10;
@@ -1994,8 +2023,8 @@ static uint64_t replay__search__seek_with(struct slice_u8 log, uint64_t groups, 
 /* The newest entry for a home that a writer sees, among the `n` positions of the log from its start on: `own` is the first
    position + 1 of its open transaction, 0 if it has logged nothing. A short log has small tables, since they are cleared first.
    */
-static uint64_t replay__search__newest_seen(struct slice_u8 log, uint64_t groups, uint64_t homes, uint64_t start, uint64_t n,
-        uint64_t home, uint64_t own)
+static inline uint64_t replay__search__newest_seen(struct slice_u8 log, uint64_t groups, uint64_t homes, uint64_t start, uint64_t
+        n, uint64_t home, uint64_t own)
 {
     struct array_u16_448 t8, t9;
     struct array_u16_7168 t10, t11;
@@ -2013,7 +2042,7 @@ static uint64_t replay__search__newest_seen(struct slice_u8 log, uint64_t groups
 }
 
 /* The newest entry for a home that a writer sees: one of its own, else a committed one. */
-static uint64_t reading__newest__seen(struct slice_u8 log, struct model__State st, struct model__Writer r, uint64_t home)
+static inline uint64_t reading__newest__seen(struct slice_u8 log, struct model__State st, struct model__Writer r, uint64_t home)
 {
     uint64_t t5, t6;
 
@@ -2026,20 +2055,20 @@ static uint64_t reading__newest__seen(struct slice_u8 log, struct model__State s
 }
 
 /* Reads a home into a block buffer. */
-static void areas__homes__get_home(struct slice_mut_u8 block, struct slice_u8 area, uint64_t home)
+static inline void areas__homes__get_home(struct slice_mut_u8 block, struct slice_u8 area, uint64_t home)
 {
     areas__blocks__copy_block(block, 0u, area, 64u * home);
 }
 
 /* Copies the block of the entry at a position. */
-static void reading__blocks__show_entry(struct slice_mut_u8 block, struct slice_u8 log, uint64_t groups, uint64_t position)
+static inline void reading__blocks__show_entry(struct slice_mut_u8 block, struct slice_u8 log, uint64_t groups, uint64_t position)
 {
     areas__blocks__copy_block(block, 0u, log, (64u + (512u * ((position / 7u) % groups))) + (64u + (64u * (position % 7u))));
 }
 
 /* Copies the block of a home that a writer sees. */
-static void reading__blocks__show(struct slice_u8 log, struct slice_u8 area, struct slice_u8 state, struct slice_mut_u8 block,
-        uint64_t writer, uint64_t home)
+static inline void reading__blocks__show(struct slice_u8 log, struct slice_u8 area, struct slice_u8 state, struct slice_mut_u8
+        block, uint64_t writer, uint64_t home)
 {
     struct model__State t7;
     uint64_t t8, t10, t953;
@@ -2068,8 +2097,8 @@ static void reading__blocks__show(struct slice_u8 log, struct slice_u8 area, str
 
 /* Reads the block of a home as a writer sees it: the held one, else its newest own entry, else the newest committed one, else the
    data copy. */
-static struct answers__Reply reading__read(struct slice_u8 log, struct slice_u8 area, struct slice_u8 state, struct slice_mut_u8
-        block, uint64_t writer, uint64_t home)
+static inline struct answers__Reply reading__read(struct slice_u8 log, struct slice_u8 area, struct slice_u8 state, struct
+        slice_mut_u8 block, uint64_t writer, uint64_t home)
 {
     uint64_t t7;
 
@@ -2082,15 +2111,15 @@ static struct answers__Reply reading__read(struct slice_u8 log, struct slice_u8 
 }
 
 /* Reads the block of a home as a writer sees it. */
-static struct answers__Reply kagutin__kagutin_read(struct slice_u8 log, struct slice_u8 area, struct slice_u8 state, struct
+static inline struct answers__Reply kagutin__kagutin_read(struct slice_u8 log, struct slice_u8 area, struct slice_u8 state, struct
         slice_mut_u8 block, uint64_t writer, uint64_t home)
 {
     return reading__read(log, area, state, block, writer, home);
 }
 
 /* Replays what closes below `end` into the data copy, and writes the records of the marked homes and a fence. */
-static void recovery__settling__settle_homes(struct slice_u8 log, struct slice_mut_u8 area, struct slice_mut_u8 batch, struct
-        slice_u16 table, struct slice_u64 map, struct model__State st, uint64_t end)
+static inline void recovery__settling__settle_homes(struct slice_u8 log, struct slice_mut_u8 area, struct slice_mut_u8 batch,
+        struct slice_u16 table, struct slice_u64 map, struct model__State st, uint64_t end)
 {
     uint64_t t8;
 
@@ -2099,8 +2128,8 @@ static void recovery__settling__settle_homes(struct slice_u8 log, struct slice_m
 }
 
 /* Brings the data copy and the data area up to the fenced position. */
-static struct answers__Reply recovery__settling__settle(struct slice_u8 log, struct slice_mut_u8 area, struct slice_mut_u8 state,
-        struct slice_mut_u8 batch)
+static inline struct answers__Reply recovery__settling__settle(struct slice_u8 log, struct slice_mut_u8 area, struct slice_mut_u8
+        state, struct slice_mut_u8 batch)
 {
     uint64_t t5, t11, t12, t13;
     struct model__State t6;
@@ -2132,15 +2161,15 @@ static struct answers__Reply recovery__settling__settle(struct slice_u8 log, str
 }
 
 /* Writes the homes of the commits below the fenced position, and a fence. */
-static struct answers__Reply kagutin__kagutin_settle(struct slice_u8 log, struct slice_mut_u8 area, struct slice_mut_u8 state,
-        struct slice_mut_u8 batch)
+static inline struct answers__Reply kagutin__kagutin_settle(struct slice_u8 log, struct slice_mut_u8 area, struct slice_mut_u8
+        state, struct slice_mut_u8 batch)
 {
     return recovery__settling__settle(log, area, state, batch);
 }
 
 /* The answer of a store: 0, or the number of the question that refuses it. */
-static uint64_t logging__stores__store_verdict(struct slice_u8 log, struct slice_u8 area, struct slice_u8 state, struct slice_u8
-        block, struct slice_u8 batch, uint64_t writer, uint64_t home)
+static inline uint64_t logging__stores__store_verdict(struct slice_u8 log, struct slice_u8 area, struct slice_u8 state, struct
+        slice_u8 block, struct slice_u8 batch, uint64_t writer, uint64_t home)
 {
     uint64_t t8, t18;
     struct model__Writer t9;
@@ -2174,7 +2203,7 @@ static uint64_t logging__stores__store_verdict(struct slice_u8 log, struct slice
 }
 
 /* The record `r` once its writer holds a block for `home`; a block that it held for another home was logged at `position`. */
-static struct model__Writer writers__records__hold(struct model__Writer r, uint64_t home, uint64_t position)
+static inline struct model__Writer writers__records__hold(struct model__Writer r, uint64_t home, uint64_t position)
 {
     uint64_t t4, t7;
 
@@ -2190,7 +2219,7 @@ static struct model__Writer writers__records__hold(struct model__Writer r, uint6
 }
 
 /* Makes the record at `p` that of a writer that holds a block for `home`. */
-static void writers__places__hold_at(struct model__Writer *p, uint64_t home, uint64_t position)
+static inline void writers__places__hold_at(struct model__Writer *p, uint64_t home, uint64_t position)
 {
     struct model__Writer t4;
 
@@ -2199,7 +2228,7 @@ static void writers__places__hold_at(struct model__Writer *p, uint64_t home, uin
 }
 
 /* The record `r`, changed at its place by `hold_at`. */
-static struct model__Writer writers__places__held(struct model__Writer r, uint64_t home, uint64_t position)
+static inline struct model__Writer writers__places__held(struct model__Writer r, uint64_t home, uint64_t position)
 {
     struct model__Writer t4;
 
@@ -2210,7 +2239,7 @@ static struct model__Writer writers__places__held(struct model__Writer r, uint64
 
 /* Stores what becomes of `r`, the record of writer `w`, once it holds a block for `home`; a block that it held for another home
    is logged at `position`. */
-static void writers__hold(struct slice_mut_u8 s, uint64_t w, struct model__Writer r, uint64_t home, uint64_t position)
+static inline void writers__hold(struct slice_mut_u8 s, uint64_t w, struct model__Writer r, uint64_t home, uint64_t position)
 {
     struct model__Writer t9;
 
@@ -2219,21 +2248,21 @@ static void writers__hold(struct slice_mut_u8 s, uint64_t w, struct model__Write
 }
 
 /* Stores `block` as the held block of writer `w`, and leaves the rest of the strip as it was. */
-static void strip__writers__set_held(struct slice_mut_u8 s, uint64_t w, struct slice_u8 block)
+static inline void strip__writers__set_held(struct slice_mut_u8 s, uint64_t w, struct slice_u8 block)
 {
     codec__blocks__copy(s, (128u + (96u * w)) + 32u, block);
 }
 
 /* Holds the first block of a transaction. */
-static void logging__stores__store_first(struct slice_mut_u8 state, struct slice_u8 block, struct model__Writer r, uint64_t w,
-        uint64_t home)
+static inline void logging__stores__store_first(struct slice_mut_u8 state, struct slice_u8 block, struct model__Writer r, uint64_t
+        w, uint64_t home)
 {
     writers__hold(state, w, r, home, 0u);
     strip__writers__set_held(state, w, block);
 }
 
 /* The tag of a held block that is logged at `position` and does not close its transaction. */
-static uint64_t logging__entry__store_word(struct model__State st, struct model__Writer r, uint64_t position)
+static inline uint64_t logging__entry__store_word(struct model__State st, struct model__Writer r, uint64_t position)
 {
     uint64_t t4;
     (void)st;
@@ -2244,8 +2273,8 @@ static uint64_t logging__entry__store_word(struct model__State st, struct model_
 
 /* Logs the held block and holds the next one, for another home. The record is changed first: the numbers and the block that are
    logged stay. */
-static uint64_t logging__stores__store_other(struct slice_mut_u8 log, struct slice_mut_u8 state, struct slice_u8 block, struct
-        slice_mut_u8 batch, struct model__State st, struct model__Writer r, uint64_t w, uint64_t home)
+static inline uint64_t logging__stores__store_other(struct slice_mut_u8 log, struct slice_mut_u8 state, struct slice_u8 block,
+        struct slice_mut_u8 batch, struct model__State st, struct model__Writer r, uint64_t w, uint64_t home)
 {
     uint64_t t9, t10, t11;
 
@@ -2258,8 +2287,8 @@ static uint64_t logging__stores__store_other(struct slice_mut_u8 log, struct sli
 }
 
 /* Holds a block for a home in a writer's open transaction; a block held for another home is logged first. */
-static struct answers__Reply logging__stores__store(struct slice_mut_u8 log, struct slice_u8 area, struct slice_mut_u8 state,
-        struct slice_u8 block, struct slice_mut_u8 batch, uint64_t writer, uint64_t home)
+static inline struct answers__Reply logging__stores__store(struct slice_mut_u8 log, struct slice_u8 area, struct slice_mut_u8
+        state, struct slice_u8 block, struct slice_mut_u8 batch, uint64_t writer, uint64_t home)
 {
     uint64_t t8, t9, t12, t39;
     struct model__Writer t10;
@@ -2289,8 +2318,8 @@ static struct answers__Reply logging__stores__store(struct slice_mut_u8 log, str
 }
 
 /* Holds a block for a home in a writer's open transaction; a block held for another home is logged first. */
-static struct answers__Reply kagutin__kagutin_store(struct slice_mut_u8 log, struct slice_u8 area, struct slice_mut_u8 state,
-        struct slice_u8 block, struct slice_mut_u8 batch, uint64_t writer, uint64_t home)
+static inline struct answers__Reply kagutin__kagutin_store(struct slice_mut_u8 log, struct slice_u8 area, struct slice_mut_u8
+        state, struct slice_u8 block, struct slice_mut_u8 batch, uint64_t writer, uint64_t home)
 {
     return logging__stores__store(log, area, state, block, batch, writer, home);
 }
@@ -2312,7 +2341,7 @@ static inline uint64_t replay__trim__writer_limit(struct slice_u8 state, uint64_
 }
 
 /* The highest start up to `limit` with no entry of an open transaction before it. */
-static uint64_t replay__trim__open_limit(struct slice_u8 state, uint64_t limit)
+static inline uint64_t replay__trim__open_limit(struct slice_u8 state, uint64_t limit)
 {
     uint64_t t3, t4;
 
@@ -2326,8 +2355,8 @@ static uint64_t replay__trim__open_limit(struct slice_u8 state, uint64_t limit)
 }
 
 /* What the log says at a position. */
-static struct model__Tag scan__groups__entry_at(struct slice_u8 log, uint64_t groups, uint64_t homes, uint64_t start, uint64_t
-        position)
+static inline struct model__Tag scan__groups__entry_at(struct slice_u8 log, uint64_t groups, uint64_t homes, uint64_t start,
+        uint64_t position)
 {
     uint64_t t6, t7;
     struct slice_u8 t8;
@@ -2347,8 +2376,8 @@ static struct model__Tag scan__groups__entry_at(struct slice_u8 log, uint64_t gr
 }
 
 /* The first position + 1 of the transaction that the entry at a position closes, 0 if it closes none. */
-static uint64_t replay__entries__first_closed(struct slice_u8 log, uint64_t groups, uint64_t homes, uint64_t start, uint64_t
-        position)
+static inline uint64_t replay__entries__first_closed(struct slice_u8 log, uint64_t groups, uint64_t homes, uint64_t start,
+        uint64_t position)
 {
     struct model__Tag t6;
     uint64_t t8;
@@ -2365,8 +2394,8 @@ static uint64_t replay__entries__first_closed(struct slice_u8 log, uint64_t grou
 }
 
 /* A limit lowered to the group in which the transaction begins that the entry at a position closes, if it closes one. */
-static uint64_t replay__trim__span_limit(struct slice_u8 log, uint64_t groups, uint64_t homes, uint64_t start, uint64_t position,
-        uint64_t limit)
+static inline uint64_t replay__trim__span_limit(struct slice_u8 log, uint64_t groups, uint64_t homes, uint64_t start, uint64_t
+        position, uint64_t limit)
 {
     uint64_t t7, t8;
 
@@ -2382,8 +2411,8 @@ static uint64_t replay__trim__span_limit(struct slice_u8 log, uint64_t groups, u
 }
 
 /* The highest start up to `limit` that no transaction of a closing entry below `end` lies across. */
-static uint64_t replay__trim__closed_limit(struct slice_u8 log, uint64_t groups, uint64_t homes, uint64_t start, uint64_t end,
-        uint64_t limit)
+static inline uint64_t replay__trim__closed_limit(struct slice_u8 log, uint64_t groups, uint64_t homes, uint64_t start, uint64_t
+        end, uint64_t limit)
 {
     uint64_t t7, t8;
 
@@ -2397,8 +2426,8 @@ static uint64_t replay__trim__closed_limit(struct slice_u8 log, uint64_t groups,
 }
 
 /* The highest start from the log's start to the settled position that no open or committed transaction lies across. */
-static uint64_t replay__trim__trim_start(struct slice_u8 log, struct slice_u8 state, uint64_t groups, uint64_t homes, uint64_t
-        start, uint64_t settled, uint64_t end)
+static inline uint64_t replay__trim__trim_start(struct slice_u8 log, struct slice_u8 state, uint64_t groups, uint64_t homes,
+        uint64_t start, uint64_t settled, uint64_t end)
 {
     uint64_t t8;
 
@@ -2407,8 +2436,8 @@ static uint64_t replay__trim__trim_start(struct slice_u8 log, struct slice_u8 st
 }
 
 /* The highest start up to the settled position that no open or committed transaction lies across. */
-static uint64_t trimming__start__new_start(struct slice_u8 log, struct slice_u8 area, struct slice_u8 state, struct model__State
-        st)
+static inline uint64_t trimming__start__new_start(struct slice_u8 log, struct slice_u8 area, struct slice_u8 state, struct
+        model__State st)
 {
     struct scan__commits__Found t6;
     (void)area;
@@ -2418,7 +2447,7 @@ static uint64_t trimming__start__new_start(struct slice_u8 log, struct slice_u8 
 }
 
 /* Writes the new header and a fence into the batch. */
-static void trimming__moves__write_header(struct slice_mut_u8 batch, uint64_t groups, uint64_t homes, uint64_t start)
+static inline void trimming__moves__write_header(struct slice_mut_u8 batch, uint64_t groups, uint64_t homes, uint64_t start)
 {
     uint64_t t5;
 
@@ -2440,7 +2469,7 @@ static inline uint64_t trimming__moves__kept_last(uint64_t last, uint64_t start)
 }
 
 /* Puts the new start, the fenced position and the last closing entry into the strip. */
-static void trimming__moves__move_strip(struct slice_mut_u8 state, struct model__State st, uint64_t start)
+static inline void trimming__moves__move_strip(struct slice_mut_u8 state, struct model__State st, uint64_t start)
 {
     uint64_t t4;
 
@@ -2451,8 +2480,8 @@ static void trimming__moves__move_strip(struct slice_mut_u8 state, struct model_
 }
 
 /* Moves the start: the batch, the header in the log copy, and the strip. */
-static void trimming__moves__move_start(struct slice_mut_u8 log, struct slice_mut_u8 state, struct slice_mut_u8 batch, struct
-        model__State st, uint64_t start)
+static inline void trimming__moves__move_start(struct slice_mut_u8 log, struct slice_mut_u8 state, struct slice_mut_u8 batch,
+        struct model__State st, uint64_t start)
 {
     trimming__moves__write_header(batch, st.groups, st.homes, start);
     areas__header__put_header(log, 0u, start, st.groups, st.homes);
@@ -2461,8 +2490,8 @@ static void trimming__moves__move_start(struct slice_mut_u8 log, struct slice_mu
 
 /* Moves the log's start up as far as no open or committed transaction lies across it, and writes the new header and a fence if it
    moves. */
-static struct answers__Reply trimming__trim(struct slice_mut_u8 log, struct slice_u8 area, struct slice_mut_u8 state, struct
-        slice_mut_u8 batch)
+static inline struct answers__Reply trimming__trim(struct slice_mut_u8 log, struct slice_u8 area, struct slice_mut_u8 state,
+        struct slice_mut_u8 batch)
 {
     uint64_t t5, t7;
     struct model__State t6;
@@ -2489,8 +2518,8 @@ static struct answers__Reply trimming__trim(struct slice_mut_u8 log, struct slic
 }
 
 /* Moves the log's start up as far as no transaction lies across it. */
-static struct answers__Reply kagutin__kagutin_trim(struct slice_mut_u8 log, struct slice_u8 area, struct slice_mut_u8 state,
-        struct slice_mut_u8 batch)
+static inline struct answers__Reply kagutin__kagutin_trim(struct slice_mut_u8 log, struct slice_u8 area, struct slice_mut_u8
+        state, struct slice_mut_u8 batch)
 {
     return trimming__trim(log, area, state, batch);
 }

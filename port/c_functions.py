@@ -5,10 +5,15 @@ import textwrap
 from c_types import c_name
 from c_values import Values
 from fold import read_locals
-from forms import (BOOL, UNIT, Array, Assign, Binary, Block, Call, Exit, If, Int, IntType, Copy, Loop, Named, Place, Ref, Repeat,
-                   Return, Slice, Stop, Store, Switch, U64, U8, Unary, inside, statements, values_of)
+from forms import (BOOL, U64, U8, UNIT, Array, Assign, Binary, Block, Call, Copy, Exit, If, Int, IntType, Loop, Named, Place, Ref,
+                   Repeat, Return, Slice, Stop, Store, Switch, Unary)
 
 WIDTH = 130         # columns of a line
+
+
+def is_copying(body):
+    """A straight run that writes whole words: worth several turns at once."""
+    return all(isinstance(s, (Assign, Store)) for s in body) and any(isinstance(s, Store) for s in body)
 
 
 class Around:
@@ -148,8 +153,11 @@ class FunctionText(Values):
         mark, where, body = Around(True, self.label('again'), True), len(self.out), statement.body
         first = body[0] if body else None
         if isinstance(first, If) and not first.then and first.other == (Exit(1),) and around and around[-1].c_loop and not around[-1].is_loop:
-            self.line(depth, f'while ({self.as_type(f, first.test, BOOL)}) {{')
             body = body[1:]
+            if is_copying(body):
+                self.helpers.add('UNROLL')
+                self.line(depth, 'UNROLL')
+            self.line(depth, f'while ({self.as_type(f, first.test, BOOL)}) {{')
         else:
             self.line(depth, 'for (;;) {')
         self.body(f, body, depth + 1, around + [mark], False)
@@ -178,7 +186,8 @@ class FunctionText(Values):
     def parameters(self, f):
         return [(f.types[i], f.names[i]) for i in f.parameters() if f.types[i] != UNIT]
 
-    def function(self, f, inline):
+    def function(self, f):
+        """`inline` is a hint that most are short; the compiler weighs each."""
         f.read, self.labels = read_locals(f), 0
         start = len(self.out)
         self.body(f, f.body, 1, [], True)
@@ -187,7 +196,7 @@ class FunctionText(Values):
         used = set(re.findall(r'\w+', ' '.join(code)))
         self.comment(f.comment)
         signature = ', '.join(self.types.declare(t, n) for t, n in self.parameters(f)) or 'void'
-        self.line(0, ('static inline ' if inline else 'static ') + self.types.declare(f.types[0], f'{c_name(f.name)}({signature})'))
+        self.line(0, 'static inline ' + self.types.declare(f.types[0], f'{c_name(f.name)}({signature})'))
         self.out.append('{')
         self.declarations(f, used)
         self.out += code + ['}', '']

@@ -1,7 +1,7 @@
 """Places and values as C text, each with its type. README.md says form by form why the text has no undefined behaviour."""
 import re
 
-from c_types import c_name, item_of
+from c_types import item_of
 from forms import (BOOL, U32, U64, Address, Aggregate, Array, Binary, Bool, Cast, Copy, Deref, Field, Int, IntType, Load, Named,
                    Offset, Place, Ref, Slice, Stop, Unary, Variant)
 

@@ -16,7 +16,7 @@ import sources
 from c_functions import FunctionText
 from c_types import Types, c_name
 from fold import fold, simplify
-from forms import Call, Loop, Stop, statements
+from forms import Call, Stop, statements
 from inline import inline
 from pointers import infer_pointers
 from reader import Program
@@ -27,7 +27,8 @@ HEAD = '''/*
  * Do not edit: change the sources under crates/ and run `make dist`.
  *
  * Needs {headers}, memcpy and memset; no heap, no other library, no state
- * of its own. All that is not declared there is static.
+ * of its own. All that is not declared there is static. Where a compiler is
+ * known, some helpers have a quicker form; -DKAGUTIN_PLAIN_C leaves them out.
  */
 #include <stdbool.h>
 #include <stddef.h>
@@ -68,9 +69,9 @@ class Generator:
             sources.describe(self.options.source, crate, self.program.functions, self.field_names)
 
     def prepare(self, function):
-        """The passes; without them (--plain) every temporary and call stays as the prover has it."""
+        """The passes; without them (--no-passes) every temporary and call stays as the prover has it."""
         infer_pointers(function)
-        if not self.options.plain:
+        if not self.options.no_passes:
             for step in (simplify, fold, simplify, fold):
                 step(function)
             inline(self.program, function, self.prepare)
@@ -95,7 +96,7 @@ class Generator:
         def write(function):
             if names.setdefault(c_name(function.name), function.name) != function.name:
                 raise Stop(f'its C name is also that of {names[c_name(function.name)]}')
-            out.function(function, inline=not any(isinstance(s, (Loop, Call)) for s in statements(function.body)))
+            out.function(function)
         self.pass_over(exported, write)
         for export in exported:
             try:
@@ -122,7 +123,7 @@ def main():
     parser.add_argument('--export', required=True, action='append', help='crate whose extern "C" functions are exported; may be given again')
     parser.add_argument('--header', required=True, action='append', help='header that declares them; may be given again')
     parser.add_argument('--result', default=[], action='append', help='declared type=struct of the header, for results')
-    parser.add_argument('--plain', action='store_true', help='leave the passes out')
+    parser.add_argument('--no-passes', action='store_true', help='leave the passes out')
     parser.add_argument('--out', required=True, help='the C file; untouched if nothing changes')
     options = parser.parse_args()
     sys.setrecursionlimit(100000)

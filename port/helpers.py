@@ -1,11 +1,26 @@
-"""The C helpers. Each is written where the program needs it."""
+"""The C helpers. Each is written only where the program needs it, and has a form that any C99 compiler takes."""
+
+QUICK = '''#if defined(__GNUC__) && !defined(KAGUTIN_PLAIN_C)
+#define QUICK_C 1
+#else
+#define QUICK_C 0
+#endif
+'''
 
 # memcpy moves the bytes whatever the pointer's alignment, and compilers make one access of it. Where the machine's byte order is not
 # known to be little-endian, the number is put together byte by byte; both read and write the same bytes.
-ORDER = '''#if defined(__BYTE_ORDER__) && defined(__ORDER_LITTLE_ENDIAN__) && __BYTE_ORDER__ == __ORDER_LITTLE_ENDIAN__
+ORDER = '''#if QUICK_C && defined(__BYTE_ORDER__) && defined(__ORDER_LITTLE_ENDIAN__) && __BYTE_ORDER__ == __ORDER_LITTLE_ENDIAN__
 #define LITTLE_ENDIAN_BYTES 1
 #else
 #define LITTLE_ENDIAN_BYTES 0
+#endif
+'''
+
+# Says nothing about what the loop does.
+UNROLL = '''#if QUICK_C && !defined(__clang__) && !defined(__OPTIMIZE_SIZE__) && __GNUC__ >= 8
+#define UNROLL _Pragma("GCC unroll 4")
+#else
+#define UNROLL
 #endif
 '''
 
@@ -36,8 +51,12 @@ static inline void store_{size}(uint8_t *p, uint64_t v)
 }}
 '''
 
-COUNT_ONES = '''static inline uint32_t count_ones(uint64_t x)
+# The sums of bits side by side: of two, of four, of eight, then all eight added up in the highest byte.
+COUNT_ONES = '''/* How many bits are set. */
+static inline uint32_t count_ones(uint64_t x)
 {
+    if (x == 0u)
+        return 0u;
     x = x - (x >> 1 & UINT64_C(0x5555555555555555));
     x = (x & UINT64_C(0x3333333333333333)) + (x >> 2 & UINT64_C(0x3333333333333333));
     x = (x + (x >> 4)) & UINT64_C(0x0f0f0f0f0f0f0f0f);
@@ -45,14 +64,19 @@ COUNT_ONES = '''static inline uint32_t count_ones(uint64_t x)
 }
 '''
 
-TRAILING_ZEROS = '''/* The ones below the lowest one; 64 of zero. */
+# The builtin is not defined at 0. Otherwise the ones below the lowest one are counted, which are all 64 for 0.
+TRAILING_ZEROS = '''/* How many bits below the lowest one that is set; 64 of zero. */
 static inline uint32_t trailing_zeros(uint64_t x)
 {
+#if QUICK_C
+    return x == 0u ? 64u : (uint32_t)__builtin_ctzll(x);
+#else
     return count_ones(~x & (x - 1u));
+#endif
 }
 '''
 
-LEADING_ZEROS = '''/* What is left of 64 when every bit below the highest one is set; 64 of zero. */
+LEADING_ZEROS = '''/* How many bits above the highest one that is set; 64 of zero. */
 static inline uint32_t leading_zeros(uint64_t x)
 {
     x |= x >> 1;
@@ -65,9 +89,11 @@ static inline uint32_t leading_zeros(uint64_t x)
 }
 '''
 
+COUNTS = {'count_ones': COUNT_ONES, 'trailing_zeros': TRAILING_ZEROS, 'leading_zeros': LEADING_ZEROS}
+
 
 def load(size):
-    parts = ' | '.join(f'(uint64_t)p[{i}] << {8 * i}' if i else '(uint64_t)p[0]' for i in range(size))
+    parts = ' | '.join(f'(uint64_t)p[{i}] << {8 * i}' if i else 'p[0]' for i in range(size)).replace(' | (uint64_t)p[4]', '\n        | (uint64_t)p[4]')
     return LOAD.format(size=size, bits=8 * size, parts=parts)
 
 
@@ -77,11 +103,12 @@ def store(size):
 
 
 def texts(used):
-    """The helpers of these names and those that they use."""
-    counts = [name for name in ('trailing_zeros', 'leading_zeros') if name in used]
-    sizes = [size for size in (2, 4, 8) if f'load_{size}' in used or f'store_{size}' in used]
-    out = [ORDER] if sizes else []
-    out += [load(size) for size in sizes if f'load_{size}' in used]
-    out += [store(size) for size in sizes if f'store_{size}' in used]
-    out += [COUNT_ONES] if counts or 'count_ones' in used else []
-    return '\n'.join(out + [{'trailing_zeros': TRAILING_ZEROS, 'leading_zeros': LEADING_ZEROS}[name] for name in counts])
+    """The helpers of these names, after those that they use."""
+    if used & {'trailing_zeros', 'leading_zeros'}:
+        used = used | {'count_ones'}
+    words = [(word, size) for word in ('load', 'store') for size in (2, 4, 8) if f'{word}_{size}' in used]
+    out = [QUICK] if words or used & {'UNROLL', 'trailing_zeros'} else []
+    out += [ORDER] if words else []
+    out += [UNROLL] if 'UNROLL' in used else []
+    out += [{'load': load, 'store': store}[word](size) for word, size in words]
+    return '\n'.join(out + [text for name, text in COUNTS.items() if name in used])

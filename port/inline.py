@@ -3,7 +3,6 @@
 A function that compares a parameter with literals (the width of a number) is copied for each literal that it is called with, the
 comparisons decided. A function that is a short straight run is put in place of its calls. Callees are treated before callers.
 """
-from fold import fold
 from forms import (UNIT, Address, Assign, Binary, Bool, Call, Copy, Function, If, Int, Place, Return, Stop, Store, Unit, derefs,
                    statements, target_of, with_bodies, with_operands, with_values)
 

@@ -4,7 +4,7 @@ Two rules, used again and again, each true of all numbers:
     the n bytes at p, or'ed with the n bytes at p + n shifted left by 8 n bits, are the 2 n bytes at p;
     writing v's low n bytes at p and then those of v / 256^n at p + n writes v's low 2 n bytes at p.
 Both halves are accesses that the proof allows, so the joined one lies within the memory as well. C compilers make one instruction of
-it where the machine can; head.c has `Load` and `Store` in C.
+it where the machine can; helpers.py has `Load` and `Store` in C.
 """
 from fold import reads_memory
 from forms import (U8, Assign, Binary, Cast, Copy, Deref, Int, Load, Offset, Place, Store, with_bodies, with_operands, with_values)
