@@ -3,6 +3,7 @@
 # make test       runs every test and every proof; the prover's verdict is the last line
 # make dist       dist/kagutin.c again from the proved program; the gate fails where it differs
 # make compare    a long comparison of the library, built in many ways, with the second implementation, call by call
+# make arm        the C file on an emulated Cortex-M board and other machines; port/packages.sh installs what it needs
 # make play       random histories on the second implementation alone
 # make bench      instructions and times of each call against the second implementation; other stores, if installed
 # make bench-docs tables of docs/PERFORMANCE.md and docs/ring-cost.svg from the last bench
@@ -65,6 +66,7 @@ test: second
 test-library: bench/target/release/bench
 	$(MAKE) --no-print-directory dist-check
 	$(MAKE) --no-print-directory port-check
+	$(MAKE) --no-print-directory board-check
 	bench/target/release/bench --seed $(SEED) --no-counts --out target/bench-test > /dev/null && echo "bench: the same answers on both sides"
 	$(MAKE) --no-print-directory c-check
 	$(MAKE) --no-print-directory c-check LIB=$(ARCHIVE) C_OUT=target/c-archive

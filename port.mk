@@ -3,6 +3,7 @@
 # dist            makes it again, after proving what has changed
 # dist-check      fails if a byte of it is not what the proved program gives
 # port-compare    builds of it by gcc and clang, with sanitizers too, against the archive and the second implementation: long
+# arm             trials and recorded calls with cuts on emulated boards (Cortex-M0+, M4, M33), Arm, RISC-V and a big-endian machine
 
 # Crates whose extern "C" functions are the library, the header that declares them, and the structs of their results.
 EXPORTS = kagutin
@@ -90,3 +91,69 @@ port-compare: $(COMPARE) $(PORT_BUILDS) $(PORT_COMPILERS:%=$(PORT_OUT)/%-sanitiz
 	$(COMPARE) --seed $(SEED) --calls 1000000 --damaged 100000 --histories 5000 $(PORT_BUILDS:%=--build %)
 	$(GCC_TIGHT) --seed $(SEED) --calls 200000 --damaged 40000 --histories 500 | tail -n 2
 	if command -v clang > /dev/null; then $(CLANG_TIGHT) --seed $(SEED) --calls 200000 --damaged 40000 --histories 500 | tail -n 2; fi
+
+# Other machines: the trials and CALLS_PLAYED calls with cuts are played on the host and recorded, then played there and held to the
+# record. RECORD_LIB is the host's library: the archive where it has been made.
+CALLS_PLAYED ?= 5000
+REPLAY_OUT = target/replay
+REPLAYED = lend lasting history trials
+REPLAY_FLAGS = -std=c99 -Wall -Wextra -Wshadow -Wconversion -Iinclude -Iport/replay
+RECORD_LIB = $(firstword $(wildcard target/staticlib/libkagutin.a) $(C_OUT)/libkagutin.a)
+
+$(REPLAY_OUT)/recorded.h: $(REPLAYED:%=port/replay/%.c) port/replay/record.c port/replay/replay.h $(RECORD_LIB)
+	@mkdir -p $(@D)
+	$(CC) $(REPLAY_FLAGS) -O2 $(filter %.c %.a,$^) -o $(REPLAY_OUT)/record
+	$(REPLAY_OUT)/record $(CALLS_PLAYED) > $@.new
+	@mv $@.new $@
+
+REPLAY_SOURCES = $(DIST) $(REPLAYED:%=port/replay/%.c) port/replay/check.c
+REPLAY_FILES = $(REPLAY_SOURCES) $(wildcard port/replay/*) $(C_HEADERS) $(REPLAY_OUT)/recorded.h
+REPLAY_CHECK = $(REPLAY_FLAGS) -I$(REPLAY_OUT) -DCALLS_PLAYED=$(CALLS_PLAYED) $(REPLAY_SOURCES)
+
+# Boards: core, its flags, QEMU's machine, where program and data lie. A Cortex-M0+ program runs on a Cortex-M3.
+BOARDS = m0plus m4 m33
+m0plus_FLAGS = -mcpu=cortex-m0plus
+m4_FLAGS = -mcpu=cortex-m4
+m33_FLAGS = -mcpu=cortex-m33
+m0plus_QEMU = -M mps2-an385
+m4_QEMU = -M mps2-an386
+m33_QEMU = -M mps2-an505
+m0plus_MEMORY = -Wl,--defsym=CODE=0,--defsym=DATA=0x20000000
+m4_MEMORY = $(m0plus_MEMORY)
+m33_MEMORY = -Wl,--defsym=CODE=0x10000000,--defsym=DATA=0x38000000
+BOARD_LINK = -nostartfiles -T port/replay/board.ld
+BOARD_RUN = qemu-system-arm -nographic -monitor none -semihosting-config enable=on,target=native
+
+$(REPLAY_OUT)/%.elf: $(REPLAY_FILES)
+	arm-none-eabi-gcc -mthumb $($*_FLAGS) -O2 $(REPLAY_CHECK) port/replay/say_board.c $(BOARD_LINK) $($*_MEMORY) -o $@
+
+# Linux programs under QEMU: compiler and emulator of each machine. s390x is big-endian.
+LINUX = armhf aarch64 riscv64 s390x
+armhf_CC = arm-linux-gnueabihf-gcc
+aarch64_CC = aarch64-linux-gnu-gcc
+riscv64_CC = riscv64-linux-gnu-gcc
+s390x_CC = s390x-linux-gnu-gcc
+armhf_QEMU = qemu-arm
+aarch64_QEMU = qemu-aarch64
+riscv64_QEMU = qemu-riscv64
+s390x_QEMU = qemu-s390x
+
+$(REPLAY_OUT)/%.linux: $(REPLAY_FILES)
+	$($*_CC) -O2 -static $(REPLAY_CHECK) port/replay/say_stdio.c -o $@
+
+BOARD_TESTS = $(BOARDS:%=on-%)
+LINUX_TESTS = $(LINUX:%=on-%)
+.PHONY: arm board-check $(BOARD_TESTS) $(LINUX_TESTS)
+
+$(BOARD_TESTS): on-%: $(REPLAY_OUT)/%.elf
+	@printf '%s: ' $* && $(BOARD_RUN) $($*_QEMU) -kernel $<
+
+$(LINUX_TESTS): on-%: $(REPLAY_OUT)/%.linux
+	@printf '%s: ' $* && $($*_QEMU) $<
+
+arm: $(BOARD_TESTS) $(LINUX_TESTS)
+
+# What the gate runs: one board, where the packages are there.
+board-check:
+	@if command -v arm-none-eabi-gcc > /dev/null && command -v qemu-system-arm > /dev/null; then $(MAKE) --no-print-directory -s on-m4; \
+	else echo "skipped the emulated board: no arm-none-eabi-gcc or qemu-system-arm (port/packages.sh installs them)"; fi

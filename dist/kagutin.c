@@ -13,6 +13,11 @@
 
 #include "kagutin.h"
 
+#if defined(__GNUC__) && !defined(__clang__) && SIZE_MAX < UINT64_MAX
+/* Counts are 64 bits wide and proved to stay in memory; gcc warns of turns that they never reach. */
+#pragma GCC diagnostic ignored "-Waggressive-loop-optimizations"
+#endif
+
 struct slice_u8 {
     const uint8_t *ptr;
     size_t len;
@@ -401,8 +406,8 @@ static inline bool strip__order__writers_in_order(struct slice_u8 s, struct mode
     t3 = 0u;
     while (t3 < 8u) {
         t8 = 128u + (96u * t3);
-        t5 = strip__order__writer_in_order(st, (struct model__Writer){.mode = load_8(s.ptr + t8), .home = load_8(s.ptr + (t8 +
-                8u)), .first = load_8(s.ptr + (t8 + 16u)), .count = load_8(s.ptr + (t8 + 24u))});
+        t5 = strip__order__writer_in_order(st, (struct model__Writer){.mode = load_8(s.ptr + (size_t)t8), .home = load_8(s.ptr +
+                (size_t)(t8 + 8u)), .first = load_8(s.ptr + (size_t)(t8 + 16u)), .count = load_8(s.ptr + (size_t)(t8 + 24u))});
         if (!t5) {
             return false;
         }
@@ -477,8 +482,8 @@ static inline uint64_t sessions__abort_answer(struct slice_u8 log, struct slice_
         return t5;
     }
     t11 = 128u + (96u * writer);
-    t7 = (struct model__Writer){.mode = load_8(state.ptr + t11), .home = load_8(state.ptr + (t11 + 8u)), .first = load_8(state.ptr
-            + (t11 + 16u)), .count = load_8(state.ptr + (t11 + 24u))};
+    t7 = (struct model__Writer){.mode = load_8(state.ptr + (size_t)t11), .home = load_8(state.ptr + (size_t)(t11 + 8u)), .first =
+            load_8(state.ptr + (size_t)(t11 + 16u)), .count = load_8(state.ptr + (size_t)(t11 + 24u))};
     if (!(1u <= t7.mode)) {
         return 7u;
     }
@@ -501,10 +506,10 @@ static inline void strip__writers__set_writer(struct slice_mut_u8 s, uint64_t w,
     uint64_t t4;
 
     t4 = 128u + (96u * w);
-    store_8(s.ptr + t4, r.mode);
-    store_8(s.ptr + (t4 + 8u), r.home);
-    store_8(s.ptr + (t4 + 16u), r.first);
-    store_8(s.ptr + (t4 + 24u), r.count);
+    store_8(s.ptr + (size_t)t4, r.mode);
+    store_8(s.ptr + (size_t)(t4 + 8u), r.home);
+    store_8(s.ptr + (size_t)(t4 + 16u), r.first);
+    store_8(s.ptr + (size_t)(t4 + 24u), r.count);
 }
 
 /* Ends the transaction in the record of writer `w`. */
@@ -514,8 +519,8 @@ static inline void writers__abort(struct slice_mut_u8 s, uint64_t w)
     uint64_t t11;
 
     t11 = 128u + (96u * w);
-    t9 = writers__places__aborted((struct model__Writer){.mode = load_8(s.ptr + t11), .home = load_8(s.ptr + (t11 + 8u)), .first =
-            load_8(s.ptr + (t11 + 16u)), .count = load_8(s.ptr + (t11 + 24u))});
+    t9 = writers__places__aborted((struct model__Writer){.mode = load_8(s.ptr + (size_t)t11), .home = load_8(s.ptr + (size_t)(t11
+            + 8u)), .first = load_8(s.ptr + (size_t)(t11 + 16u)), .count = load_8(s.ptr + (size_t)(t11 + 24u))});
     strip__writers__set_writer(s, w, t9);
 }
 
@@ -551,8 +556,8 @@ static inline uint64_t sessions__begin_answer(struct slice_u8 log, struct slice_
         return t5;
     }
     t11 = 128u + (96u * writer);
-    t8 = (struct model__Writer){.mode = load_8(state.ptr + t11), .home = load_8(state.ptr + (t11 + 8u)), .first = load_8(state.ptr
-            + (t11 + 16u)), .count = load_8(state.ptr + (t11 + 24u))};
+    t8 = (struct model__Writer){.mode = load_8(state.ptr + (size_t)t11), .home = load_8(state.ptr + (size_t)(t11 + 8u)), .first =
+            load_8(state.ptr + (size_t)(t11 + 16u)), .count = load_8(state.ptr + (size_t)(t11 + 24u))};
     if (1u <= t8.mode) {
         return 6u;
     }
@@ -576,8 +581,8 @@ static inline void writers__begin(struct slice_mut_u8 s, uint64_t w)
     uint64_t t11;
 
     t11 = 128u + (96u * w);
-    t9 = writers__places__begun((struct model__Writer){.mode = load_8(s.ptr + t11), .home = load_8(s.ptr + (t11 + 8u)), .first =
-            load_8(s.ptr + (t11 + 16u)), .count = load_8(s.ptr + (t11 + 24u))});
+    t9 = writers__places__begun((struct model__Writer){.mode = load_8(s.ptr + (size_t)t11), .home = load_8(s.ptr + (size_t)(t11 +
+            8u)), .first = load_8(s.ptr + (size_t)(t11 + 16u)), .count = load_8(s.ptr + (size_t)(t11 + 24u))});
     strip__writers__set_writer(s, w, t9);
 }
 
@@ -632,8 +637,8 @@ static inline uint64_t logging__commits__commit_verdict(struct slice_u8 log, str
         return 4u;
     }
     t13 = 128u + (96u * writer);
-    t7 = (struct model__Writer){.mode = load_8(state.ptr + t13), .home = load_8(state.ptr + (t13 + 8u)), .first = load_8(state.ptr
-            + (t13 + 16u)), .count = load_8(state.ptr + (t13 + 24u))};
+    t7 = (struct model__Writer){.mode = load_8(state.ptr + (size_t)t13), .home = load_8(state.ptr + (size_t)(t13 + 8u)), .first =
+            load_8(state.ptr + (size_t)(t13 + 16u)), .count = load_8(state.ptr + (size_t)(t13 + 24u))};
     if (!(1u <= t7.mode)) {
         return 7u;
     }
@@ -707,8 +712,8 @@ static inline void codec__marks__put_group_mark(struct slice_mut_u8 dst, uint64_
 
     t3 = (struct array_u8_2){{80u, 71u}};
     t10 = (struct slice_u8){t3.at, 2u};
-    dst.ptr[at] = t10.ptr[0u];
-    dst.ptr[at + 1u] = t10.ptr[1u];
+    dst.ptr[(size_t)at] = t10.ptr[0u];
+    dst.ptr[(size_t)(at + 1u)] = t10.ptr[1u];
 }
 
 /* Writes `n` zeros from index `at` on, and leaves the other bytes as they were. */
@@ -719,7 +724,7 @@ static inline void codec__blocks__clear(struct slice_mut_u8 dst, uint64_t at, ui
     t4 = at;
     t5 = n;
     while (0u < t5) {
-        dst.ptr[t4] = 0u;
+        dst.ptr[(size_t)t4] = 0u;
         t4 = t4 + 1u;
         t5 = t5 - 1u;
     }
@@ -733,8 +738,8 @@ static inline void areas__groups__put_blank(struct slice_mut_u8 log, uint64_t sl
     t4 = 64u + (512u * slot);
     codec__marks__put_group_mark(log, t4);
     t14 = t4 + 2u;
-    store_4(log.ptr + t14, n);
-    store_2(log.ptr + (t14 + 4u), n / UINT64_C(0x100000000));
+    store_4(log.ptr + (size_t)t14, n);
+    store_2(log.ptr + (size_t)(t14 + 4u), n / UINT64_C(0x100000000));
     codec__blocks__clear(log, t4 + 8u, 504u);
 }
 
@@ -747,14 +752,14 @@ static inline void codec__blocks__copy(struct slice_mut_u8 dst, uint64_t at, str
     t5 = 0u;
     UNROLL
     while (16u <= ((uint64_t)src.len - t5)) {
-        t19 = load_8(src.ptr + (t5 + 8u));
-        store_8(dst.ptr + t4, load_8(src.ptr + t5));
-        store_8(dst.ptr + (t4 + 8u), t19);
+        t19 = load_8(src.ptr + (size_t)(t5 + 8u));
+        store_8(dst.ptr + (size_t)t4, load_8(src.ptr + (size_t)t5));
+        store_8(dst.ptr + (size_t)(t4 + 8u), t19);
         t4 = t4 + 16u;
         t5 = t5 + 16u;
     }
     while (t5 < (uint64_t)src.len) {
-        dst.ptr[t4] = src.ptr[t5];
+        dst.ptr[(size_t)t4] = src.ptr[(size_t)t5];
         t4 = t4 + 1u;
         t5 = t5 + 1u;
     }
@@ -763,7 +768,7 @@ static inline void codec__blocks__copy(struct slice_mut_u8 dst, uint64_t at, str
 /* Writes the block that stands in `src` from index `from` on into `dst` from index `at` on. */
 static inline void areas__blocks__copy_block(struct slice_mut_u8 dst, uint64_t at, struct slice_u8 src, uint64_t from)
 {
-    codec__blocks__copy(dst, at, (struct slice_u8){src.ptr + from, (size_t)((from + 64u) - from)});
+    codec__blocks__copy(dst, at, (struct slice_u8){src.ptr + (size_t)from, (size_t)((from + 64u) - from)});
 }
 
 /* Writes an entry's tag and its block at index `k` of the group in a ring slot. */
@@ -773,7 +778,7 @@ static inline void areas__groups__put_entry(struct slice_mut_u8 log, uint64_t sl
     uint64_t t6;
 
     t6 = 64u + (512u * slot);
-    store_8(log.ptr + (t6 + (8u + (8u * k))), word);
+    store_8(log.ptr + (size_t)(t6 + (8u + (8u * k))), word);
     areas__blocks__copy_block(log, t6 + (64u + (64u * k)), block, 0u);
 }
 
@@ -798,8 +803,8 @@ static inline void codec__marks__put_group_write_mark(struct slice_mut_u8 dst, u
 
     t3 = (struct array_u8_2){{71u, 87u}};
     t10 = (struct slice_u8){t3.at, 2u};
-    dst.ptr[at] = t10.ptr[0u];
-    dst.ptr[at + 1u] = t10.ptr[1u];
+    dst.ptr[(size_t)at] = t10.ptr[0u];
+    dst.ptr[(size_t)(at + 1u)] = t10.ptr[1u];
 }
 
 /* Appends the write of the group that the log holds in a ring slot. */
@@ -808,9 +813,9 @@ static inline uint64_t batch__records__group_write(struct slice_mut_u8 batch, ui
     uint64_t t5;
 
     codec__marks__put_group_write_mark(batch, at);
-    store_2(batch.ptr + (at + 2u), slot);
+    store_2(batch.ptr + (size_t)(at + 2u), slot);
     t5 = 64u + (512u * slot);
-    codec__blocks__copy(batch, at + 4u, (struct slice_u8){log.ptr + t5, (size_t)((t5 + 512u) - t5)});
+    codec__blocks__copy(batch, at + 4u, (struct slice_u8){log.ptr + (size_t)t5, (size_t)((t5 + 512u) - t5)});
     return at + 516u;
 }
 
@@ -822,7 +827,7 @@ static inline uint64_t logging__entry__log_entry(struct slice_mut_u8 log, struct
 
     t7 = st.next % st.groups;
     t8 = (128u + (96u * w)) + 32u;
-    areas__groups__enter(log, t7, st, word, (struct slice_u8){state.ptr + t8, (size_t)((t8 + 64u) - t8)});
+    areas__groups__enter(log, t7, st, word, (struct slice_u8){state.ptr + (size_t)t8, (size_t)((t8 + 64u) - t8)});
     if (st.filled != 6u) {
         store_8(state.ptr + 32u, st.filled + 1u);
         return 0u;
@@ -862,8 +867,8 @@ static inline struct answers__Reply logging__commits__commit(struct slice_mut_u8
     }
     t7 = writer;
     t36 = 128u + (96u * t7);
-    t8 = (struct model__Writer){.mode = load_8(state.ptr + t36), .home = load_8(state.ptr + (t36 + 8u)), .first = load_8(state.ptr
-            + (t36 + 16u)), .count = load_8(state.ptr + (t36 + 24u))};
+    t8 = (struct model__Writer){.mode = load_8(state.ptr + (size_t)t36), .home = load_8(state.ptr + (size_t)(t36 + 8u)), .first =
+            load_8(state.ptr + (size_t)(t36 + 16u)), .count = load_8(state.ptr + (size_t)(t36 + 24u))};
     if (!(2u <= t8.mode)) {
         logging__commits__commit_none(state, t7);
         return (struct answers__Reply){.code = 0u, .figure = 0u, .size = 0u};
@@ -943,8 +948,8 @@ static inline void codec__marks__put_fence_mark(struct slice_mut_u8 dst, uint64_
 
     t3 = (struct array_u8_2){{70u, 78u}};
     t10 = (struct slice_u8){t3.at, 2u};
-    dst.ptr[at] = t10.ptr[0u];
-    dst.ptr[at + 1u] = t10.ptr[1u];
+    dst.ptr[(size_t)at] = t10.ptr[0u];
+    dst.ptr[(size_t)(at + 1u)] = t10.ptr[1u];
 }
 
 /* Appends a fence. */
@@ -1034,8 +1039,8 @@ static inline void codec__marks__put_header_mark(struct slice_mut_u8 dst, uint64
 
     t3 = (struct array_u8_2){{80u, 72u}};
     t10 = (struct slice_u8){t3.at, 2u};
-    dst.ptr[at] = t10.ptr[0u];
-    dst.ptr[at + 1u] = t10.ptr[1u];
+    dst.ptr[(size_t)at] = t10.ptr[0u];
+    dst.ptr[(size_t)(at + 1u)] = t10.ptr[1u];
 }
 
 /* Writes a header of 64 bytes from index `at` on, and leaves the other bytes as they were. */
@@ -1046,10 +1051,10 @@ static inline void areas__header__put_header(struct slice_mut_u8 dst, uint64_t a
 
     codec__marks__put_header_mark(dst, at);
     t19 = at + 2u;
-    store_4(dst.ptr + t19, start);
-    store_2(dst.ptr + (t19 + 4u), start / UINT64_C(0x100000000));
-    store_2(dst.ptr + (at + 8u), groups);
-    store_2(dst.ptr + (at + 10u), homes);
+    store_4(dst.ptr + (size_t)t19, start);
+    store_2(dst.ptr + (size_t)(t19 + 4u), start / UINT64_C(0x100000000));
+    store_2(dst.ptr + (size_t)(at + 8u), groups);
+    store_2(dst.ptr + (size_t)(at + 10u), homes);
     codec__blocks__clear(dst, at + 12u, 52u);
 }
 
@@ -1074,8 +1079,8 @@ static inline void codec__marks__put_header_write_mark(struct slice_mut_u8 dst, 
 
     t3 = (struct array_u8_2){{75u, 87u}};
     t10 = (struct slice_u8){t3.at, 2u};
-    dst.ptr[at] = t10.ptr[0u];
-    dst.ptr[at + 1u] = t10.ptr[1u];
+    dst.ptr[(size_t)at] = t10.ptr[0u];
+    dst.ptr[(size_t)(at + 1u)] = t10.ptr[1u];
 }
 
 /* Appends the write of zeros to the header. */
@@ -1090,7 +1095,7 @@ static inline uint64_t batch__records__zero_header_write(struct slice_mut_u8 bat
 static inline uint64_t batch__records__zero_group_write(struct slice_mut_u8 batch, uint64_t at, uint64_t slot)
 {
     codec__marks__put_group_write_mark(batch, at);
-    store_2(batch.ptr + (at + 2u), slot);
+    store_2(batch.ptr + (size_t)(at + 2u), slot);
     codec__blocks__clear(batch, at + 4u, 512u);
     return at + 516u;
 }
@@ -1117,15 +1122,15 @@ static inline void codec__marks__put_home_write_mark(struct slice_mut_u8 dst, ui
 
     t3 = (struct array_u8_2){{72u, 87u}};
     t10 = (struct slice_u8){t3.at, 2u};
-    dst.ptr[at] = t10.ptr[0u];
-    dst.ptr[at + 1u] = t10.ptr[1u];
+    dst.ptr[(size_t)at] = t10.ptr[0u];
+    dst.ptr[(size_t)(at + 1u)] = t10.ptr[1u];
 }
 
 /* Appends the write of zeros to a home. */
 static inline uint64_t batch__records__zero_home_write(struct slice_mut_u8 batch, uint64_t at, uint64_t home)
 {
     codec__marks__put_home_write_mark(batch, at);
-    store_2(batch.ptr + (at + 2u), home);
+    store_2(batch.ptr + (size_t)(at + 2u), home);
     codec__blocks__clear(batch, at + 4u, 64u);
     return at + 68u;
 }
@@ -1200,16 +1205,16 @@ static inline struct recovery__opening__Shape recovery__opening__measure(struct 
 
     t3 = areas__lengths__log_groups((uint64_t)log.len);
     return (struct recovery__opening__Shape){.groups = t3, .homes = (uint64_t)area.len / 64u, .start = load_4(log.ptr + 2u) |
-            (load_2(log.ptr + ((uint64_t)2u + 4u)) << 32u)};
+            (load_2(log.ptr + (size_t)((uint64_t)2u + 4u)) << 32u)};
 }
 
 /* Whether the two bytes of `mark` stand at index `at`. */
 static inline bool codec__marks__has_mark(struct slice_u8 s, uint64_t at, struct slice_u8 mark)
 {
-    if (s.ptr[at] != mark.ptr[0u]) {
+    if (s.ptr[(size_t)at] != mark.ptr[0u]) {
         return false;
     }
-    if (s.ptr[at + 1u] != mark.ptr[1u]) {
+    if (s.ptr[(size_t)(at + 1u)] != mark.ptr[1u]) {
         return false;
     }
     return true;
@@ -1232,14 +1237,14 @@ static inline bool codec__blocks__all_zero(struct slice_u8 s, uint64_t at, uint6
     t4 = at;
     t5 = n;
     while (8u <= t5) {
-        if (load_8(s.ptr + t4) != 0u) {
+        if (load_8(s.ptr + (size_t)t4) != 0u) {
             return false;
         }
         t4 = t4 + 8u;
         t5 = t5 - 8u;
     }
     while (0u < t5) {
-        if (s.ptr[t4] != 0u) {
+        if (s.ptr[(size_t)t4] != 0u) {
             return false;
         }
         t4 = t4 + 1u;
@@ -1307,10 +1312,10 @@ static inline uint64_t scan__commits__in_group(uint64_t left)
    mark. The mark alone goes first, so that an unused group is passed quickly. */
 static inline bool codec__marks__has_group_head(struct slice_u8 s, uint64_t at, uint64_t n)
 {
-    if (load_2(s.ptr + at) != 18256u) {
+    if (load_2(s.ptr + (size_t)at) != 18256u) {
         return false;
     }
-    return load_8(s.ptr + at) == (((n % UINT64_C(0x1000000000000)) * UINT64_C(0x10000)) + 18256u);
+    return load_8(s.ptr + (size_t)at) == (((n % UINT64_C(0x1000000000000)) * UINT64_C(0x10000)) + 18256u);
 }
 
 /* Whether the 512 bytes of a ring slot are a valid group with number `n`, in a log of `groups` groups from number `start` on. */
@@ -1337,7 +1342,7 @@ static inline struct array_u64_7 scan__groups__tag_words(struct slice_u8 group)
     memset(&t2, 0, sizeof t2);
     t3 = 0u;
     while (t3 < 7u) {
-        t2.at[t3] = load_8(group.ptr + (8u + (8u * t3)));
+        t2.at[(size_t)t3] = load_8(group.ptr + (size_t)(8u + (8u * t3)));
         t3 = t3 + 1u;
     }
     return t2;
@@ -1430,12 +1435,12 @@ static inline struct scan__commits__Progress scan__commits__visit(uint64_t word,
         t13 = progress;
     } else if (t12.tag == 1u) {
         t25 = t12.u64_1 - base;
-        counts.ptr[t25] = (uint16_t)((uint32_t)counts.ptr[t25] + 1u);
+        counts.ptr[(size_t)t25] = (uint16_t)((uint32_t)counts.ptr[(size_t)t25] + 1u);
         t13 = progress;
     } else {
         t32 = t12.u64_1 - base;
-        t33 = (uint16_t)((uint32_t)counts.ptr[t32] + 1u);
-        counts.ptr[t32] = t33;
+        t33 = (uint16_t)((uint32_t)counts.ptr[(size_t)t32] + 1u);
+        counts.ptr[(size_t)t32] = t33;
         t13 = scan__commits__judge(progress, base, position, t12.u64_2, (uint64_t)t33 == t12.u64_3);
     }
     return t13;
@@ -1461,7 +1466,7 @@ static inline struct scan__commits__Progress scan__commits__visit_group(struct s
     t12 = 7u * n;
     t13 = 0u;
     while (t13 < m) {
-        t11 = scan__commits__visit(t9.at[t13], t12, t10, homes, counts, t11);
+        t11 = scan__commits__visit(t9.at[(size_t)t13], t12, t10, homes, counts, t11);
         t12 = t12 + 1u;
         t13 = t13 + 1u;
     }
@@ -1498,8 +1503,8 @@ static inline struct scan__commits__Found scan__commits__walk(struct slice_u8 lo
     while (0u < t10) {
         t11 = 64u + (512u * t8);
         t13 = scan__commits__in_group(t10);
-        t7 = scan__commits__visit_group((struct slice_u8){log.ptr + t11, (size_t)((t11 + 512u) - t11)}, groups, homes, start, t9,
-                t13, (struct slice_mut_u16){t6.at, 7168u}, t7);
+        t7 = scan__commits__visit_group((struct slice_u8){log.ptr + (size_t)t11, (size_t)((t11 + 512u) - t11)}, groups, homes,
+                start, t9, t13, (struct slice_mut_u16){t6.at, 7168u}, t7);
         if (t7.failed != 0u) {
             return (struct scan__commits__Found){.end = t7.end, .number = t7.number};
         }
@@ -1527,7 +1532,7 @@ static inline uint64_t replay__gathering__previous_slot(uint64_t slot, uint64_t 
 static inline struct model__Tag scan__groups__tag_in(struct slice_u8 group, uint64_t k, uint64_t position, uint64_t base, uint64_t
         homes)
 {
-    return codec__tags__read_tag(load_8(group.ptr + (8u + (8u * k))), position, base, homes);
+    return codec__tags__read_tag(load_8(group.ptr + (size_t)(8u + (8u * k))), position, base, homes);
 }
 
 /* Takes an entry as its home's newest, if its transaction closes later than that of the newest so far. */
@@ -1536,10 +1541,10 @@ static inline void replay__gathering__offer(struct slice_mut_u16 closers, struct
 {
     uint64_t *t23;
 
-    if (closers.ptr[home] < closer) {
-        closers.ptr[home] = closer;
-        table.ptr[home] = code;
-        t23 = map.ptr + (home >> 6u);
+    if (closers.ptr[(size_t)home] < closer) {
+        closers.ptr[(size_t)home] = closer;
+        table.ptr[(size_t)home] = code;
+        t23 = map.ptr + (size_t)(home >> 6u);
         (*t23) = (*t23) | ((uint64_t)1u << ((home & 63u) & 63u));
     }
 }
@@ -1547,8 +1552,8 @@ static inline void replay__gathering__offer(struct slice_mut_u16 closers, struct
 /* Takes a closing entry as the last one of the transaction with the first position at index `first`, if none has passed. */
 static inline void replay__gathering__close(struct slice_mut_u16 last, uint64_t first, uint16_t code)
 {
-    if (last.ptr[first] == 0u) {
-        last.ptr[first] = code;
+    if (last.ptr[(size_t)first] == 0u) {
+        last.ptr[(size_t)first] = code;
     }
 }
 
@@ -1564,11 +1569,11 @@ static inline void replay__gathering__note_tag(struct slice_u8 group, uint64_t k
     t20 = scan__groups__tag_in(group, k, position, base, homes);
     if (t20.tag == 0u) {
     } else if (t20.tag == 1u) {
-        replay__gathering__offer(closers, table, map, t20.u64_0, last.ptr[t20.u64_1 - base], t10);
+        replay__gathering__offer(closers, table, map, t20.u64_0, last.ptr[(size_t)(t20.u64_1 - base)], t10);
     } else {
         t16 = t20.u64_1 - base;
         replay__gathering__close(last, t16, t10);
-        replay__gathering__offer(closers, table, map, t20.u64_0, last.ptr[t16], t10);
+        replay__gathering__offer(closers, table, map, t20.u64_0, last.ptr[(size_t)t16], t10);
     }
 }
 
@@ -1616,8 +1621,8 @@ static inline void replay__gathering__gather(struct slice_u8 log, struct slice_m
         t12 = replay__gathering__previous_slot(t12, groups);
         t13 = 64u + (512u * t12);
         t15 = scan__commits__in_group(end - (7u * t11));
-        replay__gathering__note_group((struct slice_u8){log.ptr + t13, (size_t)((t13 + 512u) - t13)}, groups, homes, start, t11,
-                t15, (struct slice_mut_u16){t9.at, 7168u}, (struct slice_mut_u16){t10.at, 4096u}, table, map);
+        replay__gathering__note_group((struct slice_u8){log.ptr + (size_t)t13, (size_t)((t13 + 512u) - t13)}, groups, homes,
+                start, t11, t15, (struct slice_mut_u16){t9.at, 7168u}, (struct slice_mut_u16){t10.at, 4096u}, table, map);
     }
 }
 
@@ -1629,7 +1634,7 @@ static inline uint64_t bitmap__count(struct slice_u64 ws)
     t2 = 0u;
     t3 = 0u;
     while (t3 < (uint64_t)ws.len) {
-        t2 = t2 + (uint64_t)count_ones(ws.ptr[t3]);
+        t2 = t2 + (uint64_t)count_ones(ws.ptr[(size_t)t3]);
         t3 = t3 + 1u;
     }
     return t2;
@@ -1662,7 +1667,7 @@ static inline void replay__restore__restore_word(struct slice_u8 log, struct sli
     t9 = word;
     while (t9 != 0u) {
         t10 = base + (uint64_t)trailing_zeros(t9);
-        replay__restore__restore_block(log, area, groups, (t8 + (uint64_t)table.ptr[t10]) - 1u, t10);
+        replay__restore__restore_block(log, area, groups, (t8 + (uint64_t)table.ptr[(size_t)t10]) - 1u, t10);
         t9 = t9 & (t9 - 1u);
     }
 }
@@ -1677,7 +1682,7 @@ static inline void replay__restore__restore_all(struct slice_u8 log, struct slic
 
     t9 = 0u;
     while (t9 < (uint64_t)map.len) {
-        replay__restore__restore_word(log, area, table, groups, start, map.ptr[t9], 64u * t9);
+        replay__restore__restore_word(log, area, table, groups, start, map.ptr[(size_t)t9], 64u * t9);
         t9 = t9 + 1u;
     }
 }
@@ -1686,7 +1691,7 @@ static inline void replay__restore__restore_all(struct slice_u8 log, struct slic
 static inline uint64_t batch__records__home_write(struct slice_mut_u8 batch, uint64_t at, uint64_t home, struct slice_u8 area)
 {
     codec__marks__put_home_write_mark(batch, at);
-    store_2(batch.ptr + (at + 2u), home);
+    store_2(batch.ptr + (size_t)(at + 2u), home);
     areas__blocks__copy_block(batch, at + 4u, area, 64u * home);
     return at + 68u;
 }
@@ -1714,7 +1719,7 @@ static inline uint64_t homes__emit(struct slice_mut_u8 batch, uint64_t at, struc
     t5 = at;
     t6 = 0u;
     while (t6 < (uint64_t)map.len) {
-        t5 = homes__emit_word(batch, t5, map.ptr[t6], 64u * t6, area);
+        t5 = homes__emit_word(batch, t5, map.ptr[(size_t)t6], 64u * t6, area);
         t6 = t6 + 1u;
     }
     return t5;
@@ -1884,9 +1889,9 @@ static inline uint64_t replay__search__note(struct slice_mut_u16 latest, uint64_
         home)
 {
     if (written != home) {
-        return (uint64_t)latest.ptr[i];
+        return (uint64_t)latest.ptr[(size_t)i];
     }
-    latest.ptr[i] = (uint16_t)code;
+    latest.ptr[(size_t)i] = (uint16_t)code;
     return code;
 }
 
@@ -1925,15 +1930,15 @@ static inline struct replay__search__Search replay__search__visit(uint64_t word,
     } else if (t22.tag == 1u) {
         t24 = t22.u64_1 - base;
         t11 = t24;
-        t39 = (uint16_t)((uint32_t)counts.ptr[t11] + 1u);
-        counts.ptr[t11] = t39;
+        t39 = (uint16_t)((uint32_t)counts.ptr[(size_t)t11] + 1u);
+        counts.ptr[(size_t)t11] = t39;
         t24 = (uint64_t)t39;
         t24 = replay__search__note(latest, t11, (position + 1u) - base, t22.u64_0, home);
         t23 = search;
     } else {
         t16 = t22.u64_1 - base;
-        t45 = (uint16_t)((uint32_t)counts.ptr[t16] + 1u);
-        counts.ptr[t16] = t45;
+        t45 = (uint16_t)((uint32_t)counts.ptr[(size_t)t16] + 1u);
+        counts.ptr[(size_t)t16] = t45;
         t18 = replay__search__note(latest, t16, (position + 1u) - base, t22.u64_0, home);
         t20 = scan__commits__judge(search.progress, base, position, t22.u64_2, (uint64_t)t45 == t22.u64_3);
         t21 = replay__search__newest_after(t20.failed, base, t18, search.newest);
@@ -1963,7 +1968,7 @@ static inline struct replay__search__Search replay__search__visit_group(struct s
     t14 = 7u * n;
     t15 = 0u;
     while (t15 < m) {
-        t13 = replay__search__visit(t11.at[t15], t14, t12, homes, home, counts, latest, t13);
+        t13 = replay__search__visit(t11.at[(size_t)t15], t14, t12, homes, home, counts, latest, t13);
         t14 = t14 + 1u;
         t15 = t15 + 1u;
     }
@@ -1986,7 +1991,7 @@ static inline uint64_t replay__search__choose(struct slice_u16 latest, uint64_t 
     if (own == 0u) {
         return newest;
     }
-    return replay__search__or_other(base, (uint64_t)latest.ptr[(own - base) - 1u], newest);
+    return replay__search__or_other(base, (uint64_t)latest.ptr[(size_t)((own - base) - 1u)], newest);
 }
 
 /* The pass over the `n` positions of the log from its start on, with a counter and a latest entry for each, all 0, and what it
@@ -2007,8 +2012,8 @@ static inline uint64_t replay__search__seek_with(struct slice_u8 log, uint64_t g
     while (0u < t13) {
         t14 = 64u + (512u * t11);
         t16 = scan__commits__in_group(t13);
-        t10 = replay__search__visit_group((struct slice_u8){log.ptr + t14, (size_t)((t14 + 512u) - t14)}, groups, homes, start,
-                t12, t16, home, counts, latest, t10);
+        t10 = replay__search__visit_group((struct slice_u8){log.ptr + (size_t)t14, (size_t)((t14 + 512u) - t14)}, groups, homes,
+                start, t12, t16, home, counts, latest, t10);
         t26 = replay__search__may_stop(own, t10.progress.failed);
         if (t26) {
             return t10.newest;
@@ -2080,8 +2085,8 @@ static inline void reading__blocks__show(struct slice_u8 log, struct slice_u8 ar
             load_8(state.ptr + 48u), .durable = load_8(state.ptr + 56u), .last = load_8(state.ptr + 64u)};
     t8 = writer;
     t953 = 128u + (96u * t8);
-    t9 = (struct model__Writer){.mode = load_8(state.ptr + t953), .home = load_8(state.ptr + (t953 + 8u)), .first =
-            load_8(state.ptr + (t953 + 16u)), .count = load_8(state.ptr + (t953 + 24u))};
+    t9 = (struct model__Writer){.mode = load_8(state.ptr + (size_t)t953), .home = load_8(state.ptr + (size_t)(t953 + 8u)), .first
+            = load_8(state.ptr + (size_t)(t953 + 16u)), .count = load_8(state.ptr + (size_t)(t953 + 24u))};
     t11 = reading__blocks__holds_home(t9, home);
     if (t11) {
         reading__blocks__show_held(block, state, t8);
@@ -2185,8 +2190,8 @@ static inline uint64_t logging__stores__store_verdict(struct slice_u8 log, struc
         return 5u;
     }
     t18 = 128u + (96u * writer);
-    t9 = (struct model__Writer){.mode = load_8(state.ptr + t18), .home = load_8(state.ptr + (t18 + 8u)), .first = load_8(state.ptr
-            + (t18 + 16u)), .count = load_8(state.ptr + (t18 + 24u))};
+    t9 = (struct model__Writer){.mode = load_8(state.ptr + (size_t)t18), .home = load_8(state.ptr + (size_t)(t18 + 8u)), .first =
+            load_8(state.ptr + (size_t)(t18 + 16u)), .count = load_8(state.ptr + (size_t)(t18 + 24u))};
     if (!(1u <= t9.mode)) {
         return 7u;
     }
@@ -2300,8 +2305,8 @@ static inline struct answers__Reply logging__stores__store(struct slice_mut_u8 l
     }
     t9 = writer;
     t39 = 128u + (96u * t9);
-    t10 = (struct model__Writer){.mode = load_8(state.ptr + t39), .home = load_8(state.ptr + (t39 + 8u)), .first =
-            load_8(state.ptr + (t39 + 16u)), .count = load_8(state.ptr + (t39 + 24u))};
+    t10 = (struct model__Writer){.mode = load_8(state.ptr + (size_t)t39), .home = load_8(state.ptr + (size_t)(t39 + 8u)), .first =
+            load_8(state.ptr + (size_t)(t39 + 16u)), .count = load_8(state.ptr + (size_t)(t39 + 24u))};
     if (!(2u <= t10.mode)) {
         logging__stores__store_first(state, block, t10, t9, home);
         return (struct answers__Reply){.code = 0u, .figure = 0u, .size = 0u};
@@ -2330,10 +2335,10 @@ static inline uint64_t replay__trim__writer_limit(struct slice_u8 state, uint64_
     uint64_t t4, t5;
 
     t4 = 128u + (96u * w);
-    if (load_8(state.ptr + t4) < 3u) {
+    if (load_8(state.ptr + (size_t)t4) < 3u) {
         return limit;
     }
-    t5 = load_8(state.ptr + (t4 + 16u)) / 7u;
+    t5 = load_8(state.ptr + (size_t)(t4 + 16u)) / 7u;
     if (t5 < limit) {
         return t5;
     }
@@ -2365,7 +2370,7 @@ static inline struct model__Tag scan__groups__entry_at(struct slice_u8 log, uint
 
     t6 = position / 7u;
     t7 = 64u + (512u * (t6 % groups));
-    t8 = (struct slice_u8){log.ptr + t7, (size_t)((t7 + 512u) - t7)};
+    t8 = (struct slice_u8){log.ptr + (size_t)t7, (size_t)((t7 + 512u) - t7)};
     t14 = scan__groups__group_valid(t8, groups, start, t6);
     if (t14) {
         t15 = scan__groups__tag_in(t8, position % 7u, position, 7u * start, homes);

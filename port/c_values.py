@@ -144,7 +144,8 @@ class Values:
     # ---- pointers
 
     def unit_of(self, f, value):
-        """The pointer's text and type, and the count as text and what it counts: items, or bytes where they are no whole product."""
+        """The pointer's text and type, the count as text, and the size of what it counts: 1 for items, or else bytes. The count fits
+        size_t, since what is reached lies in memory."""
         base, t = self.value(f, value.pointer)
         if not isinstance(t, Ref) or not isinstance(item_of(t.target), IntType):
             raise Stop(f'a pointer to {t} moved')
@@ -153,7 +154,8 @@ class Values:
             count, size = count.left, 1                             # proved: the product does not overflow
         elif isinstance(count, Int) and count.value % size == 0:
             count, size = Int(64, count.value // size), 1
-        return base, t, self.value(f, count)[0], size
+        text = self.value(f, count)[0]
+        return base, t, text if isinstance(count, Int) else f'(size_t){text}', size
 
     def moved(self, f, value):
         base, t, count, size = self.unit_of(f, value)
@@ -167,7 +169,7 @@ class Values:
         """The item at a moved pointer."""
         base, t, count, size = self.unit_of(f, value)
         if size == 1:
-            return f'{base}[{bare(count)}]', item_of(t.target)
+            return f'{base}[{count}]', item_of(t.target)
         return f'(*{self.moved(f, value)[0]})', item_of(t.target)
 
     def address(self, f, place):

@@ -36,6 +36,11 @@ HEAD = '''/*
 #include <string.h>
 
 {includes}
+
+#if defined(__GNUC__) && !defined(__clang__) && SIZE_MAX < UINT64_MAX
+/* Counts are 64 bits wide and proved to stay in memory; gcc warns of turns that they never reach. */
+#pragma GCC diagnostic ignored "-Waggressive-loop-optimizations"
+#endif
 '''
 
 
