@@ -4,7 +4,7 @@ import os
 
 from forms import (BOOL, UNIT, Address, Aggregate, Array, Assign, Binary, Block, Bool, Call, Cast, Copy, Deref, Exit, Field,
                    Fields, Function, If, Int, IntType, Loop, Named, Offset, Place, RawPointer, Ref, Repeat, Return, Slice, Stop, Switch,
-                   Unary, Unit, Variant, Variants)
+                   Unary, Unit, Variant, Variants, derefs, statements)
 
 UNSIGNED_ONLY = ('Add', 'Sub', 'Mul', 'Div', 'Rem', 'Shr', 'Lt', 'Le')
 SIGNLESS = ('And', 'Or', 'Xor', 'Shl', 'Eq', 'Ne')
@@ -146,6 +146,11 @@ def read_function(name, form):
     if set(homes) - {'ValueLocal', 'MemorySlot'}:
         raise unknown('homes', sorted(set(homes)))
     in_memory = {i for i, home in enumerate(homes) if home == 'MemorySlot'}
+    for statement in statements(body):
+        if isinstance(statement, Assign) and isinstance(statement.value, Address):
+            place = statement.value.place
+            if place.base not in in_memory and not derefs(place.steps):
+                raise Stop(f'the address of value local {place.base}')
     return Function(name, form['params'], [read_type(local['ty']) for local in form['locals']], in_memory, body)
 
 
