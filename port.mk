@@ -3,6 +3,7 @@
 # dist            makes it again, after proving what has changed
 # dist-check      fails if a byte of it is not what the proved program gives
 # port-compare    builds of it by gcc and clang, with sanitizers too, against the archive and the second implementation: long
+# port-docs       tables of the C file in docs/PERFORMANCE.md
 # arm             trials and recorded calls with cuts on emulated boards (Cortex-M0+, M4, M33), Arm, RISC-V and a big-endian machine
 
 # Crates whose extern "C" functions are the library, the header that declares them, and the structs of their results.
@@ -122,7 +123,7 @@ m0plus_MEMORY = -Wl,--defsym=CODE=0,--defsym=DATA=0x20000000
 m4_MEMORY = $(m0plus_MEMORY)
 m33_MEMORY = -Wl,--defsym=CODE=0x10000000,--defsym=DATA=0x38000000
 BOARD_LINK = -nostartfiles -T port/replay/board.ld
-BOARD_RUN = qemu-system-arm -nographic -monitor none -semihosting-config enable=on,target=native
+BOARD_RUN = qemu-system-arm -display none -monitor none -serial none -chardev stdio,id=said -semihosting-config enable=on,target=native,chardev=said
 
 $(REPLAY_OUT)/%.elf: $(REPLAY_FILES)
 	arm-none-eabi-gcc -mthumb $($*_FLAGS) -O2 $(REPLAY_CHECK) port/replay/say_board.c $(BOARD_LINK) $($*_MEMORY) -o $@
@@ -152,6 +153,42 @@ $(LINUX_TESTS): on-%: $(REPLAY_OUT)/%.linux
 	@printf '%s: ' $* && $($*_QEMU) $<
 
 arm: $(BOARD_TESTS) $(LINUX_TESTS)
+
+# Tables of docs/PERFORMANCE.md: size, stack and instructions on each core; instructions of the C file against the archive on x86-64.
+COSTS = $(foreach b,$(BOARDS),$(foreach l,Os O2,$(REPLAY_OUT)/$(b)-$(l).cost))
+core = $(word 1,$(subst -, ,$*))
+level = -$(word 2,$(subst -, ,$*))
+m0plus_TICK = 40
+m4_TICK = 40
+m33_TICK = 50
+
+$(REPLAY_OUT)/%.cost: $(DIST) $(wildcard port/replay/*) $(C_HEADERS)
+	@mkdir -p $(@D)
+	arm-none-eabi-gcc -mthumb $($(core)_FLAGS) $(level) -std=c99 -Iinclude -fcallgraph-info=su -c $(DIST) -o $(REPLAY_OUT)/$*.o
+	arm-none-eabi-gcc -mthumb $($(core)_FLAGS) $(level) $(REPLAY_FLAGS) -DNS_EACH_TICK=$($(core)_TICK) $(REPLAY_OUT)/$*.o \
+	    port/replay/lend.c port/replay/measure.c port/replay/say_board.c $(BOARD_LINK) $($(core)_MEMORY) -o $(REPLAY_OUT)/$*.measure
+	$(BOARD_RUN) -icount shift=0 $($(core)_QEMU) -kernel $(REPLAY_OUT)/$*.measure > $@.new
+	@printf 'size\t%s\t0\n' $$(arm-none-eabi-size $(REPLAY_OUT)/$*.o | awk 'NR == 2 { print $$1 }') >> $@.new
+	@mv $@.new $@
+
+BENCHED = archive gcc clang
+$(PORT_OUT)/archive/libkagutin.a: target/staticlib/libkagutin.a
+	@mkdir -p $(@D)
+	cp $< $@
+
+$(PORT_OUT)/gcc/libkagutin.a $(PORT_OUT)/clang/libkagutin.a: $(PORT_OUT)/%/libkagutin.a: $(DIST) include/kagutin.h
+	@mkdir -p $(@D)
+	$* -std=c99 -O2 -Iinclude -c $< -o $(@D)/kagutin.o
+	rm -f $@
+	$(AR) rcs $@ $(@D)/kagutin.o
+
+$(BENCHED:%=$(PORT_OUT)/%/bench.tsv): $(PORT_OUT)/%/bench.tsv: $(PORT_OUT)/%/libkagutin.a
+	cd bench && KAGUTIN_LIB_DIR=$(CURDIR)/$(<D) CARGO_TARGET_DIR=$(CURDIR)/$(PORT_OUT)/bench cargo build --release --offline --quiet
+	$(PORT_OUT)/bench/release/bench --seed $(SEED) --no-times --out $(@D) > /dev/null
+
+.PHONY: port-docs
+port-docs: $(COSTS) $(BENCHED:%=$(PORT_OUT)/%/bench.tsv)
+	python3 port/report.py $(REPLAY_OUT) $(PORT_OUT) docs/PERFORMANCE.md
 
 # What the gate runs: one board, where the packages are there.
 board-check:

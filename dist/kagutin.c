@@ -133,10 +133,11 @@ struct array_u16_448 {
 #define QUICK_C 0
 #endif
 
-#if QUICK_C && defined(__BYTE_ORDER__) && defined(__ORDER_LITTLE_ENDIAN__) && __BYTE_ORDER__ == __ORDER_LITTLE_ENDIAN__
-#define LITTLE_ENDIAN_BYTES 1
+#if QUICK_C && defined(__BYTE_ORDER__) && defined(__ORDER_LITTLE_ENDIAN__) && __BYTE_ORDER__ == __ORDER_LITTLE_ENDIAN__ \
+    && (defined(__x86_64__) || defined(__i386__) || defined(__ARM_FEATURE_UNALIGNED))
+#define WHOLE_WORDS 1
 #else
-#define LITTLE_ENDIAN_BYTES 0
+#define WHOLE_WORDS 0
 #endif
 
 #if QUICK_C && !defined(__clang__) && !defined(__OPTIMIZE_SIZE__) && __GNUC__ >= 8
@@ -148,7 +149,7 @@ struct array_u16_448 {
 /* The number that 2 bytes make, lowest byte first. */
 static inline uint64_t load_2(const uint8_t *p)
 {
-#if LITTLE_ENDIAN_BYTES
+#if WHOLE_WORDS
     uint16_t x;
 
     memcpy(&x, p, 2);
@@ -161,7 +162,7 @@ static inline uint64_t load_2(const uint8_t *p)
 /* The number that 4 bytes make, lowest byte first. */
 static inline uint64_t load_4(const uint8_t *p)
 {
-#if LITTLE_ENDIAN_BYTES
+#if WHOLE_WORDS
     uint32_t x;
 
     memcpy(&x, p, 4);
@@ -174,7 +175,7 @@ static inline uint64_t load_4(const uint8_t *p)
 /* The number that 8 bytes make, lowest byte first. */
 static inline uint64_t load_8(const uint8_t *p)
 {
-#if LITTLE_ENDIAN_BYTES
+#if WHOLE_WORDS
     uint64_t x;
 
     memcpy(&x, p, 8);
@@ -188,7 +189,7 @@ static inline uint64_t load_8(const uint8_t *p)
 /* Writes the low 2 bytes of a number, lowest byte first. */
 static inline void store_2(uint8_t *p, uint64_t v)
 {
-#if LITTLE_ENDIAN_BYTES
+#if WHOLE_WORDS
     uint16_t x = (uint16_t)v;
 
     memcpy(p, &x, 2);
@@ -201,7 +202,7 @@ static inline void store_2(uint8_t *p, uint64_t v)
 /* Writes the low 4 bytes of a number, lowest byte first. */
 static inline void store_4(uint8_t *p, uint64_t v)
 {
-#if LITTLE_ENDIAN_BYTES
+#if WHOLE_WORDS
     uint32_t x = (uint32_t)v;
 
     memcpy(p, &x, 4);
@@ -216,7 +217,7 @@ static inline void store_4(uint8_t *p, uint64_t v)
 /* Writes the low 8 bytes of a number, lowest byte first. */
 static inline void store_8(uint8_t *p, uint64_t v)
 {
-#if LITTLE_ENDIAN_BYTES
+#if WHOLE_WORDS
     uint64_t x = (uint64_t)v;
 
     memcpy(p, &x, 8);

@@ -152,7 +152,8 @@ class FunctionText(Values):
         """Turns for ever by itself; a test at its head that leaves the block around it makes it a `while`."""
         mark, where, body = Around(True, self.label('again'), True), len(self.out), statement.body
         first = body[0] if body else None
-        if isinstance(first, If) and not first.then and first.other == (Exit(1),) and around and around[-1].c_loop and not around[-1].is_loop:
+        in_block = around and around[-1].c_loop and not around[-1].is_loop
+        if in_block and isinstance(first, If) and not first.then and first.other == (Exit(1),):
             body = body[1:]
             if is_copying(body):
                 self.helpers.add('UNROLL')

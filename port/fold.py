@@ -176,9 +176,12 @@ def read_locals(function):
 
 def sweep(function):
     """Drops assignments of `()` and to locals that nothing reads, again and again."""
+    def is_idle(s):
+        return isinstance(s, Assign) and isinstance(s.place.base, int) and not s.place.steps and (
+            s.place.base not in read or function.types[s.place.base] == UNIT)
+
     def kept(body):
-        return tuple(with_bodies(s, kept) for s in body if not (isinstance(s, Assign) and isinstance(s.place.base, int) and not s.place.steps and (
-            s.place.base not in read or function.types[s.place.base] == UNIT)))
+        return tuple(with_bodies(s, kept) for s in body if not is_idle(s))
     before = None
     while before != function.body:
         before, read = function.body, read_locals(function)

@@ -7,12 +7,14 @@ QUICK = '''#if defined(__GNUC__) && !defined(KAGUTIN_PLAIN_C)
 #endif
 '''
 
-# memcpy moves the bytes whatever the pointer's alignment, and compilers make one access of it. Where the machine's byte order is not
-# known to be little-endian, the number is put together byte by byte; both read and write the same bytes.
-ORDER = '''#if QUICK_C && defined(__BYTE_ORDER__) && defined(__ORDER_LITTLE_ENDIAN__) && __BYTE_ORDER__ == __ORDER_LITTLE_ENDIAN__
-#define LITTLE_ENDIAN_BYTES 1
+# memcpy moves the bytes whatever the pointer's alignment, and compilers make one access of it where the machine allows one. Elsewhere,
+# and where the byte order is not known to be little-endian, the number is put together byte by byte; both read and write the same
+# bytes.
+ORDER = '''#if QUICK_C && defined(__BYTE_ORDER__) && defined(__ORDER_LITTLE_ENDIAN__) && __BYTE_ORDER__ == __ORDER_LITTLE_ENDIAN__ \\
+    && (defined(__x86_64__) || defined(__i386__) || defined(__ARM_FEATURE_UNALIGNED))
+#define WHOLE_WORDS 1
 #else
-#define LITTLE_ENDIAN_BYTES 0
+#define WHOLE_WORDS 0
 #endif
 '''
 
@@ -27,7 +29,7 @@ UNROLL = '''#if QUICK_C && !defined(__clang__) && !defined(__OPTIMIZE_SIZE__) &&
 LOAD = '''/* The number that {size} bytes make, lowest byte first. */
 static inline uint64_t load_{size}(const uint8_t *p)
 {{
-#if LITTLE_ENDIAN_BYTES
+#if WHOLE_WORDS
     uint{bits}_t x;
 
     memcpy(&x, p, {size});
@@ -41,7 +43,7 @@ static inline uint64_t load_{size}(const uint8_t *p)
 STORE = '''/* Writes the low {size} bytes of a number, lowest byte first. */
 static inline void store_{size}(uint8_t *p, uint64_t v)
 {{
-#if LITTLE_ENDIAN_BYTES
+#if WHOLE_WORDS
     uint{bits}_t x = (uint{bits}_t)v;
 
     memcpy(p, &x, {size});
@@ -93,7 +95,8 @@ COUNTS = {'count_ones': COUNT_ONES, 'trailing_zeros': TRAILING_ZEROS, 'leading_z
 
 
 def load(size):
-    parts = ' | '.join(f'(uint64_t)p[{i}] << {8 * i}' if i else 'p[0]' for i in range(size)).replace(' | (uint64_t)p[4]', '\n        | (uint64_t)p[4]')
+    parts = ' | '.join(f'(uint64_t)p[{i}] << {8 * i}' if i else 'p[0]' for i in range(size))
+    parts = parts.replace(' | (uint64_t)p[4]', '\n        | (uint64_t)p[4]')
     return LOAD.format(size=size, bits=8 * size, parts=parts)
 
 
