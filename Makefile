@@ -65,7 +65,7 @@ test: second
 
 test-library: bench/target/release/bench
 	$(MAKE) --no-print-directory dist-check
-	python3 tests/generator.py
+	$(MAKE) --no-print-directory generator-check
 	$(MAKE) --no-print-directory port-check
 	$(MAKE) --no-print-directory board-check
 	bench/target/release/bench --seed $(SEED) --no-counts --out target/bench-test > /dev/null && echo "bench: the same answers on both sides"

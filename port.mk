@@ -2,6 +2,7 @@
 #
 # dist            makes it again, after proving what has changed
 # dist-check      fails if a byte of it is not what the proved program gives
+# generator-check tests of the generator
 # port-compare    builds of it by gcc and clang, with sanitizers too, against the archive and the second implementation: long
 # port-docs       tables of the C file in docs/PERFORMANCE.md
 # arm             trials and recorded calls with cuts on emulated boards (Cortex-M0+, M4, M33), Arm, RISC-V and a big-endian machine
@@ -13,10 +14,10 @@ DIST_HEADERS = kagutin.h
 DIST_RESULTS = answers::Reply=kagutin_reply
 
 PORT_OUT = target/port
-GENERATE = python3 port/generate.py --rlib target/rlib --source crates $(EXPORTS:%=--export %) $(DIST_HEADERS:%=--header %) \
-	$(DIST_RESULTS:%=--result %)
+GENERATE_WORDS = --rlib target/rlib --source crates $(EXPORTS:%=--export %) $(DIST_HEADERS:%=--header %) $(DIST_RESULTS:%=--result %)
+GENERATE = python3 port/generate.py $(GENERATE_WORDS)
 
-.PHONY: dist dist-check port-builds port-check port-compare
+.PHONY: dist dist-check generator-check port-check port-compare
 
 dist:
 	@mkdir -p $(PORT_OUT)
@@ -28,6 +29,11 @@ dist-check:
 	@$(GENERATE) --out $(PORT_OUT)/again.c
 	@cmp $(PORT_OUT)/again.c $(DIST) || { echo "$(DIST) is not what the proved program gives; make dist makes it again" >&2; exit 1; }
 	@echo "dist: $(DIST) is what the proved program gives"
+
+# Tests of the generator itself.
+generator-check:
+	python3 tests/forms.py
+	python3 tests/generator.py $(GENERATE_WORDS)
 
 # The library of the C programs.
 $(C_OUT)/libkagutin.a: $(DIST) $(C_HEADERS)

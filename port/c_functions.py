@@ -3,10 +3,10 @@ import re
 import textwrap
 
 from c_types import c_name
-from c_values import Values
+from c_values import Values, bare
 from fold import read_locals
 from forms import (BOOL, U64, U8, UNIT, Array, Assign, Binary, Block, Call, Copy, Exit, If, Int, IntType, Loop, Named, Place, Ref,
-                   Repeat, Return, Slice, Stop, Store, Switch, Unary)
+                   Repeat, Return, Slice, Stop, Store, Switch, Unary, derefs)
 
 WIDTH = 130         # columns of a line
 
@@ -89,11 +89,17 @@ class FunctionText(Values):
         if t == UNIT or not self.is_read(f, statement.place):
             return
         if isinstance(value, Repeat):
-            if not isinstance(t, Array) or value.count != t.count or value.item != Int(getattr(t.item, 'width', 0), 0):
-                raise Stop(f'repeat {value} into {t}')
-            self.line(depth, f'memset(&{text}, 0, sizeof {text});')
+            self.line(depth, f'memset(&{text}, {self.repeated(f, value, t)}, sizeof {text});')
         else:
             self.line(depth, f'{text} = {self.as_type(f, value, t)};')
+
+    def repeated(self, f, value, t):
+        """The byte that fills an array: any for bytes, zero for other numbers."""
+        if isinstance(t, Array) and value.count == t.count and t.item == U8:
+            return self.as_type(f, value.item, U8)
+        if isinstance(t, Array) and value.count == t.count and isinstance(t.item, IntType) and value.item == Int(t.item.width, 0):
+            return '0'
+        raise Stop(f'repeat {value} into {t}')
 
     def store(self, f, statement, depth):
         self.helpers.add(f'store_{statement.size}')
@@ -108,6 +114,9 @@ class FunctionText(Values):
         return f'{c_name(call.name)}({", ".join(args)})'
 
     def call(self, f, call, depth):
+        """The place is found after the call; C leaves the order open, so it must not depend on memory."""
+        if not isinstance(call.place.base, int) or derefs(call.place.steps):
+            raise Stop('a call whose result goes behind a pointer')
         text, (to, t) = self.call_text(f, call), self.place(f, call.place)
         if t != UNIT:
             text = f'{to} = {text}' if self.is_read(f, call.place) else f'(void){text}'
@@ -219,7 +228,7 @@ class FunctionText(Values):
         if groups or unused:
             self.out.append('')
 
-    def exported(self, f, export, results):
+    def exported(self, f, export, results, signed_fields):
         """The function that C calls: a slice arrives as a pointer and a size, a declared result is the header's struct."""
         params, args = [], []
         for i in f.parameters():
@@ -228,21 +237,41 @@ class FunctionText(Values):
                 params += [self.types.declare(Ref(t.mutable, t.item), n), f'size_t {n}_size']
                 args.append(f'({self.types.c(t)}){{{n}, {n}_size}}')
             elif isinstance(t, IntType) or t == BOOL:
-                params.append(f'size_t {n}' if export.types[i - 1] == 'usize' else self.types.declare(t, n))
-                args.append(n)
+                c = self.exported_number(t, export.types[i - 1])
+                params.append(f'{c} {n}')
+                args.append(n if c == self.types.c(t) else f'({self.types.c(t)}){n}')
             else:
                 raise Stop(f'exported with a parameter of {t}')
-        call = f'{c_name(f.name)}({", ".join(args)})'
-        if isinstance(f.types[0], Named):
-            if f.types[0].name not in results:
-                raise Stop(f'exported with the result {f.types[0].name}, for which no struct of the header is named')
-            struct = 'struct ' + results[f.types[0].name]
-            parts = ', '.join(f'.{n} = r.{n}' for n, _ in self.types.members(f.types[0]))
-            lines = [f'    {self.types.c(f.types[0])} r = {call};', '', f'    return ({struct}){{{parts}}};']
-        elif isinstance(f.types[0], IntType) or f.types[0] in (BOOL, UNIT):
-            struct = 'size_t' if export.result == 'usize' else self.types.c(f.types[0])
-            lines = [f'    {"" if f.types[0] == UNIT else "return "}{call};']
-        else:
-            raise Stop(f'exported with a result of {f.types[0]}')
-        self.line(0, f'{struct} {export.name}({", ".join(params)})')
+        result, lines = self.exported_result(f, export, f'{c_name(f.name)}({", ".join(args)})', results, signed_fields)
+        self.line(0, f'{result} {export.name}({", ".join(params) or "void"})')
         self.out += ['{'] + lines + ['}', '']
+
+    def exported_number(self, t, source):
+        """The header's type of a number, by the type that the source writes."""
+        if source == 'usize':
+            return 'size_t'
+        return self.types.c(t)[1:] if re.fullmatch(r'i(8|16|32|64)', source) else self.types.c(t)
+
+    def number_out(self, text, t, source):
+        """A number as the header has it: the signed number of its bits, or the same."""
+        if re.fullmatch(r'i(8|16|32|64)', source):
+            self.helpers.add('to_signed')
+            return f'(int{t.width}_t)to_signed({bare(self.extended(text, t))})' if t.width < 64 else f'to_signed({text})'
+        return f'(size_t){text}' if source == 'usize' else text
+
+    def exported_result(self, f, export, call, results, signed_fields):
+        """Type and lines of the exported function."""
+        t = f.types[0]
+        if t == UNIT:
+            return 'void', [f'    {call};']
+        if isinstance(t, IntType) or t == BOOL:
+            return self.exported_number(t, export.result), [f'    return {self.number_out(call, t, export.result)};']
+        if not isinstance(t, Named) or not self.types.is_struct(t) or t.name not in results:
+            raise Stop(f'exported with the result {getattr(t, "name", t)}, for which no struct of the header is named')
+        struct, parts = 'struct ' + results[t.name], []
+        for n, u in self.types.members(t):
+            if not isinstance(u, IntType) and u != BOOL:
+                raise Stop(f'exported with a field of {u}')
+            source = f'i{u.width}' if (t.name, n) in signed_fields else ''
+            parts.append(f'.{n} = {self.number_out(f"r.{n}", u, source)}')
+        return struct, [f'    {self.types.c(t)} r = {call};', '', f'    return ({struct}){{{", ".join(parts)}}};']

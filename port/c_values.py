@@ -8,6 +8,8 @@ from forms import (BOOL, U32, U64, Address, Aggregate, Array, Binary, Bool, Cast
 SIGNS = {'Add': '+', 'Sub': '-', 'Mul': '*', 'Div': '/', 'Rem': '%', 'And': '&', 'Or': '|', 'Xor': '^', 'Shl': '<<', 'Shr': '>>',
          'Eq': '==', 'Ne': '!=', 'Lt': '<', 'Le': '<='}
 COMPARISONS = ('Eq', 'Ne', 'Lt', 'Le')
+SAME_BITS = {'SignedAdd': 'Add', 'SignedSub': 'Sub', 'SignedMul': 'Mul'}     # what leaves the range of naturals wraps round
+SIGNED_HELPERS = {'SignedDiv': 'divide_signed', 'SignedRem': 'remainder_signed', 'SignedShr': 'shift_signed'}
 OF_BOOLS = ('And', 'Or', 'Xor', 'Eq', 'Ne')
 COUNTS = {'CountOnes': 'count_ones', 'TrailingZeros': 'trailing_zeros', 'LeadingZeros': 'leading_zeros'}
 
@@ -106,20 +108,29 @@ class Values:
         return f'{value.value}u' if value.value < 1 << 16 else f'UINT64_C(0x{value.value:x})'
 
     def cast(self, f, value):
-        """Proved: the number fits the new width."""
+        """Proved: the number fits the new width. A signed number that gets wider has its sign bit repeated."""
         text, t = self.value(f, value.operand)
         if t == IntType(value.width):
             return text, t
+        if isinstance(t, IntType) and value.signed and t.width < value.width:
+            return f'(uint{value.width}_t){self.extended(text, t)}', IntType(value.width)
         if isinstance(t, IntType) or t == BOOL:
             return f'(uint{value.width}_t){text}', IntType(value.width)
         raise Stop(f'cast of {t}')
+
+    def extended(self, text, t):
+        """The bits of a signed number in 64 bits: with the sign bit flipped and then taken off again."""
+        if t.width == 64:
+            return text
+        return f'(((uint64_t){text} ^ {1 << t.width - 1}u) - {1 << t.width - 1}u)'
 
     def unary(self, f, value):
         text, t = self.value(f, value.operand)
         if value.op == 'Not' and t == BOOL:
             return f'!{text}', t
         if value.op == 'Not' and isinstance(t, IntType):
-            return f'({self.types.c(t)})~{text}', t
+            wide = f'(uint64_t){text}' if isinstance(value.operand, Int) else text      # of a literal all bits are meant
+            return f'({self.types.c(t)})~{wide}', t
         if value.op in COUNTS and t == U64:
             self.helpers.add(COUNTS[value.op])
             return f'{COUNTS[value.op]}({bare(text)})', U32
@@ -128,8 +139,10 @@ class Values:
     def binary(self, f, value):
         """Both operands have one width. Narrow ones are computed in 32 bits and cast back; of two literals one is widened, so that
         no sum is made in the width of int."""
-        op, (x, t), (y, u) = value.op, self.value(f, value.left), self.value(f, value.right)
-        if t != u or not isinstance(t, IntType) and not (t == BOOL and op in OF_BOOLS):
+        op, (x, t), (y, u) = SAME_BITS.get(value.op, value.op), self.value(f, value.left), self.value(f, value.right)
+        if op.startswith('Signed') and t == u and isinstance(t, IntType):
+            return self.signed(op, x, y, t)
+        if op not in SIGNS or t != u or not isinstance(t, IntType) and not (t == BOOL and op in OF_BOOLS):
             raise Stop(f'{op} of {t} and {u}')
         if op in COMPARISONS or t == BOOL:
             return f'({x} {SIGNS[op]} {y})', BOOL
@@ -140,6 +153,19 @@ class Values:
         if isinstance(value.left, Int) and (isinstance(value.right, Int) or op in ('Shl', 'Shr')):
             x = f'(uint64_t){x}'
         return f'({x} {SIGNS[op]} {y})', t
+
+    def signed(self, op, x, y, t):
+        """On the bits alone, since C leaves open what signed overflow and conversions give. Signed numbers compare as naturals with
+        the sign bit flipped."""
+        x, y = (self.extended(text, t) for text in (x, y))
+        if op in ('SignedLt', 'SignedLe'):
+            flip = 'UINT64_C(0x8000000000000000)'
+            return f'(({x} ^ {flip}) {SIGNS[op[6:]]} ({y} ^ {flip}))', BOOL
+        if op not in SIGNED_HELPERS:
+            raise Stop(f'{op} of {t}')
+        self.helpers.add(SIGNED_HELPERS[op])
+        text = f'{SIGNED_HELPERS[op]}({bare(x)}, {bare(y)})'
+        return (text if t == U64 else f'({self.types.c(t)}){text}'), t
 
     # ---- pointers
 

@@ -129,10 +129,12 @@ class Unary:
 class Cast:
     width: int
     operand: object
+    signed: bool = False        # the bits are read as a signed number, which the new width holds
 
 
 @dataclass(frozen=True)
 class Binary:
+    """`Add` and so on are of natural numbers and proved to stay in range; `SignedAdd` and so on read the bits as signed numbers."""
     op: str
     left: object
     right: object

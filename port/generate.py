@@ -103,9 +103,10 @@ class Generator:
                 raise Stop(f'its C name is also that of {names[c_name(function.name)]}')
             out.function(function)
         self.pass_over(exported, write)
+        signed_fields = {field for crate in self.program.crates for field in sources.signed_fields(self.options.source, crate)}
         for export in exported:
             try:
-                out.exported(self.program.function(export.path), export, self.results)
+                out.exported(self.program.function(export.path), export, self.results, signed_fields)
             except Stop as stop:
                 raise Stop(f'{export.path}: {stop}')
         functions = '\n'.join(out.out).rstrip('\n') + '\n'
@@ -138,10 +139,10 @@ def main():
         sys.exit(f'generate.py: {stop}')
     os.makedirs(os.path.dirname(options.out) or '.', exist_ok=True)
     if os.path.exists(options.out):
-        with open(options.out, encoding='ascii') as handle:
+        with open(options.out, encoding='utf-8') as handle:
             if handle.read() == text:
                 return
-    with open(options.out, 'w', encoding='ascii') as handle:
+    with open(options.out, 'w', encoding='utf-8') as handle:
         handle.write(text)
 
 

@@ -91,6 +91,38 @@ static inline uint32_t leading_zeros(uint64_t x)
 }
 '''
 
+# Signed numbers as their bits: the sign is taken off, and put on again. `0u - x` wraps round, which is the negative.
+SIGNED = {
+    'divide_signed': '''/* The quotient of two signed numbers, towards zero. */
+static inline uint64_t divide_signed(uint64_t a, uint64_t b)
+{
+    uint64_t q = (a >> 63 ? 0u - a : a) / (b >> 63 ? 0u - b : b);
+
+    return (a ^ b) >> 63 ? 0u - q : q;
+}
+''',
+    'remainder_signed': '''/* The remainder of two signed numbers; it has the sign of the first. */
+static inline uint64_t remainder_signed(uint64_t a, uint64_t b)
+{
+    uint64_t r = (a >> 63 ? 0u - a : a) % (b >> 63 ? 0u - b : b);
+
+    return a >> 63 ? 0u - r : r;
+}
+''',
+    'shift_signed': '''/* A signed number shifted right, the sign bit repeated. */
+static inline uint64_t shift_signed(uint64_t a, uint64_t n)
+{
+    return a >> 63 ? ~(~a >> (n & 63u)) : a >> (n & 63u);
+}
+''',
+    'to_signed': '''/* The signed number of these bits. */
+static inline int64_t to_signed(uint64_t x)
+{
+    return x >> 63 ? -(int64_t)~x - 1 : (int64_t)x;
+}
+''',
+}
+
 COUNTS = {'count_ones': COUNT_ONES, 'trailing_zeros': TRAILING_ZEROS, 'leading_zeros': LEADING_ZEROS}
 
 
@@ -114,4 +146,4 @@ def texts(used):
     out += [ORDER] if words else []
     out += [UNROLL] if 'UNROLL' in used else []
     out += [{'load': load, 'store': store}[word](size) for word, size in words]
-    return '\n'.join(out + [text for name, text in COUNTS.items() if name in used])
+    return '\n'.join(out + [text for name, text in {**COUNTS, **SIGNED}.items() if name in used])

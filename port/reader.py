@@ -6,7 +6,7 @@ from forms import (BOOL, UNIT, Address, Aggregate, Array, Assign, Binary, Block,
                    Fields, Function, If, Int, IntType, Loop, Named, Offset, Place, RawPointer, Ref, Repeat, Return, Slice, Stop, Switch,
                    Unary, Unit, Variant, Variants, derefs, statements)
 
-UNSIGNED_ONLY = ('Add', 'Sub', 'Mul', 'Div', 'Rem', 'Shr', 'Lt', 'Le')
+WITH_SIGN = ('Add', 'Sub', 'Mul', 'Div', 'Rem', 'Shr', 'Lt', 'Le')
 SIGNLESS = ('And', 'Or', 'Xor', 'Shl', 'Eq', 'Ne')
 UNARY = ('Not', 'CountOnes', 'TrailingZeros', 'LeadingZeros')
 
@@ -83,12 +83,14 @@ def read_operation(form):
     parts = list(map(read_operand, parts))
     if kind == 'Op1' and name in UNARY and sign is None:
         return Unary(name, *parts)
-    if kind == 'Op1' and name == 'Cast' and sign[:2] == ['Unsigned', 'Unsigned'] and sign[2] in (8, 16, 32, 64):
-        return Cast(sign[2], *parts)
+    if kind == 'Op1' and name == 'Cast' and set(sign[:2]) <= {'Unsigned', 'Signed'} and sign[2] in (8, 16, 32, 64):
+        return Cast(sign[2], *parts, signed=sign[:2] == ['Signed', 'Signed'])
     if kind == 'Op2' and name == 'Offset' and sign is None:
         return Offset(*parts)
-    if kind == 'Op2' and (name in SIGNLESS and sign is None or name in UNSIGNED_ONLY and sign == 'Unsigned'):
+    if kind == 'Op2' and (name in SIGNLESS and sign is None or name in WITH_SIGN and sign == 'Unsigned'):
         return Binary(name, *parts)
+    if kind == 'Op2' and name in WITH_SIGN and sign == 'Signed':
+        return Binary('Signed' + name, *parts)
     raise unknown('operation', form)
 
 

@@ -6,6 +6,8 @@ import os
 import re
 from dataclasses import dataclass
 
+from forms import Stop
+
 KEYWORDS = set('auto break case char const continue default do double else enum extern float for goto if inline int long register '
                'restrict return short signed sizeof static struct switch typedef union unsigned void volatile while bool true '
                'false asm typeof'.split())
@@ -24,6 +26,8 @@ class Export:
 def modules(folder, crate):
     """(path of the module, text) of each source file of a crate."""
     src = os.path.join(folder, crate, 'src')
+    if not os.path.isdir(src):
+        raise Stop(f'crate {crate}: no sources {src}')
     for file in sorted(os.listdir(src)):
         if file.endswith('.rt'):
             with open(os.path.join(src, file), encoding='utf-8') as handle:
@@ -32,6 +36,14 @@ def modules(folder, crate):
 
 def usable(names):
     return not set(names) & KEYWORDS and len(set(names)) == len(names) and not any(re.fullmatch(r't\d+', n) for n in names)
+
+
+def signed_fields(folder, crate):
+    """(path of the struct, name) of each field that is a signed number."""
+    for module, text in modules(folder, crate):
+        for name, fields in STRUCT.findall(text):
+            for field in re.findall(r'^\s*(?:pub )?(\w+)\s*:\s*i(?:8|16|32|64)\b', fields, re.M):
+                yield f'{module}::{name}', field
 
 
 def describe(folder, crate, functions, field_names):

@@ -30,7 +30,7 @@ def follows(first, second, distance):
 
 def byte_at(value):
     """A byte read from memory and widened, as a Load of one byte."""
-    if isinstance(value, Cast) and value.width == 64 and isinstance(value.operand, Copy):
+    if isinstance(value, Cast) and value.width == 64 and not value.signed and isinstance(value.operand, Copy):
         place = value.operand.place
         if place.steps == (Deref(U8),) and isinstance(place.base, Offset):
             return Load(1, place.base)
@@ -53,7 +53,7 @@ def byte_store(statement):
     if not (isinstance(statement, Assign) and statement.place.steps == (Deref(U8),) and isinstance(statement.place.base, Offset)):
         return statement
     value = statement.value
-    if isinstance(value, Cast) and value.width == 8 and isinstance(value.operand, Binary) and value.operand.op == 'Rem' \
+    if isinstance(value, Cast) and value.width == 8 and not value.signed and isinstance(value.operand, Binary) and value.operand.op == 'Rem' \
             and value.operand.right == Int(64, 256):
         return Store(1, statement.place.base, value.operand.left)
     return statement

@@ -1,6 +1,7 @@
 #!/usr/bin/env python3
 """Tests of port/generate.py: what it does not know stops it with the function's name and the form, and writes nothing; its output
-does not depend on the run; the C file defines the header's calls and no other external name. Run from the root, after the proofs.
+does not depend on the run; the C file defines the headers' calls and no other external name. Run from the root, after the proofs, with
+the words that port.mk gives the generator.
 """
 import json
 import os
@@ -10,14 +11,14 @@ import sys
 import tempfile
 
 RLIB = os.path.abspath('target/rlib')
-DIST, HEADER = 'dist/kagutin.c', 'include/kagutin.h'
+DIST = 'dist/kagutin.c'
 ARCHIVE = 'target/staticlib/libkagutin.a'
-WORDS = ['--source', 'crates', '--export', 'kagutin', '--header', 'kagutin.h']
-RESULT = ['--result', 'answers::Reply=kagutin_reply']
+WORDS = sys.argv[1:]        # of the generator, as port.mk has them
 
 
 def generate(rlib, out, words, seed='0'):
-    command = [sys.executable, 'port/generate.py', '--rlib', rlib, '--out', out] + WORDS + words
+    """A later --rlib counts."""
+    command = [sys.executable, 'port/generate.py'] + words + ['--rlib', rlib, '--out', out]
     return subprocess.run(command, capture_output=True, text=True, env=dict(os.environ, PYTHONHASHSEED=seed))
 
 
@@ -47,7 +48,7 @@ def edited(folder, function, old, new):
 
 # what is changed: function, old form, new form, what the generator says of it
 EDITS = [
-    ('areas::lengths::log_right', '{"Mul": "Unsigned"}', '{"Mul": "Signed"}', 'areas::lengths::log_right: operation'),
+    ('areas::lengths::log_right', '{"Mul": "Unsigned"}', '{"Mul": "Other"}', 'areas::lengths::log_right: operation'),
     ('areas::lengths::log_right', '{"Int": 64}', '{"Int": 128}', 'areas::lengths::log_right: type {"Int": 128}'),
     ('areas::lengths::log_right', '{"Int": 64}', '{"Float": 64}', 'areas::lengths::log_right: type {"Float": 64}'),
     ('areas::lengths::log_right', '"Return"', '"Abort"', 'areas::lengths::log_right: statement'),
@@ -82,8 +83,11 @@ def names(command):
 
 
 def external_names():
-    with open(HEADER, encoding='utf-8') as handle:
-        declared = set(re.findall(r'^struct kagutin_reply (kagutin_\w+)\(', handle.read(), re.M))
+    declared = set()
+    for word, header in zip(WORDS, WORDS[1:]):
+        if word == '--header':
+            with open(os.path.join('include', header), encoding='utf-8') as handle:
+                declared |= set(re.findall(r'^(?!static)[\w ]+ \*?(kagutin_\w+)\(', handle.read(), re.M))
     with tempfile.TemporaryDirectory() as folder:
         for level in ('-O0', '-O2'):
             obj = os.path.join(folder, 'kagutin.o')
@@ -91,22 +95,24 @@ def external_names():
             defined, needed = names(['nm', '-g', obj])
             if defined != declared or needed - {'memcpy', 'memset', '_GLOBAL_OFFSET_TABLE_'}:
                 fail(f'external names {sorted(defined ^ declared)}, needed {sorted(needed)}')
-    if os.path.exists(ARCHIVE) and names(['nm', '-g', ARCHIVE])[0] & declared != declared:
-        fail('the archive has other names')
+    calls = {name for name in names(['nm', '-g', ARCHIVE])[0] if name.startswith('kagutin_')} if os.path.exists(ARCHIVE) else set()
+    if calls - declared:
+        fail(f'the archive has other names: {sorted(calls - declared)}')
 
 
 def main():
     for function, old, new, said in EDITS:
         with tempfile.TemporaryDirectory() as folder:
-            stops(edited(folder, function, old, new), RESULT, said)
-    stops(RLIB, [], 'kagutin::kagutin_abort: exported with the result answers::Reply')
-    with open(DIST, encoding='ascii') as handle:
+            stops(edited(folder, function, old, new), WORDS, said)
+    no_result = [word for word in WORDS if word != '--result' and '=' not in word]
+    stops(RLIB, no_result, 'exported with the result')
+    with open(DIST, encoding='utf-8') as handle:
         text = handle.read()
     for seed in ('1', '2'):
         with tempfile.TemporaryDirectory() as folder:
             out = os.path.join(folder, 'out.c')
-            generate(RLIB, out, RESULT, seed)
-            with open(out, encoding='ascii') as handle:
+            generate(RLIB, out, WORDS, seed)
+            with open(out, encoding='utf-8') as handle:
                 if handle.read() != text:
                     fail('two runs write different text')
     external_names()
