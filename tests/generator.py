@@ -87,7 +87,7 @@ def external_names():
     for word, header in zip(WORDS, WORDS[1:]):
         if word == '--header':
             with open(os.path.join('include', header), encoding='utf-8') as handle:
-                declared |= set(re.findall(r'^(?!static)[\w ]+ \*?(kagutin_\w+)\(', handle.read(), re.M))
+                declared |= set(re.findall(r'^(?!static)\w[\w ]* \*?(kagutin_\w+)\(', handle.read(), re.M))
     with tempfile.TemporaryDirectory() as folder:
         for level in ('-O0', '-O2'):
             obj = os.path.join(folder, 'kagutin.o')
