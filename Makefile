@@ -7,7 +7,11 @@
 # make play       random histories on the second implementation alone
 # make bench      instructions and times of each call against the second implementation; other stores, if installed
 # make bench-docs tables of docs/PERFORMANCE.md and docs/ring-cost.svg from the last bench
-# make install    header, library and pkg-config file, under DESTDIR and PREFIX
+# make install    headers, libraries and pkg-config file, under DESTDIR and PREFIX; make uninstall takes them away
+# make inspect    the inspector, target/c/inspect; make station and make quickstart the other programs
+# make c-check    tests of the C side alone; make c-kills KILLS=N kills a process at work N times
+# make clean      removes all that was built and proved
+# make help       this list
 
 SHELL = /bin/bash
 .SHELLFLAGS = -o pipefail -c
@@ -18,15 +22,21 @@ HISTORIES ?= 400
 
 ARCHIVE = target/staticlib/libkagutin.a
 
-.PHONY: all run test test-library compare play bench bench-docs second library clean
+.PHONY: all help run test test-library compare play bench bench-docs second library clean
+
+# The toolchain that this repository was checked with, as 'rt version' prints it.
+RATTLE = rattle-kit-5b-plain logic 097e4c862dff5811
 
 all: station inspect quickstart
 
+help:
+	@sed -n '/^#/!q; s/^# //p' Makefile
+
 include c.mk
 
-# The archive is made from proved crates only; rt proves what has changed.
-library $(ARCHIVE): $(wildcard crates/*/src/*.rt)
-	rt staticlib kagutin
+# The archive is made from proved crates only; rt proves what has changed, and a changed definition or proof counts as well.
+library $(ARCHIVE): crates.txt $(shell find crates -name '*.rt' -o -name '*.antt')
+	@scripts/library.sh
 
 run: station
 	target/c/station --seed $(SEED) --cuts $(CUTS)
@@ -67,7 +77,7 @@ test-library: bench/target/release/bench
 	$(MAKE) --no-print-directory dist-check
 	$(MAKE) --no-print-directory generator-check
 	$(MAKE) --no-print-directory port-check
-	$(MAKE) --no-print-directory board-check
+	$(MAKE) --no-print-directory board-check RECORD_LIB=$(ARCHIVE)
 	bench/target/release/bench --seed $(SEED) --no-counts --out target/bench-test > /dev/null && echo "bench: the same answers on both sides"
 	$(MAKE) --no-print-directory c-check
 	$(MAKE) --no-print-directory c-check LIB=$(ARCHIVE) C_OUT=target/c-archive

@@ -4,27 +4,35 @@
 # station, inspect, quickstart   programs in target/c
 # c-sanitize                     the same with address and undefined-behaviour sanitizers, in target/c/sanitize
 # c-check                        tests of all of these
-# install                        header, library and kagutin.pc, under DESTDIR and PREFIX
+# c-kills                        longer: KILLS kills of a process at work, on this disk
+# c-dist                         headers and sources of the store object and its drivers into DIST
+# install, uninstall             headers, libraries and kagutin.pc, under DESTDIR and PREFIX
 
 LIB ?= $(C_OUT)/libkagutin.a
 C_LIBS ?=
 PREFIX ?= /usr/local
 DESTDIR ?=
-VERSION ?= 1.0.0
+VERSION := $(shell sed -n 's/.define KAGUTIN_VERSION "\(.*\)"/\1/p' include/kagutin.h)
 CFLAGS ?= -O2 -g
+SEED ?= 1
 
 C_FLAGS = -std=c99 -D_POSIX_C_SOURCE=200809L -Wall -Wextra -pedantic -Wshadow -Wconversion -Iinclude -Ic
 C_SANITIZE = -O1 -g -fno-omit-frame-pointer -fsanitize=address,undefined -fno-sanitize-recover=all
 C_OUT = target/c
-C_HEADERS = include/kagutin.h $(wildcard c/*.h)
+C_HEADERS = $(wildcard include/*.h c/*.h c/store/*.h)
 
-C_STATION = station calls refusals tasks wear book rule driver driver_file
-C_INSPECT = inspect inspect_print rule
-C_DRIVER_CHECK = driver_check driver driver_file
-C_QUICKSTART = quickstart
-C_PROGRAMS = station inspect quickstart driver_check
+C_STORE = store/store store/batch store/memory store/file store/file_io store/fram
+C_STATION = station_main options power tasks wear calls refusals report station book rule driver driver_file $(C_STORE)
+C_INSPECT = inspect inspect_image inspect_fate inspect_text inspect_json rule
+C_DRIVER_CHECK = driver_check driver driver_file $(C_STORE)
+C_QUICKSTART = quickstart $(C_STORE)
+C_STORE_CHECK = store_check play $(C_STORE)
+C_FILE_CHECK = file_check play $(C_STORE)
+C_KILL_CHECK = kill_check play $(C_STORE)
+C_FRAM_CHECK = fram_check play $(C_STORE)
+C_PROGRAMS = station inspect quickstart driver_check store_check file_check kill_check fram_check
 
-.PHONY: station inspect quickstart c-sanitize c-check install c-clean
+.PHONY: station inspect quickstart c-sanitize c-check c-kills c-dist install uninstall c-clean
 
 station: $(C_OUT)/station
 inspect: $(C_OUT)/inspect
@@ -60,17 +68,49 @@ $(eval $(call C_PROGRAM,station,$(C_STATION),$(LIB)))
 $(eval $(call C_PROGRAM,inspect,$(C_INSPECT),))
 $(eval $(call C_PROGRAM,quickstart,$(C_QUICKSTART),$(LIB)))
 $(eval $(call C_PROGRAM,driver_check,$(C_DRIVER_CHECK),$(LIB)))
+$(eval $(call C_PROGRAM,store_check,$(C_STORE_CHECK),$(LIB)))
+$(eval $(call C_PROGRAM,file_check,$(C_FILE_CHECK),$(LIB)))
+$(eval $(call C_PROGRAM,kill_check,$(C_KILL_CHECK),$(LIB)))
+$(eval $(call C_PROGRAM,fram_check,$(C_FRAM_CHECK),$(LIB)))
 
 c-check: $(C_PROGRAMS:%=$(C_OUT)/%) c-sanitize
 	CC="$(CC)" LIB="$(LIB)" C_LIBS="$(C_LIBS)" sh tests/c-check.sh $(C_OUT)
 
-install: $(LIB) include/kagutin.h kagutin.pc.in
+# A process killed at random instants, long.
+KILLS ?= 1000
+c-kills: $(C_OUT)/kill_check
+	rm -f $(C_OUT)/kills.img
+	$(C_OUT)/kill_check $(C_OUT)/kills.img $(KILLS) $(SEED)
+	rm -f $(C_OUT)/kills.img
+
+# The store object as an archive of its own; it calls the library.
+STORE_LIB = $(C_OUT)/libkagutin_store.a
+
+$(STORE_LIB): $(C_STORE:%=$(C_OUT)/%.o)
+	rm -f $@
+	$(AR) rcs $@ $^
+
+C_PUBLIC = kagutin kagutin_store kagutin_file kagutin_memory kagutin_fram
+
+# c/store/NAME.c becomes kagutin_NAME.c there; all headers and sources of dist/ stand in one folder.
+DIST ?= dist
+c-dist: $(C_PUBLIC:%=include/%.h) $(C_STORE:%=c/%.c)
+	install -d $(DIST)
+	install -m 644 $(C_PUBLIC:%=include/%.h) c/store/kagutin_file_inner.h $(DIST)
+	for name in $(C_STORE:store/%=%); do install -m 644 c/store/$$name.c $(DIST)/kagutin_$$name.c; done
+
+install: $(LIB) $(STORE_LIB) $(C_PUBLIC:%=include/%.h) kagutin.pc.in
 	install -d $(DESTDIR)$(PREFIX)/include $(DESTDIR)$(PREFIX)/lib/pkgconfig
-	install -m 644 include/kagutin.h $(DESTDIR)$(PREFIX)/include/kagutin.h
+	install -m 644 $(C_PUBLIC:%=include/%.h) $(DESTDIR)$(PREFIX)/include
 	install -m 644 $(LIB) $(DESTDIR)$(PREFIX)/lib/libkagutin.a
+	install -m 644 $(STORE_LIB) $(DESTDIR)$(PREFIX)/lib/libkagutin_store.a
 	sed -e 's|@PREFIX@|$(PREFIX)|' -e 's|@VERSION@|$(VERSION)|' -e 's|@LIBS@|$(C_LIBS)|' -e 's/ *$$//' kagutin.pc.in \
 	    > $(DESTDIR)$(PREFIX)/lib/pkgconfig/kagutin.pc
 	chmod 644 $(DESTDIR)$(PREFIX)/lib/pkgconfig/kagutin.pc
+
+uninstall:
+	rm -f $(C_PUBLIC:%=$(DESTDIR)$(PREFIX)/include/%.h) $(DESTDIR)$(PREFIX)/lib/libkagutin.a
+	rm -f $(DESTDIR)$(PREFIX)/lib/libkagutin_store.a $(DESTDIR)$(PREFIX)/lib/pkgconfig/kagutin.pc
 
 include port.mk
 

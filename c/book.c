@@ -271,7 +271,13 @@ static bool entries_persisted(const struct book *book, const struct book_commit 
     return true;
 }
 
-void book_power_cut(struct book *book, struct book_cut *cut)
+/* Entries are in rising rows, so the last one decides. */
+static bool all_issued(const struct book_commit *commit, uint64_t rows_issued)
+{
+    return commit->entries[commit->count - 1].row < rows_issued;
+}
+
+void book_power_cut(struct book *book, uint64_t rows_issued, struct book_cut *cut)
 {
     size_t i, size = kagutin_area_size(book->homes);
 
@@ -284,7 +290,7 @@ void book_power_cut(struct book *book, struct book_cut *cut)
 
         cut->confirmed += commit->owed;
         cut->owed_lost |= commit->owed && i >= cut->run;
-        (i < cut->run ? cut->kept_of : cut->lost_of)[commit->writer]++;
+        (i < cut->run ? cut->kept : all_issued(commit, rows_issued) ? cut->lost : cut->unissued)[commit->writer]++;
     }
     clear_list(book);
     book->filled = 0;

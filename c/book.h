@@ -63,7 +63,9 @@ struct book {
 struct book_cut {
     size_t commits, run, confirmed;
     bool owed_lost; /* a confirmed commit is outside the run: the store is wrong */
-    size_t kept_of[KAGUTIN_WRITERS], lost_of[KAGUTIN_WRITERS];
+    size_t kept[KAGUTIN_WRITERS];     /* by writer: in the run */
+    size_t lost[KAGUTIN_WRITERS];     /* outside it, though every entry was on its way to lasting memory */
+    size_t unissued[KAGUTIN_WRITERS]; /* outside it, with an entry that never was */
 };
 
 /* Starts a book over homes with these contents; null: zeros. */
@@ -97,6 +99,8 @@ const uint8_t *book_read(const struct book *book, unsigned writer, size_t home);
 
 /* The row written as the number-th group has persisted. */
 void book_persisted(struct book *book, uint64_t number);
-void book_power_cut(struct book *book, struct book_cut *cut);
+
+/* Power is cut; so many rows had been issued ever. */
+void book_power_cut(struct book *book, uint64_t rows_issued, struct book_cut *cut);
 
 #endif

@@ -1,9 +1,11 @@
 /* The library's calls, each held against the book. */
+#include "calls.h"
+
 #include <stdlib.h>
 #include <string.h>
 
+#include "refusals.h"
 #include "rule.h"
-#include "station.h"
 
 #define AREAS(s) (s)->driver.log, (s)->driver.log_size, (s)->driver.area, (s)->driver.area_size
 #define STATE(s) (s)->driver.state, sizeof (s)->driver.state
@@ -34,10 +36,10 @@ static void submit(struct station *station, uint64_t size)
 static void expect_group(struct station *station, const char *call, uint64_t group)
 {
     const struct driver *driver = &station->driver;
-    struct record record;
+    struct kgt_record record;
 
-    if (!driver_read_record(driver->batch, KAGUTIN_GW_SIZE, driver->groups, driver->homes, &record)
-        || record.kind != RECORD_GW || record.place != group % driver->groups
+    if (!kgt_read_record(driver->batch, KAGUTIN_GW_SIZE, driver->groups, driver->homes, &record)
+        || record.kind != KGT_GW || record.place != group % driver->groups
         || rule_number(record.bytes + 2, 6) != group)
         station_mismatch(station, "%s did not submit group %llu", call, (unsigned long long)group);
 }
@@ -47,10 +49,10 @@ static size_t expect_homes(struct station *station, const char *call, size_t siz
 {
     const struct driver *driver = &station->driver;
     size_t at = 0, least = 0;
-    struct record record;
+    struct kgt_record record;
 
-    while (driver_read_record(driver->batch + at, size - at, driver->groups, driver->homes, &record)
-           && record.kind == RECORD_HW) {
+    while (kgt_read_record(driver->batch + at, size - at, driver->groups, driver->homes, &record)
+           && record.kind == KGT_HW) {
         if (record.place < least)
             station_mismatch(station, "%s writes home %lu after a higher one", call, (unsigned long)record.place);
         if (memcmp(record.bytes, driver->area + kagutin_area_size(record.place), KAGUTIN_BLOCK_SIZE) != 0)
@@ -254,8 +256,16 @@ void call_trim(struct station *station)
 {
     uint64_t start = book_trim_start(&station->book);
     bool moves = start != station->book.start;
-    struct kagutin_reply reply = kagutin_trim(AREAS(station), STATE(station), BATCH(station));
+    struct kagutin_reply reply;
 
+    if (start > KAGUTIN_MAX_START)
+        refusal_prepare(station);
+    reply = kagutin_trim(AREAS(station), STATE(station), BATCH(station));
+    if (start > KAGUTIN_MAX_START) {
+        refusal_check(station, "trim", reply, KAGUTIN_WORN_OUT);
+        station->worn_out = true;
+        return;
+    }
     expect(station, "trim", reply, 0, moves ? KAGUTIN_TRIM_BATCH : 0);
     if (moves && expect_header(station, "trim", 0, (size_t)reply.size) != start)
         station_mismatch(station, "trim did not move the start to %llu", (unsigned long long)start);

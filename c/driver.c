@@ -1,13 +1,10 @@
 /* Records on their way to lasting memory: queue, fences, power cuts. */
 #include "driver_inner.h"
 
-#include <errno.h>
 #include <stdarg.h>
 #include <stdio.h>
 #include <stdlib.h>
 #include <string.h>
-#include <sys/mman.h>
-#include <sys/stat.h>
 
 bool driver_fail(struct driver *driver, const char *format, ...)
 {
@@ -26,51 +23,25 @@ const char *driver_message(const struct driver *driver)
 
 /* ---- batches ---- */
 
-bool driver_read_record(const uint8_t *batch, size_t size, size_t groups, size_t homes,
-                        struct record *record)
-{
-    static const struct { char mark[3]; size_t size, head; } kinds[] = {
-        {"GW", KAGUTIN_GW_SIZE, 4}, {"HW", KAGUTIN_HW_SIZE, 4},
-        {"KW", KAGUTIN_KW_SIZE, 2}, {"FN", KAGUTIN_FN_SIZE, 2},
-    };
-    size_t i;
-
-    if (size < 2)
-        return false;
-    for (i = 0; i < 4; i++) {
-        if (memcmp(batch, kinds[i].mark, 2) != 0)
-            continue;
-        if (size < kinds[i].size)
-            return false;
-        record->kind = (enum record_kind)i;
-        record->size = kinds[i].size;
-        record->bytes = batch + kinds[i].head;
-        record->place = kinds[i].head == 4 ? driver_number16(batch + 2) : 0;
-        record->number = 0;
-        return record->place < (i == RECORD_GW ? groups : i == RECORD_HW ? homes : 1);
-    }
-    return false;
-}
-
 /* Which block a write goes to: 0 the header, then the groups, then the homes. */
-static size_t block_of(const struct driver *driver, const struct record *record)
+static size_t block_of(const struct driver *driver, const struct kgt_record *record)
 {
-    if (record->kind == RECORD_KW)
+    if (record->kind == KGT_KW)
         return 0;
-    return record->kind == RECORD_GW ? 1 + record->place : 1 + driver->groups + record->place;
+    return record->kind == KGT_GW ? 1 + record->place : 1 + driver->groups + record->place;
 }
 
 static bool check_batch(struct driver *driver, size_t size)
 {
     size_t blocks = 1 + driver->groups + driver->homes;
     size_t at = 0;
-    struct record record;
+    struct kgt_record record;
 
     while (at < size) {
-        if (!driver_read_record(driver->batch + at, size - at, driver->groups, driver->homes, &record))
+        if (!kgt_read_record(driver->batch + at, size - at, driver->groups, driver->homes, &record))
             return driver_fail(driver, "damaged batch: no record at byte %lu of %lu",
                                (unsigned long)at, (unsigned long)size);
-        if (record.kind == RECORD_FN) {
+        if (record.kind == KGT_FN) {
             memset(driver->written, 0, blocks);
         } else {
             uint8_t *mark = &driver->written[block_of(driver, &record)];
@@ -88,7 +59,7 @@ static bool check_batch(struct driver *driver, size_t size)
 bool driver_submit(struct driver *driver, uint64_t size)
 {
     size_t at = 0;
-    struct record record;
+    struct kgt_record record;
 
     if (size > driver->batch_size)
         return driver_fail(driver, "damaged batch: %llu bytes in a buffer of %lu", (unsigned long long)size,
@@ -108,23 +79,23 @@ bool driver_submit(struct driver *driver, uint64_t size)
         memcpy(driver->queue + driver->queue_size, driver->batch, (size_t)size);
     driver->queue_size += (size_t)size;
     while (at < size
-           && driver_read_record(driver->batch + at, (size_t)size - at, driver->groups, driver->homes, &record)) {
-        driver->fences += record.kind == RECORD_FN;
+           && kgt_read_record(driver->batch + at, (size_t)size - at, driver->groups, driver->homes, &record)) {
+        driver->fences += record.kind == KGT_FN;
         at += record.size;
     }
     return true;
 }
 
-static bool queued(const struct driver *driver, size_t at, size_t end, struct record *record)
+static bool queued(const struct driver *driver, size_t at, size_t end, struct kgt_record *record)
 {
     return at < end
-        && driver_read_record(driver->queue + at, end - at, driver->groups, driver->homes, record);
+        && kgt_read_record(driver->queue + at, end - at, driver->groups, driver->homes, record);
 }
 
 static size_t count_records(const struct driver *driver, size_t at, size_t end)
 {
     size_t count = 0;
-    struct record record;
+    struct kgt_record record;
 
     for (; queued(driver, at, end, &record); at += record.size)
         count++;
@@ -141,75 +112,93 @@ size_t driver_issued(const struct driver *driver)
     return count_records(driver, 0, driver->issued);
 }
 
+uint64_t driver_groups_issued(const struct driver *driver)
+{
+    uint64_t count = driver->first_group;
+    struct kgt_record record;
+    size_t at;
+
+    for (at = 0; queued(driver, at, driver->issued, &record); at += record.size)
+        count += record.kind == KGT_GW;
+    return count;
+}
+
 bool driver_write_waits(const struct driver *driver)
 {
-    struct record record;
+    struct kgt_record record;
 
-    return queued(driver, driver->issued, driver->queue_size, &record) && record.kind != RECORD_FN;
+    return queued(driver, driver->issued, driver->queue_size, &record) && record.kind != KGT_FN;
 }
 
 /* ---- lasting memory ---- */
 
-static bool check_file_size(struct driver *driver)
+/* Lasting memory has failed: from now on every function that needs it does. */
+static bool fail_for_good(struct driver *driver, int error)
 {
-    struct stat status;
-
-    if (fstat(driver->file, &status) != 0)
-        return driver_fail(driver, "cannot look at the image: %s", strerror(errno));
-    if (status.st_size != (off_t)driver->image_size)
-        return driver_fail(driver, "the image has become %lld bytes, it was %lu", (long long)status.st_size,
-                           (unsigned long)driver->image_size);
-    return true;
+    driver->failed = true;
+    if (driver->file.message[0])
+        return driver_fail(driver, "%s", driver->file.message);
+    return driver_fail(driver, "lasting memory failed with error %d", error);
 }
 
-static void persist(struct driver *driver, const struct record *record)
-{
-    uint8_t *to = driver->image;
-    size_t size = KAGUTIN_HEADER_SIZE;
+/* Whom a power cut asks what persists; null: everything does. */
+struct choices {
+    bool (*lands)(void *context, size_t index);
+    size_t (*tears)(void *context, size_t most);
+    void *context;
+};
 
-    if (record->kind == RECORD_GW) {
-        to += kagutin_log_size(record->place);
-        size = KAGUTIN_GROUP_SIZE;
-    } else if (record->kind == RECORD_HW) {
-        to += driver->log_size + kagutin_area_size(record->place);
-        size = KAGUTIN_BLOCK_SIZE;
-    }
-    memcpy(to, record->bytes, size);
-    if (driver->persisted)
-        driver->persisted(driver->context, record);
+/* Writes the part of a group or home that arrives though the write as a whole does not. */
+static int tear(struct driver *driver, const struct choices *choices, const struct kgt_record *record)
+{
+    const struct kgt_driver *lasting = &driver->runner.driver;
+    bool group = record->kind == KGT_GW;
+    size_t skip = group ? 8 : 0, most = (group ? KAGUTIN_GROUP_SIZE : KAGUTIN_BLOCK_SIZE) - skip, size;
+
+    if (record->kind == KGT_KW || !choices->tears)
+        return 0;
+    size = choices->tears(choices->context, most) / 8 * 8;
+    if (group)
+        return lasting->write(lasting->context, KGT_LOG, KGT_LOG_SIZE(record->place) + skip, record->bytes + skip, size);
+    return lasting->write(lasting->context, KGT_HOMES, KGT_HOMES_SIZE(record->place), record->bytes, size);
 }
 
-/* Persists the issued writes that lands() picks, all if it is null. */
-static bool persist_issued(struct driver *driver, bool (*lands)(void *, size_t), void *context)
+static bool persist_issued(struct driver *driver, const struct choices *choices)
 {
     size_t at, index = 0;
-    struct record record;
+    struct kgt_record record;
+    int error = 0;
 
-    if (!check_file_size(driver))
+    if (driver->failed)
         return false;
-    for (at = 0; queued(driver, at, driver->issued, &record); at += record.size, index++) {
-        if (record.kind == RECORD_GW)
-            record.number = driver->first_group++;
-        if (!lands || lands(context, index))
-            persist(driver, &record);
+    for (at = 0; !error && queued(driver, at, driver->issued, &record); at += record.size, index++) {
+        uint64_t number = record.kind == KGT_GW ? driver->first_group++ : 0;
+
+        if (choices && !choices->lands(choices->context, index)) {
+            error = tear(driver, choices, &record);
+            continue;
+        }
+        error = kgt_run_record(&driver->runner, &record);
+        if (!error && driver->persisted)
+            driver->persisted(driver->context, &record, number);
     }
-    if (driver->durable && msync(driver->image, driver->image_size, MS_SYNC) != 0)
-        return driver_fail(driver, "cannot make the image durable: %s", strerror(errno));
-    return true;
+    if (!error)
+        error = kgt_run_fence(&driver->runner);
+    return error ? fail_for_good(driver, error) : true;
 }
 
 bool driver_step(struct driver *driver)
 {
-    struct record record;
+    struct kgt_record record;
     size_t passed;
 
     if (!queued(driver, driver->issued, driver->queue_size, &record))
         return true;
-    if (record.kind != RECORD_FN) {
+    if (record.kind != KGT_FN) {
         driver->issued += record.size;
         return true;
     }
-    if (!persist_issued(driver, NULL, NULL))
+    if (!persist_issued(driver, NULL))
         return false;
     passed = driver->issued + record.size;
     memmove(driver->queue, driver->queue + passed, driver->queue_size - passed);
@@ -229,6 +218,8 @@ bool driver_run(struct driver *driver)
 
 bool driver_confirm(struct driver *driver, struct kagutin_reply *reply)
 {
+    if (driver->failed)
+        return false;
     if (driver->fences)
         return driver_fail(driver, "not confirmed: %lu fences have not passed", (unsigned long)driver->fences);
     *reply = kagutin_confirm(driver->log, driver->log_size, driver->area, driver->area_size,
@@ -236,15 +227,17 @@ bool driver_confirm(struct driver *driver, struct kagutin_reply *reply)
     return true;
 }
 
-bool driver_cut(struct driver *driver, bool (*lands)(void *context, size_t index), void *context)
+bool driver_cut(struct driver *driver, bool (*lands)(void *context, size_t index),
+                size_t (*tears)(void *context, size_t most), void *context)
 {
-    struct record record;
+    struct choices choices = {lands, tears, context};
+    struct kgt_record record;
     size_t at;
 
-    if (!persist_issued(driver, lands, context))
+    if (!persist_issued(driver, &choices))
         return false;
     for (at = driver->issued; queued(driver, at, driver->queue_size, &record); at += record.size)
-        driver->first_group += record.kind == RECORD_GW;
+        driver->first_group += record.kind == KGT_GW;
     driver->queue_size = 0;
     driver->issued = 0;
     driver->fences = 0;
@@ -257,10 +250,13 @@ bool driver_cut(struct driver *driver, bool (*lands)(void *context, size_t index
 
 bool driver_load(struct driver *driver)
 {
-    if (!check_file_size(driver))
-        return false;
-    memcpy(driver->log, driver->image, driver->log_size);
-    memcpy(driver->area, driver->image + driver->log_size, driver->area_size);
-    return true;
-}
+    const struct kgt_driver *lasting = &driver->runner.driver;
+    int error;
 
+    if (driver->failed)
+        return false;
+    error = lasting->load(lasting->context, KGT_LOG, 0, driver->log, driver->log_size);
+    if (!error)
+        error = lasting->load(lasting->context, KGT_HOMES, 0, driver->area, driver->area_size);
+    return error ? fail_for_good(driver, error) : true;
+}

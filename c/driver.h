@@ -1,17 +1,16 @@
 /*
- * A driver for Kagutin whose lasting memory is a mapped file.
- *
- * The image file holds the log area (64 + 512 x G bytes), then the data area
- * (64 x D bytes), and nothing else. G and D stand in the header.
+ * The station's driver: it holds writes back, so that a power cut can choose
+ * which of them persist. Its lasting memory is an image file or ordinary
+ * memory.
  *
  * Records of a batch wait in the driver. driver_step issues them one by one:
  * a write is held back until its fence passes, so that a power cut can choose
- * any subset of the writes since the last fence; a fence puts what was issued
- * into the file and, for a durable image, waits for msync.
+ * any subset of the writes since the last fence; a fence writes what was
+ * issued and waits until it is in lasting memory.
  *
  * A function that fails returns false and leaves a message for driver_message.
- * After a failure the file holds what had persisted; no fence passes, so
- * nothing more is confirmed.
+ * After lasting memory has failed once no fence passes any more and nothing is
+ * confirmed, until the image is opened anew.
  */
 #ifndef DRIVER_H
 #define DRIVER_H
@@ -20,17 +19,8 @@
 #include <stddef.h>
 #include <stdint.h>
 
-#include "kagutin.h"
-
-enum record_kind { RECORD_GW, RECORD_HW, RECORD_KW, RECORD_FN };
-
-struct record {
-    enum record_kind kind;
-    size_t place;         /* GW: ring slot; HW: home; KW, FN: 0 */
-    const uint8_t *bytes; /* what is written; none for FN */
-    size_t size;          /* of the whole record in the batch */
-    uint64_t number;      /* GW: how many came before it since the image was opened */
-};
+#include "kagutin_file.h"
+#include "kagutin_memory.h"
 
 struct driver {
     size_t groups, homes;
@@ -40,15 +30,16 @@ struct driver {
     uint8_t *batch;
     size_t batch_size;
 
-    /* Called for each write that persists; may be null. */
-    void (*persisted)(void *context, const struct record *record);
+    /* Called for each write that persists; may be null. number, for GW: how many came before it. */
+    void (*persisted)(void *context, const struct kgt_record *record, uint64_t number);
     void *context;
 
     /* The rest is the driver's own. */
-    int file;
-    bool durable;
-    uint8_t *image;
-    size_t image_size;
+    struct kgt_file file;
+    struct kgt_memory memory;
+    uint8_t *image; /* of an unnamed one: what lasts, then what is written */
+    struct kgt_runner runner;
+    bool failed;
     uint8_t *queue; /* records not yet persisted, as in a batch */
     size_t queue_size, queue_room;
     size_t issued;        /* bytes at the front of the queue issued so far */
@@ -58,27 +49,20 @@ struct driver {
     char message[320];
 };
 
-/*
- * Makes an image of an empty store: formats it under a temporary name in the
- * same folder, makes it durable and renames it to path, which must not exist.
- */
+/* Makes a driver of which nothing is held; driver_close is then safe. */
+void driver_clear(struct driver *driver);
+
+/* Makes an image file of an empty store; path must not exist. */
 bool driver_create(struct driver *driver, const char *path, size_t groups, size_t homes);
 
-/* Makes an image without a name, gone with the process, never synced. */
+/* Makes an image in ordinary memory. */
 bool driver_create_unnamed(struct driver *driver, size_t groups, size_t homes);
 
-/*
- * Maps an image and loads its areas. Refuses a file that is read-only, in use,
- * no image, or of another size than its header says.
- */
+/* Opens an image file and loads its areas. */
 bool driver_open(struct driver *driver, const char *path);
 
 /* Loads both whole areas afresh into the copies. */
 bool driver_load(struct driver *driver);
-
-/* Reads the record at the front of a batch; false if there is none whole. */
-bool driver_read_record(const uint8_t *batch, size_t size, size_t groups, size_t homes,
-                        struct record *record);
 
 /*
  * Queues the first size bytes of the driver's batch. A damaged batch, or one
@@ -99,14 +83,22 @@ bool driver_run(struct driver *driver);
 size_t driver_waiting(const struct driver *driver);
 size_t driver_issued(const struct driver *driver);
 
+/* Groups issued since the image was opened. */
+uint64_t driver_groups_issued(const struct driver *driver);
+
 /* Confirms if every fence has passed; otherwise fails without the call. */
 bool driver_confirm(struct driver *driver, struct kagutin_reply *reply);
 
 /*
  * Power cut: of the issued writes those that lands() picks persist, the other
  * records are gone. The copies and the state are filled with noise.
+ *
+ * Of a group or home that is gone the first bytes that tears() allows arrive
+ * all the same, but for the group's first word: words land whole, and that one
+ * is written last. Null: none.
  */
-bool driver_cut(struct driver *driver, bool (*lands)(void *context, size_t index), void *context);
+bool driver_cut(struct driver *driver, bool (*lands)(void *context, size_t index),
+                size_t (*tears)(void *context, size_t most), void *context);
 
 /* Releases everything. Records not yet persisted are gone, as in a cut. */
 void driver_close(struct driver *driver);

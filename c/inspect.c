@@ -1,7 +1,7 @@
 /*
  * Prints an image: its header, each group with its entries, the transactions
- * that the commit rule finds and why its walk stopped. Written from the format
- * alone; it does not use the library and changes nothing.
+ * that the commit rule finds and why its walk stopped, and the homes. Written
+ * from the format alone; it does not use the library and changes nothing.
  */
 #include "inspect.h"
 
@@ -11,46 +11,19 @@
 #include <stdlib.h>
 #include <string.h>
 
-#define HEADER 64u
-#define GROUP 512u
-#define BLOCK 64u
-#define MAX_GROUPS 1024u
-#define MAX_HOMES 4096u
-#define MAX_IMAGE (HEADER + GROUP * MAX_GROUPS + BLOCK * MAX_HOMES)
-#define MAX_START ((uint64_t)1 << 47)
-#define NOT_GIVEN UINT64_MAX
-
-enum { STATUS_SOUND = 0, STATUS_DAMAGED = 1, STATUS_USAGE = 2, STATUS_TROUBLE = 3 };
-
-struct options {
-    const char *path;
-    bool json;
-    uint64_t groups, homes, start;
-};
+#include "kagutin.h"
 
 static const char usage[] =
-    "usage: inspect [--json] [--groups N] [--homes N] [--start N] IMAGE\n"
-    "Prints the header of an image, its groups and entries, and which transactions the commit rule finds.\n"
+    "usage: inspect [--json] [--groups N] [--homes N] [--start N] [-h, --help] [--version] IMAGE\n"
+    "Prints the header of an image, its groups and entries, which transactions the commit rule finds, and\n"
+    "each home's value as an opening would give it. Changes nothing.\n"
     "  --json      the same as JSON\n"
     "  --groups N  groups of the log, 4 to 1024, if the header is damaged\n"
     "  --homes N   home blocks, 1 to 4096 (default: as the header or the file's size says)\n"
     "  --start N   lowest live group number (default: the header's, or a guess from the groups)\n"
     "Status: 0 the image is sound, 1 it is damaged, 2 wrong options, 3 the file cannot be read.\n";
 
-void image_note(struct image *image, const char *format, ...)
-{
-    va_list arguments;
-
-    if (image->note_count == MAX_NOTES)
-        return;
-    if (image->note_count == MAX_NOTES - 1)
-        format = "and more";
-    va_start(arguments, format);
-    vsnprintf(image->notes[image->note_count++], sizeof image->notes[0], format, arguments);
-    va_end(arguments);
-}
-
-static void quit(int status, const char *format, ...)
+void inspect_quit(int status, const char *format, ...)
 {
     va_list arguments;
 
@@ -68,13 +41,19 @@ static uint64_t number_option(const char *name, const char *text, uint64_t least
     char *end;
 
     if (!text)
-        quit(STATUS_USAGE, "%s takes a number", name);
+        inspect_quit(STATUS_USAGE, "%s takes a number", name);
     errno = 0;
     number = strtoull(text, &end, 10);
     if (text[0] < '0' || text[0] > '9' || *end || errno || number < least || number > most)
-        quit(STATUS_USAGE, "%s takes a number from %llu to %llu, not '%s'", name, (unsigned long long)least,
+        inspect_quit(STATUS_USAGE, "%s takes a number from %llu to %llu, not '%s'", name, (unsigned long long)least,
              (unsigned long long)most, text);
     return number;
+}
+
+static void print_and_end(const char *text)
+{
+    fputs(text, stdout);
+    exit(fflush(stdout) == 0 ? STATUS_SOUND : STATUS_TROUBLE);
 }
 
 static struct options read_options(int count, char **words)
@@ -83,10 +62,10 @@ static struct options read_options(int count, char **words)
     int i;
 
     for (i = 1; i < count; i++) {
-        if (strcmp(words[i], "--help") == 0) {
-            fputs(usage, stdout);
-            exit(fflush(stdout) == 0 ? STATUS_SOUND : STATUS_TROUBLE);
-        }
+        if (strcmp(words[i], "--help") == 0 || strcmp(words[i], "-h") == 0)
+            print_and_end(usage);
+        if (strcmp(words[i], "--version") == 0)
+            print_and_end("inspect (Kagutin) " KAGUTIN_VERSION "\n");
         if (strcmp(words[i], "--json") == 0) {
             options.json = true;
         } else if (strcmp(words[i], "--groups") == 0) {
@@ -96,9 +75,9 @@ static struct options read_options(int count, char **words)
         } else if (strcmp(words[i], "--start") == 0) {
             options.start = number_option("--start", words[++i], 0, MAX_START);
         } else if (words[i][0] == '-' && words[i][1]) {
-            quit(STATUS_USAGE, "unknown option '%s'", words[i]);
+            inspect_quit(STATUS_USAGE, "unknown option '%s'", words[i]);
         } else if (options.path) {
-            quit(STATUS_USAGE, "one image at a time: '%s' and '%s'", options.path, words[i]);
+            inspect_quit(STATUS_USAGE, "one image at a time: '%s' and '%s'", options.path, words[i]);
         } else {
             options.path = words[i];
         }
@@ -106,192 +85,8 @@ static struct options read_options(int count, char **words)
             break;
     }
     if (!options.path)
-        quit(STATUS_USAGE, "no image given");
+        inspect_quit(STATUS_USAGE, "no image given");
     return options;
-}
-
-static void read_file(struct image *image, const char *path)
-{
-    FILE *file = fopen(path, "rb");
-
-    image->path = path;
-    if (!file)
-        quit(STATUS_TROUBLE, "%s: cannot be opened: %s", path, strerror(errno));
-    image->bytes = calloc(1, MAX_IMAGE + 1);
-    if (!image->bytes)
-        quit(STATUS_TROUBLE, "out of memory");
-    image->file_size = fread(image->bytes, 1, MAX_IMAGE + 1, file);
-    if (ferror(file))
-        quit(STATUS_TROUBLE, "%s: cannot be read: %s", path, strerror(errno));
-    fclose(file);
-    image->overlong = image->file_size > MAX_IMAGE;
-    if (image->file_size == 0)
-        quit(STATUS_DAMAGED, "%s: the file is empty", path);
-}
-
-/* Notes what is wrong with the header. */
-static void check_header(struct image *image)
-{
-    const uint8_t *header = image->bytes;
-    uint64_t groups = rule_number(header + 8, 2), homes = rule_number(header + 10, 2);
-    size_t before = image->note_count, i, set = 0;
-
-    for (i = 0; i < HEADER; i++)
-        set += header[i] != 0;
-    image->mark_fits = image->file_size >= HEADER && header[0] == 0x50 && header[1] == 0x48;
-    if (image->file_size < HEADER)
-        image_note(image, "header: the file ends inside it, after %lu bytes", (unsigned long)image->file_size);
-    else if (set == 0)
-        image_note(image, "header: zeros, a format that has not finished");
-    else if (!image->mark_fits)
-        image_note(image, "header: mark %02X %02X, not 50 48", header[0], header[1]);
-    if (set && (groups < 4 || groups > MAX_GROUPS))
-        image_note(image, "header: %lu groups, they go from 4 to 1024", (unsigned long)groups);
-    if (set && (homes < 1 || homes > MAX_HOMES))
-        image_note(image, "header: %lu homes, they go from 1 to 4096", (unsigned long)homes);
-    if (rule_number(header + 2, 6) > MAX_START)
-        image_note(image, "header: start %llu is above 2^47", (unsigned long long)rule_number(header + 2, 6));
-    for (i = 12; i < HEADER && !header[i]; i++)
-        ;
-    if (i < HEADER)
-        image_note(image, "header: byte %lu is %02X, not zero", (unsigned long)i, header[i]);
-    image->header_fits = image->note_count == before;
-}
-
-/* The highest number of a group that is where it belongs, less the ring, plus 1. */
-static uint64_t guess_start(const struct image *image)
-{
-    uint64_t highest = 0, groups = image->log.groups;
-    size_t slot;
-
-    for (slot = 0; slot < groups; slot++) {
-        const uint8_t *group = rule_slot(&image->log, slot);
-        uint64_t number = rule_number(group + 2, 6);
-
-        if (group[0] == 0x50 && group[1] == 0x47 && number % groups == slot && number > highest)
-            highest = number;
-    }
-    return highest >= groups ? highest - groups + 1 : 0;
-}
-
-/* G, D and start: from the options, else the header, else the file's size and the groups. */
-static void choose_shape(struct image *image, const struct options *options)
-{
-    uint64_t groups = rule_number(image->bytes + 8, 2), homes = rule_number(image->bytes + 10, 2);
-    bool known = image->mark_fits && groups >= 4 && groups <= MAX_GROUPS;
-
-    if (options->groups != NOT_GIVEN) {
-        known = known && groups == options->groups;
-        groups = options->groups;
-    } else if (!known) {
-        size_t i;
-
-        for (i = 0; i < image->note_count; i++)
-            fprintf(stderr, "inspect: %s: %s\n", image->path, image->notes[i]);
-        quit(STATUS_DAMAGED, "%s: the header does not say how many groups there are; give --groups N", image->path);
-    }
-    if (options->homes != NOT_GIVEN)
-        homes = options->homes;
-    else if (!known || homes < 1 || homes > MAX_HOMES)
-        homes = image->file_size > HEADER + GROUP * groups ? (image->file_size - HEADER - GROUP * groups) / BLOCK : 0;
-    if (homes < 1 || homes > MAX_HOMES) {
-        homes = MAX_HOMES;
-        image_note(image, "homes: their number is unknown and taken as 4096; --homes N sets it");
-    }
-    image->log.bytes = image->bytes;
-    image->log.groups = (size_t)groups;
-    image->log.homes = (size_t)homes;
-    image->image_size = (size_t)(HEADER + GROUP * groups + BLOCK * homes);
-    image->log.start = rule_number(image->bytes + 2, 6);
-    image->start_from = "from the header";
-    if (options->start != NOT_GIVEN) {
-        image->log.start = options->start;
-        image->start_from = "as given";
-    } else if (!image->mark_fits || image->log.start > MAX_START) {
-        image->log.start = guess_start(image);
-        image->start_from = "guessed from the highest group";
-    }
-}
-
-const char *image_hole(const struct image *image, size_t slot)
-{
-    if (image->file_size < HEADER + GROUP * (slot + 1))
-        return "cut off by the end of the file";
-    switch (rule_slot_kind(&image->log, slot)) {
-    case SLOT_VALID: return NULL;
-    case SLOT_ZEROS: return "never written";
-    case SLOT_MARK: return "damaged, no group's mark";
-    case SLOT_PLACE: return "damaged, its number belongs to another slot";
-    case SLOT_TRIMMED: return "trimmed, below the start";
-    default: return "damaged, its number is beyond the ring";
-    }
-}
-
-/* Notes damaged slots and tags. What trims and cuts leave behind is no damage. */
-static void check_slots(struct image *image)
-{
-    size_t slot, k;
-
-    for (slot = 0; slot < image->log.groups; slot++) {
-        enum slot_kind kind = rule_slot_kind(&image->log, slot);
-        uint64_t number = rule_number(rule_slot(&image->log, slot) + 2, 6);
-        const char *hole = image_hole(image, slot);
-
-        if (kind == SLOT_MARK || kind == SLOT_PLACE || kind == SLOT_BEYOND)
-            image_note(image, "slot %lu: %s", (unsigned long)slot, hole);
-        if (hole)
-            continue;
-        for (k = 0; k < 7; k++) {
-            struct tag tag = rule_tag(&image->log, 7 * number + k);
-
-            if (tag.why && !strstr(tag.why, "before the start"))
-                image_note(image, "position %llu: damaged tag: %s", (unsigned long long)(7 * number + k), tag.why);
-        }
-    }
-}
-
-static void check_size(struct image *image)
-{
-    if (image->overlong)
-        image_note(image, "file: longer than the largest image, %lu bytes", (unsigned long)MAX_IMAGE);
-    else if (image->file_size != image->image_size)
-        image_note(image, "file: %lu bytes, %s than the %lu of %lu groups and %lu homes",
-                   (unsigned long)image->file_size, image->file_size < image->image_size ? "fewer" : "more",
-                   (unsigned long)image->image_size, (unsigned long)image->log.groups,
-                   (unsigned long)image->log.homes);
-}
-
-bool image_belongs(const struct image *image, const struct rule_commit *commit, uint64_t position)
-{
-    struct tag tag;
-
-    if (!rule_present(&image->log, position))
-        return false;
-    tag = rule_tag(&image->log, position);
-    return tag.kind != TAG_NOTHING && position - tag.back == commit->first;
-}
-
-void describe_stop(const struct rule_walk *walk, char *text, size_t size)
-{
-    const struct rule_commit *failed = &walk->failed;
-    unsigned long long at = failed->closing;
-
-    if (walk->stop == STOP_END)
-        snprintf(text, size, "no closing entry is left");
-    else if (walk->stop == STOP_INCOMPLETE)
-        snprintf(text, size, "the closing entry at position %llu is incomplete: %lu of its %llu entries are there", at,
-                 (unsigned long)failed->present, (unsigned long long)failed->count);
-    else if (walk->commit_count == 0)
-        snprintf(text, size, "the first closing entry, at position %llu, is linked to position %llu, which has none",
-                 at, at - failed->link);
-    else if (failed->link == 0)
-        snprintf(text, size, "the closing entry at position %llu is linked to none, not to the last commit at %llu", at,
-                 (unsigned long long)walk->commits[walk->commit_count - 1].closing);
-    else if (failed->link > at)
-        snprintf(text, size, "the closing entry at position %llu is linked to before position 0", at);
-    else
-        snprintf(text, size, "the closing entry at position %llu is linked to %llu, not to the last commit at %llu", at,
-                 at - failed->link, (unsigned long long)walk->commits[walk->commit_count - 1].closing);
 }
 
 int main(int count, char **words)
@@ -299,20 +94,21 @@ int main(int count, char **words)
     static struct image image;
     struct options options = read_options(count, words);
     struct rule_walk walk;
+    struct fates fates;
     int status;
 
-    read_file(&image, options.path);
-    check_header(&image);
-    choose_shape(&image, &options);
-    check_size(&image);
-    check_slots(&image);
-    if (!rule_walk(&image.log, &walk))
-        quit(STATUS_TROUBLE, "out of memory");
-    (options.json ? print_json : print_text)(&image, &walk);
+    image_read(&image, options.path);
+    image_check_header(&image);
+    image_choose_shape(&image, &options);
+    image_check(&image);
+    if (!rule_walk(&image.log, &walk) || !fates_find(&fates, &image, &walk))
+        inspect_quit(STATUS_TROUBLE, "out of memory");
+    (options.json ? print_json : print_text)(&image, &walk, &fates);
     status = image.note_count ? STATUS_DAMAGED : STATUS_SOUND;
+    fates_free(&fates);
     rule_free(&walk);
     free(image.bytes);
     if (fflush(stdout) != 0 || ferror(stdout))
-        quit(STATUS_TROUBLE, "cannot write the output");
+        inspect_quit(STATUS_TROUBLE, "cannot write the output");
     return status;
 }

@@ -1,39 +1,40 @@
-/* One transaction in ordinary memory. A real driver runs each batch; see c/driver.h. */
+/* Counts its own starts in an image file: quickstart IMAGE. Run it again, or kill it: the count goes on. */
 #include <stdio.h>
-#include <string.h>
 
-#include "kagutin.h"
+#include "kagutin_file.h"
 
-enum { GROUPS = 4, HOMES = 8 };
+enum { GROUPS = 16, HOMES = 32, WRITER = 0, STARTS = 7 };
 
-static uint8_t log_area[KAGUTIN_HEADER_SIZE + KAGUTIN_GROUP_SIZE * GROUPS], area[KAGUTIN_BLOCK_SIZE * HOMES];
-static uint8_t state[KAGUTIN_STATE_SIZE], batch[4096], block[KAGUTIN_BLOCK_SIZE] = "pump 3: 1204 h, 377 starts";
+static uint8_t memory[KGT_MEMORY_SIZE(GROUPS, HOMES)];
 
-#define AREAS log_area, sizeof log_area, area, sizeof area
-#define STATE state, sizeof state
-#define BLOCK block, sizeof block
-#define BATCH batch, sizeof batch
-
-static uint64_t done(const char *call, struct kagutin_reply reply)
+int main(int count, char **words)
 {
-    printf("%-8s %-5s figure %2llu, %4llu batch bytes for the driver\n", call, kagutin_answer_text(reply.code),
-           (unsigned long long)reply.figure, (unsigned long long)reply.size);
-    return reply.code ? 0 : reply.figure;
-}
+    const char *path = count > 1 ? words[1] : "quickstart.img";
+    uint8_t block[KAGUTIN_BLOCK_SIZE];
+    struct kagutin_reply reply;
+    struct kagutin store;
+    struct kgt_file file;
+    unsigned starts = 0;
+    uint64_t ticket;
 
-int main(void)
-{
-    uint64_t ticket, mark;
-
-    done("format", kagutin_format(AREAS, BATCH));
-    done("open", kagutin_open(AREAS, STATE, BATCH));
-    done("begin", kagutin_begin(AREAS, STATE, 0));
-    done("store", kagutin_store(AREAS, STATE, BLOCK, BATCH, 0, 3));
-    ticket = done("commit", kagutin_commit(AREAS, STATE, BATCH, 0));
-    done("flush", kagutin_flush(AREAS, STATE, BATCH));
-    mark = done("confirm", kagutin_confirm(AREAS, STATE)); /* the flush's fence has passed */
-    memset(block, 0, sizeof block);
-    done("read", kagutin_read(AREAS, STATE, BLOCK, 1, 3));
-    printf("home 3: \"%s\", %s\n", (const char *)block, ticket && mark >= ticket ? "durable" : "not durable");
-    return !(ticket && mark >= ticket);
+    if (!kgt_file_create(&file, path, GROUPS, HOMES) && !kgt_file_open(&file, path)) {
+        fprintf(stderr, "quickstart: %s\n", file.message);
+        return 1;
+    }
+    kgt_init(&store, memory, sizeof memory, GROUPS, HOMES, kgt_file_driver(&file));
+    reply = kgt_open(&store);
+    kgt_read(&store, WRITER, STARTS, block);
+    sscanf((const char *)block, "%u", &starts);
+    snprintf((char *)block, sizeof block, "%u starts", starts + 1);
+    kgt_begin(&store, WRITER);
+    kgt_store(&store, WRITER, STARTS, block);
+    ticket = kgt_commit(&store, WRITER).figure;
+    if (reply.code == KAGUTIN_DONE)
+        reply = kgt_sync(&store);
+    if (reply.code == KAGUTIN_DONE && ticket)
+        printf("%s in %s, %s\n", (const char *)block, path, reply.figure >= ticket ? "durable" : "not durable");
+    else
+        printf("%s: %s\n", path, kgt_answer_text(reply.code));
+    kgt_file_close(&file);
+    return reply.code != KAGUTIN_DONE || reply.figure < ticket;
 }

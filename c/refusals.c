@@ -1,8 +1,9 @@
 /* Calls that must be refused, with every lent byte left as it was. */
+#include "refusals.h"
+
 #include <string.h>
 
 #include "rule.h"
-#include "station.h"
 
 #define LOG(s) (s)->driver.log, (s)->driver.log_size
 #define AREA(s) (s)->driver.area, (s)->driver.area_size
@@ -150,6 +151,16 @@ void refusal_try(struct station *station)
         try_bad_state(station);
         break;
     }
+}
+
+bool refusal_if_worn_out(struct station *s)
+{
+    if (rule_number(s->driver.log + 2, 6) + s->driver.groups <= KAGUTIN_MAX_START)
+        return false;
+    refusal_prepare(s);
+    refusal_check(s, "open", kagutin_open(LOG(s), AREA(s), STATE(s), BATCH(s)), KAGUTIN_WORN_OUT);
+    s->worn_out = true;
+    return true;
 }
 
 /* On the loaded copies, before the opening that must be done. */

@@ -30,8 +30,10 @@ enum slot_kind rule_slot_kind(const struct rule_log *log, size_t slot)
     const uint8_t *group = rule_slot(log, slot);
     uint64_t number = rule_number(group + 2, 6);
 
+    if (all_zero(group, 8))
+        return all_zero(group, 512) ? SLOT_ZEROS : SLOT_PART;
     if (group[0] != 0x50 || group[1] != 0x47)
-        return all_zero(group, 512) ? SLOT_ZEROS : SLOT_MARK;
+        return SLOT_MARK;
     if (number % log->groups != slot)
         return SLOT_PLACE;
     if (number < log->start)

@@ -20,6 +20,7 @@ struct rule_log {
 enum slot_kind {
     SLOT_VALID,
     SLOT_ZEROS,   /* never written since the format */
+    SLOT_PART,    /* hole: its first word, which a driver writes last, has not arrived */
     SLOT_MARK,    /* hole: wrong mark */
     SLOT_PLACE,   /* hole: the number belongs to another slot */
     SLOT_TRIMMED, /* hole: the number is below the start */

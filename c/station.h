@@ -1,6 +1,7 @@
 /*
- * A pump station on the driver: every call is checked against the book of
- * commits, and any difference ends the run with status 1.
+ * The state of a station's run, which all its parts share. They build on each
+ * other in this order, each including only what stands before it: station,
+ * report, refusals, calls, wear, tasks, power.
  */
 #ifndef STATION_H
 #define STATION_H
@@ -12,7 +13,7 @@
 
 #define STATION_MIN_HOMES (2 * KAGUTIN_WRITERS)
 
-enum exit_status { EXIT_FINE = 0, EXIT_MISMATCH = 1, EXIT_USAGE = 2, EXIT_TROUBLE = 3 };
+enum exit_status { EXIT_FINE = 0, EXIT_MISMATCH = 1, EXIT_USAGE = 2, EXIT_TROUBLE = 3, EXIT_WORN_OUT = 4, EXIT_INTERRUPTED = 130 };
 
 /* What a task is about to do: stores still to come, then commit or abort. */
 struct task {
@@ -24,8 +25,9 @@ struct task {
 
 struct counters {
     unsigned long calls, refusals, full, reads, commits, aborts, given_up, confirms, trims;
-    unsigned long kept, lost, replayed, cuts, opening_cuts;
-    unsigned long kept_of[KAGUTIN_WRITERS], lost_of[KAGUTIN_WRITERS];
+    unsigned long replayed, cuts, opening_cuts;
+    unsigned long kept[KAGUTIN_WRITERS], lost[KAGUTIN_WRITERS], unissued[KAGUTIN_WRITERS]; /* commits by task */
+    unsigned long left; /* commits in an image that was not opened after its last cut */
 };
 
 struct station {
@@ -38,8 +40,10 @@ struct station {
     unsigned long cuts;
     size_t groups, homes;
     const char *path;
-    bool csv, keep_cut;
-    FILE *report;    /* what was cut and what came back */
+    bool csv, keep_cut, verbose, progress;
+    bool opened;   /* the store is open */
+    bool worn_out; /* the log's start can move no further */
+    FILE *report;  /* what was cut and what came back */
     uint8_t *before; /* the lent memory before a call that must be refused */
 };
 
@@ -50,38 +54,13 @@ uint64_t station_random(struct station *station, uint64_t limit);
 void station_mismatch(struct station *station, const char *format, ...);
 void station_trouble(struct station *station);
 
-/* The driver has formatted: both copies and the image are those of an empty store. */
-void call_formatted(struct station *station);
+void station_free(struct station *station);
 
-/* Calls that must be done, checked against the book, their batches queued. */
-void call_open(struct station *station);
-void call_begin(struct station *station, unsigned writer);
-void call_abort(struct station *station, unsigned writer);
-bool call_store(struct station *station, unsigned writer, size_t home, const uint8_t *block);
-bool call_commit(struct station *station, unsigned writer);
-void call_flush(struct station *station);
-void call_confirm(struct station *station);
-void call_settle(struct station *station);
-void call_trim(struct station *station);
-void call_read(struct station *station, unsigned writer, size_t home, uint8_t *block);
+/* After this an interrupt ends the run at its next step, with its report. */
+void station_catch_interrupt(void);
+bool station_interrupted(void);
 
-/* Remember the lent memory; check that a call was refused and left it alone. */
-void refusal_prepare(struct station *station);
-void refusal_check(struct station *station, const char *call, struct kagutin_reply reply, uint64_t code);
-
-/* Make one call that must be refused, chosen at random. */
-void refusal_try(struct station *station);
-void refusal_try_open(struct station *station);
-
-/* One step of a task chosen at random; all tasks lose their work at a cut. */
-void tasks_step(struct station *station);
-void tasks_power_cut(struct station *station);
-
-/* Run seconds and starts of a pump as the homes hold them, from one moment. */
-bool wear_fits(const struct station *station);
-void wear_check(struct station *station);
-void wear_read(struct station *station, unsigned pump, uint64_t *serial, uint64_t *seconds, uint64_t *starts);
-void wear_blocks(unsigned pump, uint64_t serial, uint64_t seconds, uint64_t starts, uint8_t *run, uint8_t *start);
-void wear_sheet(struct station *station);
+/* Is the run to end before its last cut? */
+bool station_stops(const struct station *station);
 
 #endif

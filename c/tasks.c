@@ -3,9 +3,12 @@
  * seconds (home 2w) and its starts (home 2w + 1) go into one transaction. Homes
  * from 16 on are notes that all tasks write.
  */
+#include "tasks.h"
+
 #include <string.h>
 
-#include "station.h"
+#include "calls.h"
+#include "wear.h"
 
 #define PUMP_HOMES STATION_MIN_HOMES
 
@@ -128,5 +131,15 @@ void tasks_step(struct station *station)
 
 void tasks_power_cut(struct station *station)
 {
+    memset(station->tasks, 0, sizeof station->tasks);
+}
+
+void tasks_stop(struct station *station)
+{
+    unsigned writer;
+
+    for (writer = 0; writer < KAGUTIN_WRITERS; writer++)
+        if (station->tasks[writer].open)
+            call_abort(station, writer);
     memset(station->tasks, 0, sizeof station->tasks);
 }

@@ -5,10 +5,12 @@
  * the update they come from and at byte 16 the figure. Both blocks of a pump
  * must come from the same update. A pump that never ran has two blocks of zeros.
  */
+#include "wear.h"
+
 #include <string.h>
 
+#include "calls.h"
 #include "rule.h"
-#include "station.h"
 
 static const char *const tasks[KAGUTIN_WRITERS] = {
     "level", "switching", "run hours", "alarms", "radio", "energy", "rain gauge", "service",
@@ -107,19 +109,20 @@ void wear_read(struct station *station, unsigned pump, uint64_t *serial, uint64_
 
 static void print_csv(struct station *station)
 {
+    const struct counters *counters = &station->counters;
     uint64_t serial, seconds, starts;
     unsigned pump;
 
-    puts("pump,task,starts,run_seconds,seconds_per_start,commits_kept,commits_lost");
+    puts("pump,task,starts,run_seconds,seconds_per_start,commits_kept,commits_lost,commits_never_issued");
     for (pump = 0; pump < KAGUTIN_WRITERS; pump++) {
         wear_read(station, pump, &serial, &seconds, &starts);
-        printf("%u,%s,%llu,%llu,%llu,%lu,%lu\n", pump, tasks[pump], (unsigned long long)starts,
-               (unsigned long long)seconds, (unsigned long long)(starts ? seconds / starts : 0),
-               station->counters.kept_of[pump], station->counters.lost_of[pump]);
+        printf("%u,%s,%llu,%llu,%llu,%lu,%lu,%lu\n", pump, tasks[pump], (unsigned long long)starts,
+               (unsigned long long)seconds, (unsigned long long)(starts ? seconds / starts : 0), counters->kept[pump],
+               counters->lost[pump], counters->unissued[pump]);
     }
 }
 
-static void print_text(struct station *station)
+static void print_pumps(struct station *station)
 {
     uint64_t serial, seconds[KAGUTIN_WRITERS], starts[KAGUTIN_WRITERS];
     unsigned pump, most = 0;
@@ -129,22 +132,32 @@ static void print_text(struct station *station)
         if (seconds[pump] > seconds[most])
             most = pump;
     }
-    puts("\nWear sheet");
-    puts("  pump  task         starts     run time  s/start   kept   lost");
+    puts("\nWear sheet\n  pump    starts      run time  seconds a start");
     for (pump = 0; pump < KAGUTIN_WRITERS; pump++)
-        printf("  %4u  %-10s %8llu %6lluh%02llum%02llus %7llu %6lu %6lu%s\n", pump, tasks[pump],
-               (unsigned long long)starts[pump], (unsigned long long)(seconds[pump] / 3600),
-               (unsigned long long)(seconds[pump] / 60 % 60), (unsigned long long)(seconds[pump] % 60),
+        printf("  %4u  %8llu %6lluh %02llum %02llus  %15llu%s\n", pump, (unsigned long long)starts[pump],
+               (unsigned long long)(seconds[pump] / 3600), (unsigned long long)(seconds[pump] / 60 % 60),
+               (unsigned long long)(seconds[pump] % 60),
                (unsigned long long)(starts[pump] ? seconds[pump] / starts[pump] : 0),
-               station->counters.kept_of[pump], station->counters.lost_of[pump],
                pump == most && seconds[most] ? "  <- open this one first" : "");
-    puts("  kept, lost: commits of the task that came back after a cut, or that the cut took before they were durable");
+}
+
+static void print_tasks(const struct station *station)
+{
+    const struct counters *counters = &station->counters;
+    unsigned task;
+
+    puts("\nCommits by task\n  task  name           kept      lost  never issued");
+    for (task = 0; task < KAGUTIN_WRITERS; task++)
+        printf("  %4u  %-10s %8lu  %8lu  %12lu\n", task, tasks[task], counters->kept[task], counters->lost[task],
+               counters->unissued[task]);
 }
 
 void wear_sheet(struct station *station)
 {
-    if (station->csv)
+    if (station->csv) {
         print_csv(station);
-    else
-        print_text(station);
+        return;
+    }
+    print_tasks(station);
+    print_pumps(station);
 }

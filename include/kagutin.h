@@ -43,6 +43,8 @@
 extern "C" {
 #endif
 
+#define KAGUTIN_VERSION "1.0.0"
+
 /* Sizes in bytes. */
 #define KAGUTIN_BLOCK_SIZE 64
 #define KAGUTIN_HEADER_SIZE 64

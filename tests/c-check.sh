@@ -7,7 +7,8 @@ san=$out/sanitize
 cc=${CC:-cc}
 lib=${LIB:-target/staticlib/libkagutin.a}
 tmp=$(mktemp -d) || exit 1
-trap 'rm -rf "$tmp"' EXIT
+fast=$tmp
+trap 'umount "$tmp/disk" 2> /dev/null; rm -rf "$tmp" "$fast"' EXIT
 passed=0
 failed=0
 
@@ -39,28 +40,64 @@ says() {
 
 quiet() { "$@" > /dev/null 2>&1; }
 
-# --- header ---
-echo '#include "kagutin.h"' > "$tmp/header.c"
-cp "$tmp/header.c" "$tmp/header.cpp"
+# Scratch images on a memory disk, if there is one: syncs cost nothing there.
+if [ -d /dev/shm ] && [ -w /dev/shm ]; then
+    fast=$(mktemp -d /dev/shm/kagutin.XXXXXX) || exit 1
+fi
+
+# --- headers and the store's sources ---
+strict="-Wall -Wextra -pedantic -Wshadow -Wconversion -Werror -Iinclude"
+for header in include/*.h; do echo "#include \"${header#include/}\""; done > "$tmp/headers.c"
+cp "$tmp/headers.c" "$tmp/headers.cpp"
 for standard in c99 c11; do
-    gives 0 "header as $standard" "$cc" -std=$standard -Wall -Wextra -pedantic -Werror -Iinclude -fsyntax-only "$tmp/header.c"
+    gives 0 "headers as $standard" "$cc" -std=$standard $strict -fsyntax-only "$tmp/headers.c"
+    gives 0 "store object and drivers as $standard" "$cc" -std=$standard $strict -fsyntax-only c/store/*.c
 done
 if command -v g++ > /dev/null; then
     for standard in c++11 c++17; do
-        gives 0 "header as $standard" g++ -std=$standard -Wall -Wextra -pedantic -Werror -Iinclude -fsyntax-only "$tmp/header.cpp"
+        gives 0 "headers as $standard" g++ -std=$standard $strict -fsyntax-only "$tmp/headers.cpp"
+        gives 0 "store object and drivers as $standard" g++ -x c++ -std=$standard $strict -fsyntax-only c/store/*.c
     done
 else
-    echo "skipped header as C++: no g++"
+    echo "skipped headers as C++: no g++"
 fi
 
 # --- stack of each call ---
-gives 0 "stack: built" "$cc" -std=c99 -D_GNU_SOURCE -Wall -Wextra -pedantic -O2 -Iinclude tests/stack.c "$lib" -o "$tmp/stack"
+gives 0 "stack: built" "$cc" -std=c99 -D_GNU_SOURCE -Wall -Wextra -pedantic -O2 -Iinclude tests/stack.c "$lib" ${C_LIBS:-} -o "$tmp/stack"
 gives 0 "stack: every call below 32 KiB" "$tmp/stack"
 
+# --- no heap in the object; nm prints what it calls ---
+quiet sh -c "nm -u $out/store/store.o $out/store/batch.o $out/store/fram.o | grep -E 'alloc|free'"
+[ $? -ne 0 ]; report $? "the object and the FRAM driver use no heap"
+
 # --- quick start, driver, station ---
-gives 0 "quick start" "$san/quickstart"
-grep -q 'durable' "$tmp/out"; report $? "quick start: durable"
+gives 0 "quick start" "$san/quickstart" "$tmp/quickstart.img"
+gives 0 "quick start again" "$san/quickstart" "$tmp/quickstart.img"
+grep -q '^2 starts.*, durable' "$tmp/out"; report $? "quick start: two starts, durable"
 gives 0 "driver" "$san/driver_check" "$tmp/driver.img"
+
+# --- the store object and its drivers ---
+gives 0 "store: power gone after every byte, any words at a cut" "$out/store_check" 1 5000
+gives 0 "store: the same under sanitizers, every 17 bytes" "$san/store_check" 17 1500
+gives 0 "files: written and mapped, stopped inside writes, locks, failures" "$san/file_check" "$fast"
+gives 0 "FRAM: power gone after every byte" "$out/fram_check" 1
+gives 0 "FRAM: under sanitizers" "$san/fram_check" 13
+objects="c/store/store.c c/store/batch.c c/store/memory.c"
+build_tasks() { "$cc" -std=c99 -O1 -g "$@" $strict tests/tasks_check.c $objects "$lib" ${C_LIBS:-} -pthread -o "$tmp/tasks"; }
+gives 0 "tasks: built" build_tasks -fsanitize=thread
+if "$tmp/tasks" 2>&1 | grep -q 'unexpected memory mapping'; then # some kernels give the race detector no room
+    gives 0 "tasks: built without the race detector" build_tasks
+fi
+gives 0 "tasks: eight threads under a lock, no race" "$tmp/tasks"
+gives 0 "300 kills of a process at work" "$out/kill_check" "$fast/kills.img" 300 1
+gives 0 "40 kills on this disk, under sanitizers" "$san/kill_check" "$tmp/kills.img" 40 2
+if mkdir "$tmp/disk" && mount -t tmpfs -o size=16k none "$tmp/disk" 2> /dev/null; then
+    says "no room" 3 "station on a full disk of its own" "$san/station" --groups 1024 --file "$tmp/disk/full.img"
+    [ -z "$(ls "$tmp/disk")" ]; report $? "which stays empty"
+    umount "$tmp/disk"
+fi
+
+# --- station ---
 for seed in 1 2 3 4; do
     gives 0 "station, seed $seed" "$san/station" --seed $seed --cuts 120
 done
@@ -75,6 +112,15 @@ gives 0 "station, CSV" "$san/station" --cuts 20 --csv
 [ "$(wc -l < "$tmp/out")" -eq 9 ] && [ "$(head -n 1 "$tmp/out" | cut -d, -f1-4)" = pump,task,starts,run_seconds ]
 report $? "station, CSV: a heading and eight pumps"
 gives 0 "station --help" "$san/station" --help
+gives 0 "station -h" "$san/station" -h
+gives 0 "station --version" "$san/station" --version
+grep -q '^station (Kagutin) [0-9]' "$tmp/out"; report $? "station: says its version"
+gives 0 "station, every cut" "$san/station" --cuts 60 --verbose
+[ "$(grep -c '^ *[0-9]* *\(at work\|opening\) ' "$tmp/out")" -eq 60 ]; report $? "station --verbose: a line for each cut"
+[ "$(awk 'length > 99' "$tmp/out" | wc -l)" -eq 0 ]; report $? "station: no line of 100 columns"
+"$san/station" --cuts 1000000 --csv > "$tmp/out" 2> "$tmp/log" &
+sleep 1; kill -INT $!; wait $!; status=$?
+[ $status -eq 130 ] && [ "$(wc -l < "$tmp/out")" -eq 9 ]; report $? "station interrupted: its sheet is written"
 
 # --- options ---
 says "unknown option" 2 "station --frob" "$san/station" --frob
@@ -98,6 +144,8 @@ gives 0 "station on a new file" "$san/station" --seed 3 --cuts 10 --groups 12 --
 gives 0 "station goes on with it" "$san/station" --seed 4 --cuts 10 --file "$image"
 says "other numbers" 3 "station with another shape" "$san/station" --groups 4 --file "$image"
 gives 0 "station leaves a cut" "$san/station" --seed 11 --cuts 7 --file "$image" --keep-cut
+grep -q 'kept .*came back' "$tmp/out" && grep -q 'in the image' "$tmp/out"
+report $? "and counts what is in it as not opened"
 gives 0 "inspect a sound image" "$san/inspect" "$image"
 grep -q '^commits ([1-9]' "$tmp/out"; report $? "inspect: finds commits"
 grep -q '^the walk stopped: ' "$tmp/out"; report $? "inspect: says why the walk stopped"
@@ -105,10 +153,46 @@ gives 0 "inspect --json" "$san/inspect" --json "$image"
 if command -v python3 > /dev/null; then
     quiet python3 -m json.tool "$tmp/out"; report $? "inspect: its JSON is JSON"
 fi
+if command -v python3 > /dev/null; then
+    cp "$image" "$tmp/Pumpenhäuschen.img"
+    "$san/inspect" --json "$tmp/Pumpenhäuschen.img" > "$tmp/out" 2> "$tmp/log"
+    python3 -c 'import json,sys; v = json.load(open(sys.argv[1])); sys.exit(not (v["image"].endswith("/Pumpenhäuschen.img")
+        and len(v["homes"]) == 20 and any(e["comes_back"] for s in v["slots"] for e in s.get("entries", []))))' "$tmp/out" 2>> "$tmp/log"
+    report $? "inspect: a name in UTF-8, every home, entries that come back"
+    bad=$(printf '%s/bad\377name.img' "$tmp"); cp "$image" "$bad"
+    "$san/inspect" --json "$bad" > "$tmp/out" 2> "$tmp/log"
+    quiet python3 -m json.tool "$tmp/out"; report $? "inspect: a name that is no UTF-8"
+fi
+gives 0 "inspect the quick start's image" "$san/inspect" "$tmp/quickstart.img"
+grep -q '^ *7 .*2 starts.*from position' "$tmp/out"; report $? "inspect: a home's value, in text, and where it comes from"
+printf 'torn' | dd of="$tmp/quickstart.img" bs=1 seek=$((64 + 512 * 9 + 70)) conv=notrunc 2> /dev/null
+gives 0 "inspect a group cut off before its number arrived" "$san/inspect" "$tmp/quickstart.img"
+grep -q 'its number has not arrived' "$tmp/out"; report $? "inspect: says so"
+gives 0 "inspect -h" "$san/inspect" -h
+gives 0 "inspect --version" "$san/inspect" --version
+mkfifo "$tmp/fifo"
+says "not a regular file" 3 "inspect a FIFO" timeout 10 "$san/inspect" "$tmp/fifo"
+says "not a regular file" 3 "station on a FIFO" timeout 10 "$san/station" --file "$tmp/fifo"
+cp "$image" "$tmp/huge.img"
+if dd if=/dev/null of="$tmp/huge.img" bs=1 seek=21474836480 2> /dev/null; then
+    gives 1 "inspect a file of 20 GiB" "$san/inspect" "$tmp/huge.img"
+    grep -q 'file: 21474836480 bytes, more than' "$tmp/out"; report $? "inspect: says its size"
+fi
+rm -f "$tmp/huge.img"
 cp "$image" "$tmp/kept.img"
 gives 0 "station opens what the cut left" "$san/station" --seed 5 --cuts 3 --file "$image"
 cp "$tmp/kept.img" "$image"
 size=$(wc -c < "$image")
+
+# --- images near the end of their numbers: 12 groups, so 2^47 - 12 and so on, little-endian ---
+start() { printf "$2" | dd of="$1" bs=1 seek=2 conv=notrunc 2> /dev/null; }
+for bytes in '\364\377\377\377\377\177' '\350\377\377\377\377\177' '\000\000\000\000\000\200'; do
+    rm -f "$tmp/worn.img"
+    quiet "$out/station" --seed 3 --cuts 1 --groups 12 --homes 20 --file "$tmp/worn.img"
+    start "$tmp/worn.img" "$bytes"
+    gives 4 "station on a worn-out image" "$san/station" --seed 3 --cuts 60 --file "$tmp/worn.img"
+    grep -q 'worn out' "$tmp/out"; report $? "and says so"
+done
 
 mkdir "$tmp/folder"
 says "regular file\|directory" 3 "station on a folder" "$san/station" --file "$tmp/folder"
@@ -128,7 +212,7 @@ for length in 0 1 63 64 100 600 $((size - 1)) $((size - 64)); do
     gives 1 "inspect an image cut to $length bytes" "$san/inspect" "$tmp/short.img"
     gives 1 "inspect it with --groups" "$san/inspect" --json --groups 12 "$tmp/short.img"
 done
-cat "$tmp/kept.img" "$tmp/header.c" > "$tmp/long.img"
+cat "$tmp/kept.img" "$tmp/headers.c" > "$tmp/long.img"
 says "overlong" 3 "station on an overlong file" "$san/station" --file "$tmp/long.img"
 gives 1 "inspect an overlong file" "$san/inspect" "$tmp/long.img"
 says "no image" 3 "station on some other file" "$san/station" --file "$out/station"
@@ -163,10 +247,16 @@ if command -v valgrind > /dev/null; then
     memcheck="valgrind -q --error-exitcode=9 --leak-check=full"
     gives 0 "station under memcheck" $memcheck "$out/station" --seed 6 --cuts 25 --groups 6 --homes 20
     gives 0 "inspect under memcheck" $memcheck "$out/inspect" "$tmp/kept.img"
-    gives 0 "quick start under memcheck" $memcheck "$out/quickstart"
+    gives 0 "quick start under memcheck" $memcheck "$out/quickstart" "$tmp/memcheck.img"
+    gives 0 "store under memcheck" $memcheck "$out/store_check" 499 30
 else
     echo "skipped memcheck: valgrind is not installed"
 fi
+
+# --- the sources of the object in one folder, and a program built from them ---
+gives 0 "make c-dist" "${MAKE:-make}" -f c.mk DIST="$tmp/dist" c-dist
+gives 0 "build from that folder" "$cc" -std=c99 -I"$tmp/dist" c/quickstart.c "$tmp"/dist/kagutin_*.c "$lib" ${C_LIBS:-} -o "$tmp/from-dist"
+gives 0 "run it" "$tmp/from-dist" "$tmp/from-dist.img"
 
 # --- install, and a program outside built against it ---
 gives 0 "make install" "${MAKE:-make}" -f c.mk LIB="$lib" C_LIBS="${C_LIBS:-}" DESTDIR="$tmp/root" PREFIX=/opt/kagutin install
@@ -174,10 +264,12 @@ if command -v pkg-config > /dev/null; then
     cp c/quickstart.c "$tmp/outside.c"
     flags=$(PKG_CONFIG_PATH="$tmp/root/opt/kagutin/lib/pkgconfig" PKG_CONFIG_SYSROOT_DIR="$tmp/root" pkg-config --cflags --libs kagutin)
     gives 0 "build outside with pkg-config" "$cc" "$tmp/outside.c" -o "$tmp/outside" $flags
-    gives 0 "run it" "$tmp/outside"
+    gives 0 "run it" "$tmp/outside" "$tmp/outside.img"
 else
     echo "skipped the build outside: no pkg-config"
 fi
+gives 0 "make uninstall" "${MAKE:-make}" -f c.mk DESTDIR="$tmp/root" PREFIX=/opt/kagutin uninstall
+[ -z "$(find "$tmp/root" -type f)" ]; report $? "and nothing is left"
 
 echo "c-check: $passed passed, $failed failed"
 [ $failed -eq 0 ]

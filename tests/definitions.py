@@ -67,7 +67,7 @@ def main():
             shutil.copytree(ROOT / "crates/model" / part, model / part)
         proofs = model / "proofs"
         proofs.mkdir()
-        shutil.copy(ROOT / "crates/model/proofs/Computing.antt", proofs)
+        shutil.copy(ROOT / "crates/model/proofs/claims/Computing.antt", proofs)
         (proofs / "Lib.antt").write_text("pub mod Computing\npub mod Cases\n")
         (proofs / "Cases.antt").write_text(text)
         (pathlib.Path(folder) / "crates.txt").write_text("model:\n")

@@ -8,7 +8,7 @@ use Rattle.model.specs.Bytes.{puts, zeros, putNumber}
 use Rattle.model.specs.Layout.{groupMark, groupOffset, tagOffset, blockOffset, blankGroup, putBlank, putEntry}
 use Rattle.model.specs.declared.State.{State}
 use Rattle.model.specs.Effects.{entered}
-use Rattle.model.proofs.ByteLaws.{puts-append}
+use Rattle.model.proofs.bytes.ByteLaws.{puts-append}
 use Rattle.areas.proofs.PieceLaws.{number-then}
 
 pub blank-written : (log : List ℕ) (slot n : ℕ)

@@ -9,9 +9,6 @@ ghost use Rattle.model.specs.Bytes.{part, puts, number, same};
 ghost use Rattle.model.specs.Layout.{headerMark, groupMark};
 ghost use Rattle.model.specs.Batch.{groupWriteMark, homeWriteMark, headerWriteMark, fenceMark};
 
-// The mark of a group, b"PG", as a number.
-const GROUP_MARK: u64 = 0x4750;
-
 // Writes the two bytes of `mark` at index `at`.
 fn put_mark(dst: &mut [u8], at: usize, mark: &[u8])
     requires { ⌜ (at + 2 ≤ length (now dst)) × (length (now mark) ≡ 2) ⌝ }
@@ -91,14 +88,14 @@ pub fn has_header_mark(s: &[u8], at: usize) -> bool
     has_mark(s, at, b"PH")
 }
 
-// Whether the mark of a group and the number `n` stand in the eight bytes from index `at` on: one word, the number above the mark.
-// The mark alone goes first, so that an unused group is passed quickly.
+// Whether the mark of a group and the number `n` stand in the eight bytes from index `at` on: the number is that word without the
+// mark. The mark goes first, so that an unused group is passed quickly.
 pub fn has_group_head(s: &[u8], at: usize, n: u64) -> bool
     requires { ⌜ at + 8 ≤ length (now s) ⌝ }
     ensures { λ r. ⌜ r ≡ (same (part (now (s .entry)) at 2) groupMark && eqb (number 6 (now (s .entry)) (at + 2)) (n % 2 ^ 48)) ⌝ }
 {
-    if number(s, at, 2) != GROUP_MARK {
+    if !has_mark(s, at, b"PG") {
         return false;
     }
-    number(s, at, 8) == n % 0x1_0000_0000_0000 * 0x1_0000 + GROUP_MARK
+    number(s, at, 8) / 0x1_0000 == n % 0x1_0000_0000_0000
 }

@@ -11,8 +11,8 @@ use Rattle.model.specs.Bytes.{puts}
 use Rattle.model.specs.Layout.{homeAt}
 use Rattle.model.specs.Batch.{Record, HW, recordBytes, batchBytes}
 use Rattle.model.specs.Effects.{marked, homeWrites}
-use Rattle.model.proofs.ByteLaws.{length-part, puts-append, puts-nil}
-use Rattle.model.proofs.BatchLaws.{length-HW, batch-append}
+use Rattle.model.proofs.bytes.ByteLaws.{length-part, puts-append, puts-nil}
+use Rattle.model.proofs.strip.BatchLaws.{length-HW, batch-append}
 use Rattle.bitmap.specs.Marks.{marks, bitsOf, raised}
 use Rattle.bitmap.proofs.MarkedLaws.{raised-nil, raised-cons, marked-zero}
 use Rattle.bitmap.proofs.WordLaws.{no-bits}

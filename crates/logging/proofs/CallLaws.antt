@@ -14,7 +14,7 @@ use Rattle.model.specs.Batch.{Record, recordBytes, batchBytes}
 use Rattle.model.specs.Effects.{Given, Effect}
 use Rattle.model.specs.Questions.{ask, askState, askBlock, areasRight, stateRight, blockRight, stripInOrder}
 use Rattle.model.specs.Calls.{outcome}
-use Rattle.model.proofs.LayoutLaws.{length-groupAt}
+use Rattle.model.proofs.bytes.LayoutLaws.{length-groupAt}
 use Rattle.answers.specs.Lent.{lent, leaves}
 use Rattle.answers.proofs.AnswerLaws.{done-by}
 

@@ -15,9 +15,9 @@ use Rattle.model.specs.State.{stateOf, nextPosition, writerOf, setWriter, idle,
 use Rattle.model.specs.Effects.{Given, newState, abortEffect, logClosing, commitHeld, commitEffect}
 use Rattle.model.specs.Questions.{ask, askState, writerKnown, writerOpen, room, commitLogs, batchFits, commitAnswer}
 use Rattle.model.specs.Calls.{sizeOf, commitCall}
-use Rattle.model.proofs.ByteLaws.{puts-nil}
-use Rattle.model.proofs.DoneLaws.{fits}
-use Rattle.model.proofs.QuestionLaws.{ask-yes, ask-no, CommitReady, commit-ready}
+use Rattle.model.proofs.bytes.ByteLaws.{puts-nil}
+use Rattle.model.proofs.steps.DoneLaws.{fits}
+use Rattle.model.proofs.strip.QuestionLaws.{ask-yes, ask-no, CommitReady, commit-ready}
 use Rattle.answers.specs.Lent.{lent, leaves}
 use Rattle.answers.proofs.AnswerLaws.{Usable, state-usable, state-refuses, state-passes, state-only, refused-by}
 use Rattle.logging.specs.Logs.{MayLog, Fits, loggedClosing, Committed}

@@ -17,10 +17,10 @@ use Rattle.model.specs.State.{stateOf, setNext, setFilled, setLast, nextPositio
 use Rattle.model.specs.Tag.{entryWord, closingWord}
 use Rattle.model.specs.Effects.{entered, submitted, logged, linkFrom}
 use Rattle.model.specs.Questions.{ask}
-use Rattle.model.proofs.ByteLaws.{puts-nil}
-use Rattle.model.proofs.QuestionLaws.{ask-yes, ask-no}
-use Rattle.model.proofs.BatchLaws.{length-GW, batch-one}
-use Rattle.model.proofs.LogStep.{length-entered}
+use Rattle.model.proofs.bytes.ByteLaws.{puts-nil}
+use Rattle.model.proofs.strip.QuestionLaws.{ask-yes, ask-no}
+use Rattle.model.proofs.strip.BatchLaws.{length-GW, batch-one}
+use Rattle.model.proofs.invariant.LogStep.{length-entered}
 use Rattle.writers.specs.Held.{heldFor}
 use Rattle.writers.specs.Frame.{SameElsewhere}
 use Rattle.writers.proofs.HeldLaws.{held-first, held-other}

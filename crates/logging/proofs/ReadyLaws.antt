@@ -13,9 +13,9 @@ use Rattle.model.specs.declared.State.{State}
 use Rattle.model.specs.declared.Writer.{Writer}
 use Rattle.model.specs.State.{stateOf, nextPosition, writerOf, holds}
 use Rattle.model.specs.Questions.{ask}
-use Rattle.model.proofs.OrderLaws.{InOrder, WriterInOrder}
-use Rattle.model.proofs.HeldLogs.{bounds, link-small}
-use Rattle.model.proofs.QuestionLaws.{ask-yes}
+use Rattle.model.proofs.strip.OrderLaws.{InOrder, WriterInOrder}
+use Rattle.model.proofs.steps.HeldLogs.{bounds, link-small}
+use Rattle.model.proofs.strip.QuestionLaws.{ask-yes}
 use Rattle.answers.proofs.AnswerLaws.{Usable}
 use Rattle.logging.specs.Logs.{MayLog, Fits}
 

@@ -16,9 +16,9 @@ use Rattle.model.specs.State.{stateOf, nextPosition, writerOf, setWriter, setHe
 use Rattle.model.specs.Effects.{Given, newState, logHeld, storeFirst, storeAgain, storeOther, storeEffect}
 use Rattle.model.specs.Questions.{ask, askBlock, writerKnown, homeKnown, writerOpen, room, storeLogs, batchFits, storeAnswer}
 use Rattle.model.specs.Calls.{sizeOf, storeCall}
-use Rattle.model.proofs.ByteLaws.{puts-nil}
-use Rattle.model.proofs.DoneLaws.{fits}
-use Rattle.model.proofs.QuestionLaws.{ask-yes, ask-no, StoreReady, store-ready}
+use Rattle.model.proofs.bytes.ByteLaws.{puts-nil}
+use Rattle.model.proofs.steps.DoneLaws.{fits}
+use Rattle.model.proofs.strip.QuestionLaws.{ask-yes, ask-no, StoreReady, store-ready}
 use Rattle.answers.specs.Lent.{lent, leaves}
 use Rattle.answers.proofs.AnswerLaws.{Usable, block-usable, block-refuses, block-passes, block-only, refused-by}
 use Rattle.logging.specs.Logs.{MayLog, Fits, loggedEntry, StoredOther}

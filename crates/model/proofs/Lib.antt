@@ -1,63 +1,18 @@
-pub mod ByteLaws
-pub mod TagLaws
-pub mod LayoutLaws
-pub mod BatchLaws
-pub mod StateLaws
-pub mod WriterLaws
-pub mod OrderLaws
-pub mod QuestionLaws
-pub mod Closings
-pub mod ClosingLaws
-pub mod CrashLaws
-pub mod SubmitLaws
-pub mod HomeLaws
-pub mod Trace
-pub mod WalkLaws
-pub mod TraceLaws
-pub mod WholeLaws
-pub mod LinkLaws
-pub mod CountLaws
-pub mod MemberLaws
-pub mod ReplayLaws
-pub mod Invariant
-pub mod Survivors
-pub mod OpenLaws
-pub mod GrowLaws
-pub mod GrowImages
-pub mod LogStep
-pub mod RunLaws
-pub mod BookReplay
-pub mod TouchLaws
-pub mod LateOpens
-pub mod Now
-pub mod NowLate
-pub mod NowNext
-pub mod DoneLaws
-pub mod WriterSteps
-pub mod OpenStep
-pub mod Beginning
-pub mod LogRuns
-pub mod LogSubmits
-pub mod HeldLogs
-pub mod StoreCommit
-pub mod FenceRuns
-pub mod NumberRuns
-pub mod FlushRuns
-pub mod CrashRuns
-pub mod CallRuns
-pub mod OpenKeeps
-pub mod LiveLog
-pub mod TrimLaws
-pub mod TrimRuns
-pub mod SettleRuns
-pub mod LiveHolds
-pub mod DemandThree
-pub mod TrimYields
-pub mod Yields
-pub mod YieldsAll
-pub mod DemandTwo
-pub mod OnceLaws
-pub mod FactLaws
-pub mod Computing
-pub mod TrialsHold
-pub mod WitnessesHold
+-- The proofs, in reading order, a folder for each layer.
+
+-- What the definitions come to: the trials and a history of every call, computed.
+pub mod answers
+-- Bytes, tags, the log's header and groups, the homes: laws of specs/Bytes, Tag and Layout.
+pub mod bytes
+-- What a call is lent: batches, the state strip, question 2, the questions and their answers.
+pub mod strip
+-- The commit rule in the forms that the code's loops take: by the last closing entry, by counts, by newest entries.
+pub mod rule
+-- Which writes persist at a crash; what has been logged, as a ghost history; what the commit rule finds in what persisted: the longest prefix of its commits.
+pub mod trace
+-- What holds at every moment of a history, of memory and of strip and copies, and how it carries over when the log grows, a fence passes or an opening comes.
+pub mod invariant
+-- Each call and each crash keeps the invariant.
+pub mod steps
+-- The claims: the refusals, demands 2 and 3, what every call answers, the facts stated in passing, and a history that meets the premises.
+pub mod claims

@@ -13,10 +13,11 @@ use Rattle.model.specs.Commit.{transactions}
 use Rattle.model.specs.Batch.{Record, GW, HW, KW, FN}
 use Rattle.model.specs.State.{State, stateOf, nextPosition, inOrder}
 use Rattle.model.specs.Effects.{Given, groups, liveTags, liveBase}
+use Rattle.model.specs.declared.Tag.{Tag}
 use Rattle.model.specs.Calls.{Outcome}
 use Rattle.model.specs.Crash.{fences, fates}
-use Rattle.model.specs.Book.{Kept, row, persisted, Entry, Commit, Held, Task, idle, opened, Book, run, homesAfter, reads, owedBy}
-use Rattle.model.specs.History.{Call, opening, begin, abort, store, commit, flush, confirm, settle, trim, read, Event, call, crash, World, afterFormat, lent, ends, step, AllAllowed}
+use Rattle.model.specs.Book.{Kept, row, persisted, Entry, Commit, Held, Task, idle, opened, Book, run, homesAfter, reads as readBy, owedBy}
+use Rattle.model.specs.History.{Service, settles, trims, reads, Call, opening, confirm, change, service, read, Event, call, crash, World, lent, ends, step, Always}
 
 -- Demand 3
 
@@ -40,17 +41,21 @@ Crashed w passed chosen = NoneOwed (lost (fates passed chosen (w .pending)) (w .
 
 -- Demand 2
 
--- what the commit rule finds in the log copy, as homes and blocks, oldest first
-unfoldable pub contents : Given → List ℕ → List Held
-contents g [] = []
-contents g (p ∷ ps) = contents g ps ++ (record { home = homeOf (liveTags g p); block = blockAt (g .log) (groups g) p } ∷ [])
+-- the entries at some positions of a log, newest first, as homes and blocks, oldest first
+unfoldable pub contents : (ℕ → Tag) → List ℕ → ℕ → List ℕ → List Held
+contents tags log groups [] = []
+contents tags log groups (p ∷ ps) =
+    contents tags log groups ps ++ (record { home = homeOf (tags p); block = blockAt log groups p } ∷ [])
 
-unfoldable pub eachContents : Given → List (List ℕ) → List (List Held)
-eachContents g [] = []
-eachContents g (t ∷ ts) = contents g t ∷ eachContents g ts
+unfoldable pub eachContents : (ℕ → Tag) → List ℕ → ℕ → List (List ℕ) → List (List Held)
+eachContents tags log groups [] = []
+eachContents tags log groups (t ∷ ts) = contents tags log groups t ∷ eachContents tags log groups ts
 
+-- what the commit rule finds in the log copy
 unfoldable pub foundIn : Given → List (List Held)
-foundIn g = eachContents g (transactions (liveTags g) (liveBase g) (nextPosition (stateOf (g .state)) - liveBase g))
+foundIn g =
+    eachContents (liveTags g) (g .log) (groups g)
+    (transactions (liveTags g) (liveBase g) (nextPosition (stateOf (g .state)) - liveBase g))
 
 -- the book's commits that are not trimmed: their closing entry lies at or above the start's position
 unfoldable pub heldEntries : List Entry → List Held
@@ -69,7 +74,7 @@ pub record Live (w : World) : Type 0 where
   pub readable :
       (writer home : ℕ) (block : List ℕ) →
       ends w (read writer home block) .code ≡ 0 →
-      ends w (read writer home block) .block ≡ reads (w .homes) (w .book) writer home
+      ends w (read writer home block) .block ≡ readBy (w .homes) (w .book) writer home
 
 -- "settle: homes of the commits below F and no other"
 unfoldable pub closedBelow : ℕ → List Commit → List Commit
@@ -140,30 +145,23 @@ pub record Trimmed (w : World) (start : ℕ) : Type 0 where
   pub furthest : (s : ℕ) → 7 * s ≤ stateOf (w .state) .settled → free w s ≡ true → s ≤ start
 
 -- what a done call yields, in the book's terms
+abbrev pub ServiceYields : World → Service → Outcome → Type 0
+ServiceYields w (settles batch) o = o .area ≡ homesAfter (w .homes) (closedBelow (stateOf (w .state) .fenced) (w .book .commits))
+ServiceYields w (trims batch) o = Trimmed w (stateOf (o .state) .start)
+ServiceYields w (reads writer home block) o = o .block ≡ readBy (w .homes) (w .book) writer home
+
 abbrev pub Yields : World → Call → Outcome → Type 0
 Yields w (opening state batch) o = Unit {0}
-Yields w (begin writer) o = Unit {0}
-Yields w (abort writer) o = Unit {0}
-Yields w (store writer home block batch) o = Unit {0}
-Yields w (commit writer batch) o = Unit {0}
-Yields w (flush batch) o = Unit {0}
 Yields w confirm o = owedBy (o .figure) (w .book .commits) ≡ owedRows (fencedRows (w .pending)) (w .book .commits)
-Yields w (settle batch) o = o .area ≡ homesAfter (w .homes) (closedBelow (stateOf (w .state) .fenced) (w .book .commits))
-Yields w (trim batch) o = Trimmed w (stateOf (o .state) .start)
-Yields w (read writer home block) o = o .block ≡ reads (w .homes) (w .book) writer home
+Yields w (change c) o = Unit {0}
+Yields w (service c) o = ServiceYields w c o
 
 -- at each event
 abbrev pub CallHolds : World → Call → Outcome → Type 0
 CallHolds w (opening state batch) o = Opened w o
-CallHolds w (begin writer) o = Unit {0}
-CallHolds w (abort writer) o = Unit {0}
-CallHolds w (store writer home block batch) o = Unit {0}
-CallHolds w (commit writer batch) o = Unit {0}
-CallHolds w (flush batch) o = Unit {0}
 CallHolds w confirm o = Unit {0}
-CallHolds w (settle batch) o = Unit {0}
-CallHolds w (trim batch) o = Unit {0}
-CallHolds w (read writer home block) o = Unit {0}
+CallHolds w (change c) o = Unit {0}
+CallHolds w (service c) o = Unit {0}
 
 abbrev pub Holds : World → Event → Type 0
 Holds w (call c) = CallHolds w c (ends w c)
@@ -181,13 +179,9 @@ abbrev pub LiveThroughout : World → List Event → Type 0
 LiveThroughout w [] = w .ready ≡ true → Live w
 LiveThroughout w (e ∷ es) = (w .ready ≡ true → Live w) × YieldsAt w e × LiveThroughout (step w e) es
 
--- The demands, for every G and D and every list of events under the premises
+-- The demands, for every G and D, every done format and every list of events after it under the premises
 abbrev pub Demand3 : Type 0
-Demand3 =
-    (groups homes : ℕ) → 4 ≤ groups → groups ≤ 1024 → 1 ≤ homes → homes ≤ 4096 → (es : List Event) → AllAllowed (afterFormat groups homes) es →
-    AllHold (afterFormat groups homes) es
+Demand3 = Always AllHold
 
 abbrev pub Demand2 : Type 0
-Demand2 =
-    (groups homes : ℕ) → 4 ≤ groups → groups ≤ 1024 → 1 ≤ homes → homes ≤ 4096 → (es : List Event) → AllAllowed (afterFormat groups homes) es →
-    LiveThroughout (afterFormat groups homes) es
+Demand2 = Always LiveThroughout

@@ -1,13 +1,18 @@
 -- Facts that the paper states in passing, as statements over all histories.
-use Prim.Native.Nat.{ℕ, _≤_}
+use Prim.Native.Nat.{ℕ}
 use mathlib.Core.Path.{_≡_}
+use mathlib.Core.Logic.{_⊎_}
 use mathlib.Core.Bool.{Bool, true, false, not, _&&_, _||_}
 use mathlib.Core.List.{List, [], _∷_}
 use lib.Dec.{eqb}
+use lib.ListN.{length}
 use Rattle.model.specs.Batch.{Record, GW, HW, KW, FN}
 use Rattle.model.specs.Effects.{formatted}
+use Rattle.model.specs.State.{stateBytes}
+use Rattle.model.specs.Calls.{formatCall, openCall}
+use Rattle.model.specs.Crash.{Memory, persist}
 use Rattle.model.specs.Demands.{groupWrites}
-use Rattle.model.specs.History.{Event, afterFormat, after, AllAllowed}
+use Rattle.model.specs.History.{World, Event, Formatting, formatRecords, unopened, loaded, afterFormat, emptyStore, after, Always}
 
 -- "Between two fences no block is written twice."
 
@@ -46,13 +51,28 @@ abbrev pub FormatOnce : Type 0
 FormatOnce = (groups homes : ℕ) → writtenOnce (formatted groups homes) ≡ true
 
 abbrev pub PendingOnce : Type 0
-PendingOnce =
-    (groups homes : ℕ) → 4 ≤ groups → groups ≤ 1024 → 1 ≤ homes → homes ≤ 4096 → (es : List Event) → AllAllowed (afterFormat groups homes) es →
-    writtenOnce (after (afterFormat groups homes) es .pending) ≡ true
+PendingOnce = Always (λ w es. writtenOnce (after w es .pending) ≡ true)
 
 -- "its entries land with that call's GW": the book's rows submitted since the last crash are as many as the group writes since, at every moment of
 -- a history; so each call submits as many rows as it writes groups
 abbrev pub RowsWritten : Type 0
-RowsWritten =
-    (groups homes : ℕ) → 4 ≤ groups → groups ≤ 1024 → 1 ≤ homes → homes ≤ 4096 → (es : List Event) → AllAllowed (afterFormat groups homes) es →
-    after (afterFormat groups homes) es .book .rows ≡ groupWrites (after (afterFormat groups homes) es .pending)
+RowsWritten = Always (λ w es. after w es .book .rows ≡ groupWrites (after w es .pending))
+
+-- Format: "The copies hold the same." Whatever stood in memory and copies, its train leaves the empty store in both.
+pub record Emptied (groups homes : ℕ) (f : Formatting groups homes) : Type 0 where
+  pub memory : afterFormat f ≡ emptyStore groups homes
+  pub log : formatCall (f .given) .log ≡ afterFormat f .memory .log
+  pub area : formatCall (f .given) .area ≡ afterFormat f .memory .area
+
+abbrev pub FormatEmpties : Type 0
+FormatEmpties = (groups homes : ℕ) (f : Formatting groups homes) → Emptied groups homes f
+
+-- "KW of 64 zeros, FN" come first: a cut inside format's train leaves the old memory whole, or one that every opening refuses with 3, or the new
+-- empty store; never a mixture that opens.
+abbrev pub NeverOpens : Memory → Type 0
+NeverOpens m = (state batch : List ℕ) → length state ≡ stateBytes → openCall (loaded (unopened 0 m) state batch) .code ≡ 3
+
+abbrev pub FormatCut : Type 0
+FormatCut =
+    (groups homes : ℕ) (f : Formatting groups homes) (passed : ℕ) (chosen : ℕ → Bool) → let m : Memory = persist passed chosen (formatRecords f) (f .memory) in
+    (m ≡ f .memory) ⊎ (NeverOpens m ⊎ (m ≡ afterFormat f .memory))

@@ -4,28 +4,61 @@ use mathlib.Core.Path.{_≡_}
 use mathlib.Core.Bool.{Bool, true, false, cond, not}
 use mathlib.Core.List.{List, [], _∷_, _++_}
 use lib.Dec.{eqb}
-use lib.ListN.{take}
+use lib.ListN.{length, take}
 use Rattle.model.specs.Bytes.{zeros}
 use Rattle.model.specs.Batch.{Record, readBatch}
 use Rattle.model.specs.Effects.{Given, formattedLog}
-use Rattle.model.specs.Calls.{Outcome, openCall, beginCall, abortCall, storeCall, commitCall, flushCall, confirmCall, settleCall, trimCall, readCall}
+use Rattle.model.specs.Calls.{Outcome, formatCall, openCall, beginCall, abortCall, storeCall, commitCall, flushCall, confirmCall, settleCall, trimCall, readCall}
 use Rattle.model.specs.Crash.{Memory, fences, persist, fates}
 use Rattle.model.specs.Book as book
 use Rattle.model.specs.Book.{Book}
 
 -- A call with what the caller chooses: its numbers, its block and its batch buffer, of any contents and length. Open is lent a strip of any
 -- contents and length; every other call the strip as the last call left it.
+
+-- the calls that change the book
+pub data Change : Type 0 where
+  begins : (writer : ℕ) → Change
+  aborts : (writer : ℕ) → Change
+  stores : (writer home : ℕ) (block batch : List ℕ) → Change
+  commits : (writer : ℕ) (batch : List ℕ) → Change
+  flushes : (batch : List ℕ) → Change
+
+-- those that change nothing in it
+pub data Service : Type 0 where
+  settles : (batch : List ℕ) → Service
+  trims : (batch : List ℕ) → Service
+  reads : (writer home : ℕ) (block : List ℕ) → Service
+
 pub data Call : Type 0 where
   opening : (state batch : List ℕ) → Call
-  begin : (writer : ℕ) → Call
-  abort : (writer : ℕ) → Call
-  store : (writer home : ℕ) (block batch : List ℕ) → Call
-  commit : (writer : ℕ) (batch : List ℕ) → Call
-  flush : (batch : List ℕ) → Call
   confirm : Call
-  settle : (batch : List ℕ) → Call
-  trim : (batch : List ℕ) → Call
-  read : (writer home : ℕ) (block : List ℕ) → Call
+  change : Change → Call
+  service : Service → Call
+
+abbrev pub begin : ℕ → Call
+begin writer = change (begins writer)
+
+abbrev pub abort : ℕ → Call
+abort writer = change (aborts writer)
+
+abbrev pub store : ℕ → ℕ → List ℕ → List ℕ → Call
+store writer home block batch = change (stores writer home block batch)
+
+abbrev pub commit : ℕ → List ℕ → Call
+commit writer batch = change (commits writer batch)
+
+abbrev pub flush : List ℕ → Call
+flush batch = change (flushes batch)
+
+abbrev pub settle : List ℕ → Call
+settle batch = service (settles batch)
+
+abbrev pub trim : List ℕ → Call
+trim batch = service (trims batch)
+
+abbrev pub read : ℕ → ℕ → List ℕ → Call
+read writer home block = service (reads writer home block)
 
 -- a crash: how many fences have passed, and which pieces of the stretch after the last of them persisted
 pub data Event : Type 0 where
@@ -45,20 +78,45 @@ pub record World : Type 0 where
   pub ready : Bool
   pub book : Book
 
--- "At its start format's train has all landed."
-unfoldable pub afterFormat : ℕ → ℕ → World
-afterFormat groups homes =
+-- before an opening is done: a memory, with nothing pending and an empty book
+unfoldable pub unopened : ℕ → Memory → World
+unopened homes memory =
     record {
       homes = homes;
       state = [];
       log = [];
       area = [];
-      memory = record { log = formattedLog groups homes; area = zeros (64 * homes) };
+      memory = memory;
       pending = [];
       passed = 0;
       ready = false;
       book = book.empty;
     }
+
+-- A done format over a memory of any contents: what the call is lent, of any contents too. G and D are those of the memory and of the copies.
+pub record Formatting (groups homes : ℕ) : Type 0 where
+  pub memory : Memory
+  pub given : Given
+  pub logSize : length (memory .log) ≡ 64 + 512 * groups
+  pub areaSize : length (memory .area) ≡ 64 * homes
+  pub logCopy : length (given .log) ≡ 64 + 512 * groups
+  pub areaCopy : length (given .area) ≡ 64 * homes
+  pub done : formatCall given .code ≡ 0
+
+-- the records that the driver reads off its batch's bytes
+unfoldable pub formatRecords : {groups homes : ℕ} → Formatting groups homes → List Record
+formatRecords f = let o : Outcome = formatCall (f .given) in readBatch (take (o .size) (o .batch))
+
+-- "At its start format's train has all landed."
+unfoldable pub landed : List Record → Memory → Memory
+landed rs m = persist (fences rs) (λ i. true) rs m
+
+unfoldable pub afterFormat : {groups homes : ℕ} → Formatting groups homes → World
+afterFormat {homes = homes} f = unopened homes (landed (formatRecords f) (f .memory))
+
+-- the store that every format leaves
+unfoldable pub emptyStore : ℕ → ℕ → World
+emptyStore groups homes = unopened homes (record { log = formattedLog groups homes; area = zeros (64 * homes) })
 
 -- what a call is lent. An opening gets copies of both areas, loaded afresh; no other call comes before one is done, so there is nothing pending.
 unfoldable pub lent : World → List ℕ → List ℕ → ℕ → ℕ → Given
@@ -70,54 +128,49 @@ loaded w state batch =
     record { state = state; log = w .memory .log; area = w .memory .area; block = []; batch = batch; writer = 0; home = 0 }
 
 -- how a call ends
+unfoldable pub changeEnds : World → Change → Outcome
+changeEnds w (begins writer) = beginCall (lent w [] [] writer 0)
+changeEnds w (aborts writer) = abortCall (lent w [] [] writer 0)
+changeEnds w (stores writer home block batch) = storeCall (lent w block batch writer home)
+changeEnds w (commits writer batch) = commitCall (lent w [] batch writer 0)
+changeEnds w (flushes batch) = flushCall (lent w [] batch 0 0)
+
+unfoldable pub serviceEnds : World → Service → Outcome
+serviceEnds w (settles batch) = settleCall (lent w [] batch 0 0)
+serviceEnds w (trims batch) = trimCall (lent w [] batch 0 0)
+serviceEnds w (reads writer home block) = readCall (lent w block [] writer home)
+
 unfoldable pub ends : World → Call → Outcome
 ends w (opening state batch) = openCall (loaded w state batch)
-ends w (begin writer) = beginCall (lent w [] [] writer 0)
-ends w (abort writer) = abortCall (lent w [] [] writer 0)
-ends w (store writer home block batch) = storeCall (lent w block batch writer home)
-ends w (commit writer batch) = commitCall (lent w [] batch writer 0)
-ends w (flush batch) = flushCall (lent w [] batch 0 0)
 ends w confirm = confirmCall (lent w [] [] 0 0)
-ends w (settle batch) = settleCall (lent w [] batch 0 0)
-ends w (trim batch) = trimCall (lent w [] batch 0 0)
-ends w (read writer home block) = readCall (lent w block [] writer home)
+ends w (change c) = changeEnds w c
+ends w (service c) = serviceEnds w c
 
 -- what the book is fed by a done call: its arguments and its figure
+unfoldable pub feedChange : Book → Change → ℕ → Book
+feedChange b (begins writer) figure = book.begin b writer
+feedChange b (aborts writer) figure = book.abort b writer
+feedChange b (stores writer home block batch) figure = book.store b writer home block
+feedChange b (commits writer batch) figure = book.commit b writer figure
+feedChange b (flushes batch) figure = book.flush b
+
 unfoldable pub feed : Book → Call → ℕ → Book
 feed b (opening state batch) figure = book.withCommits b (book.owedAll (b .commits))
-feed b (begin writer) figure = book.begin b writer
-feed b (abort writer) figure = book.abort b writer
-feed b (store writer home block batch) figure = book.store b writer home block
-feed b (commit writer batch) figure = book.commit b writer figure
-feed b (flush batch) figure = book.flush b
 feed b confirm figure = book.withCommits b (book.owedBy figure (b .commits))
-feed b (settle batch) figure = b
-feed b (trim batch) figure = b
-feed b (read writer home block) figure = b
+feed b (change c) figure = feedChange b c figure
+feed b (service c) figure = b
 
 unfoldable pub isOpening : Call → Bool
 isOpening (opening state batch) = true
-isOpening (begin writer) = false
-isOpening (abort writer) = false
-isOpening (store writer home block batch) = false
-isOpening (commit writer batch) = false
-isOpening (flush batch) = false
 isOpening confirm = false
-isOpening (settle batch) = false
-isOpening (trim batch) = false
-isOpening (read writer home block) = false
+isOpening (change c) = false
+isOpening (service c) = false
 
 unfoldable pub isConfirm : Call → Bool
 isConfirm (opening state batch) = false
-isConfirm (begin writer) = false
-isConfirm (abort writer) = false
-isConfirm (store writer home block batch) = false
-isConfirm (commit writer batch) = false
-isConfirm (flush batch) = false
 isConfirm confirm = true
-isConfirm (settle batch) = false
-isConfirm (trim batch) = false
-isConfirm (read writer home block) = false
+isConfirm (change c) = false
+isConfirm (service c) = false
 
 -- the world after a done call. The driver reads the records off the batch's bytes; "a fence is confirmed only when passed".
 unfoldable pub afterDone : World → Call → Outcome → World
@@ -134,10 +187,25 @@ afterDone w c o =
       book = feed (w .book) c (o .figure);
     }
 
--- a refused call changes nothing
+-- The world after a refused call is what the call left, and the book is not fed. Of a refused opening strip and copies are dropped: the next one
+-- loads the areas afresh.
+unfoldable pub afterRefused : World → Call → Outcome → World
+afterRefused w c o =
+    record {
+      homes = w .homes;
+      state = cond (isOpening c) (w .state) (o .state);
+      log = cond (isOpening c) (w .log) (o .log);
+      area = cond (isOpening c) (w .area) (o .area);
+      memory = w .memory;
+      pending = w .pending ++ readBatch (take (o .size) (o .batch));
+      passed = w .passed;
+      ready = w .ready;
+      book = w .book;
+    }
+
 unfoldable pub afterCall : World → Call → Outcome → ℕ → World
 afterCall w c o zero = afterDone w c o
-afterCall w c o (suc code) = w
+afterCall w c o (suc code) = afterRefused w c o
 
 unfoldable pub afterCrash : World → ℕ → (ℕ → Bool) → World
 afterCrash w passed chosen =
@@ -170,3 +238,7 @@ Allowed w (crash passed chosen) = (w .passed ≤ passed) × (passed ≤ fences (
 abbrev pub AllAllowed : World → List Event → Type 0
 AllAllowed w [] = Unit {0}
 AllAllowed w (e ∷ es) = Allowed w e × AllAllowed (step w e) es
+
+-- a claim about every history that begins with a done format and meets the premises
+abbrev pub Always : (World → List Event → Type 0) → Type 0
+Always Claim = (groups homes : ℕ) (f : Formatting groups homes) (es : List Event) → AllAllowed (afterFormat f) es → Claim (afterFormat f) es

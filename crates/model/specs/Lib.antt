@@ -7,10 +7,12 @@ pub mod State
 pub mod Effects
 pub mod Questions
 pub mod Calls
+pub mod Refusals
 pub mod Crash
 pub mod Book
 pub mod History
 pub mod Demands
+pub mod Store
 pub mod Trials
 pub mod Witnesses
 pub mod Facts

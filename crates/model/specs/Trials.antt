@@ -1,17 +1,17 @@
 -- The paper's marked trials (G 4, D 8), as one table: what each yields, against the figures of the paper. Trials 1 to 9 begin just after opening a
 -- new format and count positions and starts from that opening's.
-use Prim.Native.Nat.{ℕ, zero, suc, _+_, _-_, _*_, _/_, _%_}
+use Prim.Native.Nat.{ℕ, zero, suc, _+_, _-_, _*_, _/_, _%_, _^_}
 use mathlib.Core.Bool.{Bool, true, false, cond, not, _&&_}
 use mathlib.Core.List.{List, [], _∷_, _++_}
 use lib.Dec.{eqb}
-use lib.ListN.{length, getD, replicate}
-use Rattle.model.specs.Bytes.{zeros, same}
+use lib.ListN.{length, getD, drop, replicate}
+use Rattle.model.specs.Bytes.{puts, zeros, same}
 use Rattle.model.specs.Tag.{closingWord}
-use Rattle.model.specs.Layout.{groupAt, groupTag, slotOf, indexOf, homeAt}
+use Rattle.model.specs.Layout.{header, groupAt, groupTag, slotOf, indexOf, homeAt}
 use Rattle.model.specs.State.{State, stateOf, nextPosition}
 use Rattle.model.specs.Effects.{Given}
-use Rattle.model.specs.Calls.{Outcome, formatCall}
-use Rattle.model.specs.History.{Call, opening, begin, abort, store, commit, flush, confirm, settle, trim, read, Event, call, crash, World, afterFormat, ends, step}
+use Rattle.model.specs.Calls.{Outcome, formatCall, openCall}
+use Rattle.model.specs.History.{Call, opening, begin, abort, store, commit, flush, confirm, settle, trim, read, Event, call, crash, World, emptyStore, ends, step}
 
 -- a batch buffer that suffices, and a block of one byte
 unfoldable pub room : List ℕ
@@ -34,7 +34,7 @@ answers w (c ∷ cs) = answerOf (ends w c) ++ answers (step w (call c)) cs
 
 -- just after opening a new format: start 4, position 28
 unfoldable pub fresh : World
-fresh = step (afterFormat 4 8) (call (opening (zeros 1024) room))
+fresh = step (emptyStore 4 8) (call (opening (zeros 1024) room))
 
 unfoldable pub base : ℕ
 base = 28
@@ -104,26 +104,21 @@ unfoldable pub inTurn : ℕ → List Call
 inTurn zero = []
 inTurn (suc n) = store 0 0 (fill 3) room ∷ store 0 1 (fill 4) room ∷ inTurn n
 
--- after 28 stores
-unfoldable pub nearlyFull : World
-nearlyFull = goes fresh (begin 0 ∷ inTurn 14)
+-- the answers of some calls, and after them something of the world that they leave
+unfoldable pub answersThen : World → List Call → (World → List ℕ) → List ℕ
+answersThen w [] last = last w
+answersThen w (c ∷ cs) last = answerOf (ends w c) ++ answersThen (step w (call c)) cs last
 
-unfoldable pub one : Call
-one = store 0 0 (fill 3) room
+-- after 28 stores: the 29th, which hands the last group on, the 30th, one for the held home, which is taken, and a commit; then the rest
+unfoldable pub fullAndFreed : List Call
+fullAndFreed =
+    store 0 0 (fill 3) room ∷ store 0 1 (fill 4) room ∷ store 0 0 (fill 5) room ∷ commit 0 room ∷ abort 0 ∷ flush room ∷ settle room ∷ trim room ∷ []
 
 -- 6. "Writer 0 stores homes 0 and 1 in turn: the 29th is taken, the 30th answers 8. Commit answers 8."
-unfoldable pub trial6 : List ℕ
-trial6 =
-    let w : World = nearlyFull in
-    let full : World = step w (call one) in
-    ends w one .code ∷ ends full (store 0 1 (fill 4) room) .code ∷ ends full (commit 0 room) .code ∷ []
-
 -- 7. "Then abort, flush (2 bytes), settle (2), trim (68): start 4, all places free." All are free where the next position is the start's.
-unfoldable pub trial7 : List ℕ
-trial7 =
-    let full : World = step nearlyFull (call one) in
-    let w : World = goes full (abort 0 ∷ flush room ∷ settle room ∷ trim room ∷ []) in
-    answers full (abort 0 ∷ flush room ∷ settle room ∷ trim room ∷ []) ++ (startOf w ∷ (nextOf w - 7 * startOf w) ∷ [])
+unfoldable pub trial6and7 : List ℕ
+trial6and7 =
+    drop (3 * 29) (answersThen fresh (begin 0 ∷ inTurn 14 ++ fullAndFreed) (λ w. startOf w ∷ (nextOf w - 7 * startOf w) ∷ []))
 
 -- 8. "Commit with no store: ticket 0, no entry."
 unfoldable pub trial8 : List ℕ
@@ -143,7 +138,25 @@ unformatted =
     record { state = []; log = zeros (64 + 512 * 4); area = zeros (64 * 8); block = []; batch = zeros 2746; writer = 0; home = 0 }
 
 unfoldable pub trial10 : List ℕ
-trial10 = reopened (afterFormat 4 8) ++ answerOf (formatCall unformatted)
+trial10 = reopened (emptyStore 4 8) ++ answerOf (formatCall unformatted)
+
+-- 13. "Open with start 2^47 − 4: done; 2^47 − 3: 10." It is not marked, but no history reaches such a start. Without a batch too it answers 10:
+-- question 9 comes before question 10.
+unfoldable pub startingAt : ℕ → List ℕ → Given
+startingAt start batch =
+    record {
+      state = zeros 1024;
+      log = puts (zeros (64 + 512 * 4)) 0 (header start 4 8);
+      area = zeros (64 * 8);
+      block = [];
+      batch = batch;
+      writer = 0;
+      home = 0;
+    }
+
+unfoldable pub trial13 : List ℕ
+trial13 =
+    openCall (startingAt (2 ^ 47 - 4) room) .code ∷ openCall (startingAt (2 ^ 47 - 3) room) .code ∷ openCall (startingAt (2 ^ 47 - 3) []) .code ∷ []
 
 -- the table: what a trial yields, and what the paper says. An answer is the number, the figure and the batch length.
 pub record Trial : Type 0 where
@@ -154,10 +167,14 @@ unfoldable pub trials : List Trial
 trials =
     record { yields = trial1; paper = 5 ∷ 2199023271947 ∷ 518 ∷ [] } ∷ record { yields = trial2; paper = 3298534916119 ∷ [] }
     ∷ record { yields = trial3; paper = 65 ∷ 65 ∷ [] } ∷ record { yields = trial4; paper = 0 ∷ 1 ∷ 138 ∷ [] }
-    ∷ record { yields = trial5; paper = 0 ∷ 0 ∷ 70 ∷ [] } ∷ record { yields = trial6; paper = 0 ∷ 8 ∷ 8 ∷ [] }
-    ∷ record { yields = trial7; paper = 0 ∷ 0 ∷ 0 ∷ 0 ∷ 0 ∷ 2 ∷ 0 ∷ 0 ∷ 2 ∷ 0 ∷ 0 ∷ 68 ∷ 4 ∷ 0 ∷ [] }
+    ∷ record { yields = trial5; paper = 0 ∷ 0 ∷ 70 ∷ [] }
+    ∷ record {
+      yields = trial6and7;
+      paper =
+          0 ∷ 0 ∷ 516 ∷ 8 ∷ 0 ∷ 0 ∷ 0 ∷ 0 ∷ 0 ∷ 8 ∷ 0 ∷ 0 ∷ 0 ∷ 0 ∷ 0 ∷ 0 ∷ 0 ∷ 2 ∷ 0 ∷ 0 ∷ 2 ∷ 0 ∷ 0 ∷ 68 ∷ 4 ∷ 0 ∷ [];
+    }
     ∷ record { yields = trial8; paper = 0 ∷ 0 ∷ 0 ∷ 0 ∷ 0 ∷ 0 ∷ 0 ∷ [] } ∷ record { yields = trial9; paper = 0 ∷ 0 ∷ 0 ∷ 0 ∷ [] }
-    ∷ record { yields = trial10; paper = 0 ∷ 0 ∷ 70 ∷ 0 ∷ 0 ∷ 2746 ∷ [] } ∷ []
+    ∷ record { yields = trial10; paper = 0 ∷ 0 ∷ 70 ∷ 0 ∷ 0 ∷ 2746 ∷ [] } ∷ record { yields = trial13; paper = 0 ∷ 10 ∷ 10 ∷ [] } ∷ []
 
 unfoldable pub allMatch : List Trial → Bool
 allMatch [] = true

@@ -1,14 +1,44 @@
--- Histories that meet the premises, so that the claims over all histories are not empty: trials 4 and 5 with the crash that loses the first group,
--- and a crash inside an opening after which the next one brings the commit back.
-use Prim.Native.Nat.{ℕ, zero, suc}
+-- A history that meets the premises, so that the claims over all histories are not empty.
+use Prim.Native.Nat.{ℕ, zero, suc, _+_, _*_}
 use mathlib.Core.Bool.{Bool, true, false, not, _&&_}
 use mathlib.Core.List.{List, [], _∷_, _++_}
 use lib.Dec.{eqb, leb}
-use lib.ListN.{length}
-use Rattle.model.specs.Bytes.{zeros}
-use Rattle.model.specs.Crash.{fences}
-use Rattle.model.specs.History.{Call, opening, begin, abort, store, commit, flush, confirm, settle, trim, read, Event, call, crash, World, afterFormat, ends, isOpening, step, after}
-use Rattle.model.specs.Trials.{room, fill, stores, commits}
+use lib.ListN.{length, take, drop, replicate}
+use Rattle.model.specs.Bytes.{puts, zeros, same}
+use Rattle.model.specs.Layout.{header}
+use Rattle.model.specs.Batch.{readBatch}
+use Rattle.model.specs.Effects.{Given}
+use Rattle.model.specs.Calls.{Outcome, formatCall, openCall}
+use Rattle.model.specs.Crash.{Memory, fences, persist}
+use Rattle.model.specs.History.{Call, opening, begin, abort, store, commit, flush, confirm, settle, trim, read, Event, call, crash, World, unopened, emptyStore, loaded, ends, isOpening, step}
+use Rattle.model.specs.Trials.{room, fill, answerOf}
+
+-- A format over a store in use, with copies of the same: a header that opens, bytes of 255 elsewhere.
+unfoldable pub usedBefore : Memory
+usedBefore = record { log = puts (replicate (64 + 512 * 4) 255) 0 (header 8 4 8); area = replicate (64 * 8) 255 }
+
+unfoldable pub usedCopies : Given
+usedCopies =
+    record { state = []; log = usedBefore .log; area = usedBefore .area; block = []; batch = zeros 2746; writer = 0; home = 0 }
+
+-- what its train leaves after some fences, with all or none of the writes up to the next
+unfoldable pub formatLeaves : ℕ → Bool → Memory
+formatLeaves passed all = let o : Outcome = formatCall usedCopies in persist passed (λ i. all) (readBatch (take (o .size) (o .batch))) usedBefore
+
+-- what an opening of a memory answers
+unfoldable pub opensWith : Memory → ℕ
+opensWith m = openCall (loaded (unopened 8 m) (zeros 1024) room) .code
+
+-- landed whole, it is the empty store, and the copies hold the same; cut, it is the old store, none that opens, or the new one
+unfoldable pub formatsSo : Bool
+formatsSo =
+    let o : Outcome = formatCall usedCopies in
+    let m : Memory = formatLeaves 3 false in
+    same (m .log) (emptyStore 4 8 .memory .log) && same (m .area) (zeros (64 * 8)) && same (o .log) (m .log) && same (o .area) (m .area)
+    && same
+    (opensWith (formatLeaves 0 false) ∷ opensWith (formatLeaves 0 true) ∷ opensWith (formatLeaves 1 false) ∷ opensWith (formatLeaves 1 true)
+    ∷ opensWith (formatLeaves 2 false) ∷ opensWith (formatLeaves 2 true) ∷ opensWith m ∷ [])
+    (0 ∷ 3 ∷ 3 ∷ 3 ∷ 3 ∷ 0 ∷ 0 ∷ [])
 
 -- the premises as a test
 unfoldable pub alike : Bool → Bool → Bool
@@ -19,10 +49,6 @@ unfoldable pub allowed : World → Event → Bool
 allowed w (call c) = alike (isOpening c) (not (w .ready))
 allowed w (crash passed chosen) = leb (w .passed) passed && leb passed (fences (w .pending))
 
-unfoldable pub allAllowed : World → List Event → Bool
-allAllowed w [] = true
-allAllowed w (e ∷ es) = allowed w e && allAllowed (step w e) es
-
 unfoldable pub calls : List Call → List Event
 calls [] = []
 calls (c ∷ cs) = call c ∷ calls cs
@@ -30,25 +56,87 @@ calls (c ∷ cs) = call c ∷ calls cs
 unfoldable pub reopen : Event
 reopen = call (opening (zeros 1024) room)
 
--- "group 0 lost": the opening's fences have passed, the first group written since has not persisted
-unfoldable pub loseFirst : Event
-loseFirst = crash 2 (λ i. not (eqb i 0))
+-- Two eras with every call, every refusal number that a history can meet (1 and 4 to 9; strip and header stay in order, and 10 needs
+-- 2^47 groups), a confirm, settles, trims, a ring that wraps, a crash that loses one group of two, and a crash inside an opening.
 
-unfoldable pub history4 : List Event
-history4 = reopen ∷ (calls (stores ++ (abort 0 ∷ commits)) ++ (loseFirst ∷ reopen ∷ []))
+-- two refused openings and a done one; refusals
+unfoldable pub refusals : List Event
+refusals =
+    call (opening [] room) ∷ call (opening (zeros 1024) []) ∷ reopen
+    ∷ calls (begin 8 ∷ begin 0 ∷ begin 0 ∷ store 0 8 (fill 1) room ∷ store 1 0 (fill 1) room ∷ store 0 0 [] room ∷ read 0 0 (zeros 64) ∷ [])
 
-unfoldable pub history5 : List Event
-history5 = reopen ∷ (calls (stores ++ (commit 0 room ∷ commits)) ++ (loseFirst ∷ reopen ∷ []))
+-- writer 0 fills group 4, which is not fenced yet: nothing to settle, nothing to trim
+unfoldable pub seven : List Event
+seven =
+    calls (store 0 0 (fill 9) room ∷ store 0 1 (fill 9) room ∷ store 0 2 (fill 9) room ∷ store 0 3 (fill 9) room ∷ store 0 4 (fill 9) room
+    ∷ store 0 5 (fill 9) room ∷ store 0 6 (fill 9) room ∷ commit 0 room ∷ settle room ∷ trim room ∷ [])
 
--- one commit, a flush and a crash after its fence; an opening of which nothing persists; another
-unfoldable pub historyInside : List Event
-historyInside =
-    reopen ∷ (calls (begin 0 ∷ store 0 3 (fill 5) room ∷ commit 0 room ∷ flush room ∷ [])
-    ++ (crash 3 (λ i. false) ∷ reopen ∷ crash 0 (λ i. false) ∷ reopen ∷ []))
+-- a commit in a group of its own
+unfoldable pub alone : ℕ → ℕ → List Event
+alone home byte = calls (begin 0 ∷ store 0 home (fill byte) room ∷ commit 0 room ∷ flush room ∷ [])
 
--- how many commits the book has after a history, and whether an opening is done
-unfoldable pub commitsAfter : List Event → ℕ
-commitsAfter es = length (after (afterFormat 4 8) es .book .commits)
+-- the log is full, until it is settled and trimmed; writer 1's commit then takes the first ring slot again
+unfoldable pub wraps : List Event
+wraps =
+    calls (begin 1 ∷ store 1 4 (fill 14) room ∷ commit 1 room ∷ confirm ∷ settle [] ∷ settle room ∷ trim room ∷ commit 1 room ∷ [])
 
-unfoldable pub readyAfter : List Event → Bool
-readyAfter es = after (afterFormat 4 8) es .ready
+-- writer 0's commit lies in two groups, of which the crash loses the second
+unfoldable pub loses : List Event
+loses =
+    calls (begin 0 ∷ store 0 0 (fill 7) room ∷ store 0 1 (fill 7) room ∷ store 0 2 (fill 7) room ∷ store 0 3 (fill 7) room
+    ∷ store 0 4 (fill 7) room ∷ store 0 5 (fill 7) room ∷ store 0 6 (fill 7) (zeros 515) ∷ store 0 6 (fill 7) room ∷ store 0 7 (fill 7) room
+    ∷ commit 0 room ∷ flush room ∷ abort 0 ∷ [])
+    ++ (crash 8 (λ i. eqb i 0) ∷ [])
+
+-- a refused opening, one whose header is lost, and the second era
+unfoldable pub again : List Event
+again =
+    call (opening (zeros 1024) []) ∷ reopen ∷ crash 1 (λ i. false) ∷ reopen
+    ∷ calls (begin 2 ∷ abort 2 ∷ begin 0 ∷ store 0 4 (fill 20) room ∷ commit 0 room ∷ flush room ∷ confirm ∷ [])
+    ++ (crash 3 (λ i. false) ∷ reopen ∷ [])
+
+unfoldable pub history : List Event
+history = refusals ++ (seven ++ (alone 0 10 ++ (alone 1 11 ++ (alone 2 12 ++ (wraps ++ (loses ++ again))))))
+
+-- those of a call without figure and batch
+unfoldable pub plain : List ℕ → List ℕ
+plain [] = []
+plain (n ∷ ns) = n ∷ 0 ∷ 0 ∷ plain ns
+
+-- what its calls answer
+unfoldable pub answered : List ℕ
+answered =
+    plain (1 ∷ 9 ∷ []) ++ (0 ∷ 0 ∷ 70 ∷ plain (4 ∷ 0 ∷ 6 ∷ 5 ∷ 7 ∷ 1 ∷ 0 ∷ []))
+    ++ (plain (0 ∷ 0 ∷ 0 ∷ 0 ∷ 0 ∷ 0 ∷ 0 ∷ []) ++ (0 ∷ 35 ∷ 516 ∷ 0 ∷ 0 ∷ 2 ∷ 0 ∷ 0 ∷ 0 ∷ []))
+    ++ (plain (0 ∷ 0 ∷ []) ++ (0 ∷ 36 ∷ 0 ∷ 0 ∷ 0 ∷ 518 ∷ []))
+    ++ (plain (0 ∷ 0 ∷ []) ++ (0 ∷ 43 ∷ 0 ∷ 0 ∷ 0 ∷ 518 ∷ []))
+    ++ (plain (0 ∷ 0 ∷ []) ++ (0 ∷ 50 ∷ 0 ∷ 0 ∷ 0 ∷ 518 ∷ []))
+    ++ (plain (0 ∷ 0 ∷ 8 ∷ []) ++ (0 ∷ 56 ∷ 0 ∷ 9 ∷ 0 ∷ 0 ∷ 0 ∷ 0 ∷ 478 ∷ 0 ∷ 0 ∷ 68 ∷ 0 ∷ 57 ∷ 0 ∷ []))
+    ++ (plain (0 ∷ 0 ∷ 0 ∷ 0 ∷ 0 ∷ 0 ∷ 0 ∷ 9 ∷ []) ++ (0 ∷ 0 ∷ 516 ∷ 0 ∷ 0 ∷ 0 ∷ 0 ∷ 65 ∷ 0 ∷ 0 ∷ 0 ∷ 518 ∷ 7 ∷ 0 ∷ 0 ∷ []))
+    ++ (9 ∷ 0 ∷ 0 ∷ 0 ∷ 1 ∷ 138 ∷ 0 ∷ 1 ∷ 138 ∷ plain (0 ∷ 0 ∷ 0 ∷ 0 ∷ []))
+    ++ (0 ∷ 85 ∷ 0 ∷ 0 ∷ 0 ∷ 518 ∷ 0 ∷ 91 ∷ 0 ∷ 0 ∷ 1 ∷ 138 ∷ [])
+
+-- eight homes, each of one byte throughout
+unfoldable pub filledWith : List ℕ → List ℕ
+filledWith [] = []
+filledWith (b ∷ bs) = fill b ++ filledWith bs
+
+-- whether a history meets the premises, each call answers the number, figure and batch length that are listed, and at the end an opening is done, the
+-- book has so many commits and the data copy so many bytes a home
+unfoldable pub endsSo : World → ℕ → List ℕ → Bool
+endsSo w commits homes = w .ready && eqb (length (w .book .commits)) commits && same (w .area) (filledWith homes)
+
+unfoldable pub goesSo : World → List Event → List ℕ → ℕ → List ℕ → Bool
+goesSo w [] answers commits homes = same answers [] && endsSo w commits homes
+goesSo w (call c ∷ es) answers commits homes =
+    allowed w (call c) && same (answerOf (ends w c)) (take 3 answers) && goesSo (step w (call c)) es (drop 3 answers) commits homes
+goesSo w (crash passed chosen ∷ es) answers commits homes =
+    allowed w (crash passed chosen) && goesSo (step w (crash passed chosen)) es answers commits homes
+
+-- six commits survive; of the lost one nothing stays
+unfoldable pub goesAsListed : Bool
+goesAsListed = goesSo (emptyStore 4 8) history answered 6 (10 ∷ 11 ∷ 12 ∷ 9 ∷ 20 ∷ 9 ∷ 9 ∷ 0 ∷ [])
+
+-- an opening of a new format is done with more groups too
+unfoldable pub opensLarger : List ℕ
+opensLarger = answerOf (ends (emptyStore 5 1) (opening (zeros 1024) room))

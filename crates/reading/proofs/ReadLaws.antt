@@ -5,7 +5,6 @@ use mathlib.Core.List.{List}
 use mathlib.Core.Option.{Option, none, some}
 use Prim.Native.Nat.{ℕ, zero, suc, _+_, _-_, _*_, _/_, _%_, _≤_, _<_}
 use native.Mathlib.Nat.{mod-lt}
-use native.Mathlib.Decide.{ℕ-discrete}
 use native.Mathlib.Omega.{arith}
 use lib.Dec.{ltb, eqb}
 use lib.ListN.{length}
@@ -21,13 +20,13 @@ use Rattle.model.specs.Effects.{Given, groups, homes, liveTags, liveBase, newes
 use Rattle.model.specs.Batch.{batchBytes}
 use Rattle.model.specs.Questions.{writerKnown, homeKnown, askBlock, readAnswer}
 use Rattle.model.specs.Calls.{readCall}
-use Rattle.model.proofs.ByteLaws.{part-within, puts-nil, puts-whole, length-part}
-use Rattle.model.proofs.OrderLaws.{InOrder}
+use Rattle.model.proofs.bytes.ByteLaws.{part-within, puts-nil, puts-whole, length-part}
+use Rattle.model.proofs.strip.OrderLaws.{InOrder, next-within}
 use Rattle.answers.proofs.AnswerLaws.{Usable, block-refuses, block-passes, block-stops, block-usable, refused-by, done-by}
 use Rattle.answers.specs.Lent.{leaves}
-use Rattle.model.proofs.QuestionLaws.{ask-yes, ask-no, ask-passed}
-use Rattle.replay.specs.Codes.{codeOf}
-use Rattle.replay.specs.Seen.{ownBy, seenBy}
+use Rattle.model.proofs.strip.QuestionLaws.{ask-yes, ask-no, ask-passed}
+use Rattle.search.specs.Codes.{codeOf}
+use Rattle.search.specs.Seen.{ownBy, seenBy}
 use Rattle.reading.specs.Newest.{tagsOf, live, ownCode, ownEntry, committedEntry, seenEntry, Searchable}
 
 -- ---- what a usable store gives the search
@@ -37,7 +36,6 @@ pub searchable : (log area state : List ℕ) (st : State) (home : ℕ) → Usabl
 unfolding nextPosition
 searchable log area state st home u e h =
     let o = u .order in
-    let f = o .filled-none in
     rw e
     (record {
       long = omega arith;
@@ -46,16 +44,9 @@ searchable log area state st home u e h =
       homes-most = omega arith;
       low = o .start-most;
       first = omega arith;
-      within = top (stateOf state .next) (stateOf state .start + stateOf state .groups) (stateOf state .filled) (o .next-most) (o .filled-most) f;
+      within = rw (o .groups-same) (next-within state _ _ o);
       known = omega arith;
     })
-  where
-    top : (n m k : ℕ) → n ≤ m → k ≤ 6 → (n ≡ m → k ≡ 0) → 7 * n + k ≤ 7 * m
-    top n m k a b f = go (ℕ-discrete n m)
-      where
-        go : Dec (n ≡ m) → 7 * n + k ≤ 7 * m
-        go (yes e) = omega (arith, f e)
-        go (no e) = omega arith
 
 pub own-first : (log area state : List ℕ) (st : State) (r : Writer) (w : ℕ) → Usable log area state → st ≡ stateOf state → r ≡ writerOf state w → w < 8
     → 3 ≤ r .mode → (7 * st .start ≤ r .first) × (r .first < nextPosition st)

@@ -4,7 +4,7 @@ use model::Writer;
 ghost use mathlib.Core.Path.{_≡_};
 ghost use Prim.Native.Nat.{_*_, _-_, _^_, _≤_, _<_};
 ghost use Rattle.model.specs.State.{nextPosition};
-ghost use Rattle.replay.specs.Codes.{codeOf};
+ghost use Rattle.search.specs.Codes.{codeOf};
 ghost use Rattle.reading.specs.Newest.{Searchable, ownCode, seenEntry};
 
 // How many positions there are from the start of the log to the next one.
@@ -36,5 +36,5 @@ pub fn seen(log: &[u8], st: State, r: Writer, home: u64) -> u64
         return 0;
     }
     let begun = own(r);
-    replay::newest_seen(log, st.groups, st.homes, st.start, n, home, begun)
+    search::newest_seen(log, st.groups, st.homes, st.start, n, home, begun)
 }

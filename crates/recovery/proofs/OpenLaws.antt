@@ -16,13 +16,13 @@ use Rattle.model.specs.Effects.{Given, marked, replayed, homeWrites, openTags, 
 use Rattle.model.specs.Questions.{ask, areasRight, stateRight, headerFits, startFits, batchFits, openAnswer}
 use Rattle.model.specs.Calls.{sizeOf, openCall}
 use Rattle.model.specs.declared.Tag.{Tag}
-use Rattle.model.proofs.ByteLaws.{puts-append}
-use Rattle.model.proofs.LayoutLaws.{length-header}
-use Rattle.model.proofs.BatchLaws.{length-FN, length-KW}
-use Rattle.model.proofs.QuestionLaws.{ask-yes, ask-no, ask-passed}
-use Rattle.model.proofs.OrderLaws.{tests}
+use Rattle.model.proofs.bytes.ByteLaws.{puts-append}
+use Rattle.model.proofs.bytes.LayoutLaws.{length-header}
+use Rattle.model.proofs.strip.BatchLaws.{length-FN, length-KW}
+use Rattle.model.proofs.strip.QuestionLaws.{ask-yes, ask-no, ask-passed}
+use Rattle.model.proofs.strip.OrderLaws.{tests}
 use Rattle.bitmap.specs.Marks.{marks}
-use Rattle.replay.specs.Walk.{closedBelow}
+use Rattle.scan.specs.Walk.{closedBelow}
 use Rattle.answers.specs.Lent.{lent, leaves}
 use Rattle.answers.proofs.AnswerLaws.{refused-by, done-by}
 use Rattle.recovery.specs.Opens.{askOpen}

@@ -1,34 +1,28 @@
 -- What the walk and the marks give together: the committed transactions and the homes that they touch; and the records of those homes with
 -- what follows them. Assumes nothing.
 use mathlib.Core.Path.{_≡_, refl, sym, ap, _∙_}
-use mathlib.Core.Bool.{Bool, true, false, _||_}
-use mathlib.Core.Logic.{_⊎_, inl, inr}
+use mathlib.Core.Bool.{Bool, true, false}
 use mathlib.Core.List.{List, [], _∷_, _++_}
-use mathlib.Core.Option.{none, some}
+use mathlib.Core.Option.{some}
 use Prim.Native.Nat.{ℕ, suc, _+_, _-_, _*_, _≤_, _<_}
 use native.Mathlib.Omega.{arith}
-use lib.Dec.{eqb, leb}
-use lib.ListN.{length, replicate, length-append}
-use borrow.Author.Tests.{leb-true, leb-false, ne-eqb}
+use lib.ListN.{length, length-append}
 use Rattle.model.specs.Bytes.{puts}
-use Rattle.model.specs.Tag.{homeOf}
 use Rattle.model.specs.Layout.{entryAt}
-use Rattle.model.specs.Commit.{Span, committed, eachEntries, transactions, newestIn, orElse, newest, found}
+use Rattle.model.specs.Commit.{Span, committed, eachEntries, transactions, newest, found}
 use Rattle.model.specs.Batch.{Record, FN, recordBytes, batchBytes}
 use Rattle.model.specs.Effects.{marked, touched, replayed, homeWrites}
 use Rattle.model.specs.declared.Tag.{Tag}
-use Rattle.model.proofs.ByteLaws.{puts-append}
-use Rattle.model.proofs.BatchLaws.{batch-append, batch-one}
-use Rattle.model.proofs.TraceLaws.{All}
-use Rattle.model.proofs.Closings.{endOf}
-use Rattle.model.proofs.ClosingLaws.{committed-closings, committed-within}
-use Rattle.model.proofs.ReplayLaws.{Good, good-found, length-replayed}
+use Rattle.model.proofs.bytes.ByteLaws.{puts-append}
+use Rattle.model.proofs.strip.BatchLaws.{batch-append, batch-one}
+use Rattle.model.proofs.rule.Closings.{endOf}
+use Rattle.model.proofs.rule.ClosingLaws.{committed-closings, committed-most}
+use Rattle.model.proofs.trace.ReplayLaws.{length-replayed}
 use Rattle.bitmap.specs.Marks.{marks}
-use Rattle.bitmap.proofs.MapLaws.{marks-none}
 use Rattle.bitmap.proofs.MarkedLaws.{marked-agree, length-marked}
 use Rattle.homes.specs.Within.{Within}
 use Rattle.homes.proofs.HomeLaws.{length-writes, within-marked}
-use Rattle.replay.specs.Walk.{Walkable, closedBelow}
+use Rattle.scan.specs.Walk.{Walkable, closedBelow}
 use Rattle.replay.specs.Restore.{Gathered}
 use Rattle.replay.proofs.RestoreLaws.{marked-below}
 use Rattle.recovery.specs.Plans.{Searchable, Planned, Replayable}
@@ -48,15 +42,8 @@ end-within log groups homes start n end s e =
       some = omega arith;
       most = s .most;
       low = s .low;
-      within = go (committed-within (entryAt log groups homes start) (7 * start) n);
+      within = omega (arith, e, committed-most (entryAt log groups homes start) (7 * start) n, s .within);
     }
-  where
-    go : (endOf (committed (entryAt log groups homes start) (7 * start) n) ≡ 0)
-        ⊎ ((7 * start < endOf (committed (entryAt log groups homes start) (7 * start) n))
-        × (endOf (committed (entryAt log groups homes start) (7 * start) n) ≤ 7 * start + n))
-        → end ≤ 7 * (start + groups)
-    go (inl z) = omega arith
-    go (inr z) = omega arith
 
 below-end : (log : List ℕ) (groups homes start n end : ℕ) → end ≡ endOf (committed (entryAt log groups homes start) (7 * start) n)
     → closedBelow log groups homes start end ≡ transactions (entryAt log groups homes start) (7 * start) n

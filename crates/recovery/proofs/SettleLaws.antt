@@ -14,11 +14,11 @@ use Rattle.model.specs.State.{stateOf, setSettled, setFenced}
 use Rattle.model.specs.Effects.{Given, marked, replayed, homeWrites, liveTags, liveBase, settleEffect}
 use Rattle.model.specs.Questions.{ask, askState, batchFits, settleAnswer}
 use Rattle.model.specs.Calls.{sizeOf, settleCall}
-use Rattle.model.proofs.BatchLaws.{batch-one, length-FN}
-use Rattle.model.proofs.QuestionLaws.{ask-yes, ask-no}
-use Rattle.model.proofs.OrderLaws.{InOrder}
+use Rattle.model.proofs.strip.BatchLaws.{batch-one, length-FN}
+use Rattle.model.proofs.strip.QuestionLaws.{ask-yes, ask-no}
+use Rattle.model.proofs.strip.OrderLaws.{InOrder}
 use Rattle.bitmap.specs.Marks.{marks}
-use Rattle.replay.specs.Walk.{closedBelow}
+use Rattle.scan.specs.Walk.{closedBelow}
 use Rattle.answers.specs.Lent.{lent, leaves}
 use Rattle.answers.proofs.AnswerLaws.{Usable, state-usable, state-only, state-refuses, state-passes, refused-by, done-by}
 use Rattle.recovery.specs.Plans.{Searchable, Planned}

@@ -7,7 +7,7 @@ use Rattle.model.specs.Layout.{entryAt}
 use Rattle.model.specs.Commit.{transactions}
 use Rattle.model.specs.Effects.{marked, touched}
 use Rattle.bitmap.specs.Marks.{marks}
-use Rattle.replay.specs.Walk.{Walkable, closedBelow}
+use Rattle.scan.specs.Walk.{Walkable, closedBelow}
 use Rattle.replay.specs.Restore.{Gathered}
 
 -- a log copy whose n positions from the start on can be walked over

@@ -7,7 +7,7 @@ ghost use Rattle.model.specs.Layout.{entryAt};
 ghost use Rattle.model.specs.Batch.{batchBytes};
 ghost use Rattle.model.specs.Effects.{marked, replayed, homeWrites};
 ghost use Rattle.bitmap.specs.Marks.{marks};
-ghost use Rattle.replay.specs.Walk.{Walkable, closedBelow};
+ghost use Rattle.scan.specs.Walk.{Walkable, closedBelow};
 ghost use Rattle.replay.specs.Restore.{Gathered};
 ghost use Rattle.recovery.specs.Plans.{Replayable};
 

@@ -14,7 +14,7 @@ ghost use Rattle.model.specs.State.{setSettled, setFenced};
 ghost use Rattle.model.specs.Effects.{marked, replayed, homeWrites};
 ghost use Rattle.model.specs.Calls.{settleCall};
 ghost use Rattle.bitmap.specs.Marks.{marks};
-ghost use Rattle.replay.specs.Walk.{closedBelow};
+ghost use Rattle.scan.specs.Walk.{closedBelow};
 ghost use Rattle.answers.specs.Lent.{lent, leaves};
 ghost use Rattle.recovery.specs.Plans.{Replayable};
 

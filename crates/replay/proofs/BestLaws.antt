@@ -1,19 +1,19 @@
 -- The best entry for a home, by the last closing entry of each transaction, is the newest one that replay leaves. Assumes nothing.
 use mathlib.Core.Path.{_≡_, refl, sym, ap, _∙_}
 use mathlib.Core.Bool.{Bool, true, false, cond, _&&_}
-use mathlib.Core.List.{List, [], _∷_, _++_, append-nil}
+use mathlib.Core.List.{[], _++_, append-nil}
 use mathlib.Core.Option.{Option, none, some}
 use Prim.Native.Nat.{ℕ, zero, suc, _+_, _-_, _≤_, _<_}
 use native.Mathlib.Decide.{decLt, ℕ-discrete}
 use native.Mathlib.Omega.{arith}
-use borrow.Author.Tests.{eq-eqb, ne-eqb, eqb-true, eqb-false, le-leb, lt-leb, lt-ltb, le-ltb, ltb-true, ltb-false}
+use borrow.Author.Tests.{eq-eqb, ne-eqb, le-leb, lt-ltb, le-ltb}
 use lib.Dec.{eqb, leb, ltb}
 use Rattle.model.specs.Tag.{belongs, homeOf}
-use Rattle.model.specs.Commit.{Span, addIf, members, entries, eachEntries, newestIn, newest, orElse, found}
+use Rattle.model.specs.Commit.{addIf, members, entries, eachEntries, newestIn, newest, orElse, found}
 use Rattle.model.specs.declared.Tag.{Tag}
 use Rattle.model.specs.declared.Tag.the-variants.{Nothing, Entry, Closing}
-use Rattle.model.proofs.Closings.{spanAt, closings}
-use Rattle.model.proofs.MemberLaws.{entries-at, each-append, newest-if, newest-append, orElse-none, orElse-assoc}
+use Rattle.model.proofs.rule.Closings.{spanAt, closings}
+use Rattle.model.proofs.rule.MemberLaws.{entries-at, each-append, newest-if, newest-append, orElse-none, orElse-assoc}
 use Rattle.scan.proofs.ScanLaws.{Placed}
 use Rattle.replay.specs.Gather.{offsetCode}
 use Rattle.replay.specs.Best.{closes, closer, from, Best, nothing, better, taken, best}

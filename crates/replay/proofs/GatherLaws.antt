@@ -1,12 +1,12 @@
 -- Laws of the pass from the log's end down: it goes by groups, and finds the best entry of every home. Assumes nothing.
 use mathlib.Core.Path.{_≡_, refl, sym, ap, _∙_}
-use mathlib.Core.Bool.{Bool, true, false, cond, _||_}
+use mathlib.Core.Bool.{Bool, true, false, cond}
 use mathlib.Core.List.{List}
 use Prim.Native.Nat.{ℕ, zero, suc, _+_, _-_, _*_, _%_, min, _≤_, _<_}
 use native.Mathlib.Decide.{decLt, ℕ-discrete}
 use native.Mathlib.Nat.{mod-lt, mod-self, mod-eq-of-lt, mod-add-mod}
 use native.Mathlib.Omega.{arith}
-use borrow.Author.Tests.{eq-eqb, ne-eqb, eqb-true, eqb-false, lt-ltb, le-ltb, ltb-true, ltb-false}
+use borrow.Author.Tests.{eq-eqb, ne-eqb, lt-ltb, ltb-true}
 use lib.Dec.{eqb, ltb}
 use lib.ListN.{length, getD, set, replicate, length-set, length-replicate, take, drop}
 use lib.Seq.{getD-set-same, getD-set-other}
@@ -15,9 +15,9 @@ use Rattle.model.specs.Layout.{groupAt, groupTag, groupValid, entryIn, entryAt}
 use Rattle.model.specs.Commit.{eachEntries, newest, found}
 use Rattle.model.specs.declared.Tag.{Tag}
 use Rattle.model.specs.declared.Tag.the-variants.{Nothing, Entry, Closing}
-use Rattle.model.proofs.TagLaws.{entry-known, closing-known}
-use Rattle.model.proofs.Closings.{closings}
-use Rattle.model.proofs.ReplayLaws.{known}
+use Rattle.model.proofs.bytes.TagLaws.{entry-known, closing-known}
+use Rattle.model.proofs.rule.Closings.{closings}
+use Rattle.model.proofs.trace.ReplayLaws.{known}
 use Rattle.bitmap.specs.Marks.{marks, withMark}
 use Rattle.bitmap.proofs.MapLaws.{marks-none, length-mark, mark-each}
 use Rattle.scan.proofs.GroupLaws.{part-group}
@@ -26,7 +26,7 @@ use Rattle.scan.proofs.ScanLaws.{Placed, placed}
 use Rattle.replay.specs.Restore.{Gathered}
 use Rattle.replay.specs.Gather.{maxEntries, maxHomes, Gather, fresh, closed, offered, note, noted, Roomy, offsetCode}
 use Rattle.replay.specs.Best.{closes, closer, from, Best, nothing, better, taken, best}
-use Rattle.replay.proofs.BestLaws.{from-here, from-past, from-same, closer-most, closer-least, closer-closes, Says, best-newest}
+use Rattle.replay.proofs.BestLaws.{from-here, from-past, from-same, closer-most, closer-least, closer-closes, best-newest}
 
 -- ---- by groups
 

@@ -1,6 +1,6 @@
 -- Laws of replay into the data copy by a table of newest entries. Assumes nothing.
 use mathlib.Core.Path.{_≡_, refl, sym, ap, _∙_}
-use mathlib.Core.Logic.{_⊎_, inl, inr}
+use mathlib.Core.Logic.{inl, inr}
 use mathlib.Core.Bool.{Bool, true, false, cond, _&&_, false≢true}
 use mathlib.Core.List.{List, [], _∷_, _++_}
 use mathlib.Core.Option.{Option, none, some}
@@ -16,17 +16,17 @@ use Rattle.model.specs.Layout.{groupOffset, groupAt, blockOffset, groupBlock, s
 use Rattle.model.specs.Commit.{Span, addIf, members, entries, eachEntries, newestIn, newest, orElse, found}
 use Rattle.model.specs.Effects.{marked, replayed}
 use Rattle.model.specs.declared.Tag.{Tag}
-use Rattle.model.proofs.ByteLaws.{part-within}
-use Rattle.model.proofs.Closings.{closings}
-use Rattle.model.proofs.LayoutLaws.{length-putHome, home-same, home-other, area-ext}
-use Rattle.model.proofs.TraceLaws.{All}
-use Rattle.model.proofs.HomeLaws.{In, in-marked, marked-in}
-use Rattle.model.proofs.ReplayLaws.{blockFor, Good, length-blockAt, length-replayed, replay-home, good-each}
+use Rattle.model.proofs.bytes.ByteLaws.{part-within}
+use Rattle.model.proofs.rule.Closings.{closings}
+use Rattle.model.proofs.bytes.LayoutLaws.{length-putHome, home-same, home-other, area-ext}
+use Rattle.model.proofs.trace.TraceLaws.{All}
+use Rattle.model.proofs.trace.HomeLaws.{In, in-marked, marked-in}
+use Rattle.model.proofs.trace.ReplayLaws.{blockFor, Good, length-blockAt, length-replayed, replay-home, good-each}
 use Rattle.bitmap.specs.Marks.{marks, bitsOf, raised}
 use Rattle.bitmap.proofs.MarkedLaws.{raised-nil, raised-cons, marked-zero}
 use Rattle.bitmap.proofs.WordLaws.{no-bits}
 use Rattle.bitmap.proofs.MapLaws.{marked-word, marks-past}
-use Rattle.replay.specs.Walk.{Walkable, closedBelow}
+use Rattle.scan.specs.Walk.{Walkable, closedBelow}
 use Rattle.replay.specs.Gather.{maxHomes, offsetCode}
 use Rattle.replay.specs.Restore.{Gathered, restored, Ready}
 

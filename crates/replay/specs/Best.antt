@@ -1,6 +1,6 @@
 -- What the pass from the log's end down finds, home by home: the entry whose transaction closes last, and of that transaction the last entry.
-use Prim.Native.Nat.{ℕ, zero, suc, _+_, _-_}
-use mathlib.Core.Bool.{Bool, true, false, cond}
+use Prim.Native.Nat.{ℕ, zero, suc, _+_}
+use mathlib.Core.Bool.{Bool, false, cond}
 use lib.Dec.{eqb, ltb}
 use Rattle.model.specs.declared.Tag.{Tag}
 use Rattle.model.specs.declared.Tag.the-variants.{Nothing, Entry, Closing}

@@ -6,7 +6,7 @@ use lib.ListN.{length, getD}
 use Rattle.model.specs.Layout.{entryAt, blockAt, putHome}
 use Rattle.model.specs.Commit.{newest, found}
 use Rattle.bitmap.specs.Marks.{marks}
-use Rattle.replay.specs.Walk.{closedBelow}
+use Rattle.scan.specs.Walk.{closedBelow}
 use Rattle.replay.specs.Gather.{maxHomes, offsetCode}
 
 -- the table and the map hold the newest entries of the transactions of all closing entries below `end`

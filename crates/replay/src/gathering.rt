@@ -8,7 +8,7 @@ ghost use lib.ListN.{length, getD, set, replicate};
 ghost use Rattle.model.specs.Tag.{readTag};
 ghost use Rattle.model.specs.Layout.{groupTag, entryIn};
 ghost use Rattle.bitmap.specs.Marks.{withMark};
-ghost use Rattle.replay.specs.Walk.{Walkable};
+ghost use Rattle.scan.specs.Walk.{Walkable};
 ghost use Rattle.replay.specs.Gather.{closed, note, noted, Roomy};
 ghost use Rattle.replay.specs.Restore.{Gathered};
 

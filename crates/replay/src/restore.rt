@@ -1,11 +1,11 @@
 // Replay: the block of each marked home's newest entry copied into the data copy.
 ghost use mathlib.Core.Path.{_≡_};
 ghost use Prim.Native.Nat.{_+_, _*_, _^_, _≤_, _<_};
-ghost use lib.ListN.{length, getD};
+ghost use lib.ListN.{length};
 ghost use Rattle.model.specs.Layout.{entryAt, blockAt, putHome};
 ghost use Rattle.model.specs.Effects.{replayed};
 ghost use Rattle.bitmap.specs.Marks.{bitsOf, raised};
-ghost use Rattle.replay.specs.Walk.{Walkable, closedBelow};
+ghost use Rattle.scan.specs.Walk.{Walkable, closedBelow};
 ghost use Rattle.replay.specs.Restore.{Gathered, restored, Ready};
 
 // Copies the block at a position to a home.

@@ -8,7 +8,7 @@ use lib.ListN.{getD}
 use Rattle.model.specs.Tag.{readTag}
 use Rattle.model.specs.declared.Tag.{Tag}
 use Rattle.model.specs.declared.Tag.the-variants.{Nothing, Entry, Closing}
-use Rattle.model.proofs.TagLaws.{field-lt, entry-known, closing-known, closing-fields}
+use Rattle.model.proofs.bytes.TagLaws.{field-lt, entry-known, closing-known, closing-fields}
 use Rattle.scan.specs.declared.commits.Progress.{Progress}
 use Rattle.scan.specs.Scan.{Scan, maxEntries, counted, decided, enter, Within}
 

@@ -8,8 +8,8 @@ ghost use lib.ListN.{length, getD};
 ghost use Rattle.model.specs.Tag.{readTag};
 ghost use Rattle.model.specs.Layout.{entryIn, entryAt};
 ghost use Rattle.model.specs.Commit.{linked, committed};
-ghost use Rattle.model.proofs.Closings.{endOf};
-ghost use Rattle.model.proofs.ClosingLaws.{lastAt};
+ghost use Rattle.model.proofs.rule.Closings.{endOf};
+ghost use Rattle.model.proofs.rule.ClosingLaws.{lastAt};
 ghost use Rattle.scan.specs.Scan.{counted, decided, enter, entered, Within};
 
 // What the walk finds: one past the last committed closing entry, or 0 for none, and how many transactions are committed.

@@ -13,7 +13,7 @@ use Rattle.model.specs.State.{stateOf, setDurable, writerOf, setWriter, idle, b
 use Rattle.model.specs.Effects.{Given, beginEffect, abortEffect, confirmEffect}
 use Rattle.model.specs.Questions.{ask, areasRight, stateRight, stripInOrder, writerKnown, writerOpen, askState, beginAnswer, abortAnswer, confirmAnswer}
 use Rattle.model.specs.Calls.{beginCall, abortCall, confirmCall}
-use Rattle.model.proofs.QuestionLaws.{ask-yes, ask-no, ask-passed, and-true, InUse, begin-ready, abort-ready, confirm-ready}
+use Rattle.model.proofs.strip.QuestionLaws.{ask-yes, ask-no, ask-passed, and-true, InUse, begin-ready, abort-ready, confirm-ready}
 use Rattle.answers.specs.Lent.{lent, leaves}
 use Rattle.sessions.specs.Writers.{askWriter}
 use Rattle.answers.proofs.AnswerLaws.{state-refuses, state-passes, state-only, refused-by, strip-by}

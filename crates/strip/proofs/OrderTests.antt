@@ -11,7 +11,7 @@ use borrow.Author.Tests.{eq-eqb, ne-eqb, not-true, not-false}
 use Rattle.model.specs.declared.State.{State}
 use Rattle.model.specs.declared.Writer.{Writer}
 use Rattle.model.specs.State.{stateOf, writerOf, nextPosition, numbersInOrder, writerInOrder, writersInOrder, inOrder}
-use Rattle.model.proofs.OrderLaws.{tests, WriterInOrder, writer-order}
+use Rattle.model.proofs.strip.OrderLaws.{tests, WriterInOrder, writer-order}
 use Rattle.strip.specs.Order.{GroupsInOrder}
 
 refuted : (b : Bool) → (b ≡ true → ⊥) → false ≡ b

@@ -1,10 +1,8 @@
 -- Laws for trim: the start that it moves to, what it writes, and how it ends. Assumes nothing.
 use mathlib.Core.Path.{_≡_, refl, sym, ap, _∙_}
 use mathlib.Core.Bool.{true}
-use mathlib.Core.Logic.{_⊎_, inl, inr}
 use mathlib.Core.List.{List, [], _∷_, append-nil}
 use Prim.Native.Nat.{ℕ, _+_, _-_, _*_, _/_, _^_, _≤_, _<_}
-use native.Mathlib.Decide.{ℕ-discrete}
 use native.Mathlib.Omega.{arith}
 use lib.Dec.{leb}
 use lib.ListN.{length, length-append}
@@ -18,17 +16,16 @@ use Rattle.model.specs.Effects.{Given, groups, homes, newState, liveTags, liveB
 use Rattle.model.specs.Questions.{startFits, batchFits, askState, trimAnswer}
 use Rattle.model.specs.Calls.{sizeOf, outcome, trimCall}
 use Rattle.model.specs.declared.State.{State}
-use Rattle.model.specs.declared.Tag.{Tag}
-use Rattle.model.proofs.BatchLaws.{length-KW, length-FN}
-use Rattle.model.proofs.ByteLaws.{puts-append}
-use Rattle.model.proofs.Closings.{closings, endOf}
-use Rattle.model.proofs.ClosingLaws.{committed-closings, committed-within}
-use Rattle.model.proofs.LayoutLaws.{length-header}
-use Rattle.model.proofs.OrderLaws.{InOrder}
-use Rattle.model.proofs.QuestionLaws.{ask-yes, ask-no}
+use Rattle.model.proofs.strip.BatchLaws.{length-KW, length-FN}
+use Rattle.model.proofs.bytes.ByteLaws.{puts-append}
+use Rattle.model.proofs.rule.Closings.{closings, endOf}
+use Rattle.model.proofs.rule.ClosingLaws.{committed-closings, committed-most}
+use Rattle.model.proofs.bytes.LayoutLaws.{length-header}
+use Rattle.model.proofs.strip.OrderLaws.{InOrder, next-within}
+use Rattle.model.proofs.strip.QuestionLaws.{ask-yes, ask-no}
 use Rattle.answers.specs.Lent.{lent, leaves}
 use Rattle.answers.proofs.AnswerLaws.{Usable, state-refuses, state-passes, refused-by, done-by, strip-by}
-use Rattle.replay.specs.Walk.{Walkable}
+use Rattle.scan.specs.Walk.{Walkable}
 use Rattle.trimming.specs.Moved.{keptLast, movedStrip}
 
 -- ---- the numbers of a strip in order
@@ -60,17 +57,10 @@ numbers log area state st u e =
       next = refl;
       next-most = o .next-most;
       first = omega arith;
-      within = top (stateOf state .next) (stateOf state .start + stateOf state .groups) (stateOf state .filled) (o .next-most) (o .filled-most) (o .filled-none);
+      within = rw (o .groups-same) (next-within state _ _ o);
       settled = o .start-settled;
       settled-most = omega arith;
     })
-  where
-    top : (n m k : ℕ) → n ≤ m → k ≤ 6 → (n ≡ m → k ≡ 0) → 7 * n + k ≤ 7 * m
-    top n m k a b f = go (ℕ-discrete n m)
-      where
-        go : Dec (n ≡ m) → 7 * n + k ≤ 7 * m
-        go (yes e) = omega (arith, f e)
-        go (no e) = omega arith
 
 pub order-own : (log area state : List ℕ) (st : State) → Usable log area state → st ≡ stateOf state → InOrder state (st .groups) (st .homes)
 order-own log area state st u e = let o = u .order in rw (e, o .groups-same, o .homes-same) o
@@ -82,18 +72,11 @@ pub start-only : (l a s b t : List ℕ) (w h : ℕ) → trimStart (lent l a s b 
 unfolding trimStart liveTags liveBase
 start-only l a s b t w h = refl
 
-end-within : (log : ℕ → Tag) (base n end : ℕ) → end ≡ endOf (committed log base n) → end ≤ base + n
-end-within log base n end e = go (committed-within log base n)
-  where
-    go : (endOf (committed log base n) ≡ 0) ⊎ ((base < endOf (committed log base n)) × (endOf (committed log base n) ≤ base + n)) → end ≤ base + n
-    go (inl z) = omega arith
-    go (inr h) = omega arith
-
 module _ (log : List ℕ) (st : State) where
   pub walkable : (n end : ℕ) → Numbers log st → n ≡ nextPosition st - 7 * st .start
       → end ≡ endOf (committed (entryAt log (st .groups) (st .homes) (st .start)) (7 * st .start) n) → Walkable log (st .groups) (st .start) end
   walkable n end m g e =
-      let w = end-within (entryAt log (st .groups) (st .homes) (st .start)) (7 * st .start) n end e in
+      let w = committed-most (entryAt log (st .groups) (st .homes) (st .start)) (7 * st .start) n in
       record { long = m .long; some = omega arith; most = m .most; low = m .low; within = omega arith }
 
 pub start-found : (log area state : List ℕ) (st : State) (n end x : ℕ) → Usable log area state → st ≡ stateOf state → n ≡ nextPosition st - 7 * st .start

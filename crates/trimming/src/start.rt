@@ -15,7 +15,7 @@ pub fn new_start(log: &[u8], area: &[u8], state: &[u8], st: State) -> u64
 {
     let n = strip::next_position(st) - 7 * st.start;
     let found = scan::walk(log, st.groups, st.homes, st.start, n);
-    replay::trim_start(
+    limits::trim_start(
         log,
         state,
         st.groups,

@@ -14,7 +14,23 @@ fn play(seed: u64, large: bool, tally: &mut Tally) -> Result<(), String> {
     catch_unwind(AssertUnwindSafe(one)).unwrap_or_else(|_| Err("panic".to_string()))
 }
 
+/// What was played, in words.
+fn report(tally: &Tally) {
+    println!("{} histories: every opening and every answer as the book says", tally.histories);
+    println!("  {:>9} crashes and {} openings, which brought back {} transactions", tally.crashes, tally.openings, tally.brought_back);
+    println!("  {:>9} commits, {} of them lost by a crash before they were durable", tally.commits, tally.commits_lost);
+    println!("  {:>9} settles, {} trims", tally.settles, tally.trims);
+    println!("  {:>9} calls, by their answers:", tally.calls);
+    for (number, count) in tally.answers.iter().enumerate().filter(|(_, count)| **count > 0) {
+        println!("  {count:>9} answered {number}{}", if number == 0 { ", done" } else { "" });
+    }
+}
+
 fn main() -> ExitCode {
+    if std::env::args().skip(1).any(|word| word == "-h" || word == "--help") {
+        println!("usage: play [--seed S] [--histories N]\nPlays random histories, each from its own seed, on the second implementation.");
+        return ExitCode::SUCCESS;
+    }
     let first = option("--seed", 1);
     let count = option("--histories", 1000);
     let mut tally = Tally::default();
@@ -29,6 +45,6 @@ fn main() -> ExitCode {
             println!("{} of {count} histories, {} calls", at + 1, tally.calls);
         }
     }
-    println!("OK {tally:?}");
+    report(&tally);
     ExitCode::SUCCESS
 }

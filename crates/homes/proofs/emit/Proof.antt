@@ -7,7 +7,7 @@ use lib.ListN.{length}
 use Rattle.model.specs.Bytes.{puts}
 use Rattle.model.specs.Batch.{batchBytes}
 use Rattle.model.specs.Effects.{marked, homeWrites}
-use Rattle.model.proofs.ByteLaws.{length-puts}
+use Rattle.model.proofs.bytes.ByteLaws.{length-puts}
 use Rattle.bitmap.specs.Marks.{marks}
 use Rattle.bitmap.proofs.MarkedLaws.{marked-zero, length-marked-le}
 use Rattle.bitmap.proofs.MapLaws.{length-word}

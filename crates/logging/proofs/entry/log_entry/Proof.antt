@@ -2,8 +2,8 @@
 use mathlib.Core.Path.{refl, ap, _∙_}
 use native.Mathlib.Omega.{arith}
 use lib.ListN.{length}
-use Rattle.model.proofs.HeldLogs.{held-size}
-use Rattle.model.proofs.LogStep.{length-entered}
+use Rattle.model.proofs.steps.HeldLogs.{held-size}
+use Rattle.model.proofs.invariant.LogStep.{length-entered}
 use Rattle.logging.proofs.CallLaws.{slot-fits}
 use Rattle.logging.proofs.LogLaws.{held-lent, kept, handed}
 use borrow.Author.Needs.{needs}

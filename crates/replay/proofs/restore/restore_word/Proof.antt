@@ -5,7 +5,7 @@ use Prim.Native.Nat.{_+_, _*_, _≤_}
 use mathlib.Core.List.{[]}
 use native.Mathlib.Omega.{arith}
 use lib.ListN.{length}
-use Rattle.model.proofs.LayoutLaws.{length-putHome}
+use Rattle.model.proofs.bytes.LayoutLaws.{length-putHome}
 use Rattle.bitmap.specs.Marks.{bitsOf, raised}
 use Rattle.replay.specs.Restore.{restored, Ready}
 use Rattle.replay.proofs.RestoreLaws.{first-ready, rest-ready, word-turn, word-end}

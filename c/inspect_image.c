@@ -1,0 +1,239 @@
+/* An image file: reading it, finding its shape, noting what is damaged. */
+#include "inspect.h"
+
+#include <errno.h>
+#include <fcntl.h>
+#include <stdarg.h>
+#include <stdio.h>
+#include <stdlib.h>
+#include <string.h>
+#include <sys/stat.h>
+#include <unistd.h>
+
+#define HEADER 64u
+#define GROUP 512u
+#define BLOCK 64u
+#define MAX_IMAGE (HEADER + GROUP * MAX_GROUPS + BLOCK * MAX_HOMES)
+
+void image_note(struct image *image, const char *format, ...)
+{
+    va_list arguments;
+
+    if (image->note_count == MAX_NOTES)
+        return;
+    if (image->note_count == MAX_NOTES - 1)
+        format = "and more";
+    va_start(arguments, format);
+    vsnprintf(image->notes[image->note_count++], sizeof image->notes[0], format, arguments);
+    va_end(arguments);
+}
+
+/* As much of the file as the largest image has. */
+static void read_bytes(struct image *image, int file)
+{
+    size_t most = image->file_size < MAX_IMAGE ? (size_t)image->file_size : MAX_IMAGE, done = 0;
+
+    while (done < most) {
+        ssize_t count = read(file, image->bytes + done, most - done);
+
+        if (count < 0 && errno == EINTR)
+            continue;
+        if (count < 0)
+            inspect_quit(STATUS_TROUBLE, "%s: cannot be read: %s", image->path, strerror(errno));
+        if (count == 0) { /* it has shrunk meanwhile */
+            image->file_size = done;
+            break;
+        }
+        done += (size_t)count;
+    }
+}
+
+void image_read(struct image *image, const char *path)
+{
+    int file = open(path, O_RDONLY | O_NONBLOCK); /* does not wait at a FIFO */
+    struct stat status;
+
+    image->path = path;
+    if (file < 0 || fstat(file, &status) != 0)
+        inspect_quit(STATUS_TROUBLE, "%s: cannot be opened: %s", path, strerror(errno));
+    if (!S_ISREG(status.st_mode))
+        inspect_quit(STATUS_TROUBLE, "%s: not a regular file", path);
+    image->bytes = calloc(1, MAX_IMAGE);
+    if (!image->bytes)
+        inspect_quit(STATUS_TROUBLE, "out of memory");
+    image->file_size = (uint64_t)status.st_size;
+    read_bytes(image, file);
+    close(file);
+    if (image->file_size == 0)
+        inspect_quit(STATUS_DAMAGED, "%s: the file is empty", path);
+}
+
+/* Notes what is wrong with the header. */
+void image_check_header(struct image *image)
+{
+    const uint8_t *header = image->bytes;
+    uint64_t groups = rule_number(header + 8, 2), homes = rule_number(header + 10, 2);
+    size_t before = image->note_count, i, set = 0;
+
+    for (i = 0; i < HEADER; i++)
+        set += header[i] != 0;
+    image->mark_fits = image->file_size >= HEADER && header[0] == 0x50 && header[1] == 0x48;
+    if (image->file_size < HEADER)
+        image_note(image, "header: the file ends inside it, after %lu bytes", (unsigned long)image->file_size);
+    else if (set == 0)
+        image_note(image, "header: zeros, a format that has not finished");
+    else if (!image->mark_fits)
+        image_note(image, "header: mark %02X %02X, not 50 48", header[0], header[1]);
+    if (set && (groups < 4 || groups > MAX_GROUPS))
+        image_note(image, "header: %lu groups, they go from 4 to 1024", (unsigned long)groups);
+    if (set && (homes < 1 || homes > MAX_HOMES))
+        image_note(image, "header: %lu homes, they go from 1 to 4096", (unsigned long)homes);
+    if (rule_number(header + 2, 6) > MAX_START)
+        image_note(image, "header: start %llu is above 2^47", (unsigned long long)rule_number(header + 2, 6));
+    for (i = 12; i < HEADER && !header[i]; i++)
+        ;
+    if (i < HEADER)
+        image_note(image, "header: byte %lu is %02X, not zero", (unsigned long)i, header[i]);
+    image->header_fits = image->note_count == before;
+}
+
+/* The highest number of a group that is where it belongs, less the ring, plus 1. */
+static uint64_t guess_start(const struct image *image)
+{
+    uint64_t highest = 0, groups = image->log.groups;
+    size_t slot;
+
+    for (slot = 0; slot < groups; slot++) {
+        const uint8_t *group = rule_slot(&image->log, slot);
+        uint64_t number = rule_number(group + 2, 6);
+
+        if (group[0] == 0x50 && group[1] == 0x47 && number % groups == slot && number > highest)
+            highest = number;
+    }
+    return highest >= groups ? highest - groups + 1 : 0;
+}
+
+/* G, D and start: from the options, else the header, else the file's size and the groups. */
+void image_choose_shape(struct image *image, const struct options *options)
+{
+    uint64_t groups = rule_number(image->bytes + 8, 2), homes = rule_number(image->bytes + 10, 2);
+    bool known = image->mark_fits && groups >= 4 && groups <= MAX_GROUPS;
+
+    if (options->groups != NOT_GIVEN) {
+        known = known && groups == options->groups;
+        groups = options->groups;
+    } else if (!known) {
+        size_t i;
+
+        for (i = 0; i < image->note_count; i++)
+            fprintf(stderr, "inspect: %s: %s\n", image->path, image->notes[i]);
+        inspect_quit(STATUS_DAMAGED, "%s: the header does not say how many groups there are; give --groups N", image->path);
+    }
+    if (options->homes != NOT_GIVEN)
+        homes = options->homes;
+    else if (!known || homes < 1 || homes > MAX_HOMES)
+        homes = image->file_size > HEADER + GROUP * groups ? (image->file_size - HEADER - GROUP * groups) / BLOCK : 0;
+    if (homes < 1 || homes > MAX_HOMES) {
+        homes = MAX_HOMES;
+        image_note(image, "homes: their number is unknown and taken as 4096; --homes N sets it");
+    }
+    image->log.bytes = image->bytes;
+    image->log.groups = (size_t)groups;
+    image->log.homes = (size_t)homes;
+    image->image_size = (size_t)(HEADER + GROUP * groups + BLOCK * homes);
+    image->log.start = rule_number(image->bytes + 2, 6);
+    image->start_from = "from the header";
+    if (options->start != NOT_GIVEN) {
+        image->log.start = options->start;
+        image->start_from = "as given";
+    } else if (!image->mark_fits || image->log.start > MAX_START) {
+        image->log.start = guess_start(image);
+        image->start_from = "guessed from the highest group";
+    }
+}
+
+const char *image_hole(const struct image *image, size_t slot)
+{
+    if (image->file_size < HEADER + GROUP * (slot + 1))
+        return "cut off by the end of the file";
+    switch (rule_slot_kind(&image->log, slot)) {
+    case SLOT_VALID: return NULL;
+    case SLOT_ZEROS: return "never written";
+    case SLOT_PART: return "cut off while it was written, its number has not arrived";
+    case SLOT_MARK: return "damaged, no group's mark";
+    case SLOT_PLACE: return "damaged, its number belongs to another slot";
+    case SLOT_TRIMMED: return "trimmed, below the start";
+    default: return "damaged, its number is beyond the ring";
+    }
+}
+
+/* Notes damaged slots and tags. What trims and cuts leave behind is no damage. */
+static void check_slots(struct image *image)
+{
+    size_t slot, k;
+
+    for (slot = 0; slot < image->log.groups; slot++) {
+        enum slot_kind kind = rule_slot_kind(&image->log, slot);
+        uint64_t number = rule_number(rule_slot(&image->log, slot) + 2, 6);
+        const char *hole = image_hole(image, slot);
+
+        if (kind == SLOT_MARK || kind == SLOT_PLACE || kind == SLOT_BEYOND)
+            image_note(image, "slot %lu: %s", (unsigned long)slot, hole);
+        if (hole)
+            continue;
+        for (k = 0; k < 7; k++) {
+            struct tag tag = rule_tag(&image->log, 7 * number + k);
+
+            if (tag.why && !strstr(tag.why, "before the start"))
+                image_note(image, "position %llu: damaged tag: %s", (unsigned long long)(7 * number + k), tag.why);
+        }
+    }
+}
+
+static void check_size(struct image *image)
+{
+    if (image->file_size != image->image_size)
+        image_note(image, "file: %llu bytes, %s than the %lu of %lu groups and %lu homes",
+                   (unsigned long long)image->file_size, image->file_size < image->image_size ? "fewer" : "more",
+                   (unsigned long)image->image_size, (unsigned long)image->log.groups,
+                   (unsigned long)image->log.homes);
+}
+
+void image_check(struct image *image)
+{
+    check_size(image);
+    check_slots(image);
+}
+
+bool image_belongs(const struct image *image, const struct rule_commit *commit, uint64_t position)
+{
+    struct tag tag;
+
+    if (!rule_present(&image->log, position))
+        return false;
+    tag = rule_tag(&image->log, position);
+    return tag.kind != TAG_NOTHING && position - tag.back == commit->first;
+}
+
+void describe_stop(const struct rule_walk *walk, char *text, size_t size)
+{
+    const struct rule_commit *failed = &walk->failed;
+    unsigned long long at = failed->closing;
+
+    if (walk->stop == STOP_END)
+        snprintf(text, size, "no closing entry is left");
+    else if (walk->stop == STOP_INCOMPLETE)
+        snprintf(text, size, "the closing entry at position %llu is incomplete: %lu of its %llu entries are there", at,
+                 (unsigned long)failed->present, (unsigned long long)failed->count);
+    else if (walk->commit_count == 0)
+        snprintf(text, size, "the first closing entry, at position %llu, is linked to position %llu, which has none",
+                 at, at - failed->link);
+    else if (failed->link == 0)
+        snprintf(text, size, "the closing entry at position %llu is linked to none, not to the last commit at %llu", at,
+                 (unsigned long long)walk->commits[walk->commit_count - 1].closing);
+    else if (failed->link > at)
+        snprintf(text, size, "the closing entry at position %llu is linked to before position 0", at);
+    else
+        snprintf(text, size, "the closing entry at position %llu is linked to %llu, not to the last commit at %llu", at,
+                 at - failed->link, (unsigned long long)walk->commits[walk->commit_count - 1].closing);
+}

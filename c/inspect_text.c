@@ -1,0 +1,141 @@
+/* The inspector's output as text. */
+#include <stdio.h>
+
+#include "inspect.h"
+
+typedef unsigned long long number;
+
+static const char *const kinds[] = {"nothing", "entry", "closing"};
+
+/* A byte of a block as text: itself if it can be printed, else a dot. */
+static char printable(uint8_t byte)
+{
+    return byte >= 0x20 && byte < 0x7f ? (char)byte : '.';
+}
+
+/* How much of a block is left when the zeros at its end are taken off. */
+static size_t used_size(const uint8_t *block)
+{
+    size_t size = 64;
+
+    while (size > 0 && !block[size - 1])
+        size--;
+    return size;
+}
+
+static void text_entry(const struct image *image, const struct fates *fates, uint64_t position)
+{
+    struct tag tag = rule_tag(&image->log, position);
+
+    if (tag.kind == TAG_NOTHING) {
+        if (tag.why)
+            printf("      %12llu  reads as nothing: %s\n", (number)position, tag.why);
+        return;
+    }
+    printf("      %12llu  %-7s  home %4llu  first %llu", (number)position, kinds[tag.kind], (number)tag.home,
+           (number)(position - tag.back));
+    if (tag.kind == TAG_CLOSING) {
+        printf("  entries %llu  link ", (number)tag.count);
+        if (tag.link == 0)
+            fputs("none", stdout);
+        else if (tag.link > position)
+            fputs("before 0", stdout);
+        else
+            printf("%llu", (number)(position - tag.link));
+    }
+    putchar('\n');
+    if (fates->entries[position - 7 * image->log.start] != FATE_BACK)
+        printf("      %12s  ! %s\n", "", fate_text(fates->entries[position - 7 * image->log.start]));
+}
+
+static void text_slot(const struct image *image, const struct fates *fates, size_t slot)
+{
+    const char *hole = image_hole(image, slot);
+    const uint8_t *group = rule_slot(&image->log, slot);
+    uint64_t name = rule_number(group + 2, 6);
+    size_t k;
+
+    if (hole) {
+        if (group[0] == 0x50 && group[1] == 0x47)
+            printf("  slot %4lu  hole (group %llu): %s\n", (unsigned long)slot, (number)name, hole);
+        else
+            printf("  slot %4lu  hole: %s\n", (unsigned long)slot, hole);
+        return;
+    }
+    printf("  slot %4lu  group %llu\n", (unsigned long)slot, (number)name);
+    for (k = 0; k < 7; k++)
+        text_entry(image, fates, 7 * name + k);
+}
+
+static void text_commit(const struct image *image, const struct rule_commit *commit, size_t rank)
+{
+    uint64_t position;
+
+    printf("  %4lu  positions %llu to %llu, %llu entries, homes", (unsigned long)rank + 1, (number)commit->first,
+           (number)commit->closing, (number)commit->count);
+    for (position = commit->first; position <= commit->closing; position++)
+        if (image_belongs(image, commit, position))
+            printf(" %llu", (number)rule_tag(&image->log, position).home);
+    putchar('\n');
+}
+
+/* Sixteen bytes on a line, in hex and as text, without the zeros at the end. */
+static void text_home(const struct image *image, const struct fates *fates, size_t home)
+{
+    const uint8_t *block = image_home(image, fates, home);
+    size_t size = used_size(block), at, i;
+
+    for (at = 0; at < size; at += 16) {
+        if (at == 0)
+            printf("  %4lu  ", (unsigned long)home);
+        else
+            printf("        ");
+        for (i = at; i < at + 16; i++)
+            printf(i % 4 == 0 ? " %02x" : "%02x", block[i]);
+        fputs("  ", stdout);
+        for (i = at; i < at + 16; i++)
+            putchar(printable(block[i]));
+        if (at == 0 && fates->newest[home])
+            printf("  from position %llu", (number)(fates->newest[home] - 1));
+        putchar('\n');
+    }
+}
+
+static void text_homes(const struct image *image, const struct fates *fates)
+{
+    size_t home, zeros = 0;
+
+    for (home = 0; home < image->log.homes; home++)
+        zeros += used_size(image_home(image, fates, home)) == 0;
+    printf("\nhomes (%lu, %lu of them zeros), as an opening leaves them; zeros at a block's end are left out\n",
+           (unsigned long)image->log.homes, (unsigned long)zeros);
+    for (home = 0; home < image->log.homes; home++)
+        text_home(image, fates, home);
+}
+
+void print_text(const struct image *image, const struct rule_walk *walk, const struct fates *fates)
+{
+    const struct rule_log *log = &image->log;
+    char stop[200];
+    size_t i;
+
+    printf("image   %s, %llu bytes\n", image->path, (number)image->file_size);
+    printf("header  %s; start %llu %s, %lu groups, %lu homes\n", image->header_fits ? "fits" : "DAMAGED",
+           (number)log->start, image->start_from, (unsigned long)log->groups, (unsigned long)log->homes);
+    printf("live    groups %llu to %llu, positions %llu to %llu\n\ngroups\n", (number)log->start,
+           (number)(log->start + log->groups - 1), (number)(7 * log->start),
+           (number)(7 * (log->start + log->groups) - 1));
+    for (i = 0; i < log->groups; i++)
+        text_slot(image, fates, i);
+    printf("\ncommits (%lu)\n", (unsigned long)walk->commit_count);
+    for (i = 0; i < walk->commit_count; i++)
+        text_commit(image, &walk->commits[i], i);
+    describe_stop(walk, stop, sizeof stop);
+    printf("the walk stopped: %s\n", stop);
+    if (walk->unreached)
+        printf("closing entries after that: %lu\n", (unsigned long)walk->unreached);
+    text_homes(image, fates);
+    printf("\ndamage (%lu)\n", (unsigned long)image->note_count);
+    for (i = 0; i < image->note_count; i++)
+        printf("  %s\n", image->notes[i]);
+}

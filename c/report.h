@@ -1,0 +1,24 @@
+/* What a run prints of its cuts: a line while it runs, each cut if asked for, a summary. */
+#ifndef REPORT_H
+#define REPORT_H
+
+#include "station.h"
+
+/* What a cut found and left. */
+struct report_cut {
+    bool opening;               /* power failed while the store was opening */
+    size_t waiting;             /* records not yet issued */
+    size_t issued, persisted;   /* writes since the last fence; those of them that arrived */
+    struct book_cut book;
+};
+
+void report_start(struct station *station);
+
+/* A cut has been made; the opening after it is done, or the image is left as it is. */
+void report_cut(struct station *station, const struct report_cut *cut);
+void report_opened(struct station *station, const struct report_cut *cut, unsigned long replayed);
+void report_left(struct station *station, const struct report_cut *cut);
+
+void report_summary(struct station *station);
+
+#endif

@@ -1,0 +1,89 @@
+/*
+ * A pump station that loses power again and again. Eight tasks write
+ * interleaved transactions; each opening is held against the book of commits.
+ */
+#include <signal.h>
+#include <stdlib.h>
+#include <unistd.h>
+
+#include "calls.h"
+#include "options.h"
+#include "power.h"
+#include "report.h"
+#include "wear.h"
+
+static void on_persisted(void *context, const struct kgt_record *record, uint64_t number)
+{
+    if (record->kind == KGT_GW)
+        book_persisted(context, number);
+}
+
+/* A foreign image is refused before anything in it is changed. */
+static void check_old_image(struct station *station)
+{
+    const struct driver *driver = &station->driver;
+
+    if (driver->homes < STATION_MIN_HOMES)
+        power_refuse_image(station, "it has fewer than 16 homes");
+    if ((station->groups && station->groups != driver->groups)
+        || (station->homes && station->homes != driver->homes))
+        power_refuse_image(station, "it has other numbers of groups and homes; leave --groups and --homes out");
+}
+
+static void attach_image(struct station *station)
+{
+    size_t groups = station->groups ? station->groups : 24, homes = station->homes ? station->homes : 48;
+    struct driver *driver = &station->driver;
+    bool old = station->path && access(station->path, F_OK) == 0;
+
+    if (!(old ? driver_open(driver, station->path)
+              : station->path ? driver_create(driver, station->path, groups, homes)
+                              : driver_create_unnamed(driver, groups, homes)))
+        station_trouble(station);
+    if (old) {
+        check_old_image(station);
+    } else {
+        call_formatted(station);
+        book_start(&station->book, groups, homes, NULL);
+    }
+    driver->persisted = on_persisted;
+    driver->context = &station->book;
+    station->before = malloc(driver->log_size + driver->area_size + sizeof driver->state + driver->batch_size);
+    if (!station->before) {
+        fputs("station: out of memory\n", stderr);
+        exit(EXIT_TROUBLE);
+    }
+}
+
+static int status_of(const struct station *station)
+{
+    if (fflush(stdout) != 0 || ferror(stdout)) {
+        fputs("station: cannot write the output\n", stderr);
+        return EXIT_TROUBLE;
+    }
+    if (station->worn_out)
+        return EXIT_WORN_OUT;
+    return station_interrupted() ? EXIT_INTERRUPTED : EXIT_FINE;
+}
+
+int main(int count, char **words)
+{
+    static struct station station;
+
+    station.seed = 1;
+    station.cuts = 300;
+    driver_clear(&station.driver);
+    options_read(&station, count, words);
+    station.report = station.csv ? stderr : stdout;
+    station.random = station.seed;
+    signal(SIGXFSZ, SIG_IGN); /* a file-size limit then reads as a full disk */
+    attach_image(&station);
+    station_catch_interrupt();
+    report_start(&station);
+    power_run(&station);
+    report_summary(&station);
+    if (station.opened)
+        wear_sheet(&station);
+    station_free(&station);
+    return status_of(&station);
+}

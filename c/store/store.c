@@ -1,0 +1,286 @@
+/* The store object: every call takes the lock, calls the library and runs its batch. */
+#include <string.h>
+
+#include "kagutin_store.h"
+
+#define AREAS(s) (s)->log, (s)->log_size, (s)->area, (s)->area_size
+#define STATE(s) (s)->state, (size_t)KAGUTIN_STATE_SIZE
+#define BATCH(s) (s)->batch, (s)->batch_size
+
+/* Writers' records in the state, and what stands there; docs/FORMAT.md. */
+enum { STATE_START = 16, WRITERS_AT = 128, WRITER_SIZE = 96, WRITER_FIRST = 16, MODE_LOGGING = 3 };
+
+const char *kgt_answer_text(uint64_t code)
+{
+    switch (code) {
+    case KGT_CLOSED: return "the store is not open";
+    case KGT_DRIVER_FAILED: return "the driver has failed; open the store again";
+    case KGT_LOCK_FAILED: return "the lock was not given";
+    default: return kagutin_answer_text(code);
+    }
+}
+
+static struct kagutin_reply answer(uint64_t code, uint64_t figure)
+{
+    struct kagutin_reply reply;
+
+    reply.code = code;
+    reply.figure = figure;
+    reply.size = 0;
+    return reply;
+}
+
+struct kagutin_reply kgt_init(struct kagutin *store, uint8_t *memory, size_t size, size_t groups, size_t homes,
+                              struct kgt_driver driver)
+{
+    memset(store, 0, sizeof *store);
+    if (groups < KAGUTIN_MIN_GROUPS || groups > KAGUTIN_MAX_GROUPS || homes < KAGUTIN_MIN_HOMES
+        || homes > KAGUTIN_MAX_HOMES || size < KGT_MEMORY_SIZE(groups, homes))
+        return answer(KAGUTIN_BAD_LENGTH, 0);
+    kgt_runner_init(&store->runner, driver, groups, homes);
+    store->log_size = KGT_LOG_SIZE(groups);
+    store->area_size = KGT_HOMES_SIZE(homes);
+    store->batch_size = KGT_BATCH_SIZE(groups, homes);
+    store->log = memory;
+    store->area = store->log + store->log_size;
+    store->state = store->area + store->area_size;
+    store->batch = store->state + KAGUTIN_STATE_SIZE;
+    return answer(KAGUTIN_DONE, 0);
+}
+
+void kgt_set_lock(struct kagutin *store, int (*lock)(void *context), void (*unlock)(void *context), void *context)
+{
+    store->lock = lock;
+    store->unlock = unlock;
+    store->lock_context = context;
+}
+
+/* ---- around every call ---- */
+
+static bool take_lock(struct kagutin *store, struct kagutin_reply *reply)
+{
+    if (!store->lock || store->lock(store->lock_context) == 0)
+        return true;
+    *reply = answer(KGT_LOCK_FAILED, 0);
+    return false;
+}
+
+static struct kagutin_reply leave(struct kagutin *store, struct kagutin_reply reply)
+{
+    if (store->unlock)
+        store->unlock(store->lock_context);
+    reply.size = 0;
+    return reply;
+}
+
+static struct kagutin_reply failed(const struct kagutin *store)
+{
+    return answer(KGT_DRIVER_FAILED, (uint64_t)(int64_t)store->error);
+}
+
+/* Takes the lock of a store that is open; else the reply says why not. */
+static bool enter(struct kagutin *store, struct kagutin_reply *reply)
+{
+    if (!take_lock(store, reply))
+        return false;
+    if (store->condition == KGT_IS_OPEN)
+        return true;
+    *reply = leave(store, store->condition == KGT_HAS_FAILED ? failed(store) : answer(KGT_CLOSED, 0));
+    return false;
+}
+
+/* Runs the batch of a done call. From the first failure on the store is shut. */
+static struct kagutin_reply run(struct kagutin *store, const uint8_t *batch, struct kagutin_reply reply)
+{
+    if (reply.code != KAGUTIN_DONE)
+        return reply;
+    store->error = kgt_run(&store->runner, batch, (size_t)reply.size);
+    if (!store->error)
+        return reply;
+    store->condition = KGT_HAS_FAILED;
+    return failed(store);
+}
+
+/* ---- format and open ---- */
+
+struct kagutin_reply kgt_format(struct kagutin *store, uint8_t *scratch, size_t size)
+{
+    struct kagutin_reply reply;
+
+    if (!take_lock(store, &reply))
+        return reply;
+    store->condition = KGT_IS_CLOSED;
+    store->runner.waiting = 0;
+    reply = run(store, scratch, kagutin_format(AREAS(store), scratch, size));
+    return leave(store, reply);
+}
+
+struct kagutin_reply kgt_open(struct kagutin *store)
+{
+    const struct kgt_driver *driver = &store->runner.driver;
+    struct kagutin_reply reply;
+
+    if (!take_lock(store, &reply))
+        return reply;
+    store->condition = KGT_IS_CLOSED;
+    store->runner.waiting = 0;
+    store->error = driver->load(driver->context, KGT_LOG, 0, store->log, store->log_size);
+    if (!store->error)
+        store->error = driver->load(driver->context, KGT_HOMES, 0, store->area, store->area_size);
+    if (store->error) {
+        store->condition = KGT_HAS_FAILED;
+        return leave(store, failed(store));
+    }
+    reply = run(store, store->batch, kagutin_open(AREAS(store), STATE(store), BATCH(store)));
+    if (reply.code == KAGUTIN_DONE)
+        store->condition = KGT_IS_OPEN;
+    return leave(store, reply);
+}
+
+/* ---- a full log ---- */
+
+static uint64_t number(const uint8_t *bytes)
+{
+    uint64_t value = 0;
+    int i;
+
+    for (i = 7; i >= 0; i--)
+        value = value << 8 | bytes[i];
+    return value;
+}
+
+/* The writer whose open transaction begins first in the log, and where; 8 if none has entries there. */
+static uint64_t oldest_writer(const struct kagutin *store, uint64_t *first)
+{
+    uint64_t oldest = KAGUTIN_WRITERS, writer;
+
+    for (writer = 0; writer < KAGUTIN_WRITERS; writer++) {
+        const uint8_t *record = store->state + WRITERS_AT + WRITER_SIZE * writer;
+
+        if (number(record) != MODE_LOGGING)
+            continue;
+        if (oldest == KAGUTIN_WRITERS || number(record + WRITER_FIRST) < *first) {
+            oldest = writer;
+            *first = number(record + WRITER_FIRST);
+        }
+    }
+    return oldest;
+}
+
+/* Flush, settle, trim, unless the log's first group is held. False: tried in vain, or not done as reply says. */
+static bool make_room(struct kagutin *store, struct kagutin_reply *reply)
+{
+    uint64_t first = 0, start = number(store->state + STATE_START);
+    struct kagutin_reply done;
+
+    if (oldest_writer(store, &first) < KAGUTIN_WRITERS && first / KAGUTIN_GROUP_ENTRIES == start)
+        return false;
+    done = run(store, store->batch, kagutin_flush(AREAS(store), STATE(store), BATCH(store)));
+    if (done.code == KAGUTIN_DONE)
+        done = run(store, store->batch, kagutin_settle(AREAS(store), STATE(store), BATCH(store)));
+    if (done.code == KAGUTIN_DONE)
+        done = run(store, store->batch, kagutin_trim(AREAS(store), STATE(store), BATCH(store)));
+    if (done.code != KAGUTIN_DONE)
+        *reply = done;
+    return done.code == KAGUTIN_DONE && number(store->state + STATE_START) != start;
+}
+
+static struct kagutin_reply say_holder(const struct kagutin *store, struct kagutin_reply reply)
+{
+    uint64_t first = 0;
+
+    if (reply.code == KAGUTIN_FULL)
+        reply.figure = oldest_writer(store, &first);
+    return reply;
+}
+
+/* ---- transactions ---- */
+
+struct kagutin_reply kgt_begin(struct kagutin *store, uint64_t writer)
+{
+    struct kagutin_reply reply;
+
+    if (!enter(store, &reply))
+        return reply;
+    return leave(store, kagutin_begin(AREAS(store), STATE(store), writer));
+}
+
+struct kagutin_reply kgt_abort(struct kagutin *store, uint64_t writer)
+{
+    struct kagutin_reply reply;
+
+    if (!enter(store, &reply))
+        return reply;
+    return leave(store, kagutin_abort(AREAS(store), STATE(store), writer));
+}
+
+static struct kagutin_reply store_once(struct kagutin *store, uint64_t writer, uint64_t home, const uint8_t *block)
+{
+    return run(store, store->batch, kagutin_store(AREAS(store), STATE(store), block, KAGUTIN_BLOCK_SIZE, BATCH(store),
+                                                  writer, home));
+}
+
+struct kagutin_reply kgt_store(struct kagutin *store, uint64_t writer, uint64_t home, const uint8_t *block)
+{
+    struct kagutin_reply reply;
+
+    if (!enter(store, &reply))
+        return reply;
+    reply = store_once(store, writer, home, block);
+    if (reply.code == KAGUTIN_FULL && make_room(store, &reply))
+        reply = store_once(store, writer, home, block);
+    return leave(store, say_holder(store, reply));
+}
+
+static struct kagutin_reply commit_once(struct kagutin *store, uint64_t writer)
+{
+    return run(store, store->batch, kagutin_commit(AREAS(store), STATE(store), BATCH(store), writer));
+}
+
+struct kagutin_reply kgt_commit(struct kagutin *store, uint64_t writer)
+{
+    struct kagutin_reply reply;
+
+    if (!enter(store, &reply))
+        return reply;
+    reply = commit_once(store, writer);
+    if (reply.code == KAGUTIN_FULL && make_room(store, &reply))
+        reply = commit_once(store, writer);
+    return leave(store, say_holder(store, reply));
+}
+
+struct kagutin_reply kgt_read(struct kagutin *store, uint64_t writer, uint64_t home, uint8_t *block)
+{
+    struct kagutin_reply reply;
+
+    if (!enter(store, &reply))
+        return reply;
+    return leave(store, kagutin_read(AREAS(store), STATE(store), block, KAGUTIN_BLOCK_SIZE, writer, home));
+}
+
+/* ---- durability and room ---- */
+
+struct kagutin_reply kgt_sync(struct kagutin *store)
+{
+    struct kagutin_reply reply;
+
+    if (!enter(store, &reply))
+        return reply;
+    reply = run(store, store->batch, kagutin_flush(AREAS(store), STATE(store), BATCH(store)));
+    if (reply.code == KAGUTIN_DONE)
+        reply = kagutin_confirm(AREAS(store), STATE(store));
+    return leave(store, reply);
+}
+
+struct kagutin_reply kgt_maintain(struct kagutin *store, uint64_t most)
+{
+    struct kagutin_reply reply;
+
+    (void)most;
+    if (!enter(store, &reply))
+        return reply;
+    reply = run(store, store->batch, kagutin_settle(AREAS(store), STATE(store), BATCH(store)));
+    if (reply.code == KAGUTIN_DONE)
+        reply = run(store, store->batch, kagutin_trim(AREAS(store), STATE(store), BATCH(store)));
+    return leave(store, reply);
+}

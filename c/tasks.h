@@ -1,0 +1,14 @@
+/* The eight tasks. */
+#ifndef TASKS_H
+#define TASKS_H
+
+#include "station.h"
+
+/* One step of a task chosen at random; all tasks lose their work at a cut. */
+void tasks_step(struct station *station);
+void tasks_power_cut(struct station *station);
+
+/* The run ends: open transactions are given up. */
+void tasks_stop(struct station *station);
+
+#endif

@@ -1,0 +1,4 @@
+pub mod CodeLaws
+pub mod WriterLaws
+pub mod SpanLaws
+pub mod LimitLaws

@@ -1,0 +1,136 @@
+-- Calls that end with a fence: the records since the last crash after them.
+use mathlib.Core.Path.{_≡_, refl, sym, ap, _∙_, subst}
+use mathlib.Core.Logic.{_⊎_, inl, inr, ⊎-elim}
+use mathlib.Core.Bool.{Bool, true, false, cond, false≢true}
+use mathlib.Core.List.{List, [], _∷_, _++_, append-nil, append-assoc}
+use mathlib.Core.Option.{Option, none, some}
+use Prim.Native.Nat.{ℕ, zero, suc, _+_, _-_, _*_, _/_, _%_, _^_, _≤_, _<_}
+use native.Mathlib.Decide.{decLt}
+use native.Mathlib.Omega.{arith}
+use lib.ListN.{length}
+use Rattle.model.specs.Layout.{headerStart}
+use Rattle.model.specs.State.{State, stateOf, nextPosition}
+use Rattle.model.specs.Batch.{Record, FN}
+use Rattle.model.specs.Crash.{Memory, fences, persist, persistChosen, fates, fatesChosen}
+use Rattle.model.specs.Book.{Commit, fateAt}
+use Rattle.model.specs.Demands.{groupWrites}
+use Rattle.model.specs.History.{World}
+use Rattle.model.proofs.trace.CrashLaws.{writeRecords, trues, NoFence, submits, fences-append, fences-fence, fences-none, none-append, none-submits, groupWrites-append, groupWrites-fence, groupWrites-submits, write-append, write-fence, persist-stop, fates-stop, persist-last, fates-last, chosen-fence, fate-fence}
+use Rattle.model.proofs.trace.Trace.{Ev}
+use Rattle.model.proofs.invariant.Invariant.{Sizes, Late, ImageOk, Copies, Submitted, Commits, Running}
+use Rattle.model.proofs.invariant.Now.{Now}
+
+-- the stretch after the last fence, between two calls
+pub now-of : (G D b : ℕ) (tr : List Ev) (old : List Commit) (w : World) → Sizes G D → Commits D b tr old (w .book .commits) → Copies G D b tr w
+    → (s : Submitted G D b tr old w)
+    → Now G D b tr old (w .book .commits) (stateOf (w .state) .start) (stateOf (w .state) .settled) (s .group) (s .count) (s .content) (writeRecords (s .fenced) (w .memory))
+now-of G D b tr old w z k c s =
+    let o = c .order in
+    let q : 7 * stateOf (w .state) .next + stateOf (w .state) .filled ≡ 7 * b + length tr = unfold nextPosition in c .position in
+    record {
+      sizes = z;
+      sound = c .sound;
+      booked = k;
+      from = c .from;
+      most = o .start-most;
+      startSettled = o .start-settled;
+      settledGroup = omega (arith, s .atFence, o .settled-fenced);
+      room = omega (arith, s .next, o .next-most, o .groups-same);
+      logged = omega (arith, s .next);
+      contents = s .contents;
+      logSize = s .logSize;
+      area = s .area ∙ c .settledHomes;
+      header = s .header;
+      headStart = s .start;
+      numbers = s .numbers;
+      there = s .there;
+      apart = c .apart;
+      links = c .links;
+    }
+
+-- Memory that a crash may leave before a new fence: before the old one, or between the two
+module _ (G D b : ℕ) (tr : List Ev) (old : List Commit) (w : World) (s : Submitted G D b tr old w) (X : List Record) (nx : NoFence X) where
+  abbrev stretch : List Record
+  stretch = submits G (s .group) (s .content) (s .count) ++ X
+
+  abbrev upto : List Record
+  upto = (s .fenced ++ (FN ∷ [])) ++ (submits G (s .group) (s .content) (s .count) ++ X)
+
+  no-fence : NoFence stretch
+  no-fence = none-append (submits G (s .group) (s .content) (s .count)) X (none-submits G (s .group) (s .content) (s .count)) nx
+
+  upto-fences : fences upto ≡ fences (s .fenced ++ (FN ∷ []))
+  upto-fences = fences-append (s .fenced ++ (FN ∷ [])) stretch ∙ omega (arith, fences-none stretch no-fence)
+
+  persist-old : (passed : ℕ) (chosen : ℕ → Bool) → passed < fences (s .fenced ++ (FN ∷ []))
+      → persist passed chosen (upto ++ (FN ∷ [])) (w .memory) ≡ persist passed chosen (s .fenced ++ (FN ∷ [])) (w .memory)
+  persist-old passed chosen l =
+      persist-stop passed chosen upto (FN ∷ []) (w .memory) (omega (arith, upto-fences)) ∙ persist-stop passed chosen (s .fenced ++ (FN ∷ [])) stretch (w .memory) l
+
+  fates-old : (passed : ℕ) (chosen : ℕ → Bool) → passed < fences (s .fenced ++ (FN ∷ []))
+      → fates passed chosen (upto ++ (FN ∷ [])) ≡ fates passed chosen (s .fenced ++ (FN ∷ []))
+  fates-old passed chosen l =
+      fates-stop passed chosen upto (FN ∷ []) (omega (arith, upto-fences)) ∙ fates-stop passed chosen (s .fenced ++ (FN ∷ [])) stretch l
+
+  persist-new : (chosen : ℕ → Bool) → persist (fences (s .fenced ++ (FN ∷ []))) chosen (upto ++ (FN ∷ [])) (w .memory) ≡ persistChosen chosen 0 stretch (writeRecords (s .fenced) (w .memory))
+  persist-new chosen =
+      ap (λ (R : List Record). persist (fences (s .fenced ++ (FN ∷ []))) chosen R (w .memory)) (append-assoc (s .fenced ++ (FN ∷ [])) stretch (FN ∷ []))
+      ∙ persist-last (s .fenced) chosen (stretch ++ (FN ∷ [])) (w .memory) ∙ chosen-fence chosen 0 stretch [] (writeRecords (s .fenced) (w .memory)) no-fence
+
+  fates-new : (chosen : ℕ → Bool) → fates (fences (s .fenced ++ (FN ∷ []))) chosen (upto ++ (FN ∷ [])) ≡ trues (s .group - b) ++ fatesChosen chosen 0 stretch
+  fates-new chosen =
+      ap (fates (fences (s .fenced ++ (FN ∷ []))) chosen) (append-assoc (s .fenced ++ (FN ∷ [])) stretch (FN ∷ []))
+      ∙ fates-last (s .fenced) chosen (stretch ++ (FN ∷ [])) ∙ rw (fate-fence chosen 0 stretch [] no-fence, s .written)
+
+  -- what holds of all memory that a crash may leave before the new fence
+  each-passed : (P : Memory → List (ℕ → Bool) → Type 0)
+      → ((passed : ℕ) (chosen : ℕ → Bool) → passed < fences (s .fenced ++ (FN ∷ [])) → P (persist passed chosen (s .fenced ++ (FN ∷ [])) (w .memory)) (fates passed chosen (s .fenced ++ (FN ∷ []))))
+      → ((chosen : ℕ → Bool) → P (persistChosen chosen 0 stretch (writeRecords (s .fenced) (w .memory))) (trues (s .group - b) ++ fatesChosen chosen 0 stretch))
+      → (passed : ℕ) (chosen : ℕ → Bool) → passed < fences (upto ++ (FN ∷ []))
+      → P (persist passed chosen (upto ++ (FN ∷ [])) (w .memory)) (fates passed chosen (upto ++ (FN ∷ [])))
+  each-passed P f g passed chosen l = go (decLt passed (fences (s .fenced ++ (FN ∷ []))))
+    where
+      go : Dec (passed < fences (s .fenced ++ (FN ∷ []))) → P (persist passed chosen (upto ++ (FN ∷ [])) (w .memory)) (fates passed chosen (upto ++ (FN ∷ [])))
+      go (yes h) = rw (persist-old passed chosen h, fates-old passed chosen h) (f passed chosen h)
+      go (no h) =
+          let e : passed ≡ fences (s .fenced ++ (FN ∷ [])) = omega (arith, fences-fence upto, upto-fences) in
+          rw (e, persist-new chosen, fates-new chosen) (g chosen)
+
+  -- the memory once the new fence has passed
+  upto-written : writeRecords upto (w .memory) ≡ writeRecords stretch (writeRecords (s .fenced) (w .memory))
+  upto-written = write-append (s .fenced ++ (FN ∷ [])) stretch (w .memory) ∙ ap (writeRecords stretch) (write-fence (s .fenced) (w .memory))
+
+  pub submitted-fence : (u : World) (start settled : ℕ) (content : ℕ → List ℕ) → groupWrites X ≡ 0
+      → Now G D b tr old (w .book .commits) start settled (s .group + s .count) 0 content (writeRecords stretch (writeRecords (s .fenced) (w .memory)))
+      → u .pending ≡ w .pending ++ (X ++ (FN ∷ [])) → u .memory ≡ w .memory → u .book .commits ≡ w .book .commits
+      → u .area ≡ writeRecords stretch (writeRecords (s .fenced) (w .memory)) .area
+      → stateOf (u .state) .start ≡ start → stateOf (u .state) .fenced ≡ 7 * (s .group + s .count) → stateOf (u .state) .next ≡ s .group + s .count
+      → stateOf (w .state) .start ≤ start
+      → ((chosen : ℕ → Bool) → Late G D b tr (w .book .commits) (persistChosen chosen 0 stretch (writeRecords (s .fenced) (w .memory))) (trues (s .group - b) ++ fatesChosen chosen 0 stretch))
+      → ((chosen : ℕ → Bool) → headerStart (persistChosen chosen 0 stretch (writeRecords (s .fenced) (w .memory)) .log) ≤ start)
+      → Submitted G D b tr old u
+  unfolding submits
+  submitted-fence u start settled content gx n ep em ec ea es ef en mono late bound =
+      record {
+        fenced = upto;
+        group = s .group + s .count;
+        count = 0;
+        content = content;
+        split = ep ∙ rw (s .split) (regroup ∙ sym (append-nil (upto ++ (FN ∷ []))));
+        atFence = ef;
+        next = omega (arith, en);
+        low = omega (arith, s .low);
+        written = omega (arith, groupWrites-append (s .fenced ++ (FN ∷ [])) stretch, groupWrites-fence (s .fenced), groupWrites-append (submits G (s .group) (s .content) (s .count)) X, groupWrites-submits G (s .group) (s .content) (s .count), gx, s .written, s .low);
+        contents = λ k a h. absurd (omega arith);
+        logSize = rw (em, upto-written) (n .logSize);
+        area = rw (em, upto-written) (sym ea);
+        header = rw (em, upto-written) (n .header);
+        start = rw (em, upto-written, es) (n .headStart);
+        numbers = rw (em, upto-written) (n .numbers);
+        there = rw (em, upto-written, es) (n .there);
+        images = rw (em, ec) (each-passed (λ m fs. ImageOk G D b (w .memory .log) tr old (w .book .commits) m fs) (s .images) (λ chosen. inr (late chosen)));
+        bounded = rw (em, es) (each-passed (λ m fs. headerStart (m .log) ≤ start) (λ passed chosen l. let h = s .bounded passed chosen l in omega arith) bound);
+      }
+    where
+      regroup : ((s .fenced ++ (FN ∷ [])) ++ submits G (s .group) (s .content) (s .count)) ++ (X ++ (FN ∷ [])) ≡ upto ++ (FN ∷ [])
+      regroup = simp append-assoc

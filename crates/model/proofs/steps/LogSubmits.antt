@@ -1,0 +1,135 @@
+-- A call that logs an entry: the records since the last crash after it.
+use mathlib.Core.Path.{_≡_, refl, sym, ap, _∙_, subst}
+use mathlib.Core.Logic.{_⊎_, inl, inr, ⊎-elim}
+use mathlib.Core.Bool.{Bool, true, false, cond, _&&_, false≢true}
+use mathlib.Core.List.{List, [], _∷_, _++_, append-nil, append-assoc}
+use mathlib.Core.Option.{Option, none, some}
+use Prim.Native.Nat.{ℕ, zero, suc, _+_, _-_, _*_, _/_, _%_, _^_, _≤_, _<_}
+use native.Mathlib.Numerals.{add-one}
+use native.Mathlib.Omega.{arith}
+use lib.ListN.{length}
+use lib.Dec.{eqb, leb}
+use borrow.Author.Tests.{eqb-true, eqb-false, eq-eqb, ne-eqb}
+use Rattle.model.specs.Layout.{groupAt, headerStart}
+use Rattle.model.specs.State.{State, stateOf, nextPosition}
+use Rattle.model.specs.Batch.{Record, GW, FN}
+use Rattle.model.specs.Crash.{Memory, fences, persist, fates}
+use Rattle.model.specs.Book.{Commit, fateAt}
+use Rattle.model.specs.Demands.{groupWrites}
+use Rattle.model.specs.History.{World}
+use Rattle.model.proofs.trace.CrashLaws.{submits, fateAt-none, groupWrites-fence}
+use Rattle.model.proofs.trace.Trace.{Ev}
+use Rattle.model.proofs.invariant.GrowLaws.{holds-older}
+use Rattle.model.proofs.invariant.Invariant.{Holds, ImageOk, Copies, Submitted, Confirmed, OwedBelow}
+use Rattle.model.proofs.steps.LogRuns.{Advance}
+
+pub submits-same : (G n₀ : ℕ) (f g : ℕ → List ℕ) (k : ℕ) → ((n : ℕ) → n₀ ≤ n → n < n₀ + k → f n ≡ g n) → submits G n₀ f k ≡ submits G n₀ g k
+unfolding submits
+submits-same G n₀ f g zero h = refl
+submits-same G n₀ f g (suc k) h = rw (submits-same G n₀ f g k (λ n a b. h n a (omega arith)), h (n₀ + k) (omega arith) (omega arith))
+
+-- one more group submitted
+pub submits-more : (G n₀ : ℕ) (f : ℕ → List ℕ) (k n : ℕ) (g : List ℕ) → n₀ + k ≡ n
+    → submits G n₀ (λ x. cond (eqb x n) g (f x)) (k + 1) ≡ submits G n₀ f k ++ (GW (n % G) g ∷ [])
+unfolding submits
+submits-more G n₀ f k n g e =
+    rw (add-one k, e, eq-eqb n n refl, submits-same G n₀ (λ x. cond (eqb x n) g (f x)) f k (λ x a b. rw (ne-eqb x n (λ q. omega arith))))
+
+pub submitted-logged : (G D b : ℕ) (tr : List Ev) (old : List Commit) (w u : World) (e : Ev) (last : ℕ)
+    → Submitted G D b tr old w → Copies G D b tr w → Copies G D b (e ∷ tr) u → Advance (stateOf (w .state)) (stateOf (u .state)) last
+    → stateOf (w .state) .next < stateOf (w .state) .start + G
+    → u .pending ≡ w .pending ++ cond (eqb (stateOf (w .state) .filled) 6) (GW (stateOf (w .state) .next % G) (groupAt (u .log) (stateOf (w .state) .next % G)) ∷ []) []
+    → u .memory ≡ w .memory → u .area ≡ w .area
+    → ((m : Memory) (fs : List (ℕ → Bool)) → headerStart (m .log) ≤ stateOf (w .state) .start → fateAt fs ((7 * b + length tr) / 7 - b) 0 ≡ false
+    → ImageOk G D b (w .memory .log) tr old (w .book .commits) m fs → ImageOk G D b (w .memory .log) (e ∷ tr) old (u .book .commits) m fs)
+    → Submitted G D b (e ∷ tr) old u
+submitted-logged G D b tr old w u e last s c c′ a room up um ua ig = go (a .moved)
+  where
+    st : State
+    st = stateOf (w .state)
+
+    q : 7 * st .next + st .filled ≡ 7 * b + length tr
+    q = unfold nextPosition in c .position
+
+    older : (bytes : List ℕ) (n : ℕ) → n < st .next → Holds (7 * b) tr bytes n → Holds (7 * b) (e ∷ tr) bytes n
+    older bytes n l h = holds-older (7 * b) e tr bytes n (omega (arith, q)) h
+
+    images′ : (passed : ℕ) (chosen : ℕ → Bool) → passed < fences (s .fenced ++ (FN ∷ []))
+        → ImageOk G D b (w .memory .log) (e ∷ tr) old (u .book .commits) (persist passed chosen (s .fenced ++ (FN ∷ [])) (w .memory)) (fates passed chosen (s .fenced ++ (FN ∷ [])))
+    images′ passed chosen l =
+        ig _ _ (s .bounded passed chosen l)
+        (fateAt-none passed chosen (s .fenced ++ (FN ∷ [])) ((7 * b + length tr) / 7 - b) 0 (omega (arith, groupWrites-fence (s .fenced), s .written, s .next, s .low, c .order .filled-most, q)))
+        (s .images passed chosen l)
+
+    go : ((st .filled < 6) × (stateOf (u .state) .next ≡ st .next) × (stateOf (u .state) .filled ≡ st .filled + 1))
+        ⊎ ((st .filled ≡ 6) × (stateOf (u .state) .next ≡ st .next + 1) × (stateOf (u .state) .filled ≡ 0)) → Submitted G D b (e ∷ tr) old u
+    go (inl h) = record {
+      fenced = s .fenced;
+      group = s .group;
+      count = s .count;
+      content = s .content;
+      split = up ∙ rw (ne-eqb (st .filled) 6 (λ z. omega arith)) (append-nil (w .pending) ∙ s .split);
+      atFence = a .fenced ∙ s .atFence;
+      next = s .next ∙ sym (h .1);
+      low = s .low;
+      written = s .written;
+      contents = λ n x y. older (s .content n) n (omega (arith, s .next)) (s .contents n x y);
+      logSize = rw um (s .logSize);
+      area = rw (um, ua) (s .area);
+      header = rw um (s .header);
+      start = rw (um, a .start) (s .start);
+      numbers = rw um (s .numbers);
+      there = rw (um, a .start) (λ n x y. older _ n (omega (arith, s .next)) (s .there n x y));
+      images = rw um images′;
+      bounded = rw (um, a .start) (s .bounded);
+    }
+    go (inr h) = record {
+      fenced = s .fenced;
+      group = s .group;
+      count = s .count + 1;
+      content = λ x. cond (eqb x (st .next)) (groupAt (u .log) (st .next % G)) (s .content x);
+      split =
+          up ∙ rw (eq-eqb (st .filled) 6 (h .0), s .split, submits-more G (s .group) (s .content) (s .count) (st .next) (groupAt (u .log) (st .next % G)) (s .next))
+          (append-assoc (s .fenced ++ (FN ∷ [])) (submits G (s .group) (s .content) (s .count)) (GW (st .next % G) (groupAt (u .log) (st .next % G)) ∷ []));
+      atFence = a .fenced ∙ s .atFence;
+      next = omega (arith, s .next);
+      low = s .low;
+      written = s .written;
+      contents = λ n x y. sub n x y (eqb n (st .next)) refl;
+      logSize = rw um (s .logSize);
+      area = rw (um, ua) (s .area);
+      header = rw um (s .header);
+      start = rw (um, a .start) (s .start);
+      numbers = rw um (s .numbers);
+      there = rw (um, a .start) (λ n x y. older _ n (omega (arith, s .next)) (s .there n x y));
+      images = rw um images′;
+      bounded = rw (um, a .start) (s .bounded);
+    }
+      where
+        sub : (n : ℕ) → s .group ≤ n → n < s .group + (s .count + 1) → (t : Bool) → eqb n (st .next) ≡ t
+            → Holds (7 * b) (e ∷ tr) (cond t (groupAt (u .log) (st .next % G)) (s .content n)) n
+        sub n x y true k =
+            let z : n ≡ st .next = eqb-true n (st .next) k in
+            rw z (c′ .groups (st .next) (omega (arith, a .start, c .order .start-next)) (omega (arith, q)))
+        sub n x y false k =
+            let z = eqb-false n (st .next) k in
+            older (s .content n) n (omega (arith, s .next)) (s .contents n x (omega (arith, s .next)))
+
+-- more records are pending
+pub confirmed-more : (b : ℕ) (w u : World) (rs : List Record) → Confirmed b w → u .pending ≡ w .pending ++ rs → u .passed ≡ w .passed
+    → stateOf (w .state) .fenced ≤ stateOf (u .state) .fenced
+    → ((bound : ℕ) → OwedBelow bound (w .book .commits) → OwedBelow bound (u .book .commits)) → Confirmed b u
+confirmed-more b w u rs c ep eq ef eo =
+    record {
+      before = c .before;
+      after = c .after ++ rs;
+      split = ep ∙ rw (c .split) (append-assoc (c .before) (c .after) rs);
+      count = c .count ∙ sym eq;
+      ends = c .ends;
+      owed = eo _ (c .owed);
+      reached = omega (arith, c .reached);
+    }
+
+pub owed-snoc : (bound : ℕ) (cs : List Commit) (c : Commit) → c .owed ≡ false → OwedBelow bound cs → OwedBelow bound (cs ++ (c ∷ []))
+owed-snoc bound [] c e o = ((λ h. absurd (false≢true (sym e ∙ h))), tt)
+owed-snoc bound (x ∷ cs) c e o = (o .0, owed-snoc bound cs c e (o .1))

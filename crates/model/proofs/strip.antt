@@ -1,0 +1,6 @@
+-- What a call is lent: batches, the state strip, question 2, the questions and their answers.
+pub mod BatchLaws
+pub mod StateLaws
+pub mod WriterLaws
+pub mod OrderLaws
+pub mod QuestionLaws

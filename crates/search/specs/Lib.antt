@@ -1,0 +1,3 @@
+pub mod Codes
+pub mod Search
+pub mod Seen

@@ -1,0 +1,61 @@
+/*
+ * Image files as lasting memory, on POSIX systems.
+ *
+ * An image holds the log area (64 + 512 x G bytes), then the home blocks (64 x
+ * D bytes), and nothing else. G and D stand in its header. It is written by
+ * pwrite and fdatasync, or through a mapping and msync.
+ *
+ * Landing: words. A disk keeps sectors whole, and aligned words lie inside
+ * one; a group lies across two sectors, so its first word follows after a
+ * sync of its own (kgt_runner).
+ *
+ * A file is open in one place at a time: the lock belongs to the open file,
+ * not to the process. After a failed write or sync, or if the file's size has
+ * changed, the file is of no more use; close it, open it anew and open the
+ * store on it again. Functions that return false leave a message.
+ */
+#ifndef KAGUTIN_FILE_H
+#define KAGUTIN_FILE_H
+
+#include "kagutin_store.h"
+
+#ifdef __cplusplus
+extern "C" {
+#endif
+
+struct kgt_file {
+    size_t groups, homes;
+    int descriptor; /* -1: closed */
+    uint8_t *map;   /* null: pwrite */
+    size_t log_size, size;
+    int failed; /* the error after which it is of no more use */
+    char message[320];
+};
+
+/*
+ * Makes an image of an empty store under a name that must be free: formatted
+ * under a temporary name in the same folder, synced, then linked. Another
+ * process that creates the same name at the same time fails. Takes heap memory
+ * while it formats.
+ */
+bool kgt_file_create(struct kgt_file *file, const char *path, size_t groups, size_t homes);
+
+/*
+ * Opens an image; its groups and homes are then known. Refuses a file that is
+ * read-only, in use, no image, or of another size than its header says.
+ */
+bool kgt_file_open(struct kgt_file *file, const char *path);
+
+/* Maps an open file: its driver then writes memory, and fences by msync. */
+bool kgt_file_map(struct kgt_file *file);
+
+struct kgt_driver kgt_file_driver(struct kgt_file *file);
+
+/* Closes it, also after a function has failed. What was not fenced may be lost. */
+void kgt_file_close(struct kgt_file *file);
+
+#ifdef __cplusplus
+}
+#endif
+
+#endif

@@ -1,0 +1,214 @@
+/*
+ * A Kagutin store as one object: it holds the lent memory, runs every batch
+ * on a driver, makes room in a full log and shuts itself after a failure of
+ * the driver. Plain C99, no heap; kagutin.h has the calls below it.
+ *
+ *     static uint8_t memory[KGT_MEMORY_SIZE(16, 32)];
+ *     static struct kagutin store;
+ *
+ *     kgt_init(&store, memory, sizeof memory, 16, 32, driver);
+ *     kgt_open(&store);                          after every start
+ *     kgt_begin(&store, 0);                      writer 0
+ *     kgt_store(&store, 0, 7, block);              home 7
+ *     ticket = kgt_commit(&store, 0).figure;
+ *     durable = kgt_sync(&store).figure >= ticket;
+ *
+ * Tasks. Every call but kgt_init and kgt_set_lock takes the lock, if one is
+ * set, and gives it back before it returns; without a lock all calls must come
+ * from one task. Begin, store, commit, abort, read, sync and maintain may come
+ * from any task at any time; a writer belongs to one task at a time. Format
+ * and open come from one task before the others start, or after a failure. No
+ * call may come from an interrupt or a signal handler, or from a driver's
+ * function: hand the block to a task. A call holds the lock while its driver
+ * writes, so the lock should pass priority on.
+ */
+#ifndef KAGUTIN_STORE_H
+#define KAGUTIN_STORE_H
+
+#include <stdbool.h>
+
+#include "kagutin.h"
+
+#ifdef __cplusplus
+extern "C" {
+#endif
+
+/* ---- drivers ---- */
+
+/* The two areas of lasting memory: header and groups; home blocks. */
+enum kgt_area { KGT_LOG, KGT_HOMES };
+
+/*
+ * What the medium keeps whole if power fails while it is written. Words and
+ * blocks are aligned. Groups: every single write, up to 512 bytes.
+ */
+enum kgt_landing { KGT_LANDS_WORDS, KGT_LANDS_BLOCKS, KGT_LANDS_GROUPS };
+
+/*
+ * A driver: three functions that return 0, or an error of the driver's own.
+ *
+ * load   copies lasting memory in. Everything it gives must be there after a
+ *        power cut, and no earlier write may arrive later: a driver with a
+ *        cache writes it back first.
+ * write  writes at an offset of an area. Its bytes may arrive at any time up
+ *        to the next fence, before or after other writes, in parts no smaller
+ *        than the landing says.
+ * fence  returns when all earlier writes are in lasting memory.
+ *
+ * docs/DRIVERS.md says why this is enough, and what to do on other media.
+ */
+struct kgt_driver {
+    void *context;
+    int (*load)(void *context, enum kgt_area area, size_t at, uint8_t *bytes, size_t size);
+    int (*write)(void *context, enum kgt_area area, size_t at, const uint8_t *bytes, size_t size);
+    int (*fence)(void *context);
+    enum kgt_landing landing;
+};
+
+/* ---- sizes ---- */
+
+#define KGT_LOG_SIZE(groups) ((size_t)KAGUTIN_HEADER_SIZE + (size_t)KAGUTIN_GROUP_SIZE * (groups))
+#define KGT_HOMES_SIZE(homes) ((size_t)KAGUTIN_BLOCK_SIZE * (homes))
+
+/* The longest batch of any call but format: open's, or flush's. */
+#define KGT_TOUCHED(groups, homes) \
+    ((size_t)(homes) < (size_t)KAGUTIN_GROUP_ENTRIES * (groups) ? (size_t)(homes) \
+                                                               : (size_t)KAGUTIN_GROUP_ENTRIES * (groups))
+#define KGT_OPEN_BATCH(groups, homes) \
+    (KAGUTIN_HW_SIZE * KGT_TOUCHED(groups, homes) + KAGUTIN_FN_SIZE + KAGUTIN_KW_SIZE + KAGUTIN_FN_SIZE)
+#define KGT_BATCH_SIZE(groups, homes) \
+    (KGT_OPEN_BATCH(groups, homes) > KAGUTIN_FLUSH_BATCH ? KGT_OPEN_BATCH(groups, homes) : KAGUTIN_FLUSH_BATCH)
+
+/* Bytes of memory that a store of this shape needs, and more for a format. */
+#define KGT_MEMORY_SIZE(groups, homes) \
+    (KGT_LOG_SIZE(groups) + KGT_HOMES_SIZE(homes) + KAGUTIN_STATE_SIZE + KGT_BATCH_SIZE(groups, homes))
+#define KGT_FORMAT_SIZE(groups, homes) \
+    ((size_t)KAGUTIN_GW_SIZE * (groups) + (size_t)KAGUTIN_HW_SIZE * (homes) + 2 * KAGUTIN_KW_SIZE + 3 * KAGUTIN_FN_SIZE)
+
+/* ---- answers beyond those of kagutin.h ---- */
+
+enum kgt_answer {
+    KGT_CLOSED = 64,       /* the store has not been opened */
+    KGT_DRIVER_FAILED = 65, /* in this or an earlier call; figure: its error. Open again. */
+    KGT_LOCK_FAILED = 66   /* the lock was not given; nothing was done */
+};
+
+/* Any answer in words. */
+const char *kgt_answer_text(uint64_t code);
+
+/* ---- running batches ---- */
+
+enum kgt_kind { KGT_GW, KGT_HW, KGT_KW, KGT_FN };
+
+struct kgt_record {
+    enum kgt_kind kind;
+    size_t place;         /* GW: ring slot; HW: home; else 0 */
+    const uint8_t *bytes; /* what is written; none for FN */
+    size_t size;          /* of the whole record in the batch */
+};
+
+/* Reads the record at the front of a batch; false if there is none whole. */
+bool kgt_read_record(const uint8_t *batch, size_t size, size_t groups, size_t homes, struct kgt_record *record);
+
+/*
+ * Runs records on a driver. Where groups do not land whole, a group's first
+ * word, which holds its number, is written after a fence that follows the rest
+ * of it; until then the slot is a hole. Up to KGT_HEADS such words wait.
+ */
+#define KGT_HEADS 16
+#define KGT_BAD_BATCH (-1000) /* the error for a batch that cannot be read */
+
+struct kgt_runner {
+    struct kgt_driver driver;
+    size_t groups, homes;
+    size_t waiting; /* first words not yet written */
+    struct {
+        size_t slot;
+        uint8_t word[8];
+    } heads[KGT_HEADS];
+};
+
+void kgt_runner_init(struct kgt_runner *runner, struct kgt_driver driver, size_t groups, size_t homes);
+
+/* Each returns 0, or the error at which it stopped. */
+int kgt_run_record(struct kgt_runner *runner, const struct kgt_record *record);
+int kgt_run(struct kgt_runner *runner, const uint8_t *batch, size_t size);
+int kgt_run_fence(struct kgt_runner *runner);
+
+/* ---- the object ---- */
+
+enum kgt_condition { KGT_IS_CLOSED, KGT_IS_OPEN, KGT_HAS_FAILED };
+
+struct kagutin {
+    struct kgt_runner runner;
+    uint8_t *log, *area, *state, *batch; /* parts of the lent memory */
+    size_t log_size, area_size, batch_size;
+    enum kgt_condition condition;
+    int error; /* of the driver, once it has failed */
+    int (*lock)(void *context);
+    void (*unlock)(void *context);
+    void *lock_context;
+};
+
+/*
+ * Takes KGT_MEMORY_SIZE(groups, homes) bytes of memory or more, and a driver;
+ * both stay lent to the store. Touches no lasting memory. Answer 1: a size is
+ * wrong, or groups or homes are out of range.
+ */
+struct kagutin_reply kgt_init(struct kagutin *store, uint8_t *memory, size_t size, size_t groups, size_t homes,
+                              struct kgt_driver driver);
+
+/* Hooks around every call; lock returns 0 when it has the lock. Null: none. */
+void kgt_set_lock(struct kagutin *store, int (*lock)(void *context), void (*unlock)(void *context), void *context);
+
+/*
+ * Makes lasting memory an empty store with all homes zero. Once in a device's
+ * life; scratch has KGT_FORMAT_SIZE(groups, homes) bytes and is free again
+ * afterwards. The store is then closed. Answers 9, 65, 66.
+ */
+struct kagutin_reply kgt_format(struct kagutin *store, uint8_t *scratch, size_t size);
+
+/*
+ * Loads lasting memory and brings back the longest run of commits that
+ * persisted; transactions open before are gone, as in a power cut. Needed
+ * after init and after a failure; figure: transactions brought back from the
+ * log. Answers 1 (another shape is stored), 3 (no store there), 10, 65, 66.
+ */
+struct kagutin_reply kgt_open(struct kagutin *store);
+
+/*
+ * As the calls of kagutin.h, with their answers and 64, 65, 66. A block has 64
+ * bytes. reply.size is 0, since batches are run already.
+ *
+ * If the log is full, store and commit flush, settle and trim once and try
+ * again; 10 then means that the log is worn out. If that frees nothing they
+ * answer 8, and figure is the writer whose open transaction holds the log's
+ * oldest groups (8: none): commit or abort that one; if it is this writer
+ * itself, its transaction is too long for the log. The transaction stays open
+ * and as it was.
+ */
+struct kagutin_reply kgt_begin(struct kagutin *store, uint64_t writer);
+struct kagutin_reply kgt_store(struct kagutin *store, uint64_t writer, uint64_t home, const uint8_t *block);
+struct kagutin_reply kgt_commit(struct kagutin *store, uint64_t writer);
+struct kagutin_reply kgt_abort(struct kagutin *store, uint64_t writer);
+struct kagutin_reply kgt_read(struct kagutin *store, uint64_t writer, uint64_t home, uint8_t *block);
+
+/*
+ * Flush, fence, confirm. figure: the durable mark; commits with that ticket or
+ * less are durable.
+ */
+struct kagutin_reply kgt_sync(struct kagutin *store);
+
+/*
+ * Frees log space in the background: writes home what is committed and fenced,
+ * and trims. most bounds the homes that one call writes, 0: no bound; figure:
+ * 1 if there is more to do, so that a caller goes on until it is 0. Today one
+ * call does all of it whatever the bound.
+ */
+struct kagutin_reply kgt_maintain(struct kagutin *store, uint64_t most);
+
+#ifdef __cplusplus
+}
+#endif
+
+#endif

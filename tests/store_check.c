@@ -1,0 +1,301 @@
+/*
+ * The store object on a medium that fails: power that goes after every byte,
+ * any choice of words at a cut, a driver and a lock that fail at each call in
+ * turn, a full log. Arguments: every so many bytes (1: all), rounds of words.
+ */
+#include <stdio.h>
+#include <stdlib.h>
+#include <string.h>
+
+#include "kagutin_memory.h"
+#include "play.h"
+
+enum { GROUPS = 5, HOMES = 9, STEPS = 260 };
+
+static uint8_t memory[KGT_MEMORY_SIZE(GROUPS, HOMES)], before[KGT_MEMORY_SIZE(GROUPS, HOMES)];
+static uint8_t scratch[KGT_FORMAT_SIZE(GROUPS, HOMES)];
+static uint8_t lasting[KGT_LOG_SIZE(GROUPS) + KGT_HOMES_SIZE(HOMES)], written[sizeof lasting], formatted[sizeof lasting];
+static struct kgt_memory medium;
+static struct kagutin store;
+static struct play play;
+
+static void check(bool right, const char *what, unsigned long at)
+{
+    if (right)
+        return;
+    printf("store_check: wrong: %s, at %lu%s%s\n", what, at, play.wrong ? ": " : "", play.wrong ? play.wrong : "");
+    exit(1);
+}
+
+static void power_on(void)
+{
+    memcpy(lasting, formatted, sizeof lasting);
+    kgt_memory_init(&medium, lasting, written, GROUPS, HOMES);
+    check(kgt_init(&store, memory, sizeof memory, GROUPS, HOMES, kgt_memory_driver(&medium)).code == 0, "init", 0);
+    play_start(&play, &store, HOMES, 1);
+}
+
+static void prepare(void)
+{
+    kgt_memory_init(&medium, lasting, written, GROUPS, HOMES);
+    check(kgt_init(&store, memory, sizeof memory, GROUPS, HOMES, kgt_memory_driver(&medium)).code == 0, "init", 0);
+    check(kgt_format(&store, scratch, sizeof scratch).code == KAGUTIN_DONE, "format", 0);
+    memcpy(formatted, lasting, sizeof lasting);
+}
+
+static bool by_chance(void *context, size_t at)
+{
+    (void)context;
+    (void)at;
+    return play_random(&play, 2) == 0;
+}
+
+/* Opens after a cut; power may go again while it opens. */
+static void reopen(unsigned long at, bool chance)
+{
+    int cuts;
+
+    for (cuts = 0; cuts < 4; cuts++) {
+        kgt_memory_cut(&medium, chance ? by_chance : NULL, NULL);
+        if (cuts < 3 && play_random(&play, 2))
+            kgt_memory_stop_after(&medium, play_random(&play, 700));
+        if (kgt_open(&store).code == KAGUTIN_DONE)
+            break;
+        check(medium.off, "an opening that is not done though power is on", at);
+    }
+    kgt_memory_stop_after(&medium, UINT64_MAX);
+    check(play_opened(&play), "an opening", at);
+}
+
+/* Power goes after every n-th byte of a history; then the store is used on. */
+static void check_stops(unsigned every)
+{
+    unsigned long at;
+    bool ended = false;
+
+    for (at = 0; !ended; at += every) {
+        power_on();
+        kgt_memory_stop_after(&medium, at);
+        ended = kgt_open(&store).code == KAGUTIN_DONE && play_work(&play, STEPS);
+        check(!play.wrong, "work", at);
+        reopen(at, false);
+        check(play_work(&play, 40), "work after an opening", at);
+        reopen(at, false);
+    }
+    printf("store_check: %lu stops, every %u bytes\n", at / every, every);
+}
+
+/* Power goes at random, and of the words since the last fence any arrive. */
+static void check_words(unsigned long rounds)
+{
+    unsigned long round;
+
+    power_on();
+    reopen(0, true);
+    for (round = 0; round < rounds; round++) {
+        kgt_memory_stop_after(&medium, play_random(&play, 9000));
+        play_work(&play, (unsigned)play_random(&play, 200));
+        check(!play.wrong, "work", round);
+        reopen(round, true);
+    }
+    printf("store_check: %lu cuts with any choice of words\n", rounds);
+}
+
+/* ---- a driver that fails at its n-th call ---- */
+
+static unsigned long calls_left;
+static struct kgt_driver inner;
+
+static int fails(void)
+{
+    return calls_left == 0 || --calls_left == 0 ? 77 : 0;
+}
+
+static int failing_load(void *context, enum kgt_area area, size_t at, uint8_t *bytes, size_t size)
+{
+    int error = fails();
+
+    return error ? error : inner.load(context, area, at, bytes, size);
+}
+
+static int failing_write(void *context, enum kgt_area area, size_t at, const uint8_t *bytes, size_t size)
+{
+    int error = fails();
+
+    return error ? error : inner.write(context, area, at, bytes, size);
+}
+
+static int failing_fence(void *context)
+{
+    int error = fails();
+
+    return error ? error : inner.fence(context);
+}
+
+static void check_refused(struct kagutin_reply reply, unsigned long at)
+{
+    check(reply.code == KGT_DRIVER_FAILED && reply.figure == 77 && reply.size == 0, "a call after a failure is refused", at);
+}
+
+/* Every call is refused, and changes nothing, also when the driver works again. */
+static void check_shut(unsigned long at)
+{
+    uint8_t block[KAGUTIN_BLOCK_SIZE] = {0};
+
+    calls_left = 1000;
+    memcpy(before, memory, sizeof memory);
+    check_refused(kgt_begin(&store, 0), at);
+    check_refused(kgt_store(&store, 0, 1, block), at);
+    check_refused(kgt_commit(&store, 0), at);
+    check_refused(kgt_abort(&store, 0), at);
+    check_refused(kgt_read(&store, 0, 1, block), at);
+    check_refused(kgt_sync(&store), at);
+    check_refused(kgt_maintain(&store, 0), at);
+    check(calls_left == 1000 && memcmp(before, memory, sizeof memory) == 0, "a refused call does nothing", at);
+}
+
+static void check_failures(void)
+{
+    unsigned long at;
+    bool ended = false;
+
+    for (at = 1; !ended; at++) {
+        power_on();
+        inner = store.runner.driver;
+        store.runner.driver.load = failing_load;
+        store.runner.driver.write = failing_write;
+        store.runner.driver.fence = failing_fence;
+        calls_left = at;
+        ended = kgt_open(&store).code == KAGUTIN_DONE && play_work(&play, STEPS);
+        check(!play.wrong, "work", at);
+        if (!ended)
+            check_shut(at);
+        calls_left = UINT32_MAX;
+        kgt_memory_cut(&medium, NULL, NULL);
+        check(kgt_open(&store).code == KAGUTIN_DONE && play_opened(&play), "an opening after a failure", at);
+        check(play_work(&play, 40), "work after it", at);
+    }
+    printf("store_check: the driver failed at each of %lu calls\n", at - 1);
+}
+
+/* ---- a lock that fails ---- */
+
+static unsigned long locks_left;
+static int held;
+
+static int take(void *context)
+{
+    (void)context;
+    check(held == 0, "the lock is not taken twice", locks_left);
+    if (locks_left > 0 && --locks_left == 0)
+        return 1;
+    held = 1;
+    return 0;
+}
+
+static void give(void *context)
+{
+    (void)context;
+    check(held == 1, "a lock that is given back is held", locks_left);
+    held = 0;
+}
+
+static void check_lock_refused(struct kagutin_reply reply)
+{
+    check(reply.code == KGT_LOCK_FAILED && reply.figure == 0 && held == 0, "a call without the lock is refused", 0);
+    check(memcmp(before, memory, sizeof memory) == 0, "and does nothing", 0);
+    locks_left = 1;
+}
+
+static void check_locks(void)
+{
+    uint8_t block[KAGUTIN_BLOCK_SIZE] = {0};
+
+    power_on();
+    kgt_set_lock(&store, take, give, NULL);
+    check(kgt_begin(&store, 0).code == KGT_CLOSED && held == 0, "a closed store gives the lock back", 0);
+    check(kgt_open(&store).code == KAGUTIN_DONE && play_work(&play, STEPS) && held == 0, "work under a lock", 0);
+    memcpy(before, memory, sizeof memory);
+    locks_left = 1;
+    check_lock_refused(kgt_begin(&store, 0));
+    check_lock_refused(kgt_store(&store, 0, 1, block));
+    check_lock_refused(kgt_commit(&store, 0));
+    check_lock_refused(kgt_abort(&store, 0));
+    check_lock_refused(kgt_read(&store, 0, 1, block));
+    check_lock_refused(kgt_sync(&store));
+    check_lock_refused(kgt_maintain(&store, 0));
+    check_lock_refused(kgt_open(&store));
+    check_lock_refused(kgt_format(&store, scratch, sizeof scratch));
+    locks_left = 0;
+    check(play_work(&play, STEPS), "work goes on", 0);
+}
+
+/* ---- the object's own answers ---- */
+
+static void check_sizes(void)
+{
+    struct kgt_driver driver = kgt_memory_driver(&medium);
+    static uint8_t large[KGT_MEMORY_SIZE(GROUPS + 1, HOMES)];
+
+    power_on();
+    check(kgt_init(&store, memory, sizeof memory - 1, GROUPS, HOMES, driver).code == KAGUTIN_BAD_LENGTH, "short memory", 0);
+    check(kgt_init(&store, memory, sizeof memory, 3, HOMES, driver).code == KAGUTIN_BAD_LENGTH, "3 groups", 0);
+    check(kgt_init(&store, memory, sizeof memory, GROUPS, 0, driver).code == KAGUTIN_BAD_LENGTH, "no home", 0);
+    check(kgt_init(&store, large, sizeof large, GROUPS + 1, HOMES, driver).code == KAGUTIN_DONE, "another shape", 0);
+    power_on();
+    check(kgt_read(&store, 0, 0, scratch).code == KGT_CLOSED, "a closed store", 0);
+    check(kgt_format(&store, scratch, sizeof scratch - 1).code == KAGUTIN_SHORT_BATCH, "a short scratch", 0);
+    memset(lasting, 0, KAGUTIN_HEADER_SIZE);
+    kgt_memory_init(&medium, lasting, written, GROUPS, HOMES);
+    check(kgt_open(&store).code == KAGUTIN_BAD_HEADER && kgt_sync(&store).code == KGT_CLOSED, "no store there", 0);
+    check(strcmp(kgt_answer_text(KGT_CLOSED), kgt_answer_text(KAGUTIN_FULL)) != 0, "answers in words", 0);
+}
+
+/* Writer 2 holds the log's first group; writer 0 fills the rest. */
+static void check_full(void)
+{
+    uint8_t block[KAGUTIN_BLOCK_SIZE] = {0};
+    struct kagutin_reply reply = {0, 0, 0};
+    uint64_t i;
+
+    power_on();
+    check(kgt_open(&store).code == KAGUTIN_DONE, "open", 0);
+    check(kgt_begin(&store, 2).code == 0 && kgt_store(&store, 2, 1, block).code == 0, "writer 2", 0);
+    check(kgt_store(&store, 2, 2, block).code == 0, "logs one entry", 0);
+    for (i = 0; i < 1000 && reply.code == KAGUTIN_DONE; i++) {
+        reply = kgt_begin(&store, 0);
+        if (reply.code == KAGUTIN_DONE)
+            reply = kgt_store(&store, 0, i % HOMES, block);
+        if (reply.code == KAGUTIN_DONE)
+            reply = kgt_commit(&store, 0);
+    }
+    check(reply.code == KAGUTIN_FULL && reply.figure == 2, "the full log names writer 2", i);
+    check(kgt_abort(&store, 2).code == KAGUTIN_DONE, "abort", 0);
+    reply = kgt_commit(&store, 0);
+    check(reply.code == KAGUTIN_DONE && reply.figure != 0, "then a commit makes room by itself", 0);
+    check(kgt_sync(&store).figure >= reply.figure, "and is durable", 0);
+    kgt_begin(&store, 1);
+    for (i = 0, reply.code = 0; i < 1000 && reply.code == KAGUTIN_DONE; i++)
+        reply = kgt_store(&store, 1, i % HOMES, block);
+    check(reply.code == KAGUTIN_FULL && reply.figure == 1, "a transaction too long for the log names itself", i);
+    for (i = 0; i < 1000; i++)
+        check(kgt_abort(&store, 1).code == KAGUTIN_DONE && kgt_begin(&store, 1).code == KAGUTIN_DONE
+                  && kgt_store(&store, 1, 0, block).code == KAGUTIN_DONE && kgt_store(&store, 1, 1, block).code == 0,
+              "aborted entries never fill the log", i);
+}
+
+int main(int count, char **words)
+{
+    unsigned every = count > 1 ? (unsigned)atoi(words[1]) : 1;
+    unsigned long rounds = count > 2 ? (unsigned long)atol(words[2]) : 5000;
+
+    prepare();
+    check_sizes();
+    check_full();
+    check_locks();
+    check_failures();
+    check_stops(every ? every : 1);
+    check_words(rounds);
+    puts("store_check: right");
+    return 0;
+}

@@ -1,0 +1,107 @@
+/*
+ * Eight threads on one store, one writer each, under the lock hooks; a ninth
+ * syncs and maintains. Each writes a pair of homes in one transaction, again
+ * and again. Then power is cut, and every pair must be whole.
+ */
+#define _POSIX_C_SOURCE 200809L
+
+#include <pthread.h>
+#include <stdio.h>
+#include <string.h>
+
+#include "kagutin_memory.h"
+
+enum { GROUPS = 12, HOMES = 2 * KAGUTIN_WRITERS, ROUNDS = 400 };
+
+static uint8_t memory[KGT_MEMORY_SIZE(GROUPS, HOMES)], scratch[KGT_FORMAT_SIZE(GROUPS, HOMES)];
+static uint8_t lasting[KGT_LOG_SIZE(GROUPS) + KGT_HOMES_SIZE(HOMES)], written[sizeof lasting];
+static struct kgt_memory medium;
+static struct kagutin store;
+static pthread_mutex_t mutex = PTHREAD_MUTEX_INITIALIZER;
+static unsigned long commits[KAGUTIN_WRITERS], full[KAGUTIN_WRITERS], failures[KAGUTIN_WRITERS + 1];
+
+static int take(void *context)
+{
+    return pthread_mutex_lock((pthread_mutex_t *)context);
+}
+
+static void give(void *context)
+{
+    pthread_mutex_unlock((pthread_mutex_t *)context);
+}
+
+/* One transaction: the next number into both homes of the writer. */
+static void *task(void *argument)
+{
+    uint64_t writer = (uint64_t)(size_t)argument;
+    unsigned round;
+
+    for (round = 0; round < ROUNDS; round++) {
+        uint8_t block[KAGUTIN_BLOCK_SIZE], own[KAGUTIN_BLOCK_SIZE];
+        struct kagutin_reply reply;
+
+        memset(block, (int)((commits[writer] + 1) % 251), sizeof block);
+        failures[writer] += kgt_begin(&store, writer).code != KAGUTIN_DONE;
+        reply = kgt_store(&store, writer, 2 * writer, block);
+        if (reply.code == KAGUTIN_DONE)
+            reply = kgt_store(&store, writer, 2 * writer + 1, block);
+        if (reply.code == KAGUTIN_DONE) {
+            failures[writer] += kgt_read(&store, writer, 2 * writer, own).code != KAGUTIN_DONE
+                || memcmp(own, block, sizeof own) != 0;
+            reply = kgt_commit(&store, writer);
+        }
+        if (reply.code == KAGUTIN_DONE) {
+            commits[writer]++;
+            continue;
+        }
+        full[writer]++;
+        failures[writer] += reply.code != KAGUTIN_FULL || kgt_abort(&store, writer).code != KAGUTIN_DONE;
+    }
+    return NULL;
+}
+
+static void *housekeeping(void *argument)
+{
+    unsigned round;
+
+    (void)argument;
+    for (round = 0; round < ROUNDS; round++)
+        failures[KAGUTIN_WRITERS] += kgt_sync(&store).code != KAGUTIN_DONE || kgt_maintain(&store, 4).code != KAGUTIN_DONE;
+    return NULL;
+}
+
+static bool lands_never(void *context, size_t at)
+{
+    (void)context;
+    (void)at;
+    return false;
+}
+
+int main(void)
+{
+    pthread_t threads[KAGUTIN_WRITERS + 1];
+    unsigned long wrong = 0, done = 0, tries = 0;
+    uint8_t block[KAGUTIN_BLOCK_SIZE];
+    size_t i;
+
+    kgt_memory_init(&medium, lasting, written, GROUPS, HOMES);
+    wrong += kgt_init(&store, memory, sizeof memory, GROUPS, HOMES, kgt_memory_driver(&medium)).code;
+    kgt_set_lock(&store, take, give, &mutex);
+    wrong += kgt_format(&store, scratch, sizeof scratch).code + kgt_open(&store).code;
+    for (i = 0; i <= KAGUTIN_WRITERS; i++)
+        wrong += pthread_create(&threads[i], NULL, i < KAGUTIN_WRITERS ? task : housekeeping, (void *)i) != 0;
+    for (i = 0; i <= KAGUTIN_WRITERS; i++)
+        pthread_join(threads[i], NULL);
+    wrong += kgt_sync(&store).code;
+    kgt_memory_cut(&medium, lands_never, NULL);
+    wrong += kgt_open(&store).code;
+    for (i = 0; i < HOMES; i++) {
+        wrong += kgt_read(&store, 0, i, block).code || block[0] != commits[i / 2] % 251 || block[63] != block[0];
+        done += i % 2 ? 0 : commits[i / 2];
+        tries += i % 2 ? 0 : full[i / 2];
+    }
+    for (i = 0; i <= KAGUTIN_WRITERS; i++)
+        wrong += failures[i];
+    printf("tasks_check: %s, %lu commits of eight threads, %lu given up in a full log\n", wrong ? "wrong" : "right", done, tries);
+    return wrong != 0;
+}
