@@ -1,7 +1,9 @@
-# make            builds the library and the C programs
+# make            builds the library and the C programs from dist/, with a C compiler alone
 # make run        a pump station on the store: power cuts at random, each opening checked, a wear sheet at the end
 # make test       runs every test and every proof; the prover's verdict is the last line
-# make compare    a long comparison of the library with the second implementation, call by call
+# make dist       dist/kagutin.c again from the proved program; the gate fails where it differs
+# make compare    a long comparison of the library, built in many ways, with the second implementation, call by call
+# make arm        the C file on an emulated Cortex-M board and other machines; port/packages.sh installs what it needs
 # make play       random histories on the second implementation alone
 # make bench      instructions and times of each call against the second implementation; other stores, if installed
 # make bench-docs tables of docs/PERFORMANCE.md and docs/ring-cost.svg from the last bench
@@ -18,9 +20,9 @@ SEED ?= 1
 CUTS ?= 300
 HISTORIES ?= 400
 
-LIB = target/staticlib/libkagutin.a
-GAUGES_LIB = target/staticlib/libgauges.a
-INFLOW_LIB = target/staticlib/libinflow.a
+ARCHIVE = target/staticlib/libkagutin.a
+GAUGES_ARCHIVE = target/staticlib/libgauges.a
+INFLOW_ARCHIVE = target/staticlib/libinflow.a
 
 .PHONY: all help run test test-library compare play bench bench-docs second library clean
 
@@ -35,13 +37,13 @@ help:
 include c.mk
 
 # The archive is made from proved crates only; rt proves what has changed, and a changed definition or proof counts as well.
-library $(LIB): crates.txt $(shell find crates -name '*.rt' -o -name '*.antt')
+library $(ARCHIVE): crates.txt $(shell find crates -name '*.rt' -o -name '*.antt')
 	@scripts/library.sh
 
-$(GAUGES_LIB): $(shell find crates/gauges -name '*.rt' -o -name '*.antt')
+$(GAUGES_ARCHIVE): $(shell find crates/gauges -name '*.rt' -o -name '*.antt')
 	@scripts/library.sh gauges
 
-$(INFLOW_LIB): $(shell find crates/inflow -name '*.rt' -o -name '*.antt')
+$(INFLOW_ARCHIVE): $(shell find crates/inflow -name '*.rt' -o -name '*.antt')
 	@scripts/library.sh inflow
 
 run: station
@@ -50,21 +52,21 @@ run: station
 second:
 	cd second && cargo build --release --offline --quiet
 
-compare/target/release/compare: $(LIB) $(GAUGES_LIB) $(INFLOW_LIB) second
+compare/target/release/compare: $(ARCHIVE) $(GAUGES_ARCHIVE) $(INFLOW_ARCHIVE) second
 	cd compare && cargo build --release --offline --quiet
 
-compare: compare/target/release/compare
-	compare/target/release/compare --seed $(SEED) --calls 1000000 --damaged 100000 --histories 5000 --large-histories 20
+compare: port-compare
+	compare/target/release/compare --seed $(SEED) --calls 0 --damaged 0 --histories 0 --large-histories 20
 
 play: second
 	second/target/release/play --seed $(SEED) --histories $(HISTORIES)
 
-bench/target/release/bench: $(LIB) $(GAUGES_LIB) $(INFLOW_LIB) second
+bench/target/release/bench: $(ARCHIVE) $(GAUGES_ARCHIVE) $(INFLOW_ARCHIVE) second
 	cd bench && cargo build --release --offline --quiet
 
 bench: bench/target/release/bench
 	bench/target/release/bench --seed $(SEED)
-	@if [ -x bench/peers/run.sh ]; then LIB=$(LIB) bench/peers/run.sh; fi
+	@if [ -x bench/peers/run.sh ]; then LIB=$(ARCHIVE) bench/peers/run.sh; fi
 
 bench-docs:
 	python3 bench/plot.py target/bench/bench.tsv docs/ring-cost.svg
@@ -79,10 +81,14 @@ test: second
 	$(MAKE) --no-print-directory test-library && \
 	tail -n 1 "$$verdict"
 
-test-library: compare/target/release/compare bench/target/release/bench
-	compare/target/release/compare --seed $(SEED)
+test-library: bench/target/release/bench
+	$(MAKE) --no-print-directory dist-check
+	$(MAKE) --no-print-directory generator-check
+	$(MAKE) --no-print-directory port-check
+	$(MAKE) --no-print-directory board-check RECORD_LIB=$(ARCHIVE)
 	bench/target/release/bench --seed $(SEED) --no-counts --out target/bench-test > /dev/null && echo "bench: the same answers on both sides"
 	$(MAKE) --no-print-directory c-check
+	$(MAKE) --no-print-directory c-check LIB=$(ARCHIVE) GAUGES_LIB=$(GAUGES_ARCHIVE) INFLOW_LIB=$(INFLOW_ARCHIVE) C_OUT=target/c-archive
 
 clean:
 	rm -rf target second/target compare/target bench/target

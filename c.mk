@@ -1,18 +1,18 @@
 # The C side: header, driver, station, inspector. Included by the Makefile; also
-# make -f c.mk LIB=path/to/libkagutin.a station
+# make -f c.mk LIB=path/to/libkagutin.a station; without LIB the library is built from dist/kagutin.c
 #
 # station, inspect, quickstart   programs in target/c
-# gauges                         two CSV files of levels compared; a program over libgauges.a alone
-# inflow                         least and most inflow of a pit; a program over libinflow.a alone
+# gauges                         two CSV files of levels compared; a program over libkagutin_gauges.a alone
+# inflow                         least and most inflow of a pit; a program over libkagutin_inflow.a alone
 # c-sanitize                     the same with address and undefined-behaviour sanitizers, in target/c/sanitize
 # c-check                        tests of all of these
 # c-kills                        longer: KILLS kills of a process at work, on this disk
 # c-dist                         headers and sources of the store object and its drivers into DIST
 # install, uninstall             headers, libraries and kagutin.pc, under DESTDIR and PREFIX
 
-LIB ?= target/staticlib/libkagutin.a
-GAUGES_LIB ?= target/staticlib/libgauges.a
-INFLOW_LIB ?= target/staticlib/libinflow.a
+LIB ?= $(C_OUT)/libkagutin.a
+GAUGES_LIB ?= $(C_OUT)/libkagutin_gauges.a
+INFLOW_LIB ?= $(C_OUT)/libkagutin_inflow.a
 C_LIBS ?=
 PREFIX ?= /usr/local
 DESTDIR ?=
@@ -70,7 +70,7 @@ define C_PROGRAM
 $(C_OUT)/$(1): $(2:%=$(C_OUT)/%.o) $(3)
 	$$(CC) $$(CFLAGS) $$^ $(if $(3),$$(C_LIBS)) -o $$@
 
-$(C_OUT)/sanitize/$(1): $(2:%=$(C_OUT)/sanitize/%.o) $(3)
+$(C_OUT)/sanitize/$(1): $(2:%=$(C_OUT)/sanitize/%.o) $(3:$(C_OUT)/%=$(C_OUT)/sanitize/%)
 	$$(CC) $$(C_SANITIZE) $$^ $(if $(3),$$(C_LIBS)) -o $$@
 endef
 
@@ -133,6 +133,8 @@ uninstall:
 	rm -f $(C_PUBLIC:%=$(DESTDIR)$(PREFIX)/include/%.h) $(DESTDIR)$(PREFIX)/lib/libkagutin.a
 	rm -f $(C_BESIDE:%=$(DESTDIR)$(PREFIX)/include/%.h) $(C_BESIDE:%=$(DESTDIR)$(PREFIX)/lib/lib%.a)
 	rm -f $(DESTDIR)$(PREFIX)/lib/libkagutin_store.a $(DESTDIR)$(PREFIX)/lib/pkgconfig/kagutin.pc
+
+include port.mk
 
 c-clean:
 	rm -rf $(C_OUT)

@@ -1,5 +1,5 @@
-//! Links libkagutin.a, libgauges.a and libinflow.a from the folder KAGUTIN_LIB_DIR (a
-//! relative one counts from this package), by default ../target/staticlib.
+//! Links libkagutin.a from the folder KAGUTIN_LIB_DIR (a relative one counts from
+//! this package), by default ../target/staticlib; libgauges.a and libinflow.a from there.
 
 use std::path::Path;
 
@@ -8,7 +8,9 @@ fn main() {
     let folder = Path::new(&std::env::var("CARGO_MANIFEST_DIR").unwrap()).join(folder);
     println!("cargo:rerun-if-env-changed=KAGUTIN_LIB_DIR");
     println!("cargo:rustc-link-search=native={}", folder.display());
-    for name in ["kagutin", "gauges", "inflow"] {
+    let default = Path::new(&std::env::var("CARGO_MANIFEST_DIR").unwrap()).join("../target/staticlib");
+    println!("cargo:rustc-link-search=native={}", default.display());
+    for (name, folder) in [("kagutin", &folder), ("gauges", &default), ("inflow", &default)] {
         let library = folder.join(format!("lib{name}.a"));
         println!("cargo:rerun-if-changed={}", library.display());
         println!("cargo:rustc-link-lib=static={name}");

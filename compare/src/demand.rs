@@ -1,13 +1,16 @@
 //! Demand 3 on the library: it performs every call of random histories, and
-//! what it answers and leaves is held to the book.
+//! what it answers and leaves is held to the book. The builds take turns.
 
-use crate::{library, trap};
+use crate::library::Calls;
+use crate::trap;
+use second::lent::Lent;
 use second::player::{history_with, large_history_with, Tally};
 use std::panic::{catch_unwind, AssertUnwindSafe};
 
 /// Plays the histories of the seeds from `seed` on; the last `large` of them
 /// are long ones of the largest log.
 pub fn play(
+    builds: &[Calls],
     seed: u64,
     histories: u64,
     large: u64,
@@ -18,9 +21,11 @@ pub fn play(
         let one = seed.wrapping_add(at);
         trap::note(one, at);
         let large = at >= histories;
+        let build = builds[(at % builds.len() as u64) as usize];
+        let runner = Box::new(move |lent: &mut Lent, kind, writer, home| build.run(lent, kind, writer, home));
         let run = || match large {
-            false => history_with(one, &mut tally, Box::new(library::run)),
-            true => large_history_with(one, &mut tally, Box::new(library::run)),
+            false => history_with(one, &mut tally, runner),
+            true => large_history_with(one, &mut tally, runner),
         };
         let outcome = catch_unwind(AssertUnwindSafe(run));
         outcome.unwrap_or_else(|_| Err("panic".to_string())).map_err(|what| {

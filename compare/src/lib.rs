@@ -3,4 +3,5 @@
 #![deny(warnings)]
 
 pub mod library;
+mod shared;
 pub mod trap;

@@ -1,7 +1,9 @@
 //! The library's C interface.
 
+use crate::shared;
 use second::lent::{Kind, Lent};
 use second::Answer;
+use std::ffi::c_void;
 
 /// What every call returns.
 #[repr(C)]
@@ -33,6 +35,24 @@ macro_rules! declare {
         extern "C" {
             $(fn $name($($slice: *mut u8, _: usize,)* $($number: u64,)*) -> Reply;)*
         }
+
+        /// The calls of one build of the library.
+        #[derive(Clone, Copy)]
+        pub struct Calls {
+            $($name: unsafe extern "C" fn($($slice: *mut u8, _: usize,)* $($number: u64,)*) -> Reply,)*
+        }
+
+        /// The calls of the archive that this program is linked with.
+        pub const ARCHIVE: Calls = Calls { $($name,)* };
+
+        impl Calls {
+            /// The calls of a shared object, which is never unloaded.
+            pub fn load(path: &str) -> Result<Calls, String> {
+                let object = shared::open(path)?;
+                // The object is a build of dist/kagutin.c, whose header declares these names with these types.
+                unsafe { Ok(Calls { $($name: std::mem::transmute::<*mut c_void, _>(shared::find(object, stringify!($name))?),)* }) }
+            }
+        }
     };
 }
 
@@ -54,33 +74,40 @@ declare! {
 /// Log, area, state, block and batch. An empty slice has a dangling pointer.
 pub type Slices<'a> = [&'a mut [u8]; 5];
 
-pub fn call(kind: Kind, slices: Slices, writer: u64, home: u64) -> Reply {
-    let [(log, g), (area, d), (state, s), (block, k), (batch, n)] =
-        slices.map(|slice| (slice.as_mut_ptr(), slice.len()));
-    // Each pointer goes with the length of its slice, and the slices are apart.
-    unsafe {
-        match kind {
-            Kind::Format => kagutin_format(log, g, area, d, batch, n),
-            Kind::Open => kagutin_open(log, g, area, d, state, s, batch, n),
-            Kind::Begin => kagutin_begin(log, g, area, d, state, s, writer),
-            Kind::Reserve => kagutin_reserve(log, g, area, d, state, s, writer, home),
-            Kind::Abort => kagutin_abort(log, g, area, d, state, s, writer),
-            Kind::Store => kagutin_store(log, g, area, d, state, s, block, k, batch, n, writer, home),
-            Kind::Commit => kagutin_commit(log, g, area, d, state, s, batch, n, writer),
-            Kind::Flush => kagutin_flush(log, g, area, d, state, s, batch, n),
-            Kind::Confirm => kagutin_confirm(log, g, area, d, state, s),
-            Kind::Settle => kagutin_settle(log, g, area, d, state, s, batch, n),
-            Kind::Trim => kagutin_trim(log, g, area, d, state, s, batch, n),
-            Kind::Read => kagutin_read(log, g, area, d, state, s, block, k, writer, home),
+impl Calls {
+    pub fn call(&self, kind: Kind, slices: Slices, writer: u64, home: u64) -> Reply {
+        let [(log, g), (area, d), (state, s), (block, k), (batch, n)] =
+            slices.map(|slice| (slice.as_mut_ptr(), slice.len()));
+        // Each pointer goes with the length of its slice, and the slices are apart.
+        unsafe {
+            match kind {
+                Kind::Format => (self.kagutin_format)(log, g, area, d, batch, n),
+                Kind::Open => (self.kagutin_open)(log, g, area, d, state, s, batch, n),
+                Kind::Begin => (self.kagutin_begin)(log, g, area, d, state, s, writer),
+                Kind::Reserve => (self.kagutin_reserve)(log, g, area, d, state, s, writer, home),
+                Kind::Abort => (self.kagutin_abort)(log, g, area, d, state, s, writer),
+                Kind::Store => (self.kagutin_store)(log, g, area, d, state, s, block, k, batch, n, writer, home),
+                Kind::Commit => (self.kagutin_commit)(log, g, area, d, state, s, batch, n, writer),
+                Kind::Flush => (self.kagutin_flush)(log, g, area, d, state, s, batch, n),
+                Kind::Confirm => (self.kagutin_confirm)(log, g, area, d, state, s),
+                Kind::Settle => (self.kagutin_settle)(log, g, area, d, state, s, batch, n),
+                Kind::Trim => (self.kagutin_trim)(log, g, area, d, state, s, batch, n),
+                Kind::Read => (self.kagutin_read)(log, g, area, d, state, s, block, k, writer, home),
+            }
         }
+    }
+
+    /// The call on the lent memory itself.
+    pub fn run(&self, lent: &mut Lent, kind: Kind, writer: u64, home: u64) -> Answer {
+        let Lent { log, data, state, block, batch } = lent;
+        crate::trap::enter(kind);
+        let reply = self.call(kind, [log, data, state, block, batch], writer, home);
+        crate::trap::leave();
+        reply.into()
     }
 }
 
-/// The library's call on the lent memory itself.
-pub fn run(lent: &mut Lent, kind: Kind, writer: u64, home: u64) -> Answer {
-    let Lent { log, data, state, block, batch } = lent;
-    crate::trap::enter(kind);
-    let reply = call(kind, [log, data, state, block, batch], writer, home);
-    crate::trap::leave();
-    reply.into()
+/// The archive's call.
+pub fn call(kind: Kind, slices: Slices, writer: u64, home: u64) -> Reply {
+    ARCHIVE.call(kind, slices, writer, home)
 }

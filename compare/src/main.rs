@@ -1,8 +1,9 @@
-//! The library and the second implementation on equal memory, byte for byte;
-//! then demand 3 on the library. A seed repeats a run exactly.
+//! The builds of the library and the second implementation on equal memory,
+//! byte for byte; then demand 3 on the library. A seed repeats a run exactly.
 
 #![deny(warnings)]
 
+mod build;
 mod damaged;
 mod demand;
 mod gauges;
@@ -13,20 +14,23 @@ mod part;
 mod table;
 mod trials;
 
+use build::Build;
+use compare::library::{Calls, ARCHIVE};
 use compare::{library, trap};
 use pair::Pair;
 use std::process::ExitCode;
 
 const USAGE: &str = "\
 usage: compare [--seed S] [--calls N] [--damaged M] [--histories H]
-               [--large L] [--large-histories K] [--tight]
+               [--large L] [--large-histories K] [--tight] [--build FILE]...
   --seed S             repeats a run exactly (1)
   --calls N            calls compared over valid histories with cuts (100000)
   --damaged M          damaged images and strips, several calls on each (20000)
   --histories H        histories of demand 3, the library doing the calls (500)
   --large L            how many in a thousand calls and images have G 1024 (10)
   --large-histories K  long histories of demand 3 with G 1024 (0)
-  --tight              no guard bytes, so that a memory checker sees reads outside";
+  --tight              no guard bytes, so that a memory checker sees reads outside
+  --build FILE         a shared object of dist/kagutin.c, compared as well";
 
 struct Options {
     seed: u64,
@@ -36,6 +40,7 @@ struct Options {
     large: u64,
     large_histories: u64,
     guarded: bool,
+    builds: Vec<String>,
 }
 
 impl Options {
@@ -48,6 +53,7 @@ impl Options {
             large: 10,
             large_histories: 0,
             guarded: true,
+            builds: Vec::new(),
         };
         while let Some(word) = words.next() {
             let number = match word.as_str() {
@@ -59,6 +65,10 @@ impl Options {
                 "--large-histories" => &mut options.large_histories,
                 "--tight" => {
                     options.guarded = false;
+                    continue;
+                }
+                "--build" => {
+                    options.builds.push(words.next()?);
                     continue;
                 }
                 _ => return None,
@@ -87,10 +97,21 @@ fn main() -> ExitCode {
     }
 }
 
+/// The archive and the shared objects.
+fn builds(options: &Options) -> Result<Vec<Build>, String> {
+    let mut builds = vec![Build::new("library", ARCHIVE, options.guarded)];
+    for path in &options.builds {
+        builds.push(Build::new(path, Calls::load(path)?, options.guarded));
+    }
+    Ok(builds)
+}
+
 fn run(options: &Options) -> Result<(), String> {
     let &Options { seed, calls, damaged: images, histories, large, .. } = options;
-    println!("compare: the library and the second implementation, seed {seed}");
-    let pair = Pair::new(seed, options.guarded);
+    let builds = builds(options)?;
+    println!("compare: {} of the library and the second implementation, seed {seed}", count(builds.len()));
+    let all: Vec<Calls> = builds.iter().map(|build| build.calls).collect();
+    let pair = Pair::new(seed, builds);
 
     trials::play(&mut pair.borrow_mut())?;
     println!("trials 11 to 13: {} calls, as the paper says", pair.borrow().case);
@@ -115,7 +136,7 @@ fn run(options: &Options) -> Result<(), String> {
 
     let long = options.large_histories;
     let mut next = 1;
-    let tally = demand::play(seed, histories, long, |done, tally| {
+    let tally = demand::play(&all, seed, histories, long, |done, tally| {
         if tenth(&mut next, done, histories + long) {
             println!("demand 3 on the library: {done} histories, {} calls", tally.calls);
         }
@@ -146,6 +167,10 @@ fn run(options: &Options) -> Result<(), String> {
     let played = inflow::play(seed, calls / 10)?;
     println!("inflow: {} calls done and {} refused, {} choices inside the ranges", played.done, played.refused, played.choices);
     Ok(())
+}
+
+fn count(builds: usize) -> String {
+    if builds == 1 { "one build".into() } else { format!("{builds} builds") }
 }
 
 /// True at each tenth of the way.

@@ -1,0 +1,2619 @@
+/*
+ * Kagutin as one C99 file, made by port/generate.py from the proved program.
+ * Do not edit: change the sources under crates/ and run `make dist`.
+ *
+ * Needs kagutin.h, memcpy and memset; no heap, no other library, no state
+ * of its own. All that is not declared there is static. Where a compiler is
+ * known, some helpers have a quicker form; -DKAGUTIN_PLAIN_C leaves them out.
+ */
+#include <stdbool.h>
+#include <stddef.h>
+#include <stdint.h>
+#include <string.h>
+
+#include "kagutin.h"
+
+#if defined(__GNUC__) && !defined(__clang__) && SIZE_MAX < UINT64_MAX
+/* Counts are 64 bits wide and proved to stay in memory; gcc warns of turns that they never reach. */
+#pragma GCC diagnostic ignored "-Waggressive-loop-optimizations"
+#endif
+
+struct slice_u8 {
+    const uint8_t *ptr;
+    size_t len;
+};
+
+struct model__State {
+    uint64_t groups;
+    uint64_t homes;
+    uint64_t start;
+    uint64_t next;
+    uint64_t filled;
+    uint64_t settled;
+    uint64_t fenced;
+    uint64_t durable;
+    uint64_t last;
+};
+
+struct model__Writer {
+    uint64_t mode;
+    uint64_t home;
+    uint64_t first;
+    uint64_t count;
+};
+
+struct slice_mut_u8 {
+    uint8_t *ptr;
+    size_t len;
+};
+
+struct answers__Reply {
+    uint64_t code;
+    uint64_t figure;
+    uint64_t size;
+};
+
+struct array_u8_2 {
+    uint8_t at[2];
+};
+
+struct recovery__opening__Shape {
+    uint64_t groups;
+    uint64_t homes;
+    uint64_t start;
+};
+
+struct array_u64_7 {
+    uint64_t at[7];
+};
+
+struct model__Tag {
+    uint8_t tag;
+    uint64_t u64_0;
+    uint64_t u64_1;
+    uint64_t u64_2;
+    uint64_t u64_3;
+};
+
+struct scan__commits__Progress {
+    uint64_t end;
+    uint64_t number;
+    uint64_t failed;
+};
+
+struct slice_mut_u16 {
+    uint16_t *ptr;
+    size_t len;
+};
+
+struct scan__commits__Found {
+    uint64_t end;
+    uint64_t number;
+};
+
+struct array_u16_7168 {
+    uint16_t at[7168];
+};
+
+struct slice_mut_u64 {
+    uint64_t *ptr;
+    size_t len;
+};
+
+struct array_u16_4096 {
+    uint16_t at[4096];
+};
+
+struct slice_u64 {
+    const uint64_t *ptr;
+    size_t len;
+};
+
+struct slice_u16 {
+    const uint16_t *ptr;
+    size_t len;
+};
+
+struct array_u64_64 {
+    uint64_t at[64];
+};
+
+struct replay__search__Search {
+    struct scan__commits__Progress progress;
+    uint64_t newest;
+};
+
+struct array_u16_448 {
+    uint16_t at[448];
+};
+
+#if defined(__GNUC__) && !defined(KAGUTIN_PLAIN_C)
+#define QUICK_C 1
+#else
+#define QUICK_C 0
+#endif
+
+#if QUICK_C && defined(__BYTE_ORDER__) && defined(__ORDER_LITTLE_ENDIAN__) && __BYTE_ORDER__ == __ORDER_LITTLE_ENDIAN__ \
+    && (defined(__x86_64__) || defined(__i386__) || defined(__ARM_FEATURE_UNALIGNED))
+#define WHOLE_WORDS 1
+#else
+#define WHOLE_WORDS 0
+#endif
+
+#if QUICK_C && !defined(__clang__) && !defined(__OPTIMIZE_SIZE__) && __GNUC__ >= 8
+#define UNROLL _Pragma("GCC unroll 4")
+#else
+#define UNROLL
+#endif
+
+/* The number that 2 bytes make, lowest byte first. */
+static inline uint64_t load_2(const uint8_t *p)
+{
+#if WHOLE_WORDS
+    uint16_t x;
+
+    memcpy(&x, p, 2);
+    return x;
+#else
+    return p[0] | (uint64_t)p[1] << 8;
+#endif
+}
+
+/* The number that 4 bytes make, lowest byte first. */
+static inline uint64_t load_4(const uint8_t *p)
+{
+#if WHOLE_WORDS
+    uint32_t x;
+
+    memcpy(&x, p, 4);
+    return x;
+#else
+    return p[0] | (uint64_t)p[1] << 8 | (uint64_t)p[2] << 16 | (uint64_t)p[3] << 24;
+#endif
+}
+
+/* The number that 8 bytes make, lowest byte first. */
+static inline uint64_t load_8(const uint8_t *p)
+{
+#if WHOLE_WORDS
+    uint64_t x;
+
+    memcpy(&x, p, 8);
+    return x;
+#else
+    return p[0] | (uint64_t)p[1] << 8 | (uint64_t)p[2] << 16 | (uint64_t)p[3] << 24
+        | (uint64_t)p[4] << 32 | (uint64_t)p[5] << 40 | (uint64_t)p[6] << 48 | (uint64_t)p[7] << 56;
+#endif
+}
+
+/* Writes the low 2 bytes of a number, lowest byte first. */
+static inline void store_2(uint8_t *p, uint64_t v)
+{
+#if WHOLE_WORDS
+    uint16_t x = (uint16_t)v;
+
+    memcpy(p, &x, 2);
+#else
+    p[0] = (uint8_t)v;
+    p[1] = (uint8_t)(v >> 8);
+#endif
+}
+
+/* Writes the low 4 bytes of a number, lowest byte first. */
+static inline void store_4(uint8_t *p, uint64_t v)
+{
+#if WHOLE_WORDS
+    uint32_t x = (uint32_t)v;
+
+    memcpy(p, &x, 4);
+#else
+    p[0] = (uint8_t)v;
+    p[1] = (uint8_t)(v >> 8);
+    p[2] = (uint8_t)(v >> 16);
+    p[3] = (uint8_t)(v >> 24);
+#endif
+}
+
+/* Writes the low 8 bytes of a number, lowest byte first. */
+static inline void store_8(uint8_t *p, uint64_t v)
+{
+#if WHOLE_WORDS
+    uint64_t x = (uint64_t)v;
+
+    memcpy(p, &x, 8);
+#else
+    p[0] = (uint8_t)v;
+    p[1] = (uint8_t)(v >> 8);
+    p[2] = (uint8_t)(v >> 16);
+    p[3] = (uint8_t)(v >> 24);
+    p[4] = (uint8_t)(v >> 32);
+    p[5] = (uint8_t)(v >> 40);
+    p[6] = (uint8_t)(v >> 48);
+    p[7] = (uint8_t)(v >> 56);
+#endif
+}
+
+/* How many bits are set. */
+static inline uint32_t count_ones(uint64_t x)
+{
+    if (x == 0u)
+        return 0u;
+    x = x - (x >> 1 & UINT64_C(0x5555555555555555));
+    x = (x & UINT64_C(0x3333333333333333)) + (x >> 2 & UINT64_C(0x3333333333333333));
+    x = (x + (x >> 4)) & UINT64_C(0x0f0f0f0f0f0f0f0f);
+    return (uint32_t)(x * UINT64_C(0x0101010101010101) >> 56);
+}
+
+/* How many bits below the lowest one that is set; 64 of zero. */
+static inline uint32_t trailing_zeros(uint64_t x)
+{
+#if QUICK_C
+    return x == 0u ? 64u : (uint32_t)__builtin_ctzll(x);
+#else
+    return count_ones(~x & (x - 1u));
+#endif
+}
+
+/* The number of groups in a log area of `len` bytes. */
+static inline uint64_t areas__lengths__log_groups(uint64_t len)
+{
+    if (len < 64u) {
+        return 0u;
+    }
+    return (len - 64u) / 512u;
+}
+
+/* Whether a log area may have `len` bytes: a header and 4 to 1,024 whole groups. */
+static inline bool areas__lengths__log_right(uint64_t len)
+{
+    uint64_t t2;
+
+    t2 = areas__lengths__log_groups(len);
+    if (t2 < 4u) {
+        return false;
+    }
+    if (1024u < t2) {
+        return false;
+    }
+    return len == (64u + (512u * t2));
+}
+
+/* Whether a data area may have `len` bytes: 1 to 4,096 whole homes. */
+static inline bool areas__lengths__data_right(uint64_t len)
+{
+    uint64_t t2;
+
+    t2 = len / 64u;
+    if (t2 < 1u) {
+        return false;
+    }
+    if (4096u < t2) {
+        return false;
+    }
+    return len == (64u * t2);
+}
+
+/* Whether the lengths of both copies and of the strip are right. */
+static inline bool answers__lengths_right(struct slice_u8 log, struct slice_u8 area, struct slice_u8 state)
+{
+    bool t4;
+
+    t4 = areas__lengths__log_right((uint64_t)log.len);
+    if (!t4) {
+        return false;
+    }
+    t4 = areas__lengths__data_right((uint64_t)area.len);
+    if (!t4) {
+        return false;
+    }
+    return (uint64_t)state.len == 1024u;
+}
+
+/* Whether the numbers of the strip are in order, where its group numbers and the places filled are. */
+static inline bool strip__order__positions_in_order(struct model__State st)
+{
+    uint64_t t2;
+
+    t2 = 7u * st.start;
+    if (st.settled < t2) {
+        return false;
+    }
+    if (st.fenced < st.settled) {
+        return false;
+    }
+    if ((7u * st.next) < st.fenced) {
+        return false;
+    }
+    if (st.fenced < st.durable) {
+        return false;
+    }
+    if (st.last == 0u) {
+        return true;
+    }
+    if (st.last <= t2) {
+        return false;
+    }
+    if (((7u * st.next) + st.filled) < st.last) {
+        return false;
+    }
+    return true;
+}
+
+/* Whether the numbers of the strip are in order. */
+static inline bool strip__order__numbers_in_order(struct model__State st)
+{
+    uint64_t t2;
+
+    if (UINT64_C(0x800000000000) < st.start) {
+        return false;
+    }
+    if (st.next < st.start) {
+        return false;
+    }
+    t2 = st.start + st.groups;
+    if (t2 < st.next) {
+        return false;
+    }
+    if (6u < st.filled) {
+        return false;
+    }
+    if (st.next == t2) {
+        if (st.filled != 0u) {
+            return false;
+        }
+    }
+    return strip__order__positions_in_order(st);
+}
+
+/* Whether a writer's record is in order in a strip with the numbers `st`. */
+static inline bool strip__order__writer_in_order(struct model__State st, struct model__Writer r)
+{
+    uint64_t t3;
+
+    if (3u < r.mode) {
+        return false;
+    }
+    if (r.mode < 2u) {
+        return true;
+    }
+    if (st.homes <= r.home) {
+        return false;
+    }
+    if (r.mode < 3u) {
+        return true;
+    }
+    if (r.first < (7u * st.start)) {
+        return false;
+    }
+    t3 = (7u * st.next) + st.filled;
+    if (t3 <= r.first) {
+        return false;
+    }
+    if (r.count == 0u) {
+        return false;
+    }
+    if ((t3 - r.first) < r.count) {
+        return false;
+    }
+    return true;
+}
+
+/* Whether the records of all eight writers are in order in the strip `s` with the numbers `st`. */
+static inline bool strip__order__writers_in_order(struct slice_u8 s, struct model__State st)
+{
+    uint64_t t3, t8;
+    bool t5;
+
+    t3 = 0u;
+    while (t3 < 8u) {
+        t8 = 128u + (96u * t3);
+        t5 = strip__order__writer_in_order(st, (struct model__Writer){.mode = load_8(s.ptr + (size_t)t8), .home = load_8(s.ptr +
+                (size_t)(t8 + 8u)), .first = load_8(s.ptr + (size_t)(t8 + 16u)), .count = load_8(s.ptr + (size_t)(t8 + 24u))});
+        if (!t5) {
+            return false;
+        }
+        t3 = t3 + 1u;
+    }
+    return true;
+}
+
+/* Whether the strip is in order for a log of `groups` groups and `homes` homes. */
+static inline bool strip__order__in_order(struct slice_u8 s, uint64_t groups, uint64_t homes)
+{
+    struct model__State t4;
+    bool t5;
+
+    t4 = (struct model__State){.groups = load_8(s.ptr), .homes = load_8(s.ptr + 8u), .start = load_8(s.ptr + 16u), .next =
+            load_8(s.ptr + 24u), .filled = load_8(s.ptr + 32u), .settled = load_8(s.ptr + 40u), .fenced = load_8(s.ptr + 48u),
+            .durable = load_8(s.ptr + 56u), .last = load_8(s.ptr + 64u)};
+    if (t4.groups != groups) {
+        return false;
+    }
+    if (t4.homes != homes) {
+        return false;
+    }
+    t5 = strip__order__numbers_in_order(t4);
+    if (!t5) {
+        return false;
+    }
+    return strip__order__writers_in_order(s, t4);
+}
+
+/* Questions 1 and 2: 0 if the lengths are right and the strip is in order, else the number of the refusal. */
+static inline uint64_t answers__in_use(struct slice_u8 log, struct slice_u8 area, struct slice_u8 state)
+{
+    uint64_t t4;
+    bool t6;
+
+    t6 = answers__lengths_right(log, area, state);
+    if (!t6) {
+        return 1u;
+    }
+    t4 = areas__lengths__log_groups((uint64_t)log.len);
+    t6 = strip__order__in_order(state, t4, (uint64_t)area.len / 64u);
+    if (!t6) {
+        return 2u;
+    }
+    return 0u;
+}
+
+/* Questions 1, 2 and 4, which a call that names a writer puts first: 0, or the number of the refusal. */
+static inline uint64_t sessions__writer_answer(struct slice_u8 log, struct slice_u8 area, struct slice_u8 state, uint64_t writer)
+{
+    uint64_t t5;
+
+    t5 = answers__in_use(log, area, state);
+    if (t5 != 0u) {
+        return t5;
+    }
+    if (8u <= writer) {
+        return 4u;
+    }
+    return 0u;
+}
+
+/* Whether a writer may abort: 0, or the number of the refusal. */
+static inline uint64_t sessions__abort_answer(struct slice_u8 log, struct slice_u8 area, struct slice_u8 state, uint64_t writer)
+{
+    uint64_t t5, t11;
+    struct model__Writer t7;
+
+    t5 = sessions__writer_answer(log, area, state, writer);
+    if (t5 != 0u) {
+        return t5;
+    }
+    t11 = 128u + (96u * writer);
+    t7 = (struct model__Writer){.mode = load_8(state.ptr + (size_t)t11), .home = load_8(state.ptr + (size_t)(t11 + 8u)), .first =
+            load_8(state.ptr + (size_t)(t11 + 16u)), .count = load_8(state.ptr + (size_t)(t11 + 24u))};
+    if (!(1u <= t7.mode)) {
+        return 7u;
+    }
+    return 0u;
+}
+
+/* The record `r`, changed at its place by `abort_at`. */
+static inline struct model__Writer writers__places__aborted(struct model__Writer r)
+{
+    struct model__Writer t2;
+
+    t2 = r;
+    (*&t2) = (struct model__Writer){.mode = 0u, .home = 0u, .first = 0u, .count = 0u};
+    return t2;
+}
+
+/* Stores `r` as the four numbers of writer `w`, and leaves the rest of the strip as it was. */
+static inline void strip__writers__set_writer(struct slice_mut_u8 s, uint64_t w, struct model__Writer r)
+{
+    uint64_t t4;
+
+    t4 = 128u + (96u * w);
+    store_8(s.ptr + (size_t)t4, r.mode);
+    store_8(s.ptr + (size_t)(t4 + 8u), r.home);
+    store_8(s.ptr + (size_t)(t4 + 16u), r.first);
+    store_8(s.ptr + (size_t)(t4 + 24u), r.count);
+}
+
+/* Ends the transaction in the record of writer `w`. */
+static inline void writers__abort(struct slice_mut_u8 s, uint64_t w)
+{
+    struct model__Writer t9;
+    uint64_t t11;
+
+    t11 = 128u + (96u * w);
+    t9 = writers__places__aborted((struct model__Writer){.mode = load_8(s.ptr + (size_t)t11), .home = load_8(s.ptr + (size_t)(t11
+            + 8u)), .first = load_8(s.ptr + (size_t)(t11 + 16u)), .count = load_8(s.ptr + (size_t)(t11 + 24u))});
+    strip__writers__set_writer(s, w, t9);
+}
+
+/* Drops a writer's open transaction with the block that it holds. */
+static inline struct answers__Reply sessions__abort(struct slice_u8 log, struct slice_u8 area, struct slice_mut_u8 state, uint64_t
+        writer)
+{
+    uint64_t t5;
+
+    t5 = sessions__abort_answer(log, area, (struct slice_u8){state.ptr, state.len}, writer);
+    if (t5 != 0u) {
+        return (struct answers__Reply){.code = t5, .figure = 0u, .size = 0u};
+    }
+    writers__abort(state, writer);
+    return (struct answers__Reply){.code = 0u, .figure = 0u, .size = 0u};
+}
+
+/* Drops a writer's open transaction with the block that it holds. */
+static inline struct answers__Reply kagutin__kagutin_abort(struct slice_u8 log, struct slice_u8 area, struct slice_mut_u8 state,
+        uint64_t writer)
+{
+    return sessions__abort(log, area, state, writer);
+}
+
+/* Whether a writer may begin: 0, or the number of the refusal. */
+static inline uint64_t sessions__begin_answer(struct slice_u8 log, struct slice_u8 area, struct slice_u8 state, uint64_t writer)
+{
+    uint64_t t5, t11;
+    struct model__Writer t8;
+
+    t5 = sessions__writer_answer(log, area, state, writer);
+    if (t5 != 0u) {
+        return t5;
+    }
+    t11 = 128u + (96u * writer);
+    t8 = (struct model__Writer){.mode = load_8(state.ptr + (size_t)t11), .home = load_8(state.ptr + (size_t)(t11 + 8u)), .first =
+            load_8(state.ptr + (size_t)(t11 + 16u)), .count = load_8(state.ptr + (size_t)(t11 + 24u))};
+    if (1u <= t8.mode) {
+        return 6u;
+    }
+    return 0u;
+}
+
+/* The record `r`, changed at its place by `begin_at`. */
+static inline struct model__Writer writers__places__begun(struct model__Writer r)
+{
+    struct model__Writer t2;
+
+    t2 = r;
+    (*&t2) = (struct model__Writer){.mode = 1u, .home = 0u, .first = 0u, .count = 0u};
+    return t2;
+}
+
+/* Begins a transaction in the record of writer `w`. */
+static inline void writers__begin(struct slice_mut_u8 s, uint64_t w)
+{
+    struct model__Writer t9;
+    uint64_t t11;
+
+    t11 = 128u + (96u * w);
+    t9 = writers__places__begun((struct model__Writer){.mode = load_8(s.ptr + (size_t)t11), .home = load_8(s.ptr + (size_t)(t11 +
+            8u)), .first = load_8(s.ptr + (size_t)(t11 + 16u)), .count = load_8(s.ptr + (size_t)(t11 + 24u))});
+    strip__writers__set_writer(s, w, t9);
+}
+
+/* Begins a transaction of a writer that has none open. */
+static inline struct answers__Reply sessions__begin(struct slice_u8 log, struct slice_u8 area, struct slice_mut_u8 state, uint64_t
+        writer)
+{
+    uint64_t t5;
+
+    t5 = sessions__begin_answer(log, area, (struct slice_u8){state.ptr, state.len}, writer);
+    if (t5 != 0u) {
+        return (struct answers__Reply){.code = t5, .figure = 0u, .size = 0u};
+    }
+    writers__begin(state, writer);
+    return (struct answers__Reply){.code = 0u, .figure = 0u, .size = 0u};
+}
+
+/* Begins a transaction of a writer that has none open. */
+static inline struct answers__Reply kagutin__kagutin_begin(struct slice_u8 log, struct slice_u8 area, struct slice_mut_u8 state,
+        uint64_t writer)
+{
+    return sessions__begin(log, area, state, writer);
+}
+
+/* Questions 8 and 10 of a call that logs an entry: 0 if the log has room for it, and the batch for the group that it may fill. */
+static inline uint64_t logging__entry__may_log(struct model__State st, uint64_t batch)
+{
+    if ((st.start + st.groups) <= st.next) {
+        return 8u;
+    }
+    if (st.filled != 6u) {
+        return 0u;
+    }
+    if (batch < 516u) {
+        return 9u;
+    }
+    return 0u;
+}
+
+/* The answer of a commit: 0, or the number of the question that refuses it. */
+static inline uint64_t logging__commits__commit_verdict(struct slice_u8 log, struct slice_u8 area, struct slice_u8 state, struct
+        slice_u8 batch, uint64_t writer)
+{
+    uint64_t t6, t13;
+    struct model__Writer t7;
+
+    t6 = answers__in_use(log, area, state);
+    if (t6 != 0u) {
+        return t6;
+    }
+    if (8u <= writer) {
+        return 4u;
+    }
+    t13 = 128u + (96u * writer);
+    t7 = (struct model__Writer){.mode = load_8(state.ptr + (size_t)t13), .home = load_8(state.ptr + (size_t)(t13 + 8u)), .first =
+            load_8(state.ptr + (size_t)(t13 + 16u)), .count = load_8(state.ptr + (size_t)(t13 + 24u))};
+    if (!(1u <= t7.mode)) {
+        return 7u;
+    }
+    if (!(2u <= t7.mode)) {
+        return 0u;
+    }
+    return logging__entry__may_log((struct model__State){.groups = load_8(state.ptr), .homes = load_8(state.ptr + 8u), .start =
+            load_8(state.ptr + 16u), .next = load_8(state.ptr + 24u), .filled = load_8(state.ptr + 32u), .settled =
+            load_8(state.ptr + 40u), .fenced = load_8(state.ptr + 48u), .durable = load_8(state.ptr + 56u), .last =
+            load_8(state.ptr + 64u)}, (uint64_t)batch.len);
+}
+
+/* Ends the transaction of a writer that holds nothing. */
+static inline void logging__commits__commit_none(struct slice_mut_u8 state, uint64_t w)
+{
+    writers__abort(state, w);
+}
+
+/* The position of the first entry of a writer's transaction whose next entry goes to `position`. */
+static inline uint64_t strip__writers__first_for(struct model__Writer r, uint64_t position)
+{
+    uint64_t t4;
+
+    if (3u <= r.mode) {
+        t4 = r.first;
+    } else {
+        t4 = position;
+    }
+    return t4;
+}
+
+/* The distance from `position` back to the last closing entry, 0 if there is none. */
+static inline uint64_t logging__entry__link_from(uint64_t position, struct model__State st)
+{
+    if (st.last == 0u) {
+        return 0u;
+    }
+    return (position + 1u) - st.last;
+}
+
+/* How many entries a writer's transaction has logged. */
+static inline uint64_t strip__writers__count_for(struct model__Writer r)
+{
+    uint64_t t3;
+
+    if (3u <= r.mode) {
+        t3 = r.count;
+    } else {
+        t3 = 0u;
+    }
+    return t3;
+}
+
+/* The tag of a held block that is logged at `position` and commits its transaction. */
+static inline uint64_t logging__entry__closing_word(struct model__State st, struct model__Writer r, uint64_t position)
+{
+    uint64_t t4, t5, t6;
+
+    t6 = strip__writers__first_for(r, position);
+    t4 = position - t6;
+    t5 = logging__entry__link_from(position, st);
+    t6 = strip__writers__count_for(r);
+    return (((3u | (r.home << 2u)) | (t4 << 14u)) | (t5 << 27u)) | ((t6 + 1u) << 40u);
+}
+
+/* Writes the mark of a group at index `at`. */
+static inline void codec__marks__put_group_mark(struct slice_mut_u8 dst, uint64_t at)
+{
+    struct array_u8_2 t3;
+    struct slice_u8 t10;
+
+    t3 = (struct array_u8_2){{80u, 71u}};
+    t10 = (struct slice_u8){t3.at, 2u};
+    dst.ptr[(size_t)at] = t10.ptr[0u];
+    dst.ptr[(size_t)(at + 1u)] = t10.ptr[1u];
+}
+
+/* Writes `n` zeros from index `at` on, and leaves the other bytes as they were. */
+static inline void codec__blocks__clear(struct slice_mut_u8 dst, uint64_t at, uint64_t n)
+{
+    uint64_t t4, t5;
+
+    t4 = at;
+    t5 = n;
+    while (0u < t5) {
+        dst.ptr[(size_t)t4] = 0u;
+        t4 = t4 + 1u;
+        t5 = t5 - 1u;
+    }
+}
+
+/* Writes the blank group of number `n` into a ring slot. */
+static inline void areas__groups__put_blank(struct slice_mut_u8 log, uint64_t slot, uint64_t n)
+{
+    uint64_t t4, t14;
+
+    t4 = 64u + (512u * slot);
+    codec__marks__put_group_mark(log, t4);
+    t14 = t4 + 2u;
+    store_4(log.ptr + (size_t)t14, n);
+    store_2(log.ptr + (size_t)(t14 + 4u), n / UINT64_C(0x100000000));
+    codec__blocks__clear(log, t4 + 8u, 504u);
+}
+
+/* Writes the bytes of `src` from index `at` on, and leaves the other bytes as they were. */
+static inline void codec__blocks__copy(struct slice_mut_u8 dst, uint64_t at, struct slice_u8 src)
+{
+    uint64_t t4, t5, t19;
+
+    t4 = at;
+    t5 = 0u;
+    UNROLL
+    while (16u <= ((uint64_t)src.len - t5)) {
+        t19 = load_8(src.ptr + (size_t)(t5 + 8u));
+        store_8(dst.ptr + (size_t)t4, load_8(src.ptr + (size_t)t5));
+        store_8(dst.ptr + (size_t)(t4 + 8u), t19);
+        t4 = t4 + 16u;
+        t5 = t5 + 16u;
+    }
+    while (t5 < (uint64_t)src.len) {
+        dst.ptr[(size_t)t4] = src.ptr[(size_t)t5];
+        t4 = t4 + 1u;
+        t5 = t5 + 1u;
+    }
+}
+
+/* Writes the block that stands in `src` from index `from` on into `dst` from index `at` on. */
+static inline void areas__blocks__copy_block(struct slice_mut_u8 dst, uint64_t at, struct slice_u8 src, uint64_t from)
+{
+    codec__blocks__copy(dst, at, (struct slice_u8){src.ptr + (size_t)from, (size_t)((from + 64u) - from)});
+}
+
+/* Writes an entry's tag and its block at index `k` of the group in a ring slot. */
+static inline void areas__groups__put_entry(struct slice_mut_u8 log, uint64_t slot, uint64_t k, uint64_t word, struct slice_u8
+        block)
+{
+    uint64_t t6;
+
+    t6 = 64u + (512u * slot);
+    store_8(log.ptr + (size_t)(t6 + (8u + (8u * k))), word);
+    areas__blocks__copy_block(log, t6 + (64u + (64u * k)), block, 0u);
+}
+
+/* Writes an entry's tag and block at the next position, and a blank group first where the position is a group's first. */
+static inline void areas__groups__enter(struct slice_mut_u8 log, uint64_t slot, struct model__State st, uint64_t word, struct
+        slice_u8 block)
+{
+    uint64_t t6;
+
+    t6 = st.filled;
+    if (t6 == 0u) {
+        areas__groups__put_blank(log, slot, st.next);
+    }
+    areas__groups__put_entry(log, slot, t6, word, block);
+}
+
+/* Writes the mark of a group write at index `at`. */
+static inline void codec__marks__put_group_write_mark(struct slice_mut_u8 dst, uint64_t at)
+{
+    struct array_u8_2 t3;
+    struct slice_u8 t10;
+
+    t3 = (struct array_u8_2){{71u, 87u}};
+    t10 = (struct slice_u8){t3.at, 2u};
+    dst.ptr[(size_t)at] = t10.ptr[0u];
+    dst.ptr[(size_t)(at + 1u)] = t10.ptr[1u];
+}
+
+/* Appends the write of the group that the log holds in a ring slot. */
+static inline uint64_t batch__records__group_write(struct slice_mut_u8 batch, uint64_t at, uint64_t slot, struct slice_u8 log)
+{
+    uint64_t t5;
+
+    codec__marks__put_group_write_mark(batch, at);
+    store_2(batch.ptr + (size_t)(at + 2u), slot);
+    t5 = 64u + (512u * slot);
+    codec__blocks__copy(batch, at + 4u, (struct slice_u8){log.ptr + (size_t)t5, (size_t)((t5 + 512u) - t5)});
+    return at + 516u;
+}
+
+/* Logs the held block of writer `w` with the tag `word` at the next position; the seventh place of a group hands it on. */
+static inline uint64_t logging__entry__log_entry(struct slice_mut_u8 log, struct slice_mut_u8 state, struct slice_mut_u8 batch,
+        struct model__State st, uint64_t word, uint64_t w)
+{
+    uint64_t t7, t8, t10;
+
+    t7 = st.next % st.groups;
+    t8 = (128u + (96u * w)) + 32u;
+    areas__groups__enter(log, t7, st, word, (struct slice_u8){state.ptr + (size_t)t8, (size_t)((t8 + 64u) - t8)});
+    if (st.filled != 6u) {
+        store_8(state.ptr + 32u, st.filled + 1u);
+        return 0u;
+    }
+    store_8(state.ptr + 24u, st.next + 1u);
+    store_8(state.ptr + 32u, 0u);
+    t10 = batch__records__group_write(batch, 0u, t7, (struct slice_u8){log.ptr, log.len});
+    return t10;
+}
+
+/* Logs the held block as the closing entry and ends the transaction. */
+static inline uint64_t logging__commits__commit_held(struct slice_mut_u8 log, struct slice_mut_u8 state, struct slice_mut_u8
+        batch, struct model__State st, struct model__Writer r, uint64_t w)
+{
+    uint64_t t7, t8, t9;
+
+    t7 = (7u * st.next) + st.filled;
+    t8 = logging__entry__closing_word(st, r, t7);
+    t9 = logging__entry__log_entry(log, state, batch, st, t8, w);
+    store_8(state.ptr + 64u, t7 + 1u);
+    writers__abort(state, w);
+    return t9;
+}
+
+/* Commits a writer's open transaction: its held block is logged as the closing entry, whose position + 1 is the ticket. */
+static inline struct answers__Reply logging__commits__commit(struct slice_mut_u8 log, struct slice_u8 area, struct slice_mut_u8
+        state, struct slice_mut_u8 batch, uint64_t writer)
+{
+    uint64_t t6, t7, t11, t36;
+    struct model__Writer t8;
+    struct model__State t9;
+
+    t6 = logging__commits__commit_verdict((struct slice_u8){log.ptr, log.len}, area, (struct slice_u8){state.ptr, state.len},
+            (struct slice_u8){batch.ptr, batch.len}, writer);
+    if (t6 != 0u) {
+        return (struct answers__Reply){.code = t6, .figure = 0u, .size = 0u};
+    }
+    t7 = writer;
+    t36 = 128u + (96u * t7);
+    t8 = (struct model__Writer){.mode = load_8(state.ptr + (size_t)t36), .home = load_8(state.ptr + (size_t)(t36 + 8u)), .first =
+            load_8(state.ptr + (size_t)(t36 + 16u)), .count = load_8(state.ptr + (size_t)(t36 + 24u))};
+    if (!(2u <= t8.mode)) {
+        logging__commits__commit_none(state, t7);
+        return (struct answers__Reply){.code = 0u, .figure = 0u, .size = 0u};
+    }
+    t9 = (struct model__State){.groups = load_8(state.ptr), .homes = load_8(state.ptr + 8u), .start = load_8(state.ptr + 16u),
+            .next = load_8(state.ptr + 24u), .filled = load_8(state.ptr + 32u), .settled = load_8(state.ptr + 40u), .fenced =
+            load_8(state.ptr + 48u), .durable = load_8(state.ptr + 56u), .last = load_8(state.ptr + 64u)};
+    t11 = logging__commits__commit_held(log, state, batch, t9, t8, t7);
+    return (struct answers__Reply){.code = 0u, .figure = ((7u * t9.next) + t9.filled) + 1u, .size = t11};
+}
+
+/* Ends a writer's transaction: logs the held block as its closing entry, and returns the ticket. */
+static inline struct answers__Reply kagutin__kagutin_commit(struct slice_mut_u8 log, struct slice_u8 area, struct slice_mut_u8
+        state, struct slice_mut_u8 batch, uint64_t writer)
+{
+    return logging__commits__commit(log, area, state, batch, writer);
+}
+
+/* Makes the fenced position the durable mark, and returns it: all fences so far have passed. */
+static inline struct answers__Reply sessions__confirm(struct slice_u8 log, struct slice_u8 area, struct slice_mut_u8 state)
+{
+    uint64_t t4, t5;
+    struct model__State t9;
+
+    t4 = answers__in_use(log, area, (struct slice_u8){state.ptr, state.len});
+    if (t4 != 0u) {
+        return (struct answers__Reply){.code = t4, .figure = 0u, .size = 0u};
+    }
+    t9 = (struct model__State){.groups = load_8(state.ptr), .homes = load_8(state.ptr + 8u), .start = load_8(state.ptr + 16u),
+            .next = load_8(state.ptr + 24u), .filled = load_8(state.ptr + 32u), .settled = load_8(state.ptr + 40u), .fenced =
+            load_8(state.ptr + 48u), .durable = load_8(state.ptr + 56u), .last = load_8(state.ptr + 64u)};
+    t5 = t9.fenced;
+    store_8(state.ptr + 56u, t5);
+    return (struct answers__Reply){.code = 0u, .figure = t5, .size = 0u};
+}
+
+/* Makes the fenced position the durable mark, and returns it. */
+static inline struct answers__Reply kagutin__kagutin_confirm(struct slice_u8 log, struct slice_u8 area, struct slice_mut_u8 state)
+{
+    return sessions__confirm(log, area, state);
+}
+
+/* How many bytes a flush writes: a fence, and a part-filled group before it. */
+static inline uint64_t logging__flushes__flush_size(struct model__State st)
+{
+    if (st.filled == 0u) {
+        return 2u;
+    }
+    return (uint64_t)516u + 2u;
+}
+
+/* The answer of a flush: 0, or the number of the question that refuses it. */
+static inline uint64_t logging__flushes__flush_verdict(struct slice_u8 log, struct slice_u8 area, struct slice_u8 state, struct
+        slice_u8 batch)
+{
+    uint64_t t5, t8;
+
+    t5 = answers__in_use(log, area, state);
+    if (t5 != 0u) {
+        return t5;
+    }
+    t8 = logging__flushes__flush_size((struct model__State){.groups = load_8(state.ptr), .homes = load_8(state.ptr + 8u), .start =
+            load_8(state.ptr + 16u), .next = load_8(state.ptr + 24u), .filled = load_8(state.ptr + 32u), .settled =
+            load_8(state.ptr + 40u), .fenced = load_8(state.ptr + 48u), .durable = load_8(state.ptr + 56u), .last =
+            load_8(state.ptr + 64u)});
+    if ((uint64_t)batch.len < t8) {
+        return 9u;
+    }
+    return 0u;
+}
+
+/* Writes the mark of a fence at index `at`. */
+static inline void codec__marks__put_fence_mark(struct slice_mut_u8 dst, uint64_t at)
+{
+    struct array_u8_2 t3;
+    struct slice_u8 t10;
+
+    t3 = (struct array_u8_2){{70u, 78u}};
+    t10 = (struct slice_u8){t3.at, 2u};
+    dst.ptr[(size_t)at] = t10.ptr[0u];
+    dst.ptr[(size_t)(at + 1u)] = t10.ptr[1u];
+}
+
+/* Appends a fence. */
+static inline uint64_t batch__records__fence(struct slice_mut_u8 batch, uint64_t at)
+{
+    codec__marks__put_fence_mark(batch, at);
+    return at + 2u;
+}
+
+/* Writes a fence where no group is part-filled. */
+static inline void logging__flushes__flush_none(struct slice_mut_u8 state, struct slice_mut_u8 batch, struct model__State st)
+{
+    (void)batch__records__fence(batch, 0u);
+    store_8(state.ptr + 48u, 7u * st.next);
+}
+
+/* Hands on the part-filled group and writes a fence. */
+static inline void logging__flushes__flush_part(struct slice_u8 log, struct slice_mut_u8 state, struct slice_mut_u8 batch, struct
+        model__State st)
+{
+    uint64_t t6, t7;
+
+    t6 = batch__records__group_write(batch, 0u, st.next % st.groups, log);
+    (void)batch__records__fence(batch, t6);
+    t7 = st.next + 1u;
+    store_8(state.ptr + 24u, t7);
+    store_8(state.ptr + 32u, 0u);
+    store_8(state.ptr + 48u, 7u * t7);
+}
+
+/* Hands on a part-filled group, if there is one, and writes a fence. */
+static inline struct answers__Reply logging__flushes__flush(struct slice_u8 log, struct slice_u8 area, struct slice_mut_u8 state,
+        struct slice_mut_u8 batch)
+{
+    uint64_t t5;
+    struct model__State t6;
+
+    t5 = logging__flushes__flush_verdict(log, area, (struct slice_u8){state.ptr, state.len}, (struct slice_u8){batch.ptr,
+            batch.len});
+    if (t5 != 0u) {
+        return (struct answers__Reply){.code = t5, .figure = 0u, .size = 0u};
+    }
+    t6 = (struct model__State){.groups = load_8(state.ptr), .homes = load_8(state.ptr + 8u), .start = load_8(state.ptr + 16u),
+            .next = load_8(state.ptr + 24u), .filled = load_8(state.ptr + 32u), .settled = load_8(state.ptr + 40u), .fenced =
+            load_8(state.ptr + 48u), .durable = load_8(state.ptr + 56u), .last = load_8(state.ptr + 64u)};
+    if (t6.filled == 0u) {
+        logging__flushes__flush_none(state, batch, t6);
+        return (struct answers__Reply){.code = 0u, .figure = 0u, .size = 2u};
+    }
+    logging__flushes__flush_part(log, state, batch, t6);
+    return (struct answers__Reply){.code = 0u, .figure = 0u, .size = (uint64_t)516u + 2u};
+}
+
+/* Submits the group that is being filled, and a fence. */
+static inline struct answers__Reply kagutin__kagutin_flush(struct slice_u8 log, struct slice_u8 area, struct slice_mut_u8 state,
+        struct slice_mut_u8 batch)
+{
+    return logging__flushes__flush(log, area, state, batch);
+}
+
+/* The questions of format: 0, or the number of the refusal. */
+static inline uint64_t recovery__formatting__may_format(struct slice_u8 log, struct slice_u8 area, struct slice_u8 batch)
+{
+    uint64_t t4;
+    bool t6;
+
+    t6 = areas__lengths__log_right((uint64_t)log.len);
+    if (!t6) {
+        return 1u;
+    }
+    t6 = areas__lengths__data_right((uint64_t)area.len);
+    if (!t6) {
+        return 1u;
+    }
+    t4 = areas__lengths__log_groups((uint64_t)log.len);
+    if ((uint64_t)batch.len < ((138u + (516u * t4)) + (68u * ((uint64_t)area.len / 64u)))) {
+        return 9u;
+    }
+    return 0u;
+}
+
+/* Writes the mark of the log's header at index `at`. */
+static inline void codec__marks__put_header_mark(struct slice_mut_u8 dst, uint64_t at)
+{
+    struct array_u8_2 t3;
+    struct slice_u8 t10;
+
+    t3 = (struct array_u8_2){{80u, 72u}};
+    t10 = (struct slice_u8){t3.at, 2u};
+    dst.ptr[(size_t)at] = t10.ptr[0u];
+    dst.ptr[(size_t)(at + 1u)] = t10.ptr[1u];
+}
+
+/* Writes a header of 64 bytes from index `at` on, and leaves the other bytes as they were. */
+static inline void areas__header__put_header(struct slice_mut_u8 dst, uint64_t at, uint64_t start, uint64_t groups, uint64_t
+        homes)
+{
+    uint64_t t19;
+
+    codec__marks__put_header_mark(dst, at);
+    t19 = at + 2u;
+    store_4(dst.ptr + (size_t)t19, start);
+    store_2(dst.ptr + (size_t)(t19 + 4u), start / UINT64_C(0x100000000));
+    store_2(dst.ptr + (size_t)(at + 8u), groups);
+    store_2(dst.ptr + (size_t)(at + 10u), homes);
+    codec__blocks__clear(dst, at + 12u, 52u);
+}
+
+/* Makes the log copy as it is after formatting. */
+static inline void recovery__formatting__format_log(struct slice_mut_u8 log, uint64_t groups, uint64_t homes)
+{
+    codec__blocks__clear(log, 0u, (uint64_t)log.len);
+    areas__header__put_header(log, 0u, 0u, groups, homes);
+}
+
+/* Makes every byte of the data copy zero. */
+static inline void recovery__formatting__format_area(struct slice_mut_u8 area)
+{
+    codec__blocks__clear(area, 0u, (uint64_t)area.len);
+}
+
+/* Writes the mark of a header write at index `at`. */
+static inline void codec__marks__put_header_write_mark(struct slice_mut_u8 dst, uint64_t at)
+{
+    struct array_u8_2 t3;
+    struct slice_u8 t10;
+
+    t3 = (struct array_u8_2){{75u, 87u}};
+    t10 = (struct slice_u8){t3.at, 2u};
+    dst.ptr[(size_t)at] = t10.ptr[0u];
+    dst.ptr[(size_t)(at + 1u)] = t10.ptr[1u];
+}
+
+/* Appends the write of zeros to the header. */
+static inline uint64_t batch__records__zero_header_write(struct slice_mut_u8 batch, uint64_t at)
+{
+    codec__marks__put_header_write_mark(batch, at);
+    codec__blocks__clear(batch, at + 2u, 64u);
+    return at + 66u;
+}
+
+/* Appends the write of zeros to a ring slot. */
+static inline uint64_t batch__records__zero_group_write(struct slice_mut_u8 batch, uint64_t at, uint64_t slot)
+{
+    codec__marks__put_group_write_mark(batch, at);
+    store_2(batch.ptr + (size_t)(at + 2u), slot);
+    codec__blocks__clear(batch, at + 4u, 512u);
+    return at + 516u;
+}
+
+/* Appends the writes of zeros to the first `groups` ring slots, rising. */
+static inline uint64_t batch__format__all_groups(struct slice_mut_u8 batch, uint64_t at, uint64_t groups)
+{
+    uint64_t t4, t5;
+
+    t4 = at;
+    t5 = 0u;
+    while (t5 < groups) {
+        t4 = batch__records__zero_group_write(batch, t4, t5);
+        t5 = t5 + 1u;
+    }
+    return t4;
+}
+
+/* Writes the mark of a home write at index `at`. */
+static inline void codec__marks__put_home_write_mark(struct slice_mut_u8 dst, uint64_t at)
+{
+    struct array_u8_2 t3;
+    struct slice_u8 t10;
+
+    t3 = (struct array_u8_2){{72u, 87u}};
+    t10 = (struct slice_u8){t3.at, 2u};
+    dst.ptr[(size_t)at] = t10.ptr[0u];
+    dst.ptr[(size_t)(at + 1u)] = t10.ptr[1u];
+}
+
+/* Appends the write of zeros to a home. */
+static inline uint64_t batch__records__zero_home_write(struct slice_mut_u8 batch, uint64_t at, uint64_t home)
+{
+    codec__marks__put_home_write_mark(batch, at);
+    store_2(batch.ptr + (size_t)(at + 2u), home);
+    codec__blocks__clear(batch, at + 4u, 64u);
+    return at + 68u;
+}
+
+/* Appends the writes of zeros to the first `homes` homes, rising. */
+static inline uint64_t batch__format__all_homes(struct slice_mut_u8 batch, uint64_t at, uint64_t homes)
+{
+    uint64_t t4, t5;
+
+    t4 = at;
+    t5 = 0u;
+    while (t5 < homes) {
+        t4 = batch__records__zero_home_write(batch, t4, t5);
+        t5 = t5 + 1u;
+    }
+    return t4;
+}
+
+/* Appends the write of the header with a start and the numbers of groups and homes. */
+static inline uint64_t batch__records__header_write(struct slice_mut_u8 batch, uint64_t at, uint64_t start, uint64_t groups,
+        uint64_t homes)
+{
+    codec__marks__put_header_write_mark(batch, at);
+    areas__header__put_header(batch, at + 2u, start, groups, homes);
+    return at + 66u;
+}
+
+/* Writes the whole batch of format from the buffer's first byte on. */
+static inline uint64_t batch__format__format_batch(struct slice_mut_u8 batch, uint64_t groups, uint64_t homes)
+{
+    uint64_t t4;
+
+    t4 = batch__records__zero_header_write(batch, 0u);
+    t4 = batch__records__fence(batch, t4);
+    t4 = batch__format__all_groups(batch, t4, groups);
+    t4 = batch__format__all_homes(batch, t4, homes);
+    t4 = batch__records__fence(batch, t4);
+    t4 = batch__records__header_write(batch, t4, 0u, groups, homes);
+    return batch__records__fence(batch, t4);
+}
+
+/* Formats both copies, and writes the batch that formats the areas. */
+static inline struct answers__Reply recovery__formatting__format(struct slice_mut_u8 log, struct slice_mut_u8 area, struct
+        slice_mut_u8 batch)
+{
+    uint64_t t4, t5, t6, t7;
+
+    t4 = recovery__formatting__may_format((struct slice_u8){log.ptr, log.len}, (struct slice_u8){area.ptr, area.len}, (struct
+            slice_u8){batch.ptr, batch.len});
+    if (t4 != 0u) {
+        return (struct answers__Reply){.code = t4, .figure = 0u, .size = 0u};
+    }
+    t5 = areas__lengths__log_groups((uint64_t)log.len);
+    t6 = (uint64_t)area.len / 64u;
+    recovery__formatting__format_log(log, t5, t6);
+    recovery__formatting__format_area(area);
+    t7 = batch__format__format_batch(batch, t5, t6);
+    return (struct answers__Reply){.code = 0u, .figure = 0u, .size = t7};
+}
+
+/* Writes an empty store: every group unused, every home zeros, then the header. */
+static inline struct answers__Reply kagutin__kagutin_format(struct slice_mut_u8 log, struct slice_mut_u8 area, struct slice_mut_u8
+        batch)
+{
+    return recovery__formatting__format(log, area, batch);
+}
+
+/* Reads the shape of a log copy and a data copy. */
+static inline struct recovery__opening__Shape recovery__opening__measure(struct slice_u8 log, struct slice_u8 area)
+{
+    uint64_t t3;
+
+    t3 = areas__lengths__log_groups((uint64_t)log.len);
+    return (struct recovery__opening__Shape){.groups = t3, .homes = (uint64_t)area.len / 64u, .start = load_4(log.ptr + 2u) |
+            (load_2(log.ptr + (size_t)((uint64_t)2u + 4u)) << 32u)};
+}
+
+/* Whether the two bytes of `mark` stand at index `at`. */
+static inline bool codec__marks__has_mark(struct slice_u8 s, uint64_t at, struct slice_u8 mark)
+{
+    if (s.ptr[(size_t)at] != mark.ptr[0u]) {
+        return false;
+    }
+    if (s.ptr[(size_t)(at + 1u)] != mark.ptr[1u]) {
+        return false;
+    }
+    return true;
+}
+
+/* Whether the mark of the log's header stands at index `at`. */
+static inline bool codec__marks__has_header_mark(struct slice_u8 s, uint64_t at)
+{
+    struct array_u8_2 t3;
+
+    t3 = (struct array_u8_2){{80u, 72u}};
+    return codec__marks__has_mark(s, at, (struct slice_u8){t3.at, 2u});
+}
+
+/* Whether the `n` bytes from index `at` on are all zero. */
+static inline bool codec__blocks__all_zero(struct slice_u8 s, uint64_t at, uint64_t n)
+{
+    uint64_t t4, t5;
+
+    t4 = at;
+    t5 = n;
+    while (8u <= t5) {
+        if (load_8(s.ptr + (size_t)t4) != 0u) {
+            return false;
+        }
+        t4 = t4 + 8u;
+        t5 = t5 - 8u;
+    }
+    while (0u < t5) {
+        if (s.ptr[(size_t)t4] != 0u) {
+            return false;
+        }
+        t4 = t4 + 1u;
+        t5 = t5 - 1u;
+    }
+    return true;
+}
+
+/* Whether the log begins with a header's mark, these numbers of groups and homes, and a header's zeros. */
+static inline bool areas__header__header_right(struct slice_u8 log, uint64_t groups, uint64_t homes)
+{
+    bool t4;
+
+    t4 = codec__marks__has_header_mark(log, 0u);
+    if (!t4) {
+        return false;
+    }
+    if (load_2(log.ptr + 8u) != groups) {
+        return false;
+    }
+    if (load_2(log.ptr + 10u) != homes) {
+        return false;
+    }
+    return codec__blocks__all_zero(log, 12u, 52u);
+}
+
+/* The questions of open but the last: 0, or the number of the refusal. */
+static inline uint64_t recovery__opening__may_open(struct slice_u8 log, struct slice_u8 area, struct slice_u8 state)
+{
+    struct recovery__opening__Shape t4;
+    bool t5;
+
+    t5 = answers__lengths_right(log, area, state);
+    if (!t5) {
+        return 1u;
+    }
+    t4 = recovery__opening__measure(log, area);
+    t5 = areas__header__header_right(log, t4.groups, t4.homes);
+    if (!t5) {
+        return 3u;
+    }
+    if (UINT64_C(0x800000000000) < t4.start) {
+        return 3u;
+    }
+    if (UINT64_C(0x800000000000) < (t4.start + t4.groups)) {
+        return 10u;
+    }
+    return 0u;
+}
+
+/* How many of the `left` positions the next group has. */
+static inline uint64_t scan__commits__in_group(uint64_t left)
+{
+    uint64_t t3;
+
+    if (left < 7u) {
+        t3 = left;
+    } else {
+        t3 = 7u;
+    }
+    return t3;
+}
+
+/* Whether the mark of a group and the number `n` stand in the eight bytes from index `at` on: one word, the number above the
+   mark. The mark alone goes first, so that an unused group is passed quickly. */
+static inline bool codec__marks__has_group_head(struct slice_u8 s, uint64_t at, uint64_t n)
+{
+    if (load_2(s.ptr + (size_t)at) != 18256u) {
+        return false;
+    }
+    return load_8(s.ptr + (size_t)at) == (((n % UINT64_C(0x1000000000000)) * UINT64_C(0x10000)) + 18256u);
+}
+
+/* Whether the 512 bytes of a ring slot are a valid group with number `n`, in a log of `groups` groups from number `start` on. */
+static inline bool scan__groups__group_valid(struct slice_u8 group, uint64_t groups, uint64_t start, uint64_t n)
+{
+    bool t5;
+
+    t5 = codec__marks__has_group_head(group, 0u, n);
+    if (!t5) {
+        return false;
+    }
+    if (n < start) {
+        return false;
+    }
+    return n < (start + groups);
+}
+
+/* The words of a group's seven tags, read in a row. */
+static inline struct array_u64_7 scan__groups__tag_words(struct slice_u8 group)
+{
+    struct array_u64_7 t2;
+    uint64_t t3;
+
+    memset(&t2, 0, sizeof t2);
+    t3 = 0u;
+    while (t3 < 7u) {
+        t2.at[(size_t)t3] = load_8(group.ptr + (size_t)(8u + (8u * t3)));
+        t3 = t3 + 1u;
+    }
+    return t2;
+}
+
+/* What a word says at a position of a log that starts at position `base` and has `homes` homes. */
+static inline struct model__Tag codec__tags__read_tag(uint64_t word, uint64_t position, uint64_t base, uint64_t homes)
+{
+    uint64_t t5, t6, t7, t8;
+
+    if ((word & 1u) == 0u) {
+        return (struct model__Tag){.tag = 0u};
+    }
+    if ((word >> 53u) != 0u) {
+        return (struct model__Tag){.tag = 0u};
+    }
+    t5 = (word >> 2u) & 4095u;
+    if (homes <= t5) {
+        return (struct model__Tag){.tag = 0u};
+    }
+    t6 = (word >> 14u) & 8191u;
+    if (position < t6) {
+        return (struct model__Tag){.tag = 0u};
+    }
+    t7 = position - t6;
+    if (t7 < base) {
+        return (struct model__Tag){.tag = 0u};
+    }
+    if (((word >> 1u) & 1u) == 0u) {
+        if (((word >> 27u) & UINT64_C(0x3ffffff)) == 0u) {
+            return (struct model__Tag){.tag = 1u, .u64_0 = t5, .u64_1 = t7};
+        }
+        return (struct model__Tag){.tag = 0u};
+    }
+    t8 = (word >> 40u) & 8191u;
+    if (t8 == 0u) {
+        return (struct model__Tag){.tag = 0u};
+    }
+    return (struct model__Tag){.tag = 2u, .u64_0 = t5, .u64_1 = t7, .u64_2 = (word >> 27u) & 8191u, .u64_3 = t8};
+}
+
+/* Whether a closing entry at a position is linked, by its distance back, to the last one, which ends at `end`, or where there is
+   none (0) to a position before the start or to none. */
+static inline bool scan__commits__is_linked(uint64_t end, uint64_t base, uint64_t position, uint64_t link)
+{
+    if (end != 0u) {
+        return (position + 1u) == (end + link);
+    }
+    if (link == 0u) {
+        return true;
+    }
+    return position < (base + link);
+}
+
+/* Takes a closing entry, complete or not, at a position: it is committed, or the first that fails. */
+static inline struct scan__commits__Progress scan__commits__judge(struct scan__commits__Progress progress, uint64_t base, uint64_t
+        position, uint64_t link, bool complete)
+{
+    uint64_t t6, t7;
+    struct scan__commits__Progress t8;
+    bool t9;
+
+    t6 = progress.end;
+    t7 = progress.number;
+    t8 = (struct scan__commits__Progress){.end = t6, .number = t7, .failed = 1u};
+    if (progress.failed != 0u) {
+        return t8;
+    }
+    t9 = scan__commits__is_linked(t6, base, position, link);
+    if (!t9) {
+        return t8;
+    }
+    if (!complete) {
+        return t8;
+    }
+    return (struct scan__commits__Progress){.end = position + 1u, .number = t7 + 1u, .failed = 0u};
+}
+
+/* Takes what the word of a tag says at a position. */
+static inline struct scan__commits__Progress scan__commits__visit(uint64_t word, uint64_t position, uint64_t base, uint64_t homes,
+        struct slice_mut_u16 counts, struct scan__commits__Progress progress)
+{
+    struct model__Tag t12;
+    struct scan__commits__Progress t13;
+    uint64_t t25, t32;
+    uint16_t t33;
+
+    t12 = codec__tags__read_tag(word, position, base, homes);
+    if (t12.tag == 0u) {
+        t13 = progress;
+    } else if (t12.tag == 1u) {
+        t25 = t12.u64_1 - base;
+        counts.ptr[(size_t)t25] = (uint16_t)((uint32_t)counts.ptr[(size_t)t25] + 1u);
+        t13 = progress;
+    } else {
+        t32 = t12.u64_1 - base;
+        t33 = (uint16_t)((uint32_t)counts.ptr[(size_t)t32] + 1u);
+        counts.ptr[(size_t)t32] = t33;
+        t13 = scan__commits__judge(progress, base, position, t12.u64_2, (uint64_t)t33 == t12.u64_3);
+    }
+    return t13;
+}
+
+/* Takes the first `m` tags of a group, which says nothing where it is not the valid group with number `n`. */
+static inline struct scan__commits__Progress scan__commits__visit_group(struct slice_u8 group, uint64_t groups, uint64_t homes,
+        uint64_t start, uint64_t n, uint64_t m, struct slice_mut_u16 counts, struct scan__commits__Progress progress)
+{
+    struct array_u64_7 t9, t16;
+    uint64_t t10, t12, t13;
+    struct scan__commits__Progress t11;
+    bool t14;
+
+    t14 = scan__groups__group_valid(group, groups, start, n);
+    if (!t14) {
+        return progress;
+    }
+    t16 = scan__groups__tag_words(group);
+    t9 = t16;
+    t10 = 7u * start;
+    t11 = progress;
+    t12 = 7u * n;
+    t13 = 0u;
+    while (t13 < m) {
+        t11 = scan__commits__visit(t9.at[(size_t)t13], t12, t10, homes, counts, t11);
+        t12 = t12 + 1u;
+        t13 = t13 + 1u;
+    }
+    return t11;
+}
+
+/* The ring slot after `slot`. */
+static inline uint64_t scan__commits__next_slot(uint64_t slot, uint64_t groups)
+{
+    uint64_t t5;
+
+    if ((slot + 1u) == groups) {
+        t5 = 0u;
+    } else {
+        t5 = slot + 1u;
+    }
+    return t5;
+}
+
+/* Walks the `n` positions of the log from its start on, group by group, and finds where the committed transactions end and how
+   many they are. */
+static inline struct scan__commits__Found scan__commits__walk(struct slice_u8 log, uint64_t groups, uint64_t homes, uint64_t
+        start, uint64_t n)
+{
+    struct array_u16_7168 t6;
+    struct scan__commits__Progress t7;
+    uint64_t t8, t9, t10, t11, t13;
+
+    memset(&t6, 0, sizeof t6);
+    t7 = (struct scan__commits__Progress){.end = 0u, .number = 0u, .failed = 0u};
+    t8 = start % groups;
+    t9 = start;
+    t10 = n;
+    while (0u < t10) {
+        t11 = 64u + (512u * t8);
+        t13 = scan__commits__in_group(t10);
+        t7 = scan__commits__visit_group((struct slice_u8){log.ptr + (size_t)t11, (size_t)((t11 + 512u) - t11)}, groups, homes,
+                start, t9, t13, (struct slice_mut_u16){t6.at, 7168u}, t7);
+        if (t7.failed != 0u) {
+            return (struct scan__commits__Found){.end = t7.end, .number = t7.number};
+        }
+        t8 = scan__commits__next_slot(t8, groups);
+        t9 = t9 + 1u;
+        t10 = t10 - t13;
+    }
+    return (struct scan__commits__Found){.end = t7.end, .number = t7.number};
+}
+
+/* The ring slot before `slot`. */
+static inline uint64_t replay__gathering__previous_slot(uint64_t slot, uint64_t groups)
+{
+    uint64_t t4;
+
+    if (slot == 0u) {
+        t4 = groups - 1u;
+    } else {
+        t4 = slot - 1u;
+    }
+    return t4;
+}
+
+/* What tag `k` of a group says at a position of a log that starts at position `base` and has `homes` homes. */
+static inline struct model__Tag scan__groups__tag_in(struct slice_u8 group, uint64_t k, uint64_t position, uint64_t base, uint64_t
+        homes)
+{
+    return codec__tags__read_tag(load_8(group.ptr + (size_t)(8u + (8u * k))), position, base, homes);
+}
+
+/* Takes an entry as its home's newest, if its transaction closes later than that of the newest so far. */
+static inline void replay__gathering__offer(struct slice_mut_u16 closers, struct slice_mut_u16 table, struct slice_mut_u64 map,
+        uint64_t home, uint16_t closer, uint16_t code)
+{
+    uint64_t *t23;
+
+    if (closers.ptr[(size_t)home] < closer) {
+        closers.ptr[(size_t)home] = closer;
+        table.ptr[(size_t)home] = code;
+        t23 = map.ptr + (size_t)(home >> 6u);
+        (*t23) = (*t23) | ((uint64_t)1u << ((home & 63u) & 63u));
+    }
+}
+
+/* Takes a closing entry as the last one of the transaction with the first position at index `first`, if none has passed. */
+static inline void replay__gathering__close(struct slice_mut_u16 last, uint64_t first, uint16_t code)
+{
+    if (last.ptr[(size_t)first] == 0u) {
+        last.ptr[(size_t)first] = code;
+    }
+}
+
+/* Takes what tag `k` of a group says at a position. */
+static inline void replay__gathering__note_tag(struct slice_u8 group, uint64_t k, uint64_t position, uint64_t base, uint64_t
+        homes, struct slice_mut_u16 last, struct slice_mut_u16 closers, struct slice_mut_u16 table, struct slice_mut_u64 map)
+{
+    uint16_t t10;
+    uint64_t t16;
+    struct model__Tag t20;
+
+    t10 = (uint16_t)((position - base) + 1u);
+    t20 = scan__groups__tag_in(group, k, position, base, homes);
+    if (t20.tag == 0u) {
+    } else if (t20.tag == 1u) {
+        replay__gathering__offer(closers, table, map, t20.u64_0, last.ptr[(size_t)(t20.u64_1 - base)], t10);
+    } else {
+        t16 = t20.u64_1 - base;
+        replay__gathering__close(last, t16, t10);
+        replay__gathering__offer(closers, table, map, t20.u64_0, last.ptr[(size_t)t16], t10);
+    }
+}
+
+/* Takes the first `m` tags of a group from the last of them down, which says nothing where it is not the valid group with number
+   `n`. */
+static inline void replay__gathering__note_group(struct slice_u8 group, uint64_t groups, uint64_t homes, uint64_t start, uint64_t
+        n, uint64_t m, struct slice_mut_u16 last, struct slice_mut_u16 closers, struct slice_mut_u16 table, struct slice_mut_u64
+        map)
+{
+    uint64_t t11, t12, t13;
+    bool t14;
+
+    t14 = scan__groups__group_valid(group, groups, start, n);
+    if (!t14) {
+        return;
+    }
+    t11 = 7u * start;
+    t12 = 7u * n;
+    t13 = m;
+    while (0u < t13) {
+        t13 = t13 - 1u;
+        replay__gathering__note_tag(group, t13, t12 + t13, t11, homes, last, closers, table, map);
+    }
+}
+
+/* Finds the newest entry of every home among the transactions of all closing entries below `end`, and marks the homes that have
+   one. */
+static inline void replay__gathering__gather(struct slice_u8 log, struct slice_mut_u16 table, struct slice_mut_u64 map, uint64_t
+        groups, uint64_t homes, uint64_t start, uint64_t end)
+{
+    uint64_t t8, t11, t12, t13, t15;
+    struct array_u16_7168 t9;
+    struct array_u16_4096 t10;
+
+    t8 = 7u * start;
+    if (end <= t8) {
+        return;
+    }
+    memset(&t9, 0, sizeof t9);
+    memset(&t10, 0, sizeof t10);
+    t11 = start + (((end - t8) + 6u) / 7u);
+    t12 = t11 % groups;
+    while (start < t11) {
+        t11 = t11 - 1u;
+        t12 = replay__gathering__previous_slot(t12, groups);
+        t13 = 64u + (512u * t12);
+        t15 = scan__commits__in_group(end - (7u * t11));
+        replay__gathering__note_group((struct slice_u8){log.ptr + (size_t)t13, (size_t)((t13 + 512u) - t13)}, groups, homes,
+                start, t11, t15, (struct slice_mut_u16){t9.at, 7168u}, (struct slice_mut_u16){t10.at, 4096u}, table, map);
+    }
+}
+
+/* How many are marked, by the counts of ones of the words. */
+static inline uint64_t bitmap__count(struct slice_u64 ws)
+{
+    uint64_t t2, t3;
+
+    t2 = 0u;
+    t3 = 0u;
+    while (t3 < (uint64_t)ws.len) {
+        t2 = t2 + (uint64_t)count_ones(ws.ptr[(size_t)t3]);
+        t3 = t3 + 1u;
+    }
+    return t2;
+}
+
+/* Notes the newest entry of each home that the transactions of all closing entries below `end` touch in an empty table, marks
+   those homes in an empty map, and returns how many they are. */
+static inline uint64_t recovery__planning__touched_homes(struct slice_u8 log, struct slice_mut_u16 table, struct slice_mut_u64
+        map, uint64_t groups, uint64_t homes, uint64_t start, uint64_t end)
+{
+    replay__gathering__gather(log, table, map, groups, homes, start, end);
+    return bitmap__count((struct slice_u64){map.ptr, map.len});
+}
+
+/* Copies the block at a position to a home. */
+static inline void replay__restore__restore_block(struct slice_u8 log, struct slice_mut_u8 area, uint64_t groups, uint64_t
+        position, uint64_t home)
+{
+    areas__blocks__copy_block(area, 64u * home, log, (64u + (512u * ((position / 7u) % groups))) + (64u + (64u * (position %
+            7u))));
+}
+
+/* Copies to each home that one word marks, whose first home is `base`, the block of its newest entry. */
+static inline void replay__restore__restore_word(struct slice_u8 log, struct slice_mut_u8 area, struct slice_u16 table, uint64_t
+        groups, uint64_t start, uint64_t word, uint64_t base)
+{
+    uint64_t t8, t9, t10;
+
+    t8 = 7u * start;
+    t9 = word;
+    while (t9 != 0u) {
+        t10 = base + (uint64_t)trailing_zeros(t9);
+        replay__restore__restore_block(log, area, groups, (t8 + (uint64_t)table.ptr[(size_t)t10]) - 1u, t10);
+        t9 = t9 & (t9 - 1u);
+    }
+}
+
+/* Replays the transactions of all closing entries below `end` into the data copy, by the newest entries that were gathered. */
+static inline void replay__restore__restore_all(struct slice_u8 log, struct slice_mut_u8 area, struct slice_u16 table, struct
+        slice_u64 map, uint64_t groups, uint64_t homes, uint64_t start, uint64_t end)
+{
+    uint64_t t9;
+    (void)homes;
+    (void)end;
+
+    t9 = 0u;
+    while (t9 < (uint64_t)map.len) {
+        replay__restore__restore_word(log, area, table, groups, start, map.ptr[(size_t)t9], 64u * t9);
+        t9 = t9 + 1u;
+    }
+}
+
+/* Appends the write of the block that the data area holds in a home. */
+static inline uint64_t batch__records__home_write(struct slice_mut_u8 batch, uint64_t at, uint64_t home, struct slice_u8 area)
+{
+    codec__marks__put_home_write_mark(batch, at);
+    store_2(batch.ptr + (size_t)(at + 2u), home);
+    areas__blocks__copy_block(batch, at + 4u, area, 64u * home);
+    return at + 68u;
+}
+
+/* Writes the records of the homes that one word marks, whose first home is `base`, rising, and returns the index past them. */
+static inline uint64_t homes__emit_word(struct slice_mut_u8 batch, uint64_t at, uint64_t word, uint64_t base, struct slice_u8
+        area)
+{
+    uint64_t t6, t7;
+
+    t6 = at;
+    t7 = word;
+    while (t7 != 0u) {
+        t6 = batch__records__home_write(batch, t6, base + (uint64_t)trailing_zeros(t7), area);
+        t7 = t7 & (t7 - 1u);
+    }
+    return t6;
+}
+
+/* Writes the records of all marked homes, rising, and returns the index past them. */
+static inline uint64_t homes__emit(struct slice_mut_u8 batch, uint64_t at, struct slice_u64 map, struct slice_u8 area)
+{
+    uint64_t t5, t6;
+
+    t5 = at;
+    t6 = 0u;
+    while (t6 < (uint64_t)map.len) {
+        t5 = homes__emit_word(batch, t5, map.ptr[(size_t)t6], 64u * t6, area);
+        t6 = t6 + 1u;
+    }
+    return t5;
+}
+
+/* Replays the transactions that close below `end` into the data copy, and writes the records of the marked homes at the batch's
+   beginning. */
+static inline uint64_t recovery__planning__bring_back(struct slice_u8 log, struct slice_mut_u8 area, struct slice_mut_u8 batch,
+        struct slice_u16 table, struct slice_u64 map, uint64_t groups, uint64_t homes, uint64_t start, uint64_t end)
+{
+    replay__restore__restore_all(log, area, table, map, groups, homes, start, end);
+    return homes__emit(batch, 0u, map, (struct slice_u8){area.ptr, area.len});
+}
+
+/* Replays what closes below `end` into the data copy, and writes the records of the marked homes and of the new header, fenced.
+   */
+static inline void recovery__opening__open_homes(struct slice_u8 log, struct slice_mut_u8 area, struct slice_mut_u8 batch, struct
+        slice_u16 table, struct slice_u64 map, uint64_t groups, uint64_t homes, uint64_t start, uint64_t end)
+{
+    uint64_t t10;
+
+    t10 = recovery__planning__bring_back(log, area, batch, table, map, groups, homes, start, end);
+    t10 = batch__records__fence(batch, t10);
+    t10 = batch__records__header_write(batch, t10, start + groups, groups, homes);
+    (void)batch__records__fence(batch, t10);
+}
+
+/* Makes every byte of the strip zero. */
+static inline void strip__fields__clear(struct slice_mut_u8 s)
+{
+    codec__blocks__clear(s, 0u, 1024u);
+}
+
+/* Makes `s` the strip of an opened store whose log is empty at the group number `start`. */
+static inline void strip__fields__fresh(struct slice_mut_u8 s, uint64_t groups, uint64_t homes, uint64_t start)
+{
+    uint64_t t5;
+
+    strip__fields__clear(s);
+    store_8(s.ptr, groups);
+    store_8(s.ptr + 8u, homes);
+    store_8(s.ptr + 16u, start);
+    store_8(s.ptr + 24u, start);
+    t5 = 7u * start;
+    store_8(s.ptr + 40u, t5);
+    store_8(s.ptr + 48u, t5);
+    store_8(s.ptr + 56u, t5);
+}
+
+/* Puts the header with a new start into the log copy, and makes the strip that of an empty log. */
+static inline void recovery__opening__open_copies(struct slice_mut_u8 log, struct slice_mut_u8 state, uint64_t groups, uint64_t
+        homes, uint64_t start)
+{
+    areas__header__put_header(log, 0u, start, groups, homes);
+    strip__fields__fresh(state, groups, homes, start);
+}
+
+/* Brings the committed transactions back, and empties the log; returns how many they are. */
+static inline struct answers__Reply recovery__opening__reopen(struct slice_mut_u8 log, struct slice_mut_u8 area, struct
+        slice_mut_u8 state, struct slice_mut_u8 batch)
+{
+    uint64_t t5, t7, t8, t9, t13, t14, t15;
+    struct recovery__opening__Shape t6;
+    struct array_u16_4096 t10;
+    struct array_u64_64 t11;
+    struct scan__commits__Found t12;
+
+    t5 = recovery__opening__may_open((struct slice_u8){log.ptr, log.len}, (struct slice_u8){area.ptr, area.len}, (struct
+            slice_u8){state.ptr, state.len});
+    if (t5 != 0u) {
+        return (struct answers__Reply){.code = t5, .figure = 0u, .size = 0u};
+    }
+    t6 = recovery__opening__measure((struct slice_u8){log.ptr, log.len}, (struct slice_u8){area.ptr, area.len});
+    t7 = t6.groups;
+    t8 = t6.homes;
+    t9 = t6.start;
+    memset(&t10, 0, sizeof t10);
+    memset(&t11, 0, sizeof t11);
+    t12 = scan__commits__walk((struct slice_u8){log.ptr, log.len}, t7, t8, t9, 7u * t7);
+    t13 = t12.end;
+    t14 = recovery__planning__touched_homes((struct slice_u8){log.ptr, log.len}, (struct slice_mut_u16){t10.at, 4096u}, (struct
+            slice_mut_u64){t11.at, 64u}, t7, t8, t9, t13);
+    t15 = (68u * t14) + 70u;
+    if ((uint64_t)batch.len < t15) {
+        return (struct answers__Reply){.code = 9u, .figure = 0u, .size = 0u};
+    }
+    recovery__opening__open_homes((struct slice_u8){log.ptr, log.len}, area, batch, (struct slice_u16){t10.at, 4096u}, (struct
+            slice_u64){t11.at, 64u}, t7, t8, t9, t13);
+    recovery__opening__open_copies(log, state, t7, t8, t9 + t7);
+    return (struct answers__Reply){.code = 0u, .figure = t12.number, .size = t15};
+}
+
+/* Brings back what a power cut left: replays the committed transactions into the data copy and starts the log anew. */
+static inline struct answers__Reply kagutin__kagutin_open(struct slice_mut_u8 log, struct slice_mut_u8 area, struct slice_mut_u8
+        state, struct slice_mut_u8 batch)
+{
+    return recovery__opening__reopen(log, area, state, batch);
+}
+
+/* The same for a call that is lent a block. */
+static inline uint64_t answers__in_use_block(struct slice_u8 log, struct slice_u8 area, struct slice_u8 state, struct slice_u8
+        block)
+{
+    uint64_t t5;
+    bool t7, t8;
+
+    t7 = answers__lengths_right(log, area, state);
+    if (!t7) {
+        return 1u;
+    }
+    if ((uint64_t)block.len != 64u) {
+        return 1u;
+    }
+    t5 = areas__lengths__log_groups((uint64_t)log.len);
+    t8 = strip__order__in_order(state, t5, (uint64_t)area.len / 64u);
+    if (!t8) {
+        return 2u;
+    }
+    return 0u;
+}
+
+/* The questions of a read: 0 if none refuses it, else the number of the refusal. */
+static inline uint64_t reading__judge(struct slice_u8 log, struct slice_u8 area, struct slice_u8 state, struct slice_u8 block,
+        uint64_t writer, uint64_t home)
+{
+    uint64_t t7;
+
+    t7 = answers__in_use_block(log, area, state, block);
+    if (t7 != 0u) {
+        return t7;
+    }
+    if (8u <= writer) {
+        return 4u;
+    }
+    if (((uint64_t)area.len / 64u) <= home) {
+        return 5u;
+    }
+    return 0u;
+}
+
+/* Whether a writer holds a block for a home. */
+static inline bool reading__blocks__holds_home(struct model__Writer r, uint64_t home)
+{
+    if (!(2u <= r.mode)) {
+        return false;
+    }
+    return r.home == home;
+}
+
+/* Copies the block that a writer holds. */
+static inline void reading__blocks__show_held(struct slice_mut_u8 block, struct slice_u8 state, uint64_t w)
+{
+    areas__blocks__copy_block(block, 0u, state, (128u + (96u * w)) + 32u);
+}
+
+/* The first position + 1 of a writer's open transaction, 0 if it has logged nothing. */
+static inline uint64_t reading__newest__own(struct model__Writer r)
+{
+    if (!(3u <= r.mode)) {
+        return 0u;
+    }
+    return r.first + 1u;
+}
+
+/* Notes an entry's offset + 1 at index `i` if its home is the one looked for, and returns what stands there then. */
+static inline uint64_t replay__search__note(struct slice_mut_u16 latest, uint64_t i, uint64_t code, uint64_t written, uint64_t
+        home)
+{
+    if (written != home) {
+        return (uint64_t)latest.ptr[(size_t)i];
+    }
+    latest.ptr[(size_t)i] = (uint16_t)code;
+    return code;
+}
+
+/* The position + 1 of the entry with the offset `code` - 1, or where there is none (0) another one. */
+static inline uint64_t replay__search__or_other(uint64_t base, uint64_t code, uint64_t other)
+{
+    if (code == 0u) {
+        return other;
+    }
+    return base + code;
+}
+
+/* The newest committed entry once a closing entry is judged, whose transaction's newest entry for the home has the offset `code`
+   - 1, or none (0). */
+static inline uint64_t replay__search__newest_after(uint64_t failed, uint64_t base, uint64_t code, uint64_t newest)
+{
+    if (failed != 0u) {
+        return newest;
+    }
+    return replay__search__or_other(base, code, newest);
+}
+
+/* Takes what the word of a tag says at a position. */
+static inline struct replay__search__Search replay__search__visit(uint64_t word, uint64_t position, uint64_t base, uint64_t homes,
+        uint64_t home, struct slice_mut_u16 counts, struct slice_mut_u16 latest, struct replay__search__Search search)
+{
+    uint64_t t11, t16, t18, t21, t24;
+    struct scan__commits__Progress t20;
+    struct model__Tag t22;
+    struct replay__search__Search t23;
+    uint16_t t39, t45;
+
+    t22 = codec__tags__read_tag(word, position, base, homes);
+    if (t22.tag == 0u) {
+        t23 = search;
+    } else if (t22.tag == 1u) {
+        t24 = t22.u64_1 - base;
+        t11 = t24;
+        t39 = (uint16_t)((uint32_t)counts.ptr[(size_t)t11] + 1u);
+        counts.ptr[(size_t)t11] = t39;
+        t24 = (uint64_t)t39;
+        t24 = replay__search__note(latest, t11, (position + 1u) - base, t22.u64_0, home);
+        t23 = search;
+    } else {
+        t16 = t22.u64_1 - base;
+        t45 = (uint16_t)((uint32_t)counts.ptr[(size_t)t16] + 1u);
+        counts.ptr[(size_t)t16] = t45;
+        t18 = replay__search__note(latest, t16, (position + 1u) - base, t22.u64_0, home);
+        t20 = scan__commits__judge(search.progress, base, position, t22.u64_2, (uint64_t)t45 == t22.u64_3);
+        t21 = replay__search__newest_after(t20.failed, base, t18, search.newest);
+        t23 = (struct replay__search__Search){.progress = t20, .newest = t21};
+    }
+    return t23;
+}
+
+/* Takes the first `m` tags of a group, which says nothing where it is not the valid group with number `n`. */
+static inline struct replay__search__Search replay__search__visit_group(struct slice_u8 group, uint64_t groups, uint64_t homes,
+        uint64_t start, uint64_t n, uint64_t m, uint64_t home, struct slice_mut_u16 counts, struct slice_mut_u16 latest, struct
+        replay__search__Search search)
+{
+    struct array_u64_7 t11, t18;
+    uint64_t t12, t14, t15;
+    struct replay__search__Search t13;
+    bool t16;
+
+    t16 = scan__groups__group_valid(group, groups, start, n);
+    if (!t16) {
+        return search;
+    }
+    t18 = scan__groups__tag_words(group);
+    t11 = t18;
+    t12 = 7u * start;
+    t13 = search;
+    t14 = 7u * n;
+    t15 = 0u;
+    while (t15 < m) {
+        t13 = replay__search__visit(t11.at[(size_t)t15], t14, t12, homes, home, counts, latest, t13);
+        t14 = t14 + 1u;
+        t15 = t15 + 1u;
+    }
+    return t13;
+}
+
+/* Whether the pass may stop: a closing entry has failed, and the writer has logged nothing. */
+static inline bool replay__search__may_stop(uint64_t own, uint64_t failed)
+{
+    if (own != 0u) {
+        return false;
+    }
+    return 0u < failed;
+}
+
+/* What the writer sees at the end of the pass: the newest entry of its own transaction, which begins at `own` - 1, else the
+   newest committed one. */
+static inline uint64_t replay__search__choose(struct slice_u16 latest, uint64_t base, uint64_t own, uint64_t newest)
+{
+    if (own == 0u) {
+        return newest;
+    }
+    return replay__search__or_other(base, (uint64_t)latest.ptr[(size_t)((own - base) - 1u)], newest);
+}
+
+/* The pass over the `n` positions of the log from its start on, with a counter and a latest entry for each, all 0, and what it
+   gives: the newest entry for a home that a writer sees. `own` is the first position + 1 of the writer's open transaction, 0 if
+   it has logged nothing. */
+static inline uint64_t replay__search__seek_with(struct slice_u8 log, uint64_t groups, uint64_t homes, uint64_t start, uint64_t n,
+        uint64_t home, uint64_t own, struct slice_mut_u16 counts, struct slice_mut_u16 latest)
+{
+    struct replay__search__Search t10;
+    uint64_t t11, t12, t13, t14, t16;
+    bool t26;
+
+    t10 = (struct replay__search__Search){.progress = (struct scan__commits__Progress){.end = 0u, .number = 0u, .failed = 0u},
+            .newest = 0u};
+    t11 = start % groups;
+    t12 = start;
+    t13 = n;
+    while (0u < t13) {
+        t14 = 64u + (512u * t11);
+        t16 = scan__commits__in_group(t13);
+        t10 = replay__search__visit_group((struct slice_u8){log.ptr + (size_t)t14, (size_t)((t14 + 512u) - t14)}, groups, homes,
+                start, t12, t16, home, counts, latest, t10);
+        t26 = replay__search__may_stop(own, t10.progress.failed);
+        if (t26) {
+            return t10.newest;
+        }
+        t11 = scan__commits__next_slot(t11, groups);
+        t12 = t12 + 1u;
+        t13 = t13 - t16;
+    }
+    return replay__search__choose((struct slice_u16){latest.ptr, latest.len}, 7u * start, own, t10.newest);
+}
+
+/* The newest entry for a home that a writer sees, among the `n` positions of the log from its start on: `own` is the first
+   position + 1 of its open transaction, 0 if it has logged nothing. A short log has small tables, since they are cleared first.
+   */
+static inline uint64_t replay__search__newest_seen(struct slice_u8 log, uint64_t groups, uint64_t homes, uint64_t start, uint64_t
+        n, uint64_t home, uint64_t own)
+{
+    struct array_u16_448 t8, t9;
+    struct array_u16_7168 t10, t11;
+
+    if (n <= 448u) {
+        memset(&t8, 0, sizeof t8);
+        memset(&t9, 0, sizeof t9);
+        return replay__search__seek_with(log, groups, homes, start, n, home, own, (struct slice_mut_u16){t8.at, 448u}, (struct
+                slice_mut_u16){t9.at, 448u});
+    }
+    memset(&t10, 0, sizeof t10);
+    memset(&t11, 0, sizeof t11);
+    return replay__search__seek_with(log, groups, homes, start, n, home, own, (struct slice_mut_u16){t10.at, 7168u}, (struct
+            slice_mut_u16){t11.at, 7168u});
+}
+
+/* The newest entry for a home that a writer sees: one of its own, else a committed one. */
+static inline uint64_t reading__newest__seen(struct slice_u8 log, struct model__State st, struct model__Writer r, uint64_t home)
+{
+    uint64_t t5, t6;
+
+    t5 = ((7u * st.next) + st.filled) - (7u * st.start);
+    if (t5 == 0u) {
+        return 0u;
+    }
+    t6 = reading__newest__own(r);
+    return replay__search__newest_seen(log, st.groups, st.homes, st.start, t5, home, t6);
+}
+
+/* Reads a home into a block buffer. */
+static inline void areas__homes__get_home(struct slice_mut_u8 block, struct slice_u8 area, uint64_t home)
+{
+    areas__blocks__copy_block(block, 0u, area, 64u * home);
+}
+
+/* Copies the block of the entry at a position. */
+static inline void reading__blocks__show_entry(struct slice_mut_u8 block, struct slice_u8 log, uint64_t groups, uint64_t position)
+{
+    areas__blocks__copy_block(block, 0u, log, (64u + (512u * ((position / 7u) % groups))) + (64u + (64u * (position % 7u))));
+}
+
+/* Copies the block of a home that a writer sees. */
+static inline void reading__blocks__show(struct slice_u8 log, struct slice_u8 area, struct slice_u8 state, struct slice_mut_u8
+        block, uint64_t writer, uint64_t home)
+{
+    struct model__State t7;
+    uint64_t t8, t10, t953;
+    struct model__Writer t9;
+    bool t11;
+
+    t7 = (struct model__State){.groups = load_8(state.ptr), .homes = load_8(state.ptr + 8u), .start = load_8(state.ptr + 16u),
+            .next = load_8(state.ptr + 24u), .filled = load_8(state.ptr + 32u), .settled = load_8(state.ptr + 40u), .fenced =
+            load_8(state.ptr + 48u), .durable = load_8(state.ptr + 56u), .last = load_8(state.ptr + 64u)};
+    t8 = writer;
+    t953 = 128u + (96u * t8);
+    t9 = (struct model__Writer){.mode = load_8(state.ptr + (size_t)t953), .home = load_8(state.ptr + (size_t)(t953 + 8u)), .first
+            = load_8(state.ptr + (size_t)(t953 + 16u)), .count = load_8(state.ptr + (size_t)(t953 + 24u))};
+    t11 = reading__blocks__holds_home(t9, home);
+    if (t11) {
+        reading__blocks__show_held(block, state, t8);
+        return;
+    }
+    t10 = reading__newest__seen(log, t7, t9, home);
+    if (t10 == 0u) {
+        areas__homes__get_home(block, area, home);
+        return;
+    }
+    reading__blocks__show_entry(block, log, t7.groups, t10 - 1u);
+}
+
+/* Reads the block of a home as a writer sees it: the held one, else its newest own entry, else the newest committed one, else the
+   data copy. */
+static inline struct answers__Reply reading__read(struct slice_u8 log, struct slice_u8 area, struct slice_u8 state, struct
+        slice_mut_u8 block, uint64_t writer, uint64_t home)
+{
+    uint64_t t7;
+
+    t7 = reading__judge(log, area, state, (struct slice_u8){block.ptr, block.len}, writer, home);
+    if (t7 != 0u) {
+        return (struct answers__Reply){.code = t7, .figure = 0u, .size = 0u};
+    }
+    reading__blocks__show(log, area, state, block, writer, home);
+    return (struct answers__Reply){.code = 0u, .figure = 0u, .size = 0u};
+}
+
+/* Reads the block of a home as a writer sees it. */
+static inline struct answers__Reply kagutin__kagutin_read(struct slice_u8 log, struct slice_u8 area, struct slice_u8 state, struct
+        slice_mut_u8 block, uint64_t writer, uint64_t home)
+{
+    return reading__read(log, area, state, block, writer, home);
+}
+
+/* Replays what closes below `end` into the data copy, and writes the records of the marked homes and a fence. */
+static inline void recovery__settling__settle_homes(struct slice_u8 log, struct slice_mut_u8 area, struct slice_mut_u8 batch,
+        struct slice_u16 table, struct slice_u64 map, struct model__State st, uint64_t end)
+{
+    uint64_t t8;
+
+    t8 = recovery__planning__bring_back(log, area, batch, table, map, st.groups, st.homes, st.start, end);
+    (void)batch__records__fence(batch, t8);
+}
+
+/* Brings the data copy and the data area up to the fenced position. */
+static inline struct answers__Reply recovery__settling__settle(struct slice_u8 log, struct slice_mut_u8 area, struct slice_mut_u8
+        state, struct slice_mut_u8 batch)
+{
+    uint64_t t5, t11, t12, t13;
+    struct model__State t6;
+    struct array_u16_4096 t7;
+    struct array_u64_64 t8;
+    struct scan__commits__Found t10;
+
+    t5 = answers__in_use(log, (struct slice_u8){area.ptr, area.len}, (struct slice_u8){state.ptr, state.len});
+    if (t5 != 0u) {
+        return (struct answers__Reply){.code = t5, .figure = 0u, .size = 0u};
+    }
+    t6 = (struct model__State){.groups = load_8(state.ptr), .homes = load_8(state.ptr + 8u), .start = load_8(state.ptr + 16u),
+            .next = load_8(state.ptr + 24u), .filled = load_8(state.ptr + 32u), .settled = load_8(state.ptr + 40u), .fenced =
+            load_8(state.ptr + 48u), .durable = load_8(state.ptr + 56u), .last = load_8(state.ptr + 64u)};
+    memset(&t7, 0, sizeof t7);
+    memset(&t8, 0, sizeof t8);
+    t10 = scan__commits__walk(log, t6.groups, t6.homes, t6.start, t6.fenced - (7u * t6.start));
+    t11 = t10.end;
+    t12 = recovery__planning__touched_homes(log, (struct slice_mut_u16){t7.at, 4096u}, (struct slice_mut_u64){t8.at, 64u},
+            t6.groups, t6.homes, t6.start, t11);
+    t13 = (68u * t12) + 2u;
+    if ((uint64_t)batch.len < t13) {
+        return (struct answers__Reply){.code = 9u, .figure = 0u, .size = 0u};
+    }
+    recovery__settling__settle_homes(log, area, batch, (struct slice_u16){t7.at, 4096u}, (struct slice_u64){t8.at, 64u}, t6, t11);
+    store_8(state.ptr + 40u, t6.fenced);
+    store_8(state.ptr + 48u, 7u * t6.next);
+    return (struct answers__Reply){.code = 0u, .figure = 0u, .size = t13};
+}
+
+/* Writes the homes of the commits below the fenced position, and a fence. */
+static inline struct answers__Reply kagutin__kagutin_settle(struct slice_u8 log, struct slice_mut_u8 area, struct slice_mut_u8
+        state, struct slice_mut_u8 batch)
+{
+    return recovery__settling__settle(log, area, state, batch);
+}
+
+/* The answer of a store: 0, or the number of the question that refuses it. */
+static inline uint64_t logging__stores__store_verdict(struct slice_u8 log, struct slice_u8 area, struct slice_u8 state, struct
+        slice_u8 block, struct slice_u8 batch, uint64_t writer, uint64_t home)
+{
+    uint64_t t8, t18;
+    struct model__Writer t9;
+
+    t8 = answers__in_use_block(log, area, state, block);
+    if (t8 != 0u) {
+        return t8;
+    }
+    if (8u <= writer) {
+        return 4u;
+    }
+    if (((uint64_t)area.len / 64u) <= home) {
+        return 5u;
+    }
+    t18 = 128u + (96u * writer);
+    t9 = (struct model__Writer){.mode = load_8(state.ptr + (size_t)t18), .home = load_8(state.ptr + (size_t)(t18 + 8u)), .first =
+            load_8(state.ptr + (size_t)(t18 + 16u)), .count = load_8(state.ptr + (size_t)(t18 + 24u))};
+    if (!(1u <= t9.mode)) {
+        return 7u;
+    }
+    if (!(2u <= t9.mode)) {
+        return 0u;
+    }
+    if (t9.home == home) {
+        return 0u;
+    }
+    return logging__entry__may_log((struct model__State){.groups = load_8(state.ptr), .homes = load_8(state.ptr + 8u), .start =
+            load_8(state.ptr + 16u), .next = load_8(state.ptr + 24u), .filled = load_8(state.ptr + 32u), .settled =
+            load_8(state.ptr + 40u), .fenced = load_8(state.ptr + 48u), .durable = load_8(state.ptr + 56u), .last =
+            load_8(state.ptr + 64u)}, (uint64_t)batch.len);
+}
+
+/* The record `r` once its writer holds a block for `home`; a block that it held for another home was logged at `position`. */
+static inline struct model__Writer writers__records__hold(struct model__Writer r, uint64_t home, uint64_t position)
+{
+    uint64_t t4, t7;
+
+    if (!(2u <= r.mode)) {
+        return (struct model__Writer){.mode = 2u, .home = home, .first = 0u, .count = 0u};
+    }
+    if (r.home == home) {
+        return r;
+    }
+    t4 = strip__writers__first_for(r, position);
+    t7 = strip__writers__count_for(r);
+    return (struct model__Writer){.mode = 3u, .home = home, .first = t4, .count = t7 + 1u};
+}
+
+/* Makes the record at `p` that of a writer that holds a block for `home`. */
+static inline void writers__places__hold_at(struct model__Writer *p, uint64_t home, uint64_t position)
+{
+    struct model__Writer t4;
+
+    t4 = writers__records__hold(*p, home, position);
+    (*p) = t4;
+}
+
+/* The record `r`, changed at its place by `hold_at`. */
+static inline struct model__Writer writers__places__held(struct model__Writer r, uint64_t home, uint64_t position)
+{
+    struct model__Writer t4;
+
+    t4 = r;
+    writers__places__hold_at(&t4, home, position);
+    return t4;
+}
+
+/* Stores what becomes of `r`, the record of writer `w`, once it holds a block for `home`; a block that it held for another home
+   is logged at `position`. */
+static inline void writers__hold(struct slice_mut_u8 s, uint64_t w, struct model__Writer r, uint64_t home, uint64_t position)
+{
+    struct model__Writer t9;
+
+    t9 = writers__places__held(r, home, position);
+    strip__writers__set_writer(s, w, t9);
+}
+
+/* Stores `block` as the held block of writer `w`, and leaves the rest of the strip as it was. */
+static inline void strip__writers__set_held(struct slice_mut_u8 s, uint64_t w, struct slice_u8 block)
+{
+    codec__blocks__copy(s, (128u + (96u * w)) + 32u, block);
+}
+
+/* Holds the first block of a transaction. */
+static inline void logging__stores__store_first(struct slice_mut_u8 state, struct slice_u8 block, struct model__Writer r, uint64_t
+        w, uint64_t home)
+{
+    writers__hold(state, w, r, home, 0u);
+    strip__writers__set_held(state, w, block);
+}
+
+/* The tag of a held block that is logged at `position` and does not close its transaction. */
+static inline uint64_t logging__entry__store_word(struct model__State st, struct model__Writer r, uint64_t position)
+{
+    uint64_t t4;
+    (void)st;
+
+    t4 = strip__writers__first_for(r, position);
+    return (1u | (r.home << 2u)) | ((position - t4) << 14u);
+}
+
+/* Logs the held block and holds the next one, for another home. The record is changed first: the numbers and the block that are
+   logged stay. */
+static inline uint64_t logging__stores__store_other(struct slice_mut_u8 log, struct slice_mut_u8 state, struct slice_u8 block,
+        struct slice_mut_u8 batch, struct model__State st, struct model__Writer r, uint64_t w, uint64_t home)
+{
+    uint64_t t9, t10, t11;
+
+    t9 = (7u * st.next) + st.filled;
+    t10 = logging__entry__store_word(st, r, t9);
+    writers__hold(state, w, r, home, t9);
+    t11 = logging__entry__log_entry(log, state, batch, st, t10, w);
+    strip__writers__set_held(state, w, block);
+    return t11;
+}
+
+/* Holds a block for a home in a writer's open transaction; a block held for another home is logged first. */
+static inline struct answers__Reply logging__stores__store(struct slice_mut_u8 log, struct slice_u8 area, struct slice_mut_u8
+        state, struct slice_u8 block, struct slice_mut_u8 batch, uint64_t writer, uint64_t home)
+{
+    uint64_t t8, t9, t12, t39;
+    struct model__Writer t10;
+
+    t8 = logging__stores__store_verdict((struct slice_u8){log.ptr, log.len}, area, (struct slice_u8){state.ptr, state.len}, block,
+            (struct slice_u8){batch.ptr, batch.len}, writer, home);
+    if (t8 != 0u) {
+        return (struct answers__Reply){.code = t8, .figure = 0u, .size = 0u};
+    }
+    t9 = writer;
+    t39 = 128u + (96u * t9);
+    t10 = (struct model__Writer){.mode = load_8(state.ptr + (size_t)t39), .home = load_8(state.ptr + (size_t)(t39 + 8u)), .first =
+            load_8(state.ptr + (size_t)(t39 + 16u)), .count = load_8(state.ptr + (size_t)(t39 + 24u))};
+    if (!(2u <= t10.mode)) {
+        logging__stores__store_first(state, block, t10, t9, home);
+        return (struct answers__Reply){.code = 0u, .figure = 0u, .size = 0u};
+    }
+    if (t10.home == home) {
+        strip__writers__set_held(state, t9, block);
+        return (struct answers__Reply){.code = 0u, .figure = 0u, .size = 0u};
+    }
+    t12 = logging__stores__store_other(log, state, block, batch, (struct model__State){.groups = load_8(state.ptr), .homes =
+            load_8(state.ptr + 8u), .start = load_8(state.ptr + 16u), .next = load_8(state.ptr + 24u), .filled = load_8(state.ptr
+            + 32u), .settled = load_8(state.ptr + 40u), .fenced = load_8(state.ptr + 48u), .durable = load_8(state.ptr + 56u),
+            .last = load_8(state.ptr + 64u)}, t10, t9, home);
+    return (struct answers__Reply){.code = 0u, .figure = 0u, .size = t12};
+}
+
+/* Holds a block for a home in a writer's open transaction; a block held for another home is logged first. */
+static inline struct answers__Reply kagutin__kagutin_store(struct slice_mut_u8 log, struct slice_u8 area, struct slice_mut_u8
+        state, struct slice_u8 block, struct slice_mut_u8 batch, uint64_t writer, uint64_t home)
+{
+    return logging__stores__store(log, area, state, block, batch, writer, home);
+}
+
+/* A limit lowered to the group in which a writer's open transaction begins, if it has logged entries. */
+static inline uint64_t replay__trim__writer_limit(struct slice_u8 state, uint64_t w, uint64_t limit)
+{
+    uint64_t t4, t5;
+
+    t4 = 128u + (96u * w);
+    if (load_8(state.ptr + (size_t)t4) < 3u) {
+        return limit;
+    }
+    t5 = load_8(state.ptr + (size_t)(t4 + 16u)) / 7u;
+    if (t5 < limit) {
+        return t5;
+    }
+    return limit;
+}
+
+/* The highest start up to `limit` with no entry of an open transaction before it. */
+static inline uint64_t replay__trim__open_limit(struct slice_u8 state, uint64_t limit)
+{
+    uint64_t t3, t4;
+
+    t3 = limit;
+    t4 = 0u;
+    while (t4 < 8u) {
+        t3 = replay__trim__writer_limit(state, t4, t3);
+        t4 = t4 + 1u;
+    }
+    return t3;
+}
+
+/* What the log says at a position. */
+static inline struct model__Tag scan__groups__entry_at(struct slice_u8 log, uint64_t groups, uint64_t homes, uint64_t start,
+        uint64_t position)
+{
+    uint64_t t6, t7;
+    struct slice_u8 t8;
+    bool t14;
+    struct model__Tag t15;
+
+    t6 = position / 7u;
+    t7 = 64u + (512u * (t6 % groups));
+    t8 = (struct slice_u8){log.ptr + (size_t)t7, (size_t)((t7 + 512u) - t7)};
+    t14 = scan__groups__group_valid(t8, groups, start, t6);
+    if (t14) {
+        t15 = scan__groups__tag_in(t8, position % 7u, position, 7u * start, homes);
+    } else {
+        t15 = (struct model__Tag){.tag = 0u};
+    }
+    return t15;
+}
+
+/* The first position + 1 of the transaction that the entry at a position closes, 0 if it closes none. */
+static inline uint64_t replay__entries__first_closed(struct slice_u8 log, uint64_t groups, uint64_t homes, uint64_t start,
+        uint64_t position)
+{
+    struct model__Tag t6;
+    uint64_t t8;
+
+    t6 = scan__groups__entry_at(log, groups, homes, start, position);
+    if (t6.tag == 0u) {
+        t8 = 0u;
+    } else if (t6.tag == 1u) {
+        t8 = 0u;
+    } else {
+        t8 = t6.u64_1 + 1u;
+    }
+    return t8;
+}
+
+/* A limit lowered to the group in which the transaction begins that the entry at a position closes, if it closes one. */
+static inline uint64_t replay__trim__span_limit(struct slice_u8 log, uint64_t groups, uint64_t homes, uint64_t start, uint64_t
+        position, uint64_t limit)
+{
+    uint64_t t7, t8;
+
+    t7 = replay__entries__first_closed(log, groups, homes, start, position);
+    if (t7 == 0u) {
+        return limit;
+    }
+    t8 = (t7 - 1u) / 7u;
+    if (t8 < limit) {
+        return t8;
+    }
+    return limit;
+}
+
+/* The highest start up to `limit` that no transaction of a closing entry below `end` lies across. */
+static inline uint64_t replay__trim__closed_limit(struct slice_u8 log, uint64_t groups, uint64_t homes, uint64_t start, uint64_t
+        end, uint64_t limit)
+{
+    uint64_t t7, t8;
+
+    t7 = limit;
+    t8 = end;
+    while ((7u * t7) < t8) {
+        t8 = t8 - 1u;
+        t7 = replay__trim__span_limit(log, groups, homes, start, t8, t7);
+    }
+    return t7;
+}
+
+/* The highest start from the log's start to the settled position that no open or committed transaction lies across. */
+static inline uint64_t replay__trim__trim_start(struct slice_u8 log, struct slice_u8 state, uint64_t groups, uint64_t homes,
+        uint64_t start, uint64_t settled, uint64_t end)
+{
+    uint64_t t8;
+
+    t8 = replay__trim__open_limit(state, settled / 7u);
+    return replay__trim__closed_limit(log, groups, homes, start, end, t8);
+}
+
+/* The highest start up to the settled position that no open or committed transaction lies across. */
+static inline uint64_t trimming__start__new_start(struct slice_u8 log, struct slice_u8 area, struct slice_u8 state, struct
+        model__State st)
+{
+    struct scan__commits__Found t6;
+    (void)area;
+
+    t6 = scan__commits__walk(log, st.groups, st.homes, st.start, ((7u * st.next) + st.filled) - (7u * st.start));
+    return replay__trim__trim_start(log, state, st.groups, st.homes, st.start, st.settled, t6.end);
+}
+
+/* Writes the new header and a fence into the batch. */
+static inline void trimming__moves__write_header(struct slice_mut_u8 batch, uint64_t groups, uint64_t homes, uint64_t start)
+{
+    uint64_t t5;
+
+    t5 = batch__records__header_write(batch, 0u, start, groups, homes);
+    (void)batch__records__fence(batch, t5);
+}
+
+/* The last closing entry that is left in a log from a start on, 0 for none. */
+static inline uint64_t trimming__moves__kept_last(uint64_t last, uint64_t start)
+{
+    uint64_t t5;
+
+    if (last <= (7u * start)) {
+        t5 = 0u;
+    } else {
+        t5 = last;
+    }
+    return t5;
+}
+
+/* Puts the new start, the fenced position and the last closing entry into the strip. */
+static inline void trimming__moves__move_strip(struct slice_mut_u8 state, struct model__State st, uint64_t start)
+{
+    uint64_t t4;
+
+    store_8(state.ptr + 16u, start);
+    store_8(state.ptr + 48u, 7u * st.next);
+    t4 = trimming__moves__kept_last(st.last, start);
+    store_8(state.ptr + 64u, t4);
+}
+
+/* Moves the start: the batch, the header in the log copy, and the strip. */
+static inline void trimming__moves__move_start(struct slice_mut_u8 log, struct slice_mut_u8 state, struct slice_mut_u8 batch,
+        struct model__State st, uint64_t start)
+{
+    trimming__moves__write_header(batch, st.groups, st.homes, start);
+    areas__header__put_header(log, 0u, start, st.groups, st.homes);
+    trimming__moves__move_strip(state, st, start);
+}
+
+/* Moves the log's start up as far as no open or committed transaction lies across it, and writes the new header and a fence if it
+   moves. */
+static inline struct answers__Reply trimming__trim(struct slice_mut_u8 log, struct slice_u8 area, struct slice_mut_u8 state,
+        struct slice_mut_u8 batch)
+{
+    uint64_t t5, t7;
+    struct model__State t6;
+
+    t5 = answers__in_use((struct slice_u8){log.ptr, log.len}, area, (struct slice_u8){state.ptr, state.len});
+    if (t5 != 0u) {
+        return (struct answers__Reply){.code = t5, .figure = 0u, .size = 0u};
+    }
+    t6 = (struct model__State){.groups = load_8(state.ptr), .homes = load_8(state.ptr + 8u), .start = load_8(state.ptr + 16u),
+            .next = load_8(state.ptr + 24u), .filled = load_8(state.ptr + 32u), .settled = load_8(state.ptr + 40u), .fenced =
+            load_8(state.ptr + 48u), .durable = load_8(state.ptr + 56u), .last = load_8(state.ptr + 64u)};
+    t7 = trimming__start__new_start((struct slice_u8){log.ptr, log.len}, area, (struct slice_u8){state.ptr, state.len}, t6);
+    if (UINT64_C(0x800000000000) < t7) {
+        return (struct answers__Reply){.code = 10u, .figure = 0u, .size = 0u};
+    }
+    if (t7 == t6.start) {
+        return (struct answers__Reply){.code = 0u, .figure = 0u, .size = 0u};
+    }
+    if ((uint64_t)batch.len < 68u) {
+        return (struct answers__Reply){.code = 9u, .figure = 0u, .size = 0u};
+    }
+    trimming__moves__move_start(log, state, batch, t6, t7);
+    return (struct answers__Reply){.code = 0u, .figure = 0u, .size = 68u};
+}
+
+/* Moves the log's start up as far as no transaction lies across it. */
+static inline struct answers__Reply kagutin__kagutin_trim(struct slice_mut_u8 log, struct slice_u8 area, struct slice_mut_u8
+        state, struct slice_mut_u8 batch)
+{
+    return trimming__trim(log, area, state, batch);
+}
+
+struct kagutin_reply kagutin_abort(const uint8_t *log, size_t log_size, const uint8_t *area, size_t area_size, uint8_t *state,
+        size_t state_size, uint64_t writer)
+{
+    struct answers__Reply r = kagutin__kagutin_abort((struct slice_u8){log, log_size}, (struct slice_u8){area, area_size}, (struct slice_mut_u8){state, state_size}, writer);
+
+    return (struct kagutin_reply){.code = r.code, .figure = r.figure, .size = r.size};
+}
+
+struct kagutin_reply kagutin_begin(const uint8_t *log, size_t log_size, const uint8_t *area, size_t area_size, uint8_t *state,
+        size_t state_size, uint64_t writer)
+{
+    struct answers__Reply r = kagutin__kagutin_begin((struct slice_u8){log, log_size}, (struct slice_u8){area, area_size}, (struct slice_mut_u8){state, state_size}, writer);
+
+    return (struct kagutin_reply){.code = r.code, .figure = r.figure, .size = r.size};
+}
+
+struct kagutin_reply kagutin_commit(uint8_t *log, size_t log_size, const uint8_t *area, size_t area_size, uint8_t *state, size_t
+        state_size, uint8_t *batch, size_t batch_size, uint64_t writer)
+{
+    struct answers__Reply r = kagutin__kagutin_commit((struct slice_mut_u8){log, log_size}, (struct slice_u8){area, area_size}, (struct slice_mut_u8){state, state_size}, (struct slice_mut_u8){batch, batch_size}, writer);
+
+    return (struct kagutin_reply){.code = r.code, .figure = r.figure, .size = r.size};
+}
+
+struct kagutin_reply kagutin_confirm(const uint8_t *log, size_t log_size, const uint8_t *area, size_t area_size, uint8_t *state,
+        size_t state_size)
+{
+    struct answers__Reply r = kagutin__kagutin_confirm((struct slice_u8){log, log_size}, (struct slice_u8){area, area_size}, (struct slice_mut_u8){state, state_size});
+
+    return (struct kagutin_reply){.code = r.code, .figure = r.figure, .size = r.size};
+}
+
+struct kagutin_reply kagutin_flush(const uint8_t *log, size_t log_size, const uint8_t *area, size_t area_size, uint8_t *state,
+        size_t state_size, uint8_t *batch, size_t batch_size)
+{
+    struct answers__Reply r = kagutin__kagutin_flush((struct slice_u8){log, log_size}, (struct slice_u8){area, area_size}, (struct slice_mut_u8){state, state_size}, (struct slice_mut_u8){batch, batch_size});
+
+    return (struct kagutin_reply){.code = r.code, .figure = r.figure, .size = r.size};
+}
+
+struct kagutin_reply kagutin_format(uint8_t *log, size_t log_size, uint8_t *area, size_t area_size, uint8_t *batch, size_t
+        batch_size)
+{
+    struct answers__Reply r = kagutin__kagutin_format((struct slice_mut_u8){log, log_size}, (struct slice_mut_u8){area, area_size}, (struct slice_mut_u8){batch, batch_size});
+
+    return (struct kagutin_reply){.code = r.code, .figure = r.figure, .size = r.size};
+}
+
+struct kagutin_reply kagutin_open(uint8_t *log, size_t log_size, uint8_t *area, size_t area_size, uint8_t *state, size_t
+        state_size, uint8_t *batch, size_t batch_size)
+{
+    struct answers__Reply r = kagutin__kagutin_open((struct slice_mut_u8){log, log_size}, (struct slice_mut_u8){area, area_size}, (struct slice_mut_u8){state, state_size}, (struct slice_mut_u8){batch, batch_size});
+
+    return (struct kagutin_reply){.code = r.code, .figure = r.figure, .size = r.size};
+}
+
+struct kagutin_reply kagutin_read(const uint8_t *log, size_t log_size, const uint8_t *area, size_t area_size, const uint8_t
+        *state, size_t state_size, uint8_t *block, size_t block_size, uint64_t writer, uint64_t home)
+{
+    struct answers__Reply r = kagutin__kagutin_read((struct slice_u8){log, log_size}, (struct slice_u8){area, area_size}, (struct slice_u8){state, state_size}, (struct slice_mut_u8){block, block_size}, writer, home);
+
+    return (struct kagutin_reply){.code = r.code, .figure = r.figure, .size = r.size};
+}
+
+struct kagutin_reply kagutin_settle(const uint8_t *log, size_t log_size, uint8_t *area, size_t area_size, uint8_t *state, size_t
+        state_size, uint8_t *batch, size_t batch_size)
+{
+    struct answers__Reply r = kagutin__kagutin_settle((struct slice_u8){log, log_size}, (struct slice_mut_u8){area, area_size}, (struct slice_mut_u8){state, state_size}, (struct slice_mut_u8){batch, batch_size});
+
+    return (struct kagutin_reply){.code = r.code, .figure = r.figure, .size = r.size};
+}
+
+struct kagutin_reply kagutin_store(uint8_t *log, size_t log_size, const uint8_t *area, size_t area_size, uint8_t *state, size_t
+        state_size, const uint8_t *block, size_t block_size, uint8_t *batch, size_t batch_size, uint64_t writer, uint64_t home)
+{
+    struct answers__Reply r = kagutin__kagutin_store((struct slice_mut_u8){log, log_size}, (struct slice_u8){area, area_size}, (struct slice_mut_u8){state, state_size}, (struct slice_u8){block, block_size}, (struct slice_mut_u8){batch, batch_size}, writer, home);
+
+    return (struct kagutin_reply){.code = r.code, .figure = r.figure, .size = r.size};
+}
+
+struct kagutin_reply kagutin_trim(uint8_t *log, size_t log_size, const uint8_t *area, size_t area_size, uint8_t *state, size_t
+        state_size, uint8_t *batch, size_t batch_size)
+{
+    struct answers__Reply r = kagutin__kagutin_trim((struct slice_mut_u8){log, log_size}, (struct slice_u8){area, area_size}, (struct slice_mut_u8){state, state_size}, (struct slice_mut_u8){batch, batch_size});
+
+    return (struct kagutin_reply){.code = r.code, .figure = r.figure, .size = r.size};
+}

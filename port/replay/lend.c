@@ -1,0 +1,79 @@
+/* The lent memory and the calls on it. */
+#include <string.h>
+
+#include "replay.h"
+
+struct lent lent;
+
+const char *const call_names[CALLS] = { "format", "open", "begin", "abort", "store", "commit", "flush", "confirm", "settle", "trim",
+                                        "read" };
+
+void lend(size_t groups, size_t homes, size_t batch_size)
+{
+    lent.groups = groups;
+    lent.homes = homes;
+    lent.log_size = kagutin_log_size(groups);
+    lent.area_size = kagutin_area_size(homes);
+    lent.state_size = sizeof lent.state;
+    lent.block_size = sizeof lent.block;
+    lent.batch_size = batch_size;
+    memset(lent.log, 0xcc, lent.log_size);
+    memset(lent.area, 0xcc, lent.area_size);
+    memset(lent.state, 0xcc, sizeof lent.state);
+    memset(lent.block, 0xcc, sizeof lent.block);
+    memset(lent.batch, 0xcc, batch_size);
+}
+
+#define AREAS lent.log, lent.log_size, lent.area, lent.area_size
+#define STATE lent.state, lent.state_size
+#define BLOCK lent.block, lent.block_size
+#define BATCH lent.batch, lent.batch_size
+
+struct kagutin_reply make_call(enum call call, uint64_t writer, uint64_t home)
+{
+    switch (call) {
+    case FORMAT: return kagutin_format(AREAS, BATCH);
+    case OPEN: return kagutin_open(AREAS, STATE, BATCH);
+    case BEGIN: return kagutin_begin(AREAS, STATE, writer);
+    case ABORT: return kagutin_abort(AREAS, STATE, writer);
+    case STORE: return kagutin_store(AREAS, STATE, BLOCK, BATCH, writer, home);
+    case COMMIT: return kagutin_commit(AREAS, STATE, BATCH, writer);
+    case FLUSH: return kagutin_flush(AREAS, STATE, BATCH);
+    case CONFIRM: return kagutin_confirm(AREAS, STATE);
+    case SETTLE: return kagutin_settle(AREAS, STATE, BATCH);
+    case TRIM: return kagutin_trim(AREAS, STATE, BATCH);
+    default: return kagutin_read(AREAS, STATE, BLOCK, writer, home);
+    }
+}
+
+/* Two sums over the bytes, each in 32 bits. */
+struct sums {
+    uint32_t fnv, times33;
+};
+
+static void add(struct sums *sums, const uint8_t *bytes, size_t size)
+{
+    uint32_t fnv = sums->fnv, times33 = sums->times33;
+    size_t i;
+
+    for (i = 0; i < size; i++) {
+        fnv = (fnv ^ bytes[i]) * UINT32_C(16777619);
+        times33 = times33 * 33u + bytes[i];
+    }
+    sums->fnv = fnv;
+    sums->times33 = times33;
+}
+
+struct kagutin_reply play(enum call call, uint64_t writer, uint64_t home)
+{
+    struct sums sums = { UINT32_C(2166136261), 5381u };
+    struct kagutin_reply reply = make_call(call, writer, home);
+
+    add(&sums, lent.log, lent.log_size);
+    add(&sums, lent.area, lent.area_size);
+    add(&sums, lent.state, sizeof lent.state);
+    add(&sums, lent.block, sizeof lent.block);
+    add(&sums, lent.batch, lent.batch_size);
+    observe(call, reply, (uint64_t)sums.fnv << 32 | sums.times33);
+    return reply;
+}
