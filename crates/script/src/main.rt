@@ -9,6 +9,7 @@ ghost use mathlib.Core.Path.{_≡_};
 ghost use lib.ListN.{replicate};
 ghost use Rattle.model.specs.Calls.{storeCall};
 ghost use Rattle.answers.specs.Lent.{lent, leaves};
+ghost use Rattle.script.specs.Call.{memory, Does};
 
 // Stores a block full of one byte.
 fn store(
@@ -30,7 +31,9 @@ fn store(
 const MALFORMED: u64 = 11;
 
 // Makes the call that a line asks for.
-fn call(log: &mut [u8], area: &mut [u8], state: &mut [u8], batch: &mut [u8], asked: Line) -> Reply {
+fn call(log: &mut [u8], area: &mut [u8], state: &mut [u8], batch: &mut [u8], asked: Line) -> Reply
+    ensures { λ r. ⌜ Does asked (memory (now (log .entry)) (now (area .entry)) (now (state .entry)) (now (batch .entry))) (r .code) (r .figure) (r .size) (memory (now (log .exit)) (now (area .exit)) (now (state .exit)) (now (batch .exit))) ⌝ }
+{
     match asked {
         Line::Begin(w) => {
             return sessions::begin(log, area, state, w);

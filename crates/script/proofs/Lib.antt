@@ -1,0 +1,2 @@
+-- Laws of what a line does.
+pub mod CallLaws
