@@ -67,7 +67,7 @@ test-library: bench/target/release/bench
 	$(MAKE) --no-print-directory dist-check
 	$(MAKE) --no-print-directory generator-check
 	$(MAKE) --no-print-directory port-check
-	$(MAKE) --no-print-directory board-check
+	$(MAKE) --no-print-directory board-check RECORD_LIB=$(ARCHIVE)
 	bench/target/release/bench --seed $(SEED) --no-counts --out target/bench-test > /dev/null && echo "bench: the same answers on both sides"
 	$(MAKE) --no-print-directory c-check
 	$(MAKE) --no-print-directory c-check LIB=$(ARCHIVE) C_OUT=target/c-archive

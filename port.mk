@@ -9,7 +9,7 @@
 
 # Crates whose extern "C" functions are the library, the header that declares them, and the structs of their results.
 EXPORTS = kagutin
-DIST = dist/kagutin.c
+DIST_C = dist/kagutin.c
 DIST_HEADERS = kagutin.h
 DIST_RESULTS = answers::Reply=kagutin_reply
 
@@ -22,13 +22,13 @@ GENERATE = python3 port/generate.py $(GENERATE_WORDS)
 dist:
 	@mkdir -p $(PORT_OUT)
 	@rt check $(EXPORTS) > $(PORT_OUT)/proved.log 2>&1 || { cat $(PORT_OUT)/proved.log; exit 1; }
-	@$(GENERATE) --out $(DIST)
+	@$(GENERATE) --out $(DIST_C)
 
 dist-check:
 	@rm -f $(PORT_OUT)/again.c
 	@$(GENERATE) --out $(PORT_OUT)/again.c
-	@cmp $(PORT_OUT)/again.c $(DIST) || { echo "$(DIST) is not what the proved program gives; make dist makes it again" >&2; exit 1; }
-	@echo "dist: $(DIST) is what the proved program gives"
+	@cmp $(PORT_OUT)/again.c $(DIST_C) || { echo "$(DIST_C) is not what the proved program gives; make dist makes it again" >&2; exit 1; }
+	@echo "dist: $(DIST_C) is what the proved program gives"
 
 # Tests of the generator itself.
 generator-check:
@@ -36,13 +36,13 @@ generator-check:
 	python3 tests/generator.py $(GENERATE_WORDS)
 
 # The library of the C programs.
-$(C_OUT)/libkagutin.a: $(DIST) $(C_HEADERS)
+$(C_OUT)/libkagutin.a: $(DIST_C) $(C_HEADERS)
 	@mkdir -p $(@D)
 	$(CC) $(C_FLAGS) $(CFLAGS) -c $< -o $(C_OUT)/kagutin.o
 	rm -f $@
 	$(AR) rcs $@ $(C_OUT)/kagutin.o
 
-$(C_OUT)/sanitize/libkagutin.a: $(DIST) $(C_HEADERS)
+$(C_OUT)/sanitize/libkagutin.a: $(DIST_C) $(C_HEADERS)
 	@mkdir -p $(@D)
 	$(CC) $(C_FLAGS) $(C_SANITIZE) -c $< -o $(C_OUT)/sanitize/kagutin.o
 	rm -f $@
@@ -54,7 +54,7 @@ PORT_LEVELS = O0 O2 O3
 PORT_COMPILERS = gcc $(shell command -v clang > /dev/null && echo clang)
 PORT_BUILDS = $(foreach c,$(PORT_COMPILERS),$(PORT_LEVELS:%=$(PORT_OUT)/$(c)-%.so)) $(PORT_OUT)/gcc-plain.so $(PORT_OUT)/no-passes.so
 
-$(PORT_OUT)/no-passes.c: $(DIST) $(wildcard port/*.py)
+$(PORT_OUT)/no-passes.c: $(DIST_C) $(wildcard port/*.py)
 	@mkdir -p $(@D)
 	$(GENERATE) --no-passes --out $@
 	@touch $@
@@ -62,23 +62,23 @@ $(PORT_OUT)/no-passes.c: $(DIST) $(wildcard port/*.py)
 $(PORT_OUT)/no-passes.so: $(PORT_OUT)/no-passes.c include/kagutin.h
 	gcc $(PORT_SHARED) -O1 $< -o $@
 
-$(PORT_OUT)/gcc-%.so: $(DIST) include/kagutin.h
+$(PORT_OUT)/gcc-%.so: $(DIST_C) include/kagutin.h
 	@mkdir -p $(@D)
 	gcc $(PORT_SHARED) -$* $< -o $@
 
-$(PORT_OUT)/clang-%.so: $(DIST) include/kagutin.h
+$(PORT_OUT)/clang-%.so: $(DIST_C) include/kagutin.h
 	@mkdir -p $(@D)
 	clang $(PORT_SHARED) -$* $< -o $@
 
-$(PORT_OUT)/gcc-plain.so: $(DIST) include/kagutin.h
+$(PORT_OUT)/gcc-plain.so: $(DIST_C) include/kagutin.h
 	@mkdir -p $(@D)
 	gcc $(PORT_SHARED) -O2 -DKAGUTIN_PLAIN_C $< -o $@
 
-$(PORT_OUT)/gcc-sanitize.so: $(DIST) include/kagutin.h
+$(PORT_OUT)/gcc-sanitize.so: $(DIST_C) include/kagutin.h
 	@mkdir -p $(@D)
 	gcc $(PORT_SHARED) $(C_SANITIZE) $< -o $@
 
-$(PORT_OUT)/clang-sanitize.so: $(DIST) include/kagutin.h
+$(PORT_OUT)/clang-sanitize.so: $(DIST_C) include/kagutin.h
 	@mkdir -p $(@D)
 	clang $(PORT_SHARED) $(C_SANITIZE) -shared-libasan $< -o $@
 
@@ -100,12 +100,12 @@ port-compare: $(COMPARE) $(PORT_BUILDS) $(PORT_COMPILERS:%=$(PORT_OUT)/%-sanitiz
 	if command -v clang > /dev/null; then $(CLANG_TIGHT) --seed $(SEED) --calls 200000 --damaged 40000 --histories 500 | tail -n 2; fi
 
 # Other machines: the trials and CALLS_PLAYED calls with cuts are played on the host and recorded, then played there and held to the
-# record. RECORD_LIB is the host's library: the archive where it has been made.
+# record. RECORD_LIB is the host's library; make test takes the archive.
 CALLS_PLAYED ?= 5000
 REPLAY_OUT = target/replay
 REPLAYED = lend lasting history trials
 REPLAY_FLAGS = -std=c99 -Wall -Wextra -Wshadow -Wconversion -Iinclude -Iport/replay
-RECORD_LIB = $(firstword $(wildcard target/staticlib/libkagutin.a) $(C_OUT)/libkagutin.a)
+RECORD_LIB ?= $(C_OUT)/libkagutin.a
 
 $(REPLAY_OUT)/recorded.h: $(REPLAYED:%=port/replay/%.c) port/replay/record.c port/replay/replay.h $(RECORD_LIB)
 	@mkdir -p $(@D)
@@ -113,7 +113,7 @@ $(REPLAY_OUT)/recorded.h: $(REPLAYED:%=port/replay/%.c) port/replay/record.c por
 	$(REPLAY_OUT)/record $(CALLS_PLAYED) > $@.new
 	@mv $@.new $@
 
-REPLAY_SOURCES = $(DIST) $(REPLAYED:%=port/replay/%.c) port/replay/check.c
+REPLAY_SOURCES = $(DIST_C) $(REPLAYED:%=port/replay/%.c) port/replay/check.c
 REPLAY_FILES = $(REPLAY_SOURCES) $(wildcard port/replay/*) $(C_HEADERS) $(REPLAY_OUT)/recorded.h
 REPLAY_CHECK = $(REPLAY_FLAGS) -I$(REPLAY_OUT) -DCALLS_PLAYED=$(CALLS_PLAYED) $(REPLAY_SOURCES)
 
@@ -168,9 +168,9 @@ m0plus_TICK = 40
 m4_TICK = 40
 m33_TICK = 50
 
-$(REPLAY_OUT)/%.cost: $(DIST) $(wildcard port/replay/*) $(C_HEADERS)
+$(REPLAY_OUT)/%.cost: $(DIST_C) $(wildcard port/replay/*) $(C_HEADERS)
 	@mkdir -p $(@D)
-	arm-none-eabi-gcc -mthumb $($(core)_FLAGS) $(level) -std=c99 -Iinclude -fcallgraph-info=su -c $(DIST) -o $(REPLAY_OUT)/$*.o
+	arm-none-eabi-gcc -mthumb $($(core)_FLAGS) $(level) -std=c99 -Iinclude -fcallgraph-info=su -c $(DIST_C) -o $(REPLAY_OUT)/$*.o
 	arm-none-eabi-gcc -mthumb $($(core)_FLAGS) $(level) $(REPLAY_FLAGS) -DNS_EACH_TICK=$($(core)_TICK) $(REPLAY_OUT)/$*.o \
 	    port/replay/lend.c port/replay/measure.c port/replay/say_board.c $(BOARD_LINK) $($(core)_MEMORY) -o $(REPLAY_OUT)/$*.measure
 	$(BOARD_RUN) -icount shift=0 $($(core)_QEMU) -kernel $(REPLAY_OUT)/$*.measure > $@.new
@@ -182,7 +182,7 @@ $(PORT_OUT)/archive/libkagutin.a: target/staticlib/libkagutin.a
 	@mkdir -p $(@D)
 	cp $< $@
 
-$(PORT_OUT)/gcc/libkagutin.a $(PORT_OUT)/clang/libkagutin.a: $(PORT_OUT)/%/libkagutin.a: $(DIST) include/kagutin.h
+$(PORT_OUT)/gcc/libkagutin.a $(PORT_OUT)/clang/libkagutin.a: $(PORT_OUT)/%/libkagutin.a: $(DIST_C) include/kagutin.h
 	@mkdir -p $(@D)
 	$* -std=c99 -O2 -Iinclude -c $< -o $(@D)/kagutin.o
 	rm -f $@
