@@ -407,8 +407,8 @@ static inline bool strip__order__writers_in_order(struct slice_u8 s, struct mode
     t3 = 0u;
     while (t3 < 8u) {
         t8 = 128u + (96u * t3);
-        t5 = strip__order__writer_in_order(st, (struct model__Writer){.mode = load_8(s.ptr + (size_t)t8), .home = load_8(s.ptr +
-                (size_t)(t8 + 8u)), .first = load_8(s.ptr + (size_t)(t8 + 16u)), .count = load_8(s.ptr + (size_t)(t8 + 24u))});
+        t5 = strip__order__writer_in_order(st, (struct model__Writer){.mode = load_8(s.ptr + (size_t)t8), .home = load_8(s.ptr
+                + (size_t)(t8 + 8u)), .first = load_8(s.ptr + (size_t)(t8 + 16u)), .count = load_8(s.ptr + (size_t)(t8 + 24u))});
         if (!t5) {
             return false;
         }
@@ -423,9 +423,9 @@ static inline bool strip__order__in_order(struct slice_u8 s, uint64_t groups, ui
     struct model__State t4;
     bool t5;
 
-    t4 = (struct model__State){.groups = load_8(s.ptr), .homes = load_8(s.ptr + 8u), .start = load_8(s.ptr + 16u), .next =
-            load_8(s.ptr + 24u), .filled = load_8(s.ptr + 32u), .settled = load_8(s.ptr + 40u), .fenced = load_8(s.ptr + 48u),
-            .durable = load_8(s.ptr + 56u), .last = load_8(s.ptr + 64u)};
+    t4 = (struct model__State){.groups = load_8(s.ptr), .homes = load_8(s.ptr + 8u), .start = load_8(s.ptr + 16u),
+            .next = load_8(s.ptr + 24u), .filled = load_8(s.ptr + 32u), .settled = load_8(s.ptr + 40u), .fenced = load_8(s.ptr
+            + 48u), .durable = load_8(s.ptr + 56u), .last = load_8(s.ptr + 64u)};
     if (t4.groups != groups) {
         return false;
     }
@@ -483,8 +483,8 @@ static inline uint64_t sessions__abort_answer(struct slice_u8 log, struct slice_
         return t5;
     }
     t11 = 128u + (96u * writer);
-    t7 = (struct model__Writer){.mode = load_8(state.ptr + (size_t)t11), .home = load_8(state.ptr + (size_t)(t11 + 8u)), .first =
-            load_8(state.ptr + (size_t)(t11 + 16u)), .count = load_8(state.ptr + (size_t)(t11 + 24u))};
+    t7 = (struct model__Writer){.mode = load_8(state.ptr + (size_t)t11), .home = load_8(state.ptr + (size_t)(t11 + 8u)),
+            .first = load_8(state.ptr + (size_t)(t11 + 16u)), .count = load_8(state.ptr + (size_t)(t11 + 24u))};
     if (!(1u <= t7.mode)) {
         return 7u;
     }
@@ -526,8 +526,8 @@ static inline void writers__abort(struct slice_mut_u8 s, uint64_t w)
 }
 
 /* Drops a writer's open transaction with the block that it holds. */
-static inline struct answers__Reply sessions__abort(struct slice_u8 log, struct slice_u8 area, struct slice_mut_u8 state, uint64_t
-        writer)
+static inline struct answers__Reply sessions__abort(struct slice_u8 log, struct slice_u8 area, struct slice_mut_u8 state,
+        uint64_t writer)
 {
     uint64_t t5;
 
@@ -557,8 +557,8 @@ static inline uint64_t sessions__begin_answer(struct slice_u8 log, struct slice_
         return t5;
     }
     t11 = 128u + (96u * writer);
-    t8 = (struct model__Writer){.mode = load_8(state.ptr + (size_t)t11), .home = load_8(state.ptr + (size_t)(t11 + 8u)), .first =
-            load_8(state.ptr + (size_t)(t11 + 16u)), .count = load_8(state.ptr + (size_t)(t11 + 24u))};
+    t8 = (struct model__Writer){.mode = load_8(state.ptr + (size_t)t11), .home = load_8(state.ptr + (size_t)(t11 + 8u)),
+            .first = load_8(state.ptr + (size_t)(t11 + 16u)), .count = load_8(state.ptr + (size_t)(t11 + 24u))};
     if (1u <= t8.mode) {
         return 6u;
     }
@@ -582,14 +582,14 @@ static inline void writers__begin(struct slice_mut_u8 s, uint64_t w)
     uint64_t t11;
 
     t11 = 128u + (96u * w);
-    t9 = writers__places__begun((struct model__Writer){.mode = load_8(s.ptr + (size_t)t11), .home = load_8(s.ptr + (size_t)(t11 +
-            8u)), .first = load_8(s.ptr + (size_t)(t11 + 16u)), .count = load_8(s.ptr + (size_t)(t11 + 24u))});
+    t9 = writers__places__begun((struct model__Writer){.mode = load_8(s.ptr + (size_t)t11), .home = load_8(s.ptr + (size_t)(t11
+            + 8u)), .first = load_8(s.ptr + (size_t)(t11 + 16u)), .count = load_8(s.ptr + (size_t)(t11 + 24u))});
     strip__writers__set_writer(s, w, t9);
 }
 
 /* Begins a transaction of a writer that has none open. */
-static inline struct answers__Reply sessions__begin(struct slice_u8 log, struct slice_u8 area, struct slice_mut_u8 state, uint64_t
-        writer)
+static inline struct answers__Reply sessions__begin(struct slice_u8 log, struct slice_u8 area, struct slice_mut_u8 state,
+        uint64_t writer)
 {
     uint64_t t5;
 
@@ -624,8 +624,8 @@ static inline uint64_t logging__entry__may_log(struct model__State st, uint64_t 
 }
 
 /* The answer of a commit: 0, or the number of the question that refuses it. */
-static inline uint64_t logging__commits__commit_verdict(struct slice_u8 log, struct slice_u8 area, struct slice_u8 state, struct
-        slice_u8 batch, uint64_t writer)
+static inline uint64_t logging__commits__commit_verdict(struct slice_u8 log, struct slice_u8 area, struct slice_u8 state,
+        struct slice_u8 batch, uint64_t writer)
 {
     uint64_t t6, t13;
     struct model__Writer t7;
@@ -638,18 +638,18 @@ static inline uint64_t logging__commits__commit_verdict(struct slice_u8 log, str
         return 4u;
     }
     t13 = 128u + (96u * writer);
-    t7 = (struct model__Writer){.mode = load_8(state.ptr + (size_t)t13), .home = load_8(state.ptr + (size_t)(t13 + 8u)), .first =
-            load_8(state.ptr + (size_t)(t13 + 16u)), .count = load_8(state.ptr + (size_t)(t13 + 24u))};
+    t7 = (struct model__Writer){.mode = load_8(state.ptr + (size_t)t13), .home = load_8(state.ptr + (size_t)(t13 + 8u)),
+            .first = load_8(state.ptr + (size_t)(t13 + 16u)), .count = load_8(state.ptr + (size_t)(t13 + 24u))};
     if (!(1u <= t7.mode)) {
         return 7u;
     }
     if (!(2u <= t7.mode)) {
         return 0u;
     }
-    return logging__entry__may_log((struct model__State){.groups = load_8(state.ptr), .homes = load_8(state.ptr + 8u), .start =
-            load_8(state.ptr + 16u), .next = load_8(state.ptr + 24u), .filled = load_8(state.ptr + 32u), .settled =
-            load_8(state.ptr + 40u), .fenced = load_8(state.ptr + 48u), .durable = load_8(state.ptr + 56u), .last =
-            load_8(state.ptr + 64u)}, (uint64_t)batch.len);
+    return logging__entry__may_log((struct model__State){.groups = load_8(state.ptr), .homes = load_8(state.ptr + 8u),
+            .start = load_8(state.ptr + 16u), .next = load_8(state.ptr + 24u), .filled = load_8(state.ptr + 32u),
+            .settled = load_8(state.ptr + 40u), .fenced = load_8(state.ptr + 48u), .durable = load_8(state.ptr + 56u),
+            .last = load_8(state.ptr + 64u)}, (uint64_t)batch.len);
 }
 
 /* Ends the transaction of a writer that holds nothing. */
@@ -773,8 +773,8 @@ static inline void areas__blocks__copy_block(struct slice_mut_u8 dst, uint64_t a
 }
 
 /* Writes an entry's tag and its block at index `k` of the group in a ring slot. */
-static inline void areas__groups__put_entry(struct slice_mut_u8 log, uint64_t slot, uint64_t k, uint64_t word, struct slice_u8
-        block)
+static inline void areas__groups__put_entry(struct slice_mut_u8 log, uint64_t slot, uint64_t k, uint64_t word,
+        struct slice_u8 block)
 {
     uint64_t t6;
 
@@ -784,8 +784,8 @@ static inline void areas__groups__put_entry(struct slice_mut_u8 log, uint64_t sl
 }
 
 /* Writes an entry's tag and block at the next position, and a blank group first where the position is a group's first. */
-static inline void areas__groups__enter(struct slice_mut_u8 log, uint64_t slot, struct model__State st, uint64_t word, struct
-        slice_u8 block)
+static inline void areas__groups__enter(struct slice_mut_u8 log, uint64_t slot, struct model__State st, uint64_t word,
+        struct slice_u8 block)
 {
     uint64_t t6;
 
@@ -840,8 +840,8 @@ static inline uint64_t logging__entry__log_entry(struct slice_mut_u8 log, struct
 }
 
 /* Logs the held block as the closing entry and ends the transaction. */
-static inline uint64_t logging__commits__commit_held(struct slice_mut_u8 log, struct slice_mut_u8 state, struct slice_mut_u8
-        batch, struct model__State st, struct model__Writer r, uint64_t w)
+static inline uint64_t logging__commits__commit_held(struct slice_mut_u8 log, struct slice_mut_u8 state,
+        struct slice_mut_u8 batch, struct model__State st, struct model__Writer r, uint64_t w)
 {
     uint64_t t7, t8, t9;
 
@@ -854,8 +854,8 @@ static inline uint64_t logging__commits__commit_held(struct slice_mut_u8 log, st
 }
 
 /* Commits a writer's open transaction: its held block is logged as the closing entry, whose position + 1 is the ticket. */
-static inline struct answers__Reply logging__commits__commit(struct slice_mut_u8 log, struct slice_u8 area, struct slice_mut_u8
-        state, struct slice_mut_u8 batch, uint64_t writer)
+static inline struct answers__Reply logging__commits__commit(struct slice_mut_u8 log, struct slice_u8 area,
+        struct slice_mut_u8 state, struct slice_mut_u8 batch, uint64_t writer)
 {
     uint64_t t6, t7, t11, t36;
     struct model__Writer t8;
@@ -868,22 +868,22 @@ static inline struct answers__Reply logging__commits__commit(struct slice_mut_u8
     }
     t7 = writer;
     t36 = 128u + (96u * t7);
-    t8 = (struct model__Writer){.mode = load_8(state.ptr + (size_t)t36), .home = load_8(state.ptr + (size_t)(t36 + 8u)), .first =
-            load_8(state.ptr + (size_t)(t36 + 16u)), .count = load_8(state.ptr + (size_t)(t36 + 24u))};
+    t8 = (struct model__Writer){.mode = load_8(state.ptr + (size_t)t36), .home = load_8(state.ptr + (size_t)(t36 + 8u)),
+            .first = load_8(state.ptr + (size_t)(t36 + 16u)), .count = load_8(state.ptr + (size_t)(t36 + 24u))};
     if (!(2u <= t8.mode)) {
         logging__commits__commit_none(state, t7);
         return (struct answers__Reply){.code = 0u, .figure = 0u, .size = 0u};
     }
     t9 = (struct model__State){.groups = load_8(state.ptr), .homes = load_8(state.ptr + 8u), .start = load_8(state.ptr + 16u),
-            .next = load_8(state.ptr + 24u), .filled = load_8(state.ptr + 32u), .settled = load_8(state.ptr + 40u), .fenced =
-            load_8(state.ptr + 48u), .durable = load_8(state.ptr + 56u), .last = load_8(state.ptr + 64u)};
+            .next = load_8(state.ptr + 24u), .filled = load_8(state.ptr + 32u), .settled = load_8(state.ptr + 40u),
+            .fenced = load_8(state.ptr + 48u), .durable = load_8(state.ptr + 56u), .last = load_8(state.ptr + 64u)};
     t11 = logging__commits__commit_held(log, state, batch, t9, t8, t7);
     return (struct answers__Reply){.code = 0u, .figure = ((7u * t9.next) + t9.filled) + 1u, .size = t11};
 }
 
 /* Ends a writer's transaction: logs the held block as its closing entry, and returns the ticket. */
-static inline struct answers__Reply kagutin__kagutin_commit(struct slice_mut_u8 log, struct slice_u8 area, struct slice_mut_u8
-        state, struct slice_mut_u8 batch, uint64_t writer)
+static inline struct answers__Reply kagutin__kagutin_commit(struct slice_mut_u8 log, struct slice_u8 area,
+        struct slice_mut_u8 state, struct slice_mut_u8 batch, uint64_t writer)
 {
     return logging__commits__commit(log, area, state, batch, writer);
 }
@@ -899,8 +899,8 @@ static inline struct answers__Reply sessions__confirm(struct slice_u8 log, struc
         return (struct answers__Reply){.code = t4, .figure = 0u, .size = 0u};
     }
     t9 = (struct model__State){.groups = load_8(state.ptr), .homes = load_8(state.ptr + 8u), .start = load_8(state.ptr + 16u),
-            .next = load_8(state.ptr + 24u), .filled = load_8(state.ptr + 32u), .settled = load_8(state.ptr + 40u), .fenced =
-            load_8(state.ptr + 48u), .durable = load_8(state.ptr + 56u), .last = load_8(state.ptr + 64u)};
+            .next = load_8(state.ptr + 24u), .filled = load_8(state.ptr + 32u), .settled = load_8(state.ptr + 40u),
+            .fenced = load_8(state.ptr + 48u), .durable = load_8(state.ptr + 56u), .last = load_8(state.ptr + 64u)};
     t5 = t9.fenced;
     store_8(state.ptr + 56u, t5);
     return (struct answers__Reply){.code = 0u, .figure = t5, .size = 0u};
@@ -922,8 +922,8 @@ static inline uint64_t logging__flushes__flush_size(struct model__State st)
 }
 
 /* The answer of a flush: 0, or the number of the question that refuses it. */
-static inline uint64_t logging__flushes__flush_verdict(struct slice_u8 log, struct slice_u8 area, struct slice_u8 state, struct
-        slice_u8 batch)
+static inline uint64_t logging__flushes__flush_verdict(struct slice_u8 log, struct slice_u8 area, struct slice_u8 state,
+        struct slice_u8 batch)
 {
     uint64_t t5, t8;
 
@@ -931,10 +931,10 @@ static inline uint64_t logging__flushes__flush_verdict(struct slice_u8 log, stru
     if (t5 != 0u) {
         return t5;
     }
-    t8 = logging__flushes__flush_size((struct model__State){.groups = load_8(state.ptr), .homes = load_8(state.ptr + 8u), .start =
-            load_8(state.ptr + 16u), .next = load_8(state.ptr + 24u), .filled = load_8(state.ptr + 32u), .settled =
-            load_8(state.ptr + 40u), .fenced = load_8(state.ptr + 48u), .durable = load_8(state.ptr + 56u), .last =
-            load_8(state.ptr + 64u)});
+    t8 = logging__flushes__flush_size((struct model__State){.groups = load_8(state.ptr), .homes = load_8(state.ptr + 8u),
+            .start = load_8(state.ptr + 16u), .next = load_8(state.ptr + 24u), .filled = load_8(state.ptr + 32u),
+            .settled = load_8(state.ptr + 40u), .fenced = load_8(state.ptr + 48u), .durable = load_8(state.ptr + 56u),
+            .last = load_8(state.ptr + 64u)});
     if ((uint64_t)batch.len < t8) {
         return 9u;
     }
@@ -968,8 +968,8 @@ static inline void logging__flushes__flush_none(struct slice_mut_u8 state, struc
 }
 
 /* Hands on the part-filled group and writes a fence. */
-static inline void logging__flushes__flush_part(struct slice_u8 log, struct slice_mut_u8 state, struct slice_mut_u8 batch, struct
-        model__State st)
+static inline void logging__flushes__flush_part(struct slice_u8 log, struct slice_mut_u8 state, struct slice_mut_u8 batch,
+        struct model__State st)
 {
     uint64_t t6, t7;
 
@@ -994,8 +994,8 @@ static inline struct answers__Reply logging__flushes__flush(struct slice_u8 log,
         return (struct answers__Reply){.code = t5, .figure = 0u, .size = 0u};
     }
     t6 = (struct model__State){.groups = load_8(state.ptr), .homes = load_8(state.ptr + 8u), .start = load_8(state.ptr + 16u),
-            .next = load_8(state.ptr + 24u), .filled = load_8(state.ptr + 32u), .settled = load_8(state.ptr + 40u), .fenced =
-            load_8(state.ptr + 48u), .durable = load_8(state.ptr + 56u), .last = load_8(state.ptr + 64u)};
+            .next = load_8(state.ptr + 24u), .filled = load_8(state.ptr + 32u), .settled = load_8(state.ptr + 40u),
+            .fenced = load_8(state.ptr + 48u), .durable = load_8(state.ptr + 56u), .last = load_8(state.ptr + 64u)};
     if (t6.filled == 0u) {
         logging__flushes__flush_none(state, batch, t6);
         return (struct answers__Reply){.code = 0u, .figure = 0u, .size = 2u};
@@ -1045,8 +1045,8 @@ static inline void codec__marks__put_header_mark(struct slice_mut_u8 dst, uint64
 }
 
 /* Writes a header of 64 bytes from index `at` on, and leaves the other bytes as they were. */
-static inline void areas__header__put_header(struct slice_mut_u8 dst, uint64_t at, uint64_t start, uint64_t groups, uint64_t
-        homes)
+static inline void areas__header__put_header(struct slice_mut_u8 dst, uint64_t at, uint64_t start, uint64_t groups,
+        uint64_t homes)
 {
     uint64_t t19;
 
@@ -1174,13 +1174,13 @@ static inline uint64_t batch__format__format_batch(struct slice_mut_u8 batch, ui
 }
 
 /* Formats both copies, and writes the batch that formats the areas. */
-static inline struct answers__Reply recovery__formatting__format(struct slice_mut_u8 log, struct slice_mut_u8 area, struct
-        slice_mut_u8 batch)
+static inline struct answers__Reply recovery__formatting__format(struct slice_mut_u8 log, struct slice_mut_u8 area,
+        struct slice_mut_u8 batch)
 {
     uint64_t t4, t5, t6, t7;
 
-    t4 = recovery__formatting__may_format((struct slice_u8){log.ptr, log.len}, (struct slice_u8){area.ptr, area.len}, (struct
-            slice_u8){batch.ptr, batch.len});
+    t4 = recovery__formatting__may_format((struct slice_u8){log.ptr, log.len}, (struct slice_u8){area.ptr, area.len},
+            (struct slice_u8){batch.ptr, batch.len});
     if (t4 != 0u) {
         return (struct answers__Reply){.code = t4, .figure = 0u, .size = 0u};
     }
@@ -1193,8 +1193,8 @@ static inline struct answers__Reply recovery__formatting__format(struct slice_mu
 }
 
 /* Writes an empty store: every group unused, every home zeros, then the header. */
-static inline struct answers__Reply kagutin__kagutin_format(struct slice_mut_u8 log, struct slice_mut_u8 area, struct slice_mut_u8
-        batch)
+static inline struct answers__Reply kagutin__kagutin_format(struct slice_mut_u8 log, struct slice_mut_u8 area,
+        struct slice_mut_u8 batch)
 {
     return recovery__formatting__format(log, area, batch);
 }
@@ -1205,8 +1205,8 @@ static inline struct recovery__opening__Shape recovery__opening__measure(struct 
     uint64_t t3;
 
     t3 = areas__lengths__log_groups((uint64_t)log.len);
-    return (struct recovery__opening__Shape){.groups = t3, .homes = (uint64_t)area.len / 64u, .start = load_4(log.ptr + 2u) |
-            (load_2(log.ptr + (size_t)((uint64_t)2u + 4u)) << 32u)};
+    return (struct recovery__opening__Shape){.groups = t3, .homes = (uint64_t)area.len / 64u, .start = load_4(log.ptr + 2u)
+            | (load_2(log.ptr + (size_t)((uint64_t)2u + 4u)) << 32u)};
 }
 
 /* Whether the two bytes of `mark` stand at index `at`. */
@@ -1399,8 +1399,8 @@ static inline bool scan__commits__is_linked(uint64_t end, uint64_t base, uint64_
 }
 
 /* Takes a closing entry, complete or not, at a position: it is committed, or the first that fails. */
-static inline struct scan__commits__Progress scan__commits__judge(struct scan__commits__Progress progress, uint64_t base, uint64_t
-        position, uint64_t link, bool complete)
+static inline struct scan__commits__Progress scan__commits__judge(struct scan__commits__Progress progress, uint64_t base,
+        uint64_t position, uint64_t link, bool complete)
 {
     uint64_t t6, t7;
     struct scan__commits__Progress t8;
@@ -1489,8 +1489,8 @@ static inline uint64_t scan__commits__next_slot(uint64_t slot, uint64_t groups)
 
 /* Walks the `n` positions of the log from its start on, group by group, and finds where the committed transactions end and how
    many they are. */
-static inline struct scan__commits__Found scan__commits__walk(struct slice_u8 log, uint64_t groups, uint64_t homes, uint64_t
-        start, uint64_t n)
+static inline struct scan__commits__Found scan__commits__walk(struct slice_u8 log, uint64_t groups, uint64_t homes,
+        uint64_t start, uint64_t n)
 {
     struct array_u16_7168 t6;
     struct scan__commits__Progress t7;
@@ -1530,8 +1530,8 @@ static inline uint64_t replay__gathering__previous_slot(uint64_t slot, uint64_t 
 }
 
 /* What tag `k` of a group says at a position of a log that starts at position `base` and has `homes` homes. */
-static inline struct model__Tag scan__groups__tag_in(struct slice_u8 group, uint64_t k, uint64_t position, uint64_t base, uint64_t
-        homes)
+static inline struct model__Tag scan__groups__tag_in(struct slice_u8 group, uint64_t k, uint64_t position, uint64_t base,
+        uint64_t homes)
 {
     return codec__tags__read_tag(load_8(group.ptr + (size_t)(8u + (8u * k))), position, base, homes);
 }
@@ -1559,8 +1559,9 @@ static inline void replay__gathering__close(struct slice_mut_u16 last, uint64_t 
 }
 
 /* Takes what tag `k` of a group says at a position. */
-static inline void replay__gathering__note_tag(struct slice_u8 group, uint64_t k, uint64_t position, uint64_t base, uint64_t
-        homes, struct slice_mut_u16 last, struct slice_mut_u16 closers, struct slice_mut_u16 table, struct slice_mut_u64 map)
+static inline void replay__gathering__note_tag(struct slice_u8 group, uint64_t k, uint64_t position, uint64_t base,
+        uint64_t homes, struct slice_mut_u16 last, struct slice_mut_u16 closers, struct slice_mut_u16 table,
+        struct slice_mut_u64 map)
 {
     uint16_t t10;
     uint64_t t16;
@@ -1580,9 +1581,9 @@ static inline void replay__gathering__note_tag(struct slice_u8 group, uint64_t k
 
 /* Takes the first `m` tags of a group from the last of them down, which says nothing where it is not the valid group with number
    `n`. */
-static inline void replay__gathering__note_group(struct slice_u8 group, uint64_t groups, uint64_t homes, uint64_t start, uint64_t
-        n, uint64_t m, struct slice_mut_u16 last, struct slice_mut_u16 closers, struct slice_mut_u16 table, struct slice_mut_u64
-        map)
+static inline void replay__gathering__note_group(struct slice_u8 group, uint64_t groups, uint64_t homes, uint64_t start,
+        uint64_t n, uint64_t m, struct slice_mut_u16 last, struct slice_mut_u16 closers, struct slice_mut_u16 table,
+        struct slice_mut_u64 map)
 {
     uint64_t t11, t12, t13;
     bool t14;
@@ -1602,8 +1603,8 @@ static inline void replay__gathering__note_group(struct slice_u8 group, uint64_t
 
 /* Finds the newest entry of every home among the transactions of all closing entries below `end`, and marks the homes that have
    one. */
-static inline void replay__gathering__gather(struct slice_u8 log, struct slice_mut_u16 table, struct slice_mut_u64 map, uint64_t
-        groups, uint64_t homes, uint64_t start, uint64_t end)
+static inline void replay__gathering__gather(struct slice_u8 log, struct slice_mut_u16 table, struct slice_mut_u64 map,
+        uint64_t groups, uint64_t homes, uint64_t start, uint64_t end)
 {
     uint64_t t8, t11, t12, t13, t15;
     struct array_u16_7168 t9;
@@ -1643,24 +1644,24 @@ static inline uint64_t bitmap__count(struct slice_u64 ws)
 
 /* Notes the newest entry of each home that the transactions of all closing entries below `end` touch in an empty table, marks
    those homes in an empty map, and returns how many they are. */
-static inline uint64_t recovery__planning__touched_homes(struct slice_u8 log, struct slice_mut_u16 table, struct slice_mut_u64
-        map, uint64_t groups, uint64_t homes, uint64_t start, uint64_t end)
+static inline uint64_t recovery__planning__touched_homes(struct slice_u8 log, struct slice_mut_u16 table,
+        struct slice_mut_u64 map, uint64_t groups, uint64_t homes, uint64_t start, uint64_t end)
 {
     replay__gathering__gather(log, table, map, groups, homes, start, end);
     return bitmap__count((struct slice_u64){map.ptr, map.len});
 }
 
 /* Copies the block at a position to a home. */
-static inline void replay__restore__restore_block(struct slice_u8 log, struct slice_mut_u8 area, uint64_t groups, uint64_t
-        position, uint64_t home)
+static inline void replay__restore__restore_block(struct slice_u8 log, struct slice_mut_u8 area, uint64_t groups,
+        uint64_t position, uint64_t home)
 {
-    areas__blocks__copy_block(area, 64u * home, log, (64u + (512u * ((position / 7u) % groups))) + (64u + (64u * (position %
-            7u))));
+    areas__blocks__copy_block(area, 64u * home, log, (64u + (512u * ((position / 7u) % groups))) + (64u
+            + (64u * (position % 7u))));
 }
 
 /* Copies to each home that one word marks, whose first home is `base`, the block of its newest entry. */
-static inline void replay__restore__restore_word(struct slice_u8 log, struct slice_mut_u8 area, struct slice_u16 table, uint64_t
-        groups, uint64_t start, uint64_t word, uint64_t base)
+static inline void replay__restore__restore_word(struct slice_u8 log, struct slice_mut_u8 area, struct slice_u16 table,
+        uint64_t groups, uint64_t start, uint64_t word, uint64_t base)
 {
     uint64_t t8, t9, t10;
 
@@ -1674,8 +1675,8 @@ static inline void replay__restore__restore_word(struct slice_u8 log, struct sli
 }
 
 /* Replays the transactions of all closing entries below `end` into the data copy, by the newest entries that were gathered. */
-static inline void replay__restore__restore_all(struct slice_u8 log, struct slice_mut_u8 area, struct slice_u16 table, struct
-        slice_u64 map, uint64_t groups, uint64_t homes, uint64_t start, uint64_t end)
+static inline void replay__restore__restore_all(struct slice_u8 log, struct slice_mut_u8 area, struct slice_u16 table,
+        struct slice_u64 map, uint64_t groups, uint64_t homes, uint64_t start, uint64_t end)
 {
     uint64_t t9;
     (void)homes;
@@ -1698,8 +1699,8 @@ static inline uint64_t batch__records__home_write(struct slice_mut_u8 batch, uin
 }
 
 /* Writes the records of the homes that one word marks, whose first home is `base`, rising, and returns the index past them. */
-static inline uint64_t homes__emit_word(struct slice_mut_u8 batch, uint64_t at, uint64_t word, uint64_t base, struct slice_u8
-        area)
+static inline uint64_t homes__emit_word(struct slice_mut_u8 batch, uint64_t at, uint64_t word, uint64_t base,
+        struct slice_u8 area)
 {
     uint64_t t6, t7;
 
@@ -1737,8 +1738,8 @@ static inline uint64_t recovery__planning__bring_back(struct slice_u8 log, struc
 
 /* Replays what closes below `end` into the data copy, and writes the records of the marked homes and of the new header, fenced.
    */
-static inline void recovery__opening__open_homes(struct slice_u8 log, struct slice_mut_u8 area, struct slice_mut_u8 batch, struct
-        slice_u16 table, struct slice_u64 map, uint64_t groups, uint64_t homes, uint64_t start, uint64_t end)
+static inline void recovery__opening__open_homes(struct slice_u8 log, struct slice_mut_u8 area, struct slice_mut_u8 batch,
+        struct slice_u16 table, struct slice_u64 map, uint64_t groups, uint64_t homes, uint64_t start, uint64_t end)
 {
     uint64_t t10;
 
@@ -1771,16 +1772,16 @@ static inline void strip__fields__fresh(struct slice_mut_u8 s, uint64_t groups, 
 }
 
 /* Puts the header with a new start into the log copy, and makes the strip that of an empty log. */
-static inline void recovery__opening__open_copies(struct slice_mut_u8 log, struct slice_mut_u8 state, uint64_t groups, uint64_t
-        homes, uint64_t start)
+static inline void recovery__opening__open_copies(struct slice_mut_u8 log, struct slice_mut_u8 state, uint64_t groups,
+        uint64_t homes, uint64_t start)
 {
     areas__header__put_header(log, 0u, start, groups, homes);
     strip__fields__fresh(state, groups, homes, start);
 }
 
 /* Brings the committed transactions back, and empties the log; returns how many they are. */
-static inline struct answers__Reply recovery__opening__reopen(struct slice_mut_u8 log, struct slice_mut_u8 area, struct
-        slice_mut_u8 state, struct slice_mut_u8 batch)
+static inline struct answers__Reply recovery__opening__reopen(struct slice_mut_u8 log, struct slice_mut_u8 area,
+        struct slice_mut_u8 state, struct slice_mut_u8 batch)
 {
     uint64_t t5, t7, t8, t9, t13, t14, t15;
     struct recovery__opening__Shape t6;
@@ -1788,8 +1789,8 @@ static inline struct answers__Reply recovery__opening__reopen(struct slice_mut_u
     struct array_u64_64 t11;
     struct scan__commits__Found t12;
 
-    t5 = recovery__opening__may_open((struct slice_u8){log.ptr, log.len}, (struct slice_u8){area.ptr, area.len}, (struct
-            slice_u8){state.ptr, state.len});
+    t5 = recovery__opening__may_open((struct slice_u8){log.ptr, log.len}, (struct slice_u8){area.ptr, area.len},
+            (struct slice_u8){state.ptr, state.len});
     if (t5 != 0u) {
         return (struct answers__Reply){.code = t5, .figure = 0u, .size = 0u};
     }
@@ -1801,28 +1802,28 @@ static inline struct answers__Reply recovery__opening__reopen(struct slice_mut_u
     memset(&t11, 0, sizeof t11);
     t12 = scan__commits__walk((struct slice_u8){log.ptr, log.len}, t7, t8, t9, 7u * t7);
     t13 = t12.end;
-    t14 = recovery__planning__touched_homes((struct slice_u8){log.ptr, log.len}, (struct slice_mut_u16){t10.at, 4096u}, (struct
-            slice_mut_u64){t11.at, 64u}, t7, t8, t9, t13);
+    t14 = recovery__planning__touched_homes((struct slice_u8){log.ptr, log.len}, (struct slice_mut_u16){t10.at, 4096u},
+            (struct slice_mut_u64){t11.at, 64u}, t7, t8, t9, t13);
     t15 = (68u * t14) + 70u;
     if ((uint64_t)batch.len < t15) {
         return (struct answers__Reply){.code = 9u, .figure = 0u, .size = 0u};
     }
-    recovery__opening__open_homes((struct slice_u8){log.ptr, log.len}, area, batch, (struct slice_u16){t10.at, 4096u}, (struct
-            slice_u64){t11.at, 64u}, t7, t8, t9, t13);
+    recovery__opening__open_homes((struct slice_u8){log.ptr, log.len}, area, batch, (struct slice_u16){t10.at, 4096u},
+            (struct slice_u64){t11.at, 64u}, t7, t8, t9, t13);
     recovery__opening__open_copies(log, state, t7, t8, t9 + t7);
     return (struct answers__Reply){.code = 0u, .figure = t12.number, .size = t15};
 }
 
 /* Brings back what a power cut left: replays the committed transactions into the data copy and starts the log anew. */
-static inline struct answers__Reply kagutin__kagutin_open(struct slice_mut_u8 log, struct slice_mut_u8 area, struct slice_mut_u8
-        state, struct slice_mut_u8 batch)
+static inline struct answers__Reply kagutin__kagutin_open(struct slice_mut_u8 log, struct slice_mut_u8 area,
+        struct slice_mut_u8 state, struct slice_mut_u8 batch)
 {
     return recovery__opening__reopen(log, area, state, batch);
 }
 
 /* The same for a call that is lent a block. */
-static inline uint64_t answers__in_use_block(struct slice_u8 log, struct slice_u8 area, struct slice_u8 state, struct slice_u8
-        block)
+static inline uint64_t answers__in_use_block(struct slice_u8 log, struct slice_u8 area, struct slice_u8 state,
+        struct slice_u8 block)
 {
     uint64_t t5;
     bool t7, t8;
@@ -1886,8 +1887,8 @@ static inline uint64_t reading__newest__own(struct model__Writer r)
 }
 
 /* Notes an entry's offset + 1 at index `i` if its home is the one looked for, and returns what stands there then. */
-static inline uint64_t replay__search__note(struct slice_mut_u16 latest, uint64_t i, uint64_t code, uint64_t written, uint64_t
-        home)
+static inline uint64_t replay__search__note(struct slice_mut_u16 latest, uint64_t i, uint64_t code, uint64_t written,
+        uint64_t home)
 {
     if (written != home) {
         return (uint64_t)latest.ptr[(size_t)i];
@@ -1950,8 +1951,8 @@ static inline struct replay__search__Search replay__search__visit(uint64_t word,
 
 /* Takes the first `m` tags of a group, which says nothing where it is not the valid group with number `n`. */
 static inline struct replay__search__Search replay__search__visit_group(struct slice_u8 group, uint64_t groups, uint64_t homes,
-        uint64_t start, uint64_t n, uint64_t m, uint64_t home, struct slice_mut_u16 counts, struct slice_mut_u16 latest, struct
-        replay__search__Search search)
+        uint64_t start, uint64_t n, uint64_t m, uint64_t home, struct slice_mut_u16 counts, struct slice_mut_u16 latest,
+        struct replay__search__Search search)
 {
     struct array_u64_7 t11, t18;
     uint64_t t12, t14, t15;
@@ -2029,8 +2030,8 @@ static inline uint64_t replay__search__seek_with(struct slice_u8 log, uint64_t g
 /* The newest entry for a home that a writer sees, among the `n` positions of the log from its start on: `own` is the first
    position + 1 of its open transaction, 0 if it has logged nothing. A short log has small tables, since they are cleared first.
    */
-static inline uint64_t replay__search__newest_seen(struct slice_u8 log, uint64_t groups, uint64_t homes, uint64_t start, uint64_t
-        n, uint64_t home, uint64_t own)
+static inline uint64_t replay__search__newest_seen(struct slice_u8 log, uint64_t groups, uint64_t homes, uint64_t start,
+        uint64_t n, uint64_t home, uint64_t own)
 {
     struct array_u16_448 t8, t9;
     struct array_u16_7168 t10, t11;
@@ -2038,13 +2039,13 @@ static inline uint64_t replay__search__newest_seen(struct slice_u8 log, uint64_t
     if (n <= 448u) {
         memset(&t8, 0, sizeof t8);
         memset(&t9, 0, sizeof t9);
-        return replay__search__seek_with(log, groups, homes, start, n, home, own, (struct slice_mut_u16){t8.at, 448u}, (struct
-                slice_mut_u16){t9.at, 448u});
+        return replay__search__seek_with(log, groups, homes, start, n, home, own, (struct slice_mut_u16){t8.at, 448u},
+                (struct slice_mut_u16){t9.at, 448u});
     }
     memset(&t10, 0, sizeof t10);
     memset(&t11, 0, sizeof t11);
-    return replay__search__seek_with(log, groups, homes, start, n, home, own, (struct slice_mut_u16){t10.at, 7168u}, (struct
-            slice_mut_u16){t11.at, 7168u});
+    return replay__search__seek_with(log, groups, homes, start, n, home, own, (struct slice_mut_u16){t10.at, 7168u},
+            (struct slice_mut_u16){t11.at, 7168u});
 }
 
 /* The newest entry for a home that a writer sees: one of its own, else a committed one. */
@@ -2073,8 +2074,8 @@ static inline void reading__blocks__show_entry(struct slice_mut_u8 block, struct
 }
 
 /* Copies the block of a home that a writer sees. */
-static inline void reading__blocks__show(struct slice_u8 log, struct slice_u8 area, struct slice_u8 state, struct slice_mut_u8
-        block, uint64_t writer, uint64_t home)
+static inline void reading__blocks__show(struct slice_u8 log, struct slice_u8 area, struct slice_u8 state,
+        struct slice_mut_u8 block, uint64_t writer, uint64_t home)
 {
     struct model__State t7;
     uint64_t t8, t10, t953;
@@ -2082,12 +2083,12 @@ static inline void reading__blocks__show(struct slice_u8 log, struct slice_u8 ar
     bool t11;
 
     t7 = (struct model__State){.groups = load_8(state.ptr), .homes = load_8(state.ptr + 8u), .start = load_8(state.ptr + 16u),
-            .next = load_8(state.ptr + 24u), .filled = load_8(state.ptr + 32u), .settled = load_8(state.ptr + 40u), .fenced =
-            load_8(state.ptr + 48u), .durable = load_8(state.ptr + 56u), .last = load_8(state.ptr + 64u)};
+            .next = load_8(state.ptr + 24u), .filled = load_8(state.ptr + 32u), .settled = load_8(state.ptr + 40u),
+            .fenced = load_8(state.ptr + 48u), .durable = load_8(state.ptr + 56u), .last = load_8(state.ptr + 64u)};
     t8 = writer;
     t953 = 128u + (96u * t8);
-    t9 = (struct model__Writer){.mode = load_8(state.ptr + (size_t)t953), .home = load_8(state.ptr + (size_t)(t953 + 8u)), .first
-            = load_8(state.ptr + (size_t)(t953 + 16u)), .count = load_8(state.ptr + (size_t)(t953 + 24u))};
+    t9 = (struct model__Writer){.mode = load_8(state.ptr + (size_t)t953), .home = load_8(state.ptr + (size_t)(t953 + 8u)),
+            .first = load_8(state.ptr + (size_t)(t953 + 16u)), .count = load_8(state.ptr + (size_t)(t953 + 24u))};
     t11 = reading__blocks__holds_home(t9, home);
     if (t11) {
         reading__blocks__show_held(block, state, t8);
@@ -2103,8 +2104,8 @@ static inline void reading__blocks__show(struct slice_u8 log, struct slice_u8 ar
 
 /* Reads the block of a home as a writer sees it: the held one, else its newest own entry, else the newest committed one, else the
    data copy. */
-static inline struct answers__Reply reading__read(struct slice_u8 log, struct slice_u8 area, struct slice_u8 state, struct
-        slice_mut_u8 block, uint64_t writer, uint64_t home)
+static inline struct answers__Reply reading__read(struct slice_u8 log, struct slice_u8 area, struct slice_u8 state,
+        struct slice_mut_u8 block, uint64_t writer, uint64_t home)
 {
     uint64_t t7;
 
@@ -2117,8 +2118,8 @@ static inline struct answers__Reply reading__read(struct slice_u8 log, struct sl
 }
 
 /* Reads the block of a home as a writer sees it. */
-static inline struct answers__Reply kagutin__kagutin_read(struct slice_u8 log, struct slice_u8 area, struct slice_u8 state, struct
-        slice_mut_u8 block, uint64_t writer, uint64_t home)
+static inline struct answers__Reply kagutin__kagutin_read(struct slice_u8 log, struct slice_u8 area, struct slice_u8 state,
+        struct slice_mut_u8 block, uint64_t writer, uint64_t home)
 {
     return reading__read(log, area, state, block, writer, home);
 }
@@ -2134,8 +2135,8 @@ static inline void recovery__settling__settle_homes(struct slice_u8 log, struct 
 }
 
 /* Brings the data copy and the data area up to the fenced position. */
-static inline struct answers__Reply recovery__settling__settle(struct slice_u8 log, struct slice_mut_u8 area, struct slice_mut_u8
-        state, struct slice_mut_u8 batch)
+static inline struct answers__Reply recovery__settling__settle(struct slice_u8 log, struct slice_mut_u8 area,
+        struct slice_mut_u8 state, struct slice_mut_u8 batch)
 {
     uint64_t t5, t11, t12, t13;
     struct model__State t6;
@@ -2148,8 +2149,8 @@ static inline struct answers__Reply recovery__settling__settle(struct slice_u8 l
         return (struct answers__Reply){.code = t5, .figure = 0u, .size = 0u};
     }
     t6 = (struct model__State){.groups = load_8(state.ptr), .homes = load_8(state.ptr + 8u), .start = load_8(state.ptr + 16u),
-            .next = load_8(state.ptr + 24u), .filled = load_8(state.ptr + 32u), .settled = load_8(state.ptr + 40u), .fenced =
-            load_8(state.ptr + 48u), .durable = load_8(state.ptr + 56u), .last = load_8(state.ptr + 64u)};
+            .next = load_8(state.ptr + 24u), .filled = load_8(state.ptr + 32u), .settled = load_8(state.ptr + 40u),
+            .fenced = load_8(state.ptr + 48u), .durable = load_8(state.ptr + 56u), .last = load_8(state.ptr + 64u)};
     memset(&t7, 0, sizeof t7);
     memset(&t8, 0, sizeof t8);
     t10 = scan__commits__walk(log, t6.groups, t6.homes, t6.start, t6.fenced - (7u * t6.start));
@@ -2167,15 +2168,15 @@ static inline struct answers__Reply recovery__settling__settle(struct slice_u8 l
 }
 
 /* Writes the homes of the commits below the fenced position, and a fence. */
-static inline struct answers__Reply kagutin__kagutin_settle(struct slice_u8 log, struct slice_mut_u8 area, struct slice_mut_u8
-        state, struct slice_mut_u8 batch)
+static inline struct answers__Reply kagutin__kagutin_settle(struct slice_u8 log, struct slice_mut_u8 area,
+        struct slice_mut_u8 state, struct slice_mut_u8 batch)
 {
     return recovery__settling__settle(log, area, state, batch);
 }
 
 /* The answer of a store: 0, or the number of the question that refuses it. */
-static inline uint64_t logging__stores__store_verdict(struct slice_u8 log, struct slice_u8 area, struct slice_u8 state, struct
-        slice_u8 block, struct slice_u8 batch, uint64_t writer, uint64_t home)
+static inline uint64_t logging__stores__store_verdict(struct slice_u8 log, struct slice_u8 area, struct slice_u8 state,
+        struct slice_u8 block, struct slice_u8 batch, uint64_t writer, uint64_t home)
 {
     uint64_t t8, t18;
     struct model__Writer t9;
@@ -2191,8 +2192,8 @@ static inline uint64_t logging__stores__store_verdict(struct slice_u8 log, struc
         return 5u;
     }
     t18 = 128u + (96u * writer);
-    t9 = (struct model__Writer){.mode = load_8(state.ptr + (size_t)t18), .home = load_8(state.ptr + (size_t)(t18 + 8u)), .first =
-            load_8(state.ptr + (size_t)(t18 + 16u)), .count = load_8(state.ptr + (size_t)(t18 + 24u))};
+    t9 = (struct model__Writer){.mode = load_8(state.ptr + (size_t)t18), .home = load_8(state.ptr + (size_t)(t18 + 8u)),
+            .first = load_8(state.ptr + (size_t)(t18 + 16u)), .count = load_8(state.ptr + (size_t)(t18 + 24u))};
     if (!(1u <= t9.mode)) {
         return 7u;
     }
@@ -2202,10 +2203,10 @@ static inline uint64_t logging__stores__store_verdict(struct slice_u8 log, struc
     if (t9.home == home) {
         return 0u;
     }
-    return logging__entry__may_log((struct model__State){.groups = load_8(state.ptr), .homes = load_8(state.ptr + 8u), .start =
-            load_8(state.ptr + 16u), .next = load_8(state.ptr + 24u), .filled = load_8(state.ptr + 32u), .settled =
-            load_8(state.ptr + 40u), .fenced = load_8(state.ptr + 48u), .durable = load_8(state.ptr + 56u), .last =
-            load_8(state.ptr + 64u)}, (uint64_t)batch.len);
+    return logging__entry__may_log((struct model__State){.groups = load_8(state.ptr), .homes = load_8(state.ptr + 8u),
+            .start = load_8(state.ptr + 16u), .next = load_8(state.ptr + 24u), .filled = load_8(state.ptr + 32u),
+            .settled = load_8(state.ptr + 40u), .fenced = load_8(state.ptr + 48u), .durable = load_8(state.ptr + 56u),
+            .last = load_8(state.ptr + 64u)}, (uint64_t)batch.len);
 }
 
 /* The record `r` once its writer holds a block for `home`; a block that it held for another home was logged at `position`. */
@@ -2260,8 +2261,8 @@ static inline void strip__writers__set_held(struct slice_mut_u8 s, uint64_t w, s
 }
 
 /* Holds the first block of a transaction. */
-static inline void logging__stores__store_first(struct slice_mut_u8 state, struct slice_u8 block, struct model__Writer r, uint64_t
-        w, uint64_t home)
+static inline void logging__stores__store_first(struct slice_mut_u8 state, struct slice_u8 block, struct model__Writer r,
+        uint64_t w, uint64_t home)
 {
     writers__hold(state, w, r, home, 0u);
     strip__writers__set_held(state, w, block);
@@ -2293,8 +2294,8 @@ static inline uint64_t logging__stores__store_other(struct slice_mut_u8 log, str
 }
 
 /* Holds a block for a home in a writer's open transaction; a block held for another home is logged first. */
-static inline struct answers__Reply logging__stores__store(struct slice_mut_u8 log, struct slice_u8 area, struct slice_mut_u8
-        state, struct slice_u8 block, struct slice_mut_u8 batch, uint64_t writer, uint64_t home)
+static inline struct answers__Reply logging__stores__store(struct slice_mut_u8 log, struct slice_u8 area,
+        struct slice_mut_u8 state, struct slice_u8 block, struct slice_mut_u8 batch, uint64_t writer, uint64_t home)
 {
     uint64_t t8, t9, t12, t39;
     struct model__Writer t10;
@@ -2306,8 +2307,8 @@ static inline struct answers__Reply logging__stores__store(struct slice_mut_u8 l
     }
     t9 = writer;
     t39 = 128u + (96u * t9);
-    t10 = (struct model__Writer){.mode = load_8(state.ptr + (size_t)t39), .home = load_8(state.ptr + (size_t)(t39 + 8u)), .first =
-            load_8(state.ptr + (size_t)(t39 + 16u)), .count = load_8(state.ptr + (size_t)(t39 + 24u))};
+    t10 = (struct model__Writer){.mode = load_8(state.ptr + (size_t)t39), .home = load_8(state.ptr + (size_t)(t39 + 8u)),
+            .first = load_8(state.ptr + (size_t)(t39 + 16u)), .count = load_8(state.ptr + (size_t)(t39 + 24u))};
     if (!(2u <= t10.mode)) {
         logging__stores__store_first(state, block, t10, t9, home);
         return (struct answers__Reply){.code = 0u, .figure = 0u, .size = 0u};
@@ -2316,16 +2317,16 @@ static inline struct answers__Reply logging__stores__store(struct slice_mut_u8 l
         strip__writers__set_held(state, t9, block);
         return (struct answers__Reply){.code = 0u, .figure = 0u, .size = 0u};
     }
-    t12 = logging__stores__store_other(log, state, block, batch, (struct model__State){.groups = load_8(state.ptr), .homes =
-            load_8(state.ptr + 8u), .start = load_8(state.ptr + 16u), .next = load_8(state.ptr + 24u), .filled = load_8(state.ptr
-            + 32u), .settled = load_8(state.ptr + 40u), .fenced = load_8(state.ptr + 48u), .durable = load_8(state.ptr + 56u),
-            .last = load_8(state.ptr + 64u)}, t10, t9, home);
+    t12 = logging__stores__store_other(log, state, block, batch, (struct model__State){.groups = load_8(state.ptr),
+            .homes = load_8(state.ptr + 8u), .start = load_8(state.ptr + 16u), .next = load_8(state.ptr + 24u),
+            .filled = load_8(state.ptr + 32u), .settled = load_8(state.ptr + 40u), .fenced = load_8(state.ptr + 48u),
+            .durable = load_8(state.ptr + 56u), .last = load_8(state.ptr + 64u)}, t10, t9, home);
     return (struct answers__Reply){.code = 0u, .figure = 0u, .size = t12};
 }
 
 /* Holds a block for a home in a writer's open transaction; a block held for another home is logged first. */
-static inline struct answers__Reply kagutin__kagutin_store(struct slice_mut_u8 log, struct slice_u8 area, struct slice_mut_u8
-        state, struct slice_u8 block, struct slice_mut_u8 batch, uint64_t writer, uint64_t home)
+static inline struct answers__Reply kagutin__kagutin_store(struct slice_mut_u8 log, struct slice_u8 area,
+        struct slice_mut_u8 state, struct slice_u8 block, struct slice_mut_u8 batch, uint64_t writer, uint64_t home)
 {
     return logging__stores__store(log, area, state, block, batch, writer, home);
 }
@@ -2400,8 +2401,8 @@ static inline uint64_t replay__entries__first_closed(struct slice_u8 log, uint64
 }
 
 /* A limit lowered to the group in which the transaction begins that the entry at a position closes, if it closes one. */
-static inline uint64_t replay__trim__span_limit(struct slice_u8 log, uint64_t groups, uint64_t homes, uint64_t start, uint64_t
-        position, uint64_t limit)
+static inline uint64_t replay__trim__span_limit(struct slice_u8 log, uint64_t groups, uint64_t homes, uint64_t start,
+        uint64_t position, uint64_t limit)
 {
     uint64_t t7, t8;
 
@@ -2417,8 +2418,8 @@ static inline uint64_t replay__trim__span_limit(struct slice_u8 log, uint64_t gr
 }
 
 /* The highest start up to `limit` that no transaction of a closing entry below `end` lies across. */
-static inline uint64_t replay__trim__closed_limit(struct slice_u8 log, uint64_t groups, uint64_t homes, uint64_t start, uint64_t
-        end, uint64_t limit)
+static inline uint64_t replay__trim__closed_limit(struct slice_u8 log, uint64_t groups, uint64_t homes, uint64_t start,
+        uint64_t end, uint64_t limit)
 {
     uint64_t t7, t8;
 
@@ -2442,8 +2443,8 @@ static inline uint64_t replay__trim__trim_start(struct slice_u8 log, struct slic
 }
 
 /* The highest start up to the settled position that no open or committed transaction lies across. */
-static inline uint64_t trimming__start__new_start(struct slice_u8 log, struct slice_u8 area, struct slice_u8 state, struct
-        model__State st)
+static inline uint64_t trimming__start__new_start(struct slice_u8 log, struct slice_u8 area, struct slice_u8 state,
+        struct model__State st)
 {
     struct scan__commits__Found t6;
     (void)area;
@@ -2507,8 +2508,8 @@ static inline struct answers__Reply trimming__trim(struct slice_mut_u8 log, stru
         return (struct answers__Reply){.code = t5, .figure = 0u, .size = 0u};
     }
     t6 = (struct model__State){.groups = load_8(state.ptr), .homes = load_8(state.ptr + 8u), .start = load_8(state.ptr + 16u),
-            .next = load_8(state.ptr + 24u), .filled = load_8(state.ptr + 32u), .settled = load_8(state.ptr + 40u), .fenced =
-            load_8(state.ptr + 48u), .durable = load_8(state.ptr + 56u), .last = load_8(state.ptr + 64u)};
+            .next = load_8(state.ptr + 24u), .filled = load_8(state.ptr + 32u), .settled = load_8(state.ptr + 40u),
+            .fenced = load_8(state.ptr + 48u), .durable = load_8(state.ptr + 56u), .last = load_8(state.ptr + 64u)};
     t7 = trimming__start__new_start((struct slice_u8){log.ptr, log.len}, area, (struct slice_u8){state.ptr, state.len}, t6);
     if (UINT64_C(0x800000000000) < t7) {
         return (struct answers__Reply){.code = 10u, .figure = 0u, .size = 0u};
@@ -2524,8 +2525,8 @@ static inline struct answers__Reply trimming__trim(struct slice_mut_u8 log, stru
 }
 
 /* Moves the log's start up as far as no transaction lies across it. */
-static inline struct answers__Reply kagutin__kagutin_trim(struct slice_mut_u8 log, struct slice_u8 area, struct slice_mut_u8
-        state, struct slice_mut_u8 batch)
+static inline struct answers__Reply kagutin__kagutin_trim(struct slice_mut_u8 log, struct slice_u8 area,
+        struct slice_mut_u8 state, struct slice_mut_u8 batch)
 {
     return trimming__trim(log, area, state, batch);
 }
@@ -2533,7 +2534,8 @@ static inline struct answers__Reply kagutin__kagutin_trim(struct slice_mut_u8 lo
 struct kagutin_reply kagutin_abort(const uint8_t *log, size_t log_size, const uint8_t *area, size_t area_size, uint8_t *state,
         size_t state_size, uint64_t writer)
 {
-    struct answers__Reply r = kagutin__kagutin_abort((struct slice_u8){log, log_size}, (struct slice_u8){area, area_size}, (struct slice_mut_u8){state, state_size}, writer);
+    struct answers__Reply r = kagutin__kagutin_abort((struct slice_u8){log, log_size}, (struct slice_u8){area, area_size},
+            (struct slice_mut_u8){state, state_size}, writer);
 
     return (struct kagutin_reply){.code = r.code, .figure = r.figure, .size = r.size};
 }
@@ -2541,15 +2543,17 @@ struct kagutin_reply kagutin_abort(const uint8_t *log, size_t log_size, const ui
 struct kagutin_reply kagutin_begin(const uint8_t *log, size_t log_size, const uint8_t *area, size_t area_size, uint8_t *state,
         size_t state_size, uint64_t writer)
 {
-    struct answers__Reply r = kagutin__kagutin_begin((struct slice_u8){log, log_size}, (struct slice_u8){area, area_size}, (struct slice_mut_u8){state, state_size}, writer);
+    struct answers__Reply r = kagutin__kagutin_begin((struct slice_u8){log, log_size}, (struct slice_u8){area, area_size},
+            (struct slice_mut_u8){state, state_size}, writer);
 
     return (struct kagutin_reply){.code = r.code, .figure = r.figure, .size = r.size};
 }
 
-struct kagutin_reply kagutin_commit(uint8_t *log, size_t log_size, const uint8_t *area, size_t area_size, uint8_t *state, size_t
-        state_size, uint8_t *batch, size_t batch_size, uint64_t writer)
+struct kagutin_reply kagutin_commit(uint8_t *log, size_t log_size, const uint8_t *area, size_t area_size, uint8_t *state,
+        size_t state_size, uint8_t *batch, size_t batch_size, uint64_t writer)
 {
-    struct answers__Reply r = kagutin__kagutin_commit((struct slice_mut_u8){log, log_size}, (struct slice_u8){area, area_size}, (struct slice_mut_u8){state, state_size}, (struct slice_mut_u8){batch, batch_size}, writer);
+    struct answers__Reply r = kagutin__kagutin_commit((struct slice_mut_u8){log, log_size}, (struct slice_u8){area, area_size},
+            (struct slice_mut_u8){state, state_size}, (struct slice_mut_u8){batch, batch_size}, writer);
 
     return (struct kagutin_reply){.code = r.code, .figure = r.figure, .size = r.size};
 }
@@ -2557,7 +2561,8 @@ struct kagutin_reply kagutin_commit(uint8_t *log, size_t log_size, const uint8_t
 struct kagutin_reply kagutin_confirm(const uint8_t *log, size_t log_size, const uint8_t *area, size_t area_size, uint8_t *state,
         size_t state_size)
 {
-    struct answers__Reply r = kagutin__kagutin_confirm((struct slice_u8){log, log_size}, (struct slice_u8){area, area_size}, (struct slice_mut_u8){state, state_size});
+    struct answers__Reply r = kagutin__kagutin_confirm((struct slice_u8){log, log_size}, (struct slice_u8){area, area_size},
+            (struct slice_mut_u8){state, state_size});
 
     return (struct kagutin_reply){.code = r.code, .figure = r.figure, .size = r.size};
 }
@@ -2565,55 +2570,64 @@ struct kagutin_reply kagutin_confirm(const uint8_t *log, size_t log_size, const 
 struct kagutin_reply kagutin_flush(const uint8_t *log, size_t log_size, const uint8_t *area, size_t area_size, uint8_t *state,
         size_t state_size, uint8_t *batch, size_t batch_size)
 {
-    struct answers__Reply r = kagutin__kagutin_flush((struct slice_u8){log, log_size}, (struct slice_u8){area, area_size}, (struct slice_mut_u8){state, state_size}, (struct slice_mut_u8){batch, batch_size});
+    struct answers__Reply r = kagutin__kagutin_flush((struct slice_u8){log, log_size}, (struct slice_u8){area, area_size},
+            (struct slice_mut_u8){state, state_size}, (struct slice_mut_u8){batch, batch_size});
 
     return (struct kagutin_reply){.code = r.code, .figure = r.figure, .size = r.size};
 }
 
-struct kagutin_reply kagutin_format(uint8_t *log, size_t log_size, uint8_t *area, size_t area_size, uint8_t *batch, size_t
-        batch_size)
+struct kagutin_reply kagutin_format(uint8_t *log, size_t log_size, uint8_t *area, size_t area_size, uint8_t *batch,
+        size_t batch_size)
 {
-    struct answers__Reply r = kagutin__kagutin_format((struct slice_mut_u8){log, log_size}, (struct slice_mut_u8){area, area_size}, (struct slice_mut_u8){batch, batch_size});
+    struct answers__Reply r = kagutin__kagutin_format((struct slice_mut_u8){log, log_size}, (struct slice_mut_u8){area,
+            area_size}, (struct slice_mut_u8){batch, batch_size});
 
     return (struct kagutin_reply){.code = r.code, .figure = r.figure, .size = r.size};
 }
 
-struct kagutin_reply kagutin_open(uint8_t *log, size_t log_size, uint8_t *area, size_t area_size, uint8_t *state, size_t
-        state_size, uint8_t *batch, size_t batch_size)
+struct kagutin_reply kagutin_open(uint8_t *log, size_t log_size, uint8_t *area, size_t area_size, uint8_t *state,
+        size_t state_size, uint8_t *batch, size_t batch_size)
 {
-    struct answers__Reply r = kagutin__kagutin_open((struct slice_mut_u8){log, log_size}, (struct slice_mut_u8){area, area_size}, (struct slice_mut_u8){state, state_size}, (struct slice_mut_u8){batch, batch_size});
+    struct answers__Reply r = kagutin__kagutin_open((struct slice_mut_u8){log, log_size}, (struct slice_mut_u8){area, area_size},
+            (struct slice_mut_u8){state, state_size}, (struct slice_mut_u8){batch, batch_size});
 
     return (struct kagutin_reply){.code = r.code, .figure = r.figure, .size = r.size};
 }
 
-struct kagutin_reply kagutin_read(const uint8_t *log, size_t log_size, const uint8_t *area, size_t area_size, const uint8_t
-        *state, size_t state_size, uint8_t *block, size_t block_size, uint64_t writer, uint64_t home)
+struct kagutin_reply kagutin_read(const uint8_t *log, size_t log_size, const uint8_t *area, size_t area_size,
+        const uint8_t *state, size_t state_size, uint8_t *block, size_t block_size, uint64_t writer, uint64_t home)
 {
-    struct answers__Reply r = kagutin__kagutin_read((struct slice_u8){log, log_size}, (struct slice_u8){area, area_size}, (struct slice_u8){state, state_size}, (struct slice_mut_u8){block, block_size}, writer, home);
+    struct answers__Reply r = kagutin__kagutin_read((struct slice_u8){log, log_size}, (struct slice_u8){area, area_size},
+            (struct slice_u8){state, state_size}, (struct slice_mut_u8){block, block_size}, writer, home);
 
     return (struct kagutin_reply){.code = r.code, .figure = r.figure, .size = r.size};
 }
 
-struct kagutin_reply kagutin_settle(const uint8_t *log, size_t log_size, uint8_t *area, size_t area_size, uint8_t *state, size_t
-        state_size, uint8_t *batch, size_t batch_size)
+struct kagutin_reply kagutin_settle(const uint8_t *log, size_t log_size, uint8_t *area, size_t area_size, uint8_t *state,
+        size_t state_size, uint8_t *batch, size_t batch_size)
 {
-    struct answers__Reply r = kagutin__kagutin_settle((struct slice_u8){log, log_size}, (struct slice_mut_u8){area, area_size}, (struct slice_mut_u8){state, state_size}, (struct slice_mut_u8){batch, batch_size});
+    struct answers__Reply r = kagutin__kagutin_settle((struct slice_u8){log, log_size}, (struct slice_mut_u8){area, area_size},
+            (struct slice_mut_u8){state, state_size}, (struct slice_mut_u8){batch, batch_size});
 
     return (struct kagutin_reply){.code = r.code, .figure = r.figure, .size = r.size};
 }
 
-struct kagutin_reply kagutin_store(uint8_t *log, size_t log_size, const uint8_t *area, size_t area_size, uint8_t *state, size_t
-        state_size, const uint8_t *block, size_t block_size, uint8_t *batch, size_t batch_size, uint64_t writer, uint64_t home)
+struct kagutin_reply kagutin_store(uint8_t *log, size_t log_size, const uint8_t *area, size_t area_size, uint8_t *state,
+        size_t state_size, const uint8_t *block, size_t block_size, uint8_t *batch, size_t batch_size, uint64_t writer,
+        uint64_t home)
 {
-    struct answers__Reply r = kagutin__kagutin_store((struct slice_mut_u8){log, log_size}, (struct slice_u8){area, area_size}, (struct slice_mut_u8){state, state_size}, (struct slice_u8){block, block_size}, (struct slice_mut_u8){batch, batch_size}, writer, home);
+    struct answers__Reply r = kagutin__kagutin_store((struct slice_mut_u8){log, log_size}, (struct slice_u8){area, area_size},
+            (struct slice_mut_u8){state, state_size}, (struct slice_u8){block, block_size}, (struct slice_mut_u8){batch,
+            batch_size}, writer, home);
 
     return (struct kagutin_reply){.code = r.code, .figure = r.figure, .size = r.size};
 }
 
-struct kagutin_reply kagutin_trim(uint8_t *log, size_t log_size, const uint8_t *area, size_t area_size, uint8_t *state, size_t
-        state_size, uint8_t *batch, size_t batch_size)
+struct kagutin_reply kagutin_trim(uint8_t *log, size_t log_size, const uint8_t *area, size_t area_size, uint8_t *state,
+        size_t state_size, uint8_t *batch, size_t batch_size)
 {
-    struct answers__Reply r = kagutin__kagutin_trim((struct slice_mut_u8){log, log_size}, (struct slice_u8){area, area_size}, (struct slice_mut_u8){state, state_size}, (struct slice_mut_u8){batch, batch_size});
+    struct answers__Reply r = kagutin__kagutin_trim((struct slice_mut_u8){log, log_size}, (struct slice_u8){area, area_size},
+            (struct slice_mut_u8){state, state_size}, (struct slice_mut_u8){batch, batch_size});
 
     return (struct kagutin_reply){.code = r.code, .figure = r.figure, .size = r.size};
 }

@@ -31,8 +31,16 @@ class FunctionText(Values):
         self.program, self.out = program, []
 
     def line(self, depth, text):
-        self.out += textwrap.wrap(text, WIDTH, initial_indent='    ' * depth, subsequent_indent='    ' * (depth + 2),
-                                  break_long_words=False, break_on_hyphens=False)
+        """One statement; a long one goes on in the next line, after a comma or before an operator."""
+        first, *rest = re.split(r'(?<=,) | (?=(?:\|\||\||&&|\+) )', text)
+        line = '    ' * depth + first
+        for piece in rest:
+            if len(line) + 1 + len(piece) > WIDTH:
+                self.out.append(line)
+                line = '    ' * (depth + 2) + piece
+            else:
+                line += ' ' + piece
+        self.out.append(line)
 
     # ---- statements
 
@@ -244,7 +252,10 @@ class FunctionText(Values):
                 raise Stop(f'exported with a parameter of {t}')
         result, lines = self.exported_result(f, export, f'{c_name(f.name)}({", ".join(args)})', results, signed_fields)
         self.line(0, f'{result} {export.name}({", ".join(params) or "void"})')
-        self.out += ['{'] + lines + ['}', '']
+        self.out.append('{')
+        for line in lines:
+            self.line(1 if line else 0, line)
+        self.out += ['}', '']
 
     def exported_number(self, t, source):
         """The header's type of a number, by the type that the source writes."""
@@ -263,9 +274,9 @@ class FunctionText(Values):
         """Type and lines of the exported function."""
         t = f.types[0]
         if t == UNIT:
-            return 'void', [f'    {call};']
+            return 'void', [f'{call};']
         if isinstance(t, IntType) or t == BOOL:
-            return self.exported_number(t, export.result), [f'    return {self.number_out(call, t, export.result)};']
+            return self.exported_number(t, export.result), [f'return {self.number_out(call, t, export.result)};']
         if not isinstance(t, Named) or not self.types.is_struct(t) or t.name not in results:
             raise Stop(f'exported with the result {getattr(t, "name", t)}, for which no struct of the header is named')
         struct, parts = 'struct ' + results[t.name], []
@@ -274,4 +285,4 @@ class FunctionText(Values):
                 raise Stop(f'exported with a field of {u}')
             source = f'i{u.width}' if (t.name, n) in signed_fields else ''
             parts.append(f'.{n} = {self.number_out(f"r.{n}", u, source)}')
-        return struct, [f'    {self.types.c(t)} r = {call};', '', f'    return ({struct}){{{", ".join(parts)}}};']
+        return struct, [f'{self.types.c(t)} r = {call};', '', f'return ({struct}){{{", ".join(parts)}}};']
