@@ -100,25 +100,24 @@ struct slice_mut_u64 {
     size_t len;
 };
 
-struct array_u16_4096 {
-    uint16_t at[4096];
-};
-
-struct slice_u64 {
-    const uint64_t *ptr;
-    size_t len;
-};
-
 struct slice_u16 {
     const uint16_t *ptr;
     size_t len;
 };
 
-struct array_u64_64 {
-    uint64_t at[64];
+struct array_u64_1 {
+    uint64_t at[1];
 };
 
-struct replay__search__Search {
+struct array_u16_64 {
+    uint16_t at[64];
+};
+
+struct array_u16_1024 {
+    uint16_t at[1024];
+};
+
+struct search__pass__Search {
     struct scan__commits__Progress progress;
     uint64_t newest;
 };
@@ -278,7 +277,7 @@ static inline bool areas__lengths__log_right(uint64_t len)
     return len == (64u + (512u * t2));
 }
 
-/* Whether a data area may have `len` bytes: 1 to 4,096 whole homes. */
+/* Whether a data area may have `len` bytes: 1 to 65,535 whole homes. */
 static inline bool areas__lengths__data_right(uint64_t len)
 {
     uint64_t t2;
@@ -287,7 +286,7 @@ static inline bool areas__lengths__data_right(uint64_t len)
     if (t2 < 1u) {
         return false;
     }
-    if (4096u < t2) {
+    if (65535u < t2) {
         return false;
     }
     return len == (64u * t2);
@@ -365,6 +364,20 @@ static inline bool strip__order__numbers_in_order(struct model__State st)
     return strip__order__positions_in_order(st);
 }
 
+/* How many places are promised to the eight writers together. */
+static inline uint64_t strip__promises__promised(struct slice_u8 s)
+{
+    uint64_t t2, t3;
+
+    t2 = 0u;
+    t3 = 0u;
+    while (t3 < 8u) {
+        t2 = t2 + load_2(s.ptr + (size_t)(72u + (2u * t3)));
+        t3 = t3 + 1u;
+    }
+    return t2;
+}
+
 /* Whether a writer's record is in order in a strip with the numbers `st`. */
 static inline bool strip__order__writer_in_order(struct model__State st, struct model__Writer r)
 {
@@ -398,18 +411,37 @@ static inline bool strip__order__writer_in_order(struct model__State st, struct 
     return true;
 }
 
+/* Whether the record of writer `w` is in order in the strip `s` with the numbers `st`, and nothing is promised to it while it is
+   idle. */
+static inline bool strip__order__writer_at_in_order(struct slice_u8 s, struct model__State st, uint64_t w)
+{
+    struct model__Writer t4;
+    bool t5;
+    uint64_t t10;
+
+    t10 = 128u + (96u * w);
+    t4 = (struct model__Writer){.mode = load_8(s.ptr + (size_t)t10), .home = load_8(s.ptr + (size_t)(t10 + 8u)),
+            .first = load_8(s.ptr + (size_t)(t10 + 16u)), .count = load_8(s.ptr + (size_t)(t10 + 24u))};
+    t5 = strip__order__writer_in_order(st, t4);
+    if (!t5) {
+        return false;
+    }
+    if (1u <= t4.mode) {
+        return true;
+    }
+    return load_2(s.ptr + (size_t)(72u + (2u * w))) == 0u;
+}
+
 /* Whether the records of all eight writers are in order in the strip `s` with the numbers `st`. */
 static inline bool strip__order__writers_in_order(struct slice_u8 s, struct model__State st)
 {
-    uint64_t t3, t8;
-    bool t5;
+    uint64_t t3;
+    bool t4;
 
     t3 = 0u;
     while (t3 < 8u) {
-        t8 = 128u + (96u * t3);
-        t5 = strip__order__writer_in_order(st, (struct model__Writer){.mode = load_8(s.ptr + (size_t)t8), .home = load_8(s.ptr
-                + (size_t)(t8 + 8u)), .first = load_8(s.ptr + (size_t)(t8 + 16u)), .count = load_8(s.ptr + (size_t)(t8 + 24u))});
-        if (!t5) {
+        t4 = strip__order__writer_at_in_order(s, st, t3);
+        if (!t4) {
             return false;
         }
         t3 = t3 + 1u;
@@ -422,6 +454,7 @@ static inline bool strip__order__in_order(struct slice_u8 s, uint64_t groups, ui
 {
     struct model__State t4;
     bool t5;
+    uint64_t t8;
 
     t4 = (struct model__State){.groups = load_8(s.ptr), .homes = load_8(s.ptr + 8u), .start = load_8(s.ptr + 16u),
             .next = load_8(s.ptr + 24u), .filled = load_8(s.ptr + 32u), .settled = load_8(s.ptr + 40u), .fenced = load_8(s.ptr
@@ -434,6 +467,10 @@ static inline bool strip__order__in_order(struct slice_u8 s, uint64_t groups, ui
     }
     t5 = strip__order__numbers_in_order(t4);
     if (!t5) {
+        return false;
+    }
+    t8 = strip__promises__promised(s);
+    if (((7u * (t4.start + t4.groups)) - ((7u * t4.next) + t4.filled)) < t8) {
         return false;
     }
     return strip__order__writers_in_order(s, t4);
@@ -525,7 +562,7 @@ static inline void writers__abort(struct slice_mut_u8 s, uint64_t w)
     strip__writers__set_writer(s, w, t9);
 }
 
-/* Drops a writer's open transaction with the block that it holds. */
+/* Drops a writer's open transaction with the block that it holds, and gives back the places promised to it. */
 static inline struct answers__Reply sessions__abort(struct slice_u8 log, struct slice_u8 area, struct slice_mut_u8 state,
         uint64_t writer)
 {
@@ -536,10 +573,11 @@ static inline struct answers__Reply sessions__abort(struct slice_u8 log, struct 
         return (struct answers__Reply){.code = t5, .figure = 0u, .size = 0u};
     }
     writers__abort(state, writer);
+    store_2(state.ptr + (size_t)(72u + (2u * writer)), 0u);
     return (struct answers__Reply){.code = 0u, .figure = 0u, .size = 0u};
 }
 
-/* Drops a writer's open transaction with the block that it holds. */
+/* Drops a writer's open transaction with the block that it holds, and gives back the places promised to it. */
 static inline struct answers__Reply kagutin__kagutin_abort(struct slice_u8 log, struct slice_u8 area, struct slice_mut_u8 state,
         uint64_t writer)
 {
@@ -608,10 +646,26 @@ static inline struct answers__Reply kagutin__kagutin_begin(struct slice_u8 log, 
     return sessions__begin(log, area, state, writer);
 }
 
-/* Questions 8 and 10 of a call that logs an entry: 0 if the log has room for it, and the batch for the group that it may fill. */
-static inline uint64_t logging__entry__may_log(struct model__State st, uint64_t batch)
+/* Whether an entry of writer `w` finds a place: one that is promised to it, or one that is promised to nobody. */
+static inline bool strip__promises__room_for(struct slice_u8 s, struct model__State st, uint64_t w)
 {
-    if ((st.start + st.groups) <= st.next) {
+    uint64_t t4;
+
+    if (load_2(s.ptr + (size_t)(72u + (2u * w))) != 0u) {
+        return true;
+    }
+    t4 = strip__promises__promised(s);
+    return t4 < ((7u * (st.start + st.groups)) - ((7u * st.next) + st.filled));
+}
+
+/* Questions 8 and 10 of a call that logs an entry of writer `w`: 0 if the log has room for it, and the batch for the group that
+   it may fill. */
+static inline uint64_t logging__entry__may_log(struct slice_u8 state, struct model__State st, uint64_t w, uint64_t batch)
+{
+    bool t5;
+
+    t5 = strip__promises__room_for(state, st, w);
+    if (!t5) {
         return 8u;
     }
     if (st.filled != 6u) {
@@ -627,7 +681,7 @@ static inline uint64_t logging__entry__may_log(struct model__State st, uint64_t 
 static inline uint64_t logging__commits__commit_verdict(struct slice_u8 log, struct slice_u8 area, struct slice_u8 state,
         struct slice_u8 batch, uint64_t writer)
 {
-    uint64_t t6, t13;
+    uint64_t t6, t14;
     struct model__Writer t7;
 
     t6 = answers__in_use(log, area, state);
@@ -637,25 +691,26 @@ static inline uint64_t logging__commits__commit_verdict(struct slice_u8 log, str
     if (8u <= writer) {
         return 4u;
     }
-    t13 = 128u + (96u * writer);
-    t7 = (struct model__Writer){.mode = load_8(state.ptr + (size_t)t13), .home = load_8(state.ptr + (size_t)(t13 + 8u)),
-            .first = load_8(state.ptr + (size_t)(t13 + 16u)), .count = load_8(state.ptr + (size_t)(t13 + 24u))};
+    t14 = 128u + (96u * writer);
+    t7 = (struct model__Writer){.mode = load_8(state.ptr + (size_t)t14), .home = load_8(state.ptr + (size_t)(t14 + 8u)),
+            .first = load_8(state.ptr + (size_t)(t14 + 16u)), .count = load_8(state.ptr + (size_t)(t14 + 24u))};
     if (!(1u <= t7.mode)) {
         return 7u;
     }
     if (!(2u <= t7.mode)) {
         return 0u;
     }
-    return logging__entry__may_log((struct model__State){.groups = load_8(state.ptr), .homes = load_8(state.ptr + 8u),
+    return logging__entry__may_log(state, (struct model__State){.groups = load_8(state.ptr), .homes = load_8(state.ptr + 8u),
             .start = load_8(state.ptr + 16u), .next = load_8(state.ptr + 24u), .filled = load_8(state.ptr + 32u),
             .settled = load_8(state.ptr + 40u), .fenced = load_8(state.ptr + 48u), .durable = load_8(state.ptr + 56u),
-            .last = load_8(state.ptr + 64u)}, (uint64_t)batch.len);
+            .last = load_8(state.ptr + 64u)}, writer, (uint64_t)batch.len);
 }
 
-/* Ends the transaction of a writer that holds nothing. */
+/* Ends the transaction of a writer that holds nothing, and gives back the places promised to it. */
 static inline void logging__commits__commit_none(struct slice_mut_u8 state, uint64_t w)
 {
     writers__abort(state, w);
+    store_2(state.ptr + (size_t)(72u + (2u * w)), 0u);
 }
 
 /* The position of the first entry of a writer's transaction whose next entry goes to `position`. */
@@ -702,7 +757,7 @@ static inline uint64_t logging__entry__closing_word(struct model__State st, stru
     t4 = position - t6;
     t5 = logging__entry__link_from(position, st);
     t6 = strip__writers__count_for(r);
-    return (((3u | (r.home << 2u)) | (t4 << 14u)) | (t5 << 27u)) | ((t6 + 1u) << 40u);
+    return ((((3u | ((r.home & 4095u) << 2u)) | (t4 << 14u)) | (t5 << 27u)) | ((t6 + 1u) << 40u)) | ((r.home >> 12u) << 53u);
 }
 
 /* Writes the mark of a group at index `at`. */
@@ -840,8 +895,8 @@ static inline uint64_t logging__entry__log_entry(struct slice_mut_u8 log, struct
 }
 
 /* Logs the held block as the closing entry and ends the transaction. */
-static inline uint64_t logging__commits__commit_held(struct slice_mut_u8 log, struct slice_mut_u8 state,
-        struct slice_mut_u8 batch, struct model__State st, struct model__Writer r, uint64_t w)
+static inline uint64_t logging__commits__close_held(struct slice_mut_u8 log, struct slice_mut_u8 state, struct slice_mut_u8 batch,
+        struct model__State st, struct model__Writer r, uint64_t w)
 {
     uint64_t t7, t8, t9;
 
@@ -851,6 +906,17 @@ static inline uint64_t logging__commits__commit_held(struct slice_mut_u8 log, st
     store_8(state.ptr + 64u, t7 + 1u);
     writers__abort(state, w);
     return t9;
+}
+
+/* The same, and the places promised to the writer are given back. */
+static inline uint64_t logging__commits__commit_held(struct slice_mut_u8 log, struct slice_mut_u8 state,
+        struct slice_mut_u8 batch, struct model__State st, struct model__Writer r, uint64_t w)
+{
+    uint64_t t7;
+
+    t7 = logging__commits__close_held(log, state, batch, st, r, w);
+    store_2(state.ptr + (size_t)(72u + (2u * w)), 0u);
+    return t7;
 }
 
 /* Commits a writer's open transaction: its held block is logged as the closing entry, whose position + 1 is the ticket. */
@@ -912,6 +978,18 @@ static inline struct answers__Reply kagutin__kagutin_confirm(struct slice_u8 log
     return sessions__confirm(log, area, state);
 }
 
+/* Whether a flush leaves as many places as are promised. */
+static inline bool strip__promises__keeps_promises(struct slice_u8 s, struct model__State st)
+{
+    uint64_t t4;
+
+    if (st.filled == 0u) {
+        return true;
+    }
+    t4 = strip__promises__promised(s);
+    return t4 <= ((7u * (st.start + st.groups)) - (7u * (st.next + 1u)));
+}
+
 /* How many bytes a flush writes: a fence, and a part-filled group before it. */
 static inline uint64_t logging__flushes__flush_size(struct model__State st)
 {
@@ -925,17 +1003,23 @@ static inline uint64_t logging__flushes__flush_size(struct model__State st)
 static inline uint64_t logging__flushes__flush_verdict(struct slice_u8 log, struct slice_u8 area, struct slice_u8 state,
         struct slice_u8 batch)
 {
-    uint64_t t5, t8;
+    uint64_t t5, t10;
+    struct model__State t6;
+    bool t7;
 
     t5 = answers__in_use(log, area, state);
     if (t5 != 0u) {
         return t5;
     }
-    t8 = logging__flushes__flush_size((struct model__State){.groups = load_8(state.ptr), .homes = load_8(state.ptr + 8u),
-            .start = load_8(state.ptr + 16u), .next = load_8(state.ptr + 24u), .filled = load_8(state.ptr + 32u),
-            .settled = load_8(state.ptr + 40u), .fenced = load_8(state.ptr + 48u), .durable = load_8(state.ptr + 56u),
-            .last = load_8(state.ptr + 64u)});
-    if ((uint64_t)batch.len < t8) {
+    t6 = (struct model__State){.groups = load_8(state.ptr), .homes = load_8(state.ptr + 8u), .start = load_8(state.ptr + 16u),
+            .next = load_8(state.ptr + 24u), .filled = load_8(state.ptr + 32u), .settled = load_8(state.ptr + 40u),
+            .fenced = load_8(state.ptr + 48u), .durable = load_8(state.ptr + 56u), .last = load_8(state.ptr + 64u)};
+    t7 = strip__promises__keeps_promises(state, t6);
+    if (!t7) {
+        return 18u;
+    }
+    t10 = logging__flushes__flush_size(t6);
+    if ((uint64_t)batch.len < t10) {
         return 9u;
     }
     return 0u;
@@ -1309,14 +1393,19 @@ static inline uint64_t scan__commits__in_group(uint64_t left)
     return t3;
 }
 
-/* Whether the mark of a group and the number `n` stand in the eight bytes from index `at` on: one word, the number above the
-   mark. The mark alone goes first, so that an unused group is passed quickly. */
+/* Whether the mark of a group and the number `n` stand in the eight bytes from index `at` on: the number is that word without the
+   mark. The mark goes first, so that an unused group is passed quickly. */
 static inline bool codec__marks__has_group_head(struct slice_u8 s, uint64_t at, uint64_t n)
 {
-    if (load_2(s.ptr + (size_t)at) != 18256u) {
+    struct array_u8_2 t4;
+    bool t5;
+
+    t4 = (struct array_u8_2){{80u, 71u}};
+    t5 = codec__marks__has_mark(s, at, (struct slice_u8){t4.at, 2u});
+    if (!t5) {
         return false;
     }
-    return load_8(s.ptr + (size_t)at) == (((n % UINT64_C(0x1000000000000)) * UINT64_C(0x10000)) + 18256u);
+    return (load_8(s.ptr + (size_t)at) / UINT64_C(0x10000)) == (n % UINT64_C(0x1000000000000));
 }
 
 /* Whether the 512 bytes of a ring slot are a valid group with number `n`, in a log of `groups` groups from number `start` on. */
@@ -1357,10 +1446,10 @@ static inline struct model__Tag codec__tags__read_tag(uint64_t word, uint64_t po
     if ((word & 1u) == 0u) {
         return (struct model__Tag){.tag = 0u};
     }
-    if ((word >> 53u) != 0u) {
+    if ((word >> 57u) != 0u) {
         return (struct model__Tag){.tag = 0u};
     }
-    t5 = (word >> 2u) & 4095u;
+    t5 = ((word >> 2u) & 4095u) | (((word >> 53u) & 15u) << 12u);
     if (homes <= t5) {
         return (struct model__Tag){.tag = 0u};
     }
@@ -1474,8 +1563,8 @@ static inline struct scan__commits__Progress scan__commits__visit_group(struct s
     return t11;
 }
 
-/* The ring slot after `slot`. */
-static inline uint64_t scan__commits__next_slot(uint64_t slot, uint64_t groups)
+/* The ring slot of the group after that in `slot`. */
+static inline uint64_t scan__slots__next_slot(uint64_t slot, uint64_t groups)
 {
     uint64_t t5;
 
@@ -1509,24 +1598,95 @@ static inline struct scan__commits__Found scan__commits__walk(struct slice_u8 lo
         if (t7.failed != 0u) {
             return (struct scan__commits__Found){.end = t7.end, .number = t7.number};
         }
-        t8 = scan__commits__next_slot(t8, groups);
+        t8 = scan__slots__next_slot(t8, groups);
         t9 = t9 + 1u;
         t10 = t10 - t13;
     }
     return (struct scan__commits__Found){.end = t7.end, .number = t7.number};
 }
 
-/* The ring slot before `slot`. */
-static inline uint64_t replay__gathering__previous_slot(uint64_t slot, uint64_t groups)
+/* Takes what the word of a tag says at a position. */
+static inline void replay__gathering__visit(uint64_t word, uint64_t position, uint64_t base, uint64_t homes,
+        struct slice_mut_u16 last, struct slice_mut_u16 heads, struct slice_mut_u16 links)
 {
-    uint64_t t4;
+    uint64_t t8, t33, t41;
+    struct model__Tag t13;
 
-    if (slot == 0u) {
-        t4 = groups - 1u;
+    t8 = position - base;
+    t13 = codec__tags__read_tag(word, position, base, homes);
+    if (t13.tag == 0u) {
+    } else if (t13.tag == 1u) {
+        t33 = t13.u64_0 / 64u;
+        links.ptr[(size_t)t8] = heads.ptr[(size_t)t33];
+        heads.ptr[(size_t)t33] = (uint16_t)(t8 + 1u);
     } else {
-        t4 = slot - 1u;
+        last.ptr[(size_t)(t13.u64_1 - base)] = (uint16_t)(t8 + 1u);
+        t41 = t13.u64_0 / 64u;
+        links.ptr[(size_t)t8] = heads.ptr[(size_t)t41];
+        heads.ptr[(size_t)t41] = (uint16_t)(t8 + 1u);
     }
-    return t4;
+}
+
+/* Takes the first `m` tags of a group, which says nothing where it is not the valid group with number `n`. */
+static inline void replay__gathering__visit_group(struct slice_u8 group, uint64_t groups, uint64_t homes, uint64_t start,
+        uint64_t n, uint64_t m, struct slice_mut_u16 last, struct slice_mut_u16 heads, struct slice_mut_u16 links)
+{
+    struct array_u64_7 t10, t16;
+    uint64_t t11, t12, t13;
+    bool t14;
+
+    t14 = scan__groups__group_valid(group, groups, start, n);
+    if (!t14) {
+        return;
+    }
+    t16 = scan__groups__tag_words(group);
+    t10 = t16;
+    t11 = 7u * start;
+    t12 = 7u * n;
+    t13 = 0u;
+    while (t13 < m) {
+        replay__gathering__visit(t10.at[(size_t)t13], t12, t11, homes, last, heads, links);
+        t12 = t12 + 1u;
+        t13 = t13 + 1u;
+    }
+}
+
+/* Finds in empty tables the last closing entries and the chains of all entries below `end`. */
+static inline void replay__gathering__gather(struct slice_u8 log, struct slice_mut_u16 last, struct slice_mut_u16 heads,
+        struct slice_mut_u16 links, uint64_t groups, uint64_t homes, uint64_t start, uint64_t end)
+{
+    uint64_t t9, t10, t11, t12, t13, t15;
+
+    t9 = 7u * start;
+    if (end <= t9) {
+        return;
+    }
+    t10 = end - t9;
+    t11 = start;
+    t12 = start % groups;
+    while (0u < t10) {
+        t13 = 64u + (512u * t12);
+        t15 = scan__commits__in_group(t10);
+        replay__gathering__visit_group((struct slice_u8){log.ptr + (size_t)t13, (size_t)((t13 + 512u) - t13)}, groups, homes,
+                start, t11, t15, last, heads, links);
+        t12 = scan__slots__next_slot(t12, groups);
+        t11 = t11 + 1u;
+        t10 = t10 - t15;
+    }
+}
+
+/* The ring slot that lies `n` slots after `slot`. */
+static inline uint64_t replay__places__slot_after(uint64_t slot, uint64_t n, uint64_t groups)
+{
+    uint64_t t4, t6;
+
+    t4 = slot + n;
+    if (t4 < groups) {
+        t6 = t4;
+    } else {
+        t6 = t4 - groups;
+    }
+    return t6;
 }
 
 /* What tag `k` of a group says at a position of a log that starts at position `base` and has `homes` homes. */
@@ -1536,156 +1696,144 @@ static inline struct model__Tag scan__groups__tag_in(struct slice_u8 group, uint
     return codec__tags__read_tag(load_8(group.ptr + (size_t)(8u + (8u * k))), position, base, homes);
 }
 
-/* Takes an entry as its home's newest, if its transaction closes later than that of the newest so far. */
-static inline void replay__gathering__offer(struct slice_mut_u16 closers, struct slice_mut_u16 table, struct slice_mut_u64 map,
-        uint64_t home, uint16_t closer, uint16_t code)
+/* What the log says at an offset where there is an entry. */
+static inline struct model__Tag replay__places__entry_from(struct slice_u8 log, uint64_t groups, uint64_t homes, uint64_t start,
+        uint64_t slot, uint64_t offset)
+{
+    uint64_t t7, t8, t10;
+
+    t7 = 7u * start;
+    t10 = replay__places__slot_after(slot, offset / 7u, groups);
+    t8 = 64u + (512u * t10);
+    return scan__groups__tag_in((struct slice_u8){log.ptr + (size_t)t8, (size_t)((t8 + 512u) - t8)}, offset % 7u, t7 + offset, t7,
+            homes);
+}
+
+/* Takes an entry as the newest of its home, the one with index `k` in its word, if its transaction closes later than that of the
+   newest so far. */
+static inline void replay__words__offer(struct slice_mut_u16 closers, struct slice_mut_u16 table, struct slice_mut_u64 map,
+        uint64_t k, uint16_t closer, uint16_t code)
 {
     uint64_t *t23;
 
-    if (closers.ptr[(size_t)home] < closer) {
-        closers.ptr[(size_t)home] = closer;
-        table.ptr[(size_t)home] = code;
-        t23 = map.ptr + (size_t)(home >> 6u);
-        (*t23) = (*t23) | ((uint64_t)1u << ((home & 63u) & 63u));
+    if (closers.ptr[(size_t)k] < closer) {
+        closers.ptr[(size_t)k] = closer;
+        table.ptr[(size_t)k] = code;
+        t23 = map.ptr + (size_t)(k >> 6u);
+        (*t23) = (*t23) | ((uint64_t)1u << ((k & 63u) & 63u));
     }
 }
 
-/* Takes a closing entry as the last one of the transaction with the first position at index `first`, if none has passed. */
-static inline void replay__gathering__close(struct slice_mut_u16 last, uint64_t first, uint16_t code)
+/* Takes the entry at an offset if its transaction, with its first entry at the offset `first`, is closed from there on. */
+static inline void replay__words__take_entry(struct slice_u16 last, struct slice_mut_u16 closers, struct slice_mut_u16 table,
+        struct slice_mut_u64 map, uint64_t home, uint64_t first, uint64_t offset)
 {
-    if (last.ptr[(size_t)first] == 0u) {
-        last.ptr[(size_t)first] = code;
+    uint16_t t8;
+
+    t8 = last.ptr[(size_t)first];
+    if (offset < (uint64_t)t8) {
+        replay__words__offer(closers, table, map, home % 64u, t8, (uint16_t)(offset + 1u));
     }
 }
 
-/* Takes what tag `k` of a group says at a position. */
-static inline void replay__gathering__note_tag(struct slice_u8 group, uint64_t k, uint64_t position, uint64_t base,
-        uint64_t homes, struct slice_mut_u16 last, struct slice_mut_u16 closers, struct slice_mut_u16 table,
-        struct slice_mut_u64 map)
+/* Takes what the log says at an offset where there is an entry. */
+static inline void replay__words__take_at(struct slice_u8 log, struct slice_u16 last, struct slice_mut_u16 closers,
+        struct slice_mut_u16 table, struct slice_mut_u64 map, uint64_t groups, uint64_t homes, uint64_t start, uint64_t slot,
+        uint64_t offset)
 {
-    uint16_t t10;
-    uint64_t t16;
-    struct model__Tag t20;
+    uint64_t t11;
+    struct model__Tag t16;
 
-    t10 = (uint16_t)((position - base) + 1u);
-    t20 = scan__groups__tag_in(group, k, position, base, homes);
-    if (t20.tag == 0u) {
-    } else if (t20.tag == 1u) {
-        replay__gathering__offer(closers, table, map, t20.u64_0, last.ptr[(size_t)(t20.u64_1 - base)], t10);
-    } else {
-        t16 = t20.u64_1 - base;
-        replay__gathering__close(last, t16, t10);
-        replay__gathering__offer(closers, table, map, t20.u64_0, last.ptr[(size_t)t16], t10);
-    }
-}
-
-/* Takes the first `m` tags of a group from the last of them down, which says nothing where it is not the valid group with number
-   `n`. */
-static inline void replay__gathering__note_group(struct slice_u8 group, uint64_t groups, uint64_t homes, uint64_t start,
-        uint64_t n, uint64_t m, struct slice_mut_u16 last, struct slice_mut_u16 closers, struct slice_mut_u16 table,
-        struct slice_mut_u64 map)
-{
-    uint64_t t11, t12, t13;
-    bool t14;
-
-    t14 = scan__groups__group_valid(group, groups, start, n);
-    if (!t14) {
-        return;
-    }
     t11 = 7u * start;
-    t12 = 7u * n;
-    t13 = m;
-    while (0u < t13) {
-        t13 = t13 - 1u;
-        replay__gathering__note_tag(group, t13, t12 + t13, t11, homes, last, closers, table, map);
+    t16 = replay__places__entry_from(log, groups, homes, start, slot, offset);
+    if (t16.tag == 0u) {
+    } else if (t16.tag == 1u) {
+        replay__words__take_entry(last, closers, table, map, t16.u64_0, t16.u64_1 - t11, offset);
+    } else {
+        replay__words__take_entry(last, closers, table, map, t16.u64_0, t16.u64_1 - t11, offset);
     }
 }
 
-/* Finds the newest entry of every home among the transactions of all closing entries below `end`, and marks the homes that have
-   one. */
-static inline void replay__gathering__gather(struct slice_u8 log, struct slice_mut_u16 table, struct slice_mut_u64 map,
-        uint64_t groups, uint64_t homes, uint64_t start, uint64_t end)
+/* Finds the newest committed entries of the homes of word `w` in an empty table, and returns the word that marks the homes that
+   have one. */
+static inline uint64_t replay__words__newest_in(struct slice_u8 log, struct slice_u16 last, struct slice_u16 heads,
+        struct slice_u16 links, struct slice_mut_u16 table, uint64_t w, uint64_t groups, uint64_t homes, uint64_t start,
+        uint64_t end, uint64_t slot)
 {
-    uint64_t t8, t11, t12, t13, t15;
-    struct array_u16_7168 t9;
-    struct array_u16_4096 t10;
+    struct array_u16_64 t12;
+    struct array_u64_1 t13;
+    uint16_t t14;
+    uint64_t t15;
+    (void)end;
 
-    t8 = 7u * start;
-    if (end <= t8) {
-        return;
+    memset(&t12, 0, sizeof t12);
+    t13 = (struct array_u64_1){{0u}};
+    t14 = heads.ptr[(size_t)w];
+    while (t14 != 0u) {
+        t15 = (uint64_t)t14 - 1u;
+        replay__words__take_at(log, last, (struct slice_mut_u16){t12.at, 64u}, table, (struct slice_mut_u64){t13.at, 1u}, groups,
+                homes, start, slot, t15);
+        t14 = links.ptr[(size_t)t15];
     }
-    memset(&t9, 0, sizeof t9);
-    memset(&t10, 0, sizeof t10);
-    t11 = start + (((end - t8) + 6u) / 7u);
-    t12 = t11 % groups;
-    while (start < t11) {
-        t11 = t11 - 1u;
-        t12 = replay__gathering__previous_slot(t12, groups);
-        t13 = 64u + (512u * t12);
-        t15 = scan__commits__in_group(end - (7u * t11));
-        replay__gathering__note_group((struct slice_u8){log.ptr + (size_t)t13, (size_t)((t13 + 512u) - t13)}, groups, homes,
-                start, t11, t15, (struct slice_mut_u16){t9.at, 7168u}, (struct slice_mut_u16){t10.at, 4096u}, table, map);
-    }
+    return t13.at[0u];
 }
 
-/* How many are marked, by the counts of ones of the words. */
-static inline uint64_t bitmap__count(struct slice_u64 ws)
+/* How many homes of word `w` the transactions of all closing entries below `end` touch. */
+static inline uint64_t replay__words__count_word(struct slice_u8 log, struct slice_u16 last, struct slice_u16 heads,
+        struct slice_u16 links, uint64_t w, uint64_t groups, uint64_t homes, uint64_t start, uint64_t end, uint64_t slot)
 {
-    uint64_t t2, t3;
+    struct array_u16_64 t11;
+    uint64_t t12;
 
-    t2 = 0u;
-    t3 = 0u;
-    while (t3 < (uint64_t)ws.len) {
-        t2 = t2 + (uint64_t)count_ones(ws.ptr[(size_t)t3]);
-        t3 = t3 + 1u;
+    if (heads.ptr[(size_t)w] == 0u) {
+        return 0u;
     }
-    return t2;
+    memset(&t11, 0, sizeof t11);
+    t12 = replay__words__newest_in(log, last, heads, links, (struct slice_mut_u16){t11.at, 64u}, w, groups, homes, start, end,
+            slot);
+    return (uint64_t)count_ones(t12);
 }
 
-/* Notes the newest entry of each home that the transactions of all closing entries below `end` touch in an empty table, marks
-   those homes in an empty map, and returns how many they are. */
-static inline uint64_t recovery__planning__touched_homes(struct slice_u8 log, struct slice_mut_u16 table,
-        struct slice_mut_u64 map, uint64_t groups, uint64_t homes, uint64_t start, uint64_t end)
+/* How many homes the transactions of all closing entries below `end` touch. */
+static inline uint64_t replay__words__count(struct slice_u8 log, struct slice_u16 last, struct slice_u16 heads,
+        struct slice_u16 links, uint64_t groups, uint64_t homes, uint64_t start, uint64_t end)
 {
-    replay__gathering__gather(log, table, map, groups, homes, start, end);
-    return bitmap__count((struct slice_u64){map.ptr, map.len});
+    uint64_t t9, t10, t11, t12, t16;
+
+    t9 = start % groups;
+    t10 = (homes + 63u) / 64u;
+    t11 = 0u;
+    t12 = 0u;
+    while (t12 < t10) {
+        t16 = replay__words__count_word(log, last, heads, links, t12, groups, homes, start, end, t9);
+        t11 = t11 + t16;
+        t12 = t12 + 1u;
+    }
+    return t11;
 }
 
-/* Copies the block at a position to a home. */
-static inline void replay__restore__restore_block(struct slice_u8 log, struct slice_mut_u8 area, uint64_t groups,
-        uint64_t position, uint64_t home)
+/* Copies the block at an offset to a home. */
+static inline void replay__places__restore_block(struct slice_u8 log, struct slice_mut_u8 area, uint64_t groups, uint64_t start,
+        uint64_t slot, uint64_t offset, uint64_t home)
 {
-    areas__blocks__copy_block(area, 64u * home, log, (64u + (512u * ((position / 7u) % groups))) + (64u
-            + (64u * (position % 7u))));
+    uint64_t t9;
+    (void)start;
+
+    t9 = replay__places__slot_after(slot, offset / 7u, groups);
+    areas__blocks__copy_block(area, 64u * home, log, (64u + (512u * t9)) + (64u + (64u * (offset % 7u))));
 }
 
 /* Copies to each home that one word marks, whose first home is `base`, the block of its newest entry. */
 static inline void replay__restore__restore_word(struct slice_u8 log, struct slice_mut_u8 area, struct slice_u16 table,
-        uint64_t groups, uint64_t start, uint64_t word, uint64_t base)
+        uint64_t groups, uint64_t start, uint64_t slot, uint64_t word, uint64_t base)
 {
-    uint64_t t8, t9, t10;
+    uint64_t t9, t10;
 
-    t8 = 7u * start;
     t9 = word;
     while (t9 != 0u) {
-        t10 = base + (uint64_t)trailing_zeros(t9);
-        replay__restore__restore_block(log, area, groups, (t8 + (uint64_t)table.ptr[(size_t)t10]) - 1u, t10);
+        t10 = (uint64_t)trailing_zeros(t9);
+        replay__places__restore_block(log, area, groups, start, slot, (uint64_t)table.ptr[(size_t)t10] - 1u, base + t10);
         t9 = t9 & (t9 - 1u);
-    }
-}
-
-/* Replays the transactions of all closing entries below `end` into the data copy, by the newest entries that were gathered. */
-static inline void replay__restore__restore_all(struct slice_u8 log, struct slice_mut_u8 area, struct slice_u16 table,
-        struct slice_u64 map, uint64_t groups, uint64_t homes, uint64_t start, uint64_t end)
-{
-    uint64_t t9;
-    (void)homes;
-    (void)end;
-
-    t9 = 0u;
-    while (t9 < (uint64_t)map.len) {
-        replay__restore__restore_word(log, area, table, groups, start, map.ptr[(size_t)t9], 64u * t9);
-        t9 = t9 + 1u;
     }
 }
 
@@ -1713,40 +1861,80 @@ static inline uint64_t homes__emit_word(struct slice_mut_u8 batch, uint64_t at, 
     return t6;
 }
 
-/* Writes the records of all marked homes, rising, and returns the index past them. */
-static inline uint64_t homes__emit(struct slice_mut_u8 batch, uint64_t at, struct slice_u64 map, struct slice_u8 area)
+/* Brings the touched homes of word `w` back into the data copy, and writes their records at an index of the batch; returns the
+   index past them. */
+static inline uint64_t replay__restore__bring_word(struct slice_u8 log, struct slice_mut_u8 area, struct slice_mut_u8 batch,
+        uint64_t at, struct slice_u16 last, struct slice_u16 heads, struct slice_u16 links, uint64_t w, uint64_t groups,
+        uint64_t homes, uint64_t start, uint64_t end, uint64_t slot)
 {
-    uint64_t t5, t6;
+    struct array_u16_64 t14;
+    uint64_t t15;
 
-    t5 = at;
-    t6 = 0u;
-    while (t6 < (uint64_t)map.len) {
-        t5 = homes__emit_word(batch, t5, map.ptr[(size_t)t6], 64u * t6, area);
-        t6 = t6 + 1u;
+    if (heads.ptr[(size_t)w] == 0u) {
+        return at;
     }
-    return t5;
+    memset(&t14, 0, sizeof t14);
+    t15 = replay__words__newest_in(log, last, heads, links, (struct slice_mut_u16){t14.at, 64u}, w, groups, homes, start, end,
+            slot);
+    replay__restore__restore_word(log, area, (struct slice_u16){t14.at, 64u}, groups, start, slot, t15, 64u * w);
+    return homes__emit_word(batch, at, t15, 64u * w, (struct slice_u8){area.ptr, area.len});
 }
 
-/* Replays the transactions that close below `end` into the data copy, and writes the records of the marked homes at the batch's
+/* Replays the transactions that close below `end` into the data copy, and writes the records of the homes that they touch at the
+   batch's beginning. */
+static inline uint64_t replay__restore__bring_back(struct slice_u8 log, struct slice_mut_u8 area, struct slice_mut_u8 batch,
+        struct slice_u16 last, struct slice_u16 heads, struct slice_u16 links, uint64_t groups, uint64_t homes, uint64_t start,
+        uint64_t end)
+{
+    uint64_t t11, t12, t13, t14;
+
+    t11 = start % groups;
+    t12 = (homes + 63u) / 64u;
+    t13 = 0u;
+    t14 = 0u;
+    while (t14 < t12) {
+        t13 = replay__restore__bring_word(log, area, batch, t13, last, heads, links, t14, groups, homes, start, end, t11);
+        t14 = t14 + 1u;
+    }
+    return t13;
+}
+
+/* Returns how many bytes the records of the homes that the transactions of all closing entries below `end` touch take, and
+   `more`. If the batch has them, those transactions are replayed into the data copy, and the homes' records stand at the batch's
    beginning. */
 static inline uint64_t recovery__planning__bring_back(struct slice_u8 log, struct slice_mut_u8 area, struct slice_mut_u8 batch,
-        struct slice_u16 table, struct slice_u64 map, uint64_t groups, uint64_t homes, uint64_t start, uint64_t end)
+        uint64_t groups, uint64_t homes, uint64_t start, uint64_t end, uint64_t more)
 {
-    replay__restore__restore_all(log, area, table, map, groups, homes, start, end);
-    return homes__emit(batch, 0u, map, (struct slice_u8){area.ptr, area.len});
+    struct array_u16_7168 t9, t11;
+    struct array_u16_1024 t10;
+    uint64_t t12, t13, t28;
+
+    memset(&t9, 0, sizeof t9);
+    memset(&t10, 0, sizeof t10);
+    memset(&t11, 0, sizeof t11);
+    replay__gathering__gather(log, (struct slice_mut_u16){t9.at, 7168u}, (struct slice_mut_u16){t10.at, 1024u},
+            (struct slice_mut_u16){t11.at, 7168u}, groups, homes, start, end);
+    t12 = replay__words__count(log, (struct slice_u16){t9.at, 7168u}, (struct slice_u16){t10.at, 1024u},
+            (struct slice_u16){t11.at, 7168u}, groups, homes, start, end);
+    t13 = (68u * t12) + more;
+    t28 = (uint64_t)batch.len;
+    if (t28 < t13) {
+        return t13;
+    }
+    t28 = replay__restore__bring_back(log, area, batch, (struct slice_u16){t9.at, 7168u}, (struct slice_u16){t10.at, 1024u},
+            (struct slice_u16){t11.at, 7168u}, groups, homes, start, end);
+    return t13;
 }
 
-/* Replays what closes below `end` into the data copy, and writes the records of the marked homes and of the new header, fenced.
-   */
-static inline void recovery__opening__open_homes(struct slice_u8 log, struct slice_mut_u8 area, struct slice_mut_u8 batch,
-        struct slice_u16 table, struct slice_u64 map, uint64_t groups, uint64_t homes, uint64_t start, uint64_t end)
+/* Writes a fence, the header with a new start and another fence at an index of the batch. */
+static inline void recovery__opening__open_records(struct slice_mut_u8 batch, uint64_t at, uint64_t start, uint64_t groups,
+        uint64_t homes)
 {
-    uint64_t t10;
+    uint64_t t6;
 
-    t10 = recovery__planning__bring_back(log, area, batch, table, map, groups, homes, start, end);
-    t10 = batch__records__fence(batch, t10);
-    t10 = batch__records__header_write(batch, t10, start + groups, groups, homes);
-    (void)batch__records__fence(batch, t10);
+    t6 = batch__records__fence(batch, at);
+    t6 = batch__records__header_write(batch, t6, start, groups, homes);
+    (void)batch__records__fence(batch, t6);
 }
 
 /* Makes every byte of the strip zero. */
@@ -1783,11 +1971,9 @@ static inline void recovery__opening__open_copies(struct slice_mut_u8 log, struc
 static inline struct answers__Reply recovery__opening__reopen(struct slice_mut_u8 log, struct slice_mut_u8 area,
         struct slice_mut_u8 state, struct slice_mut_u8 batch)
 {
-    uint64_t t5, t7, t8, t9, t13, t14, t15;
+    uint64_t t5, t7, t8, t9, t12;
     struct recovery__opening__Shape t6;
-    struct array_u16_4096 t10;
-    struct array_u64_64 t11;
-    struct scan__commits__Found t12;
+    struct scan__commits__Found t10;
 
     t5 = recovery__opening__may_open((struct slice_u8){log.ptr, log.len}, (struct slice_u8){area.ptr, area.len},
             (struct slice_u8){state.ptr, state.len});
@@ -1798,20 +1984,14 @@ static inline struct answers__Reply recovery__opening__reopen(struct slice_mut_u
     t7 = t6.groups;
     t8 = t6.homes;
     t9 = t6.start;
-    memset(&t10, 0, sizeof t10);
-    memset(&t11, 0, sizeof t11);
-    t12 = scan__commits__walk((struct slice_u8){log.ptr, log.len}, t7, t8, t9, 7u * t7);
-    t13 = t12.end;
-    t14 = recovery__planning__touched_homes((struct slice_u8){log.ptr, log.len}, (struct slice_mut_u16){t10.at, 4096u},
-            (struct slice_mut_u64){t11.at, 64u}, t7, t8, t9, t13);
-    t15 = (68u * t14) + 70u;
-    if ((uint64_t)batch.len < t15) {
+    t10 = scan__commits__walk((struct slice_u8){log.ptr, log.len}, t7, t8, t9, 7u * t7);
+    t12 = recovery__planning__bring_back((struct slice_u8){log.ptr, log.len}, area, batch, t7, t8, t9, t10.end, 70u);
+    if ((uint64_t)batch.len < t12) {
         return (struct answers__Reply){.code = 9u, .figure = 0u, .size = 0u};
     }
-    recovery__opening__open_homes((struct slice_u8){log.ptr, log.len}, area, batch, (struct slice_u16){t10.at, 4096u},
-            (struct slice_u64){t11.at, 64u}, t7, t8, t9, t13);
+    recovery__opening__open_records(batch, t12 - 70u, t9 + t7, t7, t8);
     recovery__opening__open_copies(log, state, t7, t8, t9 + t7);
-    return (struct answers__Reply){.code = 0u, .figure = t12.number, .size = t15};
+    return (struct answers__Reply){.code = 0u, .figure = t10.number, .size = t12};
 }
 
 /* Brings back what a power cut left: replays the committed transactions into the data copy and starts the log anew. */
@@ -1887,8 +2067,7 @@ static inline uint64_t reading__newest__own(struct model__Writer r)
 }
 
 /* Notes an entry's offset + 1 at index `i` if its home is the one looked for, and returns what stands there then. */
-static inline uint64_t replay__search__note(struct slice_mut_u16 latest, uint64_t i, uint64_t code, uint64_t written,
-        uint64_t home)
+static inline uint64_t search__pass__note(struct slice_mut_u16 latest, uint64_t i, uint64_t code, uint64_t written, uint64_t home)
 {
     if (written != home) {
         return (uint64_t)latest.ptr[(size_t)i];
@@ -1898,7 +2077,7 @@ static inline uint64_t replay__search__note(struct slice_mut_u16 latest, uint64_
 }
 
 /* The position + 1 of the entry with the offset `code` - 1, or where there is none (0) another one. */
-static inline uint64_t replay__search__or_other(uint64_t base, uint64_t code, uint64_t other)
+static inline uint64_t search__pass__or_other(uint64_t base, uint64_t code, uint64_t other)
 {
     if (code == 0u) {
         return other;
@@ -1908,22 +2087,22 @@ static inline uint64_t replay__search__or_other(uint64_t base, uint64_t code, ui
 
 /* The newest committed entry once a closing entry is judged, whose transaction's newest entry for the home has the offset `code`
    - 1, or none (0). */
-static inline uint64_t replay__search__newest_after(uint64_t failed, uint64_t base, uint64_t code, uint64_t newest)
+static inline uint64_t search__pass__newest_after(uint64_t failed, uint64_t base, uint64_t code, uint64_t newest)
 {
     if (failed != 0u) {
         return newest;
     }
-    return replay__search__or_other(base, code, newest);
+    return search__pass__or_other(base, code, newest);
 }
 
 /* Takes what the word of a tag says at a position. */
-static inline struct replay__search__Search replay__search__visit(uint64_t word, uint64_t position, uint64_t base, uint64_t homes,
-        uint64_t home, struct slice_mut_u16 counts, struct slice_mut_u16 latest, struct replay__search__Search search)
+static inline struct search__pass__Search search__pass__visit(uint64_t word, uint64_t position, uint64_t base, uint64_t homes,
+        uint64_t home, struct slice_mut_u16 counts, struct slice_mut_u16 latest, struct search__pass__Search search)
 {
     uint64_t t11, t16, t18, t21, t24;
     struct scan__commits__Progress t20;
     struct model__Tag t22;
-    struct replay__search__Search t23;
+    struct search__pass__Search t23;
     uint16_t t39, t45;
 
     t22 = codec__tags__read_tag(word, position, base, homes);
@@ -1935,28 +2114,28 @@ static inline struct replay__search__Search replay__search__visit(uint64_t word,
         t39 = (uint16_t)((uint32_t)counts.ptr[(size_t)t11] + 1u);
         counts.ptr[(size_t)t11] = t39;
         t24 = (uint64_t)t39;
-        t24 = replay__search__note(latest, t11, (position + 1u) - base, t22.u64_0, home);
+        t24 = search__pass__note(latest, t11, (position + 1u) - base, t22.u64_0, home);
         t23 = search;
     } else {
         t16 = t22.u64_1 - base;
         t45 = (uint16_t)((uint32_t)counts.ptr[(size_t)t16] + 1u);
         counts.ptr[(size_t)t16] = t45;
-        t18 = replay__search__note(latest, t16, (position + 1u) - base, t22.u64_0, home);
+        t18 = search__pass__note(latest, t16, (position + 1u) - base, t22.u64_0, home);
         t20 = scan__commits__judge(search.progress, base, position, t22.u64_2, (uint64_t)t45 == t22.u64_3);
-        t21 = replay__search__newest_after(t20.failed, base, t18, search.newest);
-        t23 = (struct replay__search__Search){.progress = t20, .newest = t21};
+        t21 = search__pass__newest_after(t20.failed, base, t18, search.newest);
+        t23 = (struct search__pass__Search){.progress = t20, .newest = t21};
     }
     return t23;
 }
 
 /* Takes the first `m` tags of a group, which says nothing where it is not the valid group with number `n`. */
-static inline struct replay__search__Search replay__search__visit_group(struct slice_u8 group, uint64_t groups, uint64_t homes,
+static inline struct search__pass__Search search__pass__visit_group(struct slice_u8 group, uint64_t groups, uint64_t homes,
         uint64_t start, uint64_t n, uint64_t m, uint64_t home, struct slice_mut_u16 counts, struct slice_mut_u16 latest,
-        struct replay__search__Search search)
+        struct search__pass__Search search)
 {
     struct array_u64_7 t11, t18;
     uint64_t t12, t14, t15;
-    struct replay__search__Search t13;
+    struct search__pass__Search t13;
     bool t16;
 
     t16 = scan__groups__group_valid(group, groups, start, n);
@@ -1970,7 +2149,7 @@ static inline struct replay__search__Search replay__search__visit_group(struct s
     t14 = 7u * n;
     t15 = 0u;
     while (t15 < m) {
-        t13 = replay__search__visit(t11.at[(size_t)t15], t14, t12, homes, home, counts, latest, t13);
+        t13 = search__pass__visit(t11.at[(size_t)t15], t14, t12, homes, home, counts, latest, t13);
         t14 = t14 + 1u;
         t15 = t15 + 1u;
     }
@@ -1978,7 +2157,7 @@ static inline struct replay__search__Search replay__search__visit_group(struct s
 }
 
 /* Whether the pass may stop: a closing entry has failed, and the writer has logged nothing. */
-static inline bool replay__search__may_stop(uint64_t own, uint64_t failed)
+static inline bool search__pass__may_stop(uint64_t own, uint64_t failed)
 {
     if (own != 0u) {
         return false;
@@ -1988,25 +2167,25 @@ static inline bool replay__search__may_stop(uint64_t own, uint64_t failed)
 
 /* What the writer sees at the end of the pass: the newest entry of its own transaction, which begins at `own` - 1, else the
    newest committed one. */
-static inline uint64_t replay__search__choose(struct slice_u16 latest, uint64_t base, uint64_t own, uint64_t newest)
+static inline uint64_t search__pass__choose(struct slice_u16 latest, uint64_t base, uint64_t own, uint64_t newest)
 {
     if (own == 0u) {
         return newest;
     }
-    return replay__search__or_other(base, (uint64_t)latest.ptr[(size_t)((own - base) - 1u)], newest);
+    return search__pass__or_other(base, (uint64_t)latest.ptr[(size_t)((own - base) - 1u)], newest);
 }
 
 /* The pass over the `n` positions of the log from its start on, with a counter and a latest entry for each, all 0, and what it
    gives: the newest entry for a home that a writer sees. `own` is the first position + 1 of the writer's open transaction, 0 if
    it has logged nothing. */
-static inline uint64_t replay__search__seek_with(struct slice_u8 log, uint64_t groups, uint64_t homes, uint64_t start, uint64_t n,
+static inline uint64_t search__pass__seek_with(struct slice_u8 log, uint64_t groups, uint64_t homes, uint64_t start, uint64_t n,
         uint64_t home, uint64_t own, struct slice_mut_u16 counts, struct slice_mut_u16 latest)
 {
-    struct replay__search__Search t10;
+    struct search__pass__Search t10;
     uint64_t t11, t12, t13, t14, t16;
     bool t26;
 
-    t10 = (struct replay__search__Search){.progress = (struct scan__commits__Progress){.end = 0u, .number = 0u, .failed = 0u},
+    t10 = (struct search__pass__Search){.progress = (struct scan__commits__Progress){.end = 0u, .number = 0u, .failed = 0u},
             .newest = 0u};
     t11 = start % groups;
     t12 = start;
@@ -2014,24 +2193,24 @@ static inline uint64_t replay__search__seek_with(struct slice_u8 log, uint64_t g
     while (0u < t13) {
         t14 = 64u + (512u * t11);
         t16 = scan__commits__in_group(t13);
-        t10 = replay__search__visit_group((struct slice_u8){log.ptr + (size_t)t14, (size_t)((t14 + 512u) - t14)}, groups, homes,
+        t10 = search__pass__visit_group((struct slice_u8){log.ptr + (size_t)t14, (size_t)((t14 + 512u) - t14)}, groups, homes,
                 start, t12, t16, home, counts, latest, t10);
-        t26 = replay__search__may_stop(own, t10.progress.failed);
+        t26 = search__pass__may_stop(own, t10.progress.failed);
         if (t26) {
             return t10.newest;
         }
-        t11 = scan__commits__next_slot(t11, groups);
+        t11 = scan__slots__next_slot(t11, groups);
         t12 = t12 + 1u;
         t13 = t13 - t16;
     }
-    return replay__search__choose((struct slice_u16){latest.ptr, latest.len}, 7u * start, own, t10.newest);
+    return search__pass__choose((struct slice_u16){latest.ptr, latest.len}, 7u * start, own, t10.newest);
 }
 
 /* The newest entry for a home that a writer sees, among the `n` positions of the log from its start on: `own` is the first
    position + 1 of its open transaction, 0 if it has logged nothing. A short log has small tables, since they are cleared first.
    */
-static inline uint64_t replay__search__newest_seen(struct slice_u8 log, uint64_t groups, uint64_t homes, uint64_t start,
-        uint64_t n, uint64_t home, uint64_t own)
+static inline uint64_t search__pass__newest_seen(struct slice_u8 log, uint64_t groups, uint64_t homes, uint64_t start, uint64_t n,
+        uint64_t home, uint64_t own)
 {
     struct array_u16_448 t8, t9;
     struct array_u16_7168 t10, t11;
@@ -2039,12 +2218,12 @@ static inline uint64_t replay__search__newest_seen(struct slice_u8 log, uint64_t
     if (n <= 448u) {
         memset(&t8, 0, sizeof t8);
         memset(&t9, 0, sizeof t9);
-        return replay__search__seek_with(log, groups, homes, start, n, home, own, (struct slice_mut_u16){t8.at, 448u},
+        return search__pass__seek_with(log, groups, homes, start, n, home, own, (struct slice_mut_u16){t8.at, 448u},
                 (struct slice_mut_u16){t9.at, 448u});
     }
     memset(&t10, 0, sizeof t10);
     memset(&t11, 0, sizeof t11);
-    return replay__search__seek_with(log, groups, homes, start, n, home, own, (struct slice_mut_u16){t10.at, 7168u},
+    return search__pass__seek_with(log, groups, homes, start, n, home, own, (struct slice_mut_u16){t10.at, 7168u},
             (struct slice_mut_u16){t11.at, 7168u});
 }
 
@@ -2058,7 +2237,7 @@ static inline uint64_t reading__newest__seen(struct slice_u8 log, struct model__
         return 0u;
     }
     t6 = reading__newest__own(r);
-    return replay__search__newest_seen(log, st.groups, st.homes, st.start, t5, home, t6);
+    return search__pass__newest_seen(log, st.groups, st.homes, st.start, t5, home, t6);
 }
 
 /* Reads a home into a block buffer. */
@@ -2124,25 +2303,81 @@ static inline struct answers__Reply kagutin__kagutin_read(struct slice_u8 log, s
     return reading__read(log, area, state, block, writer, home);
 }
 
-/* Replays what closes below `end` into the data copy, and writes the records of the marked homes and a fence. */
-static inline void recovery__settling__settle_homes(struct slice_u8 log, struct slice_mut_u8 area, struct slice_mut_u8 batch,
-        struct slice_u16 table, struct slice_u64 map, struct model__State st, uint64_t end)
+/* The places that are promised to nobody. */
+static inline uint64_t strip__promises__free_places(struct slice_u8 s, struct model__State st)
 {
-    uint64_t t8;
+    uint64_t t3, t4;
 
-    t8 = recovery__planning__bring_back(log, area, batch, table, map, st.groups, st.homes, st.start, end);
-    (void)batch__records__fence(batch, t8);
+    t3 = (7u * (st.start + st.groups)) - ((7u * st.next) + st.filled);
+    t4 = strip__promises__promised(s);
+    if (t3 < t4) {
+        return 0u;
+    }
+    return t3 - t4;
+}
+
+/* Whether `n` places may be promised: at least one, and no more than are free. */
+static inline bool strip__promises__may_promise(struct slice_u8 s, struct model__State st, uint64_t n)
+{
+    uint64_t t5;
+
+    if (n == 0u) {
+        return false;
+    }
+    t5 = strip__promises__free_places(s, st);
+    return n <= t5;
+}
+
+/* Whether a writer may begin with `n` places promised to it: 0, or the number of the refusal. */
+static inline uint64_t sessions__reserve_answer(struct slice_u8 log, struct slice_u8 area, struct slice_u8 state, uint64_t writer,
+        uint64_t n)
+{
+    uint64_t t6;
+    bool t7;
+
+    t6 = sessions__begin_answer(log, area, state, writer);
+    if (t6 != 0u) {
+        return t6;
+    }
+    t7 = strip__promises__may_promise(state, (struct model__State){.groups = load_8(state.ptr), .homes = load_8(state.ptr + 8u),
+            .start = load_8(state.ptr + 16u), .next = load_8(state.ptr + 24u), .filled = load_8(state.ptr + 32u),
+            .settled = load_8(state.ptr + 40u), .fenced = load_8(state.ptr + 48u), .durable = load_8(state.ptr + 56u),
+            .last = load_8(state.ptr + 64u)}, n);
+    if (!t7) {
+        return 17u;
+    }
+    return 0u;
+}
+
+/* Begins a transaction of a writer that has none open, and promises it `n` places: its first `n` entries find room. */
+static inline struct answers__Reply sessions__reserve(struct slice_u8 log, struct slice_u8 area, struct slice_mut_u8 state,
+        uint64_t writer, uint64_t n)
+{
+    uint64_t t6;
+
+    t6 = sessions__reserve_answer(log, area, (struct slice_u8){state.ptr, state.len}, writer, n);
+    if (t6 != 0u) {
+        return (struct answers__Reply){.code = t6, .figure = 0u, .size = 0u};
+    }
+    writers__begin(state, writer);
+    store_2(state.ptr + (size_t)(72u + (2u * writer)), n);
+    return (struct answers__Reply){.code = 0u, .figure = 0u, .size = 0u};
+}
+
+/* Begins a transaction of a writer that has none open, and promises it `n` places: its first `n` entries find room. */
+static inline struct answers__Reply kagutin__kagutin_reserve(struct slice_u8 log, struct slice_u8 area, struct slice_mut_u8 state,
+        uint64_t writer, uint64_t n)
+{
+    return sessions__reserve(log, area, state, writer, n);
 }
 
 /* Brings the data copy and the data area up to the fenced position. */
 static inline struct answers__Reply recovery__settling__settle(struct slice_u8 log, struct slice_mut_u8 area,
         struct slice_mut_u8 state, struct slice_mut_u8 batch)
 {
-    uint64_t t5, t11, t12, t13;
+    uint64_t t5, t10, t23;
     struct model__State t6;
-    struct array_u16_4096 t7;
-    struct array_u64_64 t8;
-    struct scan__commits__Found t10;
+    struct scan__commits__Found t8;
 
     t5 = answers__in_use(log, (struct slice_u8){area.ptr, area.len}, (struct slice_u8){state.ptr, state.len});
     if (t5 != 0u) {
@@ -2151,20 +2386,16 @@ static inline struct answers__Reply recovery__settling__settle(struct slice_u8 l
     t6 = (struct model__State){.groups = load_8(state.ptr), .homes = load_8(state.ptr + 8u), .start = load_8(state.ptr + 16u),
             .next = load_8(state.ptr + 24u), .filled = load_8(state.ptr + 32u), .settled = load_8(state.ptr + 40u),
             .fenced = load_8(state.ptr + 48u), .durable = load_8(state.ptr + 56u), .last = load_8(state.ptr + 64u)};
-    memset(&t7, 0, sizeof t7);
-    memset(&t8, 0, sizeof t8);
-    t10 = scan__commits__walk(log, t6.groups, t6.homes, t6.start, t6.fenced - (7u * t6.start));
-    t11 = t10.end;
-    t12 = recovery__planning__touched_homes(log, (struct slice_mut_u16){t7.at, 4096u}, (struct slice_mut_u64){t8.at, 64u},
-            t6.groups, t6.homes, t6.start, t11);
-    t13 = (68u * t12) + 2u;
-    if ((uint64_t)batch.len < t13) {
+    t8 = scan__commits__walk(log, t6.groups, t6.homes, t6.start, t6.fenced - (7u * t6.start));
+    t10 = recovery__planning__bring_back(log, area, batch, t6.groups, t6.homes, t6.start, t8.end, 2u);
+    t23 = (uint64_t)batch.len;
+    if (t23 < t10) {
         return (struct answers__Reply){.code = 9u, .figure = 0u, .size = 0u};
     }
-    recovery__settling__settle_homes(log, area, batch, (struct slice_u16){t7.at, 4096u}, (struct slice_u64){t8.at, 64u}, t6, t11);
+    t23 = batch__records__fence(batch, t10 - 2u);
     store_8(state.ptr + 40u, t6.fenced);
     store_8(state.ptr + 48u, 7u * t6.next);
-    return (struct answers__Reply){.code = 0u, .figure = 0u, .size = t13};
+    return (struct answers__Reply){.code = 0u, .figure = 0u, .size = t10};
 }
 
 /* Writes the homes of the commits below the fenced position, and a fence. */
@@ -2178,7 +2409,7 @@ static inline struct answers__Reply kagutin__kagutin_settle(struct slice_u8 log,
 static inline uint64_t logging__stores__store_verdict(struct slice_u8 log, struct slice_u8 area, struct slice_u8 state,
         struct slice_u8 block, struct slice_u8 batch, uint64_t writer, uint64_t home)
 {
-    uint64_t t8, t18;
+    uint64_t t8, t19;
     struct model__Writer t9;
 
     t8 = answers__in_use_block(log, area, state, block);
@@ -2191,9 +2422,9 @@ static inline uint64_t logging__stores__store_verdict(struct slice_u8 log, struc
     if (((uint64_t)area.len / 64u) <= home) {
         return 5u;
     }
-    t18 = 128u + (96u * writer);
-    t9 = (struct model__Writer){.mode = load_8(state.ptr + (size_t)t18), .home = load_8(state.ptr + (size_t)(t18 + 8u)),
-            .first = load_8(state.ptr + (size_t)(t18 + 16u)), .count = load_8(state.ptr + (size_t)(t18 + 24u))};
+    t19 = 128u + (96u * writer);
+    t9 = (struct model__Writer){.mode = load_8(state.ptr + (size_t)t19), .home = load_8(state.ptr + (size_t)(t19 + 8u)),
+            .first = load_8(state.ptr + (size_t)(t19 + 16u)), .count = load_8(state.ptr + (size_t)(t19 + 24u))};
     if (!(1u <= t9.mode)) {
         return 7u;
     }
@@ -2203,10 +2434,10 @@ static inline uint64_t logging__stores__store_verdict(struct slice_u8 log, struc
     if (t9.home == home) {
         return 0u;
     }
-    return logging__entry__may_log((struct model__State){.groups = load_8(state.ptr), .homes = load_8(state.ptr + 8u),
+    return logging__entry__may_log(state, (struct model__State){.groups = load_8(state.ptr), .homes = load_8(state.ptr + 8u),
             .start = load_8(state.ptr + 16u), .next = load_8(state.ptr + 24u), .filled = load_8(state.ptr + 32u),
             .settled = load_8(state.ptr + 40u), .fenced = load_8(state.ptr + 48u), .durable = load_8(state.ptr + 56u),
-            .last = load_8(state.ptr + 64u)}, (uint64_t)batch.len);
+            .last = load_8(state.ptr + 64u)}, writer, (uint64_t)batch.len);
 }
 
 /* The record `r` once its writer holds a block for `home`; a block that it held for another home was logged at `position`. */
@@ -2268,6 +2499,18 @@ static inline void logging__stores__store_first(struct slice_mut_u8 state, struc
     strip__writers__set_held(state, w, block);
 }
 
+/* How many places are promised to writer `w` once an entry of it has used one up. */
+static inline uint64_t strip__promises__promise_left(struct slice_u8 s, uint64_t w)
+{
+    uint64_t t3;
+
+    t3 = load_2(s.ptr + (size_t)(72u + (2u * w)));
+    if (t3 == 0u) {
+        return 0u;
+    }
+    return t3 - 1u;
+}
+
 /* The tag of a held block that is logged at `position` and does not close its transaction. */
 static inline uint64_t logging__entry__store_word(struct model__State st, struct model__Writer r, uint64_t position)
 {
@@ -2275,12 +2518,12 @@ static inline uint64_t logging__entry__store_word(struct model__State st, struct
     (void)st;
 
     t4 = strip__writers__first_for(r, position);
-    return (1u | (r.home << 2u)) | ((position - t4) << 14u);
+    return ((1u | ((r.home & 4095u) << 2u)) | ((position - t4) << 14u)) | ((r.home >> 12u) << 53u);
 }
 
 /* Logs the held block and holds the next one, for another home. The record is changed first: the numbers and the block that are
    logged stay. */
-static inline uint64_t logging__stores__store_other(struct slice_mut_u8 log, struct slice_mut_u8 state, struct slice_u8 block,
+static inline uint64_t logging__stores__hold_next(struct slice_mut_u8 log, struct slice_mut_u8 state, struct slice_u8 block,
         struct slice_mut_u8 batch, struct model__State st, struct model__Writer r, uint64_t w, uint64_t home)
 {
     uint64_t t9, t10, t11;
@@ -2291,6 +2534,18 @@ static inline uint64_t logging__stores__store_other(struct slice_mut_u8 log, str
     t11 = logging__entry__log_entry(log, state, batch, st, t10, w);
     strip__writers__set_held(state, w, block);
     return t11;
+}
+
+/* The same, and the entry uses up one of the places promised to the writer, if any is left. */
+static inline uint64_t logging__stores__store_other(struct slice_mut_u8 log, struct slice_mut_u8 state, struct slice_u8 block,
+        struct slice_mut_u8 batch, struct model__State st, struct model__Writer r, uint64_t w, uint64_t home)
+{
+    uint64_t t9, t10;
+
+    t9 = strip__promises__promise_left((struct slice_u8){state.ptr, state.len}, w);
+    t10 = logging__stores__hold_next(log, state, block, batch, st, r, w, home);
+    store_2(state.ptr + (size_t)(72u + (2u * w)), t9);
+    return t10;
 }
 
 /* Holds a block for a home in a writer's open transaction; a block held for another home is logged first. */
@@ -2332,7 +2587,7 @@ static inline struct answers__Reply kagutin__kagutin_store(struct slice_mut_u8 l
 }
 
 /* A limit lowered to the group in which a writer's open transaction begins, if it has logged entries. */
-static inline uint64_t replay__trim__writer_limit(struct slice_u8 state, uint64_t w, uint64_t limit)
+static inline uint64_t limits__writers__writer_limit(struct slice_u8 state, uint64_t w, uint64_t limit)
 {
     uint64_t t4, t5;
 
@@ -2348,109 +2603,120 @@ static inline uint64_t replay__trim__writer_limit(struct slice_u8 state, uint64_
 }
 
 /* The highest start up to `limit` with no entry of an open transaction before it. */
-static inline uint64_t replay__trim__open_limit(struct slice_u8 state, uint64_t limit)
+static inline uint64_t limits__writers__open_limit(struct slice_u8 state, uint64_t limit)
 {
     uint64_t t3, t4;
 
     t3 = limit;
     t4 = 0u;
     while (t4 < 8u) {
-        t3 = replay__trim__writer_limit(state, t4, t3);
+        t3 = limits__writers__writer_limit(state, t4, t3);
         t4 = t4 + 1u;
     }
     return t3;
 }
 
-/* What the log says at a position. */
-static inline struct model__Tag scan__groups__entry_at(struct slice_u8 log, uint64_t groups, uint64_t homes, uint64_t start,
-        uint64_t position)
+/* The ring slot of the group before that in `slot`. */
+static inline uint64_t scan__slots__previous_slot(uint64_t slot, uint64_t groups)
 {
-    uint64_t t6, t7;
-    struct slice_u8 t8;
-    bool t14;
-    struct model__Tag t15;
+    uint64_t t4;
 
-    t6 = position / 7u;
-    t7 = 64u + (512u * (t6 % groups));
-    t8 = (struct slice_u8){log.ptr + (size_t)t7, (size_t)((t7 + 512u) - t7)};
-    t14 = scan__groups__group_valid(t8, groups, start, t6);
-    if (t14) {
-        t15 = scan__groups__tag_in(t8, position % 7u, position, 7u * start, homes);
+    if (slot == 0u) {
+        t4 = groups - 1u;
     } else {
-        t15 = (struct model__Tag){.tag = 0u};
+        t4 = slot - 1u;
     }
-    return t15;
+    return t4;
 }
 
-/* The first position + 1 of the transaction that the entry at a position closes, 0 if it closes none. */
-static inline uint64_t replay__entries__first_closed(struct slice_u8 log, uint64_t groups, uint64_t homes, uint64_t start,
-        uint64_t position)
+/* A limit lowered to the group in which the transaction begins that the word of a tag closes, if it closes one. */
+static inline uint64_t limits__spans__word_limit(uint64_t word, uint64_t position, uint64_t base, uint64_t homes, uint64_t limit)
 {
-    struct model__Tag t6;
-    uint64_t t8;
+    uint64_t t7, t9, t11;
+    struct model__Tag t8;
 
-    t6 = scan__groups__entry_at(log, groups, homes, start, position);
-    if (t6.tag == 0u) {
-        t8 = 0u;
-    } else if (t6.tag == 1u) {
-        t8 = 0u;
+    t8 = codec__tags__read_tag(word, position, base, homes);
+    if (t8.tag == 0u) {
+        t9 = limit;
+    } else if (t8.tag == 1u) {
+        t9 = limit;
     } else {
-        t8 = t6.u64_1 + 1u;
+        t7 = t8.u64_1 / 7u;
+        if (t7 < limit) {
+            t11 = t7;
+        } else {
+            t11 = limit;
+        }
+        t9 = t11;
     }
-    return t8;
+    return t9;
 }
 
-/* A limit lowered to the group in which the transaction begins that the entry at a position closes, if it closes one. */
-static inline uint64_t replay__trim__span_limit(struct slice_u8 log, uint64_t groups, uint64_t homes, uint64_t start,
-        uint64_t position, uint64_t limit)
+/* A limit lowered by the first `m` tags of a group, which says nothing where it is not the valid group with number `n`. */
+static inline uint64_t limits__spans__group_limit(struct slice_u8 group, uint64_t groups, uint64_t homes, uint64_t start,
+        uint64_t n, uint64_t m, uint64_t limit)
 {
-    uint64_t t7, t8;
+    struct array_u64_7 t8, t15;
+    uint64_t t9, t10, t11, t12;
+    bool t13;
 
-    t7 = replay__entries__first_closed(log, groups, homes, start, position);
-    if (t7 == 0u) {
+    t13 = scan__groups__group_valid(group, groups, start, n);
+    if (!t13) {
         return limit;
     }
-    t8 = (t7 - 1u) / 7u;
-    if (t8 < limit) {
-        return t8;
+    t15 = scan__groups__tag_words(group);
+    t8 = t15;
+    t9 = 7u * start;
+    t10 = limit;
+    t11 = 7u * n;
+    t12 = 0u;
+    while (t12 < m) {
+        t10 = limits__spans__word_limit(t8.at[(size_t)t12], t11, t9, homes, t10);
+        t11 = t11 + 1u;
+        t12 = t12 + 1u;
     }
-    return limit;
+    return t10;
 }
 
 /* The highest start up to `limit` that no transaction of a closing entry below `end` lies across. */
-static inline uint64_t replay__trim__closed_limit(struct slice_u8 log, uint64_t groups, uint64_t homes, uint64_t start,
+static inline uint64_t limits__spans__closed_limit(struct slice_u8 log, uint64_t groups, uint64_t homes, uint64_t start,
         uint64_t end, uint64_t limit)
 {
-    uint64_t t7, t8;
+    uint64_t t7, t8, t9, t10, t12;
 
     t7 = limit;
-    t8 = end;
-    while ((7u * t7) < t8) {
+    t8 = (end + 6u) / 7u;
+    t9 = t8 % groups;
+    while (t7 < t8) {
         t8 = t8 - 1u;
-        t7 = replay__trim__span_limit(log, groups, homes, start, t8, t7);
+        t9 = scan__slots__previous_slot(t9, groups);
+        t10 = 64u + (512u * t9);
+        t12 = scan__commits__in_group(end - (7u * t8));
+        t7 = limits__spans__group_limit((struct slice_u8){log.ptr + (size_t)t10, (size_t)((t10 + 512u) - t10)}, groups, homes,
+                start, t8, t12, t7);
     }
     return t7;
 }
 
-/* The highest start from the log's start to the settled position that no open or committed transaction lies across. */
-static inline uint64_t replay__trim__trim_start(struct slice_u8 log, struct slice_u8 state, uint64_t groups, uint64_t homes,
-        uint64_t start, uint64_t settled, uint64_t end)
-{
-    uint64_t t8;
-
-    t8 = replay__trim__open_limit(state, settled / 7u);
-    return replay__trim__closed_limit(log, groups, homes, start, end, t8);
-}
-
-/* The highest start up to the settled position that no open or committed transaction lies across. */
+/* The highest start up to the settled position that no open or committed transaction lies across. The log is not looked at where
+   open transactions leave no start but its own, or where the highest that they leave lies past all entries. */
 static inline uint64_t trimming__start__new_start(struct slice_u8 log, struct slice_u8 area, struct slice_u8 state,
         struct model__State st)
 {
-    struct scan__commits__Found t6;
+    uint64_t t5, t6;
+    struct scan__commits__Found t8;
     (void)area;
 
-    t6 = scan__commits__walk(log, st.groups, st.homes, st.start, ((7u * st.next) + st.filled) - (7u * st.start));
-    return replay__trim__trim_start(log, state, st.groups, st.homes, st.start, st.settled, t6.end);
+    t5 = limits__writers__open_limit(state, st.settled / 7u);
+    if (t5 == st.start) {
+        return t5;
+    }
+    t6 = (7u * st.next) + st.filled;
+    if (t6 <= (7u * t5)) {
+        return t5;
+    }
+    t8 = scan__commits__walk(log, st.groups, st.homes, st.start, t6 - (7u * st.start));
+    return limits__spans__closed_limit(log, st.groups, st.homes, st.start, t8.end, t5);
 }
 
 /* Writes the new header and a fence into the batch. */
@@ -2599,6 +2865,15 @@ struct kagutin_reply kagutin_read(const uint8_t *log, size_t log_size, const uin
 {
     struct answers__Reply r = kagutin__kagutin_read((struct slice_u8){log, log_size}, (struct slice_u8){area, area_size},
             (struct slice_u8){state, state_size}, (struct slice_mut_u8){block, block_size}, writer, home);
+
+    return (struct kagutin_reply){.code = r.code, .figure = r.figure, .size = r.size};
+}
+
+struct kagutin_reply kagutin_reserve(const uint8_t *log, size_t log_size, const uint8_t *area, size_t area_size, uint8_t *state,
+        size_t state_size, uint64_t writer, uint64_t n)
+{
+    struct answers__Reply r = kagutin__kagutin_reserve((struct slice_u8){log, log_size}, (struct slice_u8){area, area_size},
+            (struct slice_mut_u8){state, state_size}, writer, n);
 
     return (struct kagutin_reply){.code = r.code, .figure = r.figure, .size = r.size};
 }
