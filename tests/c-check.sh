@@ -133,7 +133,7 @@ says "from 0 to" 2 "station --seed -1" "$san/station" --seed -1
 says "from 1 to" 2 "station --cuts 0" "$san/station" --cuts 0
 says "from 4 to" 2 "station --groups 3" "$san/station" --groups 3
 says "from 4 to" 2 "station --groups 12x" "$san/station" --groups 12x
-says "from 16 to" 2 "station --homes 4097" "$san/station" --homes 4097
+says "from 16 to" 2 "station --homes 65536" "$san/station" --homes 65536
 says "goes with --file" 2 "station --keep-cut without a file" "$san/station" --keep-cut
 says "no image" 2 "inspect without an image" "$san/inspect"
 says "unknown option" 2 "inspect --frob" "$san/inspect" --frob x

@@ -160,7 +160,7 @@ int main(int count, char **words)
     }
     check(!driver_create_unnamed(&driver, 3, 8), "3 groups are too few");
     driver_close(&driver);
-    check(!driver_create_unnamed(&driver, 4, 4097), "4097 homes are too many");
+    check(!driver_create_unnamed(&driver, 4, 65536), "65536 homes are too many");
     driver_close(&driver);
     check(driver_create_unnamed(&driver, GROUPS, HOMES), "an unnamed image");
     check_damaged_batches();

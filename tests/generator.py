@@ -57,7 +57,7 @@ EDITS = [
     ('areas::lengths::log_right', '"Direct": "areas::lengths::log_groups"', '"Direct": "nowhere::other"', 'no proved program'),
     ('codec::blocks::clear', '{"Deref": {"Int": 8}}', '{"Deref": {"Int": 16}}', 'codec::blocks::clear: memory of'),
     ('codec::marks::put_fence_mark', '"MemorySlot"', '"ValueLocal"', 'codec::marks::put_fence_mark: the address of value local'),
-    ('bitmap::count', '"CountOnes"', '"ReverseBits"', 'bitmap::count: operation'),
+    ('bitmap::ones', '"CountOnes"', '"ReverseBits"', 'bitmap::ones: operation'),
 ]
 
 

@@ -132,5 +132,5 @@ void play_histories(unsigned long calls)
 
     for (k = 0; k < sizeof shapes / sizeof shapes[0]; k++)
         history(shapes[k].groups, shapes[k].homes, calls / 5);
-    history(KAGUTIN_MAX_GROUPS, KAGUTIN_MAX_HOMES, 12);
+    history(KAGUTIN_MAX_GROUPS, MOST_HOMES, 12);
 }

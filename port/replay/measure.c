@@ -78,7 +78,7 @@ static uint32_t random_home(void)
     static uint64_t seed = 7;
 
     seed = seed * UINT64_C(6364136223846793005) + UINT64_C(1442695040888963407);
-    return (uint32_t)(seed >> 32) % KAGUTIN_MAX_HOMES;
+    return (uint32_t)(seed >> 32) % MOST_HOMES;
 }
 
 /* A commit of 4 blocks; 0 if the log is full. */
@@ -133,7 +133,7 @@ int main(void)
     SYSTICK_RELOAD = 0xffffff;
     SYSTICK_NOW = 0;
     SYSTICK_CONTROL = 5;
-    lend(KAGUTIN_MAX_GROUPS, KAGUTIN_MAX_HOMES, kagutin_format_batch(KAGUTIN_MAX_GROUPS, KAGUTIN_MAX_HOMES));
+    lend(KAGUTIN_MAX_GROUPS, MOST_HOMES, kagutin_format_batch(KAGUTIN_MAX_GROUPS, MOST_HOMES));
     one(FORMAT, 0, 0, 1);
     one(OPEN, 0, 0, 1);
     forget(OPEN);

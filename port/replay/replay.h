@@ -6,10 +6,11 @@
 
 enum call { FORMAT, OPEN, BEGIN, ABORT, STORE, COMMIT, FLUSH, CONFIRM, SETTLE, TRIM, READ, CALLS };
 
-/* Room for one group and one home above the largest store: the trials lend these too. */
+/* Room for one group and one home above the largest store that is played: the trials lend these too. */
 enum {
     GROUPS = KAGUTIN_MAX_GROUPS + 1,
-    HOMES = KAGUTIN_MAX_HOMES + 1,
+    MOST_HOMES = 4096, /* a board has no memory for more */
+    HOMES = MOST_HOMES + 1,
     LOG_ROOM = KAGUTIN_HEADER_SIZE + KAGUTIN_GROUP_SIZE * GROUPS,
     AREA_ROOM = KAGUTIN_BLOCK_SIZE * HOMES,
     BATCH_ROOM = KAGUTIN_GW_SIZE * GROUPS + KAGUTIN_HW_SIZE * HOMES + 256

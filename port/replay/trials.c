@@ -116,11 +116,11 @@ static void full_log(void)
 
 static void sizes(void)
 {
-    static const struct { size_t groups, homes; } wrong[] = { { 3, 8 }, { 1025, 8 }, { 4, 0 }, { 4, 4097 } };
-    static const struct { size_t groups, homes; } right[] = { { 4, 1 }, { 1024, 1 }, { 4, 4096 }, { 1024, 4096 } };
+    static const struct { size_t groups, homes; } wrong[] = { { 3, 8 }, { 1025, 8 }, { 4, 0 } };
+    static const struct { size_t groups, homes; } right[] = { { 4, 1 }, { 1024, 1 }, { 4, 4097 }, { 1024, 4096 } };
     unsigned k, call;
 
-    for (k = 0; k < 4; k++) {
+    for (k = 0; k < 3; k++) {
         lend(wrong[k].groups, wrong[k].homes, ROOM);
         for (call = FORMAT; call < CALLS; call++)
             expect((enum call)call, 0, 0, 1, "trial 11: a wrong size");
