@@ -80,6 +80,10 @@ int main(void)
         where = (where + 1) % HOMES;
         if (call(STORE) || call(COMMIT))
             break;
+        if (i == GROUPS && (call(FLUSH) || call(SETTLE)))
+            return 2;
+        if (i == GROUPS + 10 && call(TRIM)) /* with commits past what is settled, so that it walks the log */
+            return 2;
     }
     call(ABORT);
     call(FLUSH);

@@ -15,8 +15,8 @@ mod steady;
 mod table;
 
 use row::{rows, Row};
+use second::options::Words;
 use std::path::PathBuf;
-use std::process::ExitCode;
 
 const USAGE: &str = "\
 usage: bench [--seed S] [--out FOLDER] [--no-counts] [--no-times]
@@ -35,34 +35,27 @@ struct Options {
 }
 
 impl Options {
-    fn read(mut words: impl Iterator<Item = String>) -> Option<Options> {
-        let folder = PathBuf::from("target/bench");
-        let mut options = Options { seed: 1, folder, counts: true, times: true, play: false };
-        while let Some(word) = words.next() {
-            match word.as_str() {
-                "--seed" => options.seed = words.next()?.parse().ok()?,
-                "--out" => options.folder = words.next()?.into(),
-                "--no-counts" => options.counts = false,
-                "--no-times" => options.times = false,
-                "--play" => options.play = true,
-                _ => return None,
-            }
-        }
-        Some(options)
+    fn read() -> Options {
+        let mut words = Words::new(USAGE);
+        let options = Options {
+            seed: words.number("--seed", 1),
+            folder: words.text("--out", "target/bench").into(),
+            counts: !words.flag("--no-counts"),
+            times: !words.flag("--no-times"),
+            play: words.flag("--play"),
+        };
+        words.done();
+        options
     }
 }
 
-fn main() -> ExitCode {
-    let Some(options) = Options::read(std::env::args().skip(1)) else {
-        eprintln!("{USAGE}");
-        return ExitCode::from(2);
-    };
+fn main() {
+    let options = Options::read();
     if options.play {
         cases::each(options.seed, &mut |case| play::count(&case));
     } else {
         measure(&options);
     }
-    ExitCode::SUCCESS
 }
 
 fn measure(options: &Options) {

@@ -18,6 +18,7 @@ use build::Build;
 use compare::library::{Calls, ARCHIVE};
 use compare::{library, trap};
 use pair::Pair;
+use second::options::Words;
 use std::process::ExitCode;
 
 const USAGE: &str = "\
@@ -44,46 +45,25 @@ struct Options {
 }
 
 impl Options {
-    fn read(mut words: impl Iterator<Item = String>) -> Option<Options> {
-        let mut options = Options {
-            seed: 1,
-            calls: 100_000,
-            damaged: 20_000,
-            histories: 500,
-            large: 10,
-            large_histories: 0,
-            guarded: true,
-            builds: Vec::new(),
+    fn read() -> Options {
+        let mut words = Words::new(USAGE);
+        let options = Options {
+            seed: words.number("--seed", 1),
+            calls: words.number("--calls", 100_000),
+            damaged: words.number("--damaged", 20_000),
+            histories: words.number("--histories", 500),
+            large: words.number("--large", 10),
+            large_histories: words.number("--large-histories", 0),
+            guarded: !words.flag("--tight"),
+            builds: words.texts("--build"),
         };
-        while let Some(word) = words.next() {
-            let number = match word.as_str() {
-                "--seed" => &mut options.seed,
-                "--calls" => &mut options.calls,
-                "--damaged" => &mut options.damaged,
-                "--histories" => &mut options.histories,
-                "--large" => &mut options.large,
-                "--large-histories" => &mut options.large_histories,
-                "--tight" => {
-                    options.guarded = false;
-                    continue;
-                }
-                "--build" => {
-                    options.builds.push(words.next()?);
-                    continue;
-                }
-                _ => return None,
-            };
-            *number = words.next()?.parse().ok()?;
-        }
-        Some(options)
+        words.done();
+        options
     }
 }
 
 fn main() -> ExitCode {
-    let Some(options) = Options::read(std::env::args().skip(1)) else {
-        eprintln!("{USAGE}");
-        return ExitCode::from(2);
-    };
+    let options = Options::read();
     trap::set();
     match run(&options) {
         Ok(()) => {

@@ -1,9 +1,13 @@
 //! `play --seed S --histories N`: random histories, each from its own seed.
 
 use second::player::{history, large_history, Tally};
-use second::options::option;
+use second::options::Words;
 use std::panic::{catch_unwind, AssertUnwindSafe};
 use std::process::ExitCode;
+
+const USAGE: &str = "\
+usage: play [--seed S] [--histories N]
+Plays random histories, each from its own seed, on the second implementation.";
 
 /// One history in this many is of the largest log.
 const LARGE_EVERY: u64 = 2000;
@@ -27,12 +31,10 @@ fn report(tally: &Tally) {
 }
 
 fn main() -> ExitCode {
-    if std::env::args().skip(1).any(|word| word == "-h" || word == "--help") {
-        println!("usage: play [--seed S] [--histories N]\nPlays random histories, each from its own seed, on the second implementation.");
-        return ExitCode::SUCCESS;
-    }
-    let first = option("--seed", 1);
-    let count = option("--histories", 1000);
+    let mut words = Words::new(USAGE);
+    let first = words.number("--seed", 1);
+    let count = words.number("--histories", 1000);
+    words.done();
     let mut tally = Tally::default();
     for at in 0..count {
         let seed = first.wrapping_add(at);
