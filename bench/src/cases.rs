@@ -1,6 +1,6 @@
 //! All that is measured, in order.
 
-use crate::rings::{filled, shared_first};
+use crate::rings::{filled, half_settled, shared_first};
 use crate::script::{reads, single, Recorder, Script, Step};
 use crate::steady;
 use second::lent::{Kind, Lent};
@@ -93,6 +93,9 @@ fn worst_logs(seed: u64, visit: Visit) {
         let (table, name) = (Table::Worst, name.to_string());
         visit(Case { table, name, groups: GROUPS, used: GROUPS, scripts: four(seed, &lent, 8) });
     }
+    let scripts = vec![single(Kind::Trim, &half_settled(seed, GROUPS, HOMES, BLOCKS))];
+    let (table, name) = (Table::Worst, "half settled".to_string());
+    visit(Case { table, name, groups: GROUPS, used: GROUPS, scripts });
 }
 
 /// The smallest and larger rings, with one group in use and full.

@@ -12,14 +12,31 @@ use second::tag::closing_tag;
 /// store one block each in turn, transactions have at most `blocks` blocks.
 pub fn filled(seed: u64, groups: u64, homes: u64, used: u64, blocks: u64) -> Lent {
     let mut recorder = Recorder::opened(seed, groups, homes);
+    fill(&mut recorder, used, blocks);
+    assert_eq!(recorder.groups_used(), used);
+    recorder.lent
+}
+
+/// A full log that was settled when it was half full, so that trim has to look
+/// whether a transaction of the later half began in the earlier one.
+pub fn half_settled(seed: u64, groups: u64, homes: u64, blocks: u64) -> Lent {
+    let mut recorder = Recorder::opened(seed, groups, homes);
+    fill(&mut recorder, groups / 2, blocks);
+    recorder.call(Kind::Settle, 0, 0);
+    recorder.call(Kind::Confirm, 0, 0);
+    fill(&mut recorder, groups - groups / 2, blocks);
+    assert_eq!(recorder.groups_used(), groups);
+    recorder.lent
+}
+
+/// This many groups of entries, committed and fenced.
+fn fill(recorder: &mut Recorder, used: u64, blocks: u64) {
     let mut left = PLACES * used;
     while left > 0 {
-        left -= round(&mut recorder, left, blocks);
+        left -= round(recorder, left, blocks);
     }
     recorder.call(Kind::Flush, 0, 0);
     recorder.call(Kind::Confirm, 0, 0);
-    assert_eq!(recorder.groups_used(), used);
-    recorder.lent
 }
 
 /// One transaction of each writer, interleaved, with at most `most` entries in
