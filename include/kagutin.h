@@ -152,7 +152,7 @@ static inline const char *kagutin_answer_text(uint64_t code)
 
 /*
  * Makes both copies those of an empty store with all homes zero.
- * Batch: KW of zeros, FN, every group and home as zeros, FN, header, FN.
+ * Batch: KW of zeros, FN, every group blank and every home zeros, FN, header, FN.
  * Answers 1, 9.
  */
 struct kagutin_reply kagutin_format(
@@ -163,8 +163,8 @@ struct kagutin_reply kagutin_format(
  * Replays the committed transactions of the log into the area, empties the
  * log and writes the state anew, whatever it held. All writers are then idle.
  * figure: number of transactions replayed.
- * Batch: HW of each home touched, rising, FN, KW, FN.
- * Answers 1, 3, 10, 9.
+ * Batch: HW of each home touched, rising, FN, KW, FN, every group blank, FN.
+ * Answers 1, 3 (also for a header of the older format, mark 50 48), 10, 9.
  */
 struct kagutin_reply kagutin_open(
     uint8_t *log, size_t log_size, uint8_t *area, size_t area_size,
