@@ -182,6 +182,23 @@ module _ (log : List ℕ) (start groups homes : ℕ) where
 
 -- ---- a write at a group leaves the header, and a header write leaves the groups
 
+-- the header is what the first 64 bytes are
+module _ (log log′ : List ℕ) where
+  pub header-start-same : ((a n : ℕ) → a + n ≤ 64 → part log a n ≡ part log′ a n) → headerStart log ≡ headerStart log′
+  unfolding headerStart
+  header-start-same f = number-same-part 6 log 2 log′ 2 (f 2 6 (omega arith))
+
+  pub header-right-same : (groups homes : ℕ) → ((a n : ℕ) → a + n ≤ 64 → part log a n ≡ part log′ a n)
+      → headerRight log groups homes ≡ headerRight log′ groups homes
+  unfolding headerRight
+  header-right-same groups homes f =
+      rw (
+        f 0 2 (omega arith),
+        number-same-part 2 log 8 log′ 8 (f 8 2 (omega arith)),
+        number-same-part 2 log 10 log′ 10 (f 10 2 (omega arith)),
+        f 12 52 (omega arith),
+      )
+
 pub header-start-past : (log : List ℕ) (at : ℕ) (bs : List ℕ) → 64 ≤ at → headerStart (puts log at bs) ≡ headerStart log
 unfolding headerStart
 header-start-past log at bs h = number-below 6 log at bs 2 (omega arith)
