@@ -42,8 +42,8 @@ module _ (G D : ℕ) (z : Sizes G D) (w : World) (c : Closed G D w) (state batch
   effect-is : openEffect g ≡ opens-with G D z w c
   effect-is = open-effect G D z w c state batch
 
-  formed : AllFormed (openEffect g .records)
-  formed =
+  pub open-formed : AllFormed (openEffect g .records)
+  open-formed =
       let X = homesAfter D (w .book .commits) in
       let o = c .opens in
       rw effect-is
@@ -65,7 +65,7 @@ module _ (G D : ℕ) (z : Sizes G D) (w : World) (c : Closed G D w) (state batch
       by-answer (Invariant G D) w (opening state batch) g (openAnswer g (openStart g) (sizeOf (openEffect g))) (openEffect g) refl (inl c)
       (λ a. let k = open-ready g (openStart g) (sizeOf (openEffect g)) a in
       record {
-        formed = formed;
+        formed = open-formed;
         fit = fits g (sizeOf (openEffect g)) (k .3);
         next = inr (rw effect-is (open-runs G D z w c state batch (start-ok (k .2))));
       })
