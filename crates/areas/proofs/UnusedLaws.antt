@@ -8,8 +8,9 @@ use native.Mathlib.Omega.{arith}
 use lib.ListN.{length, set, length-append}
 use Rattle.model.specs.Bytes.{puts, zeros}
 use Rattle.model.specs.Layout.{header, turnOf, turnBlocks, nextIn, unusedGroup, unusedSlots, emptyLog}
-use Rattle.model.proofs.bytes.ByteLaws.{puts-nil, puts-cons, puts-append, puts-whole, length-puts, length-zeros}
+use Rattle.model.proofs.bytes.ByteLaws.{puts-nil, puts-cons, puts-append, puts-whole, length-zeros}
 use Rattle.model.proofs.bytes.LayoutLaws.{length-header}
+use Rattle.model.proofs.bytes.EmptyLaws.{length-unusedSlots}
 
 -- ---- a group's turn, by the quotient
 
@@ -32,11 +33,6 @@ turn-more d to (suc k) bit h =
 pub turn-none : (d : List ℕ) (to left bit : ℕ) → left ≤ 0 → puts d to (turnBlocks left bit) ≡ d
 unfolding turnBlocks
 turn-none d to left bit h = let e : left ≡ 0 = omega arith in rw (e, puts-nil)
-
-pub length-blocks : (k bit : ℕ) → length (turnBlocks k bit) ≡ 64 * k
-unfolding turnBlocks
-length-blocks zero bit = refl
-length-blocks (suc k) bit = rw (length-append, length-zeros, mul-suc) (omega (arith, length-blocks k bit))
 
 pub unused-written : (d : List ℕ) (at bit : ℕ) → puts (puts d at (zeros 64)) (at + 64) (turnBlocks 7 bit) ≡ puts d at (zeros 64 ++ turnBlocks 7 bit)
 unused-written d at bit = rw (puts-append, length-zeros)
@@ -70,15 +66,6 @@ module _ (slot first turn groups start : ℕ) (low : slot < groups) (f : first �
 
 -- ---- an empty log
 
-length-unused : (groups start slot : ℕ) → length (unusedGroup groups start slot) ≡ 512
-unfolding unusedGroup
-length-unused groups start slot = rw (length-append, length-zeros, length-blocks)
-
-length-slots : (groups start n : ℕ) → length (unusedSlots groups start n) ≡ 512 * n
-unfolding unusedSlots
-length-slots groups start zero = refl
-length-slots groups start (suc n) = rw (length-append, length-unused, length-slots groups start n, mul-suc)
-
 pub slots-none : (d : List ℕ) (at groups start : ℕ) → d ≡ puts d at (unusedSlots groups start 0)
 unfolding unusedSlots
 slots-none d at groups start = sym (puts-nil d at)
@@ -88,14 +75,14 @@ pub slots-more : (c d : List ℕ) (groups start n bit : ℕ) → c ≡ puts d 64
     → puts c (64 + 512 * n) (zeros 64 ++ turnBlocks 7 bit) ≡ puts d 64 (unusedSlots groups start (n + 1))
 unfolding unusedSlots unusedGroup
 slots-more c d groups start n bit e b =
-    rw (e, b, add-one n, puts-append d 64 (unusedSlots groups start n), length-slots)
+    rw (e, b, add-one n, puts-append d 64 (unusedSlots groups start n), length-unusedSlots)
 
 pub empty-made : (d : List ℕ) (start groups homes : ℕ) → length d ≡ 64 + 512 * groups
     → puts (puts d 0 (header start groups homes)) 64 (unusedSlots groups start groups) ≡ emptyLog start groups homes
 unfolding emptyLog
 empty-made d start groups homes l =
     let h : length (header start groups homes) ≡ 64 = length-header start groups homes in
-    let s : length (unusedSlots groups start groups) ≡ 512 * groups = length-slots groups start groups in
+    let s : length (unusedSlots groups start groups) ≡ 512 * groups = length-unusedSlots groups start groups in
     let e : puts (puts d 0 (header start groups homes)) 64 (unusedSlots groups start groups) ≡ puts d 0 (header start groups homes ++ unusedSlots groups start groups) =
     rw (puts-append, h) in
     e ∙ puts-whole d (header start groups homes ++ unusedSlots groups start groups) (rw length-append (omega arith))
