@@ -11,7 +11,7 @@ use lib.Dec.{eqb}
 use lib.ListN.{length, length-append}
 use Rattle.model.specs.Bytes.{part, puts, zeros, same}
 use Rattle.model.specs.Layout.{header, headerStart, headerRight, groupMark, groupOffset, groupAt, groupBlock, groupValid, turnOf, topBit, turnBlocks, nextIn, unusedGroup, unusedSlots, emptyLog}
-use Rattle.model.proofs.bytes.ByteLaws.{length-zeros, puts-nil, part-whole}
+use Rattle.model.proofs.bytes.ByteLaws.{length-zeros, puts-front, part-whole}
 use Rattle.model.proofs.bytes.TurnLaws.{nextIn-from, nextIn-within, nextIn-slot}
 use Rattle.model.proofs.bytes.LayoutLaws.{part-front, part-after, part-of-front, length-header, length-turnBlocks, turnBlocks-turn, header-start, header-right, ring}
 
@@ -72,11 +72,6 @@ module _ (groups start : ℕ) where
 
 -- ---- the empty log
 
-puts-own : (a r : List ℕ) → puts (a ++ r) 0 a ≡ a ++ r
-unfolding puts
-puts-own [] r = puts-nil r 0
-puts-own (x ∷ a) r = ap {B = List ℕ} (λ l. x ∷ l) (puts-own a r)
-
 module _ (start groups homes : ℕ) where
   pub length-emptyLog : length (emptyLog start groups homes) ≡ 64 + 512 * groups
   unfolding emptyLog
@@ -84,7 +79,7 @@ module _ (start groups homes : ℕ) where
 
   own-header : puts (emptyLog start groups homes) 0 (header start groups homes) ≡ emptyLog start groups homes
   unfolding emptyLog
-  own-header = puts-own (header start groups homes) (unusedSlots groups start groups)
+  own-header = puts-front (header start groups homes) (unusedSlots groups start groups) (header start groups homes) refl
 
   pub emptyLog-start : start < 256 ^ 6 → headerStart (emptyLog start groups homes) ≡ start
   emptyLog-start h = ap headerStart (sym own-header) ∙ header-start (emptyLog start groups homes) start groups homes h (omega (arith, length-emptyLog))

@@ -15,6 +15,7 @@ use Rattle.model.specs.Crash.{Memory, pieces, writeEach, isFence, fences
 use Rattle.model.specs.Demands.{groupWrites}
 use Rattle.model.proofs.bytes.ByteLaws.{puts-append}
 use Rattle.model.proofs.bytes.EmptyLaws.{length-unusedGroup, length-unusedSlots}
+use Rattle.model.proofs.strip.BatchLaws.{AllFormed, formed-append}
 use Rattle.model.proofs.trace.CrashLaws.{writeRecords, submits, NoFence, none-append, none-homes, fences-none, fences-append, fences-homes, groupWrites-append, groupWrites-homes, write-append, persist-zero, persist-past, chosen-fence}
 use Rattle.model.proofs.trace.SubmitLaws.{write-group}
 
@@ -30,6 +31,11 @@ module _ (G start : ℕ) where
   unfolding blankWrites groupWrites
   groupWrites-blanks zero = refl
   groupWrites-blanks (suc n) = rw groupWrites-append (omega (arith, groupWrites-blanks n))
+
+  pub formed-blanks : (n : ℕ) → n ≤ 1024 → AllFormed (blankWrites G start n)
+  unfolding blankWrites
+  formed-blanks zero h = tt
+  formed-blanks (suc n) h = formed-append (blankWrites G start n) _ (formed-blanks n (omega arith)) ((omega arith, length-unusedGroup G start n), tt)
 
   -- they are the writes of groups 0 to n - 1
   pub blank-submits : (n : ℕ) → n ≤ G → blankWrites G start n ≡ submits G 0 (unusedGroup G start) n
