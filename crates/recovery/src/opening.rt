@@ -99,13 +99,7 @@ pub fn reopen(log: &mut [u8], area: &mut [u8], state: &mut [u8], batch: &mut [u8
     if (batch.len() as u64) < size {
         return answers::refused(9);
     }
-    open_records(
-        batch,
-        (size - more) as usize,
-        start + groups,
-        groups,
-        homes,
-    );
+    open_records(batch, (size - more) as usize, start + groups, groups, homes);
     open_copies(log, state, groups, homes, start + groups);
     answers::done(found.number, size)
 }

@@ -25,14 +25,16 @@ pub fn next_slot(at: RingSlot, groups: u64) -> RingSlot
     ensures { λ r. ⌜ (r .slot < groups) × ((n : ℕ) → Kept groups n at → Kept groups (n + 1) r) ⌝ }
 {
     let slot = at.slot + 1;
-    let turn = at.turn;
     if slot == groups {
         return RingSlot {
             slot: 0,
-            turn: 1 - turn,
+            turn: 1 - at.turn,
         };
     }
-    RingSlot { slot, turn }
+    RingSlot {
+        slot,
+        turn: at.turn,
+    }
 }
 
 // Those of the group before.

@@ -34,9 +34,11 @@ returns c =
     let a = f .before .args in
     let p = f .before .pre in
     let e : c .commit-word .result
-    ≡ closingWord (a .r .home) (a .position - firstFor (a .r) (a .position)) (linkFrom (a .position) (a .st)) (countFor (a .r) + 1) = cc in
-    (e, rw e (closing-fits (a .r .home) (a .position - firstFor (a .r) (a .position)) (linkFrom (a .position) (a .st)) (countFor (a .r) + 1) (p .home)
-    (omega (arith, p .near)) (p .link) (p .many)))
+    ≡ closingWord (a .r .home) (a .position - firstFor (a .r) (a .position)) (linkFrom (a .position) (a .st)) (countFor (a .r) + 1) = cc in (
+      e,
+      rw e (closing-fits (a .r .home) (a .position - firstFor (a .r) (a .position)) (linkFrom (a .position) (a .st)) (countFor (a .r) + 1) (p .home)
+          (omega (arith, p .near)) (p .link) (p .many)),
+    )
 
 pub closing-word-spec : {M : Type 1} → statement M
 closing-word-spec =
