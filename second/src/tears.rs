@@ -97,7 +97,9 @@ pub fn torn_history(seed: u64, torn: &mut Torn, runner: Runner) -> Result<(), St
     torn.histories += 1;
     for at in 0..rng.pick(&[60, 150, 300]) {
         step(&mut rng, &profile, &mut world, &mut tally, false).map_err(|what| format!("step {at}: {what}"))?;
-        if rng.chance(2) {
+        // Openings, with their blanking, more often than other calls.
+        let opening = world.opened && world.submitted.fences <= 3;
+        if rng.chance(if opening { 12 } else { 2 }) {
             world.tear_stretch(&mut rng, torn).map_err(|what| format!("step {at}: {what}"))?;
         }
     }
