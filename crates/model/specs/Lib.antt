@@ -4,6 +4,7 @@ pub mod Layout
 pub mod Commit
 pub mod Batch
 pub mod State
+pub mod Newest
 pub mod Effects
 pub mod Questions
 pub mod Calls
@@ -17,4 +18,5 @@ pub mod Places
 pub mod Trials
 pub mod Witnesses
 pub mod Promises
+pub mod Kept
 pub mod Facts

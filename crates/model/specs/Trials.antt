@@ -20,6 +20,10 @@ room = zeros 600
 unfoldable pub fill : ℕ → List ℕ
 fill b = replicate 64 b
 
+-- newest positions of eight homes
+unfoldable pub positions : List ℕ
+positions = zeros 64
+
 -- the world after some calls, and the number, figure and batch length that each of them answers
 unfoldable pub goes : World → List Call → World
 goes w [] = w
@@ -34,7 +38,7 @@ answers w (c ∷ cs) = answerOf (ends w c) ++ answers (step w (call c)) cs
 
 -- just after opening a new format: start 4, position 28
 unfoldable pub fresh : World
-fresh = step (emptyStore 4 8) (call (opening (zeros 1024) room))
+fresh = step (emptyStore 4 8) (call (opening (zeros 1024) positions room))
 
 unfoldable pub base : ℕ
 base = 28
@@ -56,7 +60,7 @@ readOf w writer home = getD (ends w (read writer home (zeros 64)) .block) 0 0
 
 -- what an opening answers
 unfoldable pub reopened : World → List ℕ
-reopened w = answerOf (ends w (opening (zeros 1024) room))
+reopened w = answerOf (ends w (opening (zeros 1024) positions room))
 
 -- 1. "Writer 0 stores homes 1, 2, commits: tags 5 and 2199023271947; flush gives 518 bytes."
 unfoldable pub trial1 : List ℕ
@@ -135,7 +139,7 @@ trial9 =
 -- 10. "Opening a new format: 0 back, 70 train bytes. Format writes 2,746."
 unfoldable pub unformatted : Given
 unformatted =
-    record { state = []; log = zeros (64 + 512 * 4); area = zeros (64 * 8); block = []; batch = zeros 2746; writer = 0; home = 0 }
+    record { state = []; newest = []; log = zeros (64 + 512 * 4); area = zeros (64 * 8); block = []; batch = zeros 2746; writer = 0; home = 0 }
 
 unfoldable pub trial10 : List ℕ
 trial10 = reopened (emptyStore 4 8) ++ answerOf (formatCall unformatted)
@@ -146,6 +150,7 @@ unfoldable pub startingAt : ℕ → List ℕ → Given
 startingAt start batch =
     record {
       state = zeros 1024;
+      newest = positions;
       log = puts (zeros (64 + 512 * 4)) 0 (header start 4 8);
       area = zeros (64 * 8);
       block = [];

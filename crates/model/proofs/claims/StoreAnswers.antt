@@ -605,7 +605,7 @@ module _ (G D : ℕ) (z : Sizes G D) (w : World) (r : Running G D w) (s : Store)
 
   pub call-answers : (c : Call) → isOpening c ≡ false → replyOf (ends w c) ≡ reply s c
   unfolding ends reply isOpening
-  call-answers (opening state batch) e = absurd (false≢true (sym e))
+  call-answers (opening state newest batch) e = absurd (false≢true (sym e))
   call-answers confirm e = confirm-answers
   call-answers (change c) e = (unfold ends in change-answers c)
   call-answers (service c) e = (unfold ends in service-answers c)
@@ -678,7 +678,7 @@ module _ (G D : ℕ) (z : Sizes G D) (w : World) (c : Closed G D w) (s : Store) 
   open-number =
       rw (areas-ok, header-fits G D w X state batch (c .opens), start-ok, open-bytes) (unfold stateRight batchFits askBatch loaded in refl)
 
-  pub open-answers : replyOf (ends w (opening state batch)) ≡ reply s (opening state batch)
+  pub open-answers : replyOf (ends w (opening state newest batch)) ≡ reply s (opening state newest batch)
   unfolding ends openCall reply
   open-answers =
       answers g (openAnswer g (openStart g) (sizeOf (openEffect g))) (openEffect g) _ (length (s .back)) (68 * manyHomes (s .homes) (s .back) + 70)

@@ -597,7 +597,7 @@ module _ (G D : ℕ) (z : Sizes G D) (w : World) (r : Running G D w) (s : Store)
   pub done-agrees : (c : Call) → isOpening c ≡ false → ends w c .code ≡ 0
       → Agrees G D (afterDone w c (ends w c)) (store.afterDone s c (ends w c .figure))
   unfolding isOpening afterDone feed
-  done-agrees (opening state batch) e h = absurd (false≢true (sym e))
+  done-agrees (opening state newest batch) e h = absurd (false≢true (sym e))
   done-agrees confirm e h =
       record {
         groups = unfold store.afterDone numbered in a .groups;
@@ -633,7 +633,7 @@ module _ (G D : ℕ) (z : Sizes G D) (w : World) (r : Running G D w) (s : Store)
 -- ---- a done opening
 
 module _ (G D : ℕ) (z : Sizes G D) (w : World) (c : Closed G D w) (s : Store) (a : Agrees G D w s) (state batch : List ℕ)
-    (h : ends w (opening state batch) .code ≡ 0) where
+    (h : ends w (opening state newest batch) .code ≡ 0) where
   abbrev g : Given
   g = loaded w state batch
 
@@ -652,7 +652,7 @@ module _ (G D : ℕ) (z : Sizes G D) (w : World) (c : Closed G D w) (s : Store) 
   opened-small =
       subst (λ (x : ℕ). x ≤ 2 ^ 47) opened-start (start-small (openStart g) (open-ready g (openStart g) (sizeOf (openEffect g)) opened-zero .2))
 
-  opened-state : ends w (opening state batch) .state ≡ freshState G D b
+  opened-state : ends w (opening state newest batch) .state ≡ freshState G D b
   unfolding ends openCall
   opened-state =
       done-state _ g (openAnswer g (openStart g) (sizeOf (openEffect g))) (openEffect g) refl h
@@ -662,7 +662,7 @@ module _ (G D : ℕ) (z : Sizes G D) (w : World) (c : Closed G D w) (s : Store) 
   unfolding firstGroup
   opened-first = omega (arith, a .head, a .groups)
 
-  opened-numbers : Numbers (store.afterDone s (opening state batch) (ends w (opening state batch) .figure)) (stateOf (ends w (opening state batch) .state))
+  opened-numbers : Numbers (store.afterDone s (opening state newest batch) (ends w (opening state newest batch) .figure)) (stateOf (ends w (opening state newest batch) .state))
   unfolding store.afterDone
   opened-numbers =
       let m : b ≤ 2 ^ 47 = opened-small in
@@ -670,8 +670,8 @@ module _ (G D : ℕ) (z : Sizes G D) (w : World) (c : Closed G D w) (s : Store) 
       (numbers-as s _ _ (firstGroup s) (7 * firstGroup s) (7 * firstGroup s) (7 * firstGroup s) 0 _ opened-first (omega (arith, opened-first))
       (omega (arith, opened-first)) (omega (arith, opened-first)) refl)
 
-  pub opened-agrees : Agrees G D (afterDone w (opening state batch) (ends w (opening state batch)))
-      (store.afterDone s (opening state batch) (ends w (opening state batch) .figure))
+  pub opened-agrees : Agrees G D (afterDone w (opening state newest batch) (ends w (opening state newest batch)))
+      (store.afterDone s (opening state newest batch) (ends w (opening state newest batch) .figure))
   unfolding afterDone
   opened-agrees =
       record {
@@ -679,7 +679,7 @@ module _ (G D : ℕ) (z : Sizes G D) (w : World) (c : Closed G D w) (s : Store) 
         homes = unfold store.afterDone numbered in a .homes;
         head = unfold store.afterDone numbered in a .head;
         found = unfold store.afterDone numbered in a .found;
-        book = unfold store.afterDone numbered in ap (λ (x : Book). feed x (opening state batch) (ends w (opening state batch) .figure)) (a .book);
+        book = unfold store.afterDone numbered in ap (λ (x : Book). feed x (opening state newest batch) (ends w (opening state newest batch) .figure)) (a .book);
         numbers = λ k. opened-numbers;
         promises = λ k x l. unfold store.afterDone numbered in sym (ap (λ (t : List ℕ). promiseOf t x) opened-state ∙ promise-fresh G D b x);
       }
@@ -762,8 +762,8 @@ module _ (G D : ℕ) (z : Sizes G D) where
   opening-follows : (w : World) → Closed G D w → (s : Store) → Agrees G D w s → (c : Call) → isOpening c ≡ true
       → (replyOf (ends w c) ≡ reply s c) × Agrees G D (step w (call c)) (follow s w (call c))
   unfolding isOpening
-  opening-follows w k s a (opening state batch) e =
-      (open-answers G D z w k s a state batch, call-follows G D w s (opening state batch) a (opened-agrees G D z w k s a state batch))
+  opening-follows w k s a (opening state newest batch) e =
+      (open-answers G D z w k s a state batch, call-follows G D w s (opening state newest batch) a (opened-agrees G D z w k s a state batch))
   opening-follows w k s a confirm e = absurd (false≢true e)
   opening-follows w k s a (change c) e = absurd (false≢true e)
   opening-follows w k s a (service c) e = absurd (false≢true e)

@@ -151,7 +151,7 @@ module _ (G D : ℕ) (z : Sizes G D) where
   past-done : (w : World) → Running G D w → (c : Call) → isOpening c ≡ false → ends w c .code ≡ 0 → PastOwed (w .book .commits)
       → PastOwed (feed (w .book) c (ends w c .figure) .commits)
   unfolding isOpening feed
-  past-done w r (opening state batch) e h p = absurd (false≢true (sym e))
+  past-done w r (opening state newest batch) e h p = absurd (false≢true (sym e))
   past-done w r confirm e h p = (unfold withCommits in past-by (ends w confirm .figure) (w .book .commits) p)
   past-done w r (change c) e h p = past-change w r c h p
   past-done w r (service c) e h p = p
@@ -162,7 +162,7 @@ module _ (G D : ℕ) (z : Sizes G D) where
 
   opened-owing : (w : World) → Owing w → (c : Call) → isOpening c ≡ true → Owing (step w (call c))
   unfolding isOpening
-  opened-owing w o (opening state batch) e = step-by Owing w (opening state batch) o (λ h q. (unfold afterDone feed withCommits in past-all (w .book .commits)))
+  opened-owing w o (opening state newest batch) e = step-by Owing w (opening state newest batch) o (λ h q. (unfold afterDone feed withCommits in past-all (w .book .commits)))
   opened-owing w o confirm e = absurd (false≢true e)
   opened-owing w o (change c) e = absurd (false≢true e)
   opened-owing w o (service c) e = absurd (false≢true e)
@@ -182,14 +182,14 @@ module _ (G D : ℕ) (z : Sizes G D) where
   pub call-yields : (w : World) (r : Running G D w) → PastOwed (w .book .commits) → Live w → (c : Call) → isOpening c ≡ false
       → ends w c .code ≡ 0 → Yields w c (ends w c)
   unfolding isOpening
-  call-yields w r p l (opening state batch) e h = tt
+  call-yields w r p l (opening state newest batch) e h = tt
   call-yields w r p l confirm e h = confirm-yields G D z w r p h
   call-yields w r p l (change c) e h = tt
   call-yields w r p l (service c) e h = service-yields w r l c h
 
   opening-yields : (w : World) (c : Call) → isOpening c ≡ true → ends w c .code ≡ 0 → Yields w c (ends w c)
   unfolding isOpening
-  opening-yields w (opening state batch) e h = tt
+  opening-yields w (opening state newest batch) e h = tt
   opening-yields w confirm e h = absurd (false≢true e)
   opening-yields w (change c) e h = tt
   opening-yields w (service c) e h = absurd (false≢true e)

@@ -58,10 +58,10 @@ module _ (G D : ℕ) (z : Sizes G D) (w : World) (c : Closed G D w) (state batch
   unfolding startFits
   start-ok h = let q = leb-true (openStart g) (2 ^ 47) h in omega (arith, start-is)
 
-  pub open-keeps : Invariant G D (step w (call (opening state batch)))
+  pub open-keeps : Invariant G D (step w (call (opening state newest batch)))
   unfolding ends openCall
   open-keeps =
-      by-answer (Invariant G D) w (opening state batch) g (openAnswer g (openStart g) (sizeOf (openEffect g))) (openEffect g) refl (inl c)
+      by-answer (Invariant G D) w (opening state newest batch) g (openAnswer g (openStart g) (sizeOf (openEffect g))) (openEffect g) refl (inl c)
       (λ a. let k = open-ready g (openStart g) (sizeOf (openEffect g)) a in
       record {
         formed = formed;
@@ -70,7 +70,7 @@ module _ (G D : ℕ) (z : Sizes G D) (w : World) (c : Closed G D w) (state batch
       })
 
   -- "every opening that does not answer 1, 9 or 10 is done, and leaves a data copy equal byte for byte to the homes after the longest run"
-  pub open-holds : Opened w (ends w (opening state batch))
+  pub open-holds : Opened w (ends w (opening state newest batch))
   unfolding ends openCall
   open-holds =
       let a : ℕ = openAnswer g (openStart g) (sizeOf (openEffect g)) in

@@ -165,10 +165,10 @@ module _ (G D : ℕ) (z : Sizes G D) (w : World) (c : Closed G D w) where
   wrote =
       groupWrites-append (homeWrites X (hs G D z m X o)) (FN ∷ KW (newHeader G D z m X o) ∷ []) ∙ omega (arith, groupWrites-homes X (hs G D z m X o))
 
-  pub open-runs : (state batch : List ℕ) → b ≤ 2 ^ 47 → Running G D (after w (opening state batch) opens-with)
+  pub open-runs : (state batch : List ℕ) → b ≤ 2 ^ 47 → Running G D (after w (opening state newest batch) opens-with)
   unfolding feed feedChange isConfirm withCommits hist
   open-runs state batch most =
-      let u : World = after w (opening state batch) opens-with in
+      let u : World = after w (opening state newest batch) opens-with in
       record {
         b = b;
         tr = [];

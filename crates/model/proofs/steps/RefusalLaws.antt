@@ -42,7 +42,7 @@ refused-world w c block batch writer home k = go (isOpening c)
     go true = rw (nothing-read batch, append-nil (w .pending))
     go false = rw (nothing-read batch, append-nil (w .pending))
 
-loaded-world : (w : World) (state batch : List ℕ) (k : ℕ) → afterRefused w (opening state batch) (refused (loaded w state batch) k) ≡ w
+loaded-world : (w : World) (state batch : List ℕ) (k : ℕ) → afterRefused w (opening state newest batch) (refused (loaded w state batch) k) ≡ w
 unfolding afterRefused refused loaded isOpening
 loaded-world w state batch k = rw (nothing-read batch, append-nil (w .pending))
 
@@ -84,7 +84,7 @@ service-refused w (reads v home block) k h =
 
 pub left-as-lent : (w : World) (c : Call) (k : ℕ) → ends w c .code ≡ suc k → afterRefused w c (ends w c) ≡ w
 unfolding ends openCall confirmCall
-left-as-lent w (opening state batch) k h =
+left-as-lent w (opening state newest batch) k h =
     let g : Given = loaded w state batch in
     lent-refused w _ g (openAnswer g (openStart g) (sizeOf (openEffect g))) k (openEffect g) refl h (loaded-world w state batch _)
 left-as-lent w confirm k h =
