@@ -15,7 +15,7 @@ use Rattle.model.specs.declared.Tag.{Tag}
 use Rattle.model.specs.Layout.{groupsIn, blockAt, homeAt}
 use Rattle.model.specs.Commit.{members, transactions, newestIn, newest}
 use Rattle.model.specs.State.{stateOf, nextPosition, inOrder, Writer, writerOf, heldOf, holds, hasLogged, holdsHome}
-use Rattle.model.specs.Effects.{Given, groups, homes, replayed, liveTags, liveBase, newestOwn, newestCommitted, blockOr, current, visible, readEffect}
+use Rattle.model.specs.Effects.{Given, groups, homes, replayed, liveTags, liveBase, newestOwn, newestCommitted, blockOr, current, ownElse, visible, readEffect}
 use Rattle.model.specs.Questions.{writerKnown, homeKnown, readAnswer}
 use Rattle.model.specs.Calls.{Outcome, done, readCall}
 use Rattle.model.specs.Book.{Entry, Commit, Task, homesAfter, newestEntry, heldOr, ownOr, reads}
@@ -205,7 +205,7 @@ module _ (G D b : ℕ) (tr : List Ev) (old : List Commit) (w : World) (z : Sizes
             (all-map (Shown G D b tr w) (Seen g b tr) seen (hist (7 * b) tr .openOf v) (open-shown G D b tr w z c v o))))
 
     visible-is : v < 8 → h < D → visible g ≡ reads D (w .book) v h
-    unfolding visible reads lent
+    unfolding visible ownElse reads lent
     visible-is l d = rw (current-is d) (own-is l (homeAt (homesAfter D (w .book .commits)) h))
 
 module _ (G D : ℕ) (z : Sizes G D) (w : World) (r : Running G D w) where
