@@ -5,10 +5,12 @@ pub mod DemandThree
 pub mod TrimYields
 pub mod Yields
 pub mod YieldsAll
-pub mod DemandTwo
 pub mod StoreLaws
 pub mod StoreAnswers
 pub mod StoreFollows
+pub mod KeptSteps
+pub mod KeptHolds
+pub mod DemandTwo
 pub mod LedgerLaws
 pub mod LedgerSteps
 pub mod PlacesHold
