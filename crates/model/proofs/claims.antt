@@ -16,6 +16,7 @@ pub mod LedgerSteps
 pub mod PlacesHold
 pub mod OnceLaws
 pub mod FactLaws
+pub mod AsideHolds
 pub mod Ledger
 pub mod PromisesHold
 pub mod WitnessHolds
