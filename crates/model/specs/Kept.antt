@@ -2,14 +2,18 @@
 -- gave."
 use Prim.Native.Nat.{ℕ, _*_, _<_}
 use mathlib.Core.Path.{_≡_}
-use mathlib.Core.Bool.{Bool, true}
-use mathlib.Core.List.{List, [], _∷_}
-use lib.ListN.{length}
+use mathlib.Core.Bool.{Bool, true, false}
+use mathlib.Core.List.{List, [], _∷_, _++_}
+use lib.ListN.{length, getD}
+use Rattle.model.specs.Bytes.{zeros}
 use Rattle.model.specs.Layout.{homeAt}
-use Rattle.model.specs.Newest.{keptAs, keptFor}
+use Rattle.model.specs.Newest.{noPosition, keptAs, keptFor, keep}
 use Rattle.model.specs.Effects.{newestCommitted, ownElse, shown, visible}
+use Rattle.model.specs.Calls.{readCall}
 use Rattle.model.specs.Book.{homesAfter}
-use Rattle.model.specs.History.{World, Event, lent, step, Always}
+use Rattle.model.specs.History.{begin, store, commit, flush, settle, trim, World, Event, crash, lent, step, Always}
+use Rattle.model.specs.Trials.{room, fill, goes, fresh, readOf}
+use Rattle.model.specs.Witnesses.{reopen}
 
 pub record Kept (w : World) : Type 0 where
   pub size : length (w .newest) ≡ 8 * w .homes
@@ -26,3 +30,44 @@ KeptThroughout w (e ∷ es) = (w .ready ≡ true → Kept w) × KeptThroughout (
 
 abbrev pub NewestKept : Type 0
 NewestKept = Always KeptThroughout
+
+-- A history (G 4, D 8, positions from 28 on): what is kept for homes 3, 4, 6 and 7, and what a writer with nothing open reads of them.
+unfoldable pub seenOf : World → List ℕ → List ℕ
+seenOf w [] = []
+seenOf w (h ∷ hs) = keptFor (w .newest) h ∷ readOf w 5 h ∷ seenOf w hs
+
+-- trial 3's order: A's entry for home 3 comes before B's, and A commits after B, so that the kept position goes down
+unfoldable pub firstCommits : World
+firstCommits = goes fresh (begin 0 ∷ begin 1 ∷ store 0 3 (fill 65) room ∷ store 0 4 (fill 66) room ∷ store 1 3 (fill 67) room ∷ commit 1 room ∷ [])
+
+unfoldable pub bothCommit : World
+bothCommit = goes firstCommits (commit 0 room ∷ [])
+
+-- in the next group a transaction with two entries for home 6, and an entry for it in one that stays open
+unfoldable pub nextGroup : World
+nextGroup =
+    goes bothCommit
+    (flush room ∷ begin 2 ∷ store 2 6 (fill 70) room ∷ store 2 7 (fill 71) room ∷ store 2 6 (fill 72) room ∷ commit 2 room ∷ begin 3
+    ∷ store 3 6 (fill 73) room ∷ store 3 0 (fill 74) room ∷ [])
+
+-- a trim of the first group; a crash after a flush, all of it persisted, and an opening
+unfoldable pub firstTrimmed : World
+firstTrimmed = goes nextGroup (settle room ∷ trim room ∷ [])
+
+unfoldable pub openedAgain : World
+openedAgain = step (step (goes firstTrimmed (flush room ∷ [])) (crash 6 (λ i. false))) reopen
+
+unfoldable pub listed : List ℕ
+listed = 3 ∷ 4 ∷ 6 ∷ 7 ∷ []
+
+-- what a read of a home shows where another position is kept for it
+unfoldable pub showsAt : World → ℕ → ℕ → ℕ
+showsAt w home position =
+    getD (readCall (record { state = w .state; newest = keep (w .newest) home position; log = w .log; area = w .area; block = zeros 64; batch = []; writer = 5; home = home }) .block) 0 0
+
+-- Over the trimmed log: an entry for another home, one below the start, a place with no entry, none: the data copy. Entries for the home, committed or
+-- not: theirs.
+unfoldable pub overDamage : List ℕ
+overDamage =
+    let w : World = firstTrimmed in
+    showsAt w 6 36 ∷ showsAt w 3 29 ∷ showsAt w 6 39 ∷ showsAt w 6 noPosition ∷ showsAt w 6 35 ∷ showsAt w 6 38 ∷ []
