@@ -1,5 +1,5 @@
--- What the definitions come to, by computation: a format, the paper's trials and a history of every call. They rest on no law, so a definition that goes wrong is
--- refused here first.
+-- What the definitions come to, by computation: a format, the paper's trials, a history of every call and what is kept of newest positions. They rest on no law,
+-- so a definition that goes wrong is refused here first.
 pub mod Computing
 pub mod FormatHolds
 pub mod TrialsHold

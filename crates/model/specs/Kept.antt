@@ -8,8 +8,8 @@ use lib.ListN.{length, getD}
 use Rattle.model.specs.Bytes.{zeros}
 use Rattle.model.specs.Layout.{homeAt}
 use Rattle.model.specs.Newest.{noPosition, keptAs, keptFor, keep}
-use Rattle.model.specs.Effects.{newestCommitted, ownElse, shown, visible}
-use Rattle.model.specs.Calls.{readCall}
+use Rattle.model.specs.Effects.{Given, newestCommitted, ownElse, shown, visible}
+use Rattle.model.specs.Calls.{commitCall, trimCall, readCall}
 use Rattle.model.specs.Book.{homesAfter}
 use Rattle.model.specs.History.{begin, store, commit, flush, settle, trim, World, Event, crash, lent, step, Always}
 use Rattle.model.specs.Trials.{room, fill, goes, fresh, readOf}
@@ -60,10 +60,14 @@ openedAgain = step (step (goes firstTrimmed (flush room ∷ [])) (crash 6 (λ i.
 unfoldable pub listed : List ℕ
 listed = 3 ∷ 4 ∷ 6 ∷ 7 ∷ []
 
+-- what a call for a home is lent, with other newest positions
+unfoldable pub lentOther : World → List ℕ → ℕ → Given
+lentOther w newest home =
+    record { state = w .state; newest = newest; log = w .log; area = w .area; block = zeros 64; batch = room; writer = 5; home = home }
+
 -- what a read of a home shows where another position is kept for it
 unfoldable pub showsAt : World → ℕ → ℕ → ℕ
-showsAt w home position =
-    getD (readCall (record { state = w .state; newest = keep (w .newest) home position; log = w .log; area = w .area; block = zeros 64; batch = []; writer = 5; home = home }) .block) 0 0
+showsAt w home position = getD (readCall (lentOther w (keep (w .newest) home position) home) .block) 0 0
 
 -- Over the trimmed log: an entry for another home, one below the start, a place with no entry, none: the data copy. Entries for the home, committed or
 -- not: theirs.
@@ -71,3 +75,7 @@ unfoldable pub overDamage : List ℕ
 overDamage =
     let w : World = firstTrimmed in
     showsAt w 6 36 ∷ showsAt w 3 29 ∷ showsAt w 6 39 ∷ showsAt w 6 noPosition ∷ showsAt w 6 35 ∷ showsAt w 6 38 ∷ []
+
+-- "question 1 covers its length": what commit, trim and read answer with another length
+unfoldable pub wrongLength : List ℕ
+wrongLength = let g : Given = lentOther fresh (zeros 63) 0 in commitCall g .code ∷ trimCall g .code ∷ readCall g .code ∷ []

@@ -5,7 +5,7 @@ use mathlib.Core.List.{List, [], _∷_}
 use Rattle.model.specs.Bytes.{same}
 use Rattle.model.specs.Newest.{noPosition}
 use Rattle.model.specs.Trials.{readOf}
-use Rattle.model.specs.Kept.{seenOf, firstCommits, bothCommit, nextGroup, firstTrimmed, openedAgain, listed, showsAt, overDamage}
+use Rattle.model.specs.Kept.{seenOf, firstCommits, bothCommit, nextGroup, firstTrimmed, openedAgain, listed, overDamage, wrongLength}
 use Rattle.model.proofs.answers.Computing.{all-definitions}
 
 first-commits : same (seenOf firstCommits listed) (29 ∷ 67 ∷ noPosition ∷ 0 ∷ noPosition ∷ 0 ∷ noPosition ∷ 0 ∷ []) ≡ true
@@ -37,3 +37,7 @@ opened-again = refl
 over-damage : same overDamage (0 ∷ 65 ∷ 0 ∷ 0 ∷ 70 ∷ 73 ∷ []) ≡ true
 unfolding all-definitions
 over-damage = refl
+
+wrong-length : same wrongLength (1 ∷ 1 ∷ 1 ∷ []) ≡ true
+unfolding all-definitions
+wrong-length = refl
