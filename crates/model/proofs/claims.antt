@@ -1,4 +1,4 @@
--- The claims: the refusals, demands 2 and 3, what every call answers, the facts stated in passing, and a history that meets the premises.
+-- The claims: the refusals, demands 2 and 3, what every call answers, the newest positions, the facts stated in passing, and a history that meets the premises.
 pub mod RefusalsHold
 pub mod LiveHolds
 pub mod DemandThree

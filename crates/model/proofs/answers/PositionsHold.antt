@@ -1,7 +1,7 @@
 -- What is kept and what reads show in the history of specs/Kept, by computation.
 use mathlib.Core.Path.{_≡_, refl}
-use mathlib.Core.Bool.{Bool, true}
-use mathlib.Core.List.{List, [], _∷_}
+use mathlib.Core.Bool.{true}
+use mathlib.Core.List.{[], _∷_}
 use Rattle.model.specs.Bytes.{same}
 use Rattle.model.specs.Newest.{noPosition}
 use Rattle.model.specs.Trials.{readOf}

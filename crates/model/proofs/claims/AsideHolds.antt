@@ -1,5 +1,5 @@
 -- The calls that are not lent the newest positions neither look at them nor change them. Assumes nothing.
-use mathlib.Core.Path.{_≡_, refl, sym, ap, _∙_}
+use mathlib.Core.Path.{_≡_, refl, ap, _∙_}
 use mathlib.Core.Bool.{Bool, true, false, cond}
 use mathlib.Core.List.{List}
 use Prim.Native.Nat.{ℕ, zero, suc}
@@ -7,7 +7,7 @@ use lib.Dec.{eqb}
 use Rattle.model.specs.State.{Writer, stateOf, nextPosition, writerOf, holds}
 use Rattle.model.specs.Effects.{Given, Effect, newState, formatEffect, beginEffect, reserveEffect, abortEffect, logHeld, storeFirst, storeAgain, storeOther, storeEffect, flushPart, flushNone, flushEffect, confirmEffect, tagsOf, liveTags, liveBase, settleEffect}
 use Rattle.model.specs.Questions.{areasRight, stateRight, blockRight, stripInOrder, writerKnown, homeKnown, writerOpen, room, storeLogs, batchFits, askState, askBlock, formatAnswer, beginAnswer, reserveAnswer, abortAnswer, storeAnswer, flushAnswer, confirmAnswer, settleAnswer}
-use Rattle.model.specs.Calls.{Outcome, refused, done, sizeOf, outcome, formatCall, beginCall, reserveCall, abortCall, storeCall, flushCall, confirmCall, settleCall}
+use Rattle.model.specs.Calls.{refused, done, sizeOf, outcome, formatCall, beginCall, reserveCall, abortCall, storeCall, flushCall, confirmCall, settleCall}
 use Rattle.model.specs.Facts.{lentWith, leftWith, AsideIn, Aside}
 
 -- an effect with other newest positions

@@ -1,12 +1,12 @@
 -- The newest positions are true at every moment after a done opening, and a read, which uses them, gives what it gave while it searched the log.
-use Prim.Native.Nat.{ℕ, _+_, _-_, _*_, _^_, _≤_, _<_}
+use Prim.Native.Nat.{ℕ, _-_, _*_, _≤_, _<_}
 use mathlib.Core.Path.{_≡_, refl, sym, ap, _∙_, subst}
 use mathlib.Core.Logic.{inl, inr}
 use mathlib.Core.Bool.{Bool, true, false, cond, _&&_, false≢true}
 use mathlib.Core.List.{List, [], _∷_}
 use mathlib.Core.Option.{Option, none, some}
 use native.Mathlib.Omega.{arith}
-use lib.Dec.{eqb, leb, ltb}
+use lib.Dec.{eqb, leb}
 use lib.ListN.{length}
 use borrow.Author.Tests.{le-leb, lt-ltb, le-ltb}
 use Rattle.model.specs.Tag.{present, homeOf}
@@ -15,13 +15,13 @@ use Rattle.model.specs.Layout.{homeAt}
 use Rattle.model.specs.Commit.{newestIn, orElse, newest}
 use Rattle.model.specs.State.{stateOf, nextPosition}
 use Rattle.model.specs.Newest.{noPosition, keptAs, keptFor}
-use Rattle.model.specs.Effects.{Given, liveTags, liveBase, newestCommitted, blockOr, current, ownElse, visible, isThere, keptPosition, shown}
+use Rattle.model.specs.Effects.{Given, liveTags, liveBase, newestCommitted, current, ownElse, visible, isThere, keptPosition, shown}
 use Rattle.model.specs.Book.{homesAfter}
 use Rattle.model.specs.History.{Event, World, emptyStore, lent, step, AllAllowed}
 use Rattle.model.specs.Kept.{Kept, KeptThroughout, NewestKept}
 use Rattle.model.proofs.trace.TraceLaws.{All}
 use Rattle.model.proofs.invariant.Invariant.{Sizes, Running, Invariant}
-use Rattle.model.proofs.invariant.LiveLog.{tagsIn, baseOf, endOf, keptIn, Shown, all-each, live-from, live-order, live-room, lent-tags, live-transactions, kept-shown}
+use Rattle.model.proofs.invariant.LiveLog.{tagsIn, baseOf, endOf, keptIn, Shown, all-each, live-from, live-room, lent-tags, live-transactions, kept-shown}
 use Rattle.model.proofs.invariant.KeptBook.{lastCommitted, HomeIn, newest-committed}
 use Rattle.model.proofs.steps.FormatRuns.{from-format}
 use Rattle.model.proofs.steps.Beginning.{format-closed}

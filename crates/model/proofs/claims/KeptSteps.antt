@@ -1,6 +1,6 @@
 -- The newest positions are those that the book gives, after a done opening and every call that follows. Assumes nothing.
-use Prim.Native.Nat.{ℕ, zero, suc, _+_, _-_, _*_, _^_, _≤_, _<_}
-use mathlib.Core.Path.{_≡_, refl, sym, ap, _∙_, subst}
+use Prim.Native.Nat.{ℕ, _+_, _-_, _*_, _^_, _≤_, _<_}
+use mathlib.Core.Path.{_≡_, refl, sym, ap, _∙_}
 use mathlib.Core.Logic.{inl, inr}
 use mathlib.Core.Bool.{Bool, true, false, cond, not, false≢true}
 use mathlib.Core.List.{List, [], _∷_, _++_}
@@ -9,32 +9,31 @@ use native.Mathlib.Omega.{arith}
 use lib.Dec.{eqb, ltb}
 use lib.ListN.{length}
 use borrow.Author.Tests.{leb-true, leb-false, ltb-true, eqb-true, le-ltb}
-use Rattle.model.specs.Tag.{homeOf}
 use Rattle.model.specs.declared.Tag.{Tag}
 use Rattle.model.specs.Layout.{homesIn, headerStart}
-use Rattle.model.specs.Commit.{Span, entries, eachEntries, transactions, newestIn, orElse}
-use Rattle.model.specs.State.{stateOf, nextPosition, Writer, writerOf, heldOf, holds, firstFor}
-use Rattle.model.specs.Newest.{noPosition, keptAs, keptFor, nothingKept, keepEntries, forget}
-use Rattle.model.specs.Effects.{Given, Effect, homes, newState, tagsOf, liveBase, keptCommit, logClosing, commitHeld, abortEffect, commitEffect, trimStart, trimTo, trimEffect}
+use Rattle.model.specs.Commit.{entries, eachEntries, transactions}
+use Rattle.model.specs.State.{stateOf, nextPosition, writerOf, heldOf, holds, firstFor}
+use Rattle.model.specs.Newest.{noPosition, keptAs, keptFor, keepEntries, forget}
+use Rattle.model.specs.Effects.{Given, Effect, homes, newState, tagsOf, liveBase, keptCommit, commitHeld, abortEffect, commitEffect, trimStart, trimTo, trimEffect}
 use Rattle.model.specs.Questions.{writerKnown, commitAnswer, commitLogs, room, trimAnswer}
 use Rattle.model.specs.Calls.{Outcome, done, sizeOf, commitCall, trimCall}
-use Rattle.model.specs.Book.{Commit, Task, Book, commitTask, withTask, withCommits, owedAll, owedBy}
+use Rattle.model.specs.Book.{Task, commitTask, withTask, withCommits}
 use Rattle.model.specs.Book as book
 use Rattle.model.specs.Store.{Store, newStore, numbered, afterService, follow}
 use Rattle.model.specs.Store as store
 use Rattle.model.specs.History.{Change, begins, reserves, aborts, stores, commits, flushes, Service, settles, trims, reads, Call, opening, confirm, change, service, commit, trim, Event, call, crash, World, emptyStore, unopened, lent, loaded, ends, changeEnds, serviceEnds, feed, feedChange, isOpening, afterDone, afterCrash, step, Allowed}
 use Rattle.model.proofs.bytes.LayoutLaws.{homes-in}
-use Rattle.model.proofs.strip.NewestLaws.{Keepable, keptElse, kept-else, kept-entries, kept-forget, kept-nothing}
+use Rattle.model.proofs.strip.NewestLaws.{Keepable, kept-else, kept-entries, kept-forget, kept-nothing}
 use Rattle.model.proofs.strip.QuestionLaws.{Roomy, room-true, CommitReady, commit-ready}
-use Rattle.model.proofs.trace.Trace.{Ev, hist, firstOf, closerOf, oldestOf, closingFrom}
+use Rattle.model.proofs.trace.Trace.{hist, closerOf, oldestOf, closingFrom}
 use Rattle.model.proofs.trace.TraceLaws.{All}
 use Rattle.model.proofs.trace.WholeLaws.{closingFrom-snoc}
 use Rattle.model.proofs.trace.CountLaws.{spanOf, spansOf}
-use Rattle.model.proofs.invariant.Invariant.{Sizes, TaskOk, Copies, Running, Closed, Invariant}
-use Rattle.model.proofs.invariant.LiveLog.{tagsIn, baseOf, endOf, keptIn, Shown, live-from, live-order, live-room, lent-groups, lent-homes, live-transactions, live-spans, kept-shown}
+use Rattle.model.proofs.invariant.Invariant.{Sizes, TaskOk, Running, Closed, Invariant}
+use Rattle.model.proofs.invariant.LiveLog.{tagsIn, baseOf, keptIn, Shown, live-from, live-order, live-room, lent-groups, lent-homes, live-transactions, live-spans, kept-shown}
 use Rattle.model.proofs.invariant.KeptBook.{lastEntry, lastCommitted, committed-more, committed-old, committed-by, committed-all, HomeIn, newest-entries, trimmedAt, committed-trimmed}
 use Rattle.model.proofs.steps.DoneLaws.{outcome-code, after}
-use Rattle.model.proofs.steps.NewestSteps.{Quiet, done-newest, quiet-newest, settle-newest, read-newest, confirm-newest, open-newest}
+use Rattle.model.proofs.steps.NewestSteps.{done-newest, quiet-newest, settle-newest, read-newest, confirm-newest, open-newest}
 use Rattle.model.proofs.steps.StoreCommit.{Closing, commit-closes}
 use Rattle.model.proofs.steps.TrimRuns.{MayMove, trim-may}
 use Rattle.model.proofs.claims.Yields.{ends-done}
@@ -99,8 +98,7 @@ module _ (G D : ℕ) (z : Sizes G D) (w : World) (r : Running G D w) (v : ℕ) (
   keepable [] a = tt
   keepable (p ∷ ps) a =
       let s : Shown G D (r .b) (k .tr) u p = a .0 in
-      let o = k .copies .order in
-      (
+      let o = k .copies .order in (
         (
           omega (arith, s .home, s .fits .0),
           omega (arith, s .high, live-room G D (r .b) (k .tr) u z (k .copies), o .start-most, z .high),
@@ -208,9 +206,9 @@ module _ (G D : ℕ) (z : Sizes G D) (w : World) (r : Running G D w) (s : Store)
         let room-ok : Roomy (w .state) v = room-true (w .state) v (unfold room commitLogs lent in ready .roomy e) in
         let k : Closing G D w r v y = commit-closes G D z w r v known m room-ok batch in
         let q : Placed G D y = λ x l.
-            ap (λ (n : List ℕ). keptFor n x) (held-newest (k .start))
-            ∙ closing-kept G D z w r v y k (w .newest) x (a .newest (r .ready)) (rw (r .since) (p x l))
-            ∙ ap (λ (b : ℕ). keptAs (lastCommitted b (baseOf y) x (y .book .commits))) (r .since) in
+        ap (λ (n : List ℕ). keptFor n x) (held-newest (k .start))
+        ∙ closing-kept G D z w r v y k (w .newest) x (a .newest (r .ready)) (rw (r .since) (p x l))
+        ∙ ap (λ (b : ℕ). keptAs (lastCommitted b (baseOf y) x (y .book .commits))) (r .since) in
         rw (ended, held-effect e) (after-placed G D w (commit v batch) g _ q)
 
     commit-placed : Placed G D (afterDone w (commit v batch) (ends w (commit v batch)))

@@ -1,5 +1,5 @@
 -- Between two calls of an era: the strip is in order, what the calls wrote reads back as the book's commits that are not trimmed, and a read gives the
--- writer's own newest block, else the newest committed one. Assumes nothing.
+-- writer's own newest block, else the newest committed one. That the newest positions show the latter comes from KeptHolds.
 use Prim.Native.Nat.{ℕ, suc, _+_, _-_, _*_, _≤_, _<_}
 use mathlib.Core.Path.{_≡_, refl, sym, ap, _∙_}
 use mathlib.Core.Logic.{inl, inr}

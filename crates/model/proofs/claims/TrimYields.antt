@@ -274,11 +274,10 @@ module _ (G D : ℕ) (z : Sizes G D) (w : World) (r : Running G D w) where
       let a : trimAnswer g s (sizeOf (trimEffect g s)) ≡ 0 = sym (outcome-code g (trimAnswer g s (sizeOf (trimEffect g s))) (trimEffect g s)) ∙ h in
       let k = trim-ready g s (sizeOf (trimEffect g s)) a in
       let most : s ≤ 2 ^ 47 = start-most s (k .1) in
-      let d : done g (trimEffect g s) .state ≡ trimEffect g s .state = unfold done in refl in
-      (
+      let d : done g (trimEffect g s) .state ≡ trimEffect g s .state = unfold done in refl in (
         ap (λ (o : Outcome). stateOf (o .state) .start)
-        (ends-done (trimCall g) g (trimAnswer g s (sizeOf (trimEffect g s))) (trimEffect g s) refl h)
-        ∙ ap (λ (x : List ℕ). stateOf x .start) d ∙ start-after batch s most,
+            (ends-done (trimCall g) g (trimAnswer g s (sizeOf (trimEffect g s))) (trimEffect g s) refl h)
+            ∙ ap (λ (x : List ℕ). stateOf x .start) d ∙ start-after batch s most,
         most,
       )
 

@@ -15,15 +15,13 @@ use Rattle.model.specs.Questions.{writerKnown, commitAnswer}
 use Rattle.model.specs.Calls.{Outcome, done, sizeOf, commitCall}
 use Rattle.model.specs.Book.{Commit, Task, idle, opened, Book, filledUp, submit, grown, withTask, addCommit, entryOf, storeTask, commitTask, owedBy, owedAll, withCommits}
 use Rattle.model.specs.Book as book
-use Rattle.model.specs.Demands.{Live, Yields, ServiceYields, YieldsAt, LiveThroughout, Demand2}
-use Rattle.model.specs.History.{Change, begins, reserves, aborts, stores, commits, flushes, Service, settles, trims, reads, Call, opening, confirm, change, service, commit, Event, call, crash, World, unopened, emptyStore, lent, ends, changeEnds, feed, feedChange, isOpening, afterDone, afterCall, afterCrash, step, Allowed, AllAllowed}
+use Rattle.model.specs.Demands.{Live, Yields, ServiceYields, YieldsAt}
+use Rattle.model.specs.History.{Change, begins, reserves, aborts, stores, commits, flushes, Service, settles, trims, reads, Call, opening, confirm, change, service, commit, Event, call, crash, World, unopened, emptyStore, lent, ends, changeEnds, feed, feedChange, isOpening, afterDone, afterCall, afterCrash, step, Allowed}
 use Rattle.model.proofs.strip.QuestionLaws.{commit-ready}
 use Rattle.model.proofs.steps.RefusalLaws.{left-as-lent}
 use Rattle.model.proofs.steps.DoneLaws.{outcome-code}
 use Rattle.model.proofs.trace.Trace.{Ev}
 use Rattle.model.proofs.invariant.Invariant.{Sizes, TaskOk, Running, Invariant}
-use Rattle.model.proofs.steps.FormatRuns.{from-format}
-use Rattle.model.proofs.steps.Beginning.{format-closed}
 use Rattle.model.proofs.claims.DemandThree.{keeps}
 use Rattle.model.proofs.claims.Yields.{PastOwed, ends-done, confirm-yields, settle-yields}
 use Rattle.model.proofs.claims.TrimYields.{trim-yields}

@@ -1,17 +1,17 @@
 -- What each call does to the newest positions: their length stays, and only commit, trim and open change them. Assumes nothing.
 use mathlib.Core.Path.{_≡_, refl, sym, ap, _∙_}
 use mathlib.Core.Bool.{Bool, true, false, cond, false≢true}
-use mathlib.Core.List.{List, [], _∷_}
+use mathlib.Core.List.{List, []}
 use Prim.Native.Nat.{ℕ, zero, suc, _*_}
 use lib.Dec.{eqb}
 use lib.ListN.{length}
-use Rattle.model.specs.State.{Writer, stateOf, nextPosition, writerOf, holds}
+use Rattle.model.specs.State.{stateOf, nextPosition, writerOf, holds}
 use Rattle.model.specs.Effects.{Given, Effect, homes, newState, openEffect, openStart, beginEffect, reserveEffect, abortEffect, storeFirst, storeAgain, storeOther, storeEffect, keptCommit, commitHeld, commitEffect, flushNone, flushPart, flushEffect, confirmEffect, settleEffect, trimStart, trimTo, trimEffect, readEffect}
-use Rattle.model.specs.Newest.{nothingKept, keepEntries, forget}
+use Rattle.model.specs.Newest.{nothingKept}
 use Rattle.model.specs.Questions.{openAnswer, beginAnswer, reserveAnswer, abortAnswer, storeAnswer, commitAnswer, flushAnswer, confirmAnswer, settleAnswer, trimAnswer, readAnswer}
 use Rattle.model.specs.Calls.{Outcome, refused, done, sizeOf, outcome, openCall, beginCall, reserveCall, abortCall, storeCall, commitCall, flushCall, confirmCall, settleCall, trimCall, readCall}
 use Rattle.model.specs.History.{Change, begins, reserves, aborts, stores, commits, flushes, Service, settles, trims, reads, Call, opening, confirm, change, service, World, lent, loaded, ends, changeEnds, serviceEnds, isOpening}
-use Rattle.model.proofs.strip.NewestLaws.{length-entries, length-forget, length-nothing}
+use Rattle.model.proofs.strip.NewestLaws.{length-entries, length-forget}
 use Rattle.model.proofs.steps.DoneLaws.{outcome-code, outcome-done}
 
 -- ---- by the answer
