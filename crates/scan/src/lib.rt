@@ -8,6 +8,7 @@ pub use commits::Progress;
 pub use commits::count_entry;
 pub use commits::in_group;
 pub use commits::judge;
+pub use commits::skipped;
 pub use commits::walk;
 pub use groups::group_valid;
 pub use groups::tag_in;
