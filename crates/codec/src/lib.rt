@@ -20,3 +20,4 @@ pub use numbers::put_number;
 pub use tags::commit_word;
 pub use tags::entry_word;
 pub use tags::read_tag;
+pub use tags::tag_back;

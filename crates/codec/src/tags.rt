@@ -3,7 +3,7 @@
 use model::Tag;
 ghost use mathlib.Core.Path.{_≡_};
 ghost use Prim.Native.Nat.{_^_, _<_};
-ghost use Rattle.model.specs.Tag.{entryWord, closingWord, readTag};
+ghost use Rattle.model.specs.Tag.{entryWord, closingWord, field, readTag};
 
 // The word of an entry that does not close its transaction.
 pub fn entry_word(home: u64, back: u64) -> u64
@@ -19,6 +19,13 @@ pub fn commit_word(home: u64, back: u64, link: u64, count: u64) -> u64
     ensures { λ r. ⌜ r ≡ closingWord home back link count ⌝ }
 {
     3 | (home & 0xfff) << 2 | back << 14 | link << 27 | count << 40 | (home >> 12) << 53
+}
+
+// The distance back to the first entry that a word holds, used or not.
+pub fn tag_back(word: u64) -> u64
+    ensures { λ r. ⌜ r ≡ field word 14 13 ⌝ }
+{
+    (word >> 14) & 0x1fff
 }
 
 // What a word says at a position of a log that starts at position `base` and has `homes` homes.

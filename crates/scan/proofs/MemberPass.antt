@@ -2,7 +2,7 @@
 use mathlib.Core.Path.{_≡_, refl, sym, ap, _∙_}
 use mathlib.Core.Bool.{Bool, true, false, cond, _&&_, and-false}
 use mathlib.Core.List.{List, [], _∷_}
-use Prim.Native.Nat.{ℕ, zero, suc, _+_, _≤_, _<_}
+use Prim.Native.Nat.{ℕ, zero, suc, _+_, _-_, _≤_, _<_}
 use native.Mathlib.Omega.{arith}
 use borrow.Author.Tests.{eq-eqb, le-leb, lt-leb}
 use lib.Dec.{leb}
@@ -40,7 +40,7 @@ module _ {S : Type 0} (f : ℕ) (put : ℕ → ℕ → S → S) where
 
   module _ (tags : ℕ → Tag) where
     -- nothing before the first position
-    pub over-before : (position k : ℕ) (s : S) → position + k ≤ f → s ≡ over (taking f put) tags position k s
+    pub over-before : (position k : ℕ) (s : S) → k ≤ f - position → s ≡ over (taking f put) tags position k s
     unfolding over
     over-before position zero s h = refl
     over-before position (suc k) s h =
