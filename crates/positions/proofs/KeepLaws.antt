@@ -5,8 +5,6 @@ use mathlib.Core.List.{List}
 use mathlib.Core.Logic.{_≢_}
 use Prim.Native.Nat.{ℕ, zero, suc, _+_, _-_, _*_, _≤_, _<_}
 use native.Mathlib.Omega.{arith}
-use borrow.Author.Tests.{ne-eqb}
-use lib.Dec.{eqb}
 use Rattle.model.specs.Tag.{field, readTag, belongs, homeOf}
 use Rattle.model.specs.Commit.{Span, entries, members, writeAll}
 use Rattle.model.specs.Newest.{keep, keepEntry, keepEntries}
@@ -16,21 +14,14 @@ use Rattle.model.proofs.bytes.TagLaws.{entry-known, closing-known, entry-fields
 use Rattle.model.proofs.rule.MemberLaws.{entries-at}
 use Rattle.scan.specs.Members.{taking}
 use Rattle.scan.specs.Scan.{over}
-use Rattle.scan.proofs.MemberPass.{taking-other, taking-entry, taking-closing, over-members}
+use Rattle.scan.proofs.MemberPass.{taking-back, taking-other, taking-entry, taking-closing, over-members}
 use Rattle.positions.specs.Keeping.{keepAt, keptOver}
 
 -- ---- one position
 
 module _ (word position base homes first : ℕ) (newest : List ℕ) where
-  -- another distance back is another transaction
-  other : (t : Tag) → t ≡ readTag word position base homes → field word 14 13 ≢ position - first → belongs first t ≡ false
-  unfolding belongs
-  other Nothing e n = refl
-  other (Entry h f) e n = let q = entry-fields word position base homes h f (sym e) in ne-eqb first f (λ z. n (omega (arith, q .1)))
-  other (Closing h f l c) e n = let q = closing-fields word position base homes h f l c (sym e) in ne-eqb first f (λ z. n (omega (arith, q .1)))
-
   pub kept-other : (back : ℕ) → back ≡ field word 14 13 → back ≢ position - first → newest ≡ taking first keepAt position (readTag word position base homes) newest
-  kept-other back e n = sym (taking-other first keepAt position _ newest (other _ refl (λ z. n (e ∙ z))))
+  kept-other back e n = sym (taking-other first keepAt position _ newest (taking-back word position base homes first (λ z. n (e ∙ z))))
 
   module _ (back : ℕ) (e : back ≡ field word 14 13) (b : back ≡ position - first) (l : first ≤ position) (t : Tag) (r : t ≡ readTag word position base homes) where
     pub kept-nothing : t ≡ Nothing → newest ≡ taking first keepAt position (readTag word position base homes) newest

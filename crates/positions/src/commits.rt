@@ -8,8 +8,8 @@ ghost use Rattle.model.specs.Tag.{readTag};
 ghost use Rattle.model.specs.Layout.{entryIn, entryAt};
 ghost use Rattle.model.specs.Commit.{entries};
 ghost use Rattle.model.specs.Newest.{keepEntries};
-ghost use Rattle.scan.specs.Members.{taking};
-ghost use Rattle.positions.specs.Keeping.{keepAt, keptOver, Closed};
+ghost use Rattle.scan.specs.Members.{taking, Stretch};
+ghost use Rattle.positions.specs.Keeping.{keepAt, keptOver};
 
 // Keeps a position if the word of its tag is an entry of the transaction with first position `first`. Its distance back is compared before all else.
 fn keep_entry(newest: &mut [u8], word: u64, position: u64, base: u64, homes: u64, first: u64)
@@ -64,7 +64,7 @@ pub fn keep_entries(
     closing: u64,
     newest: &mut [u8],
 )
-    requires { ⌜ Closed (now log) groups start first closing × (length (now newest) ≡ 8 * homes) ⌝ }
+    requires { ⌜ Stretch (now log) groups start first (closing + 1) × (length (now newest) ≡ 8 * homes) ⌝ }
     ensures { λ _. ⌜ now (newest .exit)
         ≡ keepEntries (entryAt (now (log .entry)) groups homes start)
         (entries (entryAt (now (log .entry)) groups homes start) (7 * start) (record { first = first; closing = closing }))

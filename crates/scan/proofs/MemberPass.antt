@@ -2,16 +2,28 @@
 use mathlib.Core.Path.{_≡_, refl, sym, ap, _∙_}
 use mathlib.Core.Bool.{Bool, true, false, cond, _&&_, and-false}
 use mathlib.Core.List.{List, [], _∷_}
+use mathlib.Core.Logic.{_≢_}
 use Prim.Native.Nat.{ℕ, zero, suc, _+_, _-_, _≤_, _<_}
 use native.Mathlib.Omega.{arith}
-use borrow.Author.Tests.{eq-eqb, le-leb, lt-leb}
+use borrow.Author.Tests.{eq-eqb, ne-eqb, le-leb, lt-leb}
 use lib.Dec.{leb}
-use Rattle.model.specs.Tag.{belongs, homeOf}
+use Rattle.model.specs.Tag.{field, readTag, belongs, homeOf}
 use Rattle.model.specs.Commit.{addIf, members, writeAll}
 use Rattle.model.specs.declared.Tag.{Tag}
 use Rattle.model.specs.declared.Tag.the-variants.{Nothing, Entry, Closing}
+use Rattle.model.proofs.bytes.TagLaws.{entry-fields, closing-fields}
 use Rattle.scan.specs.Members.{taking}
 use Rattle.scan.specs.Scan.{over}
+
+-- a word with another distance back is of another transaction
+pub taking-back : (word position base homes first : ℕ) → field word 14 13 ≢ position - first → belongs first (readTag word position base homes) ≡ false
+unfolding belongs
+taking-back word position base homes first n = go (readTag word position base homes) refl
+  where
+    go : (t : Tag) → readTag word position base homes ≡ t → belongs first t ≡ false
+    go Nothing e = refl
+    go (Entry h f) e = let q = entry-fields word position base homes h f e in ne-eqb first f (λ z. n (omega (arith, q .1)))
+    go (Closing h f l c) e = let q = closing-fields word position base homes h f l c e in ne-eqb first f (λ z. n (omega (arith, q .1)))
 
 module _ {S : Type 0} (f : ℕ) (put : ℕ → ℕ → S → S) where
   -- ---- one position
