@@ -75,7 +75,7 @@ module _ (G D : ℕ) (z : Sizes G D) where
   -- before, only an opening is allowed
   opening-keeps : (w : World) → Closed G D w → (c : Call) → isOpening c ≡ true → Invariant G D (step w (call c)) × CallHolds w c (ends w c)
   unfolding isOpening
-  opening-keeps w k (opening state newest batch) e = (open-keeps G D z w k state batch, open-holds G D z w k state batch)
+  opening-keeps w k (opening state newest batch) e = (open-keeps G D z w k state newest batch, open-holds G D z w k state newest batch)
   opening-keeps w k confirm e = absurd (false≢true e)
   opening-keeps w k (change c) e = absurd (false≢true e)
   opening-keeps w k (service c) e = absurd (false≢true e)

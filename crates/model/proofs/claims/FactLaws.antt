@@ -304,15 +304,15 @@ module _ (G D : ℕ) (z : Sizes G D) (w : World) (r : Running G D w) where
 
 -- ---- openings
 
-module _ (G D : ℕ) (z : Sizes G D) (w : World) (c : Closed G D w) (state batch : List ℕ) where
+module _ (G D : ℕ) (z : Sizes G D) (w : World) (c : Closed G D w) (state newest batch : List ℕ) where
   abbrev g : Given
-  g = loaded w state batch
+  g = loaded w state newest batch
 
   open-formed : AllFormed (openEffect g .records)
   open-formed =
       let X = homesAfter D (w .book .commits) in
       let o = c .opens in
-      rw (open-effect G D z w c state batch)
+      rw (open-effect G D z w c state newest batch)
       (formed-append (homeWrites X (hs G D z (w .memory) X o)) (FN ∷ KW (newHeader G D z (w .memory) X o) ∷ FN ∷ [])
       (homes-formed D X (hs G D z (w .memory) X o) (z .homes) (restored-size G D z (w .memory) X o) (touched-below G D z (w .memory) X o))
       (tt, (length-header _ G D, (tt, tt))))
@@ -336,7 +336,7 @@ module _ (G D : ℕ) (z : Sizes G D) (w : World) (c : Closed G D w) (state batch
 module _ (G D : ℕ) (z : Sizes G D) where
   closed-once : (w : World) → Closed G D w → Once w → (c : Call) → isOpening c ≡ true → Once (step w (call c))
   unfolding isOpening
-  closed-once w k h (opening state newest batch) e = opening-once G D z w k state batch h
+  closed-once w k h (opening state newest batch) e = opening-once G D z w k state newest batch h
   closed-once w k h confirm e = absurd (false≢true e)
   closed-once w k h (change c) e = absurd (false≢true e)
   closed-once w k h (service c) e = absurd (false≢true e)

@@ -202,10 +202,10 @@ module _ (G D : ℕ) (z : Sizes G D) (w : World) (r : Running G D w) (s : Store)
 
 -- ---- every event keeps the ledger
 
-led-opening : (G D : ℕ) (z : Sizes G D) (w : World) → Closed G D w → (s : Store) → Agrees G D w s → (state batch : List ℕ) → (fs : List Fate)
+led-opening : (G D : ℕ) (z : Sizes G D) (w : World) → Closed G D w → (s : Store) → Agrees G D w s → (state newest batch : List ℕ) → (fs : List Fate)
     → ends w (opening state newest batch) .code ≡ 0 → LedBy (store.afterDone s (opening state newest batch) (ends w (opening state newest batch) .figure)) (enterCall s (opening state newest batch) fs)
 unfolding store.afterDone numbered enterCall feed firstGroup
-led-opening G D z w k s a state batch fs h =
+led-opening G D z w k s a state newest batch fs h =
     subst (λ (b : Book). Led (s .head + s .groups) (book.withCommits b (book.owedAll (b .commits))) []) (sym (a .book))
     (opened-led D (s .head + s .groups) (w .book) (k .rows) (k .filled) (k .tasks) (k .past))
 
@@ -224,7 +224,7 @@ module _ (G D : ℕ) (z : Sizes G D) where
       → step w (call c) .ready ≡ true → LedBy (follow s w (call c)) (enterEvent s w (call c) fs)
   unfolding isOpening
   opens-led w k s a (opening state newest batch) e fs h =
-      by-code w s (opening state newest batch) fs (led-opening G D z w k s a state batch fs)
+      by-code w s (opening state newest batch) fs (led-opening G D z w k s a state newest batch fs)
       (λ n q. absurd (false≢true (sym (k .ready) ∙ ap (λ (x : World). x .ready) (sym (step-refused w (opening state newest batch) n q)) ∙ h)))
   opens-led w k s a confirm e fs h = absurd (false≢true e)
   opens-led w k s a (change c) e fs h = absurd (false≢true e)

@@ -47,7 +47,7 @@ past-snoc (d ∷ cs) c p l = (p .0, past-snoc cs c (p .1) l)
 
 -- ---- what the book's steps do to its commits
 
-store-commits : (b : Book) (v home : ℕ) (block : List ℕ) (t : Task) → storeTask b v home block t .commits ≡ b .commits
+pub store-commits : (b : Book) (v home : ℕ) (block : List ℕ) (t : Task) → storeTask b v home block t .commits ≡ b .commits
 unfolding storeTask withTask
 store-commits b v home block idle = refl
 store-commits b v home block (opened es none) = refl
@@ -59,7 +59,7 @@ store-commits b v home block (opened es (some h)) = go (eqb (h .home) home)
     go true = refl
     go false = filled-commits b
 
-flush-commits : (b : Book) → book.flush b .commits ≡ b .commits
+pub flush-commits : (b : Book) → book.flush b .commits ≡ b .commits
 unfolding book.flush submit
 flush-commits b = go (eqb (b .filled) 0)
   where
@@ -199,26 +199,6 @@ module _ (G D : ℕ) (z : Sizes G D) where
   event-yields w (inr r) o l (call c) a = call-yields w r (o (r .ready)) (l (r .ready)) c (a ∙ ap not (r .ready))
   event-yields w i o l (crash passed chosen) a = tt
 
-  -- ---- demand 2, from what holds of every world of an era
-
-  module _ (live : (w : World) → Running G D w → Live w) where
-    live-ready : (w : World) → Invariant G D w → w .ready ≡ true → Live w
-    live-ready w (inl k) h = absurd (false≢true (sym (k .ready) ∙ h))
-    live-ready w (inr r) h = live w r
-
-    pub live-throughout : (es : List Event) (w : World) → Invariant G D w → Owing w → AllAllowed w es → LiveThroughout w es
-    live-throughout [] w i o a = live-ready w i
-    live-throughout (e ∷ es) w i o a = (
-      live-ready w i,
-      event-yields w i o (live-ready w i) e (a .0),
-      live-throughout es (step w e) (keeps G D z w i e (a .0) .0) (owing-keeps w i o e (a .0)) (a .1),
-    )
-
 pub format-owing : (groups homes : ℕ) → Owing (emptyStore groups homes)
 unfolding emptyStore unopened
 format-owing groups homes h = absurd (false≢true h)
-
-pub demand2-from : ((G D : ℕ) → Sizes G D → (w : World) → Running G D w → Live w) → Demand2
-demand2-from live =
-    from-format LiveThroughout
-    (λ G D z es a. live-throughout G D z (live G D z) es (emptyStore G D) (inl (format-closed G D z)) (format-owing G D) a)
