@@ -56,6 +56,13 @@ module _ (g : Given) (v : ℕ) where
   unfolding askBoth
   both-stops e = ask-no _ 1 _ (rw (e, and-false))
 
+-- an answer of 0 answers the first two questions
+zeros : (a b : Bool) (v : ℕ) → ask a 1 (ask b 2 v) ≡ 0 → ask a 1 (ask b 2 0) ≡ 0
+unfolding ask
+zeros true true v e = refl
+zeros true false v e = absurd (omega arith)
+zeros false b v e = absurd (omega arith)
+
 -- ---- a call f whose questions are those of k if a test says so, and else answer 1
 
 module _ (f k : ℕ → ℕ) (b : Bool) (yes : b ≡ true → (v : ℕ) → f v ≡ k v) (no : b ≡ false → (v : ℕ) → f v ≡ 1) where
@@ -76,13 +83,6 @@ module _ (f k : ℕ → ℕ) (b : Bool) (yes : b ≡ true → (v : ℕ) → f v 
   passes-with : ((v : ℕ) → k 0 ≡ 0 → k v ≡ v) → (v : ℕ) → f 0 ≡ 0 → f v ≡ v
   passes-with h v e = let z = zero-with e in yes (z .0) v ∙ h v (z .1)
 
-  zero-first : ((v : ℕ) → k v ≡ 0 → k 0 ≡ 0) → (v : ℕ) → f v ≡ 0 → f 0 ≡ 0
-  zero-first h v e = go b refl
-    where
-      go : (c : Bool) → b ≡ c → f 0 ≡ 0
-      go true q = yes q 0 ∙ h v (sym (yes q v) ∙ e)
-      go false q = absurd (let z = sym (no q v) ∙ e in omega arith)
-
 -- ---- the same for the two kinds of call
 
 module _ (g : Given) where
@@ -102,6 +102,10 @@ module _ (g : Given) where
 
   pub both-passes : (v : ℕ) → askBoth g 0 ≡ 0 → askBoth g v ≡ v
   both-passes = passes-with (askBoth g) (askBlock g) (newestRight g) (λ e v. both-asks g v e) (λ e v. both-stops g v e) (block-passes g)
+
+  pub both-zero : (v : ℕ) → askBoth g v ≡ 0 → askBoth g 0 ≡ 0
+  unfolding askBoth
+  both-zero v e = zeros (areasRight g && stateRight g && newestRight g && blockRight g) (stripInOrder g) v e
 
   pub both-usable : askBoth g 0 ≡ 0
       → Usable (g .log) (g .area) (g .state) × (length (g .block) ≡ 64) × (length (g .newest) ≡ 8 * homesIn (length (g .area)))

@@ -19,6 +19,13 @@ use Rattle.positions.specs.Keeping.{keepAt, keptOver}
 
 -- ---- one position
 
+module _ (word position base homes : ℕ) (t : Tag) (r : t ≡ readTag word position base homes) where
+  pub entry-low : (h f : ℕ) → t ≡ Entry h f → h < homes
+  entry-low h f d = entry-known word position base homes h f (sym r ∙ d) .0
+
+  pub closing-low : (h f link count : ℕ) → t ≡ Closing h f link count → h < homes
+  closing-low h f link count d = closing-known word position base homes h f link count (sym r ∙ d) .0
+
 module _ (word position base homes first : ℕ) (newest : List ℕ) where
   pub kept-other : (back : ℕ) → back ≡ field word 14 13 → back ≢ position - first → newest ≡ taking first keepAt position (readTag word position base homes) newest
   kept-other back e n = sym (taking-other first keepAt position _ newest (taking-back word position base homes first (λ z. n (e ∙ z))))
@@ -27,12 +34,6 @@ module _ (word position base homes first : ℕ) (newest : List ℕ) where
     pub kept-nothing : t ≡ Nothing → newest ≡ taking first keepAt position (readTag word position base homes) newest
     unfolding belongs
     kept-nothing d = sym (taking-other first keepAt position (readTag word position base homes) newest (ap (belongs first) (sym r ∙ d)))
-
-    pub entry-low : (h f : ℕ) → t ≡ Entry h f → h < homes
-    entry-low h f d = entry-known word position base homes h f (sym r ∙ d) .0
-
-    pub closing-low : (h f link count : ℕ) → t ≡ Closing h f link count → h < homes
-    closing-low h f link count d = closing-known word position base homes h f link count (sym r ∙ d) .0
 
     pub kept-entry : (h f : ℕ) (after : List ℕ) → t ≡ Entry h f → after ≡ keep newest h position
         → after ≡ taking first keepAt position (readTag word position base homes) newest

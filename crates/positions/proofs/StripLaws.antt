@@ -10,7 +10,8 @@ use lib.Dec.{ltb}
 use lib.ListN.{length, set, replicate, length-replicate}
 use Rattle.model.specs.Bytes.{puts, number, putNumber}
 use Rattle.model.specs.Newest.{noPosition, keptFor, keep, nothingKept, forget}
-use Rattle.model.proofs.bytes.ByteLaws.{puts-nil, puts-cons, puts-whole, length-putNumber, number-put-above}
+use Rattle.model.proofs.bytes.ByteLaws.{puts-nil, puts-cons, puts-whole}
+use Rattle.model.proofs.strip.NewestLaws.{forget-above}
 
 -- ---- one home
 
@@ -21,10 +22,6 @@ kept-read newest home r e = e
 pub keep-written : (newest after : List ℕ) (home position : ℕ) → after ≡ putNumber 8 newest (8 * home) position → after ≡ keep newest home position
 unfolding keep
 keep-written newest after home position e = e
-
-pub length-keep : (newest : List ℕ) (home position : ℕ) → length (keep newest home position) ≡ length newest
-unfolding keep
-length-keep newest home position = length-putNumber 8 newest (8 * home) position
 
 pub forgotten : (newest after : List ℕ) (home bound r : ℕ) → r ≡ keptFor newest home → r < bound → after ≡ keep newest home noPosition
     → after ≡ cond (ltb (keptFor newest home) bound) (keep newest home noPosition) newest
@@ -51,34 +48,10 @@ ones-end newest d homes i left l h e =
 -- ---- those before a bound
 
 module _ (newest : List ℕ) (bound : ℕ) where
-  pub length-forget : (n : ℕ) → length (forget newest bound n) ≡ length newest
-  unfolding forget
-  length-forget zero = refl
-  length-forget (suc n) = go (ltb (keptFor newest n) bound) (length-forget n)
-    where
-      go : (b : Bool) → length (forget newest bound n) ≡ length newest
-          → length (cond b (keep (forget newest bound n) n noPosition) (forget newest bound n)) ≡ length newest
-      go true e = length-keep (forget newest bound n) n noPosition ∙ e
-      go false e = e
-
-  -- homes that have not come yet
-  forget-later : (n home : ℕ) → n ≤ home → keptFor (forget newest bound n) home ≡ keptFor newest home
-  unfolding forget
-  forget-later zero home h = refl
-  forget-later (suc n) home h = go (ltb (keptFor newest n) bound) (forget-later n home (omega arith))
-    where
-      put : keptFor (keep (forget newest bound n) n noPosition) home ≡ keptFor (forget newest bound n) home
-      put = unfold keptFor in unfold keep in number-put-above 8 8 (forget newest bound n) (8 * n) noPosition (8 * home) (omega arith)
-
-      go : (b : Bool) → keptFor (forget newest bound n) home ≡ keptFor newest home
-          → keptFor (cond b (keep (forget newest bound n) n noPosition) (forget newest bound n)) home ≡ keptFor newest home
-      go true e = put ∙ e
-      go false e = e
-
   -- one home more
   pub forget-more : (now after : List ℕ) (n : ℕ) → now ≡ forget newest bound n
       → after ≡ cond (ltb (keptFor now n) bound) (keep now n noPosition) now → after ≡ forget newest bound (n + 1)
   unfolding forget
   forget-more now after n e q =
-      let k : keptFor now n ≡ keptFor newest n = ap (λ xs. keptFor xs n) e ∙ forget-later n n (omega arith) in
+      let k : keptFor now n ≡ keptFor newest n = ap (λ xs. keptFor xs n) e ∙ forget-above newest bound n n (omega arith) in
       q ∙ rw (add-one n, k, e)

@@ -3,13 +3,13 @@ use mathlib.Core.Path.{sym, ap, _∙_}
 use native.Mathlib.Omega.{arith}
 use borrow.Author.Needs.{needs}
 use Rattle.model.specs.declared.State.{State}
-use Rattle.answers.proofs.AnswerLaws.{state-only, state-usable}
+use Rattle.answers.proofs.NewestAnswers.{newest-only, newest-usable}
 use Rattle.trimming.proofs.TrimmingLaws.{numbers, start-only, trim-refused, start-refused, not-moved, batch-refused, start-moved}
 use Rattle.trimming.proofs.trim.Statement.{statement}
 use Rattle.trimming.proofs.trim.Tie as tie
 
-in-use-requires : tie.Need-in-use-requires
-in-use-requires c κs = search needs
+in-use-newest-requires : tie.Need-in-use-newest-requires
+in-use-newest-requires c κs = search needs
 
 refused-requires : tie.Need-refused-requires
 refused-requires c κs = search needs
@@ -23,17 +23,17 @@ same-length-2 c = search needs
 returns : tie.Need-returns
 returns c =
     let r = c .refused .ensures in
-    trim-refused _ _ _ _ _ (c .before .before .in-use .ensures ∙ sym (state-only _ _ _ _ _ _ _ _)) (c .before .if1 .taken) (r .0) (r .1) (r .2)
+    trim-refused _ _ _ _ _ (c .before .before .in-use-newest .ensures ∙ sym (newest-only _ _ _ _ _ _ _ _ _)) (c .before .if1 .taken) (r .0) (r .1) (r .2)
 
 state-requires : tie.Need-state-requires
 state-requires c κs =
     let k = c .before in
-    state-usable _ (sym (k .before .in-use .ensures) ∙ k .if1 .left) .state-length
+    newest-usable _ (sym (k .before .in-use-newest .ensures) ∙ k .if1 .left) .state-length
 
 new-start-requires : tie.Need-new-start-requires
 new-start-requires c κs =
     let k = c .before .before .before .before in
-    (state-usable _ (sym (k .before .in-use .ensures) ∙ k .if1 .left), c .before .before .state .ensures)
+    (newest-usable _ (sym (k .before .in-use-newest .ensures) ∙ k .if1 .left), c .before .before .state .ensures)
 
 refused-requires-2 : tie.Need-refused-requires-2
 refused-requires-2 c κs = search needs
@@ -49,8 +49,8 @@ returns-2 c =
     let r = c .refused2 .ensures in
     let n = c .before .before in
     let k = n .before .before .before .before .before in
-    start-refused _ _ _ _ _ (state-only _ _ _ _ _ _ _ _ ∙ sym (k .before .in-use .ensures) ∙ k .if1 .left)
-    (n .new-start .ensures ∙ sym (start-only _ _ _ _ _ _ _)) (omega arith) (r .0) (r .1) (r .2)
+    start-refused _ _ _ _ _ (newest-only _ _ _ _ _ _ _ _ _ ∙ sym (k .before .in-use-newest .ensures) ∙ k .if1 .left)
+    (n .new-start .ensures ∙ sym (start-only _ _ _ _ _ _ _ _)) (omega arith) (r .0) (r .1) (r .2)
 
 done-requires : tie.Need-done-requires
 done-requires c κs = search needs
@@ -66,8 +66,8 @@ returns-3 c =
     let r = c .done .ensures in
     let n = c .before .before .before .before in
     let k = n .before .before .before .before .before in
-    not-moved _ _ _ _ _ (state-only _ _ _ _ _ _ _ _ ∙ sym (k .before .in-use .ensures) ∙ k .if1 .left)
-    (n .new-start .ensures ∙ sym (start-only _ _ _ _ _ _ _)) (omega (arith, c .before .before .before .if2 .left))
+    not-moved _ _ _ _ _ (newest-only _ _ _ _ _ _ _ _ _ ∙ sym (k .before .in-use-newest .ensures) ∙ k .if1 .left)
+    (n .new-start .ensures ∙ sym (start-only _ _ _ _ _ _ _ _)) (omega (arith, c .before .before .before .if2 .left))
     (c .before .if3 .taken ∙ ap (λ (s : State). s .start) (n .before .before .before .state .ensures)) (r .0) (r .1) (r .2)
 
 refused-requires-3 : tie.Need-refused-requires-3
@@ -84,8 +84,8 @@ returns-4 c =
     let r = c .refused3 .ensures in
     let n = c .before .before .before .before .before in
     let k = n .before .before .before .before .before in
-    batch-refused _ _ _ _ _ (state-only _ _ _ _ _ _ _ _ ∙ sym (k .before .in-use .ensures) ∙ k .if1 .left)
-    (n .new-start .ensures ∙ sym (start-only _ _ _ _ _ _ _)) (omega (arith, c .before .before .before .before .if2 .left))
+    batch-refused _ _ _ _ _ (newest-only _ _ _ _ _ _ _ _ _ ∙ sym (k .before .in-use-newest .ensures) ∙ k .if1 .left)
+    (n .new-start .ensures ∙ sym (start-only _ _ _ _ _ _ _ _)) (omega (arith, c .before .before .before .before .if2 .left))
     (λ z. c .before .before .if3 .left (z ∙ ap (λ (s : State). s .start) (sym (n .before .before .before .state .ensures)))) (c .before .if4 .taken)
     (r .0) (r .1) (r .2)
 
@@ -93,7 +93,7 @@ move-start-requires : tie.Need-move-start-requires
 move-start-requires c κs =
     let n = c .before .before .before .before .before .before .before in
     let k = n .before .before .before .before .before in
-    let u = state-usable _ (sym (k .before .in-use .ensures) ∙ k .if1 .left) in
+    let u = newest-usable _ (sym (k .before .in-use-newest .ensures) ∙ k .if1 .left) in
     let m = numbers _ _ _ _ u (n .before .before .before .state .ensures) in
     omega (arith, u .log-length, u .state-length, m, c .before .before .before .before .before .before .if2 .left, c .before .before .before .if4 .left)
 
@@ -116,17 +116,17 @@ returns-5 c =
     let n = v .before .before .before .before .before .before .before .before in
     let k = n .before .before .before .before .before in
     let s = n .before .before .before .state .ensures in
-    let u = state-usable _ (sym (k .before .in-use .ensures) ∙ k .if1 .left) in
+    let u = newest-usable _ (sym (k .before .in-use-newest .ensures) ∙ k .if1 .left) in
     let e = v .move-start .ensures in
-    start-moved _ _ _ _ _ _ _ _ _ u (state-only _ _ _ _ _ _ _ _ ∙ sym (k .before .in-use .ensures) ∙ k .if1 .left) s
-    (n .new-start .ensures ∙ sym (start-only _ _ _ _ _ _ _)) (omega (arith, v .before .before .before .before .before .before .before .if2 .left))
+    start-moved _ _ _ _ _ _ _ _ _ u (newest-only _ _ _ _ _ _ _ _ _ ∙ sym (k .before .in-use-newest .ensures) ∙ k .if1 .left) s
+    (n .new-start .ensures ∙ sym (start-only _ _ _ _ _ _ _ _)) (omega (arith, v .before .before .before .before .before .before .before .if2 .left))
     (v .before .before .before .before .before .if3 .left) (v .before .before .before .before .if4 .left) (r .0) (r .1) (r .2) (e .0) (e .1) (e .2)
 
 pub trim-spec : {M : Type 1} → statement M
 trim-spec =
     tie.close
     (tie.spec
-    in-use-requires
+    in-use-newest-requires
     refused-requires
     same-length
     same-length-2

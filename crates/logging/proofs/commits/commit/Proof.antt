@@ -21,10 +21,10 @@ same-length-3 : tie.Need-same-length-3
 same-length-3 c = search needs
 
 returns : tie.Need-returns
-returns c = ends-refused _ _ _ _ _ _ (c .before .before .commit-verdict .ensures) _ _ _ (c .before .if1 .taken) (c .refused .ensures)
+returns c = ends-refused _ _ _ _ _ _ _ (c .before .before .commit-verdict .ensures) _ _ _ (c .before .if1 .taken) (c .refused .ensures)
 
 writer-requires : tie.Need-writer-requires
-writer-requires c κs = let k = known _ _ _ _ _ _ (c .before .before .commit-verdict .ensures) (c .before .if1 .left) in (k .0, k .1)
+writer-requires c κs = let k = known _ _ _ _ _ _ _ (c .before .before .commit-verdict .ensures) (c .before .if1 .left) in (k .0, k .1)
 
 holds-requires : tie.Need-holds-requires
 holds-requires c κs = search needs
@@ -33,7 +33,7 @@ commit-none-requires : tie.Need-commit-none-requires
 commit-none-requires c κs =
     let c2 = c .before .before .before .before .before in
     let c1 = c2 .before in
-    let k = known _ _ _ _ _ _ (c1 .commit-verdict .ensures) (c2 .if1 .left) in (k .0, k .1)
+    let k = known _ _ _ _ _ _ _ (c1 .commit-verdict .ensures) (c2 .if1 .left) in (k .0, k .1)
 
 done-requires : tie.Need-done-requires
 done-requires c κs = search needs
@@ -55,14 +55,14 @@ returns-2 c =
     let c3 = c4 .before in
     let c2 = c3 .before .before in
     let c1 = c2 .before in
-    ends-none _ _ _ _ _ _ (c1 .commit-verdict .ensures) (c2 .if1 .left) _ _ _ _ _ _ (c3 .writer .ensures) (c4 .holds .ensures)
+    ends-none _ _ _ _ _ _ _ (c1 .commit-verdict .ensures) (c2 .if1 .left) _ _ _ _ _ _ (c3 .writer .ensures) (c4 .holds .ensures)
     (c5 .if2 .taken) (c6 .commit-none .ensures) (c .done .ensures)
 
 state-requires : tie.Need-state-requires
 state-requires c κs =
     let c2 = c .before .before .before .before .before in
     let c1 = c2 .before in
-    known _ _ _ _ _ _ (c1 .commit-verdict .ensures) (c2 .if1 .left) .0
+    known _ _ _ _ _ _ _ (c1 .commit-verdict .ensures) (c2 .if1 .left) .0
 
 next-position-requires : tie.Need-next-position-requires
 next-position-requires c κs =
@@ -71,7 +71,7 @@ next-position-requires c κs =
     let c3 = c4 .before in
     let c2 = c3 .before .before in
     let c1 = c2 .before in
-    let k = held _ _ _ _ _ _ (c1 .commit-verdict .ensures) (c2 .if1 .left) _ _ _ (c3 .writer .ensures) (c4 .holds .ensures) (c5 .if2 .left) (c .state2 .ensures) in
+    let k = held _ _ _ _ _ _ _ (c1 .commit-verdict .ensures) (c2 .if1 .left) _ _ _ (c3 .writer .ensures) (c4 .holds .ensures) (c5 .if2 .left) (c .state2 .ensures) in
     let m = k .0 in
     omega (arith, m .high, m .room, m .few, m .filled)
 
@@ -83,7 +83,7 @@ add-ticket c =
     let c3 = c4 .before in
     let c2 = c3 .before .before in
     let c1 = c2 .before in
-    let k = held _ _ _ _ _ _ (c1 .commit-verdict .ensures) (c2 .if1 .left) _ _ _ (c3 .writer .ensures) (c4 .holds .ensures) (c5 .if2 .left) (c6 .state2 .ensures) in
+    let k = held _ _ _ _ _ _ _ (c1 .commit-verdict .ensures) (c2 .if1 .left) _ _ _ (c3 .writer .ensures) (c4 .holds .ensures) (c5 .if2 .left) (c6 .state2 .ensures) in
     omega (arith, k .1 .high, c .next-position .ensures)
 
 commit-held-requires : tie.Need-commit-held-requires
@@ -94,7 +94,7 @@ commit-held-requires c κs =
     let c3 = c4 .before in
     let c2 = c3 .before .before in
     let c1 = c2 .before in
-    held _ _ _ _ _ _ (c1 .commit-verdict .ensures) (c2 .if1 .left) _ _ _ (c3 .writer .ensures) (c4 .holds .ensures)
+    held _ _ _ _ _ _ _ (c1 .commit-verdict .ensures) (c2 .if1 .left) _ _ _ (c3 .writer .ensures) (c4 .holds .ensures)
     (c5 .if2 .left) (c6 .state2 .ensures)
 
 done-requires-2 : tie.Need-done-requires-2
@@ -119,7 +119,7 @@ returns-3 c =
     let c3 = c4 .before in
     let c2 = c3 .before .before in
     let c1 = c2 .before in
-    ends-held _ _ _ _ _ _ (c1 .commit-verdict .ensures) (c2 .if1 .left) _ _ _ _ _ _ _ _ _ _ _ (c3 .writer .ensures)
+    ends-held _ _ _ _ _ _ _ (c1 .commit-verdict .ensures) (c2 .if1 .left) _ _ _ _ _ _ _ _ _ _ _ (c3 .writer .ensures)
     (c4 .holds .ensures) (c5 .if2 .left) (c6 .state2 .ensures) (c7 .next-position .ensures) (c8 .commit-held .ensures)
     (c .done2 .ensures)
 

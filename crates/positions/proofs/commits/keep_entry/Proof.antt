@@ -26,7 +26,7 @@ enum-known-home c = search needs
 keep-requires : tie.Need-keep-requires
 keep-requires c κs =
     let r = c .before .before .before .before in
-    let l = entry-low _ _ _ _ _ _ _ (r .before .before .tag-back .ensures) (r .before .if1 .left) (omega arith) _ (r .read-tag .ensures) _ _ (c .before .before .home .given .1) in
+    let l = entry-low _ _ _ _ _ (r .read-tag .ensures) _ _ (c .before .before .home .given .1) in
     omega (arith, l)
 
 enum-known-home-2 : tie.Need-enum-known-home-2
@@ -35,7 +35,7 @@ enum-known-home-2 c = search needs
 keep-requires-2 : tie.Need-keep-requires-2
 keep-requires-2 c κs =
     let r = c .before .before .before .before in
-    let l = closing-low _ _ _ _ _ _ _ (r .before .before .tag-back .ensures) (r .before .if1 .left) (omega arith) _ (r .read-tag .ensures) _ _ _ _ (c .before .before .home2 .given .1) in
+    let l = closing-low _ _ _ _ _ (r .read-tag .ensures) _ _ _ _ (c .before .before .home2 .given .1) in
     omega (arith, l)
 
 returns-2 : tie.Need-returns-2
