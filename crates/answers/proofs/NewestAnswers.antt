@@ -33,7 +33,7 @@ pub newest-other : (g : Given) (n : ℕ) → n ≡ homesIn (length (g .area)) �
 unfolding newestRight
 newest-other g n e h = ne-eqb (length (g .newest)) (8 * homesIn (length (g .area))) (λ z. h (z ∙ ap (λ x. 8 * x) (sym e)))
 
-right-length : (g : Given) → newestRight g ≡ true → length (g .newest) ≡ 8 * homesIn (length (g .area))
+pub right-length : (g : Given) → newestRight g ≡ true → length (g .newest) ≡ 8 * homesIn (length (g .area))
 unfolding newestRight
 right-length g e = eqb-true _ _ e
 

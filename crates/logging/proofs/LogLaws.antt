@@ -9,7 +9,9 @@ use lib.Dec.{eqb, leb}
 use lib.ListN.{length, take, drop}
 use borrow.Author.Tests.{le-leb, lt-leb, leb-false, not-true, not-false, eq-eqb, ne-eqb}
 use Rattle.model.specs.Bytes.{part, puts}
-use Rattle.model.specs.Layout.{groupAt}
+use Rattle.model.specs.Layout.{groupAt, entryAt}
+use Rattle.model.specs.Commit.{entries}
+use Rattle.model.specs.Newest.{keepEntries}
 use Rattle.model.specs.Batch.{GW, recordBytes, batchBytes}
 use Rattle.model.specs.declared.State.{State}
 use Rattle.model.specs.declared.Writer.{Writer}
@@ -201,6 +203,20 @@ module _ (l s b : List ℕ) (st : State) (r : Writer) (w : ℕ) where
         upto = omega (arith, f .upto);
         within = omega (arith, q, m .room, m .filled);
       }
+
+-- the newest positions, from what the pass was handed
+module _ (log : List ℕ) (st : State) (r : Writer) (f p : ℕ) (ep : p ≡ nextPosition st) (ef : f ≡ firstFor r p) where
+  pub stretch-at : Stretch log (st .groups) (st .start) (firstFor r (nextPosition st)) (nextPosition st + 1) → Stretch log (st .groups) (st .start) f (p + 1)
+  stretch-at h = rw (ef, ep) h
+
+  pub kept-by : (newest after : List ℕ)
+      → after
+      ≡ keepEntries (entryAt log (st .groups) (st .homes) (st .start))
+      (entries (entryAt log (st .groups) (st .homes) (st .start)) (7 * st .start) (record { first = f; closing = p }))
+      newest
+      → after ≡ keptBy log st r newest
+  unfolding keptBy
+  kept-by newest after e = e ∙ rw (ef, ep)
 
 -- a store that logs nothing
 pub none-logged : (r : Writer) → holds r ≡ false → countFor r + 1 < 2 ^ 64
