@@ -56,6 +56,10 @@ searchable log area state st home u e h =
       known = omega arith;
     })
 
+pub newest-fits : (log area state : List ℕ) (st : State) (n : ℕ) → Usable log area state → st ≡ stateOf state → n ≡ 8 * homesIn (length area)
+    → n ≡ 8 * st .homes
+newest-fits log area state st n u e h = h ∙ rw (e, u .order .homes-same)
+
 pub own-first : (log area state : List ℕ) (st : State) (r : Writer) (w : ℕ) → Usable log area state → st ≡ stateOf state → r ≡ writerOf state w → w < 8
     → 3 ≤ r .mode → (7 * st .start ≤ r .first) × (r .first < nextPosition st)
 own-first log area state st r w u es er h = rw (es, er) (λ m. let k = u .order .writers w h .logged m in (k .0, k .1))
@@ -110,16 +114,23 @@ own-stretch log st r home end b s p e f g =
 
 -- ---- the entry at a position
 
-module _ (log : List ℕ) (st : State) (home p : ℕ) where
-  -- what stands there, by the part of the log that is its group
-  there-tag : (slot from : ℕ) (v : Bool) → Kept (st .groups) (p / 7) slot → from ≡ 64 + 512 * slot
-      → v ≡ groupValid (take (from + 512 - from) (drop from log)) (st .groups) (st .start) (p / 7)
-      → tagsBy log st p ≡ cond v (readTag (groupTag (take (from + 512 - from) (drop from log)) (p % 7)) p (7 * st .start) (st .homes)) Nothing
+-- what stands there, by the part of the log that is its group
+module _ (log : List ℕ) (st : State) (p slot from : ℕ) (v : Bool) (q : Kept (st .groups) (p / 7) slot) (f : from ≡ 64 + 512 * slot)
+    (e : v ≡ groupValid (take (from + 512 - from) (drop from log)) (st .groups) (st .start) (p / 7)) where
+  there-tag : tagsBy log st p ≡ cond v (readTag (groupTag (take (from + 512 - from) (drop from log)) (p % 7)) p (7 * st .start) (st .homes)) Nothing
   unfolding entryAt entryIn slotOf indexOf
-  there-tag slot from v q f e =
+  there-tag =
       let a : take (from + 512 - from) (drop from log) ≡ groupAt log (p / 7 % st .groups) = part-group log slot from f ∙ ap (groupAt log) (q .same) in
       rw (e, a)
 
+  pub there-none : v ≡ false → tagsBy log st p ≡ Nothing
+  there-none h = there-tag ∙ rw h
+
+  pub there-some : (t : Tag) → v ≡ true → t ≡ readTag (groupTag (take (from + 512 - from) (drop from log)) (p % 7)) p (7 * st .start) (st .homes)
+      → tagsBy log st p ≡ t
+  there-some t h k = there-tag ∙ rw (h, k)
+
+module _ (log : List ℕ) (st : State) (home p : ℕ) where
   pub there-hole : tagsBy log st p ≡ Nothing → 0 ≡ codeOf (entryThere log st home p)
   unfolding entryThere codeOf present
   there-hole e = rw e
@@ -152,7 +163,7 @@ module _ (log newest : List ℕ) (st : State) (home p : ℕ) (e : p ≡ keptFor 
 
 module _ (log newest : List ℕ) (st : State) (r : Writer) (home own : ℕ) (e : own ≡ codeOf (ownEntry log st r home)) where
   pub seen-own : (own ≡ 0 → ⊥) → own ≡ codeOf (seenEntry log newest st r home)
-  unfolding seenEntry
+  unfolding seenEntry codeOf orElse
   seen-own n = e ∙ ap codeOf (first (ownEntry log st r home) _ (λ z. n (e ∙ z)))
     where
       first : (a b : Option ℕ) → (codeOf a ≡ 0 → ⊥) → a ≡ orElse a b
@@ -198,11 +209,20 @@ module _ (g : Given) (st : State) (r : Writer) (es : st ≡ stateOf (g .state)) 
   unfolding newestOwn ownEntry liveTags tagsOf liveBase
   own-same o = rw (es, o .groups-same, o .homes-same)
 
+  tags-same : InOrder (g .state) (groups g) (homes g) → (p : ℕ) → liveTags g p ≡ tagsBy (g .log) st p
+  unfolding liveTags tagsOf
+  tags-same o p = rw (es, o .groups-same, o .homes-same)
+
+  base-same : liveBase g ≡ 7 * st .start
+  unfolding liveBase
+  base-same = rw es
+
   kept-same : InOrder (g .state) (groups g) (homes g) → keptPosition g ≡ keptEntry (g .log) (g .newest) st (g .home)
-  unfolding keptPosition isThere keptEntry entryThere liveTags tagsOf liveBase
+  unfolding keptPosition isThere keptEntry entryThere
   kept-same o =
-      rw (es, o .groups-same, o .homes-same)
-      (go (leb (7 * stateOf (g .state) .start) (keptFor (g .newest) (g .home))) (ltb (keptFor (g .newest) (g .home)) (nextPosition (stateOf (g .state)))) _ _ _)
+      let p : ℕ = keptFor (g .newest) (g .home) in
+      rw (tags-same o, base-same, ← es)
+      (go (leb (7 * st .start) p) (ltb p (nextPosition st)) (present (tagsBy (g .log) st p)) (eqb (homeOf (tagsBy (g .log) st p)) (g .home)) p)
     where
       go : (a b c d : Bool) (p : ℕ) → cond (a && b && c && d) (some p) none ≡ cond (a && b) (cond (c && d) (some p) none) none
       go true true c d p = refl
