@@ -9,6 +9,8 @@ use borrow.Author.Tests.{eqb-true, ne-eqb, eq-eqb}
 use lib.Dec.{eqb}
 use lib.ListN.{length}
 use Rattle.model.specs.Layout.{homesIn}
+use Rattle.model.specs.State.{stateOf}
+use Rattle.model.specs.declared.State.{State}
 use Rattle.model.specs.Effects.{Given}
 use Rattle.model.specs.Questions.{ask, areasRight, stateRight, blockRight, newestRight, stripInOrder, askState, askBlock, askNewest, askBoth}
 use Rattle.model.proofs.strip.QuestionLaws.{ask-no}
@@ -36,6 +38,11 @@ newest-other g n e h = ne-eqb (length (g .newest)) (8 * homesIn (length (g .area
 pub right-length : (g : Given) → newestRight g ≡ true → length (g .newest) ≡ 8 * homesIn (length (g .area))
 unfolding newestRight
 right-length g e = eqb-true _ _ e
+
+-- the homes of a strip in order are those of the data copy
+pub newest-fits : (log area state : List ℕ) (st : State) (n : ℕ) → Usable log area state → st ≡ stateOf state → n ≡ 8 * homesIn (length area)
+    → n ≡ 8 * st .homes
+newest-fits log area state st n u e h = h ∙ rw (e, u .order .homes-same)
 
 -- ---- right and wrong
 

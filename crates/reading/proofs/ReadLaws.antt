@@ -56,10 +56,6 @@ searchable log area state st home u e h =
       known = omega arith;
     })
 
-pub newest-fits : (log area state : List ℕ) (st : State) (n : ℕ) → Usable log area state → st ≡ stateOf state → n ≡ 8 * homesIn (length area)
-    → n ≡ 8 * st .homes
-newest-fits log area state st n u e h = h ∙ rw (e, u .order .homes-same)
-
 pub own-first : (log area state : List ℕ) (st : State) (r : Writer) (w : ℕ) → Usable log area state → st ≡ stateOf state → r ≡ writerOf state w → w < 8
     → 3 ≤ r .mode → (7 * st .start ≤ r .first) × (r .first < nextPosition st)
 own-first log area state st r w u es er h = rw (es, er) (λ m. let k = u .order .writers w h .logged m in (k .0, k .1))

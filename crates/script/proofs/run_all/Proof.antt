@@ -7,11 +7,11 @@ use Rattle.script.proofs.run_all.Statement.{statement}
 use Rattle.script.proofs.run_all.Tie as tie
 
 abbrev Inv-loop : tie.InvT-loop
-Inv-loop log₀ area₀ state₀ batch₀ script at₀ log area state batch at =
-    (at ≤ length script) × (length log ≡ length log₀) × (length area ≡ length area₀) × (length state ≡ length state₀) × (length batch ≡ length batch₀)
+Inv-loop log₀ area₀ state₀ newest₀ batch₀ script at₀ log area state newest batch at =
+    (at ≤ length script) × (length log ≡ length log₀) × (length area ≡ length area₀) × (length state ≡ length state₀) × (length newest ≡ length newest₀) × (length batch ≡ length batch₀)
 
 abbrev μ-loop : tie.MeasureT-loop
-μ-loop log₀ area₀ state₀ batch₀ script at₀ log area state batch at = length script - at
+μ-loop log₀ area₀ state₀ newest₀ batch₀ script at₀ log area state newest batch at = length script - at
 
 loop-holds : tie.Need-loop-holds Inv-loop μ-loop
 loop-holds c = search needs

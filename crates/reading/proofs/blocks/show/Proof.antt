@@ -1,7 +1,8 @@
 -- `reading::show` meets its contract. Assumes nothing.
 use borrow.Author.Needs.{needs}
 use native.Mathlib.Omega.{arith}
-use Rattle.reading.proofs.ReadLaws.{searchable, own-first, newest-fits, shown-held, shown-home, shown-entry}
+use Rattle.answers.proofs.NewestAnswers.{newest-fits}
+use Rattle.reading.proofs.ReadLaws.{searchable, own-first, shown-held, shown-home, shown-entry}
 use Rattle.reading.proofs.blocks.show.Statement.{statement}
 use Rattle.reading.proofs.blocks.show.Tie as tie
 
