@@ -27,6 +27,8 @@ struct driver {
     size_t log_size, area_size;
     uint8_t *log, *area; /* the copies that are lent to calls */
     uint8_t state[KAGUTIN_STATE_SIZE];
+    uint8_t *newest; /* the newest position of each home */
+    size_t newest_size;
     uint8_t *batch;
     size_t batch_size;
 
@@ -91,7 +93,7 @@ bool driver_confirm(struct driver *driver, struct kagutin_reply *reply);
 
 /*
  * Power cut: of the issued writes those that lands() picks persist, the other
- * records are gone. The copies and the state are filled with noise.
+ * records are gone. The copies, the state and the newest positions are filled with noise.
  *
  * Of a group or home that is gone the first bytes that tears() allows arrive
  * all the same, but for the group's first word: words land whole, and that one

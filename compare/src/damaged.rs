@@ -3,7 +3,7 @@
 use crate::histories::{far, random_shape, Player, MOST_GROUPS};
 use crate::pair::Pair;
 use second::craft::craft;
-use second::damage::{damage_group, damage_header, damage_lengths, damage_state};
+use second::damage::{damage_group, damage_header, damage_lengths, damage_newest, damage_state};
 use second::layout::{group_head, header, put_word, slot_range, word, Shape, START_LIMIT};
 use second::lent::{ample, Kind, Lent};
 use second::rng::Rng;
@@ -155,6 +155,11 @@ fn damage(rng: &mut Rng, lent: &mut Lent, shape: Shape, old: &[Vec<u8>]) {
     }
     if parts >= 6 {
         damage_strip(rng, lent, old);
+    }
+    match rng.below(4) {
+        0 => {}
+        1 => scribble(rng, &mut lent.newest),
+        _ => damage_newest(rng, lent),
     }
     if rng.chance(8) {
         damage_lengths(rng, lent);
