@@ -57,12 +57,6 @@ struct array_u8_2 {
     uint8_t at[2];
 };
 
-struct recovery__opening__Shape {
-    uint64_t groups;
-    uint64_t homes;
-    uint64_t start;
-};
-
 struct array_u64_7 {
     uint64_t at[7];
 };
@@ -73,6 +67,12 @@ struct model__Tag {
     uint64_t u64_1;
     uint64_t u64_2;
     uint64_t u64_3;
+};
+
+struct recovery__opening__Shape {
+    uint64_t groups;
+    uint64_t homes;
+    uint64_t start;
 };
 
 struct scan__commits__Progress {
@@ -115,15 +115,6 @@ struct array_u16_64 {
 
 struct array_u16_1024 {
     uint16_t at[1024];
-};
-
-struct search__pass__Search {
-    struct scan__commits__Progress progress;
-    uint64_t newest;
-};
-
-struct array_u16_448 {
-    uint16_t at[448];
 };
 
 #if defined(__GNUC__) && !defined(KAGUTIN_PLAIN_C)
@@ -646,6 +637,16 @@ static inline struct answers__Reply kagutin__kagutin_begin(struct slice_u8 log, 
     return sessions__begin(log, area, state, writer);
 }
 
+/* Questions 1 and 2 of a call that is lent the newest positions, eight bytes for each home. */
+static inline uint64_t answers__in_use_newest(struct slice_u8 log, struct slice_u8 area, struct slice_u8 state,
+        struct slice_u8 newest)
+{
+    if ((uint64_t)newest.len != (8u * ((uint64_t)area.len / 64u))) {
+        return 1u;
+    }
+    return answers__in_use(log, area, state);
+}
+
 /* Whether an entry of writer `w` finds a place: one that is promised to it, or one that is promised to nobody. */
 static inline bool strip__promises__room_for(struct slice_u8 s, struct model__State st, uint64_t w)
 {
@@ -679,25 +680,25 @@ static inline uint64_t logging__entry__may_log(struct slice_u8 state, struct mod
 
 /* The answer of a commit: 0, or the number of the question that refuses it. */
 static inline uint64_t logging__commits__commit_verdict(struct slice_u8 log, struct slice_u8 area, struct slice_u8 state,
-        struct slice_u8 batch, uint64_t writer)
+        struct slice_u8 newest, struct slice_u8 batch, uint64_t writer)
 {
-    uint64_t t6, t14;
-    struct model__Writer t7;
+    uint64_t t7, t15;
+    struct model__Writer t8;
 
-    t6 = answers__in_use(log, area, state);
-    if (t6 != 0u) {
-        return t6;
+    t7 = answers__in_use_newest(log, area, state, newest);
+    if (t7 != 0u) {
+        return t7;
     }
     if (8u <= writer) {
         return 4u;
     }
-    t14 = 128u + (96u * writer);
-    t7 = (struct model__Writer){.mode = load_8(state.ptr + (size_t)t14), .home = load_8(state.ptr + (size_t)(t14 + 8u)),
-            .first = load_8(state.ptr + (size_t)(t14 + 16u)), .count = load_8(state.ptr + (size_t)(t14 + 24u))};
-    if (!(1u <= t7.mode)) {
+    t15 = 128u + (96u * writer);
+    t8 = (struct model__Writer){.mode = load_8(state.ptr + (size_t)t15), .home = load_8(state.ptr + (size_t)(t15 + 8u)),
+            .first = load_8(state.ptr + (size_t)(t15 + 16u)), .count = load_8(state.ptr + (size_t)(t15 + 24u))};
+    if (!(1u <= t8.mode)) {
         return 7u;
     }
-    if (!(2u <= t7.mode)) {
+    if (!(2u <= t8.mode)) {
         return 0u;
     }
     return logging__entry__may_log(state, (struct model__State){.groups = load_8(state.ptr), .homes = load_8(state.ptr + 8u),
@@ -908,50 +909,256 @@ static inline uint64_t logging__commits__close_held(struct slice_mut_u8 log, str
     return t9;
 }
 
-/* The same, and the places promised to the writer are given back. */
-static inline uint64_t logging__commits__commit_held(struct slice_mut_u8 log, struct slice_mut_u8 state,
-        struct slice_mut_u8 batch, struct model__State st, struct model__Writer r, uint64_t w)
+/* How many of the `left` positions the next group has. */
+static inline uint64_t scan__commits__in_group(uint64_t left)
 {
-    uint64_t t7;
+    uint64_t t3;
 
-    t7 = logging__commits__close_held(log, state, batch, st, r, w);
-    store_2(state.ptr + (size_t)(72u + (2u * w)), 0u);
-    return t7;
+    if (left < 7u) {
+        t3 = left;
+    } else {
+        t3 = 7u;
+    }
+    return t3;
 }
 
-/* Commits a writer's open transaction: its held block is logged as the closing entry, whose position + 1 is the ticket. */
-static inline struct answers__Reply logging__commits__commit(struct slice_mut_u8 log, struct slice_u8 area,
-        struct slice_mut_u8 state, struct slice_mut_u8 batch, uint64_t writer)
+/* Whether the two bytes of `mark` stand at index `at`. */
+static inline bool codec__marks__has_mark(struct slice_u8 s, uint64_t at, struct slice_u8 mark)
 {
-    uint64_t t6, t7, t11, t36;
-    struct model__Writer t8;
-    struct model__State t9;
-
-    t6 = logging__commits__commit_verdict((struct slice_u8){log.ptr, log.len}, area, (struct slice_u8){state.ptr, state.len},
-            (struct slice_u8){batch.ptr, batch.len}, writer);
-    if (t6 != 0u) {
-        return (struct answers__Reply){.code = t6, .figure = 0u, .size = 0u};
+    if (s.ptr[(size_t)at] != mark.ptr[0u]) {
+        return false;
     }
-    t7 = writer;
-    t36 = 128u + (96u * t7);
-    t8 = (struct model__Writer){.mode = load_8(state.ptr + (size_t)t36), .home = load_8(state.ptr + (size_t)(t36 + 8u)),
-            .first = load_8(state.ptr + (size_t)(t36 + 16u)), .count = load_8(state.ptr + (size_t)(t36 + 24u))};
-    if (!(2u <= t8.mode)) {
-        logging__commits__commit_none(state, t7);
+    if (s.ptr[(size_t)(at + 1u)] != mark.ptr[1u]) {
+        return false;
+    }
+    return true;
+}
+
+/* Whether the mark of a group and the number `n` stand in the eight bytes from index `at` on: the number is that word without the
+   mark. The mark goes first, so that an unused group is passed quickly. */
+static inline bool codec__marks__has_group_head(struct slice_u8 s, uint64_t at, uint64_t n)
+{
+    struct array_u8_2 t4;
+    bool t5;
+
+    t4 = (struct array_u8_2){{80u, 71u}};
+    t5 = codec__marks__has_mark(s, at, (struct slice_u8){t4.at, 2u});
+    if (!t5) {
+        return false;
+    }
+    return (load_8(s.ptr + (size_t)at) / UINT64_C(0x10000)) == (n % UINT64_C(0x1000000000000));
+}
+
+/* Whether the 512 bytes of a ring slot are a valid group with number `n`, in a log of `groups` groups from number `start` on. */
+static inline bool scan__groups__group_valid(struct slice_u8 group, uint64_t groups, uint64_t start, uint64_t n)
+{
+    bool t5;
+
+    t5 = codec__marks__has_group_head(group, 0u, n);
+    if (!t5) {
+        return false;
+    }
+    if (n < start) {
+        return false;
+    }
+    return n < (start + groups);
+}
+
+/* The words of a group's seven tags, read in a row. */
+static inline struct array_u64_7 scan__groups__tag_words(struct slice_u8 group)
+{
+    struct array_u64_7 t2;
+    uint64_t t3;
+
+    memset(&t2, 0, sizeof t2);
+    t3 = 0u;
+    while (t3 < 7u) {
+        t2.at[(size_t)t3] = load_8(group.ptr + (size_t)(8u + (8u * t3)));
+        t3 = t3 + 1u;
+    }
+    return t2;
+}
+
+/* How many positions from `position` on lie before another. */
+static inline uint64_t scan__commits__skipped(uint64_t position, uint64_t first)
+{
+    if (first < position) {
+        return 0u;
+    }
+    return first - position;
+}
+
+/* What a word says at a position of a log that starts at position `base` and has `homes` homes. */
+static inline struct model__Tag codec__tags__read_tag(uint64_t word, uint64_t position, uint64_t base, uint64_t homes)
+{
+    uint64_t t5, t6, t7, t8;
+
+    if ((word & 1u) == 0u) {
+        return (struct model__Tag){.tag = 0u};
+    }
+    if ((word >> 57u) != 0u) {
+        return (struct model__Tag){.tag = 0u};
+    }
+    t5 = ((word >> 2u) & 4095u) | (((word >> 53u) & 15u) << 12u);
+    if (homes <= t5) {
+        return (struct model__Tag){.tag = 0u};
+    }
+    t6 = (word >> 14u) & 8191u;
+    if (position < t6) {
+        return (struct model__Tag){.tag = 0u};
+    }
+    t7 = position - t6;
+    if (t7 < base) {
+        return (struct model__Tag){.tag = 0u};
+    }
+    if (((word >> 1u) & 1u) == 0u) {
+        if (((word >> 27u) & UINT64_C(0x3ffffff)) == 0u) {
+            return (struct model__Tag){.tag = 1u, .u64_0 = t5, .u64_1 = t7};
+        }
+        return (struct model__Tag){.tag = 0u};
+    }
+    t8 = (word >> 40u) & 8191u;
+    if (t8 == 0u) {
+        return (struct model__Tag){.tag = 0u};
+    }
+    return (struct model__Tag){.tag = 2u, .u64_0 = t5, .u64_1 = t7, .u64_2 = (word >> 27u) & 8191u, .u64_3 = t8};
+}
+
+/* Keeps a position if the word of its tag is an entry of the transaction with first position `first`. Its distance back is
+   compared before all else. */
+static inline void positions__commits__keep_entry(struct slice_mut_u8 newest, uint64_t word, uint64_t position, uint64_t base,
+        uint64_t homes, uint64_t first)
+{
+    struct model__Tag t12;
+
+    if (((word >> 14u) & 8191u) != (position - first)) {
+        return;
+    }
+    t12 = codec__tags__read_tag(word, position, base, homes);
+    if (t12.tag == 0u) {
+    } else if (t12.tag == 1u) {
+        store_8(newest.ptr + (size_t)(8u * t12.u64_0), position);
+    } else {
+        store_8(newest.ptr + (size_t)(8u * t12.u64_0), position);
+    }
+}
+
+/* Keeps the transaction's entries among the first `m` of a group, which says nothing where it is not the valid group with number
+   `n`. */
+static inline void positions__commits__keep_group(struct slice_u8 group, uint64_t groups, uint64_t homes, uint64_t start,
+        uint64_t n, uint64_t m, uint64_t first, struct slice_mut_u8 newest)
+{
+    struct array_u64_7 t9, t15;
+    uint64_t t10, t11, t12;
+    bool t13;
+
+    t13 = scan__groups__group_valid(group, groups, start, n);
+    if (!t13) {
+        return;
+    }
+    t15 = scan__groups__tag_words(group);
+    t9 = t15;
+    t10 = 7u * start;
+    t11 = scan__commits__skipped(7u * n, first);
+    t12 = (7u * n) + t11;
+    while (t11 < m) {
+        positions__commits__keep_entry(newest, t9.at[(size_t)t11], t12, t10, homes, first);
+        t12 = t12 + 1u;
+        t11 = t11 + 1u;
+    }
+}
+
+/* The ring slot of the group after that in `slot`. */
+static inline uint64_t scan__slots__next_slot(uint64_t slot, uint64_t groups)
+{
+    uint64_t t5;
+
+    if ((slot + 1u) == groups) {
+        t5 = 0u;
+    } else {
+        t5 = slot + 1u;
+    }
+    return t5;
+}
+
+/* Keeps the position of each entry of the transaction from position `first` to the closing one, so that the later position wins.
+   */
+static inline void positions__commits__keep_entries(struct slice_u8 log, uint64_t groups, uint64_t homes, uint64_t start,
+        uint64_t first, uint64_t closing, struct slice_mut_u8 newest)
+{
+    uint64_t t8, t9, t10, t11, t13;
+
+    t8 = first / 7u;
+    t9 = t8 % groups;
+    t10 = (closing + 1u) - (7u * t8);
+    while (0u < t10) {
+        t11 = 64u + (512u * t9);
+        t13 = scan__commits__in_group(t10);
+        positions__commits__keep_group((struct slice_u8){log.ptr + (size_t)t11, (size_t)((t11 + 512u) - t11)}, groups, homes,
+                start, t8, t13, first, newest);
+        t9 = scan__slots__next_slot(t9, groups);
+        t8 = t8 + 1u;
+        t10 = t10 - t13;
+    }
+}
+
+/* Keeps the position of each entry of the transaction that was closed at the next position. */
+static inline void logging__commits__keep_newest(struct slice_u8 log, struct slice_mut_u8 newest, struct model__State st,
+        struct model__Writer r)
+{
+    uint64_t t5, t6;
+
+    t5 = (7u * st.next) + st.filled;
+    t6 = strip__writers__first_for(r, t5);
+    positions__commits__keep_entries(log, st.groups, st.homes, st.start, t6, t5, newest);
+}
+
+/* The closing entry, with the places promised to the writer given back and the newest positions kept. */
+static inline uint64_t logging__commits__commit_held(struct slice_mut_u8 log, struct slice_mut_u8 state,
+        struct slice_mut_u8 newest, struct slice_mut_u8 batch, struct model__State st, struct model__Writer r, uint64_t w)
+{
+    uint64_t t8;
+
+    t8 = logging__commits__close_held(log, state, batch, st, r, w);
+    store_2(state.ptr + (size_t)(72u + (2u * w)), 0u);
+    logging__commits__keep_newest((struct slice_u8){log.ptr, log.len}, newest, st, r);
+    return t8;
+}
+
+/* Commits a writer's open transaction: its held block is logged as the closing entry, whose position + 1 is the ticket, and for
+   each home that it wrote the last entry's position is kept. */
+static inline struct answers__Reply logging__commits__commit(struct slice_mut_u8 log, struct slice_u8 area,
+        struct slice_mut_u8 state, struct slice_mut_u8 newest, struct slice_mut_u8 batch, uint64_t writer)
+{
+    uint64_t t7, t8, t12, t41;
+    struct model__Writer t9;
+    struct model__State t10;
+
+    t7 = logging__commits__commit_verdict((struct slice_u8){log.ptr, log.len}, area, (struct slice_u8){state.ptr, state.len},
+            (struct slice_u8){newest.ptr, newest.len}, (struct slice_u8){batch.ptr, batch.len}, writer);
+    if (t7 != 0u) {
+        return (struct answers__Reply){.code = t7, .figure = 0u, .size = 0u};
+    }
+    t8 = writer;
+    t41 = 128u + (96u * t8);
+    t9 = (struct model__Writer){.mode = load_8(state.ptr + (size_t)t41), .home = load_8(state.ptr + (size_t)(t41 + 8u)),
+            .first = load_8(state.ptr + (size_t)(t41 + 16u)), .count = load_8(state.ptr + (size_t)(t41 + 24u))};
+    if (!(2u <= t9.mode)) {
+        logging__commits__commit_none(state, t8);
         return (struct answers__Reply){.code = 0u, .figure = 0u, .size = 0u};
     }
-    t9 = (struct model__State){.groups = load_8(state.ptr), .homes = load_8(state.ptr + 8u), .start = load_8(state.ptr + 16u),
+    t10 = (struct model__State){.groups = load_8(state.ptr), .homes = load_8(state.ptr + 8u), .start = load_8(state.ptr + 16u),
             .next = load_8(state.ptr + 24u), .filled = load_8(state.ptr + 32u), .settled = load_8(state.ptr + 40u),
             .fenced = load_8(state.ptr + 48u), .durable = load_8(state.ptr + 56u), .last = load_8(state.ptr + 64u)};
-    t11 = logging__commits__commit_held(log, state, batch, t9, t8, t7);
-    return (struct answers__Reply){.code = 0u, .figure = ((7u * t9.next) + t9.filled) + 1u, .size = t11};
+    t12 = logging__commits__commit_held(log, state, newest, batch, t10, t9, t8);
+    return (struct answers__Reply){.code = 0u, .figure = ((7u * t10.next) + t10.filled) + 1u, .size = t12};
 }
 
 /* Ends a writer's transaction: logs the held block as its closing entry, and returns the ticket. */
 static inline struct answers__Reply kagutin__kagutin_commit(struct slice_mut_u8 log, struct slice_u8 area,
-        struct slice_mut_u8 state, struct slice_mut_u8 batch, uint64_t writer)
+        struct slice_mut_u8 state, struct slice_mut_u8 newest, struct slice_mut_u8 batch, uint64_t writer)
 {
-    return logging__commits__commit(log, area, state, batch, writer);
+    return logging__commits__commit(log, area, state, newest, batch, writer);
 }
 
 /* Makes the fenced position the durable mark, and returns it: all fences so far have passed. */
@@ -1293,18 +1500,6 @@ static inline struct recovery__opening__Shape recovery__opening__measure(struct 
             | (load_2(log.ptr + (size_t)((uint64_t)2u + 4u)) << 32u)};
 }
 
-/* Whether the two bytes of `mark` stand at index `at`. */
-static inline bool codec__marks__has_mark(struct slice_u8 s, uint64_t at, struct slice_u8 mark)
-{
-    if (s.ptr[(size_t)at] != mark.ptr[0u]) {
-        return false;
-    }
-    if (s.ptr[(size_t)(at + 1u)] != mark.ptr[1u]) {
-        return false;
-    }
-    return true;
-}
-
 /* Whether the mark of the log's header stands at index `at`. */
 static inline bool codec__marks__has_header_mark(struct slice_u8 s, uint64_t at)
 {
@@ -1357,121 +1552,31 @@ static inline bool areas__header__header_right(struct slice_u8 log, uint64_t gro
 }
 
 /* The questions of open but the last: 0, or the number of the refusal. */
-static inline uint64_t recovery__opening__may_open(struct slice_u8 log, struct slice_u8 area, struct slice_u8 state)
+static inline uint64_t recovery__opening__may_open(struct slice_u8 log, struct slice_u8 area, struct slice_u8 state,
+        struct slice_u8 newest)
 {
-    struct recovery__opening__Shape t4;
-    bool t5;
+    struct recovery__opening__Shape t5;
+    bool t6, t7;
 
-    t5 = answers__lengths_right(log, area, state);
-    if (!t5) {
+    t6 = answers__lengths_right(log, area, state);
+    if (!t6) {
         return 1u;
     }
-    t4 = recovery__opening__measure(log, area);
-    t5 = areas__header__header_right(log, t4.groups, t4.homes);
-    if (!t5) {
+    t5 = recovery__opening__measure(log, area);
+    if ((uint64_t)newest.len != (8u * t5.homes)) {
+        return 1u;
+    }
+    t7 = areas__header__header_right(log, t5.groups, t5.homes);
+    if (!t7) {
         return 3u;
     }
-    if (UINT64_C(0x800000000000) < t4.start) {
+    if (UINT64_C(0x800000000000) < t5.start) {
         return 3u;
     }
-    if (UINT64_C(0x800000000000) < (t4.start + t4.groups)) {
+    if (UINT64_C(0x800000000000) < (t5.start + t5.groups)) {
         return 10u;
     }
     return 0u;
-}
-
-/* How many of the `left` positions the next group has. */
-static inline uint64_t scan__commits__in_group(uint64_t left)
-{
-    uint64_t t3;
-
-    if (left < 7u) {
-        t3 = left;
-    } else {
-        t3 = 7u;
-    }
-    return t3;
-}
-
-/* Whether the mark of a group and the number `n` stand in the eight bytes from index `at` on: the number is that word without the
-   mark. The mark goes first, so that an unused group is passed quickly. */
-static inline bool codec__marks__has_group_head(struct slice_u8 s, uint64_t at, uint64_t n)
-{
-    struct array_u8_2 t4;
-    bool t5;
-
-    t4 = (struct array_u8_2){{80u, 71u}};
-    t5 = codec__marks__has_mark(s, at, (struct slice_u8){t4.at, 2u});
-    if (!t5) {
-        return false;
-    }
-    return (load_8(s.ptr + (size_t)at) / UINT64_C(0x10000)) == (n % UINT64_C(0x1000000000000));
-}
-
-/* Whether the 512 bytes of a ring slot are a valid group with number `n`, in a log of `groups` groups from number `start` on. */
-static inline bool scan__groups__group_valid(struct slice_u8 group, uint64_t groups, uint64_t start, uint64_t n)
-{
-    bool t5;
-
-    t5 = codec__marks__has_group_head(group, 0u, n);
-    if (!t5) {
-        return false;
-    }
-    if (n < start) {
-        return false;
-    }
-    return n < (start + groups);
-}
-
-/* The words of a group's seven tags, read in a row. */
-static inline struct array_u64_7 scan__groups__tag_words(struct slice_u8 group)
-{
-    struct array_u64_7 t2;
-    uint64_t t3;
-
-    memset(&t2, 0, sizeof t2);
-    t3 = 0u;
-    while (t3 < 7u) {
-        t2.at[(size_t)t3] = load_8(group.ptr + (size_t)(8u + (8u * t3)));
-        t3 = t3 + 1u;
-    }
-    return t2;
-}
-
-/* What a word says at a position of a log that starts at position `base` and has `homes` homes. */
-static inline struct model__Tag codec__tags__read_tag(uint64_t word, uint64_t position, uint64_t base, uint64_t homes)
-{
-    uint64_t t5, t6, t7, t8;
-
-    if ((word & 1u) == 0u) {
-        return (struct model__Tag){.tag = 0u};
-    }
-    if ((word >> 57u) != 0u) {
-        return (struct model__Tag){.tag = 0u};
-    }
-    t5 = ((word >> 2u) & 4095u) | (((word >> 53u) & 15u) << 12u);
-    if (homes <= t5) {
-        return (struct model__Tag){.tag = 0u};
-    }
-    t6 = (word >> 14u) & 8191u;
-    if (position < t6) {
-        return (struct model__Tag){.tag = 0u};
-    }
-    t7 = position - t6;
-    if (t7 < base) {
-        return (struct model__Tag){.tag = 0u};
-    }
-    if (((word >> 1u) & 1u) == 0u) {
-        if (((word >> 27u) & UINT64_C(0x3ffffff)) == 0u) {
-            return (struct model__Tag){.tag = 1u, .u64_0 = t5, .u64_1 = t7};
-        }
-        return (struct model__Tag){.tag = 0u};
-    }
-    t8 = (word >> 40u) & 8191u;
-    if (t8 == 0u) {
-        return (struct model__Tag){.tag = 0u};
-    }
-    return (struct model__Tag){.tag = 2u, .u64_0 = t5, .u64_1 = t7, .u64_2 = (word >> 27u) & 8191u, .u64_3 = t8};
 }
 
 /* Whether a closing entry at a position is linked, by its distance back, to the last one, which ends at `end`, or where there is
@@ -1561,19 +1666,6 @@ static inline struct scan__commits__Progress scan__commits__visit_group(struct s
         t13 = t13 + 1u;
     }
     return t11;
-}
-
-/* The ring slot of the group after that in `slot`. */
-static inline uint64_t scan__slots__next_slot(uint64_t slot, uint64_t groups)
-{
-    uint64_t t5;
-
-    if ((slot + 1u) == groups) {
-        t5 = 0u;
-    } else {
-        t5 = slot + 1u;
-    }
-    return t5;
 }
 
 /* Walks the `n` positions of the log from its start on, group by group, and finds where the committed transactions end and how
@@ -1959,46 +2051,62 @@ static inline void strip__fields__fresh(struct slice_mut_u8 s, uint64_t groups, 
     store_8(s.ptr + 56u, t5);
 }
 
-/* Puts the header with a new start into the log copy, and makes the strip that of an empty log. */
-static inline void recovery__opening__open_copies(struct slice_mut_u8 log, struct slice_mut_u8 state, uint64_t groups,
-        uint64_t homes, uint64_t start)
+/* Keeps no position for any home. */
+static inline void positions__strip__keep_nothing(struct slice_mut_u8 newest, uint64_t homes)
+{
+    uint64_t t3, t4;
+    (void)homes;
+
+    t3 = 0u;
+    t4 = (uint64_t)newest.len;
+    while (0u < t4) {
+        newest.ptr[(size_t)t3] = 255u;
+        t3 = t3 + 1u;
+        t4 = t4 - 1u;
+    }
+}
+
+/* Puts the header with a new start into the log copy, makes the strip that of an empty log, and keeps no position. */
+static inline void recovery__opening__open_copies(struct slice_mut_u8 log, struct slice_mut_u8 state, struct slice_mut_u8 newest,
+        uint64_t groups, uint64_t homes, uint64_t start)
 {
     areas__header__put_header(log, 0u, start, groups, homes);
     strip__fields__fresh(state, groups, homes, start);
+    positions__strip__keep_nothing(newest, homes);
 }
 
 /* Brings the committed transactions back, and empties the log; returns how many they are. */
 static inline struct answers__Reply recovery__opening__reopen(struct slice_mut_u8 log, struct slice_mut_u8 area,
-        struct slice_mut_u8 state, struct slice_mut_u8 batch)
+        struct slice_mut_u8 state, struct slice_mut_u8 newest, struct slice_mut_u8 batch)
 {
-    uint64_t t5, t7, t8, t9, t12;
-    struct recovery__opening__Shape t6;
-    struct scan__commits__Found t10;
+    uint64_t t6, t8, t9, t10, t13;
+    struct recovery__opening__Shape t7;
+    struct scan__commits__Found t11;
 
-    t5 = recovery__opening__may_open((struct slice_u8){log.ptr, log.len}, (struct slice_u8){area.ptr, area.len},
-            (struct slice_u8){state.ptr, state.len});
-    if (t5 != 0u) {
-        return (struct answers__Reply){.code = t5, .figure = 0u, .size = 0u};
+    t6 = recovery__opening__may_open((struct slice_u8){log.ptr, log.len}, (struct slice_u8){area.ptr, area.len},
+            (struct slice_u8){state.ptr, state.len}, (struct slice_u8){newest.ptr, newest.len});
+    if (t6 != 0u) {
+        return (struct answers__Reply){.code = t6, .figure = 0u, .size = 0u};
     }
-    t6 = recovery__opening__measure((struct slice_u8){log.ptr, log.len}, (struct slice_u8){area.ptr, area.len});
-    t7 = t6.groups;
-    t8 = t6.homes;
-    t9 = t6.start;
-    t10 = scan__commits__walk((struct slice_u8){log.ptr, log.len}, t7, t8, t9, 7u * t7);
-    t12 = recovery__planning__bring_back((struct slice_u8){log.ptr, log.len}, area, batch, t7, t8, t9, t10.end, 70u);
-    if ((uint64_t)batch.len < t12) {
+    t7 = recovery__opening__measure((struct slice_u8){log.ptr, log.len}, (struct slice_u8){area.ptr, area.len});
+    t8 = t7.groups;
+    t9 = t7.homes;
+    t10 = t7.start;
+    t11 = scan__commits__walk((struct slice_u8){log.ptr, log.len}, t8, t9, t10, 7u * t8);
+    t13 = recovery__planning__bring_back((struct slice_u8){log.ptr, log.len}, area, batch, t8, t9, t10, t11.end, 70u);
+    if ((uint64_t)batch.len < t13) {
         return (struct answers__Reply){.code = 9u, .figure = 0u, .size = 0u};
     }
-    recovery__opening__open_records(batch, t12 - 70u, t9 + t7, t7, t8);
-    recovery__opening__open_copies(log, state, t7, t8, t9 + t7);
-    return (struct answers__Reply){.code = 0u, .figure = t10.number, .size = t12};
+    recovery__opening__open_records(batch, t13 - 70u, t10 + t8, t8, t9);
+    recovery__opening__open_copies(log, state, newest, t8, t9, t10 + t8);
+    return (struct answers__Reply){.code = 0u, .figure = t11.number, .size = t13};
 }
 
 /* Brings back what a power cut left: replays the committed transactions into the data copy and starts the log anew. */
 static inline struct answers__Reply kagutin__kagutin_open(struct slice_mut_u8 log, struct slice_mut_u8 area,
-        struct slice_mut_u8 state, struct slice_mut_u8 batch)
+        struct slice_mut_u8 state, struct slice_mut_u8 newest, struct slice_mut_u8 batch)
 {
-    return recovery__opening__reopen(log, area, state, batch);
+    return recovery__opening__reopen(log, area, state, newest, batch);
 }
 
 /* The same for a call that is lent a block. */
@@ -2023,15 +2131,25 @@ static inline uint64_t answers__in_use_block(struct slice_u8 log, struct slice_u
     return 0u;
 }
 
-/* The questions of a read: 0 if none refuses it, else the number of the refusal. */
-static inline uint64_t reading__judge(struct slice_u8 log, struct slice_u8 area, struct slice_u8 state, struct slice_u8 block,
-        uint64_t writer, uint64_t home)
+/* The same for a call that is lent a block too. */
+static inline uint64_t answers__in_use_both(struct slice_u8 log, struct slice_u8 area, struct slice_u8 state,
+        struct slice_u8 newest, struct slice_u8 block)
 {
-    uint64_t t7;
+    if ((uint64_t)newest.len != (8u * ((uint64_t)area.len / 64u))) {
+        return 1u;
+    }
+    return answers__in_use_block(log, area, state, block);
+}
 
-    t7 = answers__in_use_block(log, area, state, block);
-    if (t7 != 0u) {
-        return t7;
+/* The questions of a read: 0 if none refuses it, else the number of the refusal. */
+static inline uint64_t reading__judge(struct slice_u8 log, struct slice_u8 area, struct slice_u8 state, struct slice_u8 newest,
+        struct slice_u8 block, uint64_t writer, uint64_t home)
+{
+    uint64_t t8;
+
+    t8 = answers__in_use_both(log, area, state, newest, block);
+    if (t8 != 0u) {
+        return t8;
     }
     if (8u <= writer) {
         return 4u;
@@ -2057,187 +2175,160 @@ static inline void reading__blocks__show_held(struct slice_mut_u8 block, struct 
     areas__blocks__copy_block(block, 0u, state, (128u + (96u * w)) + 32u);
 }
 
-/* The first position + 1 of a writer's open transaction, 0 if it has logged nothing. */
-static inline uint64_t reading__newest__own(struct model__Writer r)
+/* The newest entry once one for a home is seen at a position. */
+static inline uint64_t search__own__note(uint64_t written, uint64_t home, uint64_t position, uint64_t newest)
+{
+    if (written != home) {
+        return newest;
+    }
+    return position + 1u;
+}
+
+/* The same if the word of a tag is an entry of the transaction with first position `first`. Its distance back is compared before
+   all else. */
+static inline uint64_t search__own__note_entry(uint64_t word, uint64_t position, uint64_t base, uint64_t homes, uint64_t first,
+        uint64_t home, uint64_t newest)
+{
+    struct model__Tag t13;
+    uint64_t t14;
+
+    if (((word >> 14u) & 8191u) != (position - first)) {
+        return newest;
+    }
+    t13 = codec__tags__read_tag(word, position, base, homes);
+    if (t13.tag == 0u) {
+        t14 = newest;
+    } else if (t13.tag == 1u) {
+        t14 = search__own__note(t13.u64_0, home, position, newest);
+    } else {
+        t14 = search__own__note(t13.u64_0, home, position, newest);
+    }
+    return t14;
+}
+
+/* The same for the transaction's entries among the first `m` of a group, which says nothing where it is not the valid group with
+   number `n`. */
+static inline uint64_t search__own__note_group(struct slice_u8 group, uint64_t groups, uint64_t homes, uint64_t start, uint64_t n,
+        uint64_t m, uint64_t first, uint64_t home, uint64_t newest)
+{
+    struct array_u64_7 t10, t17;
+    uint64_t t11, t12, t13, t14;
+    bool t15;
+
+    t15 = scan__groups__group_valid(group, groups, start, n);
+    if (!t15) {
+        return newest;
+    }
+    t17 = scan__groups__tag_words(group);
+    t10 = t17;
+    t11 = 7u * start;
+    t12 = newest;
+    t13 = scan__commits__skipped(7u * n, first);
+    t14 = (7u * n) + t13;
+    while (t13 < m) {
+        t12 = search__own__note_entry(t10.at[(size_t)t13], t14, t11, homes, first, home, t12);
+        t14 = t14 + 1u;
+        t13 = t13 + 1u;
+    }
+    return t12;
+}
+
+/* The newest entry for a home, as its position + 1, 0 for none, of the open transaction with first position `first`, below
+   position `end`. */
+static inline uint64_t search__own__newest_own(struct slice_u8 log, uint64_t groups, uint64_t homes, uint64_t start,
+        uint64_t first, uint64_t end, uint64_t home)
+{
+    uint64_t t8, t9, t10, t11, t12, t14;
+
+    t8 = 0u;
+    t9 = first / 7u;
+    t10 = t9 % groups;
+    t11 = end - (7u * t9);
+    while (0u < t11) {
+        t12 = 64u + (512u * t10);
+        t14 = scan__commits__in_group(t11);
+        t8 = search__own__note_group((struct slice_u8){log.ptr + (size_t)t12, (size_t)((t12 + 512u) - t12)}, groups, homes, start,
+                t9, t14, first, home, t8);
+        t10 = scan__slots__next_slot(t10, groups);
+        t9 = t9 + 1u;
+        t11 = t11 - t14;
+    }
+    return t8;
+}
+
+/* The newest entry for a home in a writer's open transaction. */
+static inline uint64_t reading__newest__own_entry(struct slice_u8 log, struct model__State st, struct model__Writer r,
+        uint64_t home)
 {
     if (!(3u <= r.mode)) {
         return 0u;
     }
-    return r.first + 1u;
+    return search__own__newest_own(log, st.groups, st.homes, st.start, r.first, (7u * st.next) + st.filled, home);
 }
 
-/* Notes an entry's offset + 1 at index `i` if its home is the one looked for, and returns what stands there then. */
-static inline uint64_t search__pass__note(struct slice_mut_u16 latest, uint64_t i, uint64_t code, uint64_t written, uint64_t home)
+/* A position + 1, or 0 where its entry is for another home. */
+static inline uint64_t reading__newest__if_home(uint64_t written, uint64_t home, uint64_t position)
 {
     if (written != home) {
-        return (uint64_t)latest.ptr[(size_t)i];
-    }
-    latest.ptr[(size_t)i] = (uint16_t)code;
-    return code;
-}
-
-/* The position + 1 of the entry with the offset `code` - 1, or where there is none (0) another one. */
-static inline uint64_t search__pass__or_other(uint64_t base, uint64_t code, uint64_t other)
-{
-    if (code == 0u) {
-        return other;
-    }
-    return base + code;
-}
-
-/* The newest committed entry once a closing entry is judged, whose transaction's newest entry for the home has the offset `code`
-   - 1, or none (0). */
-static inline uint64_t search__pass__newest_after(uint64_t failed, uint64_t base, uint64_t code, uint64_t newest)
-{
-    if (failed != 0u) {
-        return newest;
-    }
-    return search__pass__or_other(base, code, newest);
-}
-
-/* Takes what the word of a tag says at a position. */
-static inline struct search__pass__Search search__pass__visit(uint64_t word, uint64_t position, uint64_t base, uint64_t homes,
-        uint64_t home, struct slice_mut_u16 counts, struct slice_mut_u16 latest, struct search__pass__Search search)
-{
-    uint64_t t11, t16, t18, t21, t24;
-    struct scan__commits__Progress t20;
-    struct model__Tag t22;
-    struct search__pass__Search t23;
-    uint16_t t39, t45;
-
-    t22 = codec__tags__read_tag(word, position, base, homes);
-    if (t22.tag == 0u) {
-        t23 = search;
-    } else if (t22.tag == 1u) {
-        t24 = t22.u64_1 - base;
-        t11 = t24;
-        t39 = (uint16_t)((uint32_t)counts.ptr[(size_t)t11] + 1u);
-        counts.ptr[(size_t)t11] = t39;
-        t24 = (uint64_t)t39;
-        t24 = search__pass__note(latest, t11, (position + 1u) - base, t22.u64_0, home);
-        t23 = search;
-    } else {
-        t16 = t22.u64_1 - base;
-        t45 = (uint16_t)((uint32_t)counts.ptr[(size_t)t16] + 1u);
-        counts.ptr[(size_t)t16] = t45;
-        t18 = search__pass__note(latest, t16, (position + 1u) - base, t22.u64_0, home);
-        t20 = scan__commits__judge(search.progress, base, position, t22.u64_2, (uint64_t)t45 == t22.u64_3);
-        t21 = search__pass__newest_after(t20.failed, base, t18, search.newest);
-        t23 = (struct search__pass__Search){.progress = t20, .newest = t21};
-    }
-    return t23;
-}
-
-/* Takes the first `m` tags of a group, which says nothing where it is not the valid group with number `n`. */
-static inline struct search__pass__Search search__pass__visit_group(struct slice_u8 group, uint64_t groups, uint64_t homes,
-        uint64_t start, uint64_t n, uint64_t m, uint64_t home, struct slice_mut_u16 counts, struct slice_mut_u16 latest,
-        struct search__pass__Search search)
-{
-    struct array_u64_7 t11, t18;
-    uint64_t t12, t14, t15;
-    struct search__pass__Search t13;
-    bool t16;
-
-    t16 = scan__groups__group_valid(group, groups, start, n);
-    if (!t16) {
-        return search;
-    }
-    t18 = scan__groups__tag_words(group);
-    t11 = t18;
-    t12 = 7u * start;
-    t13 = search;
-    t14 = 7u * n;
-    t15 = 0u;
-    while (t15 < m) {
-        t13 = search__pass__visit(t11.at[(size_t)t15], t14, t12, homes, home, counts, latest, t13);
-        t14 = t14 + 1u;
-        t15 = t15 + 1u;
-    }
-    return t13;
-}
-
-/* Whether the pass may stop: a closing entry has failed, and the writer has logged nothing. */
-static inline bool search__pass__may_stop(uint64_t own, uint64_t failed)
-{
-    if (own != 0u) {
-        return false;
-    }
-    return 0u < failed;
-}
-
-/* What the writer sees at the end of the pass: the newest entry of its own transaction, which begins at `own` - 1, else the
-   newest committed one. */
-static inline uint64_t search__pass__choose(struct slice_u16 latest, uint64_t base, uint64_t own, uint64_t newest)
-{
-    if (own == 0u) {
-        return newest;
-    }
-    return search__pass__or_other(base, (uint64_t)latest.ptr[(size_t)((own - base) - 1u)], newest);
-}
-
-/* The pass over the `n` positions of the log from its start on, with a counter and a latest entry for each, all 0, and what it
-   gives: the newest entry for a home that a writer sees. `own` is the first position + 1 of the writer's open transaction, 0 if
-   it has logged nothing. */
-static inline uint64_t search__pass__seek_with(struct slice_u8 log, uint64_t groups, uint64_t homes, uint64_t start, uint64_t n,
-        uint64_t home, uint64_t own, struct slice_mut_u16 counts, struct slice_mut_u16 latest)
-{
-    struct search__pass__Search t10;
-    uint64_t t11, t12, t13, t14, t16;
-    bool t26;
-
-    t10 = (struct search__pass__Search){.progress = (struct scan__commits__Progress){.end = 0u, .number = 0u, .failed = 0u},
-            .newest = 0u};
-    t11 = start % groups;
-    t12 = start;
-    t13 = n;
-    while (0u < t13) {
-        t14 = 64u + (512u * t11);
-        t16 = scan__commits__in_group(t13);
-        t10 = search__pass__visit_group((struct slice_u8){log.ptr + (size_t)t14, (size_t)((t14 + 512u) - t14)}, groups, homes,
-                start, t12, t16, home, counts, latest, t10);
-        t26 = search__pass__may_stop(own, t10.progress.failed);
-        if (t26) {
-            return t10.newest;
-        }
-        t11 = scan__slots__next_slot(t11, groups);
-        t12 = t12 + 1u;
-        t13 = t13 - t16;
-    }
-    return search__pass__choose((struct slice_u16){latest.ptr, latest.len}, 7u * start, own, t10.newest);
-}
-
-/* The newest entry for a home that a writer sees, among the `n` positions of the log from its start on: `own` is the first
-   position + 1 of its open transaction, 0 if it has logged nothing. A short log has small tables, since they are cleared first.
-   */
-static inline uint64_t search__pass__newest_seen(struct slice_u8 log, uint64_t groups, uint64_t homes, uint64_t start, uint64_t n,
-        uint64_t home, uint64_t own)
-{
-    struct array_u16_448 t8, t9;
-    struct array_u16_7168 t10, t11;
-
-    if (n <= 448u) {
-        memset(&t8, 0, sizeof t8);
-        memset(&t9, 0, sizeof t9);
-        return search__pass__seek_with(log, groups, homes, start, n, home, own, (struct slice_mut_u16){t8.at, 448u},
-                (struct slice_mut_u16){t9.at, 448u});
-    }
-    memset(&t10, 0, sizeof t10);
-    memset(&t11, 0, sizeof t11);
-    return search__pass__seek_with(log, groups, homes, start, n, home, own, (struct slice_mut_u16){t10.at, 7168u},
-            (struct slice_mut_u16){t11.at, 7168u});
-}
-
-/* The newest entry for a home that a writer sees: one of its own, else a committed one. */
-static inline uint64_t reading__newest__seen(struct slice_u8 log, struct model__State st, struct model__Writer r, uint64_t home)
-{
-    uint64_t t5, t6;
-
-    t5 = ((7u * st.next) + st.filled) - (7u * st.start);
-    if (t5 == 0u) {
         return 0u;
     }
-    t6 = reading__newest__own(r);
-    return search__pass__newest_seen(log, st.groups, st.homes, st.start, t5, home, t6);
+    return position + 1u;
+}
+
+/* The entry for a home at a position of the log. */
+static inline uint64_t reading__newest__entry_there(struct slice_u8 log, struct model__State st, uint64_t home, uint64_t position)
+{
+    uint64_t t5, t6, t7, t19;
+    struct slice_u8 t8;
+    bool t16;
+    struct model__Tag t18;
+
+    t5 = position / 7u;
+    t6 = position % 7u;
+    t7 = 64u + (512u * (t5 % st.groups));
+    t8 = (struct slice_u8){log.ptr + (size_t)t7, (size_t)((t7 + 512u) - t7)};
+    t16 = scan__groups__group_valid(t8, st.groups, st.start, t5);
+    if (!t16) {
+        return 0u;
+    }
+    t18 = scan__groups__tag_in(t8, t6, position, 7u * st.start, st.homes);
+    if (t18.tag == 0u) {
+        t19 = 0u;
+    } else if (t18.tag == 1u) {
+        t19 = reading__newest__if_home(t18.u64_0, home, position);
+    } else {
+        t19 = reading__newest__if_home(t18.u64_0, home, position);
+    }
+    return t19;
+}
+
+/* The entry for a home at the position kept for it, if that lies from the start of the log to below the next position. */
+static inline uint64_t reading__newest__kept_entry(struct slice_u8 log, struct slice_u8 newest, struct model__State st,
+        uint64_t home)
+{
+    uint64_t t5;
+
+    t5 = load_8(newest.ptr + (size_t)(8u * home));
+    if (t5 < (7u * st.start)) {
+        return 0u;
+    }
+    if (((7u * st.next) + st.filled) <= t5) {
+        return 0u;
+    }
+    return reading__newest__entry_there(log, st, home, t5);
+}
+
+/* The entry for a home that a writer sees: its newest own one, else that at the kept position. */
+static inline uint64_t reading__newest__seen(struct slice_u8 log, struct slice_u8 newest, struct model__State st,
+        struct model__Writer r, uint64_t home)
+{
+    uint64_t t6;
+
+    t6 = reading__newest__own_entry(log, st, r, home);
+    if (t6 != 0u) {
+        return t6;
+    }
+    return reading__newest__kept_entry(log, newest, st, home);
 }
 
 /* Reads a home into a block buffer. */
@@ -2253,54 +2344,54 @@ static inline void reading__blocks__show_entry(struct slice_mut_u8 block, struct
 }
 
 /* Copies the block of a home that a writer sees. */
-static inline void reading__blocks__show(struct slice_u8 log, struct slice_u8 area, struct slice_u8 state,
+static inline void reading__blocks__show(struct slice_u8 log, struct slice_u8 area, struct slice_u8 state, struct slice_u8 newest,
         struct slice_mut_u8 block, uint64_t writer, uint64_t home)
 {
-    struct model__State t7;
-    uint64_t t8, t10, t953;
-    struct model__Writer t9;
-    bool t11;
+    struct model__State t8;
+    uint64_t t9, t11, t954;
+    struct model__Writer t10;
+    bool t12;
 
-    t7 = (struct model__State){.groups = load_8(state.ptr), .homes = load_8(state.ptr + 8u), .start = load_8(state.ptr + 16u),
+    t8 = (struct model__State){.groups = load_8(state.ptr), .homes = load_8(state.ptr + 8u), .start = load_8(state.ptr + 16u),
             .next = load_8(state.ptr + 24u), .filled = load_8(state.ptr + 32u), .settled = load_8(state.ptr + 40u),
             .fenced = load_8(state.ptr + 48u), .durable = load_8(state.ptr + 56u), .last = load_8(state.ptr + 64u)};
-    t8 = writer;
-    t953 = 128u + (96u * t8);
-    t9 = (struct model__Writer){.mode = load_8(state.ptr + (size_t)t953), .home = load_8(state.ptr + (size_t)(t953 + 8u)),
-            .first = load_8(state.ptr + (size_t)(t953 + 16u)), .count = load_8(state.ptr + (size_t)(t953 + 24u))};
-    t11 = reading__blocks__holds_home(t9, home);
-    if (t11) {
-        reading__blocks__show_held(block, state, t8);
+    t9 = writer;
+    t954 = 128u + (96u * t9);
+    t10 = (struct model__Writer){.mode = load_8(state.ptr + (size_t)t954), .home = load_8(state.ptr + (size_t)(t954 + 8u)),
+            .first = load_8(state.ptr + (size_t)(t954 + 16u)), .count = load_8(state.ptr + (size_t)(t954 + 24u))};
+    t12 = reading__blocks__holds_home(t10, home);
+    if (t12) {
+        reading__blocks__show_held(block, state, t9);
         return;
     }
-    t10 = reading__newest__seen(log, t7, t9, home);
-    if (t10 == 0u) {
+    t11 = reading__newest__seen(log, newest, t8, t10, home);
+    if (t11 == 0u) {
         areas__homes__get_home(block, area, home);
         return;
     }
-    reading__blocks__show_entry(block, log, t7.groups, t10 - 1u);
+    reading__blocks__show_entry(block, log, t8.groups, t11 - 1u);
 }
 
-/* Reads the block of a home as a writer sees it: the held one, else its newest own entry, else the newest committed one, else the
-   data copy. */
+/* Reads the block of a home as a writer sees it: the held one, else its newest own entry, else that at the position kept for the
+   home, else the data copy. */
 static inline struct answers__Reply reading__read(struct slice_u8 log, struct slice_u8 area, struct slice_u8 state,
-        struct slice_mut_u8 block, uint64_t writer, uint64_t home)
+        struct slice_u8 newest, struct slice_mut_u8 block, uint64_t writer, uint64_t home)
 {
-    uint64_t t7;
+    uint64_t t8;
 
-    t7 = reading__judge(log, area, state, (struct slice_u8){block.ptr, block.len}, writer, home);
-    if (t7 != 0u) {
-        return (struct answers__Reply){.code = t7, .figure = 0u, .size = 0u};
+    t8 = reading__judge(log, area, state, newest, (struct slice_u8){block.ptr, block.len}, writer, home);
+    if (t8 != 0u) {
+        return (struct answers__Reply){.code = t8, .figure = 0u, .size = 0u};
     }
-    reading__blocks__show(log, area, state, block, writer, home);
+    reading__blocks__show(log, area, state, newest, block, writer, home);
     return (struct answers__Reply){.code = 0u, .figure = 0u, .size = 0u};
 }
 
 /* Reads the block of a home as a writer sees it. */
 static inline struct answers__Reply kagutin__kagutin_read(struct slice_u8 log, struct slice_u8 area, struct slice_u8 state,
-        struct slice_mut_u8 block, uint64_t writer, uint64_t home)
+        struct slice_u8 newest, struct slice_mut_u8 block, uint64_t writer, uint64_t home)
 {
-    return reading__read(log, area, state, block, writer, home);
+    return reading__read(log, area, state, newest, block, writer, home);
 }
 
 /* The places that are promised to nobody. */
@@ -2752,49 +2843,72 @@ static inline void trimming__moves__move_strip(struct slice_mut_u8 state, struct
     store_8(state.ptr + 64u, t4);
 }
 
-/* Moves the start: the batch, the header in the log copy, and the strip. */
-static inline void trimming__moves__move_start(struct slice_mut_u8 log, struct slice_mut_u8 state, struct slice_mut_u8 batch,
-        struct model__State st, uint64_t start)
+/* Keeps no position any more for a home where it lies before a bound. */
+static inline void positions__strip__forget_one(struct slice_mut_u8 newest, uint64_t bound, uint64_t home)
+{
+    if (bound <= load_8(newest.ptr + (size_t)(8u * home))) {
+        return;
+    }
+    store_8(newest.ptr + (size_t)(8u * home), UINT64_C(0xffffffffffffffff));
+}
+
+/* The same for the first `homes` homes. */
+static inline void positions__strip__forget(struct slice_mut_u8 newest, uint64_t bound, uint64_t homes)
+{
+    uint64_t t4;
+
+    t4 = 0u;
+    while (t4 < homes) {
+        positions__strip__forget_one(newest, bound, t4);
+        t4 = t4 + 1u;
+    }
+}
+
+/* Moves the start: the batch, the header in the log copy, the strip, and the newest positions. */
+static inline void trimming__moves__move_start(struct slice_mut_u8 log, struct slice_mut_u8 state, struct slice_mut_u8 newest,
+        struct slice_mut_u8 batch, struct model__State st, uint64_t start)
 {
     trimming__moves__write_header(batch, st.groups, st.homes, start);
     areas__header__put_header(log, 0u, start, st.groups, st.homes);
     trimming__moves__move_strip(state, st, start);
+    positions__strip__forget(newest, 7u * start, st.homes);
 }
 
 /* Moves the log's start up as far as no open or committed transaction lies across it, and writes the new header and a fence if it
-   moves. */
+   moves. Kept positions before the new start become none. */
 static inline struct answers__Reply trimming__trim(struct slice_mut_u8 log, struct slice_u8 area, struct slice_mut_u8 state,
-        struct slice_mut_u8 batch)
+        struct slice_mut_u8 newest, struct slice_mut_u8 batch)
 {
-    uint64_t t5, t7;
-    struct model__State t6;
+    uint64_t t6, t8;
+    struct model__State t7;
 
-    t5 = answers__in_use((struct slice_u8){log.ptr, log.len}, area, (struct slice_u8){state.ptr, state.len});
-    if (t5 != 0u) {
-        return (struct answers__Reply){.code = t5, .figure = 0u, .size = 0u};
+    t6 = answers__in_use_newest((struct slice_u8){log.ptr, log.len}, area, (struct slice_u8){state.ptr, state.len},
+            (struct slice_u8){newest.ptr, newest.len});
+    if (t6 != 0u) {
+        return (struct answers__Reply){.code = t6, .figure = 0u, .size = 0u};
     }
-    t6 = (struct model__State){.groups = load_8(state.ptr), .homes = load_8(state.ptr + 8u), .start = load_8(state.ptr + 16u),
+    t7 = (struct model__State){.groups = load_8(state.ptr), .homes = load_8(state.ptr + 8u), .start = load_8(state.ptr + 16u),
             .next = load_8(state.ptr + 24u), .filled = load_8(state.ptr + 32u), .settled = load_8(state.ptr + 40u),
             .fenced = load_8(state.ptr + 48u), .durable = load_8(state.ptr + 56u), .last = load_8(state.ptr + 64u)};
-    t7 = trimming__start__new_start((struct slice_u8){log.ptr, log.len}, area, (struct slice_u8){state.ptr, state.len}, t6);
-    if (UINT64_C(0x800000000000) < t7) {
+    t8 = trimming__start__new_start((struct slice_u8){log.ptr, log.len}, area, (struct slice_u8){state.ptr, state.len}, t7);
+    if (UINT64_C(0x800000000000) < t8) {
         return (struct answers__Reply){.code = 10u, .figure = 0u, .size = 0u};
     }
-    if (t7 == t6.start) {
+    if (t8 == t7.start) {
         return (struct answers__Reply){.code = 0u, .figure = 0u, .size = 0u};
     }
     if ((uint64_t)batch.len < 68u) {
         return (struct answers__Reply){.code = 9u, .figure = 0u, .size = 0u};
     }
-    trimming__moves__move_start(log, state, batch, t6, t7);
+    trimming__moves__move_start(log, state, newest, batch, t7, t8);
     return (struct answers__Reply){.code = 0u, .figure = 0u, .size = 68u};
 }
 
 /* Moves the log's start up as far as no transaction lies across it. */
 static inline struct answers__Reply kagutin__kagutin_trim(struct slice_mut_u8 log, struct slice_u8 area,
-        struct slice_mut_u8 state, struct slice_mut_u8 batch)
+        struct slice_mut_u8 state, struct slice_mut_u8 newest, struct slice_mut_u8 batch)
 {
-    return trimming__trim(log, area, state, batch);
+    return trimming__trim(log, area, state, newest, batch);
 }
 
 struct kagutin_reply kagutin_abort(const uint8_t *log, size_t log_size, const uint8_t *area, size_t area_size, uint8_t *state,
@@ -2816,10 +2930,11 @@ struct kagutin_reply kagutin_begin(const uint8_t *log, size_t log_size, const ui
 }
 
 struct kagutin_reply kagutin_commit(uint8_t *log, size_t log_size, const uint8_t *area, size_t area_size, uint8_t *state,
-        size_t state_size, uint8_t *batch, size_t batch_size, uint64_t writer)
+        size_t state_size, uint8_t *newest, size_t newest_size, uint8_t *batch, size_t batch_size, uint64_t writer)
 {
     struct answers__Reply r = kagutin__kagutin_commit((struct slice_mut_u8){log, log_size}, (struct slice_u8){area, area_size},
-            (struct slice_mut_u8){state, state_size}, (struct slice_mut_u8){batch, batch_size}, writer);
+            (struct slice_mut_u8){state, state_size}, (struct slice_mut_u8){newest, newest_size}, (struct slice_mut_u8){batch,
+            batch_size}, writer);
 
     return (struct kagutin_reply){.code = r.code, .figure = r.figure, .size = r.size};
 }
@@ -2852,19 +2967,22 @@ struct kagutin_reply kagutin_format(uint8_t *log, size_t log_size, uint8_t *area
 }
 
 struct kagutin_reply kagutin_open(uint8_t *log, size_t log_size, uint8_t *area, size_t area_size, uint8_t *state,
-        size_t state_size, uint8_t *batch, size_t batch_size)
+        size_t state_size, uint8_t *newest, size_t newest_size, uint8_t *batch, size_t batch_size)
 {
     struct answers__Reply r = kagutin__kagutin_open((struct slice_mut_u8){log, log_size}, (struct slice_mut_u8){area, area_size},
-            (struct slice_mut_u8){state, state_size}, (struct slice_mut_u8){batch, batch_size});
+            (struct slice_mut_u8){state, state_size}, (struct slice_mut_u8){newest, newest_size}, (struct slice_mut_u8){batch,
+            batch_size});
 
     return (struct kagutin_reply){.code = r.code, .figure = r.figure, .size = r.size};
 }
 
 struct kagutin_reply kagutin_read(const uint8_t *log, size_t log_size, const uint8_t *area, size_t area_size,
-        const uint8_t *state, size_t state_size, uint8_t *block, size_t block_size, uint64_t writer, uint64_t home)
+        const uint8_t *state, size_t state_size, const uint8_t *newest, size_t newest_size, uint8_t *block, size_t block_size,
+        uint64_t writer, uint64_t home)
 {
     struct answers__Reply r = kagutin__kagutin_read((struct slice_u8){log, log_size}, (struct slice_u8){area, area_size},
-            (struct slice_u8){state, state_size}, (struct slice_mut_u8){block, block_size}, writer, home);
+            (struct slice_u8){state, state_size}, (struct slice_u8){newest, newest_size}, (struct slice_mut_u8){block,
+            block_size}, writer, home);
 
     return (struct kagutin_reply){.code = r.code, .figure = r.figure, .size = r.size};
 }
@@ -2899,10 +3017,11 @@ struct kagutin_reply kagutin_store(uint8_t *log, size_t log_size, const uint8_t 
 }
 
 struct kagutin_reply kagutin_trim(uint8_t *log, size_t log_size, const uint8_t *area, size_t area_size, uint8_t *state,
-        size_t state_size, uint8_t *batch, size_t batch_size)
+        size_t state_size, uint8_t *newest, size_t newest_size, uint8_t *batch, size_t batch_size)
 {
     struct answers__Reply r = kagutin__kagutin_trim((struct slice_mut_u8){log, log_size}, (struct slice_u8){area, area_size},
-            (struct slice_mut_u8){state, state_size}, (struct slice_mut_u8){batch, batch_size});
+            (struct slice_mut_u8){state, state_size}, (struct slice_mut_u8){newest, newest_size}, (struct slice_mut_u8){batch,
+            batch_size});
 
     return (struct kagutin_reply){.code = r.code, .figure = r.figure, .size = r.size};
 }

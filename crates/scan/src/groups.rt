@@ -25,6 +25,14 @@ fn word_there(group: &[u8], turn: u64, k: usize) -> u64
     codec::number(group, 8 + 8 * k, 8)
 }
 
+// What tag `k` of a group says if its data block has the turn of the group.
+pub fn tag_there(group: &[u8], turn: u64, k: usize, position: u64, base: u64, homes: u64) -> Tag
+    requires { ⌜ (length (now group) ≡ 512) × (k < 7) ⌝ }
+    ensures { λ r. ⌜ r ≡ readTag (wordThere (now (group .entry)) turn k) position base homes ⌝ }
+{
+    codec::read_tag(word_there(group, turn, k), position, base, homes)
+}
+
 // The words of a group's seven tags that are there, read in a row; `turn` is the group's.
 pub fn tag_words(group: &[u8], turn: u64) -> [u64; 7]
     requires { ⌜ length (now group) ≡ 512 ⌝ }
