@@ -11,7 +11,7 @@ use lib.Dec.{eqb, leb, ltb}
 use lib.ListN.{length, getD, set, take, drop}
 use lib.Seq.{getD-set-same, getD-set-other}
 use Rattle.model.specs.Bytes.{part, number, same}
-use Rattle.model.specs.Tag.{readTag}
+use Rattle.model.specs.Tag.{field, readTag}
 use Rattle.model.specs.Layout.{groupMark, groupOffset, groupAt, groupNumber, tagOffset, groupTag, groupValid}
 
 -- ---- a group's tags
@@ -20,6 +20,10 @@ pub tag-read : (group : List ℕ) (k word position base homes : ℕ) → word �
     → readTag word position base homes ≡ readTag (groupTag group k) position base homes
 unfolding groupTag tagOffset
 tag-read group k word position base homes e = rw e
+
+pub back-read : (group : List ℕ) (k word back : ℕ) → word ≡ number 8 group (8 + 8 * k) → back ≡ field word 14 13 → back ≡ field (groupTag group k) 14 13
+unfolding groupTag tagOffset
+back-read group k word back e h = h ∙ rw e
 
 -- one word more of those read in a row
 pub words-more : (group words : List ℕ) (k word : ℕ) → length words ≡ 7 → k < 7 → word ≡ number 8 group (8 + 8 * k)

@@ -3,7 +3,7 @@ use model::Tag;
 ghost use mathlib.Core.Path.{_≡_};
 ghost use Prim.Native.Nat.{ℕ, _+_, _*_, _^_, _<_, _≤_};
 ghost use lib.ListN.{length, getD};
-ghost use Rattle.model.specs.Tag.{readTag};
+ghost use Rattle.model.specs.Tag.{field, readTag};
 ghost use Rattle.model.specs.Layout.{groupTag, groupValid};
 
 // What tag `k` of a group says at a position of a log that starts at position `base` and has `homes` homes.
@@ -12,6 +12,14 @@ pub fn tag_in(group: &[u8], k: usize, position: u64, base: u64, homes: u64) -> T
     ensures { λ r. ⌜ r ≡ readTag (groupTag (now (group .entry)) k) position base homes ⌝ }
 {
     codec::read_tag(codec::number(group, 8 + 8 * k, 8), position, base, homes)
+}
+
+// The distance back to its first entry that tag `k` of a group holds, used or not: what belongs to a transaction has it, so it is compared first.
+pub fn back_in(group: &[u8], k: usize) -> u64
+    requires { ⌜ (length (now group) ≡ 512) × (k < 7) ⌝ }
+    ensures { λ r. ⌜ r ≡ field (groupTag (now (group .entry)) k) 14 13 ⌝ }
+{
+    codec::tag_back(codec::number(group, 8 + 8 * k, 8))
 }
 
 // The words of a group's seven tags, read in a row.
