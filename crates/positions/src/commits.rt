@@ -5,21 +5,30 @@ ghost use mathlib.Core.Path.{_≡_};
 ghost use Prim.Native.Nat.{_+_, _*_, _^_, _≤_, _<_};
 ghost use lib.ListN.{length};
 ghost use Rattle.model.specs.Tag.{readTag};
-ghost use Rattle.model.specs.Layout.{turnOf, entryIn, entryAt};
+ghost use Rattle.model.specs.Layout.{turnOf, wordThere, entryIn, entryAt};
 ghost use Rattle.model.specs.Commit.{entries};
 ghost use Rattle.model.specs.Newest.{keepEntries};
 ghost use Rattle.scan.specs.Members.{taking, Stretch};
 ghost use Rattle.positions.specs.Keeping.{keepAt, keptOver};
 
-// Keeps a position if the word of its tag is an entry of the transaction with first position `first`. Its distance back is compared before all else.
-fn keep_entry(newest: &mut [u8], word: u64, position: u64, base: u64, homes: u64, first: u64)
-    requires { ⌜ (length (now newest) ≡ 8 * homes) × (first ≤ position) ⌝ }
-    ensures { λ _. ⌜ now (newest .exit) ≡ taking first keepAt position (readTag word position base homes) (now (newest .entry)) ⌝ }
+// Keeps a position if tag `k` of its group, whose turn is `turn`, is an entry of the transaction with first position `first`. Its distance back is compared before all else.
+fn keep_entry(
+    newest: &mut [u8],
+    group: &[u8],
+    turn: u64,
+    k: usize,
+    position: u64,
+    base: u64,
+    homes: u64,
+    first: u64,
+)
+    requires { ⌜ (length (now newest) ≡ 8 * homes) × (length (now group) ≡ 512) × (k < 7) × (first ≤ position) ⌝ }
+    ensures { λ _. ⌜ now (newest .exit) ≡ taking first keepAt position (readTag (wordThere (now (group .entry)) turn k) position base homes) (now (newest .entry)) ⌝ }
 {
-    if codec::tag_back(word) != position - first {
+    if scan::back_in(group, turn, k) != position - first {
         return;
     }
-    match codec::read_tag(word, position, base, homes) {
+    match scan::tag_there(group, turn, k, position, base, homes) {
         Tag::Nothing => {}
         Tag::Entry(home, _) => keep(newest, home as usize, position),
         Tag::Closing(home, _, _, _) => keep(newest, home as usize, position),
@@ -44,12 +53,11 @@ fn keep_group(
     if !scan::group_valid(group, groups, start, n) {
         return;
     }
-    let words = scan::tag_words(group, turn);
     let base = 7 * start;
     let mut k = scan::skipped(7 * n, first);
     let mut position = 7 * n + k as u64;
     while k < m {
-        keep_entry(newest, words[k], position, base, homes, first);
+        keep_entry(newest, group, turn, k, position, base, homes, first);
         position += 1;
         k += 1;
     }

@@ -4,7 +4,7 @@ ghost use mathlib.Core.Path.{_≡_};
 ghost use Prim.Native.Nat.{_+_, _-_, _*_, _^_, _≤_, _<_};
 ghost use lib.ListN.{length};
 ghost use Rattle.model.specs.Tag.{readTag};
-ghost use Rattle.model.specs.Layout.{turnOf, entryIn, entryAt};
+ghost use Rattle.model.specs.Layout.{turnOf, wordThere, entryIn, entryAt};
 ghost use Rattle.model.specs.Commit.{members, newestIn};
 ghost use Rattle.scan.specs.Members.{taking, Stretch};
 ghost use Rattle.search.specs.Codes.{codeOf};
@@ -21,9 +21,11 @@ fn note(written: u64, home: u64, position: u64, newest: u64) -> u64
     position + 1
 }
 
-// The same if the word of a tag is an entry of the transaction with first position `first`. Its distance back is compared before all else.
+// The same if tag `k` of a group with turn `turn` is an entry of the transaction with first position `first`. Its distance back is compared before all else.
 fn note_entry(
-    word: u64,
+    group: &[u8],
+    turn: u64,
+    k: usize,
     position: u64,
     base: u64,
     homes: u64,
@@ -31,13 +33,13 @@ fn note_entry(
     home: u64,
     newest: u64,
 ) -> u64
-    requires { ⌜ (first ≤ position) × (position < 2 ^ 62) ⌝ }
-    ensures { λ r. ⌜ r ≡ taking first (noteAt home) position (readTag word position base homes) newest ⌝ }
+    requires { ⌜ (length (now group) ≡ 512) × (k < 7) × (first ≤ position) × (position < 2 ^ 62) ⌝ }
+    ensures { λ r. ⌜ r ≡ taking first (noteAt home) position (readTag (wordThere (now (group .entry)) turn k) position base homes) newest ⌝ }
 {
-    if codec::tag_back(word) != position - first {
+    if scan::back_in(group, turn, k) != position - first {
         return newest;
     }
-    match codec::read_tag(word, position, base, homes) {
+    match scan::tag_there(group, turn, k, position, base, homes) {
         Tag::Nothing => newest,
         Tag::Entry(written, _) => note(written, home, position, newest),
         Tag::Closing(written, _, _, _) => note(written, home, position, newest),
@@ -64,13 +66,12 @@ fn note_group(
     if !scan::group_valid(group, groups, start, n) {
         return newest;
     }
-    let words = scan::tag_words(group, turn);
     let base = 7 * start;
     let mut latest = newest;
     let mut k = scan::skipped(7 * n, first);
     let mut position = 7 * n + k as u64;
     while k < m {
-        latest = note_entry(words[k], position, base, homes, first, home, latest);
+        latest = note_entry(group, turn, k, position, base, homes, first, home, latest);
         position += 1;
         k += 1;
     }

@@ -1,5 +1,5 @@
 -- `positions::keep_group` meets its contract. The loop's invariant: the first `k` tags are taken. Assumes nothing.
-use mathlib.Core.Path.{_≡_, refl, sym, ap, _∙_}
+use mathlib.Core.Path.{_≡_, refl, sym, _∙_}
 use mathlib.Core.Bool.{true}
 use Prim.Native.Nat.{_+_, _-_, _*_, _≤_}
 use native.Mathlib.Omega.{arith}
@@ -14,7 +14,7 @@ use Rattle.positions.proofs.commits.keep_group.Statement.{statement}
 use Rattle.positions.proofs.commits.keep_group.Tie as tie
 
 abbrev Inv-loop : tie.InvT-loop
-Inv-loop group groups homes start n turn m first newest₀ words base k₀ position₀ newest k position =
+Inv-loop group groups homes start n turn m first newest₀ base k₀ position₀ newest k position =
     (newest ≡ keptOver (entryIn group groups homes start) first (7 * n) k newest₀)
     × (position ≡ 7 * n + k)
     × (k ≤ m)
@@ -22,7 +22,7 @@ Inv-loop group groups homes start n turn m first newest₀ words base k₀ posit
     × (length newest ≡ 8 * homes)
 
 abbrev μ-loop : tie.MeasureT-loop
-μ-loop group groups homes start n turn m first newest₀ words base k₀ position₀ newest k position = m - k
+μ-loop group groups homes start n turn m first newest₀ base k₀ position₀ newest k position = m - k
 
 group-valid-requires : tie.Need-group-valid-requires Inv-loop μ-loop
 group-valid-requires c κs = omega arith
@@ -30,9 +30,6 @@ group-valid-requires c κs = omega arith
 returns : tie.Need-returns Inv-loop μ-loop
 returns c =
     group-hole _ (taking-quiet _ keepAt) _ _ _ _ _ _ _ (sym (c .before .group-valid .ensures) ∙ not-true _ (c .if1 .taken)) (omega arith)
-
-tag-words-requires : tie.Need-tag-words-requires Inv-loop μ-loop
-tag-words-requires c κs = omega arith
 
 mul-base : tie.Need-mul-base Inv-loop μ-loop
 mul-base c = omega arith
@@ -59,14 +56,8 @@ loop-holds c =
       omega arith,
     )
 
-mul-keep-entry : tie.Need-mul-keep-entry Inv-loop μ-loop
-mul-keep-entry c = omega arith
-
-array-read-keep-entry : tie.Need-array-read-keep-entry Inv-loop μ-loop
-array-read-keep-entry c = omega arith
-
 keep-entry-requires : tie.Need-keep-entry-requires Inv-loop μ-loop
-keep-entry-requires c κs = (omega arith, omega arith)
+keep-entry-requires c κs = (omega arith, omega arith, omega arith, omega arith)
 
 add-position-2 : tie.Need-add-position-2 Inv-loop μ-loop
 add-position-2 c = omega arith
@@ -82,8 +73,8 @@ loop-again c =
     let t = c .before .before in
     let l = t .before .before .before in
     let w = l .before .before in
-    let g : groupValid _ _ _ _ ≡ true = sym (w .before .before .group-valid .ensures) ∙ not-false _ (w .before .if1 .left) in (
-      group-turn (taking _ keepAt) _ _ _ _ _ _ _ _ _ _ _ _ g (w .before .before .before .before .before .pre .4) (omega arith) (l .loop .inv .1) (w .tag-words .ensures (l .loop .k) (omega arith))
+    let g : groupValid _ _ _ _ ≡ true = sym (w .before .group-valid .ensures) ∙ not-false _ (w .if1 .left) in (
+      group-turn (taking _ keepAt) _ _ _ _ _ _ _ _ _ _ _ _ g (w .before .before .before .before .pre .4) (omega arith) (l .loop .inv .1) refl
           (t .keep-entry .ensures) (l .loop .inv .0),
       omega arith,
       omega arith,
@@ -97,7 +88,7 @@ same-length c = omega (arith, c .before .loop .inv .4)
 returns-2 : tie.Need-returns-2 Inv-loop μ-loop
 returns-2 c =
     let l = c .before .loop in
-    let e : l .k ≡ c .before .before .before .before .before .before .before .before .args .m = omega arith in
+    let e : l .k ≡ c .before .before .before .before .before .before .before .args .m = omega arith in
     rw (← e) (l .inv .0)
 
 pub keep-group-spec : {M : Type 1} → statement M
@@ -108,15 +99,12 @@ keep-group-spec =
     μ-loop
     group-valid-requires
     returns
-    tag-words-requires
     mul-base
     mul-skipped
     skipped-requires
     mul-position
     add-position
     loop-holds
-    mul-keep-entry
-    array-read-keep-entry
     keep-entry-requires
     add-position-2
     add-k

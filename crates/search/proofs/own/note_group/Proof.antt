@@ -1,5 +1,5 @@
 -- `search::note_group` meets its contract. The loop's invariant: the first `k` tags are taken. Assumes nothing.
-use mathlib.Core.Path.{_≡_, refl, sym, ap, _∙_}
+use mathlib.Core.Path.{_≡_, refl, sym, _∙_}
 use mathlib.Core.Bool.{true}
 use Prim.Native.Nat.{_+_, _-_, _*_, _≤_}
 use native.Mathlib.Omega.{arith}
@@ -13,14 +13,14 @@ use Rattle.search.proofs.own.note_group.Statement.{statement}
 use Rattle.search.proofs.own.note_group.Tie as tie
 
 abbrev Inv-loop : tie.InvT-loop
-Inv-loop group groups homes start n turn m first home newest words base latest₀ k₀ position₀ latest k position =
+Inv-loop group groups homes start n turn m first home newest base latest₀ k₀ position₀ latest k position =
     (latest ≡ noted (entryIn group groups homes start) home first (7 * n) k newest)
     × (position ≡ 7 * n + k)
     × (k ≤ m)
     × (first ≤ position)
 
 abbrev μ-loop : tie.MeasureT-loop
-μ-loop group groups homes start n turn m first home newest words base latest₀ k₀ position₀ latest k position =
+μ-loop group groups homes start n turn m first home newest base latest₀ k₀ position₀ latest k position =
     m - k
 
 group-valid-requires : tie.Need-group-valid-requires Inv-loop μ-loop
@@ -29,9 +29,6 @@ group-valid-requires c κs = omega arith
 returns : tie.Need-returns Inv-loop μ-loop
 returns c =
     group-hole _ (taking-quiet _ (noteAt _)) _ _ _ _ _ _ _ (sym (c .before .group-valid .ensures) ∙ not-true _ (c .if1 .taken)) (omega arith)
-
-tag-words-requires : tie.Need-tag-words-requires Inv-loop μ-loop
-tag-words-requires c κs = omega arith
 
 mul-base : tie.Need-mul-base Inv-loop μ-loop
 mul-base c = omega arith
@@ -53,14 +50,8 @@ loop-holds c =
     let e = c .skipped .ensures in
     (over-before _ (noteAt _) _ _ _ _ (omega (arith, e)), omega arith, omega (arith, e), omega (arith, e))
 
-mul-note-entry : tie.Need-mul-note-entry Inv-loop μ-loop
-mul-note-entry c = omega arith
-
-array-read-note-entry : tie.Need-array-read-note-entry Inv-loop μ-loop
-array-read-note-entry c = omega arith
-
 note-entry-requires : tie.Need-note-entry-requires Inv-loop μ-loop
-note-entry-requires c κs = (omega arith, omega arith)
+note-entry-requires c κs = (omega arith, omega arith, omega arith, omega arith)
 
 add-position-2 : tie.Need-add-position-2 Inv-loop μ-loop
 add-position-2 c = omega arith
@@ -75,8 +66,8 @@ loop-again : tie.Need-loop-again Inv-loop μ-loop
 loop-again c =
     let l = c .before .before in
     let w = l .before .before in
-    let g : groupValid _ _ _ _ ≡ true = sym (w .before .before .group-valid .ensures) ∙ not-false _ (w .before .if1 .left) in (
-      group-turn (taking _ (noteAt _)) _ _ _ _ _ _ _ _ _ _ _ _ g (w .before .before .before .before .pre .4) (omega arith) (l .loop .inv .1) (w .tag-words .ensures (l .loop .k) (omega arith))
+    let g : groupValid _ _ _ _ ≡ true = sym (w .before .group-valid .ensures) ∙ not-false _ (w .if1 .left) in (
+      group-turn (taking _ (noteAt _)) _ _ _ _ _ _ _ _ _ _ _ _ g (w .before .before .before .pre .4) (omega arith) (l .loop .inv .1) refl
           (c .note-entry .ensures) (l .loop .inv .0),
       omega arith,
       omega arith,
@@ -86,7 +77,7 @@ loop-again c =
 returns-2 : tie.Need-returns-2 Inv-loop μ-loop
 returns-2 c =
     let l = c .before .loop in
-    let e : l .k ≡ c .before .before .before .before .before .before .before .args .m = omega arith in
+    let e : l .k ≡ c .before .before .before .before .before .before .args .m = omega arith in
     rw (← e) (l .inv .0)
 
 pub note-group-spec : {M : Type 1} → statement M
@@ -97,15 +88,12 @@ note-group-spec =
     μ-loop
     group-valid-requires
     returns
-    tag-words-requires
     mul-base
     mul-skipped
     skipped-requires
     mul-position
     add-position
     loop-holds
-    mul-note-entry
-    array-read-note-entry
     note-entry-requires
     add-position-2
     add-k
