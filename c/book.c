@@ -308,22 +308,27 @@ const uint8_t *book_read(const struct book *book, unsigned writer, size_t home)
     return book->newest + kagutin_area_size(home);
 }
 
-void book_persisted(struct book *book, uint64_t number)
+void book_persisted(struct book *book, uint64_t number, unsigned blocks)
 {
     if (number >= book->first_row && number < book->rows)
-        book->persisted[number - book->first_row] = 1;
+        book->persisted[number - book->first_row] = (uint8_t)blocks;
+}
+
+/* The block with the tags, and the entry's own. */
+static bool entry_persisted(const struct book *book, const struct book_entry *entry)
+{
+    unsigned blocks = entry->row < book->rows ? book->persisted[entry->row - book->first_row] : 0;
+
+    return (blocks & 1) && (blocks >> (1 + entry->position % KAGUTIN_GROUP_ENTRIES) & 1);
 }
 
 static bool entries_persisted(const struct book *book, const struct book_commit *commit)
 {
     size_t i;
 
-    for (i = 0; i < commit->count; i++) {
-        uint64_t row = commit->entries[i].row;
-
-        if (row >= book->rows || !book->persisted[row - book->first_row])
+    for (i = 0; i < commit->count; i++)
+        if (!entry_persisted(book, &commit->entries[i]))
             return false;
-    }
     return true;
 }
 

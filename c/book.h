@@ -3,9 +3,10 @@
  * and answers of the calls, the records of their batches and which of them
  * persisted. It never looks at the copies or the state.
  *
- * Entries are gathered in rows; a row goes to lasting memory as one group, and
- * its entries persist with it. At a power cut the list of commits stops before
- * the first one with an entry that has not persisted; what stays is the run.
+ * Entries are gathered in rows; a row goes to lasting memory as one group. An
+ * entry persists with the group's first block, where its tag is, and its own.
+ * At a power cut the list of commits stops before the first one with an entry
+ * that has not persisted; what stays is the run.
  */
 #ifndef BOOK_H
 #define BOOK_H
@@ -54,7 +55,7 @@ struct book {
 
     uint64_t rows, first_row; /* rows written: ever, up to the last cut */
     size_t filled;            /* entries in the row that is being filled */
-    uint8_t *persisted;       /* by row since first_row */
+    uint8_t *persisted;       /* by row since first_row: a bit for each block of its group */
     size_t persisted_room;
 
     /* Group numbers and positions, from the last opening on. */
@@ -107,8 +108,8 @@ void book_usage(const struct book *book, struct kgt_places *usage);
 /* The block that a read must give. */
 const uint8_t *book_read(const struct book *book, unsigned writer, size_t home);
 
-/* The row written as the number-th group has persisted. */
-void book_persisted(struct book *book, uint64_t number);
+/* Of the row written as the number-th group these blocks have persisted. */
+void book_persisted(struct book *book, uint64_t number, unsigned blocks);
 
 /* Power is cut; so many rows had been issued ever. */
 void book_power_cut(struct book *book, uint64_t rows_issued, struct book_cut *cut);

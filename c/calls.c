@@ -91,21 +91,50 @@ static void expect_area(struct station *station, const char *call, const uint8_t
                              (unsigned long)(i / KAGUTIN_BLOCK_SIZE), (unsigned long)(i % KAGUTIN_BLOCK_SIZE));
 }
 
-/* The header of an empty store, everything else zeros. */
+/* Are all groups of the log copy unused, in a log with this start? */
+static bool is_blank(const struct driver *driver, uint64_t start)
+{
+    uint8_t unused[KAGUTIN_GROUP_SIZE];
+    size_t slot;
+
+    for (slot = 0; slot < driver->groups; slot++) {
+        rule_unused(driver->groups, start, slot, unused);
+        if (memcmp(driver->log + KGT_LOG_SIZE(slot), unused, sizeof unused) != 0)
+            return false;
+    }
+    return true;
+}
+
+/* Checks GW of every group, blank, by rising slot, and FN at the end of a batch, and the log copy. */
+static void expect_blanks(struct station *station, size_t at, size_t size, uint64_t start)
+{
+    const struct driver *driver = &station->driver;
+    struct kgt_record record;
+    size_t slot;
+
+    for (slot = 0; slot < driver->groups; slot++, at += record.size)
+        if (!kgt_read_record(driver->batch + at, size - at, driver->groups, driver->homes, &record)
+            || record.kind != KGT_GW || record.place != slot
+            || memcmp(record.bytes, driver->log + KGT_LOG_SIZE(slot), KAGUTIN_GROUP_SIZE) != 0)
+            station_mismatch(station, "open did not blank ring slot %lu as in its copy", (unsigned long)slot);
+    if (size - at != KAGUTIN_FN_SIZE || memcmp(driver->batch + at, "FN", 2) != 0)
+        station_mismatch(station, "open wrote no fence after the blank groups, or more");
+    if (!is_blank(driver, start))
+        station_mismatch(station, "open left a group that is not blank, or with a wrong turn bit");
+}
+
+/* The header of an empty store, blank groups, homes of zeros. */
 static bool looks_formatted(const struct driver *driver)
 {
-    uint8_t header[12] = {0x50, 0x48};
+    uint8_t header[KAGUTIN_HEADER_SIZE] = {0x50, 0x54};
     size_t i;
 
     header[8] = (uint8_t)driver->groups;
     header[9] = (uint8_t)(driver->groups >> 8);
     header[10] = (uint8_t)driver->homes;
     header[11] = (uint8_t)(driver->homes >> 8);
-    if (memcmp(driver->log, header, sizeof header) != 0)
+    if (memcmp(driver->log, header, sizeof header) != 0 || !is_blank(driver, 0))
         return false;
-    for (i = sizeof header; i < driver->log_size; i++)
-        if (driver->log[i])
-            return false;
     for (i = 0; i < driver->area_size; i++)
         if (driver->area[i])
             return false;
@@ -129,6 +158,7 @@ void call_open(struct station *station)
     struct kagutin_reply reply;
     struct rule_walk walk;
     uint64_t start;
+    size_t at;
 
     if (!rule_walk(&log, &walk)) {
         fputs("out of memory for the commit rule\n", stderr);
@@ -137,7 +167,9 @@ void call_open(struct station *station)
     reply = kagutin_open(AREAS(station), STATE(station), BATCH(station));
     expect(station, "open", reply, walk.commit_count, reply.size);
     rule_free(&walk);
-    start = expect_header(station, "open", expect_homes(station, "open", (size_t)reply.size), (size_t)reply.size);
+    at = expect_homes(station, "open", (size_t)reply.size);
+    start = expect_header(station, "open", at, at + KAGUTIN_TRIM_BATCH);
+    expect_blanks(station, at + KAGUTIN_TRIM_BATCH, (size_t)reply.size, start);
     if (start != log.start + log.groups)
         station_mismatch(station, "open moved the start from %llu to %llu", (unsigned long long)log.start,
                          (unsigned long long)start);

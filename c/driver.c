@@ -112,6 +112,27 @@ size_t driver_issued(const struct driver *driver)
     return count_records(driver, 0, driver->issued);
 }
 
+static size_t blocks_in(const struct kgt_record *record)
+{
+    return record->kind == KGT_GW ? KAGUTIN_GROUP_SIZE / KAGUTIN_BLOCK_SIZE : record->kind != KGT_FN;
+}
+
+size_t driver_blocks_issued(const struct driver *driver)
+{
+    size_t count = 0, at;
+    struct kgt_record record;
+
+    for (at = 0; queued(driver, at, driver->issued, &record); at += record.size)
+        count += blocks_in(&record);
+    return count;
+}
+
+/* A group with a number; those that an opening blanks have none. */
+static bool is_numbered(const struct kgt_record *record)
+{
+    return record->kind == KGT_GW && record->bytes[0];
+}
+
 uint64_t driver_groups_issued(const struct driver *driver)
 {
     uint64_t count = driver->first_group;
@@ -119,7 +140,7 @@ uint64_t driver_groups_issued(const struct driver *driver)
     size_t at;
 
     for (at = 0; queued(driver, at, driver->issued, &record); at += record.size)
-        count += record.kind == KGT_GW;
+        count += is_numbered(&record);
     return count;
 }
 
@@ -141,46 +162,48 @@ static bool fail_for_good(struct driver *driver, int error)
     return driver_fail(driver, "lasting memory failed with error %d", error);
 }
 
-/* Whom a power cut asks what persists; null: everything does. */
+/* Whom a power cut asks which blocks persist; null: all do. */
 struct choices {
     bool (*lands)(void *context, size_t index);
-    size_t (*tears)(void *context, size_t most);
     void *context;
+    size_t index; /* of the next block */
 };
 
-/* Writes the part of a group or home that arrives though the write as a whole does not. */
-static int tear(struct driver *driver, const struct choices *choices, const struct kgt_record *record)
+/* Writes those blocks of a write that persist, and tells which they are. */
+static int land_blocks(struct driver *driver, struct choices *choices, const struct kgt_record *record, unsigned *blocks)
 {
     const struct kgt_driver *lasting = &driver->runner.driver;
-    bool group = record->kind == KGT_GW;
-    size_t skip = group ? 8 : 0, most = (group ? KAGUTIN_GROUP_SIZE : KAGUTIN_BLOCK_SIZE) - skip, size;
+    enum kgt_area area = record->kind == KGT_HW ? KGT_HOMES : KGT_LOG;
+    size_t from = record->kind == KGT_KW ? 0 : record->kind == KGT_GW ? KGT_LOG_SIZE(record->place)
+                                                                      : KGT_HOMES_SIZE(record->place);
+    size_t i, count = blocks_in(record);
+    int error = 0;
 
-    if (record->kind == KGT_KW || !choices->tears)
-        return 0;
-    size = choices->tears(choices->context, most) / 8 * 8;
-    if (group)
-        return lasting->write(lasting->context, KGT_LOG, KGT_LOG_SIZE(record->place) + skip, record->bytes + skip, size);
-    return lasting->write(lasting->context, KGT_HOMES, KGT_HOMES_SIZE(record->place), record->bytes, size);
+    for (i = 0, *blocks = 0; i < count && !error; i++) {
+        if (!choices->lands(choices->context, choices->index++))
+            continue;
+        *blocks |= 1u << i;
+        error = lasting->write(lasting->context, area, from + KAGUTIN_BLOCK_SIZE * i,
+                               record->bytes + KAGUTIN_BLOCK_SIZE * i, KAGUTIN_BLOCK_SIZE);
+    }
+    return error;
 }
 
-static bool persist_issued(struct driver *driver, const struct choices *choices)
+static bool persist_issued(struct driver *driver, struct choices *choices)
 {
-    size_t at, index = 0;
+    size_t at;
     struct kgt_record record;
     int error = 0;
 
     if (driver->failed)
         return false;
-    for (at = 0; !error && queued(driver, at, driver->issued, &record); at += record.size, index++) {
-        uint64_t number = record.kind == KGT_GW ? driver->first_group++ : 0;
+    for (at = 0; !error && queued(driver, at, driver->issued, &record); at += record.size) {
+        uint64_t number = is_numbered(&record) ? driver->first_group++ : 0;
+        unsigned blocks = (1u << blocks_in(&record)) - 1;
 
-        if (choices && !choices->lands(choices->context, index)) {
-            error = tear(driver, choices, &record);
-            continue;
-        }
-        error = kgt_run_record(&driver->runner, &record);
-        if (!error && driver->persisted)
-            driver->persisted(driver->context, &record, number);
+        error = choices ? land_blocks(driver, choices, &record, &blocks) : kgt_run_record(&driver->runner, &record);
+        if (!error && driver->persisted && blocks)
+            driver->persisted(driver->context, &record, number, blocks);
     }
     if (!error)
         error = kgt_run_fence(&driver->runner);
@@ -227,17 +250,16 @@ bool driver_confirm(struct driver *driver, struct kagutin_reply *reply)
     return true;
 }
 
-bool driver_cut(struct driver *driver, bool (*lands)(void *context, size_t index),
-                size_t (*tears)(void *context, size_t most), void *context)
+bool driver_cut(struct driver *driver, bool (*lands)(void *context, size_t index), void *context)
 {
-    struct choices choices = {lands, tears, context};
+    struct choices choices = {lands, context, 0};
     struct kgt_record record;
     size_t at;
 
     if (!persist_issued(driver, &choices))
         return false;
     for (at = driver->issued; queued(driver, at, driver->queue_size, &record); at += record.size)
-        driver->first_group += record.kind == KGT_GW;
+        driver->first_group += is_numbered(&record);
     driver->queue_size = 0;
     driver->issued = 0;
     driver->fences = 0;

@@ -5,7 +5,7 @@
  *
  * Records of a batch wait in the driver. driver_step issues them one by one:
  * a write is held back until its fence passes, so that a power cut can choose
- * any subset of the writes since the last fence; a fence writes what was
+ * any blocks of the writes since the last fence; a fence writes what was
  * issued and waits until it is in lasting memory.
  *
  * A function that fails returns false and leaves a message for driver_message.
@@ -30,8 +30,12 @@ struct driver {
     uint8_t *batch;
     size_t batch_size;
 
-    /* Called for each write that persists; may be null. number, for GW: how many came before it. */
-    void (*persisted)(void *context, const struct kgt_record *record, uint64_t number);
+    /*
+     * Called for each write of which blocks persist; may be null. blocks: a bit
+     * for each of its blocks of 64 bytes, the first lowest. number, for a GW with
+     * a group's number: how many such came before it.
+     */
+    void (*persisted)(void *context, const struct kgt_record *record, uint64_t number, unsigned blocks);
     void *context;
 
     /* The rest is the driver's own. */
@@ -44,7 +48,7 @@ struct driver {
     size_t queue_size, queue_room;
     size_t issued;        /* bytes at the front of the queue issued so far */
     size_t fences;        /* fences in the queue */
-    uint64_t first_group; /* number of the first GW in the queue */
+    uint64_t first_group; /* groups with a number before the queue */
     uint8_t *written;     /* blocks written since the last fence in the queue */
     char message[320];
 };
@@ -79,26 +83,23 @@ bool driver_write_waits(const struct driver *driver);
 /* Issues all records that wait. Writes after the last fence stay held back. */
 bool driver_run(struct driver *driver);
 
-/* Records that wait, not yet issued; writes issued since the last fence. */
+/* Records that wait, not yet issued; writes issued since the last fence, and their blocks. */
 size_t driver_waiting(const struct driver *driver);
 size_t driver_issued(const struct driver *driver);
+size_t driver_blocks_issued(const struct driver *driver);
 
-/* Groups issued since the image was opened. */
+/* Groups with a number issued since the image was opened. */
 uint64_t driver_groups_issued(const struct driver *driver);
 
 /* Confirms if every fence has passed; otherwise fails without the call. */
 bool driver_confirm(struct driver *driver, struct kagutin_reply *reply);
 
 /*
- * Power cut: of the issued writes those that lands() picks persist, the other
- * records are gone. The copies and the state are filled with noise.
- *
- * Of a group or home that is gone the first bytes that tears() allows arrive
- * all the same, but for the group's first word: words land whole, and that one
- * is written last. Null: none.
+ * Power cut: of the blocks of the issued writes, in order, those that lands()
+ * picks persist, the others and the other records are gone. So a group of
+ * eight blocks can arrive torn. The copies and the state are filled with noise.
  */
-bool driver_cut(struct driver *driver, bool (*lands)(void *context, size_t index),
-                size_t (*tears)(void *context, size_t most), void *context);
+bool driver_cut(struct driver *driver, bool (*lands)(void *context, size_t index), void *context);
 
 /* Releases everything. Records not yet persisted are gone, as in a cut. */
 void driver_close(struct driver *driver);

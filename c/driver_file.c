@@ -82,6 +82,5 @@ bool driver_create_unnamed(struct driver *driver, size_t groups, size_t homes)
                            kagutin_answer_text(reply.code));
     if (!driver_submit(driver, reply.size) || !driver_run(driver))
         return false;
-    driver->first_group = 0;
     return true;
 }

@@ -44,6 +44,7 @@ struct fates {
     enum fate *entries; /* by position from the start on */
     uint64_t *newest;   /* by home: 1 + position of the entry it gets from the log; 0: its own block stays */
     size_t committed, others; /* entries that come back, and those that do not */
+    size_t torn;              /* tags whose data blocks have not arrived */
 };
 
 /* Says why and ends the program. */
@@ -63,9 +64,8 @@ const char *image_hole(const struct image *image, size_t slot);
 /* True for the entries of the transaction that a closing entry ends. */
 bool image_belongs(const struct image *image, const struct rule_commit *commit, uint64_t position);
 
-/* Blocks: of the entry at a position; of a home, as an opening leaves it. */
-const uint8_t *image_block(const struct image *image, uint64_t position);
-const uint8_t *image_home(const struct image *image, const struct fates *fates, size_t home);
+/* The 64 bytes of a home, as an opening leaves it. */
+void image_home(const struct image *image, const struct fates *fates, size_t home, uint8_t *block);
 
 /* False if memory is short; else fates_free. */
 bool fates_find(struct fates *fates, const struct image *image, const struct rule_walk *walk);

@@ -2,6 +2,7 @@
 #include "inspect.h"
 
 #include <stdlib.h>
+#include <string.h>
 
 #define BLOCK 64u
 
@@ -16,16 +17,12 @@ const char *fate_text(enum fate fate)
     }
 }
 
-const uint8_t *image_block(const struct image *image, uint64_t position)
-{
-    return rule_slot(&image->log, (size_t)(position / 7 % image->log.groups)) + BLOCK + BLOCK * (position % 7);
-}
-
-const uint8_t *image_home(const struct image *image, const struct fates *fates, size_t home)
+void image_home(const struct image *image, const struct fates *fates, size_t home, uint8_t *block)
 {
     if (fates->newest[home])
-        return image_block(image, fates->newest[home] - 1);
-    return rule_slot(&image->log, image->log.groups) + BLOCK * home;
+        rule_block(&image->log, fates->newest[home] - 1, block);
+    else
+        memcpy(block, rule_slot(&image->log, image->log.groups) + BLOCK * home, BLOCK);
 }
 
 /* Entries of committed transactions, in commit order. */
@@ -61,7 +58,7 @@ bool fates_find(struct fates *fates, const struct image *image, const struct rul
 
     fates->entries = calloc((size_t)size, sizeof *fates->entries);
     fates->newest = calloc(image->log.homes, sizeof *fates->newest);
-    fates->committed = fates->others = 0;
+    fates->committed = fates->others = fates->torn = 0;
     if (!closing || !fates->entries || !fates->newest) {
         free(closing);
         fates_free(fates);
@@ -74,6 +71,7 @@ bool fates_find(struct fates *fates, const struct image *image, const struct rul
         if (!rule_present(&image->log, base + offset))
             continue;
         tag = rule_tag(&image->log, base + offset);
+        fates->torn += tag.torn;
         if (tag.kind == TAG_NOTHING)
             continue;
         next = &closing[offset - tag.back];

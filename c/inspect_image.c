@@ -77,13 +77,15 @@ void image_check_header(struct image *image)
 
     for (i = 0; i < HEADER; i++)
         set += header[i] != 0;
-    image->mark_fits = image->file_size >= HEADER && header[0] == 0x50 && header[1] == 0x48;
+    image->mark_fits = image->file_size >= HEADER && header[0] == 0x50 && header[1] == 0x54;
     if (image->file_size < HEADER)
         image_note(image, "header: the file ends inside it, after %lu bytes", (unsigned long)image->file_size);
     else if (set == 0)
         image_note(image, "header: zeros, a format that has not finished");
+    else if (header[0] == 0x50 && header[1] == 0x48)
+        image_note(image, "header: mark 50 48, an older format, whose groups landed whole; not 50 54");
     else if (!image->mark_fits)
-        image_note(image, "header: mark %02X %02X, not 50 48", header[0], header[1]);
+        image_note(image, "header: mark %02X %02X, not 50 54", header[0], header[1]);
     if (set && (groups < 4 || groups > MAX_GROUPS))
         image_note(image, "header: %lu groups, they go from 4 to 1024", (unsigned long)groups);
     if (set && (homes < 1 || homes > MAX_HOMES))
@@ -158,8 +160,8 @@ const char *image_hole(const struct image *image, size_t slot)
         return "cut off by the end of the file";
     switch (rule_slot_kind(&image->log, slot)) {
     case SLOT_VALID: return NULL;
-    case SLOT_ZEROS: return "never written";
-    case SLOT_PART: return "cut off while it was written, its number has not arrived";
+    case SLOT_BLANK: return "blank, not written since the last opening or the format";
+    case SLOT_PART: return "torn: blocks of it are there, its number has not arrived";
     case SLOT_MARK: return "damaged, no group's mark";
     case SLOT_PLACE: return "damaged, its number belongs to another slot";
     case SLOT_TRIMMED: return "trimmed, below the start";
@@ -184,7 +186,7 @@ static void check_slots(struct image *image)
         for (k = 0; k < 7; k++) {
             struct tag tag = rule_tag(&image->log, 7 * number + k);
 
-            if (tag.why && !strstr(tag.why, "before the start"))
+            if (tag.why && !tag.torn && !strstr(tag.why, "before the start"))
                 image_note(image, "position %llu: damaged tag: %s", (unsigned long long)(7 * number + k), tag.why);
         }
     }

@@ -66,12 +66,15 @@ static void json_entry(const struct image *image, const struct fates *fates, uin
 {
     struct tag tag = rule_tag(&image->log, position);
     enum fate fate = fates->entries[position - 7 * image->log.start];
+    uint8_t block[64];
 
     if (tag.kind == TAG_NOTHING && !tag.why)
         return;
     printf("%s\n   {\"position\":%llu,\"kind\":\"%s\"", *comma ? "," : "", (number)position, kinds[tag.kind]);
     *comma = true;
     if (tag.kind == TAG_NOTHING) {
+        if (tag.torn)
+            printf(",\"torn\":true,\"home\":%llu,\"first\":%llu", (number)tag.home, (number)(position - tag.back));
         fputs(",\"why\":", stdout);
         json_string(tag.why);
     } else {
@@ -86,7 +89,8 @@ static void json_entry(const struct image *image, const struct fates *fates, uin
             json_string(fate_text(fate));
         }
         fputs(",\"block\":\"", stdout);
-        print_hex(image_block(image, position), 64);
+        rule_block(&image->log, position, block);
+        print_hex(block, 64);
         putchar('"');
     }
     putchar('}');
@@ -132,9 +136,11 @@ static void json_commit(const struct image *image, const struct rule_commit *com
 /* The value that an opening gives a home; text: each byte that is no printable ASCII is a dot. */
 static void json_home(const struct image *image, const struct fates *fates, size_t home)
 {
-    const uint8_t *block = image_home(image, fates, home);
+    uint8_t block[64];
     char text[65];
     size_t i;
+
+    image_home(image, fates, home, block);
 
     for (i = 0; i < 64; i++)
         text[i] = block[i] >= 0x20 && block[i] < 0x7f ? (char)block[i] : '.';
@@ -161,11 +167,11 @@ void print_json(const struct image *image, const struct rule_walk *walk, const s
     fputs("{\"image\":", stdout);
     json_string(image->path);
     printf(",\"bytes\":%llu,\n \"header\":{\"fits\":%s,\"start\":%llu,\"start_from\":\"%s\",\"groups\":%lu,\"homes\":%lu},"
-           "\n \"places\":{\"committed\":%lu,\"others\":%lu,\"unused\":%lu},\n \"slots\":[",
+           "\n \"places\":{\"committed\":%lu,\"others\":%lu,\"torn\":%lu,\"unused\":%lu},\n \"slots\":[",
            (number)image->file_size, image->header_fits ? "true" : "false",
            (number)log->start, image->start_from, (unsigned long)log->groups, (unsigned long)log->homes,
-           (unsigned long)fates->committed, (unsigned long)fates->others,
-           (unsigned long)(7 * log->groups - fates->committed - fates->others));
+           (unsigned long)fates->committed, (unsigned long)fates->others, (unsigned long)fates->torn,
+           (unsigned long)(7 * log->groups - fates->committed - fates->others - fates->torn));
     for (i = 0; i < log->groups; i++)
         json_slot(image, fates, i);
     fputs("],\n \"commits\":[", stdout);

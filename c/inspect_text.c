@@ -27,6 +27,11 @@ static void text_entry(const struct image *image, const struct fates *fates, uin
 {
     struct tag tag = rule_tag(&image->log, position);
 
+    if (tag.torn) {
+        printf("      %12llu  torn     home %4llu  first %llu\n      %12s  ! nothing: %s\n", (number)position, (number)tag.home,
+               (number)(position - tag.back), "", tag.why);
+        return;
+    }
     if (tag.kind == TAG_NOTHING) {
         if (tag.why)
             printf("      %12llu  reads as nothing: %s\n", (number)position, tag.why);
@@ -82,8 +87,11 @@ static void text_commit(const struct image *image, const struct rule_commit *com
 /* Sixteen bytes on a line, in hex and as text, without the zeros at the end. */
 static void text_home(const struct image *image, const struct fates *fates, size_t home)
 {
-    const uint8_t *block = image_home(image, fates, home);
-    size_t size = used_size(block), at, i;
+    uint8_t block[64];
+    size_t size, at, i;
+
+    image_home(image, fates, home, block);
+    size = used_size(block);
 
     for (at = 0; at < size; at += 16) {
         if (at == 0)
@@ -104,9 +112,12 @@ static void text_home(const struct image *image, const struct fates *fates, size
 static void text_homes(const struct image *image, const struct fates *fates)
 {
     size_t home, zeros = 0;
+    uint8_t block[64];
 
-    for (home = 0; home < image->log.homes; home++)
-        zeros += used_size(image_home(image, fates, home)) == 0;
+    for (home = 0; home < image->log.homes; home++) {
+        image_home(image, fates, home, block);
+        zeros += used_size(block) == 0;
+    }
     printf("\nhomes (%lu, %lu of them zeros), as an opening leaves them; zeros at a block's end are left out\n",
            (unsigned long)image->log.homes, (unsigned long)zeros);
     for (home = 0; home < image->log.homes; home++)
@@ -125,9 +136,9 @@ void print_text(const struct image *image, const struct rule_walk *walk, const s
     printf("live    groups %llu to %llu, positions %llu to %llu\n", (number)log->start,
            (number)(log->start + log->groups - 1), (number)(7 * log->start),
            (number)(7 * (log->start + log->groups) - 1));
-    printf("places  %lu: %lu with entries that come back, %lu with others, %lu unused\n\ngroups\n",
+    printf("places  %lu: %lu with entries that come back, %lu with others, %lu torn, %lu unused\n\ngroups\n",
            (unsigned long)(7 * log->groups), (unsigned long)fates->committed, (unsigned long)fates->others,
-           (unsigned long)(7 * log->groups - fates->committed - fates->others));
+           (unsigned long)fates->torn, (unsigned long)(7 * log->groups - fates->committed - fates->others - fates->torn));
     for (i = 0; i < log->groups; i++)
         text_slot(image, fates, i);
     printf("\ncommits (%lu)\n", (unsigned long)walk->commit_count);

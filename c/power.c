@@ -16,12 +16,11 @@ void power_refuse_image(struct station *station, const char *why)
     exit(EXIT_TROUBLE);
 }
 
-/* Which of the issued writes persist: none, all, all but one, one, or any. */
+/* Which blocks of the issued writes persist: none, all, all but one, one, any, or nearly all. */
 struct choice {
     struct station *station;
     unsigned mode;
     size_t one, persisted;
-    bool torn;
 };
 
 static bool lands(void *context, size_t index)
@@ -34,18 +33,11 @@ static bool lands(void *context, size_t index)
     case 1: picked = true; break;
     case 2: picked = index != choice->one; break;
     case 3: picked = index == choice->one; break;
+    case 4: picked = station_random(choice->station, 20) != 0; break;
     default: picked = station_random(choice->station, 2) == 0; break;
     }
     choice->persisted += picked;
     return picked;
-}
-
-/* In every other cut writes that do not land leave torn blocks behind. */
-static size_t tears(void *context, size_t most)
-{
-    struct choice *choice = context;
-
-    return choice->torn ? (size_t)station_random(choice->station, most + 8) : 0;
 }
 
 static void issue_some(struct station *station, uint64_t count)
@@ -58,7 +50,7 @@ static void issue_some(struct station *station, uint64_t count)
 static void power_cut(struct station *station, bool opening, struct report_cut *cut)
 {
     struct driver *driver = &station->driver;
-    struct choice choice = {station, (unsigned)station_random(station, 7), 0, 0, false};
+    struct choice choice = {station, (unsigned)station_random(station, 7), 0, 0};
     uint64_t groups;
 
     issue_some(station, station_random(station, driver_waiting(driver) + 1));
@@ -67,11 +59,10 @@ static void power_cut(struct station *station, bool opening, struct report_cut *
             issue_some(station, 1);
     cut->opening = opening;
     cut->waiting = driver_waiting(driver);
-    cut->issued = driver_issued(driver);
+    cut->issued = driver_blocks_issued(driver);
     groups = driver_groups_issued(driver);
     choice.one = (size_t)station_random(station, cut->issued);
-    choice.torn = station_random(station, 2) != 0;
-    if (!driver_cut(driver, lands, tears, &choice))
+    if (!driver_cut(driver, lands, &choice))
         station_trouble(station);
     cut->persisted = choice.persisted;
     book_power_cut(&station->book, groups, &cut->book);

@@ -175,7 +175,9 @@ void refusal_try_open(struct station *s)
     int i;
 
     refusal_prepare(s);
-    refusal_check(s, "open", kagutin_open(LOG(s), AREA(s), STATE(s), s->driver.batch, 69), KAGUTIN_SHORT_BATCH);
+    refusal_check(s, "open", kagutin_open(LOG(s), AREA(s), STATE(s), s->driver.batch,
+                                            KAGUTIN_GW_SIZE * s->driver.groups + KAGUTIN_KW_SIZE + 3 * KAGUTIN_FN_SIZE - 1),
+                  KAGUTIN_SHORT_BATCH);
     refusal_check(s, "open", kagutin_open(LOG(s), s->driver.area, s->driver.area_size - 1, STATE(s), BATCH(s)),
                   KAGUTIN_BAD_LENGTH);
     memcpy(header, s->driver.log, sizeof header);

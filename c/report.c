@@ -22,7 +22,7 @@ void report_start(struct station *station)
             (unsigned long long)station->seed, station->cuts, (unsigned long)station->driver.groups,
             (unsigned long)station->driver.homes, station->path ? station->path : "in memory");
     if (station->verbose)
-        fputs("\n cut  power failed  unissued  arrived  commits  kept  confirmed  replayed\n", station->report);
+        fputs("\n cut  power failed  unissued    arrived  commits  kept  confirmed  replayed\n", station->report);
     fflush(station->report);
 }
 
@@ -39,7 +39,7 @@ static void progress(struct station *station)
 void report_cut(struct station *station, const struct report_cut *cut)
 {
     if (station->verbose)
-        fprintf(station->report, "%4lu  %-12s  %8lu  %3lu/%3lu  %7lu  %4lu  %9lu", station->counters.cuts,
+        fprintf(station->report, "%4lu  %-12s  %8lu  %4lu/%4lu  %7lu  %4lu  %9lu", station->counters.cuts,
                 cut->opening ? "opening" : "at work", (unsigned long)cut->waiting, (unsigned long)cut->persisted,
                 (unsigned long)cut->issued, (unsigned long)cut->book.commits, (unsigned long)cut->book.run,
                 (unsigned long)cut->book.confirmed);
@@ -170,7 +170,7 @@ static void print_log(const struct station *station)
 static void print_verbose_legend(FILE *report)
 {
     fputs("\n  unissued   records that the driver had not begun to write when power failed\n"
-          "  arrived    writes since the last fence that are in lasting memory, of those begun\n"
+          "  arrived    blocks written since the last fence that are in lasting memory, of those begun\n"
           "  commits    since the cut before; kept: the run that persisted\n"
           "  confirmed  declared durable before the cut; always among the kept\n"
           "  replayed   transactions that the opening found in the log\n", report);
@@ -186,7 +186,7 @@ void report_summary(struct station *station)
         print_verbose_legend(station->report);
     fprintf(station->report, "\n%lu power cuts, %lu of them while opening: every opening gave exactly the commits kept.\n",
             counters->cuts, counters->opening_cuts);
-    fputs("In every other cut, chosen at random, groups and homes that did not arrive were left torn.\n", station->report);
+    fputs("Each block of 64 bytes arrived or not by itself, so that groups were left torn.\n", station->report);
     if (station_interrupted())
         fprintf(station->report, "Interrupted, %lu cuts were asked for.\n", station->cuts);
     if (station->worn_out)

@@ -8,7 +8,7 @@
 struct report_cut {
     bool opening;               /* power failed while the store was opening */
     size_t waiting;             /* records not yet issued */
-    size_t issued, persisted;   /* writes since the last fence; those of them that arrived */
+    size_t issued, persisted;   /* blocks written since the last fence; those of them that arrived */
     struct book_cut book;
 };
 

@@ -25,13 +25,26 @@ static bool all_zero(const uint8_t *bytes, size_t size)
     return true;
 }
 
+/* Zeros, whatever the turn bits. */
+static bool is_blank(const uint8_t *group)
+{
+    size_t end;
+
+    if (!all_zero(group, 64))
+        return false;
+    for (end = 128; end <= 512; end += 64)
+        if (!all_zero(group + end - 64, 63) || (group[end - 1] & 0x7F))
+            return false;
+    return true;
+}
+
 enum slot_kind rule_slot_kind(const struct rule_log *log, size_t slot)
 {
     const uint8_t *group = rule_slot(log, slot);
     uint64_t number = rule_number(group + 2, 6);
 
     if (all_zero(group, 8))
-        return all_zero(group, 512) ? SLOT_ZEROS : SLOT_PART;
+        return is_blank(group) ? SLOT_BLANK : SLOT_PART;
     if (group[0] != 0x50 || group[1] != 0x47)
         return SLOT_MARK;
     if (number % log->groups != slot)
@@ -52,8 +65,8 @@ bool rule_present(const struct rule_log *log, uint64_t position)
 /* Why a tag reads as nothing; null if it reads as an entry. */
 static const char *tag_fault(const struct rule_log *log, uint64_t position, uint64_t word, const struct tag *tag)
 {
-    if (word >> 57)
-        return "one of bits 57 to 63 is set";
+    if (word >> 58)
+        return "one of bits 58 to 63 is set";
     if (!(word & 2) && (word >> 27 & 0x3FFFFFF))
         return "not closing, but one of bits 27 to 52 is set";
     if (tag->home >= log->homes)
@@ -65,13 +78,45 @@ static const char *tag_fault(const struct rule_log *log, uint64_t position, uint
     return NULL;
 }
 
+void rule_unused(size_t groups, uint64_t start, size_t slot, uint8_t *group)
+{
+    uint64_t round = start / groups + (slot < start % groups); /* in which the slot is written next */
+    size_t end;
+
+    memset(group, 0, 512);
+    for (end = 128; end <= 512; end += 64)
+        group[end - 1] = round % 2 ? 0 : 0x80;
+}
+
+static const uint8_t *data_block(const struct rule_log *log, uint64_t position)
+{
+    return rule_slot(log, (size_t)(position / 7 % log->groups)) + 64 + 64 * (position % 7);
+}
+
+static uint64_t tag_word(const struct rule_log *log, uint64_t position)
+{
+    return rule_number(rule_slot(log, (size_t)(position / 7 % log->groups)) + 8 + 8 * (position % 7), 8);
+}
+
+void rule_block(const struct rule_log *log, uint64_t position, uint8_t *block)
+{
+    memcpy(block, data_block(log, position), 64);
+    block[63] = (uint8_t)((block[63] & 0x7F) | (tag_word(log, position) >> 57 & 1) << 7);
+}
+
+/* Is the turn bit of the block at a position that of its group's round of the ring? */
+static bool turn_fits(const struct rule_log *log, uint64_t position)
+{
+    return data_block(log, position)[63] >> 7 == position / 7 / log->groups % 2;
+}
+
 struct tag rule_tag(const struct rule_log *log, uint64_t position)
 {
-    const uint8_t *group = rule_slot(log, (size_t)(position / 7 % log->groups));
-    uint64_t word = rule_number(group + 8 + 8 * (position % 7), 8);
+    uint64_t word = tag_word(log, position);
     struct tag tag;
 
     tag.kind = TAG_NOTHING;
+    tag.torn = false;
     tag.home = (word >> 2 & 0xFFF) | (word >> 53 & 0xF) << 12;
     tag.back = word >> 14 & 0x1FFF;
     tag.link = word >> 27 & 0x1FFF;
@@ -81,6 +126,9 @@ struct tag rule_tag(const struct rule_log *log, uint64_t position)
         return tag;
     }
     tag.why = tag_fault(log, position, word, &tag);
+    tag.torn = !tag.why && !turn_fits(log, position);
+    if (tag.torn)
+        tag.why = "its data block has not arrived: the turn bit there is another round's";
     if (!tag.why)
         tag.kind = word & 2 ? TAG_CLOSING : TAG_ENTRY;
     return tag;

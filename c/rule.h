@@ -19,8 +19,8 @@ struct rule_log {
 
 enum slot_kind {
     SLOT_VALID,
-    SLOT_ZEROS,   /* never written since the format */
-    SLOT_PART,    /* hole: its first word, which a driver writes last, has not arrived */
+    SLOT_BLANK,   /* not written since the last opening, or the format */
+    SLOT_PART,    /* hole: torn, data blocks are there but its number is not */
     SLOT_MARK,    /* hole: wrong mark */
     SLOT_PLACE,   /* hole: the number belongs to another slot */
     SLOT_TRIMMED, /* hole: the number is below the start */
@@ -32,6 +32,7 @@ enum tag_kind { TAG_NOTHING, TAG_ENTRY, TAG_CLOSING };
 struct tag {
     enum tag_kind kind;
     const char *why; /* TAG_NOTHING: the reason; null if merely unused */
+    bool torn;       /* the tag is sound, but its data block has not arrived */
     uint64_t home, back, link, count;
 };
 
@@ -58,6 +59,12 @@ struct rule_walk {
 uint64_t rule_number(const uint8_t *bytes, size_t width);
 const uint8_t *rule_slot(const struct rule_log *log, size_t slot);
 enum slot_kind rule_slot_kind(const struct rule_log *log, size_t slot);
+
+/* A ring slot that no group has been written to, in a log with this start: 512 bytes. */
+void rule_unused(size_t groups, uint64_t start, size_t slot, uint8_t *group);
+
+/* The 64 bytes of the entry at a position: its data block, the displaced bit back in its place. */
+void rule_block(const struct rule_log *log, uint64_t position, uint8_t *block);
 
 /* Reads the tag at a position of a valid group. */
 struct tag rule_tag(const struct rule_log *log, uint64_t position);

@@ -12,10 +12,10 @@
 #include "report.h"
 #include "wear.h"
 
-static void on_persisted(void *context, const struct kgt_record *record, uint64_t number)
+static void on_persisted(void *context, const struct kgt_record *record, uint64_t number, unsigned blocks)
 {
-    if (record->kind == KGT_GW)
-        book_persisted(context, number);
+    if (record->kind == KGT_GW && record->bytes[0]) /* a blank group is no row */
+        book_persisted(context, number, blocks);
 }
 
 /* A foreign image is refused before anything in it is changed. */

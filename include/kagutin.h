@@ -15,10 +15,11 @@
  * back the longest run of commits whose entries all persisted, with every
  * confirmed commit in it:
  *
- *  1. Run the batches in the order of the calls, each record in order. A
- *     write (GW, HW, KW) persists whole or not at all. A fence (FN) passes
- *     only when everything before it is in lasting memory; nothing after it
- *     may persist earlier. Between two fences any write may overtake another.
+ *  1. Run the batches in the order of the calls, each record in order. Every
+ *     block of 64 bytes persists whole or not at all: a home (HW), the header
+ *     (KW), each of a group's eight blocks (GW). A fence (FN) passes only when
+ *     everything before it is in lasting memory; nothing after it may persist
+ *     earlier. Between two fences any block may overtake another.
  *  2. Call confirm only when every fence of every batch so far has passed.
  *  3. Pass log, area and state on untouched from call to call. Nobody else
  *     writes them, or the lasting memory.
@@ -121,10 +122,11 @@ static inline size_t kagutin_settle_batch(size_t groups, size_t homes)
     return (size_t)KAGUTIN_HW_SIZE * (homes < entries ? homes : entries) + KAGUTIN_FN_SIZE;
 }
 
-/* The most that open can write: the same, then the header and FN. */
+/* The most that open can write: the same, then the header, FN, every group and FN. */
 static inline size_t kagutin_open_batch(size_t groups, size_t homes)
 {
-    return kagutin_settle_batch(groups, homes) + KAGUTIN_KW_SIZE + KAGUTIN_FN_SIZE;
+    return kagutin_settle_batch(groups, homes) + KAGUTIN_KW_SIZE + KAGUTIN_FN_SIZE
+        + (size_t)KAGUTIN_GW_SIZE * groups + KAGUTIN_FN_SIZE;
 }
 
 /* An answer in words. */
@@ -150,7 +152,7 @@ static inline const char *kagutin_answer_text(uint64_t code)
 
 /*
  * Makes both copies those of an empty store with all homes zero.
- * Batch: KW of zeros, FN, every group and home as zeros, FN, header, FN.
+ * Batch: KW of zeros, FN, every group blank and every home zeros, FN, header, FN.
  * Answers 1, 9.
  */
 struct kagutin_reply kagutin_format(
@@ -161,8 +163,8 @@ struct kagutin_reply kagutin_format(
  * Replays the committed transactions of the log into the area, empties the
  * log and writes the state anew, whatever it held. All writers are then idle.
  * figure: number of transactions replayed.
- * Batch: HW of each home touched, rising, FN, KW, FN.
- * Answers 1, 3, 10, 9.
+ * Batch: HW of each home touched, rising, FN, KW, FN, every group blank, FN.
+ * Answers 1, 3 (also for a header of the older format, mark 50 48), 10, 9.
  */
 struct kagutin_reply kagutin_open(
     uint8_t *log, size_t log_size, uint8_t *area, size_t area_size,

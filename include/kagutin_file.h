@@ -5,9 +5,10 @@
  * D bytes), and nothing else. G and D stand in its header. It is written by
  * pwrite and fdatasync, or through a mapping and msync.
  *
- * Landing: words. A disk keeps sectors whole, and aligned words lie inside
- * one; a group lies across two sectors, so its first word follows after a
- * sync of its own (kgt_runner).
+ * Landing, written: blocks. A disk keeps sectors whole, and an aligned block
+ * of 64 bytes lies inside one. Mapped: words, since a program can be killed
+ * between two stores; a group's first word then follows after a sync of its
+ * own (kgt_runner).
  *
  * A file is open in one place at a time: the lock belongs to the open file,
  * not to the process. After a failed write or sync, or if the file's size has

@@ -39,10 +39,10 @@ extern "C" {
 enum kgt_area { KGT_LOG, KGT_HOMES };
 
 /*
- * What the medium keeps whole if power fails while it is written. Words and
- * blocks are aligned. Groups: every single write, up to 512 bytes.
+ * What the medium keeps whole if power fails while it is written: aligned words
+ * of 8 bytes, or aligned blocks of 64.
  */
-enum kgt_landing { KGT_LANDS_WORDS, KGT_LANDS_BLOCKS, KGT_LANDS_GROUPS };
+enum kgt_landing { KGT_LANDS_WORDS, KGT_LANDS_BLOCKS };
 
 /*
  * A driver: three functions that return 0, or an error of the driver's own.
@@ -70,14 +70,14 @@ struct kgt_driver {
 #define KGT_LOG_SIZE(groups) ((size_t)KAGUTIN_HEADER_SIZE + (size_t)KAGUTIN_GROUP_SIZE * (groups))
 #define KGT_HOMES_SIZE(homes) ((size_t)KAGUTIN_BLOCK_SIZE * (homes))
 
-/* The longest batch of any call but format: open's, or flush's. */
+/* The longest batch of any call but format: open's. */
 #define KGT_TOUCHED(groups, homes) \
     ((size_t)(homes) < (size_t)KAGUTIN_GROUP_ENTRIES * (groups) ? (size_t)(homes) \
                                                                : (size_t)KAGUTIN_GROUP_ENTRIES * (groups))
 #define KGT_OPEN_BATCH(groups, homes) \
-    (KAGUTIN_HW_SIZE * KGT_TOUCHED(groups, homes) + KAGUTIN_FN_SIZE + KAGUTIN_KW_SIZE + KAGUTIN_FN_SIZE)
-#define KGT_BATCH_SIZE(groups, homes) \
-    (KGT_OPEN_BATCH(groups, homes) > KAGUTIN_FLUSH_BATCH ? KGT_OPEN_BATCH(groups, homes) : KAGUTIN_FLUSH_BATCH)
+    (KAGUTIN_HW_SIZE * KGT_TOUCHED(groups, homes) + KAGUTIN_FN_SIZE + KAGUTIN_KW_SIZE + KAGUTIN_FN_SIZE \
+     + (size_t)KAGUTIN_GW_SIZE * (groups) + KAGUTIN_FN_SIZE)
+#define KGT_BATCH_SIZE(groups, homes) KGT_OPEN_BATCH(groups, homes)
 
 /* Bytes of memory that a store of this shape needs, and more for a format. */
 #define KGT_MEMORY_SIZE(groups, homes) \
@@ -111,9 +111,10 @@ struct kgt_record {
 bool kgt_read_record(const uint8_t *batch, size_t size, size_t groups, size_t homes, struct kgt_record *record);
 
 /*
- * Runs records on a driver. Where groups do not land whole, a group's first
+ * Runs records on a driver. Where blocks do not land whole, a group's first
  * word, which holds its number, is written after a fence that follows the rest
- * of it; until then the slot is a hole. Up to KGT_HEADS such words wait.
+ * of it; until then the slot is a hole. Up to KGT_HEADS such words wait. A
+ * group without a number, as format and open write them, is a hole anyway.
  */
 #define KGT_HEADS 16
 #define KGT_BAD_BATCH (-1000) /* the error for a batch that cannot be read */

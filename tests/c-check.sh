@@ -77,7 +77,7 @@ grep -q '^2 starts.*, durable' "$tmp/out"; report $? "quick start: two starts, d
 gives 0 "driver" "$san/driver_check" "$tmp/driver.img"
 
 # --- the store object and its drivers ---
-gives 0 "store: power gone after every byte, any words at a cut" "$out/store_check" 1 5000
+gives 0 "store: power gone after every byte, any words or blocks at a cut" "$out/store_check" 1 5000
 gives 0 "store: the same under sanitizers, every 17 bytes" "$san/store_check" 17 1500
 gives 0 "store: places promised beforehand" "$san/reserve_check"
 gives 0 "files: written and mapped, stopped inside writes, locks, failures" "$san/file_check" "$fast"
@@ -161,12 +161,14 @@ if command -v python3 > /dev/null; then
     cp "$image" "$tmp/Pumpenhäuschen.img"
     "$san/inspect" --json "$tmp/Pumpenhäuschen.img" > "$tmp/out" 2> "$tmp/log"
     python3 -c 'import json,sys; v = json.load(open(sys.argv[1])); sys.exit(not (v["image"].endswith("/Pumpenhäuschen.img")
-        and len(v["homes"]) == 20 and any(e["comes_back"] for s in v["slots"] for e in s.get("entries", []))))' "$tmp/out" 2>> "$tmp/log"
+        and len(v["homes"]) == 20 and any(e.get("comes_back") for s in v["slots"] for e in s.get("entries", []))))' "$tmp/out" 2>> "$tmp/log"
     report $? "inspect: a name in UTF-8, every home, entries that come back"
     python3 -c 'import json,sys; v = json.load(open(sys.argv[1])); p = v["places"]
 e = [x["comes_back"] for s in v["slots"] for x in s.get("entries", []) if x["kind"] != "nothing"]
-sys.exit(not (sum(p.values()) == 7 * len(v["slots"]) and p["committed"] == sum(e) and p["others"] == len(e) - sum(e) > 0))' "$tmp/out" 2>> "$tmp/log"
-    report $? "inspect: places with entries that come back, with others, unused"
+t = [x for s in v["slots"] for x in s.get("entries", []) if x.get("torn")]
+sys.exit(not (sum(p.values()) == 7 * len(v["slots"]) and p["committed"] == sum(e) and p["others"] == len(e) - sum(e) > 0
+    and p["torn"] == len(t) > 0 and all("has not arrived" in x["why"] for x in t)))' "$tmp/out" 2>> "$tmp/log"
+    report $? "inspect: places with entries that come back, with others, torn, unused"
     bad=$(printf '%s/bad\377name.img' "$tmp"); cp "$image" "$bad"
     "$san/inspect" --json "$bad" > "$tmp/out" 2> "$tmp/log"
     quiet python3 -m json.tool "$tmp/out"; report $? "inspect: a name that is no UTF-8"
@@ -174,8 +176,14 @@ fi
 gives 0 "inspect the quick start's image" "$san/inspect" "$tmp/quickstart.img"
 grep -q '^ *7 .*2 starts.*from position' "$tmp/out"; report $? "inspect: a home's value, in text, and where it comes from"
 printf 'torn' | dd of="$tmp/quickstart.img" bs=1 seek=$((64 + 512 * 9 + 70)) conv=notrunc 2> /dev/null
-gives 0 "inspect a group cut off before its number arrived" "$san/inspect" "$tmp/quickstart.img"
+gives 0 "inspect a torn group whose number has not arrived" "$san/inspect" "$tmp/quickstart.img"
 grep -q 'its number has not arrived' "$tmp/out"; report $? "inspect: says so"
+grep -q 'blank, not written since' "$tmp/out"; report $? "inspect: names blank slots"
+printf '\120\110' | dd of="$tmp/quickstart.img" bs=1 conv=notrunc 2> /dev/null
+gives 1 "inspect an image of the older format" "$san/inspect" --groups 16 "$tmp/quickstart.img"
+grep -q 'mark 50 48, an older format' "$tmp/out"; report $? "inspect: names it"
+gives 1 "the older format by the quick start" "$san/quickstart" "$tmp/quickstart.img"
+grep -q 'older format' "$tmp/log"; report $? "quick start: names it"
 gives 0 "inspect -h" "$san/inspect" -h
 gives 0 "inspect --version" "$san/inspect" --version
 mkfifo "$tmp/fifo"

@@ -64,7 +64,7 @@ static void check_refused(const char *what)
     check(!submit(), what);
     check(driver_waiting(&driver) == waiting, "a refused batch queues nothing");
     check(strstr(driver_message(&driver), "damaged batch") != NULL, "the message says so");
-    driver_cut(&driver, lands_never, NULL, NULL);
+    driver_cut(&driver, lands_never, NULL);
 }
 
 static void check_damaged_batches(void)
@@ -105,7 +105,7 @@ static void check_subsets(void)
         for (home = 0; home < 5; home++)
             check(driver_step(&driver), "step");
         check(driver_issued(&driver) == 3 && driver_waiting(&driver) == 1, "three issued, one waits");
-        check(driver_cut(&driver, lands_by_mask, NULL, &mask), "cut");
+        check(driver_cut(&driver, lands_by_mask, &mask), "cut");
         check(driver_issued(&driver) + driver_waiting(&driver) == 0, "a cut leaves no record");
         check(driver.area[0] == 0xA5, "a cut spoils the copies");
         check(driver_load(&driver) && driver.area[0] == fill, "what was fenced is there");

@@ -57,18 +57,24 @@ static void open_again(unsigned long at)
 
 static struct kgt_driver inner;
 static unsigned long writes, stop_write, stop_bytes;
-static unsigned long found[4]; /* a group's body, its first word, a home, a header: which write it is */
+/* Which write it is: a group, or its body without the first word; that word; a home; a header; a blank group. */
+enum { GROUP, FIRST_WORD, HOME, HEADER, BLANK, KINDS };
+static unsigned long found[KINDS];
 
-static int kind(enum kgt_area area, size_t at, size_t size)
+static int kind(enum kgt_area area, size_t at, const uint8_t *bytes, size_t size)
 {
-    return area == KGT_HOMES ? 2 : at == 0 ? 3 : size == 8;
+    if (area == KGT_HOMES)
+        return HOME;
+    if (size == KAGUTIN_GROUP_SIZE && !bytes[0])
+        return BLANK;
+    return at == 0 ? HEADER : size == 8 ? FIRST_WORD : GROUP;
 }
 
 /* From the chosen write on nothing arrives, and of that one only so many bytes. */
 static int stopping_write(void *context, enum kgt_area area, size_t at, const uint8_t *bytes, size_t size)
 {
     writes++;
-    found[kind(area, at, size)] = writes;
+    found[kind(area, at, bytes, size)] = writes;
     if (writes < stop_write)
         return inner.write(context, area, at, bytes, size);
     if (writes == stop_write && stop_bytes)
@@ -101,15 +107,19 @@ static bool work_until(unsigned long write, unsigned long bytes)
 
 static void check_stops(void)
 {
-    static const size_t sizes[] = {KAGUTIN_GROUP_SIZE - 8, 8, KAGUTIN_BLOCK_SIZE, KAGUTIN_HEADER_SIZE};
-    unsigned long chosen[4], bytes;
+    size_t group = mapped ? KAGUTIN_GROUP_SIZE - 8 : KAGUTIN_GROUP_SIZE, block = mapped ? 1 : KAGUTIN_BLOCK_SIZE;
+    const size_t sizes[KINDS] = {group, 8, KAGUTIN_BLOCK_SIZE, KAGUTIN_HEADER_SIZE, KAGUTIN_GROUP_SIZE};
+    const size_t steps[KINDS] = {block, 1, 1, 8, 1}; /* a header only by whole words, a written group by blocks */
+    unsigned long chosen[KINDS], bytes;
     int i;
 
+    memset(found, 0, sizeof found);
     check(work_until(1000000, 0), "work without a stop", 0);
     memcpy(chosen, found, sizeof chosen);
-    for (i = 0; i < 4; i++)
-        for (bytes = 0; bytes <= sizes[i]; bytes += i == 3 ? 8 : 1) { /* a header only by whole words */
-            check(chosen[i] && !work_until(chosen[i], bytes), "work stopped inside a write", bytes);
+    check((chosen[FIRST_WORD] != 0) == mapped, "a first word follows its group only where words land", 0);
+    for (i = 0; i < KINDS; i++)
+        for (bytes = 0; chosen[i] && bytes <= sizes[i]; bytes += steps[i]) {
+            check(!work_until(chosen[i], bytes), "work stopped inside a write", bytes);
             open_again(bytes);
             check(play_opened(&play) && play_work(&play, 30), "an opening after a stop", bytes);
             kgt_file_close(&file);

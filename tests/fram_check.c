@@ -74,7 +74,7 @@ static void reopen(unsigned long at)
     int cuts;
 
     for (cuts = 0; cuts < 4; cuts++) {
-        power_on(cuts < 3 && play_random(&play, 2) ? play_random(&play, 500) : UINT64_MAX);
+        power_on(cuts < 3 && play_random(&play, 2) ? play_random(&play, 3500) : UINT64_MAX);
         if (kgt_open(&store).code == KAGUTIN_DONE)
             break;
         check(chip.off, "an opening that is not done though power is on", at);

@@ -1,7 +1,8 @@
 /*
  * The store object on a medium that fails: power that goes after every byte,
- * any choice of words at a cut, a driver and a lock that fail at each call in
- * turn, a full log. Arguments: every so many bytes (1: all), rounds of words.
+ * any choice of words or blocks at a cut, a driver and a lock that fail at each
+ * call in turn, a full log. Arguments: every so many bytes (1: all), rounds of
+ * words, and of blocks.
  */
 #include <stdio.h>
 #include <stdlib.h>
@@ -18,6 +19,7 @@ static uint8_t lasting[KGT_LOG_SIZE(GROUPS) + KGT_HOMES_SIZE(HOMES)], written[si
 static struct kgt_memory medium;
 static struct kagutin store;
 static struct play play;
+static bool blocks; /* the medium keeps blocks whole, not only words */
 
 static void check(bool right, const char *what, unsigned long at)
 {
@@ -31,6 +33,8 @@ static void power_on(void)
 {
     memcpy(lasting, formatted, sizeof lasting);
     kgt_memory_init(&medium, lasting, written, GROUPS, HOMES);
+    if (blocks)
+        kgt_memory_keep_blocks(&medium);
     check(kgt_init(&store, memory, sizeof memory, GROUPS, HOMES, kgt_memory_driver(&medium)).code == 0, "init", 0);
     play_start(&play, &store, HOMES, 1);
 }
@@ -58,7 +62,7 @@ static void reopen(unsigned long at, bool chance)
     for (cuts = 0; cuts < 4; cuts++) {
         kgt_memory_cut(&medium, chance ? by_chance : NULL, NULL);
         if (cuts < 3 && play_random(&play, 2))
-            kgt_memory_stop_after(&medium, play_random(&play, 700));
+            kgt_memory_stop_after(&medium, play_random(&play, 4000)); /* blanking included */
         if (kgt_open(&store).code == KAGUTIN_DONE)
             break;
         check(medium.off, "an opening that is not done though power is on", at);
@@ -82,11 +86,11 @@ static void check_stops(unsigned every)
         check(play_work(&play, 40), "work after an opening", at);
         reopen(at, false);
     }
-    printf("store_check: %lu stops, every %u bytes\n", at / every, every);
+    printf("store_check: %lu stops, every %u bytes, %s kept whole\n", at / every, every, blocks ? "blocks" : "words");
 }
 
-/* Power goes at random, and of the words since the last fence any arrive. */
-static void check_words(unsigned long rounds)
+/* Power goes at random, and of the words or blocks since the last fence any arrive. */
+static void check_choices(unsigned long rounds)
 {
     unsigned long round;
 
@@ -98,7 +102,7 @@ static void check_words(unsigned long rounds)
         check(!play.wrong, "work", round);
         reopen(round, true);
     }
-    printf("store_check: %lu cuts with any choice of words\n", rounds);
+    printf("store_check: %lu cuts with any choice of %s\n", rounds, blocks ? "blocks" : "words");
 }
 
 /* ---- a driver that fails at its n-th call ---- */
@@ -420,7 +424,11 @@ int main(int count, char **words)
     check_locks();
     check_failures();
     check_stops(every ? every : 1);
-    check_words(rounds);
+    check_choices(rounds);
+    blocks = true;
+    check_failures();
+    check_stops(every > KAGUTIN_BLOCK_SIZE ? every : KAGUTIN_BLOCK_SIZE);
+    check_choices(rounds);
     puts("store_check: right");
     return 0;
 }

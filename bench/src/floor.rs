@@ -1,7 +1,7 @@
 //! The floor: how many bytes a done call must at least move. What a call only
 //! looks at (the strip for its check, the tags on a walk) is not in it.
 
-use second::batch::{FENCE_LEN, HEADER_WRITE_LEN, HOME_WRITE_LEN};
+use second::batch::{FENCE_LEN, GROUP_WRITE_LEN, HEADER_WRITE_LEN, HOME_WRITE_LEN};
 use second::layout::{word, BLOCK, GROUP, HEADER, STATE};
 use second::lent::{Kind, Lent};
 use second::state::{at, Writer};
@@ -15,6 +15,7 @@ const TAG: usize = 8;
 /// What decides how much a call moves, as it stands before the call.
 pub struct Before {
     areas: usize,
+    groups: usize,
     filled: u64,
     record: Writer,
 }
@@ -23,6 +24,7 @@ impl Before {
     pub fn of(lent: &Lent, writer: u64) -> Before {
         Before {
             areas: lent.log.len() + lent.data.len(),
+            groups: lent.log.len().saturating_sub(HEADER) / GROUP,
             filled: word(&lent.state, at::FILLED),
             record: Writer::load(&lent.state, writer),
         }
@@ -34,10 +36,11 @@ impl Before {
             + match kind {
                 // Log and area.
                 Kind::Format => self.areas,
-                // Homes of the copy, its header, the whole strip.
+                // Homes of the copy, its header, its groups, the whole strip.
                 Kind::Open => {
                     let header = HEADER_WRITE_LEN + FENCE_LEN;
-                    BLOCK * homes(batch - header) + HEADER + STATE
+                    let blanks = GROUP_WRITE_LEN * self.groups + FENCE_LEN;
+                    BLOCK * homes(batch - header - blanks) + HEADER + GROUP * self.groups + STATE
                 }
                 Kind::Begin | Kind::Abort => RECORD,
                 Kind::Reserve => RECORD + 2,

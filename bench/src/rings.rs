@@ -2,7 +2,7 @@
 //! short or long transactions, and one that no history of calls leaves.
 
 use crate::script::Recorder;
-use second::layout::{group_head, put_word, slot_range, BLOCK, PLACES, WRITERS};
+use second::layout::{group_head, put_word, set_top_bit, slot_range, turn, BLOCK, PLACES, WRITERS};
 use second::lent::{Kind, Lent};
 use second::rng::Rng;
 use second::state::State;
@@ -87,7 +87,9 @@ pub fn shared_first(seed: u64, groups: u64, homes: u64) -> Lent {
         let place = (offset % PLACES) as usize;
         let tag = closing_tag(rng.below(homes), offset, offset.min(1), offset + 1);
         put_word(group, 8 + 8 * place, tag);
-        group[BLOCK * (1 + place)..BLOCK * (2 + place)].fill(rng.next() as u8);
+        let block = &mut group[BLOCK * (1 + place)..BLOCK * (2 + place)];
+        block.fill(rng.next() as u8);
+        set_top_bit(block, turn(state.shape, number));
     }
     state.next = state.end_group();
     state.last_closing = state.next_position();

@@ -55,11 +55,12 @@ static int write_heads(struct kgt_runner *runner)
 
 static int write_group(struct kgt_runner *runner, size_t slot, const uint8_t *bytes)
 {
+    static const uint8_t no_number[WORD] = {0};
     const struct kgt_driver *driver = &runner->driver;
     size_t at = KGT_LOG_SIZE(slot);
     int error;
 
-    if (driver->landing == KGT_LANDS_GROUPS)
+    if (driver->landing == KGT_LANDS_BLOCKS || memcmp(bytes, no_number, WORD) == 0)
         return driver->write(driver->context, KGT_LOG, at, bytes, KAGUTIN_GROUP_SIZE);
     error = runner->waiting == KGT_HEADS ? write_heads(runner) : 0;
     if (error)

@@ -69,7 +69,6 @@ static bool format(struct kgt_file *file)
 
     if (!memory)
         return kgt_file_say(file, "out of memory");
-    driver.landing = KGT_LANDS_GROUPS;
     kgt_runner_init(&runner, driver, file->groups, file->homes);
     reply = kagutin_format(memory, file->log_size, area, file->size - file->log_size, batch, batch_size);
     done = reply.code == KAGUTIN_DONE && kgt_run(&runner, batch, (size_t)reply.size) == 0;
@@ -192,8 +191,10 @@ static bool check_image(struct kgt_file *file, const char *path, off_t size)
         return kgt_file_say(file, "%s: cannot be read: %s", path, strerror(errno));
     if (got < (ssize_t)sizeof header)
         return kgt_file_say(file, "%s: short file: %lld bytes, not even a header of 64", path, (long long)size);
-    if (header[0] != 0x50 || header[1] != 0x48)
-        return kgt_file_say(file, "%s: no image: the header's mark is %02X %02X, not 50 48", path, header[0], header[1]);
+    if (header[0] == 0x50 && header[1] == 0x48)
+        return kgt_file_say(file, "%s: an image of an older format: the header's mark is 50 48, not 50 54", path);
+    if (header[0] != 0x50 || header[1] != 0x54)
+        return kgt_file_say(file, "%s: no image: the header's mark is %02X %02X, not 50 54", path, header[0], header[1]);
     for (i = 12; i < sizeof header; i++)
         if (header[i])
             return kgt_file_say(file, "%s: damaged header: byte %lu is not zero", path, (unsigned long)i);

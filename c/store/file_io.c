@@ -97,6 +97,7 @@ static int write_mapped(void *context, enum kgt_area area, size_t at, const uint
     return error;
 }
 
+/* The cache takes a write page by page, and a page ends where a block does. */
 static int write_file(void *context, enum kgt_area area, size_t at, const uint8_t *bytes, size_t size)
 {
     struct kgt_file *file = (struct kgt_file *)context;
@@ -157,6 +158,6 @@ struct kgt_driver kgt_file_driver(struct kgt_file *file)
     driver.load = load;
     driver.write = file->map ? write_mapped : write_file;
     driver.fence = fence;
-    driver.landing = KGT_LANDS_WORDS;
+    driver.landing = file->map ? KGT_LANDS_WORDS : KGT_LANDS_BLOCKS;
     return driver;
 }

@@ -4,6 +4,7 @@
 #include <string.h>
 
 #define WORD 8u
+#define BLOCK 64u
 
 void kgt_memory_init(struct kgt_memory *memory, uint8_t *lasting, uint8_t *written, size_t groups, size_t homes)
 {
@@ -15,7 +16,13 @@ void kgt_memory_init(struct kgt_memory *memory, uint8_t *lasting, uint8_t *writt
     memory->high = 0;
     memory->left = UINT64_MAX;
     memory->off = false;
+    memory->unit = WORD;
     memcpy(written, lasting, memory->size);
+}
+
+void kgt_memory_keep_blocks(struct kgt_memory *memory)
+{
+    memory->unit = BLOCK;
 }
 
 static size_t offset(const struct kgt_memory *memory, enum kgt_area area, size_t at)
@@ -60,7 +67,7 @@ static int write(void *context, enum kgt_area area, size_t at, const uint8_t *by
         return 1;
     if (memory->left != UINT64_MAX) {
         if (memory->left < size) {
-            count = (size_t)(memory->left - memory->left % WORD);
+            count = (size_t)(memory->left - memory->left % memory->unit);
             memory->off = true;
         }
         memory->left -= memory->off ? memory->left : size;
@@ -81,7 +88,7 @@ struct kgt_driver kgt_memory_driver(struct kgt_memory *memory)
     driver.load = load;
     driver.write = write;
     driver.fence = fence;
-    driver.landing = KGT_LANDS_WORDS;
+    driver.landing = memory->unit == BLOCK ? KGT_LANDS_BLOCKS : KGT_LANDS_WORDS;
     return driver;
 }
 
@@ -94,9 +101,9 @@ void kgt_memory_cut(struct kgt_memory *memory, bool (*lands)(void *context, size
 {
     size_t at;
 
-    for (at = memory->low - memory->low % WORD; lands && at < memory->high; at += WORD)
-        if (memcmp(memory->lasting + at, memory->written + at, WORD) != 0 && !lands(context, at))
-            memcpy(memory->written + at, memory->lasting + at, WORD);
+    for (at = memory->low - memory->low % memory->unit; lands && at < memory->high; at += memory->unit)
+        if (memcmp(memory->lasting + at, memory->written + at, memory->unit) != 0 && !lands(context, at))
+            memcpy(memory->written + at, memory->lasting + at, memory->unit);
     settle(memory);
     memory->left = UINT64_MAX;
     memory->off = false;

@@ -4,7 +4,9 @@ use crate::histories::{far, random_shape, Player, MOST_GROUPS};
 use crate::pair::Pair;
 use second::craft::craft;
 use second::damage::{damage_group, damage_header, damage_lengths, damage_state};
-use second::layout::{group_head, header, put_word, slot_range, word, Shape, START_LIMIT};
+use second::layout::{
+    group_head, header, put_word, set_top_bit, slot_range, turn, word, Shape, BLOCK, START_LIMIT,
+};
 use second::lent::{ample, Kind, Lent};
 use second::rng::Rng;
 use second::state::{at, promised, Writer};
@@ -228,18 +230,29 @@ fn copy_group(rng: &mut Rng, lent: &mut Lent, shape: Shape) {
     }
 }
 
-/// Makes all groups, or all but some, valid under a new start.
+/// Makes all groups, or all but some, valid under a new start; often with
+/// turn bits that fit.
 fn rewrite_groups(rng: &mut Rng, lent: &mut Lent, shape: Shape) {
     let near = START_LIMIT - shape.groups;
     let start = rng.pick(&[0, 1, shape.groups, 65_537, near - 1, near, near + 1, START_LIMIT]);
     lent.log[..64].copy_from_slice(&header(shape, start));
-    let skip = rng.pick(&[0, 0, 20]);
+    let (skip, misfit) = (rng.pick(&[0, 0, 20]), rng.pick(&[0, 0, 10, 100]));
     for number in start..start + shape.groups {
         let slot = (number % shape.groups) as usize;
         if !rng.chance(skip) {
             put_word(&mut lent.log, slot_range(slot).start, group_head(number));
+            for place in 0..7 {
+                fit_turn(&mut lent.log, shape, number, place, !rng.chance(misfit));
+            }
         }
     }
+}
+
+/// Gives data block `place` of a group its turn bit, or the opposite one.
+fn fit_turn(log: &mut [u8], shape: Shape, number: u64, place: usize, fits: bool) {
+    let slot = (number % shape.groups) as usize;
+    let from = slot_range(slot).start + BLOCK * (1 + place);
+    set_top_bit(&mut log[from..from + BLOCK], turn(shape, number) == fits);
 }
 
 /// Made-up tags with numbers at and around the limits, some of them in a chain.
@@ -267,7 +280,8 @@ fn tags(rng: &mut Rng, lent: &mut Lent, shape: Shape) {
             let unused = closes == 0 && (shift == 27 || shift == 40) && !rng.chance(5);
             tag |= if unused { 0 } else { (value & mask) << shift };
         }
-        put_word(&mut lent.log, place, tag);
+        put_word(&mut lent.log, place, tag | rng.below(2) << 57);
+        fit_turn(&mut lent.log, shape, start.wrapping_add(offset / 7), (offset % 7) as usize, !rng.chance(10));
         offset = (offset + if chain { 1 } else { rng.below(5) }) % total;
     }
 }

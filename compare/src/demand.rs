@@ -5,6 +5,7 @@ use crate::library::Calls;
 use crate::trap;
 use second::lent::Lent;
 use second::player::{history_with, large_history_with, Tally};
+use second::tears::{torn_history, Torn};
 use std::panic::{catch_unwind, AssertUnwindSafe};
 
 /// Plays the histories of the seeds from `seed` on; the last `large` of them
@@ -36,4 +37,22 @@ pub fn play(
         progress(at + 1, &tally);
     }
     Ok(tally)
+}
+
+/// Short histories of small logs on the way of which stretches are torn in
+/// every choice of twelve blocks; each opening is held to the book.
+pub fn tear(builds: &[Calls], seed: u64, histories: u64) -> Result<Torn, String> {
+    let mut torn = Torn::default();
+    for at in 0..histories {
+        let one = seed.wrapping_add(at);
+        trap::note(one, at);
+        let build = builds[(at % builds.len() as u64) as usize];
+        let runner = Box::new(move |lent: &mut Lent, kind, writer, home| build.run(lent, kind, writer, home));
+        let outcome = catch_unwind(AssertUnwindSafe(|| torn_history(one, &mut torn, runner)));
+        outcome.unwrap_or_else(|_| Err("panic".to_string())).map_err(|what| {
+            let repeat = format!("--seed {one} --calls 0 --damaged 0 --histories 0 --torn 1");
+            format!("torn stretches, seed {one}: {what}\n  repeat with {repeat}")
+        })?;
+    }
+    Ok(torn)
 }

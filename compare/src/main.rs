@@ -23,13 +23,14 @@ use std::process::ExitCode;
 
 const USAGE: &str = "\
 usage: compare [--seed S] [--calls N] [--damaged M] [--histories H]
-               [--large L] [--large-histories K] [--tight] [--build FILE]...
+               [--large L] [--large-histories K] [--torn T] [--tight] [--build FILE]...
   --seed S             repeats a run exactly (1)
   --calls N            calls compared over valid histories with cuts (100000)
   --damaged M          damaged images and strips, several calls on each (20000)
   --histories H        histories of demand 3, the library doing the calls (500)
   --large L            how many in a thousand calls and images have G 1024 (10)
   --large-histories K  long histories of demand 3 with G 1024 (0)
+  --torn T             short histories with every choice of 12 blocks of a stretch (40)
   --tight              no guard bytes, so that a memory checker sees reads outside
   --build FILE         a shared object of dist/kagutin.c, compared as well";
 
@@ -40,6 +41,7 @@ struct Options {
     histories: u64,
     large: u64,
     large_histories: u64,
+    torn: u64,
     guarded: bool,
     builds: Vec<String>,
 }
@@ -54,6 +56,7 @@ impl Options {
             histories: words.number("--histories", 500),
             large: words.number("--large", 10),
             large_histories: words.number("--large-histories", 0),
+            torn: words.number("--torn", 40),
             guarded: !words.flag("--tight"),
             builds: words.texts("--build"),
         };
@@ -94,7 +97,7 @@ fn run(options: &Options) -> Result<(), String> {
     let pair = Pair::new(seed, builds);
 
     trials::play(&mut pair.borrow_mut())?;
-    println!("trials 11 to 13: {} calls, as the paper says", pair.borrow().case);
+    println!("trials 11 to 13 and head marks: {} calls, as the paper says", pair.borrow().case);
     pair.borrow_mut().counts = Default::default();
 
     let mut next = 1;
@@ -122,6 +125,8 @@ fn run(options: &Options) -> Result<(), String> {
         }
     })?;
 
+    let torn = demand::tear(&all, seed, options.torn)?;
+
     println!();
     table::show("Valid histories", &valid);
     table::show("Damaged images and strips", &pair.counts);
@@ -141,6 +146,11 @@ fn run(options: &Options) -> Result<(), String> {
         tally.histories, tally.calls, tally.crashes, tally.openings
     );
     println!("  {} commits, {} of them lost to cuts", tally.commits, tally.commits_lost);
+    println!(
+        "torn stretches: {} in {} histories, {} choices of blocks, each opened as the book says",
+        torn.stretches, torn.histories, torn.choices
+    );
+    println!("  {} lost a commit, {} brought one back", torn.lost, torn.brought_back);
     println!("in all {} calls compared", pair.case);
     let played = gauges::play(seed, calls / 50, options.guarded)?;
     println!("gauges: {} comparisons done and {} refused, the same on both sides", played.done, played.refused);

@@ -1,4 +1,5 @@
-//! The paper's trials 11 to 13, with the answers it gives.
+//! The paper's trials 11 to 13, with the answers it gives, and the head mark
+//! of older logs.
 
 use crate::pair::Pair;
 use second::layout::{header, Shape};
@@ -36,7 +37,17 @@ pub fn play(pair: &mut Pair) -> Result<(), String> {
     sizes(pair)?;
     numbers(pair)?;
     short_batch(pair)?;
-    high_start(pair)
+    high_start(pair)?;
+    old_head(pair)
+}
+
+fn old_head(pair: &mut Pair) -> Result<(), String> {
+    for (mark, code) in [(0x48, 3), (0x54, 0), (0x47, 3)] {
+        let mut trial = Trial::new("head mark", pair)?;
+        trial.lent.log[1] = mark;
+        trial.expect(Kind::Open, 0, 0, code)?;
+    }
+    Ok(())
 }
 
 fn sizes(pair: &mut Pair) -> Result<(), String> {

@@ -30,7 +30,7 @@ static void reopen(void)
     do {
         lasting_cut(random32);
         reply = play(OPEN, 0, 0);
-    } while (reply.code == KAGUTIN_DONE && one_in(4) && (lasting_run((size_t)reply.size, below(6)), 1));
+    } while (reply.code == KAGUTIN_DONE && one_in(4) && (lasting_run((size_t)reply.size, below(12)), 1));
     if (reply.code == KAGUTIN_DONE)
         lasting_run((size_t)reply.size, (size_t)-1);
 }

@@ -1,4 +1,4 @@
-/* Lasting memory behind the driver: batches are carried out, writes since the last fence may be lost at a cut. */
+/* Lasting memory behind the driver: batches are carried out, blocks written since the last fence may be lost at a cut. */
 #include <string.h>
 
 #include "replay.h"
@@ -20,26 +20,34 @@ static size_t record_size(const uint8_t *record)
     }
 }
 
-static void persist(const uint8_t *record)
+/* All blocks of 64 bytes, or each as the coin falls. */
+static void persist_blocks(uint8_t *to, const uint8_t *from, size_t size, uint32_t (*coin)(void))
+{
+    size_t at;
+
+    for (at = 0; at < size; at += KAGUTIN_BLOCK_SIZE)
+        if (!coin || coin() & 1u)
+            memcpy(to + at, from + at, KAGUTIN_BLOCK_SIZE);
+}
+
+static void persist(const uint8_t *record, uint32_t (*coin)(void))
 {
     size_t place = (size_t)record[2] | (size_t)record[3] << 8;
 
     if (record[0] == 'G')
-        memcpy(log_kept + kagutin_log_size(place), record + 4, KAGUTIN_GROUP_SIZE);
+        persist_blocks(log_kept + kagutin_log_size(place), record + 4, KAGUTIN_GROUP_SIZE, coin);
     else if (record[0] == 'H')
-        memcpy(area_kept + kagutin_area_size(place), record + 4, KAGUTIN_BLOCK_SIZE);
+        persist_blocks(area_kept + kagutin_area_size(place), record + 4, KAGUTIN_BLOCK_SIZE, coin);
     else if (record[0] == 'K')
-        memcpy(log_kept, record + 2, KAGUTIN_HEADER_SIZE);
+        persist_blocks(log_kept, record + 2, KAGUTIN_HEADER_SIZE, coin);
 }
 
-/* All that is pending, or of each write as the coin falls. */
 static void persist_pending(uint32_t (*coin)(void))
 {
     size_t at;
 
     for (at = 0; at < pending_size; at += record_size(pending + at))
-        if (!coin || coin() & 1u)
-            persist(pending + at);
+        persist(pending + at, coin);
     pending_size = 0;
 }
 

@@ -32,7 +32,7 @@ static void fresh(void)
     lasting_run((size_t)reply.size, (size_t)-1);
     reply = expect(OPEN, 0, 0, 0, "trial 10: open");
     hold(reply.figure, 0, "trial 10: none back");
-    hold(reply.size, 70, "trial 10: 70 bytes");
+    hold(reply.size, 2136, "trial 10: 2,136 bytes");
     lasting_run((size_t)reply.size, (size_t)-1);
 }
 
@@ -65,6 +65,13 @@ static void tags_and_order(void)
     hold(number8(lent.log + 64 + 8), 5, "trial 1: first tag");
     hold(number8(lent.log + 64 + 16), UINT64_C(2199023271947), "trial 1: second tag");
     hold(expect(FLUSH, 0, 0, 0, "trial 1: flush").size, 518, "trial 1: flush gives 518");
+    fresh();
+    begin_and_store(0, 1, 2, 255);
+    expect(COMMIT, 0, 0, 0, "trial 1 with bytes of 255: commit");
+    hold(number8(lent.log + 64 + 8), 5 + (UINT64_C(1) << 57), "trial 1 with bytes of 255: first tag");
+    hold(number8(lent.log + 64 + 16), UINT64_C(2199023271947) + (UINT64_C(1) << 57), "trial 1 with bytes of 255: second tag");
+    expect(READ, 1, 1, 0, "trial 1 with bytes of 255: read");
+    hold(lent.block[63], 255, "trial 1 with bytes of 255: the last byte");
     fresh();
     begin_and_store(0, 3, 4, 'A');
     begin_and_store(1, 3, 3, 'B');
@@ -159,6 +166,9 @@ static void limits(void)
             lent.log[2 + i] = (uint8_t)(start >> 8 * i);
         expect(OPEN, 0, 0, starts[k].code, "trial 13: a high start");
     }
+    fresh();
+    lent.log[1] = 0x48;
+    expect(OPEN, 0, 0, 3, "a head mark of the older format");
 }
 
 void play_trials(void)

@@ -4,8 +4,8 @@ use crate::batch::{
     check_batch, Batch, FENCE_LEN, GROUP_WRITE_LEN, HEADER_WRITE_LEN, HOME_WRITE_LEN,
 };
 use crate::layout::{
-    header, header_start, home_range, refuse, slot_range, Answer, Shape, BLOCK, HEADER, PLACES,
-    START_LIMIT, STATE, WRITERS,
+    blank_slot, header, header_start, home_range, refuse, slot_range, Answer, Shape, BLOCK, HEADER,
+    PLACES, START_LIMIT, STATE, WRITERS,
 };
 use crate::state::{State, Writer};
 use crate::walk::{trim_point, Newest, View};
@@ -19,20 +19,25 @@ fn try_format(log: &mut [u8], data: &mut [u8], batch: &mut [u8]) -> Result<Answe
     let (groups, homes) = (shape.groups as usize, shape.homes as usize);
     let writes = groups * GROUP_WRITE_LEN + homes * HOME_WRITE_LEN + 2 * HEADER_WRITE_LEN;
     check_batch(batch, writes + 3 * FENCE_LEN)?;
-    log.fill(0);
     data.fill(0);
     let mut out = Batch::new(batch);
     out.header(&[0; HEADER]);
     out.fence();
-    for slot in 0..groups {
-        out.group(slot, &log[slot_range(slot)]);
-    }
+    put_blanks(log, &mut out, shape, 0);
     for home in 0..homes {
         out.home(home, &[0; BLOCK]);
     }
     out.fence();
     put_header(log, &mut out, shape, 0);
     Ok(Answer::wrote(out.len()))
+}
+
+/// Every group blank, for a log with this start, into the log copy and the batch.
+fn put_blanks(log: &mut [u8], out: &mut Batch, shape: Shape, start: u64) {
+    for slot in 0..shape.groups as usize {
+        blank_slot(log, shape, start, slot);
+        out.group(slot, &log[slot_range(slot)]);
+    }
 }
 
 /// The new header into the log copy and the batch, and a fence.
@@ -47,8 +52,8 @@ fn put_header(log: &mut [u8], out: &mut Batch, shape: Shape, start: u64) {
 fn put_homes(view: &View, newest: &Newest, data: &mut [u8], out: &mut Batch) {
     newest.each(|home, offset| {
         let block = view.block(offset);
-        data[home_range(home)].copy_from_slice(block);
-        out.home(home, block);
+        data[home_range(home)].copy_from_slice(&block);
+        out.home(home, &block);
     });
     out.fence();
 }
@@ -77,11 +82,14 @@ fn try_open(
     check_start(new_start)?;
     let view = View { log, shape, start, end: (PLACES * shape.groups) as u32 };
     let newest = Newest::gather(&view);
-    let writes = newest.homes() * HOME_WRITE_LEN + HEADER_WRITE_LEN;
-    check_batch(batch, writes + 2 * FENCE_LEN)?;
+    let blanks = shape.groups as usize * GROUP_WRITE_LEN;
+    let writes = newest.homes() * HOME_WRITE_LEN + HEADER_WRITE_LEN + blanks;
+    check_batch(batch, writes + 3 * FENCE_LEN)?;
     let mut out = Batch::new(batch);
     put_homes(&view, &newest, data, &mut out);
     put_header(log, &mut out, shape, new_start);
+    put_blanks(log, &mut out, shape, new_start);
+    out.fence();
     State::save_fresh(bytes, shape, new_start);
     Ok(Answer { code: 0, figure: newest.commits, len: out.len() })
 }

@@ -1,5 +1,7 @@
 //! The book of commits: the paper's abstract model. It is fed the calls'
-//! arguments and answers and which group writes landed, nothing else.
+//! arguments and answers and which blocks of group writes landed, nothing else.
+
+use crate::landing::Landed;
 
 pub type Block = [u8; 64];
 
@@ -7,8 +9,9 @@ pub type Block = [u8; 64];
 pub struct Entry {
     pub home: u64,
     pub block: Block,
-    /// The call whose group write carries it, once submitted.
+    /// The call whose group write carries it, once submitted, and its place there.
     pub call: Option<usize>,
+    pub place: usize,
     pub landed: bool,
 }
 
@@ -54,7 +57,7 @@ impl Book {
         let open = self.writers[writer as usize].as_mut().unwrap();
         let (home, block) = open.held.take().unwrap();
         let index = self.entries.len();
-        self.entries.push(Entry { home, block, call: None, landed: false });
+        self.entries.push(Entry { home, block, call: None, place: self.row.len(), landed: false });
         open.logged.push(index);
         self.row.push(index);
         if self.row.len() == 7 {
@@ -85,11 +88,13 @@ impl Book {
         self.submit(call);
     }
 
+    /// An entry has landed when its tag's block and its data block both have.
     /// What stays in the list is the surviving prefix (the paper's "run").
-    pub fn crash(&mut self, landed_calls: &[usize]) {
+    pub fn crash(&mut self, landed: &[Landed]) {
         for entry in &mut self.entries {
             if let Some(call) = entry.call {
-                entry.landed |= landed_calls.binary_search(&call).is_ok();
+                let found = landed.binary_search_by_key(&call, |group| group.call);
+                entry.landed |= found.is_ok_and(|at| landed[at].has_entry(entry.place));
             }
         }
         let entries = &self.entries;

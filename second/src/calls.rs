@@ -2,11 +2,14 @@
 //! abort, store, commit, flush, confirm, read.
 
 use crate::batch::{check_batch, Batch, FENCE_LEN, GROUP_WRITE_LEN};
-use crate::layout::{group_head, home_range, put_word, refuse, slot_range, Answer, BLOCK};
+use crate::layout::{
+    clear_group, group_head, home_range, put_word, refuse, set_top_bit, slot_range, top_bit, turn,
+    Answer, BLOCK,
+};
 use crate::state::{
     check_home, check_writer, mode, pending_range, promise, promised, set_promise, State, Writer,
 };
-use crate::tag::{closing_tag, entry_tag};
+use crate::tag::{closing_tag, entry_tag, with_displaced};
 use crate::walk::{newest_of_home, View};
 
 pub fn begin(log: &[u8], data: &[u8], state: &mut [u8], writer: u64) -> Answer {
@@ -124,7 +127,8 @@ fn check_room(state: &State, bytes: &[u8], batch: &[u8], writer: u64) -> Result<
     check_batch(batch, if state.filled == 6 { GROUP_WRITE_LEN } else { 0 })
 }
 
-/// Logs the writer's pending block at the next position; the seventh place
+/// Logs the writer's pending block at the next position, with the turn bit in
+/// the block and the bit that it displaces in the tag; the seventh place
 /// submits the group. Gives the batch bytes written.
 fn append(
     log: &mut [u8],
@@ -136,14 +140,17 @@ fn append(
 ) -> usize {
     let slot = (state.next % state.shape.groups) as usize;
     let group = &mut log[slot_range(slot)];
+    let turn = turn(state.shape, state.next);
     if state.filled == 0 {
-        group.fill(0);
+        clear_group(group, turn);
         put_word(group, 0, group_head(state.next));
     }
     let place = state.filled as usize;
-    put_word(group, 8 + 8 * place, tag);
-    let from = BLOCK * (1 + place);
-    group[from..from + BLOCK].copy_from_slice(&bytes[pending_range(writer)]);
+    let held = &bytes[pending_range(writer)];
+    put_word(group, 8 + 8 * place, with_displaced(tag, top_bit(held)));
+    let block = &mut group[BLOCK * (1 + place)..BLOCK * (2 + place)];
+    block.copy_from_slice(held);
+    set_top_bit(block, turn);
     let mut out = Batch::new(batch);
     state.filled += 1;
     if state.filled == 7 {
@@ -245,7 +252,7 @@ fn try_read(
     let view = View { log, shape: state.shape, start: state.start, end };
     let own = record.logged().map(|(first, _)| (first - base) as u32);
     match newest_of_home(&view, home as u32, own) {
-        Some(offset) => block.copy_from_slice(view.block(offset)),
+        Some(offset) => block.copy_from_slice(&view.block(offset)),
         None => block.copy_from_slice(&data[home_range(home as usize)]),
     }
     Ok(Answer::DONE)

@@ -1,13 +1,16 @@
 //! Logs and states made up at random: in order by question 2, but such as no
 //! history leaves, to try the commit rule on damaged contents.
 
-use crate::layout::{group_head, header, put_word, slot_range, Shape, BLOCK, START_LIMIT};
+use crate::layout::{
+    group_head, header, put_word, set_top_bit, slot_range, turn, Shape, BLOCK, START_LIMIT,
+};
 use crate::lent::Lent;
 use crate::rng::Rng;
 use crate::state::{at, mode, set_promise, State, Writer};
-use crate::tag::{closing_tag, entry_tag};
+use crate::tag::{closing_tag, entry_tag, with_displaced};
 
-/// A made-up log, data area and state, with blocks of one byte each.
+/// A made-up log, data area and state, with blocks of one byte each but for
+/// turn bits, most of which fit.
 pub fn craft(rng: &mut Rng, shape: Shape) -> Lent {
     let mut lent = Lent::new(shape.groups, shape.homes);
     let start = match rng.below(8) {
@@ -39,10 +42,13 @@ fn craft_group(rng: &mut Rng, lent: &mut Lent, shape: Shape, number: u64, tags: 
         _ => group_head(number),
     };
     put_word(group, 0, head);
+    let torn = rng.pick(&[0, 0, 0, 10, 50]);
     for (place, &tag) in tags.iter().enumerate() {
-        put_word(group, 8 + 8 * place, tag);
-        let from = BLOCK * (1 + place);
-        group[from..from + BLOCK].fill(rng.next() as u8);
+        let displaced = if tag == 0 { false } else { rng.chance(50) };
+        put_word(group, 8 + 8 * place, with_displaced(tag, displaced));
+        let block = &mut group[BLOCK * (1 + place)..BLOCK * (2 + place)];
+        block.fill(rng.next() as u8);
+        set_top_bit(block, turn(shape, number) != rng.chance(torn));
     }
 }
 

@@ -1,7 +1,7 @@
 //! Damage to a log or a state, at the limits the questions name.
 
 use crate::craft::distort;
-use crate::layout::{group_head, header, put_word, slot_range, word, Shape, START_LIMIT};
+use crate::layout::{group_head, header, put_word, slot_range, word, Shape, BLOCK, START_LIMIT};
 use crate::lent::Lent;
 use crate::rng::Rng;
 use crate::state::{at, promise, promised, set_promise, State};
@@ -9,12 +9,13 @@ use crate::state::{at, promise, promised, set_promise, State};
 pub fn damage_header(rng: &mut Rng, lent: &mut Lent, shape: Shape) {
     let start = word(&lent.log, 0) >> 16;
     let mut bytes = header(shape, start);
-    match rng.below(6) {
+    match rng.below(7) {
         0 => bytes = header(shape, START_LIMIT + rng.below(3) - 1),
         1 => bytes = header(shape, START_LIMIT - shape.groups + rng.below(3) - 1),
         2 => bytes = header(shape, rng.next() >> 16),
         3 => bytes[rng.between(12, 63) as usize] = 1 << rng.below(8),
         4 => bytes[rng.between(8, 11) as usize] ^= 1 << rng.below(8),
+        5 => bytes[1] = 0x48,
         _ => bytes[rng.below(64) as usize] ^= 1 << rng.below(8),
     }
     lent.log[..64].copy_from_slice(&bytes);
@@ -27,7 +28,7 @@ pub fn damage_group(rng: &mut Rng, lent: &mut Lent, shape: Shape) {
     let place = rng.below(7);
     let tag_at = 8 + 8 * place as usize;
     let tag = word(group, tag_at);
-    match rng.below(8) {
+    match rng.below(11) {
         0 => group[rng.below(2) as usize] ^= 1 << rng.below(8),
         1 => put_word(group, 0, group_head(number.wrapping_add(shape.groups) & 0xffff_ffff_ffff)),
         2 => put_word(group, 0, word(group, 0) ^ 1 << rng.between(16, 63)),
@@ -35,6 +36,9 @@ pub fn damage_group(rng: &mut Rng, lent: &mut Lent, shape: Shape) {
         4 => put_word(group, tag_at, (tag ^ 1 << rng.between(27, 52)) | 3),
         5 => put_word(group, tag_at, tag ^ 1 << rng.between(2, 26)),
         6 => put_word(group, tag_at, word(group, 8 + 8 * rng.below(7) as usize)),
+        7 => group[BLOCK * (2 + place as usize) - 1] ^= 0x80,
+        8 => group.chunks_mut(BLOCK).skip(1).for_each(|block| block[BLOCK - 1] ^= 0x80),
+        9 => put_word(group, tag_at, tag ^ 1 << 57),
         _ => group[rng.below(512) as usize] ^= 1 << rng.below(8),
     }
 }

@@ -120,7 +120,8 @@ impl World {
         }
         let list = literal::committed(&literal::present(log, self.shape.homes, start, None), start);
         let homes = literal::replay(&list).len();
-        let len = homes * HOME_WRITE_LEN + HEADER_WRITE_LEN + 2 * FENCE_LEN;
+        let blanks = self.shape.groups as usize * GROUP_WRITE_LEN;
+        let len = homes * HOME_WRITE_LEN + HEADER_WRITE_LEN + blanks + 3 * FENCE_LEN;
         Ok(Answer { code: 0, figure: list.len() as u64, len })
     }
 }

@@ -1,8 +1,9 @@
 //! Batches taken apart into records, and what a crash (the paper's "cut")
-//! leaves of them in the lasting memory.
+//! leaves of them in the lasting memory. A block of 64 bytes lands whole or
+//! not at all; a group is eight of them.
 
 use crate::batch::{FENCE, GROUP_WRITE, HEADER_WRITE, HOME_WRITE};
-use crate::layout::{home_range, slot_range, BLOCK, GROUP, HEADER};
+use crate::layout::{slot_range, BLOCK, GROUP, HEADER};
 
 #[derive(Clone, Debug, PartialEq, Eq)]
 pub enum Record {
@@ -20,7 +21,44 @@ pub enum Target {
     Header,
 }
 
+/// A block of lasting memory that a record writes: by its offset in the log
+/// area or in the data area.
+#[derive(Clone, Copy, Debug, PartialEq, Eq, Hash, PartialOrd, Ord)]
+pub enum Piece {
+    Log(usize),
+    Data(usize),
+}
+
+/// What landed of a call's group write: bit 0 for the metadata, bit k + 1 for
+/// data block k.
+#[derive(Clone, Copy, Debug, PartialEq, Eq)]
+pub struct Landed {
+    pub call: usize,
+    pub pieces: u8,
+}
+
+impl Landed {
+    pub fn has_entry(&self, place: usize) -> bool {
+        self.pieces & 1 == 1 && self.pieces >> (place + 1) & 1 == 1
+    }
+}
+
 impl Record {
+    /// The blocks it writes, each with its bytes.
+    pub fn pieces(&self) -> Vec<(Piece, &[u8])> {
+        let (first, bytes): (Piece, &[u8]) = match self {
+            Record::Group { slot, bytes } => (Piece::Log(slot_range(*slot).start), bytes),
+            Record::Home { home, bytes } => (Piece::Data(BLOCK * home), bytes),
+            Record::Header { bytes } => (Piece::Log(0), bytes),
+            Record::Fence => return Vec::new(),
+        };
+        let at = |index: usize| match first {
+            Piece::Log(offset) => Piece::Log(offset + BLOCK * index),
+            Piece::Data(offset) => Piece::Data(offset + BLOCK * index),
+        };
+        bytes.chunks(BLOCK).enumerate().map(|(index, block)| (at(index), block)).collect()
+    }
+
     pub fn target(&self) -> Option<Target> {
         match self {
             Record::Group { slot, .. } => Some(Target::Group(*slot)),
@@ -74,13 +112,17 @@ impl Areas {
         Areas { log, data: vec![0; BLOCK * homes as usize] }
     }
 
-    /// Lands one write, whole.
+    /// Lands one write, all of its blocks.
     pub fn land(&mut self, record: &Record) {
-        match record {
-            Record::Group { slot, bytes } => self.log[slot_range(*slot)].copy_from_slice(bytes),
-            Record::Home { home, bytes } => self.data[home_range(*home)].copy_from_slice(bytes),
-            Record::Header { bytes } => self.log[..HEADER].copy_from_slice(bytes),
-            Record::Fence => {}
+        for (piece, block) in record.pieces() {
+            self.land_piece(piece, block);
+        }
+    }
+
+    pub fn land_piece(&mut self, piece: Piece, block: &[u8]) {
+        match piece {
+            Piece::Log(from) => self.log[from..from + BLOCK].copy_from_slice(block),
+            Piece::Data(from) => self.data[from..from + BLOCK].copy_from_slice(block),
         }
     }
 }
@@ -104,29 +146,53 @@ impl Submitted {
         self.confirmed = self.fences;
     }
 
-    /// The crash: `passed` fences have passed, so every write before the last
-    /// of them lands; of those up to the next fence the ones chosen; none
-    /// beyond. Gives the calls whose group write landed.
+    /// The crash: `passed` fences have passed, so every block written before
+    /// the last of them lands; of those up to the next fence the ones chosen;
+    /// none beyond. Gives what landed of the group writes, by rising call. (An
+    /// opening writes several; no entry lies in them.)
     pub fn crash(
-        self,
+        &self,
         passed: usize,
         image: &mut Areas,
-        mut choose: impl FnMut(&Record) -> bool,
-    ) -> Vec<usize> {
+        mut choose: impl FnMut(&Record, Piece) -> bool,
+    ) -> Vec<Landed> {
         assert!(self.confirmed <= passed && passed <= self.fences);
         let mut landed = Vec::new();
         let mut before = 0;
         for (call, record) in &self.records {
             if *record == Record::Fence {
                 before += 1;
-            } else if before < passed || (before == passed && choose(record)) {
-                image.land(record);
-                if let Record::Group { .. } = record {
-                    landed.push(*call);
+                continue;
+            }
+            if before > passed {
+                break;
+            }
+            let mut pieces = 0;
+            for (index, (piece, block)) in record.pieces().into_iter().enumerate() {
+                if before < passed || choose(record, piece) {
+                    image.land_piece(piece, block);
+                    pieces |= 1 << index;
                 }
+            }
+            if let Record::Group { .. } = record {
+                landed.push(Landed { call: *call, pieces });
             }
         }
         landed
+    }
+
+    /// The blocks written after the first `passed` fences, up to the next.
+    pub fn stretch(&self, passed: usize) -> usize {
+        let mut before = 0;
+        let mut blocks = 0;
+        for (_, record) in &self.records {
+            match record {
+                Record::Fence => before += 1,
+                _ if before == passed => blocks += record.pieces().len(),
+                _ => {}
+            }
+        }
+        blocks
     }
 }
 
@@ -145,9 +211,23 @@ mod tests {
         all.add(1, vec![home(2, 3)]);
         for (passed, want) in [(0, [0, 0, 0]), (1, [1, 2, 0]), (2, [2, 2, 0])] {
             let mut image = Areas::zeros(4, 3);
-            let only_home_1 = |r: &Record| r.target() == Some(Target::Home(1));
-            all.clone().crash(passed, &mut image, only_home_1);
+            let only_home_1 = |r: &Record, _| r.target() == Some(Target::Home(1));
+            all.crash(passed, &mut image, only_home_1);
             assert_eq!([image.data[0], image.data[64], image.data[128]], want);
+            assert_eq!(all.stretch(passed), [1, 2, 1][passed]);
         }
+    }
+
+    #[test]
+    fn torn() {
+        let mut all = Submitted::default();
+        all.add(3, vec![Record::Group { slot: 1, bytes: vec![7; GROUP] }]);
+        let mut image = Areas::zeros(4, 1);
+        let tear = |_: &Record, piece| piece == Piece::Log(576) || piece == Piece::Log(576 + 128);
+        let landed = all.crash(0, &mut image, tear);
+        assert_eq!(landed, [Landed { call: 3, pieces: 5 }]);
+        assert!(landed[0].has_entry(1) && !landed[0].has_entry(0) && !landed[0].has_entry(2));
+        let at = |offset: usize| image.log[offset];
+        assert_eq!([at(575), at(576), at(639), at(640), at(704), at(767), at(768)], [0, 7, 7, 0, 7, 7, 0]);
     }
 }

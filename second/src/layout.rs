@@ -13,7 +13,9 @@ pub const WRITERS: u64 = 8;
 /// The highest start a header may carry.
 pub const START_LIMIT: u64 = 1 << 47;
 
-const HEADER_MARK: [u8; 2] = [0x50, 0x48];
+const HEADER_MARK: [u8; 2] = [0x50, 0x54];
+/// The top bit of a data block's last byte: its turn bit in the log.
+const TOP: u8 = 0x80;
 const GROUP_MARK: [u8; 2] = [0x50, 0x47];
 
 /// Refusal numbers.
@@ -124,6 +126,40 @@ pub fn header_start(shape: Shape, log: &[u8]) -> Result<u64, u32> {
 pub fn slot_range(slot: usize) -> std::ops::Range<usize> {
     let from = HEADER + GROUP * slot;
     from..from + GROUP
+}
+
+/// The turn of a group: odd or even round of the ring.
+#[inline]
+pub fn turn(shape: Shape, number: u64) -> bool {
+    number / shape.groups % 2 == 1
+}
+
+/// The number that a ring slot gets next in a log with this start.
+pub fn next_in(shape: Shape, start: u64, slot: usize) -> u64 {
+    let round = start - start % shape.groups;
+    let number = round + slot as u64;
+    if number < start { number + shape.groups } else { number }
+}
+
+#[inline]
+pub fn top_bit(block: &[u8]) -> bool {
+    block[BLOCK - 1] & TOP != 0
+}
+
+pub fn set_top_bit(block: &mut [u8], bit: bool) {
+    block[BLOCK - 1] = block[BLOCK - 1] & !TOP | if bit { TOP } else { 0 };
+}
+
+/// Zeros in a group, but for the turn bits of its data blocks.
+pub fn clear_group(group: &mut [u8], turn: bool) {
+    group.fill(0);
+    group.chunks_mut(BLOCK).skip(1).for_each(|block| set_top_bit(block, turn));
+}
+
+/// A ring slot as format and open leave it: turn bits opposite to what comes next.
+pub fn blank_slot(log: &mut [u8], shape: Shape, start: u64, slot: usize) {
+    let next = turn(shape, next_in(shape, start, slot));
+    clear_group(&mut log[slot_range(slot)], !next);
 }
 
 /// The 64 bytes of a home.

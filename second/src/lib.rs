@@ -24,6 +24,7 @@ pub mod player;
 pub mod rng;
 pub mod state;
 pub mod tag;
+pub mod tears;
 pub mod walk;
 pub mod world;
 

@@ -39,7 +39,7 @@ pub fn good_header(log: &[u8], data: &[u8]) -> Option<u64> {
     let groups = (log.len() as i128 - 64) / 512;
     let homes = data.len() as i128 / 64;
     let good = log[0] == 0x50
-        && log[1] == 0x48
+        && log[1] == 0x54
         && little(&log[8..10]) == groups
         && little(&log[10..12]) == homes
         && log[12..64].iter().all(|&byte| byte == 0)
@@ -67,6 +67,10 @@ pub fn present(log: &[u8], homes: u64, start: u64, next: Option<u64>) -> BTreeMa
             }
             let tag = little(&group[8 + 8 * k..16 + 8 * k]);
             let block = &group[64 + 64 * k..128 + 64 * k];
+            let turn_fits = i128::from(block[63] / 128) == number / groups % 2;
+            if !turn_fits {
+                continue;
+            }
             if let Some(entry) = entry(tag, position, homes, start, block) {
                 found.insert(position, entry);
             }
@@ -81,13 +85,15 @@ fn entry(tag: i128, position: i128, homes: u64, start: i128, block: &[u8]) -> Op
     let home = (bits(tag, 2, 13) + 4096 * bits(tag, 53, 56)) as u64;
     let first = position - bits(tag, 14, 26);
     let (link, count) = (bits(tag, 27, 39), bits(tag, 40, 52));
-    let zero_bit_set = bits(tag, 57, 63) != 0 || (!closing && bits(tag, 27, 52) != 0);
+    let zero_bit_set = bits(tag, 58, 63) != 0 || (!closing && bits(tag, 27, 52) != 0);
     let before_start = first < 7 * start;
     if !used || zero_bit_set || home >= homes || before_start || (closing && count == 0) {
         return None;
     }
     let closing = closing.then_some((link, count));
-    Some(Found { home, first, closing, block: block.to_vec() })
+    let mut block = block.to_vec();
+    block[63] = block[63] % 128 + 128 * bits(tag, 57, 57) as u8;
+    Some(Found { home, first, closing, block })
 }
 
 /// The committed transactions among what is present, in commit order.

@@ -104,12 +104,13 @@ impl Call {
         if idle && matches!(kind, Kind::Abort | Kind::Store | Kind::Commit) && rng.chance(90) {
             kind = Kind::Begin;
         }
+        let groups = world.shape.groups;
         let mut call = Call {
             kind,
             writer: rng.below(profile.writers),
             home: rng.below(world.shape.homes),
             block: block_of(world.calls),
-            batch_len: ample(world.shape.groups.min(60), world.shape.homes),
+            batch_len: ample(if kind == Kind::Open { groups } else { groups.min(60) }, world.shape.homes),
             odd: None,
         };
         if matches!(kind, Kind::Store) && rng.chance(30) {
@@ -194,13 +195,21 @@ pub fn random_crash(rng: &mut Rng, world: &mut World) -> Result<(), String> {
         4 => high.saturating_sub(1).max(low),
         _ => rng.between(low, high),
     };
-    let percent = rng.pick(&[0, 20, 50, 50, 80, 100]);
-    world.crash(passed as usize, |_| rng.chance(percent))
+    let percent = rng.pick(&[0, 20, 50, 80, 95, 100]);
+    let whole = rng.chance(25);
+    let mut last = (None, false);
+    world.crash(passed as usize, |record, _| {
+        // A quarter of the crashes land whole records or none of them.
+        if !whole || last.0 != record.target() {
+            last = (record.target(), rng.chance(percent));
+        }
+        last.1
+    })
 }
 
 /// In a thousand: more often between openings and just after one.
 fn crash_chance(profile: &Profile, world: &World) -> u64 {
-    let just_opened = world.submitted.fences <= 2 && world.book.row.is_empty();
+    let just_opened = world.submitted.fences <= 3 && world.book.row.is_empty();
     match (world.opened, just_opened) {
         (false, _) => 60,
         (true, true) => 20 + profile.crash,

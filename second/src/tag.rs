@@ -12,7 +12,8 @@ const BACK_SHIFT: u32 = 14;
 const LINK_SHIFT: u32 = 27;
 const COUNT_SHIFT: u32 = 40;
 const HIGH_SHIFT: u32 = 53;
-const ZERO_SHIFT: u32 = 57;
+const DISPLACED_SHIFT: u32 = 57;
+const ZERO_SHIFT: u32 = 58;
 const THIRTEEN: u64 = 0x1fff;
 const TWELVE: u64 = 0xfff;
 const FOUR: u64 = 0xf;
@@ -60,6 +61,17 @@ pub fn closing_tag(home: u64, back: u64, link: u64, count: u64) -> u64 {
     entry_tag(home, back) | CLOSING | link << LINK_SHIFT | count << COUNT_SHIFT
 }
 
+/// The tag with the bit that its block's turn bit displaced.
+pub fn with_displaced(tag: u64, bit: bool) -> u64 {
+    tag | u64::from(bit) << DISPLACED_SHIFT
+}
+
+/// The displaced bit of a tag.
+#[inline]
+pub fn displaced(tag: u64) -> bool {
+    tag >> DISPLACED_SHIFT & 1 == 1
+}
+
 #[cfg(test)]
 mod tests {
     use super::*;
@@ -86,14 +98,20 @@ mod tests {
 
     #[test]
     fn zero_bits() {
-        for bit in 53..64 {
+        let not_displaced = |bit: &u32| *bit != 57;
+        for bit in (53..64).filter(not_displaced) {
             assert_eq!(read_tag(closing_tag(0, 0, 0, 1) | 1 << bit, 0, 8), Tag::Nothing);
         }
-        for bit in 27..64 {
+        for bit in (27..64).filter(not_displaced) {
             assert_eq!(read_tag(entry_tag(0, 0) | 1 << bit, 0, 8), Tag::Nothing);
         }
-        for bit in 57..64 {
+        for bit in 58..64 {
             assert_eq!(read_tag(entry_tag(9, 0) | 1 << bit, 0, 65535), Tag::Nothing);
+        }
+        for tag in [entry_tag(9, 0), closing_tag(9, 0, 0, 1)] {
+            let high = with_displaced(tag, true);
+            assert!(high == tag | 1 << 57 && displaced(high) && !displaced(with_displaced(tag, false)));
+            assert_eq!(read_tag(high, 0, 10), read_tag(tag, 0, 10));
         }
         assert_eq!(read_tag(closing_tag(0, 0, 4, 0), 9, 8), Tag::Nothing);
         assert_eq!(read_tag(entry_tag(0, 0) & !1, 9, 8), Tag::Nothing);

@@ -3,8 +3,10 @@
 //! Offsets count positions from 7 x start. The entries of each first position
 //! are counted as they pass, so a commit entry is judged when it is reached.
 
-use crate::layout::{group_head, slot_range, word, Shape, BLOCK, MAX_GROUPS, MAX_OFFSETS};
-use crate::tag::{read_tag, Tag};
+use crate::layout::{
+    group_head, set_top_bit, slot_range, top_bit, turn, word, Shape, BLOCK, MAX_GROUPS, MAX_OFFSETS,
+};
+use crate::tag::{displaced, read_tag, Tag};
 
 /// The part of the log that a call looks at.
 #[derive(Clone, Copy)]
@@ -16,20 +18,25 @@ pub struct View<'a> {
     pub end: u32,
 }
 
-impl<'a> View<'a> {
-    /// Visits every entry by rising offset. Holes are passed over.
+impl View<'_> {
+    /// Visits every entry by rising offset. Holes are passed over, and so is
+    /// an entry whose block has not its group's turn bit.
     #[inline]
     pub fn each(&self, mut visit: impl FnMut(u32, Tag)) {
         let ring = self.shape.groups as usize;
         let homes = self.shape.homes as u32;
         let mut slot = (self.start % self.shape.groups) as usize;
         let mut number = self.start;
+        let mut turn = turn(self.shape, number);
         let mut offset = 0;
         while offset < self.end {
             let group = &self.log[slot_range(slot)];
             if word(group, 0) == group_head(number) {
                 let places = (self.end - offset).min(7);
                 for place in 0..places {
+                    if top_bit(&group[BLOCK * (1 + place as usize)..]) != turn {
+                        continue;
+                    }
                     let tag = word(group, 8 + 8 * place as usize);
                     match read_tag(tag, offset + place, homes) {
                         Tag::Nothing => {}
@@ -39,16 +46,25 @@ impl<'a> View<'a> {
             }
             offset += 7;
             number += 1;
-            slot = if slot + 1 == ring { 0 } else { slot + 1 };
+            slot += 1;
+            if slot == ring {
+                slot = 0;
+                turn = !turn;
+            }
         }
     }
 
-    /// The data block at an offset.
-    pub fn block(&self, offset: u32) -> &'a [u8] {
+    /// The block that the entry at an offset gives: its data block, with the
+    /// displaced bit back in its place.
+    pub fn block(&self, offset: u32) -> [u8; BLOCK] {
         let number = self.start + u64::from(offset / 7);
         let slot = (number % self.shape.groups) as usize;
-        let from = slot_range(slot).start + BLOCK * (1 + offset as usize % 7);
-        &self.log[from..from + BLOCK]
+        let group = &self.log[slot_range(slot)];
+        let place = offset as usize % 7;
+        let mut block = [0; BLOCK];
+        block.copy_from_slice(&group[BLOCK * (1 + place)..BLOCK * (2 + place)]);
+        set_top_bit(&mut block, displaced(word(group, 8 + 8 * place)));
+        block
     }
 }
 

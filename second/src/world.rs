@@ -2,7 +2,7 @@
 //! book, and the positions the paper speaks of, kept apart from the state.
 
 use crate::book::{Block, Book};
-use crate::landing::{parse, Areas, Record, Submitted, Target};
+use crate::landing::{parse, Areas, Piece, Record, Submitted, Target};
 use crate::layout::{header, word, Answer, Shape, HEADER};
 use crate::lent::{Kind, Lent, Runner};
 use std::collections::HashSet;
@@ -217,12 +217,12 @@ impl World {
         }
     }
 
-    /// A crash; says which calls' group writes landed, and checks that the
-    /// surviving prefix holds what it must.
+    /// A crash, each block landing by itself; checks that the surviving prefix
+    /// holds what it must.
     pub fn crash(
         &mut self,
         passed: usize,
-        choose: impl FnMut(&Record) -> bool,
+        choose: impl FnMut(&Record, Piece) -> bool,
     ) -> Result<(), String> {
         let submitted = std::mem::take(&mut self.submitted);
         let landed = submitted.crash(passed, &mut self.image, choose);
@@ -231,10 +231,15 @@ impl World {
         self.full = self.image.clone();
         self.since_fence.clear();
         self.opened = false;
-        if self.book.commits.len() < self.confirmed {
+        self.check_owed(self.book.commits.len())
+    }
+
+    /// A run of this length has all that is owed.
+    pub fn check_owed(&self, run: usize) -> Result<(), String> {
+        if run < self.confirmed {
             return Err("a commit confirmed durable is lost".to_string());
         }
-        if self.book.commits.len() < self.brought {
+        if run < self.brought {
             return Err("a commit brought back earlier is lost".to_string());
         }
         Ok(())

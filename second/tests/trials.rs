@@ -27,7 +27,7 @@ impl Trial {
         }
         assert_eq!((&image.log, &image.data), (&lent.log, &lent.data));
         let mut trial = Trial { lent, image, submitted: Submitted::default(), calls: 0 };
-        assert_eq!(trial.call(Kind::Open, 0, 0), Answer { code: 0, figure: 0, len: 70 });
+        assert_eq!(trial.call(Kind::Open, 0, 0), Answer { code: 0, figure: 0, len: 2136 });
         trial
     }
 
@@ -68,8 +68,8 @@ impl Trial {
     /// A crash after the opening's fences, with one ring slot lost, and an opening.
     fn reopen_without(&mut self, lost: usize) -> Answer {
         let submitted = std::mem::take(&mut self.submitted);
-        let keep = |r: &Record| !matches!(r, Record::Group { slot, .. } if *slot == lost);
-        submitted.crash(2, &mut self.image, keep);
+        let keep = |r: &Record, _| !matches!(r, Record::Group { slot, .. } if *slot == lost);
+        submitted.crash(3, &mut self.image, keep);
         self.lent.log = self.image.log.clone();
         self.lent.data = self.image.data.clone();
         self.call(Kind::Open, 0, 0)
@@ -85,6 +85,22 @@ fn trial_1() {
     assert_eq!(t.commit(0), Answer { code: 0, figure: 28 + 2, len: 0 });
     assert_eq!((t.tag(0, 0), t.tag(0, 1)), (5, 2199023271947));
     assert_eq!(t.call(Kind::Flush, 0, 0).len, 518);
+}
+
+/// With a last byte from 128 on: its top bit is in the tag, the turn bit in the block.
+#[test]
+fn trial_1_high() {
+    let mut t = Trial::new();
+    t.begin(0);
+    t.store(0, 1, 255);
+    t.store(0, 2, 127);
+    t.commit(0);
+    assert_eq!((t.tag(0, 0), t.tag(0, 1)), (5 + (1 << 57), 2199023271947));
+    assert_eq!((t.lent.log[64 + 127], t.lent.log[64 + 191]), (255, 255));
+    assert_eq!((t.read(1, 1), t.read(1, 2)), (255, 127));
+    assert_eq!(t.call(Kind::Flush, 0, 0).len, 518);
+    assert_eq!(t.call(Kind::Settle, 0, 0).len, 2 * 68 + 2);
+    assert_eq!((t.lent.data[127], t.lent.data[191]), (255, 127));
 }
 
 #[test]
@@ -126,7 +142,7 @@ fn eight_homes(commit: bool) -> Trial {
 #[test]
 fn trial_4() {
     let mut t = eight_homes(false);
-    assert_eq!(t.reopen_without(0), Answer { code: 0, figure: 1, len: 68 + 70 });
+    assert_eq!(t.reopen_without(0), Answer { code: 0, figure: 1, len: 68 + 2136 });
     assert_eq!(t.read(0, 5), 0x55);
     assert_eq!(t.read(0, 6), 0);
 }
@@ -134,10 +150,10 @@ fn trial_4() {
 #[test]
 fn trial_5() {
     let mut t = eight_homes(true);
-    assert_eq!(t.reopen_without(0), Answer { code: 0, figure: 0, len: 70 });
+    assert_eq!(t.reopen_without(0), Answer { code: 0, figure: 0, len: 2136 });
     assert_eq!(t.read(0, 5), 0);
     let mut whole = eight_homes(true);
-    assert_eq!(whole.reopen_without(9), Answer { code: 0, figure: 2, len: 8 * 68 + 70 });
+    assert_eq!(whole.reopen_without(9), Answer { code: 0, figure: 2, len: 8 * 68 + 2136 });
 }
 
 #[test]
@@ -185,11 +201,11 @@ fn trial_9() {
     assert_eq!(t.start(), 4);
 }
 
-/// `Trial::new` asserts 2,746 bytes for the format, 0 back and 70 bytes for the opening.
+/// `Trial::new` asserts 2,746 bytes for the format, 0 back and 2,136 bytes for the opening.
 #[test]
 fn trial_10() {
     let t = Trial::new();
-    assert_eq!(t.submitted.fences, 2);
+    assert_eq!(t.submitted.fences, 3);
     assert_eq!(t.start(), 4);
 }
 
@@ -241,6 +257,9 @@ fn trial_13() {
     let mut t = Trial::new();
     t.lent.log[..64].copy_from_slice(&header(SHAPE, (1 << 47) + 1));
     assert_eq!(t.call(Kind::Open, 0, 0).code, 3);
+    let mut old = Trial::new();
+    old.lent.log[1] = 0x48;
+    assert_eq!(old.call(Kind::Open, 0, 0).code, 3);
 }
 
 #[test]

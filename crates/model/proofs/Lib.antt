@@ -1,6 +1,6 @@
 -- The proofs, in reading order, a folder for each layer.
 
--- What the definitions come to: the trials and a history of every call, computed.
+-- What the definitions come to: the trials and histories with every call, computed.
 pub mod answers
 -- Bytes, tags, the log's header and groups, the homes: laws of specs/Bytes, Tag and Layout.
 pub mod bytes

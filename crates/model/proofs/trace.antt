@@ -2,6 +2,8 @@
 pub mod CrashLaws
 pub mod SubmitLaws
 pub mod HomeLaws
+pub mod OpeningLaws
+pub mod FateLaws
 pub mod Trace
 pub mod WalkLaws
 pub mod TraceLaws

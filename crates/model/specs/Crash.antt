@@ -1,10 +1,12 @@
 -- Crashes ("cuts"): which writes persist ("land"), and the memory they leave.
 -- "Each write (GW, HW, KW) lands whole or not at all, and stays. Take the trains since the last cut, or format, in call order. Any number of their
 -- fences, from the first on, have passed, at least all before a done confirm. All writes before the last passed fence have landed, any choice of
--- those up to the next, none beyond. What has not landed never will, and no later fence waits for it."
+-- those up to the next, none beyond. What has not landed never will, and no later fence waits for it." "Demand 3 must hold with each 64-byte block
+-- landing or not by itself, blanking included: an entry has landed when its tag's block and its data block both have."
 use Prim.Native.Nat.{ℕ, zero, suc, _+_, _*_}
-use mathlib.Core.Bool.{Bool, true, false, cond}
+use mathlib.Core.Bool.{Bool, true, false, cond, _&&_}
 use mathlib.Core.List.{List, [], _∷_, _++_}
+use lib.ListN.{take, drop}
 use Rattle.model.specs.Bytes.{puts}
 use Rattle.model.specs.Layout.{groupOffset}
 use Rattle.model.specs.Batch.{Record, GW, HW, KW, FN}
@@ -14,13 +16,19 @@ pub record Memory : Type 0 where
   pub log : List ℕ
   pub area : List ℕ
 
--- a piece of a record that persists whole or not at all, here each record but a fence: where its bytes go
+-- a piece of a record that persists whole or not at all, a block of 64 bytes: where its bytes go
 pub data Piece : Type 0 where
   toLog : (offset : ℕ) (content : List ℕ) → Piece
   toArea : (offset : ℕ) (content : List ℕ) → Piece
 
+-- n blocks that lie one behind the other in the log area
+unfoldable pub blocks : ℕ → List ℕ → ℕ → List Piece
+blocks offset content zero = []
+blocks offset content (suc n) = toLog offset (take 64 content) ∷ blocks (offset + 64) (drop 64 content) n
+
+-- a group is its metadata and its seven data blocks
 unfoldable pub pieces : Record → List Piece
-pieces (GW slot group) = toLog (groupOffset slot) group ∷ []
+pieces (GW slot group) = blocks (groupOffset slot) group 8
 pieces (HW home block) = toArea (64 * home) block ∷ []
 pieces (KW header) = toLog 0 header ∷ []
 pieces FN = []
@@ -70,10 +78,10 @@ persist passed chosen [] m = m
 persist zero chosen (r ∷ rs) m = persistChosen chosen 0 (r ∷ rs) m
 persist (suc n) chosen (r ∷ rs) m = persist (cond (isFence r) n (suc n)) chosen rs (writeEach (pieces r) m)
 
--- Which entries of each submitted group persisted, by the number of the group write: what the book is fed at a crash.
--- (One piece carries a group, so its seven entries share one fate.)
+-- Which entries of each submitted group persisted, by the number of the group write: what the book is fed at a crash. `fate` says which pieces of the
+-- record did: "an entry has landed when its tag's block and its data block both have", piece 0 and piece k + 1.
 unfoldable pub groupFate : Record → (ℕ → Bool) → List (ℕ → Bool)
-groupFate (GW slot group) fate = fate ∷ []
+groupFate (GW slot group) fate = (λ k. fate 0 && fate (k + 1)) ∷ []
 groupFate (HW home block) fate = []
 groupFate (KW header) fate = []
 groupFate FN fate = []
@@ -82,9 +90,9 @@ unfoldable pub fatesChosen : (ℕ → Bool) → ℕ → List Record → List (�
 fatesChosen chosen i [] = []
 fatesChosen chosen i (r ∷ rs) =
     let on : List (ℕ → Bool) = fatesChosen chosen (i + many (pieces r)) rs in
-    cond (isFence r) [] (groupFate r (λ k. chosen i) ++ on)
+    cond (isFence r) [] (groupFate r (λ j. chosen (i + j)) ++ on)
 
 unfoldable pub fates : ℕ → (ℕ → Bool) → List Record → List (ℕ → Bool)
 fates passed chosen [] = []
 fates zero chosen (r ∷ rs) = fatesChosen chosen 0 (r ∷ rs)
-fates (suc n) chosen (r ∷ rs) = groupFate r (λ k. true) ++ fates (cond (isFence r) n (suc n)) chosen rs
+fates (suc n) chosen (r ∷ rs) = groupFate r (λ j. true) ++ fates (cond (isFence r) n (suc n)) chosen rs

@@ -15,9 +15,9 @@ use Rattle.model.specs.State.{State, stateOf, nextPosition, inOrder}
 use Rattle.model.specs.Effects.{Given, groups, liveTags, liveBase}
 use Rattle.model.specs.declared.Tag.{Tag}
 use Rattle.model.specs.Calls.{Outcome}
-use Rattle.model.specs.Crash.{fences, fates}
+use Rattle.model.specs.Crash.{fences}
 use Rattle.model.specs.Book.{Kept, row, persisted, Entry, Commit, Held, Task, idle, opened, Book, run, homesAfter, reads as readBy, owedBy}
-use Rattle.model.specs.History.{Service, settles, trims, reads, Call, opening, confirm, change, service, read, Event, call, crash, World, lent, ends, step, Always}
+use Rattle.model.specs.History.{Service, settles, trims, reads, Call, opening, confirm, change, service, read, Event, call, crash, World, lent, ends, rowFates, step, Always}
 
 -- Demand 3
 
@@ -37,7 +37,7 @@ NoneOwed (c ∷ cs) = (c .owed ≡ false) × NoneOwed cs
 
 -- "In that run is every commit confirmed durable before, and all that an earlier opening brought back"
 abbrev pub Crashed : World → ℕ → (ℕ → Bool) → Type 0
-Crashed w passed chosen = NoneOwed (lost (fates passed chosen (w .pending)) (w .book .commits))
+Crashed w passed chosen = NoneOwed (lost (rowFates w passed chosen) (w .book .commits))
 
 -- Demand 2
 
@@ -81,7 +81,7 @@ unfoldable pub closedBelow : ℕ → List Commit → List Commit
 closedBelow bound [] = []
 closedBelow bound (c ∷ cs) = cond (leb (c .ticket) bound) (c ∷ closedBelow bound cs) (closedBelow bound cs)
 
--- confirm: the rows submitted before the last fence, and the commits whose entries are all there or persisted earlier
+-- confirm: the group writes before the last fence, and the commits whose entries are all there or persisted earlier
 unfoldable pub groupWrites : List Record → ℕ
 groupWrites [] = 0
 groupWrites (GW slot group ∷ rs) = suc (groupWrites rs)
@@ -92,6 +92,10 @@ groupWrites (FN ∷ rs) = groupWrites rs
 unfoldable pub fencedRows : List Record → ℕ
 fencedRows [] = 0
 fencedRows (r ∷ rs) = cond (leb 1 (fences (r ∷ rs))) (groupWrites (r ∷ []) + fencedRows rs) 0
+
+-- those of the book's rows: the opening's first G are none
+unfoldable pub rowsFenced : World → ℕ
+rowsFenced w = fencedRows (w .pending) - groupsIn (length (w .memory .log))
 
 unfoldable pub keptBelow : ℕ → Kept → Bool
 keptBelow rows (row number index) = ltb number rows
@@ -152,7 +156,7 @@ ServiceYields w (reads writer home block) o = o .block ≡ readBy (w .homes) (w 
 
 abbrev pub Yields : World → Call → Outcome → Type 0
 Yields w (opening state batch) o = Unit {0}
-Yields w confirm o = owedBy (o .figure) (w .book .commits) ≡ owedRows (fencedRows (w .pending)) (w .book .commits)
+Yields w confirm o = owedBy (o .figure) (w .book .commits) ≡ owedRows (rowsFenced w) (w .book .commits)
 Yields w (change c) o = Unit {0}
 Yields w (service c) o = ServiceYields w c o
 

@@ -7,7 +7,7 @@ use lib.Dec.{eqb, leb, ltb}
 use lib.ListN.{length}
 use Rattle.model.specs.Bytes.{puts, zeros, part}
 use Rattle.model.specs.Tag.{entryWord, closingWord, homeOf}
-use Rattle.model.specs.Layout.{groupsIn, homesIn, header, headerStart, groupAt, unusedGroup, putBlank, putEntry, entryAt, blockAt, homeAt, putHome}
+use Rattle.model.specs.Layout.{groupsIn, homesIn, header, headerStart, groupAt, turnOf, unusedGroup, emptyLog, putBlank, putEntry, entryAt, blockAt, homeAt, putHome}
 use Rattle.model.specs.Commit.{Span, committed, transactions, replay, members, newestIn, newest, found}
 use Rattle.model.specs.Batch.{Record, GW, HW, KW, FN}
 use Rattle.model.specs.State.{State, stateOf, setStart, setNext, setFilled, setSettled, setFenced, setDurable, setLast, nextPosition, Writer, writerOf, setWriter, heldOf, setHeld, setPromise, promiseLeft, idle, begun, holding, logging, isOpen, holds, hasLogged, holdsHome, firstFor, countFor, freshState}
@@ -42,11 +42,13 @@ pub record Effect : Type 0 where
 unfoldable pub newState : Given → List ℕ → ℕ → Effect
 newState g s figure = record { figure = figure; state = s; log = g .log; area = g .area; block = g .block; records = [] }
 
--- Format: "KW of 64 zeros, FN, all groups and homes as zeros in rising order, FN, the head with start 0, FN. The copies hold the same."
+-- the first n ring slots written as unused, by rising slot, for a log of so many groups that starts at group `start`
+unfoldable pub blankWrites : ℕ → ℕ → ℕ → List Record
+blankWrites groups start zero = []
+blankWrites groups start (suc n) = blankWrites groups start n ++ (GW n (unusedGroup groups start n) ∷ [])
 
-unfoldable pub unusedGroups : ℕ → List Record
-unusedGroups zero = []
-unusedGroups (suc n) = unusedGroups n ++ (GW n unusedGroup ∷ [])
+-- Format: "KW of 64 zeros, FN, all groups and homes as zeros in rising order, FN, the head with start 0, FN. The copies hold the same." "Format writes
+-- its groups so for start 0, where it wrote zeros"
 
 unfoldable pub zeroHomes : ℕ → List Record
 zeroHomes zero = []
@@ -54,17 +56,14 @@ zeroHomes (suc n) = zeroHomes n ++ (HW n (zeros 64) ∷ [])
 
 unfoldable pub formatted : ℕ → ℕ → List Record
 formatted groups homes =
-    KW (zeros 64) ∷ FN ∷ (unusedGroups groups ++ (zeroHomes homes ++ (FN ∷ KW (header 0 groups homes) ∷ FN ∷ [])))
-
-unfoldable pub formattedLog : ℕ → ℕ → List ℕ
-formattedLog groups homes = puts (zeros (64 + 512 * groups)) 0 (header 0 groups homes)
+    KW (zeros 64) ∷ FN ∷ (blankWrites groups 0 groups ++ (zeroHomes homes ++ (FN ∷ KW (header 0 groups homes) ∷ FN ∷ [])))
 
 unfoldable pub formatEffect : Given → Effect
 formatEffect g =
     record {
       figure = 0;
       state = g .state;
-      log = formattedLog (groups g) (homes g);
+      log = emptyLog 0 (groups g) (homes g);
       area = zeros (64 * homes g);
       block = g .block;
       records = formatted (groups g) (homes g);
@@ -96,7 +95,8 @@ homeWrites area (h ∷ hs) = HW h (homeAt area h) ∷ homeWrites area hs
 
 -- Open: "replays the committed transactions into the data copy. Train: HW of each home touched, rising, FN, head with start + G, FN. Returns
 -- their number. The log is then empty, .. next group is the new start, no place filled, last closing none, all writers idle. Open and trim put
--- the new head into the log copy too." "After opening, F, the settled position and the mark are 7 × start."
+-- the new head into the log copy too." "After opening, F, the settled position and the mark are 7 × start." "After its new head and fence, opening
+-- writes every group, by rising ring place, .. and a fence; the log copy holds the same."
 
 -- "Opening takes the start from the head"
 unfoldable pub openTags : Given → ℕ → Tag
@@ -113,10 +113,12 @@ openEffect g =
     record {
       figure = length ts;
       state = freshState (groups g) (homes g) (openStart g);
-      log = puts (g .log) 0 head;
+      log = emptyLog (openStart g) (groups g) (homes g);
       area = area;
       block = g .block;
-      records = homeWrites area (touched (openTags g) ts (homes g)) ++ (FN ∷ KW head ∷ FN ∷ []);
+      records =
+          homeWrites area (touched (openTags g) ts (homes g))
+          ++ (FN ∷ KW head ∷ FN ∷ (blankWrites (groups g) (openStart g) (groups g) ++ (FN ∷ [])));
     }
 
 -- Begin, abort: "one open transaction for each of writers 0 to 7. Abort drops the held block; logged entries stay without a closing."
@@ -141,9 +143,9 @@ pub record Logged : Type 0 where
 -- the log copy with an entry's tag and block at the next position
 unfoldable pub entered : State → ℕ → List ℕ → ℕ → List ℕ → List ℕ
 entered st slot log word block =
-    let blank : List ℕ = putBlank log slot (st .next) in
+    let blank : List ℕ = putBlank log (st .groups) slot (st .next) in
     let ready : List ℕ = cond (eqb (st .filled) 0) blank log in
-    putEntry ready slot (st .filled) word block
+    putEntry ready slot (turnOf (st .groups) (st .next)) (st .filled) word block
 
 -- the group is handed on, or has one place more filled
 unfoldable pub submitted : Bool → List ℕ → State → ℕ → List ℕ → Logged

@@ -1,5 +1,5 @@
 -- Facts that the paper states in passing, as statements over all histories.
-use Prim.Native.Nat.{ℕ}
+use Prim.Native.Nat.{ℕ, _-_}
 use mathlib.Core.Path.{_≡_}
 use mathlib.Core.Logic.{_⊎_}
 use mathlib.Core.Bool.{Bool, true, false, not, _&&_, _||_}
@@ -11,6 +11,7 @@ use Rattle.model.specs.Effects.{formatted}
 use Rattle.model.specs.State.{stateBytes}
 use Rattle.model.specs.Calls.{formatCall, openCall}
 use Rattle.model.specs.Crash.{Memory, persist}
+use Rattle.model.specs.Layout.{groupsIn}
 use Rattle.model.specs.Demands.{groupWrites}
 use Rattle.model.specs.History.{World, Event, Formatting, formatRecords, unopened, loaded, afterFormat, emptyStore, after, Always}
 
@@ -53,10 +54,10 @@ FormatOnce = (groups homes : ℕ) → writtenOnce (formatted groups homes) ≡ t
 abbrev pub PendingOnce : Type 0
 PendingOnce = Always (λ w es. writtenOnce (after w es .pending) ≡ true)
 
--- "its entries land with that call's GW": the book's rows submitted since the last crash are as many as the group writes since, at every moment of
--- a history; so each call submits as many rows as it writes groups
+-- "its entries land with that call's GW": the book's rows submitted since the last crash are as many as the group writes since, but for the opening's
+-- G, at every moment of a history; so each call but an opening submits as many rows as it writes groups
 abbrev pub RowsWritten : Type 0
-RowsWritten = Always (λ w es. after w es .book .rows ≡ groupWrites (after w es .pending))
+RowsWritten = Always (λ w es. let v : World = after w es in v .book .rows ≡ groupWrites (v .pending) - groupsIn (length (v .memory .log)))
 
 -- Format: "The copies hold the same." Whatever stood in memory and copies, its train leaves the empty store in both.
 pub record Emptied (groups homes : ℕ) (f : Formatting groups homes) : Type 0 where

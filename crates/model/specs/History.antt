@@ -4,10 +4,11 @@ use mathlib.Core.Path.{_≡_}
 use mathlib.Core.Bool.{Bool, true, false, cond, not}
 use mathlib.Core.List.{List, [], _∷_, _++_}
 use lib.Dec.{eqb}
-use lib.ListN.{length, take}
+use lib.ListN.{length, take, drop}
 use Rattle.model.specs.Bytes.{zeros}
+use Rattle.model.specs.Layout.{groupsIn, emptyLog}
 use Rattle.model.specs.Batch.{Record, readBatch}
-use Rattle.model.specs.Effects.{Given, formattedLog}
+use Rattle.model.specs.Effects.{Given}
 use Rattle.model.specs.Calls.{Outcome, formatCall, openCall, beginCall, reserveCall, abortCall, storeCall, commitCall, flushCall, confirmCall, settleCall, trimCall, readCall}
 use Rattle.model.specs.Crash.{Memory, fences, persist, fates}
 use Rattle.model.specs.Book as book
@@ -120,7 +121,7 @@ afterFormat {homes = homes} f = unopened homes (landed (formatRecords f) (f .mem
 
 -- the store that every format leaves
 unfoldable pub emptyStore : ℕ → ℕ → World
-emptyStore groups homes = unopened homes (record { log = formattedLog groups homes; area = zeros (64 * homes) })
+emptyStore groups homes = unopened homes (record { log = emptyLog 0 groups homes; area = zeros (64 * homes) })
 
 -- what a call is lent. An opening gets copies of both areas, loaded afresh; no other call comes before one is done, so there is nothing pending.
 unfoldable pub lent : World → List ℕ → List ℕ → ℕ → ℕ → Given
@@ -214,6 +215,10 @@ unfoldable pub afterCall : World → Call → Outcome → ℕ → World
 afterCall w c o zero = afterDone w c o
 afterCall w c o (suc code) = afterRefused w c o
 
+-- the fates of the book's rows. The first G group writes since the last crash are those with which the opening blanks the log; they are no rows.
+unfoldable pub rowFates : World → ℕ → (ℕ → Bool) → List (ℕ → Bool)
+rowFates w passed chosen = drop (groupsIn (length (w .memory .log))) (fates passed chosen (w .pending))
+
 unfoldable pub afterCrash : World → ℕ → (ℕ → Bool) → World
 afterCrash w passed chosen =
     record {
@@ -225,7 +230,7 @@ afterCrash w passed chosen =
       pending = [];
       passed = 0;
       ready = false;
-      book = book.crash (w .book) (fates passed chosen (w .pending));
+      book = book.crash (w .book) (rowFates w passed chosen);
     }
 
 unfoldable pub step : World → Event → World

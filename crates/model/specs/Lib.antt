@@ -16,5 +16,7 @@ pub mod Store
 pub mod Places
 pub mod Trials
 pub mod Witnesses
+pub mod Reservations
+pub mod Tears
 pub mod Promises
 pub mod Facts

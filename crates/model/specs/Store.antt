@@ -13,10 +13,10 @@ use Rattle.model.specs.Commit.{transactions}
 use Rattle.model.specs.Effects.{marked, largest}
 use Rattle.model.specs.Questions.{ask}
 use Rattle.model.specs.Calls.{Outcome}
-use Rattle.model.specs.Crash.{Memory, persist, fates}
+use Rattle.model.specs.Crash.{Memory, persist}
 use Rattle.model.specs.Book.{Held, Commit, Task, idle, opened, Book, run}
 use Rattle.model.specs.Book as book
-use Rattle.model.specs.History.{Change, begins, reserves, aborts, stores, commits, flushes, Service, settles, trims, reads, Call, opening, confirm, change, service, Event, call, crash, World, Formatting, afterFormat, ends, feed, step, AllAllowed}
+use Rattle.model.specs.History.{Change, begins, reserves, aborts, stores, commits, flushes, Service, settles, trims, reads, Call, opening, confirm, change, service, Event, call, crash, World, Formatting, afterFormat, ends, feed, rowFates, step, AllAllowed}
 use Rattle.model.specs.Demands.{eachContents, untrimmed, closedBelow, anyAcross, anyOpenBefore}
 
 -- G and D; whether an opening is done since the last crash; the start that the header in lasting memory says, as the last crash (or format) left
@@ -183,11 +183,12 @@ replyService s (trims batch) =
 replyService s (reads writer home block) =
     told (ask (eqb (length block) 64) 1 (ask (ltb writer 8) 4 (ask (ltb home (s .homes)) 5 0))) 0 0
 
--- An opening is done if the strip has 1,024 bytes, start + G is at most 2^47, and the batch holds 70 bytes and 68 for each home that it brings back.
+-- An opening is done if the strip has 1,024 bytes, start + G is at most 2^47, and the batch holds 72 bytes, 516 for each group and 68 for each home
+-- that it brings back.
 -- Its figure is the number of the run's commits that the header in lasting memory has not trimmed.
 unfoldable pub reply : Store → Call → Reply
 reply s (opening state batch) =
-    let size : ℕ = 68 * manyHomes (s .homes) (s .back) + 70 in
+    let size : ℕ = 68 * manyHomes (s .homes) (s .back) + (72 + 516 * s .groups) in
     told (ask (eqb (length state) 1024) 1 (ask (leb (firstGroup s) maxStart) 10 (askBatch size batch))) (length (s .back)) size
 reply s confirm = told 0 (s .fenced) 0
 reply s (change c) = replyChange s c
@@ -293,7 +294,7 @@ replyOf o = record { code = o .code; figure = o .figure; size = o .size }
 unfoldable pub follow : Store → World → Event → Store
 follow s w (call c) = afterReply s c (replyOf (ends w c))
 follow s w (crash passed chosen) =
-    afterCrash s (fates passed chosen (w .pending)) (headerStart (persist passed chosen (w .pending) (w .memory) .log))
+    afterCrash s (rowFates w passed chosen) (headerStart (persist passed chosen (w .pending) (w .memory) .log))
 
 -- what the commit rule finds in the log of lasting memory, entry by entry
 unfoldable pub foundInMemory : ℕ → ℕ → Memory → List (List Held)

@@ -1,6 +1,7 @@
 -- "A tag is a 64-bit word: bit 0 used, bit 1 closing, bits 2–13 home, bits 14–26 distance back to the transaction's first entry, bits 27–39
 -- distance back to the previous closing entry (0: none since the start), bits 40–52 number of entries, 53–63 zero. Bits 27–52 are zero unless
--- closing." "Tag bits 53 to 56 carry the home's bits 12 to 15, so they leave the zero bits of document 01, and a tag reads a 16-bit home."
+-- closing." "Tag bits 53 to 56 carry the home's bits 12 to 15, so they leave the zero bits of document 01, and a tag reads a 16-bit home." "the bit it
+-- displaces goes into tag bit 57, which is no longer a zero bit in a used tag."
 use Prim.Native.Nat.{ℕ, zero, suc, _+_, _-_, _*_, _/_, _%_, _^_}
 use mathlib.Core.Bool.{Bool, true, false, cond}
 use lib.Dec.{eqb, leb}
@@ -19,9 +20,17 @@ entryWord home back = tagWord 0 home back 0 0
 unfoldable pub closingWord : ℕ → ℕ → ℕ → ℕ → ℕ
 closingWord home back link count = tagWord 1 home back link count
 
+-- a word with the bit that its block's turn bit displaced; the words above leave bit 57 zero
+unfoldable pub withDisplaced : ℕ → ℕ → ℕ
+withDisplaced word bit = word + 2 ^ 57 * bit
+
 -- the number in a word's bits from `low` on, `width` of them
 unfoldable pub field : ℕ → ℕ → ℕ → ℕ
 field word low width = word / 2 ^ low % 2 ^ width
+
+-- the displaced bit in a word
+unfoldable pub displaced : ℕ → ℕ
+displaced word = field word 57 1
 
 -- a test that must hold for a tag to say anything
 unfoldable pub says : Bool → Tag → Tag
@@ -32,7 +41,7 @@ says false t = Nothing
 abbrev pub homeField : ℕ → ℕ
 homeField word = field word 2 12 + 2 ^ 12 * field word 53 4
 
--- the tag that the fields make: used, closing, bits 57 to 63, bits 27 to 52, home, distance back, link and count, at a position, with the
+-- the tag that the fields make: used, closing, bits 58 to 63, bits 27 to 52, home, distance back, link and count, at a position, with the
 -- position where the log starts and the number of homes.
 -- "It reads as nothing if unused, if a zero bit is set, if home ≥ D, if the first entry would lie before the start, or if it closes with
 -- number 0."
@@ -49,11 +58,11 @@ readFields used closing above upper home back link count position base homes =
 -- the tag that a word reads as
 unfoldable pub readTag : ℕ → ℕ → ℕ → ℕ → Tag
 readTag word position base homes =
-    readFields (field word 0 1) (field word 1 1) (field word 57 7) (field word 27 26) (homeField word) (field word 14 13) (field word 27 13)
+    readFields (field word 0 1) (field word 1 1) (field word 58 6) (field word 27 26) (homeField word) (field word 14 13) (field word 27 13)
     (field word 40 13) position base homes
 
 -- "Logs of smaller stations read as they did": how a word read while a home had 12 bits, the ones above bit 52 all zero. Only the law that
--- compares the two readers names it.
+-- compares the two readers names it, for words without a displaced bit.
 unfoldable pub readSmallTag : ℕ → ℕ → ℕ → ℕ → Tag
 readSmallTag word position base homes =
     readFields (field word 0 1) (field word 1 1) (field word 53 11) (field word 27 26) (field word 2 12) (field word 14 13) (field word 27 13)

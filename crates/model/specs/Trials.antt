@@ -3,19 +3,22 @@
 use Prim.Native.Nat.{ℕ, zero, suc, _+_, _-_, _*_, _/_, _%_, _^_}
 use mathlib.Core.Bool.{Bool, true, false, cond, not, _&&_}
 use mathlib.Core.List.{List, [], _∷_, _++_}
-use lib.Dec.{eqb}
+use lib.Dec.{eqb, ltb}
 use lib.ListN.{length, getD, drop, replicate}
 use Rattle.model.specs.Bytes.{puts, zeros, same}
 use Rattle.model.specs.Tag.{closingWord}
-use Rattle.model.specs.Layout.{header, groupAt, groupTag, slotOf, indexOf, homeAt}
+use Rattle.model.specs.Layout.{header, emptyLog, groupAt, groupTag, groupBlock, slotOf, indexOf, homeAt}
 use Rattle.model.specs.State.{State, stateOf, nextPosition}
 use Rattle.model.specs.Effects.{Given}
 use Rattle.model.specs.Calls.{Outcome, formatCall, openCall}
 use Rattle.model.specs.History.{Call, opening, begin, abort, store, commit, flush, confirm, settle, trim, read, Event, call, crash, World, emptyStore, ends, step}
 
--- a batch buffer that suffices, and a block of one byte
+-- a batch buffer that suffices, a longer one for openings, and a block of one byte
 unfoldable pub room : List ℕ
 room = zeros 600
+
+unfoldable pub lane : List ℕ
+lane = zeros 2700
 
 unfoldable pub fill : ℕ → List ℕ
 fill b = replicate 64 b
@@ -34,7 +37,7 @@ answers w (c ∷ cs) = answerOf (ends w c) ++ answers (step w (call c)) cs
 
 -- just after opening a new format: start 4, position 28
 unfoldable pub fresh : World
-fresh = step (emptyStore 4 8) (call (opening (zeros 1024) room))
+fresh = step (emptyStore 4 8) (call (opening (zeros 1024) lane))
 
 unfoldable pub base : ℕ
 base = 28
@@ -50,19 +53,30 @@ startOf w = stateOf (w .state) .start - 4
 unfoldable pub nextOf : World → ℕ
 nextOf w = nextPosition (stateOf (w .state)) - base
 
--- the first byte that a writer reads of a home
+-- the first byte that a writer reads of a home, and the last
 unfoldable pub readOf : World → ℕ → ℕ → ℕ
 readOf w writer home = getD (ends w (read writer home (zeros 64)) .block) 0 0
 
+unfoldable pub lastReadOf : World → ℕ → ℕ → ℕ
+lastReadOf w writer home = getD (ends w (read writer home (zeros 64)) .block) 63 0
+
 -- what an opening answers
 unfoldable pub reopened : World → List ℕ
-reopened w = answerOf (ends w (opening (zeros 1024) room))
+reopened w = answerOf (ends w (opening (zeros 1024) lane))
 
 -- 1. "Writer 0 stores homes 1, 2, commits: tags 5 and 2199023271947; flush gives 518 bytes."
 unfoldable pub trial1 : List ℕ
 trial1 =
     let w : World = goes fresh (begin 0 ∷ store 0 1 (fill 1) room ∷ store 0 2 (fill 2) room ∷ commit 0 room ∷ []) in
     tagAt w base ∷ tagAt w (base + 1) ∷ ends w (flush room) .size ∷ []
+
+-- The same with blocks of byte 255: "the bit it displaces goes into tag bit 57". Of home 1 then the last byte that another writer reads, and of the data
+-- copy after a flush and a settle.
+unfoldable pub trial1High : List ℕ
+trial1High =
+    let w : World = goes fresh (begin 0 ∷ store 0 1 (fill 255) room ∷ store 0 2 (fill 255) room ∷ commit 0 room ∷ []) in
+    let v : World = goes w (flush room ∷ settle room ∷ []) in
+    tagAt w base ∷ tagAt w (base + 1) ∷ ends w (flush room) .size ∷ lastReadOf w 1 1 ∷ getD (homeAt (v .area) 1) 63 0 ∷ []
 
 -- 2. "Tag closing, home 5, distance 2, link 0, count 3: 3298534916119."
 unfoldable pub trial2 : List ℕ
@@ -87,9 +101,9 @@ stores =
 unfoldable pub commits : List Call
 commits = begin 1 ∷ store 1 5 (fill 9) room ∷ commit 1 room ∷ flush room ∷ []
 
--- the opening's two fences have passed; of the writes since, the first group's is lost
+-- the opening's three fences have passed; of the writes since, the first group's eight blocks are lost
 unfoldable pub firstLost : World → World
-firstLost w = step w (crash 2 (λ i. not (eqb i 0)))
+firstLost w = step w (crash 3 (λ i. not (ltb i 8)))
 
 -- 4. "Writer 0 stores homes 0 to 7, aborts; writer 1 commits home 5; flush; group 0 lost: one comes back."
 unfoldable pub trial4 : List ℕ
@@ -132,7 +146,7 @@ trial9 =
     let w : World = goes fresh (begin 0 ∷ store 0 1 (fill 1) room ∷ store 0 2 (fill 2) room ∷ flush room ∷ settle room ∷ []) in
     answerOf (ends w (trim room)) ++ (startOf (step w (call (trim room))) ∷ [])
 
--- 10. "Opening a new format: 0 back, 70 train bytes. Format writes 2,746."
+-- 10. "Opening a new format: 0 back, 70 train bytes. Format writes 2,746." "Trial 10's opening then writes 2,136 bytes." "still in 2,746 bytes"
 unfoldable pub unformatted : Given
 unformatted =
     record { state = []; log = zeros (64 + 512 * 4); area = zeros (64 * 8); block = []; batch = zeros 2746; writer = 0; home = 0 }
@@ -156,7 +170,23 @@ startingAt start batch =
 
 unfoldable pub trial13 : List ℕ
 trial13 =
-    openCall (startingAt (2 ^ 47 - 4) room) .code ∷ openCall (startingAt (2 ^ 47 - 3) room) .code ∷ openCall (startingAt (2 ^ 47 - 3) []) .code ∷ []
+    openCall (startingAt (2 ^ 47 - 4) lane) .code ∷ openCall (startingAt (2 ^ 47 - 3) lane) .code ∷ openCall (startingAt (2 ^ 47 - 3) []) .code ∷ []
+
+-- "The head mark is 50 54 hex; older heads answer 3." A new format opens; with the old mark 50 48 it does not.
+unfoldable pub markedWith : List ℕ → Given
+markedWith mark =
+    record {
+      state = zeros 1024;
+      log = puts (emptyLog 0 4 8) 0 mark;
+      area = zeros (64 * 8);
+      block = [];
+      batch = lane;
+      writer = 0;
+      home = 0;
+    }
+
+unfoldable pub headMarks : List ℕ
+headMarks = openCall (markedWith (0x50 ∷ 0x54 ∷ [])) .code ∷ openCall (markedWith (0x50 ∷ 0x48 ∷ [])) .code ∷ []
 
 -- the table: what a trial yields, and what the paper says. An answer is the number, the figure and the batch length.
 pub record Trial : Type 0 where
@@ -165,16 +195,18 @@ pub record Trial : Type 0 where
 
 unfoldable pub trials : List Trial
 trials =
-    record { yields = trial1; paper = 5 ∷ 2199023271947 ∷ 518 ∷ [] } ∷ record { yields = trial2; paper = 3298534916119 ∷ [] }
-    ∷ record { yields = trial3; paper = 65 ∷ 65 ∷ [] } ∷ record { yields = trial4; paper = 0 ∷ 1 ∷ 138 ∷ [] }
-    ∷ record { yields = trial5; paper = 0 ∷ 0 ∷ 70 ∷ [] }
+    record { yields = trial1; paper = 5 ∷ 2199023271947 ∷ 518 ∷ [] }
+    ∷ record { yields = trial1High; paper = (5 + 2 ^ 57) ∷ (2199023271947 + 2 ^ 57) ∷ 518 ∷ 255 ∷ 255 ∷ [] }
+    ∷ record { yields = trial2; paper = 3298534916119 ∷ [] } ∷ record { yields = trial3; paper = 65 ∷ 65 ∷ [] }
+    ∷ record { yields = trial4; paper = 0 ∷ 1 ∷ 2204 ∷ [] } ∷ record { yields = trial5; paper = 0 ∷ 0 ∷ 2136 ∷ [] }
     ∷ record {
       yields = trial6and7;
       paper =
           0 ∷ 0 ∷ 516 ∷ 8 ∷ 0 ∷ 0 ∷ 0 ∷ 0 ∷ 0 ∷ 8 ∷ 0 ∷ 0 ∷ 0 ∷ 0 ∷ 0 ∷ 0 ∷ 0 ∷ 2 ∷ 0 ∷ 0 ∷ 2 ∷ 0 ∷ 0 ∷ 68 ∷ 4 ∷ 0 ∷ [];
     }
     ∷ record { yields = trial8; paper = 0 ∷ 0 ∷ 0 ∷ 0 ∷ 0 ∷ 0 ∷ 0 ∷ [] } ∷ record { yields = trial9; paper = 0 ∷ 0 ∷ 0 ∷ 0 ∷ [] }
-    ∷ record { yields = trial10; paper = 0 ∷ 0 ∷ 70 ∷ 0 ∷ 0 ∷ 2746 ∷ [] } ∷ record { yields = trial13; paper = 0 ∷ 10 ∷ 10 ∷ [] } ∷ []
+    ∷ record { yields = trial10; paper = 0 ∷ 0 ∷ 2136 ∷ 0 ∷ 0 ∷ 2746 ∷ [] } ∷ record { yields = trial13; paper = 0 ∷ 10 ∷ 10 ∷ [] }
+    ∷ record { yields = headMarks; paper = 0 ∷ 3 ∷ [] } ∷ []
 
 unfoldable pub allMatch : List Trial → Bool
 allMatch [] = true

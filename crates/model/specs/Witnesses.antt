@@ -2,7 +2,7 @@
 use Prim.Native.Nat.{ℕ, zero, suc, _+_, _*_}
 use mathlib.Core.Bool.{Bool, true, false, not, _&&_}
 use mathlib.Core.List.{List, [], _∷_, _++_}
-use lib.Dec.{eqb, leb}
+use lib.Dec.{eqb, leb, ltb}
 use lib.ListN.{length, take, drop, replicate}
 use Rattle.model.specs.Bytes.{puts, zeros, same}
 use Rattle.model.specs.Layout.{header}
@@ -11,7 +11,7 @@ use Rattle.model.specs.Effects.{Given}
 use Rattle.model.specs.Calls.{Outcome, formatCall, openCall}
 use Rattle.model.specs.Crash.{Memory, fences, persist}
 use Rattle.model.specs.History.{Call, opening, begin, abort, store, commit, flush, confirm, settle, trim, read, Event, call, crash, World, unopened, emptyStore, loaded, ends, isOpening, step}
-use Rattle.model.specs.Trials.{room, fill, answerOf}
+use Rattle.model.specs.Trials.{room, lane, fill, answerOf}
 
 -- A format over a store in use, with copies of the same: a header that opens, bytes of 255 elsewhere.
 unfoldable pub usedBefore : Memory
@@ -27,7 +27,7 @@ formatLeaves passed all = let o : Outcome = formatCall usedCopies in persist pas
 
 -- what an opening of a memory answers
 unfoldable pub opensWith : Memory → ℕ
-opensWith m = openCall (loaded (unopened 8 m) (zeros 1024) room) .code
+opensWith m = openCall (loaded (unopened 8 m) (zeros 1024) lane) .code
 
 -- landed whole, it is the empty store, and the copies hold the same; cut, it is the old store, none that opens, or the new one
 unfoldable pub formatsSo : Bool
@@ -54,15 +54,16 @@ calls [] = []
 calls (c ∷ cs) = call c ∷ calls cs
 
 unfoldable pub reopen : Event
-reopen = call (opening (zeros 1024) room)
+reopen = call (opening (zeros 1024) lane)
 
--- Two eras with every call, every refusal number that a history can meet (1 and 4 to 9; strip and header stay in order, and 10 needs
--- 2^47 groups), a confirm, settles, trims, a ring that wraps, a crash that loses one group of two, and a crash inside an opening.
+-- Two eras with every call of document 01, every refusal number of it that a history can meet (1 and 4 to 9; strip and header stay in order, and 10
+-- needs 2^47 groups), a confirm, settles, trims, a ring that wraps, a crash that loses one group of two, and a crash inside an opening. Promised
+-- places are in specs/Reservations, torn groups in specs/Tears.
 
 -- two refused openings and a done one; refusals
 unfoldable pub refusals : List Event
 refusals =
-    call (opening [] room) ∷ call (opening (zeros 1024) []) ∷ reopen
+    call (opening [] lane) ∷ call (opening (zeros 1024) []) ∷ reopen
     ∷ calls (begin 8 ∷ begin 0 ∷ begin 0 ∷ store 0 8 (fill 1) room ∷ store 1 0 (fill 1) room ∷ store 0 0 [] room ∷ read 0 0 (zeros 64) ∷ [])
 
 -- writer 0 fills group 4, which is not fenced yet: nothing to settle, nothing to trim
@@ -86,14 +87,14 @@ loses =
     calls (begin 0 ∷ store 0 0 (fill 7) room ∷ store 0 1 (fill 7) room ∷ store 0 2 (fill 7) room ∷ store 0 3 (fill 7) room
     ∷ store 0 4 (fill 7) room ∷ store 0 5 (fill 7) room ∷ store 0 6 (fill 7) (zeros 515) ∷ store 0 6 (fill 7) room ∷ store 0 7 (fill 7) room
     ∷ commit 0 room ∷ flush room ∷ abort 0 ∷ [])
-    ++ (crash 8 (λ i. eqb i 0) ∷ [])
+    ++ (crash 9 (λ i. ltb i 8) ∷ [])
 
 -- a refused opening, one whose header is lost, and the second era
 unfoldable pub again : List Event
 again =
     call (opening (zeros 1024) []) ∷ reopen ∷ crash 1 (λ i. false) ∷ reopen
     ∷ calls (begin 2 ∷ abort 2 ∷ begin 0 ∷ store 0 4 (fill 20) room ∷ commit 0 room ∷ flush room ∷ confirm ∷ [])
-    ++ (crash 3 (λ i. false) ∷ reopen ∷ [])
+    ++ (crash 4 (λ i. false) ∷ reopen ∷ [])
 
 unfoldable pub history : List Event
 history = refusals ++ (seven ++ (alone 0 10 ++ (alone 1 11 ++ (alone 2 12 ++ (wraps ++ (loses ++ again))))))
@@ -106,15 +107,15 @@ plain (n ∷ ns) = n ∷ 0 ∷ 0 ∷ plain ns
 -- what its calls answer
 unfoldable pub answered : List ℕ
 answered =
-    plain (1 ∷ 9 ∷ []) ++ (0 ∷ 0 ∷ 70 ∷ plain (4 ∷ 0 ∷ 6 ∷ 5 ∷ 7 ∷ 1 ∷ 0 ∷ []))
+    plain (1 ∷ 9 ∷ []) ++ (0 ∷ 0 ∷ 2136 ∷ plain (4 ∷ 0 ∷ 6 ∷ 5 ∷ 7 ∷ 1 ∷ 0 ∷ []))
     ++ (plain (0 ∷ 0 ∷ 0 ∷ 0 ∷ 0 ∷ 0 ∷ 0 ∷ []) ++ (0 ∷ 35 ∷ 516 ∷ 0 ∷ 0 ∷ 2 ∷ 0 ∷ 0 ∷ 0 ∷ []))
     ++ (plain (0 ∷ 0 ∷ []) ++ (0 ∷ 36 ∷ 0 ∷ 0 ∷ 0 ∷ 518 ∷ []))
     ++ (plain (0 ∷ 0 ∷ []) ++ (0 ∷ 43 ∷ 0 ∷ 0 ∷ 0 ∷ 518 ∷ []))
     ++ (plain (0 ∷ 0 ∷ []) ++ (0 ∷ 50 ∷ 0 ∷ 0 ∷ 0 ∷ 518 ∷ []))
     ++ (plain (0 ∷ 0 ∷ 8 ∷ []) ++ (0 ∷ 56 ∷ 0 ∷ 9 ∷ 0 ∷ 0 ∷ 0 ∷ 0 ∷ 478 ∷ 0 ∷ 0 ∷ 68 ∷ 0 ∷ 57 ∷ 0 ∷ []))
     ++ (plain (0 ∷ 0 ∷ 0 ∷ 0 ∷ 0 ∷ 0 ∷ 0 ∷ 9 ∷ []) ++ (0 ∷ 0 ∷ 516 ∷ 0 ∷ 0 ∷ 0 ∷ 0 ∷ 65 ∷ 0 ∷ 0 ∷ 0 ∷ 518 ∷ 7 ∷ 0 ∷ 0 ∷ []))
-    ++ (9 ∷ 0 ∷ 0 ∷ 0 ∷ 1 ∷ 138 ∷ 0 ∷ 1 ∷ 138 ∷ plain (0 ∷ 0 ∷ 0 ∷ 0 ∷ []))
-    ++ (0 ∷ 85 ∷ 0 ∷ 0 ∷ 0 ∷ 518 ∷ 0 ∷ 91 ∷ 0 ∷ 0 ∷ 1 ∷ 138 ∷ [])
+    ++ (9 ∷ 0 ∷ 0 ∷ 0 ∷ 1 ∷ 2204 ∷ 0 ∷ 1 ∷ 2204 ∷ plain (0 ∷ 0 ∷ 0 ∷ 0 ∷ []))
+    ++ (0 ∷ 85 ∷ 0 ∷ 0 ∷ 0 ∷ 518 ∷ 0 ∷ 91 ∷ 0 ∷ 0 ∷ 1 ∷ 2204 ∷ [])
 
 -- eight homes, each of one byte throughout
 unfoldable pub filledWith : List ℕ → List ℕ
@@ -139,4 +140,4 @@ goesAsListed = goesSo (emptyStore 4 8) history answered 6 (10 ∷ 11 ∷ 12 ∷ 
 
 -- an opening of a new format is done with more groups too
 unfoldable pub opensLarger : List ℕ
-opensLarger = answerOf (ends (emptyStore 5 1) (opening (zeros 1024) room))
+opensLarger = answerOf (ends (emptyStore 5 1) (opening (zeros 1024) lane))

@@ -148,6 +148,22 @@ fn head_write(shape: Shape, start: u64, after: &mut Lent, batch: &mut Vec<u8>) {
     batch.extend([0x46, 0x4e]);
 }
 
+/// GW of every group, by rising ring place: zeros, but for turn bits opposite
+/// to the turn of the group that comes there next.
+fn blank_writes(shape: Shape, start: u64, after: &mut Lent, batch: &mut Vec<u8>) {
+    for place in 0..shape.groups {
+        let next = (start..).find(|number| number % shape.groups == place).unwrap();
+        let turn = (next / shape.groups) % 2;
+        let from = 64 + 512 * place as usize;
+        after.log[from..from + 512].fill(0);
+        for k in 0..7 {
+            after.log[from + 127 + 64 * k] = 128 * (1 - turn as u8);
+        }
+        batch.extend([0x47, 0x57, place as u8, (place >> 8) as u8]);
+        batch.extend(&after.log[from..from + 512]);
+    }
+}
+
 fn open(before: &Lent, after: &mut Lent) -> Outcome {
     let shape = shape(before);
     let start = good_header(&before.log, &before.data).ok_or(3u32)?;
@@ -159,6 +175,8 @@ fn open(before: &Lent, after: &mut Lent) -> Outcome {
     let mut batch = Vec::new();
     home_writes(&replay(&list), after, &mut batch);
     head_write(shape, new_start, after, &mut batch);
+    blank_writes(shape, new_start, after, &mut batch);
+    batch.extend([0x46, 0x4e]);
     after.state = vec![0; 1024];
     for (at, value) in [(0, shape.groups), (8, shape.homes), (16, new_start), (24, new_start)] {
         put(&mut after.state, at, value);

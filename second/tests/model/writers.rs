@@ -1,20 +1,16 @@
 //! The plain model of the other calls: format, begin, reserve, abort, store,
 //! commit, flush, confirm. Tags are put together by sums, not by shifts.
 
-use super::{head_write, number, places, promise, promised, put, shape, Outcome};
+use super::{blank_writes, head_write, number, places, promise, promised, put, shape, Outcome};
 use second::lent::{Kind, Lent};
 
 pub fn format(before: &Lent, after: &mut Lent) -> Outcome {
     let shape = shape(before);
-    after.log.fill(0);
     after.data.fill(0);
     let mut batch = vec![0x4b, 0x57];
     batch.extend([0; 64]);
     batch.extend([0x46, 0x4e]);
-    for place in 0..shape.groups {
-        batch.extend([0x47, 0x57, place as u8, (place >> 8) as u8]);
-        batch.extend([0; 512]);
-    }
+    blank_writes(shape, 0, after, &mut batch);
     for home in 0..shape.homes {
         batch.extend([0x48, 0x57, home as u8, (home >> 8) as u8]);
         batch.extend([0; 64]);
@@ -105,13 +101,19 @@ fn log_held(writer: u64, closing: bool, before: &Lent, after: &mut Lent) -> Outc
     }
     let from = 64 + 512 * (next % groups) as usize;
     let group = &mut after.log[from..from + 512];
+    let turn = (next / groups % 2) as u8;
     if filled == 0 {
         group.fill(0);
         put(group, 0, next * 65536 + 0x4750);
+        for k in 0..7 {
+            group[127 + 64 * k] = 128 * turn;
+        }
     }
     let place = filled as usize;
-    put(group, 8 + 8 * place, tag);
+    let last = state[record + 95];
+    put(group, 8 + 8 * place, tag + (1 << 57) * u64::from(last / 128));
     group[64 + 64 * place..128 + 64 * place].copy_from_slice(&state[record + 32..record + 96]);
+    group[127 + 64 * place] = last % 128 + 128 * turn;
     let mut batch = Vec::new();
     put(&mut after.state, 32, filled + 1);
     if filled == 6 {

@@ -10,6 +10,6 @@ pub goes-as-listed : goesAsListed ≡ true
 unfolding all-definitions
 goes-as-listed = refl
 
-opens-larger : same opensLarger (0 ∷ 0 ∷ 70 ∷ []) ≡ true
+opens-larger : same opensLarger (0 ∷ 0 ∷ 2652 ∷ []) ≡ true
 unfolding all-definitions
 opens-larger = refl

@@ -66,6 +66,13 @@ puts-whole [] (y ∷ s) h = absurd (omega arith)
 puts-whole (x ∷ d) [] h = absurd (omega arith)
 puts-whole (x ∷ d) (y ∷ s) h = ap {B = List ℕ} (λ r. y ∷ r) (puts-whole d s (omega arith))
 
+pub puts-front : (a r s : List ℕ) → length a ≡ length s → puts (a ++ r) 0 s ≡ s ++ r
+unfolding puts
+puts-front [] r [] h = puts-nil r 0
+puts-front [] r (y ∷ s) h = absurd (omega arith)
+puts-front (x ∷ a) r [] h = absurd (omega arith)
+puts-front (x ∷ a) r (y ∷ s) h = ap {B = List ℕ} (λ l. y ∷ l) (puts-front a r s (omega arith))
+
 -- a copy's turn and its end: what is left to store, drop j s, goes in from `at` on
 pub puts-turn : (d : List ℕ) (at : ℕ) (s : List ℕ) (j : ℕ) → j < length s
     → puts (set d at (getD s j 0)) (at + 1) (drop (j + 1) s) ≡ puts d at (drop j s)

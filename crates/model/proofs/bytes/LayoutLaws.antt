@@ -2,17 +2,20 @@
 -- A law takes its variables in the order in which its left side first names them, then its premises. Assumes nothing.
 use mathlib.Core.Path.{_≡_, refl, sym, ap, _∙_}
 use mathlib.Core.Bool.{Bool, true, false, _&&_, and-eq-true-iff}
-use mathlib.Core.List.{List, _++_}
+use mathlib.Core.List.{List, [], _∷_, _++_, append-assoc}
 use Prim.Native.Nat.{ℕ, zero, suc, _+_, _-_, _*_, _/_, _%_, _^_, _≤_, _<_}
-use native.Mathlib.Nat.{mod-lt, div-add-mod, mul-le-mul-left, mul-suc}
+use native.Mathlib.Nat.{mod-lt, div-add-mod, mul-le-mul-left, mul-suc, zero-add}
 use native.Mathlib.Omega.{arith}
 use borrow.Author.Tests.{eq-eqb, le-leb, eqb-true, leb-true, leb-false, ltb-true}
 use lib.Dec.{eqb, leb, ltb}
 use lib.ListN.{length, drop, replicate, getD, length-append}
 use lib.Seq.{take-at, drop-append-add, getD-take, getD-drop, ext-getD}
 use Rattle.model.specs.Bytes.{part, puts, zeros, bytes, value, number, putNumber, same}
-use Rattle.model.specs.Layout.{groupsIn, homesIn, logLengthRight, dataLengthRight, headerMark, header, headerStart, headerRight, groupMark, groupOffset, groupAt, groupNumber, tagOffset, groupTag, blockOffset, groupBlock, groupValid, blankGroup, unusedGroup, putBlank, putEntry, slotOf, indexOf, homeAt, putHome}
-use Rattle.model.proofs.bytes.ByteLaws.{length-puts, length-zeros, length-bytes, length-part, length-putNumber, part-puts, part-same, part-below, part-above, part-inside, part-whole, number-same-part, number-below, number-inside, value-bytes, number-same, same-refl}
+use Rattle.model.specs.Tag.{withDisplaced, field, displaced}
+use Rattle.model.specs.Layout.{groupsIn, homesIn, logLengthRight, dataLengthRight, headerMark, header, headerStart, headerRight, groupMark, groupOffset, groupAt, groupNumber, tagOffset, groupTag, blockOffset, groupBlock, groupValid, turnOf, topBit, withTopBit, turnBlocks, blankGroup, putBlank, putEntry, slotOf, indexOf, blockOf, homeAt, putHome}
+use Rattle.model.proofs.bytes.ByteLaws.{length-puts, length-zeros, length-bytes, length-part, length-putNumber, part-puts, part-same, part-below, part-above, part-inside, part-whole, part-within, number-same-part, number-below, number-inside, value-bytes, number-same, same-refl}
+use Rattle.model.proofs.bytes.TurnLaws.{byte-number, topBit-lt, length-withTopBit, turn-back, turnOf-lt}
+use Rattle.model.proofs.bytes.TagLaws.{displaced-fits, displaced-back}
 
 -- ---- tests joined
 
@@ -25,6 +28,10 @@ three false b c h = (h, cc, cc)
 pub part-front : (a r : List ℕ) (n : ℕ) → length a ≡ n → part (a ++ r) 0 n ≡ a
 unfolding part
 part-front a r n h = take-at a r n h
+
+pub part-of-front : (a r : List ℕ) (n o m : ℕ) → length a ≡ n → o + m ≤ n → part a o m ≡ part (a ++ r) o m
+part-of-front a r n o m e h =
+    ap (λ (x : List ℕ). part x o m) (sym (part-front a r n e)) ∙ part-within (a ++ r) 0 n o m h ∙ ap (λ (i : ℕ). part (a ++ r) i m) (zero-add o)
 
 pub part-after : (a r : List ℕ) (m o n : ℕ) → length a ≡ m → part (a ++ r) (m + o) n ≡ part r o n
 unfolding part
@@ -53,6 +60,11 @@ pub number-zeros : (k n o : ℕ) → number k (zeros n) o ≡ 0
 unfolding number zeros
 number-zeros k n o = rw drop-zeros (value-zeros k (n - o))
 
+-- zeros at the front of a list
+pub number-zeros-front : (k n : ℕ) (r : List ℕ) (o : ℕ) → o + k ≤ n → number k (zeros n ++ r) o ≡ 0
+number-zeros-front k n r o h =
+    number-same-part k (zeros n ++ r) o (zeros n) o (sym (part-of-front (zeros n) r n o k (length-zeros n) h)) ∙ number-zeros k n o
+
 -- ---- a part apart from what was written
 
 pub part-apart : (d : List ℕ) (at : ℕ) (s : List ℕ) (a n : ℕ) → (a < at + length s → at < a + n → ⊥) → part (puts d at s) a n ≡ part d a n
@@ -78,21 +90,22 @@ pub length-header : (start groups homes : ℕ) → length (header start groups h
 unfolding header
 length-header start groups homes = simp (length-append, length-bytes, length-zeros)
 
-pub length-blankGroup : (n : ℕ) → length (blankGroup n) ≡ 512
+pub length-turnBlocks : (k turn : ℕ) → length (turnBlocks k turn) ≡ 64 * k
+unfolding turnBlocks
+length-turnBlocks zero turn = refl
+length-turnBlocks (suc k) turn = simp (length-append, length-zeros) (omega (arith, length-turnBlocks k turn))
+
+pub length-blankGroup : (groups n : ℕ) → length (blankGroup groups n) ≡ 512
 unfolding blankGroup
-length-blankGroup n = simp (length-append, length-bytes, length-zeros)
+length-blankGroup groups n = simp (length-append, length-bytes, length-zeros, length-turnBlocks)
 
-pub length-unusedGroup : length unusedGroup ≡ 512
-unfolding unusedGroup
-length-unusedGroup = length-zeros 512
-
-pub length-putBlank : (log : List ℕ) (slot n : ℕ) → length (putBlank log slot n) ≡ length log
+pub length-putBlank : (log : List ℕ) (groups slot n : ℕ) → length (putBlank log groups slot n) ≡ length log
 unfolding putBlank
-length-putBlank log slot n = length-puts log (groupOffset slot) (blankGroup n)
+length-putBlank log groups slot n = length-puts log (groupOffset slot) (blankGroup groups n)
 
-pub length-putEntry : (log : List ℕ) (slot k word : ℕ) (block : List ℕ) → length (putEntry log slot k word block) ≡ length log
+pub length-putEntry : (log : List ℕ) (slot turn k word : ℕ) (block : List ℕ) → length (putEntry log slot turn k word block) ≡ length log
 unfolding putEntry
-length-putEntry log slot k word block = rw (length-puts, length-putNumber)
+length-putEntry log slot turn k word block = rw (length-puts, length-putNumber)
 
 pub length-putHome : (area : List ℕ) (home : ℕ) (block : List ℕ) → length (putHome area home block) ≡ length area
 unfolding putHome
@@ -169,6 +182,23 @@ module _ (log : List ℕ) (start groups homes : ℕ) where
 
 -- ---- a write at a group leaves the header, and a header write leaves the groups
 
+-- the header is what the first 64 bytes are
+module _ (log log′ : List ℕ) where
+  pub header-start-same : ((a n : ℕ) → a + n ≤ 64 → part log a n ≡ part log′ a n) → headerStart log ≡ headerStart log′
+  unfolding headerStart
+  header-start-same f = number-same-part 6 log 2 log′ 2 (f 2 6 (omega arith))
+
+  pub header-right-same : (groups homes : ℕ) → ((a n : ℕ) → a + n ≤ 64 → part log a n ≡ part log′ a n)
+      → headerRight log groups homes ≡ headerRight log′ groups homes
+  unfolding headerRight
+  header-right-same groups homes f =
+      rw (
+        f 0 2 (omega arith),
+        number-same-part 2 log 8 log′ 8 (f 8 2 (omega arith)),
+        number-same-part 2 log 10 log′ 10 (f 10 2 (omega arith)),
+        f 12 52 (omega arith),
+      )
+
 pub header-start-past : (log : List ℕ) (at : ℕ) (bs : List ℕ) → 64 ≤ at → headerStart (puts log at bs) ≡ headerStart log
 unfolding headerStart
 header-start-past log at bs h = number-below 6 log at bs 2 (omega arith)
@@ -192,23 +222,25 @@ pub header-right-group : (log : List ℕ) (slot o : ℕ) (bs : List ℕ) (groups
 unfolding groupOffset
 header-right-group log slot o bs groups homes = header-right-past log (groupOffset slot + o) bs groups homes (omega arith)
 
-pub header-start-blank : (log : List ℕ) (slot n : ℕ) → headerStart (putBlank log slot n) ≡ headerStart log
+pub header-start-blank : (log : List ℕ) (groups slot n : ℕ) → headerStart (putBlank log groups slot n) ≡ headerStart log
 unfolding putBlank groupOffset
-header-start-blank log slot n = header-start-past log (groupOffset slot) (blankGroup n) (omega arith)
+header-start-blank log groups slot n = header-start-past log (groupOffset slot) (blankGroup groups n) (omega arith)
 
-pub header-right-blank : (log : List ℕ) (slot n groups homes : ℕ) → headerRight (putBlank log slot n) groups homes ≡ headerRight log groups homes
+pub header-right-blank : (log : List ℕ) (G slot n groups homes : ℕ)
+    → headerRight (putBlank log G slot n) groups homes ≡ headerRight log groups homes
 unfolding putBlank groupOffset
-header-right-blank log slot n groups homes = header-right-past log (groupOffset slot) (blankGroup n) groups homes (omega arith)
+header-right-blank log G slot n groups homes = header-right-past log (groupOffset slot) (blankGroup G n) groups homes (omega arith)
 
-pub header-start-entry : (log : List ℕ) (slot k word : ℕ) (block : List ℕ) → headerStart (putEntry log slot k word block) ≡ headerStart log
+pub header-start-entry : (log : List ℕ) (slot turn k word : ℕ) (block : List ℕ)
+    → headerStart (putEntry log slot turn k word block) ≡ headerStart log
 unfolding putEntry putNumber
-header-start-entry log slot k word block = header-start-group _ slot (blockOffset k) block ∙ header-start-group log slot (tagOffset k) _
+header-start-entry log slot turn k word block = header-start-group _ slot (blockOffset k) _ ∙ header-start-group log slot (tagOffset k) _
 
-pub header-right-entry : (log : List ℕ) (slot k word : ℕ) (block : List ℕ) (groups homes : ℕ)
-    → headerRight (putEntry log slot k word block) groups homes ≡ headerRight log groups homes
+pub header-right-entry : (log : List ℕ) (slot turn k word : ℕ) (block : List ℕ) (groups homes : ℕ)
+    → headerRight (putEntry log slot turn k word block) groups homes ≡ headerRight log groups homes
 unfolding putEntry putNumber
-header-right-entry log slot k word block groups homes =
-    header-right-group _ slot (blockOffset k) block groups homes ∙ header-right-group log slot (tagOffset k) _ groups homes
+header-right-entry log slot turn k word block groups homes =
+    header-right-group _ slot (blockOffset k) _ groups homes ∙ header-right-group log slot (tagOffset k) _ groups homes
 
 pub group-header : (log h : List ℕ) (slot : ℕ) → length h ≤ 64 → groupAt (puts log 0 h) slot ≡ groupAt log slot
 unfolding groupAt groupOffset
@@ -232,13 +264,14 @@ pub group-other : (log : List ℕ) (other : ℕ) (bs : List ℕ) (slot : ℕ) �
 unfolding groupAt groupOffset
 group-other log other bs slot h l = part-apart log (groupOffset other) bs (groupOffset slot) 512 (omega arith)
 
-pub blank-same : (log : List ℕ) (slot n : ℕ) → groupOffset slot + 512 ≤ length log → groupAt (putBlank log slot n) slot ≡ blankGroup n
+pub blank-same : (log : List ℕ) (groups slot n : ℕ) → groupOffset slot + 512 ≤ length log
+    → groupAt (putBlank log groups slot n) slot ≡ blankGroup groups n
 unfolding putBlank
-blank-same log slot n h = group-same log slot (blankGroup n) (length-blankGroup n) h
+blank-same log groups slot n h = group-same log slot (blankGroup groups n) (length-blankGroup groups n) h
 
-pub blank-other : (log : List ℕ) (other n slot : ℕ) → (slot ≡ other → ⊥) → groupAt (putBlank log other n) slot ≡ groupAt log slot
+pub blank-other : (log : List ℕ) (groups other n slot : ℕ) → (slot ≡ other → ⊥) → groupAt (putBlank log groups other n) slot ≡ groupAt log slot
 unfolding putBlank
-blank-other log other n slot h = group-other log other (blankGroup n) slot h (rw length-blankGroup (omega arith))
+blank-other log groups other n slot h = group-other log other (blankGroup groups n) slot h (rw length-blankGroup (omega arith))
 
 -- a group with an entry's tag and block at index k
 unfoldable pub enterIn : List ℕ → ℕ → ℕ → List ℕ → List ℕ
@@ -248,17 +281,19 @@ pub length-enterIn : (group : List ℕ) (k word : ℕ) (block : List ℕ) → le
 unfolding enterIn
 length-enterIn group k word block = rw (length-puts, length-putNumber)
 
-pub entry-same : (log : List ℕ) (slot k word : ℕ) (block : List ℕ)
-    → groupAt (putEntry log slot k word block) slot ≡ enterIn (groupAt log slot) k word block
+-- what is entered is the word with the displaced bit, and the block with the turn
+pub entry-same : (log : List ℕ) (slot turn k word : ℕ) (block : List ℕ)
+    → groupAt (putEntry log slot turn k word block) slot
+    ≡ enterIn (groupAt log slot) k (withDisplaced word (topBit block)) (withTopBit block turn)
 unfolding groupAt putEntry putNumber enterIn
-entry-same log slot k word block = rw (part-puts, part-puts)
+entry-same log slot turn k word block = rw (part-puts, part-puts)
 
-pub entry-other : (log : List ℕ) (other k word : ℕ) (block : List ℕ) (slot : ℕ) → (slot ≡ other → ⊥) → k < 7 → length block ≡ 64
-    → groupAt (putEntry log other k word block) slot ≡ groupAt log slot
+pub entry-other : (log : List ℕ) (other turn k word : ℕ) (block : List ℕ) (slot : ℕ) → (slot ≡ other → ⊥) → k < 7 → length block ≡ 64
+    → groupAt (putEntry log other turn k word block) slot ≡ groupAt log slot
 unfolding putEntry putNumber tagOffset blockOffset
-entry-other log other k word block slot h l e =
-    group-apart _ other (blockOffset k) block slot h (omega arith)
-    ∙ group-apart log other (tagOffset k) (bytes 8 word) slot h (omega (arith, length-bytes 8 word))
+entry-other log other turn k word block slot h l e =
+    group-apart _ other (blockOffset k) (withTopBit block turn) slot h (omega (arith, length-withTopBit block turn))
+    ∙ group-apart log other (tagOffset k) (bytes 8 _) slot h (omega (arith, length-bytes 8 (withDisplaced word (topBit block))))
 
 -- ---- inside a group
 
@@ -304,29 +339,89 @@ enter-block-other group k word block j h e n =
     part-apart _ (blockOffset k) block (blockOffset j) 64 (omega arith)
     ∙ part-above group (tagOffset k) (bytes 8 word) (blockOffset j) 64 (omega (arith, length-bytes 8 word))
 
--- ---- blank and unused groups, and what a valid one says
+-- the block that an entry gives
+pub length-blockOf : (group : List ℕ) (k : ℕ) → length group ≡ 512 → k < 7 → length (blockOf group k) ≡ 64
+unfolding blockOf groupBlock blockOffset
+length-blockOf group k l h = length-withTopBit _ (displaced (groupTag group k)) ∙ length-part group (64 + 64 * k) 64 (omega arith)
 
-pub blank-number : (n : ℕ) → n < 256 ^ 6 → groupNumber (blankGroup n) ≡ n
+-- an entry's block with the displaced bit back: what was entered
+pub enter-back : (group : List ℕ) (k word : ℕ) (block : List ℕ) (turn : ℕ) → length group ≡ 512 → k < 7 → length block ≡ 64 → turn < 2 → word < 2 ^ 57
+    → blockOf (enterIn group k (withDisplaced word (topBit block)) (withTopBit block turn)) k ≡ block
+unfolding blockOf
+enter-back group k word block turn l h e t w =
+    let f : withDisplaced word (topBit block) < 2 ^ 64 = displaced-fits word (topBit block) w (topBit-lt block) in
+    rw (
+      enter-block-same group k (withDisplaced word (topBit block)) (withTopBit block turn) l h (length-withTopBit block turn ∙ e),
+      enter-tag-same group k (withDisplaced word (topBit block)) (withTopBit block turn) l h (omega arith),
+      displaced-back word (topBit block) w (topBit-lt block),
+    )
+    (turn-back block turn e t)
+
+-- ---- blank groups, and what a valid one says
+
+-- a data block of zeros but for a turn bit
+unfoldable pub turnBlock : ℕ → List ℕ
+turnBlock turn = zeros 63 ++ ((2 ^ 7 * turn) ∷ [])
+
+length-turnBlock : (turn : ℕ) → length (turnBlock turn) ≡ 64
+unfolding turnBlock
+length-turnBlock turn = simp (length-append, length-zeros)
+
+turnBlock-turn : (turn : ℕ) → turn < 2 → topBit (turnBlock turn) ≡ turn
+unfolding turnBlock topBit field
+turnBlock-turn turn h = rw (number-after 1 (zeros 63) ((2 ^ 7 * turn) ∷ []) 63 0 (length-zeros 63), byte-number) (omega arith)
+
+turnBlocks-more : (k turn : ℕ) → turnBlocks (suc k) turn ≡ turnBlock turn ++ turnBlocks k turn
+unfolding turnBlocks turnBlock
+turnBlocks-more k turn = sym (append-assoc (zeros 63) ((2 ^ 7 * turn) ∷ []) (turnBlocks k turn))
+
+pub part-turnBlocks : (m turn k : ℕ) → k < m → part (turnBlocks m turn) (64 * k) 64 ≡ turnBlock turn
+part-turnBlocks zero turn k h = absurd (omega arith)
+part-turnBlocks (suc m) turn zero h = rw turnBlocks-more (part-front (turnBlock turn) (turnBlocks m turn) 64 (length-turnBlock turn))
+part-turnBlocks (suc m) turn (suc k) h =
+    let e : 64 * suc k ≡ 64 + 64 * k = omega arith in
+    rw (turnBlocks-more, e) (part-after (turnBlock turn) (turnBlocks m turn) 64 (64 * k) 64 (length-turnBlock turn) ∙ part-turnBlocks m turn k (omega arith))
+
+-- the turn of data block k of a group that ends in seven such blocks
+pub turnBlocks-turn : (front : List ℕ) (turn k : ℕ) → length front ≡ 64 → turn < 2 → k < 7
+    → topBit (groupBlock (front ++ turnBlocks 7 turn) k) ≡ turn
+unfolding groupBlock blockOffset
+turnBlocks-turn front turn k l h i = rw (part-after front (turnBlocks 7 turn) 64 (64 * k) 64 l, part-turnBlocks) (turnBlock-turn turn h)
+
+-- a blank group's metadata, and its data blocks
+blank-front : ℕ → List ℕ
+blank-front n = groupMark ++ (bytes 6 n ++ zeros 56)
+
+blank-parts : (groups n : ℕ) → blankGroup groups n ≡ blank-front n ++ turnBlocks 7 (turnOf groups n)
+unfolding blankGroup blank-front
+blank-parts groups n = simp append-assoc
+
+length-blank-front : (n : ℕ) → length (blank-front n) ≡ 64
+unfolding blank-front
+length-blank-front n = simp (length-append, length-bytes, length-zeros)
+
+pub blank-turn : (groups n k : ℕ) → k < 7 → topBit (groupBlock (blankGroup groups n) k) ≡ turnOf groups n
+blank-turn groups n k h = rw blank-parts (turnBlocks-turn (blank-front n) (turnOf groups n) k (length-blank-front n) (turnOf-lt groups n) h)
+
+pub blank-number : (groups n : ℕ) → n < 256 ^ 6 → groupNumber (blankGroup groups n) ≡ n
 unfolding groupNumber blankGroup
-blank-number n h = number-after 6 groupMark _ 2 0 refl ∙ number-front 6 n _ h
+blank-number groups n h = number-after 6 groupMark _ 2 0 refl ∙ number-front 6 n _ h
 
-pub blank-tag : (n k : ℕ) → groupTag (blankGroup n) k ≡ 0
+pub blank-tag : (groups n k : ℕ) → k < 7 → groupTag (blankGroup groups n) k ≡ 0
 unfolding groupTag blankGroup tagOffset
-blank-tag n k =
+blank-tag groups n k h =
     let e : 8 + 8 * k ≡ 2 + (6 + 8 * k) = omega arith in
-    rw e (number-after 8 groupMark _ 2 (6 + 8 * k) refl ∙ number-after 8 (bytes 6 n) _ 6 (8 * k) (length-bytes 6 n) ∙ number-zeros 8 504 (8 * k))
+    rw e
+    (number-after 8 groupMark _ 2 (6 + 8 * k) refl ∙ number-after 8 (bytes 6 n) _ 6 (8 * k) (length-bytes 6 n)
+    ∙ number-zeros-front 8 56 (turnBlocks 7 (turnOf groups n)) (8 * k) (omega arith))
 
-pub blank-mark : (n : ℕ) → part (blankGroup n) 0 2 ≡ groupMark
+pub blank-mark : (groups n : ℕ) → part (blankGroup groups n) 0 2 ≡ groupMark
 unfolding blankGroup
-blank-mark n = part-front groupMark _ 2 refl
+blank-mark groups n = part-front groupMark _ 2 refl
 
-pub blank-valid : (n groups start : ℕ) → n < 256 ^ 6 → groupValid (blankGroup n) groups start n ≡ (leb start n && ltb n (start + groups))
+pub blank-valid : (G n groups start : ℕ) → n < 256 ^ 6 → groupValid (blankGroup G n) groups start n ≡ (leb start n && ltb n (start + groups))
 unfolding groupValid
-blank-valid n groups start h = rw (blank-mark, blank-number, same-refl groupMark, eq-eqb n n refl)
-
-pub unused-valid : (groups start n : ℕ) → groupValid unusedGroup groups start n ≡ false
-unfolding groupValid unusedGroup zeros part same
-unused-valid groups start n = refl
+blank-valid G n groups start h = rw (blank-mark, blank-number, same-refl groupMark, eq-eqb n n refl)
 
 pub valid-number : (group : List ℕ) (groups start n : ℕ) → groupValid group groups start n ≡ true
     → (groupNumber group ≡ n) × (start ≤ n) × (n < start + groups)

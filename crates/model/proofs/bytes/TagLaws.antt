@@ -3,13 +3,13 @@
 use mathlib.Core.Path.{_≡_, refl, sym, ap, _∙_}
 use mathlib.Core.Bool.{Bool, true, false, cond, false≢true}
 use Prim.Native.Nat.{ℕ, _+_, _-_, _*_, _/_, _%_, _^_, _≤_, _<_}
-use native.Mathlib.Nat.{mod-lt}
+use native.Mathlib.Nat.{mod-lt, add-mul-div-left, add-mul-mod-self-right}
 use native.Mathlib.Omega.{arith}
 use native.Mathlib.Decide.{ℕ-discrete}
 use borrow.Author.Tests.{le-leb, lt-leb, leb-true, ne-eqb}
 use lib.Dec.{eqb, leb}
 use lib.Pow.{high, low, pow-pos}
-use Rattle.model.specs.Tag.{tagWord, entryWord, closingWord, field, homeField, says, readFields, readTag, readSmallTag, present}
+use Rattle.model.specs.Tag.{tagWord, entryWord, closingWord, withDisplaced, field, displaced, homeField, says, readFields, readTag, readSmallTag, present}
 use Rattle.model.specs.declared.Tag.{Tag}
 use Rattle.model.specs.declared.Tag.the-variants.{Nothing, Entry, Closing}
 
@@ -25,7 +25,7 @@ unfolding field
 field-of j k q f l {w} e hf hl = ap (λ (x : ℕ). x / 2 ^ k % 2 ^ j) e ∙ ap (λ (x : ℕ). x % 2 ^ j) (high (q * 2 ^ j + f) k hl) ∙ low q j hf
 
 module _ (closing home back link count : ℕ) (hk : closing < 2) (hh : home < 2 ^ 16) (hb : back < 2 ^ 13) (hl : link < 2 ^ 13) (hn : count < 2 ^ 13) where
-  pub word-fits : tagWord closing home back link count < 2 ^ 64
+  pub word-fits : tagWord closing home back link count < 2 ^ 57
   unfolding tagWord
   word-fits = omega arith
 
@@ -47,7 +47,7 @@ module _ (closing home back link count : ℕ) (hk : closing < 2) (hh : home < 2 
       field-of 1 0 (closing + 2 * low + 2 ^ 13 * back + 2 ^ 26 * link + 2 ^ 39 * count + 2 ^ 52 * high) 1 0 (omega arith) (omega arith) (omega arith) in
       let e1 : field w 1 1 ≡ closing =
       field-of 1 1 (low + 2 ^ 12 * back + 2 ^ 25 * link + 2 ^ 38 * count + 2 ^ 51 * high) closing 1 (omega arith) (omega arith) (omega arith) in
-      let e2 : field w 57 7 ≡ 0 = field-of 7 57 0 0 w (omega arith) (omega arith) (omega arith) in
+      let e2 : field w 58 6 ≡ 0 = field-of 6 58 0 0 w (omega arith) (omega arith) (omega arith) in
       let e3 : field w 27 26 ≡ count * 2 ^ 13 + link = field-of 26 27 high (count * 2 ^ 13 + link) l3 (omega arith) (omega arith) (omega arith) in
       let e4 : field w 2 12 ≡ low =
       field-of 12 2 (back + 2 ^ 13 * link + 2 ^ 26 * count + 2 ^ 39 * high) low (1 + 2 * closing) (omega arith) (omega arith) (omega arith) in
@@ -58,12 +58,12 @@ module _ (closing home back link count : ℕ) (hk : closing < 2) (hh : home < 2 
       let e8 : field w 53 4 ≡ high = field-of 4 53 0 high l5 (omega arith) (omega arith) (omega arith) in
       rw (e0, e1, e2, e3, e4, e5, e6, e7, e8, whole)
 
-pub entry-fits : (home back : ℕ) → home < 2 ^ 16 → back < 2 ^ 13 → entryWord home back < 2 ^ 64
+pub entry-fits : (home back : ℕ) → home < 2 ^ 16 → back < 2 ^ 13 → entryWord home back < 2 ^ 57
 unfolding entryWord
 entry-fits home back hh hb = word-fits 0 home back 0 0 (omega arith) hh hb (omega arith) (omega arith)
 
 pub closing-fits : (home back link count : ℕ) → home < 2 ^ 16 → back < 2 ^ 13 → link < 2 ^ 13 → count < 2 ^ 13
-    → closingWord home back link count < 2 ^ 64
+    → closingWord home back link count < 2 ^ 57
 unfolding closingWord
 closing-fits home back link count hh hb hl hn = word-fits 1 home back link count (omega arith) hh hb hl hn
 
@@ -88,6 +88,50 @@ pub read-zero : (position base homes : ℕ) → readTag 0 position base homes �
 unfolding readTag readFields field says
 read-zero position base homes = refl
 
+-- ---- the displaced bit
+
+-- the fields below it stay
+below : (j k c word bit : ℕ) → 2 ^ 57 * bit ≡ 2 ^ k * (c * 2 ^ j) → field (withDisplaced word bit) k j ≡ field word k j
+unfolding field withDisplaced
+below j k c word bit e =
+    rw (e, add-mul-div-left word (c * 2 ^ j) (pow-pos k)) (add-mul-mod-self-right (word / 2 ^ k) c (2 ^ j))
+
+module _ (word bit : ℕ) (hw : word < 2 ^ 57) (hb : bit < 2) where
+  displaced-small : withDisplaced word bit < 2 ^ 58
+  unfolding withDisplaced
+  displaced-small = omega arith
+
+  pub displaced-fits : withDisplaced word bit < 2 ^ 64
+  unfolding withDisplaced
+  displaced-fits = omega arith
+
+  pub displaced-back : displaced (withDisplaced word bit) ≡ bit
+  unfolding withDisplaced displaced
+  displaced-back = field-of 1 57 0 bit word (omega arith) hb hw
+
+  -- bits 58 to 63 stay zero
+  pub read-displaced : (position base homes : ℕ) → readTag (withDisplaced word bit) position base homes ≡ readTag word position base homes
+  unfolding readTag
+  read-displaced position base homes =
+      let e2 : field (withDisplaced word bit) 58 6 ≡ field word 58 6 = zero-bits ∙ sym zero-word in
+      rw (
+        below 1 0 (2 ^ 56 * bit) word bit (omega arith),
+        below 1 1 (2 ^ 55 * bit) word bit (omega arith),
+        e2,
+        below 26 27 (2 ^ 4 * bit) word bit (omega arith),
+        below 12 2 (2 ^ 43 * bit) word bit (omega arith),
+        below 4 53 bit word bit (omega arith),
+        below 13 14 (2 ^ 30 * bit) word bit (omega arith),
+        below 13 27 (2 ^ 17 * bit) word bit (omega arith),
+        below 13 40 (2 ^ 4 * bit) word bit (omega arith),
+      )
+    where
+      zero-word : field word 58 6 ≡ 0
+      zero-word = field-of 6 58 0 0 word (omega arith) (omega arith) (omega arith)
+
+      zero-bits : field (withDisplaced word bit) 58 6 ≡ 0
+      zero-bits = field-of 6 58 0 0 (withDisplaced word bit) (omega arith) (omega arith) displaced-small
+
 -- the paper's second trial: home 5, two back, no link, three entries
 pub trial-word : closingWord 5 2 0 3 ≡ 3298534916119
 unfolding closingWord tagWord
@@ -95,10 +139,16 @@ trial-word = refl
 
 -- ---- logs of smaller stations
 
--- bits 53 to 63 are the home's four, and above them the zero bits
-above-parts : (w : ℕ) → field w 53 11 ≡ field w 53 4 + 2 ^ 4 * field w 57 7
-unfolding field
-above-parts w = omega arith
+-- bits 53 to 63 are the home's four, the displaced bit, and above them the zero bits
+parts : (q : ℕ) → q % 2 ^ 11 ≡ q % 2 ^ 4 + 2 ^ 4 * (q / 2 ^ 4 % 2 ^ 1) + 2 ^ 5 * (q / 2 ^ 5 % 2 ^ 6)
+parts q = omega arith
+
+above-parts : (w : ℕ) → field w 53 11 ≡ field w 53 4 + 2 ^ 4 * displaced w + 2 ^ 5 * field w 58 6
+unfolding field displaced
+above-parts w =
+    let e : w / 2 ^ 57 ≡ w / 2 ^ 53 / 2 ^ 4 = omega arith in
+    let f : w / 2 ^ 58 ≡ w / 2 ^ 53 / 2 ^ 5 = omega arith in
+    rw (e, f) (parts (w / 2 ^ 53))
 
 -- the fields of a word with some of the four bits set, which the reader of 12 bits took for zero bits: its home is none of 4,096
 read-high : (used closing above upper home back link count position base homes : ℕ) → homes ≤ home
@@ -121,25 +171,26 @@ read-above used closing above upper home back link count position base homes h =
     both true = refl
     both false = refl
 
--- "Logs of smaller stations read as they did": on every word
-pub read-small : (word position base homes : ℕ) → homes ≤ 4096 → readTag word position base homes ≡ readSmallTag word position base homes
+-- "Logs of smaller stations read as they did": on every word that a station wrote before blocks had turns
+pub read-small : (word position base homes : ℕ) → homes ≤ 4096 → displaced word ≡ 0
+    → readTag word position base homes ≡ readSmallTag word position base homes
 unfolding readTag readSmallTag
-read-small word position base homes few = go (ℕ-discrete (field word 53 4) 0) (ℕ-discrete (field word 57 7) 0)
+read-small word position base homes few none = go (ℕ-discrete (field word 53 4) 0) (ℕ-discrete (field word 58 6) 0)
   where
-    go : Dec (field word 53 4 ≡ 0) → Dec (field word 57 7 ≡ 0)
-        → readFields (field word 0 1) (field word 1 1) (field word 57 7) (field word 27 26) (field word 2 12 + 2 ^ 12 * field word 53 4) (field word 14 13)
+    go : Dec (field word 53 4 ≡ 0) → Dec (field word 58 6 ≡ 0)
+        → readFields (field word 0 1) (field word 1 1) (field word 58 6) (field word 27 26) (field word 2 12 + 2 ^ 12 * field word 53 4) (field word 14 13)
         (field word 27 13) (field word 40 13) position base homes
         ≡ readFields (field word 0 1) (field word 1 1) (field word 53 11) (field word 27 26) (field word 2 12) (field word 14 13) (field word 27 13)
         (field word 40 13) position base homes
     go (yes a) b =
-        let e : field word 53 11 ≡ 2 ^ 4 * field word 57 7 = omega (arith, above-parts word) in
+        let e : field word 53 11 ≡ 2 ^ 5 * field word 58 6 = omega (arith, above-parts word) in
         let h : field word 2 12 + 2 ^ 12 * field word 53 4 ≡ field word 2 12 = omega arith in
         rw (e, h) (same b)
       where
-        same : Dec (field word 57 7 ≡ 0)
-            → readFields (field word 0 1) (field word 1 1) (field word 57 7) (field word 27 26) (field word 2 12) (field word 14 13)
+        same : Dec (field word 58 6 ≡ 0)
+            → readFields (field word 0 1) (field word 1 1) (field word 58 6) (field word 27 26) (field word 2 12) (field word 14 13)
             (field word 27 13) (field word 40 13) position base homes
-            ≡ readFields (field word 0 1) (field word 1 1) (2 ^ 4 * field word 57 7) (field word 27 26) (field word 2 12) (field word 14 13) (field word 27 13)
+            ≡ readFields (field word 0 1) (field word 1 1) (2 ^ 5 * field word 58 6) (field word 27 26) (field word 2 12) (field word 14 13) (field word 27 13)
             (field word 40 13) position base homes
         same (yes z) = rw z
         same (no z) = read-above _ _ _ _ _ _ _ _ _ _ _ z ∙ sym (read-above _ _ _ _ _ _ _ _ _ _ _ (λ k. z (omega arith)))
@@ -240,7 +291,7 @@ module _ (w position base homes h f : ℕ) (e : readTag w position base homes �
   said-by-entry : EntrySaid (homeField w) (field w 14 13) position base homes h f
   unfolding readTag
   said-by-entry =
-      entry-said (field w 0 1) (field w 1 1) (field w 57 7) (field w 27 26) (homeField w) (field w 14 13) (field w 27 13) (field w 40 13)
+      entry-said (field w 0 1) (field w 1 1) (field w 58 6) (field w 27 26) (homeField w) (field w 14 13) (field w 27 13) (field w 40 13)
       position base homes h f e
 
   pub entry-fields : (h ≡ homeField w) × (f + field w 14 13 ≡ position)
@@ -254,7 +305,7 @@ module _ (w position base homes h f l c : ℕ) (e : readTag w position base home
   said-by-closing : ClosingSaid (homeField w) (field w 14 13) (field w 27 13) (field w 40 13) position base homes h f l c
   unfolding readTag
   said-by-closing =
-      closing-said (field w 0 1) (field w 1 1) (field w 57 7) (field w 27 26) (homeField w) (field w 14 13) (field w 27 13) (field w 40 13)
+      closing-said (field w 0 1) (field w 1 1) (field w 58 6) (field w 27 26) (homeField w) (field w 14 13) (field w 27 13) (field w 40 13)
       position base homes h f l c e
 
   pub closing-fields : (h ≡ homeField w) × (f + field w 14 13 ≡ position) × (l ≡ field w 27 13) × (c ≡ field w 40 13)

@@ -1,6 +1,6 @@
 -- The facts of specs/Facts, for every history: between two fences no block is written twice, and rows are submitted with their group writes.
 -- Assumes nothing.
-use Prim.Native.Nat.{ℕ, _+_, _*_, _%_, _≤_, _<_}
+use Prim.Native.Nat.{ℕ, _+_, _-_, _*_, _%_, _≤_, _<_}
 use native.Mathlib.Nat.{mod-lt}
 use mathlib.Core.Path.{_≡_, refl, sym, ap, _∙_, subst}
 use mathlib.Core.Logic.{_⊎_, inl, inr}
@@ -11,17 +11,16 @@ use native.Mathlib.Decide.{decLt}
 use lib.Dec.{eqb}
 use lib.ListN.{length}
 use borrow.Author.Tests.{eqb-true, eqb-false}
-use Rattle.model.specs.Layout.{groupAt, header}
-use Rattle.model.specs.Batch.{Record, GW, KW, FN, batchBytes}
+use Rattle.model.specs.Layout.{groupsIn, groupAt, header}
+use Rattle.model.specs.Batch.{Record, GW, KW, FN}
 use Rattle.model.specs.State.{stateOf, nextPosition, writerOf, holds}
-use Rattle.model.specs.Effects.{Given, Effect, groups, homes, newState, marked, touched, homeWrites, openEffect, openStart, beginEffect, reserveEffect, abortEffect, logged, logHeld, logClosing, storeFirst, storeAgain, storeOther, storeEffect, commitHeld, commitEffect, flushNone, flushPart, flushEffect, confirmEffect, settleEffect, trimStart, trimTo, trimEffect, readEffect}
+use Rattle.model.specs.Effects.{Given, Effect, groups, homes, newState, marked, touched, blankWrites, homeWrites, openEffect, openStart, beginEffect, reserveEffect, abortEffect, logged, logHeld, logClosing, storeFirst, storeAgain, storeOther, storeEffect, commitHeld, commitEffect, flushNone, flushPart, flushEffect, confirmEffect, settleEffect, trimStart, trimTo, trimEffect, readEffect}
 use Rattle.model.specs.Questions.{openAnswer, beginAnswer, reserveAnswer, abortAnswer, storeAnswer, commitAnswer, flushAnswer, confirmAnswer, settleAnswer, trimAnswer, readAnswer}
 use Rattle.model.specs.Calls.{outcome, sizeOf, openCall, beginCall, reserveCall, abortCall, storeCall, commitCall, flushCall, confirmCall, settleCall, trimCall, readCall}
-use Rattle.model.specs.Book.{homesAfter}
 use Rattle.model.specs.Demands.{groupWrites}
 use Rattle.model.specs.Facts.{slotWritten, headerWritten, writtenOnce, FormatOnce, PendingOnce, RowsWritten}
 use Rattle.model.specs.History.{Change, begins, reserves, aborts, stores, commits, flushes, Service, settles, trims, reads, change, service, changeEnds, serviceEnds, Call, opening, begin, reserve, abort, store, commit, flush, confirm, settle, trim, read, Event, call, crash, World, unopened, emptyStore, lent, loaded, ends, isOpening, afterCrash, step, after as along, Allowed, AllAllowed}
-use Rattle.model.proofs.bytes.LayoutLaws.{length-groupAt, group-fits, length-header}
+use Rattle.model.proofs.bytes.LayoutLaws.{length-groupAt, group-fits}
 use Rattle.model.proofs.strip.BatchLaws.{AllFormed, formed-append}
 use Rattle.model.proofs.strip.QuestionLaws.{open-ready, store-ready, commit-ready, flush-ready, settle-ready, trim-ready}
 use Rattle.model.proofs.trace.CrashLaws.{submits}
@@ -29,16 +28,14 @@ use Rattle.model.proofs.steps.DoneLaws.{fits}
 use Rattle.model.proofs.invariant.LogStep.{length-entered}
 use Rattle.model.proofs.steps.LogRuns.{logged-records, logged-log}
 use Rattle.model.proofs.steps.CallRuns.{no-bytes, by-answer}
-use Rattle.model.proofs.invariant.OpenLaws.{hs, newHeader, restored-size, touched-below}
-use Rattle.model.proofs.steps.OpenStep.{open-effect}
-use Rattle.model.proofs.steps.OpenKeeps.{homes-formed}
+use Rattle.model.proofs.steps.OpenKeeps.{open-formed}
 use Rattle.model.proofs.steps.SettleRuns.{settle-formed}
 use Rattle.model.proofs.steps.TrimRuns.{trim-formed}
 use Rattle.model.proofs.steps.FormatRuns.{from-format}
 use Rattle.model.proofs.steps.Beginning.{format-closed}
 use Rattle.model.proofs.claims.DemandThree.{keeps}
 use Rattle.model.proofs.claims.Yields.{rows-pending}
-use Rattle.model.proofs.claims.OnceLaws.{once-fence, once-end, once-more, once-append, avoids-submits, once-submits, once-next, slot-homes, once-marked, once-formatted}
+use Rattle.model.proofs.claims.OnceLaws.{once-fence, once-end, once-more, once-append, avoids-submits, once-submits, once-next, slot-homes, once-marked, once-blanks, once-formatted}
 use Rattle.model.proofs.invariant.Invariant.{Sizes, Closed, Running, Invariant}
 
 abbrev pub Once : World → Type 0
@@ -308,25 +305,21 @@ module _ (G D : ℕ) (z : Sizes G D) (w : World) (c : Closed G D w) (state batch
   abbrev g : Given
   g = loaded w state batch
 
-  open-formed : AllFormed (openEffect g .records)
-  open-formed =
-      let X = homesAfter D (w .book .commits) in
-      let o = c .opens in
-      rw (open-effect G D z w c state batch)
-      (formed-append (homeWrites X (hs G D z (w .memory) X o)) (FN ∷ KW (newHeader G D z (w .memory) X o) ∷ FN ∷ [])
-      (homes-formed D X (hs G D z (w .memory) X o) (z .homes) (restored-size G D z (w .memory) X o) (touched-below G D z (w .memory) X o))
-      (tt, (length-header _ G D, (tt, tt))))
-
   open-adds : writtenOnce (openEffect g .records) ≡ true
   unfolding openEffect touched
-  open-adds = once-fence (homeWrites _ (marked _ (homes g))) _ ∙ rw (once-marked _ _ (homes g)) (unfold writtenOnce headerWritten in refl)
+  open-adds =
+      once-fence (homeWrites _ (marked _ (homes g))) _
+      ∙ rw (once-marked _ _ (homes g)) after-homes
+    where
+      after-homes : writtenOnce (KW (header (openStart g) (groups g) (homes g)) ∷ FN ∷ (blankWrites (groups g) (openStart g) (groups g) ++ (FN ∷ []))) ≡ true
+      after-homes = unfold writtenOnce headerWritten in once-end (blankWrites (groups g) (openStart g) (groups g)) (once-blanks (groups g) (openStart g) (groups g))
 
   pub opening-once : Once w → Once (step w (call (opening state batch)))
   unfolding ends openCall
   opening-once h =
       by-answer Once w (opening state batch) g (openAnswer g (openStart g) (sizeOf (openEffect g))) (openEffect g) refl h
       (λ a. record {
-        formed = open-formed;
+        formed = open-formed G D z w c state batch;
         fit = fits g (sizeOf (openEffect g)) (open-ready g (openStart g) (sizeOf (openEffect g)) a .3);
         next = subst (λ (P : List Record). writtenOnce (P ++ openEffect g .records) ≡ true) (sym (c .pending)) open-adds;
       })
@@ -353,8 +346,8 @@ module _ (G D : ℕ) (z : Sizes G D) where
   along-history P f [] w i p a = (i, p)
   along-history P f (e ∷ es) w i p a = along-history P f es (step w e) (keeps G D z w i e (a .0) .0) (f w i p e (a .0)) (a .1)
 
-  pub rows-written : (w : World) → Invariant G D w → w .book .rows ≡ groupWrites (w .pending)
-  rows-written w (inl k) = rw (k .rows, k .pending) (unfold groupWrites in refl)
+  pub rows-written : (w : World) → Invariant G D w → w .book .rows ≡ groupWrites (w .pending) - groupsIn (length (w .memory .log))
+  rows-written w (inl k) = rw (k .rows, k .pending) (unfold groupWrites in omega arith)
   rows-written w (inr r) = rows-pending G D z w r
 
 pub format-once : FormatOnce
@@ -369,7 +362,7 @@ pending-once =
 
 pub rows-with-writes : RowsWritten
 rows-with-writes =
-    from-format (λ w es. along w es .book .rows ≡ groupWrites (along w es .pending))
+    from-format (λ w es. along w es .book .rows ≡ groupWrites (along w es .pending) - groupsIn (length (along w es .memory .log)))
     (λ G D z es a.
     rows-written G D z (along (emptyStore G D) es)
     (along-history G D z (λ w. Unit {0}) (λ w i p e b. tt) es (emptyStore G D) (inl (format-closed G D z)) tt a .0))

@@ -8,7 +8,7 @@ use native.Mathlib.Omega.{arith}
 use borrow.Author.Tests.{ne-eqb}
 use Rattle.model.specs.Layout.{homeAt}
 use Rattle.model.specs.Batch.{Record, GW, HW, KW, FN}
-use Rattle.model.specs.Effects.{marked, homeWrites, unusedGroups, zeroHomes, formatted}
+use Rattle.model.specs.Effects.{marked, homeWrites, blankWrites, zeroHomes, formatted}
 use Rattle.model.specs.Facts.{slotWritten, homeWritten, headerWritten, writtenOnce}
 use Rattle.model.proofs.bytes.LayoutLaws.{ring}
 use Rattle.model.proofs.strip.QuestionLaws.{and-true}
@@ -184,18 +184,19 @@ once-marked area test (suc n) = rw (homes-append area (marked test n) (cond (tes
         (λ x i. let l : x < n = marked-below test n x i in (unfold homeWritten in rw (ne-eqb n x (λ e. omega arith))))))
     go false h = (unfold homeWrites in rw (append-nil (homeWrites area (marked test n))) h)
 
--- ---- format's batch
+-- ---- blank slots, and format's batch
 
-avoids-unused : (n : ℕ) (S : List Record) → ((m : ℕ) → m < n → slotWritten m S ≡ false) → Avoids (unusedGroups n) S
-unfolding unusedGroups
-avoids-unused zero S f = tt
-avoids-unused (suc n) S f = avoids-both (unusedGroups n) _ S (avoids-unused n S (λ m l. f m (omega arith))) (f n (omega arith), tt)
+avoids-blanks : (G start n : ℕ) (S : List Record) → ((m : ℕ) → m < n → slotWritten m S ≡ false) → Avoids (blankWrites G start n) S
+unfolding blankWrites
+avoids-blanks G start zero S f = tt
+avoids-blanks G start (suc n) S f =
+    avoids-both (blankWrites G start n) _ S (avoids-blanks G start n S (λ m l. f m (omega arith))) (f n (omega arith), tt)
 
-once-unused : (n : ℕ) → writtenOnce (unusedGroups n) ≡ true
-unfolding unusedGroups writtenOnce slotWritten
-once-unused zero = refl
-once-unused (suc n) =
-    once-append (unusedGroups n) _ (once-unused n) refl (avoids-unused n _ (λ m l. rw (ne-eqb n m (λ e. omega arith))))
+pub once-blanks : (G start n : ℕ) → writtenOnce (blankWrites G start n) ≡ true
+unfolding blankWrites writtenOnce slotWritten
+once-blanks G start zero = refl
+once-blanks G start (suc n) =
+    once-append (blankWrites G start n) _ (once-blanks G start n) refl (avoids-blanks G start n _ (λ m l. rw (ne-eqb n m (λ e. omega arith))))
 
 slot-zeros : (slot n : ℕ) → slotWritten slot (zeroHomes n) ≡ false
 unfolding zeroHomes slotWritten
@@ -215,10 +216,10 @@ once-zeros (suc n) = once-append (zeroHomes n) _ (once-zeros n) refl (avoids-zer
 pub once-formatted : (groups homes : ℕ) → writtenOnce (formatted groups homes) ≡ true
 unfolding formatted writtenOnce headerWritten
 once-formatted groups homes =
-    rw (← append-assoc (unusedGroups groups) (zeroHomes homes)) (
-    once-fence (unusedGroups groups ++ zeroHomes homes) _
-    ∙ rw (once-append (unusedGroups groups) (zeroHomes homes) (once-unused groups) (once-zeros homes)
-    (avoids-unused groups (zeroHomes homes) (λ m l. slot-zeros m homes))))
+    rw (← append-assoc (blankWrites groups 0 groups) (zeroHomes homes)) (
+    once-fence (blankWrites groups 0 groups ++ zeroHomes homes) _
+    ∙ rw (once-append (blankWrites groups 0 groups) (zeroHomes homes) (once-blanks groups 0 groups) (once-zeros homes)
+    (avoids-blanks groups 0 groups (zeroHomes homes) (λ m l. slot-zeros m homes))))
 
 -- ---- a second write is seen, one after a fence is none
 

@@ -15,7 +15,7 @@ use Rattle.model.specs.Layout.{groupsIn, homesIn, logLengthRight, dataLe
 use Rattle.model.specs.Commit.{transactions, newest, found}
 use Rattle.model.specs.Batch.{Record, GW, KW, FN, recordBytes, batchBytes}
 use Rattle.model.specs.State.{State, stateOf, nextPosition, promiseOf, promised, places, freePlaces, Writer, writerOf, heldOf, isOpen, holds}
-use Rattle.model.specs.Effects.{Given, Effect, groups, homes, logged, logHeld, logClosing, beginEffect, reserveEffect, abortEffect, storeFirst, storeAgain, storeOther, storeEffect, commitHeld, commitEffect, flushNone, flushPart, flushEffect, confirmEffect, settleEffect, trimStart, trimTo, trimEffect, readEffect, newState, openEffect, openStart, touched, marked, homeWrites, largest}
+use Rattle.model.specs.Effects.{Given, Effect, groups, homes, logged, logHeld, logClosing, beginEffect, reserveEffect, abortEffect, storeFirst, storeAgain, storeOther, storeEffect, commitHeld, commitEffect, flushNone, flushPart, flushEffect, confirmEffect, settleEffect, trimStart, trimTo, trimEffect, readEffect, newState, openEffect, openStart, touched, marked, blankWrites, homeWrites, largest}
 use Rattle.model.specs.Questions.{ask, areasRight, stateRight, blockRight, stripInOrder, headerFits, writerKnown, homeKnown, writerOpen, roomFor, room, mayPromise, keepsPromises, storeLogs, commitLogs, startFits, batchFits, openAnswer, askState, askBlock, beginAnswer, reserveAnswer, abortAnswer, storeAnswer, commitAnswer, flushAnswer, confirmAnswer, settleAnswer, trimAnswer, readAnswer}
 use Rattle.model.specs.Calls.{Outcome, outcome, sizeOf, openCall, beginCall, reserveCall, abortCall, storeCall, commitCall, flushCall, confirmCall, settleCall, trimCall, readCall}
 use Rattle.model.specs.Book.{Held, Task, idle, opened, Book, homesAfter}
@@ -33,7 +33,7 @@ use Rattle.model.proofs.invariant.LogStep.{length-entered}
 use Rattle.model.proofs.invariant.LiveLog.{tagsIn, baseOf, keptIn, Shown, all-each, upto-shown}
 use Rattle.model.proofs.invariant.ReadBack.{SeenIn, untrimmed-old, untrimmed-matches}
 use Rattle.model.proofs.invariant.RunLaws.{closedBelow-old, closedBelow-matches}
-use Rattle.model.proofs.invariant.OpenLaws.{ts, hs, tags, newHeader, touched-below, restored-size}
+use Rattle.model.proofs.invariant.OpenLaws.{ts, hs, tags, newStart, newHeader, touched-below, restored-size}
 use Rattle.model.proofs.steps.LogRuns.{logged-records, logged-log}
 use Rattle.model.proofs.steps.TrimLaws.{largest-from, largest-upto, largest-may, largest-most}
 use Rattle.model.proofs.steps.SettleRuns.{below-from, newArea, due, effect, settle-effect, area-size, inside}
@@ -41,7 +41,7 @@ use Rattle.model.proofs.steps.OpenStep.{opens-with, open-effect}
 use Rattle.model.proofs.steps.Beginning.{header-fits}
 use Rattle.model.proofs.steps.TrimRuns.{MayMove, trim-may}
 use Rattle.model.proofs.claims.TrimYields.{first-group, trimmed}
-use Rattle.model.proofs.claims.StoreLaws.{answers, ask-same, found-any-wrote, length-contents, marked-same, bytes-homes}
+use Rattle.model.proofs.claims.StoreLaws.{answers, ask-same, found-any-wrote, length-contents, marked-same, bytes-homes, bytes-opening}
 
 -- the strip's numbers are the abstract store's
 pub record Numbers (s : Store) (st : State) : Type 0 where
@@ -637,25 +637,21 @@ module _ (G D : ℕ) (z : Sizes G D) (w : World) (c : Closed G D w) (s : Store) 
       (λ h. anyWrote h (eachContents (tags G D z (w .memory) X (c .opens)) (w .memory .log) G found-ts)) D
       (λ h. found-any-wrote (tags G D z (w .memory) X (c .opens)) (w .memory .log) G h found-ts)))
 
-  open-bytes : sizeOf (openEffect g) ≡ 68 * manyHomes (s .homes) (s .back) + 70
+  open-bytes : sizeOf (openEffect g) ≡ 68 * manyHomes (s .homes) (s .back) + (72 + 516 * s .groups)
   unfolding sizeOf
   open-bytes =
       let new : List ℕ = newHeader G D z (w .memory) X (c .opens) in
+      let start : ℕ = newStart G D z (w .memory) X (c .opens) in
       rw (open-effect G D z w c state batch)
-      (ap length (batch-append (homeWrites X homes-due) (FN ∷ KW new ∷ FN ∷ []))
-      ∙ length-append (batchBytes (homeWrites X homes-due)) (batchBytes (FN ∷ KW new ∷ FN ∷ []))
+      (ap length (batch-append (homeWrites X homes-due) (FN ∷ KW new ∷ FN ∷ (blankWrites G start G ++ (FN ∷ []))))
+      ∙ length-append (batchBytes (homeWrites X homes-due)) (batchBytes (FN ∷ KW new ∷ FN ∷ (blankWrites G start G ++ (FN ∷ []))))
       ∙ omega (
         arith,
         bytes-homes D X homes-due (restored-size G D z (w .memory) X (c .opens)) (touched-below G D z (w .memory) X (c .opens)),
         many-is,
-        tail-bytes new (length-header _ G D),
+        a .groups,
+        bytes-opening G start new (length-header _ G D),
       ))
-    where
-      tail-bytes : (new : List ℕ) → length new ≡ 64 → length (batchBytes (FN ∷ KW new ∷ FN ∷ [])) ≡ 70
-      tail-bytes new l =
-          (unfold batchBytes in
-          (length-append (recordBytes FN) (recordBytes (KW new) ++ (recordBytes FN ++ []))
-          ∙ omega (arith, length-append (recordBytes (KW new)) (recordBytes FN ++ []), length-append (recordBytes FN) [], length-FN, length-KW new l)))
 
   open-figure : openEffect g .figure ≡ length (s .back)
   open-figure =
@@ -673,7 +669,7 @@ module _ (G D : ℕ) (z : Sizes G D) (w : World) (c : Closed G D w) (s : Store) 
 
   open-number : openAnswer g (openStart g) (sizeOf (openEffect g))
       ≡ ask (eqb (length state) 1024) 1
-      (ask (leb (firstGroup s) maxStart) 10 (askBatch (68 * manyHomes (s .homes) (s .back) + 70) batch))
+      (ask (leb (firstGroup s) maxStart) 10 (askBatch (68 * manyHomes (s .homes) (s .back) + (72 + 516 * s .groups)) batch))
   unfolding openAnswer ask
   open-number =
       rw (areas-ok, header-fits G D w X state batch (c .opens), start-ok, open-bytes) (unfold stateRight batchFits askBatch loaded in refl)
@@ -681,5 +677,5 @@ module _ (G D : ℕ) (z : Sizes G D) (w : World) (c : Closed G D w) (s : Store) 
   pub open-answers : replyOf (ends w (opening state batch)) ≡ reply s (opening state batch)
   unfolding ends openCall reply
   open-answers =
-      answers g (openAnswer g (openStart g) (sizeOf (openEffect g))) (openEffect g) _ (length (s .back)) (68 * manyHomes (s .homes) (s .back) + 70)
+      answers g (openAnswer g (openStart g) (sizeOf (openEffect g))) (openEffect g) _ (length (s .back)) (68 * manyHomes (s .homes) (s .back) + (72 + 516 * s .groups))
       open-number (λ e. (open-figure, open-bytes))

@@ -18,7 +18,7 @@ use Rattle.model.specs.Crash.{Memory, fences, persist, fates}
 use Rattle.model.specs.Book.{Book, homesAfter, run}
 use Rattle.model.specs.Book as book
 use Rattle.model.specs.Demands.{untrimmed}
-use Rattle.model.specs.History.{Change, begins, reserves, aborts, stores, commits, flushes, Service, settles, trims, reads, Call, opening, confirm, change, service, Event, call, crash, World, unopened, emptyStore, lent, loaded, ends, changeEnds, serviceEnds, feed, isOpening, afterDone, afterCall, afterCrash, step, Allowed, AllAllowed}
+use Rattle.model.specs.History.{Change, begins, reserves, aborts, stores, commits, flushes, Service, settles, trims, reads, Call, opening, confirm, change, service, Event, call, crash, World, unopened, emptyStore, lent, loaded, ends, changeEnds, serviceEnds, feed, isOpening, afterDone, afterCall, afterCrash, step, Allowed, AllAllowed, rowFates}
 use Rattle.model.specs.Store.{Store, newStore, firstGroup, nextGroup, nextOf, nextStart, replyOf, reply, storeMustLog, lastAfter, fencedAfter, setFor, promisesAfter, numbered, trimmedTo, afterService, afterReply, follow, foundInMemory, AnswersAt, AnswersThroughout, Answers}
 use Rattle.model.specs.Store as store
 use Rattle.model.proofs.bytes.LayoutLaws.{groups-in}
@@ -709,7 +709,7 @@ module _ (G D : ℕ) (z : Sizes G D) (w : World) (s : Store) (a : Agrees G D w s
   m = persist passed chosen (w .pending) (w .memory)
 
   abbrev fs : List (ℕ → Bool)
-  fs = fates passed chosen (w .pending)
+  fs = rowFates w passed chosen
 
   abbrev head : ℕ
   head = headerStart (persist passed chosen (w .pending) (w .memory) .log)

@@ -10,17 +10,18 @@ use lib.Dec.{eqb, leb, ltb}
 use lib.ListN.{length, length-append}
 use Rattle.model.specs.Tag.{homeOf}
 use Rattle.model.specs.declared.Tag.{Tag}
-use Rattle.model.specs.Layout.{blockAt, homeAt}
+use Rattle.model.specs.Layout.{unusedGroup, blockAt, homeAt}
 use Rattle.model.specs.Commit.{newestIn, orElse, newest, found}
-use Rattle.model.specs.Batch.{Record, HW, recordBytes, batchBytes}
-use Rattle.model.specs.Effects.{Given, Effect, marked, homeWrites}
+use Rattle.model.specs.Batch.{Record, GW, HW, KW, FN, recordBytes, batchBytes}
+use Rattle.model.specs.Effects.{Given, Effect, marked, blankWrites, homeWrites}
 use Rattle.model.specs.Questions.{ask}
 use Rattle.model.specs.Calls.{Outcome, refused, done, sizeOf, outcome}
 use Rattle.model.specs.Book.{Held}
 use Rattle.model.specs.Demands.{contents, eachContents}
 use Rattle.model.specs.Store.{Reply, told, replyOf, wrote, anyWrote}
 use Rattle.model.proofs.bytes.ByteLaws.{length-part}
-use Rattle.model.proofs.strip.BatchLaws.{length-HW}
+use Rattle.model.proofs.bytes.EmptyLaws.{length-unusedGroup}
+use Rattle.model.proofs.strip.BatchLaws.{length-GW, length-HW, length-KW, length-FN, batch-append, batch-one}
 use Rattle.model.proofs.strip.QuestionLaws.{ask-passed}
 use Rattle.model.proofs.trace.HomeLaws.{In}
 use Rattle.model.proofs.invariant.LiveLog.{found-else}
@@ -99,3 +100,38 @@ bytes-homes D area (h ∷ hs) l b =
     let s : length (recordBytes (HW h (homeAt area h))) ≡ 68 = length-HW h (homeAt area h) (unfold homeAt in length-part area (64 * h) 64 (omega arith)) in
     length-append (recordBytes (HW h (homeAt area h))) (batchBytes (homeWrites area hs))
     ∙ omega (arith, s, bytes-homes D area hs l (λ x k. b x (inr k)))
+
+-- ---- the bytes of blank slots, and of an opening's records after its homes
+
+bytes-more : (rs : List Record) (r : Record) → length (batchBytes (r ∷ rs)) ≡ length (recordBytes r) + length (batchBytes rs)
+unfolding batchBytes
+bytes-more rs r = length-append (recordBytes r) (batchBytes rs)
+
+pub bytes-blanks : (G start n : ℕ) → length (batchBytes (blankWrites G start n)) ≡ 516 * n
+unfolding blankWrites
+bytes-blanks G start zero = unfold batchBytes in refl
+bytes-blanks G start (suc n) =
+    ap length (batch-append (blankWrites G start n) (GW n (unusedGroup G start n) ∷ []))
+    ∙ length-append (batchBytes (blankWrites G start n)) (batchBytes (GW n (unusedGroup G start n) ∷ []))
+    ∙ omega (
+      arith,
+      bytes-blanks G start n,
+      ap length (batch-one (GW n (unusedGroup G start n))) ∙ length-GW n (unusedGroup G start n) (length-unusedGroup G start n),
+    )
+
+pub bytes-opening : (G start : ℕ) (head : List ℕ) → length head ≡ 64
+    → length (batchBytes (FN ∷ KW head ∷ FN ∷ (blankWrites G start G ++ (FN ∷ [])))) ≡ 72 + 516 * G
+bytes-opening G start head l =
+    let blanks : List Record = blankWrites G start G in
+    let e : length (batchBytes (blanks ++ (FN ∷ []))) ≡ length (batchBytes blanks) + length (batchBytes (FN ∷ [])) =
+    ap length (batch-append blanks (FN ∷ [])) ∙ length-append (batchBytes blanks) (batchBytes (FN ∷ [])) in
+    bytes-more (KW head ∷ FN ∷ (blanks ++ (FN ∷ []))) FN
+    ∙ omega (
+      arith,
+      bytes-more (FN ∷ (blanks ++ (FN ∷ []))) (KW head),
+      bytes-more (blanks ++ (FN ∷ [])) FN,
+      bytes-blanks G start G,
+      ap length (batch-one FN) ∙ length-FN,
+      length-KW head l,
+      length-FN,
+    )

@@ -16,7 +16,7 @@ use Rattle.model.specs.Questions.{confirmAnswer, settleAnswer}
 use Rattle.model.specs.Calls.{Outcome, outcome, done, sizeOf, confirmCall, settleCall}
 use Rattle.model.specs.Crash.{isFence, fences}
 use Rattle.model.specs.Book.{row, Entry, Commit, homesAfter, owedBy}
-use Rattle.model.specs.Demands.{closedBelow, groupWrites, fencedRows, keptBelow, allBelow, owedRows}
+use Rattle.model.specs.Demands.{closedBelow, groupWrites, fencedRows, rowsFenced, keptBelow, allBelow, owedRows}
 use Rattle.model.specs.History.{confirm, settle, World, lent, ends, serviceEnds}
 use Rattle.model.proofs.bytes.LayoutLaws.{groups-in}
 use Rattle.model.proofs.strip.OrderLaws.{order-in}
@@ -26,6 +26,7 @@ use Rattle.model.proofs.trace.TraceLaws.{All, Falling, Long, done-falli
 use Rattle.model.proofs.invariant.RunLaws.{ticket-below}
 use Rattle.model.proofs.steps.DoneLaws.{outcome-code, outcome-done}
 use Rattle.model.proofs.steps.SettleRuns as settles
+use Rattle.model.proofs.steps.FenceRuns.{lasting-groups}
 use Rattle.model.proofs.invariant.Invariant.{Sizes, entryFor, entriesFor, Matches, OldCommits, Commits, Running}
 
 -- an answer of 0 is a done call
@@ -161,24 +162,30 @@ module _ (G D : ℕ) (z : Sizes G D) (w : World) (r : Running G D w) where
   strip-in-order = rw (groups-are, r .copies .homes) (order-in (w .state) G D (r .copies .order))
 
   -- the rows submitted since the last crash, and those before the last fence
-  pub rows-pending : w .book .rows ≡ groupWrites (w .pending)
+  lasting : groupsIn (length (w .memory .log)) ≡ G
+  lasting = lasting-groups G D (r .b) (r .tr) (r .old) w (r .submitted)
+
+  pub rows-pending : w .book .rows ≡ groupWrites (w .pending) - groupsIn (length (w .memory .log))
   rows-pending =
       let s = r .submitted in
       let n : groupWrites ((s .fenced ++ (FN ∷ [])) ++ submits G (s .group) (s .content) (s .count)) ≡ groupWrites (s .fenced) + s .count =
       groupWrites-append (s .fenced ++ (FN ∷ [])) (submits G (s .group) (s .content) (s .count))
       ∙ rw (groupWrites-fence (s .fenced), groupWrites-submits G (s .group) (s .content) (s .count)) in
-      r .copies .rows ∙ omega (arith, s .next, s .written, s .low, n) ∙ ap groupWrites (sym (s .split))
+      r .copies .rows ∙ rw (lasting, s .split) (omega (arith, s .next, s .written, s .low, n))
 
-  pub rows-fenced : fencedRows (w .pending) ≡ r .submitted .group - r .b
+  pub rows-fenced : rowsFenced w ≡ r .submitted .group - r .b
+  unfolding rowsFenced
   rows-fenced =
       let s = r .submitted in
+      let n : fencedRows (w .pending) ≡ s .group - r .b + G =
       ap fencedRows (s .split)
       ∙ fenced-rows (s .fenced) (submits G (s .group) (s .content) (s .count)) (none-submits G (s .group) (s .content) (s .count))
-      ∙ s .written
+      ∙ s .written in
+      rw (lasting, n) (omega arith)
 
   -- confirm
   pub confirm-yields : PastOwed (w .book .commits) → ends w confirm .code ≡ 0
-      → owedBy (ends w confirm .figure) (w .book .commits) ≡ owedRows (fencedRows (w .pending)) (w .book .commits)
+      → owedBy (ends w confirm .figure) (w .book .commits) ≡ owedRows (rowsFenced w) (w .book .commits)
   unfolding ends confirmCall
   confirm-yields p h =
       let g : Given = lent w [] [] 0 0 in

@@ -13,8 +13,8 @@ use Rattle.model.specs.Book.{Commit, fateAt, allSurvive}
 use Rattle.model.specs.declared.Tag.{Tag}
 use Rattle.model.proofs.trace.Trace.{Ev, mine, hist, tagAt, closerOf, oldestOf, Apart, LinkedIf}
 use Rattle.model.proofs.trace.TraceLaws.{All, all-map, Rising, tagAt-older, done-rising}
-use Rattle.model.proofs.invariant.Invariant.{Holds, entriesFor, landedIn, Late, ImageOk}
-use Rattle.model.proofs.invariant.GrowLaws.{holds-older, gap-done, open-done, close-done, oldest-upto, survive-newest, run-snoc, closed-snoc}
+use Rattle.model.proofs.invariant.Invariant.{HoldsAt, entriesFor, landedIn, Late, ImageOk}
+use Rattle.model.proofs.invariant.GrowLaws.{holdsAt-older, gap-done, open-done, close-done, oldest-upto, survive-newest, run-snoc, closed-snoc}
 
 -- ---- transactions apart, and links, with one transaction more
 
@@ -48,15 +48,15 @@ closers-older base e tr =
 -- ---- an image stays good when the trace grows
 
 module _ (G D b : ℕ) (e : Ev) (tr : List Ev) (cs : List Commit) (m : Memory) (fs : List (ℕ → Bool)) where
-  late-there : Late G D b tr cs m fs → (n : ℕ) → headerStart (m .log) ≤ n → n < headerStart (m .log) + G → fateAt fs (n - b) 0 ≡ true
-      → Holds (7 * b) (e ∷ tr) (groupAt (m .log) (n % G)) n
-  late-there l n i j a =
-      let q : 7 * (n - b) + 7 ≤ length tr = l .inside (n - b) a in
+  late-there : Late G D b tr cs m fs → (n k : ℕ) → headerStart (m .log) ≤ n → n < headerStart (m .log) + G → k < 7 → fateAt fs (n - b) k ≡ true
+      → HoldsAt G (7 * b) (e ∷ tr) (groupAt (m .log) (n % G)) n k
+  late-there l n k i j small a =
+      let q : 7 * (n - b) + 7 ≤ length tr = l .inside (n - b) k a in
       let r : b ≤ headerStart (m .log) = l .from in
-      holds-older (7 * b) e tr (groupAt (m .log) (n % G)) n (omega arith) (l .there n i j a)
+      holdsAt-older G (7 * b) e tr (groupAt (m .log) (n % G)) n k (omega arith) (l .there n k i j small a)
 
-  late-inside : Late G D b tr cs m fs → (r : ℕ) → fateAt fs r 0 ≡ true → 7 * r + 7 ≤ length (e ∷ tr)
-  late-inside l r a = let q : 7 * r + 7 ≤ length tr = l .inside r a in omega arith
+  late-inside : Late G D b tr cs m fs → (r k : ℕ) → fateAt fs r k ≡ true → 7 * r + 7 ≤ length (e ∷ tr)
+  late-inside l r k a = let q : 7 * r + 7 ≤ length tr = l .inside r k a in omega arith
 
   late-links : Late G D b tr cs m fs → LinkedIf (landedIn b fs) (7 * headerStart (m .log)) (tagAt (7 * b) (e ∷ tr)) none (hist (7 * b) tr .done)
   late-links l =
@@ -72,7 +72,6 @@ module _ (G D b : ℕ) (e : Ev) (tr : List Ev) (cs : List Commit) (m : Memory) (
         start = l .start;
         from = l .from;
         numbers = l .numbers;
-        uniform = l .uniform;
         below = l .below;
         inside = late-inside l;
         within = l .within;
@@ -91,7 +90,7 @@ module _ (G D b : ℕ) (e : Ev) (tr : List Ev) (cs : List Commit) (m : Memory) (
 
   pub late-close : (c : Commit) → e .used ≡ true → e .final ≡ true
       → c .entries ≡ entriesFor b (e ∷ tr) ((7 * b + length tr) ∷ mine (hist (7 * b) tr) e) → c .ticket ≡ 7 * b + length tr + 1
-      → fateAt fs ((7 * b + length tr) / 7 - b) 0 ≡ false
+      → fateAt fs ((7 * b + length tr) / 7 - b) ((7 * b + length tr) % 7) ≡ false
       → 7 * headerStart (m .log) ≤ oldestOf ((7 * b + length tr) ∷ mine (hist (7 * b) tr) e)
       → Late G D b tr cs m fs → Late G D b (e ∷ tr) (cs ++ (c ∷ [])) m fs
   unfolding landedIn closerOf
@@ -103,7 +102,6 @@ module _ (G D b : ℕ) (e : Ev) (tr : List Ev) (cs : List Commit) (m : Memory) (
         start = l .start;
         from = l .from;
         numbers = l .numbers;
-        uniform = l .uniform;
         below = l .below;
         inside = late-inside l;
         within = l .within;
@@ -112,18 +110,15 @@ module _ (G D b : ℕ) (e : Ev) (tr : List Ev) (cs : List Commit) (m : Memory) (
         apart = rw (close-done (7 * b) e tr u f) (apart-snoc (7 * headerStart (m .log)) (hist (7 * b) tr .done) new h (l .apart));
         links =
             rw (close-done (7 * b) e tr u f)
-            (linkedIf-snoc (landedIn b fs) (7 * headerStart (m .log)) (tagAt (7 * b) (e ∷ tr)) none (hist (7 * b) tr .done) new lost (late-links l));
+            (linkedIf-snoc (landedIn b fs) (7 * headerStart (m .log)) (tagAt (7 * b) (e ∷ tr)) none (hist (7 * b) tr .done) new a (late-links l));
         homes = rw (run-snoc fs cs c gone, closed-snoc (7 * headerStart (m .log)) cs c late) (l .homes);
       }
     where
       new : List ℕ
       new = (7 * b + length tr) ∷ mine (hist (7 * b) tr) e
 
-      lost : fateAt fs ((7 * b + length tr) / 7 - b) ((7 * b + length tr) % 7) ≡ false
-      lost = l .uniform ((7 * b + length tr) / 7 - b) ((7 * b + length tr) % 7) ∙ a
-
       gone : allSurvive fs (c .entries) ≡ false
-      gone = rw es (survive-newest fs b (e ∷ tr) (7 * b + length tr) (mine (hist (7 * b) tr) e) lost)
+      gone = rw es (survive-newest fs b (e ∷ tr) (7 * b + length tr) (mine (hist (7 * b) tr) e) a)
 
       late : 7 * headerStart (m .log) < c .ticket
       late = omega (arith, oldest-upto (7 * b) e tr .1)
@@ -139,7 +134,7 @@ module _ (G D b : ℕ) (was : List ℕ) (e : Ev) (tr : List Ev) (old cs : List C
 
   pub image-close : (c : Commit) → e .used ≡ true → e .final ≡ true
       → c .entries ≡ entriesFor b (e ∷ tr) ((7 * b + length tr) ∷ mine (hist (7 * b) tr) e) → c .ticket ≡ 7 * b + length tr + 1
-      → fateAt fs ((7 * b + length tr) / 7 - b) 0 ≡ false
+      → fateAt fs ((7 * b + length tr) / 7 - b) ((7 * b + length tr) % 7) ≡ false
       → (Late G D b tr cs m fs → 7 * headerStart (m .log) ≤ oldestOf ((7 * b + length tr) ∷ mine (hist (7 * b) tr) e))
       → ImageOk G D b was tr old cs m fs → ImageOk G D b was (e ∷ tr) old (cs ++ (c ∷ [])) m fs
   image-close c u f es k a h (inl i) = inl i

@@ -8,12 +8,12 @@ use native.Mathlib.Omega.{arith}
 use lib.Dec.{eqb, leb}
 use lib.ListN.{length}
 use borrow.Author.Tests.{eq-eqb, ne-eqb, eqb-true, eqb-false, leb-true, leb-false, lt-leb}
-use Rattle.model.specs.Layout.{groupBlock}
+use Rattle.model.specs.Layout.{groupBlock, turnOf, withTopBit}
 use Rattle.model.specs.Book.{Entry, Commit, row, fateAt, survives, allSurvive, run}
 use Rattle.model.specs.Demands.{closedBelow}
 use Rattle.model.proofs.trace.Trace.{Ev, mine, setOpen, advance, hist, blockOn, closerOf, oldestOf}
 use Rattle.model.proofs.trace.TraceLaws.{at-here, All, all-map, Falling, firstOf-inside, mine-holds, homeOn-older, blockOn-older, homeOn-here, blockOn-here, open-falling, done-inside, open-inside}
-use Rattle.model.proofs.invariant.Invariant.{wordOf, wordAt, usedAt, SoundAt, Sound, Holds, entryFor, entriesFor, Matches, Commits}
+use Rattle.model.proofs.invariant.Invariant.{wordOf, wordAt, usedAt, SoundAt, Sound, Holds, HoldsAt, entryFor, entriesFor, Matches, Commits}
 
 -- ---- words and uses by position
 
@@ -99,32 +99,50 @@ module _ (base : ℕ) (e : Ev) (tr : List Ev) (gap : e .used ≡ false) where
 
 -- ---- groups
 
-pub holds-older : (base : ℕ) (e : Ev) (tr : List Ev) (bytes : List ℕ) (n : ℕ) → 7 * n + 7 ≤ base + length tr
-    → Holds base tr bytes n → Holds base (e ∷ tr) bytes n
-holds-older base e tr bytes n l h =
+pub holds-older : (G base : ℕ) (e : Ev) (tr : List Ev) (bytes : List ℕ) (n : ℕ) → 7 * n + 7 ≤ base + length tr
+    → Holds G base tr bytes n → Holds G base (e ∷ tr) bytes n
+holds-older G base e tr bytes n l h =
     record {
       size = h .size;
       mark = h .mark;
       number = h .number;
       words = λ k i. h .words k i ∙ sym (word-older base e tr (7 * n + k) (omega arith));
+      turns = h .turns;
       blocks =
           λ k i u.
-          h .blocks k i (sym (used-older base e tr (7 * n + k) (omega arith)) ∙ u) ∙ sym (blockOn-older base e tr (7 * n + k) (omega arith));
+          rw (blockOn-older base e tr (7 * n + k) (omega arith)) (h .blocks k i (sym (used-older base e tr (7 * n + k) (omega arith)) ∙ u));
     }
 
-pub holds-gap : (base : ℕ) (e : Ev) (tr : List Ev) (bytes : List ℕ) (n : ℕ) → e .used ≡ false
-    → Holds base tr bytes n → Holds base (e ∷ tr) bytes n
-holds-gap base e tr bytes n gap h =
+pub holdsAt-older : (G base : ℕ) (e : Ev) (tr : List Ev) (bytes : List ℕ) (n k : ℕ) → 7 * n + k < base + length tr
+    → HoldsAt G base tr bytes n k → HoldsAt G base (e ∷ tr) bytes n k
+holdsAt-older G base e tr bytes n k l h =
+    record {
+      mark = h .mark;
+      number = h .number;
+      word = h .word ∙ sym (word-older base e tr (7 * n + k) l);
+      turn = h .turn;
+      block = λ u. rw (blockOn-older base e tr (7 * n + k) l) (h .block (sym (used-older base e tr (7 * n + k) l) ∙ u));
+    }
+
+-- a group that is held, entry by entry
+pub holds-at : (G base : ℕ) (tr : List Ev) (bytes : List ℕ) (n k : ℕ) → k < 7 → Holds G base tr bytes n → HoldsAt G base tr bytes n k
+holds-at G base tr bytes n k i h =
+    record { mark = h .mark; number = h .number; word = h .words k i; turn = h .turns k i; block = h .blocks k i }
+
+pub holds-gap : (G base : ℕ) (e : Ev) (tr : List Ev) (bytes : List ℕ) (n : ℕ) → e .used ≡ false
+    → Holds G base tr bytes n → Holds G base (e ∷ tr) bytes n
+holds-gap G base e tr bytes n gap h =
     record {
       size = h .size;
       mark = h .mark;
       number = h .number;
       words = λ k i. h .words k i ∙ sym (word-gap base e tr gap (7 * n + k));
+      turns = h .turns;
       blocks = λ k i u. filled k i (sym (used-gap base e tr gap (7 * n + k)) ∙ u);
     }
   where
-    filled : (k : ℕ) → k < 7 → usedAt base tr (7 * n + k) ≡ true → groupBlock bytes k ≡ blockOn base (e ∷ tr) (7 * n + k)
-    filled k i u = h .blocks k i u ∙ sym (blockOn-older base e tr (7 * n + k) (used-inside base tr (7 * n + k) u .1))
+    filled : (k : ℕ) → k < 7 → usedAt base tr (7 * n + k) ≡ true → groupBlock bytes k ≡ withTopBit (blockOn base (e ∷ tr) (7 * n + k)) (turnOf G n)
+    filled k i u = rw (blockOn-older base e tr (7 * n + k) (used-inside base tr (7 * n + k) u .1)) (h .blocks k i u)
 
 -- ---- the history
 

@@ -7,10 +7,10 @@ use mathlib.Core.Bool.{Bool, true, false, cond, _&&_, _||_}
 use mathlib.Core.List.{List, [], _∷_, _++_}
 use mathlib.Core.Option.{Option, none, some}
 use lib.Dec.{eqb, leb, ltb}
-use lib.ListN.{length}
+use lib.ListN.{length, drop}
 use Rattle.model.specs.Bytes.{part, same}
-use Rattle.model.specs.Tag.{entryWord, closingWord}
-use Rattle.model.specs.Layout.{groupMark, groupAt, groupNumber, groupTag, groupBlock, headerRight, headerStart, entryAt, homeAt}
+use Rattle.model.specs.Tag.{entryWord, closingWord, withDisplaced}
+use Rattle.model.specs.Layout.{groupMark, groupAt, groupNumber, groupTag, groupBlock, turnOf, topBit, withTopBit, headerRight, headerStart, entryAt, homeAt}
 use Rattle.model.specs.Commit.{transactions}
 use Rattle.model.specs.Batch.{Record, FN}
 use Rattle.model.specs.State.{State, stateOf, nextPosition, Writer, writerOf, heldOf}
@@ -32,11 +32,15 @@ pub record Sizes (G D : ℕ) : Type 0 where
 
 -- The trace in bytes
 
+-- the word of an event that is an entry, without the bit that its block's turn bit displaces
+unfoldable pub plainOf : ℕ → Ev → List ℕ → Bool → ℕ
+plainOf p e ps true = closingWord (e .home) (p - firstOf p ps) (e .link) (suc (length ps))
+plainOf p e ps false = entryWord (e .home) (p - firstOf p ps)
+
 -- the word logged at a position, 0 where nothing is; whether something is
 unfoldable pub wordOf : ℕ → Ev → List ℕ → Bool → Bool → ℕ
 wordOf p e ps false final = 0
-wordOf p e ps true true = closingWord (e .home) (p - firstOf p ps) (e .link) (suc (length ps))
-wordOf p e ps true false = entryWord (e .home) (p - firstOf p ps)
+wordOf p e ps true final = withDisplaced (plainOf p e ps final) (topBit (e .block))
 
 unfoldable pub wordAt : ℕ → List Ev → ℕ → ℕ
 wordAt base [] p = 0
@@ -59,17 +63,34 @@ abbrev pub Sound : ℕ → ℕ → List Ev → Type 0
 Sound base D [] = Unit {0}
 Sound base D (e ∷ tr) = (e .used ≡ true → SoundAt D (base + length tr) e (mine (hist base tr) e)) × Sound base D tr
 
--- 512 bytes hold group n as the trace has it
-pub record Holds (base : ℕ) (tr : List Ev) (bytes : List ℕ) (n : ℕ) : Type 0 where
+-- 512 bytes hold group n as the trace has it; every data block has the group's turn, in use or not
+pub record Holds (G base : ℕ) (tr : List Ev) (bytes : List ℕ) (n : ℕ) : Type 0 where
   pub size : length bytes ≡ 512
   pub mark : same (part bytes 0 2) groupMark ≡ true
   pub number : groupNumber bytes ≡ n
   pub words : (k : ℕ) → k < 7 → groupTag bytes k ≡ wordAt base tr (7 * n + k)
-  pub blocks : (k : ℕ) → k < 7 → usedAt base tr (7 * n + k) ≡ true → groupBlock bytes k ≡ blockOn base tr (7 * n + k)
+  pub turns : (k : ℕ) → k < 7 → topBit (groupBlock bytes k) ≡ turnOf G n
+  pub blocks : (k : ℕ) → k < 7 → usedAt base tr (7 * n + k) ≡ true → groupBlock bytes k ≡ withTopBit (blockOn base tr (7 * n + k)) (turnOf G n)
+
+-- they hold entry k of it
+pub record HoldsAt (G base : ℕ) (tr : List Ev) (bytes : List ℕ) (n k : ℕ) : Type 0 where
+  pub mark : same (part bytes 0 2) groupMark ≡ true
+  pub number : groupNumber bytes ≡ n
+  pub word : groupTag bytes k ≡ wordAt base tr (7 * n + k)
+  pub turn : topBit (groupBlock bytes k) ≡ turnOf G n
+  pub block : usedAt base tr (7 * n + k) ≡ true → groupBlock bytes k ≡ withTopBit (blockOn base tr (7 * n + k)) (turnOf G n)
 
 -- they are not group n
 abbrev pub NotGroup : List ℕ → ℕ → Type 0
 NotGroup bytes n = (same (part bytes 0 2) groupMark && eqb (groupNumber bytes) n) ≡ false
+
+-- entry k of group n is not there: they are not that group, or the turn of data block k does not fit
+abbrev pub NotAt : ℕ → List ℕ → ℕ → ℕ → Type 0
+NotAt G bytes n k = NotGroup bytes n ⊎ (topBit (groupBlock bytes k) ≡ turnOf G n → ⊥)
+
+-- the data blocks of a slot have the turn that group n does not have
+abbrev pub Turned : ℕ → List ℕ → ℕ → Type 0
+Turned G bytes n = (k : ℕ) → k < 7 → topBit (groupBlock bytes k) ≡ 1 - turnOf G n
 
 -- every group found in a log has a number below a bound
 abbrev pub FoundBelow : List ℕ → ℕ → ℕ → Type 0
@@ -135,7 +156,7 @@ touchesAbove c h (k ∷ ks) = (ltb c (k .ticket) && hasHome h (k .entries)) || t
 unfoldable pub landedIn : ℕ → List (ℕ → Bool) → ℕ → Bool
 landedIn b fs p = fateAt fs (p / 7 - b) (p % 7)
 
--- the header of this era has persisted; fs says which groups have
+-- the header of this era has persisted; fs says which entries have
 pub record Late (G D b : ℕ) (tr : List Ev) (commits : List Commit) (m : Memory) (fs : List (ℕ → Bool)) : Type 0 where
   pub logSize : length (m .log) ≡ 64 + 512 * G
   pub areaSize : length (m .area) ≡ 64 * D
@@ -143,13 +164,23 @@ pub record Late (G D b : ℕ) (tr : List Ev) (commits : List Commit) (m : Memory
   pub start : headerStart (m .log) ≤ 2 ^ 47
   pub from : b ≤ headerStart (m .log)
   pub numbers : FoundBelow (m .log) G (headerStart (m .log) + G)
-  pub uniform : (r k : ℕ) → fateAt fs r k ≡ fateAt fs r 0
-  pub below : (n : ℕ) → b ≤ n → n < headerStart (m .log) → fateAt fs (n - b) 0 ≡ true
-  pub inside : (r : ℕ) → fateAt fs r 0 ≡ true → 7 * r + 7 ≤ length tr
-  pub within : (r : ℕ) → fateAt fs r 0 ≡ true → b + r < headerStart (m .log) + G
+  pub below : (n k : ℕ) → b ≤ n → n < headerStart (m .log) → fateAt fs (n - b) k ≡ true
+  pub inside : (r k : ℕ) → fateAt fs r k ≡ true → 7 * r + 7 ≤ length tr
+  pub within : (r k : ℕ) → fateAt fs r k ≡ true → b + r < headerStart (m .log) + G
   pub there :
-      (n : ℕ) → headerStart (m .log) ≤ n → n < headerStart (m .log) + G → fateAt fs (n - b) 0 ≡ true → Holds (7 * b) tr (groupAt (m .log) (n % G)) n
-  pub absent : (n : ℕ) → headerStart (m .log) ≤ n → n < headerStart (m .log) + G → fateAt fs (n - b) 0 ≡ false → NotGroup (groupAt (m .log) (n % G)) n
+      (n k : ℕ) →
+      headerStart (m .log) ≤ n →
+      n < headerStart (m .log) + G →
+      k < 7 →
+      fateAt fs (n - b) k ≡ true →
+      HoldsAt G (7 * b) tr (groupAt (m .log) (n % G)) n k
+  pub absent :
+      (n k : ℕ) →
+      headerStart (m .log) ≤ n →
+      n < headerStart (m .log) + G →
+      k < 7 →
+      fateAt fs (n - b) k ≡ false →
+      NotAt G (groupAt (m .log) (n % G)) n k
   pub apart : Apart (7 * headerStart (m .log)) (hist (7 * b) tr .done)
   pub links : LinkedIf (landedIn b fs) (7 * headerStart (m .log)) (tagAt (7 * b) tr) none (hist (7 * b) tr .done)
   pub homes :
@@ -196,7 +227,7 @@ pub record Copies (G D b : ℕ) (tr : List Ev) (w : World) : Type 0 where
   pub from : b ≤ stateOf (w .state) .start
   pub position : nextPosition (stateOf (w .state)) ≡ 7 * b + length tr
   pub sound : Sound (7 * b) D tr
-  pub groups : (n : ℕ) → stateOf (w .state) .start ≤ n → 7 * n < 7 * b + length tr → Holds (7 * b) tr (groupAt (w .log) (n % G)) n
+  pub groups : (n : ℕ) → stateOf (w .state) .start ≤ n → 7 * n < 7 * b + length tr → Holds G (7 * b) tr (groupAt (w .log) (n % G)) n
   pub apart : Apart (7 * stateOf (w .state) .start) (hist (7 * b) tr .done)
   pub links : Linked (7 * stateOf (w .state) .start) (tagAt (7 * b) tr) none (hist (7 * b) tr .done)
   pub last : LastOk (stateOf (w .state) .start) (stateOf (w .state) .last) (lastCloser (hist (7 * b) tr .done))
@@ -216,8 +247,8 @@ pub record Submitted (G D b : ℕ) (tr : List Ev) (old : List Commit) (w : World
   pub atFence : stateOf (w .state) .fenced ≡ 7 * group
   pub next : group + count ≡ stateOf (w .state) .next
   pub low : b ≤ group
-  pub written : groupWrites fenced ≡ group - b
-  pub contents : (n : ℕ) → group ≤ n → n < group + count → Holds (7 * b) tr (content n) n
+  pub written : groupWrites fenced ≡ group - b + G
+  pub contents : (n : ℕ) → group ≤ n → n < group + count → Holds G (7 * b) tr (content n) n
   -- the memory where everything up to the last fence has persisted
   pub logSize : length (writeRecords fenced (w .memory) .log) ≡ 64 + 512 * G
   pub area : writeRecords fenced (w .memory) .area ≡ w .area
@@ -225,12 +256,14 @@ pub record Submitted (G D b : ℕ) (tr : List Ev) (old : List Commit) (w : World
   pub start : headerStart (writeRecords fenced (w .memory) .log) ≡ stateOf (w .state) .start
   pub numbers : FoundBelow (writeRecords fenced (w .memory) .log) G group
   pub there :
-      (n : ℕ) → stateOf (w .state) .start ≤ n → n < group → Holds (7 * b) tr (groupAt (writeRecords fenced (w .memory) .log) (n % G)) n
+      (n : ℕ) → stateOf (w .state) .start ≤ n → n < group → Holds G (7 * b) tr (groupAt (writeRecords fenced (w .memory) .log) (n % G)) n
+  pub turned : (n : ℕ) → group ≤ n → n < stateOf (w .state) .start + G → Turned G (groupAt (writeRecords fenced (w .memory) .log) (n % G)) n
   -- every memory that a crash before the last fence may leave
   pub images :
       (passed : ℕ) (chosen : ℕ → Bool) →
       passed < fences (fenced ++ (FN ∷ [])) →
-      ImageOk G D b (w .memory .log) tr old (w .book .commits) (persist passed chosen (fenced ++ (FN ∷ [])) (w .memory)) (fates passed chosen (fenced ++ (FN ∷ [])))
+      ImageOk G D b (w .memory .log) tr old (w .book .commits) (persist passed chosen (fenced ++ (FN ∷ [])) (w .memory))
+      (drop G (fates passed chosen (fenced ++ (FN ∷ []))))
   -- none of them has a header from the time to come
   pub bounded :
       (passed : ℕ) (chosen : ℕ → Bool) →
@@ -242,14 +275,14 @@ abbrev pub OwedBelow : ℕ → List Commit → Type 0
 OwedBelow bound [] = Unit {0}
 OwedBelow bound (c ∷ cs) = (c .owed ≡ true → 1 ≤ c .ticket → c .ticket ≤ bound) × OwedBelow bound cs
 
-pub record Confirmed (b : ℕ) (w : World) : Type 0 where
+pub record Confirmed (G b : ℕ) (w : World) : Type 0 where
   pub before : List Record
   pub after : List Record
   pub split : w .pending ≡ before ++ after
   pub count : fences before ≡ w .passed
   pub ends : (before ≡ []) ⊎ ((r : List Record) × (before ≡ r ++ (FN ∷ [])))
-  pub owed : OwedBelow (7 * (b + groupWrites before)) (w .book .commits)
-  pub reached : 7 * (b + groupWrites before) ≤ stateOf (w .state) .fenced
+  pub owed : OwedBelow (7 * (b + (groupWrites before - G))) (w .book .commits)
+  pub reached : 7 * (b + (groupWrites before - G)) ≤ stateOf (w .state) .fenced
 
 -- between two calls of an era
 pub record Running (G D : ℕ) (w : World) : Type 0 where
@@ -261,7 +294,7 @@ pub record Running (G D : ℕ) (w : World) : Type 0 where
   pub commits : Commits D b tr old (w .book .commits)
   pub copies : Copies G D b tr w
   pub submitted : Submitted G D b tr old w
-  pub confirmed : Confirmed b w
+  pub confirmed : Confirmed G b w
 
 -- before an opening is done
 pub record Closed (G D : ℕ) (w : World) : Type 0 where

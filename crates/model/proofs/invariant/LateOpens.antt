@@ -28,8 +28,8 @@ use Rattle.model.proofs.trace.Survivors.{survivors-if}
 use Rattle.model.proofs.invariant.RunLaws.{run-matches, run-old, closedBelow-old, closedBelow-matches, SafeBelow, whole-split, whole-above}
 use Rattle.model.proofs.invariant.BookReplay.{place, writeCommits-append, replay-append, commits-replay, replay-ext, restore-place, hitsAny, Fits, fits-used, replay-area, touches-hits, touches-old, length-writeCommits}
 use Rattle.model.proofs.invariant.ReadBack.{SeenIn, untrimmed-old, untrimmed-matches}
-use Rattle.model.proofs.invariant.LogStep.{used-present, entry-of-holds, entry-of-notgroup, block-of-holds}
-use Rattle.model.proofs.invariant.Invariant.{Sizes, usedAt, Sound, Holds, Commits, Opens, touchesAbove, landedIn, Late}
+use Rattle.model.proofs.invariant.LogStep.{used-present, entry-of-holds, entry-of-absent, block-of-holds}
+use Rattle.model.proofs.invariant.Invariant.{Sizes, usedAt, Sound, HoldsAt, Commits, Opens, touchesAbove, landedIn, Late}
 
 -- ---- transactions that the walk takes
 
@@ -108,23 +108,20 @@ module _ (G D b : ℕ) (tr : List Ev) (old commits : List Commit) (m : Memory) (
   abbrev rest : ℕ → Tag
   rest = surviving (landedIn b fs) (7 * headerStart (m .log)) (tagAt (7 * b) tr)
 
-  landed-group : (p : ℕ) → landed p ≡ fateAt fs (p / 7 - b) 0
-  unfolding landedIn
-  landed-group p = late .uniform (p / 7 - b) (p % 7)
-
   lost-past : (p : ℕ) → 7 * (s + G) ≤ p → landed p ≡ false
-  lost-past p h = go (landed p) refl
+  unfolding landedIn
+  lost-past p h = go (fateAt fs (p / 7 - b) (p % 7)) refl
     where
-      go : (x : Bool) → landed p ≡ x → x ≡ false
+      go : (x : Bool) → fateAt fs (p / 7 - b) (p % 7) ≡ x → x ≡ false
       go true e =
-          let w : b + (p / 7 - b) < s + G = late .within (p / 7 - b) (sym (landed-group p) ∙ e) in
+          let w : b + (p / 7 - b) < s + G = late .within (p / 7 - b) (p % 7) e in
           absurd (omega arith)
       go false e = refl
 
   -- what the log says at each position from c on
   tags-rest : Agree tags rest c (7 * G)
-  unfolding surviving
-  tags-rest p l h = go (fateAt fs (p / 7 - b) 0) refl
+  unfolding surviving landedIn
+  tags-rest p l h = go (fateAt fs (p / 7 - b) (p % 7)) refl
     where
       e : 7 * (p / 7) + p % 7 ≡ p
       e = omega arith
@@ -135,13 +132,15 @@ module _ (G D b : ℕ) (tr : List Ev) (old commits : List Commit) (m : Memory) (
       high : p / 7 < s + G
       high = omega arith
 
-      go : (x : Bool) → fateAt fs (p / 7 - b) 0 ≡ x → tags p ≡ says (landed p && leb c (firstIn (log p))) (log p)
+      go : (x : Bool) → fateAt fs (p / 7 - b) (p % 7) ≡ x → tags p ≡ says (x && leb c (firstIn (log p))) (log p)
       go true f =
-          rw (landed-group p, f)
-          (rw e at (entry-of-holds (m .log) G D s (p / 7) (p % 7) b tr (sizes .homes) sound low high (omega arith) (late .there (p / 7) low high f)))
+          rw e at
+          (entry-of-holds (m .log) G D s (p / 7) (p % 7) b tr (sizes .homes) sound low high (omega arith)
+          (late .there (p / 7) (p % 7) low high (omega arith) f))
       go false f =
           unfold says in
-          rw (landed-group p, f) (rw e at (entry-of-notgroup (m .log) G D s (p / 7) (p % 7) (omega arith) (late .absent (p / 7) low high f)))
+          (rw e at
+          (entry-of-absent (m .log) G D s (p / 7) (p % 7) (omega arith) (late .absent (p / 7) (p % 7) low high (omega arith) f)))
 
   -- what an opening finds
   start-inside : c ≤ 7 * b + length tr
@@ -151,7 +150,7 @@ module _ (G D b : ℕ) (tr : List Ev) (old commits : List Commit) (m : Memory) (
       go true e = omega (arith, leb-true s b e)
       go false e =
           let f : b < s = leb-false s b e in
-          let k : 7 * (s - 1 - b) + 7 ≤ length tr = late .inside (s - 1 - b) (late .below (s - 1) (omega arith) (omega arith)) in
+          let k : 7 * (s - 1 - b) + 7 ≤ length tr = late .inside (s - 1 - b) 0 (late .below (s - 1) 0 (omega arith) (omega arith)) in
           omega arith
 
   rest-lost : (p : ℕ) → landed p ≡ false → rest p ≡ Nothing
@@ -170,8 +169,8 @@ module _ (G D b : ℕ) (tr : List Ev) (old commits : List Commit) (m : Memory) (
 
   -- all that closes below c has persisted
   landed-below : (p : ℕ) → 7 * b ≤ p → p < c → landed p ≡ true
-  landed-below p l h =
-      landed-group p ∙ late .below (p / 7) (omega arith) (omega arith)
+  unfolding landedIn
+  landed-below p l h = late .below (p / 7) (p % 7) (omega arith) (omega arith)
 
   safe-one : (t : List ℕ) → Falling (7 * b) (7 * b + length tr) t → SafeBelow landed c t
   safe-one t f h =
@@ -186,18 +185,18 @@ module _ (G D b : ℕ) (tr : List Ev) (old commits : List Commit) (m : Memory) (
   fits-at : (p : ℕ) → present (log p) ≡ true → Fits D b tr p
   fits-at p h = fits-used D b tr p sound (used-present (7 * b) tr p ∙ h)
 
-  group-held : (p : ℕ) → c ≤ p → landed p ≡ true → (p < 7 * (s + G)) × Holds (7 * b) tr (groupAt (m .log) (p / 7 % G)) (p / 7)
+  group-held : (p : ℕ) → c ≤ p → landed p ≡ true → (p < 7 * (s + G)) × HoldsAt G (7 * b) tr (groupAt (m .log) (p / 7 % G)) (p / 7) (p % 7)
+  unfolding landedIn
   group-held p l e =
-      let f : fateAt fs (p / 7 - b) 0 ≡ true = sym (landed-group p) ∙ e in
-      let w : b + (p / 7 - b) < s + G = late .within (p / 7 - b) f in
+      let w : b + (p / 7 - b) < s + G = late .within (p / 7 - b) (p % 7) e in
       let o : b ≤ s = late .from in
-      (omega arith, late .there (p / 7) (omega arith) (omega arith) f)
+      (omega arith, late .there (p / 7) (p % 7) (omega arith) (omega arith) (omega arith) e)
 
-  block-held : (p : ℕ) → Holds (7 * b) tr (groupAt (m .log) (p / 7 % G)) (p / 7) → usedAt (7 * b) tr p ≡ true
+  block-held : (p : ℕ) → HoldsAt G (7 * b) tr (groupAt (m .log) (p / 7 % G)) (p / 7) (p % 7) → usedAt (7 * b) tr p ≡ true
       → blockAt (m .log) G p ≡ blockOn (7 * b) tr p
   block-held p h u =
       let e : 7 * (p / 7) + p % 7 ≡ p = omega arith in
-      rw e at (block-of-holds (m .log) G (p / 7) (p % 7) (7 * b) tr (omega arith) (rw e u) h)
+      rw e at (block-of-holds (m .log) G D (p / 7) (p % 7) b tr (sizes .homes) sound (omega arith) (rw e u) h)
 
   rest-kept : (p : ℕ) → landed p ≡ true → c ≤ firstIn (log p) → rest p ≡ log p
   unfolding surviving says

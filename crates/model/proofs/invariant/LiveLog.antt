@@ -18,7 +18,7 @@ use Rattle.model.specs.Effects.{groups, homes, liveTags, liveBase}
 use Rattle.model.specs.History.{World, lent}
 use Rattle.model.proofs.bytes.LayoutLaws.{groups-in, homes-in}
 use Rattle.model.proofs.strip.OrderLaws.{next-within}
-use Rattle.model.proofs.invariant.GrowLaws.{used-inside}
+use Rattle.model.proofs.invariant.GrowLaws.{used-inside, holds-at}
 use Rattle.model.proofs.trace.Trace.{Ev, hist, tagAt, homeOn, blockOn, firstIn, surviving, closerOf, oldestOf, closingFrom}
 use Rattle.model.proofs.trace.TraceLaws.{All, all-map, Names, Named, tagAt-back, tagAt-home, open-named, done-named}
 use Rattle.model.proofs.trace.WholeLaws.{whole-all}
@@ -28,7 +28,7 @@ use Rattle.model.proofs.trace.Survivors.{survivors-spans, all-survive}
 use Rattle.model.proofs.invariant.LogStep.{used-present, entry-of-holds, block-of-holds}
 use Rattle.model.proofs.invariant.BookReplay.{hits, hitsAny, Fits, fits-used}
 use Rattle.model.proofs.invariant.LateOpens.{all-taken}
-use Rattle.model.proofs.invariant.Invariant.{Sizes, usedAt, Holds, Copies}
+use Rattle.model.proofs.invariant.Invariant.{Sizes, usedAt, HoldsAt, Copies}
 
 -- what the log copy says at each position, where the log starts and where it ends
 abbrev pub tagsIn : ℕ → ℕ → World → ℕ → Tag
@@ -136,8 +136,9 @@ module _ (G D b : ℕ) (tr : List Ev) (w : World) (z : Sizes G D) (c : Copies G 
 
   -- ---- the tags
 
-  live-group : (p : ℕ) → baseOf w ≤ p → p < endOf w → Holds (7 * b) tr (groupAt (w .log) (p / 7 % G)) (p / 7)
-  live-group p l h = c .groups (p / 7) (omega arith) (omega (arith, c .position))
+  live-group : (p : ℕ) → baseOf w ≤ p → p < endOf w → HoldsAt G (7 * b) tr (groupAt (w .log) (p / 7 % G)) (p / 7) (p % 7)
+  live-group p l h =
+      holds-at G (7 * b) tr (groupAt (w .log) (p / 7 % G)) (p / 7) (p % 7) (omega arith) (c .groups (p / 7) (omega arith) (omega (arith, c .position)))
 
   pub live-tags : (p : ℕ) → baseOf w ≤ p → p < endOf w → tagsIn G D w p ≡ surviving (λ q. true) (baseOf w) (tagAt (7 * b) tr) p
   unfolding surviving
@@ -161,7 +162,7 @@ module _ (G D b : ℕ) (tr : List Ev) (w : World) (z : Sizes G D) (c : Copies G 
         tag = t;
         used = ap present t ∙ u;
         home = ap homeOf t ∙ tagAt-home (7 * b) tr p u;
-        block = rw e at (block-of-holds (w .log) G (p / 7) (p % 7) (7 * b) tr (omega arith) (rw e i) (live-group p o q));
+        block = rw e at (block-of-holds (w .log) G D (p / 7) (p % 7) b tr (z .homes) (c .sound) (omega arith) (rw e i) (live-group p o q));
         fits = fits-used D b tr p (c .sound) i;
       }
 

@@ -10,7 +10,7 @@ use Rattle.model.specs.Crash.{Memory}
 use Rattle.model.specs.Book.{Commit, homesAfter}
 use Rattle.model.specs.Demands.{closedBelow}
 use Rattle.model.proofs.trace.Trace.{Ev, hist, tagAt, Apart, Linked}
-use Rattle.model.proofs.invariant.Invariant.{Sizes, Sound, Holds, FoundBelow, Commits}
+use Rattle.model.proofs.invariant.Invariant.{Sizes, Sound, Holds, FoundBelow, Turned, Commits}
 
 -- `start` and `settled` are the strip's; groups below `group` were submitted before the fence, those from it to group + count since
 pub record Now (G D b : ℕ) (tr : List Ev) (old commits : List Commit) (start settled group count : ℕ) (content : ℕ → List ℕ) (m : Memory) : Type 0 where
@@ -23,12 +23,13 @@ pub record Now (G D b : ℕ) (tr : List Ev) (old commits : List Commit) (start s
   pub settledGroup : settled ≤ 7 * group
   pub room : group + count ≤ start + G
   pub logged : 7 * (group + count) ≤ 7 * b + length tr
-  pub contents : (n : ℕ) → group ≤ n → n < group + count → Holds (7 * b) tr (content n) n
+  pub contents : (n : ℕ) → group ≤ n → n < group + count → Holds G (7 * b) tr (content n) n
   pub logSize : length (m .log) ≡ 64 + 512 * G
   pub area : m .area ≡ homesAfter D (closedBelow settled commits)
   pub header : headerRight (m .log) G D ≡ true
   pub headStart : headerStart (m .log) ≡ start
   pub numbers : FoundBelow (m .log) G group
-  pub there : (n : ℕ) → start ≤ n → n < group → Holds (7 * b) tr (groupAt (m .log) (n % G)) n
+  pub there : (n : ℕ) → start ≤ n → n < group → Holds G (7 * b) tr (groupAt (m .log) (n % G)) n
+  pub turned : (n : ℕ) → group ≤ n → n < start + G → Turned G (groupAt (m .log) (n % G)) n
   pub apart : Apart (7 * start) (hist (7 * b) tr .done)
   pub links : Linked (7 * start) (tagAt (7 * b) tr) none (hist (7 * b) tr .done)

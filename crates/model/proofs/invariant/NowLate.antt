@@ -10,9 +10,9 @@ use native.Mathlib.Nat.{mod-lt}
 use native.Mathlib.Omega.{arith}
 use lib.Dec.{eqb, leb}
 use lib.ListN.{length}
-use borrow.Author.Tests.{eqb-true, eqb-false, ne-eqb, leb-true, leb-false}
+use borrow.Author.Tests.{ne-eqb, leb-true, leb-false}
 use Rattle.model.specs.Bytes.{part, puts, same}
-use Rattle.model.specs.Layout.{header, groupMark, groupAt, groupNumber, headerRight, headerStart, homeAt}
+use Rattle.model.specs.Layout.{header, groupMark, groupAt, groupNumber, groupBlock, turnOf, topBit, headerRight, headerStart, homeAt}
 use Rattle.model.specs.Batch.{KW}
 use Rattle.model.specs.Effects.{homeWrites}
 use Rattle.model.specs.Crash.{Memory, persistChosen, fatesChosen}
@@ -20,34 +20,20 @@ use Rattle.model.specs.Book.{Commit, fateAt, run, homesAfter}
 use Rattle.model.specs.Demands.{closedBelow}
 use Rattle.model.specs.declared.Tag.{Tag}
 use Rattle.model.proofs.bytes.ByteLaws.{length-puts}
-use Rattle.model.proofs.bytes.LayoutLaws.{length-header, header-start, header-right, group-header, ring}
+use Rattle.model.proofs.bytes.TurnLaws.{turnOf-lt}
+use Rattle.model.proofs.bytes.LayoutLaws.{length-header, header-start, header-right, length-groupAt, group-fits, group-header, ring}
+use Rattle.model.proofs.bytes.BlockLaws.{blockIn, same-mark, same-number, same-tag, same-data, group-ext}
 use Rattle.model.proofs.trace.CrashLaws.{trues, submits, pieceCount, none-submits, chosen-append, fate-append, fateAt-trues, fateAt-after}
-use Rattle.model.proofs.trace.SubmitLaws.{fateAt-submits, fateAt-submits-past, area-submits, length-submits, headerStart-submits, headerRight-submits, groupAt-elsewhere, groupAt-submits}
+use Rattle.model.proofs.trace.SubmitLaws.{fateAt-submits, fateAt-submits-past, area-submits, length-submits, headerStart-submits, headerRight-submits, groupAt-elsewhere, blockIn-submits, meta-submits}
 use Rattle.model.proofs.trace.HomeLaws.{In, fates-homes, log-homes, length-homes, homeAt-homes, log-header, area-header, fates-header}
 use Rattle.model.proofs.trace.Trace.{Ev, hist, tagAt, closerOf, Apart, Linked, LinkedIf}
 use Rattle.model.proofs.trace.LinkLaws.{linked-later}
-use Rattle.model.proofs.invariant.Invariant.{Holds, NotGroup, FoundBelow, touchesAbove, landedIn, Late}
+use Rattle.model.proofs.invariant.Invariant.{Holds, HoldsAt, NotGroup, NotAt, FoundBelow, touchesAbove, landedIn, Late}
+use Rattle.model.proofs.invariant.GrowLaws.{holds-at}
 use Rattle.model.proofs.invariant.TouchLaws.{commits-fit, length-homesAfter, touches-more, homesAfter-untouched, LandedBelow, touches-run}
 use Rattle.model.proofs.invariant.Now.{Now}
 
--- ---- ring slots and numbers
-
--- a slot belongs to one of k consecutive groups, or to none
-slot-search : (G n₀ k slot : ℕ)
-    → ((n : ℕ) × (n₀ ≤ n) × (n < n₀ + k) × (slot ≡ n % G)) ⊎ ((n : ℕ) → n₀ ≤ n → n < n₀ + k → slot ≡ n % G → ⊥)
-slot-search G n₀ zero slot = inr (λ n a b e. omega arith)
-slot-search G n₀ (suc k) slot = go (eqb slot ((n₀ + k) % G)) refl (slot-search G n₀ k slot)
-  where
-    last : (n : ℕ) → (slot ≡ (n₀ + k) % G → ⊥) → slot ≡ n % G → n ≡ n₀ + k → ⊥
-    last n f e q = f (e ∙ rw q)
-
-    go : (d : Bool) → eqb slot ((n₀ + k) % G) ≡ d
-        → ((n : ℕ) × (n₀ ≤ n) × (n < n₀ + k) × (slot ≡ n % G)) ⊎ ((n : ℕ) → n₀ ≤ n → n < n₀ + k → slot ≡ n % G → ⊥)
-        → ((n : ℕ) × (n₀ ≤ n) × (n < n₀ + suc k) × (slot ≡ n % G)) ⊎ ((n : ℕ) → n₀ ≤ n → n < n₀ + suc k → slot ≡ n % G → ⊥)
-    go true t o = inl (n₀ + k, omega arith, omega arith, eqb-true slot ((n₀ + k) % G) t)
-    go false t (inl x) = inl (x .0, x .1, omega arith, x .3)
-    go false t (inr f) =
-        inr (λ n a b e. let d : n ≡ n₀ + k → ⊥ = last n (eqb-false slot ((n₀ + k) % G) t) e in f n a (omega arith) e)
+-- ---- numbers
 
 -- a number below a group, in a stretch of k from it on, or past that
 where-is : (n group k : ℕ) → (n < group) ⊎ (((group ≤ n) × (n < group + k)) ⊎ (group + k ≤ n))
@@ -65,6 +51,13 @@ found-not log G bound slot n f l h = go (same (part (groupAt log slot) 0 2) grou
     go : (d : Bool) → same (part (groupAt log slot) 0 2) groupMark ≡ d → (d && eqb (groupNumber (groupAt log slot)) n) ≡ false
     go true e = ne-eqb (groupNumber (groupAt log slot)) n (λ q. omega (arith, f slot l e))
     go false e = refl
+
+-- slots with the same metadata
+not-group-same : (g h : List ℕ) (n : ℕ) → blockIn g 0 ≡ blockIn h 0 → NotGroup h n → NotGroup g n
+not-group-same g h n e k = rw (same-mark g h e, same-number g h e) k
+
+opposite : (t : ℕ) → t < 2 → 1 - t ≡ t → ⊥
+opposite t l e = omega arith
 
 linkedIf-all : (landed : ℕ → Bool) (c : ℕ) (log : ℕ → Tag) (prev : Option ℕ) (ts : List (List ℕ)) → Linked c log prev ts
     → LinkedIf landed c log prev ts
@@ -91,7 +84,11 @@ module _ {G D b : ℕ} {tr : List Ev} {old commits : List Commit} {start settled
     fate-before : (n k : ℕ) → b ≤ n → n < group → fateAt fatesNow (n - b) k ≡ true
     fate-before n k l h = fateAt-trues (group - b) _ (n - b) k (omega (arith, low))
 
-    fate-since : (n k : ℕ) → group ≤ n → n < group + count → fateAt fatesNow (n - b) k ≡ chosen (0 + (n - group))
+    -- whether block j of a group submitted since was chosen
+    abbrev pub took : ℕ → ℕ → Bool
+    took n j = chosen (0 + 8 * (n - group) + j)
+
+    fate-since : (n k : ℕ) → group ≤ n → n < group + count → fateAt fatesNow (n - b) k ≡ (took n 0 && took n (k + 1))
     fate-since n k x y =
         let e : n - b - (group - b) ≡ n - group = omega (arith, low) in
         fateAt-after (group - b) _ (n - b) k (omega arith) ∙ rw e (fateAt-submits chosen 0 G group content count (n - group) k (omega arith))
@@ -101,22 +98,14 @@ module _ {G D b : ℕ} {tr : List Ev} {old commits : List Commit} {start settled
         fateAt-after (group - b) _ (n - b) k (omega arith)
         ∙ fateAt-submits-past chosen 0 G group content count (n - b - (group - b)) k (omega (arith, low))
 
-    fate-uniform : (n k : ℕ) → b ≤ n → fateAt fatesNow (n - b) k ≡ fateAt fatesNow (n - b) 0
-    fate-uniform n k l = go (where-is n group count)
-      where
-        go : (n < group) ⊎ (((group ≤ n) × (n < group + count)) ⊎ (group + count ≤ n)) → fateAt fatesNow (n - b) k ≡ fateAt fatesNow (n - b) 0
-        go (inl h) = fate-before n k l h ∙ sym (fate-before n 0 l h)
-        go (inr (inl h)) = fate-since n k (h .0) (h .1) ∙ sym (fate-since n 0 (h .0) (h .1))
-        go (inr (inr h)) = fate-beyond n k h ∙ sym (fate-beyond n 0 h)
-
     -- only groups that were submitted persisted
-    pub fates-within : (r : ℕ) → fateAt fatesNow r 0 ≡ true → b + r < group + count
-    fates-within r t = go (leb (group + count) (b + r)) refl
+    pub fates-within : (r k : ℕ) → fateAt fatesNow r k ≡ true → b + r < group + count
+    fates-within r k t = go (leb (group + count) (b + r)) refl
       where
         go : (d : Bool) → leb (group + count) (b + r) ≡ d → b + r < group + count
         go true e =
             let q : b + r - b ≡ r = omega arith in
-            let f : fateAt fatesNow r 0 ≡ false = rw q at (fate-beyond (b + r) 0 (leb-true (group + count) (b + r) e)) in
+            let f : fateAt fatesNow r k ≡ false = rw q at (fate-beyond (b + r) k (leb-true (group + count) (b + r) e)) in
             absurd (false≢true (sym f ∙ t))
         go false e = leb-false (group + count) (b + r) e
 
@@ -126,60 +115,80 @@ module _ {G D b : ℕ} {tr : List Ev} {old commits : List Commit} {start settled
 
     -- ---- the groups in the log
 
-    -- a slot holds what it held, or one of the groups submitted
-    slot-cases : (slot : ℕ) → slot < G
-        → (groupAt (image .log) slot ≡ groupAt (m .log) slot)
-        ⊎ ((n : ℕ) × (group ≤ n) × (n < group + count) × (groupAt (image .log) slot ≡ content n))
-    slot-cases slot l = go (slot-search G group count slot)
-      where
-        pick : (n : ℕ) → group ≤ n → n < group + count → (d : Bool) → {g : List ℕ} → g ≡ cond d (content n) (groupAt (m .log) slot)
-            → (g ≡ groupAt (m .log) slot) ⊎ ((n : ℕ) × (group ≤ n) × (n < group + count) × (g ≡ content n))
-        pick n x y true e = inr (n, x, y, e)
-        pick n x y false e = inl e
-
-        go : ((n : ℕ) × (group ≤ n) × (n < group + count) × (slot ≡ n % G)) ⊎ ((n : ℕ) → group ≤ n → n < group + count → slot ≡ n % G → ⊥)
-            → (groupAt (image .log) slot ≡ groupAt (m .log) slot)
-            ⊎ ((n : ℕ) × (group ≤ n) × (n < group + count) × (groupAt (image .log) slot ≡ content n))
-        go (inl x) =
-            pick (x .0) (x .1) (x .2) (chosen (0 + (x .0 - group)))
-            (rw (x .3)
-            (groupAt-submits chosen 0 G group content count m (x .0) (omega arith) (omega (arith, N .room, low))
-            (N .logSize) content-size (x .1) (x .2)))
-        go (inr f) = inl (groupAt-elsewhere chosen 0 G group content count m slot content-size f)
+    room : count ≤ G
+    room = omega (arith, N .room, N .startSettled, N .settledGroup)
 
     pub numbers-now : FoundBelow (image .log) G (group + count)
-    numbers-now slot l t = go (slot-cases slot l)
+    numbers-now slot l t = go (meta-submits chosen 0 G group content count m slot (omega arith) room (N .logSize) content-size)
       where
-        go : (groupAt (image .log) slot ≡ groupAt (m .log) slot)
-            ⊎ ((n : ℕ) × (group ≤ n) × (n < group + count) × (groupAt (image .log) slot ≡ content n))
+        go : (blockIn (groupAt (image .log) slot) 0 ≡ blockIn (groupAt (m .log) slot) 0)
+            ⊎ ((n : ℕ) × (group ≤ n) × (n < group + count) × (blockIn (groupAt (image .log) slot) 0 ≡ blockIn (content n) 0))
             → groupNumber (groupAt (image .log) slot) < group + count
-        go (inl e) = rw e (omega (arith, N .numbers slot l (rw e at t)))
-        go (inr x) = rw (x .3) (omega (arith, N .contents (x .0) (x .1) (x .2) .number, x .2))
+        go (inl e) =
+            let f : same (part (groupAt (m .log) slot) 0 2) groupMark ≡ true = ap (λ (x : List ℕ). same x groupMark) (sym (same-mark _ _ e)) ∙ t in
+            omega (arith, same-number (groupAt (image .log) slot) (groupAt (m .log) slot) e, N .numbers slot l f)
+        go (inr x) =
+            omega (arith, same-number (groupAt (image .log) slot) (content (x .0)) (x .3), N .contents (x .0) (x .1) (x .2) .number, x .2)
 
     -- groups submitted before the fence, those since that were chosen, and those that were not
-    kept : (n : ℕ) → start ≤ n → n < start + G → (group ≤ n → n < group + count → ⊥) → groupAt (image .log) (n % G) ≡ groupAt (m .log) (n % G)
+    pub kept : (n : ℕ) → start ≤ n → n < start + G → (group ≤ n → n < group + count → ⊥) → groupAt (image .log) (n % G) ≡ groupAt (m .log) (n % G)
     kept n x y o =
-        groupAt-elsewhere chosen 0 G group content count m (n % G) content-size
+        groupAt-elsewhere chosen 0 G group content count m (n % G)
         (λ i u v e.
         let q : n ≡ i = ring start G n i x y (omega (arith, N .startSettled, N .settledGroup)) (omega (arith, N .room)) e in
         o (omega arith) (omega arith))
 
-    pub there-before : (n : ℕ) → start ≤ n → n < group → Holds (7 * b) tr (groupAt (image .log) (n % G)) n
+    pub there-before : (n : ℕ) → start ≤ n → n < group → Holds G (7 * b) tr (groupAt (image .log) (n % G)) n
     there-before n x y =
         rw (kept n x (omega (arith, N .room)) (λ i j. omega arith)) (N .there n x y)
 
-    written : (n : ℕ) → group ≤ n → n < group + count
-        → groupAt (image .log) (n % G) ≡ cond (chosen (0 + (n - group))) (content n) (groupAt (m .log) (n % G))
-    written n x y =
-        groupAt-submits chosen 0 G group content count m n (omega (arith, N .sizes .low)) (omega (arith, N .room, N .startSettled, N .settledGroup))
-        (N .logSize) content-size x y
+    written : (n j : ℕ) → group ≤ n → n < group + count → j < 8
+        → blockIn (groupAt (image .log) (n % G)) j ≡ cond (took n j) (blockIn (content n) j) (blockIn (groupAt (m .log) (n % G)) j)
+    written n j x y h =
+        blockIn-submits chosen 0 G group content count m n j (omega (arith, N .sizes .low)) room (N .logSize) content-size x y h
 
-    pub there-since : (n : ℕ) → group ≤ n → n < group + count → chosen (0 + (n - group)) ≡ true → Holds (7 * b) tr (groupAt (image .log) (n % G)) n
-    there-since n x y t = rw (written n x y, t) (N .contents n x y)
+    group-size : (n : ℕ) → length (groupAt (image .log) (n % G)) ≡ 512
+    group-size n =
+        length-groupAt (image .log) (n % G)
+        (group-fits (n % G) (image .log) G (mod-lt n (omega (arith, N .sizes .low))) (length-submits chosen 0 G group content count m ∙ N .logSize))
 
-    absent-since : (n : ℕ) → group ≤ n → n < group + count → chosen (0 + (n - group)) ≡ false → NotGroup (groupAt (image .log) (n % G)) n
-    absent-since n x y t =
-        rw (written n x y, t) (found-not (m .log) G group (n % G) n (N .numbers) (mod-lt n (omega (arith, N .sizes .low))) x)
+    -- all blocks of it were chosen
+    pub there-since : (n : ℕ) → group ≤ n → n < group + count → ((j : ℕ) → took n j ≡ true) → Holds G (7 * b) tr (groupAt (image .log) (n % G)) n
+    there-since n x y t =
+        rw (group-ext (groupAt (image .log) (n % G)) (content n) (group-size n) (content-size n x y) (λ j h. written n j x y h ∙ rw (t j)))
+        (N .contents n x y)
+
+    -- its metadata and data block k were
+    entry-since : (n k : ℕ) → group ≤ n → n < group + count → k < 7 → took n 0 ≡ true → took n (k + 1) ≡ true
+        → HoldsAt G (7 * b) tr (groupAt (image .log) (n % G)) n k
+    entry-since n k x y i t u =
+        let e : blockIn (groupAt (image .log) (n % G)) 0 ≡ blockIn (content n) 0 = written n 0 x y (omega arith) ∙ rw t in
+        let f : groupBlock (groupAt (image .log) (n % G)) k ≡ groupBlock (content n) k =
+        same-data _ (content n) k (written n (k + 1) x y (omega arith) ∙ rw u) in
+        let h = N .contents n x y in
+        record {
+          mark = rw (same-mark _ (content n) e) (h .mark);
+          number = same-number _ (content n) e ∙ h .number;
+          word = same-tag _ (content n) e k i ∙ h .words k i;
+          turn = rw f (h .turns k i);
+          block = λ v. f ∙ h .blocks k i v;
+        }
+
+    -- one of them was not: the slot has older metadata, or a data block of the other turn
+    absent-since : (n k : ℕ) → group ≤ n → n < group + count → k < 7 → (took n 0 && took n (k + 1)) ≡ false
+        → NotAt G (groupAt (image .log) (n % G)) n k
+    absent-since n k x y i t = go (took n 0) (took n (k + 1)) refl refl t
+      where
+        before : NotGroup (groupAt (m .log) (n % G)) n
+        before = found-not (m .log) G group (n % G) n (N .numbers) (mod-lt n (omega (arith, N .sizes .low))) x
+
+        go : (d e : Bool) → took n 0 ≡ d → took n (k + 1) ≡ e → (d && e) ≡ false → NotAt G (groupAt (image .log) (n % G)) n k
+        go false e p q r = inl (not-group-same _ (groupAt (m .log) (n % G)) n (written n 0 x y (omega arith) ∙ rw p) before)
+        go true true p q r = absurd (false≢true (sym r))
+        go true false p q r =
+            let f : groupBlock (groupAt (image .log) (n % G)) k ≡ groupBlock (groupAt (m .log) (n % G)) k =
+            same-data _ (groupAt (m .log) (n % G)) k (written n (k + 1) x y (omega arith) ∙ rw q) in
+            inr (λ u. opposite (turnOf G n) (turnOf-lt G n) (sym (N .turned n x (omega (arith, N .room)) k i) ∙ ap topBit (sym f) ∙ u))
 
     -- ---- memory with the header at s, these groups and some homes
 
@@ -188,21 +197,27 @@ module _ {G D b : ℕ} {tr : List Ev} {old commits : List Commit} {start settled
         (at : headerStart (M .log) ≡ s) (groups : (slot : ℕ) → groupAt (M .log) slot ≡ groupAt (image .log) slot)
         (homes : (h : ℕ) → h < D → (homeAt (M .area) h ≡ homeAt (homesAfter D (closedBelow settled commits)) h)
         ⊎ (touchesAbove (7 * s) h (closedBelow (7 * group) commits) ≡ true)) where
-      late-there : (n : ℕ) → s ≤ n → fateAt fatesNow (n - b) 0 ≡ true → Holds (7 * b) tr (groupAt (M .log) (n % G)) n
-      late-there n x t = rw (groups (n % G)) (go (where-is n group count))
+      late-there : (n k : ℕ) → s ≤ n → k < 7 → fateAt fatesNow (n - b) k ≡ true → HoldsAt G (7 * b) tr (groupAt (M .log) (n % G)) n k
+      late-there n k x i t = rw (groups (n % G)) (go (where-is n group count))
         where
-          go : (n < group) ⊎ (((group ≤ n) × (n < group + count)) ⊎ (group + count ≤ n)) → Holds (7 * b) tr (groupAt (image .log) (n % G)) n
-          go (inl h) = there-before n (omega arith) h
-          go (inr (inl h)) = there-since n (h .0) (h .1) (sym (fate-since n 0 (h .0) (h .1)) ∙ t)
-          go (inr (inr h)) = absurd (false≢true (sym (fate-beyond n 0 h) ∙ t))
+          both : (d e : Bool) → (d && e) ≡ true → (d ≡ true) × (e ≡ true)
+          both true e q = (refl, q)
+          both false e q = absurd (false≢true q)
 
-      late-absent : (n : ℕ) → s ≤ n → fateAt fatesNow (n - b) 0 ≡ false → NotGroup (groupAt (M .log) (n % G)) n
-      late-absent n x t = rw (groups (n % G)) (go (where-is n group count))
+          go : (n < group) ⊎ (((group ≤ n) × (n < group + count)) ⊎ (group + count ≤ n)) → HoldsAt G (7 * b) tr (groupAt (image .log) (n % G)) n k
+          go (inl h) = holds-at G (7 * b) tr (groupAt (image .log) (n % G)) n k i (there-before n (omega arith) h)
+          go (inr (inl h)) =
+              let q = both (took n 0) (took n (k + 1)) (sym (fate-since n k (h .0) (h .1)) ∙ t) in
+              entry-since n k (h .0) (h .1) i (q .0) (q .1)
+          go (inr (inr h)) = absurd (false≢true (sym (fate-beyond n k h) ∙ t))
+
+      late-absent : (n k : ℕ) → s ≤ n → k < 7 → fateAt fatesNow (n - b) k ≡ false → NotAt G (groupAt (M .log) (n % G)) n k
+      late-absent n k x i t = rw (groups (n % G)) (go (where-is n group count))
         where
-          go : (n < group) ⊎ (((group ≤ n) × (n < group + count)) ⊎ (group + count ≤ n)) → NotGroup (groupAt (image .log) (n % G)) n
-          go (inl h) = absurd (false≢true (sym t ∙ fate-before n 0 (omega (arith, N .from)) h))
-          go (inr (inl h)) = absent-since n (h .0) (h .1) (sym (fate-since n 0 (h .0) (h .1)) ∙ t)
-          go (inr (inr h)) = found-not (image .log) G (group + count) (n % G) n numbers-now (mod-lt n (omega (arith, N .sizes .low))) h
+          go : (n < group) ⊎ (((group ≤ n) × (n < group + count)) ⊎ (group + count ≤ n)) → NotAt G (groupAt (image .log) (n % G)) n k
+          go (inl h) = absurd (false≢true (sym t ∙ fate-before n k (omega (arith, N .from)) h))
+          go (inr (inl h)) = absent-since n k (h .0) (h .1) i (sym (fate-since n k (h .0) (h .1)) ∙ t)
+          go (inr (inr h)) = inl (found-not (image .log) G (group + count) (n % G) n numbers-now (mod-lt n (omega (arith, N .sizes .low))) h)
 
       late-homes : (h : ℕ) → h < D
           → (homeAt (M .area) h ≡ homeAt (homesAfter D (closedBelow (7 * s) commits)) h) ⊎ (touchesAbove (7 * s) h (run fatesNow commits) ≡ true)
@@ -229,12 +244,11 @@ module _ {G D b : ℕ} {tr : List Ev} {old commits : List Commit} {start settled
             start = rw at most;
             from = rw at (omega (arith, N .from));
             numbers = rw at (λ slot l t. late-number slot l t);
-            uniform = λ r k. late-uniform r k;
-            below = rw at (λ n x y. fate-before n 0 x (omega (arith, N .settledGroup)));
-            inside = λ r t. omega (arith, fates-within r t, N .logged);
-            within = rw at (λ r t. omega (arith, fates-within r t, N .room));
-            there = rw at (λ n x y t. late-there n x t);
-            absent = rw at (λ n x y t. late-absent n x t);
+            below = rw at (λ n k x y. fate-before n k x (omega (arith, N .settledGroup)));
+            inside = λ r k t. omega (arith, fates-within r k t, N .logged);
+            within = rw at (λ r k t. omega (arith, fates-within r k t, N .room));
+            there = rw at (λ n k x y i t. late-there n k x i t);
+            absent = rw at (λ n k x y i t. late-absent n k x i t);
             apart = rw at apart;
             links =
                 rw at
@@ -245,11 +259,6 @@ module _ {G D b : ℕ} {tr : List Ev} {old commits : List Commit} {start settled
         where
           late-number : (slot : ℕ) → slot < G → same (part (groupAt (M .log) slot) 0 2) groupMark ≡ true → groupNumber (groupAt (M .log) slot) < s + G
           late-number slot l t = rw (groups slot) (omega (arith, N .room, numbers-now slot l (rw (groups slot) at t)))
-
-          late-uniform : (r k : ℕ) → fateAt fatesNow r k ≡ fateAt fatesNow r 0
-          late-uniform r k =
-              let e : b + r - b ≡ r = omega arith in
-              rw e at (fate-uniform (b + r) k (omega arith))
 
   -- ---- the groups alone
 

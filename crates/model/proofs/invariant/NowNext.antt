@@ -1,34 +1,36 @@
 -- The stretch after the last fence goes on: what holds once the next fence has passed, when the trace grows, and with one group more submitted.
 -- Assumes nothing.
-use Prim.Native.Nat.{ℕ, zero, suc, _+_, _*_, _%_, _^_, _≤_, _<_}
+use Prim.Native.Nat.{ℕ, zero, suc, _+_, _-_, _*_, _%_, _^_, _≤_, _<_}
 use mathlib.Core.Path.{_≡_, refl, sym, ap, _∙_}
 use mathlib.Core.Logic.{_⊎_, inl, inr}
 use mathlib.Core.Bool.{Bool, true, false, cond}
 use mathlib.Core.List.{List, [], _∷_, _++_}
 use mathlib.Core.Option.{none}
+use native.Mathlib.Nat.{add-mod-right}
 use native.Mathlib.Numerals.{add-one}
 use native.Mathlib.Omega.{arith}
 use lib.Dec.{eqb, leb}
 use lib.ListN.{length}
 use borrow.Author.Tests.{eq-eqb, ne-eqb, eqb-true, eqb-false, leb-true, leb-false}
 use Rattle.model.specs.Bytes.{part, puts, same}
-use Rattle.model.specs.Layout.{header, groupMark, groupAt, groupNumber, headerRight, headerStart, homeAt}
+use Rattle.model.specs.Layout.{header, groupMark, groupAt, groupNumber, groupBlock, turnOf, topBit, headerRight, headerStart, homeAt}
 use Rattle.model.specs.Batch.{GW, KW}
 use Rattle.model.specs.Effects.{homeWrites}
 use Rattle.model.specs.Crash.{Memory}
 use Rattle.model.specs.Book.{Commit, homesAfter}
 use Rattle.model.specs.Demands.{closedBelow}
 use Rattle.model.proofs.bytes.ByteLaws.{length-puts}
+use Rattle.model.proofs.bytes.TurnLaws.{turnOf-lt, turnOf-next}
 use Rattle.model.proofs.bytes.LayoutLaws.{length-header, header-start, header-right, group-header, area-ext}
 use Rattle.model.proofs.trace.CrashLaws.{writeRecords, submits, none-submits, none-homes, chosen-all, write-append}
 use Rattle.model.proofs.trace.HomeLaws.{In, log-homes-wrote, length-homes-wrote, homeAt-homes, homeAt-wrote, log-header-wrote, area-header-wrote}
 use Rattle.model.proofs.trace.Trace.{Ev, hist, tagAt, Apart, Linked}
 use Rattle.model.proofs.trace.LinkLaws.{linked-later}
-use Rattle.model.proofs.invariant.Invariant.{Sound, Holds, Commits, touchesAbove}
+use Rattle.model.proofs.invariant.Invariant.{Sound, Holds, Turned, Commits, touchesAbove}
 use Rattle.model.proofs.invariant.GrowLaws.{holds-older}
 use Rattle.model.proofs.invariant.TouchLaws.{commits-fit, length-homesAfter, homesAfter-untouched}
 use Rattle.model.proofs.invariant.Now.{Now}
-use Rattle.model.proofs.invariant.NowLate.{image, numbers-now, there-before, there-since, image-start, image-right, image-size, image-area, image-homes}
+use Rattle.model.proofs.invariant.NowLate.{image, numbers-now, kept, there-before, there-since, image-start, image-right, image-size, image-area, image-homes}
 
 module _ {G D b : ℕ} {tr : List Ev} {old commits : List Commit} {start settled group count : ℕ} {content : ℕ → List ℕ} {m : Memory}
     (N : Now G D b tr old commits start settled group count content m) where
@@ -63,6 +65,7 @@ module _ {G D b : ℕ} {tr : List Ev} {old commits : List Commit} {start settled
         headStart = at;
         numbers = λ slot l t. number slot l t;
         there = λ n x y. rw (groups (n % G)) (go n (omega arith) y (leb group n) refl);
+        turned = λ n x y. rw (groups (n % G)) (other n x y (leb (start + G) n) refl);
         apart = apart;
         links = linked-later (7 * start) (7 * s) (tagAt (7 * b) tr) none (hist (7 * b) tr .done) (omega arith) (N .links);
       }
@@ -71,9 +74,23 @@ module _ {G D b : ℕ} {tr : List Ev} {old commits : List Commit} {start settled
           → groupNumber (groupAt (M .log) slot) < group + count
       number slot l t = rw (groups slot) (numbers-now N (λ x. true) slot l (rw (groups slot) at t))
 
-      go : (n : ℕ) → start ≤ n → n < group + count → (d : Bool) → leb group n ≡ d → Holds (7 * b) tr (groupAt (full .log) (n % G)) n
-      go n x y true e = there-since N (λ x. true) n (leb-true group n e) y refl
+      go : (n : ℕ) → start ≤ n → n < group + count → (d : Bool) → leb group n ≡ d → Holds G (7 * b) tr (groupAt (full .log) (n % G)) n
+      go n x y true e = there-since N (λ x. true) n (leb-true group n e) y (λ j. refl)
       go n x y false e = there-before N (λ x. true) n x (leb-false group n e)
+
+      -- a slot that nothing was written to since, or that of a group that is trimmed, which had the other turn
+      other : (n : ℕ) → group + count ≤ n → n < s + G → (d : Bool) → leb (start + G) n ≡ d → Turned G (groupAt (full .log) (n % G)) n
+      other n x y true e k i =
+          let w : start + G ≤ n = leb-true (start + G) n e in
+          let q : n - G + G ≡ n = omega arith in
+          let h : topBit (groupBlock (groupAt (full .log) ((n - G) % G)) k) ≡ turnOf G (n - G) =
+          there-before N (λ x. true) (n - G) (omega arith) (omega arith) .turns k i in
+          let r : (n - G) % G ≡ n % G = sym (add-mod-right (n - G) G) ∙ ap (λ (x : ℕ). x % G) q in
+          let t : turnOf G n ≡ 1 - turnOf G (n - G) = rw q at (turnOf-next G (n - G) (omega (arith, N .sizes .low))) in
+          rw r at h ∙ omega (arith, turnOf-lt G (n - G))
+      other n x y false e k i =
+          let w : n < start + G = leb-false (start + G) n e in
+          rw (kept N (λ x. true) n (omega (arith, N .startSettled, N .settledGroup)) w (λ u v. omega arith)) (N .turned n (omega arith) w k i)
 
   pub now-fenced : Now G D b tr old commits start settled (group + count) 0 content (writeRecords (submits G group content count) m)
   now-fenced =
@@ -154,13 +171,14 @@ module _ {G D b : ℕ} {tr : List Ev} {old commits : List Commit} {start settled
         settledGroup = N .settledGroup;
         room = N .room;
         logged = omega (arith, N .logged);
-        contents = λ n x y. holds-older (7 * b) e tr (content n) n (omega (arith, N .logged)) (N .contents n x y);
+        contents = λ n x y. holds-older G (7 * b) e tr (content n) n (omega (arith, N .logged)) (N .contents n x y);
         logSize = N .logSize;
         area = N .area ∙ sym homes;
         header = N .header;
         headStart = N .headStart;
         numbers = N .numbers;
-        there = λ n x y. holds-older (7 * b) e tr (groupAt (m .log) (n % G)) n (omega (arith, N .logged)) (N .there n x y);
+        there = λ n x y. holds-older G (7 * b) e tr (groupAt (m .log) (n % G)) n (omega (arith, N .logged)) (N .there n x y);
+        turned = N .turned;
         apart = apart;
         links = links;
       }
@@ -200,9 +218,9 @@ submits-more G group count content g =
 
 pub now-submit : {G D b : ℕ} {tr : List Ev} {old commits : List Commit} {start settled group count : ℕ} {content : ℕ → List ℕ} {m : Memory}
     → Now G D b tr old commits start settled group count content m
-    → (g : List ℕ) → Holds (7 * b) tr g (group + count) → group + count < start + G → 7 * (group + count + 1) ≤ 7 * b + length tr
+    → (g : List ℕ) → Holds G (7 * b) tr g (group + count) → group + count < start + G → 7 * (group + count + 1) ≤ 7 * b + length tr
     → Now G D b tr old commits start settled group (count + 1) (withGroup content (group + count) g) m
-now-submit {b} {tr} {group} {count} {content} N g holds room logged =
+now-submit {G} {b} {tr} {group} {count} {content} N g holds room logged =
     record {
       sizes = N .sizes;
       sound = N .sound;
@@ -220,12 +238,13 @@ now-submit {b} {tr} {group} {count} {content} N g holds room logged =
       headStart = N .headStart;
       numbers = N .numbers;
       there = N .there;
+      turned = N .turned;
       apart = N .apart;
       links = N .links;
     }
   where
     go : (n : ℕ) → group ≤ n → n < group + (count + 1) → (d : Bool) → eqb n (group + count) ≡ d
-        → Holds (7 * b) tr (withGroup content (group + count) g n) n
+        → Holds G (7 * b) tr (withGroup content (group + count) g n) n
     go n x y true e =
         let q : n ≡ group + count = eqb-true n (group + count) e in
         rw (q, withGroup-same content (group + count) g) holds

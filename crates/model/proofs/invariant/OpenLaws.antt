@@ -137,24 +137,24 @@ module _ (G D : ℕ) (z : Sizes G D) (m : Memory) (X : List ℕ) (o : Opens G D 
       let e : groupAt (puts (m .log) 0 newHeader) slot ≡ groupAt (m .log) slot = group-header (m .log) newHeader slot (omega (arith, length-header newStart G D)) in
       rw e (o .numbers slot l)
 
+  -- no group of the new era is there: nothing has persisted, however much of the log is blank
   pub late-begin : (old : List Commit) (m′ : Memory) → newStart ≤ 2 ^ 47 → OldCommits D old → X ≡ homesAfter D old
-      → m′ .log ≡ puts (m .log) 0 newHeader → m′ .area ≡ X → Late G D newStart [] old m′ []
+      → length (m′ .log) ≡ 64 + 512 * G → headerRight (m′ .log) G D ≡ true → headerStart (m′ .log) ≡ newStart → FoundBelow (m′ .log) G newStart
+      → m′ .area ≡ X → Late G D newStart [] old m′ []
   unfolding hist fateAt
-  late-begin old m′ most past eX el ea =
-      let es : headerStart (m′ .log) ≡ newStart = rw el new-start in
+  late-begin old m′ most past eX size right es numbers ea =
       record {
-        logSize = rw el new-size;
+        logSize = size;
         areaSize = rw ea restored-size;
-        header = rw el new-right;
+        header = right;
         start = rw es most;
         from = omega (arith, es);
-        numbers = λ slot l h. let k : groupNumber (groupAt (m′ .log) slot) < newStart = rw el (new-numbers slot l (rw el at h)) in omega (arith, es);
-        uniform = λ r k. refl;
-        below = λ n a b. absurd (omega (arith, es));
-        inside = λ r e. absurd (false≢true e);
-        within = λ r e. absurd (false≢true e);
-        there = λ n a b e. absurd (false≢true e);
-        absent = λ n a b e. rw el (found-below (puts (m .log) 0 newHeader) G newStart n (omega arith) new-numbers (omega (arith, es)));
+        numbers = λ slot l h. let k : groupNumber (groupAt (m′ .log) slot) < newStart = numbers slot l h in omega (arith, es);
+        below = λ n k a b. absurd (omega (arith, es));
+        inside = λ r k e. absurd (false≢true e);
+        within = λ r k e. absurd (false≢true e);
+        there = λ n k a b i e. absurd (false≢true e);
+        absent = λ n k a b i e. inl (found-below (m′ .log) G newStart n (omega arith) numbers (omega (arith, es)));
         apart = tt;
         links = tt;
         homes = λ h l. inl (rw (ea, closed-old D (7 * headerStart (m′ .log)) old past, eX));

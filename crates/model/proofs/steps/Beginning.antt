@@ -1,35 +1,29 @@
 -- A finished format, and what openings can answer.
-use mathlib.Core.Path.{_≡_, refl, sym, ap, _∙_, subst}
+use mathlib.Core.Path.{_≡_, refl, sym, ap, _∙_}
 use mathlib.Core.Logic.{_⊎_, inl, inr}
-use mathlib.Core.Bool.{Bool, true, false, cond, _&&_, false≢true}
+use mathlib.Core.Bool.{Bool, true, false, _&&_, false≢true}
 use mathlib.Core.List.{List, [], _∷_, _++_}
-use mathlib.Core.Option.{Option, none, some}
-use Prim.Native.Nat.{ℕ, zero, suc, _+_, _-_, _*_, _/_, _%_, _^_, _≤_, _<_}
-use native.Mathlib.Nat.{mod-lt, add-zero}
+use Prim.Native.Nat.{ℕ, suc, _+_, _-_, _*_, _/_, _%_, _^_, _≤_, _<_}
+use native.Mathlib.Nat.{add-zero}
 use native.Mathlib.Omega.{arith}
-use lib.ListN.{length, getD, length-take, length-drop}
-use lib.Seq.{ext-getD, getD-take, getD-drop}
+use lib.ListN.{length}
 use lib.Dec.{leb, eqb}
 use borrow.Author.Tests.{le-leb}
-use Rattle.model.specs.Bytes.{part, puts, zeros, same}
-use Rattle.model.specs.Layout.{groupsIn, homesIn, groupMark, groupOffset, groupAt, groupNumber, groupTag, groupValid, slotOf, indexOf, entryIn, entryAt, header, headerStart, headerRight, logLengthRight, dataLengthRight}
-use Rattle.model.specs.Tag.{readTag}
+use Rattle.model.specs.Bytes.{part, zeros, same}
+use Rattle.model.specs.Layout.{groupsIn, homesIn, groupMark, groupAt, groupNumber, groupValid, slotOf, entryIn, entryAt, emptyLog, headerStart}
 use Rattle.model.specs.Commit.{walk, started, committed, transactions, eachEntries, replay}
-use Rattle.model.specs.Effects.{Given, formattedLog, replayed}
+use Rattle.model.specs.Effects.{Given, replayed}
 use Rattle.model.specs.Questions.{ask, areasRight, stateRight, headerFits, startFits, batchFits, openAnswer}
-use Rattle.model.specs.Crash.{Memory}
-use Rattle.model.specs.Book.{Commit, homesAfter, writeCommits, empty}
+use Rattle.model.specs.Book.{homesAfter, writeCommits, empty}
 use Rattle.model.specs.History.{World, unopened, emptyStore, loaded}
 use Rattle.model.specs.Demands.{eachContents}
 use Rattle.model.specs.Store.{foundInMemory}
-use Rattle.model.specs.declared.Tag.{Tag}
 use Rattle.model.specs.declared.Tag.the-variants.{Nothing}
-use Rattle.model.proofs.bytes.ByteLaws.{length-puts, length-zeros, length-part, part-within}
-use Rattle.model.proofs.strip.OrderLaws.{byte-zeros}
-use Rattle.model.proofs.bytes.LayoutLaws.{length-header, header-start, header-right, group-header, group-fits, groups-in, homes-in, log-length-right, data-length-right}
-use Rattle.model.proofs.strip.QuestionLaws.{ask-yes, ask-no}
+use Rattle.model.proofs.bytes.ByteLaws.{length-zeros}
+use Rattle.model.proofs.bytes.EmptyLaws.{unused-mark, length-emptyLog, emptyLog-start, emptyLog-right, emptyLog-group}
+use Rattle.model.proofs.bytes.LayoutLaws.{groups-in, homes-in}
 use Rattle.model.proofs.trace.WalkLaws.{transactions-quiet}
-use Rattle.model.proofs.invariant.Invariant.{Sizes, FoundBelow, NotGroup, OldCommits, Opens, Closed}
+use Rattle.model.proofs.invariant.Invariant.{Sizes, FoundBelow, NotGroup, Opens, Closed}
 use Rattle.model.proofs.invariant.OpenLaws.{found-below}
 
 -- what is not group n is no valid group n
@@ -54,56 +48,34 @@ nothing-found log G D s g f n =
     ∙ transactions-quiet (entryAt log G D s) (7 * s) 0 n (λ i a b. entry-none log G D s (7 * s + i) (found-below log G s ((7 * s + i) / 7) g f (omega arith)))
     ∙ (unfold transactions committed walk started eachEntries in refl)
 
--- zeros hold no group
-pub part-zeros : (n at k : ℕ) → at + k ≤ n → part (zeros n) at k ≡ zeros k
-unfolding part
-part-zeros n at k h =
-    let l : length (part (zeros n) at k) ≡ k = length-part (zeros n) at k (omega (arith, length-zeros n)) in
-    ext-getD 0 (part (zeros n) at k) (zeros k) (l ∙ sym (length-zeros k))
-    (λ i j. let q : i < k = omega arith in rw (getD-take k, getD-drop) (byte-zeros n (at + i) ∙ sym (byte-zeros k i)))
-
-zero-group : (N slot : ℕ) → groupOffset slot + 512 ≤ N → same (part (groupAt (zeros N) slot) 0 2) groupMark ≡ false
-unfolding groupAt same zeros
-zero-group N slot h = rw (part-zeros N (groupOffset slot) 512 h, part-zeros 512 0 2 (omega arith))
-
 module _ (G D : ℕ) (z : Sizes G D) where
-  formatted-numbers : FoundBelow (formattedLog G D) G 0
-  unfolding formattedLog
+  formatted-numbers : FoundBelow (emptyLog 0 G D) G 0
   formatted-numbers slot l h =
-      let N : ℕ = 64 + 512 * G in
-      let e : groupAt (puts (zeros N) 0 (header 0 G D)) slot ≡ groupAt (zeros N) slot = group-header (zeros N) (header 0 G D) slot (omega (arith, length-header 0 G D)) in
-      absurd (false≢true (sym (zero-group N slot (omega (arith, group-fits slot (zeros N) G l (length-zeros N), length-zeros N))) ∙ rw e at h))
+      absurd (false≢true (sym (unused-mark G 0 slot) ∙ ap (λ (g : List ℕ). same (part g 0 2) groupMark) (sym (emptyLog-group 0 G D slot l)) ∙ h))
 
-  pub formatted-start : headerStart (formattedLog G D) ≡ 0
-  unfolding formattedLog
-  formatted-start = header-start (zeros (64 + 512 * G)) 0 G D (omega arith) (omega (arith, length-zeros (64 + 512 * G)))
+  pub formatted-start : headerStart (emptyLog 0 G D) ≡ 0
+  formatted-start = emptyLog-start 0 G D (omega arith)
 
   -- the rule finds nothing in it
-  formatted-transactions : transactions (entryAt (formattedLog G D) G D (headerStart (formattedLog G D))) (7 * headerStart (formattedLog G D)) (7 * G) ≡ []
+  formatted-transactions : transactions (entryAt (emptyLog 0 G D) G D (headerStart (emptyLog 0 G D))) (7 * headerStart (emptyLog 0 G D)) (7 * G) ≡ []
   formatted-transactions =
-      nothing-found (formattedLog G D) G D (headerStart (formattedLog G D)) (omega arith) (rw formatted-start formatted-numbers) (7 * G)
+      nothing-found (emptyLog 0 G D) G D (headerStart (emptyLog 0 G D)) (omega arith) (rw formatted-start formatted-numbers) (7 * G)
 
-  pub formatted-found : foundInMemory G D (record { log = formattedLog G D; area = zeros (64 * D) }) ≡ []
+  pub formatted-found : foundInMemory G D (record { log = emptyLog 0 G D; area = zeros (64 * D) }) ≡ []
   unfolding foundInMemory
   formatted-found = rw formatted-transactions (unfold eachContents in refl)
 
-  formatted-opens : Opens G D (record { log = formattedLog G D; area = zeros (64 * D) }) (zeros (64 * D))
+  formatted-opens : Opens G D (record { log = emptyLog 0 G D; area = zeros (64 * D) }) (zeros (64 * D))
   unfolding replayed replay
   formatted-opens =
       record {
-        logSize = size;
+        logSize = length-emptyLog 0 G D;
         areaSize = length-zeros (64 * D);
-        header = right;
+        header = emptyLog-right 0 G D (omega arith) (omega arith);
         start = omega (arith, formatted-start);
         numbers = λ slot l h. let k = formatted-numbers slot l h in absurd (omega arith);
         restored = rw formatted-transactions;
       }
-    where
-      size : length (formattedLog G D) ≡ 64 + 512 * G
-      size = unfold formattedLog in (length-puts (zeros (64 + 512 * G)) 0 (header 0 G D) ∙ length-zeros (64 + 512 * G))
-
-      right : headerRight (formattedLog G D) G D ≡ true
-      right = unfold formattedLog in header-right (zeros (64 + 512 * G)) 0 G D (omega arith) (omega arith) (omega (arith, length-zeros (64 + 512 * G)))
 
   pub format-closed : Closed G D (emptyStore G D)
   unfolding emptyStore unopened empty homesAfter writeCommits

@@ -15,8 +15,9 @@ use Rattle.model.specs.Crash.{Memory, fences, persist, persistChosen, fa
 use Rattle.model.specs.Book.{Kept, persisted, Entry, Commit, Book, fateAt, survives, allSurvive, run, settledEntries, ended, homesAfter, writeEntries, writeCommits}
 use Rattle.model.specs.Book as book
 use Rattle.model.specs.Demands.{groupWrites, lost, NoneOwed, Crashed}
-use Rattle.model.specs.History.{World, afterCrash}
+use Rattle.model.specs.History.{World, rowFates, afterCrash}
 use Rattle.model.proofs.trace.CrashLaws.{trues, submits, writeRecords, fences-append, fences-submits, groupWrites-fence, persist-stop, fates-stop, persist-last, fates-last, fates-fenced, fateAt-trues}
+use Rattle.model.proofs.trace.FateLaws.{fateAt-drop, drop-trues}
 use Rattle.model.proofs.trace.Trace.{Ev, hist, closerOf, allLanded, whole}
 use Rattle.model.proofs.trace.TraceLaws.{All, Falling, Rising, Long, done-rising, done-falling, done-long}
 use Rattle.model.proofs.trace.WholeLaws.{whole-ext, whole-none}
@@ -24,7 +25,7 @@ use Rattle.model.proofs.invariant.RunLaws.{survive-landed, run-matches,
 use Rattle.model.proofs.invariant.TouchLaws.{all-append, EntryFits, CommitFits, commits-fit}
 use Rattle.model.proofs.invariant.LateOpens.{late-opens}
 use Rattle.model.proofs.invariant.NowLate.{now-late}
-use Rattle.model.proofs.steps.FenceRuns.{now-of}
+use Rattle.model.proofs.steps.FenceRuns.{lasting-groups, now-of}
 use Rattle.model.proofs.invariant.Invariant.{Sizes, Sound, OldEntries, OldCommits, OwedBelow, Matches, landedIn, entriesFor, Commits, Copies, Submitted, Confirmed, Running, Closed, Opens, Early, Late, ImageOk}
 
 -- commits of the run, once it is over
@@ -163,54 +164,64 @@ module _ (G D : ℕ) (z : Sizes G D) (w : World) (r : Running G D w) (passed : �
   m = persist passed chosen (w .pending) (w .memory)
 
   abbrev fs : List (ℕ → Bool)
-  fs = fates passed chosen (w .pending)
+  fs = rowFates w passed chosen
+
+  fates-are : fs ≡ drop G (fates passed chosen (w .pending))
+  unfolding rowFates
+  fates-are = rw (lasting-groups G D (r .b) (r .tr) (r .old) w s)
 
   -- rows before a fence that is known to have passed have persisted
-  rows-landed : (i k : ℕ) → i < groupWrites (r .confirmed .before) → fateAt fs i k ≡ true
-  rows-landed i k l = go (r .confirmed .ends)
+  rows-landed : (i k : ℕ) → i < groupWrites (r .confirmed .before) - G → fateAt fs i k ≡ true
+  rows-landed i k l = rw fates-are (fateAt-drop G (fates passed chosen (w .pending)) i k ∙ go (r .confirmed .ends))
     where
-      go : (r .confirmed .before ≡ []) ⊎ ((x : List Record) × (r .confirmed .before ≡ x ++ (FN ∷ []))) → fateAt fs i k ≡ true
+      go : (r .confirmed .before ≡ []) ⊎ ((x : List Record) × (r .confirmed .before ≡ x ++ (FN ∷ []))) → fateAt (fates passed chosen (w .pending)) (G + i) k ≡ true
       go (inl e) = absurd (let q : groupWrites (r .confirmed .before) ≡ 0 = rw e (unfold groupWrites in refl) in omega arith)
       go (inr (x, e)) =
           let p : passed ≡ fences (x ++ (FN ∷ [])) + (passed - fences (x ++ (FN ∷ []))) = omega (arith, ap fences (sym e) ∙ r .confirmed .count) in
           let q : groupWrites (r .confirmed .before) ≡ groupWrites x = ap groupWrites e ∙ groupWrites-fence x in
-          let f : fs ≡ trues (groupWrites x) ++ fates (passed - fences (x ++ (FN ∷ []))) chosen (r .confirmed .after) =
+          let f : fates passed chosen (w .pending) ≡ trues (groupWrites x) ++ fates (passed - fences (x ++ (FN ∷ []))) chosen (r .confirmed .after) =
           ap (fates passed chosen) (r .confirmed .split ∙ ap (λ (y : List Record). y ++ r .confirmed .after) e)
           ∙ ap (λ (n : ℕ). fates n chosen ((x ++ (FN ∷ [])) ++ r .confirmed .after)) p ∙ fates-fenced x (passed - fences (x ++ (FN ∷ []))) chosen (r .confirmed .after) in
-          rw f (fateAt-trues (groupWrites x) _ i k (omega arith))
+          rw f (fateAt-trues (groupWrites x) _ (G + i) k (omega arith))
 
   -- "In that run is every commit confirmed durable before, and all that an earlier opening brought back"
-  pub crash-owed : Crashed w passed chosen
-  crash-owed =
+  owed-kept : (fs : List (ℕ → Bool)) → ((i k : ℕ) → i < groupWrites (r .confirmed .before) - G → fateAt fs i k ≡ true)
+      → NoneOwed (lost fs (w .book .commits))
+  owed-kept fs all =
       let k = r .commits in
-      let ρ = groupWrites (r .confirmed .before) in
+      let ρ = groupWrites (r .confirmed .before) - G in
       none-lost (7 * (r .b + ρ)) fs (w .book .commits) 0
       (rw (k .split) (ascending-all D (r .old) (k .new) (k .past) (ascending-less 0 (7 * r .b) (k .new) (omega arith) (ascending-new (r .b) (r .tr) (k .new) _ (7 * r .b) _ (k .matches) (done-rising (7 * r .b) (r .tr))))))
       (rw (k .split) (all-append (λ c. c .ticket ≤ 7 * (r .b + ρ) → allSurvive fs (c .entries) ≡ true) (r .old) (k .new) (surviving-old D (7 * (r .b + ρ)) fs (r .old) (k .past))
-      (surviving-new (r .b) ρ (r .tr) fs (k .new) _ _ (k .matches) rows-landed (done-falling (7 * r .b) (r .tr)) (done-long (7 * r .b) (r .tr)))))
+      (surviving-new (r .b) ρ (r .tr) fs (k .new) _ _ (k .matches) all (done-falling (7 * r .b) (r .tr)) (done-long (7 * r .b) (r .tr)))))
       (r .confirmed .owed)
+
+  pub crash-owed : Crashed w passed chosen
+  crash-owed = owed-kept fs rows-landed
 
   -- what memory opens to
   pending-fences : fences (w .pending) ≡ fences (s .fenced ++ (FN ∷ []))
   pending-fences = ap fences (s .split) ∙ fences-append (s .fenced ++ (FN ∷ [])) (submits G (s .group) (s .content) (s .count)) ∙ omega (arith, fences-submits G (s .group) (s .content) (s .count))
 
   pub image : ImageOk G D (r .b) (w .memory .log) (r .tr) (r .old) (w .book .commits) m fs
-  image = go (decLt passed (fences (s .fenced ++ (FN ∷ []))))
+  image = rw fates-are (go (decLt passed (fences (s .fenced ++ (FN ∷ [])))))
     where
-      go : Dec (passed < fences (s .fenced ++ (FN ∷ []))) → ImageOk G D (r .b) (w .memory .log) (r .tr) (r .old) (w .book .commits) m fs
+      go : Dec (passed < fences (s .fenced ++ (FN ∷ []))) → ImageOk G D (r .b) (w .memory .log) (r .tr) (r .old) (w .book .commits) m (drop G (fates passed chosen (w .pending)))
       go (yes h) =
           let e₁ : m ≡ persist passed chosen (s .fenced ++ (FN ∷ [])) (w .memory) = ap (λ (x : List Record). persist passed chosen x (w .memory)) (s .split) ∙ persist-stop passed chosen (s .fenced ++ (FN ∷ [])) _ (w .memory) h in
-          let e₂ : fs ≡ fates passed chosen (s .fenced ++ (FN ∷ [])) = ap (fates passed chosen) (s .split) ∙ fates-stop passed chosen (s .fenced ++ (FN ∷ [])) _ h in
+          let e₂ : fates passed chosen (w .pending) ≡ fates passed chosen (s .fenced ++ (FN ∷ [])) = ap (fates passed chosen) (s .split) ∙ fates-stop passed chosen (s .fenced ++ (FN ∷ [])) _ h in
           rw (e₁, e₂) (s .images passed chosen h)
       go (no h) =
           let p : passed ≡ fences (s .fenced ++ (FN ∷ [])) = omega (arith, pending-fences) in
           let e₁ : m ≡ persistChosen chosen 0 (submits G (s .group) (s .content) (s .count)) (writeRecords (s .fenced) (w .memory)) =
           ap (λ (x : List Record). persist passed chosen x (w .memory)) (s .split) ∙ ap (λ (n : ℕ). persist n chosen ((s .fenced ++ (FN ∷ [])) ++ submits G (s .group) (s .content) (s .count)) (w .memory)) p
           ∙ persist-last (s .fenced) chosen (submits G (s .group) (s .content) (s .count)) (w .memory) in
-          let e₂ : fs ≡ trues (s .group - r .b) ++ fatesChosen chosen 0 (submits G (s .group) (s .content) (s .count)) =
+          let e₂ : fates passed chosen (w .pending) ≡ trues (s .group - r .b + G) ++ fatesChosen chosen 0 (submits G (s .group) (s .content) (s .count)) =
           ap (fates passed chosen) (s .split) ∙ ap (λ (n : ℕ). fates n chosen ((s .fenced ++ (FN ∷ [])) ++ submits G (s .group) (s .content) (s .count))) p
           ∙ fates-last (s .fenced) chosen (submits G (s .group) (s .content) (s .count)) ∙ ap (λ (n : ℕ). trues n ++ fatesChosen chosen 0 (submits G (s .group) (s .content) (s .count))) (s .written) in
-          rw (e₁, e₂) (inr (now-late (now-of G D (r .b) (r .tr) (r .old) w z (r .commits) (r .copies) s) chosen))
+          let e₃ : s .group - r .b + G - G ≡ s .group - r .b = omega arith in
+          rw (e₁, e₂, drop-trues G (s .group - r .b + G) (fatesChosen chosen 0 (submits G (s .group) (s .content) (s .count))) (omega arith), e₃)
+          (inr (now-late (now-of G D (r .b) (r .tr) (r .old) w z (r .commits) (r .copies) s) chosen))
 
   opens-to : Opens G D m (homesAfter D (run fs (w .book .commits)))
   opens-to = go image
@@ -261,7 +272,7 @@ module _ (G D : ℕ) (w : World) (c : Closed G D w) (passed : ℕ) (chosen : ℕ
   pub quiet-closed : Closed G D (afterCrash w passed chosen)
   unfolding afterCrash book.crash
   quiet-closed =
-      let e = run-all D (fates passed chosen (w .pending)) (w .book .commits) (c .past) in
+      let e = run-all D (rowFates w passed chosen) (w .book .commits) (c .past) in
       record {
         ready = refl;
         homes = c .homes;
@@ -276,4 +287,4 @@ module _ (G D : ℕ) (w : World) (c : Closed G D w) (passed : ℕ) (chosen : ℕ
 
   pub quiet-owed : Crashed w passed chosen
   unfolding lost
-  quiet-owed = rw (run-all D (fates passed chosen (w .pending)) (w .book .commits) (c .past), drop-length (w .book .commits)) tt
+  quiet-owed = rw (run-all D (rowFates w passed chosen) (w .book .commits) (c .past), drop-length (w .book .commits)) tt

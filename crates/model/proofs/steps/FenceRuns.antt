@@ -7,18 +7,24 @@ use mathlib.Core.Option.{Option, none, some}
 use Prim.Native.Nat.{ℕ, zero, suc, _+_, _-_, _*_, _/_, _%_, _^_, _≤_, _<_}
 use native.Mathlib.Decide.{decLt}
 use native.Mathlib.Omega.{arith}
-use lib.ListN.{length}
-use Rattle.model.specs.Layout.{headerStart}
+use lib.ListN.{length, drop}
+use Rattle.model.specs.Layout.{groupsIn, headerStart}
 use Rattle.model.specs.State.{State, stateOf, nextPosition}
 use Rattle.model.specs.Batch.{Record, FN}
 use Rattle.model.specs.Crash.{Memory, fences, persist, persistChosen, fates, fatesChosen}
 use Rattle.model.specs.Book.{Commit, fateAt}
 use Rattle.model.specs.Demands.{groupWrites}
 use Rattle.model.specs.History.{World}
-use Rattle.model.proofs.trace.CrashLaws.{writeRecords, trues, NoFence, submits, fences-append, fences-fence, fences-none, none-append, none-submits, groupWrites-append, groupWrites-fence, groupWrites-submits, write-append, write-fence, persist-stop, fates-stop, persist-last, fates-last, chosen-fence, fate-fence}
+use Rattle.model.proofs.bytes.LayoutLaws.{groups-in}
+use Rattle.model.proofs.trace.CrashLaws.{writeRecords, trues, NoFence, submits, fences-append, fences-fence, fences-none, none-append, none-submits, groupWrites-append, groupWrites-fence, groupWrites-submits, write-append, write-fence, length-write, persist-stop, fates-stop, persist-last, fates-last, chosen-fence, fate-fence}
+use Rattle.model.proofs.trace.FateLaws.{drop-trues}
 use Rattle.model.proofs.trace.Trace.{Ev}
 use Rattle.model.proofs.invariant.Invariant.{Sizes, Late, ImageOk, Copies, Submitted, Commits, Running}
 use Rattle.model.proofs.invariant.Now.{Now}
+
+-- G by the memory of the last crash: what has been written since keeps the log's length
+pub lasting-groups : (G D b : ℕ) (tr : List Ev) (old : List Commit) (w : World) → Submitted G D b tr old w → groupsIn (length (w .memory .log)) ≡ G
+lasting-groups G D b tr old w s = ap groupsIn (sym (length-write (s .fenced) (w .memory)) ∙ s .logSize) ∙ groups-in G
 
 -- the stretch after the last fence, between two calls
 pub now-of : (G D b : ℕ) (tr : List Ev) (old : List Commit) (w : World) → Sizes G D → Commits D b tr old (w .book .commits) → Copies G D b tr w
@@ -44,6 +50,7 @@ now-of G D b tr old w z k c s =
       headStart = s .start;
       numbers = s .numbers;
       there = s .there;
+      turned = s .turned;
       apart = c .apart;
       links = c .links;
     }
@@ -77,20 +84,23 @@ module _ (G D b : ℕ) (tr : List Ev) (old : List Commit) (w : World) (s : Submi
       ap (λ (R : List Record). persist (fences (s .fenced ++ (FN ∷ []))) chosen R (w .memory)) (append-assoc (s .fenced ++ (FN ∷ [])) stretch (FN ∷ []))
       ∙ persist-last (s .fenced) chosen (stretch ++ (FN ∷ [])) (w .memory) ∙ chosen-fence chosen 0 stretch [] (writeRecords (s .fenced) (w .memory)) no-fence
 
-  fates-new : (chosen : ℕ → Bool) → fates (fences (s .fenced ++ (FN ∷ []))) chosen (upto ++ (FN ∷ [])) ≡ trues (s .group - b) ++ fatesChosen chosen 0 stretch
+  fates-new : (chosen : ℕ → Bool) → drop G (fates (fences (s .fenced ++ (FN ∷ []))) chosen (upto ++ (FN ∷ []))) ≡ trues (s .group - b) ++ fatesChosen chosen 0 stretch
   fates-new chosen =
-      ap (fates (fences (s .fenced ++ (FN ∷ []))) chosen) (append-assoc (s .fenced ++ (FN ∷ [])) stretch (FN ∷ []))
-      ∙ fates-last (s .fenced) chosen (stretch ++ (FN ∷ [])) ∙ rw (fate-fence chosen 0 stretch [] no-fence, s .written)
+      let e : s .group - b + G - G ≡ s .group - b = omega arith in
+      ap (drop G)
+      (ap (fates (fences (s .fenced ++ (FN ∷ []))) chosen) (append-assoc (s .fenced ++ (FN ∷ [])) stretch (FN ∷ []))
+      ∙ fates-last (s .fenced) chosen (stretch ++ (FN ∷ [])) ∙ rw (fate-fence chosen 0 stretch [] no-fence, s .written))
+      ∙ drop-trues G (s .group - b + G) (fatesChosen chosen 0 stretch) (omega arith) ∙ rw e
 
   -- what holds of all memory that a crash may leave before the new fence
   each-passed : (P : Memory → List (ℕ → Bool) → Type 0)
-      → ((passed : ℕ) (chosen : ℕ → Bool) → passed < fences (s .fenced ++ (FN ∷ [])) → P (persist passed chosen (s .fenced ++ (FN ∷ [])) (w .memory)) (fates passed chosen (s .fenced ++ (FN ∷ []))))
+      → ((passed : ℕ) (chosen : ℕ → Bool) → passed < fences (s .fenced ++ (FN ∷ [])) → P (persist passed chosen (s .fenced ++ (FN ∷ [])) (w .memory)) (drop G (fates passed chosen (s .fenced ++ (FN ∷ [])))))
       → ((chosen : ℕ → Bool) → P (persistChosen chosen 0 stretch (writeRecords (s .fenced) (w .memory))) (trues (s .group - b) ++ fatesChosen chosen 0 stretch))
       → (passed : ℕ) (chosen : ℕ → Bool) → passed < fences (upto ++ (FN ∷ []))
-      → P (persist passed chosen (upto ++ (FN ∷ [])) (w .memory)) (fates passed chosen (upto ++ (FN ∷ [])))
+      → P (persist passed chosen (upto ++ (FN ∷ [])) (w .memory)) (drop G (fates passed chosen (upto ++ (FN ∷ []))))
   each-passed P f g passed chosen l = go (decLt passed (fences (s .fenced ++ (FN ∷ []))))
     where
-      go : Dec (passed < fences (s .fenced ++ (FN ∷ []))) → P (persist passed chosen (upto ++ (FN ∷ [])) (w .memory)) (fates passed chosen (upto ++ (FN ∷ [])))
+      go : Dec (passed < fences (s .fenced ++ (FN ∷ []))) → P (persist passed chosen (upto ++ (FN ∷ [])) (w .memory)) (drop G (fates passed chosen (upto ++ (FN ∷ []))))
       go (yes h) = rw (persist-old passed chosen h, fates-old passed chosen h) (f passed chosen h)
       go (no h) =
           let e : passed ≡ fences (s .fenced ++ (FN ∷ [])) = omega (arith, fences-fence upto, upto-fences) in
@@ -128,6 +138,7 @@ module _ (G D b : ℕ) (tr : List Ev) (old : List Commit) (w : World) (s : Submi
         start = rw (em, upto-written, es) (n .headStart);
         numbers = rw (em, upto-written) (n .numbers);
         there = rw (em, upto-written, es) (n .there);
+        turned = rw (em, upto-written, es) (n .turned);
         images = rw (em, ec) (each-passed (λ m fs. ImageOk G D b (w .memory .log) tr old (w .book .commits) m fs) (s .images) (λ chosen. inr (late chosen)));
         bounded = rw (em, es) (each-passed (λ m fs. headerStart (m .log) ≤ start) (λ passed chosen l. let h = s .bounded passed chosen l in omega arith) bound);
       }

@@ -6,7 +6,7 @@ use mathlib.Core.List.{List, [], _∷_, _++_, append-nil, append-assoc}
 use mathlib.Core.Option.{Option, none, some}
 use Prim.Native.Nat.{ℕ, zero, suc, _+_, _-_, _*_, _/_, _%_, _^_, _≤_, _<_}
 use native.Mathlib.Omega.{arith}
-use lib.ListN.{length}
+use lib.ListN.{length, drop}
 use lib.Dec.{eqb, leb}
 use borrow.Author.Tests.{eqb-true, eqb-false, eq-eqb, ne-eqb}
 use Rattle.model.specs.Layout.{groupAt, headerStart}
@@ -73,7 +73,7 @@ flush-none-runs G D z w r batch empty =
           (rw (append-nil S) (sym (area-wrote G (s .group) (s .content) (s .count) (writeRecords (s .fenced) (w .memory)) ∙ s .area)))
           (rw e) (rw e (ap (λ (n : ℕ). 7 * n) (sym (s .next)))) (rw e (sym (s .next))) (omega arith) (λ chosen. rw (append-nil S) (now-late N chosen))
           (λ chosen. rw (append-nil S, headerStart-submits chosen 0 G (s .group) (s .content) (s .count) (writeRecords (s .fenced) (w .memory)), s .start) (omega arith));
-      confirmed = confirmed-more (r .b) w u (FN ∷ []) (r .confirmed) refl refl (rw e (o .fenced-next)) (λ bound h. rw eb h);
+      confirmed = confirmed-more G (r .b) w u (FN ∷ []) (r .confirmed) refl refl (rw e (o .fenced-next)) (λ bound h. rw eb h);
     }
 
 -- places passed over
@@ -166,8 +166,8 @@ module _ (G D : ℕ) (z : Sizes G D) (w : World) (r : Running G D w) (part : 0 <
   promises₁ : (x : ℕ) → promiseOf s₁ x ≡ promiseOf (w .state) x
   promises₁ x = promise-setFilled (setNext (w .state) n₁) 0 x ∙ promise-setNext (w .state) n₁ x
 
-  holds₁ : (bytes : List ℕ) (n : ℕ) → Holds (7 * b) (r .tr) bytes n → Holds (7 * b) tr₁ bytes n
-  holds₁ bytes n h = gaps-keep (λ t. Holds (7 * b) t bytes n) (λ t k. holds-gap (7 * b) gap t bytes n unused k) (7 - st .filled) (r .tr) h
+  holds₁ : (bytes : List ℕ) (n : ℕ) → Holds G (7 * b) (r .tr) bytes n → Holds G (7 * b) tr₁ bytes n
+  holds₁ bytes n h = gaps-keep (λ t. Holds G (7 * b) t bytes n) (λ t k. holds-gap G (7 * b) gap t bytes n unused k) (7 - st .filled) (r .tr) h
 
   done₁ : hist (7 * b) tr₁ .done ≡ hist (7 * b) (r .tr) .done
   done₁ = gaps-keep (λ t. hist (7 * b) t .done ≡ hist (7 * b) (r .tr) .done) (λ t k. gap-done (7 * b) gap t unused ∙ k) (7 - st .filled) (r .tr) refl
@@ -269,14 +269,15 @@ module _ (G D : ℕ) (z : Sizes G D) (w : World) (r : Running G D w) (part : 0 <
         start = rw numbers₁ (s .start);
         numbers = s .numbers;
         there = rw numbers₁ (λ n x y. holds₁ _ n (s .there n x y));
+        turned = rw numbers₁ (s .turned);
         images = λ passed chosen l.
-            gaps-keep (λ t. ImageOk G D b (w .memory .log) t (r .old) (w .book .commits) (persist passed chosen (s .fenced ++ (FN ∷ [])) (w .memory)) (fates passed chosen (s .fenced ++ (FN ∷ []))))
+            gaps-keep (λ t. ImageOk G D b (w .memory .log) t (r .old) (w .book .commits) (persist passed chosen (s .fenced ++ (FN ∷ [])) (w .memory)) (drop G (fates passed chosen (s .fenced ++ (FN ∷ [])))))
             (λ t k. image-gap G D b (w .memory .log) gap t (r .old) (w .book .commits) _ _ unused k) (7 - st .filled) (r .tr) (s .images passed chosen l);
         bounded = rw numbers₁ (s .bounded);
       }
     where
       sub : (n : ℕ) → s .group ≤ n → n < s .group + (s .count + 1) → (t : Bool) → eqb n (st .next) ≡ t
-          → Holds (7 * b) tr₁ (cond t (groupAt (w .log) (st .next % G)) (s .content n)) n
+          → Holds G (7 * b) tr₁ (cond t (groupAt (w .log) (st .next % G)) (s .content n)) n
       sub n x y true k =
           let q : n ≡ st .next = eqb-true n (st .next) k in
           rw q (holds₁ (groupAt (w .log) (st .next % G)) (st .next) (c .groups (st .next) (c .order .start-next) (omega (arith, was))))
@@ -296,7 +297,7 @@ module _ (G D : ℕ) (z : Sizes G D) (w : World) (r : Running G D w) (part : 0 <
         commits = gaps-keep (λ t. Commits D b t (r .old) (w .book .commits)) (λ t k. commits-gap D b gap t (r .old) (w .book .commits) unused k) (7 - st .filled) (r .tr) (r .commits);
         copies = copies₁;
         submitted = submitted₁;
-        confirmed = confirmed-more b w w₁ (GW (st .next % G) (groupAt (w .log) (st .next % G)) ∷ []) (r .confirmed) refl refl (rw numbers₁ (omega arith)) (λ bound h. h);
+        confirmed = confirmed-more G b w w₁ (GW (st .next % G) (groupAt (w .log) (st .next % G)) ∷ []) (r .confirmed) refl refl (rw numbers₁ (omega arith)) (λ bound h. h);
       }
 
   -- the world that flush leaves is that of a flush with nothing filled after the group write

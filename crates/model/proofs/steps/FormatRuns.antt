@@ -1,40 +1,33 @@
 -- Format's train: read off its bytes and landed whole it leaves the empty store; cut anywhere it leaves the old memory, one that no opening takes,
 -- or the new store.
-use mathlib.Core.Path.{_≡_, refl, sym, ap, _∙_, subst}
+use mathlib.Core.Path.{_≡_, refl, sym, ap, _∙_}
 use mathlib.Core.Logic.{_⊎_, inl, inr}
-use mathlib.Core.Bool.{Bool, true, false, cond, _&&_, false≢true}
+use mathlib.Core.Bool.{Bool, true, false, _&&_, false≢true}
 use mathlib.Core.List.{List, [], _∷_, _++_, append-assoc}
 use Prim.Native.Nat.{ℕ, zero, suc, _+_, _-_, _*_, _≤_, _<_}
-use native.Mathlib.Nat.{add-zero}
 use native.Mathlib.Omega.{arith}
-use lib.ListN.{length, take, replicate-append-replicate}
-use lib.Dec.{leb, eqb}
+use lib.ListN.{length, take, drop, length-append, replicate-append-replicate}
 use borrow.Author.Tests.{eq-eqb}
 use Rattle.model.specs.Bytes.{part, puts, zeros, same}
-use Rattle.model.specs.Layout.{groupsIn, homesIn, header, headerMark, headerRight, groupOffset, unusedGroup, logLengthRight, dataLengthRight}
-use Rattle.model.specs.Batch.{Record, GW, HW, KW, FN, readBatch}
-use Rattle.model.specs.State.{stateBytes}
-use Rattle.model.specs.Effects.{Given, unusedGroups, zeroHomes, formatted, formattedLog, formatEffect, openEffect, openStart}
+use Rattle.model.specs.Layout.{groupsIn, homesIn, header, headerRight, groupOffset, unusedSlots, emptyLog, logLengthRight, dataLengthRight}
+use Rattle.model.specs.Batch.{Record, GW, HW, KW, FN}
+use Rattle.model.specs.Effects.{Given, blankWrites, zeroHomes, formatted, formatEffect, openEffect, openStart}
 use Rattle.model.specs.Questions.{ask, areasRight, stateRight, headerFits, formatAnswer, openAnswer}
-use Rattle.model.specs.Calls.{Outcome, done, sizeOf, outcome, formatCall, openCall}
-use Rattle.model.specs.Crash.{Memory, toLog, toArea, pieces, write, writeEach, writeIf, writeChosen, many, isFence, fences, persistChosen, persist}
-use Rattle.model.specs.Facts.{Emptied, FormatEmpties, NeverOpens, FormatCut}
+use Rattle.model.specs.Calls.{Outcome, done, sizeOf, formatCall, openCall}
+use Rattle.model.specs.Crash.{Memory, toLog, toArea, blocks, pieces, write, writeEach, writeIf, writeChosen, many, isFence, fences, persistChosen, persist}
+use Rattle.model.specs.Facts.{FormatEmpties, NeverOpens, FormatCut}
 use Rattle.model.specs.History.{World, Event, Formatting, formatRecords, landed, unopened, loaded, afterFormat, emptyStore, AllAllowed, Always}
-use Rattle.model.proofs.bytes.ByteLaws.{length-puts, length-zeros, puts-append, puts-nil, puts-whole, part-below, part-inside}
-use Rattle.model.proofs.bytes.LayoutLaws.{length-header, length-unusedGroup, log-length, data-length, groups-in, homes-in, log-length-right, data-length-right}
+use Rattle.model.proofs.bytes.ByteLaws.{length-puts, length-zeros, puts-append, puts-nil, puts-whole, puts-front, part-below, part-inside}
+use Rattle.model.proofs.bytes.EmptyLaws.{length-unusedSlots}
+use Rattle.model.proofs.bytes.LayoutLaws.{length-header, log-length, data-length, groups-in, homes-in, log-length-right, data-length-right}
 use Rattle.model.proofs.strip.BatchLaws.{AllFormed, formed-append}
-use Rattle.model.proofs.strip.QuestionLaws.{ask-yes, ask-no, and-true, format-ready}
+use Rattle.model.proofs.strip.QuestionLaws.{and-true, format-ready}
 use Rattle.model.proofs.trace.CrashLaws.{writeRecords, write-append, NoFence, none-append, fences-none, fences-append, chosen-fence, persist-zero, persist-past}
+use Rattle.model.proofs.trace.OpeningLaws.{none-blanks, formed-blanks, write-blanks}
 use Rattle.model.proofs.steps.DoneLaws.{outcome-code, outcome-done, records-read, fits}
-use Rattle.model.proofs.steps.Beginning.{part-zeros}
 use Rattle.model.proofs.invariant.Invariant.{Sizes}
 
 -- ---- a done format's records
-
-formed-unused : (n : ℕ) → n ≤ 1024 → AllFormed (unusedGroups n)
-unfolding unusedGroups
-formed-unused zero h = tt
-formed-unused (suc n) h = formed-append (unusedGroups n) _ (formed-unused n (omega arith)) ((omega arith, length-unusedGroup), tt)
 
 formed-zeros : (n : ℕ) → n ≤ 65535 → AllFormed (zeroHomes n)
 unfolding zeroHomes
@@ -47,7 +40,7 @@ formed-format G D z = (
   simp (length-zeros, length-header),
   (
     tt,
-    formed-append (unusedGroups G) _ (formed-unused G (z .high))
+    formed-append (blankWrites G 0 G) _ (formed-blanks G 0 G (z .high))
         (formed-append (zeroHomes D) _ (formed-zeros D (z .homes)) (tt, (length-header 0 G D, (tt, tt)))),
   ),
 )
@@ -98,17 +91,6 @@ zeros-on xs k j =
     rw e at (sym (puts-append xs 0 (zeros k) (zeros j)))
     ∙ ap (puts xs 0) (unfold zeros in replicate-append-replicate k j 0)
 
-write-unused : (n : ℕ) (log area : List ℕ)
-    → writeRecords (unusedGroups n) (record { log = puts log 0 (zeros 64); area = area })
-    ≡ record { log = puts log 0 (zeros (64 + 512 * n)); area = area }
-unfolding unusedGroups writeRecords pieces writeEach write groupOffset unusedGroup
-write-unused zero log area = refl
-write-unused (suc n) log area =
-    write-append (unusedGroups n) _ _
-    ∙ rw (write-unused n log area)
-    (let e : 64 + 512 * n + 512 ≡ 64 + 512 * suc n = omega arith in
-    ap {B = Memory} (λ (l : List ℕ). record { log = l; area = area }) (zeros-on log (64 + 512 * n) 512 ∙ rw e))
-
 write-zeros : (n : ℕ) (log area : List ℕ)
     → writeRecords (zeroHomes n) (record { log = log; area = area }) ≡ record { log = log; area = puts area 0 (zeros (64 * n)) }
 unfolding zeroHomes writeRecords pieces writeEach write
@@ -121,42 +103,50 @@ write-zeros (suc n) log area =
     (let e : 64 * n + 64 ≡ 64 * suc n = omega arith in
     ap {B = Memory} (λ (a : List ℕ). record { log = log; area = a }) (zeros-on area (64 * n) 64 ∙ rw e))
 
--- the records before the last header: the header's zeros, a fence, the groups' and homes' zeros
+-- the records before the last header: the header's zeros, a fence, unused groups and the homes' zeros
 unfoldable cleared : ℕ → ℕ → List Record
-cleared G D = KW (zeros 64) ∷ FN ∷ (unusedGroups G ++ zeroHomes D)
+cleared G D = KW (zeros 64) ∷ FN ∷ (blankWrites G 0 G ++ zeroHomes D)
 
 unfoldable ending : ℕ → ℕ → List Record
 ending G D = FN ∷ KW (header 0 G D) ∷ FN ∷ []
 
 format-split : (G D : ℕ) → formatted G D ≡ cleared G D ++ ending G D
 unfolding formatted cleared ending
-format-split G D = rw (append-assoc (unusedGroups G) (zeroHomes D))
+format-split G D = rw (append-assoc (blankWrites G 0 G) (zeroHomes D))
+
+-- the log as they leave it: unused slots behind a header of zeros
+unfoldable clearedLog : ℕ → List ℕ
+clearedLog G = zeros 64 ++ unusedSlots G 0 G
+
+length-clearedLog : (G : ℕ) → length (clearedLog G) ≡ 64 + 512 * G
+unfolding clearedLog
+length-clearedLog G = rw (length-append, length-zeros, length-unusedSlots)
 
 write-cleared : (G D : ℕ) (m : Memory) → length (m .log) ≡ 64 + 512 * G → length (m .area) ≡ 64 * D
-    → writeRecords (cleared G D) m ≡ record { log = zeros (64 + 512 * G); area = zeros (64 * D) }
-unfolding cleared writeRecords pieces writeEach write
+    → writeRecords (cleared G D) m ≡ record { log = clearedLog G; area = zeros (64 * D) }
+unfolding cleared writeRecords pieces writeEach write clearedLog
 write-cleared G D m l a =
-    write-append (unusedGroups G) (zeroHomes D) (record { log = puts (m .log) 0 (zeros 64); area = m .area })
-    ∙ rw (write-unused G (m .log) (m .area))
-    (write-zeros D (puts (m .log) 0 (zeros (64 + 512 * G))) (m .area)
-    ∙ rw (puts-whole (m .log) (zeros (64 + 512 * G)) (l ∙ sym (length-zeros (64 + 512 * G))), puts-whole (m .area) (zeros (64 * D)) (a ∙ sym (length-zeros (64 * D)))))
+    write-append (blankWrites G 0 G) (zeroHomes D) (record { log = puts (m .log) 0 (zeros 64); area = m .area })
+    ∙ rw (write-blanks G 0 G (m .log) (zeros 64) (m .area) (length-zeros 64))
+    (write-zeros D (puts (m .log) 0 (clearedLog G)) (m .area)
+    ∙ rw (puts-whole (m .log) (clearedLog G) (l ∙ sym (length-clearedLog G)), puts-whole (m .area) (zeros (64 * D)) (a ∙ sym (length-zeros (64 * D)))))
 
-none-unused : (n : ℕ) → NoFence (unusedGroups n)
-unfolding unusedGroups isFence
-none-unused zero = tt
-none-unused (suc n) = none-append (unusedGroups n) _ (none-unused n) (refl, tt)
+-- the header over it
+cleared-headed : (G D : ℕ) → puts (clearedLog G) 0 (header 0 G D) ≡ emptyLog 0 G D
+unfolding clearedLog emptyLog
+cleared-headed G D = puts-front (zeros 64) (unusedSlots G 0 G) (header 0 G D) (length-zeros 64 ∙ sym (length-header 0 G D))
 
 none-zeros : (n : ℕ) → NoFence (zeroHomes n)
 unfolding zeroHomes isFence
 none-zeros zero = tt
 none-zeros (suc n) = none-append (zeroHomes n) _ (none-zeros n) (refl, tt)
 
-none-cleared : (G D : ℕ) → NoFence (unusedGroups G ++ zeroHomes D)
-none-cleared G D = none-append (unusedGroups G) (zeroHomes D) (none-unused G) (none-zeros D)
+none-cleared : (G D : ℕ) → NoFence (blankWrites G 0 G ++ zeroHomes D)
+none-cleared G D = none-append (blankWrites G 0 G) (zeroHomes D) (none-blanks G 0 G) (none-zeros D)
 
 fences-cleared : (G D : ℕ) → fences (cleared G D) ≡ 1
 unfolding cleared fences isFence
-fences-cleared G D = omega (arith, fences-none (unusedGroups G ++ zeroHomes D) (none-cleared G D))
+fences-cleared G D = omega (arith, fences-none (blankWrites G 0 G ++ zeroHomes D) (none-cleared G D))
 
 fences-format : (G D : ℕ) → fences (formatted G D) ≡ 3
 fences-format G D =
@@ -165,18 +155,18 @@ fences-format G D =
 
 -- the memory of the empty store
 unfoldable emptyMemory : ℕ → ℕ → Memory
-emptyMemory G D = record { log = formattedLog G D; area = zeros (64 * D) }
+emptyMemory G D = record { log = emptyLog 0 G D; area = zeros (64 * D) }
 
 ended-whole : (G D n : ℕ) (chosen : ℕ → Bool)
-    → persist (suc (suc n)) chosen (ending G D) (record { log = zeros (64 + 512 * G); area = zeros (64 * D) }) ≡ emptyMemory G D
-unfolding emptyMemory ending persist isFence pieces writeEach write formattedLog
-ended-whole G D n chosen = refl
+    → persist (suc (suc n)) chosen (ending G D) (record { log = clearedLog G; area = zeros (64 * D) }) ≡ emptyMemory G D
+unfolding emptyMemory ending persist isFence pieces writeEach write
+ended-whole G D n chosen = ap {B = Memory} (λ (l : List ℕ). record { log = l; area = zeros (64 * D) }) (cleared-headed G D)
 
 -- two or more fences have passed
 module _ {G D : ℕ} (f : Formatting G D) where
   past : (n : ℕ) (chosen : ℕ → Bool)
       → persist (suc (suc n)) chosen (formatRecords f) (f .memory)
-      ≡ persist (suc n) chosen (ending G D) (record { log = zeros (64 + 512 * G); area = zeros (64 * D) })
+      ≡ persist (suc n) chosen (ending G D) (record { log = clearedLog G; area = zeros (64 * D) })
   past n chosen =
       let e : fences (cleared G D) + suc n ≡ suc (suc n) = omega (arith, fences-cleared G D) in
       rw (format-records f, format-split G D)
@@ -262,10 +252,10 @@ no-header-append (HW home block ∷ rs) ss a b = no-header-append rs ss a b
 no-header-append (KW header ∷ rs) ss a b = absurd a
 no-header-append (FN ∷ rs) ss a b = no-header-append rs ss a b
 
-no-header-unused : (n : ℕ) → NoHeader (unusedGroups n)
-unfolding unusedGroups
-no-header-unused zero = tt
-no-header-unused (suc n) = no-header-append (unusedGroups n) _ (no-header-unused n) tt
+no-header-blanks : (G start n : ℕ) → NoHeader (blankWrites G start n)
+unfolding blankWrites
+no-header-blanks G start zero = tt
+no-header-blanks G start (suc n) = no-header-append (blankWrites G start n) _ (no-header-blanks G start n) tt
 
 no-header-zeros : (n : ℕ) → NoHeader (zeroHomes n)
 unfolding zeroHomes
@@ -284,12 +274,19 @@ module _ (G D : ℕ) where
   unmarked-area true m at bs u = record { log = u .log; area = length-puts (m .area) at bs ∙ u .area; mark = u .mark }
   unmarked-area false m at bs u = u
 
+  unmarked-blocks : (chosen : ℕ → Bool) (i at : ℕ) (content : List ℕ) (n : ℕ) (m : Memory) → 64 ≤ at → Unmarked G D m
+      → Unmarked G D (writeChosen chosen i (blocks at content n) m)
+  unfolding writeChosen blocks
+  unmarked-blocks chosen i at content zero m h u = u
+  unmarked-blocks chosen i at content (suc n) m h u =
+      unmarked-blocks chosen (i + 1) (at + 64) (drop 64 content) n _ (omega arith) (unmarked-log (chosen i) m at (take 64 content) h u)
+
   unmarked-chosen : (chosen : ℕ → Bool) (i : ℕ) (rs : List Record) (m : Memory) → NoHeader rs → Unmarked G D m
       → Unmarked G D (persistChosen chosen i rs m)
   unfolding persistChosen isFence pieces writeChosen many groupOffset
   unmarked-chosen chosen i [] m n u = u
   unmarked-chosen chosen i (GW slot group ∷ rs) m n u =
-      unmarked-chosen chosen _ rs _ n (unmarked-log (chosen i) m (groupOffset slot) group (omega arith) u)
+      unmarked-chosen chosen _ rs _ n (unmarked-blocks chosen i (groupOffset slot) group 8 m (omega arith) u)
   unmarked-chosen chosen i (HW home block ∷ rs) m n u = unmarked-chosen chosen _ rs _ n (unmarked-area (chosen i) m (64 * home) block u)
   unmarked-chosen chosen i (KW header ∷ rs) m n u = absurd n
   unmarked-chosen chosen i (FN ∷ rs) m n u = u
@@ -307,9 +304,9 @@ module _ (G D : ℕ) where
       front : part (zeros 64) 0 2 ≡ zeros 2
       front = unfold part zeros in refl
 
-  unmarked-zeros : Unmarked G D (record { log = zeros (64 + 512 * G); area = zeros (64 * D) })
-  unmarked-zeros =
-      record { log = length-zeros (64 + 512 * G); area = length-zeros (64 * D); mark = part-zeros (64 + 512 * G) 0 2 (omega arith) }
+  unmarked-cleared : Unmarked G D (record { log = clearedLog G; area = zeros (64 * D) })
+  unmarked-cleared =
+      record { log = length-clearedLog G; area = length-zeros (64 * D); mark = unfold clearedLog part zeros in refl }
 
 -- what a cut may leave
 abbrev Left : {G D : ℕ} → Formatting G D → Memory → Type 0
@@ -333,17 +330,18 @@ module _ {G D : ℕ} (f : Formatting G D) where
   one-passed : (chosen : ℕ → Bool) → Left f (persist 1 chosen (formatRecords f) (f .memory))
   unfolding cleared ending persist isFence pieces writeEach write
   one-passed chosen =
-      let T : List Record = unusedGroups G ++ zeroHomes D in
+      let T : List Record = blankWrites G 0 G ++ zeroHomes D in
       let m : Memory = record { log = puts (f .memory .log) 0 (zeros 64); area = f .memory .area } in
       rw (format-records f, format-split G D, persist-zero chosen (T ++ ending G D) m, chosen-fence chosen 0 T (KW (header 0 G D) ∷ FN ∷ []) m (none-cleared G D))
       (inr (inl (unmarked-closed G D (sizes f) _
-      (unmarked-chosen G D chosen 0 T m (no-header-append (unusedGroups G) (zeroHomes D) (no-header-unused G) (no-header-zeros D))
+      (unmarked-chosen G D chosen 0 T m (no-header-append (blankWrites G 0 G) (zeroHomes D) (no-header-blanks G 0 G) (no-header-zeros D))
       (unmarked-first G D (f .memory) (f .logSize) (f .areaSize))))))
 
-  last-may : (b : Bool) → Left f (writeIf b (toLog 0 (header 0 G D)) (record { log = zeros (64 + 512 * G); area = zeros (64 * D) }))
-  unfolding writeIf write emptyMemory formattedLog
-  last-may true = inr (inr (sym new-memory))
-  last-may false = inr (inl (unmarked-closed G D (sizes f) _ (unmarked-zeros G D)))
+  last-may : (b : Bool) → Left f (writeIf b (toLog 0 (header 0 G D)) (record { log = clearedLog G; area = zeros (64 * D) }))
+  unfolding writeIf write emptyMemory
+  last-may true =
+      inr (inr (ap {B = Memory} (λ (l : List ℕ). record { log = l; area = zeros (64 * D) }) (cleared-headed G D) ∙ sym new-memory))
+  last-may false = inr (inl (unmarked-closed G D (sizes f) _ (unmarked-cleared G D)))
 
   two-passed : (chosen : ℕ → Bool) → Left f (persist 2 chosen (formatRecords f) (f .memory))
   unfolding ending persist persistChosen isFence pieces writeEach writeChosen

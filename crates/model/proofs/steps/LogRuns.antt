@@ -26,7 +26,7 @@ use Rattle.model.proofs.trace.LinkLaws.{linked-more, linked-ext, lastFr
 use Rattle.model.proofs.invariant.GrowLaws.{holds-older, sound-grow, close-done, open-done, open-other, open-below, entries-older}
 use Rattle.model.proofs.invariant.GrowImages.{closers-older, apart-snoc}
 use Rattle.model.proofs.invariant.LogStep.{log-groups, length-entered}
-use Rattle.model.proofs.invariant.Invariant.{Sizes, Sound, SoundAt, Holds, wordOf, entriesFor, TaskOk, Copies, LastOk, lastCloser}
+use Rattle.model.proofs.invariant.Invariant.{Sizes, Sound, SoundAt, Holds, plainOf, entriesFor, TaskOk, Copies, LastOk, lastCloser}
 use Rattle.model.proofs.steps.WriterSteps.{each-writer}
 
 -- the numbers of the strip once an entry is logged
@@ -160,7 +160,7 @@ pub copies-logged : (G D b : ℕ) (tr : List Ev) (w u : World) (v : ℕ) (e : Ev
     → WriterInOrder (stateOf (u .state)) (writerOf (u .state) v) → Promises (u .state)
     → TaskOk b (e ∷ tr) (writerOf (u .state) v) (heldOf (u .state) v) (hist (7 * b) (e ∷ tr) .openOf v) t
     → u .homes ≡ w .homes
-    → u .log ≡ entered (stateOf (w .state)) (stateOf (w .state) .next % G) (w .log) (wordOf (7 * b + length tr) e (mine (hist (7 * b) tr) e) true (e .final)) (e .block)
+    → u .log ≡ entered (stateOf (w .state)) (stateOf (w .state) .next % G) (w .log) (plainOf (7 * b + length tr) e (mine (hist (7 * b) tr) e) (e .final)) (e .block)
     → u .area ≡ w .area → u .book .tasks v ≡ t → ((x : ℕ) → (x ≡ v → ⊥) → u .book .tasks x ≡ w .book .tasks x)
     → u .book .rows ≡ filledUp (w .book) .rows → u .book .filled ≡ filledUp (w .book) .filled
     → homesAfter D (closedBelow (stateOf (w .state) .settled) (u .book .commits)) ≡ homesAfter D (closedBelow (stateOf (w .state) .settled) (w .book .commits))
@@ -176,8 +176,8 @@ copies-logged G D b tr w u v e t last z c l room us who sd a size ow oh wo pr tk
     let p : nextPosition st′ ≡ nextPosition st + 1 = advance-position st st′ last a in
     let q : 7 * st .next + st .filled ≡ 7 * b + length tr = unfold nextPosition in c .position in
     let rm = row-moves b (w .book) st st′ last a (omega (arith, c .from)) (c .rows) (c .filled) in
-    let gs : (n : ℕ) → st .start ≤ n → 7 * n < 7 * b + length (e ∷ tr) → Holds (7 * b) (e ∷ tr) (groupAt (u .log) (n % G)) n =
-    rw el (log-groups G D b e tr st (w .log) z (c .logSize) (o .start-most) (o .start-next) room (o .filled-most) q us sd (c .groups)) in
+    let gs : (n : ℕ) → st .start ≤ n → 7 * n < 7 * b + length (e ∷ tr) → Holds G (7 * b) (e ∷ tr) (groupAt (u .log) (n % G)) n =
+    rw el (log-groups G D b e tr st (w .log) z (c .logSize) (o .groups-same) (o .start-most) (o .start-next) room (o .filled-most) q us sd (c .groups)) in
     record {
       homes = eh ∙ c .homes;
       stateSize = size;

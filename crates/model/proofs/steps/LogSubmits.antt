@@ -7,7 +7,7 @@ use mathlib.Core.Option.{Option, none, some}
 use Prim.Native.Nat.{ℕ, zero, suc, _+_, _-_, _*_, _/_, _%_, _^_, _≤_, _<_}
 use native.Mathlib.Numerals.{add-one}
 use native.Mathlib.Omega.{arith}
-use lib.ListN.{length}
+use lib.ListN.{length, drop}
 use lib.Dec.{eqb, leb}
 use borrow.Author.Tests.{eqb-true, eqb-false, eq-eqb, ne-eqb}
 use Rattle.model.specs.Layout.{groupAt, headerStart}
@@ -18,6 +18,7 @@ use Rattle.model.specs.Book.{Commit, fateAt}
 use Rattle.model.specs.Demands.{groupWrites}
 use Rattle.model.specs.History.{World}
 use Rattle.model.proofs.trace.CrashLaws.{submits, fateAt-none, groupWrites-fence}
+use Rattle.model.proofs.trace.FateLaws.{fateAt-drop}
 use Rattle.model.proofs.trace.Trace.{Ev}
 use Rattle.model.proofs.invariant.GrowLaws.{holds-older}
 use Rattle.model.proofs.invariant.Invariant.{Holds, ImageOk, Copies, Submitted, Confirmed, OwedBelow}
@@ -40,7 +41,7 @@ pub submitted-logged : (G D b : ℕ) (tr : List Ev) (old : List Commit) (w u : W
     → stateOf (w .state) .next < stateOf (w .state) .start + G
     → u .pending ≡ w .pending ++ cond (eqb (stateOf (w .state) .filled) 6) (GW (stateOf (w .state) .next % G) (groupAt (u .log) (stateOf (w .state) .next % G)) ∷ []) []
     → u .memory ≡ w .memory → u .area ≡ w .area
-    → ((m : Memory) (fs : List (ℕ → Bool)) → headerStart (m .log) ≤ stateOf (w .state) .start → fateAt fs ((7 * b + length tr) / 7 - b) 0 ≡ false
+    → ((m : Memory) (fs : List (ℕ → Bool)) → headerStart (m .log) ≤ stateOf (w .state) .start → fateAt fs ((7 * b + length tr) / 7 - b) ((7 * b + length tr) % 7) ≡ false
     → ImageOk G D b (w .memory .log) tr old (w .book .commits) m fs → ImageOk G D b (w .memory .log) (e ∷ tr) old (u .book .commits) m fs)
     → Submitted G D b (e ∷ tr) old u
 submitted-logged G D b tr old w u e last s c c′ a room up um ua ig = go (a .moved)
@@ -51,14 +52,15 @@ submitted-logged G D b tr old w u e last s c c′ a room up um ua ig = go (a .mo
     q : 7 * st .next + st .filled ≡ 7 * b + length tr
     q = unfold nextPosition in c .position
 
-    older : (bytes : List ℕ) (n : ℕ) → n < st .next → Holds (7 * b) tr bytes n → Holds (7 * b) (e ∷ tr) bytes n
-    older bytes n l h = holds-older (7 * b) e tr bytes n (omega (arith, q)) h
+    older : (bytes : List ℕ) (n : ℕ) → n < st .next → Holds G (7 * b) tr bytes n → Holds G (7 * b) (e ∷ tr) bytes n
+    older bytes n l h = holds-older G (7 * b) e tr bytes n (omega (arith, q)) h
 
     images′ : (passed : ℕ) (chosen : ℕ → Bool) → passed < fences (s .fenced ++ (FN ∷ []))
-        → ImageOk G D b (w .memory .log) (e ∷ tr) old (u .book .commits) (persist passed chosen (s .fenced ++ (FN ∷ [])) (w .memory)) (fates passed chosen (s .fenced ++ (FN ∷ [])))
+        → ImageOk G D b (w .memory .log) (e ∷ tr) old (u .book .commits) (persist passed chosen (s .fenced ++ (FN ∷ [])) (w .memory)) (drop G (fates passed chosen (s .fenced ++ (FN ∷ []))))
     images′ passed chosen l =
         ig _ _ (s .bounded passed chosen l)
-        (fateAt-none passed chosen (s .fenced ++ (FN ∷ [])) ((7 * b + length tr) / 7 - b) 0 (omega (arith, groupWrites-fence (s .fenced), s .written, s .next, s .low, c .order .filled-most, q)))
+        (fateAt-drop G (fates passed chosen (s .fenced ++ (FN ∷ []))) ((7 * b + length tr) / 7 - b) ((7 * b + length tr) % 7)
+        ∙ fateAt-none passed chosen (s .fenced ++ (FN ∷ [])) (G + ((7 * b + length tr) / 7 - b)) ((7 * b + length tr) % 7) (omega (arith, groupWrites-fence (s .fenced), s .written, s .next, s .low, c .order .filled-most, q)))
         (s .images passed chosen l)
 
     go : ((st .filled < 6) × (stateOf (u .state) .next ≡ st .next) × (stateOf (u .state) .filled ≡ st .filled + 1))
@@ -80,6 +82,7 @@ submitted-logged G D b tr old w u e last s c c′ a room up um ua ig = go (a .mo
       start = rw (um, a .start) (s .start);
       numbers = rw um (s .numbers);
       there = rw (um, a .start) (λ n x y. older _ n (omega (arith, s .next)) (s .there n x y));
+      turned = rw (um, a .start) (s .turned);
       images = rw um images′;
       bounded = rw (um, a .start) (s .bounded);
     }
@@ -102,12 +105,13 @@ submitted-logged G D b tr old w u e last s c c′ a room up um ua ig = go (a .mo
       start = rw (um, a .start) (s .start);
       numbers = rw um (s .numbers);
       there = rw (um, a .start) (λ n x y. older _ n (omega (arith, s .next)) (s .there n x y));
+      turned = rw (um, a .start) (s .turned);
       images = rw um images′;
       bounded = rw (um, a .start) (s .bounded);
     }
       where
         sub : (n : ℕ) → s .group ≤ n → n < s .group + (s .count + 1) → (t : Bool) → eqb n (st .next) ≡ t
-            → Holds (7 * b) (e ∷ tr) (cond t (groupAt (u .log) (st .next % G)) (s .content n)) n
+            → Holds G (7 * b) (e ∷ tr) (cond t (groupAt (u .log) (st .next % G)) (s .content n)) n
         sub n x y true k =
             let z : n ≡ st .next = eqb-true n (st .next) k in
             rw z (c′ .groups (st .next) (omega (arith, a .start, c .order .start-next)) (omega (arith, q)))
@@ -116,10 +120,10 @@ submitted-logged G D b tr old w u e last s c c′ a room up um ua ig = go (a .mo
             older (s .content n) n (omega (arith, s .next)) (s .contents n x (omega (arith, s .next)))
 
 -- more records are pending
-pub confirmed-more : (b : ℕ) (w u : World) (rs : List Record) → Confirmed b w → u .pending ≡ w .pending ++ rs → u .passed ≡ w .passed
+pub confirmed-more : (G b : ℕ) (w u : World) (rs : List Record) → Confirmed G b w → u .pending ≡ w .pending ++ rs → u .passed ≡ w .passed
     → stateOf (w .state) .fenced ≤ stateOf (u .state) .fenced
-    → ((bound : ℕ) → OwedBelow bound (w .book .commits) → OwedBelow bound (u .book .commits)) → Confirmed b u
-confirmed-more b w u rs c ep eq ef eo =
+    → ((bound : ℕ) → OwedBelow bound (w .book .commits) → OwedBelow bound (u .book .commits)) → Confirmed G b u
+confirmed-more G b w u rs c ep eq ef eo =
     record {
       before = c .before;
       after = c .after ++ rs;

@@ -191,7 +191,6 @@ late-owed G D b tr cs m fs mark l =
       start = l .start;
       from = l .from;
       numbers = l .numbers;
-      uniform = l .uniform;
       below = l .below;
       inside = l .inside;
       within = l .within;
@@ -263,6 +262,7 @@ confirm-runs G D z w r =
         start = rw e (s .start);
         numbers = s .numbers;
         there = rw e (s .there);
+        turned = rw e (s .turned);
         images = λ passed chosen l. ⊎-elim inl (λ k. inr (late-owed G D (r .b) (r .tr) (w .book .commits) _ _ F k)) (s .images passed chosen l);
         bounded = rw e (s .bounded);
       };
@@ -273,7 +273,7 @@ confirm-runs G D z w r =
         count = sym (ap fences (s .split) ∙ fences-append (s .fenced ++ (FN ∷ [])) (submits G (s .group) (s .content) (s .count)) ∙ omega (arith, fences-submits G (s .group) (s .content) (s .count)));
         ends = inr (s .fenced, refl);
         owed = subst (λ (x : ℕ). OwedBelow x (owedBy F (w .book .commits))) (omega (arith, s .atFence, groupWrites-fence (s .fenced), s .written, s .low))
-            (marked-below F (7 * (r .b + groupWrites (r .confirmed .before))) (w .book .commits) (r .confirmed .owed) (r .confirmed .reached));
+            (marked-below F (7 * (r .b + (groupWrites (r .confirmed .before) - G))) (w .book .commits) (r .confirmed .owed) (r .confirmed .reached));
         reached = rw e (omega (arith, s .atFence, groupWrites-fence (s .fenced), s .written, s .low));
       };
     }

@@ -9,7 +9,7 @@ use lib.ListN.{length}
 use borrow.Author.Tests.{leb-true}
 use Rattle.model.specs.Layout.{groupsIn, headerStart, homeAt}
 use Rattle.model.specs.Batch.{Record, HW, KW, FN}
-use Rattle.model.specs.Effects.{Given, Effect, openEffect, openStart, homeWrites}
+use Rattle.model.specs.Effects.{Given, Effect, openEffect, openStart, blankWrites, homeWrites}
 use Rattle.model.specs.Questions.{openAnswer, startFits}
 use Rattle.model.specs.Calls.{Outcome, outcome, done, sizeOf, openCall}
 use Rattle.model.specs.Book.{homesAfter}
@@ -20,6 +20,7 @@ use Rattle.model.proofs.bytes.LayoutLaws.{groups-in, length-header}
 use Rattle.model.proofs.strip.BatchLaws.{AllFormed, formed-append}
 use Rattle.model.proofs.strip.QuestionLaws.{open-ready}
 use Rattle.model.proofs.trace.HomeLaws.{In}
+use Rattle.model.proofs.trace.OpeningLaws.{formed-blanks}
 use Rattle.model.proofs.steps.DoneLaws.{outcome-code, outcome-done, fits}
 use Rattle.model.proofs.invariant.OpenLaws.{hs, newHeader, newStart, touched-below, restored-size}
 use Rattle.model.proofs.steps.OpenStep.{opens-with, open-effect, open-runs}
@@ -41,14 +42,14 @@ module _ (G D : ℕ) (z : Sizes G D) (w : World) (c : Closed G D w) (state batch
   effect-is : openEffect g ≡ opens-with G D z w c
   effect-is = open-effect G D z w c state batch
 
-  formed : AllFormed (openEffect g .records)
-  formed =
+  pub open-formed : AllFormed (openEffect g .records)
+  open-formed =
       let X = homesAfter D (w .book .commits) in
       let o = c .opens in
       rw effect-is
-      (formed-append (homeWrites X (hs G D z (w .memory) X o)) (FN ∷ KW (newHeader G D z (w .memory) X o) ∷ FN ∷ [])
+      (formed-append (homeWrites X (hs G D z (w .memory) X o)) _
       (homes-formed D X (hs G D z (w .memory) X o) (z .homes) (restored-size G D z (w .memory) X o) (touched-below G D z (w .memory) X o))
-      (tt, (length-header _ G D, (tt, tt))))
+      (tt, (length-header _ G D, (tt, formed-append (blankWrites G _ G) (FN ∷ []) (formed-blanks G _ G (z .high)) (tt, tt)))))
 
   start-is : openStart g ≡ headerStart (w .memory .log) + G
   unfolding openStart loaded
@@ -64,7 +65,7 @@ module _ (G D : ℕ) (z : Sizes G D) (w : World) (c : Closed G D w) (state batch
       by-answer (Invariant G D) w (opening state batch) g (openAnswer g (openStart g) (sizeOf (openEffect g))) (openEffect g) refl (inl c)
       (λ a. let k = open-ready g (openStart g) (sizeOf (openEffect g)) a in
       record {
-        formed = formed;
+        formed = open-formed;
         fit = fits g (sizeOf (openEffect g)) (k .3);
         next = inr (rw effect-is (open-runs G D z w c state batch (start-ok (k .2))));
       })

@@ -5,29 +5,36 @@ use mathlib.Core.Bool.{Bool, true, false, cond, _&&_, false≢true}
 use mathlib.Core.List.{List, [], _∷_, _++_, append-nil, append-assoc}
 use mathlib.Core.Option.{Option, none, some}
 use Prim.Native.Nat.{ℕ, zero, suc, _+_, _-_, _*_, _/_, _%_, _^_, _≤_, _<_}
+use native.Mathlib.Nat.{mod-lt}
 use native.Mathlib.Omega.{arith}
-use lib.ListN.{length}
+use lib.ListN.{length, drop}
 use lib.Dec.{leb}
 use borrow.Author.Tests.{leb-true}
-use Rattle.model.specs.Bytes.{puts}
-use Rattle.model.specs.Layout.{groupsIn, homesIn, headerStart, header}
+use Rattle.model.specs.Bytes.{part, puts, same}
+use Rattle.model.specs.Layout.{groupsIn, homesIn, headerStart, header, groupMark, groupAt, groupNumber, unusedGroup, emptyLog}
 use Rattle.model.specs.Batch.{Record, KW, FN}
 use Rattle.model.specs.State.{State, stateOf, nextPosition, Writer, writerOf, freshState, idle}
-use Rattle.model.specs.Effects.{Given, Effect, openEffect, openTags, openStart, homeWrites}
+use Rattle.model.specs.Effects.{Given, Effect, openEffect, openTags, openStart, blankWrites, homeWrites}
 use Rattle.model.specs.Questions.{openAnswer, startFits}
 use Rattle.model.specs.Crash.{Memory, fences, persist, persistChosen, fates}
 use Rattle.model.specs.Book.{Commit, Book, homesAfter, writeCommits, owedAll, withCommits, fateAt, run}
 use Rattle.model.specs.Demands.{closedBelow, groupWrites}
 use Rattle.model.specs.History.{Call, opening, World, loaded, feed, isConfirm, feedChange}
-use Rattle.model.proofs.bytes.LayoutLaws.{groups-in, homes-in}
+use Rattle.model.proofs.bytes.ByteLaws.{puts-whole}
+use Rattle.model.proofs.bytes.LayoutLaws.{length-header, groups-in, homes-in}
+use Rattle.model.proofs.bytes.BlockLaws.{blockIn, same-mark, same-number}
+use Rattle.model.proofs.bytes.EmptyLaws.{length-unusedGroup, unused-mark, unused-opposite, length-emptyLog, emptyLog-start, emptyLog-right, emptyLog-group}
 use Rattle.model.proofs.strip.OrderLaws.{in-order, length-fresh, state-fresh, writer-fresh, in-order-fresh}
 use Rattle.model.proofs.strip.QuestionLaws.{open-ready}
-use Rattle.model.proofs.trace.CrashLaws.{writeRecords, submits, write-append, write-FN, fences-append, groupWrites-append, groupWrites-homes}
-use Rattle.model.proofs.trace.HomeLaws.{log-homes, log-homes-wrote, log-header, area-header, log-header-wrote, area-header-wrote, fences-opening, groupWrites-opening, opening-none, opening-none-fates, opening-one, opening-one-fates}
+use Rattle.model.proofs.trace.CrashLaws.{writeRecords, submits, NoFence, write-append, write-FN, groupWrites-fence}
+use Rattle.model.proofs.trace.HomeLaws.{log-homes, log-homes-wrote, log-header, area-header, log-header-wrote, area-header-wrote}
+use Rattle.model.proofs.trace.SubmitLaws.{area-submits, length-submits, headerStart-submits, headerRight-submits, meta-submits}
+use Rattle.model.proofs.trace.OpeningLaws.{none-blanks, groupWrites-blanks, blank-submits, write-blanks, openingRecords, fences-opening, groupWrites-opening, opening-none, opening-one, opening-two}
+use Rattle.model.proofs.trace.FateLaws.{drop-fates}
 use Rattle.model.proofs.trace.Trace.{Ev, hist}
 use Rattle.model.proofs.steps.DoneLaws.{after}
 use Rattle.model.proofs.invariant.OpenLaws.{hs, ts, tags, newStart, newHeader, restored-size, closed-old, early-chosen, early-written, all-written, new-start, new-right, new-size, new-numbers, late-begin}
-use Rattle.model.proofs.invariant.Invariant.{Sizes, OldCommits, OldEntries, OwedBelow, Commits, Copies, Submitted, Confirmed, Running, Closed, Opens, Early, Late, ImageOk, lastCloser, TaskOk}
+use Rattle.model.proofs.invariant.Invariant.{Sizes, OldCommits, OldEntries, OwedBelow, Commits, Copies, Submitted, Confirmed, Running, Closed, Opens, Early, Late, ImageOk, FoundBelow, Turned, lastCloser, TaskOk}
 
 -- owed or not, the homes are the same
 pub homes-owed : (cs : List Commit) (A : List ℕ) → writeCommits (owedAll cs) A ≡ writeCommits cs A
@@ -66,10 +73,10 @@ module _ (G D : ℕ) (z : Sizes G D) (w : World) (c : Closed G D w) where
       record {
         figure = length (ts G D z m X o);
         state = freshState G D b;
-        log = puts (m .log) 0 (newHeader G D z m X o);
+        log = emptyLog b G D;
         area = X;
         block = [];
-        records = homeWrites X (hs G D z m X o) ++ (FN ∷ KW (newHeader G D z m X o) ∷ FN ∷ []);
+        records = homeWrites X (hs G D z m X o) ++ (FN ∷ KW (newHeader G D z m X o) ∷ FN ∷ (blankWrites G b G ++ (FN ∷ [])));
       }
 
   pub open-effect : (state batch : List ℕ) → openEffect (loaded w state batch) ≡ opens-with
@@ -87,83 +94,170 @@ module _ (G D : ℕ) (z : Sizes G D) (w : World) (c : Closed G D w) where
   past = old-owed D (w .book .commits) (c .past)
 
   -- the memory where the whole batch has persisted
+  abbrev blanks : List Record
+  blanks = blankWrites G b G
+
   abbrev fenced : List Record
-  fenced = homeWrites X (hs G D z m X o) ++ (FN ∷ KW (newHeader G D z m X o) ∷ [])
+  fenced = homeWrites X (hs G D z m X o) ++ (FN ∷ KW (newHeader G D z m X o) ∷ FN ∷ blanks)
 
-  whole-batch : fenced ++ (FN ∷ []) ≡ homeWrites X (hs G D z m X o) ++ (FN ∷ KW (newHeader G D z m X o) ∷ FN ∷ [])
-  whole-batch = append-assoc (homeWrites X (hs G D z m X o)) (FN ∷ KW (newHeader G D z m X o) ∷ []) (FN ∷ [])
+  quiet : NoFence blanks
+  quiet = none-blanks G b G
 
-  written : writeRecords fenced m ≡ writeRecords (KW (newHeader G D z m X o) ∷ []) (writeRecords (homeWrites X (hs G D z m X o)) m)
-  written = write-append (homeWrites X (hs G D z m X o)) (FN ∷ KW (newHeader G D z m X o) ∷ []) m ∙ write-append (FN ∷ []) (KW (newHeader G D z m X o) ∷ []) _ ∙ ap (writeRecords (KW (newHeader G D z m X o) ∷ [])) (write-FN _)
+  abbrev batchOf : List Record
+  batchOf = openingRecords X (hs G D z m X o) (newHeader G D z m X o) blanks quiet
 
-  written-log : writeRecords fenced m .log ≡ puts (m .log) 0 (newHeader G D z m X o)
-  written-log = ap (λ (x : Memory). x .log) written ∙ log-header-wrote (newHeader G D z m X o) (writeRecords (homeWrites X (hs G D z m X o)) m) ∙ ap (λ (l : List ℕ). puts l 0 (newHeader G D z m X o)) (log-homes-wrote X (hs G D z m X o) m)
+  whole-batch : fenced ++ (FN ∷ []) ≡ batchOf
+  whole-batch = append-assoc (homeWrites X (hs G D z m X o)) (FN ∷ KW (newHeader G D z m X o) ∷ FN ∷ blanks) (FN ∷ [])
+
+  -- with its homes written, and with its header
+  abbrev homes-in-place : Memory
+  homes-in-place = writeRecords (homeWrites X (hs G D z m X o)) m
+
+  abbrev headed : Memory
+  headed = writeRecords (KW (newHeader G D z m X o) ∷ []) homes-in-place
+
+  headed-log : headed .log ≡ puts (m .log) 0 (newHeader G D z m X o)
+  headed-log = log-header-wrote (newHeader G D z m X o) homes-in-place ∙ ap (λ (l : List ℕ). puts l 0 (newHeader G D z m X o)) (log-homes-wrote X (hs G D z m X o) m)
+
+  headed-area : headed .area ≡ X
+  headed-area = area-header-wrote (newHeader G D z m X o) homes-in-place ∙ all-written G D z m X o
+
+  headed-is : headed ≡ record { log = puts (m .log) 0 (newHeader G D z m X o); area = X }
+  headed-is = λ i. record { log = headed-log i; area = headed-area i }
+
+  written : writeRecords fenced m ≡ record { log = emptyLog b G D; area = X }
+  unfolding emptyLog
+  written =
+      write-append (homeWrites X (hs G D z m X o)) (FN ∷ KW (newHeader G D z m X o) ∷ FN ∷ blanks) m
+      ∙ write-append (FN ∷ []) (KW (newHeader G D z m X o) ∷ FN ∷ blanks) homes-in-place
+      ∙ ap (writeRecords (KW (newHeader G D z m X o) ∷ FN ∷ blanks)) (write-FN homes-in-place)
+      ∙ write-append (KW (newHeader G D z m X o) ∷ []) (FN ∷ blanks) homes-in-place
+      ∙ write-append (FN ∷ []) blanks headed ∙ ap (writeRecords blanks) (write-FN headed ∙ headed-is)
+      ∙ write-blanks G b G (m .log) (newHeader G D z m X o) X (length-header b G D)
+      ∙ ap {B = Memory} (λ (l : List ℕ). record { log = l; area = X }) (puts-whole (m .log) (emptyLog b G D) (o .logSize ∙ sym (length-emptyLog b G D)))
+
+  written-log : writeRecords fenced m .log ≡ emptyLog b G D
+  written-log = ap (λ (x : Memory). x .log) written
 
   written-area : writeRecords fenced m .area ≡ X
-  written-area = ap (λ (x : Memory). x .area) written ∙ area-header-wrote (newHeader G D z m X o) (writeRecords (homeWrites X (hs G D z m X o)) m) ∙ all-written G D z m X o
+  written-area = ap (λ (x : Memory). x .area) written
 
-  -- memory that a crash may leave before the opening's last fence
-  image-none : (chosen : ℕ → Bool) → ImageOk G D b (m .log) [] old old (persist 0 chosen (fenced ++ (FN ∷ [])) m) (fates 0 chosen (fenced ++ (FN ∷ [])))
+  -- an unused slot holds no group
+  empty-numbers : (bound : ℕ) → FoundBelow (emptyLog b G D) G bound
+  empty-numbers bound slot l t =
+      absurd (false≢true (sym (unused-mark G b slot) ∙ ap (λ (g : List ℕ). same (part g 0 2) groupMark) (sym (emptyLog-group b G D slot l)) ∙ t))
+
+  empty-turned : (n : ℕ) → b ≤ n → n < b + G → Turned G (groupAt (emptyLog b G D) (n % G)) n
+  empty-turned n l h k i = rw (emptyLog-group b G D (n % G) (mod-lt n (omega arith))) (unused-opposite G b n k l h i)
+
+  -- memory that a crash may leave before the opening's last fence: none of its group writes is a row
+  no-rows : (passed : ℕ) (chosen : ℕ → Bool) → drop G (fates passed chosen (fenced ++ (FN ∷ []))) ≡ []
+  no-rows passed chosen =
+      rw whole-batch
+      (drop-fates G passed chosen batchOf
+      (omega (arith, groupWrites-opening X (hs G D z m X o) (newHeader G D z m X o) blanks quiet, groupWrites-blanks G b G)))
+
+  image-none : (chosen : ℕ → Bool) → ImageOk G D b (m .log) [] old old (persist 0 chosen (fenced ++ (FN ∷ [])) m) []
   unfolding fateAt
   image-none chosen =
-      rw (whole-batch, ← append-nil (homeWrites X (hs G D z m X o) ++ (FN ∷ KW (newHeader G D z m X o) ∷ FN ∷ [])), opening-none, opening-none-fates)
+      rw (whole-batch, opening-none X (hs G D z m X o) (newHeader G D z m X o) blanks quiet chosen m)
       (inl (record { same = log-homes chosen 0 X (hs G D z m X o) m; opens = rw (← homes-same) (early-chosen G D z m X o chosen); nothing = λ r k. refl }))
 
-  image-one : (chosen : ℕ → Bool) → b ≤ 2 ^ 47 → ImageOk G D b (m .log) [] old old (persist 1 chosen (fenced ++ (FN ∷ [])) m) (fates 1 chosen (fenced ++ (FN ∷ [])))
+  image-one : (chosen : ℕ → Bool) → b ≤ 2 ^ 47 → ImageOk G D b (m .log) [] old old (persist 1 chosen (fenced ++ (FN ∷ [])) m) []
   image-one chosen most =
-      rw (whole-batch, ← append-nil (homeWrites X (hs G D z m X o) ++ (FN ∷ KW (newHeader G D z m X o) ∷ FN ∷ [])), opening-one, opening-one-fates)
-      (go (chosen 0) refl)
+      rw (whole-batch, opening-one X (hs G D z m X o) (newHeader G D z m X o) blanks quiet chosen m) (go (chosen 0) e-log)
     where
       n : Memory
-      n = persistChosen chosen 0 (KW (newHeader G D z m X o) ∷ []) (writeRecords (homeWrites X (hs G D z m X o)) m)
+      n = persistChosen chosen 0 (KW (newHeader G D z m X o) ∷ []) homes-in-place
 
-      e-log : n .log ≡ cond (chosen 0) (puts (writeRecords (homeWrites X (hs G D z m X o)) m .log) 0 (newHeader G D z m X o)) (writeRecords (homeWrites X (hs G D z m X o)) m .log)
-      e-log = log-header chosen 0 (newHeader G D z m X o) (writeRecords (homeWrites X (hs G D z m X o)) m)
+      e-log : n .log ≡ cond (chosen 0) (puts (homes-in-place .log) 0 (newHeader G D z m X o)) (homes-in-place .log)
+      e-log = log-header chosen 0 (newHeader G D z m X o) homes-in-place
 
-      e-area : n .area ≡ writeRecords (homeWrites X (hs G D z m X o)) m .area
-      e-area = area-header chosen 0 (newHeader G D z m X o) (writeRecords (homeWrites X (hs G D z m X o)) m)
+      e-area : n .area ≡ homes-in-place .area
+      e-area = area-header chosen 0 (newHeader G D z m X o) homes-in-place
 
-      go : (t : Bool) → chosen 0 ≡ t → ImageOk G D b (m .log) [] old old n []
+      go : (t : Bool) → n .log ≡ cond t (puts (homes-in-place .log) 0 (newHeader G D z m X o)) (homes-in-place .log) → ImageOk G D b (m .log) [] old old n []
       go true e =
-          inr (late-begin G D z m X o old n most past homes-same
-          (e-log ∙ ap (λ (t : Bool). cond t (puts (writeRecords (homeWrites X (hs G D z m X o)) m .log) 0 (newHeader G D z m X o)) (writeRecords (homeWrites X (hs G D z m X o)) m .log)) e
-          ∙ ap (λ (l : List ℕ). puts l 0 (newHeader G D z m X o)) (log-homes-wrote X (hs G D z m X o) m))
-          (e-area ∙ all-written G D z m X o))
+          let el : n .log ≡ puts (m .log) 0 (newHeader G D z m X o) =
+          e ∙ ap (λ (l : List ℕ). puts l 0 (newHeader G D z m X o)) (log-homes-wrote X (hs G D z m X o) m) in
+          inr (late-begin G D z m X o old n most past homes-same (rw el (new-size G D z m X o)) (rw el (new-right G D z m X o)) (rw el (new-start G D z m X o))
+          (rw el (new-numbers G D z m X o)) (e-area ∙ all-written G D z m X o))
       go false e =
-          inl (record { same = e-log ∙ ap (λ (t : Bool). cond t (puts (writeRecords (homeWrites X (hs G D z m X o)) m .log) 0 (newHeader G D z m X o)) (writeRecords (homeWrites X (hs G D z m X o)) m .log)) e ∙ log-homes-wrote X (hs G D z m X o) m; opens = rw (← homes-same) (same n (e-log ∙ ap (λ (t : Bool). cond t (puts (writeRecords (homeWrites X (hs G D z m X o)) m .log) 0 (newHeader G D z m X o)) (writeRecords (homeWrites X (hs G D z m X o)) m .log)) e) e-area); nothing = λ r k. unfold fateAt in refl })
+          inl (record { same = e ∙ log-homes-wrote X (hs G D z m X o) m; opens = rw (← homes-same) (same-memory n e e-area); nothing = λ r k. unfold fateAt in refl })
         where
-          same : (x : Memory) → x .log ≡ writeRecords (homeWrites X (hs G D z m X o)) m .log → x .area ≡ writeRecords (homeWrites X (hs G D z m X o)) m .area → Opens G D x X
-          same x p q = subst (λ (y : Memory). Opens G D y X) (sym (λ i. record { log = p i; area = q i })) (early-written G D z m X o)
+          same-memory : (x : Memory) → x .log ≡ homes-in-place .log → x .area ≡ homes-in-place .area → Opens G D x X
+          same-memory x p q = subst (λ (y : Memory). Opens G D y X) (sym (λ i. record { log = p i; area = q i })) (early-written G D z m X o)
 
-  images-of : (passed : ℕ) (chosen : ℕ → Bool) → b ≤ 2 ^ 47 → passed < 2
-      → ImageOk G D b (m .log) [] old old (persist passed chosen (fenced ++ (FN ∷ [])) m) (fates passed chosen (fenced ++ (FN ∷ [])))
-  images-of zero chosen most l = image-none chosen
-  images-of (suc zero) chosen most l = image-one chosen most
-  images-of (suc (suc n)) chosen most l = absurd (omega arith)
+  -- the header has persisted, and any choice of the blanks' blocks: what metadata is left is older than the new start
+  module _ (chosen : ℕ → Bool) where
+    abbrev blanking : Memory
+    blanking = persistChosen chosen 0 (submits G 0 (unusedGroup G b) G) headed
 
-  bounded-of : (passed : ℕ) (chosen : ℕ → Bool) → passed < 2 → headerStart (persist passed chosen (fenced ++ (FN ∷ [])) m .log) ≤ b
+    blanking-is : persist 2 chosen (fenced ++ (FN ∷ [])) m ≡ blanking
+    blanking-is =
+        rw (whole-batch, opening-two X (hs G D z m X o) (newHeader G D z m X o) blanks quiet chosen m, blank-submits G b G (omega arith))
+
+    headed-size : length (headed .log) ≡ 64 + 512 * G
+    headed-size = rw headed-log (new-size G D z m X o)
+
+    blanking-start : headerStart (blanking .log) ≡ b
+    blanking-start = headerStart-submits chosen 0 G 0 (unusedGroup G b) G headed ∙ rw headed-log (new-start G D z m X o)
+
+    blanking-numbers : FoundBelow (blanking .log) G b
+    blanking-numbers slot l t =
+        go (meta-submits chosen 0 G 0 (unusedGroup G b) G headed slot (omega arith) (omega arith) headed-size (λ n x y. length-unusedGroup G b n))
+      where
+        go : (blockIn (groupAt (blanking .log) slot) 0 ≡ blockIn (groupAt (headed .log) slot) 0)
+            ⊎ ((n : ℕ) × (0 ≤ n) × (n < 0 + G) × (blockIn (groupAt (blanking .log) slot) 0 ≡ blockIn (unusedGroup G b n) 0))
+            → groupNumber (groupAt (blanking .log) slot) < b
+        go (inl e) =
+            let f : same (part (groupAt (headed .log) slot) 0 2) groupMark ≡ true = ap (λ (x : List ℕ). same x groupMark) (sym (same-mark _ _ e)) ∙ t in
+            let k : groupNumber (groupAt (headed .log) slot) < b = rw headed-log (new-numbers G D z m X o slot l (rw headed-log at f)) in
+            omega (arith, same-number (groupAt (blanking .log) slot) (groupAt (headed .log) slot) e)
+        go (inr x) =
+            absurd (false≢true (sym (unused-mark G b (x .0)) ∙ ap (λ (y : List ℕ). same y groupMark) (sym (same-mark _ _ (x .3))) ∙ t))
+
+    image-two : b ≤ 2 ^ 47 → ImageOk G D b (m .log) [] old old (persist 2 chosen (fenced ++ (FN ∷ [])) m) []
+    image-two most =
+        rw blanking-is
+        (inr (late-begin G D z m X o old blanking most past homes-same (length-submits chosen 0 G 0 (unusedGroup G b) G headed ∙ headed-size)
+        (headerRight-submits chosen 0 G 0 (unusedGroup G b) G headed G D ∙ rw headed-log (new-right G D z m X o)) blanking-start blanking-numbers
+        (area-submits chosen 0 G 0 (unusedGroup G b) G headed ∙ headed-area)))
+
+  images-of : (passed : ℕ) (chosen : ℕ → Bool) → b ≤ 2 ^ 47 → passed < 3
+      → ImageOk G D b (m .log) [] old old (persist passed chosen (fenced ++ (FN ∷ [])) m) (drop G (fates passed chosen (fenced ++ (FN ∷ []))))
+  images-of passed chosen most l = rw no-rows (go passed l)
+    where
+      go : (passed : ℕ) → passed < 3 → ImageOk G D b (m .log) [] old old (persist passed chosen (fenced ++ (FN ∷ [])) m) []
+      go zero l = image-none chosen
+      go (suc zero) l = image-one chosen most
+      go (suc (suc zero)) l = image-two chosen most
+      go (suc (suc (suc n))) l = absurd (omega arith)
+
+  bounded-of : (passed : ℕ) (chosen : ℕ → Bool) → passed < 3 → headerStart (persist passed chosen (fenced ++ (FN ∷ [])) m .log) ≤ b
   bounded-of zero chosen l =
-      rw (whole-batch, ← append-nil (homeWrites X (hs G D z m X o) ++ (FN ∷ KW (newHeader G D z m X o) ∷ FN ∷ [])), opening-none, log-homes) (omega arith)
+      rw (whole-batch, opening-none X (hs G D z m X o) (newHeader G D z m X o) blanks quiet chosen m, log-homes) (omega arith)
   bounded-of (suc zero) chosen l =
-      rw (whole-batch, ← append-nil (homeWrites X (hs G D z m X o) ++ (FN ∷ KW (newHeader G D z m X o) ∷ FN ∷ [])), opening-one, log-header, log-homes-wrote) (go (chosen 0))
+      rw (whole-batch, opening-one X (hs G D z m X o) (newHeader G D z m X o) blanks quiet chosen m, log-header, log-homes-wrote) (go (chosen 0))
     where
       go : (t : Bool) → headerStart (cond t (puts (m .log) 0 (newHeader G D z m X o)) (m .log)) ≤ b
       go true = omega (arith, new-start G D z m X o)
       go false = omega arith
-  bounded-of (suc (suc n)) chosen l = absurd (omega arith)
+  bounded-of (suc (suc zero)) chosen l = rw blanking-is (omega (arith, blanking-start chosen))
+  bounded-of (suc (suc (suc n))) chosen l = absurd (omega arith)
 
-  fence-count : fences (fenced ++ (FN ∷ [])) ≡ 2
-  fence-count = ap fences whole-batch ∙ fences-opening X (hs G D z m X o) (newHeader G D z m X o)
+  fence-count : fences (fenced ++ (FN ∷ [])) ≡ 3
+  fence-count = ap fences whole-batch ∙ fences-opening X (hs G D z m X o) (newHeader G D z m X o) blanks quiet
 
   -- the strip's numbers
   numbers : stateOf (freshState G D b)
       ≡ record { groups = G; homes = D; start = b; next = b; filled = 0; settled = 7 * b; fenced = 7 * b; durable = 7 * b; last = 0 }
   numbers = state-fresh G D b (omega arith) (omega arith) (omega (arith, o .start))
 
-  wrote : groupWrites fenced ≡ b - b
-  unfolding groupWrites
+  wrote : groupWrites fenced ≡ b - b + G
   wrote =
-      groupWrites-append (homeWrites X (hs G D z m X o)) (FN ∷ KW (newHeader G D z m X o) ∷ []) ∙ omega (arith, groupWrites-homes X (hs G D z m X o))
+      sym (groupWrites-fence fenced) ∙ ap groupWrites whole-batch
+      ∙ groupWrites-opening X (hs G D z m X o) (newHeader G D z m X o) blanks quiet ∙ groupWrites-blanks G b G ∙ omega arith
 
   pub open-runs : (state batch : List ℕ) → b ≤ 2 ^ 47 → Running G D (after w (opening state batch) opens-with)
   unfolding feed feedChange isConfirm withCommits hist
@@ -179,7 +273,7 @@ module _ (G D : ℕ) (z : Sizes G D) (w : World) (c : Closed G D w) where
         copies = record {
           homes = c .homes;
           stateSize = length-fresh G D b;
-          logSize = new-size G D z m X o;
+          logSize = length-emptyLog b G D;
           areaSize = restored-size G D z m X o;
           order = in-order (freshState G D b) G D (in-order-fresh G D b most (omega arith) (omega arith));
           from = omega (arith, ap (λ (s : State). s .start) numbers);
@@ -206,12 +300,13 @@ module _ (G D : ℕ) (z : Sizes G D) (w : World) (c : Closed G D w) where
           low = omega arith;
           written = wrote;
           contents = λ n l k. absurd (omega arith);
-          logSize = rw written-log (new-size G D z m X o);
+          logSize = rw written-log (length-emptyLog b G D);
           area = written-area;
-          header = rw written-log (new-right G D z m X o);
-          start = rw written-log (new-start G D z m X o ∙ sym (ap (λ (s : State). s .start) numbers));
-          numbers = rw written-log (new-numbers G D z m X o);
+          header = rw written-log (emptyLog-right b G D (omega arith) (omega arith));
+          start = rw written-log (emptyLog-start b G D (omega arith) ∙ sym (ap (λ (s : State). s .start) numbers));
+          numbers = rw written-log (empty-numbers b);
           there = λ n l k. absurd (omega (arith, ap (λ (s : State). s .start) numbers));
+          turned = rw (written-log, ap (λ (s : State). s .start) numbers) empty-turned;
           images = λ passed chosen l. images-of passed chosen most (omega (arith, fence-count));
           bounded = λ passed chosen l. rw (ap (λ (s : State). s .start) numbers) (bounded-of passed chosen (omega (arith, fence-count)));
         };

@@ -321,7 +321,7 @@ module _ (G D : ℕ) (z : Sizes G D) (w : World) (r : Running G D w) where
             (λ chosen. now-late-settle N newArea due settles inside reaches chosen)
             (λ chosen. omega (arith, same-start chosen (writeRecords (s .fenced) (w .memory)), s .start));
         confirmed =
-            confirmed-more (r .b) w u (homeWrites newArea due ++ (FN ∷ [])) (r .confirmed) refl refl (rw numbers (o .fenced-next)) (λ bound h. h);
+            confirmed-more G (r .b) w u (homeWrites newArea due ++ (FN ∷ [])) (r .confirmed) refl refl (rw numbers (o .fenced-next)) (λ bound h. h);
       }
 
   pub settle-runs : (batch : List ℕ) → Running G D (after w (settle batch) (settleEffect (lent w [] batch 0 0)))

@@ -34,7 +34,7 @@ use Rattle.model.proofs.steps.WriterSteps.{task-here, task-other, order
 use Rattle.model.proofs.steps.LogRuns.{Advance, advance-position, Kept-writers, logged-writers, logged-numbers, logged-log, logged-records, promises-logged, copies-logged}
 use Rattle.model.proofs.steps.LogSubmits.{submitted-logged, confirmed-more, owed-snoc}
 use Rattle.model.proofs.steps.HeldLogs.{filled-tasks, filled-commits, event, soFar, Logging, logging-task, mine-event, Bounds, bounds, held-size, last-closes, link-ok, link-small}
-use Rattle.model.proofs.invariant.Invariant.{Sizes, SoundAt, wordOf, entriesFor, TaskOk, Copies, Submitted, Confirmed, Commits, Running, ImageOk, LastOk, lastCloser, OwedBelow}
+use Rattle.model.proofs.invariant.Invariant.{Sizes, SoundAt, plainOf, entriesFor, TaskOk, Copies, Submitted, Confirmed, Commits, Running, ImageOk, LastOk, lastCloser, OwedBelow}
 
 module _ (G D : ℕ) (z : Sizes G D) (w : World) (R : Running G D w) (v : ℕ) (l : v < 8) (m : 2 ≤ writerOf (w .state) v .mode)
     (left : Roomy (w .state) v) where
@@ -137,8 +137,8 @@ module _ (G D : ℕ) (z : Sizes G D) (w : World) (R : Running G D w) (v : ℕ) (
     abbrev e₀ : Ev
     e₀ = ev false 0
 
-    word-is : wordOf (7 * b + length tr) e₀ (mine (hist (7 * b) tr) e₀) true (e₀ .final) ≡ entryWord (r .home) (P - firstFor r P)
-    unfolding wordOf event
+    word-is : plainOf (7 * b + length tr) e₀ (mine (hist (7 * b) tr) e₀) (e₀ .final) ≡ entryWord (r .home) (P - firstFor r P)
+    unfolding plainOf event
     word-is = rw (mine-event (hist (7 * b) tr) v r hd false 0, first-is, ← position)
 
     abbrev g₀ : Given
@@ -248,7 +248,7 @@ module _ (G D : ℕ) (z : Sizes G D) (w : World) (R : Running G D w) (v : ℕ) (
         (all-map (λ t. tagAt (7 * b) (e₀ ∷ tr) (closerOf t) ≡ tagAt (7 * b) tr (closerOf t)) (λ t. tagAt (7 * b) tr (closerOf t) ≡ tagAt (7 * b) (e₀ ∷ tr) (closerOf t)) (λ t h. sym h)
         (hist (7 * b) tr .done) (closers-older (7 * b) e₀ tr)) (c .links))
 
-    log-becomes : u .log ≡ entered st (st .next % G) (w .log) (wordOf (7 * b + length tr) e₀ (mine (hist (7 * b) tr) e₀) true (e₀ .final)) (e₀ .block)
+    log-becomes : u .log ≡ entered st (st .next % G) (w .log) (plainOf (7 * b + length tr) e₀ (mine (hist (7 * b) tr) e₀) (e₀ .final)) (e₀ .block)
     unfolding storeOther logHeld lent event
     log-becomes = rw word-is (log-is (entryWord (r .home) (P - firstFor r P)))
 
@@ -283,7 +283,7 @@ module _ (G D : ℕ) (z : Sizes G D) (w : World) (R : Running G D w) (v : ℕ) (
           submitted =
               submitted-logged G D b tr (R .old) w u e₀ (st .last) (R .submitted) c copies-are adv roomy pending-is refl refl
               (λ k fs hs ff i. rw commits-are (image-open G D b (w .memory .log) e₀ tr (R .old) (w .book .commits) k fs refl i));
-          confirmed = confirmed-more b w u _ (R .confirmed) pending-is refl (omega (arith, adv .fenced)) (λ bound o. rw commits-are o);
+          confirmed = confirmed-more G b w u _ (R .confirmed) pending-is refl (omega (arith, adv .fenced)) (λ bound o. rw commits-are o);
         }
 
   -- a commit
@@ -297,8 +297,8 @@ module _ (G D : ℕ) (z : Sizes G D) (w : World) (R : Running G D w) (v : ℕ) (
     lk-small : lk < 2 ^ 13
     lk-small = link-small G st (z .high) in-room (c .order .last-closing)
 
-    closing-word : wordOf (7 * b + length tr) e₁ (mine (hist (7 * b) tr) e₁) true (e₁ .final) ≡ closingWord (r .home) (P - firstFor r P) lk (countFor r + 1)
-    unfolding wordOf event
+    closing-word : plainOf (7 * b + length tr) e₁ (mine (hist (7 * b) tr) e₁) (e₁ .final) ≡ closingWord (r .home) (P - firstFor r P) lk (countFor r + 1)
+    unfolding plainOf event
     closing-word =
         let k : suc (length ps) ≡ countFor r + 1 = omega (arith, lg .count) in
         rw (mine-event (hist (7 * b) tr) v r hd true lk, first-is, k, ← position)
@@ -397,7 +397,7 @@ module _ (G D : ℕ) (z : Sizes G D) (w : World) (R : Running G D w) (v : ℕ) (
         (λ h. rw c-link (subst (λ (p : ℕ). LinkOk (7 * st .start) (lastFrom none (hist (7 * b) tr .done)) p lk) position
         (link-ok (st .start) P st (hist (7 * b) tr .done) (7 * b) (7 * b + length tr) (done-rising (7 * b) tr) (omega (arith, position)) (c .last)))))
 
-    c-log : y .log ≡ entered st (st .next % G) (w .log) (wordOf (7 * b + length tr) e₁ (mine (hist (7 * b) tr) e₁) true (e₁ .final)) (e₁ .block)
+    c-log : y .log ≡ entered st (st .next % G) (w .log) (plainOf (7 * b + length tr) e₁ (mine (hist (7 * b) tr) e₁) (e₁ .final)) (e₁ .block)
     unfolding commitHeld logClosing lent event
     c-log = rw closing-word (log-is (closingWord (r .home) (P - firstFor r P) lk (countFor r + 1)))
 
@@ -439,5 +439,5 @@ module _ (G D : ℕ) (z : Sizes G D) (w : World) (R : Running G D w) (v : ℕ) (
           submitted =
               submitted-logged G D b tr (R .old) w y e₁ (P + 1) (R .submitted) c c-copies c-adv roomy c-pending refl refl
               (λ k fs hs ff i. rw c-commits (image-close G D b (w .memory .log) e₁ tr (R .old) (w .book .commits) k fs cm refl refl (sym (entry-is true lk)) (omega (arith, position)) ff (λ lt. omega (arith, low-first true lk)) i));
-          confirmed = confirmed-more b w y _ (R .confirmed) c-pending refl (omega (arith, c-adv .fenced)) (λ bound o. rw c-commits (owed-snoc bound (w .book .commits) cm refl o));
+          confirmed = confirmed-more G b w y _ (R .confirmed) c-pending refl (omega (arith, c-adv .fenced)) (λ bound o. rw c-commits (owed-snoc bound (w .book .commits) cm refl o));
         }

@@ -230,7 +230,7 @@ module _ (G D : ℕ) (z : Sizes G D) (w : World) (r : Running G D w) (s : ℕ) (
         commits = r .commits;
         copies = copies′;
         submitted = submitted′;
-        confirmed = confirmed-more (r .b) w moved (KW head ∷ FN ∷ []) (r .confirmed) refl refl (rw moved-numbers (c .order .fenced-next)) (λ k h. h);
+        confirmed = confirmed-more G (r .b) w moved (KW head ∷ FN ∷ []) (r .confirmed) refl refl (rw moved-numbers (c .order .fenced-next)) (λ k h. h);
       }
 
 -- the log may start at s: what the call finds out

@@ -137,13 +137,14 @@ submitted-same G D b tr old w u s e ep em ea ec =
       start = rw em (rw e′ at (s .start));
       numbers = rw em (s .numbers);
       there = rw em (rw e′ at (s .there));
+      turned = rw em (rw e′ at (s .turned));
       images = rw (em, ec) (s .images);
       bounded = rw em (rw e′ at (s .bounded));
     }
 
-pub confirmed-same : (b : ℕ) (w u : World) → Confirmed b w → stateOf (u .state) ≡ stateOf (w .state) → u .pending ≡ w .pending → u .passed ≡ w .passed
-    → u .book .commits ≡ w .book .commits → Confirmed b u
-confirmed-same b w u c es ep eq ec =
+pub confirmed-same : (G b : ℕ) (w u : World) → Confirmed G b w → stateOf (u .state) ≡ stateOf (w .state) → u .pending ≡ w .pending → u .passed ≡ w .passed
+    → u .book .commits ≡ w .book .commits → Confirmed G b u
+confirmed-same G b w u c es ep eq ec =
     record {
       before = c .before;
       after = c .after;
@@ -171,7 +172,7 @@ running-writer G D w u v t r s l o p k eh el ea em ep eq er eb =
       commits = rw ec (r .commits);
       copies = copies-writer G D (r .b) (r .tr) w u v t (r .copies) s l o p k eh el ea eb;
       submitted = submitted-same G D (r .b) (r .tr) (r .old) w u (r .submitted) (s .numbers) ep em ea ec;
-      confirmed = confirmed-same (r .b) w u (r .confirmed) (s .numbers) ep eq ec;
+      confirmed = confirmed-same G (r .b) w u (r .confirmed) (s .numbers) ep eq ec;
     }
 
 -- strips that differ so

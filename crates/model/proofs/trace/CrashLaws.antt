@@ -12,9 +12,10 @@ use Rattle.model.specs.Bytes.{puts}
 use Rattle.model.specs.Layout.{putHome}
 use Rattle.model.specs.Batch.{Record, GW, HW, KW, FN}
 use Rattle.model.specs.Effects.{homeWrites}
-use Rattle.model.specs.Crash.{Memory, Piece, toLog, toArea, pieces, write, writeEach, writeIf, writeChosen, many, isFence, fences, persistChosen, persist, groupFate, fatesChosen, fates}
+use Rattle.model.specs.Crash.{Memory, Piece, toLog, toArea, blocks, pieces, write, writeEach, writeIf, writeChosen, many, isFence, fences, persistChosen, persist, groupFate, fatesChosen, fates}
 use Rattle.model.specs.Book.{fateAt}
 use Rattle.model.specs.Demands.{groupWrites}
+use Rattle.model.proofs.bytes.ByteLaws.{length-puts}
 
 -- ---- what the laws speak of
 
@@ -121,8 +122,9 @@ unfolding submits groupWrites
 groupWrites-submits G n₀ bytes zero = refl
 groupWrites-submits G n₀ bytes (suc k) = rw groupWrites-append (omega (arith, groupWrites-submits G n₀ bytes k))
 
-pub pieceCount-submits : (G n₀ : ℕ) (bytes : ℕ → List ℕ) (k : ℕ) → pieceCount (submits G n₀ bytes k) ≡ k
-unfolding submits pieceCount pieces many
+-- a group has eight pieces
+pub pieceCount-submits : (G n₀ : ℕ) (bytes : ℕ → List ℕ) (k : ℕ) → pieceCount (submits G n₀ bytes k) ≡ 8 * k
+unfolding submits pieceCount pieces blocks many
 pieceCount-submits G n₀ bytes zero = refl
 pieceCount-submits G n₀ bytes (suc k) = rw pieceCount-append (omega (arith, pieceCount-submits G n₀ bytes k))
 
@@ -159,6 +161,21 @@ write-fence R m = write-append R (FN ∷ []) m
 pub write-FN : (m : Memory) → writeRecords (FN ∷ []) m ≡ m
 unfolding writeRecords pieces writeEach
 write-FN m = refl
+
+length-piece : (p : Piece) (m : Memory) → length (write p m .log) ≡ length (m .log)
+unfolding write
+length-piece (toLog at bs) m = length-puts (m .log) at bs
+length-piece (toArea at bs) m = refl
+
+length-pieces : (ps : List Piece) (m : Memory) → length (writeEach ps m .log) ≡ length (m .log)
+unfolding writeEach
+length-pieces [] m = refl
+length-pieces (p ∷ ps) m = length-pieces ps (write p m) ∙ length-piece p m
+
+pub length-write : (R : List Record) (m : Memory) → length (writeRecords R m .log) ≡ length (m .log)
+unfolding writeRecords
+length-write [] m = refl
+length-write (r ∷ R) m = length-write R (writeEach (pieces r) m) ∙ length-pieces (pieces r) m
 
 -- ---- a fence that has not passed stops everything after it
 
@@ -274,7 +291,7 @@ unfolding persistChosen
 chosen-step chosen i r rs m e = rw e
 
 fate-step : (chosen : ℕ → Bool) (i : ℕ) (r : Record) (rs : List Record) → isFence r ≡ false
-    → fatesChosen chosen i (r ∷ rs) ≡ groupFate r (λ k. chosen i) ++ fatesChosen chosen (i + many (pieces r)) rs
+    → fatesChosen chosen i (r ∷ rs) ≡ groupFate r (λ j. chosen (i + j)) ++ fatesChosen chosen (i + many (pieces r)) rs
 unfolding fatesChosen
 fate-step chosen i r rs e = rw e
 

@@ -1,9 +1,9 @@
--- Laws of a stretch of home writes, of which a choice persists, and of a header write: what the memory then holds. Last, the records of an opening.
+-- Laws of a stretch of home writes, of which a choice persists, and of a header write: what the memory then holds.
 -- A law takes its variables in the order in which its left side first names them, then its premises. Assumes nothing.
 use mathlib.Core.Path.{_≡_, refl, ap, _∙_}
 use mathlib.Core.Logic.{_⊎_, inl, inr, _↔_}
 use mathlib.Core.Bool.{Bool, true, false, cond}
-use mathlib.Core.List.{List, [], _∷_, _++_, append-assoc}
+use mathlib.Core.List.{List, [], _∷_, _++_}
 use Prim.Native.Nat.{ℕ, zero, suc, _+_, _*_, _<_}
 use native.Mathlib.Omega.{arith}
 use borrow.Author.Tests.{eqb-true, eqb-false}
@@ -11,13 +11,12 @@ use lib.Dec.{eqb}
 use lib.ListN.{length}
 use Rattle.model.specs.Bytes.{puts}
 use Rattle.model.specs.Layout.{homeAt, putHome}
-use Rattle.model.specs.Batch.{Record, KW, FN}
+use Rattle.model.specs.Batch.{KW}
 use Rattle.model.specs.Effects.{marked, homeWrites}
-use Rattle.model.specs.Crash.{Memory, toArea, pieces, write, writeEach, writeIf, writeChosen, many, isFence, fences, persistChosen, persist, groupFate, fatesChosen, fates}
-use Rattle.model.specs.Demands.{groupWrites}
+use Rattle.model.specs.Crash.{Memory, toArea, pieces, write, writeEach, writeIf, writeChosen, many, isFence, persistChosen, groupFate, fatesChosen}
 use Rattle.model.proofs.bytes.ByteLaws.{length-part}
 use Rattle.model.proofs.bytes.LayoutLaws.{home-same, home-other, length-putHome}
-use Rattle.model.proofs.trace.CrashLaws.{writeRecords, trues, fences-append, groupWrites-append, none-homes, fences-homes, groupWrites-homes, persist-zero, fates-zero, persist-past, fates-past, chosen-fence, fate-fence, chosen-all, if-log-area, if-log, if-area-log, if-area, either}
+use Rattle.model.proofs.trace.CrashLaws.{writeRecords, none-homes, chosen-all, if-log-area, if-log, if-area-log, if-area, either}
 
 -- ---- homes in a list
 
@@ -221,55 +220,3 @@ log-header-wrote header m = refl
 pub area-header-wrote : (header : List ℕ) (m : Memory) → writeRecords (KW header ∷ []) m .area ≡ m .area
 unfolding writeRecords pieces writeEach write
 area-header-wrote header m = refl
-
--- ---- an opening's records, and what follows them
-
-module _ (area hs header : List ℕ) where
-  pub fences-opening : fences (homeWrites area hs ++ (FN ∷ KW header ∷ FN ∷ [])) ≡ 2
-  unfolding fences isFence
-  fences-opening = rw (fences-append, fences-homes)
-
-  pub groupWrites-opening : groupWrites (homeWrites area hs ++ (FN ∷ KW header ∷ FN ∷ [])) ≡ 0
-  unfolding groupWrites
-  groupWrites-opening = rw (groupWrites-append, groupWrites-homes)
-
-  -- no fence of it has passed
-  pub opening-none : (chosen : ℕ → Bool) (S : List Record) (m : Memory)
-      → persist 0 chosen ((homeWrites area hs ++ (FN ∷ KW header ∷ FN ∷ [])) ++ S) m ≡ persistChosen chosen 0 (homeWrites area hs) m
-  opening-none chosen S m = rw (append-assoc, persist-zero) (chosen-fence chosen 0 (homeWrites area hs) (KW header ∷ FN ∷ S) m (none-homes area hs))
-
-  pub opening-none-fates : (chosen : ℕ → Bool) (S : List Record)
-      → fates 0 chosen ((homeWrites area hs ++ (FN ∷ KW header ∷ FN ∷ [])) ++ S) ≡ []
-  opening-none-fates chosen S =
-      rw (append-assoc, fates-zero)
-      (fate-fence chosen 0 (homeWrites area hs) (KW header ∷ FN ∷ S) (none-homes area hs) ∙ fates-homes chosen 0 area hs)
-
-  -- the fence after the homes has passed
-  pub opening-one : (chosen : ℕ → Bool) (S : List Record) (m : Memory)
-      → persist 1 chosen ((homeWrites area hs ++ (FN ∷ KW header ∷ FN ∷ [])) ++ S) m
-      ≡ persistChosen chosen 0 (KW header ∷ []) (writeRecords (homeWrites area hs) m)
-  unfolding persist persistChosen isFence pieces writeEach
-  opening-one chosen S m =
-      rw append-assoc (rw fences-homes at (persist-past (homeWrites area hs) 0 chosen (FN ∷ KW header ∷ FN ∷ S) m))
-
-  pub opening-one-fates : (chosen : ℕ → Bool) (S : List Record)
-      → fates 1 chosen ((homeWrites area hs ++ (FN ∷ KW header ∷ FN ∷ [])) ++ S) ≡ []
-  unfolding fates fatesChosen isFence groupFate trues
-  opening-one-fates chosen S =
-      rw append-assoc (rw (fences-homes, groupWrites-homes) at (fates-past (homeWrites area hs) 0 chosen (FN ∷ KW header ∷ FN ∷ S)))
-
-  -- both have passed, and n more
-  pub opening-more : (n : ℕ) (chosen : ℕ → Bool) (S : List Record) (m : Memory)
-      → persist (2 + n) chosen ((homeWrites area hs ++ (FN ∷ KW header ∷ FN ∷ [])) ++ S) m
-      ≡ persist n chosen S (writeRecords (KW header ∷ []) (writeRecords (homeWrites area hs) m))
-  unfolding persist isFence pieces writeEach writeRecords
-  opening-more n chosen S m =
-      let e : 2 + n ≡ fences (homeWrites area hs) + suc (suc n) = omega (arith, fences-homes area hs) in
-      rw (append-assoc, e) (persist-past (homeWrites area hs) (suc n) chosen (FN ∷ KW header ∷ FN ∷ S) m)
-
-  pub opening-more-fates : (n : ℕ) (chosen : ℕ → Bool) (S : List Record)
-      → fates (2 + n) chosen ((homeWrites area hs ++ (FN ∷ KW header ∷ FN ∷ [])) ++ S) ≡ fates n chosen S
-  unfolding fates isFence groupFate trues
-  opening-more-fates n chosen S =
-      let e : 2 + n ≡ fences (homeWrites area hs) + suc (suc n) = omega (arith, fences-homes area hs) in
-      rw (append-assoc, e) (rw groupWrites-homes at (fates-past (homeWrites area hs) (suc n) chosen (FN ∷ KW header ∷ FN ∷ S)))

@@ -10,13 +10,12 @@ use lib.ListN.{length}
 use lib.Dec.{eqb}
 use borrow.Author.Tests.{eqb-true, eqb-false}
 use Rattle.model.specs.Tag.{belongs, homeOf, readTag}
-use Rattle.model.specs.Layout.{groupOffset, groupAt, groupTag, groupBlock, blockOffset, groupValid, slotOf, indexOf, entryIn, entryAt, blockAt, homeAt, putHome}
+use Rattle.model.specs.Layout.{groupAt, groupValid, turnOf, slotOf, indexOf, wordThere, entryIn, entryAt, blockAt, homeAt, putHome}
 use Rattle.model.specs.Commit.{Span, members, committed, entries, eachEntries, transactions, writeAll, replay, newestIn, orElse, newest, found}
 use Rattle.model.specs.Effects.{restore, replayed}
 use Rattle.model.specs.declared.Tag.{Tag}
 use Rattle.model.specs.declared.Tag.the-variants.{Nothing, Entry, Closing}
-use Rattle.model.proofs.bytes.ByteLaws.{length-part}
-use Rattle.model.proofs.bytes.LayoutLaws.{length-putHome, length-groupAt, group-fits, slot-lt, index-lt, home-same, home-other, area-ext}
+use Rattle.model.proofs.bytes.LayoutLaws.{length-putHome, length-groupAt, length-blockOf, group-fits, slot-lt, index-lt, home-same, home-other, area-ext}
 use Rattle.model.proofs.bytes.TagLaws.{entry-known, closing-known}
 use Rattle.model.proofs.trace.TraceLaws.{All, all-map}
 use Rattle.model.proofs.trace.CountLaws.{members-belong}
@@ -103,22 +102,19 @@ unfolding entryAt entryIn belongs homeOf
 known log G D s p f Nothing e b = absurd (false≢true b)
 known log G D s p f (Entry h g) e b = go (cond-entry (groupValid (groupAt log (slotOf G p)) G s (p / 7)) _ _ e)
   where
-    go : (Entry h g ≡ Nothing) ⊎ (readTag (groupTag (groupAt log (slotOf G p)) (indexOf p)) p (7 * s) D ≡ Entry h g) → h < D
+    go : (Entry h g ≡ Nothing) ⊎ (readTag (wordThere (groupAt log (slotOf G p)) (turnOf G (p / 7)) (indexOf p)) p (7 * s) D ≡ Entry h g) → h < D
     go (inl z) = let n : _≡_ {A = ℕ} 0 1 = cc in absurd (omega arith)
     go (inr z) = entry-known _ p (7 * s) D h g z .0
 known log G D s p f (Closing h g l c) e b = go (cond-entry (groupValid (groupAt log (slotOf G p)) G s (p / 7)) _ _ e)
   where
-    go : (Closing h g l c ≡ Nothing) ⊎ (readTag (groupTag (groupAt log (slotOf G p)) (indexOf p)) p (7 * s) D ≡ Closing h g l c) → h < D
+    go : (Closing h g l c ≡ Nothing) ⊎ (readTag (wordThere (groupAt log (slotOf G p)) (turnOf G (p / 7)) (indexOf p)) p (7 * s) D ≡ Closing h g l c) → h < D
     go (inl z) = let n : _≡_ {A = ℕ} 0 1 = cc in absurd (omega arith)
     go (inr z) = closing-known _ p (7 * s) D h g l c z .0
 
 pub length-blockAt : (log : List ℕ) (G p : ℕ) → 0 < G → length log ≡ 64 + 512 * G → length (blockAt log G p) ≡ 64
-unfolding blockAt groupBlock blockOffset
+unfolding blockAt
 length-blockAt log G p g l =
-    let i : indexOf p < 7 = index-lt p in
-    let s : slotOf G p < G = slot-lt G p g in
-    length-part (groupAt log (slotOf G p)) (64 + 64 * indexOf p) 64
-    (omega (arith, length-groupAt log (slotOf G p) (group-fits (slotOf G p) log G s l)))
+    length-blockOf (groupAt log (slotOf G p)) (indexOf p) (length-groupAt log (slotOf G p) (group-fits (slotOf G p) log G (slot-lt G p g) l)) (index-lt p)
 
 module _ (log : List ℕ) (G D s : ℕ) (g : 0 < G) (l : length log ≡ 64 + 512 * G) where
   good-members : (f c n : ℕ) → All (Good log G D (entryAt log G D s)) (members (entryAt log G D s) f c n)
