@@ -1,17 +1,16 @@
 -- Data blocks with a turn bit alone written one after the other, the bit of an unused slot, and an empty log slot by slot. Assumes nothing.
 use mathlib.Core.Path.{_≡_, refl, sym, ap, _∙_}
-use mathlib.Core.List.{List, [], _∷_, _++_, append-assoc}
+use mathlib.Core.List.{List, [], _∷_, _++_}
 use Prim.Native.Nat.{ℕ, zero, suc, _+_, _-_, _*_, _/_, _%_, _^_, _≤_, _<_}
 use native.Mathlib.Nat.{mod-lt, mod-eq-of-lt, mod-eq-sub-mod, div-add-mod, div-eq-of-lt, mul-add-div, mul-suc}
 use native.Mathlib.Numerals.{add-one}
 use native.Mathlib.Omega.{arith}
-use lib.ListN.{length, set, length-append, replicate-append-replicate}
+use lib.ListN.{length, set, length-append}
 use Rattle.model.specs.Bytes.{puts, zeros}
 use Rattle.model.specs.Layout.{header, turnOf, turnBlocks, nextIn, unusedGroup, unusedSlots, emptyLog}
 use Rattle.model.proofs.bytes.ByteLaws.{puts-nil, puts-cons, puts-append, puts-whole, length-zeros}
 use Rattle.model.proofs.bytes.LayoutLaws.{length-header}
 use Rattle.model.proofs.bytes.EmptyLaws.{length-unusedSlots}
-use Rattle.codec.proofs.TopBitLaws.{puts-inside}
 
 -- ---- a group's turn, by the quotient
 
@@ -21,55 +20,19 @@ turn-quotient groups n = refl
 
 -- ---- blocks with a turn bit
 
--- a bit that goes into the last byte of each of m blocks from index `to` on
-unfoldable pub marked : List ℕ → ℕ → ℕ → ℕ → List ℕ
-marked d to zero bit = d
-marked d to (suc m) bit = marked (set d (to + 63) (128 * bit)) (to + 64) m bit
+-- one block more is written: what is left goes in after it
+pub turn-more : (d : List ℕ) (to left bit : ℕ) → 0 < left
+    → puts (set (puts d to (zeros 63)) (to + 63) (128 * bit)) (to + 64) (turnBlocks (left - 1) bit) ≡ puts d to (turnBlocks left bit)
+unfolding turnBlocks
+turn-more d to zero bit h = absurd (omega arith)
+turn-more d to (suc k) bit h =
+    let e : suc k - 1 ≡ k = omega arith in
+    let f : to + 64 ≡ to + 63 + 1 = omega arith in
+    rw (e, f, puts-cons, puts-append, length-zeros)
 
-pub marked-more : (d : List ℕ) (to left bit : ℕ) → 0 < left → marked (set d (to + 63) (128 * bit)) (to + 64) (left - 1) bit ≡ marked d to left bit
-unfolding marked
-marked-more d to zero bit h = absurd (omega arith)
-marked-more d to (suc k) bit h = let e : suc k - 1 ≡ k = omega arith in rw e
-
-pub marked-none : (d : List ℕ) (to left bit : ℕ) → left ≤ 0 → marked d to left bit ≡ d
-unfolding marked
-marked-none d to left bit h = let e : left ≡ 0 = omega arith in rw e
-
--- a byte written over in a list
-put-after : (a : List ℕ) (x v : ℕ) (r : List ℕ) → puts (a ++ (x ∷ r)) (length a) (v ∷ []) ≡ a ++ (v ∷ r)
-unfolding puts
-put-after [] x v r = ap {B = List ℕ} (λ l. v ∷ l) (puts-nil r 0)
-put-after (y ∷ a) x v r = ap {B = List ℕ} (λ l. y ∷ l) (put-after a x v r)
-
--- a block of zeros but for its last byte, and what follows it
-block-then : (d : List ℕ) (at v : ℕ) (s : List ℕ) → puts (puts d at (zeros 63 ++ (v ∷ []))) (at + 64) s ≡ puts d at (zeros 63 ++ (v ∷ s))
-block-then d at v s =
-    let l : length (zeros 63 ++ (v ∷ [])) ≡ 64 = rw (length-append, length-zeros) in
-    sym (rw (← append-assoc (zeros 63) (v ∷ []) s, puts-append, l))
-
-zeros-block : (m : ℕ) → zeros (64 * suc m) ≡ zeros 63 ++ (0 ∷ zeros (64 * m))
-unfolding zeros
-zeros-block m = let e : 64 * suc m ≡ 63 + suc (64 * m) = omega arith in rw e (sym (replicate-append-replicate {A = ℕ} 63 (suc (64 * m)) 0))
-
-block-marked : (d : List ℕ) (at v m : ℕ)
-    → set (puts d at (zeros (64 * suc m))) (at + 63) v ≡ puts (puts d at (zeros 63 ++ (v ∷ []))) (at + 64) (zeros (64 * m))
-block-marked d at v m =
-    let z : List ℕ = zeros 63 ++ (0 ∷ zeros (64 * m)) in
-    let l : length (zeros 63) ≡ 63 = length-zeros 63 in
-    let b : puts z 63 (v ∷ []) ≡ zeros 63 ++ (v ∷ zeros (64 * m)) =
-    ap (λ (i : ℕ). puts z i (v ∷ [])) (sym l) ∙ put-after (zeros 63) 0 v (zeros (64 * m)) in
-    let n : 64 ≤ length z = rw (length-append, l) (omega arith) in
-    rw (zeros-block m)
-    (sym (puts-nil _ (at + 63 + 1)) ∙ puts-cons (puts d at z) (at + 63) v [] ∙ puts-inside d at z 63 (v ∷ []) n ∙ ap (λ (r : List ℕ). puts d at r) b)
-    ∙ sym (block-then d at v (zeros (64 * m)))
-
--- zeros in which the bits are set
-pub marked-all : (d : List ℕ) (at m bit : ℕ) → marked (puts d at (zeros (64 * m))) at m bit ≡ puts d at (turnBlocks m bit)
-unfolding marked turnBlocks zeros
-marked-all d at zero bit = refl
-marked-all d at (suc m) bit =
-    ap (λ (l : List ℕ). marked l (at + 64) m bit) (block-marked d at (128 * bit) m)
-    ∙ marked-all (puts d at (zeros 63 ++ ((128 * bit) ∷ []))) (at + 64) m bit ∙ block-then d at (128 * bit) (turnBlocks m bit)
+pub turn-none : (d : List ℕ) (to left bit : ℕ) → left ≤ 0 → puts d to (turnBlocks left bit) ≡ d
+unfolding turnBlocks
+turn-none d to left bit h = let e : left ≡ 0 = omega arith in rw (e, puts-nil)
 
 pub unused-written : (d : List ℕ) (at bit : ℕ) → puts (puts d at (zeros 64)) (at + 64) (turnBlocks 7 bit) ≡ puts d at (zeros 64 ++ turnBlocks 7 bit)
 unused-written d at bit = rw (puts-append, length-zeros)

@@ -10,11 +10,11 @@ pub fn put_turn_blocks(dst: &mut [u8], at: usize, bit: u64)
     requires { ⌜ (at + 448 ≤ length (now dst)) × (bit < 2) ⌝ }
     ensures { λ _. ⌜ now (dst .exit) ≡ puts (now (dst .entry)) at (turnBlocks 7 bit) ⌝ }
 {
-    codec::clear(dst, at, 448);
     let last = 128 * bit as u8;
     let mut to = at;
     let mut left: usize = 7;
     while left > 0 {
+        codec::clear(dst, to, 63);
         dst[to + 63] = last;
         to += 64;
         left -= 1;

@@ -1,21 +1,20 @@
--- `areas::put_turn_blocks` meets its contract. The invariant: the bits that are left, set from `to` on, make all seven. Assumes nothing.
+-- `areas::put_turn_blocks` meets its contract. The invariant: the blocks that are left, written from `to` on, make all seven. Assumes nothing.
 use mathlib.Core.Path.{_≡_, refl, sym, _∙_}
-use Prim.Native.Nat.{_+_, _*_, _≤_}
+use Prim.Native.Nat.{_+_, _*_, _≤_, _<_}
 use native.Mathlib.Omega.{arith}
 use lib.ListN.{length, length-set}
-use Rattle.areas.proofs.UnusedLaws.{marked, marked-more, marked-none, marked-all}
+use Rattle.model.specs.Bytes.{puts}
+use Rattle.model.specs.Layout.{turnBlocks}
+use Rattle.areas.proofs.UnusedLaws.{turn-more, turn-none}
 use Rattle.areas.proofs.turns.put_turn_blocks.Statement.{statement}
 use Rattle.areas.proofs.turns.put_turn_blocks.Tie as tie
 
 abbrev Inv-loop : tie.InvT-loop
 Inv-loop dst₀ at bit last to₀ left₀ dst to left =
-    (marked dst to left bit ≡ marked dst₀ at 7 bit) × (to + 64 * left ≡ at + 448) × (left ≤ 7) × (length dst ≡ length dst₀)
+    (puts dst to (turnBlocks left bit) ≡ puts dst₀ at (turnBlocks 7 bit)) × (to + 64 * left ≡ at + 448) × (left ≤ 7) × (length dst ≡ length dst₀)
 
 abbrev μ-loop : tie.MeasureT-loop
 μ-loop dst₀ at bit last to₀ left₀ dst to left = left
-
-clear-requires : tie.Need-clear-requires Inv-loop μ-loop
-clear-requires c κs = omega arith
 
 cast-last : tie.Need-cast-last Inv-loop μ-loop
 cast-last c = omega arith
@@ -25,6 +24,9 @@ mul-last c = omega arith
 
 loop-holds : tie.Need-loop-holds Inv-loop μ-loop
 loop-holds c = (refl, omega arith, omega arith, refl)
+
+clear-requires : tie.Need-clear-requires Inv-loop μ-loop
+clear-requires c κs = omega arith
 
 add-dst : tie.Need-add-dst Inv-loop μ-loop
 add-dst c = omega arith
@@ -43,18 +45,16 @@ loop-less c = omega arith
 
 loop-again : tie.Need-loop-again Inv-loop μ-loop
 loop-again c =
-    let l = c .before .loop in
-    (marked-more _ (l .to) (l .left) _ (omega arith) ∙ l .inv .0, omega arith, omega arith, simp length-set (omega arith))
+    let l = c .before .before .before .before .before .loop in
+    (rw (c .before .before .clear .ensures) (turn-more _ (l .to) (l .left) _ (omega arith)) ∙ l .inv .0, omega arith, omega arith, simp length-set (omega arith))
 
 same-length : tie.Need-same-length Inv-loop μ-loop
 same-length c = omega arith
 
 returns : tie.Need-returns Inv-loop μ-loop
 returns c =
-    let l = c .before in
-    let z = l .before .before .before in
-    let a = z .before .before .before .args in
-    sym (marked-none _ (l .loop .to) (l .loop .left) _ (omega arith)) ∙ l .loop .inv .0 ∙ rw (z .clear .ensures) (marked-all _ (a .at) 7 (a .bit))
+    let l = c .before .loop in
+    sym (turn-none _ (l .to) (l .left) _ (omega arith)) ∙ l .inv .0
 
 pub put-turn-blocks-spec : {M : Type 1} → statement M
 put-turn-blocks-spec =
@@ -62,10 +62,10 @@ put-turn-blocks-spec =
     (tie.spec
     Inv-loop
     μ-loop
-    clear-requires
     cast-last
     mul-last
     loop-holds
+    clear-requires
     add-dst
     slice-write-dst
     add-to
