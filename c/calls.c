@@ -10,6 +10,7 @@
 
 #define AREAS(s) (s)->driver.log, (s)->driver.log_size, (s)->driver.area, (s)->driver.area_size
 #define STATE(s) (s)->driver.state, sizeof (s)->driver.state
+#define NEWEST(s) (s)->driver.newest, (s)->driver.newest_size
 #define BATCH(s) (s)->driver.batch, (s)->driver.batch_size
 
 static void expect(struct station *station, const char *call, struct kagutin_reply reply,
@@ -164,7 +165,7 @@ void call_open(struct station *station)
         fputs("out of memory for the commit rule\n", stderr);
         exit(EXIT_TROUBLE);
     }
-    reply = kagutin_open(AREAS(station), STATE(station), BATCH(station));
+    reply = kagutin_open(AREAS(station), STATE(station), NEWEST(station), BATCH(station));
     expect(station, "open", reply, walk.commit_count, reply.size);
     rule_free(&walk);
     at = expect_homes(station, "open", (size_t)reply.size);
@@ -280,7 +281,7 @@ bool call_commit(struct station *station, unsigned writer)
 
     if (full)
         refusal_prepare(station);
-    reply = kagutin_commit(AREAS(station), STATE(station), BATCH(station), writer);
+    reply = kagutin_commit(AREAS(station), STATE(station), NEWEST(station), BATCH(station), writer);
     if (full) {
         refused_full(station, "commit", reply, writer);
         return false;
@@ -349,7 +350,7 @@ void call_trim(struct station *station)
 
     if (start > KAGUTIN_MAX_START)
         refusal_prepare(station);
-    reply = kagutin_trim(AREAS(station), STATE(station), BATCH(station));
+    reply = kagutin_trim(AREAS(station), STATE(station), NEWEST(station), BATCH(station));
     if (start > KAGUTIN_MAX_START) {
         refusal_check(station, "trim", reply, KAGUTIN_WORN_OUT);
         station->worn_out = true;
@@ -366,7 +367,8 @@ void call_trim(struct station *station)
 
 void call_read(struct station *station, unsigned writer, size_t home, uint8_t *block)
 {
-    struct kagutin_reply reply = kagutin_read(AREAS(station), STATE(station), block, KAGUTIN_BLOCK_SIZE, writer, home);
+    struct kagutin_reply reply = kagutin_read(AREAS(station), STATE(station), NEWEST(station), block, KAGUTIN_BLOCK_SIZE,
+                                              writer, home);
 
     expect(station, "read", reply, 0, 0);
     if (memcmp(block, book_read(&station->book, writer, home), KAGUTIN_BLOCK_SIZE) != 0)

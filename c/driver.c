@@ -267,6 +267,7 @@ bool driver_cut(struct driver *driver, bool (*lands)(void *context, size_t index
     memset(driver->log, 0xA5, driver->log_size);
     memset(driver->area, 0xA5, driver->area_size);
     memset(driver->state, 0xA5, sizeof driver->state);
+    memset(driver->newest, 0xA5, driver->newest_size);
     return true;
 }
 

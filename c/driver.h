@@ -27,6 +27,8 @@ struct driver {
     size_t log_size, area_size;
     uint8_t *log, *area; /* the copies that are lent to calls */
     uint8_t state[KAGUTIN_STATE_SIZE];
+    uint8_t *newest; /* the newest position of each home */
+    size_t newest_size;
     uint8_t *batch;
     size_t batch_size;
 
@@ -97,7 +99,8 @@ bool driver_confirm(struct driver *driver, struct kagutin_reply *reply);
 /*
  * Power cut: of the blocks of the issued writes, in order, those that lands()
  * picks persist, the others and the other records are gone. So a group of
- * eight blocks can arrive torn. The copies and the state are filled with noise.
+ * eight blocks can arrive torn. The copies, the state and the newest positions
+ * are filled with noise.
  */
 bool driver_cut(struct driver *driver, bool (*lands)(void *context, size_t index), void *context);
 

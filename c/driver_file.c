@@ -9,11 +9,13 @@ void driver_close(struct driver *driver)
     kgt_file_close(&driver->file);
     free(driver->log);
     free(driver->area);
+    free(driver->newest);
     free(driver->batch);
     free(driver->queue);
     free(driver->written);
     free(driver->image);
-    driver->log = driver->area = driver->batch = driver->queue = driver->written = driver->image = NULL;
+    driver->log = driver->area = driver->newest = driver->batch = NULL;
+    driver->queue = driver->written = driver->image = NULL;
 }
 
 void driver_clear(struct driver *driver)
@@ -28,12 +30,14 @@ static bool allocate(struct driver *driver, size_t groups, size_t homes)
     driver->homes = homes;
     driver->log_size = kagutin_log_size(groups);
     driver->area_size = kagutin_area_size(homes);
+    driver->newest_size = kagutin_newest_size(homes);
     driver->batch_size = kagutin_format_batch(groups, homes);
     driver->log = calloc(1, driver->log_size);
     driver->area = calloc(1, driver->area_size);
+    driver->newest = calloc(1, driver->newest_size);
     driver->batch = calloc(1, driver->batch_size);
     driver->written = calloc(1, 1 + groups + homes);
-    if (!driver->log || !driver->area || !driver->batch || !driver->written)
+    if (!driver->log || !driver->area || !driver->newest || !driver->batch || !driver->written)
         return driver_fail(driver, "out of memory for the copies of the areas");
     return true;
 }

@@ -8,38 +8,42 @@
 #define LOG(s) (s)->driver.log, (s)->driver.log_size
 #define AREA(s) (s)->driver.area, (s)->driver.area_size
 #define STATE(s) (s)->driver.state, sizeof (s)->driver.state
+#define NEWEST(s) (s)->driver.newest, (s)->driver.newest_size
 #define BATCH(s) (s)->driver.batch, (s)->driver.batch_size
+
+enum { PARTS = 5 };
 
 struct part {
     uint8_t *bytes;
     size_t size;
 };
 
-static void lent_parts(struct station *station, struct part parts[4])
+static void lent_parts(struct station *station, struct part parts[PARTS])
 {
     struct driver *driver = &station->driver;
 
     parts[0] = (struct part){driver->log, driver->log_size};
     parts[1] = (struct part){driver->area, driver->area_size};
     parts[2] = (struct part){driver->state, sizeof driver->state};
-    parts[3] = (struct part){driver->batch, driver->batch_size};
+    parts[3] = (struct part){driver->newest, driver->newest_size};
+    parts[4] = (struct part){driver->batch, driver->batch_size};
 }
 
 void refusal_prepare(struct station *station)
 {
-    struct part parts[4];
+    struct part parts[PARTS];
     uint8_t *to = station->before;
     int i;
 
     lent_parts(station, parts);
-    for (i = 0; i < 4; i++, to += parts[i - 1].size)
+    for (i = 0; i < PARTS; i++, to += parts[i - 1].size)
         memcpy(to, parts[i].bytes, parts[i].size);
 }
 
 void refusal_check(struct station *station, const char *call, struct kagutin_reply reply, uint64_t code)
 {
-    static const char *const names[] = {"log copy", "data copy", "state", "batch"};
-    struct part parts[4];
+    static const char *const names[] = {"log copy", "data copy", "state", "newest positions", "batch"};
+    struct part parts[PARTS];
     const uint8_t *was = station->before;
     int i;
 
@@ -51,7 +55,7 @@ void refusal_check(struct station *station, const char *call, struct kagutin_rep
     if (reply.figure || reply.size)
         station_mismatch(station, "a refused %s gave a figure or a size", call);
     lent_parts(station, parts);
-    for (i = 0; i < 4; i++, was += parts[i - 1].size)
+    for (i = 0; i < PARTS; i++, was += parts[i - 1].size)
         if (memcmp(was, parts[i].bytes, parts[i].size) != 0)
             station_mismatch(station, "a refused %s changed the %s", call, names[i]);
 }
@@ -75,11 +79,11 @@ static void try_arguments(struct station *s)
                       KAGUTIN_BAD_HOME);
         break;
     case 3:
-        refusal_check(s, "read", kagutin_read(LOG(s), AREA(s), STATE(s), block, sizeof block, 7, home),
+        refusal_check(s, "read", kagutin_read(LOG(s), AREA(s), STATE(s), NEWEST(s), block, sizeof block, 7, home),
                       KAGUTIN_BAD_HOME);
         break;
     case 4:
-        refusal_check(s, "read", kagutin_read(LOG(s), AREA(s), STATE(s), block, sizeof block - 1, 0, 0),
+        refusal_check(s, "read", kagutin_read(LOG(s), AREA(s), STATE(s), NEWEST(s), block, sizeof block - 1, 0, 0),
                       KAGUTIN_BAD_LENGTH);
         break;
     case 5:
@@ -91,7 +95,7 @@ static void try_arguments(struct station *s)
                       KAGUTIN_BAD_LENGTH);
         break;
     default:
-        refusal_check(s, "commit", kagutin_commit(LOG(s), AREA(s), STATE(s), BATCH(s), writer), KAGUTIN_BAD_WRITER);
+        refusal_check(s, "commit", kagutin_commit(LOG(s), AREA(s), STATE(s), NEWEST(s), BATCH(s), writer), KAGUTIN_BAD_WRITER);
         break;
     }
 }
@@ -111,7 +115,7 @@ static void try_turns(struct station *s)
     refusal_check(s, "reserve", kagutin_reserve(LOG(s), AREA(s), STATE(s), writer, book_free_places(&s->book) + 1),
                   KAGUTIN_NO_PLACES);
     refusal_check(s, "abort", kagutin_abort(LOG(s), AREA(s), STATE(s), writer), KAGUTIN_NOT_OPEN);
-    refusal_check(s, "commit", kagutin_commit(LOG(s), AREA(s), STATE(s), BATCH(s), writer), KAGUTIN_NOT_OPEN);
+    refusal_check(s, "commit", kagutin_commit(LOG(s), AREA(s), STATE(s), NEWEST(s), BATCH(s), writer), KAGUTIN_NOT_OPEN);
     refusal_check(s, "store", kagutin_store(LOG(s), AREA(s), STATE(s), block, sizeof block, BATCH(s), writer, 0),
                   KAGUTIN_NOT_OPEN);
 }
@@ -162,7 +166,7 @@ bool refusal_if_worn_out(struct station *s)
     if (rule_number(s->driver.log + 2, 6) + s->driver.groups <= KAGUTIN_MAX_START)
         return false;
     refusal_prepare(s);
-    refusal_check(s, "open", kagutin_open(LOG(s), AREA(s), STATE(s), BATCH(s)), KAGUTIN_WORN_OUT);
+    refusal_check(s, "open", kagutin_open(LOG(s), AREA(s), STATE(s), NEWEST(s), BATCH(s)), KAGUTIN_WORN_OUT);
     s->worn_out = true;
     return true;
 }
@@ -175,19 +179,21 @@ void refusal_try_open(struct station *s)
     int i;
 
     refusal_prepare(s);
-    refusal_check(s, "open", kagutin_open(LOG(s), AREA(s), STATE(s), s->driver.batch,
+    refusal_check(s, "open", kagutin_open(LOG(s), AREA(s), STATE(s), NEWEST(s), s->driver.batch,
                                             KAGUTIN_GW_SIZE * s->driver.groups + KAGUTIN_KW_SIZE + 3 * KAGUTIN_FN_SIZE - 1),
                   KAGUTIN_SHORT_BATCH);
-    refusal_check(s, "open", kagutin_open(LOG(s), s->driver.area, s->driver.area_size - 1, STATE(s), BATCH(s)),
+    refusal_check(s, "open", kagutin_open(LOG(s), AREA(s), STATE(s), s->driver.newest, s->driver.newest_size - 1, BATCH(s)),
+                  KAGUTIN_BAD_LENGTH);
+    refusal_check(s, "open", kagutin_open(LOG(s), s->driver.area, s->driver.area_size - 1, STATE(s), NEWEST(s), BATCH(s)),
                   KAGUTIN_BAD_LENGTH);
     memcpy(header, s->driver.log, sizeof header);
     s->driver.log[at] ^= 1;
     refusal_prepare(s);
-    refusal_check(s, "open", kagutin_open(LOG(s), AREA(s), STATE(s), BATCH(s)), KAGUTIN_BAD_HEADER);
+    refusal_check(s, "open", kagutin_open(LOG(s), AREA(s), STATE(s), NEWEST(s), BATCH(s)), KAGUTIN_BAD_HEADER);
     memcpy(s->driver.log, header, sizeof header);
     for (i = 0; i < 6; i++)
         s->driver.log[2 + i] = (uint8_t)((KAGUTIN_MAX_START - s->driver.groups + 1) >> (8 * i));
     refusal_prepare(s);
-    refusal_check(s, "open", kagutin_open(LOG(s), AREA(s), STATE(s), BATCH(s)), KAGUTIN_WORN_OUT);
+    refusal_check(s, "open", kagutin_open(LOG(s), AREA(s), STATE(s), NEWEST(s), BATCH(s)), KAGUTIN_WORN_OUT);
     memcpy(s->driver.log, header, sizeof header);
 }

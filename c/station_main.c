@@ -48,7 +48,8 @@ static void attach_image(struct station *station)
     }
     driver->persisted = on_persisted;
     driver->context = &station->book;
-    station->before = malloc(driver->log_size + driver->area_size + sizeof driver->state + driver->batch_size);
+    station->before = malloc(driver->log_size + driver->area_size + sizeof driver->state + driver->newest_size
+                             + driver->batch_size);
     if (!station->before) {
         fputs("station: out of memory\n", stderr);
         exit(EXIT_TROUBLE);

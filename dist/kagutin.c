@@ -57,6 +57,14 @@ struct array_u8_2 {
     uint8_t at[2];
 };
 
+struct model__Tag {
+    uint8_t tag;
+    uint64_t u64_0;
+    uint64_t u64_1;
+    uint64_t u64_2;
+    uint64_t u64_3;
+};
+
 struct recovery__opening__Shape {
     uint64_t groups;
     uint64_t homes;
@@ -65,14 +73,6 @@ struct recovery__opening__Shape {
 
 struct array_u64_7 {
     uint64_t at[7];
-};
-
-struct model__Tag {
-    uint8_t tag;
-    uint64_t u64_0;
-    uint64_t u64_1;
-    uint64_t u64_2;
-    uint64_t u64_3;
 };
 
 struct scan__commits__Progress {
@@ -84,11 +84,6 @@ struct scan__commits__Progress {
 struct slice_mut_u16 {
     uint16_t *ptr;
     size_t len;
-};
-
-struct scan__slots__RingSlot {
-    uint64_t slot;
-    uint64_t turn;
 };
 
 struct scan__commits__Found {
@@ -120,15 +115,6 @@ struct array_u16_64 {
 
 struct array_u16_1024 {
     uint16_t at[1024];
-};
-
-struct search__pass__Search {
-    struct scan__commits__Progress progress;
-    uint64_t newest;
-};
-
-struct array_u16_448 {
-    uint16_t at[448];
 };
 
 #if defined(__GNUC__) && !defined(KAGUTIN_PLAIN_C)
@@ -651,6 +637,16 @@ static inline struct answers__Reply kagutin__kagutin_begin(struct slice_u8 log, 
     return sessions__begin(log, area, state, writer);
 }
 
+/* Questions 1 and 2 of a call that is lent the newest positions, eight bytes for each home. */
+static inline uint64_t answers__in_use_newest(struct slice_u8 log, struct slice_u8 area, struct slice_u8 state,
+        struct slice_u8 newest)
+{
+    if ((uint64_t)newest.len != (8u * ((uint64_t)area.len / 64u))) {
+        return 1u;
+    }
+    return answers__in_use(log, area, state);
+}
+
 /* Whether an entry of writer `w` finds a place: one that is promised to it, or one that is promised to nobody. */
 static inline bool strip__promises__room_for(struct slice_u8 s, struct model__State st, uint64_t w)
 {
@@ -684,25 +680,25 @@ static inline uint64_t logging__entry__may_log(struct slice_u8 state, struct mod
 
 /* The answer of a commit: 0, or the number of the question that refuses it. */
 static inline uint64_t logging__commits__commit_verdict(struct slice_u8 log, struct slice_u8 area, struct slice_u8 state,
-        struct slice_u8 batch, uint64_t writer)
+        struct slice_u8 newest, struct slice_u8 batch, uint64_t writer)
 {
-    uint64_t t6, t14;
-    struct model__Writer t7;
+    uint64_t t7, t15;
+    struct model__Writer t8;
 
-    t6 = answers__in_use(log, area, state);
-    if (t6 != 0u) {
-        return t6;
+    t7 = answers__in_use_newest(log, area, state, newest);
+    if (t7 != 0u) {
+        return t7;
     }
     if (8u <= writer) {
         return 4u;
     }
-    t14 = 128u + (96u * writer);
-    t7 = (struct model__Writer){.mode = load_8(state.ptr + (size_t)t14), .home = load_8(state.ptr + (size_t)(t14 + 8u)),
-            .first = load_8(state.ptr + (size_t)(t14 + 16u)), .count = load_8(state.ptr + (size_t)(t14 + 24u))};
-    if (!(1u <= t7.mode)) {
+    t15 = 128u + (96u * writer);
+    t8 = (struct model__Writer){.mode = load_8(state.ptr + (size_t)t15), .home = load_8(state.ptr + (size_t)(t15 + 8u)),
+            .first = load_8(state.ptr + (size_t)(t15 + 16u)), .count = load_8(state.ptr + (size_t)(t15 + 24u))};
+    if (!(1u <= t8.mode)) {
         return 7u;
     }
-    if (!(2u <= t7.mode)) {
+    if (!(2u <= t8.mode)) {
         return 0u;
     }
     return logging__entry__may_log(state, (struct model__State){.groups = load_8(state.ptr), .homes = load_8(state.ptr + 8u),
@@ -791,35 +787,17 @@ static inline void codec__blocks__clear(struct slice_mut_u8 dst, uint64_t at, ui
     }
 }
 
-/* Writes seven data blocks of zeros but for the turn bit `bit` from index `at` on. */
-static inline void areas__turns__put_turn_blocks(struct slice_mut_u8 dst, uint64_t at, uint64_t bit)
+/* Writes the blank group of number `n` into a ring slot. */
+static inline void areas__groups__put_blank(struct slice_mut_u8 log, uint64_t slot, uint64_t n)
 {
-    uint8_t t4;
-    uint64_t t5, t6;
+    uint64_t t4, t14;
 
-    t4 = (uint8_t)((uint32_t)128u * (uint8_t)bit);
-    t5 = at;
-    t6 = 7u;
-    while (0u < t6) {
-        codec__blocks__clear(dst, t5, 63u);
-        dst.ptr[(size_t)(t5 + 63u)] = t4;
-        t5 = t5 + 64u;
-        t6 = t6 - 1u;
-    }
-}
-
-/* Writes the blank group of number `n`, which has the turn `turn`, into a ring slot. */
-static inline void areas__groups__put_blank(struct slice_mut_u8 log, uint64_t slot, uint64_t n, uint64_t turn)
-{
-    uint64_t t5, t17;
-
-    t5 = 64u + (512u * slot);
-    codec__marks__put_group_mark(log, t5);
-    t17 = t5 + 2u;
-    store_4(log.ptr + (size_t)t17, n);
-    store_2(log.ptr + (size_t)(t17 + 4u), n / UINT64_C(0x100000000));
-    codec__blocks__clear(log, t5 + 8u, 56u);
-    areas__turns__put_turn_blocks(log, t5 + 64u, turn);
+    t4 = 64u + (512u * slot);
+    codec__marks__put_group_mark(log, t4);
+    t14 = t4 + 2u;
+    store_4(log.ptr + (size_t)t14, n);
+    store_2(log.ptr + (size_t)(t14 + 4u), n / UINT64_C(0x100000000));
+    codec__blocks__clear(log, t4 + 8u, 504u);
 }
 
 /* Writes the bytes of `src` from index `at` on, and leaves the other bytes as they were. */
@@ -844,40 +822,34 @@ static inline void codec__blocks__copy(struct slice_mut_u8 dst, uint64_t at, str
     }
 }
 
-/* Writes the block that stands in `src` from index `from` on, with the top bit `bit`, into `dst` from index `at` on. */
-static inline void codec__turns__copy_with_top_bit(struct slice_mut_u8 dst, uint64_t at, struct slice_u8 src, uint64_t from,
-        uint64_t bit)
+/* Writes the block that stands in `src` from index `from` on into `dst` from index `at` on. */
+static inline void areas__blocks__copy_block(struct slice_mut_u8 dst, uint64_t at, struct slice_u8 src, uint64_t from)
 {
     codec__blocks__copy(dst, at, (struct slice_u8){src.ptr + (size_t)from, (size_t)((from + 64u) - from)});
-    dst.ptr[(size_t)(at + 63u)] = (uint8_t)((uint32_t)(uint8_t)((uint32_t)src.ptr[(size_t)(from + 63u)] % 128u)
-            + (uint8_t)((uint32_t)128u * (uint8_t)bit));
 }
 
-/* Writes an entry's tag and its block at index `k` of the group in a ring slot: the block gets the turn bit, and the tag the bit
-   that it displaces. */
-static inline void areas__groups__put_entry(struct slice_mut_u8 log, uint64_t slot, uint64_t turn, uint64_t k, uint64_t word,
+/* Writes an entry's tag and its block at index `k` of the group in a ring slot. */
+static inline void areas__groups__put_entry(struct slice_mut_u8 log, uint64_t slot, uint64_t k, uint64_t word,
         struct slice_u8 block)
 {
-    uint64_t t7;
+    uint64_t t6;
 
-    t7 = 64u + (512u * slot);
-    store_8(log.ptr + (size_t)(t7 + (8u + (8u * k))), word | ((uint64_t)(uint8_t)((uint32_t)block.ptr[(size_t)((uint64_t)0u
-            + 63u)] >> 7u) << 57u));
-    codec__turns__copy_with_top_bit(log, t7 + (64u + (64u * k)), block, 0u, turn);
+    t6 = 64u + (512u * slot);
+    store_8(log.ptr + (size_t)(t6 + (8u + (8u * k))), word);
+    areas__blocks__copy_block(log, t6 + (64u + (64u * k)), block, 0u);
 }
 
-/* Writes an entry's tag and block at the next position, whose group has the turn `turn`, and a blank group first where the
-   position is a group's first. */
-static inline void areas__groups__enter(struct slice_mut_u8 log, uint64_t slot, uint64_t turn, struct model__State st,
-        uint64_t word, struct slice_u8 block)
+/* Writes an entry's tag and block at the next position, and a blank group first where the position is a group's first. */
+static inline void areas__groups__enter(struct slice_mut_u8 log, uint64_t slot, struct model__State st, uint64_t word,
+        struct slice_u8 block)
 {
-    uint64_t t7;
+    uint64_t t6;
 
-    t7 = st.filled;
-    if (t7 == 0u) {
-        areas__groups__put_blank(log, slot, st.next, turn);
+    t6 = st.filled;
+    if (t6 == 0u) {
+        areas__groups__put_blank(log, slot, st.next);
     }
-    areas__groups__put_entry(log, slot, turn, t7, word, block);
+    areas__groups__put_entry(log, slot, t6, word, block);
 }
 
 /* Writes the mark of a group write at index `at`. */
@@ -908,20 +880,19 @@ static inline uint64_t batch__records__group_write(struct slice_mut_u8 batch, ui
 static inline uint64_t logging__entry__log_entry(struct slice_mut_u8 log, struct slice_mut_u8 state, struct slice_mut_u8 batch,
         struct model__State st, uint64_t word, uint64_t w)
 {
-    uint64_t t7, t9, t11;
+    uint64_t t7, t8, t10;
 
     t7 = st.next % st.groups;
-    t9 = (128u + (96u * w)) + 32u;
-    areas__groups__enter(log, t7, (st.next / st.groups) % 2u, st, word, (struct slice_u8){state.ptr + (size_t)t9, (size_t)((t9
-            + 64u) - t9)});
+    t8 = (128u + (96u * w)) + 32u;
+    areas__groups__enter(log, t7, st, word, (struct slice_u8){state.ptr + (size_t)t8, (size_t)((t8 + 64u) - t8)});
     if (st.filled != 6u) {
         store_8(state.ptr + 32u, st.filled + 1u);
         return 0u;
     }
     store_8(state.ptr + 24u, st.next + 1u);
     store_8(state.ptr + 32u, 0u);
-    t11 = batch__records__group_write(batch, 0u, t7, (struct slice_u8){log.ptr, log.len});
-    return t11;
+    t10 = batch__records__group_write(batch, 0u, t7, (struct slice_u8){log.ptr, log.len});
+    return t10;
 }
 
 /* Logs the held block as the closing entry and ends the transaction. */
@@ -938,50 +909,245 @@ static inline uint64_t logging__commits__close_held(struct slice_mut_u8 log, str
     return t9;
 }
 
-/* The same, and the places promised to the writer are given back. */
-static inline uint64_t logging__commits__commit_held(struct slice_mut_u8 log, struct slice_mut_u8 state,
-        struct slice_mut_u8 batch, struct model__State st, struct model__Writer r, uint64_t w)
+/* How many of the `left` positions the next group has. */
+static inline uint64_t scan__commits__in_group(uint64_t left)
 {
-    uint64_t t7;
+    uint64_t t3;
 
-    t7 = logging__commits__close_held(log, state, batch, st, r, w);
-    store_2(state.ptr + (size_t)(72u + (2u * w)), 0u);
-    return t7;
+    if (left < 7u) {
+        t3 = left;
+    } else {
+        t3 = 7u;
+    }
+    return t3;
 }
 
-/* Commits a writer's open transaction: its held block is logged as the closing entry, whose position + 1 is the ticket. */
-static inline struct answers__Reply logging__commits__commit(struct slice_mut_u8 log, struct slice_u8 area,
-        struct slice_mut_u8 state, struct slice_mut_u8 batch, uint64_t writer)
+/* Whether the two bytes of `mark` stand at index `at`. */
+static inline bool codec__marks__has_mark(struct slice_u8 s, uint64_t at, struct slice_u8 mark)
 {
-    uint64_t t6, t7, t11, t36;
-    struct model__Writer t8;
-    struct model__State t9;
-
-    t6 = logging__commits__commit_verdict((struct slice_u8){log.ptr, log.len}, area, (struct slice_u8){state.ptr, state.len},
-            (struct slice_u8){batch.ptr, batch.len}, writer);
-    if (t6 != 0u) {
-        return (struct answers__Reply){.code = t6, .figure = 0u, .size = 0u};
+    if (s.ptr[(size_t)at] != mark.ptr[0u]) {
+        return false;
     }
-    t7 = writer;
-    t36 = 128u + (96u * t7);
-    t8 = (struct model__Writer){.mode = load_8(state.ptr + (size_t)t36), .home = load_8(state.ptr + (size_t)(t36 + 8u)),
-            .first = load_8(state.ptr + (size_t)(t36 + 16u)), .count = load_8(state.ptr + (size_t)(t36 + 24u))};
-    if (!(2u <= t8.mode)) {
-        logging__commits__commit_none(state, t7);
+    if (s.ptr[(size_t)(at + 1u)] != mark.ptr[1u]) {
+        return false;
+    }
+    return true;
+}
+
+/* Whether the mark of a group and the number `n` stand in the eight bytes from index `at` on: the number is that word without the
+   mark. The mark goes first, so that an unused group is passed quickly. */
+static inline bool codec__marks__has_group_head(struct slice_u8 s, uint64_t at, uint64_t n)
+{
+    struct array_u8_2 t4;
+    bool t5;
+
+    t4 = (struct array_u8_2){{80u, 71u}};
+    t5 = codec__marks__has_mark(s, at, (struct slice_u8){t4.at, 2u});
+    if (!t5) {
+        return false;
+    }
+    return (load_8(s.ptr + (size_t)at) / UINT64_C(0x10000)) == (n % UINT64_C(0x1000000000000));
+}
+
+/* Whether the 512 bytes of a ring slot are a valid group with number `n`, in a log of `groups` groups from number `start` on. */
+static inline bool scan__groups__group_valid(struct slice_u8 group, uint64_t groups, uint64_t start, uint64_t n)
+{
+    bool t5;
+
+    t5 = codec__marks__has_group_head(group, 0u, n);
+    if (!t5) {
+        return false;
+    }
+    if (n < start) {
+        return false;
+    }
+    return n < (start + groups);
+}
+
+/* How many positions from `position` on lie before another. */
+static inline uint64_t scan__commits__skipped(uint64_t position, uint64_t first)
+{
+    if (first < position) {
+        return 0u;
+    }
+    return first - position;
+}
+
+/* What a word says at a position of a log that starts at position `base` and has `homes` homes. */
+static inline struct model__Tag codec__tags__read_tag(uint64_t word, uint64_t position, uint64_t base, uint64_t homes)
+{
+    uint64_t t5, t6, t7, t8;
+
+    if ((word & 1u) == 0u) {
+        return (struct model__Tag){.tag = 0u};
+    }
+    if ((word >> 57u) != 0u) {
+        return (struct model__Tag){.tag = 0u};
+    }
+    t5 = ((word >> 2u) & 4095u) | (((word >> 53u) & 15u) << 12u);
+    if (homes <= t5) {
+        return (struct model__Tag){.tag = 0u};
+    }
+    t6 = (word >> 14u) & 8191u;
+    if (position < t6) {
+        return (struct model__Tag){.tag = 0u};
+    }
+    t7 = position - t6;
+    if (t7 < base) {
+        return (struct model__Tag){.tag = 0u};
+    }
+    if (((word >> 1u) & 1u) == 0u) {
+        if (((word >> 27u) & UINT64_C(0x3ffffff)) == 0u) {
+            return (struct model__Tag){.tag = 1u, .u64_0 = t5, .u64_1 = t7};
+        }
+        return (struct model__Tag){.tag = 0u};
+    }
+    t8 = (word >> 40u) & 8191u;
+    if (t8 == 0u) {
+        return (struct model__Tag){.tag = 0u};
+    }
+    return (struct model__Tag){.tag = 2u, .u64_0 = t5, .u64_1 = t7, .u64_2 = (word >> 27u) & 8191u, .u64_3 = t8};
+}
+
+/* What tag `k` of a group says at a position of a log that starts at position `base` and has `homes` homes. */
+static inline struct model__Tag scan__groups__tag_in(struct slice_u8 group, uint64_t k, uint64_t position, uint64_t base,
+        uint64_t homes)
+{
+    return codec__tags__read_tag(load_8(group.ptr + (size_t)(8u + (8u * k))), position, base, homes);
+}
+
+/* Keeps a position if tag `k` of its group is an entry of the transaction with first position `first`. Its distance back is
+   compared before all else. */
+static inline void positions__commits__keep_entry(struct slice_mut_u8 newest, struct slice_u8 group, uint64_t k,
+        uint64_t position, uint64_t base, uint64_t homes, uint64_t first)
+{
+    struct model__Tag t13;
+
+    if (((load_8(group.ptr + (size_t)(8u + (8u * k))) >> 14u) & 8191u) != (position - first)) {
+        return;
+    }
+    t13 = scan__groups__tag_in(group, k, position, base, homes);
+    if (t13.tag == 0u) {
+    } else if (t13.tag == 1u) {
+        store_8(newest.ptr + (size_t)(8u * t13.u64_0), position);
+    } else {
+        store_8(newest.ptr + (size_t)(8u * t13.u64_0), position);
+    }
+}
+
+/* Keeps the transaction's entries among the first `m` of a group, which says nothing where it is not the valid group with number
+   `n`. */
+static inline void positions__commits__keep_group(struct slice_u8 group, uint64_t groups, uint64_t homes, uint64_t start,
+        uint64_t n, uint64_t m, uint64_t first, struct slice_mut_u8 newest)
+{
+    uint64_t t9, t10, t11;
+    bool t12;
+
+    t12 = scan__groups__group_valid(group, groups, start, n);
+    if (!t12) {
+        return;
+    }
+    t9 = 7u * start;
+    t10 = scan__commits__skipped(7u * n, first);
+    t11 = (7u * n) + t10;
+    while (t10 < m) {
+        positions__commits__keep_entry(newest, group, t10, t11, t9, homes, first);
+        t11 = t11 + 1u;
+        t10 = t10 + 1u;
+    }
+}
+
+/* The ring slot of the group after that in `slot`. */
+static inline uint64_t scan__slots__next_slot(uint64_t slot, uint64_t groups)
+{
+    uint64_t t5;
+
+    if ((slot + 1u) == groups) {
+        t5 = 0u;
+    } else {
+        t5 = slot + 1u;
+    }
+    return t5;
+}
+
+/* Keeps the position of each entry of the transaction from position `first` to the closing one, so that the later position wins.
+   */
+static inline void positions__commits__keep_entries(struct slice_u8 log, uint64_t groups, uint64_t homes, uint64_t start,
+        uint64_t first, uint64_t closing, struct slice_mut_u8 newest)
+{
+    uint64_t t8, t9, t10, t11, t13;
+
+    t8 = first / 7u;
+    t9 = t8 % groups;
+    t10 = (closing + 1u) - (7u * t8);
+    while (0u < t10) {
+        t11 = 64u + (512u * t9);
+        t13 = scan__commits__in_group(t10);
+        positions__commits__keep_group((struct slice_u8){log.ptr + (size_t)t11, (size_t)((t11 + 512u) - t11)}, groups, homes,
+                start, t8, t13, first, newest);
+        t9 = scan__slots__next_slot(t9, groups);
+        t8 = t8 + 1u;
+        t10 = t10 - t13;
+    }
+}
+
+/* Keeps the position of each entry of the transaction that was closed at the next position. */
+static inline void logging__commits__keep_newest(struct slice_u8 log, struct slice_mut_u8 newest, struct model__State st,
+        struct model__Writer r)
+{
+    uint64_t t5, t6;
+
+    t5 = (7u * st.next) + st.filled;
+    t6 = strip__writers__first_for(r, t5);
+    positions__commits__keep_entries(log, st.groups, st.homes, st.start, t6, t5, newest);
+}
+
+/* The closing entry, with the places promised to the writer given back and the newest positions kept. */
+static inline uint64_t logging__commits__commit_held(struct slice_mut_u8 log, struct slice_mut_u8 state,
+        struct slice_mut_u8 newest, struct slice_mut_u8 batch, struct model__State st, struct model__Writer r, uint64_t w)
+{
+    uint64_t t8;
+
+    t8 = logging__commits__close_held(log, state, batch, st, r, w);
+    store_2(state.ptr + (size_t)(72u + (2u * w)), 0u);
+    logging__commits__keep_newest((struct slice_u8){log.ptr, log.len}, newest, st, r);
+    return t8;
+}
+
+/* Commits a writer's open transaction: its held block is logged as the closing entry, whose position + 1 is the ticket, and for
+   each home that it wrote the last entry's position is kept. */
+static inline struct answers__Reply logging__commits__commit(struct slice_mut_u8 log, struct slice_u8 area,
+        struct slice_mut_u8 state, struct slice_mut_u8 newest, struct slice_mut_u8 batch, uint64_t writer)
+{
+    uint64_t t7, t8, t12, t41;
+    struct model__Writer t9;
+    struct model__State t10;
+
+    t7 = logging__commits__commit_verdict((struct slice_u8){log.ptr, log.len}, area, (struct slice_u8){state.ptr, state.len},
+            (struct slice_u8){newest.ptr, newest.len}, (struct slice_u8){batch.ptr, batch.len}, writer);
+    if (t7 != 0u) {
+        return (struct answers__Reply){.code = t7, .figure = 0u, .size = 0u};
+    }
+    t8 = writer;
+    t41 = 128u + (96u * t8);
+    t9 = (struct model__Writer){.mode = load_8(state.ptr + (size_t)t41), .home = load_8(state.ptr + (size_t)(t41 + 8u)),
+            .first = load_8(state.ptr + (size_t)(t41 + 16u)), .count = load_8(state.ptr + (size_t)(t41 + 24u))};
+    if (!(2u <= t9.mode)) {
+        logging__commits__commit_none(state, t8);
         return (struct answers__Reply){.code = 0u, .figure = 0u, .size = 0u};
     }
-    t9 = (struct model__State){.groups = load_8(state.ptr), .homes = load_8(state.ptr + 8u), .start = load_8(state.ptr + 16u),
+    t10 = (struct model__State){.groups = load_8(state.ptr), .homes = load_8(state.ptr + 8u), .start = load_8(state.ptr + 16u),
             .next = load_8(state.ptr + 24u), .filled = load_8(state.ptr + 32u), .settled = load_8(state.ptr + 40u),
             .fenced = load_8(state.ptr + 48u), .durable = load_8(state.ptr + 56u), .last = load_8(state.ptr + 64u)};
-    t11 = logging__commits__commit_held(log, state, batch, t9, t8, t7);
-    return (struct answers__Reply){.code = 0u, .figure = ((7u * t9.next) + t9.filled) + 1u, .size = t11};
+    t12 = logging__commits__commit_held(log, state, newest, batch, t10, t9, t8);
+    return (struct answers__Reply){.code = 0u, .figure = ((7u * t10.next) + t10.filled) + 1u, .size = t12};
 }
 
 /* Ends a writer's transaction: logs the held block as its closing entry, and returns the ticket. */
 static inline struct answers__Reply kagutin__kagutin_commit(struct slice_mut_u8 log, struct slice_u8 area,
-        struct slice_mut_u8 state, struct slice_mut_u8 batch, uint64_t writer)
+        struct slice_mut_u8 state, struct slice_mut_u8 newest, struct slice_mut_u8 batch, uint64_t writer)
 {
-    return logging__commits__commit(log, area, state, batch, writer);
+    return logging__commits__commit(log, area, state, newest, batch, writer);
 }
 
 /* Makes the fenced position the durable mark, and returns it: all fences so far have passed. */
@@ -1152,7 +1318,7 @@ static inline void codec__marks__put_header_mark(struct slice_mut_u8 dst, uint64
     struct array_u8_2 t3;
     struct slice_u8 t10;
 
-    t3 = (struct array_u8_2){{80u, 84u}};
+    t3 = (struct array_u8_2){{80u, 72u}};
     t10 = (struct slice_u8){t3.at, 2u};
     dst.ptr[(size_t)at] = t10.ptr[0u];
     dst.ptr[(size_t)(at + 1u)] = t10.ptr[1u];
@@ -1173,41 +1339,11 @@ static inline void areas__header__put_header(struct slice_mut_u8 dst, uint64_t a
     codec__blocks__clear(dst, at + 12u, 52u);
 }
 
-/* The turn bit of an unused ring slot: opposite to that of the group which it gets next, in a log whose start lies in the slot
-   `first` and has the turn `turn`. The slots before the start's get a group of the next turn. */
-static inline uint64_t areas__unused__unused_bit(uint64_t slot, uint64_t first, uint64_t turn)
+/* Makes the log copy as it is after formatting. */
+static inline void recovery__formatting__format_log(struct slice_mut_u8 log, uint64_t groups, uint64_t homes)
 {
-    uint64_t t5;
-
-    if (slot < first) {
-        t5 = turn;
-    } else {
-        t5 = 1u - turn;
-    }
-    return t5;
-}
-
-/* Writes an unused group, whose data blocks have the turn bit `bit`, from index `at` on. */
-static inline void areas__unused__put_unused(struct slice_mut_u8 dst, uint64_t at, uint64_t bit)
-{
-    codec__blocks__clear(dst, at, 64u);
-    areas__turns__put_turn_blocks(dst, at + 64u, bit);
-}
-
-/* Makes a log copy empty, with its start at group `start`. */
-static inline void areas__unused__put_empty_log(struct slice_mut_u8 log, uint64_t start, uint64_t groups, uint64_t homes)
-{
-    uint64_t t5, t6, t7, t19;
-
-    areas__header__put_header(log, 0u, start, groups, homes);
-    t5 = start % groups;
-    t6 = (start / groups) % 2u;
-    t7 = 0u;
-    while (t7 < groups) {
-        t19 = areas__unused__unused_bit(t7, t5, t6);
-        areas__unused__put_unused(log, 64u + (512u * t7), t19);
-        t7 = t7 + 1u;
-    }
+    codec__blocks__clear(log, 0u, (uint64_t)log.len);
+    areas__header__put_header(log, 0u, 0u, groups, homes);
 }
 
 /* Makes every byte of the data copy zero. */
@@ -1236,30 +1372,27 @@ static inline uint64_t batch__records__zero_header_write(struct slice_mut_u8 bat
     return at + 66u;
 }
 
-/* Appends the write of an unused group, whose data blocks have the turn bit `bit`, to a ring slot. */
-static inline uint64_t batch__records__unused_write(struct slice_mut_u8 batch, uint64_t at, uint64_t slot, uint64_t bit)
+/* Appends the write of zeros to a ring slot. */
+static inline uint64_t batch__records__zero_group_write(struct slice_mut_u8 batch, uint64_t at, uint64_t slot)
 {
     codec__marks__put_group_write_mark(batch, at);
     store_2(batch.ptr + (size_t)(at + 2u), slot);
-    areas__unused__put_unused(batch, at + 4u, bit);
+    codec__blocks__clear(batch, at + 4u, 512u);
     return at + 516u;
 }
 
-/* Appends the writes of all ring slots as unused, rising, for a log that starts at group `start`. */
-static inline uint64_t batch__format__all_groups(struct slice_mut_u8 batch, uint64_t at, uint64_t start, uint64_t groups)
+/* Appends the writes of zeros to the first `groups` ring slots, rising. */
+static inline uint64_t batch__format__all_groups(struct slice_mut_u8 batch, uint64_t at, uint64_t groups)
 {
-    uint64_t t5, t6, t7, t8, t13;
+    uint64_t t4, t5;
 
-    t5 = start % groups;
-    t6 = (start / groups) % 2u;
-    t7 = at;
-    t8 = 0u;
-    while (t8 < groups) {
-        t13 = areas__unused__unused_bit(t8, t5, t6);
-        t7 = batch__records__unused_write(batch, t7, t8, t13);
-        t8 = t8 + 1u;
+    t4 = at;
+    t5 = 0u;
+    while (t5 < groups) {
+        t4 = batch__records__zero_group_write(batch, t4, t5);
+        t5 = t5 + 1u;
     }
-    return t7;
+    return t4;
 }
 
 /* Writes the mark of a home write at index `at`. */
@@ -1313,7 +1446,7 @@ static inline uint64_t batch__format__format_batch(struct slice_mut_u8 batch, ui
 
     t4 = batch__records__zero_header_write(batch, 0u);
     t4 = batch__records__fence(batch, t4);
-    t4 = batch__format__all_groups(batch, t4, 0u, groups);
+    t4 = batch__format__all_groups(batch, t4, groups);
     t4 = batch__format__all_homes(batch, t4, homes);
     t4 = batch__records__fence(batch, t4);
     t4 = batch__records__header_write(batch, t4, 0u, groups, homes);
@@ -1333,7 +1466,7 @@ static inline struct answers__Reply recovery__formatting__format(struct slice_mu
     }
     t5 = areas__lengths__log_groups((uint64_t)log.len);
     t6 = (uint64_t)area.len / 64u;
-    areas__unused__put_empty_log(log, 0u, t5, t6);
+    recovery__formatting__format_log(log, t5, t6);
     recovery__formatting__format_area(area);
     t7 = batch__format__format_batch(batch, t5, t6);
     return (struct answers__Reply){.code = 0u, .figure = 0u, .size = t7};
@@ -1356,24 +1489,12 @@ static inline struct recovery__opening__Shape recovery__opening__measure(struct 
             | (load_2(log.ptr + (size_t)((uint64_t)2u + 4u)) << 32u)};
 }
 
-/* Whether the two bytes of `mark` stand at index `at`. */
-static inline bool codec__marks__has_mark(struct slice_u8 s, uint64_t at, struct slice_u8 mark)
-{
-    if (s.ptr[(size_t)at] != mark.ptr[0u]) {
-        return false;
-    }
-    if (s.ptr[(size_t)(at + 1u)] != mark.ptr[1u]) {
-        return false;
-    }
-    return true;
-}
-
 /* Whether the mark of the log's header stands at index `at`. */
 static inline bool codec__marks__has_header_mark(struct slice_u8 s, uint64_t at)
 {
     struct array_u8_2 t3;
 
-    t3 = (struct array_u8_2){{80u, 84u}};
+    t3 = (struct array_u8_2){{80u, 72u}};
     return codec__marks__has_mark(s, at, (struct slice_u8){t3.at, 2u});
 }
 
@@ -1420,131 +1541,46 @@ static inline bool areas__header__header_right(struct slice_u8 log, uint64_t gro
 }
 
 /* The questions of open but the last: 0, or the number of the refusal. */
-static inline uint64_t recovery__opening__may_open(struct slice_u8 log, struct slice_u8 area, struct slice_u8 state)
+static inline uint64_t recovery__opening__may_open(struct slice_u8 log, struct slice_u8 area, struct slice_u8 state,
+        struct slice_u8 newest)
 {
-    struct recovery__opening__Shape t4;
-    bool t5;
+    struct recovery__opening__Shape t5;
+    bool t6, t7;
 
-    t5 = answers__lengths_right(log, area, state);
-    if (!t5) {
+    t6 = answers__lengths_right(log, area, state);
+    if (!t6) {
         return 1u;
     }
-    t4 = recovery__opening__measure(log, area);
-    t5 = areas__header__header_right(log, t4.groups, t4.homes);
-    if (!t5) {
+    t5 = recovery__opening__measure(log, area);
+    if ((uint64_t)newest.len != (8u * t5.homes)) {
+        return 1u;
+    }
+    t7 = areas__header__header_right(log, t5.groups, t5.homes);
+    if (!t7) {
         return 3u;
     }
-    if (UINT64_C(0x800000000000) < t4.start) {
+    if (UINT64_C(0x800000000000) < t5.start) {
         return 3u;
     }
-    if (UINT64_C(0x800000000000) < (t4.start + t4.groups)) {
+    if (UINT64_C(0x800000000000) < (t5.start + t5.groups)) {
         return 10u;
     }
     return 0u;
 }
 
-/* How many of the `left` positions the next group has. */
-static inline uint64_t scan__commits__in_group(uint64_t left)
+/* The words of a group's seven tags, read in a row. */
+static inline struct array_u64_7 scan__groups__tag_words(struct slice_u8 group)
 {
+    struct array_u64_7 t2;
     uint64_t t3;
 
-    if (left < 7u) {
-        t3 = left;
-    } else {
-        t3 = 7u;
+    memset(&t2, 0, sizeof t2);
+    t3 = 0u;
+    while (t3 < 7u) {
+        t2.at[(size_t)t3] = load_8(group.ptr + (size_t)(8u + (8u * t3)));
+        t3 = t3 + 1u;
     }
-    return t3;
-}
-
-/* Whether the mark of a group and the number `n` stand in the eight bytes from index `at` on: the number is that word without the
-   mark. The mark goes first, so that an unused group is passed quickly. */
-static inline bool codec__marks__has_group_head(struct slice_u8 s, uint64_t at, uint64_t n)
-{
-    struct array_u8_2 t4;
-    bool t5;
-
-    t4 = (struct array_u8_2){{80u, 71u}};
-    t5 = codec__marks__has_mark(s, at, (struct slice_u8){t4.at, 2u});
-    if (!t5) {
-        return false;
-    }
-    return (load_8(s.ptr + (size_t)at) / UINT64_C(0x10000)) == (n % UINT64_C(0x1000000000000));
-}
-
-/* Whether the 512 bytes of a ring slot are a valid group with number `n`, in a log of `groups` groups from number `start` on. */
-static inline bool scan__groups__group_valid(struct slice_u8 group, uint64_t groups, uint64_t start, uint64_t n)
-{
-    bool t5;
-
-    t5 = codec__marks__has_group_head(group, 0u, n);
-    if (!t5) {
-        return false;
-    }
-    if (n < start) {
-        return false;
-    }
-    return n < (start + groups);
-}
-
-/* The word of tag `k` of a group if its data block has the turn of the group, else that of no entry. */
-static inline uint64_t scan__groups__word_there(struct slice_u8 group, uint64_t turn, uint64_t k)
-{
-    if ((uint64_t)(uint8_t)((uint32_t)group.ptr[(size_t)((64u + (64u * k)) + 63u)] >> 7u) != turn) {
-        return 0u;
-    }
-    return load_8(group.ptr + (size_t)(8u + (8u * k)));
-}
-
-/* The words of a group's seven tags that are there, read in a row; `turn` is the group's. */
-static inline struct array_u64_7 scan__groups__tag_words(struct slice_u8 group, uint64_t turn)
-{
-    struct array_u64_7 t3;
-    uint64_t t4, t6;
-
-    memset(&t3, 0, sizeof t3);
-    t4 = 0u;
-    while (t4 < 7u) {
-        t6 = scan__groups__word_there(group, turn, t4);
-        t3.at[(size_t)t4] = t6;
-        t4 = t4 + 1u;
-    }
-    return t3;
-}
-
-/* What a word says at a position of a log that starts at position `base` and has `homes` homes. */
-static inline struct model__Tag codec__tags__read_tag(uint64_t word, uint64_t position, uint64_t base, uint64_t homes)
-{
-    uint64_t t5, t6, t7, t8;
-
-    if ((word & 1u) == 0u) {
-        return (struct model__Tag){.tag = 0u};
-    }
-    if ((word >> 58u) != 0u) {
-        return (struct model__Tag){.tag = 0u};
-    }
-    t5 = ((word >> 2u) & 4095u) | (((word >> 53u) & 15u) << 12u);
-    if (homes <= t5) {
-        return (struct model__Tag){.tag = 0u};
-    }
-    t6 = (word >> 14u) & 8191u;
-    if (position < t6) {
-        return (struct model__Tag){.tag = 0u};
-    }
-    t7 = position - t6;
-    if (t7 < base) {
-        return (struct model__Tag){.tag = 0u};
-    }
-    if (((word >> 1u) & 1u) == 0u) {
-        if (((word >> 27u) & UINT64_C(0x3ffffff)) == 0u) {
-            return (struct model__Tag){.tag = 1u, .u64_0 = t5, .u64_1 = t7};
-        }
-        return (struct model__Tag){.tag = 0u};
-    }
-    t8 = (word >> 40u) & 8191u;
-    if (t8 == 0u) {
-        return (struct model__Tag){.tag = 0u};
-    }
-    return (struct model__Tag){.tag = 2u, .u64_0 = t5, .u64_1 = t7, .u64_2 = (word >> 27u) & 8191u, .u64_3 = t8};
+    return t2;
 }
 
 /* Whether a closing entry at a position is linked, by its distance back, to the last one, which ends at `end`, or where there is
@@ -1609,44 +1645,31 @@ static inline struct scan__commits__Progress scan__commits__visit(uint64_t word,
     return t13;
 }
 
-/* Takes the first `m` tags of a group, which says nothing where it is not the valid group with number `n` and turn `turn`. */
+/* Takes the first `m` tags of a group, which says nothing where it is not the valid group with number `n`. */
 static inline struct scan__commits__Progress scan__commits__visit_group(struct slice_u8 group, uint64_t groups, uint64_t homes,
-        uint64_t start, uint64_t n, uint64_t turn, uint64_t m, struct slice_mut_u16 counts,
-        struct scan__commits__Progress progress)
+        uint64_t start, uint64_t n, uint64_t m, struct slice_mut_u16 counts, struct scan__commits__Progress progress)
 {
-    struct array_u64_7 t10, t17;
-    uint64_t t11, t13, t14;
-    struct scan__commits__Progress t12;
-    bool t15;
+    struct array_u64_7 t9, t16;
+    uint64_t t10, t12, t13;
+    struct scan__commits__Progress t11;
+    bool t14;
 
-    t15 = scan__groups__group_valid(group, groups, start, n);
-    if (!t15) {
+    t14 = scan__groups__group_valid(group, groups, start, n);
+    if (!t14) {
         return progress;
     }
-    t17 = scan__groups__tag_words(group, turn);
-    t10 = t17;
-    t11 = 7u * start;
-    t12 = progress;
-    t13 = 7u * n;
-    t14 = 0u;
-    while (t14 < m) {
-        t12 = scan__commits__visit(t10.at[(size_t)t14], t13, t11, homes, counts, t12);
+    t16 = scan__groups__tag_words(group);
+    t9 = t16;
+    t10 = 7u * start;
+    t11 = progress;
+    t12 = 7u * n;
+    t13 = 0u;
+    while (t13 < m) {
+        t11 = scan__commits__visit(t9.at[(size_t)t13], t12, t10, homes, counts, t11);
+        t12 = t12 + 1u;
         t13 = t13 + 1u;
-        t14 = t14 + 1u;
     }
-    return t12;
-}
-
-/* Those of the group after: the turn changes where the slots begin again. */
-static inline struct scan__slots__RingSlot scan__slots__next_slot(struct scan__slots__RingSlot at, uint64_t groups)
-{
-    uint64_t t3;
-
-    t3 = at.slot + 1u;
-    if (t3 == groups) {
-        return (struct scan__slots__RingSlot){.slot = 0u, .turn = 1u - at.turn};
-    }
-    return (struct scan__slots__RingSlot){.slot = t3, .turn = at.turn};
+    return t11;
 }
 
 /* Walks the `n` positions of the log from its start on, group by group, and finds where the committed transactions end and how
@@ -1656,19 +1679,18 @@ static inline struct scan__commits__Found scan__commits__walk(struct slice_u8 lo
 {
     struct array_u16_7168 t6;
     struct scan__commits__Progress t7;
-    struct scan__slots__RingSlot t8;
-    uint64_t t9, t10, t11, t13;
+    uint64_t t8, t9, t10, t11, t13;
 
     memset(&t6, 0, sizeof t6);
     t7 = (struct scan__commits__Progress){.end = 0u, .number = 0u, .failed = 0u};
-    t8 = (struct scan__slots__RingSlot){.slot = start % groups, .turn = (start / groups) % 2u};
+    t8 = start % groups;
     t9 = start;
     t10 = n;
     while (0u < t10) {
-        t11 = 64u + (512u * t8.slot);
+        t11 = 64u + (512u * t8);
         t13 = scan__commits__in_group(t10);
         t7 = scan__commits__visit_group((struct slice_u8){log.ptr + (size_t)t11, (size_t)((t11 + 512u) - t11)}, groups, homes,
-                start, t9, t8.turn, t13, (struct slice_mut_u16){t6.at, 7168u}, t7);
+                start, t9, t13, (struct slice_mut_u16){t6.at, 7168u}, t7);
         if (t7.failed != 0u) {
             return (struct scan__commits__Found){.end = t7.end, .number = t7.number};
         }
@@ -1701,27 +1723,27 @@ static inline void replay__gathering__visit(uint64_t word, uint64_t position, ui
     }
 }
 
-/* Takes the first `m` tags of a group, which says nothing where it is not the valid group with number `n` and turn `turn`. */
+/* Takes the first `m` tags of a group, which says nothing where it is not the valid group with number `n`. */
 static inline void replay__gathering__visit_group(struct slice_u8 group, uint64_t groups, uint64_t homes, uint64_t start,
-        uint64_t n, uint64_t turn, uint64_t m, struct slice_mut_u16 last, struct slice_mut_u16 heads, struct slice_mut_u16 links)
+        uint64_t n, uint64_t m, struct slice_mut_u16 last, struct slice_mut_u16 heads, struct slice_mut_u16 links)
 {
-    struct array_u64_7 t11, t17;
-    uint64_t t12, t13, t14;
-    bool t15;
+    struct array_u64_7 t10, t16;
+    uint64_t t11, t12, t13;
+    bool t14;
 
-    t15 = scan__groups__group_valid(group, groups, start, n);
-    if (!t15) {
+    t14 = scan__groups__group_valid(group, groups, start, n);
+    if (!t14) {
         return;
     }
-    t17 = scan__groups__tag_words(group, turn);
-    t11 = t17;
-    t12 = 7u * start;
-    t13 = 7u * n;
-    t14 = 0u;
-    while (t14 < m) {
-        replay__gathering__visit(t11.at[(size_t)t14], t13, t12, homes, last, heads, links);
+    t16 = scan__groups__tag_words(group);
+    t10 = t16;
+    t11 = 7u * start;
+    t12 = 7u * n;
+    t13 = 0u;
+    while (t13 < m) {
+        replay__gathering__visit(t10.at[(size_t)t13], t12, t11, homes, last, heads, links);
+        t12 = t12 + 1u;
         t13 = t13 + 1u;
-        t14 = t14 + 1u;
     }
 }
 
@@ -1729,8 +1751,7 @@ static inline void replay__gathering__visit_group(struct slice_u8 group, uint64_
 static inline void replay__gathering__gather(struct slice_u8 log, struct slice_mut_u16 last, struct slice_mut_u16 heads,
         struct slice_mut_u16 links, uint64_t groups, uint64_t homes, uint64_t start, uint64_t end)
 {
-    uint64_t t9, t10, t11, t13, t15;
-    struct scan__slots__RingSlot t12;
+    uint64_t t9, t10, t11, t12, t13, t15;
 
     t9 = 7u * start;
     if (end <= t9) {
@@ -1738,12 +1759,12 @@ static inline void replay__gathering__gather(struct slice_u8 log, struct slice_m
     }
     t10 = end - t9;
     t11 = start;
-    t12 = (struct scan__slots__RingSlot){.slot = start % groups, .turn = (start / groups) % 2u};
+    t12 = start % groups;
     while (0u < t10) {
-        t13 = 64u + (512u * t12.slot);
+        t13 = 64u + (512u * t12);
         t15 = scan__commits__in_group(t10);
         replay__gathering__visit_group((struct slice_u8){log.ptr + (size_t)t13, (size_t)((t13 + 512u) - t13)}, groups, homes,
-                start, t11, t12.turn, t15, last, heads, links);
+                start, t11, t15, last, heads, links);
         t12 = scan__slots__next_slot(t12, groups);
         t11 = t11 + 1u;
         t10 = t10 - t15;
@@ -1762,13 +1783,6 @@ static inline uint64_t replay__places__slot_after(uint64_t slot, uint64_t n, uin
         t6 = t4 - groups;
     }
     return t6;
-}
-
-/* What tag `k` of a group says at a position of a log that starts at position `base` and has `homes` homes. */
-static inline struct model__Tag scan__groups__tag_in(struct slice_u8 group, uint64_t k, uint64_t position, uint64_t base,
-        uint64_t homes)
-{
-    return codec__tags__read_tag(load_8(group.ptr + (size_t)(8u + (8u * k))), position, base, homes);
 }
 
 /* What the log says at an offset where there is an entry. */
@@ -1873,34 +1887,21 @@ static inline uint64_t replay__words__count_word(struct slice_u8 log, struct sli
 static inline uint64_t replay__words__count(struct slice_u8 log, struct slice_u16 last, struct slice_u16 heads,
         struct slice_u16 links, uint64_t groups, uint64_t homes, uint64_t start, uint64_t end)
 {
-    uint64_t t9, t10, t11, t12, t17;
-    struct scan__slots__RingSlot t13;
+    uint64_t t9, t10, t11, t12, t16;
 
-    t13 = (struct scan__slots__RingSlot){.slot = start % groups, .turn = (start / groups) % 2u};
-    t9 = t13.slot;
+    t9 = start % groups;
     t10 = (homes + 63u) / 64u;
     t11 = 0u;
     t12 = 0u;
     while (t12 < t10) {
-        t17 = replay__words__count_word(log, last, heads, links, t12, groups, homes, start, end, t9);
-        t11 = t11 + t17;
+        t16 = replay__words__count_word(log, last, heads, links, t12, groups, homes, start, end, t9);
+        t11 = t11 + t16;
         t12 = t12 + 1u;
     }
     return t11;
 }
 
-/* Writes the block that the entry at index `k` of the group in a ring slot gives, with the displaced bit back in its place, from
-   index `at` on. */
-static inline void areas__groups__copy_entry(struct slice_mut_u8 dst, uint64_t at, struct slice_u8 log, uint64_t slot, uint64_t k)
-{
-    uint64_t t6;
-
-    t6 = 64u + (512u * slot);
-    codec__turns__copy_with_top_bit(dst, at, log, t6 + (64u + (64u * k)), (load_8(log.ptr + (size_t)(t6 + (8u
-            + (8u * k)))) >> 57u) & 1u);
-}
-
-/* Copies the block that the entry at an offset gives to a home. */
+/* Copies the block at an offset to a home. */
 static inline void replay__places__restore_block(struct slice_u8 log, struct slice_mut_u8 area, uint64_t groups, uint64_t start,
         uint64_t slot, uint64_t offset, uint64_t home)
 {
@@ -1908,7 +1909,7 @@ static inline void replay__places__restore_block(struct slice_u8 log, struct sli
     (void)start;
 
     t9 = replay__places__slot_after(slot, offset / 7u, groups);
-    areas__groups__copy_entry(area, 64u * home, log, t9, offset % 7u);
+    areas__blocks__copy_block(area, 64u * home, log, (64u + (512u * t9)) + (64u + (64u * (offset % 7u))));
 }
 
 /* Copies to each home that one word marks, whose first home is `base`, the block of its newest entry. */
@@ -1923,12 +1924,6 @@ static inline void replay__restore__restore_word(struct slice_u8 log, struct sli
         replay__places__restore_block(log, area, groups, start, slot, (uint64_t)table.ptr[(size_t)t10] - 1u, base + t10);
         t9 = t9 & (t9 - 1u);
     }
-}
-
-/* Writes the block that stands in `src` from index `from` on into `dst` from index `at` on. */
-static inline void areas__blocks__copy_block(struct slice_mut_u8 dst, uint64_t at, struct slice_u8 src, uint64_t from)
-{
-    codec__blocks__copy(dst, at, (struct slice_u8){src.ptr + (size_t)from, (size_t)((from + 64u) - from)});
 }
 
 /* Appends the write of the block that the data area holds in a home. */
@@ -1981,10 +1976,8 @@ static inline uint64_t replay__restore__bring_back(struct slice_u8 log, struct s
         uint64_t end)
 {
     uint64_t t11, t12, t13, t14;
-    struct scan__slots__RingSlot t15;
 
-    t15 = (struct scan__slots__RingSlot){.slot = start % groups, .turn = (start / groups) % 2u};
-    t11 = t15.slot;
+    t11 = start % groups;
     t12 = (homes + 63u) / 64u;
     t13 = 0u;
     t14 = 0u;
@@ -2022,7 +2015,7 @@ static inline uint64_t recovery__planning__bring_back(struct slice_u8 log, struc
     return t13;
 }
 
-/* Writes a fence, the header with a new start, another fence, all groups as unused, and a last fence at an index of the batch. */
+/* Writes a fence, the header with a new start and another fence at an index of the batch. */
 static inline void recovery__opening__open_records(struct slice_mut_u8 batch, uint64_t at, uint64_t start, uint64_t groups,
         uint64_t homes)
 {
@@ -2030,8 +2023,6 @@ static inline void recovery__opening__open_records(struct slice_mut_u8 batch, ui
 
     t6 = batch__records__fence(batch, at);
     t6 = batch__records__header_write(batch, t6, start, groups, homes);
-    t6 = batch__records__fence(batch, t6);
-    t6 = batch__format__all_groups(batch, t6, start, groups);
     (void)batch__records__fence(batch, t6);
 }
 
@@ -2057,47 +2048,62 @@ static inline void strip__fields__fresh(struct slice_mut_u8 s, uint64_t groups, 
     store_8(s.ptr + 56u, t5);
 }
 
-/* Makes the log copy empty from a new start on, and the strip that of an empty log. */
-static inline void recovery__opening__open_copies(struct slice_mut_u8 log, struct slice_mut_u8 state, uint64_t groups,
-        uint64_t homes, uint64_t start)
+/* Keeps no position for any home. */
+static inline void positions__strip__keep_nothing(struct slice_mut_u8 newest, uint64_t homes)
 {
-    areas__unused__put_empty_log(log, start, groups, homes);
+    uint64_t t3, t4;
+    (void)homes;
+
+    t3 = 0u;
+    t4 = (uint64_t)newest.len;
+    while (0u < t4) {
+        newest.ptr[(size_t)t3] = 255u;
+        t3 = t3 + 1u;
+        t4 = t4 - 1u;
+    }
+}
+
+/* Puts the header with a new start into the log copy, makes the strip that of an empty log, and keeps no position. */
+static inline void recovery__opening__open_copies(struct slice_mut_u8 log, struct slice_mut_u8 state, struct slice_mut_u8 newest,
+        uint64_t groups, uint64_t homes, uint64_t start)
+{
+    areas__header__put_header(log, 0u, start, groups, homes);
     strip__fields__fresh(state, groups, homes, start);
+    positions__strip__keep_nothing(newest, homes);
 }
 
 /* Brings the committed transactions back, and empties the log; returns how many they are. */
 static inline struct answers__Reply recovery__opening__reopen(struct slice_mut_u8 log, struct slice_mut_u8 area,
-        struct slice_mut_u8 state, struct slice_mut_u8 batch)
+        struct slice_mut_u8 state, struct slice_mut_u8 newest, struct slice_mut_u8 batch)
 {
-    uint64_t t5, t7, t8, t9, t12, t13;
-    struct recovery__opening__Shape t6;
-    struct scan__commits__Found t10;
+    uint64_t t6, t8, t9, t10, t13;
+    struct recovery__opening__Shape t7;
+    struct scan__commits__Found t11;
 
-    t5 = recovery__opening__may_open((struct slice_u8){log.ptr, log.len}, (struct slice_u8){area.ptr, area.len},
-            (struct slice_u8){state.ptr, state.len});
-    if (t5 != 0u) {
-        return (struct answers__Reply){.code = t5, .figure = 0u, .size = 0u};
+    t6 = recovery__opening__may_open((struct slice_u8){log.ptr, log.len}, (struct slice_u8){area.ptr, area.len},
+            (struct slice_u8){state.ptr, state.len}, (struct slice_u8){newest.ptr, newest.len});
+    if (t6 != 0u) {
+        return (struct answers__Reply){.code = t6, .figure = 0u, .size = 0u};
     }
-    t6 = recovery__opening__measure((struct slice_u8){log.ptr, log.len}, (struct slice_u8){area.ptr, area.len});
-    t7 = t6.groups;
-    t8 = t6.homes;
-    t9 = t6.start;
-    t10 = scan__commits__walk((struct slice_u8){log.ptr, log.len}, t7, t8, t9, 7u * t7);
-    t12 = 72u + (516u * t7);
-    t13 = recovery__planning__bring_back((struct slice_u8){log.ptr, log.len}, area, batch, t7, t8, t9, t10.end, t12);
+    t7 = recovery__opening__measure((struct slice_u8){log.ptr, log.len}, (struct slice_u8){area.ptr, area.len});
+    t8 = t7.groups;
+    t9 = t7.homes;
+    t10 = t7.start;
+    t11 = scan__commits__walk((struct slice_u8){log.ptr, log.len}, t8, t9, t10, 7u * t8);
+    t13 = recovery__planning__bring_back((struct slice_u8){log.ptr, log.len}, area, batch, t8, t9, t10, t11.end, 70u);
     if ((uint64_t)batch.len < t13) {
         return (struct answers__Reply){.code = 9u, .figure = 0u, .size = 0u};
     }
-    recovery__opening__open_records(batch, t13 - t12, t9 + t7, t7, t8);
-    recovery__opening__open_copies(log, state, t7, t8, t9 + t7);
-    return (struct answers__Reply){.code = 0u, .figure = t10.number, .size = t13};
+    recovery__opening__open_records(batch, t13 - 70u, t10 + t8, t8, t9);
+    recovery__opening__open_copies(log, state, newest, t8, t9, t10 + t8);
+    return (struct answers__Reply){.code = 0u, .figure = t11.number, .size = t13};
 }
 
 /* Brings back what a power cut left: replays the committed transactions into the data copy and starts the log anew. */
 static inline struct answers__Reply kagutin__kagutin_open(struct slice_mut_u8 log, struct slice_mut_u8 area,
-        struct slice_mut_u8 state, struct slice_mut_u8 batch)
+        struct slice_mut_u8 state, struct slice_mut_u8 newest, struct slice_mut_u8 batch)
 {
-    return recovery__opening__reopen(log, area, state, batch);
+    return recovery__opening__reopen(log, area, state, newest, batch);
 }
 
 /* The same for a call that is lent a block. */
@@ -2122,15 +2128,25 @@ static inline uint64_t answers__in_use_block(struct slice_u8 log, struct slice_u
     return 0u;
 }
 
-/* The questions of a read: 0 if none refuses it, else the number of the refusal. */
-static inline uint64_t reading__judge(struct slice_u8 log, struct slice_u8 area, struct slice_u8 state, struct slice_u8 block,
-        uint64_t writer, uint64_t home)
+/* The same for a call that is lent a block too. */
+static inline uint64_t answers__in_use_both(struct slice_u8 log, struct slice_u8 area, struct slice_u8 state,
+        struct slice_u8 newest, struct slice_u8 block)
 {
-    uint64_t t7;
+    if ((uint64_t)newest.len != (8u * ((uint64_t)area.len / 64u))) {
+        return 1u;
+    }
+    return answers__in_use_block(log, area, state, block);
+}
 
-    t7 = answers__in_use_block(log, area, state, block);
-    if (t7 != 0u) {
-        return t7;
+/* The questions of a read: 0 if none refuses it, else the number of the refusal. */
+static inline uint64_t reading__judge(struct slice_u8 log, struct slice_u8 area, struct slice_u8 state, struct slice_u8 newest,
+        struct slice_u8 block, uint64_t writer, uint64_t home)
+{
+    uint64_t t8;
+
+    t8 = answers__in_use_both(log, area, state, newest, block);
+    if (t8 != 0u) {
+        return t8;
     }
     if (8u <= writer) {
         return 4u;
@@ -2156,188 +2172,157 @@ static inline void reading__blocks__show_held(struct slice_mut_u8 block, struct 
     areas__blocks__copy_block(block, 0u, state, (128u + (96u * w)) + 32u);
 }
 
-/* The first position + 1 of a writer's open transaction, 0 if it has logged nothing. */
-static inline uint64_t reading__newest__own(struct model__Writer r)
+/* The newest entry once one for a home is seen at a position. */
+static inline uint64_t search__own__note(uint64_t written, uint64_t home, uint64_t position, uint64_t newest)
+{
+    if (written != home) {
+        return newest;
+    }
+    return position + 1u;
+}
+
+/* The same if tag `k` of a group is an entry of the transaction with first position `first`. Its distance back is compared before
+   all else. */
+static inline uint64_t search__own__note_entry(struct slice_u8 group, uint64_t k, uint64_t position, uint64_t base,
+        uint64_t homes, uint64_t first, uint64_t home, uint64_t newest)
+{
+    struct model__Tag t14;
+    uint64_t t15;
+
+    if (((load_8(group.ptr + (size_t)(8u + (8u * k))) >> 14u) & 8191u) != (position - first)) {
+        return newest;
+    }
+    t14 = scan__groups__tag_in(group, k, position, base, homes);
+    if (t14.tag == 0u) {
+        t15 = newest;
+    } else if (t14.tag == 1u) {
+        t15 = search__own__note(t14.u64_0, home, position, newest);
+    } else {
+        t15 = search__own__note(t14.u64_0, home, position, newest);
+    }
+    return t15;
+}
+
+/* The same for the transaction's entries among the first `m` of a group, which says nothing where it is not the valid group with
+   number `n`. */
+static inline uint64_t search__own__note_group(struct slice_u8 group, uint64_t groups, uint64_t homes, uint64_t start, uint64_t n,
+        uint64_t m, uint64_t first, uint64_t home, uint64_t newest)
+{
+    uint64_t t10, t11, t12, t13;
+    bool t14;
+
+    t14 = scan__groups__group_valid(group, groups, start, n);
+    if (!t14) {
+        return newest;
+    }
+    t10 = 7u * start;
+    t11 = newest;
+    t12 = scan__commits__skipped(7u * n, first);
+    t13 = (7u * n) + t12;
+    while (t12 < m) {
+        t11 = search__own__note_entry(group, t12, t13, t10, homes, first, home, t11);
+        t13 = t13 + 1u;
+        t12 = t12 + 1u;
+    }
+    return t11;
+}
+
+/* The newest entry for a home, as its position + 1, 0 for none, of the open transaction with first position `first`, below
+   position `end`. */
+static inline uint64_t search__own__newest_own(struct slice_u8 log, uint64_t groups, uint64_t homes, uint64_t start,
+        uint64_t first, uint64_t end, uint64_t home)
+{
+    uint64_t t8, t9, t10, t11, t12, t14;
+
+    t8 = 0u;
+    t9 = first / 7u;
+    t10 = t9 % groups;
+    t11 = end - (7u * t9);
+    while (0u < t11) {
+        t12 = 64u + (512u * t10);
+        t14 = scan__commits__in_group(t11);
+        t8 = search__own__note_group((struct slice_u8){log.ptr + (size_t)t12, (size_t)((t12 + 512u) - t12)}, groups, homes, start,
+                t9, t14, first, home, t8);
+        t10 = scan__slots__next_slot(t10, groups);
+        t9 = t9 + 1u;
+        t11 = t11 - t14;
+    }
+    return t8;
+}
+
+/* The newest entry for a home in a writer's open transaction. */
+static inline uint64_t reading__newest__own_entry(struct slice_u8 log, struct model__State st, struct model__Writer r,
+        uint64_t home)
 {
     if (!(3u <= r.mode)) {
         return 0u;
     }
-    return r.first + 1u;
+    return search__own__newest_own(log, st.groups, st.homes, st.start, r.first, (7u * st.next) + st.filled, home);
 }
 
-/* Notes an entry's offset + 1 at index `i` if its home is the one looked for, and returns what stands there then. */
-static inline uint64_t search__pass__note(struct slice_mut_u16 latest, uint64_t i, uint64_t code, uint64_t written, uint64_t home)
+/* A position + 1, or 0 where its entry is for another home. */
+static inline uint64_t reading__newest__if_home(uint64_t written, uint64_t home, uint64_t position)
 {
     if (written != home) {
-        return (uint64_t)latest.ptr[(size_t)i];
-    }
-    latest.ptr[(size_t)i] = (uint16_t)code;
-    return code;
-}
-
-/* The position + 1 of the entry with the offset `code` - 1, or where there is none (0) another one. */
-static inline uint64_t search__pass__or_other(uint64_t base, uint64_t code, uint64_t other)
-{
-    if (code == 0u) {
-        return other;
-    }
-    return base + code;
-}
-
-/* The newest committed entry once a closing entry is judged, whose transaction's newest entry for the home has the offset `code`
-   - 1, or none (0). */
-static inline uint64_t search__pass__newest_after(uint64_t failed, uint64_t base, uint64_t code, uint64_t newest)
-{
-    if (failed != 0u) {
-        return newest;
-    }
-    return search__pass__or_other(base, code, newest);
-}
-
-/* Takes what the word of a tag says at a position. */
-static inline struct search__pass__Search search__pass__visit(uint64_t word, uint64_t position, uint64_t base, uint64_t homes,
-        uint64_t home, struct slice_mut_u16 counts, struct slice_mut_u16 latest, struct search__pass__Search search)
-{
-    uint64_t t11, t16, t18, t21, t24;
-    struct scan__commits__Progress t20;
-    struct model__Tag t22;
-    struct search__pass__Search t23;
-    uint16_t t39, t45;
-
-    t22 = codec__tags__read_tag(word, position, base, homes);
-    if (t22.tag == 0u) {
-        t23 = search;
-    } else if (t22.tag == 1u) {
-        t24 = t22.u64_1 - base;
-        t11 = t24;
-        t39 = (uint16_t)((uint32_t)counts.ptr[(size_t)t11] + 1u);
-        counts.ptr[(size_t)t11] = t39;
-        t24 = (uint64_t)t39;
-        t24 = search__pass__note(latest, t11, (position + 1u) - base, t22.u64_0, home);
-        t23 = search;
-    } else {
-        t16 = t22.u64_1 - base;
-        t45 = (uint16_t)((uint32_t)counts.ptr[(size_t)t16] + 1u);
-        counts.ptr[(size_t)t16] = t45;
-        t18 = search__pass__note(latest, t16, (position + 1u) - base, t22.u64_0, home);
-        t20 = scan__commits__judge(search.progress, base, position, t22.u64_2, (uint64_t)t45 == t22.u64_3);
-        t21 = search__pass__newest_after(t20.failed, base, t18, search.newest);
-        t23 = (struct search__pass__Search){.progress = t20, .newest = t21};
-    }
-    return t23;
-}
-
-/* Takes the first `m` tags of a group, which says nothing where it is not the valid group with number `n` and turn `turn`. */
-static inline struct search__pass__Search search__pass__visit_group(struct slice_u8 group, uint64_t groups, uint64_t homes,
-        uint64_t start, uint64_t n, uint64_t turn, uint64_t m, uint64_t home, struct slice_mut_u16 counts,
-        struct slice_mut_u16 latest, struct search__pass__Search search)
-{
-    struct array_u64_7 t12, t19;
-    uint64_t t13, t15, t16;
-    struct search__pass__Search t14;
-    bool t17;
-
-    t17 = scan__groups__group_valid(group, groups, start, n);
-    if (!t17) {
-        return search;
-    }
-    t19 = scan__groups__tag_words(group, turn);
-    t12 = t19;
-    t13 = 7u * start;
-    t14 = search;
-    t15 = 7u * n;
-    t16 = 0u;
-    while (t16 < m) {
-        t14 = search__pass__visit(t12.at[(size_t)t16], t15, t13, homes, home, counts, latest, t14);
-        t15 = t15 + 1u;
-        t16 = t16 + 1u;
-    }
-    return t14;
-}
-
-/* Whether the pass may stop: a closing entry has failed, and the writer has logged nothing. */
-static inline bool search__pass__may_stop(uint64_t own, uint64_t failed)
-{
-    if (own != 0u) {
-        return false;
-    }
-    return 0u < failed;
-}
-
-/* What the writer sees at the end of the pass: the newest entry of its own transaction, which begins at `own` - 1, else the
-   newest committed one. */
-static inline uint64_t search__pass__choose(struct slice_u16 latest, uint64_t base, uint64_t own, uint64_t newest)
-{
-    if (own == 0u) {
-        return newest;
-    }
-    return search__pass__or_other(base, (uint64_t)latest.ptr[(size_t)((own - base) - 1u)], newest);
-}
-
-/* The pass over the `n` positions of the log from its start on, with a counter and a latest entry for each, all 0, and what it
-   gives: the newest entry for a home that a writer sees. `own` is the first position + 1 of the writer's open transaction, 0 if
-   it has logged nothing. */
-static inline uint64_t search__pass__seek_with(struct slice_u8 log, uint64_t groups, uint64_t homes, uint64_t start, uint64_t n,
-        uint64_t home, uint64_t own, struct slice_mut_u16 counts, struct slice_mut_u16 latest)
-{
-    struct search__pass__Search t10;
-    struct scan__slots__RingSlot t11;
-    uint64_t t12, t13, t14, t16;
-    bool t26;
-
-    t10 = (struct search__pass__Search){.progress = (struct scan__commits__Progress){.end = 0u, .number = 0u, .failed = 0u},
-            .newest = 0u};
-    t11 = (struct scan__slots__RingSlot){.slot = start % groups, .turn = (start / groups) % 2u};
-    t12 = start;
-    t13 = n;
-    while (0u < t13) {
-        t14 = 64u + (512u * t11.slot);
-        t16 = scan__commits__in_group(t13);
-        t10 = search__pass__visit_group((struct slice_u8){log.ptr + (size_t)t14, (size_t)((t14 + 512u) - t14)}, groups, homes,
-                start, t12, t11.turn, t16, home, counts, latest, t10);
-        t26 = search__pass__may_stop(own, t10.progress.failed);
-        if (t26) {
-            return t10.newest;
-        }
-        t11 = scan__slots__next_slot(t11, groups);
-        t12 = t12 + 1u;
-        t13 = t13 - t16;
-    }
-    return search__pass__choose((struct slice_u16){latest.ptr, latest.len}, 7u * start, own, t10.newest);
-}
-
-/* The newest entry for a home that a writer sees, among the `n` positions of the log from its start on: `own` is the first
-   position + 1 of its open transaction, 0 if it has logged nothing. A short log has small tables, since they are cleared first.
-   */
-static inline uint64_t search__pass__newest_seen(struct slice_u8 log, uint64_t groups, uint64_t homes, uint64_t start, uint64_t n,
-        uint64_t home, uint64_t own)
-{
-    struct array_u16_448 t8, t9;
-    struct array_u16_7168 t10, t11;
-
-    if (n <= 448u) {
-        memset(&t8, 0, sizeof t8);
-        memset(&t9, 0, sizeof t9);
-        return search__pass__seek_with(log, groups, homes, start, n, home, own, (struct slice_mut_u16){t8.at, 448u},
-                (struct slice_mut_u16){t9.at, 448u});
-    }
-    memset(&t10, 0, sizeof t10);
-    memset(&t11, 0, sizeof t11);
-    return search__pass__seek_with(log, groups, homes, start, n, home, own, (struct slice_mut_u16){t10.at, 7168u},
-            (struct slice_mut_u16){t11.at, 7168u});
-}
-
-/* The newest entry for a home that a writer sees: one of its own, else a committed one. */
-static inline uint64_t reading__newest__seen(struct slice_u8 log, struct model__State st, struct model__Writer r, uint64_t home)
-{
-    uint64_t t5, t6;
-
-    t5 = ((7u * st.next) + st.filled) - (7u * st.start);
-    if (t5 == 0u) {
         return 0u;
     }
-    t6 = reading__newest__own(r);
-    return search__pass__newest_seen(log, st.groups, st.homes, st.start, t5, home, t6);
+    return position + 1u;
+}
+
+/* The entry for a home at a position of the log. */
+static inline uint64_t reading__newest__entry_there(struct slice_u8 log, struct model__State st, uint64_t home, uint64_t position)
+{
+    uint64_t t5, t6, t7, t19;
+    struct slice_u8 t8;
+    bool t16;
+    struct model__Tag t18;
+
+    t5 = position / 7u;
+    t6 = position % 7u;
+    t7 = 64u + (512u * (t5 % st.groups));
+    t8 = (struct slice_u8){log.ptr + (size_t)t7, (size_t)((t7 + 512u) - t7)};
+    t16 = scan__groups__group_valid(t8, st.groups, st.start, t5);
+    if (!t16) {
+        return 0u;
+    }
+    t18 = scan__groups__tag_in(t8, t6, position, 7u * st.start, st.homes);
+    if (t18.tag == 0u) {
+        t19 = 0u;
+    } else if (t18.tag == 1u) {
+        t19 = reading__newest__if_home(t18.u64_0, home, position);
+    } else {
+        t19 = reading__newest__if_home(t18.u64_0, home, position);
+    }
+    return t19;
+}
+
+/* The entry for a home at the position kept for it, if that lies from the start of the log to below the next position. */
+static inline uint64_t reading__newest__kept_entry(struct slice_u8 log, struct slice_u8 newest, struct model__State st,
+        uint64_t home)
+{
+    uint64_t t5;
+
+    t5 = load_8(newest.ptr + (size_t)(8u * home));
+    if (t5 < (7u * st.start)) {
+        return 0u;
+    }
+    if (((7u * st.next) + st.filled) <= t5) {
+        return 0u;
+    }
+    return reading__newest__entry_there(log, st, home, t5);
+}
+
+/* The entry for a home that a writer sees: its newest own one, else that at the kept position. */
+static inline uint64_t reading__newest__seen(struct slice_u8 log, struct slice_u8 newest, struct model__State st,
+        struct model__Writer r, uint64_t home)
+{
+    uint64_t t6;
+
+    t6 = reading__newest__own_entry(log, st, r, home);
+    if (t6 != 0u) {
+        return t6;
+    }
+    return reading__newest__kept_entry(log, newest, st, home);
 }
 
 /* Reads a home into a block buffer. */
@@ -2346,61 +2331,61 @@ static inline void areas__homes__get_home(struct slice_mut_u8 block, struct slic
     areas__blocks__copy_block(block, 0u, area, 64u * home);
 }
 
-/* Copies the block that the entry at a position gives. */
+/* Copies the block of the entry at a position. */
 static inline void reading__blocks__show_entry(struct slice_mut_u8 block, struct slice_u8 log, uint64_t groups, uint64_t position)
 {
-    areas__groups__copy_entry(block, 0u, log, (position / 7u) % groups, position % 7u);
+    areas__blocks__copy_block(block, 0u, log, (64u + (512u * ((position / 7u) % groups))) + (64u + (64u * (position % 7u))));
 }
 
 /* Copies the block of a home that a writer sees. */
-static inline void reading__blocks__show(struct slice_u8 log, struct slice_u8 area, struct slice_u8 state,
+static inline void reading__blocks__show(struct slice_u8 log, struct slice_u8 area, struct slice_u8 state, struct slice_u8 newest,
         struct slice_mut_u8 block, uint64_t writer, uint64_t home)
 {
-    struct model__State t7;
-    uint64_t t8, t10, t953;
-    struct model__Writer t9;
-    bool t11;
+    struct model__State t8;
+    uint64_t t9, t11, t954;
+    struct model__Writer t10;
+    bool t12;
 
-    t7 = (struct model__State){.groups = load_8(state.ptr), .homes = load_8(state.ptr + 8u), .start = load_8(state.ptr + 16u),
+    t8 = (struct model__State){.groups = load_8(state.ptr), .homes = load_8(state.ptr + 8u), .start = load_8(state.ptr + 16u),
             .next = load_8(state.ptr + 24u), .filled = load_8(state.ptr + 32u), .settled = load_8(state.ptr + 40u),
             .fenced = load_8(state.ptr + 48u), .durable = load_8(state.ptr + 56u), .last = load_8(state.ptr + 64u)};
-    t8 = writer;
-    t953 = 128u + (96u * t8);
-    t9 = (struct model__Writer){.mode = load_8(state.ptr + (size_t)t953), .home = load_8(state.ptr + (size_t)(t953 + 8u)),
-            .first = load_8(state.ptr + (size_t)(t953 + 16u)), .count = load_8(state.ptr + (size_t)(t953 + 24u))};
-    t11 = reading__blocks__holds_home(t9, home);
-    if (t11) {
-        reading__blocks__show_held(block, state, t8);
+    t9 = writer;
+    t954 = 128u + (96u * t9);
+    t10 = (struct model__Writer){.mode = load_8(state.ptr + (size_t)t954), .home = load_8(state.ptr + (size_t)(t954 + 8u)),
+            .first = load_8(state.ptr + (size_t)(t954 + 16u)), .count = load_8(state.ptr + (size_t)(t954 + 24u))};
+    t12 = reading__blocks__holds_home(t10, home);
+    if (t12) {
+        reading__blocks__show_held(block, state, t9);
         return;
     }
-    t10 = reading__newest__seen(log, t7, t9, home);
-    if (t10 == 0u) {
+    t11 = reading__newest__seen(log, newest, t8, t10, home);
+    if (t11 == 0u) {
         areas__homes__get_home(block, area, home);
         return;
     }
-    reading__blocks__show_entry(block, log, t7.groups, t10 - 1u);
+    reading__blocks__show_entry(block, log, t8.groups, t11 - 1u);
 }
 
-/* Reads the block of a home as a writer sees it: the held one, else its newest own entry, else the newest committed one, else the
-   data copy. */
+/* Reads the block of a home as a writer sees it: the held one, else its newest own entry, else that at the position kept for the
+   home, else the data copy. */
 static inline struct answers__Reply reading__read(struct slice_u8 log, struct slice_u8 area, struct slice_u8 state,
-        struct slice_mut_u8 block, uint64_t writer, uint64_t home)
+        struct slice_u8 newest, struct slice_mut_u8 block, uint64_t writer, uint64_t home)
 {
-    uint64_t t7;
+    uint64_t t8;
 
-    t7 = reading__judge(log, area, state, (struct slice_u8){block.ptr, block.len}, writer, home);
-    if (t7 != 0u) {
-        return (struct answers__Reply){.code = t7, .figure = 0u, .size = 0u};
+    t8 = reading__judge(log, area, state, newest, (struct slice_u8){block.ptr, block.len}, writer, home);
+    if (t8 != 0u) {
+        return (struct answers__Reply){.code = t8, .figure = 0u, .size = 0u};
     }
-    reading__blocks__show(log, area, state, block, writer, home);
+    reading__blocks__show(log, area, state, newest, block, writer, home);
     return (struct answers__Reply){.code = 0u, .figure = 0u, .size = 0u};
 }
 
 /* Reads the block of a home as a writer sees it. */
 static inline struct answers__Reply kagutin__kagutin_read(struct slice_u8 log, struct slice_u8 area, struct slice_u8 state,
-        struct slice_mut_u8 block, uint64_t writer, uint64_t home)
+        struct slice_u8 newest, struct slice_mut_u8 block, uint64_t writer, uint64_t home)
 {
-    return reading__read(log, area, state, block, writer, home);
+    return reading__read(log, area, state, newest, block, writer, home);
 }
 
 /* The places that are promised to nobody. */
@@ -2716,17 +2701,17 @@ static inline uint64_t limits__writers__open_limit(struct slice_u8 state, uint64
     return t3;
 }
 
-/* Those of the group before. */
-static inline struct scan__slots__RingSlot scan__slots__previous_slot(struct scan__slots__RingSlot at, uint64_t groups)
+/* The ring slot of the group before that in `slot`. */
+static inline uint64_t scan__slots__previous_slot(uint64_t slot, uint64_t groups)
 {
-    uint64_t t3, t4;
+    uint64_t t4;
 
-    t3 = at.slot;
-    t4 = at.turn;
-    if (t3 == 0u) {
-        return (struct scan__slots__RingSlot){.slot = groups - 1u, .turn = 1u - t4};
+    if (slot == 0u) {
+        t4 = groups - 1u;
+    } else {
+        t4 = slot - 1u;
     }
-    return (struct scan__slots__RingSlot){.slot = t3 - 1u, .turn = t4};
+    return t4;
 }
 
 /* A limit lowered to the group in which the transaction begins that the word of a tag closes, if it closes one. */
@@ -2752,50 +2737,48 @@ static inline uint64_t limits__spans__word_limit(uint64_t word, uint64_t positio
     return t9;
 }
 
-/* A limit lowered by the first `m` tags of a group, which says nothing where it is not the valid group with number `n` and turn
-   `turn`. */
+/* A limit lowered by the first `m` tags of a group, which says nothing where it is not the valid group with number `n`. */
 static inline uint64_t limits__spans__group_limit(struct slice_u8 group, uint64_t groups, uint64_t homes, uint64_t start,
-        uint64_t n, uint64_t turn, uint64_t m, uint64_t limit)
+        uint64_t n, uint64_t m, uint64_t limit)
 {
-    struct array_u64_7 t9, t16;
-    uint64_t t10, t11, t12, t13;
-    bool t14;
+    struct array_u64_7 t8, t15;
+    uint64_t t9, t10, t11, t12;
+    bool t13;
 
-    t14 = scan__groups__group_valid(group, groups, start, n);
-    if (!t14) {
+    t13 = scan__groups__group_valid(group, groups, start, n);
+    if (!t13) {
         return limit;
     }
-    t16 = scan__groups__tag_words(group, turn);
-    t9 = t16;
-    t10 = 7u * start;
-    t11 = limit;
-    t12 = 7u * n;
-    t13 = 0u;
-    while (t13 < m) {
-        t11 = limits__spans__word_limit(t9.at[(size_t)t13], t12, t10, homes, t11);
+    t15 = scan__groups__tag_words(group);
+    t8 = t15;
+    t9 = 7u * start;
+    t10 = limit;
+    t11 = 7u * n;
+    t12 = 0u;
+    while (t12 < m) {
+        t10 = limits__spans__word_limit(t8.at[(size_t)t12], t11, t9, homes, t10);
+        t11 = t11 + 1u;
         t12 = t12 + 1u;
-        t13 = t13 + 1u;
     }
-    return t11;
+    return t10;
 }
 
 /* The highest start up to `limit` that no transaction of a closing entry below `end` lies across. */
 static inline uint64_t limits__spans__closed_limit(struct slice_u8 log, uint64_t groups, uint64_t homes, uint64_t start,
         uint64_t end, uint64_t limit)
 {
-    uint64_t t7, t8, t10, t12;
-    struct scan__slots__RingSlot t9;
+    uint64_t t7, t8, t9, t10, t12;
 
     t7 = limit;
     t8 = (end + 6u) / 7u;
-    t9 = (struct scan__slots__RingSlot){.slot = t8 % groups, .turn = (t8 / groups) % 2u};
+    t9 = t8 % groups;
     while (t7 < t8) {
         t8 = t8 - 1u;
         t9 = scan__slots__previous_slot(t9, groups);
-        t10 = 64u + (512u * t9.slot);
+        t10 = 64u + (512u * t9);
         t12 = scan__commits__in_group(end - (7u * t8));
         t7 = limits__spans__group_limit((struct slice_u8){log.ptr + (size_t)t10, (size_t)((t10 + 512u) - t10)}, groups, homes,
-                start, t8, t9.turn, t12, t7);
+                start, t8, t12, t7);
     }
     return t7;
 }
@@ -2854,49 +2837,72 @@ static inline void trimming__moves__move_strip(struct slice_mut_u8 state, struct
     store_8(state.ptr + 64u, t4);
 }
 
-/* Moves the start: the batch, the header in the log copy, and the strip. */
-static inline void trimming__moves__move_start(struct slice_mut_u8 log, struct slice_mut_u8 state, struct slice_mut_u8 batch,
-        struct model__State st, uint64_t start)
+/* Keeps no position any more for a home where it lies before a bound. */
+static inline void positions__strip__forget_one(struct slice_mut_u8 newest, uint64_t bound, uint64_t home)
+{
+    if (bound <= load_8(newest.ptr + (size_t)(8u * home))) {
+        return;
+    }
+    store_8(newest.ptr + (size_t)(8u * home), UINT64_C(0xffffffffffffffff));
+}
+
+/* The same for the first `homes` homes. */
+static inline void positions__strip__forget(struct slice_mut_u8 newest, uint64_t bound, uint64_t homes)
+{
+    uint64_t t4;
+
+    t4 = 0u;
+    while (t4 < homes) {
+        positions__strip__forget_one(newest, bound, t4);
+        t4 = t4 + 1u;
+    }
+}
+
+/* Moves the start: the batch, the header in the log copy, the strip, and the newest positions. */
+static inline void trimming__moves__move_start(struct slice_mut_u8 log, struct slice_mut_u8 state, struct slice_mut_u8 newest,
+        struct slice_mut_u8 batch, struct model__State st, uint64_t start)
 {
     trimming__moves__write_header(batch, st.groups, st.homes, start);
     areas__header__put_header(log, 0u, start, st.groups, st.homes);
     trimming__moves__move_strip(state, st, start);
+    positions__strip__forget(newest, 7u * start, st.homes);
 }
 
 /* Moves the log's start up as far as no open or committed transaction lies across it, and writes the new header and a fence if it
-   moves. */
+   moves. Kept positions before the new start become none. */
 static inline struct answers__Reply trimming__trim(struct slice_mut_u8 log, struct slice_u8 area, struct slice_mut_u8 state,
-        struct slice_mut_u8 batch)
+        struct slice_mut_u8 newest, struct slice_mut_u8 batch)
 {
-    uint64_t t5, t7;
-    struct model__State t6;
+    uint64_t t6, t8;
+    struct model__State t7;
 
-    t5 = answers__in_use((struct slice_u8){log.ptr, log.len}, area, (struct slice_u8){state.ptr, state.len});
-    if (t5 != 0u) {
-        return (struct answers__Reply){.code = t5, .figure = 0u, .size = 0u};
+    t6 = answers__in_use_newest((struct slice_u8){log.ptr, log.len}, area, (struct slice_u8){state.ptr, state.len},
+            (struct slice_u8){newest.ptr, newest.len});
+    if (t6 != 0u) {
+        return (struct answers__Reply){.code = t6, .figure = 0u, .size = 0u};
     }
-    t6 = (struct model__State){.groups = load_8(state.ptr), .homes = load_8(state.ptr + 8u), .start = load_8(state.ptr + 16u),
+    t7 = (struct model__State){.groups = load_8(state.ptr), .homes = load_8(state.ptr + 8u), .start = load_8(state.ptr + 16u),
             .next = load_8(state.ptr + 24u), .filled = load_8(state.ptr + 32u), .settled = load_8(state.ptr + 40u),
             .fenced = load_8(state.ptr + 48u), .durable = load_8(state.ptr + 56u), .last = load_8(state.ptr + 64u)};
-    t7 = trimming__start__new_start((struct slice_u8){log.ptr, log.len}, area, (struct slice_u8){state.ptr, state.len}, t6);
-    if (UINT64_C(0x800000000000) < t7) {
+    t8 = trimming__start__new_start((struct slice_u8){log.ptr, log.len}, area, (struct slice_u8){state.ptr, state.len}, t7);
+    if (UINT64_C(0x800000000000) < t8) {
         return (struct answers__Reply){.code = 10u, .figure = 0u, .size = 0u};
     }
-    if (t7 == t6.start) {
+    if (t8 == t7.start) {
         return (struct answers__Reply){.code = 0u, .figure = 0u, .size = 0u};
     }
     if ((uint64_t)batch.len < 68u) {
         return (struct answers__Reply){.code = 9u, .figure = 0u, .size = 0u};
     }
-    trimming__moves__move_start(log, state, batch, t6, t7);
+    trimming__moves__move_start(log, state, newest, batch, t7, t8);
     return (struct answers__Reply){.code = 0u, .figure = 0u, .size = 68u};
 }
 
 /* Moves the log's start up as far as no transaction lies across it. */
 static inline struct answers__Reply kagutin__kagutin_trim(struct slice_mut_u8 log, struct slice_u8 area,
-        struct slice_mut_u8 state, struct slice_mut_u8 batch)
+        struct slice_mut_u8 state, struct slice_mut_u8 newest, struct slice_mut_u8 batch)
 {
-    return trimming__trim(log, area, state, batch);
+    return trimming__trim(log, area, state, newest, batch);
 }
 
 struct kagutin_reply kagutin_abort(const uint8_t *log, size_t log_size, const uint8_t *area, size_t area_size, uint8_t *state,
@@ -2918,10 +2924,11 @@ struct kagutin_reply kagutin_begin(const uint8_t *log, size_t log_size, const ui
 }
 
 struct kagutin_reply kagutin_commit(uint8_t *log, size_t log_size, const uint8_t *area, size_t area_size, uint8_t *state,
-        size_t state_size, uint8_t *batch, size_t batch_size, uint64_t writer)
+        size_t state_size, uint8_t *newest, size_t newest_size, uint8_t *batch, size_t batch_size, uint64_t writer)
 {
     struct answers__Reply r = kagutin__kagutin_commit((struct slice_mut_u8){log, log_size}, (struct slice_u8){area, area_size},
-            (struct slice_mut_u8){state, state_size}, (struct slice_mut_u8){batch, batch_size}, writer);
+            (struct slice_mut_u8){state, state_size}, (struct slice_mut_u8){newest, newest_size}, (struct slice_mut_u8){batch,
+            batch_size}, writer);
 
     return (struct kagutin_reply){.code = r.code, .figure = r.figure, .size = r.size};
 }
@@ -2954,19 +2961,22 @@ struct kagutin_reply kagutin_format(uint8_t *log, size_t log_size, uint8_t *area
 }
 
 struct kagutin_reply kagutin_open(uint8_t *log, size_t log_size, uint8_t *area, size_t area_size, uint8_t *state,
-        size_t state_size, uint8_t *batch, size_t batch_size)
+        size_t state_size, uint8_t *newest, size_t newest_size, uint8_t *batch, size_t batch_size)
 {
     struct answers__Reply r = kagutin__kagutin_open((struct slice_mut_u8){log, log_size}, (struct slice_mut_u8){area, area_size},
-            (struct slice_mut_u8){state, state_size}, (struct slice_mut_u8){batch, batch_size});
+            (struct slice_mut_u8){state, state_size}, (struct slice_mut_u8){newest, newest_size}, (struct slice_mut_u8){batch,
+            batch_size});
 
     return (struct kagutin_reply){.code = r.code, .figure = r.figure, .size = r.size};
 }
 
 struct kagutin_reply kagutin_read(const uint8_t *log, size_t log_size, const uint8_t *area, size_t area_size,
-        const uint8_t *state, size_t state_size, uint8_t *block, size_t block_size, uint64_t writer, uint64_t home)
+        const uint8_t *state, size_t state_size, const uint8_t *newest, size_t newest_size, uint8_t *block, size_t block_size,
+        uint64_t writer, uint64_t home)
 {
     struct answers__Reply r = kagutin__kagutin_read((struct slice_u8){log, log_size}, (struct slice_u8){area, area_size},
-            (struct slice_u8){state, state_size}, (struct slice_mut_u8){block, block_size}, writer, home);
+            (struct slice_u8){state, state_size}, (struct slice_u8){newest, newest_size}, (struct slice_mut_u8){block,
+            block_size}, writer, home);
 
     return (struct kagutin_reply){.code = r.code, .figure = r.figure, .size = r.size};
 }
@@ -3001,10 +3011,11 @@ struct kagutin_reply kagutin_store(uint8_t *log, size_t log_size, const uint8_t 
 }
 
 struct kagutin_reply kagutin_trim(uint8_t *log, size_t log_size, const uint8_t *area, size_t area_size, uint8_t *state,
-        size_t state_size, uint8_t *batch, size_t batch_size)
+        size_t state_size, uint8_t *newest, size_t newest_size, uint8_t *batch, size_t batch_size)
 {
     struct answers__Reply r = kagutin__kagutin_trim((struct slice_mut_u8){log, log_size}, (struct slice_u8){area, area_size},
-            (struct slice_mut_u8){state, state_size}, (struct slice_mut_u8){batch, batch_size});
+            (struct slice_mut_u8){state, state_size}, (struct slice_mut_u8){newest, newest_size}, (struct slice_mut_u8){batch,
+            batch_size});
 
     return (struct kagutin_reply){.code = r.code, .figure = r.figure, .size = r.size};
 }

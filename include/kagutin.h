@@ -7,6 +7,10 @@
  *   log    a 64-byte header and G groups of 512 bytes, G from 4 to 1,024
  *   area   D home blocks of 64 bytes, D from 1 to 65,535
  *   state  1,024 bytes that carry everything else from call to call
+ *   newest 8 bytes for each home: the position of its newest committed entry,
+ *          all ones for none, so that a read need not search the log
+ *
+ * Open, commit, trim and read are lent newest; open takes any bytes there.
  *
  * It reaches lasting memory only by the batch: records that a call asks the
  * driver to write, in order. docs/FORMAT.md gives all bytes.
@@ -21,8 +25,8 @@
  *     everything before it is in lasting memory; nothing after it may persist
  *     earlier. Between two fences any block may overtake another.
  *  2. Call confirm only when every fence of every batch so far has passed.
- *  3. Pass log, area and state on untouched from call to call. Nobody else
- *     writes them, or the lasting memory.
+ *  3. Pass log, area, state and newest on untouched from call to call. Nobody
+ *     else writes them, or the lasting memory.
  *  4. After the format and after every power cut, load both whole areas afresh
  *     and open, before any other call, until an opening is done. After a done
  *     opening do not open again before the next cut. What had not persisted at
@@ -51,6 +55,7 @@ extern "C" {
 #define KAGUTIN_HEADER_SIZE 64
 #define KAGUTIN_GROUP_SIZE 512
 #define KAGUTIN_STATE_SIZE 1024
+#define KAGUTIN_POSITION_SIZE 8
 
 /* Limits. */
 #define KAGUTIN_MIN_GROUPS 4
@@ -76,7 +81,7 @@ extern "C" {
 /* Answers. A call asks its questions in the order 1 to 8, 17, 18, 10, 9. */
 enum kagutin_answer {
     KAGUTIN_DONE = 0,
-    KAGUTIN_BAD_LENGTH = 1,   /* log, area, state or block has a wrong length */
+    KAGUTIN_BAD_LENGTH = 1,   /* a lent length is wrong */
     KAGUTIN_BAD_STATE = 2,    /* the state is out of order, or of other areas */
     KAGUTIN_BAD_HEADER = 3,   /* open: the log's header is not one */
     KAGUTIN_BAD_WRITER = 4,   /* writer above 7 */
@@ -105,6 +110,12 @@ static inline size_t kagutin_log_size(size_t groups)
 static inline size_t kagutin_area_size(size_t homes)
 {
     return (size_t)KAGUTIN_BLOCK_SIZE * homes;
+}
+
+/* Length of the newest positions of D homes. */
+static inline size_t kagutin_newest_size(size_t homes)
+{
+    return (size_t)KAGUTIN_POSITION_SIZE * homes;
 }
 
 /* Exactly what format writes; no call writes more. */
@@ -161,14 +172,16 @@ struct kagutin_reply kagutin_format(
 
 /*
  * Replays the committed transactions of the log into the area, empties the
- * log and writes the state anew, whatever it held. All writers are then idle.
+ * log and writes the state and newest anew, whatever they held. All writers
+ * are then idle, and no position is kept.
  * figure: number of transactions replayed.
  * Batch: HW of each home touched, rising, FN, KW, FN, every group blank, FN.
  * Answers 1, 3 (also for a header of the older format, mark 50 48), 10, 9.
  */
 struct kagutin_reply kagutin_open(
     uint8_t *log, size_t log_size, uint8_t *area, size_t area_size,
-    uint8_t *state, size_t state_size, uint8_t *batch, size_t batch_size);
+    uint8_t *state, size_t state_size, uint8_t *newest, size_t newest_size,
+    uint8_t *batch, size_t batch_size);
 
 /* Opens a transaction of an idle writer. Answers 1, 2, 4, 6. */
 struct kagutin_reply kagutin_begin(
@@ -210,14 +223,15 @@ struct kagutin_reply kagutin_store(
 /*
  * Commits the writer's transaction: reads show it from now on, and it is
  * durable once a confirm returns its ticket or more. The writer is then idle.
+ * For each home it wrote, newest gets the last entry's position.
  * figure: the ticket; 0 for a transaction without a store, which counts as no
  * commit. Tickets rise until the next cut and mean nothing after it.
  * Batch: as for store. Answers 1, 2, 4, 7, 8, 9.
  */
 struct kagutin_reply kagutin_commit(
     uint8_t *log, size_t log_size, const uint8_t *area, size_t area_size,
-    uint8_t *state, size_t state_size, uint8_t *batch, size_t batch_size,
-    uint64_t writer);
+    uint8_t *state, size_t state_size, uint8_t *newest, size_t newest_size,
+    uint8_t *batch, size_t batch_size, uint64_t writer);
 
 /*
  * Submits a part-filled group, if there is one, and fences. 18: the places
@@ -247,22 +261,25 @@ struct kagutin_reply kagutin_settle(
 
 /*
  * Frees the groups below the settled position that no open or committed
- * transaction reaches across. Batch: KW, FN if any is freed, else nothing.
- * Answers 1, 2, 10, 9.
+ * transaction reaches across; positions in them are no longer kept.
+ * Batch: KW, FN if any is freed, else nothing. Answers 1, 2, 10, 9.
  */
 struct kagutin_reply kagutin_trim(
     uint8_t *log, size_t log_size, const uint8_t *area, size_t area_size,
-    uint8_t *state, size_t state_size, uint8_t *batch, size_t batch_size);
+    uint8_t *state, size_t state_size, uint8_t *newest, size_t newest_size,
+    uint8_t *batch, size_t batch_size);
 
 /*
  * Gives a home's block as the writer sees it: its own newest one if its open
- * transaction stored one, else the newest committed one. An idle writer reads
- * what is committed. Only the block is changed. Answers 1, 2, 4, 5.
+ * transaction stored one, else the newest committed one, found at the position
+ * kept for the home. An idle writer reads what is committed. Only the block is
+ * changed. Answers 1, 2, 4, 5.
  */
 struct kagutin_reply kagutin_read(
     const uint8_t *log, size_t log_size, const uint8_t *area, size_t area_size,
-    const uint8_t *state, size_t state_size, uint8_t *block, size_t block_size,
-    uint64_t writer, uint64_t home);
+    const uint8_t *state, size_t state_size,
+    const uint8_t *newest, size_t newest_size,
+    uint8_t *block, size_t block_size, uint64_t writer, uint64_t home);
 
 #ifdef __cplusplus
 }

@@ -69,6 +69,7 @@ struct kgt_driver {
 
 #define KGT_LOG_SIZE(groups) ((size_t)KAGUTIN_HEADER_SIZE + (size_t)KAGUTIN_GROUP_SIZE * (groups))
 #define KGT_HOMES_SIZE(homes) ((size_t)KAGUTIN_BLOCK_SIZE * (homes))
+#define KGT_NEWEST_SIZE(homes) ((size_t)KAGUTIN_POSITION_SIZE * (homes))
 
 /* The longest batch of any call but format: open's. */
 #define KGT_TOUCHED(groups, homes) \
@@ -81,7 +82,8 @@ struct kgt_driver {
 
 /* Bytes of memory that a store of this shape needs, and more for a format. */
 #define KGT_MEMORY_SIZE(groups, homes) \
-    (KGT_LOG_SIZE(groups) + KGT_HOMES_SIZE(homes) + KAGUTIN_STATE_SIZE + KGT_BATCH_SIZE(groups, homes))
+    (KGT_LOG_SIZE(groups) + KGT_HOMES_SIZE(homes) + KAGUTIN_STATE_SIZE + KGT_NEWEST_SIZE(homes) \
+     + KGT_BATCH_SIZE(groups, homes))
 #define KGT_FORMAT_SIZE(groups, homes) \
     ((size_t)KAGUTIN_GW_SIZE * (groups) + (size_t)KAGUTIN_HW_SIZE * (homes) + 2 * KAGUTIN_KW_SIZE + 3 * KAGUTIN_FN_SIZE)
 
@@ -162,8 +164,8 @@ enum kgt_condition { KGT_IS_CLOSED, KGT_IS_OPEN, KGT_HAS_FAILED };
 
 struct kagutin {
     struct kgt_runner runner;
-    uint8_t *log, *area, *state, *batch; /* parts of the lent memory */
-    size_t log_size, area_size, batch_size;
+    uint8_t *log, *area, *state, *newest, *batch; /* parts of the lent memory */
+    size_t log_size, area_size, newest_size, batch_size;
     enum kgt_condition condition;
     int error; /* of the driver, once it has failed */
     int (*lock)(void *context);

@@ -2,7 +2,7 @@
 """Compares the definitions with the second implementation, call by call.
 
 The second implementation prints cases on random and damaged input: what a call is lent, what it answers and leaves. For each case a statement is
-written down that the definition leaves the same answer, figure, batch length, strip, copies, block and batch buffer, and the prover computes it.
+written down that the definition leaves the same answer, figure, batch length, strip, newest positions, copies, block and batch buffer, and the prover computes it.
 
 usage: definitions.py SEED COUNT      (COUNT cases)
 """
@@ -36,11 +36,11 @@ spread : List Run → List ℕ
 spread [] = []
 spread (r b n ∷ rs) = replicate n b ++ spread rs
 
-agrees : Outcome → ℕ → ℕ → ℕ → List Run → List Run → List Run → List Run → List Run → Bool
-agrees o c f n s l a b t = eqb (o .code) c && eqb (o .figure) f && eqb (o .size) n && same (o .state) (spread s) && same (o .log) (spread l) && same (o .area) (spread a) && same (o .block) (spread b) && same (o .batch) (spread t)
+agrees : Outcome → ℕ → ℕ → ℕ → List Run → List Run → List Run → List Run → List Run → List Run → Bool
+agrees o c f n s p l a b t = eqb (o .code) c && eqb (o .figure) f && eqb (o .size) n && same (o .state) (spread s) && same (o .newest) (spread p) && same (o .log) (spread l) && same (o .area) (spread a) && same (o .block) (spread b) && same (o .batch) (spread t)
 
-gives : List Run → List Run → List Run → List Run → List Run → ℕ → ℕ → Given
-gives s l a b t w h = record { state = spread s; log = spread l; area = spread a; block = spread b; batch = spread t; writer = w; home = h }
+gives : List Run → List Run → List Run → List Run → List Run → List Run → ℕ → ℕ → Given
+gives s p l a b t w h = record { state = spread s; newest = spread p; log = spread l; area = spread a; block = spread b; batch = spread t; writer = w; home = h }
 """
 
 
@@ -49,8 +49,8 @@ def runs(pairs):
 
 
 def statement(number, case):
-    lent = " ".join(runs(case[k]) for k in ("state", "log", "data", "block", "batch"))
-    left = " ".join(runs(case[k]) for k in ("state2", "log2", "data2", "block2", "batch2"))
+    lent = " ".join(runs(case[k]) for k in ("state", "newest", "log", "data", "block", "batch"))
+    left = " ".join(runs(case[k]) for k in ("state2", "newest2", "log2", "data2", "block2", "batch2"))
     call = f"{case['call']}Call (gives {lent} {case['writer']} {case['home']})"
     if case["call"] == "reserve":
         call = f"reserveCall (gives {lent} {case['writer']} 0) {case['home']}"

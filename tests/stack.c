@@ -10,7 +10,7 @@ enum { GROUPS = 1024, HOMES = 65535, STACK = 1 << 18, LIMIT = 32768 };
 enum { FORMAT, OPEN, BEGIN, STORE, COMMIT, FLUSH, CONFIRM, SETTLE, TRIM, READ, ABORT, RESERVE, EMPTY };
 
 static uint8_t log_area[KAGUTIN_HEADER_SIZE + KAGUTIN_GROUP_SIZE * GROUPS], area[KAGUTIN_BLOCK_SIZE * HOMES];
-static uint8_t state[KAGUTIN_STATE_SIZE], block[KAGUTIN_BLOCK_SIZE], batch[5 << 20];
+static uint8_t state[KAGUTIN_STATE_SIZE], newest[KAGUTIN_POSITION_SIZE * HOMES], block[KAGUTIN_BLOCK_SIZE], batch[5 << 20];
 static unsigned char stack[STACK];
 static ucontext_t main_context, call_context;
 static int which;
@@ -19,21 +19,22 @@ static struct kagutin_reply reply;
 
 #define AREAS log_area, sizeof log_area, area, sizeof area
 #define STATE state, sizeof state
+#define NEWEST newest, sizeof newest
 #define BATCH batch, sizeof batch
 
 static void body(void)
 {
     switch (which) {
     case FORMAT: reply = kagutin_format(AREAS, BATCH); break;
-    case OPEN: reply = kagutin_open(AREAS, STATE, BATCH); break;
+    case OPEN: reply = kagutin_open(AREAS, STATE, NEWEST, BATCH); break;
     case BEGIN: reply = kagutin_begin(AREAS, STATE, who); break;
     case STORE: reply = kagutin_store(AREAS, STATE, block, sizeof block, BATCH, who, where); break;
-    case COMMIT: reply = kagutin_commit(AREAS, STATE, BATCH, who); break;
+    case COMMIT: reply = kagutin_commit(AREAS, STATE, NEWEST, BATCH, who); break;
     case FLUSH: reply = kagutin_flush(AREAS, STATE, BATCH); break;
     case CONFIRM: reply = kagutin_confirm(AREAS, STATE); break;
     case SETTLE: reply = kagutin_settle(AREAS, STATE, BATCH); break;
-    case TRIM: reply = kagutin_trim(AREAS, STATE, BATCH); break;
-    case READ: reply = kagutin_read(AREAS, STATE, block, sizeof block, who, where); break;
+    case TRIM: reply = kagutin_trim(AREAS, STATE, NEWEST, BATCH); break;
+    case READ: reply = kagutin_read(AREAS, STATE, NEWEST, block, sizeof block, who, where); break;
     case ABORT: reply = kagutin_abort(AREAS, STATE, who); break;
     case RESERVE: reply = kagutin_reserve(AREAS, STATE, who, 1); break;
     default: break;

@@ -26,13 +26,14 @@ enum { GROUPS = KAGUTIN_MAX_GROUPS, TRIM_AT = GROUPS / 4 * 3, LINE = 64, PAGE = 
 enum driver { PLAIN, ORDERED, MSYNC };
 
 static uint8_t log_area[KAGUTIN_HEADER_SIZE + KAGUTIN_GROUP_SIZE * GROUPS], area[KAGUTIN_BLOCK_SIZE * HOMES];
-static uint8_t state[KAGUTIN_STATE_SIZE], *batch, *image;
+static uint8_t state[KAGUTIN_STATE_SIZE], newest[KAGUTIN_POSITION_SIZE * HOMES], *batch, *image;
 static size_t batch_size;
 static uint64_t written;
 static enum driver driver;
 
 #define AREAS log_area, sizeof log_area, area, sizeof area
 #define STATE state, sizeof state
+#define NEWEST newest, sizeof newest
 #define BATCH batch, batch_size
 #define IMAGE_SIZE (sizeof log_area + sizeof area)
 
@@ -193,7 +194,7 @@ static void make_durable(uint64_t ticket)
     if (groups_in_use() < TRIM_AT)
         return;
     done("settle", kagutin_settle(AREAS, STATE, BATCH));
-    done("trim", kagutin_trim(AREAS, STATE, BATCH));
+    done("trim", kagutin_trim(AREAS, STATE, NEWEST, BATCH));
     if (groups_in_use() != 0)
         fail("kagutin: trim left groups in use");
 }
@@ -210,7 +211,7 @@ static void commit(const struct write *writes, size_t count)
     done("begin", kagutin_begin(AREAS, STATE, 0));
     for (i = 0; i < count; i++)
         store_block(0, &writes[i]);
-    make_durable(done("commit", kagutin_commit(AREAS, STATE, BATCH, 0)));
+    make_durable(done("commit", kagutin_commit(AREAS, STATE, NEWEST, BATCH, 0)));
 }
 
 /* Eight writers take turns block by block. */
@@ -226,13 +227,13 @@ static void commit_together(const struct write *writes, size_t count)
         for (writer = 0; writer < TOGETHER; writer++)
             store_block(writer, &writes[writer * count + i]);
     for (writer = 0; writer < TOGETHER; writer++)
-        ticket = done("commit", kagutin_commit(AREAS, STATE, BATCH, writer));
+        ticket = done("commit", kagutin_commit(AREAS, STATE, NEWEST, BATCH, writer));
     make_durable(ticket);
 }
 
 static void read_home(unsigned home, uint8_t *block)
 {
-    done("read", kagutin_read(AREAS, STATE, block, BLOCK_SIZE, 0, home));
+    done("read", kagutin_read(AREAS, STATE, NEWEST, block, BLOCK_SIZE, 0, home));
 }
 
 /* ---- image ---- */
@@ -261,7 +262,7 @@ static void load_and_open(void)
 {
     memcpy(log_area, image, sizeof log_area);
     memcpy(area, image + sizeof log_area, sizeof area);
-    done("open", kagutin_open(AREAS, STATE, BATCH));
+    done("open", kagutin_open(AREAS, STATE, NEWEST, BATCH));
 }
 
 static void open_image(const char *folder)

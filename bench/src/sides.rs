@@ -20,8 +20,8 @@ impl Side {
 
     /// Performs a step's call.
     pub fn run(self, lent: &mut Lent, step: &Step) -> Answer {
-        let Lent { log, data, state, block, batch } = lent;
-        let slices: Slices = [log, data, state, block, batch];
+        let Lent { log, data, state, newest, block, batch } = lent;
+        let slices: Slices = [log, data, state, newest, block, batch];
         match self {
             Side::Library => library::call(step.kind, slices, step.writer, step.home).into(),
             Side::Second => call(step.kind, slices, step.writer, step.home).into(),
@@ -46,38 +46,38 @@ macro_rules! wrap {
 
 wrap! {
     second_format: format [log g area d batch n] [];
-    second_open: open [log g area d state s batch n] [];
+    second_open: open [log g area d state s newest p batch n] [];
     second_begin: begin [log g area d state s] [writer];
     second_reserve: reserve [log g area d state s] [writer places];
     second_abort: abort [log g area d state s] [writer];
     second_store: store [log g area d state s block k batch n] [writer home];
-    second_commit: commit [log g area d state s batch n] [writer];
+    second_commit: commit [log g area d state s newest p batch n] [writer];
     second_flush: flush [log g area d state s batch n] [];
     second_confirm: confirm [log g area d state s] [];
     second_settle: settle [log g area d state s batch n] [];
-    second_trim: trim [log g area d state s batch n] [];
-    second_read: read [log g area d state s block k] [writer home];
+    second_trim: trim [log g area d state s newest p batch n] [];
+    second_read: read [log g area d state s newest p block k] [writer home];
 }
 
 /// As `library::call`.
 fn call(kind: Kind, slices: Slices, writer: u64, home: u64) -> Reply {
-    let [(log, g), (area, d), (state, s), (block, k), (batch, n)] =
+    let [(log, g), (area, d), (state, s), (newest, p), (block, k), (batch, n)] =
         slices.map(|slice| (slice.as_mut_ptr(), slice.len()));
     // Each pointer goes with the length of its slice, and the slices are apart.
     unsafe {
         match kind {
             Kind::Format => second_format(log, g, area, d, batch, n),
-            Kind::Open => second_open(log, g, area, d, state, s, batch, n),
+            Kind::Open => second_open(log, g, area, d, state, s, newest, p, batch, n),
             Kind::Begin => second_begin(log, g, area, d, state, s, writer),
             Kind::Reserve => second_reserve(log, g, area, d, state, s, writer, home),
             Kind::Abort => second_abort(log, g, area, d, state, s, writer),
             Kind::Store => second_store(log, g, area, d, state, s, block, k, batch, n, writer, home),
-            Kind::Commit => second_commit(log, g, area, d, state, s, batch, n, writer),
+            Kind::Commit => second_commit(log, g, area, d, state, s, newest, p, batch, n, writer),
             Kind::Flush => second_flush(log, g, area, d, state, s, batch, n),
             Kind::Confirm => second_confirm(log, g, area, d, state, s),
             Kind::Settle => second_settle(log, g, area, d, state, s, batch, n),
-            Kind::Trim => second_trim(log, g, area, d, state, s, batch, n),
-            Kind::Read => second_read(log, g, area, d, state, s, block, k, writer, home),
+            Kind::Trim => second_trim(log, g, area, d, state, s, newest, p, batch, n),
+            Kind::Read => second_read(log, g, area, d, state, s, newest, p, block, k, writer, home),
         }
     }
 }

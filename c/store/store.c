@@ -5,6 +5,7 @@
 
 #define AREAS(s) (s)->log, (s)->log_size, (s)->area, (s)->area_size
 #define STATE(s) (s)->state, (size_t)KAGUTIN_STATE_SIZE
+#define NEWEST(s) (s)->newest, (s)->newest_size
 #define BATCH(s) (s)->batch, (s)->batch_size
 
 /* Where the log's start stands in the state; docs/FORMAT.md. */
@@ -40,11 +41,13 @@ struct kagutin_reply kgt_init(struct kagutin *store, uint8_t *memory, size_t siz
     kgt_runner_init(&store->runner, driver, groups, homes);
     store->log_size = KGT_LOG_SIZE(groups);
     store->area_size = KGT_HOMES_SIZE(homes);
+    store->newest_size = KGT_NEWEST_SIZE(homes);
     store->batch_size = KGT_BATCH_SIZE(groups, homes);
     store->log = memory;
     store->area = store->log + store->log_size;
     store->state = store->area + store->area_size;
-    store->batch = store->state + KAGUTIN_STATE_SIZE;
+    store->newest = store->state + KAGUTIN_STATE_SIZE;
+    store->batch = store->newest + store->newest_size;
     return answer(KAGUTIN_DONE, 0);
 }
 
@@ -131,7 +134,7 @@ struct kagutin_reply kgt_open(struct kagutin *store)
         store->condition = KGT_HAS_FAILED;
         return leave(store, failed(store));
     }
-    reply = run(store, store->batch, kagutin_open(AREAS(store), STATE(store), BATCH(store)));
+    reply = run(store, store->batch, kagutin_open(AREAS(store), STATE(store), NEWEST(store), BATCH(store)));
     if (reply.code == KAGUTIN_DONE)
         store->condition = KGT_IS_OPEN;
     return leave(store, reply);
@@ -164,7 +167,7 @@ static struct kagutin_reply settle_and_trim(struct kagutin *store)
     struct kagutin_reply reply = settle(store);
 
     if (reply.code == KAGUTIN_DONE)
-        reply = run(store, store->batch, kagutin_trim(AREAS(store), STATE(store), BATCH(store)));
+        reply = run(store, store->batch, kagutin_trim(AREAS(store), STATE(store), NEWEST(store), BATCH(store)));
     return reply;
 }
 
@@ -259,7 +262,7 @@ struct kagutin_reply kgt_store(struct kagutin *store, uint64_t writer, uint64_t 
 
 static struct kagutin_reply commit_once(struct kagutin *store, uint64_t writer)
 {
-    return run(store, store->batch, kagutin_commit(AREAS(store), STATE(store), BATCH(store), writer));
+    return run(store, store->batch, kagutin_commit(AREAS(store), STATE(store), NEWEST(store), BATCH(store), writer));
 }
 
 struct kagutin_reply kgt_commit(struct kagutin *store, uint64_t writer)
@@ -280,7 +283,7 @@ struct kagutin_reply kgt_read(struct kagutin *store, uint64_t writer, uint64_t h
 
     if (!enter(store, &reply))
         return reply;
-    return leave(store, kagutin_read(AREAS(store), STATE(store), block, KAGUTIN_BLOCK_SIZE, writer, home));
+    return leave(store, kagutin_read(AREAS(store), STATE(store), NEWEST(store), block, KAGUTIN_BLOCK_SIZE, writer, home));
 }
 
 /* ---- durability and room ---- */

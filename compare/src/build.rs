@@ -9,24 +9,24 @@ use second::Answer;
 pub struct Build {
     pub name: String,
     pub calls: Calls,
-    /// Log, area, state, block, batch.
-    parts: [Part; 5],
+    /// Log, area, state, newest positions, block, batch.
+    parts: [Part; 6],
 }
 
-const FIELDS: [&str; 5] = ["log", "area", "state", "block", "batch"];
+const FIELDS: [&str; 6] = ["log", "area", "state", "newest", "block", "batch"];
 
 /// Which parts the call is lent.
-fn taken(kind: Kind) -> [bool; 5] {
-    [true, true, kind.takes_state(), kind.takes_block(), kind.takes_batch()]
+fn taken(kind: Kind) -> [bool; 6] {
+    [true, true, kind.takes_state(), kind.takes_newest(), kind.takes_block(), kind.takes_batch()]
 }
 
-pub fn views(lent: &Lent) -> [&[u8]; 5] {
-    [&lent.log, &lent.data, &lent.state, &lent.block, &lent.batch]
+pub fn views(lent: &Lent) -> [&[u8]; 6] {
+    [&lent.log, &lent.data, &lent.state, &lent.newest, &lent.block, &lent.batch]
 }
 
 impl Build {
     pub fn new(name: &str, calls: Calls, guarded: bool) -> Build {
-        Build { name: name.into(), calls, parts: [(); 5].map(|()| Part::new(guarded)) }
+        Build { name: name.into(), calls, parts: [(); 6].map(|()| Part::new(guarded)) }
     }
 
     /// Performs the call on a copy of the lent memory.

@@ -3,7 +3,7 @@
 use crate::histories::{far, random_shape, Player, MOST_GROUPS};
 use crate::pair::Pair;
 use second::craft::craft;
-use second::damage::{damage_group, damage_header, damage_lengths, damage_state};
+use second::damage::{damage_group, damage_header, damage_lengths, damage_newest, damage_state};
 use second::layout::{
     group_head, header, put_word, set_top_bit, slot_range, turn, word, Shape, BLOCK, START_LIMIT,
 };
@@ -157,6 +157,11 @@ fn damage(rng: &mut Rng, lent: &mut Lent, shape: Shape, old: &[Vec<u8>]) {
     }
     if parts >= 6 {
         damage_strip(rng, lent, old);
+    }
+    match rng.below(4) {
+        0 => {}
+        1 => scribble(rng, &mut lent.newest),
+        _ => damage_newest(rng, lent),
     }
     if rng.chance(8) {
         damage_lengths(rng, lent);

@@ -192,6 +192,7 @@ impl Player {
         }
         if !self.world.opened && rng.chance(50) {
             self.world.lent.state.fill_with(|| rng.next() as u8);
+            self.world.lent.newest.fill_with(|| rng.next() as u8);
         }
         let mut call = Call::random(rng, &self.profile, &self.world);
         adjust(rng, &self.world, &mut call);

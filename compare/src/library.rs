@@ -58,50 +58,50 @@ macro_rules! declare {
 
 declare! {
     kagutin_format: [log area batch] [];
-    kagutin_open: [log area state batch] [];
+    kagutin_open: [log area state newest batch] [];
     kagutin_begin: [log area state] [writer];
     kagutin_reserve: [log area state] [writer places];
     kagutin_abort: [log area state] [writer];
     kagutin_store: [log area state block batch] [writer home];
-    kagutin_commit: [log area state batch] [writer];
+    kagutin_commit: [log area state newest batch] [writer];
     kagutin_flush: [log area state batch] [];
     kagutin_confirm: [log area state] [];
     kagutin_settle: [log area state batch] [];
-    kagutin_trim: [log area state batch] [];
-    kagutin_read: [log area state block] [writer home];
+    kagutin_trim: [log area state newest batch] [];
+    kagutin_read: [log area state newest block] [writer home];
 }
 
-/// Log, area, state, block and batch. An empty slice has a dangling pointer.
-pub type Slices<'a> = [&'a mut [u8]; 5];
+/// Log, area, state, newest positions, block and batch. An empty slice has a dangling pointer.
+pub type Slices<'a> = [&'a mut [u8]; 6];
 
 impl Calls {
     pub fn call(&self, kind: Kind, slices: Slices, writer: u64, home: u64) -> Reply {
-        let [(log, g), (area, d), (state, s), (block, k), (batch, n)] =
+        let [(log, g), (area, d), (state, s), (newest, p), (block, k), (batch, n)] =
             slices.map(|slice| (slice.as_mut_ptr(), slice.len()));
         // Each pointer goes with the length of its slice, and the slices are apart.
         unsafe {
             match kind {
                 Kind::Format => (self.kagutin_format)(log, g, area, d, batch, n),
-                Kind::Open => (self.kagutin_open)(log, g, area, d, state, s, batch, n),
+                Kind::Open => (self.kagutin_open)(log, g, area, d, state, s, newest, p, batch, n),
                 Kind::Begin => (self.kagutin_begin)(log, g, area, d, state, s, writer),
                 Kind::Reserve => (self.kagutin_reserve)(log, g, area, d, state, s, writer, home),
                 Kind::Abort => (self.kagutin_abort)(log, g, area, d, state, s, writer),
                 Kind::Store => (self.kagutin_store)(log, g, area, d, state, s, block, k, batch, n, writer, home),
-                Kind::Commit => (self.kagutin_commit)(log, g, area, d, state, s, batch, n, writer),
+                Kind::Commit => (self.kagutin_commit)(log, g, area, d, state, s, newest, p, batch, n, writer),
                 Kind::Flush => (self.kagutin_flush)(log, g, area, d, state, s, batch, n),
                 Kind::Confirm => (self.kagutin_confirm)(log, g, area, d, state, s),
                 Kind::Settle => (self.kagutin_settle)(log, g, area, d, state, s, batch, n),
-                Kind::Trim => (self.kagutin_trim)(log, g, area, d, state, s, batch, n),
-                Kind::Read => (self.kagutin_read)(log, g, area, d, state, s, block, k, writer, home),
+                Kind::Trim => (self.kagutin_trim)(log, g, area, d, state, s, newest, p, batch, n),
+                Kind::Read => (self.kagutin_read)(log, g, area, d, state, s, newest, p, block, k, writer, home),
             }
         }
     }
 
     /// The call on the lent memory itself.
     pub fn run(&self, lent: &mut Lent, kind: Kind, writer: u64, home: u64) -> Answer {
-        let Lent { log, data, state, block, batch } = lent;
+        let Lent { log, data, state, newest, block, batch } = lent;
         crate::trap::enter(kind);
-        let reply = self.call(kind, [log, data, state, block, batch], writer, home);
+        let reply = self.call(kind, [log, data, state, newest, block, batch], writer, home);
         crate::trap::leave();
         reply.into()
     }

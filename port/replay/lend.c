@@ -15,17 +15,20 @@ void lend(size_t groups, size_t homes, size_t batch_size)
     lent.log_size = kagutin_log_size(groups);
     lent.area_size = kagutin_area_size(homes);
     lent.state_size = sizeof lent.state;
+    lent.newest_size = kagutin_newest_size(homes);
     lent.block_size = sizeof lent.block;
     lent.batch_size = batch_size;
     memset(lent.log, 0xcc, lent.log_size);
     memset(lent.area, 0xcc, lent.area_size);
     memset(lent.state, 0xcc, sizeof lent.state);
+    memset(lent.newest, 0xcc, lent.newest_size);
     memset(lent.block, 0xcc, sizeof lent.block);
     memset(lent.batch, 0xcc, batch_size);
 }
 
 #define AREAS lent.log, lent.log_size, lent.area, lent.area_size
 #define STATE lent.state, lent.state_size
+#define NEWEST lent.newest, lent.newest_size
 #define BLOCK lent.block, lent.block_size
 #define BATCH lent.batch, lent.batch_size
 
@@ -33,16 +36,16 @@ struct kagutin_reply make_call(enum call call, uint64_t writer, uint64_t home)
 {
     switch (call) {
     case FORMAT: return kagutin_format(AREAS, BATCH);
-    case OPEN: return kagutin_open(AREAS, STATE, BATCH);
+    case OPEN: return kagutin_open(AREAS, STATE, NEWEST, BATCH);
     case BEGIN: return kagutin_begin(AREAS, STATE, writer);
     case ABORT: return kagutin_abort(AREAS, STATE, writer);
     case STORE: return kagutin_store(AREAS, STATE, BLOCK, BATCH, writer, home);
-    case COMMIT: return kagutin_commit(AREAS, STATE, BATCH, writer);
+    case COMMIT: return kagutin_commit(AREAS, STATE, NEWEST, BATCH, writer);
     case FLUSH: return kagutin_flush(AREAS, STATE, BATCH);
     case CONFIRM: return kagutin_confirm(AREAS, STATE);
     case SETTLE: return kagutin_settle(AREAS, STATE, BATCH);
-    case TRIM: return kagutin_trim(AREAS, STATE, BATCH);
-    default: return kagutin_read(AREAS, STATE, BLOCK, writer, home);
+    case TRIM: return kagutin_trim(AREAS, STATE, NEWEST, BATCH);
+    default: return kagutin_read(AREAS, STATE, NEWEST, BLOCK, writer, home);
     }
 }
 
@@ -72,6 +75,7 @@ struct kagutin_reply play(enum call call, uint64_t writer, uint64_t home)
     add(&sums, lent.log, lent.log_size);
     add(&sums, lent.area, lent.area_size);
     add(&sums, lent.state, sizeof lent.state);
+    add(&sums, lent.newest, lent.newest_size);
     add(&sums, lent.block, sizeof lent.block);
     add(&sums, lent.batch, lent.batch_size);
     observe(call, reply, (uint64_t)sums.fnv << 32 | sums.times33);

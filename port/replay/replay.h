@@ -13,14 +13,15 @@ enum {
     HOMES = MOST_HOMES + 1,
     LOG_ROOM = KAGUTIN_HEADER_SIZE + KAGUTIN_GROUP_SIZE * GROUPS,
     AREA_ROOM = KAGUTIN_BLOCK_SIZE * HOMES,
+    NEWEST_ROOM = KAGUTIN_POSITION_SIZE * HOMES,
     BATCH_ROOM = KAGUTIN_GW_SIZE * GROUPS + KAGUTIN_HW_SIZE * HOMES + 256
 };
 
 /* What is lent to the next call. */
 struct lent {
     size_t groups, homes;
-    size_t log_size, area_size, state_size, block_size, batch_size;
-    uint8_t log[LOG_ROOM], area[AREA_ROOM], state[KAGUTIN_STATE_SIZE], block[KAGUTIN_BLOCK_SIZE], batch[BATCH_ROOM];
+    size_t log_size, area_size, state_size, newest_size, block_size, batch_size;
+    uint8_t log[LOG_ROOM], area[AREA_ROOM], state[KAGUTIN_STATE_SIZE], newest[NEWEST_ROOM], block[KAGUTIN_BLOCK_SIZE], batch[BATCH_ROOM];
 };
 
 extern struct lent lent;

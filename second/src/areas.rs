@@ -7,6 +7,7 @@ use crate::layout::{
     blank_slot, header, header_start, home_range, refuse, slot_range, Answer, Shape, BLOCK, HEADER,
     PLACES, START_LIMIT, STATE, WRITERS,
 };
+use crate::newest::{check_newest, forget};
 use crate::state::{State, Writer};
 use crate::walk::{trim_point, Newest, View};
 
@@ -63,17 +64,25 @@ fn check_start(start: u64) -> Result<(), u32> {
     if start <= START_LIMIT { Ok(()) } else { Err(refuse::START) }
 }
 
-pub fn open(log: &mut [u8], data: &mut [u8], state: &mut [u8], batch: &mut [u8]) -> Answer {
-    Answer::of(try_open(log, data, state, batch))
+pub fn open(
+    log: &mut [u8],
+    data: &mut [u8],
+    state: &mut [u8],
+    newest: &mut [u8],
+    batch: &mut [u8],
+) -> Answer {
+    Answer::of(try_open(log, data, state, newest, batch))
 }
 
 fn try_open(
     log: &mut [u8],
     data: &mut [u8],
     bytes: &mut [u8],
+    kept: &mut [u8],
     batch: &mut [u8],
 ) -> Result<Answer, u32> {
     let shape = Shape::of(log.len(), data.len())?;
+    check_newest(shape, kept)?;
     if bytes.len() != STATE {
         return Err(refuse::LENGTHS);
     }
@@ -91,6 +100,7 @@ fn try_open(
     put_blanks(log, &mut out, shape, new_start);
     out.fence();
     State::save_fresh(bytes, shape, new_start);
+    kept.fill(0xff);
     Ok(Answer { code: 0, figure: newest.commits, len: out.len() })
 }
 
@@ -117,16 +127,24 @@ fn try_settle(
     Ok(Answer::wrote(out.len()))
 }
 
-pub fn trim(log: &mut [u8], data: &[u8], state: &mut [u8], batch: &mut [u8]) -> Answer {
-    Answer::of(try_trim(log, data, state, batch))
+pub fn trim(
+    log: &mut [u8],
+    data: &[u8],
+    state: &mut [u8],
+    newest: &mut [u8],
+    batch: &mut [u8],
+) -> Answer {
+    Answer::of(try_trim(log, data, state, newest, batch))
 }
 
 fn try_trim(
     log: &mut [u8],
     data: &[u8],
     bytes: &mut [u8],
+    kept: &mut [u8],
     batch: &mut [u8],
 ) -> Result<Answer, u32> {
+    check_newest(Shape::of(log.len(), data.len())?, kept)?;
     let mut state = State::load(log, data, bytes)?;
     let new_start = trimmed_start(log, &state, bytes);
     check_start(new_start)?;
@@ -142,6 +160,7 @@ fn try_trim(
         state.last_closing = 0;
     }
     state.save(bytes);
+    forget(kept, PLACES * new_start);
     Ok(Answer::wrote(out.len()))
 }
 

@@ -4,13 +4,14 @@
 use crate::batch::{check_batch, Batch, FENCE_LEN, GROUP_WRITE_LEN};
 use crate::layout::{
     clear_group, group_head, home_range, put_word, refuse, set_top_bit, slot_range, top_bit, turn,
-    Answer, BLOCK,
+    Answer, Shape, BLOCK,
 };
+use crate::newest::{check_newest, keep, position};
 use crate::state::{
     check_home, check_writer, mode, pending_range, promise, promised, set_promise, State, Writer,
 };
 use crate::tag::{closing_tag, entry_tag, with_displaced};
-use crate::walk::{newest_of_home, View};
+use crate::walk::{kept_entry, newest_own, parts, View};
 
 pub fn begin(log: &[u8], data: &[u8], state: &mut [u8], writer: u64) -> Answer {
     Answer::of(try_begin(log, data, state, writer))
@@ -162,17 +163,26 @@ fn append(
     out.len()
 }
 
-pub fn commit(log: &mut [u8], data: &[u8], state: &mut [u8], batch: &mut [u8], writer: u64) -> Answer {
-    Answer::of(try_commit(log, data, state, batch, writer))
+pub fn commit(
+    log: &mut [u8],
+    data: &[u8],
+    state: &mut [u8],
+    newest: &mut [u8],
+    batch: &mut [u8],
+    writer: u64,
+) -> Answer {
+    Answer::of(try_commit(log, data, state, newest, batch, writer))
 }
 
 fn try_commit(
     log: &mut [u8],
     data: &[u8],
     bytes: &mut [u8],
+    newest: &mut [u8],
     batch: &mut [u8],
     writer: u64,
 ) -> Result<Answer, u32> {
+    check_newest(Shape::of(log.len(), data.len())?, newest)?;
     let mut state = State::load(log, data, bytes)?;
     check_writer(writer)?;
     let record = load_open(bytes, writer)?;
@@ -186,10 +196,24 @@ fn try_commit(
         state.last_closing = position + 1;
         answer.figure = position + 1;
         answer.len = append(log, state, bytes, batch, writer, tag);
+        keep_entries(log, &state, first, position, newest);
     }
     Writer::IDLE.save(bytes, writer);
     set_promise(bytes, writer, 0);
     Ok(answer)
+}
+
+/// The position of each entry of the transaction from `first` to `closing`,
+/// the later ones over the earlier.
+fn keep_entries(log: &[u8], state: &State, first: u64, closing: u64, newest: &mut [u8]) {
+    let base = state.first_position();
+    let view = View { log, shape: state.shape, start: state.start, end: (closing + 1 - base) as u32 };
+    view.each_from((first - base) as u32, |offset, tag| {
+        let (home, begun) = parts(tag);
+        if base + u64::from(begun) == first {
+            keep(newest, u64::from(home), base + u64::from(offset));
+        }
+    });
 }
 
 pub fn flush(log: &[u8], data: &[u8], state: &mut [u8], batch: &mut [u8]) -> Answer {
@@ -227,18 +251,28 @@ fn try_confirm(log: &[u8], data: &[u8], bytes: &mut [u8]) -> Result<Answer, u32>
     Ok(Answer { code: 0, figure: state.durable, len: 0 })
 }
 
-pub fn read(log: &[u8], data: &[u8], state: &[u8], block: &mut [u8], writer: u64, home: u64) -> Answer {
-    Answer::of(try_read(log, data, state, block, writer, home))
+pub fn read(
+    log: &[u8],
+    data: &[u8],
+    state: &[u8],
+    newest: &[u8],
+    block: &mut [u8],
+    writer: u64,
+    home: u64,
+) -> Answer {
+    Answer::of(try_read(log, data, state, newest, block, writer, home))
 }
 
 fn try_read(
     log: &[u8],
     data: &[u8],
     bytes: &[u8],
+    newest: &[u8],
     block: &mut [u8],
     writer: u64,
     home: u64,
 ) -> Result<Answer, u32> {
+    check_newest(Shape::of(log.len(), data.len())?, newest)?;
     let state = load_with_block(log, data, bytes, block)?;
     check_writer(writer)?;
     check_home(state.shape, home)?;
@@ -251,7 +285,9 @@ fn try_read(
     let end = (state.next_position() - base) as u32;
     let view = View { log, shape: state.shape, start: state.start, end };
     let own = record.logged().map(|(first, _)| (first - base) as u32);
-    match newest_of_home(&view, home as u32, own) {
+    let own = own.and_then(|first| newest_own(&view, home as u32, first));
+    let found = own.or_else(|| kept_entry(&view, home, position(newest, home)));
+    match found {
         Some(offset) => block.copy_from_slice(&view.block(offset)),
         None => block.copy_from_slice(&data[home_range(home as usize)]),
     }

@@ -3,7 +3,7 @@
 
 use crate::batch::GROUP_WRITE_LEN;
 use crate::craft::craft;
-use crate::damage::{damage_group, damage_header, damage_lengths, damage_state};
+use crate::damage::{damage_group, damage_header, damage_lengths, damage_newest, damage_state};
 use crate::layout::{put_word, word, Answer, Shape, START_LIMIT};
 use crate::lent::{ample, Kind, Lent};
 use crate::player::{random_crash, step, Profile, Tally};
@@ -58,6 +58,7 @@ impl Cases {
             settle_all(&mut lent);
         }
         damage(rng, &mut lent, shape, kind);
+        disagree(rng, &mut lent, kind);
         let (writer, home) = arguments(rng, kind, shape, &lent);
         finish(rng, kind, shape, writer, home, lent)
     }
@@ -129,6 +130,13 @@ fn damage(rng: &mut Rng, lent: &mut Lent, shape: Shape, kind: Kind) {
     }
 }
 
+/// Newest positions that disagree with the log, most often for a read.
+fn disagree(rng: &mut Rng, lent: &mut Lent, kind: Kind) {
+    if rng.chance(if kind == Kind::Read { 60 } else { 20 }) {
+        damage_newest(rng, lent);
+    }
+}
+
 /// Now and then out of range; else often a writer that is open (or idle, for
 /// begin), and the home it holds or another.
 fn arguments(rng: &mut Rng, kind: Kind, shape: Shape, lent: &Lent) -> (u64, u64) {
@@ -182,6 +190,9 @@ fn hide(kind: Kind, lent: &mut Lent) {
     if !kind.takes_state() {
         lent.state.clear();
     }
+    if !kind.takes_newest() {
+        lent.newest.clear();
+    }
     if !kind.takes_block() {
         lent.block.clear();
     }
@@ -224,6 +235,7 @@ impl Case {
 fn parts(text: &mut String, lent: &Lent, suffix: &str) {
     let named = [
         ("state", &lent.state),
+        ("newest", &lent.newest),
         ("log", &lent.log),
         ("data", &lent.data),
         ("block", &lent.block),

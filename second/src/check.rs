@@ -3,8 +3,10 @@
 use crate::layout::{word, Answer};
 use crate::lent::Kind;
 use crate::literal;
+use crate::newest::{position, NONE};
 use crate::state::{mode, pending_range, promise, State, Writer};
 use crate::world::{Call, Odd, World};
+use std::collections::BTreeMap;
 
 fn must(holds: bool, what: &str) -> Result<(), String> {
     if holds { Ok(()) } else { Err(what.to_string()) }
@@ -131,7 +133,9 @@ impl World {
         let next = self.next_position();
         for next in [Some(next), None] {
             let present = literal::present(&self.lent.log, self.shape.homes, start, next);
-            self.check_commits(&literal::committed(&present, start))?;
+            let committed = literal::committed(&present, start);
+            self.check_commits(&committed)?;
+            self.check_newest(&present, &committed)?;
         }
         if self.shape.homes <= 8 {
             for at in 0..8 * self.shape.homes {
@@ -139,6 +143,24 @@ impl World {
             }
         }
         Ok(())
+    }
+
+    /// The kept positions are those of the newest committed entries.
+    fn check_newest(
+        &self,
+        present: &BTreeMap<i128, literal::Found>,
+        committed: &[literal::Transaction],
+    ) -> Result<(), String> {
+        let mut want = vec![NONE; self.shape.homes as usize];
+        for transaction in committed {
+            for (&position, entry) in present.range(transaction.first..=transaction.closing) {
+                if entry.first == transaction.first {
+                    want[entry.home as usize] = position as u64;
+                }
+            }
+        }
+        let kept = |home: usize| position(&self.lent.newest, home as u64);
+        must((0..want.len()).all(|home| kept(home) == want[home]), "newest positions")
     }
 
     /// What the log reads back as: the committed, untrimmed transactions.
@@ -168,6 +190,7 @@ fn cut_to_odd(lent: &mut crate::lent::Lent, odd: Odd) {
         Odd::Log(len) => lent.log.resize(len, 0),
         Odd::Data(len) => lent.data.resize(len, 0),
         Odd::State(len) => lent.state.resize(len, 0),
+        Odd::Newest(len) => lent.newest.resize(len, 0),
         Odd::Block(len) => lent.block.resize(len, 0),
     }
 }

@@ -3,6 +3,7 @@
 use crate::craft::distort;
 use crate::layout::{group_head, header, put_word, slot_range, word, Shape, BLOCK, START_LIMIT};
 use crate::lent::Lent;
+use crate::newest::{keep, position, NONE, POSITION};
 use crate::rng::Rng;
 use crate::state::{at, promise, promised, set_promise, State};
 
@@ -127,16 +128,32 @@ fn damage_writer(rng: &mut Rng, bytes: &mut [u8]) {
     }
 }
 
+/// Newest positions that disagree with the log: any bytes, those of another
+/// home, of any entry of the log, before its start, or at the next position.
+pub fn damage_newest(rng: &mut Rng, lent: &mut Lent) {
+    let homes = (lent.newest.len() / POSITION) as u64;
+    let base = word(&lent.state, at::START).wrapping_mul(7);
+    let next = word(&lent.state, at::NEXT).wrapping_mul(7).wrapping_add(word(&lent.state, at::FILLED));
+    for _ in 0..rng.between(1, 2 * homes) {
+        let home = rng.below(homes);
+        let other = position(&lent.newest, rng.below(homes));
+        let any = base.wrapping_add(rng.below(next.wrapping_sub(base).wrapping_add(2).max(1)));
+        let values = [rng.next(), other, any, any, base.wrapping_sub(1), next, next.wrapping_sub(1), NONE];
+        keep(&mut lent.newest, home, rng.pick(&values));
+    }
+}
+
 /// A wrong length for one part.
 pub fn damage_lengths(rng: &mut Rng, lent: &mut Lent) {
-    let part = match rng.below(4) {
+    let part = match rng.below(5) {
         0 => &mut lent.log,
         1 => &mut lent.data,
         2 => &mut lent.state,
+        3 => &mut lent.newest,
         _ => &mut lent.block,
     };
     let len = part.len();
-    let wrong = [len - 1, len + 1, len - 64, len + 64, 0, len + 512, len.saturating_sub(512)];
+    let wrong = [len.saturating_sub(1), len + 1, len.saturating_sub(64), len + 64, 0, len + 512, len.saturating_sub(512)];
     part.resize(rng.pick(&wrong), 0);
 }
 

@@ -2,6 +2,7 @@
 
 use crate::batch::{FENCE_LEN, GROUP_WRITE_LEN, HEADER_WRITE_LEN, HOME_WRITE_LEN};
 use crate::layout::{Answer, BLOCK, STATE};
+use crate::newest::POSITION;
 
 #[derive(Clone, Copy, Debug, PartialEq, Eq)]
 pub enum Kind {
@@ -58,6 +59,10 @@ impl Kind {
         self != Kind::Format
     }
 
+    pub fn takes_newest(self) -> bool {
+        matches!(self, Kind::Open | Kind::Commit | Kind::Trim | Kind::Read)
+    }
+
     pub fn takes_block(self) -> bool {
         matches!(self, Kind::Store | Kind::Read)
     }
@@ -89,6 +94,7 @@ pub struct Lent {
     pub log: Vec<u8>,
     pub data: Vec<u8>,
     pub state: Vec<u8>,
+    pub newest: Vec<u8>,
     pub block: Vec<u8>,
     pub batch: Vec<u8>,
 }
@@ -101,6 +107,7 @@ impl Lent {
             log: areas.log,
             data: areas.data,
             state: vec![0; STATE],
+            newest: vec![0; POSITION * homes as usize],
             block: vec![0; BLOCK],
             batch: vec![0; ample(groups, homes)],
         }
@@ -108,20 +115,20 @@ impl Lent {
 
     /// `home` is the number of places for a reserve.
     pub fn run(&mut self, kind: Kind, writer: u64, home: u64) -> Answer {
-        let Lent { log, data, state, block, batch } = self;
+        let Lent { log, data, state, newest, block, batch } = self;
         match kind {
             Kind::Format => crate::format(log, data, batch),
-            Kind::Open => crate::open(log, data, state, batch),
+            Kind::Open => crate::open(log, data, state, newest, batch),
             Kind::Begin => crate::begin(log, data, state, writer),
             Kind::Reserve => crate::reserve(log, data, state, writer, home),
             Kind::Abort => crate::abort(log, data, state, writer),
             Kind::Store => crate::store(log, data, state, block, batch, writer, home),
-            Kind::Commit => crate::commit(log, data, state, batch, writer),
+            Kind::Commit => crate::commit(log, data, state, newest, batch, writer),
             Kind::Flush => crate::flush(log, data, state, batch),
             Kind::Confirm => crate::confirm(log, data, state),
             Kind::Settle => crate::settle(log, data, state, batch),
-            Kind::Trim => crate::trim(log, data, state, batch),
-            Kind::Read => crate::read(log, data, state, block, writer, home),
+            Kind::Trim => crate::trim(log, data, state, newest, batch),
+            Kind::Read => crate::read(log, data, state, newest, block, writer, home),
         }
     }
 }

@@ -19,6 +19,7 @@ pub mod landing;
 pub mod layout;
 pub mod lent;
 pub mod literal;
+pub mod newest;
 pub mod options;
 pub mod player;
 pub mod rng;

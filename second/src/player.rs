@@ -181,6 +181,7 @@ pub fn random_odd(rng: &mut Rng, kind: Kind, world: &World) -> Odd {
     match rng.below(4) {
         0 if kind.takes_state() => Odd::State(near(rng, world.lent.state.len())),
         1 if kind.takes_block() => Odd::Block(near(rng, 64)),
+        3 if kind.takes_newest() => Odd::Newest(near(rng, world.lent.newest.len())),
         2 => Odd::Data(near(rng, world.lent.data.len())),
         _ => Odd::Log(near(rng, world.lent.log.len())),
     }
@@ -234,6 +235,7 @@ pub fn step(
     }
     if !world.opened {
         fill_state(rng, &mut world.lent.state);
+        fill_state(rng, &mut world.lent.newest);
     }
     let call = Call::random(rng, profile, world);
     let answer = world.perform(&call, deep).map_err(|what| format!("{call:?}: {what}"))?;

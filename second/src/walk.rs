@@ -22,18 +22,24 @@ impl View<'_> {
     /// Visits every entry by rising offset. Holes are passed over, and so is
     /// an entry whose block has not its group's turn bit.
     #[inline]
-    pub fn each(&self, mut visit: impl FnMut(u32, Tag)) {
+    pub fn each(&self, visit: impl FnMut(u32, Tag)) {
+        self.each_from(0, visit);
+    }
+
+    /// The same from the offset `from` on.
+    #[inline]
+    pub fn each_from(&self, from: u32, mut visit: impl FnMut(u32, Tag)) {
         let ring = self.shape.groups as usize;
         let homes = self.shape.homes as u32;
-        let mut slot = (self.start % self.shape.groups) as usize;
-        let mut number = self.start;
+        let mut number = self.start + u64::from(from / 7);
+        let mut slot = (number % self.shape.groups) as usize;
         let mut turn = turn(self.shape, number);
-        let mut offset = 0;
+        let mut offset = from / 7 * 7;
         while offset < self.end {
             let group = &self.log[slot_range(slot)];
             if word(group, 0) == group_head(number) {
                 let places = (self.end - offset).min(7);
-                for place in 0..places {
+                for place in from.saturating_sub(offset)..places {
                     if top_bit(&group[BLOCK * (1 + place as usize)..]) != turn {
                         continue;
                     }
@@ -118,7 +124,8 @@ impl Walk {
     }
 }
 
-fn parts(tag: Tag) -> (u32, u32) {
+/// Home and first offset of an entry.
+pub fn parts(tag: Tag) -> (u32, u32) {
     match tag {
         Tag::Entry { home, first } | Tag::Closing { home, first, .. } => (home, first),
         Tag::Nothing => unreachable!(),
@@ -185,30 +192,31 @@ impl Newest {
     }
 }
 
-/// The offset a read takes: the newest entry of the transaction that began at
-/// `own`, else the newest committed entry.
-pub fn newest_of_home(view: &View, home: u32, own: Option<u32>) -> Option<u32> {
-    let mut own_entry = None;
-    let mut committed = None;
-    with_tallies(view.end, |tallies| {
-        let mut walk = Walk::default();
-        view.each(|offset, tag| {
-            let (entry_home, first) = parts(tag);
-            if entry_home == home {
-                tallies[first as usize].mark = offset as u16 + 1;
-                if own == Some(first) {
-                    own_entry = Some(offset);
-                }
-            }
-            if let Some(first) = walk.step(offset, tag, tallies) {
-                let mark = tallies[first as usize].mark;
-                if mark != 0 {
-                    committed = Some(u32::from(mark) - 1);
-                }
-            }
-        });
+/// The newest entry for a home of the transaction that began at `first`.
+pub fn newest_own(view: &View, home: u32, first: u32) -> Option<u32> {
+    let mut newest = None;
+    view.each_from(first, |offset, tag| {
+        if parts(tag) == (home, first) {
+            newest = Some(offset);
+        }
     });
-    own_entry.or(committed)
+    newest
+}
+
+/// The offset of the entry at a kept position, if one for the home is there.
+pub fn kept_entry(view: &View, home: u64, position: u64) -> Option<u32> {
+    let base = 7 * view.start;
+    if position < base || position >= base + u64::from(view.end) {
+        return None;
+    }
+    let offset = (position - base) as u32;
+    let mut there = None;
+    View { end: offset + 1, ..*view }.each_from(offset, |offset, tag| {
+        if u64::from(parts(tag).0) == home {
+            there = Some(offset);
+        }
+    });
+    there
 }
 
 /// The largest group at or below `limit` (counted from the start) that no

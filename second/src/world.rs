@@ -25,6 +25,7 @@ pub enum Odd {
     Log(usize),
     Data(usize),
     State(usize),
+    Newest(usize),
     Block(usize),
 }
 

@@ -4,7 +4,7 @@ mod model;
 
 use second::cases::Cases;
 use second::craft::craft;
-use second::damage::{damage_group, damage_header, damage_state, in_order};
+use second::damage::{damage_group, damage_header, damage_newest, damage_state, in_order};
 use second::layout::Shape;
 use second::lent::{Kind, Lent};
 use second::rng::Rng;
@@ -34,6 +34,9 @@ fn rounds(seed: u64, count: u64, shape: impl Fn(&mut Rng) -> Shape) {
         }
         for _ in 0..rng.pick(&[0, 0, 1, 2]) {
             damage_state(&mut rng, &mut lent);
+        }
+        if rng.chance(50) {
+            damage_newest(&mut rng, &mut lent);
         }
         assert_eq!(in_order(&lent), model::in_order(&lent));
         if rng.chance(20) {

@@ -20,7 +20,7 @@ use Rattle.model.specs.Calls.{Outcome, refused, done, sizeOf, outcome}
 use Rattle.model.proofs.bytes.ByteLaws.{puts-nil}
 use Rattle.model.proofs.strip.QuestionLaws.{ask-yes, ask-no, ask-passed, and-true}
 use Rattle.model.proofs.strip.OrderLaws.{tests, InOrder, in-order}
-use Rattle.answers.specs.Lent.{lent, leaves}
+use Rattle.answers.specs.Lent.{lent, leavesAll}
 
 -- ---- the first two questions, and a third that stands for the rest
 
@@ -144,22 +144,23 @@ block-usable g e =
 
 -- a refused call: its number is the answer, and all it was lent is as it was
 pub refused-by : (g : Given) (e : Effect) (a code figure size : ℕ) → code ≡ a → code ≢ 0 → figure ≡ 0 → size ≡ 0
-    → leaves code figure size (g .log) (g .area) (g .state) (g .block) (g .batch) ≡ outcome g a e
+    → leavesAll code figure size (g .log) (g .area) (g .state) (g .newest) (g .block) (g .batch) ≡ outcome g a e
 unfolding outcome refused
 refused-by g e zero code figure size h n f s = absurd (n h)
 refused-by g e (suc k) code figure size h n f s = rw (h, f, s)
 
 -- a done call: each part is the effect's
-pub done-by : (g : Given) (e : Effect) (a code figure size : ℕ) (log area state block batch : List ℕ) → a ≡ 0 → code ≡ 0
-    → figure ≡ e .figure → size ≡ length (batchBytes (e .records)) → log ≡ e .log → area ≡ e .area → state ≡ e .state → block ≡ e .block
-    → batch ≡ puts (g .batch) 0 (batchBytes (e .records)) → leaves code figure size log area state block batch ≡ outcome g a e
+pub done-by : (g : Given) (e : Effect) (a code figure size : ℕ) (log area state newest block batch : List ℕ) → a ≡ 0 → code ≡ 0
+    → figure ≡ e .figure → size ≡ length (batchBytes (e .records)) → log ≡ e .log → area ≡ e .area → state ≡ e .state → newest ≡ e .newest
+    → block ≡ e .block → batch ≡ puts (g .batch) 0 (batchBytes (e .records))
+    → leavesAll code figure size log area state newest block batch ≡ outcome g a e
 unfolding outcome done
-done-by g e zero code figure size log area state block batch z c f n l d s b t = rw (c, f, n, l, d, s, b, t)
-done-by g e (suc k) code figure size log area state block batch z c f n l d s b t = absurd (omega arith)
+done-by g e zero code figure size log area state newest block batch z c f n l d s p b t = rw (c, f, n, l, d, s, p, b, t)
+done-by g e (suc k) code figure size log area state newest block batch z c f n l d s p b t = absurd (omega arith)
 
 -- a done call that changes the strip only
 pub strip-by : (g : Given) (s : List ℕ) (a f code figure size : ℕ) (state : List ℕ) → a ≡ 0 → code ≡ 0 → figure ≡ f → size ≡ 0 → state ≡ s
-    → leaves code figure size (g .log) (g .area) state (g .block) (g .batch) ≡ outcome g a (newState g s f)
+    → leavesAll code figure size (g .log) (g .area) state (g .newest) (g .block) (g .batch) ≡ outcome g a (newState g s f)
 unfolding outcome done newState batchBytes
 strip-by g s zero f code figure size state z c e n h = rw (c, e, n, h, puts-nil)
 strip-by g s (suc k) f code figure size state z c e n h = absurd (omega arith)

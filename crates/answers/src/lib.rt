@@ -5,8 +5,8 @@ ghost use mathlib.Core.List.{[]};
 ghost use lib.Dec.{eqb};
 ghost use lib.ListN.{length};
 ghost use Rattle.model.specs.Layout.{logLengthRight, dataLengthRight};
-ghost use Rattle.model.specs.Questions.{askState, askBlock};
-ghost use Rattle.answers.specs.Lent.{lent};
+ghost use Rattle.model.specs.Questions.{askState, askBlock, askNewest, askBoth};
+ghost use Rattle.answers.specs.Lent.{lent, lentAll};
 
 // The answer of a call: 0 for done or the number of the refusal, the call's figure, and how many bytes of the batch it wrote.
 #[repr(C)]
@@ -82,4 +82,24 @@ pub fn in_use_block(log: &[u8], area: &[u8], state: &[u8], block: &[u8]) -> u64
         return 2;
     }
     0
+}
+
+// Questions 1 and 2 of a call that is lent the newest positions, eight bytes for each home.
+pub fn in_use_newest(log: &[u8], area: &[u8], state: &[u8], newest: &[u8]) -> u64
+    ensures { λ r. ⌜ r ≡ askNewest (lentAll (now (log .entry)) (now (area .entry)) (now (state .entry)) (now (newest .entry)) [] [] 0 0) 0 ⌝ }
+{
+    if newest.len() as u64 != 8 * areas::data_homes(area.len()) {
+        return 1;
+    }
+    in_use(log, area, state)
+}
+
+// The same for a call that is lent a block too.
+pub fn in_use_both(log: &[u8], area: &[u8], state: &[u8], newest: &[u8], block: &[u8]) -> u64
+    ensures { λ r. ⌜ r ≡ askBoth (lentAll (now (log .entry)) (now (area .entry)) (now (state .entry)) (now (newest .entry)) (now (block .entry)) [] 0 0) 0 ⌝ }
+{
+    if newest.len() as u64 != 8 * areas::data_homes(area.len()) {
+        return 1;
+    }
+    in_use_block(log, area, state, block)
 }

@@ -22,6 +22,7 @@ pub use tags::commit_word;
 pub use tags::displaced;
 pub use tags::entry_word;
 pub use tags::read_tag;
+pub use tags::tag_back;
 pub use tags::with_displaced;
 pub use turns::copy_with_top_bit;
 pub use turns::top_bit;

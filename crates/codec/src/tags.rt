@@ -3,7 +3,7 @@
 use model::Tag;
 ghost use mathlib.Core.Path.{_≡_};
 ghost use Prim.Native.Nat.{_^_, _<_};
-ghost use Rattle.model.specs.Tag.{entryWord, closingWord, withDisplaced, displaced, readTag};
+ghost use Rattle.model.specs.Tag.{entryWord, closingWord, withDisplaced, displaced, readTag, field};
 
 // The word of an entry that does not close its transaction.
 pub fn entry_word(home: u64, back: u64) -> u64
@@ -34,6 +34,13 @@ pub fn displaced(word: u64) -> u64
     ensures { λ r. ⌜ (r ≡ displaced word) × (r < 2) ⌝ }
 {
     (word >> 57) & 1
+}
+
+// The distance back to the first entry that a word holds, used or not.
+pub fn tag_back(word: u64) -> u64
+    ensures { λ r. ⌜ r ≡ field word 14 13 ⌝ }
+{
+    (word >> 14) & 0x1fff
 }
 
 // What a word says at a position of a log that starts at position `base` and has `homes` homes.

@@ -3,7 +3,7 @@ use answers::Reply;
 ghost use mathlib.Core.Path.{_≡_};
 ghost use mathlib.Core.List.{[]};
 ghost use Rattle.model.specs.Calls.{formatCall, openCall, beginCall, reserveCall, abortCall, storeCall, commitCall, flushCall, confirmCall, settleCall, trimCall, readCall};
-ghost use Rattle.answers.specs.Lent.{lent, leaves};
+ghost use Rattle.answers.specs.Lent.{lentAll, leavesAll, lent, leaves};
 
 // Writes an empty store: every group unused, every home zeros, then the header.
 #[no_mangle]
@@ -19,11 +19,12 @@ pub extern "C" fn kagutin_open(
     log: &mut [u8],
     area: &mut [u8],
     state: &mut [u8],
+    newest: &mut [u8],
     batch: &mut [u8],
 ) -> Reply
-    ensures { λ r. ⌜ leaves (r .code) (r .figure) (r .size) (now (log .exit)) (now (area .exit)) (now (state .exit)) [] (now (batch .exit)) ≡ openCall (lent (now (log .entry)) (now (area .entry)) (now (state .entry)) [] (now (batch .entry)) 0 0) ⌝ }
+    ensures { λ r. ⌜ leavesAll (r .code) (r .figure) (r .size) (now (log .exit)) (now (area .exit)) (now (state .exit)) (now (newest .exit)) [] (now (batch .exit)) ≡ openCall (lentAll (now (log .entry)) (now (area .entry)) (now (state .entry)) (now (newest .entry)) [] (now (batch .entry)) 0 0) ⌝ }
 {
-    recovery::reopen(log, area, state, batch)
+    recovery::reopen(log, area, state, newest, batch)
 }
 
 // Begins a transaction of a writer that has none open.
@@ -78,12 +79,13 @@ pub extern "C" fn kagutin_commit(
     log: &mut [u8],
     area: &[u8],
     state: &mut [u8],
+    newest: &mut [u8],
     batch: &mut [u8],
     writer: u64,
 ) -> Reply
-    ensures { λ r. ⌜ leaves (r .code) (r .figure) (r .size) (now (log .exit)) (now (area .entry)) (now (state .exit)) [] (now (batch .exit)) ≡ commitCall (lent (now (log .entry)) (now (area .entry)) (now (state .entry)) [] (now (batch .entry)) writer 0) ⌝ }
+    ensures { λ r. ⌜ leavesAll (r .code) (r .figure) (r .size) (now (log .exit)) (now (area .entry)) (now (state .exit)) (now (newest .exit)) [] (now (batch .exit)) ≡ commitCall (lentAll (now (log .entry)) (now (area .entry)) (now (state .entry)) (now (newest .entry)) [] (now (batch .entry)) writer 0) ⌝ }
 {
-    logging::commit(log, area, state, batch, writer)
+    logging::commit(log, area, state, newest, batch, writer)
 }
 
 // Submits the group that is being filled, and a fence.
@@ -126,11 +128,12 @@ pub extern "C" fn kagutin_trim(
     log: &mut [u8],
     area: &[u8],
     state: &mut [u8],
+    newest: &mut [u8],
     batch: &mut [u8],
 ) -> Reply
-    ensures { λ r. ⌜ leaves (r .code) (r .figure) (r .size) (now (log .exit)) (now (area .entry)) (now (state .exit)) [] (now (batch .exit)) ≡ trimCall (lent (now (log .entry)) (now (area .entry)) (now (state .entry)) [] (now (batch .entry)) 0 0) ⌝ }
+    ensures { λ r. ⌜ leavesAll (r .code) (r .figure) (r .size) (now (log .exit)) (now (area .entry)) (now (state .exit)) (now (newest .exit)) [] (now (batch .exit)) ≡ trimCall (lentAll (now (log .entry)) (now (area .entry)) (now (state .entry)) (now (newest .entry)) [] (now (batch .entry)) 0 0) ⌝ }
 {
-    trimming::trim(log, area, state, batch)
+    trimming::trim(log, area, state, newest, batch)
 }
 
 // Reads the block of a home as a writer sees it.
@@ -139,11 +142,12 @@ pub extern "C" fn kagutin_read(
     log: &[u8],
     area: &[u8],
     state: &[u8],
+    newest: &[u8],
     block: &mut [u8],
     writer: u64,
     home: u64,
 ) -> Reply
-    ensures { λ r. ⌜ leaves (r .code) (r .figure) (r .size) (now (log .entry)) (now (area .entry)) (now (state .entry)) (now (block .exit)) [] ≡ readCall (lent (now (log .entry)) (now (area .entry)) (now (state .entry)) (now (block .entry)) [] writer home) ⌝ }
+    ensures { λ r. ⌜ leavesAll (r .code) (r .figure) (r .size) (now (log .entry)) (now (area .entry)) (now (state .entry)) (now (newest .entry)) (now (block .exit)) [] ≡ readCall (lentAll (now (log .entry)) (now (area .entry)) (now (state .entry)) (now (newest .entry)) (now (block .entry)) [] writer home) ⌝ }
 {
-    reading::read(log, area, state, block, writer, home)
+    reading::read(log, area, state, newest, block, writer, home)
 }

@@ -12,10 +12,10 @@ use Rattle.model.specs.Bytes.{puts}
 use Rattle.model.specs.Layout.{groupAt, groupOffset}
 use Rattle.model.specs.Batch.{Record, recordBytes, batchBytes}
 use Rattle.model.specs.Effects.{Given, Effect}
-use Rattle.model.specs.Questions.{ask, askState, askBlock, areasRight, stateRight, blockRight, stripInOrder}
+use Rattle.model.specs.Questions.{ask, askState, askBlock, askNewest, areasRight, stateRight, blockRight, newestRight, stripInOrder}
 use Rattle.model.specs.Calls.{outcome}
 use Rattle.model.proofs.bytes.LayoutLaws.{length-groupAt}
-use Rattle.answers.specs.Lent.{lent, leaves}
+use Rattle.answers.specs.Lent.{leavesAll}
 use Rattle.answers.proofs.AnswerLaws.{done-by}
 
 -- a call's answer is 0: so is that of its first two questions, and so is the rest
@@ -32,6 +32,10 @@ state-first g v e = firsts (areasRight g && stateRight g) (stripInOrder g) v e
 pub block-first : (g : Given) (v : ℕ) → askBlock g v ≡ 0 → (askBlock g 0 ≡ 0) × (v ≡ 0)
 unfolding askBlock
 block-first g v e = firsts (areasRight g && stateRight g && blockRight g) (stripInOrder g) v e
+
+pub newest-first : (g : Given) (v : ℕ) → askNewest g v ≡ 0 → (askNewest g 0 ≡ 0) × (v ≡ 0)
+unfolding askNewest
+newest-first g v e = firsts (areasRight g && stateRight g && newestRight g) (stripInOrder g) v e
 
 -- a choice by a test
 pub pick-yes : (n m a b : ℕ) → n ≡ m → a ≡ cond (eqb n m) a b
@@ -54,8 +58,9 @@ unfolding batchBytes
 batch-two r q = rw append-nil
 
 -- a done call whose effect is known
-pub ends : (g : Given) (e₀ e : Effect) (a code figure size : ℕ) (log area state block batch : List ℕ) → e₀ ≡ e → a ≡ 0 → code ≡ 0
-    → figure ≡ e .figure → size ≡ length (batchBytes (e .records)) → log ≡ e .log → area ≡ e .area → state ≡ e .state → block ≡ e .block
-    → batch ≡ puts (g .batch) 0 (batchBytes (e .records)) → leaves code figure size log area state block batch ≡ outcome g a e₀
-ends g e₀ e a code figure size log area state block batch h z c f n l d s b t =
-    done-by g e a code figure size log area state block batch z c f n l d s b t ∙ ap (outcome g a) (sym h)
+pub ends : (g : Given) (e₀ e : Effect) (a code figure size : ℕ) (log area state newest block batch : List ℕ) → e₀ ≡ e → a ≡ 0 → code ≡ 0
+    → figure ≡ e .figure → size ≡ length (batchBytes (e .records)) → log ≡ e .log → area ≡ e .area → state ≡ e .state → newest ≡ e .newest
+    → block ≡ e .block → batch ≡ puts (g .batch) 0 (batchBytes (e .records))
+    → leavesAll code figure size log area state newest block batch ≡ outcome g a e₀
+ends g e₀ e a code figure size log area state newest block batch h z c f n l d s p b t =
+    done-by g e a code figure size log area state newest block batch z c f n l d s p b t ∙ ap (outcome g a) (sym h)

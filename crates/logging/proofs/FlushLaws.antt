@@ -167,8 +167,8 @@ module _ (l a s b : List ℕ) where
       → leaves r figure size l a s′ [] b′ ≡ flushCall (given l a s b)
   unfolding flushCall flushNone
   ends-none code st s′ b′ r figure size e z es f hs hb q =
-      ends (given l a s b) (flushEffect (given l a s b)) (flushNone (given l a s b) st) _ r figure size l a s′ [] b′ (effect-none _ st es f)
-      (sym e ∙ z) (q .0) (q .1) (q .2 ∙ sym none-size) refl refl hs refl hb
+      ends (given l a s b) (flushEffect (given l a s b)) (flushNone (given l a s b) st) _ r figure size l a s′ [] [] b′ (effect-none _ st es f)
+      (sym e ∙ z) (q .0) (q .1) (q .2 ∙ sym none-size) refl refl hs refl refl hb
 
   pub ends-part : (code : ℕ) (st : State) (s′ b′ : List ℕ) (r figure size : ℕ)
       → code ≡ flushAnswer (given l a s b) (sizeOf (flushEffect (given l a s b))) → code ≡ 0 → st ≡ stateOf s → st .filled ≢ 0
@@ -178,5 +178,5 @@ module _ (l a s b : List ℕ) where
   unfolding flushCall flushPart
   ends-part code st s′ b′ r figure size e z es f hs hb q =
       let k = known code st e z es in
-      ends (given l a s b) (flushEffect (given l a s b)) (flushPart (given l a s b) st) _ r figure size l a s′ [] b′ (effect-part _ st es f)
-      (sym e ∙ z) (q .0) (q .1) (q .2 ∙ sym (part-size _ _ (length-slot l (st .next) (st .groups) (k .some) (k .log)))) refl refl hs refl hb
+      ends (given l a s b) (flushEffect (given l a s b)) (flushPart (given l a s b) st) _ r figure size l a s′ [] [] b′ (effect-part _ st es f)
+      (sym e ∙ z) (q .0) (q .1) (q .2 ∙ sym (part-size _ _ (length-slot l (st .next) (st .groups) (k .some) (k .log)))) refl refl hs refl refl hb

@@ -9,7 +9,9 @@ use lib.Dec.{eqb, leb}
 use lib.ListN.{length, take, drop}
 use borrow.Author.Tests.{le-leb, lt-leb, leb-false, not-true, not-false, eq-eqb, ne-eqb}
 use Rattle.model.specs.Bytes.{part, puts}
-use Rattle.model.specs.Layout.{groupAt}
+use Rattle.model.specs.Layout.{groupAt, entryAt}
+use Rattle.model.specs.Commit.{entries}
+use Rattle.model.specs.Newest.{keepEntries}
 use Rattle.model.specs.Batch.{GW, recordBytes, batchBytes}
 use Rattle.model.specs.declared.State.{State}
 use Rattle.model.specs.declared.Writer.{Writer}
@@ -25,7 +27,8 @@ use Rattle.writers.specs.Held.{heldFor}
 use Rattle.writers.specs.Frame.{SameElsewhere}
 use Rattle.writers.proofs.HeldLaws.{held-first, held-other}
 use Rattle.writers.proofs.FrameLaws.{elsewhere, setNext-writer, setFilled-writer}
-use Rattle.logging.specs.Logs.{MayLog, Fits, Wrote, loggedEntry, loggedClosing, HeldNext, StoredOther, Closed, Committed}
+use Rattle.logging.specs.Logs.{MayLog, Fits, Wrote, loggedEntry, loggedClosing, HeldNext, StoredOther, Closed, Committed, keptBy}
+use Rattle.scan.specs.Members.{Stretch}
 use Rattle.logging.proofs.CallLaws.{length-slot}
 
 -- ---- room in the log and in the batch
@@ -180,8 +183,40 @@ module _ (l s b : List ℕ) (st : State) (r : Writer) (w : ℕ) where
       → s′ ≡ setPromise s₁ w k → StoredOther n s′ l′ b′ s l b x st r w home
   stored-used x home n k s₁ s′ l′ b′ ek h e = record { size = h .size; state = e ∙ rw (h .state, ek); log = h .log; batch = h .batch }
 
-  pub committed-back : (n : ℕ) (s₁ s′ l′ b′ : List ℕ) → Closed n s₁ l′ b′ s l b st r w → s′ ≡ setPromise s₁ w 0 → Committed n s′ l′ b′ s l b st r w
-  committed-back n s₁ s′ l′ b′ h e = record { size = h .size; state = e ∙ rw (h .state); log = h .log; batch = h .batch }
+  -- and the newest positions
+  pub committed-back : (n : ℕ) (s₁ s′ l′ b′ p p′ : List ℕ) → Closed n s₁ l′ b′ s l b st r w → s′ ≡ setPromise s₁ w 0 → p′ ≡ keptBy l′ st r p
+      → Committed n s′ p′ l′ b′ s p l b st r w
+  committed-back n s₁ s′ l′ b′ p p′ h e k =
+      record { size = h .size; state = e ∙ rw (h .state); newest = k; log = h .log; batch = h .batch }
+
+  -- the stretch of the log from the transaction's first position to the closing one
+  pub stretch : (l′ : List ℕ) → MayLog l s b st w → Fits st r (nextPosition st) → length l′ ≡ length l
+      → Stretch l′ (st .groups) (st .start) (firstFor r (nextPosition st)) (nextPosition st + 1)
+  stretch l′ m f e =
+      let q : nextPosition st ≡ 7 * st .next + st .filled = unfold nextPosition in refl in
+      record {
+        long = e ∙ m .log;
+        some = omega (arith, m .some);
+        most = m .few;
+        low = m .high;
+        from = f .from;
+        upto = omega (arith, f .upto);
+        within = omega (arith, q, m .room, m .filled);
+      }
+
+-- the newest positions, from what the pass was handed
+module _ (log : List ℕ) (st : State) (r : Writer) (f p : ℕ) (ep : p ≡ nextPosition st) (ef : f ≡ firstFor r p) where
+  pub stretch-at : Stretch log (st .groups) (st .start) (firstFor r (nextPosition st)) (nextPosition st + 1) → Stretch log (st .groups) (st .start) f (p + 1)
+  stretch-at h = rw (ef, ep) h
+
+  pub kept-by : (newest after : List ℕ)
+      → after
+      ≡ keepEntries (entryAt log (st .groups) (st .homes) (st .start))
+      (entries (entryAt log (st .groups) (st .homes) (st .start)) (7 * st .start) (record { first = f; closing = p }))
+      newest
+      → after ≡ keptBy log st r newest
+  unfolding keptBy
+  kept-by newest after e = e ∙ rw (ef, ep)
 
 -- a store that logs nothing
 pub none-logged : (r : Writer) → holds r ≡ false → countFor r + 1 < 2 ^ 64

@@ -70,6 +70,7 @@ fits-tag l a s st r v u es er hv hh room = rw (es, er) (go (rw er at hh) (rw es 
         let g : stateOf s .groups ≤ 1024 = omega (arith, o .groups-same, u .groups-most) in
         record {
           home = omega (arith, o .homes-same, u .homes-most);
+          from = b .low;
           upto = b .upto;
           near = omega (arith, b .low);
           many = omega (arith, b .low, b .many);

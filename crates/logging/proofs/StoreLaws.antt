@@ -187,15 +187,15 @@ module _ (l a s x b : List ℕ) (v h : ℕ) where
           → leaves c figure size l a s′ x b ≡ storeCall (lent l a s x b v h)
       unfolding storeCall storeFirst newState batchBytes
       ends-first r t s′ c figure size er et p hs q =
-          ends (lent l a s x b v h) (storeEffect (lent l a s x b v h)) (storeFirst (lent l a s x b v h)) _ c figure size l a s′ x b
-          (effect-first (lent l a s x b v h) r er (sym et ∙ not-true t p)) (sym e ∙ z) (q .0) (q .1) (q .2) refl refl hs refl (sym (puts-nil b 0))
+          ends (lent l a s x b v h) (storeEffect (lent l a s x b v h)) (storeFirst (lent l a s x b v h)) _ c figure size l a s′ [] x b
+          (effect-first (lent l a s x b v h) r er (sym et ∙ not-true t p)) (sym e ∙ z) (q .0) (q .1) (q .2) refl refl hs refl refl (sym (puts-nil b 0))
 
       pub ends-again : (r : Writer) (t : Bool) (s′ : List ℕ) (c figure size : ℕ) → r ≡ writerOf s v → t ≡ holds r → not t ≡ false → r .home ≡ h
           → s′ ≡ setHeld s v x → (c ≡ 0) × (figure ≡ 0) × (size ≡ 0) → leaves c figure size l a s′ x b ≡ storeCall (lent l a s x b v h)
       unfolding storeCall storeAgain newState batchBytes
       ends-again r t s′ c figure size er et p w hs q =
-          ends (lent l a s x b v h) (storeEffect (lent l a s x b v h)) (storeAgain (lent l a s x b v h)) _ c figure size l a s′ x b
-          (effect-again (lent l a s x b v h) r er (sym et ∙ not-false t p) w) (sym e ∙ z) (q .0) (q .1) (q .2) refl refl hs refl
+          ends (lent l a s x b v h) (storeEffect (lent l a s x b v h)) (storeAgain (lent l a s x b v h)) _ c figure size l a s′ [] x b
+          (effect-again (lent l a s x b v h) r er (sym et ∙ not-false t p) w) (sym e ∙ z) (q .0) (q .1) (q .2) refl refl hs refl refl
           (sym (puts-nil b 0))
 
       pub others : (r : Writer) (t : Bool) (st : State) → r ≡ writerOf s v → t ≡ holds r → not t ≡ false → r .home ≢ h → st ≡ stateOf s
@@ -218,6 +218,6 @@ module _ (l a s x b : List ℕ) (v h : ℕ) where
           → leaves c figure size l′ a s′ x b′ ≡ storeCall (lent l a s x b v h)
       unfolding storeCall storeOther logHeld loggedEntry
       ends-other r t st n s′ l′ b′ c figure size er et p w es d q =
-          ends (lent l a s x b v h) (storeEffect (lent l a s x b v h)) (storeOther (lent l a s x b v h) r (nextPosition st)) _ c figure size l′ a s′ x b′
+          ends (lent l a s x b v h) (storeEffect (lent l a s x b v h)) (storeOther (lent l a s x b v h) r (nextPosition st)) _ c figure size l′ a s′ [] x b′
           (effect-other (lent l a s x b v h) r st er es (sym et ∙ not-false t p) w) (sym e ∙ z) (q .0) (q .1) (q .2 ∙ d .size) (d .log) refl
-          (d .state) refl (d .batch)
+          (d .state) refl refl (d .batch)

@@ -9,7 +9,11 @@ use Rattle.model.specs.State.{stateOf, setLast, nextPosition, setWriter, heldOf
 use Rattle.model.specs.declared.State.{State}
 use Rattle.model.specs.declared.Writer.{Writer}
 use Rattle.model.specs.Tag.{entryWord, closingWord}
+use Rattle.model.specs.Layout.{entryAt}
+use Rattle.model.specs.Commit.{entries}
+use Rattle.model.specs.Newest.{keepEntries}
 use Rattle.model.specs.Effects.{Logged, logged, linkFrom}
+use Rattle.model.specs.declared.Tag.{Tag}
 
 -- an entry may be logged: there is room in the log and in the batch
 pub record MayLog (l s b : List ℕ) (st : State) (w : ℕ) : Type 0 where
@@ -28,6 +32,7 @@ pub record MayLog (l s b : List ℕ) (st : State) (w : ℕ) : Type 0 where
 -- the fields of a held block's tag fit
 pub record Fits (st : State) (r : Writer) (position : ℕ) : Type 0 where
   pub home : r .home < 2 ^ 16
+  pub from : 7 * st .start ≤ firstFor r position
   pub upto : firstFor r position ≤ position
   pub near : position < firstFor r position + 2 ^ 13
   pub many : countFor r + 1 < 2 ^ 13
@@ -68,15 +73,22 @@ pub record StoredOther (n : ℕ) (s l b : List ℕ) (s₀ l₀ b₀ x : List ℕ
   pub log : l ≡ loggedEntry s₀ l₀ st r w .log
   pub batch : b ≡ puts b₀ 0 (batchBytes (loggedEntry s₀ l₀ st r w .records))
 
--- a commit that logs the held block: the closing entry, and with the promise given back
+-- a commit that logs the held block: the closing entry, and with the promise given back and the newest positions kept
 pub record Closed (n : ℕ) (s l b : List ℕ) (s₀ l₀ b₀ : List ℕ) (st : State) (r : Writer) (w : ℕ) : Type 0 where
   pub size : n ≡ length (batchBytes (loggedClosing s₀ l₀ st r w .records))
   pub state : s ≡ setWriter (setLast (loggedClosing s₀ l₀ st r w .state) (nextPosition st + 1)) w idle
   pub log : l ≡ loggedClosing s₀ l₀ st r w .log
   pub batch : b ≡ puts b₀ 0 (batchBytes (loggedClosing s₀ l₀ st r w .records))
 
-pub record Committed (n : ℕ) (s l b : List ℕ) (s₀ l₀ b₀ : List ℕ) (st : State) (r : Writer) (w : ℕ) : Type 0 where
+-- the newest positions with those of the transaction that closes at the next position
+unfoldable pub keptBy : List ℕ → State → Writer → List ℕ → List ℕ
+keptBy log st r newest =
+    let tags : ℕ → Tag = entryAt log (st .groups) (st .homes) (st .start) in
+    keepEntries tags (entries tags (7 * st .start) (record { first = firstFor r (nextPosition st); closing = nextPosition st })) newest
+
+pub record Committed (n : ℕ) (s p l b : List ℕ) (s₀ p₀ l₀ b₀ : List ℕ) (st : State) (r : Writer) (w : ℕ) : Type 0 where
   pub size : n ≡ length (batchBytes (loggedClosing s₀ l₀ st r w .records))
   pub state : s ≡ setPromise (setWriter (setLast (loggedClosing s₀ l₀ st r w .state) (nextPosition st + 1)) w idle) w 0
+  pub newest : p ≡ keptBy l st r p₀
   pub log : l ≡ loggedClosing s₀ l₀ st r w .log
   pub batch : b ≡ puts b₀ 0 (batchBytes (loggedClosing s₀ l₀ st r w .records))

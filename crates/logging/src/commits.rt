@@ -7,14 +7,15 @@ use model::State;
 use model::Writer;
 ghost use mathlib.Core.Path.{_≡_};
 ghost use mathlib.Core.List.{[]};
-ghost use Prim.Native.Nat.{_<_};
+ghost use Prim.Native.Nat.{_+_, _*_, _<_};
 ghost use lib.ListN.{length};
-ghost use Rattle.model.specs.State.{nextPosition, setWriter, setPromise, idle};
+ghost use Rattle.model.specs.State.{nextPosition, setWriter, setPromise, idle, firstFor};
 ghost use Rattle.model.specs.Effects.{commitEffect};
 ghost use Rattle.model.specs.Questions.{commitAnswer};
 ghost use Rattle.model.specs.Calls.{sizeOf, commitCall};
-ghost use Rattle.answers.specs.Lent.{lent, leaves};
-ghost use Rattle.logging.specs.Logs.{MayLog, Fits, Closed, Committed};
+ghost use Rattle.answers.specs.Lent.{lentAll, leavesAll};
+ghost use Rattle.scan.specs.Members.{Stretch};
+ghost use Rattle.logging.specs.Logs.{MayLog, Fits, Closed, Committed, keptBy};
 
 // Ends the transaction of a writer that holds nothing, and gives back the places promised to it.
 fn commit_none(state: &mut [u8], w: usize)
@@ -45,28 +46,47 @@ fn close_held(
     size
 }
 
-// The same, and the places promised to the writer are given back.
+// Keeps the position of each entry of the transaction that was closed at the next position.
+fn keep_newest(log: &[u8], newest: &mut [u8], st: State, r: Writer)
+    requires { ⌜ Stretch (now log) (st .groups) (st .start) (firstFor r (nextPosition st)) (nextPosition st + 1) × (length (now newest) ≡ 8 * st .homes) ⌝ }
+    ensures { λ _. ⌜ now (newest .exit) ≡ keptBy (now (log .entry)) st r (now (newest .entry)) ⌝ }
+{
+    let position = strip::next_position(st);
+    let first = strip::first_for(r, position);
+    positions::keep_entries(log, st.groups, st.homes, st.start, first, position, newest)
+}
+
+// The closing entry, with the places promised to the writer given back and the newest positions kept.
 fn commit_held(
     log: &mut [u8],
     state: &mut [u8],
+    newest: &mut [u8],
     batch: &mut [u8],
     st: State,
     r: Writer,
     w: usize,
 ) -> u64
-    requires { ⌜ MayLog (now log) (now state) (now batch) st w × Fits st r (nextPosition st) ⌝ }
-    ensures { λ x. ⌜ Committed x (now (state .exit)) (now (log .exit)) (now (batch .exit)) (now (state .entry)) (now (log .entry)) (now (batch .entry)) st r w ⌝ }
+    requires { ⌜ MayLog (now log) (now state) (now batch) st w × Fits st r (nextPosition st) × (length (now newest) ≡ 8 * st .homes) ⌝ }
+    ensures { λ x. ⌜ Committed x (now (state .exit)) (now (newest .exit)) (now (log .exit)) (now (batch .exit)) (now (state .entry)) (now (newest .entry)) (now (log .entry)) (now (batch .entry)) st r w ⌝ }
 {
     let size = close_held(log, state, batch, st, r, w);
     strip::set_promise(state, w, 0);
+    keep_newest(log, newest, st, r);
     size
 }
 
 // The answer of a commit: 0, or the number of the question that refuses it.
-fn commit_verdict(log: &[u8], area: &[u8], state: &[u8], batch: &[u8], writer: u64) -> u64
-    ensures { λ r. ⌜ r ≡ commitAnswer (lent (now (log .entry)) (now (area .entry)) (now (state .entry)) [] (now (batch .entry)) writer 0) (sizeOf (commitEffect (lent (now (log .entry)) (now (area .entry)) (now (state .entry)) [] (now (batch .entry)) writer 0))) ⌝ }
+fn commit_verdict(
+    log: &[u8],
+    area: &[u8],
+    state: &[u8],
+    newest: &[u8],
+    batch: &[u8],
+    writer: u64,
+) -> u64
+    ensures { λ r. ⌜ r ≡ commitAnswer (lentAll (now (log .entry)) (now (area .entry)) (now (state .entry)) (now (newest .entry)) [] (now (batch .entry)) writer 0) (sizeOf (commitEffect (lentAll (now (log .entry)) (now (area .entry)) (now (state .entry)) (now (newest .entry)) [] (now (batch .entry)) writer 0))) ⌝ }
 {
-    let asked = answers::in_use(log, area, state);
+    let asked = answers::in_use_newest(log, area, state, newest);
     if asked != 0 {
         return asked;
     }
@@ -83,11 +103,19 @@ fn commit_verdict(log: &[u8], area: &[u8], state: &[u8], batch: &[u8], writer: u
     may_log(state, strip::state(state), writer as usize, batch.len())
 }
 
-// Commits a writer's open transaction: its held block is logged as the closing entry, whose position + 1 is the ticket.
-pub fn commit(log: &mut [u8], area: &[u8], state: &mut [u8], batch: &mut [u8], writer: u64) -> Reply
-    ensures { λ r. ⌜ leaves (r .code) (r .figure) (r .size) (now (log .exit)) (now (area .entry)) (now (state .exit)) [] (now (batch .exit)) ≡ commitCall (lent (now (log .entry)) (now (area .entry)) (now (state .entry)) [] (now (batch .entry)) writer 0) ⌝ }
+// Commits a writer's open transaction: its held block is logged as the closing entry, whose position + 1 is the ticket, and for each home that it
+// wrote the last entry's position is kept.
+pub fn commit(
+    log: &mut [u8],
+    area: &[u8],
+    state: &mut [u8],
+    newest: &mut [u8],
+    batch: &mut [u8],
+    writer: u64,
+) -> Reply
+    ensures { λ r. ⌜ leavesAll (r .code) (r .figure) (r .size) (now (log .exit)) (now (area .entry)) (now (state .exit)) (now (newest .exit)) [] (now (batch .exit)) ≡ commitCall (lentAll (now (log .entry)) (now (area .entry)) (now (state .entry)) (now (newest .entry)) [] (now (batch .entry)) writer 0) ⌝ }
 {
-    let code = commit_verdict(log, area, state, batch, writer);
+    let code = commit_verdict(log, area, state, newest, batch, writer);
     if code != 0 {
         return answers::refused(code);
     }
@@ -99,6 +127,6 @@ pub fn commit(log: &mut [u8], area: &[u8], state: &mut [u8], batch: &mut [u8], w
     }
     let st = strip::state(state);
     let ticket = strip::next_position(st) + 1;
-    let size = commit_held(log, state, batch, st, r, w);
+    let size = commit_held(log, state, newest, batch, st, r, w);
     answers::done(ticket, size)
 }

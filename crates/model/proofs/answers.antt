@@ -1,8 +1,9 @@
--- What the definitions come to, by computation: a format, the paper's trials, a history of every call of document 01, one with promised places, and
--- histories with torn groups. They rest on no law, so a definition that goes wrong is refused here first.
+-- What the definitions come to, by computation: a format, the paper's trials, a history of every call of document 01, one with promised places,
+-- histories with torn groups, and what is kept of newest positions. They rest on no law, so a definition that goes wrong is refused here first.
 pub mod Computing
 pub mod FormatHolds
 pub mod TrialsHold
 pub mod HistoryHolds
 pub mod ReservationsHold
 pub mod TearsHold
+pub mod PositionsHold

@@ -1,19 +1,22 @@
--- The claims: the refusals, demands 2 and 3, what every call answers, the facts stated in passing, and a history that meets the premises.
+-- The claims: the refusals, demands 2 and 3, what every call answers, the newest positions, the facts stated in passing, and a history that meets the premises.
 pub mod RefusalsHold
 pub mod LiveHolds
 pub mod DemandThree
 pub mod TrimYields
 pub mod Yields
 pub mod YieldsAll
-pub mod DemandTwo
 pub mod StoreLaws
 pub mod StoreAnswers
 pub mod StoreFollows
+pub mod KeptSteps
+pub mod KeptHolds
+pub mod DemandTwo
 pub mod LedgerLaws
 pub mod LedgerSteps
 pub mod PlacesHold
 pub mod OnceLaws
 pub mod FactLaws
+pub mod AsideHolds
 pub mod Ledger
 pub mod PromisesHold
 pub mod WitnessHolds

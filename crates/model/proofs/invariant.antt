@@ -13,3 +13,4 @@ pub mod Now
 pub mod NowLate
 pub mod NowNext
 pub mod LiveLog
+pub mod KeptBook

@@ -5,3 +5,4 @@ pub mod WriterLaws
 pub mod PromiseLaws
 pub mod OrderLaws
 pub mod QuestionLaws
+pub mod NewestLaws

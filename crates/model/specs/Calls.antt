@@ -9,12 +9,14 @@ use Rattle.model.specs.Batch.{Record, batchBytes}
 use Rattle.model.specs.Effects.{Given, Effect, formatEffect, openEffect, openStart, beginEffect, reserveEffect, abortEffect, storeEffect, commitEffect, flushEffect, confirmEffect, settleEffect, trimStart, trimEffect, readEffect}
 use Rattle.model.specs.Questions.{formatAnswer, openAnswer, beginAnswer, reserveAnswer, abortAnswer, storeAnswer, commitAnswer, flushAnswer, confirmAnswer, settleAnswer, trimAnswer, readAnswer}
 
--- all that a call gives and leaves: its number, figure and batch length, the strip, both copies, the block and the whole batch buffer
+-- all that a call gives and leaves: its number, figure and batch length, the strip, the newest positions, both copies, the block and the whole batch
+-- buffer
 pub record Outcome : Type 0 where
   pub code : ℕ
   pub figure : ℕ
   pub size : ℕ
   pub state : List ℕ
+  pub newest : List ℕ
   pub log : List ℕ
   pub area : List ℕ
   pub block : List ℕ
@@ -23,7 +25,17 @@ pub record Outcome : Type 0 where
 -- "A refusal returns its number, no other figure but zero, no train bytes, and all lent memory untouched."
 unfoldable pub refused : Given → ℕ → Outcome
 refused g code =
-    record { code = code; figure = 0; size = 0; state = g .state; log = g .log; area = g .area; block = g .block; batch = g .batch }
+    record {
+      code = code;
+      figure = 0;
+      size = 0;
+      state = g .state;
+      newest = g .newest;
+      log = g .log;
+      area = g .area;
+      block = g .block;
+      batch = g .batch;
+    }
 
 -- "Train bytes past the returned length stay."
 unfoldable pub done : Given → Effect → Outcome
@@ -33,6 +45,7 @@ done g e =
       figure = e .figure;
       size = length (batchBytes (e .records));
       state = e .state;
+      newest = e .newest;
       log = e .log;
       area = e .area;
       block = e .block;

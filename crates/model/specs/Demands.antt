@@ -155,14 +155,14 @@ ServiceYields w (trims batch) o = Trimmed w (stateOf (o .state) .start)
 ServiceYields w (reads writer home block) o = o .block ≡ readBy (w .homes) (w .book) writer home
 
 abbrev pub Yields : World → Call → Outcome → Type 0
-Yields w (opening state batch) o = Unit {0}
+Yields w (opening state newest batch) o = Unit {0}
 Yields w confirm o = owedBy (o .figure) (w .book .commits) ≡ owedRows (rowsFenced w) (w .book .commits)
 Yields w (change c) o = Unit {0}
 Yields w (service c) o = ServiceYields w c o
 
 -- at each event
 abbrev pub CallHolds : World → Call → Outcome → Type 0
-CallHolds w (opening state batch) o = Opened w o
+CallHolds w (opening state newest batch) o = Opened w o
 CallHolds w confirm o = Unit {0}
 CallHolds w (change c) o = Unit {0}
 CallHolds w (service c) o = Unit {0}

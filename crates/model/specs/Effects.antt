@@ -6,16 +6,19 @@ use mathlib.Core.Option.{Option, none, some}
 use lib.Dec.{eqb, leb, ltb}
 use lib.ListN.{length}
 use Rattle.model.specs.Bytes.{puts, zeros, part}
-use Rattle.model.specs.Tag.{entryWord, closingWord, homeOf}
+use Rattle.model.specs.Tag.{entryWord, closingWord, homeOf, present}
 use Rattle.model.specs.Layout.{groupsIn, homesIn, header, headerStart, groupAt, turnOf, unusedGroup, emptyLog, putBlank, putEntry, entryAt, blockAt, homeAt, putHome}
-use Rattle.model.specs.Commit.{Span, committed, transactions, replay, members, newestIn, newest, found}
+use Rattle.model.specs.Commit.{Span, committed, transactions, replay, members, newestIn, newest, found, entries}
 use Rattle.model.specs.Batch.{Record, GW, HW, KW, FN}
 use Rattle.model.specs.State.{State, stateOf, setStart, setNext, setFilled, setSettled, setFenced, setDurable, setLast, nextPosition, Writer, writerOf, setWriter, heldOf, setHeld, setPromise, promiseLeft, idle, begun, holding, logging, isOpen, holds, hasLogged, holdsHome, firstFor, countFor, freshState}
+use Rattle.model.specs.Newest.{keptFor, nothingKept, keepEntries, forget}
 use Rattle.model.specs.declared.Tag.{Tag}
 
--- what a call is lent: state strip, log copy, data copy, block and batch buffer, and its two numbers. What a call is not lent is empty or 0.
+-- what a call is lent: state strip, newest positions, log copy, data copy, block and batch buffer, and its two numbers. What a call is not lent is
+-- empty or 0.
 pub record Given : Type 0 where
   pub state : List ℕ
+  pub newest : List ℕ
   pub log : List ℕ
   pub area : List ℕ
   pub block : List ℕ
@@ -33,6 +36,7 @@ homes g = homesIn (length (g .area))
 pub record Effect : Type 0 where
   pub figure : ℕ
   pub state : List ℕ
+  pub newest : List ℕ
   pub log : List ℕ
   pub area : List ℕ
   pub block : List ℕ
@@ -40,7 +44,8 @@ pub record Effect : Type 0 where
 
 -- only the strip changes, with a figure
 unfoldable pub newState : Given → List ℕ → ℕ → Effect
-newState g s figure = record { figure = figure; state = s; log = g .log; area = g .area; block = g .block; records = [] }
+newState g s figure =
+    record { figure = figure; state = s; newest = g .newest; log = g .log; area = g .area; block = g .block; records = [] }
 
 -- the first n ring slots written as unused, by rising slot, for a log of so many groups that starts at group `start`
 unfoldable pub blankWrites : ℕ → ℕ → ℕ → List Record
@@ -63,6 +68,7 @@ formatEffect g =
     record {
       figure = 0;
       state = g .state;
+      newest = g .newest;
       log = emptyLog 0 (groups g) (homes g);
       area = zeros (64 * homes g);
       block = g .block;
@@ -113,6 +119,7 @@ openEffect g =
     record {
       figure = length ts;
       state = freshState (groups g) (homes g) (openStart g);
+      newest = nothingKept (homes g);
       log = emptyLog (openStart g) (groups g) (homes g);
       area = area;
       block = g .block;
@@ -181,6 +188,7 @@ storeOther g r position =
           (setHeld (setWriter (l .state) (g .writer) (logging (g .home) (firstFor r position) (countFor r + 1))) (g .writer) (g .block))
           (g .writer)
           (promiseLeft (g .state) (g .writer));
+      newest = g .newest;
       log = l .log;
       area = g .area;
       block = g .block;
@@ -207,12 +215,25 @@ logClosing g r position =
     (closingWord (r .home) (position - firstFor r position) (linkFrom position (stateOf (g .state))) (countFor r + 1))
     (heldOf (g .state) (g .writer))
 
+-- what a log says at a position, and the position where it starts, by the strip's start
+unfoldable pub tagsOf : Given → List ℕ → ℕ → Tag
+tagsOf g log = entryAt log (groups g) (homes g) (stateOf (g .state) .start)
+
+unfoldable pub liveBase : Given → ℕ
+liveBase g = 7 * stateOf (g .state) .start
+
+-- the newest positions with those of the transaction that closes at a position of the log as logging has left it
+unfoldable pub keptCommit : Given → List ℕ → ℕ → ℕ → List ℕ
+keptCommit g log first position =
+    keepEntries (tagsOf g log) (entries (tagsOf g log) (liveBase g) (record { first = first; closing = position })) (g .newest)
+
 unfoldable pub commitHeld : Given → Writer → ℕ → Effect
 commitHeld g r position =
     let l : Logged = logClosing g r position in
     record {
       figure = position + 1;
       state = setPromise (setWriter (setLast (l .state) (position + 1)) (g .writer) idle) (g .writer) 0;
+      newest = keptCommit g (l .log) (firstFor r position) position;
       log = l .log;
       area = g .area;
       block = g .block;
@@ -232,6 +253,7 @@ flushPart g st =
     record {
       figure = 0;
       state = setFenced (setFilled (setNext (g .state) (st .next + 1)) 0) (7 * (st .next + 1));
+      newest = g .newest;
       log = g .log;
       area = g .area;
       block = g .block;
@@ -243,6 +265,7 @@ flushNone g st =
     record {
       figure = 0;
       state = setFenced (g .state) (7 * st .next);
+      newest = g .newest;
       log = g .log;
       area = g .area;
       block = g .block;
@@ -262,10 +285,7 @@ confirmEffect g = newState g (setDurable (g .state) (stateOf (g .state) .fenced)
 
 -- what the calls other than open see in the log copy: they take the start from the strip
 unfoldable pub liveTags : Given → ℕ → Tag
-liveTags g = entryAt (g .log) (groups g) (homes g) (stateOf (g .state) .start)
-
-unfoldable pub liveBase : Given → ℕ
-liveBase g = 7 * stateOf (g .state) .start
+liveTags g = tagsOf g (g .log)
 
 -- Settle: "looks only at committed transactions whose closing entry lies below F. HW, rising, of the newest value each home has among them, then
 -- FN; the data copy too. The settled position becomes the former F."
@@ -279,6 +299,7 @@ settleEffect g =
     record {
       figure = 0;
       state = setFenced (setSettled (g .state) (st .fenced)) (7 * st .next);
+      newest = g .newest;
       log = g .log;
       area = area;
       block = g .block;
@@ -319,6 +340,7 @@ trimTo g st start =
     record {
       figure = 0;
       state = setLast (setFenced (setStart (g .state) start) (7 * st .next)) (cond (leb (st .last) (7 * start)) 0 (st .last));
+      newest = forget (g .newest) (7 * start) (homes g);
       log = puts (g .log) 0 (header start (groups g) (homes g));
       area = g .area;
       block = g .block;
@@ -353,11 +375,37 @@ blockOr g (some p) other = blockAt (g .log) (groups g) p
 unfoldable pub current : Given → List ℕ
 current g = blockOr g (newestCommitted g) (homeAt (g .area) (g .home))
 
-unfoldable pub visible : Given → List ℕ
-visible g =
+-- the writer's held block, else its own newest, else a third
+unfoldable pub ownElse : Given → List ℕ → List ℕ
+ownElse g other =
     let r : Writer = writerOf (g .state) (g .writer) in
-    let logged : List ℕ = blockOr g (newestOwn g r) (current g) in
+    let logged : List ℕ = blockOr g (newestOwn g r) other in
     cond (holdsHome r (g .home)) (heldOf (g .state) (g .writer)) logged
 
+-- the read of document 01; the claim that the newest positions change nothing names it
+unfoldable pub visible : Given → List ℕ
+visible g = ownElse g (current g)
+
+-- "Over a strip that disagrees with the log, a read shows the block at the kept position if an entry for that home is there, else the data copy." Like
+-- every call it looks only at positions from the start to below the next one.
+unfoldable pub isThere : Given → ℕ → Bool
+isThere g p =
+    leb (liveBase g) p && ltb p (nextPosition (stateOf (g .state))) && present (liveTags g p) && eqb (homeOf (liveTags g p)) (g .home)
+
+unfoldable pub keptPosition : Given → Option ℕ
+keptPosition g = let p : ℕ = keptFor (g .newest) (g .home) in cond (isThere g p) (some p) none
+
+unfoldable pub shown : Given → List ℕ
+shown g = blockOr g (keptPosition g) (homeAt (g .area) (g .home))
+
 unfoldable pub readEffect : Given → Effect
-readEffect g = record { figure = 0; state = g .state; log = g .log; area = g .area; block = visible g; records = [] }
+readEffect g =
+    record {
+      figure = 0;
+      state = g .state;
+      newest = g .newest;
+      log = g .log;
+      area = g .area;
+      block = ownElse g (shown g);
+      records = [];
+    }

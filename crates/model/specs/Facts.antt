@@ -1,15 +1,16 @@
 -- Facts that the paper states in passing, as statements over all histories.
-use Prim.Native.Nat.{ℕ, _-_}
+use Prim.Native.Nat.{ℕ, _-_, _*_}
 use mathlib.Core.Path.{_≡_}
 use mathlib.Core.Logic.{_⊎_}
 use mathlib.Core.Bool.{Bool, true, false, not, _&&_, _||_}
 use mathlib.Core.List.{List, [], _∷_}
 use lib.Dec.{eqb}
 use lib.ListN.{length}
+use Rattle.model.specs.Layout.{homesIn}
 use Rattle.model.specs.Batch.{Record, GW, HW, KW, FN}
-use Rattle.model.specs.Effects.{formatted}
+use Rattle.model.specs.Effects.{Given, formatted}
 use Rattle.model.specs.State.{stateBytes}
-use Rattle.model.specs.Calls.{formatCall, openCall}
+use Rattle.model.specs.Calls.{Outcome, formatCall, openCall, beginCall, reserveCall, abortCall, storeCall, flushCall, confirmCall, settleCall}
 use Rattle.model.specs.Crash.{Memory, persist}
 use Rattle.model.specs.Layout.{groupsIn}
 use Rattle.model.specs.Demands.{groupWrites}
@@ -71,9 +72,48 @@ FormatEmpties = (groups homes : ℕ) (f : Formatting groups homes) → Emptied g
 -- "KW of 64 zeros, FN" come first: a cut inside format's train leaves the old memory whole, or one that every opening refuses with 3, or the new
 -- empty store; never a mixture that opens.
 abbrev pub NeverOpens : Memory → Type 0
-NeverOpens m = (state batch : List ℕ) → length state ≡ stateBytes → openCall (loaded (unopened 0 m) state batch) .code ≡ 3
+NeverOpens m = (state newest batch : List ℕ) → length state ≡ stateBytes → length newest ≡ 8 * homesIn (length (m .area)) → openCall (loaded (unopened 0 m) state newest batch) .code ≡ 3
 
 abbrev pub FormatCut : Type 0
 FormatCut =
     (groups homes : ℕ) (f : Formatting groups homes) (passed : ℕ) (chosen : ℕ → Bool) → let m : Memory = persist passed chosen (formatRecords f) (f .memory) in
     (m ≡ f .memory) ⊎ (NeverOpens m ⊎ (m ≡ afterFormat f .memory))
+
+-- The calls that are not lent the newest positions neither look at them nor change them: with any others lent, all else ends the same.
+unfoldable pub lentWith : List ℕ → Given → Given
+lentWith newest g =
+    record {
+      state = g .state;
+      newest = newest;
+      log = g .log;
+      area = g .area;
+      block = g .block;
+      batch = g .batch;
+      writer = g .writer;
+      home = g .home;
+    }
+
+unfoldable pub leftWith : List ℕ → Outcome → Outcome
+leftWith newest o =
+    record {
+      code = o .code;
+      figure = o .figure;
+      size = o .size;
+      state = o .state;
+      newest = newest;
+      log = o .log;
+      area = o .area;
+      block = o .block;
+      batch = o .batch;
+    }
+
+abbrev pub AsideIn : (Given → Outcome) → Type 0
+AsideIn c = (g : Given) (newest : List ℕ) → c (lentWith newest g) ≡ leftWith newest (c g)
+
+abbrev pub EachAside : List (Given → Outcome) → Type 0
+EachAside [] = Unit {0}
+EachAside (c ∷ cs) = AsideIn c × EachAside cs
+
+abbrev pub Aside : Type 0
+Aside =
+    (n : ℕ) → EachAside (formatCall ∷ beginCall ∷ (λ g. reserveCall g n) ∷ abortCall ∷ storeCall ∷ flushCall ∷ confirmCall ∷ settleCall ∷ [])

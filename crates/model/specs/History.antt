@@ -14,8 +14,9 @@ use Rattle.model.specs.Crash.{Memory, fences, persist, fates}
 use Rattle.model.specs.Book as book
 use Rattle.model.specs.Book.{Book}
 
--- A call with what the caller chooses: its numbers, its block and its batch buffer, of any contents and length. Open is lent a strip of any
--- contents and length; every other call the strip as the last call left it.
+-- A call with what the caller chooses: its numbers, its block and its batch buffer, of any contents and length. Open is lent a strip and newest
+-- positions of any contents and length; every other call those that the last call left. ("The mission's premise that strip and copies pass on untouched
+-- takes this strip in.") The calls that are not lent the newest positions neither look at them nor change them (Facts.Aside).
 
 -- the calls that change the book
 pub data Change : Type 0 where
@@ -33,7 +34,7 @@ pub data Service : Type 0 where
   reads : (writer home : ℕ) (block : List ℕ) → Service
 
 pub data Call : Type 0 where
-  opening : (state batch : List ℕ) → Call
+  opening : (state newest batch : List ℕ) → Call
   confirm : Call
   change : Change → Call
   service : Service → Call
@@ -70,11 +71,12 @@ pub data Event : Type 0 where
   call : Call → Event
   crash : (passed : ℕ) (chosen : ℕ → Bool) → Event
 
--- The strip and the copies as the program has them; the lasting memory as the last crash (or format) left it, and the records of all batches
+-- The strip, the newest positions and the copies as the program has them; the lasting memory as the last crash (or format) left it, and the records of all batches
 -- since, in call order; how many of their fences a done confirm has declared passed; whether an opening is done since; the book.
 pub record World : Type 0 where
   pub homes : ℕ
   pub state : List ℕ
+  pub newest : List ℕ
   pub log : List ℕ
   pub area : List ℕ
   pub memory : Memory
@@ -89,6 +91,7 @@ unopened homes memory =
     record {
       homes = homes;
       state = [];
+      newest = [];
       log = [];
       area = [];
       memory = memory;
@@ -126,11 +129,29 @@ emptyStore groups homes = unopened homes (record { log = emptyLog 0 groups homes
 -- what a call is lent. An opening gets copies of both areas, loaded afresh; no other call comes before one is done, so there is nothing pending.
 unfoldable pub lent : World → List ℕ → List ℕ → ℕ → ℕ → Given
 lent w block batch writer home =
-    record { state = w .state; log = w .log; area = w .area; block = block; batch = batch; writer = writer; home = home }
+    record {
+      state = w .state;
+      newest = w .newest;
+      log = w .log;
+      area = w .area;
+      block = block;
+      batch = batch;
+      writer = writer;
+      home = home;
+    }
 
-unfoldable pub loaded : World → List ℕ → List ℕ → Given
-loaded w state batch =
-    record { state = state; log = w .memory .log; area = w .memory .area; block = []; batch = batch; writer = 0; home = 0 }
+unfoldable pub loaded : World → List ℕ → List ℕ → List ℕ → Given
+loaded w state newest batch =
+    record {
+      state = state;
+      newest = newest;
+      log = w .memory .log;
+      area = w .memory .area;
+      block = [];
+      batch = batch;
+      writer = 0;
+      home = 0;
+    }
 
 -- how a call ends
 unfoldable pub changeEnds : World → Change → Outcome
@@ -147,7 +168,7 @@ serviceEnds w (trims batch) = trimCall (lent w [] batch 0 0)
 serviceEnds w (reads writer home block) = readCall (lent w block [] writer home)
 
 unfoldable pub ends : World → Call → Outcome
-ends w (opening state batch) = openCall (loaded w state batch)
+ends w (opening state newest batch) = openCall (loaded w state newest batch)
 ends w confirm = confirmCall (lent w [] [] 0 0)
 ends w (change c) = changeEnds w c
 ends w (service c) = serviceEnds w c
@@ -163,19 +184,19 @@ feedChange b (commits writer batch) figure = book.commit b writer figure
 feedChange b (flushes batch) figure = book.flush b
 
 unfoldable pub feed : Book → Call → ℕ → Book
-feed b (opening state batch) figure = book.withCommits b (book.owedAll (b .commits))
+feed b (opening state newest batch) figure = book.withCommits b (book.owedAll (b .commits))
 feed b confirm figure = book.withCommits b (book.owedBy figure (b .commits))
 feed b (change c) figure = feedChange b c figure
 feed b (service c) figure = b
 
 unfoldable pub isOpening : Call → Bool
-isOpening (opening state batch) = true
+isOpening (opening state newest batch) = true
 isOpening confirm = false
 isOpening (change c) = false
 isOpening (service c) = false
 
 unfoldable pub isConfirm : Call → Bool
-isConfirm (opening state batch) = false
+isConfirm (opening state newest batch) = false
 isConfirm confirm = true
 isConfirm (change c) = false
 isConfirm (service c) = false
@@ -186,6 +207,7 @@ afterDone w c o =
     record {
       homes = w .homes;
       state = o .state;
+      newest = o .newest;
       log = o .log;
       area = o .area;
       memory = w .memory;
@@ -202,6 +224,7 @@ afterRefused w c o =
     record {
       homes = w .homes;
       state = cond (isOpening c) (w .state) (o .state);
+      newest = cond (isOpening c) (w .newest) (o .newest);
       log = cond (isOpening c) (w .log) (o .log);
       area = cond (isOpening c) (w .area) (o .area);
       memory = w .memory;
@@ -224,6 +247,7 @@ afterCrash w passed chosen =
     record {
       homes = w .homes;
       state = [];
+      newest = [];
       log = [];
       area = [];
       memory = persist passed chosen (w .pending) (w .memory);

@@ -4,6 +4,7 @@ pub mod Layout
 pub mod Commit
 pub mod Batch
 pub mod State
+pub mod Newest
 pub mod Effects
 pub mod Questions
 pub mod Calls
@@ -19,4 +20,5 @@ pub mod Witnesses
 pub mod Reservations
 pub mod Tears
 pub mod Promises
+pub mod Kept
 pub mod Facts

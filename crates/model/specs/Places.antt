@@ -44,7 +44,7 @@ enter s (commits writer batch) fs = cond (commitMustLog (s .book .tasks writer))
 enter s (flushes batch) fs = cond (eqb (s .book .filled) 0) fs (replicate (7 - s .book .filled) passed ++ fs)
 
 unfoldable pub enterCall : Store → Call → List Fate → List Fate
-enterCall s (opening state batch) fs = []
+enterCall s (opening state newest batch) fs = []
 enterCall s confirm fs = fs
 enterCall s (change c) fs = enter s c fs
 enterCall s (service c) fs = fs

@@ -29,7 +29,7 @@ grantChange granted (commits writer batch) = grantTo granted writer 0
 grantChange granted (flushes batch) = granted
 
 unfoldable pub grantDone : (ℕ → ℕ) → Call → ℕ → ℕ
-grantDone granted (opening state batch) = none
+grantDone granted (opening state newest batch) = none
 grantDone granted confirm = granted
 grantDone granted (change c) = grantChange granted c
 grantDone granted (service c) = granted

@@ -25,6 +25,10 @@ stateRight g = eqb (length (g .state)) stateBytes
 unfoldable pub blockRight : Given → Bool
 blockRight g = eqb (length (g .block)) 64
 
+-- "question 1 covers its length, eight bytes a home"
+unfoldable pub newestRight : Given → Bool
+newestRight g = eqb (length (g .newest)) (8 * homes g)
+
 -- 2. "Is the strip in order ..? No: 2."
 unfoldable pub stripInOrder : Given → Bool
 stripInOrder g = inOrder (g .state) (groups g) (homes g)
@@ -85,15 +89,21 @@ formatAnswer g size = ask (areasRight g) 1 (ask (batchFits g size) 9 0)
 
 unfoldable pub openAnswer : Given → ℕ → ℕ → ℕ
 openAnswer g start size =
-    ask (areasRight g && stateRight g) 1 (ask (headerFits g) 3 (ask (startFits start) 10 (ask (batchFits g size) 9 0)))
+    ask (areasRight g && stateRight g && newestRight g) 1 (ask (headerFits g) 3 (ask (startFits start) 10 (ask (batchFits g size) 9 0)))
 
 -- what every other call asks first
 unfoldable pub askState : Given → ℕ → ℕ
 askState g next = ask (areasRight g && stateRight g) 1 (ask (stripInOrder g) 2 next)
 
--- the same for one that is lent a block
+-- the same for one that is lent a block, for one that is lent the newest positions, and for one that is lent both
 unfoldable pub askBlock : Given → ℕ → ℕ
 askBlock g next = ask (areasRight g && stateRight g && blockRight g) 1 (ask (stripInOrder g) 2 next)
+
+unfoldable pub askNewest : Given → ℕ → ℕ
+askNewest g next = ask (areasRight g && stateRight g && newestRight g) 1 (ask (stripInOrder g) 2 next)
+
+unfoldable pub askBoth : Given → ℕ → ℕ
+askBoth g next = ask (areasRight g && stateRight g && newestRight g && blockRight g) 1 (ask (stripInOrder g) 2 next)
 
 unfoldable pub beginAnswer : Given → ℕ
 beginAnswer g = askState g (ask (writerKnown g) 4 (ask (not (writerOpen g)) 6 0))
@@ -112,7 +122,7 @@ storeAnswer g size =
 
 unfoldable pub commitAnswer : Given → ℕ → ℕ
 commitAnswer g size =
-    askState g
+    askNewest g
     (ask (writerKnown g) 4 (ask (writerOpen g) 7 (ask (not (commitLogs g) || room g) 8 (ask (batchFits g size) 9 0))))
 
 unfoldable pub flushAnswer : Given → ℕ → ℕ
@@ -125,7 +135,7 @@ unfoldable pub settleAnswer : Given → ℕ → ℕ
 settleAnswer g size = askState g (ask (batchFits g size) 9 0)
 
 unfoldable pub trimAnswer : Given → ℕ → ℕ → ℕ
-trimAnswer g start size = askState g (ask (startFits start) 10 (ask (batchFits g size) 9 0))
+trimAnswer g start size = askNewest g (ask (startFits start) 10 (ask (batchFits g size) 9 0))
 
 unfoldable pub readAnswer : Given → ℕ
-readAnswer g = askBlock g (ask (writerKnown g) 4 (ask (homeKnown g) 5 0))
+readAnswer g = askBoth g (ask (writerKnown g) 4 (ask (homeKnown g) 5 0))

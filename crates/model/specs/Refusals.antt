@@ -19,6 +19,7 @@ pub record Untouched (g : Given) (o : Outcome) : Type 0 where
   pub figure : o .figure ≡ 0
   pub size : o .size ≡ 0
   pub state : o .state ≡ g .state
+  pub newest : o .newest ≡ g .newest
   pub log : o .log ≡ g .log
   pub area : o .area ≡ g .area
   pub block : o .block ≡ g .block

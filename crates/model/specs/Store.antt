@@ -183,13 +183,13 @@ replyService s (trims batch) =
 replyService s (reads writer home block) =
     told (ask (eqb (length block) 64) 1 (ask (ltb writer 8) 4 (ask (ltb home (s .homes)) 5 0))) 0 0
 
--- An opening is done if the strip has 1,024 bytes, start + G is at most 2^47, and the batch holds 72 bytes, 516 for each group and 68 for each home
--- that it brings back.
+-- An opening is done if the strip has 1,024 bytes and that of the newest positions 8 a home, start + G is at most 2^47, and the batch holds 72 bytes,
+-- 516 for each group and 68 for each home that it brings back.
 -- Its figure is the number of the run's commits that the header in lasting memory has not trimmed.
 unfoldable pub reply : Store → Call → Reply
-reply s (opening state batch) =
+reply s (opening state newest batch) =
     let size : ℕ = 68 * manyHomes (s .homes) (s .back) + (72 + 516 * s .groups) in
-    told (ask (eqb (length state) 1024) 1 (ask (leb (firstGroup s) maxStart) 10 (askBatch size batch))) (length (s .back)) size
+    told (ask (eqb (length state) 1024 && eqb (length newest) (8 * s .homes)) 1 (ask (leb (firstGroup s) maxStart) 10 (askBatch size batch))) (length (s .back)) size
 reply s confirm = told 0 (s .fenced) 0
 reply s (change c) = replyChange s c
 reply s (service c) = replyService s c
@@ -255,9 +255,9 @@ afterService s (trims batch) = let moved : Store = trimmedTo s (nextStart s) in 
 afterService s (reads writer home block) = s
 
 unfoldable pub afterDone : Store → Call → ℕ → Store
-afterDone s (opening state batch) figure =
+afterDone s (opening state newest batch) figure =
     let first : ℕ = firstGroup s in
-    numbered s first (7 * first) (7 * first) (7 * first) 0 (λ v. 0) (feed (s .book) (opening state batch) figure)
+    numbered s first (7 * first) (7 * first) (7 * first) 0 (λ v. 0) (feed (s .book) (opening state newest batch) figure)
 afterDone s confirm figure = numbered s (s .start) (s .settled) (s .fenced) figure (s .last) (s .promises) (feed (s .book) confirm figure)
 afterDone s (change c) figure =
     numbered s (s .start) (s .settled) (fencedAfter s c) (s .durable) (lastAfter (s .last) c figure) (promisesAfter s c)

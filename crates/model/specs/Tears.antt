@@ -5,9 +5,13 @@ use Prim.Native.Nat.{ℕ, _%_}
 use mathlib.Core.Bool.{Bool, false}
 use mathlib.Core.List.{List, [], _∷_, _++_}
 use lib.Dec.{eqb, leb, ltb}
-use Rattle.model.specs.History.{begin, store, commit, flush, settle, trim, Event, crash, emptyStore}
-use Rattle.model.specs.Trials.{room, fill}
-use Rattle.model.specs.Witnesses.{calls, reopen, alone, goesSo}
+use Rattle.model.specs.Bytes.{zeros}
+use Rattle.model.specs.History.{opening, begin, store, commit, flush, settle, trim, Event, call, crash, emptyStore}
+use Rattle.model.specs.Trials.{room, lane, fill}
+use Rattle.model.specs.Witnesses.{calls, alone, goesSo}
+
+unfoldable pub reopen : Event
+reopen = call (opening (zeros 1024) (zeros 32) lane)
 
 -- a commit of two homes in a group of its own: metadata and data blocks 0 and 1, pieces 0 to 2
 unfoldable pub both : ℕ → ℕ → List Event

@@ -23,6 +23,10 @@ lane = zeros 2700
 unfoldable pub fill : ℕ → List ℕ
 fill b = replicate 64 b
 
+-- newest positions of eight homes
+unfoldable pub positions : List ℕ
+positions = zeros 64
+
 -- the world after some calls, and the number, figure and batch length that each of them answers
 unfoldable pub goes : World → List Call → World
 goes w [] = w
@@ -37,7 +41,7 @@ answers w (c ∷ cs) = answerOf (ends w c) ++ answers (step w (call c)) cs
 
 -- just after opening a new format: start 4, position 28
 unfoldable pub fresh : World
-fresh = step (emptyStore 4 8) (call (opening (zeros 1024) lane))
+fresh = step (emptyStore 4 8) (call (opening (zeros 1024) positions lane))
 
 unfoldable pub base : ℕ
 base = 28
@@ -62,7 +66,7 @@ lastReadOf w writer home = getD (ends w (read writer home (zeros 64)) .block) 63
 
 -- what an opening answers
 unfoldable pub reopened : World → List ℕ
-reopened w = answerOf (ends w (opening (zeros 1024) lane))
+reopened w = answerOf (ends w (opening (zeros 1024) positions lane))
 
 -- 1. "Writer 0 stores homes 1, 2, commits: tags 5 and 2199023271947; flush gives 518 bytes."
 unfoldable pub trial1 : List ℕ
@@ -149,7 +153,7 @@ trial9 =
 -- 10. "Opening a new format: 0 back, 70 train bytes. Format writes 2,746." "Trial 10's opening then writes 2,136 bytes." "still in 2,746 bytes"
 unfoldable pub unformatted : Given
 unformatted =
-    record { state = []; log = zeros (64 + 512 * 4); area = zeros (64 * 8); block = []; batch = zeros 2746; writer = 0; home = 0 }
+    record { state = []; newest = []; log = zeros (64 + 512 * 4); area = zeros (64 * 8); block = []; batch = zeros 2746; writer = 0; home = 0 }
 
 unfoldable pub trial10 : List ℕ
 trial10 = reopened (emptyStore 4 8) ++ answerOf (formatCall unformatted)
@@ -160,6 +164,7 @@ unfoldable pub startingAt : ℕ → List ℕ → Given
 startingAt start batch =
     record {
       state = zeros 1024;
+      newest = positions;
       log = puts (zeros (64 + 512 * 4)) 0 (header start 4 8);
       area = zeros (64 * 8);
       block = [];
@@ -177,6 +182,7 @@ unfoldable pub markedWith : List ℕ → Given
 markedWith mark =
     record {
       state = zeros 1024;
+      newest = positions;
       log = puts (emptyLog 0 4 8) 0 mark;
       area = zeros (64 * 8);
       block = [];

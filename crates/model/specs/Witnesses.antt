@@ -11,7 +11,7 @@ use Rattle.model.specs.Effects.{Given}
 use Rattle.model.specs.Calls.{Outcome, formatCall, openCall}
 use Rattle.model.specs.Crash.{Memory, fences, persist}
 use Rattle.model.specs.History.{Call, opening, begin, abort, store, commit, flush, confirm, settle, trim, read, Event, call, crash, World, unopened, emptyStore, loaded, ends, isOpening, step}
-use Rattle.model.specs.Trials.{room, lane, fill, answerOf}
+use Rattle.model.specs.Trials.{room, lane, fill, answerOf, positions}
 
 -- A format over a store in use, with copies of the same: a header that opens, bytes of 255 elsewhere.
 unfoldable pub usedBefore : Memory
@@ -19,7 +19,7 @@ usedBefore = record { log = puts (replicate (64 + 512 * 4) 255) 0 (header 8 4 8)
 
 unfoldable pub usedCopies : Given
 usedCopies =
-    record { state = []; log = usedBefore .log; area = usedBefore .area; block = []; batch = zeros 2746; writer = 0; home = 0 }
+    record { state = []; newest = []; log = usedBefore .log; area = usedBefore .area; block = []; batch = zeros 2746; writer = 0; home = 0 }
 
 -- what its train leaves after some fences, with all or none of the writes up to the next
 unfoldable pub formatLeaves : ℕ → Bool → Memory
@@ -27,7 +27,7 @@ formatLeaves passed all = let o : Outcome = formatCall usedCopies in persist pas
 
 -- what an opening of a memory answers
 unfoldable pub opensWith : Memory → ℕ
-opensWith m = openCall (loaded (unopened 8 m) (zeros 1024) lane) .code
+opensWith m = openCall (loaded (unopened 8 m) (zeros 1024) positions lane) .code
 
 -- landed whole, it is the empty store, and the copies hold the same; cut, it is the old store, none that opens, or the new one
 unfoldable pub formatsSo : Bool
@@ -54,7 +54,7 @@ calls [] = []
 calls (c ∷ cs) = call c ∷ calls cs
 
 unfoldable pub reopen : Event
-reopen = call (opening (zeros 1024) lane)
+reopen = call (opening (zeros 1024) positions lane)
 
 -- Two eras with every call of document 01, every refusal number of it that a history can meet (1 and 4 to 9; strip and header stay in order, and 10
 -- needs 2^47 groups), a confirm, settles, trims, a ring that wraps, a crash that loses one group of two, and a crash inside an opening. Promised
@@ -63,7 +63,7 @@ reopen = call (opening (zeros 1024) lane)
 -- two refused openings and a done one; refusals
 unfoldable pub refusals : List Event
 refusals =
-    call (opening [] lane) ∷ call (opening (zeros 1024) []) ∷ reopen
+    call (opening [] positions lane) ∷ call (opening (zeros 1024) positions []) ∷ reopen
     ∷ calls (begin 8 ∷ begin 0 ∷ begin 0 ∷ store 0 8 (fill 1) room ∷ store 1 0 (fill 1) room ∷ store 0 0 [] room ∷ read 0 0 (zeros 64) ∷ [])
 
 -- writer 0 fills group 4, which is not fenced yet: nothing to settle, nothing to trim
@@ -92,7 +92,7 @@ loses =
 -- a refused opening, one whose header is lost, and the second era
 unfoldable pub again : List Event
 again =
-    call (opening (zeros 1024) []) ∷ reopen ∷ crash 1 (λ i. false) ∷ reopen
+    call (opening (zeros 1024) positions []) ∷ reopen ∷ crash 1 (λ i. false) ∷ reopen
     ∷ calls (begin 2 ∷ abort 2 ∷ begin 0 ∷ store 0 4 (fill 20) room ∷ commit 0 room ∷ flush room ∷ confirm ∷ [])
     ++ (crash 4 (λ i. false) ∷ reopen ∷ [])
 
@@ -140,4 +140,4 @@ goesAsListed = goesSo (emptyStore 4 8) history answered 6 (10 ∷ 11 ∷ 12 ∷ 
 
 -- an opening of a new format is done with more groups too
 unfoldable pub opensLarger : List ℕ
-opensLarger = answerOf (ends (emptyStore 5 1) (opening (zeros 1024) lane))
+opensLarger = answerOf (ends (emptyStore 5 1) (opening (zeros 1024) (zeros 8) lane))

@@ -1,33 +1,41 @@
 -- Laws for read: the entry that a writer sees, found layer by layer, and the block that is shown. Assumes nothing.
 use mathlib.Core.Path.{_≡_, refl, sym, ap, _∙_}
-use mathlib.Core.Bool.{Bool, true, false, cond}
+use mathlib.Core.Bool.{Bool, true, false, cond, _&&_, and-false}
 use mathlib.Core.List.{List}
 use mathlib.Core.Option.{Option, none, some}
 use Prim.Native.Nat.{ℕ, zero, suc, _+_, _-_, _*_, _/_, _%_, _≤_, _<_}
 use native.Mathlib.Omega.{arith}
-use lib.Dec.{ltb, eqb}
-use lib.ListN.{length}
-use borrow.Author.Tests.{ltb-true, lt-ltb, le-ltb, leb-true, ne-eqb}
+use lib.Dec.{leb, ltb, eqb}
+use lib.ListN.{length, take, drop}
+use borrow.Author.Tests.{ltb-true, lt-ltb, le-ltb, leb-true, le-leb, lt-leb}
 use Rattle.model.specs.Bytes.{part, puts}
-use Rattle.model.specs.Layout.{groupAt, slotOf, indexOf, blockOf, blockAt, homesIn, homeAt}
-use Rattle.model.specs.Commit.{members, started, walk, committed, eachEntries, transactions, newestIn, newest, orElse}
+use Rattle.model.specs.Layout.{groupAt, slotOf, indexOf, blockOf, blockAt, homesIn, homeAt, turnOf, wordThere, groupValid, entryIn, entryAt}
+use Rattle.model.specs.Commit.{members, newestIn, orElse}
+use Rattle.model.specs.Tag.{present, homeOf, readTag}
+use Rattle.model.specs.Newest.{keptFor}
 use Rattle.model.specs.State.{stateOf, nextPosition, writerOffset, writerOf, heldOf, holds, hasLogged, holdsHome}
 use Rattle.model.specs.declared.State.{State}
 use Rattle.model.specs.declared.Tag.{Tag}
+use Rattle.model.specs.declared.Tag.the-variants.{Nothing, Entry, Closing}
 use Rattle.model.specs.declared.Writer.{Writer}
-use Rattle.model.specs.Effects.{Given, groups, homes, liveTags, liveBase, newestOwn, newestCommitted, blockOr, current, visible, readEffect}
+use Rattle.model.specs.Effects.{Given, groups, homes, tagsOf, liveTags, liveBase, newestOwn, blockOr, ownElse, isThere, keptPosition, shown, readEffect}
 use Rattle.model.specs.Batch.{batchBytes}
-use Rattle.model.specs.Questions.{writerKnown, homeKnown, askBlock, readAnswer}
+use Rattle.model.specs.Questions.{writerKnown, homeKnown, askBoth, readAnswer}
 use Rattle.model.specs.Calls.{readCall}
 use Rattle.model.proofs.bytes.ByteLaws.{puts-nil, puts-whole, length-part}
 use Rattle.model.proofs.trace.ReplayLaws.{length-blockAt}
 use Rattle.model.proofs.strip.OrderLaws.{InOrder, next-within}
-use Rattle.answers.proofs.AnswerLaws.{Usable, block-refuses, block-passes, block-stops, block-usable, refused-by, done-by}
-use Rattle.answers.specs.Lent.{leaves}
+use Rattle.answers.proofs.AnswerLaws.{Usable, refused-by, done-by}
+use Rattle.answers.proofs.NewestAnswers.{both-refuses, both-passes, both-zero, both-usable}
+use Rattle.answers.specs.Lent.{leavesAll}
 use Rattle.model.proofs.strip.QuestionLaws.{ask-yes, ask-no, ask-passed}
+use Rattle.scan.specs.Members.{Stretch}
+use Rattle.scan.specs.declared.slots.RingSlot.{RingSlot}
+use Rattle.scan.specs.Slots.{Kept}
+use Rattle.scan.proofs.GroupLaws.{part-group}
 use Rattle.search.specs.Codes.{codeOf}
-use Rattle.search.specs.Seen.{ownBy, seenBy}
-use Rattle.reading.specs.Newest.{tagsOf, live, ownCode, ownEntry, committedEntry, seenEntry, Searchable}
+use Rattle.reading.specs.Newest.{tagsBy, ownEntry, entryThere, keptEntry, seenEntry, Searchable}
+use Rattle.reading.specs.Shown.{readBlock}
 
 -- ---- what a usable store gives the search
 
@@ -43,6 +51,7 @@ searchable log area state st home u e h =
       most = omega arith;
       homes-most = omega arith;
       low = o .start-most;
+      next = refl;
       first = omega arith;
       within = rw (o .groups-same) (next-within state _ _ o);
       known = omega arith;
@@ -64,61 +73,103 @@ unfolding codeOf
 code-some none x e n = absurd (n e)
 code-some (some p) x e n = let q : p ≡ x - 1 = omega arith in ap some q
 
--- ---- the first position of a writer's transaction
+code-cond : (b : Bool) (p : ℕ) → cond b (p + 1) 0 ≡ codeOf (cond b (some p) none)
+unfolding codeOf
+code-cond true p = refl
+code-cond false p = refl
 
-module _ (r : Writer) (b : Bool) (e : b ≡ hasLogged r) where
-  pub own-none : b ≡ false → 0 ≡ ownCode r
-  unfolding ownCode
-  own-none f = rw (sym e ∙ f)
+-- ---- a writer's own entries
 
-  pub own-some : b ≡ true → r .first + 1 ≡ ownCode r
-  unfolding ownCode
-  own-some f = rw (sym e ∙ f)
+pub own-none : (log : List ℕ) (st : State) (r : Writer) (home : ℕ) (b : Bool) → b ≡ hasLogged r → b ≡ false → 0 ≡ codeOf (ownEntry log st r home)
+unfolding ownEntry codeOf
+own-none log st r home b e f = rw (sym e ∙ f)
 
-  pub own-mode : b ≡ true → 3 ≤ r .mode
-  unfolding hasLogged
-  own-mode f = leb-true 3 (r .mode) (sym e ∙ f)
+pub own-some : (log : List ℕ) (st : State) (r : Writer) (home end x : ℕ) (b : Bool) → b ≡ hasLogged r → b ≡ true → end ≡ nextPosition st
+    → x ≡ codeOf (newestIn (tagsBy log st) home (members (tagsBy log st) (r .first) (7 * st .start) (end - 7 * st .start)))
+    → x ≡ codeOf (ownEntry log st r home)
+unfolding ownEntry
+own-some log st r home end x b e f g h = h ∙ rw (sym e ∙ f, g)
 
-pub own-within : (st : State) (r : Writer) (own n : ℕ) → (3 ≤ r .mode → (7 * st .start ≤ r .first) × (r .first < nextPosition st)) → own ≡ ownCode r
-    → n ≡ live st → 0 < own → (7 * st .start < own) × (own ≤ 7 * st .start + n)
-unfolding ownCode
-own-within st r own n p e d h = go (hasLogged r) refl
-  where
-    go : (b : Bool) → b ≡ hasLogged r → (7 * st .start < own) × (own ≤ 7 * st .start + n)
-    go true q =
-        let k = p (own-mode r true q refl) in
-        let f : own ≡ r .first + 1 = rw (← q) at e in
-        omega arith
-    go false q = let f : own ≡ 0 = rw (← q) at e in absurd (omega arith)
+own-mode : (r : Writer) (b : Bool) → b ≡ hasLogged r → b ≡ true → 3 ≤ r .mode
+unfolding hasLogged
+own-mode r b e f = leb-true 3 (r .mode) (sym e ∙ f)
 
--- ---- the newest entry
+pub own-stretch : (log : List ℕ) (st : State) (r : Writer) (home end : ℕ) (b : Bool) → Searchable log st home
+    → (3 ≤ r .mode → (7 * st .start ≤ r .first) × (r .first < nextPosition st)) → b ≡ hasLogged r → b ≡ true → end ≡ nextPosition st
+    → Stretch log (st .groups) (st .start) (r .first) end
+own-stretch log st r home end b s p e f g =
+    let k = p (own-mode r b e f) in
+    record {
+      long = s .long;
+      some = omega (arith, s .least);
+      most = s .most;
+      low = s .low;
+      from = k .0;
+      upto = omega (arith, k .1);
+      within = omega (arith, s .within);
+    }
 
-none-seen : (tags : ℕ → Tag) (home own base : ℕ) → 0 ≡ codeOf (seenBy tags home own base 0)
-unfolding codeOf seenBy ownBy members newestIn transactions committed walk started eachEntries newest orElse
-none-seen tags home own base = go (eqb own 0)
-  where
-    go : (b : Bool) → 0 ≡ codeOf (orElse (cond b none none) none)
-    go true = refl
-    go false = refl
+-- ---- the entry at a position
 
-module _ (log : List ℕ) (st : State) where
-  pub seen-found : (r : Writer) (home n own x : ℕ) → n ≡ live st → own ≡ ownCode r
-      → x ≡ codeOf (seenBy (tagsOf log st) home own (7 * st .start) n) → x ≡ codeOf (seenEntry log st r home)
-  unfolding seenBy ownBy ownCode seenEntry ownEntry committedEntry
-  seen-found r home n own x e f h = (rw (e, f) at h) ∙ go (hasLogged r)
+-- what stands there, by the part of the log that is its group
+module _ (log : List ℕ) (st : State) (p : ℕ) (at : RingSlot) (from : ℕ) (v : Bool) (q : Kept (st .groups) (p / 7) at) (f : from ≡ 64 + 512 * at .slot)
+    (e : v ≡ groupValid (take (from + 512 - from) (drop from log)) (st .groups) (st .start) (p / 7)) where
+  there-tag : tagsBy log st p ≡ cond v (readTag (wordThere (take (from + 512 - from) (drop from log)) (at .turn) (p % 7)) p (7 * st .start) (st .homes)) Nothing
+  unfolding entryAt entryIn slotOf indexOf
+  there-tag =
+      let a : take (from + 512 - from) (drop from log) ≡ groupAt log (p / 7 % st .groups) = part-group log (at .slot) from f ∙ ap (groupAt log) (q .same) in
+      rw (e, a, q .turn)
+
+  pub there-none : v ≡ false → tagsBy log st p ≡ Nothing
+  there-none h = there-tag ∙ rw h
+
+  pub there-some : (t : Tag) → v ≡ true → t ≡ readTag (wordThere (take (from + 512 - from) (drop from log)) (at .turn) (p % 7)) p (7 * st .start) (st .homes)
+      → tagsBy log st p ≡ t
+  there-some t h k = there-tag ∙ rw (h, k)
+
+module _ (log : List ℕ) (st : State) (home p : ℕ) where
+  pub there-hole : tagsBy log st p ≡ Nothing → 0 ≡ codeOf (entryThere log st home p)
+  unfolding entryThere codeOf present
+  there-hole e = rw e
+
+  pub there-entry : (h f x : ℕ) → tagsBy log st p ≡ Entry h f → x ≡ cond (eqb h home) (p + 1) 0 → x ≡ codeOf (entryThere log st home p)
+  unfolding entryThere present homeOf
+  there-entry h f x e q = rw (e) (q ∙ code-cond (eqb h home) p)
+
+  pub there-closing : (h f l c x : ℕ) → tagsBy log st p ≡ Closing h f l c → x ≡ cond (eqb h home) (p + 1) 0 → x ≡ codeOf (entryThere log st home p)
+  unfolding entryThere present homeOf
+  there-closing h f l c x e q = rw (e) (q ∙ code-cond (eqb h home) p)
+
+-- ---- the entry at the kept position
+
+module _ (log newest : List ℕ) (st : State) (home p : ℕ) (e : p ≡ keptFor newest home) where
+  pub kept-before : p < 7 * st .start → 0 ≡ codeOf (keptEntry log newest st home)
+  unfolding keptEntry codeOf
+  kept-before h = rw (← e, lt-leb (7 * st .start) p h)
+
+  pub kept-past : (n : ℕ) → n ≡ nextPosition st → n ≤ p → 0 ≡ codeOf (keptEntry log newest st home)
+  unfolding keptEntry codeOf
+  kept-past n f h = let k : ltb p (nextPosition st) ≡ false = le-ltb p (nextPosition st) (omega arith) in rw (← e) (simp (k, and-false))
+
+  pub kept-within : (n x : ℕ) → n ≡ nextPosition st → 7 * st .start ≤ p → p < n → x ≡ codeOf (entryThere log st home p)
+      → x ≡ codeOf (keptEntry log newest st home)
+  unfolding keptEntry
+  kept-within n x f h k q = q ∙ rw (← e, le-leb (7 * st .start) p h, lt-ltb p (nextPosition st) (omega arith))
+
+-- ---- the entry that a writer sees
+
+module _ (log newest : List ℕ) (st : State) (r : Writer) (home own : ℕ) (e : own ≡ codeOf (ownEntry log st r home)) where
+  pub seen-own : (own ≡ 0 → ⊥) → own ≡ codeOf (seenEntry log newest st r home)
+  unfolding seenEntry codeOf orElse
+  seen-own n = e ∙ ap codeOf (first (ownEntry log st r home) _ (λ z. n (e ∙ z)))
     where
-      go : (b : Bool)
-          → codeOf (orElse (cond (eqb (cond b (r .first + 1) 0) 0) none (newestIn (tagsOf log st) home
-          (members (tagsOf log st) (cond b (r .first + 1) 0 - 1) (7 * st .start) (live st))))
-          (newest (tagsOf log st) home (transactions (tagsOf log st) (7 * st .start) (live st))))
-          ≡ codeOf (orElse (cond b (newestIn (tagsOf log st) home (members (tagsOf log st) (r .first) (7 * st .start) (live st))) none)
-          (newest (tagsOf log st) home (transactions (tagsOf log st) (7 * st .start) (live st))))
-      go true = let d : r .first + 1 - 1 ≡ r .first = omega arith in rw (ne-eqb (r .first + 1) 0 (λ z. omega arith), d)
-      go false = refl
+      first : (a b : Option ℕ) → (codeOf a ≡ 0 → ⊥) → a ≡ orElse a b
+      first none b n = absurd (n refl)
+      first (some p) b n = refl
 
-  -- an empty log
-  pub seen-none : (r : Writer) (home n : ℕ) → n ≡ live st → n ≡ 0 → 0 ≡ codeOf (seenEntry log st r home)
-  seen-none r home n e z = seen-found r home n (ownCode r) 0 e refl (rw z (none-seen (tagsOf log st) home (ownCode r) (7 * st .start)))
+  pub seen-kept : (x : ℕ) → own ≡ 0 → x ≡ codeOf (keptEntry log newest st home) → x ≡ codeOf (seenEntry log newest st r home)
+  unfolding seenEntry orElse
+  seen-kept x z q = q ∙ rw (code-none (ownEntry log st r home) own e z)
 
 -- ---- blocks that are copied
 
@@ -149,15 +200,31 @@ held-tested r home b e f = rw (sym e ∙ f)
 
 module _ (g : Given) (st : State) (r : Writer) (es : st ≡ stateOf (g .state)) (er : r ≡ writerOf (g .state) (g .writer)) where
   own-same : InOrder (g .state) (groups g) (homes g) → newestOwn g r ≡ ownEntry (g .log) st r (g .home)
-  unfolding newestOwn ownEntry liveTags liveBase
+  unfolding newestOwn ownEntry liveTags tagsOf liveBase
   own-same o = rw (es, o .groups-same, o .homes-same)
 
-  committed-same : InOrder (g .state) (groups g) (homes g) → newestCommitted g ≡ committedEntry (g .log) st (g .home)
-  unfolding newestCommitted committedEntry liveTags liveBase
-  committed-same o = rw (es, o .groups-same, o .homes-same)
+  tags-same : InOrder (g .state) (groups g) (homes g) → (p : ℕ) → liveTags g p ≡ tagsBy (g .log) st p
+  unfolding liveTags tagsOf
+  tags-same o p = rw (es, o .groups-same, o .homes-same)
 
-  pub shown-held : (b : Bool) (d : List ℕ) → b ≡ holdsHome r (g .home) → b ≡ true → d ≡ heldOf (g .state) (g .writer) → d ≡ visible g
-  unfolding visible
+  base-same : liveBase g ≡ 7 * st .start
+  unfolding liveBase
+  base-same = rw es
+
+  kept-same : InOrder (g .state) (groups g) (homes g) → keptPosition g ≡ keptEntry (g .log) (g .newest) st (g .home)
+  unfolding keptPosition isThere keptEntry entryThere
+  kept-same o =
+      let p : ℕ = keptFor (g .newest) (g .home) in
+      rw (tags-same o, base-same, ← es)
+      (go (leb (7 * st .start) p) (ltb p (nextPosition st)) (present (tagsBy (g .log) st p)) (eqb (homeOf (tagsBy (g .log) st p)) (g .home)) p)
+    where
+      go : (a b c d : Bool) (p : ℕ) → cond (a && b && c && d) (some p) none ≡ cond (a && b) (cond (c && d) (some p) none) none
+      go true true c d p = refl
+      go true false c d p = refl
+      go false b c d p = refl
+
+  pub shown-held : (b : Bool) (d : List ℕ) → b ≡ holdsHome r (g .home) → b ≡ true → d ≡ heldOf (g .state) (g .writer) → d ≡ readBlock g
+  unfolding ownElse
   shown-held b d e f h = rw (← er, sym e ∙ f) h
 
   -- what is logged, by the entry seen
@@ -174,66 +241,62 @@ module _ (g : Given) (st : State) (r : Writer) (es : st ≡ stateOf (g .state)) 
   layers-some (some q) b p other e = let z : p ≡ q = cc in rw z
 
   pub shown-home : (b : Bool) (x : ℕ) (d : List ℕ) → InOrder (g .state) (groups g) (homes g) → b ≡ holdsHome r (g .home) → b ≡ false
-      → x ≡ codeOf (seenEntry (g .log) st r (g .home)) → x ≡ 0 → d ≡ homeAt (g .area) (g .home) → d ≡ visible g
-  unfolding visible seenEntry current
+      → x ≡ codeOf (seenEntry (g .log) (g .newest) st r (g .home)) → x ≡ 0 → d ≡ homeAt (g .area) (g .home) → d ≡ readBlock g
+  unfolding ownElse shown seenEntry
   shown-home b x d o e f s z h =
       let q = code-none _ x s z in
-      rw (← er, sym e ∙ f, own-same o, committed-same o) (h ∙ layers-none (ownEntry (g .log) st r (g .home)) (committedEntry (g .log) st (g .home)) _ q)
+      rw (← er, sym e ∙ f, own-same o, kept-same o) (h ∙ layers-none (ownEntry (g .log) st r (g .home)) (keptEntry (g .log) (g .newest) st (g .home)) _ q)
 
   pub shown-entry : (b : Bool) (x : ℕ) (d : List ℕ) → InOrder (g .state) (groups g) (homes g) → b ≡ holdsHome r (g .home) → b ≡ false
-      → x ≡ codeOf (seenEntry (g .log) st r (g .home)) → (x ≡ 0 → ⊥) → d ≡ blockAt (g .log) (st .groups) (x - 1) → d ≡ visible g
-  unfolding visible seenEntry current
+      → x ≡ codeOf (seenEntry (g .log) (g .newest) st r (g .home)) → (x ≡ 0 → ⊥) → d ≡ blockAt (g .log) (st .groups) (x - 1) → d ≡ readBlock g
+  unfolding ownElse shown seenEntry
   shown-entry b x d o e f s n h =
       let q = code-some _ x s n in
       let w : st .groups ≡ groups g = ap (λ (t : State). t .groups) es ∙ o .groups-same in
-      rw (← er, sym e ∙ f, own-same o, committed-same o)
-      ((rw w at h) ∙ layers-some (ownEntry (g .log) st r (g .home)) (committedEntry (g .log) st (g .home)) (x - 1) _ q)
+      rw (← er, sym e ∙ f, own-same o, kept-same o)
+      ((rw w at h) ∙ layers-some (ownEntry (g .log) st r (g .home)) (keptEntry (g .log) (g .newest) st (g .home)) (x - 1) _ q)
 
 -- ---- the questions
 
 module _ (g : Given) where
-  pub first-refuse : (x : ℕ) → x ≡ askBlock g 0 → (x ≡ 0 → ⊥) → x ≡ readAnswer g
+  pub first-refuse : (x : ℕ) → x ≡ askBoth g 0 → (x ≡ 0 → ⊥) → x ≡ readAnswer g
   unfolding readAnswer
-  first-refuse x e n = block-refuses g x _ e n
+  first-refuse x e n = both-refuses g x _ e n
 
-  pub writer-refused : askBlock g 0 ≡ 0 → 8 ≤ g .writer → 4 ≡ readAnswer g
+  pub writer-refused : askBoth g 0 ≡ 0 → 8 ≤ g .writer → 4 ≡ readAnswer g
   unfolding readAnswer writerKnown
-  writer-refused e h = sym (block-passes g _ e ∙ ask-no (ltb (g .writer) 8) 4 _ (le-ltb (g .writer) 8 h))
+  writer-refused e h = sym (both-passes g _ e ∙ ask-no (ltb (g .writer) 8) 4 _ (le-ltb (g .writer) 8 h))
 
-  pub home-refused : askBlock g 0 ≡ 0 → g .writer < 8 → homes g ≤ g .home → 5 ≡ readAnswer g
+  pub home-refused : askBoth g 0 ≡ 0 → g .writer < 8 → homes g ≤ g .home → 5 ≡ readAnswer g
   unfolding readAnswer writerKnown homeKnown
   home-refused e w h =
-      sym (block-passes g _ e ∙ ask-yes (ltb (g .writer) 8) 4 _ (lt-ltb (g .writer) 8 w) ∙ ask-no (ltb (g .home) (homes g)) 5 0 (le-ltb (g .home) (homes g) h))
+      sym (both-passes g _ e ∙ ask-yes (ltb (g .writer) 8) 4 _ (lt-ltb (g .writer) 8 w) ∙ ask-no (ltb (g .home) (homes g)) 5 0 (le-ltb (g .home) (homes g) h))
 
-  pub none-refused : askBlock g 0 ≡ 0 → g .writer < 8 → g .home < homes g → 0 ≡ readAnswer g
+  pub none-refused : askBoth g 0 ≡ 0 → g .writer < 8 → g .home < homes g → 0 ≡ readAnswer g
   unfolding readAnswer writerKnown homeKnown
   none-refused e w h =
-      sym (block-passes g _ e ∙ ask-yes (ltb (g .writer) 8) 4 _ (lt-ltb (g .writer) 8 w) ∙ ask-yes (ltb (g .home) (homes g)) 5 0 (lt-ltb (g .home) (homes g) h))
+      sym (both-passes g _ e ∙ ask-yes (ltb (g .writer) 8) 4 _ (lt-ltb (g .writer) 8 w) ∙ ask-yes (ltb (g .home) (homes g)) 5 0 (lt-ltb (g .home) (homes g) h))
 
   -- what a read that none refuses is lent
-  pub ready : readAnswer g ≡ 0 → Usable (g .log) (g .area) (g .state) × (length (g .block) ≡ 64) × (g .writer < 8) × (g .home < homes g)
+  pub ready : readAnswer g ≡ 0 → Usable (g .log) (g .area) (g .state) × (length (g .block) ≡ 64) × (length (g .newest) ≡ 8 * homes g) × (g .writer < 8) × (g .home < homes g)
   unfolding readAnswer writerKnown homeKnown
   ready e =
-      let a : askBlock g 0 ≡ 0 = first (askBlock g 0) refl in
-      let b = block-usable g a in
-      let r = sym (block-passes g _ a) ∙ e in
+      let a : askBoth g 0 ≡ 0 = both-zero g _ e in
+      let b = both-usable g a in
+      let r = sym (both-passes g _ a) ∙ e in
       let w = ask-passed (ltb (g .writer) 8) 3 _ r in
       let h = ask-passed (ltb (g .home) (homes g)) 4 0 (w .1) in
-      (b .0, b .1, ltb-true (g .writer) 8 (w .0), ltb-true (g .home) (homes g) (h .0))
-    where
-      first : (x : ℕ) → askBlock g 0 ≡ x → askBlock g 0 ≡ 0
-      first zero q = q
-      first (suc k) q = absurd (let z = sym (block-stops g k _ q) ∙ e in omega arith)
+      (b .0, b .1, b .2, ltb-true (g .writer) 8 (w .0), ltb-true (g .home) (homes g) (h .0))
 
   -- how a read ends
   pub read-refused : (x code figure size : ℕ) → x ≡ readAnswer g → (x ≡ 0 → ⊥) → code ≡ x → figure ≡ 0 → size ≡ 0
-      → leaves code figure size (g .log) (g .area) (g .state) (g .block) (g .batch) ≡ readCall g
+      → leavesAll code figure size (g .log) (g .area) (g .state) (g .newest) (g .block) (g .batch) ≡ readCall g
   unfolding readCall
   read-refused x code figure size e n h f s = refused-by g (readEffect g) (readAnswer g) code figure size (h ∙ e) (λ z. n (sym h ∙ z)) f s
 
-  pub read-done : (x code figure size : ℕ) (block : List ℕ) → x ≡ readAnswer g → x ≡ 0 → code ≡ 0 → figure ≡ 0 → size ≡ 0 → block ≡ visible g
-      → leaves code figure size (g .log) (g .area) (g .state) block (g .batch) ≡ readCall g
+  pub read-done : (x code figure size : ℕ) (block : List ℕ) → x ≡ readAnswer g → x ≡ 0 → code ≡ 0 → figure ≡ 0 → size ≡ 0 → block ≡ readBlock g
+      → leavesAll code figure size (g .log) (g .area) (g .state) (g .newest) block (g .batch) ≡ readCall g
   unfolding readCall readEffect batchBytes
   read-done x code figure size block e z h f s b =
-      done-by g (readEffect g) (readAnswer g) code figure size (g .log) (g .area) (g .state) block (g .batch) (sym e ∙ z) h f s refl refl refl b
+      done-by g (readEffect g) (readAnswer g) code figure size (g .log) (g .area) (g .state) (g .newest) block (g .batch) (sym e ∙ z) h f s refl refl refl refl b
       (sym (puts-nil (g .batch) 0))

@@ -7,9 +7,9 @@ ghost use Prim.Native.Nat.{_+_, _*_, _<_, _≤_};
 ghost use lib.ListN.{length};
 ghost use Rattle.model.specs.Layout.{homesIn, blockAt};
 ghost use Rattle.model.specs.State.{heldOf, holdsHome};
-ghost use Rattle.model.specs.Effects.{visible};
-ghost use Rattle.answers.specs.Lent.{lent};
+ghost use Rattle.answers.specs.Lent.{lentAll};
 ghost use Rattle.answers.proofs.AnswerLaws.{Usable};
+ghost use Rattle.reading.specs.Shown.{readBlock};
 
 // Whether a writer holds a block for a home.
 fn holds_home(r: Writer, home: u64) -> bool
@@ -40,9 +40,17 @@ fn show_entry(block: &mut [u8], log: &[u8], groups: u64, position: u64)
 }
 
 // Copies the block of a home that a writer sees.
-pub fn show(log: &[u8], area: &[u8], state: &[u8], block: &mut [u8], writer: u64, home: u64)
-    requires { ⌜ Usable (now log) (now area) (now state) × (length (now block) ≡ 64) × (writer < 8) × (home < homesIn (length (now area))) ⌝ }
-    ensures { λ _. ⌜ now (block .exit) ≡ visible (lent (now (log .entry)) (now (area .entry)) (now (state .entry)) (now (block .entry)) [] writer home) ⌝ }
+pub fn show(
+    log: &[u8],
+    area: &[u8],
+    state: &[u8],
+    newest: &[u8],
+    block: &mut [u8],
+    writer: u64,
+    home: u64,
+)
+    requires { ⌜ Usable (now log) (now area) (now state) × (length (now block) ≡ 64) × (length (now newest) ≡ 8 * homesIn (length (now area))) × (writer < 8) × (home < homesIn (length (now area))) ⌝ }
+    ensures { λ _. ⌜ now (block .exit) ≡ readBlock (lentAll (now (log .entry)) (now (area .entry)) (now (state .entry)) (now (newest .entry)) (now (block .entry)) [] writer home) ⌝ }
 {
     let st = strip::state(state);
     let w = writer as usize;
@@ -51,7 +59,7 @@ pub fn show(log: &[u8], area: &[u8], state: &[u8], block: &mut [u8], writer: u64
         show_held(block, state, w);
         return;
     }
-    let entry = seen(log, st, r, home);
+    let entry = seen(log, newest, st, r, home);
     if entry == 0 {
         areas::get_home(block, area, home as usize);
         return;

@@ -8,13 +8,21 @@ ghost use mathlib.Core.Path.{_≡_};
 ghost use mathlib.Core.List.{[]};
 ghost use Rattle.model.specs.Questions.{readAnswer};
 ghost use Rattle.model.specs.Calls.{readCall};
-ghost use Rattle.answers.specs.Lent.{lent, leaves};
+ghost use Rattle.answers.specs.Lent.{lentAll, leavesAll};
 
 // The questions of a read: 0 if none refuses it, else the number of the refusal.
-fn judge(log: &[u8], area: &[u8], state: &[u8], block: &[u8], writer: u64, home: u64) -> u64
-    ensures { λ r. ⌜ r ≡ readAnswer (lent (now (log .entry)) (now (area .entry)) (now (state .entry)) (now (block .entry)) [] writer home) ⌝ }
+fn judge(
+    log: &[u8],
+    area: &[u8],
+    state: &[u8],
+    newest: &[u8],
+    block: &[u8],
+    writer: u64,
+    home: u64,
+) -> u64
+    ensures { λ r. ⌜ r ≡ readAnswer (lentAll (now (log .entry)) (now (area .entry)) (now (state .entry)) (now (newest .entry)) (now (block .entry)) [] writer home) ⌝ }
 {
-    let code = answers::in_use_block(log, area, state, block);
+    let code = answers::in_use_both(log, area, state, newest, block);
     if code != 0 {
         return code;
     }
@@ -27,22 +35,24 @@ fn judge(log: &[u8], area: &[u8], state: &[u8], block: &[u8], writer: u64, home:
     0
 }
 
-// Reads the block of a home as a writer sees it: the held one, else its newest own entry, else the newest committed one, else the data copy.
+// Reads the block of a home as a writer sees it: the held one, else its newest own entry, else that at the
+// position kept for the home, else the data copy.
 pub fn read(
     log: &[u8],
     area: &[u8],
     state: &[u8],
+    newest: &[u8],
     block: &mut [u8],
     writer: u64,
     home: u64,
 ) -> Reply
-    ensures { λ r. ⌜ leaves (r .code) (r .figure) (r .size) (now (log .entry)) (now (area .entry)) (now (state .entry)) (now (block .exit)) []
-        ≡ readCall (lent (now (log .entry)) (now (area .entry)) (now (state .entry)) (now (block .entry)) [] writer home) ⌝ }
+    ensures { λ r. ⌜ leavesAll (r .code) (r .figure) (r .size) (now (log .entry)) (now (area .entry)) (now (state .entry)) (now (newest .entry)) (now (block .exit)) []
+        ≡ readCall (lentAll (now (log .entry)) (now (area .entry)) (now (state .entry)) (now (newest .entry)) (now (block .entry)) [] writer home) ⌝ }
 {
-    let code = judge(log, area, state, block, writer, home);
+    let code = judge(log, area, state, newest, block, writer, home);
     if code != 0 {
         return answers::refused(code);
     }
-    show(log, area, state, block, writer, home);
+    show(log, area, state, newest, block, writer, home);
     answers::done(0, 0)
 }

@@ -123,5 +123,5 @@ pub format-done : (log area batch : List ℕ) (v code figure size n groups homes
 unfolding formatCall formatEffect
 format-done log area batch v code figure size n groups homes l a b e z r g h el ea en eb =
     let k : Formattable log area batch = formattable log area batch v e z in
-    done-by (asked log area batch) (formatEffect (asked log area batch)) _ code figure size l a [] [] b (sym e ∙ z) (r .0) (r .1)
-    (r .2 ∙ en ∙ rw (g, h)) (el ∙ rw (g, h)) (ea ∙ ap zeros (k .area-length)) refl refl (eb ∙ rw (g, h))
+    done-by (asked log area batch) (formatEffect (asked log area batch)) _ code figure size l a [] [] [] b (sym e ∙ z) (r .0) (r .1)
+    (r .2 ∙ en ∙ rw (g, h)) (el ∙ rw (g, h)) (ea ∙ ap zeros (k .area-length)) refl refl refl (eb ∙ rw (g, h))

@@ -1,6 +1,6 @@
 -- Open: its questions, the records after those of the homes, and how the call ends. Assumes nothing.
 use mathlib.Core.Path.{_≡_, refl, sym, ap, _∙_}
-use mathlib.Core.Bool.{Bool, true, false, not, _&&_}
+use mathlib.Core.Bool.{Bool, true, false, not, _&&_, and-false}
 use mathlib.Core.Logic.{_≢_}
 use mathlib.Core.List.{List, [], _∷_, append-nil}
 use Prim.Native.Nat.{ℕ, _+_, _-_, _*_, _^_, _≤_, _<_}
@@ -11,20 +11,22 @@ use borrow.Author.Tests.{not-true, not-false, le-leb, lt-leb}
 use Rattle.model.specs.Bytes.{puts}
 use Rattle.model.specs.Layout.{groupsIn, homesIn, logLengthRight, dataLengthRight, header, headerStart, headerRight, emptyLog, entryAt}
 use Rattle.model.specs.Batch.{FN, KW, recordBytes, batchBytes}
+use Rattle.model.specs.Newest.{nothingKept}
 use Rattle.model.specs.State.{freshState}
 use Rattle.model.specs.Effects.{Given, blankWrites, touched, replayed, homeWrites, openTags, openStart, openEffect}
-use Rattle.model.specs.Questions.{ask, areasRight, stateRight, headerFits, startFits, batchFits, openAnswer}
+use Rattle.model.specs.Questions.{ask, areasRight, stateRight, headerFits, startFits, batchFits, openAnswer, newestRight}
 use Rattle.model.specs.Calls.{sizeOf, openCall}
 use Rattle.model.proofs.bytes.LayoutLaws.{length-header}
 use Rattle.model.proofs.strip.BatchLaws.{batch-append, length-FN, length-KW}
-use Rattle.model.proofs.strip.QuestionLaws.{ask-yes, ask-no, ask-passed}
+use Rattle.model.proofs.strip.QuestionLaws.{ask-yes, ask-no, ask-passed, and-true}
 use Rattle.model.proofs.strip.OrderLaws.{tests}
 use Rattle.batch.proofs.RecordLaws.{records-then-one, one-then-records}
 use Rattle.batch.proofs.FormatLaws.{length-groups}
 use Rattle.scan.specs.Walk.{closedBelow}
-use Rattle.answers.specs.Lent.{lent, leaves}
+use Rattle.answers.specs.Lent.{lentAll, leavesAll}
 use Rattle.answers.proofs.AnswerLaws.{refused-by, done-by}
 use Rattle.recovery.specs.Opens.{askOpen, emptied}
+use Rattle.answers.proofs.NewestAnswers.{newest-length, newest-other, right-length}
 use Rattle.recovery.specs.Plans.{Searchable, Planned}
 use Rattle.recovery.proofs.PlanLaws.{plan-size, plan-area, plan-batch}
 
@@ -43,9 +45,9 @@ pub record Lengths (log area state : List ℕ) : Type 0 where
   pub homes-most : homesIn (length area) ≤ 65535
   pub state-length : length state ≡ 1024
 
-module _ (log area state : List ℕ) where
+module _ (log area state newest : List ℕ) where
   abbrev judged : Given
-  judged = lent log area state [] [] 0 0
+  judged = lentAll log area state newest [] [] 0 0
 
   abbrev rightLengths : Bool
   rightLengths = logLengthRight (length log) && (dataLengthRight (length area) && eqb (length state) 1024)
@@ -69,13 +71,21 @@ module _ (log area state : List ℕ) where
 
   pub open-lengths-no : (r : Bool) → r ≡ rightLengths → not r ≡ true → 1 ≡ askOpen judged 0
   unfolding askOpen
-  open-lengths-no r e h = sym (ask-no _ 1 _ (sym same-lengths ∙ sym e ∙ not-true r h))
+  open-lengths-no r e h =
+      let f : (areasRight judged && stateRight judged) ≡ false = sym same-lengths ∙ sym e ∙ not-true r h in
+      sym (ask-no _ 1 _ (rw f))
+
+  pub open-newest-no : (n : ℕ) → n ≡ homesIn (length area) → length newest ≢ 8 * n → 1 ≡ askOpen judged 0
+  unfolding askOpen
+  open-newest-no n e h = sym (ask-no _ 1 _ (rw (newest-other judged n e h, and-false)))
 
   module _ (r b : Bool) (groups homes start : ℕ) (e : r ≡ rightLengths) (h : not r ≡ false)
       (q : (groups ≡ groupsIn (length log)) × (homes ≡ homesIn (length area)) × (start ≡ headerStart log) × (start < 2 ^ 48))
-      (eb : b ≡ headerRight log groups homes) where
-    lengths-yes : (areasRight judged && stateRight judged) ≡ true
-    lengths-yes = sym same-lengths ∙ sym e ∙ not-false r h
+      (en : length newest ≡ 8 * homes) (eb : b ≡ headerRight log groups homes) where
+    lengths-yes : (areasRight judged && stateRight judged && newestRight judged) ≡ true
+    lengths-yes =
+        let f : (areasRight judged && stateRight judged) ≡ true = sym same-lengths ∙ sym e ∙ not-false r h in
+        rw (f, newest-length judged homes (q .1) en)
 
     same-header : b ≡ headerRight log (groupsIn (length log)) (homesIn (length area))
     same-header = eb ∙ rw (q .0, q .1)
@@ -115,22 +125,25 @@ module _ (log area state : List ℕ) where
           ∙ ask-yes _ 10 0 (le-leb (headerStart log + groupsIn (length log)) (2 ^ 47) (omega arith)))
 
 -- what an answer of 0 to them gives
-pub record Openable (log area state : List ℕ) : Type 0 where
+pub record Openable (log area state newest : List ℕ) : Type 0 where
   pub log-length : length log ≡ 64 + 512 * groupsIn (length log)
   pub groups-least : 4 ≤ groupsIn (length log)
   pub groups-most : groupsIn (length log) ≤ 1024
   pub area-length : length area ≡ 64 * homesIn (length area)
   pub homes-most : homesIn (length area) ≤ 65535
   pub state-length : length state ≡ 1024
+  pub newest-length : length newest ≡ 8 * homesIn (length area)
   pub start-most : headerStart log + groupsIn (length log) ≤ 2 ^ 47
 
-pub openable : (log area state : List ℕ) (v : ℕ) → v ≡ askOpen (lent log area state [] [] 0 0) 0 → v ≡ 0 → Openable log area state
+pub openable : (log area state newest : List ℕ) (v : ℕ) → v ≡ askOpen (lentAll log area state newest [] [] 0 0) 0 → v ≡ 0
+    → Openable log area state newest
 unfolding askOpen startFits openStart
-openable log area state v e z =
+openable log area state newest v e z =
     let a = ask-passed _ 0 _ (sym e ∙ z) in
     let b = ask-passed _ 2 _ (a .1) in
     let c = ask-passed _ 9 0 (b .1) in
-    let k = lengths log area state true (sym (same-lengths log area state ∙ a .0)) refl in
+    let d = and-true (areasRight (lentAll log area state newest [] [] 0 0) && stateRight (lentAll log area state newest [] [] 0 0)) _ (a .0) in
+    let k = lengths log area state newest true (sym (same-lengths log area state newest ∙ d .0)) refl in
     let s = simp tests at (c .0) in
     record {
       log-length = k .log-length;
@@ -139,16 +152,20 @@ openable log area state v e z =
       area-length = k .area-length;
       homes-most = k .homes-most;
       state-length = k .state-length;
+      newest-length = right-length (lentAll log area state newest [] [] 0 0) (d .1);
       start-most = omega arith;
     }
 
-pub area-homes : (log area state : List ℕ) (homes : ℕ) → Openable log area state → homes ≡ homesIn (length area) → length area ≡ 64 * homes
-area-homes log area state homes k e = omega arith
+pub area-homes : (log area state newest : List ℕ) (homes : ℕ) → Openable log area state newest → homes ≡ homesIn (length area) → length area ≡ 64 * homes
+area-homes log area state newest homes k e = omega arith
 
-pub open-searchable : (log area state : List ℕ) (groups homes start : ℕ) → Openable log area state
+pub newest-homes : (log area state newest : List ℕ) (homes : ℕ) → Openable log area state newest → homes ≡ homesIn (length area) → length newest ≡ 8 * homes
+newest-homes log area state newest homes k e = omega (arith, k .newest-length)
+
+pub open-searchable : (log area state newest : List ℕ) (groups homes start : ℕ) → Openable log area state newest
     → (groups ≡ groupsIn (length log)) × (homes ≡ homesIn (length area)) × (start ≡ headerStart log) × (start < 2 ^ 48)
     → Searchable log groups homes start (7 * groups)
-open-searchable log area state groups homes start k q =
+open-searchable log area state newest groups homes start k q =
     record {
       long = omega arith;
       least = omega arith;
@@ -196,30 +213,30 @@ passes true true false r v e h = absurd (omega arith)
 passes true false c r v e h = absurd (omega arith)
 passes false b c r v e h = absurd (omega arith)
 
-module _ (log area state batch : List ℕ) where
+module _ (log area state newest batch : List ℕ) where
   abbrev opening : Given
-  opening = lent log area state [] batch 0 0
+  opening = lentAll log area state newest [] batch 0 0
 
-  open-stops : (r size : ℕ) → r ≡ askOpen (lent log area state [] [] 0 0) 0 → r ≢ 0 → r ≡ openAnswer opening (openStart opening) size
-  unfolding askOpen openAnswer areasRight stateRight headerFits openStart
+  open-stops : (r size : ℕ) → r ≡ askOpen (lentAll log area state newest [] [] 0 0) 0 → r ≢ 0 → r ≡ openAnswer opening (openStart opening) size
+  unfolding askOpen openAnswer areasRight stateRight newestRight headerFits openStart
   open-stops r size e h = stops _ _ _ r _ e h
 
-  open-passes : (r size : ℕ) → r ≡ askOpen (lent log area state [] [] 0 0) 0 → r ≡ 0
+  open-passes : (r size : ℕ) → r ≡ askOpen (lentAll log area state newest [] [] 0 0) 0 → r ≡ 0
       → openAnswer opening (openStart opening) size ≡ ask (batchFits opening size) 9 0
-  unfolding askOpen openAnswer areasRight stateRight headerFits openStart
+  unfolding askOpen openAnswer areasRight stateRight newestRight headerFits openStart
   open-passes r size e h = passes _ _ _ r _ e h
 
-  pub open-refused : (v code figure size : ℕ) → v ≡ askOpen (lent log area state [] [] 0 0) 0 → v ≢ 0
-      → (code ≡ v) × (figure ≡ 0) × (size ≡ 0) → leaves code figure size log area state [] batch ≡ openCall opening
+  pub open-refused : (v code figure size : ℕ) → v ≡ askOpen (lentAll log area state newest [] [] 0 0) 0 → v ≢ 0
+      → (code ≡ v) × (figure ≡ 0) × (size ≡ 0) → leavesAll code figure size log area state newest [] batch ≡ openCall opening
   unfolding openCall
   open-refused v code figure size e h r =
       refused-by opening (openEffect opening) _ code figure size (r .0 ∙ open-stops v _ e h) (λ z. h (sym (r .0) ∙ z)) (r .1) (r .2)
 
-  module _ (v end number count groups homes start : ℕ) (e : v ≡ askOpen (lent log area state [] [] 0 0) 0) (z : v ≡ 0)
+  module _ (v end number count groups homes start : ℕ) (e : v ≡ askOpen (lentAll log area state newest [] [] 0 0) 0) (z : v ≡ 0)
       (q : (groups ≡ groupsIn (length log)) × (homes ≡ homesIn (length area)) × (start ≡ headerStart log) × (start < 2 ^ 48))
       (p : Planned log groups homes start (7 * groups) end number count) where
     area-long : length area ≡ 64 * homesIn (length area)
-    area-long = openable log area state v e z .area-length
+    area-long = openable log area state newest v e z .area-length
 
     plan-all : Planned log (groupsIn (length log)) (homesIn (length area)) (headerStart log) (7 * groupsIn (length log)) end number count
     plan-all = rw (q .0, q .1, q .2) at p
@@ -235,7 +252,7 @@ module _ (log area state batch : List ℕ) where
     open-size = open-length
 
     pub open-short : (code figure size : ℕ) (a b : List ℕ) → length batch < 68 * count + (72 + 516 * groups) → (code ≡ 9) × (figure ≡ 0) × (size ≡ 0)
-        → a ≡ area → b ≡ batch → leaves code figure size log a state [] b ≡ openCall opening
+        → a ≡ area → b ≡ batch → leavesAll code figure size log a state newest [] b ≡ openCall opening
     unfolding openCall batchFits
     open-short code figure size a b h r ea eb =
         rw (ea, eb)
@@ -243,23 +260,23 @@ module _ (log area state batch : List ℕ) where
         (r .0 ∙ sym (open-passes v _ e z ∙ ask-no _ 9 0 (lt-leb (sizeOf (openEffect opening)) (length batch) (omega (arith, open-size)))))
         (λ y. let w = r .0 in omega arith) (r .1) (r .2))
 
-    pub open-done : (code figure size at : ℕ) (l a s d b : List ℕ) → 68 * count + (72 + 516 * groups) ≤ length batch
+    pub open-done : (code figure size at : ℕ) (l a s p′ d b : List ℕ) → 68 * count + (72 + 516 * groups) ≤ length batch
         → (code ≡ 0) × (figure ≡ number) × (size ≡ 68 * count + (72 + 516 * groups))
         → a ≡ replayed log groups (entryAt log groups homes start) (closedBelow log groups homes start end) area
         → d
         ≡ puts batch 0
         (batchBytes (homeWrites a (touched (entryAt log groups homes start) (closedBelow log groups homes start end) homes)))
         → b ≡ puts d at (batchBytes (emptied (start + groups) groups homes)) → at ≡ 68 * count
-        → l ≡ emptyLog (start + groups) groups homes → s ≡ freshState groups homes (start + groups)
-        → leaves code figure size l a s [] b ≡ openCall opening
+        → l ≡ emptyLog (start + groups) groups homes → s ≡ freshState groups homes (start + groups) → p′ ≡ nothingKept homes
+        → leavesAll code figure size l a s p′ [] b ≡ openCall opening
     unfolding openCall batchFits openEffect openTags openStart
-    open-done code figure size at l a s d b h r ea ed eb et el es =
+    open-done code figure size at l a s p′ d b h r ea ed eb et el es ep =
         let ra = rw (q .0, q .1, q .2) at ea in
         let rd = rw (q .0, q .1, q .2) at ed in
         let rb = rw (q .0, q .1, q .2) at eb in
-        done-by opening (openEffect opening) _ code figure size l a s [] b
+        done-by opening (openEffect opening) _ code figure size l a s p′ [] b
         (open-passes v _ e z ∙ ask-yes _ 9 0 (le-leb (sizeOf (openEffect opening)) (length batch) (omega (arith, open-size))))
         (r .0) (r .1 ∙ plan-all .numbered) (r .2 ∙ sym open-length) (el ∙ rw (q .0, q .1, q .2))
         (plan-area log area _ _ _ _ end number count plan-all area-long a ra)
-        (es ∙ rw (q .0, q .1, q .2)) refl
+        (es ∙ rw (q .0, q .1, q .2)) (ep ∙ rw (q .1)) refl
         (plan-batch log area _ _ _ _ end number count plan-all area-long a d b batch at _ ra rd et rb)

@@ -11,7 +11,7 @@ use Rattle.model.specs.Layout.{groupsIn, homesIn, entryAt}
 use Rattle.model.specs.Batch.{FN, recordBytes, batchBytes}
 use Rattle.model.specs.declared.State.{State}
 use Rattle.model.specs.State.{stateOf, setSettled, setFenced}
-use Rattle.model.specs.Effects.{Given, touched, replayed, homeWrites, liveTags, liveBase, settleEffect}
+use Rattle.model.specs.Effects.{Given, touched, replayed, homeWrites, tagsOf, liveTags, liveBase, settleEffect}
 use Rattle.model.specs.Questions.{ask, askState, batchFits, settleAnswer}
 use Rattle.model.specs.Calls.{sizeOf, settleCall}
 use Rattle.model.proofs.strip.BatchLaws.{batch-one, length-FN}
@@ -98,7 +98,7 @@ module _ (log area state batch : List ℕ) where
     plan-live = rw (f, order .groups-same, order .homes-same) at p
 
     settle-size : sizeOf (settleEffect settling) ≡ 68 * count + 2
-    unfolding sizeOf settleEffect liveTags liveBase
+    unfolding sizeOf settleEffect liveTags tagsOf liveBase
     settle-size =
         plan-size log area _ _ _ _ end number count plan-live area-long (FN ∷ []) ∙ ap (λ (k : ℕ). 68 * count + k) (ap length (batch-one FN) ∙ length-FN)
 
@@ -128,13 +128,13 @@ module _ (log area state batch : List ℕ) where
         → b ≡ puts d at (recordBytes FN) → at ≡ 68 * count
         → s ≡ setFenced (setSettled state (st .fenced)) (7 * st .next)
         → leaves code figure size log a s [] b ≡ settleCall settling
-    unfolding settleCall settleAnswer batchFits settleEffect liveTags liveBase
+    unfolding settleCall settleAnswer batchFits settleEffect liveTags tagsOf liveBase
     settle-done code figure size at a s d b h r ea ed eb et es =
         let ra = rw (f, order .groups-same, order .homes-same) at ea in
         let rd = rw (f, order .groups-same, order .homes-same) at ed in
-        done-by settling (settleEffect settling) _ code figure size log a s [] b
+        done-by settling (settleEffect settling) _ code figure size log a s [] [] b
         (asked ∙ ask-yes _ 9 0 (le-leb (sizeOf (settleEffect settling)) (length batch) (omega (arith, settle-size))))
         (r .0) (r .1) (r .2 ∙ sym settle-length) refl
         (plan-area log area _ _ _ _ end number count plan-live area-long a ra)
-        (es ∙ rw f) refl
+        (es ∙ rw f) refl refl
         (plan-batch log area _ _ _ _ end number count plan-live area-long a d b batch at (FN ∷ []) ra rd et (eb ∙ rw (← batch-one FN)))

@@ -5,10 +5,10 @@ use mathlib.Core.List.{List, [], _∷_, _++_}
 use Rattle.model.specs.Layout.{header}
 use Rattle.model.specs.Batch.{Record, KW, FN}
 use Rattle.model.specs.Effects.{Given, blankWrites, openStart}
-use Rattle.model.specs.Questions.{ask, areasRight, stateRight, headerFits, startFits}
+use Rattle.model.specs.Questions.{ask, areasRight, stateRight, headerFits, startFits, newestRight}
 
 unfoldable pub askOpen : Given → ℕ → ℕ
-askOpen g next = ask (areasRight g && stateRight g) 1 (ask (headerFits g) 3 (ask (startFits (openStart g)) 10 next))
+askOpen g next = ask (areasRight g && stateRight g && newestRight g) 1 (ask (headerFits g) 3 (ask (startFits (openStart g)) 10 next))
 
 -- the log is emptied from a start on
 abbrev pub emptied : ℕ → ℕ → ℕ → List Record

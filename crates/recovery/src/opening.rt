@@ -8,9 +8,10 @@ ghost use lib.ListN.{length};
 ghost use Rattle.model.specs.Bytes.{puts};
 ghost use Rattle.model.specs.Layout.{groupsIn, homesIn, headerStart, emptyLog};
 ghost use Rattle.model.specs.Batch.{batchBytes};
+ghost use Rattle.model.specs.Newest.{nothingKept};
 ghost use Rattle.model.specs.State.{freshState};
 ghost use Rattle.model.specs.Calls.{openCall};
-ghost use Rattle.answers.specs.Lent.{lent, leaves};
+ghost use Rattle.answers.specs.Lent.{lentAll, leavesAll};
 ghost use Rattle.recovery.specs.Opens.{askOpen, emptied};
 
 // The highest group number that a log may start at.
@@ -39,13 +40,16 @@ fn measure(log: &[u8], area: &[u8]) -> Shape
 }
 
 // The questions of open but the last: 0, or the number of the refusal.
-fn may_open(log: &[u8], area: &[u8], state: &[u8]) -> u64
-    ensures { λ r. ⌜ r ≡ askOpen (lent (now (log .entry)) (now (area .entry)) (now (state .entry)) [] [] 0 0) 0 ⌝ }
+fn may_open(log: &[u8], area: &[u8], state: &[u8], newest: &[u8]) -> u64
+    ensures { λ r. ⌜ r ≡ askOpen (lentAll (now (log .entry)) (now (area .entry)) (now (state .entry)) (now (newest .entry)) [] [] 0 0) 0 ⌝ }
 {
     if !answers::lengths_right(log, area, state) {
         return 1;
     }
     let shape = measure(log, area);
+    if newest.len() as u64 != 8 * shape.homes {
+        return 1;
+    }
     if !areas::header_right(log, shape.groups, shape.homes) {
         return 3;
     }
@@ -70,21 +74,36 @@ fn open_records(batch: &mut [u8], at: usize, start: u64, groups: u64, homes: u64
     batch::fence(batch, next);
 }
 
-// Makes the log copy empty from a new start on, and the strip that of an empty log.
-fn open_copies(log: &mut [u8], state: &mut [u8], groups: u64, homes: u64, start: u64)
-    requires { ⌜ (length (now log) ≡ 64 + 512 * groups) × (0 < groups) × (length (now state) ≡ 1024) × (7 * start < 2 ^ 64) ⌝ }
-    ensures { λ _. ⌜ now (log .exit) ≡ emptyLog start groups homes ⌝ }
-    ensures { λ _. ⌜ now (state .exit) ≡ freshState groups homes start ⌝ }
+// Makes the log copy empty from a new start on, the strip that of an empty log, and keeps no position.
+fn open_copies(
+    log: &mut [u8],
+    state: &mut [u8],
+    newest: &mut [u8],
+    groups: u64,
+    homes: u64,
+    start: u64,
+)
+    requires { ⌜ (length (now log) ≡ 64 + 512 * groups) × (0 < groups) × (length (now state) ≡ 1024) × (length (now newest) ≡ 8 * homes) × (7 * start < 2 ^ 64) ⌝ }
+    ensures { λ _. ⌜ (now (log .exit) ≡ emptyLog start groups homes)
+        × (now (state .exit) ≡ freshState groups homes start)
+        × (now (newest .exit) ≡ nothingKept homes) ⌝ }
 {
     areas::put_empty_log(log, start, groups, homes);
     strip::fresh(state, groups, homes, start);
+    positions::keep_nothing(newest, homes as usize);
 }
 
 // Brings the committed transactions back, and empties the log; returns how many they are.
-pub fn reopen(log: &mut [u8], area: &mut [u8], state: &mut [u8], batch: &mut [u8]) -> Reply
-    ensures { λ r. ⌜ leaves (r .code) (r .figure) (r .size) (now (log .exit)) (now (area .exit)) (now (state .exit)) [] (now (batch .exit)) ≡ openCall (lent (now (log .entry)) (now (area .entry)) (now (state .entry)) [] (now (batch .entry)) 0 0) ⌝ }
+pub fn reopen(
+    log: &mut [u8],
+    area: &mut [u8],
+    state: &mut [u8],
+    newest: &mut [u8],
+    batch: &mut [u8],
+) -> Reply
+    ensures { λ r. ⌜ leavesAll (r .code) (r .figure) (r .size) (now (log .exit)) (now (area .exit)) (now (state .exit)) (now (newest .exit)) [] (now (batch .exit)) ≡ openCall (lentAll (now (log .entry)) (now (area .entry)) (now (state .entry)) (now (newest .entry)) [] (now (batch .entry)) 0 0) ⌝ }
 {
-    let code = may_open(log, area, state);
+    let code = may_open(log, area, state, newest);
     if code != 0 {
         return answers::refused(code);
     }
@@ -100,6 +119,6 @@ pub fn reopen(log: &mut [u8], area: &mut [u8], state: &mut [u8], batch: &mut [u8
         return answers::refused(9);
     }
     open_records(batch, (size - more) as usize, start + groups, groups, homes);
-    open_copies(log, state, groups, homes, start + groups);
+    open_copies(log, state, newest, groups, homes, start + groups);
     answers::done(found.number, size)
 }

@@ -1,3 +1,4 @@
+pub mod Members
 pub mod Scan
 pub mod Slots
 pub mod Walk

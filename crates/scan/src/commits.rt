@@ -5,7 +5,7 @@ use super::slots::first_slot;
 use super::slots::next_slot;
 use model::Tag;
 ghost use mathlib.Core.Path.{_≡_};
-ghost use Prim.Native.Nat.{_+_, _*_, _^_, min, _<_, _≤_};
+ghost use Prim.Native.Nat.{_+_, _-_, _*_, _^_, min, _<_, _≤_};
 ghost use lib.ListN.{length, getD};
 ghost use Rattle.model.specs.Tag.{readTag};
 ghost use Rattle.model.specs.Layout.{turnOf, entryIn, entryAt};
@@ -141,6 +141,16 @@ pub fn in_group(left: u64) -> usize
     ensures { λ r. ⌜ r ≡ min left 7 ⌝ }
 {
     if left < 7 { left as usize } else { 7 }
+}
+
+// How many positions from `position` on lie before another.
+pub fn skipped(position: u64, first: u64) -> usize
+    ensures { λ r. ⌜ r ≡ first - position ⌝ }
+{
+    if first < position {
+        return 0;
+    }
+    (first - position) as usize
 }
 
 // What the walk has found so far.

@@ -3,7 +3,7 @@ use model::Tag;
 ghost use mathlib.Core.Path.{_≡_};
 ghost use Prim.Native.Nat.{ℕ, _+_, _*_, _^_, _<_, _≤_};
 ghost use lib.ListN.{length, getD};
-ghost use Rattle.model.specs.Tag.{readTag};
+ghost use Rattle.model.specs.Tag.{field, readTag};
 ghost use Rattle.model.specs.Layout.{groupTag, groupValid, wordThere};
 
 // What tag `k` of a group says at a position of a log that starts at position `base` and has `homes` homes.
@@ -23,6 +23,23 @@ fn word_there(group: &[u8], turn: u64, k: usize) -> u64
         return 0;
     }
     codec::number(group, 8 + 8 * k, 8)
+}
+
+// What tag `k` of a group says if its data block has the turn of the group.
+pub fn tag_there(group: &[u8], turn: u64, k: usize, position: u64, base: u64, homes: u64) -> Tag
+    requires { ⌜ (length (now group) ≡ 512) × (k < 7) ⌝ }
+    ensures { λ r. ⌜ r ≡ readTag (wordThere (now (group .entry)) turn k) position base homes ⌝ }
+{
+    codec::read_tag(word_there(group, turn, k), position, base, homes)
+}
+
+// The distance back to its first entry that tag `k` of a group holds, used or not, if its data block has the turn of the group: what belongs to a
+// transaction has it, so it is compared first.
+pub fn back_in(group: &[u8], turn: u64, k: usize) -> u64
+    requires { ⌜ (length (now group) ≡ 512) × (k < 7) ⌝ }
+    ensures { λ r. ⌜ r ≡ field (wordThere (now (group .entry)) turn k) 14 13 ⌝ }
+{
+    codec::tag_back(word_there(group, turn, k))
 }
 
 // The words of a group's seven tags that are there, read in a row; `turn` is the group's.

@@ -31,8 +31,15 @@ fn store(
 const MALFORMED: u64 = 11;
 
 // Makes the call that a line asks for.
-fn call(log: &mut [u8], area: &mut [u8], state: &mut [u8], batch: &mut [u8], asked: Line) -> Reply
-    ensures { λ r. ⌜ Does asked (memory (now (log .entry)) (now (area .entry)) (now (state .entry)) (now (batch .entry))) (r .code) (r .figure) (r .size) (memory (now (log .exit)) (now (area .exit)) (now (state .exit)) (now (batch .exit))) ⌝ }
+fn call(
+    log: &mut [u8],
+    area: &mut [u8],
+    state: &mut [u8],
+    newest: &mut [u8],
+    batch: &mut [u8],
+    asked: Line,
+) -> Reply
+    ensures { λ r. ⌜ Does asked (memory (now (log .entry)) (now (area .entry)) (now (state .entry)) (now (newest .entry)) (now (batch .entry))) (r .code) (r .figure) (r .size) (memory (now (log .exit)) (now (area .exit)) (now (state .exit)) (now (newest .exit)) (now (batch .exit))) ⌝ }
 {
     match asked {
         Line::Begin(w) => {
@@ -42,7 +49,7 @@ fn call(log: &mut [u8], area: &mut [u8], state: &mut [u8], batch: &mut [u8], ask
             return store(log, area, state, batch, w, home, fill);
         }
         Line::Commit(w) => {
-            return logging::commit(log, area, state, batch, w);
+            return logging::commit(log, area, state, newest, batch, w);
         }
         Line::Flush => {
             return logging::flush(log, area, state, batch);
@@ -51,7 +58,7 @@ fn call(log: &mut [u8], area: &mut [u8], state: &mut [u8], batch: &mut [u8], ask
             return recovery::settle(log, area, state, batch);
         }
         Line::Trim => {
-            return trimming::trim(log, area, state, batch);
+            return trimming::trim(log, area, state, newest, batch);
         }
         Line::Malformed => {
             return answers::refused(MALFORMED);
@@ -60,8 +67,15 @@ fn call(log: &mut [u8], area: &mut [u8], state: &mut [u8], batch: &mut [u8], ask
 }
 
 // Runs a line, and shows what came of it.
-fn run(log: &mut [u8], area: &mut [u8], state: &mut [u8], batch: &mut [u8], line: &[u8]) {
-    let reply = call(log, area, state, batch, lines::parse(line));
+fn run(
+    log: &mut [u8],
+    area: &mut [u8],
+    state: &mut [u8],
+    newest: &mut [u8],
+    batch: &mut [u8],
+    line: &[u8],
+) {
+    let reply = call(log, area, state, newest, batch, lines::parse(line));
     if reply.code == MALFORMED {
         show::malformed();
         return;
@@ -70,11 +84,18 @@ fn run(log: &mut [u8], area: &mut [u8], state: &mut [u8], batch: &mut [u8], line
 }
 
 // Runs each line of a script.
-fn run_all(log: &mut [u8], area: &mut [u8], state: &mut [u8], batch: &mut [u8], script: &[u8]) {
+fn run_all(
+    log: &mut [u8],
+    area: &mut [u8],
+    state: &mut [u8],
+    newest: &mut [u8],
+    batch: &mut [u8],
+    script: &[u8],
+) {
     let mut at: usize = 0;
     while at < script.len() {
         let end = lines::until(script, at, b'\n');
-        run(log, area, state, batch, &script[at..end]);
+        run(log, area, state, newest, batch, &script[at..end]);
         if end == script.len() {
             return;
         }
@@ -86,10 +107,18 @@ fn main() {
     let mut log = [0u8; 2112];
     let mut area = [0u8; 512];
     let mut state = [0u8; 1024];
+    let mut newest = [0u8; 64];
     let mut batch = [0u8; 4096];
     let mut input = io::large_buffer();
     let n = io::read_full(STDIN_FILENO, &mut input);
     recovery::format(&mut log, &mut area, &mut batch);
-    recovery::reopen(&mut log, &mut area, &mut state, &mut batch);
-    run_all(&mut log, &mut area, &mut state, &mut batch, &input[..n]);
+    recovery::reopen(&mut log, &mut area, &mut state, &mut newest, &mut batch);
+    run_all(
+        &mut log,
+        &mut area,
+        &mut state,
+        &mut newest,
+        &mut batch,
+        &input[..n],
+    );
 }

@@ -1,2 +1,1 @@
-pub mod SearchLaws
-pub mod CommittedLaws
+pub mod OwnLaws

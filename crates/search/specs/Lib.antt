@@ -1,3 +1,2 @@
 pub mod Codes
-pub mod Search
-pub mod Seen
+pub mod Own

@@ -1,4 +1,4 @@
-// Read's search: the newest entry of a home that a writer sees.
-mod pass;
+// Read's search: the newest entry of a home in a writer's open transaction.
+mod own;
 
-pub use pass::newest_seen;
+pub use own::newest_own;

@@ -15,7 +15,7 @@ use Rattle.model.specs.Questions.{ask, areasRight, stateRight, stripInOrder, wr
 use Rattle.model.specs.Calls.{beginCall, reserveCall, abortCall, confirmCall}
 use Rattle.model.proofs.strip.QuestionLaws.{ask-yes, ask-no, ask-passed, and-true, InUse, begin-ready, reserve-ready, abort-ready, confirm-ready}
 use Rattle.strip.specs.Order.{GroupsInOrder}
-use Rattle.answers.specs.Lent.{lent, leaves}
+use Rattle.answers.specs.Lent.{lent, leavesAll}
 use Rattle.sessions.specs.Writers.{askWriter}
 use Rattle.answers.proofs.AnswerLaws.{Usable, usable-groups, state-usable, state-refuses, state-passes, state-only, refused-by, strip-by}
 
@@ -190,34 +190,34 @@ confirm-fits g r e z = strip-length g (confirm-ready g (sym e ∙ z))
 
 module _ (g : Given) (r : ℕ) (code figure size : ℕ) where
   pub begin-refused : r ≡ beginAnswer g → r ≢ 0 → code ≡ r → figure ≡ 0 → size ≡ 0
-      → leaves code figure size (g .log) (g .area) (g .state) (g .block) (g .batch) ≡ beginCall g
+      → leavesAll code figure size (g .log) (g .area) (g .state) (g .newest) (g .block) (g .batch) ≡ beginCall g
   unfolding beginCall
   begin-refused e h c f n = refused-by g (beginEffect g) (beginAnswer g) code figure size (c ∙ e) (λ z. h (sym c ∙ z)) f n
 
   pub reserve-refused : (k : ℕ) → r ≡ reserveAnswer g k → r ≢ 0 → code ≡ r → figure ≡ 0 → size ≡ 0
-      → leaves code figure size (g .log) (g .area) (g .state) (g .block) (g .batch) ≡ reserveCall g k
+      → leavesAll code figure size (g .log) (g .area) (g .state) (g .newest) (g .block) (g .batch) ≡ reserveCall g k
   unfolding reserveCall
   reserve-refused k e h c f n = refused-by g (reserveEffect g k) (reserveAnswer g k) code figure size (c ∙ e) (λ z. h (sym c ∙ z)) f n
 
   pub abort-refused : r ≡ abortAnswer g → r ≢ 0 → code ≡ r → figure ≡ 0 → size ≡ 0
-      → leaves code figure size (g .log) (g .area) (g .state) (g .block) (g .batch) ≡ abortCall g
+      → leavesAll code figure size (g .log) (g .area) (g .state) (g .newest) (g .block) (g .batch) ≡ abortCall g
   unfolding abortCall
   abort-refused e h c f n = refused-by g (abortEffect g) (abortAnswer g) code figure size (c ∙ e) (λ z. h (sym c ∙ z)) f n
 
   pub confirm-refused : r ≡ askState g 0 → r ≢ 0 → code ≡ r → figure ≡ 0 → size ≡ 0
-      → leaves code figure size (g .log) (g .area) (g .state) (g .block) (g .batch) ≡ confirmCall g
+      → leavesAll code figure size (g .log) (g .area) (g .state) (g .newest) (g .block) (g .batch) ≡ confirmCall g
   unfolding confirmCall confirmAnswer
   confirm-refused e h c f n = refused-by g (confirmEffect g) (askState g 0) code figure size (c ∙ e) (λ z. h (sym c ∙ z)) f n
 
   pub begin-done : (s : List ℕ) → r ≡ beginAnswer g → r ≡ 0 → s ≡ setWriter (g .state) (g .writer) begun → code ≡ 0
-      → figure ≡ 0 → size ≡ 0 → leaves code figure size (g .log) (g .area) s (g .block) (g .batch) ≡ beginCall g
+      → figure ≡ 0 → size ≡ 0 → leavesAll code figure size (g .log) (g .area) s (g .newest) (g .block) (g .batch) ≡ beginCall g
   unfolding beginCall beginEffect
   begin-done s e z es c f n =
       strip-by g (setWriter (g .state) (g .writer) begun) (beginAnswer g) 0 code figure size s (sym e ∙ z) c f n es
 
   pub reserve-done : (k : ℕ) (s₁ s : List ℕ) → r ≡ reserveAnswer g k → r ≡ 0 → s₁ ≡ setWriter (g .state) (g .writer) begun
       → s ≡ setPromise s₁ (g .writer) k → code ≡ 0
-      → figure ≡ 0 → size ≡ 0 → leaves code figure size (g .log) (g .area) s (g .block) (g .batch) ≡ reserveCall g k
+      → figure ≡ 0 → size ≡ 0 → leavesAll code figure size (g .log) (g .area) s (g .newest) (g .block) (g .batch) ≡ reserveCall g k
   unfolding reserveCall reserveEffect
   reserve-done k s₁ s e z e₁ es c f n =
       strip-by g (setPromise (setWriter (g .state) (g .writer) begun) (g .writer) k) (reserveAnswer g k) 0 code figure size s (sym e ∙ z) c f n
@@ -225,14 +225,14 @@ module _ (g : Given) (r : ℕ) (code figure size : ℕ) where
 
   pub abort-done : (s₁ s : List ℕ) → r ≡ abortAnswer g → r ≡ 0 → s₁ ≡ setWriter (g .state) (g .writer) idle
       → s ≡ setPromise s₁ (g .writer) 0 → code ≡ 0
-      → figure ≡ 0 → size ≡ 0 → leaves code figure size (g .log) (g .area) s (g .block) (g .batch) ≡ abortCall g
+      → figure ≡ 0 → size ≡ 0 → leavesAll code figure size (g .log) (g .area) s (g .newest) (g .block) (g .batch) ≡ abortCall g
   unfolding abortCall abortEffect
   abort-done s₁ s e z e₁ es c f n =
       strip-by g (setPromise (setWriter (g .state) (g .writer) idle) (g .writer) 0) (abortAnswer g) 0 code figure size s (sym e ∙ z) c f n
       (es ∙ rw e₁)
 
   pub confirm-done : (st : State) (s : List ℕ) → r ≡ askState g 0 → r ≡ 0 → st ≡ stateOf (g .state) → s ≡ setDurable (g .state) (st .fenced)
-      → code ≡ 0 → figure ≡ st .fenced → size ≡ 0 → leaves code figure size (g .log) (g .area) s (g .block) (g .batch) ≡ confirmCall g
+      → code ≡ 0 → figure ≡ st .fenced → size ≡ 0 → leavesAll code figure size (g .log) (g .area) s (g .newest) (g .block) (g .batch) ≡ confirmCall g
   unfolding confirmCall confirmAnswer confirmEffect
   confirm-done st s e z et es c f n =
       let k : st .fenced ≡ stateOf (g .state) .fenced = ap (λ (t : State). t .fenced) et in

@@ -11,9 +11,10 @@ use Rattle.model.specs.Bytes.{puts}
 use Rattle.model.specs.Layout.{maxStart, header, entryAt}
 use Rattle.model.specs.Commit.{committed}
 use Rattle.model.specs.State.{stateOf, nextPosition, setStart, setFenced, setLast}
+use Rattle.model.specs.Newest.{forget}
 use Rattle.model.specs.Batch.{KW, FN, recordBytes, batchBytes}
-use Rattle.model.specs.Effects.{Given, groups, homes, newState, liveTags, liveBase, noneOpenBefore, mayStart, largest, trimStart, trimTo, trimEffect}
-use Rattle.model.specs.Questions.{startFits, batchFits, askState, trimAnswer}
+use Rattle.model.specs.Effects.{Given, groups, homes, newState, tagsOf, liveTags, liveBase, noneOpenBefore, mayStart, largest, trimStart, trimTo, trimEffect}
+use Rattle.model.specs.Questions.{startFits, batchFits, askNewest, trimAnswer}
 use Rattle.model.specs.Calls.{sizeOf, outcome, trimCall}
 use Rattle.model.specs.declared.State.{State}
 use Rattle.model.proofs.strip.BatchLaws.{length-KW, length-FN}
@@ -23,8 +24,9 @@ use Rattle.model.proofs.rule.ClosingLaws.{committed-closings, committed-most}
 use Rattle.model.proofs.bytes.LayoutLaws.{length-header}
 use Rattle.model.proofs.strip.OrderLaws.{InOrder, next-within}
 use Rattle.model.proofs.strip.QuestionLaws.{ask-yes, ask-no}
-use Rattle.answers.specs.Lent.{lent, leaves}
-use Rattle.answers.proofs.AnswerLaws.{Usable, state-refuses, state-passes, refused-by, done-by, strip-by}
+use Rattle.answers.specs.Lent.{lentAll, leavesAll, lent}
+use Rattle.answers.proofs.AnswerLaws.{Usable, refused-by, done-by, strip-by}
+use Rattle.answers.proofs.NewestAnswers.{newest-refuses, newest-passes}
 use Rattle.scan.specs.Walk.{Walkable}
 use Rattle.limits.specs.Limits.{Highest}
 use Rattle.limits.proofs.WriterLaws.{open-from}
@@ -72,9 +74,9 @@ order-own log area state st u e = let o = u .order in rw (e, o .groups-same, o .
 -- ---- the start
 
 -- it does not depend on the batch
-pub start-only : (l a s b t : List ℕ) (w h : ℕ) → trimStart (lent l a s b t w h) ≡ trimStart (lent l a s [] [] 0 0)
-unfolding trimStart liveTags liveBase
-start-only l a s b t w h = refl
+pub start-only : (l a s p b t : List ℕ) (w h : ℕ) → trimStart (lentAll l a s p b t w h) ≡ trimStart (lent l a s [] [] 0 0)
+unfolding trimStart liveTags tagsOf liveBase
+start-only l a s p b t w h = refl
 
 module _ (log : List ℕ) (st : State) where
   pub walkable : (n end : ℕ) → Numbers log st → n ≡ nextPosition st - 7 * st .start
@@ -88,7 +90,7 @@ pub start-found : (log area state : List ℕ) (st : State) (n end x : ℕ) → U
     → x ≡ largest (mayStart state (closings (entryAt log (st .groups) (st .homes) (st .start)) (7 * st .start) (end - 7 * st .start))) (st .start)
     (st .settled / 7 - st .start)
     → x ≡ trimStart (lent log area state [] [] 0 0)
-unfolding trimStart liveTags liveBase
+unfolding trimStart liveTags tagsOf liveBase
 start-found log area state st n end x u es g e h =
     let o = u .order in
     let c = committed-closings (entryAt log (st .groups) (st .homes) (st .start)) (7 * st .start) n in
@@ -149,31 +151,31 @@ header-fenced d d₁ d₂ at start groups homes a e f =
 -- ---- how a trim ends
 
 module _ (g : Given) where
-  pub trim-refused : (x code figure size : ℕ) → x ≡ askState g 0 → (x ≡ 0 → ⊥) → code ≡ x → figure ≡ 0 → size ≡ 0
-      → leaves code figure size (g .log) (g .area) (g .state) (g .block) (g .batch) ≡ trimCall g
+  pub trim-refused : (x code figure size : ℕ) → x ≡ askNewest g 0 → (x ≡ 0 → ⊥) → code ≡ x → figure ≡ 0 → size ≡ 0
+      → leavesAll code figure size (g .log) (g .area) (g .state) (g .newest) (g .block) (g .batch) ≡ trimCall g
   unfolding trimCall trimAnswer
   trim-refused x code figure size e n h f s =
-      refused-by g _ _ code figure size (h ∙ state-refuses g x _ e n) (λ z. n (sym h ∙ z)) f s
+      refused-by g _ _ code figure size (h ∙ newest-refuses g x _ e n) (λ z. n (sym h ∙ z)) f s
 
-  pub start-refused : (start code figure size : ℕ) → askState g 0 ≡ 0 → start ≡ trimStart g → 2 ^ 47 < start → code ≡ 10 → figure ≡ 0 → size ≡ 0
-      → leaves code figure size (g .log) (g .area) (g .state) (g .block) (g .batch) ≡ trimCall g
+  pub start-refused : (start code figure size : ℕ) → askNewest g 0 ≡ 0 → start ≡ trimStart g → 2 ^ 47 < start → code ≡ 10 → figure ≡ 0 → size ≡ 0
+      → leavesAll code figure size (g .log) (g .area) (g .state) (g .newest) (g .block) (g .batch) ≡ trimCall g
   unfolding trimCall trimAnswer startFits
   start-refused start code figure size a e l h f s =
       refused-by g _ _ code figure size
-      (h ∙ sym (state-passes g _ a ∙ ask-no (leb (trimStart g) maxStart) 10 _ (lt-leb (trimStart g) maxStart (omega arith)))) (omega arith) f s
+      (h ∙ sym (newest-passes g _ a ∙ ask-no (leb (trimStart g) maxStart) 10 _ (lt-leb (trimStart g) maxStart (omega arith)))) (omega arith) f s
 
   -- the start stays
   still : (start : ℕ) → start ≡ stateOf (g .state) .start → trimEffect g start ≡ newState g (g .state) 0
   unfolding trimEffect
   still start e = rw (eq-eqb start (stateOf (g .state) .start) e)
 
-  pub not-moved : (start code figure size : ℕ) → askState g 0 ≡ 0 → start ≡ trimStart g → start ≤ 2 ^ 47 → start ≡ stateOf (g .state) .start → code ≡ 0
-      → figure ≡ 0 → size ≡ 0 → leaves code figure size (g .log) (g .area) (g .state) (g .block) (g .batch) ≡ trimCall g
+  pub not-moved : (start code figure size : ℕ) → askNewest g 0 ≡ 0 → start ≡ trimStart g → start ≤ 2 ^ 47 → start ≡ stateOf (g .state) .start → code ≡ 0
+      → figure ≡ 0 → size ≡ 0 → leavesAll code figure size (g .log) (g .area) (g .state) (g .newest) (g .block) (g .batch) ≡ trimCall g
   unfolding trimCall trimAnswer startFits batchFits sizeOf newState batchBytes
   not-moved start code figure size a e l m h f s =
       rw (← e, still start m)
       (strip-by g (g .state) _ 0 code figure size (g .state)
-      (state-passes g _ a ∙ ask-yes (leb start maxStart) 10 _ (le-leb start maxStart l)
+      (newest-passes g _ a ∙ ask-yes (leb start maxStart) 10 _ (le-leb start maxStart l)
       ∙ ask-yes (leb 0 (length (g .batch))) 9 0 (le-leb 0 (length (g .batch)) (omega arith)))
       h f s refl)
 
@@ -189,39 +191,41 @@ module _ (g : Given) where
       length-KW (header start (groups g) (homes g)) (length-header start (groups g) (homes g)) in
       rw (length-append, length-append, l, length-FN)
 
-  moved-ends : (start v code figure size : ℕ) (log state batch : List ℕ) → v ≡ 0 → code ≡ 0 → figure ≡ 0 → size ≡ 68
+  moved-ends : (start v code figure size : ℕ) (log state newest batch : List ℕ) → v ≡ 0 → code ≡ 0 → figure ≡ 0 → size ≡ 68
       → log ≡ puts (g .log) 0 (header start (groups g) (homes g)) → state ≡ movedStrip (g .state) (stateOf (g .state)) start
+      → newest ≡ forget (g .newest) (7 * start) (homes g)
       → batch ≡ puts (g .batch) 0 (batchBytes (KW (header start (groups g) (homes g)) ∷ FN ∷ []))
-      → leaves code figure size log (g .area) state (g .block) batch ≡ outcome g v (trimTo g (stateOf (g .state)) start)
+      → leavesAll code figure size log (g .area) state newest (g .block) batch ≡ outcome g v (trimTo g (stateOf (g .state)) start)
   unfolding trimTo movedStrip keptLast sizeOf
-  moved-ends start v code figure size log state batch z h f s p q t =
-      done-by g (trimTo g (stateOf (g .state)) start) v code figure size log (g .area) state (g .block) batch z h f (s ∙ sym (moved-size start)) p refl q refl t
+  moved-ends start v code figure size log state newest batch z h f s p q k t =
+      done-by g (trimTo g (stateOf (g .state)) start) v code figure size log (g .area) state newest (g .block) batch z h f (s ∙ sym (moved-size start)) p refl q k refl t
 
-  pub batch-refused : (start code figure size : ℕ) → askState g 0 ≡ 0 → start ≡ trimStart g → start ≤ 2 ^ 47 → (start ≡ stateOf (g .state) .start → ⊥)
+  pub batch-refused : (start code figure size : ℕ) → askNewest g 0 ≡ 0 → start ≡ trimStart g → start ≤ 2 ^ 47 → (start ≡ stateOf (g .state) .start → ⊥)
       → length (g .batch) < 68 → code ≡ 9 → figure ≡ 0 → size ≡ 0
-      → leaves code figure size (g .log) (g .area) (g .state) (g .block) (g .batch) ≡ trimCall g
+      → leavesAll code figure size (g .log) (g .area) (g .state) (g .newest) (g .block) (g .batch) ≡ trimCall g
   unfolding trimCall trimAnswer startFits batchFits
   batch-refused start code figure size a e l n b h f s =
       rw (← e, moved start n)
       (refused-by g _ _ code figure size
       (h
-      ∙ sym (state-passes g _ a ∙ ask-yes (leb start maxStart) 10 _ (le-leb start maxStart l)
+      ∙ sym (newest-passes g _ a ∙ ask-yes (leb start maxStart) 10 _ (le-leb start maxStart l)
       ∙ ask-no (leb (sizeOf (trimTo g (stateOf (g .state)) start)) (length (g .batch))) 9 0 (rw (moved-size start) (lt-leb 68 (length (g .batch)) b))))
       (omega arith) f s)
 
-  pub start-moved : (st : State) (start code figure size : ℕ) (log state batch : List ℕ) → Usable (g .log) (g .area) (g .state) → askState g 0 ≡ 0
+  pub start-moved : (st : State) (start code figure size : ℕ) (log state newest batch : List ℕ) → Usable (g .log) (g .area) (g .state) → askNewest g 0 ≡ 0
       → st ≡ stateOf (g .state) → start ≡ trimStart g → start ≤ 2 ^ 47 → (start ≡ st .start → ⊥) → 68 ≤ length (g .batch) → code ≡ 0
       → figure ≡ 0 → size ≡ 68 → log ≡ puts (g .log) 0 (header start (st .groups) (st .homes)) → state ≡ movedStrip (g .state) st start
+      → newest ≡ forget (g .newest) (7 * start) (st .homes)
       → batch ≡ puts (g .batch) 0 (batchBytes (KW (header start (st .groups) (st .homes)) ∷ FN ∷ []))
-      → leaves code figure size log (g .area) state (g .block) batch ≡ trimCall g
+      → leavesAll code figure size log (g .area) state newest (g .block) batch ≡ trimCall g
   unfolding trimCall trimAnswer startFits batchFits
-  start-moved st start code figure size log state batch u a es e l n b h f s p q t =
+  start-moved st start code figure size log state newest batch u a es e l n b h f s p q k t =
       let o = u .order in
       let eg : st .groups ≡ groups g = ap (λ (x : State). x .groups) es ∙ o .groups-same in
       let ed : st .homes ≡ homes g = ap (λ (x : State). x .homes) es ∙ o .homes-same in
       let z : leb (sizeOf (trimTo g (stateOf (g .state)) start)) (length (g .batch)) ≡ true = rw (moved-size start) (le-leb 68 (length (g .batch)) b) in
       let y = ask-yes (leb (sizeOf (trimTo g (stateOf (g .state)) start)) (length (g .batch))) 9 0 z in
       rw (← e, moved start (λ z. n (z ∙ sym (ap (λ (x : State). x .start) es))))
-      (moved-ends start _ code figure size log state batch
-      (state-passes g _ a ∙ ask-yes (leb start maxStart) 10 _ (le-leb start maxStart l) ∙ y)
-      h f s (rw (eg, ed) at p) (rw es at q) (rw (eg, ed) at t))
+      (moved-ends start _ code figure size log state newest batch
+      (newest-passes g _ a ∙ ask-yes (leb start maxStart) 10 _ (le-leb start maxStart l) ∙ y)
+      h f s (rw (eg, ed) at p) (rw es at q) (rw ed at k) (rw (eg, ed) at t))

@@ -8,17 +8,24 @@ use start::new_start;
 ghost use mathlib.Core.Path.{_≡_};
 ghost use mathlib.Core.List.{[]};
 ghost use Rattle.model.specs.Calls.{trimCall};
-ghost use Rattle.answers.specs.Lent.{lent, leaves};
+ghost use Rattle.answers.specs.Lent.{lentAll, leavesAll};
 
 // The highest group number that a log may start at.
 const MAX_START: u64 = 0x8000_0000_0000;
 
 // Moves the log's start up as far as no open or committed transaction lies across it, and writes the new header and a fence if it moves.
-pub fn trim(log: &mut [u8], area: &[u8], state: &mut [u8], batch: &mut [u8]) -> Reply
-    ensures { λ r. ⌜ leaves (r .code) (r .figure) (r .size) (now (log .exit)) (now (area .entry)) (now (state .exit)) [] (now (batch .exit))
-        ≡ trimCall (lent (now (log .entry)) (now (area .entry)) (now (state .entry)) [] (now (batch .entry)) 0 0) ⌝ }
+// Kept positions before the new start become none.
+pub fn trim(
+    log: &mut [u8],
+    area: &[u8],
+    state: &mut [u8],
+    newest: &mut [u8],
+    batch: &mut [u8],
+) -> Reply
+    ensures { λ r. ⌜ leavesAll (r .code) (r .figure) (r .size) (now (log .exit)) (now (area .entry)) (now (state .exit)) (now (newest .exit)) [] (now (batch .exit))
+        ≡ trimCall (lentAll (now (log .entry)) (now (area .entry)) (now (state .entry)) (now (newest .entry)) [] (now (batch .entry)) 0 0) ⌝ }
 {
-    let code = answers::in_use(log, area, state);
+    let code = answers::in_use_newest(log, area, state, newest);
     if code != 0 {
         return answers::refused(code);
     }
@@ -33,6 +40,6 @@ pub fn trim(log: &mut [u8], area: &[u8], state: &mut [u8], batch: &mut [u8]) -> 
     if batch.len() < 68 {
         return answers::refused(9);
     }
-    move_start(log, state, batch, st, start);
+    move_start(log, state, newest, batch, st, start);
     answers::done(0, 68)
 }

@@ -31,8 +31,9 @@ fn lengths(kind: Kind, lent: &Lent) -> bool {
     let log = (4..=1024).any(|g| lent.log.len() == 64 + 512 * g);
     let data = lent.data.len() % 64 == 0 && (1..=65535).contains(&(lent.data.len() / 64));
     let state = !kind.takes_state() || lent.state.len() == 1024;
+    let newest = !kind.takes_newest() || lent.newest.len() == lent.data.len() / 8;
     let block = !kind.takes_block() || lent.block.len() == 64;
-    log && data && state && block
+    log && data && state && newest && block
 }
 
 /// The places promised to a writer, two bytes each from byte 72 on.
@@ -184,6 +185,7 @@ fn open(before: &Lent, after: &mut Lent) -> Outcome {
     for at in [40, 48, 56] {
         put(&mut after.state, at, 7 * new_start);
     }
+    after.newest.fill(255);
     Ok((list.len() as u64, batch))
 }
 
@@ -223,23 +225,40 @@ fn trim(before: &Lent, after: &mut Lent) -> Outcome {
         if big(state, 64) - 1 < 7 * i128::from(new_start) {
             put(&mut after.state, 64, 0);
         }
+        for at in (0..after.newest.len()).step_by(8) {
+            if number(&after.newest, at) < 7 * new_start {
+                after.newest[at..at + 8].fill(255);
+            }
+        }
     }
     Ok((0, batch))
 }
 
+/// The last position of each home from the transaction's first to its closing
+/// entry, as the log holds them now.
+fn keep(after: &mut Lent, start: u64, first: u64, closing: u64) {
+    let found = present(&after.log, shape(after).homes, start, Some(closing + 1));
+    for (position, entry) in found.range(i128::from(first)..) {
+        if entry.first == i128::from(first) {
+            put(&mut after.newest, 8 * entry.home as usize, *position as u64);
+        }
+    }
+}
+
 fn read(before: &Lent, after: &mut Lent, writer: u64, home: u64) -> Outcome {
-    let (start, next, list) = live(before);
+    let (start, next, _) = live(before);
     let record = 128 + 96 * writer as usize;
     let mode = number(&before.state, record);
     let mut block = before.data[64 * home as usize..64 * home as usize + 64].to_vec();
-    if let Some(newest) = replay(&list).get(&home) {
-        block = newest.clone();
+    let found = present(&before.log, shape(before).homes, start, Some(next));
+    if let Some(kept) = found.get(&big(&before.newest, 8 * home as usize)).filter(|entry| entry.home == home) {
+        block = kept.block.clone();
     }
     if mode == 3 {
         let first = big(&before.state, record + 16);
-        for found in present(&before.log, shape(before).homes, start, Some(next)).values() {
-            if found.first == first && found.home == home {
-                block = found.block.clone();
+        for entry in found.values() {
+            if entry.first == first && entry.home == home {
+                block = entry.block.clone();
             }
         }
     }

@@ -1,7 +1,7 @@
 //! The plain model of the other calls: format, begin, reserve, abort, store,
 //! commit, flush, confirm. Tags are put together by sums, not by shifts.
 
-use super::{blank_writes, head_write, number, places, promise, promised, put, shape, Outcome};
+use super::{blank_writes, head_write, keep, number, places, promise, promised, put, shape, Outcome};
 use second::lent::{Kind, Lent};
 
 pub fn format(before: &Lent, after: &mut Lent) -> Outcome {
@@ -52,6 +52,7 @@ pub fn writer_call(kind: Kind, writer: u64, home: u64, before: &Lent, after: &mu
         Kind::Commit => {
             let (position, batch) = log_held(writer, true, before, after)?;
             put(&mut after.state, 64, position + 1);
+            keep(after, number(&before.state, 16), if mode == 3 { first } else { position }, position);
             end(after, writer);
             return Ok((position + 1, batch));
         }

@@ -67,7 +67,7 @@ module _ (G D : ℕ) (z : Sizes G D) where
 
   call-keeps : (w : World) → Running G D w → (c : Call) → isOpening c ≡ false → Running G D (step w (call c))
   unfolding isOpening
-  call-keeps w r (opening state batch) e = absurd (false≢true (sym e))
+  call-keeps w r (opening state newest batch) e = absurd (false≢true (sym e))
   call-keeps w r confirm e = confirm-keeps G D z w r
   call-keeps w r (change c) e = change-keeps w r c
   call-keeps w r (service c) e = service-keeps w r c
@@ -75,14 +75,14 @@ module _ (G D : ℕ) (z : Sizes G D) where
   -- before, only an opening is allowed
   opening-keeps : (w : World) → Closed G D w → (c : Call) → isOpening c ≡ true → Invariant G D (step w (call c)) × CallHolds w c (ends w c)
   unfolding isOpening
-  opening-keeps w k (opening state batch) e = (open-keeps G D z w k state batch, open-holds G D z w k state batch)
+  opening-keeps w k (opening state newest batch) e = (open-keeps G D z w k state newest batch, open-holds G D z w k state newest batch)
   opening-keeps w k confirm e = absurd (false≢true e)
   opening-keeps w k (change c) e = absurd (false≢true e)
   opening-keeps w k (service c) e = absurd (false≢true e)
 
   nothing-asked : (w : World) (c : Call) → isOpening c ≡ false → CallHolds w c (ends w c)
   unfolding isOpening
-  nothing-asked w (opening state batch) e = absurd (false≢true (sym e))
+  nothing-asked w (opening state newest batch) e = absurd (false≢true (sym e))
   nothing-asked w confirm e = tt
   nothing-asked w (change c) e = tt
   nothing-asked w (service c) e = tt

@@ -292,7 +292,7 @@ module _ (G D : ℕ) (z : Sizes G D) (w : World) (r : Running G D w) where
 
     pub call-once : (c : Call) → isOpening c ≡ false → Once (step w (call c))
     unfolding isOpening
-    call-once (opening state batch) e = absurd (false≢true (sym e))
+    call-once (opening state newest batch) e = absurd (false≢true (sym e))
     call-once confirm e =
         (unfold ends confirmCall in
         quiet confirm (lent w [] [] 0 0) (confirmAnswer (lent w [] [] 0 0)) (confirmEffect (lent w [] [] 0 0)) refl (unfold confirmEffect newState in refl))
@@ -301,9 +301,9 @@ module _ (G D : ℕ) (z : Sizes G D) (w : World) (r : Running G D w) where
 
 -- ---- openings
 
-module _ (G D : ℕ) (z : Sizes G D) (w : World) (c : Closed G D w) (state batch : List ℕ) where
+module _ (G D : ℕ) (z : Sizes G D) (w : World) (c : Closed G D w) (state newest batch : List ℕ) where
   abbrev g : Given
-  g = loaded w state batch
+  g = loaded w state newest batch
 
   open-adds : writtenOnce (openEffect g .records) ≡ true
   unfolding openEffect touched
@@ -314,12 +314,12 @@ module _ (G D : ℕ) (z : Sizes G D) (w : World) (c : Closed G D w) (state batch
       after-homes : writtenOnce (KW (header (openStart g) (groups g) (homes g)) ∷ FN ∷ (blankWrites (groups g) (openStart g) (groups g) ++ (FN ∷ []))) ≡ true
       after-homes = unfold writtenOnce headerWritten in once-end (blankWrites (groups g) (openStart g) (groups g)) (once-blanks (groups g) (openStart g) (groups g))
 
-  pub opening-once : Once w → Once (step w (call (opening state batch)))
+  pub opening-once : Once w → Once (step w (call (opening state newest batch)))
   unfolding ends openCall
   opening-once h =
-      by-answer Once w (opening state batch) g (openAnswer g (openStart g) (sizeOf (openEffect g))) (openEffect g) refl h
+      by-answer Once w (opening state newest batch) g (openAnswer g (openStart g) (sizeOf (openEffect g))) (openEffect g) refl h
       (λ a. record {
-        formed = open-formed G D z w c state batch;
+        formed = open-formed G D z w c state newest batch;
         fit = fits g (sizeOf (openEffect g)) (open-ready g (openStart g) (sizeOf (openEffect g)) a .3);
         next = subst (λ (P : List Record). writtenOnce (P ++ openEffect g .records) ≡ true) (sym (c .pending)) open-adds;
       })
@@ -329,7 +329,7 @@ module _ (G D : ℕ) (z : Sizes G D) (w : World) (c : Closed G D w) (state batch
 module _ (G D : ℕ) (z : Sizes G D) where
   closed-once : (w : World) → Closed G D w → Once w → (c : Call) → isOpening c ≡ true → Once (step w (call c))
   unfolding isOpening
-  closed-once w k h (opening state batch) e = opening-once G D z w k state batch h
+  closed-once w k h (opening state newest batch) e = opening-once G D z w k state newest batch h
   closed-once w k h confirm e = absurd (false≢true e)
   closed-once w k h (change c) e = absurd (false≢true e)
   closed-once w k h (service c) e = absurd (false≢true e)

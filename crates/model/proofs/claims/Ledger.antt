@@ -364,23 +364,23 @@ module _ (G D : ℕ) (z : Sizes G D) (granted : ℕ → ℕ) (w : World) (r : Ru
   pub call-agrees : (c : Call) → isOpening c ≡ false → ends w c .code ≡ 0
       → Agree (grantDone granted c) (ends w c .state) (feed (w .book) c (ends w c .figure) .tasks)
   unfolding isOpening grantDone feed withCommits
-  call-agrees (opening state batch) e h = absurd (false≢true (sym e))
+  call-agrees (opening state newest batch) e h = absurd (false≢true (sym e))
   call-agrees confirm e h = confirm-done h
   call-agrees (change c) e h = change-agrees c h
   call-agrees (service c) e h = service-agrees c h
 
 -- an opening forgets all promises
-open-agrees : (w : World) (state batch : List ℕ) (tasks : ℕ → Task) → ends w (opening state batch) .code ≡ 0
-    → Agree nothing (ends w (opening state batch) .state) tasks
+open-agrees : (w : World) (state newest batch : List ℕ) (tasks : ℕ → Task) → ends w (opening state newest batch) .code ≡ 0
+    → Agree nothing (ends w (opening state newest batch) .state) tasks
 unfolding ends openCall nothing
-open-agrees w state batch tasks h x l =
-    let g = loaded w state batch in
+open-agrees w state newest batch tasks h x l =
+    let g = loaded w state newest batch in
     let e : Effect = openEffect g in
     rw (state-done (openCall g) g (openAnswer g (openStart g) (sizeOf e)) e refl h) (unfold openEffect in rw promise-fresh (omega arith))
 
 opening-agrees : (granted : ℕ → ℕ) (w : World) (c : Call) → isOpening c ≡ true → ends w c .code ≡ 0 → Ledger (grantDone granted c) (afterDone w c (ends w c))
 unfolding isOpening grantDone afterDone
-opening-agrees granted w (opening state batch) e h q = open-agrees w state batch _ h
+opening-agrees granted w (opening state newest batch) e h q = open-agrees w state newest batch _ h
 opening-agrees granted w confirm e h q = absurd (false≢true e)
 opening-agrees granted w (change c) e h q = absurd (false≢true e)
 opening-agrees granted w (service c) e h q = absurd (false≢true e)

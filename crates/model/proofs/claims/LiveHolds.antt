@@ -1,5 +1,5 @@
 -- Between two calls of an era: the strip is in order, what the calls wrote reads back as the book's commits that are not trimmed, and a read gives the
--- writer's own newest block, else the newest committed one. Assumes nothing.
+-- writer's own newest block, else the newest committed one. That the newest positions show the latter comes from KeptHolds.
 use Prim.Native.Nat.{ℕ, suc, _+_, _-_, _*_, _≤_, _<_}
 use mathlib.Core.Path.{_≡_, refl, sym, ap, _∙_}
 use mathlib.Core.Logic.{inl, inr}
@@ -15,7 +15,7 @@ use Rattle.model.specs.declared.Tag.{Tag}
 use Rattle.model.specs.Layout.{groupsIn, blockAt, homeAt}
 use Rattle.model.specs.Commit.{members, transactions, newestIn, newest}
 use Rattle.model.specs.State.{stateOf, nextPosition, inOrder, Writer, writerOf, heldOf, holds, hasLogged, holdsHome}
-use Rattle.model.specs.Effects.{Given, groups, homes, replayed, liveTags, liveBase, newestOwn, newestCommitted, blockOr, current, visible, readEffect}
+use Rattle.model.specs.Effects.{Given, groups, homes, replayed, liveTags, liveBase, newestOwn, newestCommitted, blockOr, current, ownElse, visible, shown, readEffect}
 use Rattle.model.specs.Questions.{writerKnown, homeKnown, readAnswer}
 use Rattle.model.specs.Calls.{Outcome, done, readCall}
 use Rattle.model.specs.Book.{Entry, Commit, Task, homesAfter, newestEntry, heldOr, ownOr, reads}
@@ -156,7 +156,7 @@ module _ (G D b : ℕ) (tr : List Ev) (old : List Commit) (w : World) (z : Sizes
         (all-each (Shown G D b tr w) (SeenIn (tagsIn G D w) (w .log) G b tr) (λ p s. (s .home, s .block)) (keptIn b tr w) (kept-shown G D b tr w z c)))
 
     -- the newest committed block, else the data copy's
-    current-is : h < D → current g ≡ homeAt (homesAfter D (w .book .commits)) h
+    pub current-is : h < D → current g ≡ homeAt (homesAfter D (w .book .commits)) h
     unfolding current newestCommitted lent liveBase
     current-is l =
         block-for g (newestCommitted g) (homeAt (w .area) h)
@@ -205,28 +205,35 @@ module _ (G D b : ℕ) (tr : List Ev) (old : List Commit) (w : World) (z : Sizes
             (all-map (Shown G D b tr w) (Seen g b tr) seen (hist (7 * b) tr .openOf v) (open-shown G D b tr w z c v o))))
 
     visible-is : v < 8 → h < D → visible g ≡ reads D (w .book) v h
-    unfolding visible reads lent
+    unfolding visible ownElse reads lent
     visible-is l d = rw (current-is d) (own-is l (homeAt (homesAfter D (w .book .commits)) h))
 
-module _ (G D : ℕ) (z : Sizes G D) (w : World) (r : Running G D w) where
+-- a read shows what the commit rule finds (proofs/claims/KeptHolds)
+module _ (G D : ℕ) (z : Sizes G D) (w : World) (r : Running G D w)
+    (shows : (block : List ℕ) (v h : ℕ) → h < D → shown (lent w block [] v h) ≡ current (lent w block [] v h)) where
   strip-holds : inOrder (w .state) (groupsIn (length (w .log))) (w .homes) ≡ true
   strip-holds =
       let c = r .copies in
       rw (c .logSize, groups-in G, c .homes) (order-in (w .state) G D (c .order))
 
-  read-is : (v h : ℕ) (block : List ℕ) → writerKnown (lent w block [] v h) ≡ true → homeKnown (lent w block [] v h) ≡ true
-      → visible (lent w block [] v h) ≡ reads D (w .book) v h
-  unfolding lent writerKnown homeKnown
+  home-below : (v h : ℕ) (block : List ℕ) → homeKnown (lent w block [] v h) ≡ true → h < D
+  unfolding lent homeKnown
+  home-below v h block d = ltb-true h D (rw (lent-homes G D (r .b) (r .tr) w z (r .copies) block [] v h) at d)
+
+  read-is : (v h : ℕ) (block : List ℕ) → writerKnown (lent w block [] v h) ≡ true → h < D
+      → ownElse (lent w block [] v h) (shown (lent w block [] v h)) ≡ reads D (w .book) v h
+  unfolding writerKnown
   read-is v h block l d =
-      visible-is G D (r .b) (r .tr) (r .old) w z (r .commits) (r .copies) block v h (ltb-true v 8 l)
-      (ltb-true h D (rw (lent-homes G D (r .b) (r .tr) w z (r .copies) block [] v h) at d))
+      ap (ownElse (lent w block [] v h)) (shows block v h d)
+      ∙ (unfold visible lent in visible-is G D (r .b) (r .tr) (r .old) w z (r .commits) (r .copies) block v h (ltb-true v 8 l) d)
 
   pub read-yields : (v h : ℕ) (block : List ℕ) → ends w (read v h block) .code ≡ 0 → ends w (read v h block) .block ≡ reads (w .homes) (w .book) v h
   unfolding ends serviceEnds readCall done readEffect
   read-yields v h block e =
       let g : Given = lent w block [] v h in
       let a : readAnswer g ≡ 0 = sym (outcome-code g (readAnswer g) (readEffect g)) ∙ e in
-      ap (λ (o : Outcome). o .block) (outcome-done g (readAnswer g) (readEffect g) a) ∙ read-is v h block (read-ready g a .2) (read-ready g a .3)
+      let k = read-ready g a in
+      ap (λ (o : Outcome). o .block) (outcome-done g (readAnswer g) (readEffect g) a) ∙ read-is v h block (k .2) (home-below v h block (k .3))
       ∙ ap (λ (n : ℕ). reads n (w .book) v h) (sym (r .copies .homes))
 
   pub live-holds : Live w

@@ -155,7 +155,7 @@ module _ (G D : ℕ) (z : Sizes G D) (w : World) (r : Running G D w) (s : Store)
   -- a done call but an opening
   done-led : (c : Call) → isOpening c ≡ false → ends w c .code ≡ 0 → LedBy (store.afterDone s c (ends w c .figure)) (enterCall s c fs)
   unfolding isOpening enterCall
-  done-led (opening state batch) n h = absurd (false≢true (sym n))
+  done-led (opening state newest batch) n h = absurd (false≢true (sym n))
   done-led confirm n h = (unfold store.afterDone numbered firstGroup feed in confirm-led (s .head + s .groups) (s .book) fs (ends w confirm .figure) (unfold firstGroup in l))
   done-led (change c) n h = (unfold store.afterDone numbered firstGroup feed in (unfold firstGroup in change-led c (ends w (change c) .figure) h))
   done-led (service c) n h = (unfold store.afterDone in service-led c)
@@ -202,10 +202,10 @@ module _ (G D : ℕ) (z : Sizes G D) (w : World) (r : Running G D w) (s : Store)
 
 -- ---- every event keeps the ledger
 
-led-opening : (G D : ℕ) (z : Sizes G D) (w : World) → Closed G D w → (s : Store) → Agrees G D w s → (state batch : List ℕ) → (fs : List Fate)
-    → ends w (opening state batch) .code ≡ 0 → LedBy (store.afterDone s (opening state batch) (ends w (opening state batch) .figure)) (enterCall s (opening state batch) fs)
+led-opening : (G D : ℕ) (z : Sizes G D) (w : World) → Closed G D w → (s : Store) → Agrees G D w s → (state newest batch : List ℕ) → (fs : List Fate)
+    → ends w (opening state newest batch) .code ≡ 0 → LedBy (store.afterDone s (opening state newest batch) (ends w (opening state newest batch) .figure)) (enterCall s (opening state newest batch) fs)
 unfolding store.afterDone numbered enterCall feed firstGroup
-led-opening G D z w k s a state batch fs h =
+led-opening G D z w k s a state newest batch fs h =
     subst (λ (b : Book). Led (s .head + s .groups) (book.withCommits b (book.owedAll (b .commits))) []) (sym (a .book))
     (opened-led D (s .head + s .groups) (w .book) (k .rows) (k .filled) (k .tasks) (k .past))
 
@@ -223,9 +223,9 @@ module _ (G D : ℕ) (z : Sizes G D) where
   opens-led : (w : World) → Closed G D w → (s : Store) → Agrees G D w s → (c : Call) → isOpening c ≡ true → (fs : List Fate)
       → step w (call c) .ready ≡ true → LedBy (follow s w (call c)) (enterEvent s w (call c) fs)
   unfolding isOpening
-  opens-led w k s a (opening state batch) e fs h =
-      by-code w s (opening state batch) fs (led-opening G D z w k s a state batch fs)
-      (λ n q. absurd (false≢true (sym (k .ready) ∙ ap (λ (x : World). x .ready) (sym (step-refused w (opening state batch) n q)) ∙ h)))
+  opens-led w k s a (opening state newest batch) e fs h =
+      by-code w s (opening state newest batch) fs (led-opening G D z w k s a state newest batch fs)
+      (λ n q. absurd (false≢true (sym (k .ready) ∙ ap (λ (x : World). x .ready) (sym (step-refused w (opening state newest batch) n q)) ∙ h)))
   opens-led w k s a confirm e fs h = absurd (false≢true e)
   opens-led w k s a (change c) e fs h = absurd (false≢true e)
   opens-led w k s a (service c) e fs h = absurd (false≢true e)

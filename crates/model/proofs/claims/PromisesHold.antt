@@ -12,7 +12,7 @@ use Rattle.model.specs.Bytes.{same}
 use Rattle.model.specs.State.{State, stateOf, promiseOf, promised, places, freePlaces, Writer, writerOf, isOpen, stateBytes, inOrder}
 use Rattle.model.specs.Layout.{groupsIn, homesIn}
 use Rattle.model.specs.Effects.{Given, Effect, storeEffect, commitEffect, flushEffect, reserveEffect}
-use Rattle.model.specs.Questions.{ask, areasRight, stateRight, blockRight, stripInOrder, writerKnown, homeKnown, writerOpen, roomFor, room, mayPromise, keepsPromises, storeLogs, commitLogs, batchFits, askState, askBlock, reserveAnswer, storeAnswer, commitAnswer, flushAnswer}
+use Rattle.model.specs.Questions.{ask, areasRight, stateRight, blockRight, stripInOrder, writerKnown, homeKnown, writerOpen, roomFor, room, mayPromise, keepsPromises, storeLogs, commitLogs, batchFits, askState, askNewest, askBlock, reserveAnswer, storeAnswer, commitAnswer, flushAnswer}
 use Rattle.model.specs.Calls.{sizeOf, reserveCall, storeCall, commitCall, flushCall}
 use Rattle.model.specs.Book.{Task, idle, opened}
 use Rattle.model.specs.History.{reserve, store, commit, flush, Event, World, lent, ends, changeEnds, step, AllAllowed, unopened, emptyStore}
@@ -59,7 +59,7 @@ store-never g size l =
     (yes-never _ 8 _ 8 (room-left (g .state) (g .writer) (storeLogs g) l) (ask-never _ 9 _ 8 (λ e. omega arith) (λ e. omega arith)))))))
 
 commit-never : (g : Given) (size : ℕ) → 1 ≤ promiseOf (g .state) (g .writer) → commitAnswer g size ≢ 8
-unfolding commitAnswer askState room
+unfolding commitAnswer askNewest room
 commit-never g size l =
     ask-never _ 1 _ 8 (λ e. omega arith)
     (ask-never _ 2 _ 8 (λ e. omega arith)

@@ -7,7 +7,7 @@ use native.Mathlib.Omega.{arith}
 use lib.Dec.{eqb}
 use borrow.Author.Tests.{ne-eqb}
 use Rattle.model.specs.Effects.{Given, Effect, formatEffect, openEffect, openStart, beginEffect, reserveEffect, abortEffect, storeEffect, commitEffect, flushEffect, confirmEffect, settleEffect, trimStart, trimEffect, readEffect}
-use Rattle.model.specs.Questions.{ask, askState, askBlock, formatAnswer, openAnswer, beginAnswer, reserveAnswer, abortAnswer, storeAnswer, commitAnswer, flushAnswer, confirmAnswer, settleAnswer, trimAnswer, readAnswer}
+use Rattle.model.specs.Questions.{ask, askState, askBlock, askNewest, askBoth, formatAnswer, openAnswer, beginAnswer, reserveAnswer, abortAnswer, storeAnswer, commitAnswer, flushAnswer, confirmAnswer, settleAnswer, trimAnswer, readAnswer}
 use Rattle.model.specs.Calls.{Outcome, refused, done, sizeOf, outcome, formatCall, openCall, beginCall, reserveCall, abortCall, storeCall, commitCall, flushCall, confirmCall, settleCall, trimCall, readCall}
 use Rattle.model.specs.Refusals.{refuses, Untouched, DoneOrUntouched, Refusals}
 
@@ -20,7 +20,7 @@ by-number : (g : Given) (a : ℕ) (e : Effect) → Known a → (outcome g a e .c
 unfolding outcome done refused
 by-number g zero e l = inl refl
 by-number g (suc k) e l =
-    inr (record { number = rw (ne-eqb (suc k) 0 (λ x. omega arith)) at l; figure = refl; size = refl; state = refl; log = refl; area = refl; block = refl; batch = refl })
+    inr (record { number = rw (ne-eqb (suc k) 0 (λ x. omega arith)) at l; figure = refl; size = refl; state = refl; newest = refl; log = refl; area = refl; block = refl; batch = refl })
 
 -- a question whose number refuses, before answers that are known
 known : (b : Bool) (k v : ℕ) → Known k → Known v → Known (ask b k v)
@@ -35,6 +35,14 @@ state-known g v l = known _ 1 _ refl (known _ 2 v refl l)
 block-known : (g : Given) (v : ℕ) → Known v → Known (askBlock g v)
 unfolding askBlock refuses
 block-known g v l = known _ 1 _ refl (known _ 2 v refl l)
+
+newest-known : (g : Given) (v : ℕ) → Known v → Known (askNewest g v)
+unfolding askNewest refuses
+newest-known g v l = known _ 1 _ refl (known _ 2 v refl l)
+
+both-known : (g : Given) (v : ℕ) → Known v → Known (askBoth g v)
+unfolding askBoth refuses
+both-known g v l = known _ 1 _ refl (known _ 2 v refl l)
 
 format-untouched : DoneOrUntouched formatCall
 unfolding formatCall formatAnswer refuses
@@ -63,7 +71,7 @@ store-untouched g =
 
 commit-untouched : DoneOrUntouched commitCall
 unfolding commitCall commitAnswer refuses
-commit-untouched g = by-number g _ _ (state-known g _ (known _ 4 _ refl (known _ 7 _ refl (known _ 8 _ refl (known _ 9 0 refl refl)))))
+commit-untouched g = by-number g _ _ (newest-known g _ (known _ 4 _ refl (known _ 7 _ refl (known _ 8 _ refl (known _ 9 0 refl refl)))))
 
 flush-untouched : DoneOrUntouched flushCall
 unfolding flushCall flushAnswer refuses
@@ -79,11 +87,11 @@ settle-untouched g = by-number g _ _ (state-known g _ (known _ 9 0 refl refl))
 
 trim-untouched : DoneOrUntouched trimCall
 unfolding trimCall trimAnswer refuses
-trim-untouched g = by-number g _ _ (state-known g _ (known _ 10 _ refl (known _ 9 0 refl refl)))
+trim-untouched g = by-number g _ _ (newest-known g _ (known _ 10 _ refl (known _ 9 0 refl refl)))
 
 read-untouched : DoneOrUntouched readCall
 unfolding readCall readAnswer refuses
-read-untouched g = by-number g _ _ (block-known g _ (known _ 4 _ refl (known _ 5 0 refl refl)))
+read-untouched g = by-number g _ _ (both-known g _ (known _ 4 _ refl (known _ 5 0 refl refl)))
 
 pub refusals : Refusals
 refusals n =

@@ -16,7 +16,7 @@ use Rattle.model.specs.Commit.{transactions, newest, found}
 use Rattle.model.specs.Batch.{Record, GW, KW, FN, recordBytes, batchBytes}
 use Rattle.model.specs.State.{State, stateOf, nextPosition, promiseOf, promised, places, freePlaces, Writer, writerOf, heldOf, isOpen, holds}
 use Rattle.model.specs.Effects.{Given, Effect, groups, homes, logged, logHeld, logClosing, beginEffect, reserveEffect, abortEffect, storeFirst, storeAgain, storeOther, storeEffect, commitHeld, commitEffect, flushNone, flushPart, flushEffect, confirmEffect, settleEffect, trimStart, trimTo, trimEffect, readEffect, newState, openEffect, openStart, touched, marked, blankWrites, homeWrites, largest}
-use Rattle.model.specs.Questions.{ask, areasRight, stateRight, blockRight, stripInOrder, headerFits, writerKnown, homeKnown, writerOpen, roomFor, room, mayPromise, keepsPromises, storeLogs, commitLogs, startFits, batchFits, openAnswer, askState, askBlock, beginAnswer, reserveAnswer, abortAnswer, storeAnswer, commitAnswer, flushAnswer, confirmAnswer, settleAnswer, trimAnswer, readAnswer}
+use Rattle.model.specs.Questions.{ask, areasRight, stateRight, blockRight, stripInOrder, headerFits, writerKnown, homeKnown, writerOpen, roomFor, room, mayPromise, keepsPromises, storeLogs, commitLogs, startFits, batchFits, openAnswer, askState, askBlock, beginAnswer, reserveAnswer, abortAnswer, storeAnswer, commitAnswer, flushAnswer, confirmAnswer, settleAnswer, trimAnswer, readAnswer, newestRight, askNewest, askBoth}
 use Rattle.model.specs.Calls.{Outcome, outcome, sizeOf, openCall, beginCall, reserveCall, abortCall, storeCall, commitCall, flushCall, confirmCall, settleCall, trimCall, readCall}
 use Rattle.model.specs.Book.{Held, Task, idle, opened, Book, homesAfter}
 use Rattle.model.specs.History.{Change, begins, reserves, aborts, stores, commits, flushes, Service, settles, trims, reads, Call, opening, confirm, change, service, World, lent, loaded, ends, changeEnds, serviceEnds, isOpening}
@@ -59,6 +59,7 @@ pub record Agrees (G D : ℕ) (w : World) (s : Store) : Type 0 where
   pub found : foundInMemory G D (w .memory) ≡ s .back
   pub book : s .book ≡ w .book
   pub numbers : w .ready ≡ true → Numbers s (stateOf (w .state))
+  pub newest : w .ready ≡ true → length (w .newest) ≡ 8 * D
   pub promises : w .ready ≡ true → (v : ℕ) → v < 8 → s .promises v ≡ promiseOf (w .state) v
 
 -- the promises together
@@ -161,6 +162,22 @@ module _ (G D : ℕ) (z : Sizes G D) (w : World) (r : Running G D w) (s : Store)
   asked : (block batch : List ℕ) (v h k : ℕ) → askState (lent w block batch v h) k ≡ k
   unfolding askState ask
   asked block batch v h k = rw (areas-right block batch v h, state-right block batch v h, strip-right block batch v h)
+
+  newest-right : (block batch : List ℕ) (v h : ℕ) → newestRight (lent w block batch v h) ≡ true
+  unfolding newestRight
+  newest-right block batch v h =
+      rw (lent-homes block batch v h) (unfold lent in eq-eqb (length (w .newest)) (8 * D) (a .newest (r .ready)))
+
+  asked-newest : (block batch : List ℕ) (v h k : ℕ) → askNewest (lent w block batch v h) k ≡ k
+  unfolding askNewest ask
+  asked-newest block batch v h k =
+      rw (areas-right block batch v h, state-right block batch v h, newest-right block batch v h, strip-right block batch v h)
+
+  asked-both : (block batch : List ℕ) (v h k : ℕ) → askBoth (lent w block batch v h) k ≡ ask (eqb (length block) 64) 1 k
+  unfolding askBoth
+  asked-both block batch v h k =
+      rw (areas-right block batch v h, state-right block batch v h, newest-right block batch v h, strip-right block batch v h)
+      (unfold blockRight lent ask in refl)
 
   asked-block : (block batch : List ℕ) (v h k : ℕ) → askBlock (lent w block batch v h) k ≡ ask (eqb (length block) 64) 1 k
   unfolding askBlock
@@ -267,7 +284,7 @@ module _ (G D : ℕ) (z : Sizes G D) (w : World) (r : Running G D w) (s : Store)
       → readAnswer (lent w block [] v h) ≡ ask (eqb (length block) 64) 1 (ask (ltb v 8) 4 (ask (ltb h (s .homes)) 5 0))
   unfolding readAnswer writerKnown lent
   read-number v h block =
-      asked-block block [] v h (ask (ltb v 8) 4 (ask (homeKnown (lent w block [] v h)) 5 0))
+      asked-both block [] v h (ask (ltb v 8) 4 (ask (homeKnown (lent w block [] v h)) 5 0))
       ∙ ap (λ (b : Bool). ask (eqb (length block) 64) 1 (ask (ltb v 8) 4 (ask b 5 0))) (home-is block [] v h)
 
   read-answers : (v h : ℕ) (block : List ℕ) → replyOf (readCall (lent w block [] v h)) ≡ replyService s (reads v h block)
@@ -409,7 +426,7 @@ module _ (G D : ℕ) (z : Sizes G D) (w : World) (r : Running G D w) (s : Store)
       (ask (not (isIdle (s .book .tasks v))) 7
       (ask (not (commitMustLog (s .book .tasks v)) || hasRoom s v) 8 (askBatch (cond (commitMustLog (s .book .tasks v)) (entryBytes s) 0) batch)))
   unfolding commitAnswer writerKnown lent
-  commit-number v batch = asked [] batch v 0 _ ∙ ask-same (ltb v 8) 4 _ _ (λ l. commit-inner v batch (ltb-true v 8 l))
+  commit-number v batch = asked-newest [] batch v 0 _ ∙ ask-same (ltb v 8) 4 _ _ (λ l. commit-inner v batch (ltb-true v 8 l))
 
   commit-answers : (v : ℕ) (batch : List ℕ) → replyOf (commitCall (lent w [] batch v 0)) ≡ replyChange s (commits v batch)
   unfolding commitCall replyChange
@@ -575,7 +592,7 @@ module _ (G D : ℕ) (z : Sizes G D) (w : World) (r : Running G D w) (s : Store)
       ≡ ask (leb (nextStart s) maxStart) 10 (askBatch (cond (eqb (nextStart s) (s .start)) 0 68) batch)
   unfolding trimAnswer startFits
   trim-number batch =
-      asked [] batch 0 0 _
+      asked-newest [] batch 0 0 _
       ∙ rw (start-is batch) (ap (λ (k : ℕ). ask (leb (nextStart s) maxStart) 10 k) (batch-is [] batch 0 0 _ _ (trim-bytes batch (nextStart s) .0)))
 
   trim-answers : (batch : List ℕ) → replyOf (trimCall (lent w [] batch 0 0)) ≡ replyService s (trims batch)
@@ -605,16 +622,16 @@ module _ (G D : ℕ) (z : Sizes G D) (w : World) (r : Running G D w) (s : Store)
 
   pub call-answers : (c : Call) → isOpening c ≡ false → replyOf (ends w c) ≡ reply s c
   unfolding ends reply isOpening
-  call-answers (opening state batch) e = absurd (false≢true (sym e))
+  call-answers (opening state positions batch) e = absurd (false≢true (sym e))
   call-answers confirm e = confirm-answers
   call-answers (change c) e = (unfold ends in change-answers c)
   call-answers (service c) e = (unfold ends in service-answers c)
 
 -- ---- openings
 
-module _ (G D : ℕ) (z : Sizes G D) (w : World) (c : Closed G D w) (s : Store) (a : Agrees G D w s) (state batch : List ℕ) where
+module _ (G D : ℕ) (z : Sizes G D) (w : World) (c : Closed G D w) (s : Store) (a : Agrees G D w s) (state positions batch : List ℕ) where
   abbrev g : Given
-  g = loaded w state batch
+  g = loaded w state positions batch
 
   abbrev X : List ℕ
   X = homesAfter D (w .book .commits)
@@ -642,7 +659,7 @@ module _ (G D : ℕ) (z : Sizes G D) (w : World) (c : Closed G D w) (s : Store) 
   open-bytes =
       let new : List ℕ = newHeader G D z (w .memory) X (c .opens) in
       let start : ℕ = newStart G D z (w .memory) X (c .opens) in
-      rw (open-effect G D z w c state batch)
+      rw (open-effect G D z w c state positions batch)
       (ap length (batch-append (homeWrites X homes-due) (FN ∷ KW new ∷ FN ∷ (blankWrites G start G ++ (FN ∷ []))))
       ∙ length-append (batchBytes (homeWrites X homes-due)) (batchBytes (FN ∷ KW new ∷ FN ∷ (blankWrites G start G ++ (FN ∷ []))))
       ∙ omega (
@@ -655,7 +672,7 @@ module _ (G D : ℕ) (z : Sizes G D) (w : World) (c : Closed G D w) (s : Store) 
 
   open-figure : openEffect g .figure ≡ length (s .back)
   open-figure =
-      ap (λ (e : Effect). e .figure) (open-effect G D z w c state batch)
+      ap (λ (e : Effect). e .figure) (open-effect G D z w c state positions batch)
       ∙ sym (length-contents (tags G D z (w .memory) X (c .opens)) (w .memory .log) G found-ts) ∙ ap length back-is
 
   areas-ok : areasRight g ≡ true
@@ -663,18 +680,23 @@ module _ (G D : ℕ) (z : Sizes G D) (w : World) (c : Closed G D w) (s : Store) 
   areas-ok =
       rw (c .opens .logSize, c .opens .areaSize, log-length-right G (z .low) (z .high) .1, data-length-right D (z .some-home) (z .homes) .1)
 
+  positions-ok : newestRight g ≡ eqb (length positions) (8 * s .homes)
+  unfolding newestRight loaded
+  positions-ok = rw (ap homesIn (c .opens .areaSize) ∙ homes-in D, a .homes)
+
   start-ok : startFits (openStart g) ≡ leb (firstGroup s) maxStart
   unfolding startFits openStart firstGroup loaded
   start-ok = rw (ap groupsIn (c .opens .logSize) ∙ groups-in G, a .head, a .groups)
 
   open-number : openAnswer g (openStart g) (sizeOf (openEffect g))
-      ≡ ask (eqb (length state) 1024) 1
+      ≡ ask (eqb (length state) 1024 && eqb (length positions) (8 * s .homes)) 1
       (ask (leb (firstGroup s) maxStart) 10 (askBatch (68 * manyHomes (s .homes) (s .back) + (72 + 516 * s .groups)) batch))
   unfolding openAnswer ask
   open-number =
-      rw (areas-ok, header-fits G D w X state batch (c .opens), start-ok, open-bytes) (unfold stateRight batchFits askBatch loaded in refl)
+      rw (areas-ok, positions-ok, header-fits G D w X state positions batch (c .opens), start-ok, open-bytes)
+      (unfold stateRight batchFits askBatch loaded in refl)
 
-  pub open-answers : replyOf (ends w (opening state batch)) ≡ reply s (opening state batch)
+  pub open-answers : replyOf (ends w (opening state positions batch)) ≡ reply s (opening state positions batch)
   unfolding ends openCall reply
   open-answers =
       answers g (openAnswer g (openStart g) (sizeOf (openEffect g))) (openEffect g) _ (length (s .back)) (68 * manyHomes (s .homes) (s .back) + (72 + 516 * s .groups))

@@ -9,9 +9,9 @@ use lib.Dec.{eqb, leb, ltb}
 use lib.ListN.{length}
 use borrow.Author.Tests.{leb-true, ltb-true, eqb-true, eqb-false, le-leb, lt-leb, ne-eqb}
 use Rattle.model.specs.Tag.{entryWord, closingWord}
-use Rattle.model.specs.Layout.{groupsIn, headerStart}
+use Rattle.model.specs.Layout.{groupsIn, homesIn, headerStart}
 use Rattle.model.specs.State.{State, stateOf, setStart, setNext, setFilled, setFenced, setSettled, setLast, setDurable, nextPosition, promiseOf, setPromise, promised, promiseLeft, places, freePlaces, Writer, writerOf, setWriter, heldOf, setHeld, freshState, idle, begun, holding, logging, holds, firstFor, countFor}
-use Rattle.model.specs.Effects.{Given, Effect, Logged, logged, linkFrom, logHeld, logClosing, beginEffect, reserveEffect, abortEffect, storeFirst, storeAgain, storeOther, storeEffect, commitHeld, commitEffect, flushNone, flushPart, flushEffect, confirmEffect, settleEffect, trimStart, trimTo, trimEffect, readEffect, newState, openEffect, openStart}
+use Rattle.model.specs.Effects.{Given, Effect, homes, Logged, logged, linkFrom, logHeld, logClosing, beginEffect, reserveEffect, abortEffect, storeFirst, storeAgain, storeOther, storeEffect, commitHeld, commitEffect, flushNone, flushPart, flushEffect, confirmEffect, settleEffect, trimStart, trimTo, trimEffect, readEffect, newState, openEffect, openStart}
 use Rattle.model.specs.Questions.{blockRight, writerKnown, mayPromise, storeLogs, startFits, openAnswer, beginAnswer, reserveAnswer, abortAnswer, storeAnswer, commitAnswer, flushAnswer, confirmAnswer, settleAnswer, trimAnswer, readAnswer}
 use Rattle.model.specs.Calls.{Outcome, done, outcome, sizeOf, openCall, beginCall, reserveCall, abortCall, storeCall, commitCall, flushCall, confirmCall, settleCall, trimCall, readCall}
 use Rattle.model.specs.Crash.{Memory, fences, persist, fates}
@@ -21,17 +21,19 @@ use Rattle.model.specs.Demands.{untrimmed}
 use Rattle.model.specs.History.{Change, begins, reserves, aborts, stores, commits, flushes, Service, settles, trims, reads, Call, opening, confirm, change, service, Event, call, crash, World, unopened, emptyStore, lent, loaded, ends, changeEnds, serviceEnds, feed, isOpening, afterDone, afterCall, afterCrash, step, Allowed, AllAllowed, rowFates}
 use Rattle.model.specs.Store.{Store, newStore, firstGroup, nextGroup, nextOf, nextStart, replyOf, reply, storeMustLog, lastAfter, fencedAfter, setFor, promisesAfter, numbered, trimmedTo, afterService, afterReply, follow, foundInMemory, AnswersAt, AnswersThroughout, Answers}
 use Rattle.model.specs.Store as store
-use Rattle.model.proofs.bytes.LayoutLaws.{groups-in}
+use Rattle.model.proofs.bytes.LayoutLaws.{groups-in, homes-in}
 use Rattle.model.proofs.strip.StateLaws.{withStart, withFenced, withSettled, withLast, withDurable, withNext, withFilled, length-setNext, length-setFilled, state-setNext, state-setFilled, state-setFenced, state-setDurable, state-setLast, length-setLast}
 use Rattle.model.proofs.strip.WriterLaws.{length-setWriter, length-setHeld, state-setWriter, state-setHeld}
 use Rattle.model.proofs.strip.PromiseLaws.{promise-setStart, promise-setNext, promise-setFilled, promise-setSettled, promise-setFenced, promise-setDurable, promise-setLast, promise-setWriter, promise-setHeld, state-setPromise, promise-setPromise, promise-setPromise-other, promise-most}
 use Rattle.model.proofs.strip.OrderLaws.{InOrder, state-fresh, promise-fresh}
+use Rattle.model.proofs.strip.NewestLaws.{length-nothing}
 use Rattle.model.proofs.strip.QuestionLaws.{reserve-ready, may-promise, abort-ready, store-ready, commit-ready, trim-ready, open-ready}
 use Rattle.model.proofs.invariant.Invariant.{Sizes, Running, Closed, Invariant, Early, Late, ImageOk}
 use Rattle.model.proofs.invariant.OpenLaws.{newStart}
 use Rattle.model.proofs.invariant.LateOpens.{late-found}
 use Rattle.model.proofs.steps.RefusalLaws.{left-as-lent}
 use Rattle.model.proofs.steps.DoneLaws.{outcome-code}
+use Rattle.model.proofs.steps.NewestSteps.{newest-length, open-newest}
 use Rattle.model.proofs.steps.LogRuns.{Advance, logged-numbers, logged-writers}
 use Rattle.model.proofs.steps.SettleRuns.{newArea, due, effect, settle-effect, numbers}
 use Rattle.model.proofs.steps.TrimRuns.{MayMove, trim-may, lastKept, moved-numbers}
@@ -597,7 +599,7 @@ module _ (G D : ℕ) (z : Sizes G D) (w : World) (r : Running G D w) (s : Store)
   pub done-agrees : (c : Call) → isOpening c ≡ false → ends w c .code ≡ 0
       → Agrees G D (afterDone w c (ends w c)) (store.afterDone s c (ends w c .figure))
   unfolding isOpening afterDone feed
-  done-agrees (opening state batch) e h = absurd (false≢true (sym e))
+  done-agrees (opening state newest batch) e h = absurd (false≢true (sym e))
   done-agrees confirm e h =
       record {
         groups = unfold store.afterDone numbered in a .groups;
@@ -606,6 +608,7 @@ module _ (G D : ℕ) (z : Sizes G D) (w : World) (r : Running G D w) (s : Store)
         found = unfold store.afterDone numbered in a .found;
         book = unfold store.afterDone numbered in ap (λ (b : Book). feed b confirm (ends w confirm .figure)) (a .book);
         numbers = λ k. confirm-numbers h;
+        newest = λ k. newest-length w confirm e ∙ a .newest (r .ready);
         promises = λ k x l. unfold store.afterDone numbered in confirm-promises h x l;
       }
   done-agrees (change c) e h =
@@ -616,6 +619,7 @@ module _ (G D : ℕ) (z : Sizes G D) (w : World) (r : Running G D w) (s : Store)
         found = unfold store.afterDone numbered in a .found;
         book = unfold store.afterDone numbered in ap (λ (b : Book). feed b (change c) (ends w (change c) .figure)) (a .book);
         numbers = λ k. change-numbers c h;
+        newest = λ k. newest-length w (change c) e ∙ a .newest (r .ready);
         promises = λ k x l. unfold store.afterDone numbered in change-promises c h x l;
       }
   done-agrees (service c) e h =
@@ -627,15 +631,16 @@ module _ (G D : ℕ) (z : Sizes G D) (w : World) (r : Running G D w) (s : Store)
         found = unfold store.afterDone in (a .found ∙ sym (q .3));
         book = unfold store.afterDone in (q .4 ∙ a .book);
         numbers = λ k. unfold store.afterDone in service-numbers c h;
+        newest = λ k. newest-length w (service c) e ∙ a .newest (r .ready);
         promises = λ k x l. unfold store.afterDone in (ap (λ (p : ℕ → ℕ). p x) (q .5) ∙ service-promises c h x l);
       }
 
 -- ---- a done opening
 
-module _ (G D : ℕ) (z : Sizes G D) (w : World) (c : Closed G D w) (s : Store) (a : Agrees G D w s) (state batch : List ℕ)
-    (h : ends w (opening state batch) .code ≡ 0) where
+module _ (G D : ℕ) (z : Sizes G D) (w : World) (c : Closed G D w) (s : Store) (a : Agrees G D w s) (state newest batch : List ℕ)
+    (h : ends w (opening state newest batch) .code ≡ 0) where
   abbrev g : Given
-  g = loaded w state batch
+  g = loaded w state newest batch
 
   abbrev b : ℕ
   b = newStart G D z (w .memory) (homesAfter D (w .book .commits)) (c .opens)
@@ -652,17 +657,17 @@ module _ (G D : ℕ) (z : Sizes G D) (w : World) (c : Closed G D w) (s : Store) 
   opened-small =
       subst (λ (x : ℕ). x ≤ 2 ^ 47) opened-start (start-small (openStart g) (open-ready g (openStart g) (sizeOf (openEffect g)) opened-zero .2))
 
-  opened-state : ends w (opening state batch) .state ≡ freshState G D b
+  opened-state : ends w (opening state newest batch) .state ≡ freshState G D b
   unfolding ends openCall
   opened-state =
       done-state _ g (openAnswer g (openStart g) (sizeOf (openEffect g))) (openEffect g) refl h
-      ∙ ap (λ (e : Effect). e .state) (open-effect G D z w c state batch)
+      ∙ ap (λ (e : Effect). e .state) (open-effect G D z w c state newest batch)
 
   opened-first : firstGroup s ≡ b
   unfolding firstGroup
   opened-first = omega (arith, a .head, a .groups)
 
-  opened-numbers : Numbers (store.afterDone s (opening state batch) (ends w (opening state batch) .figure)) (stateOf (ends w (opening state batch) .state))
+  opened-numbers : Numbers (store.afterDone s (opening state newest batch) (ends w (opening state newest batch) .figure)) (stateOf (ends w (opening state newest batch) .state))
   unfolding store.afterDone
   opened-numbers =
       let m : b ≤ 2 ^ 47 = opened-small in
@@ -670,8 +675,13 @@ module _ (G D : ℕ) (z : Sizes G D) (w : World) (c : Closed G D w) (s : Store) 
       (numbers-as s _ _ (firstGroup s) (7 * firstGroup s) (7 * firstGroup s) (7 * firstGroup s) 0 _ opened-first (omega (arith, opened-first))
       (omega (arith, opened-first)) (omega (arith, opened-first)) refl)
 
-  pub opened-agrees : Agrees G D (afterDone w (opening state batch) (ends w (opening state batch)))
-      (store.afterDone s (opening state batch) (ends w (opening state batch) .figure))
+  opened-newest : length (ends w (opening state newest batch) .newest) ≡ 8 * D
+  opened-newest =
+      ap length (open-newest w state newest batch h) ∙ length-nothing (homes (loaded w state newest batch))
+      ∙ ap (λ (n : ℕ). 8 * n) (unfold loaded in (ap homesIn (c .opens .areaSize) ∙ homes-in D))
+
+  pub opened-agrees : Agrees G D (afterDone w (opening state newest batch) (ends w (opening state newest batch)))
+      (store.afterDone s (opening state newest batch) (ends w (opening state newest batch) .figure))
   unfolding afterDone
   opened-agrees =
       record {
@@ -679,8 +689,9 @@ module _ (G D : ℕ) (z : Sizes G D) (w : World) (c : Closed G D w) (s : Store) 
         homes = unfold store.afterDone numbered in a .homes;
         head = unfold store.afterDone numbered in a .head;
         found = unfold store.afterDone numbered in a .found;
-        book = unfold store.afterDone numbered in ap (λ (x : Book). feed x (opening state batch) (ends w (opening state batch) .figure)) (a .book);
+        book = unfold store.afterDone numbered in ap (λ (x : Book). feed x (opening state newest batch) (ends w (opening state newest batch) .figure)) (a .book);
         numbers = λ k. opened-numbers;
+        newest = λ k. opened-newest;
         promises = λ k x l. unfold store.afterDone numbered in sym (ap (λ (t : List ℕ). promiseOf t x) opened-state ∙ promise-fresh G D b x);
       }
 
@@ -735,6 +746,7 @@ module _ (G D : ℕ) (z : Sizes G D) (w : World) (s : Store) (a : Agrees G D w s
         found = unfold store.afterCrash in f;
         book = unfold store.afterCrash in ap (λ (b : Book). book.crash b fs) (a .book);
         numbers = λ e. absurd (false≢true e);
+        newest = λ e. absurd (false≢true e);
         promises = λ e. absurd (false≢true e);
       }
 
@@ -762,8 +774,8 @@ module _ (G D : ℕ) (z : Sizes G D) where
   opening-follows : (w : World) → Closed G D w → (s : Store) → Agrees G D w s → (c : Call) → isOpening c ≡ true
       → (replyOf (ends w c) ≡ reply s c) × Agrees G D (step w (call c)) (follow s w (call c))
   unfolding isOpening
-  opening-follows w k s a (opening state batch) e =
-      (open-answers G D z w k s a state batch, call-follows G D w s (opening state batch) a (opened-agrees G D z w k s a state batch))
+  opening-follows w k s a (opening state newest batch) e =
+      (open-answers G D z w k s a state newest batch, call-follows G D w s (opening state newest batch) a (opened-agrees G D z w k s a state newest batch))
   opening-follows w k s a confirm e = absurd (false≢true e)
   opening-follows w k s a (change c) e = absurd (false≢true e)
   opening-follows w k s a (service c) e = absurd (false≢true e)
@@ -796,6 +808,7 @@ module _ (G D : ℕ) (z : Sizes G D) where
         found = formatted-found G D z;
         book = refl;
         numbers = λ e. absurd (false≢true e);
+        newest = λ e. absurd (false≢true e);
         promises = λ e. absurd (false≢true e);
       }
 

@@ -264,17 +264,22 @@ module _ (G D : ℕ) (z : Sizes G D) (w : World) (r : Running G D w) where
   unfolding startFits
   start-most s h = leb-true s (2 ^ 47) h
 
-  pub trim-yields : (batch : List ℕ) → ends w (trim batch) .code ≡ 0 → Trimmed w (stateOf (ends w (trim batch) .state) .start)
+  -- the start that a done trim leaves
+  pub trim-leaves : (batch : List ℕ) → ends w (trim batch) .code ≡ 0
+      → (stateOf (ends w (trim batch) .state) .start ≡ trimStart (lent w [] batch 0 0)) × (trimStart (lent w [] batch 0 0) ≤ 2 ^ 47)
   unfolding ends serviceEnds trimCall
-  trim-yields batch h =
+  trim-leaves batch h =
       let g : Given = lent w [] batch 0 0 in
       let s : ℕ = trimStart g in
       let a : trimAnswer g s (sizeOf (trimEffect g s)) ≡ 0 = sym (outcome-code g (trimAnswer g s (sizeOf (trimEffect g s))) (trimEffect g s)) ∙ h in
       let k = trim-ready g s (sizeOf (trimEffect g s)) a in
       let most : s ≤ 2 ^ 47 = start-most s (k .1) in
-      let d : done g (trimEffect g s) .state ≡ trimEffect g s .state = unfold done in refl in
-      let e : stateOf (trimCall g .state) .start ≡ s =
-      ap (λ (o : Outcome). stateOf (o .state) .start)
-      (ends-done (trimCall g) g (trimAnswer g s (sizeOf (trimEffect g s))) (trimEffect g s) refl h)
-      ∙ ap (λ (x : List ℕ). stateOf x .start) d ∙ start-after batch s most in
-      rw e (trimmed batch)
+      let d : done g (trimEffect g s) .state ≡ trimEffect g s .state = unfold done in refl in (
+        ap (λ (o : Outcome). stateOf (o .state) .start)
+            (ends-done (trimCall g) g (trimAnswer g s (sizeOf (trimEffect g s))) (trimEffect g s) refl h)
+            ∙ ap (λ (x : List ℕ). stateOf x .start) d ∙ start-after batch s most,
+        most,
+      )
+
+  pub trim-yields : (batch : List ℕ) → ends w (trim batch) .code ≡ 0 → Trimmed w (stateOf (ends w (trim batch) .state) .start)
+  trim-yields batch h = rw (trim-leaves batch h .0) (trimmed batch)

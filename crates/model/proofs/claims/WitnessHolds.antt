@@ -12,6 +12,7 @@ use Rattle.model.specs.Layout.{header}
 use Rattle.model.specs.Calls.{formatCall}
 use Rattle.model.specs.Crash.{fences}
 use Rattle.model.specs.Demands.{AllHold, LiveThroughout}
+use Rattle.model.specs.Kept.{KeptThroughout}
 use Rattle.model.specs.History.{Call, Event, call, crash, World, Formatting, afterFormat, emptyStore, ends, isOpening, step, Allowed, AllAllowed}
 use Rattle.model.specs.Trials.{answerOf}
 use Rattle.model.specs.Witnesses.{usedBefore, usedCopies, alike, allowed, history, answered, goesSo, goesAsListed}
@@ -23,6 +24,7 @@ use Rattle.model.proofs.answers.Computing.{all-definitions}
 use Rattle.model.proofs.answers.HistoryHolds.{goes-as-listed}
 use Rattle.model.proofs.claims.DemandThree.{demand3}
 use Rattle.model.proofs.claims.DemandTwo.{demand2}
+use Rattle.model.proofs.claims.KeptHolds.{newest-kept}
 
 -- the test for the premises is right
 alike-true : (a b : Bool) → alike a b ≡ true → a ≡ b
@@ -80,6 +82,9 @@ met = rw (after-format format) (goes-allowed (emptyStore 4 8) history answered 6
 
 pub all-hold-there : AllHold (afterFormat format) history
 all-hold-there = demand3 4 8 format history met
+
+pub kept-there : KeptThroughout (afterFormat format) history
+kept-there = newest-kept 4 8 format history met
 
 pub live-there : LiveThroughout (afterFormat format) history
 live-there = demand2 4 8 format history met

@@ -15,15 +15,13 @@ use Rattle.model.specs.Questions.{writerKnown, commitAnswer}
 use Rattle.model.specs.Calls.{Outcome, done, sizeOf, commitCall}
 use Rattle.model.specs.Book.{Commit, Task, idle, opened, Book, filledUp, submit, grown, withTask, addCommit, entryOf, storeTask, commitTask, owedBy, owedAll, withCommits}
 use Rattle.model.specs.Book as book
-use Rattle.model.specs.Demands.{Live, Yields, ServiceYields, YieldsAt, LiveThroughout, Demand2}
-use Rattle.model.specs.History.{Change, begins, reserves, aborts, stores, commits, flushes, Service, settles, trims, reads, Call, opening, confirm, change, service, commit, Event, call, crash, World, unopened, emptyStore, lent, ends, changeEnds, feed, feedChange, isOpening, afterDone, afterCall, afterCrash, step, Allowed, AllAllowed}
+use Rattle.model.specs.Demands.{Live, Yields, ServiceYields, YieldsAt}
+use Rattle.model.specs.History.{Change, begins, reserves, aborts, stores, commits, flushes, Service, settles, trims, reads, Call, opening, confirm, change, service, commit, Event, call, crash, World, unopened, emptyStore, lent, ends, changeEnds, feed, feedChange, isOpening, afterDone, afterCall, afterCrash, step, Allowed}
 use Rattle.model.proofs.strip.QuestionLaws.{commit-ready}
 use Rattle.model.proofs.steps.RefusalLaws.{left-as-lent}
 use Rattle.model.proofs.steps.DoneLaws.{outcome-code}
 use Rattle.model.proofs.trace.Trace.{Ev}
 use Rattle.model.proofs.invariant.Invariant.{Sizes, TaskOk, Running, Invariant}
-use Rattle.model.proofs.steps.FormatRuns.{from-format}
-use Rattle.model.proofs.steps.Beginning.{format-closed}
 use Rattle.model.proofs.claims.DemandThree.{keeps}
 use Rattle.model.proofs.claims.Yields.{PastOwed, ends-done, confirm-yields, settle-yields}
 use Rattle.model.proofs.claims.TrimYields.{trim-yields}
@@ -47,7 +45,7 @@ past-snoc (d ∷ cs) c p l = (p .0, past-snoc cs c (p .1) l)
 
 -- ---- what the book's steps do to its commits
 
-store-commits : (b : Book) (v home : ℕ) (block : List ℕ) (t : Task) → storeTask b v home block t .commits ≡ b .commits
+pub store-commits : (b : Book) (v home : ℕ) (block : List ℕ) (t : Task) → storeTask b v home block t .commits ≡ b .commits
 unfolding storeTask withTask
 store-commits b v home block idle = refl
 store-commits b v home block (opened es none) = refl
@@ -59,7 +57,7 @@ store-commits b v home block (opened es (some h)) = go (eqb (h .home) home)
     go true = refl
     go false = filled-commits b
 
-flush-commits : (b : Book) → book.flush b .commits ≡ b .commits
+pub flush-commits : (b : Book) → book.flush b .commits ≡ b .commits
 unfolding book.flush submit
 flush-commits b = go (eqb (b .filled) 0)
   where
@@ -151,7 +149,7 @@ module _ (G D : ℕ) (z : Sizes G D) where
   past-done : (w : World) → Running G D w → (c : Call) → isOpening c ≡ false → ends w c .code ≡ 0 → PastOwed (w .book .commits)
       → PastOwed (feed (w .book) c (ends w c .figure) .commits)
   unfolding isOpening feed
-  past-done w r (opening state batch) e h p = absurd (false≢true (sym e))
+  past-done w r (opening state newest batch) e h p = absurd (false≢true (sym e))
   past-done w r confirm e h p = (unfold withCommits in past-by (ends w confirm .figure) (w .book .commits) p)
   past-done w r (change c) e h p = past-change w r c h p
   past-done w r (service c) e h p = p
@@ -162,7 +160,7 @@ module _ (G D : ℕ) (z : Sizes G D) where
 
   opened-owing : (w : World) → Owing w → (c : Call) → isOpening c ≡ true → Owing (step w (call c))
   unfolding isOpening
-  opened-owing w o (opening state batch) e = step-by Owing w (opening state batch) o (λ h q. (unfold afterDone feed withCommits in past-all (w .book .commits)))
+  opened-owing w o (opening state newest batch) e = step-by Owing w (opening state newest batch) o (λ h q. (unfold afterDone feed withCommits in past-all (w .book .commits)))
   opened-owing w o confirm e = absurd (false≢true e)
   opened-owing w o (change c) e = absurd (false≢true e)
   opened-owing w o (service c) e = absurd (false≢true e)
@@ -182,14 +180,14 @@ module _ (G D : ℕ) (z : Sizes G D) where
   pub call-yields : (w : World) (r : Running G D w) → PastOwed (w .book .commits) → Live w → (c : Call) → isOpening c ≡ false
       → ends w c .code ≡ 0 → Yields w c (ends w c)
   unfolding isOpening
-  call-yields w r p l (opening state batch) e h = tt
+  call-yields w r p l (opening state newest batch) e h = tt
   call-yields w r p l confirm e h = confirm-yields G D z w r p h
   call-yields w r p l (change c) e h = tt
   call-yields w r p l (service c) e h = service-yields w r l c h
 
   opening-yields : (w : World) (c : Call) → isOpening c ≡ true → ends w c .code ≡ 0 → Yields w c (ends w c)
   unfolding isOpening
-  opening-yields w (opening state batch) e h = tt
+  opening-yields w (opening state newest batch) e h = tt
   opening-yields w confirm e h = absurd (false≢true e)
   opening-yields w (change c) e h = tt
   opening-yields w (service c) e h = absurd (false≢true e)
@@ -199,26 +197,6 @@ module _ (G D : ℕ) (z : Sizes G D) where
   event-yields w (inr r) o l (call c) a = call-yields w r (o (r .ready)) (l (r .ready)) c (a ∙ ap not (r .ready))
   event-yields w i o l (crash passed chosen) a = tt
 
-  -- ---- demand 2, from what holds of every world of an era
-
-  module _ (live : (w : World) → Running G D w → Live w) where
-    live-ready : (w : World) → Invariant G D w → w .ready ≡ true → Live w
-    live-ready w (inl k) h = absurd (false≢true (sym (k .ready) ∙ h))
-    live-ready w (inr r) h = live w r
-
-    pub live-throughout : (es : List Event) (w : World) → Invariant G D w → Owing w → AllAllowed w es → LiveThroughout w es
-    live-throughout [] w i o a = live-ready w i
-    live-throughout (e ∷ es) w i o a = (
-      live-ready w i,
-      event-yields w i o (live-ready w i) e (a .0),
-      live-throughout es (step w e) (keeps G D z w i e (a .0) .0) (owing-keeps w i o e (a .0)) (a .1),
-    )
-
 pub format-owing : (groups homes : ℕ) → Owing (emptyStore groups homes)
 unfolding emptyStore unopened
 format-owing groups homes h = absurd (false≢true h)
-
-pub demand2-from : ((G D : ℕ) → Sizes G D → (w : World) → Running G D w → Live w) → Demand2
-demand2-from live =
-    from-format LiveThroughout
-    (λ G D z es a. live-throughout G D z (live G D z) es (emptyStore G D) (inl (format-closed G D z)) (format-owing G D) a)

@@ -14,7 +14,7 @@ use Rattle.model.specs.declared.Tag.{Tag}
 use Rattle.model.specs.Layout.{groupAt, groupsIn, homesIn, entryAt, blockAt}
 use Rattle.model.specs.Commit.{committed, transactions, newestIn, orElse, newest, found}
 use Rattle.model.specs.State.{stateOf, nextPosition}
-use Rattle.model.specs.Effects.{groups, homes, liveTags, liveBase}
+use Rattle.model.specs.Effects.{groups, homes, tagsOf, liveTags, liveBase}
 use Rattle.model.specs.History.{World, lent}
 use Rattle.model.proofs.bytes.LayoutLaws.{groups-in, homes-in}
 use Rattle.model.proofs.strip.OrderLaws.{next-within}
@@ -127,7 +127,7 @@ module _ (G D b : ℕ) (tr : List Ev) (w : World) (z : Sizes G D) (c : Copies G 
     lent-homes = ap homesIn (c .areaSize) ∙ homes-in D
 
     pub lent-tags : liveTags (lent w block batch v h) ≡ tagsIn G D w
-    unfolding lent liveTags
+    unfolding lent liveTags tagsOf
     lent-tags = rw (lent-groups, lent-homes)
 
     pub lent-base : liveBase (lent w block batch v h) ≡ baseOf w

@@ -13,7 +13,7 @@ use Rattle.model.specs.Bytes.{part, zeros, same}
 use Rattle.model.specs.Layout.{groupsIn, homesIn, groupMark, groupAt, groupNumber, groupValid, slotOf, entryIn, entryAt, emptyLog, headerStart}
 use Rattle.model.specs.Commit.{walk, started, committed, transactions, eachEntries, replay}
 use Rattle.model.specs.Effects.{Given, replayed}
-use Rattle.model.specs.Questions.{ask, areasRight, stateRight, headerFits, startFits, batchFits, openAnswer}
+use Rattle.model.specs.Questions.{ask, areasRight, stateRight, headerFits, startFits, batchFits, openAnswer, newestRight}
 use Rattle.model.specs.Book.{homesAfter, writeCommits, empty}
 use Rattle.model.specs.History.{World, unopened, emptyStore, loaded}
 use Rattle.model.specs.Demands.{eachContents}
@@ -103,18 +103,18 @@ four true true false = inr (inr (inl refl))
 four true false c = inr (inr (inr refl))
 four false b c = inr (inl refl)
 
-pub header-fits : (G D : ℕ) (w : World) (X state batch : List ℕ) → Opens G D (w .memory) X → headerFits (loaded w state batch) ≡ true
+pub header-fits : (G D : ℕ) (w : World) (X state newest batch : List ℕ) → Opens G D (w .memory) X → headerFits (loaded w state newest batch) ≡ true
 unfolding headerFits loaded
-header-fits G D w X state batch o =
+header-fits G D w X state newest batch o =
     let eg : groupsIn (length (w .memory .log)) ≡ G = ap groupsIn (o .logSize) ∙ groups-in G in
     let ed : homesIn (length (w .memory .area)) ≡ D = ap homesIn (o .areaSize) ∙ homes-in D in
     rw (eg, ed, o .header, le-leb (headerStart (w .memory .log)) (2 ^ 47) (o .start))
 
-pub open-answers : (G D : ℕ) (w : World) (X state batch : List ℕ) (start size : ℕ) → Opens G D (w .memory) X
-    → (openAnswer (loaded w state batch) start size ≡ 0)
-    ⊎ ((openAnswer (loaded w state batch) start size ≡ 1)
-    ⊎ ((openAnswer (loaded w state batch) start size ≡ 9) ⊎ (openAnswer (loaded w state batch) start size ≡ 10)))
+pub open-answers : (G D : ℕ) (w : World) (X state newest batch : List ℕ) (start size : ℕ) → Opens G D (w .memory) X
+    → (openAnswer (loaded w state newest batch) start size ≡ 0)
+    ⊎ ((openAnswer (loaded w state newest batch) start size ≡ 1)
+    ⊎ ((openAnswer (loaded w state newest batch) start size ≡ 9) ⊎ (openAnswer (loaded w state newest batch) start size ≡ 10)))
 unfolding openAnswer
-open-answers G D w X state batch start size o =
-    let g : Given = loaded w state batch in
-    rw (header-fits G D w X state batch o) (four (areasRight g && stateRight g) (startFits start) (batchFits g size))
+open-answers G D w X state newest batch start size o =
+    let g : Given = loaded w state newest batch in
+    rw (header-fits G D w X state newest batch o) (four (areasRight g && stateRight g && newestRight g) (startFits start) (batchFits g size))

@@ -40,6 +40,7 @@ after w c e =
     record {
       homes = w .homes;
       state = e .state;
+      newest = e .newest;
       log = e .log;
       area = e .area;
       memory = w .memory;

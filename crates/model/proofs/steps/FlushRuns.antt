@@ -127,6 +127,7 @@ module _ (G D : ℕ) (z : Sizes G D) (w : World) (r : Running G D w) (part : 0 <
       record {
         homes = w .homes;
         state = setFilled (setNext (w .state) (stateOf (w .state) .next + 1)) 0;
+        newest = w .newest;
         log = w .log;
         area = w .area;
         memory = w .memory;

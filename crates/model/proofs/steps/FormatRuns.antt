@@ -12,7 +12,7 @@ use Rattle.model.specs.Bytes.{part, puts, zeros, same}
 use Rattle.model.specs.Layout.{groupsIn, homesIn, header, headerRight, groupOffset, unusedSlots, emptyLog, logLengthRight, dataLengthRight}
 use Rattle.model.specs.Batch.{Record, GW, HW, KW, FN}
 use Rattle.model.specs.Effects.{Given, blankWrites, zeroHomes, formatted, formatEffect, openEffect, openStart}
-use Rattle.model.specs.Questions.{ask, areasRight, stateRight, headerFits, formatAnswer, openAnswer}
+use Rattle.model.specs.Questions.{ask, areasRight, stateRight, headerFits, formatAnswer, openAnswer, newestRight}
 use Rattle.model.specs.Calls.{Outcome, done, sizeOf, formatCall, openCall}
 use Rattle.model.specs.Crash.{Memory, toLog, toArea, blocks, pieces, write, writeEach, writeIf, writeChosen, many, isFence, fences, persistChosen, persist}
 use Rattle.model.specs.Facts.{FormatEmpties, NeverOpens, FormatCut}
@@ -213,29 +213,34 @@ record Unmarked (G D : ℕ) (m : Memory) : Type 0 where
   pub area : length (m .area) ≡ 64 * D
   pub mark : part (m .log) 0 2 ≡ zeros 2
 
-module _ (G D : ℕ) (z : Sizes G D) (m : Memory) (u : Unmarked G D m) (state batch : List ℕ) (l : length state ≡ 1024) where
-  lengths : areasRight (loaded (unopened 0 m) state batch) ≡ true
+module _ (G D : ℕ) (z : Sizes G D) (m : Memory) (u : Unmarked G D m) (state newest batch : List ℕ) (l : length state ≡ 1024)
+    (k : length newest ≡ 8 * homesIn (length (m .area))) where
+  lengths : areasRight (loaded (unopened 0 m) state newest batch) ≡ true
   unfolding areasRight loaded unopened
   lengths = rw (u .log, u .area, log-length-right G (z .low) (z .high) .1, data-length-right D (z .some-home) (z .homes) .1)
 
-  strip : stateRight (loaded (unopened 0 m) state batch) ≡ true
+  strip : stateRight (loaded (unopened 0 m) state newest batch) ≡ true
   unfolding stateRight loaded
   strip = eq-eqb (length state) 1024 l
 
-  header-no : headerFits (loaded (unopened 0 m) state batch) ≡ false
+  positions : newestRight (loaded (unopened 0 m) state newest batch) ≡ true
+  unfolding newestRight loaded unopened
+  positions = eq-eqb (length newest) (8 * homesIn (length (m .area))) k
+
+  header-no : headerFits (loaded (unopened 0 m) state newest batch) ≡ false
   unfolding headerFits headerRight loaded unopened zeros same
   header-no = rw (u .mark)
 
-  refused-three : (start size : ℕ) → openAnswer (loaded (unopened 0 m) state batch) start size ≡ 3
+  refused-three : (start size : ℕ) → openAnswer (loaded (unopened 0 m) state newest batch) start size ≡ 3
   unfolding openAnswer ask
-  refused-three start size = rw (lengths, strip, header-no)
+  refused-three start size = rw (lengths, strip, positions, header-no)
 
 unmarked-closed : (G D : ℕ) → Sizes G D → (m : Memory) → Unmarked G D m → NeverOpens m
 unfolding openCall
-unmarked-closed G D z m u state batch l =
-    let g : Given = loaded (unopened 0 m) state batch in
+unmarked-closed G D z m u state newest batch l k =
+    let g : Given = loaded (unopened 0 m) state newest batch in
     outcome-code g (openAnswer g (openStart g) (sizeOf (openEffect g))) (openEffect g)
-    ∙ refused-three G D z m u state batch l (openStart g) (sizeOf (openEffect g))
+    ∙ refused-three G D z m u state newest batch l k (openStart g) (sizeOf (openEffect g))
 
 -- writes of groups and homes do not touch the header
 abbrev NoHeader : List Record → Type 0

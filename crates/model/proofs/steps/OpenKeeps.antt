@@ -35,12 +35,12 @@ homes-formed D area (x ∷ hs) d l b =
     let k : x < D = b x (inl refl) in
     ((omega arith, length-part area (64 * x) 64 (omega arith)), homes-formed D area hs d l (λ h i. b h (inr i)))
 
-module _ (G D : ℕ) (z : Sizes G D) (w : World) (c : Closed G D w) (state batch : List ℕ) where
+module _ (G D : ℕ) (z : Sizes G D) (w : World) (c : Closed G D w) (state newest batch : List ℕ) where
   abbrev g : Given
-  g = loaded w state batch
+  g = loaded w state newest batch
 
   effect-is : openEffect g ≡ opens-with G D z w c
-  effect-is = open-effect G D z w c state batch
+  effect-is = open-effect G D z w c state newest batch
 
   pub open-formed : AllFormed (openEffect g .records)
   open-formed =
@@ -59,25 +59,25 @@ module _ (G D : ℕ) (z : Sizes G D) (w : World) (c : Closed G D w) (state batch
   unfolding startFits
   start-ok h = let q = leb-true (openStart g) (2 ^ 47) h in omega (arith, start-is)
 
-  pub open-keeps : Invariant G D (step w (call (opening state batch)))
+  pub open-keeps : Invariant G D (step w (call (opening state newest batch)))
   unfolding ends openCall
   open-keeps =
-      by-answer (Invariant G D) w (opening state batch) g (openAnswer g (openStart g) (sizeOf (openEffect g))) (openEffect g) refl (inl c)
+      by-answer (Invariant G D) w (opening state newest batch) g (openAnswer g (openStart g) (sizeOf (openEffect g))) (openEffect g) refl (inl c)
       (λ a. let k = open-ready g (openStart g) (sizeOf (openEffect g)) a in
       record {
         formed = open-formed;
         fit = fits g (sizeOf (openEffect g)) (k .3);
-        next = inr (rw effect-is (open-runs G D z w c state batch (start-ok (k .2))));
+        next = inr (rw effect-is (open-runs G D z w c state newest batch (start-ok (k .2))));
       })
 
   -- "every opening that does not answer 1, 9 or 10 is done, and leaves a data copy equal byte for byte to the homes after the longest run"
-  pub open-holds : Opened w (ends w (opening state batch))
+  pub open-holds : Opened w (ends w (opening state newest batch))
   unfolding ends openCall
   open-holds =
       let a : ℕ = openAnswer g (openStart g) (sizeOf (openEffect g)) in
       let e : outcome g a (openEffect g) .code ≡ a = outcome-code g a (openEffect g) in
       record {
-        answer = rw e (open-answers G D w (homesAfter D (w .book .commits)) state batch (openStart g) (sizeOf (openEffect g)) (c .opens));
+        answer = rw e (open-answers G D w (homesAfter D (w .book .commits)) state newest batch (openStart g) (sizeOf (openEffect g)) (c .opens));
         restored = λ h.
             ap (λ (o : Outcome). o .area) (outcome-done g a (openEffect g) (sym e ∙ h))
             ∙ (unfold done in (ap (λ (x : Effect). x .area) effect-is ∙ ap (λ (d : ℕ). homesAfter d (w .book .commits)) (sym (c .homes))));

@@ -16,6 +16,7 @@ use Rattle.model.specs.Batch.{Record, KW, FN}
 use Rattle.model.specs.State.{State, stateOf, nextPosition, Writer, writerOf, freshState, idle}
 use Rattle.model.specs.Effects.{Given, Effect, openEffect, openTags, openStart, blankWrites, homeWrites}
 use Rattle.model.specs.Questions.{openAnswer, startFits}
+use Rattle.model.specs.Newest.{nothingKept}
 use Rattle.model.specs.Crash.{Memory, fences, persist, persistChosen, fates}
 use Rattle.model.specs.Book.{Commit, Book, homesAfter, writeCommits, owedAll, withCommits, fateAt, run}
 use Rattle.model.specs.Demands.{closedBelow, groupWrites}
@@ -73,15 +74,16 @@ module _ (G D : ℕ) (z : Sizes G D) (w : World) (c : Closed G D w) where
       record {
         figure = length (ts G D z m X o);
         state = freshState G D b;
+        newest = nothingKept D;
         log = emptyLog b G D;
         area = X;
         block = [];
         records = homeWrites X (hs G D z m X o) ++ (FN ∷ KW (newHeader G D z m X o) ∷ FN ∷ (blankWrites G b G ++ (FN ∷ [])));
       }
 
-  pub open-effect : (state batch : List ℕ) → openEffect (loaded w state batch) ≡ opens-with
+  pub open-effect : (state newest batch : List ℕ) → openEffect (loaded w state newest batch) ≡ opens-with
   unfolding openEffect openTags openStart loaded
-  open-effect state batch =
+  open-effect state newest batch =
       let eg : groupsIn (length (w .memory .log)) ≡ G = ap groupsIn (o .logSize) ∙ groups-in G in
       let ed : homesIn (length (w .memory .area)) ≡ D = ap homesIn (o .areaSize) ∙ homes-in D in
       rw (eg, ed, o .restored)
@@ -259,10 +261,10 @@ module _ (G D : ℕ) (z : Sizes G D) (w : World) (c : Closed G D w) where
       sym (groupWrites-fence fenced) ∙ ap groupWrites whole-batch
       ∙ groupWrites-opening X (hs G D z m X o) (newHeader G D z m X o) blanks quiet ∙ groupWrites-blanks G b G ∙ omega arith
 
-  pub open-runs : (state batch : List ℕ) → b ≤ 2 ^ 47 → Running G D (after w (opening state batch) opens-with)
+  pub open-runs : (state newest batch : List ℕ) → b ≤ 2 ^ 47 → Running G D (after w (opening state newest batch) opens-with)
   unfolding feed feedChange isConfirm withCommits hist
-  open-runs state batch most =
-      let u : World = after w (opening state batch) opens-with in
+  open-runs state newest batch most =
+      let u : World = after w (opening state newest batch) opens-with in
       record {
         b = b;
         tr = [];

@@ -31,6 +31,7 @@ refused-world w c block batch writer home k = go (isOpening c)
         record {
           homes = w .homes;
           state = cond b (w .state) (w .state);
+          newest = cond b (w .newest) (w .newest);
           log = cond b (w .log) (w .log);
           area = cond b (w .area) (w .area);
           memory = w .memory;
@@ -42,9 +43,9 @@ refused-world w c block batch writer home k = go (isOpening c)
     go true = rw (nothing-read batch, append-nil (w .pending))
     go false = rw (nothing-read batch, append-nil (w .pending))
 
-loaded-world : (w : World) (state batch : List ℕ) (k : ℕ) → afterRefused w (opening state batch) (refused (loaded w state batch) k) ≡ w
+loaded-world : (w : World) (state newest batch : List ℕ) (k : ℕ) → afterRefused w (opening state newest batch) (refused (loaded w state newest batch) k) ≡ w
 unfolding afterRefused refused loaded isOpening
-loaded-world w state batch k = rw (nothing-read batch, append-nil (w .pending))
+loaded-world w state newest batch k = rw (nothing-read batch, append-nil (w .pending))
 
 -- a refused call that was lent g
 lent-refused : (w : World) (c : Call) (g : Given) (a k : ℕ) (e : Effect) → ends w c ≡ outcome g a e → ends w c .code ≡ suc k
@@ -84,9 +85,9 @@ service-refused w (reads v home block) k h =
 
 pub left-as-lent : (w : World) (c : Call) (k : ℕ) → ends w c .code ≡ suc k → afterRefused w c (ends w c) ≡ w
 unfolding ends openCall confirmCall
-left-as-lent w (opening state batch) k h =
-    let g : Given = loaded w state batch in
-    lent-refused w _ g (openAnswer g (openStart g) (sizeOf (openEffect g))) k (openEffect g) refl h (loaded-world w state batch _)
+left-as-lent w (opening state newest batch) k h =
+    let g : Given = loaded w state newest batch in
+    lent-refused w _ g (openAnswer g (openStart g) (sizeOf (openEffect g))) k (openEffect g) refl h (loaded-world w state newest batch _)
 left-as-lent w confirm k h =
     let g : Given = lent w [] [] 0 0 in lent-refused w _ g (confirmAnswer g) k (confirmEffect g) refl h (refused-world w _ [] [] 0 0 _)
 left-as-lent w (change c) k h = change-refused w c k h

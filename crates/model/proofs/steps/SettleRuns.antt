@@ -177,6 +177,7 @@ settle-at : (g : Given) (n d : ℕ) (tags : ℕ → Tag) (ts : List (List ℕ)) 
     ≡ record {
       figure = 0;
       state = setFenced (setSettled (g .state) (stateOf (g .state) .fenced)) (7 * stateOf (g .state) .next);
+      newest = g .newest;
       log = g .log;
       area = area;
       block = g .block;
@@ -214,7 +215,16 @@ module _ (G D : ℕ) (z : Sizes G D) (w : World) (r : Running G D w) where
   newState = setFenced (setSettled (w .state) (stateOf (w .state) .fenced)) (7 * stateOf (w .state) .next)
 
   abbrev pub effect : Effect
-  effect = record { figure = 0; state = newState; log = w .log; area = newArea; block = []; records = homeWrites newArea due ++ (FN ∷ []) }
+  effect =
+      record {
+        figure = 0;
+        state = newState;
+        newest = w .newest;
+        log = w .log;
+        area = newArea;
+        block = [];
+        records = homeWrites newArea due ++ (FN ∷ []);
+      }
 
   fenced-inside : st .fenced ≤ endOf w
   unfolding nextPosition

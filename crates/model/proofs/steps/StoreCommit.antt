@@ -36,6 +36,18 @@ use Rattle.model.proofs.steps.LogSubmits.{submitted-logged, confirmed-m
 use Rattle.model.proofs.steps.HeldLogs.{filled-tasks, filled-commits, event, soFar, Logging, logging-task, mine-event, Bounds, bounds, held-size, last-closes, link-ok, link-small}
 use Rattle.model.proofs.invariant.Invariant.{Sizes, SoundAt, plainOf, entriesFor, TaskOk, Copies, Submitted, Confirmed, Commits, Running, ImageOk, LastOk, lastCloser, OwedBelow}
 
+-- a commit that logs, and the transaction that it closes: in the trace, in the log copy and in the book
+pub record Closing (G D : ℕ) (w : World) (R : Running G D w) (v : ℕ) (u : World) : Type 0 where
+  pub tr : List Ev
+  pub earlier : List ℕ
+  pub entries : List Entry
+  pub copies : Copies G D (R .b) tr u
+  pub start : stateOf (u .state) .start ≡ stateOf (w .state) .start
+  pub done : hist (7 * R .b) tr .done ≡ hist (7 * R .b) (R .tr) .done ++ ((nextPosition (stateOf (w .state)) ∷ earlier) ∷ [])
+  pub first : firstOf (nextPosition (stateOf (w .state))) earlier ≡ firstFor (writerOf (w .state) v) (nextPosition (stateOf (w .state)))
+  pub listed : entries ≡ entriesFor (R .b) tr (nextPosition (stateOf (w .state)) ∷ earlier)
+  pub commits : u .book .commits ≡ w .book .commits ++ (record { entries = entries; ticket = nextPosition (stateOf (w .state)) + 1; owed = false } ∷ [])
+
 module _ (G D : ℕ) (z : Sizes G D) (w : World) (R : Running G D w) (v : ℕ) (l : v < 8) (m : 2 ≤ writerOf (w .state) v .mode)
     (left : Roomy (w .state) v) where
   abbrev b : ℕ
@@ -440,4 +452,18 @@ module _ (G D : ℕ) (z : Sizes G D) (w : World) (R : Running G D w) (v : ℕ) (
               submitted-logged G D b tr (R .old) w y e₁ (P + 1) (R .submitted) c c-copies c-adv roomy c-pending refl refl
               (λ k fs hs ff i. rw c-commits (image-close G D b (w .memory .log) e₁ tr (R .old) (w .book .commits) k fs cm refl refl (sym (entry-is true lk)) (omega (arith, position)) ff (λ lt. omega (arith, low-first true lk)) i));
           confirmed = confirmed-more G b w y _ (R .confirmed) c-pending refl (omega (arith, c-adv .fenced)) (λ bound o. rw c-commits (owed-snoc bound (w .book .commits) cm refl o));
+        }
+
+    pub commit-closes : Closing G D w R v y
+    commit-closes =
+        record {
+          tr = e₁ ∷ tr;
+          earlier = mine (hist (7 * b) tr) e₁;
+          entries = cm .entries;
+          copies = c-copies;
+          start = c-adv .start;
+          done = c-done ∙ ap (λ (p : ℕ). hist (7 * b) tr .done ++ ((p ∷ mine (hist (7 * b) tr) e₁) ∷ [])) (sym position);
+          first = ap (firstOf P) (mine-event (hist (7 * b) tr) v r hd true lk) ∙ lg .first;
+          listed = sym (entry-is true lk) ∙ ap (λ (p : ℕ). entriesFor b (e₁ ∷ tr) (p ∷ mine (hist (7 * b) tr) e₁)) (sym position);
+          commits = c-commits;
         }

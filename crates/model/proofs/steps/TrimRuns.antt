@@ -14,6 +14,7 @@ use Rattle.model.specs.Bytes.{puts}
 use Rattle.model.specs.Layout.{header, headerStart}
 use Rattle.model.specs.Batch.{Record, KW, FN}
 use Rattle.model.specs.State.{State, stateOf, setStart, setFenced, setLast, nextPosition, promiseOf, writerOf, heldOf}
+use Rattle.model.specs.Newest.{forget}
 use Rattle.model.specs.Effects.{Given, groups, homes, newState, mayStart, largest, noneAcross, noneOpenBefore, trimStart, trimTo, trimEffect}
 use Rattle.model.specs.Crash.{Memory, isFence, persistChosen}
 use Rattle.model.specs.Demands.{groupWrites}
@@ -105,6 +106,7 @@ module _ (G D : ℕ) (z : Sizes G D) (w : World) (r : Running G D w) (s : ℕ) (
       record {
         homes = w .homes;
         state = setLast (setFenced (setStart (w .state) s) (7 * stateOf (w .state) .next)) (lastKept s (stateOf (w .state) .last));
+        newest = forget (w .newest) (7 * s) D;
         log = puts (w .log) 0 (header s G D);
         area = w .area;
         memory = w .memory;
@@ -303,6 +305,7 @@ module _ (G D : ℕ) (z : Sizes G D) (w : World) (r : Running G D w) (batch : Li
       record {
         homes = w .homes;
         state = w .state;
+        newest = w .newest;
         log = w .log;
         area = w .area;
         memory = w .memory;

@@ -11,7 +11,7 @@ use borrow.Author.Tests.{leb-true, leb-false, ltb-true, eqb-true, eqb-false, lt-
 use Rattle.model.specs.Layout.{maxStart}
 use Rattle.model.specs.State.{State, stateOf, nextPosition, promiseOf, promised, places, freePlaces}
 use Rattle.model.specs.Effects.{Given}
-use Rattle.model.specs.Questions.{ask, areasRight, stateRight, blockRight, stripInOrder, headerFits, writerKnown, homeKnown, writerOpen, roomFor, room, mayPromise, keepsPromises, storeLogs, commitLogs, startFits, batchFits, formatAnswer, openAnswer, askState, askBlock, beginAnswer, reserveAnswer, abortAnswer, storeAnswer, commitAnswer, flushAnswer, confirmAnswer, settleAnswer, trimAnswer, readAnswer}
+use Rattle.model.specs.Questions.{ask, areasRight, stateRight, blockRight, newestRight, stripInOrder, headerFits, writerKnown, homeKnown, writerOpen, roomFor, room, mayPromise, keepsPromises, storeLogs, commitLogs, startFits, batchFits, formatAnswer, openAnswer, askState, askBlock, askNewest, askBoth, beginAnswer, reserveAnswer, abortAnswer, storeAnswer, commitAnswer, flushAnswer, confirmAnswer, settleAnswer, trimAnswer, readAnswer}
 
 -- a question answered no, answered yes, and one that let an answer of 0 through
 pub ask-no : (b : Bool) (k v : ℕ) → b ≡ false → ask b k v ≡ k
@@ -55,18 +55,33 @@ state-passed g v e =
     let c = and-true (areasRight g) (stateRight g) (a .0) in
     (record { areas = c .0; strip = c .1; order = b .0 }, b .1)
 
-block-passed : (g : Given) (v : ℕ) → askBlock g v ≡ 0 → InUse g × (blockRight g ≡ true) × (v ≡ 0)
-unfolding askBlock
-block-passed g v e =
-    let a = ask-passed (areasRight g && stateRight g && blockRight g) 0 (ask (stripInOrder g) 2 v) e in
+-- those that ask for more lengths: the rest is right too
+more-passed : (g : Given) (rest : Bool) (v : ℕ) → ask (areasRight g && stateRight g && rest) 1 (ask (stripInOrder g) 2 v) ≡ 0
+    → InUse g × (rest ≡ true) × (v ≡ 0)
+more-passed g rest v e =
+    let a = ask-passed (areasRight g && stateRight g && rest) 0 (ask (stripInOrder g) 2 v) e in
     let b = ask-passed (stripInOrder g) 1 v (a .1) in
-    let c = and-true (areasRight g && stateRight g) (blockRight g) (split (areasRight g) (stateRight g) (blockRight g) (a .0)) in
+    let c = and-true (areasRight g && stateRight g) rest (a .0) in
     let d = and-true (areasRight g) (stateRight g) (c .0) in
     (record { areas = d .0; strip = d .1; order = b .0 }, c .1, b .1)
-  where
-    split : (x y z : Bool) → (x && y && z) ≡ true → ((x && y) && z) ≡ true
-    split true y z h = h
-    split false y z h = h
+
+block-passed : (g : Given) (v : ℕ) → askBlock g v ≡ 0 → InUse g × (blockRight g ≡ true) × (v ≡ 0)
+unfolding askBlock
+block-passed g v e = more-passed g (blockRight g) v e
+
+newest-passed : (g : Given) (v : ℕ) → askNewest g v ≡ 0 → InUse g × (newestRight g ≡ true) × (v ≡ 0)
+unfolding askNewest
+newest-passed g v e = more-passed g (newestRight g) v e
+
+both-passed : (g : Given) (v : ℕ) → askBoth g v ≡ 0 → InUse g × (newestRight g ≡ true) × (blockRight g ≡ true) × (v ≡ 0)
+unfolding askBoth
+both-passed g v e =
+    let a = ask-passed (areasRight g && stateRight g && newestRight g && blockRight g) 0 (ask (stripInOrder g) 2 v) e in
+    let b = ask-passed (stripInOrder g) 1 v (a .1) in
+    let c = and-true (areasRight g && stateRight g && newestRight g) (blockRight g) (a .0) in
+    let d = and-true (areasRight g && stateRight g) (newestRight g) (c .0) in
+    let f = and-true (areasRight g) (stateRight g) (d .0) in
+    (record { areas = f .0; strip = f .1; order = b .0 }, d .1, c .1, b .1)
 
 -- what an answer of 0 says, call by call
 pub format-ready : (g : Given) (size : ℕ) → formatAnswer g size ≡ 0 → (areasRight g ≡ true) × (batchFits g size ≡ true)
@@ -77,15 +92,16 @@ format-ready g size e =
     (a .0, b .0)
 
 pub open-ready : (g : Given) (start size : ℕ) → openAnswer g start size ≡ 0
-    → Lent g × (headerFits g ≡ true) × (startFits start ≡ true) × (batchFits g size ≡ true)
+    → Lent g × (headerFits g ≡ true) × (startFits start ≡ true) × (batchFits g size ≡ true) × (newestRight g ≡ true)
 unfolding openAnswer
 open-ready g start size e =
-    let a = ask-passed (areasRight g && stateRight g) 0 _ e in
+    let a = ask-passed (areasRight g && stateRight g && newestRight g) 0 _ e in
     let b = ask-passed (headerFits g) 2 _ (a .1) in
     let c = ask-passed (startFits start) 9 _ (b .1) in
     let d = ask-passed (batchFits g size) 8 0 (c .1) in
-    let l = and-true (areasRight g) (stateRight g) (a .0) in
-    (record { areas = l .0; strip = l .1 }, b .0, c .0, d .0)
+    let l = and-true (areasRight g && stateRight g) (newestRight g) (a .0) in
+    let m = and-true (areasRight g) (stateRight g) (l .0) in
+    (record { areas = m .0; strip = m .1 }, b .0, c .0, d .0, l .1)
 
 pub begin-ready : (g : Given) → beginAnswer g ≡ 0 → InUse g × (writerKnown g ≡ true) × (writerOpen g ≡ false)
 unfolding beginAnswer
@@ -164,6 +180,7 @@ store-ready g size e =
 
 pub record CommitReady (g : Given) (size : ℕ) : Type 0 where
   pub inUse : InUse g
+  pub newest : newestRight g ≡ true
   pub writer : writerKnown g ≡ true
   pub opened : writerOpen g ≡ true
   pub roomy : commitLogs g ≡ true → room g ≡ true
@@ -172,12 +189,12 @@ pub record CommitReady (g : Given) (size : ℕ) : Type 0 where
 pub commit-ready : (g : Given) (size : ℕ) → commitAnswer g size ≡ 0 → CommitReady g size
 unfolding commitAnswer
 commit-ready g size e =
-    let a = state-passed g _ e in
-    let b = ask-passed (writerKnown g) 3 _ (a .1) in
+    let a = newest-passed g _ e in
+    let b = ask-passed (writerKnown g) 3 _ (a .2) in
     let d = ask-passed (writerOpen g) 6 _ (b .1) in
     let f = ask-passed (not (commitLogs g) || room g) 7 _ (d .1) in
     let h = ask-passed (batchFits g size) 8 0 (f .1) in
-    record { inUse = a .0; writer = b .0; opened = d .0; roomy = room-for (commitLogs g) (room g) (f .0); batch = h .0 }
+    record { inUse = a .0; newest = a .1; writer = b .0; opened = d .0; roomy = room-for (commitLogs g) (room g) (f .0); batch = h .0 }
 
 pub flush-ready : (g : Given) (size : ℕ) → flushAnswer g size ≡ 0 → InUse g × (keepsPromises (g .state) ≡ true) × (batchFits g size ≡ true)
 unfolding flushAnswer
@@ -208,31 +225,33 @@ settle-ready g size e =
     let b = ask-passed (batchFits g size) 8 0 (a .1) in
     (a .0, b .0)
 
-pub trim-ready : (g : Given) (start size : ℕ) → trimAnswer g start size ≡ 0 → InUse g × (startFits start ≡ true) × (batchFits g size ≡ true)
+pub trim-ready : (g : Given) (start size : ℕ) → trimAnswer g start size ≡ 0
+    → InUse g × (startFits start ≡ true) × (batchFits g size ≡ true) × (newestRight g ≡ true)
 unfolding trimAnswer
 trim-ready g start size e =
-    let a = state-passed g _ e in
-    let b = ask-passed (startFits start) 9 _ (a .1) in
+    let a = newest-passed g _ e in
+    let b = ask-passed (startFits start) 9 _ (a .2) in
     let c = ask-passed (batchFits g size) 8 0 (b .1) in
-    (a .0, b .0, c .0)
+    (a .0, b .0, c .0, a .1)
 
-pub read-ready : (g : Given) → readAnswer g ≡ 0 → InUse g × (blockRight g ≡ true) × (writerKnown g ≡ true) × (homeKnown g ≡ true)
+pub read-ready : (g : Given) → readAnswer g ≡ 0
+    → InUse g × (blockRight g ≡ true) × (writerKnown g ≡ true) × (homeKnown g ≡ true) × (newestRight g ≡ true)
 unfolding readAnswer
 read-ready g e =
-    let a = block-passed g _ e in
-    let b = ask-passed (writerKnown g) 3 _ (a .2) in
+    let a = both-passed g _ e in
+    let b = ask-passed (writerKnown g) 3 _ (a .3) in
     let c = ask-passed (homeKnown g) 4 0 (b .1) in
-    (a .0, a .1, b .0, c .0)
+    (a .0, a .2, b .0, c .0, a .1)
 
 -- "Question 9 answers 10 and comes before question 10": a start that does not fit answers 10, whatever the batch
-pub open-start-first : (g : Given) (start size : ℕ) → (areasRight g && stateRight g) ≡ true → headerFits g ≡ true → maxStart < start
+pub open-start-first : (g : Given) (start size : ℕ) → (areasRight g && stateRight g && newestRight g) ≡ true → headerFits g ≡ true → maxStart < start
     → openAnswer g start size ≡ 10
 unfolding openAnswer startFits
 open-start-first g start size a h l =
     ask-yes _ 1 _ a ∙ ask-yes (headerFits g) 3 _ h ∙ ask-no _ 10 _ (lt-leb start maxStart l)
 
-pub trim-start-first : (g : Given) (start size : ℕ) → (areasRight g && stateRight g) ≡ true → stripInOrder g ≡ true → maxStart < start
+pub trim-start-first : (g : Given) (start size : ℕ) → (areasRight g && stateRight g && newestRight g) ≡ true → stripInOrder g ≡ true → maxStart < start
     → trimAnswer g start size ≡ 10
-unfolding trimAnswer askState startFits
+unfolding trimAnswer askNewest startFits
 trim-start-first g start size a h l =
     ask-yes _ 1 _ a ∙ ask-yes (stripInOrder g) 2 _ h ∙ ask-no _ 10 _ (lt-leb start maxStart l)

@@ -15,9 +15,7 @@ same-length : tie.Need-same-length
 same-length c = search needs
 
 returns : tie.Need-returns
-returns c =
-    let r = c .refused .ensures in
-    read-refused _ _ _ _ _ (c .before .before .judge .ensures) (c .before .if1 .taken) (r .0) (r .1) (r .2)
+returns c = let r = c .refused .ensures in read-refused _ _ _ _ _ (c .before .before .judge .ensures) (c .before .if1 .taken) (r .0) (r .1) (r .2)
 
 show-requires : tie.Need-show-requires
 show-requires c κs = ready _ (sym (c .before .before .judge .ensures) ∙ c .before .if1 .left)
@@ -30,9 +28,7 @@ same-length-2 c = search needs
 
 returns-2 : tie.Need-returns-2
 returns-2 c =
-    let a = c .before .before .before in
-    let d = c .done .ensures in
-    read-done _ _ _ _ _ _ (a .before .before .before .judge .ensures) (a .before .before .if1 .left) (d .0) (d .1) (d .2) (a .show .ensures)
+    let d = c .done .ensures in read-done _ _ _ _ _ _ (c .before .before .before .before .before .before .judge .ensures) (c .before .before .before .before .before .if1 .left) (d .0) (d .1) (d .2) (c .before .before .before .show .ensures)
 
 pub read-spec : {M : Type 1} → statement M
 read-spec =

@@ -61,6 +61,9 @@ same-length-10 c = search needs
 same-length-11 : tie.Need-same-length-11
 same-length-11 c = search needs
 
+same-length-12 : tie.Need-same-length-12
+same-length-12 c = search needs
+
 returns-3 : tie.Need-returns-3
 returns-3 c = search (needs, does-commit)
 
@@ -69,9 +72,6 @@ enum-told c = search needs
 
 flush-requires : tie.Need-flush-requires
 flush-requires c κs = search needs
-
-same-length-12 : tie.Need-same-length-12
-same-length-12 c = search needs
 
 same-length-13 : tie.Need-same-length-13
 same-length-13 c = search needs
@@ -82,6 +82,9 @@ same-length-14 c = search needs
 same-length-15 : tie.Need-same-length-15
 same-length-15 c = search needs
 
+same-length-16 : tie.Need-same-length-16
+same-length-16 c = search needs
+
 returns-4 : tie.Need-returns-4
 returns-4 c = search (needs, does-flush)
 
@@ -90,9 +93,6 @@ enum-told-2 c = search needs
 
 settle-requires : tie.Need-settle-requires
 settle-requires c κs = search needs
-
-same-length-16 : tie.Need-same-length-16
-same-length-16 c = search needs
 
 same-length-17 : tie.Need-same-length-17
 same-length-17 c = search needs
@@ -103,6 +103,9 @@ same-length-18 c = search needs
 same-length-19 : tie.Need-same-length-19
 same-length-19 c = search needs
 
+same-length-20 : tie.Need-same-length-20
+same-length-20 c = search needs
+
 returns-5 : tie.Need-returns-5
 returns-5 c = search (needs, does-settle)
 
@@ -112,9 +115,6 @@ enum-told-3 c = search needs
 trim-requires : tie.Need-trim-requires
 trim-requires c κs = search needs
 
-same-length-20 : tie.Need-same-length-20
-same-length-20 c = search needs
-
 same-length-21 : tie.Need-same-length-21
 same-length-21 c = search needs
 
@@ -123,6 +123,12 @@ same-length-22 c = search needs
 
 same-length-23 : tie.Need-same-length-23
 same-length-23 c = search needs
+
+same-length-24 : tie.Need-same-length-24
+same-length-24 c = search needs
+
+same-length-25 : tie.Need-same-length-25
+same-length-25 c = search needs
 
 returns-6 : tie.Need-returns-6
 returns-6 c = search (needs, does-trim)
@@ -159,27 +165,29 @@ call-spec =
     same-length-9
     same-length-10
     same-length-11
+    same-length-12
     returns-3
     enum-told
     flush-requires
-    same-length-12
     same-length-13
     same-length-14
     same-length-15
+    same-length-16
     returns-4
     enum-told-2
     settle-requires
-    same-length-16
     same-length-17
     same-length-18
     same-length-19
+    same-length-20
     returns-5
     enum-told-3
     trim-requires
-    same-length-20
     same-length-21
     same-length-22
     same-length-23
+    same-length-24
+    same-length-25
     returns-6
     enum-told-4
     refused-requires

@@ -7,11 +7,16 @@ use Rattle.script.proofs.run_all.Statement.{statement}
 use Rattle.script.proofs.run_all.Tie as tie
 
 abbrev Inv-loop : tie.InvT-loop
-Inv-loop log₀ area₀ state₀ batch₀ script at₀ log area state batch at =
-    (at ≤ length script) × (length log ≡ length log₀) × (length area ≡ length area₀) × (length state ≡ length state₀) × (length batch ≡ length batch₀)
+Inv-loop log₀ area₀ state₀ newest₀ batch₀ script at₀ log area state newest batch at =
+    (at ≤ length script)
+    × (length log ≡ length log₀)
+    × (length area ≡ length area₀)
+    × (length state ≡ length state₀)
+    × (length newest ≡ length newest₀)
+    × (length batch ≡ length batch₀)
 
 abbrev μ-loop : tie.MeasureT-loop
-μ-loop log₀ area₀ state₀ batch₀ script at₀ log area state batch at = length script - at
+μ-loop log₀ area₀ state₀ newest₀ batch₀ script at₀ log area state newest batch at = length script - at
 
 loop-holds : tie.Need-loop-holds Inv-loop μ-loop
 loop-holds c = search needs
@@ -43,6 +48,9 @@ same-length-3 c = search needs
 same-length-4 : tie.Need-same-length-4 Inv-loop μ-loop
 same-length-4 c = search needs
 
+same-length-5 : tie.Need-same-length-5 Inv-loop μ-loop
+same-length-5 c = search needs
+
 returns : tie.Need-returns Inv-loop μ-loop
 returns c = search needs
 
@@ -55,9 +63,6 @@ loop-less c = search needs
 loop-again : tie.Need-loop-again Inv-loop μ-loop
 loop-again c = search needs
 
-same-length-5 : tie.Need-same-length-5 Inv-loop μ-loop
-same-length-5 c = search needs
-
 same-length-6 : tie.Need-same-length-6 Inv-loop μ-loop
 same-length-6 c = search needs
 
@@ -66,6 +71,12 @@ same-length-7 c = search needs
 
 same-length-8 : tie.Need-same-length-8 Inv-loop μ-loop
 same-length-8 c = search needs
+
+same-length-9 : tie.Need-same-length-9 Inv-loop μ-loop
+same-length-9 c = search needs
+
+same-length-10 : tie.Need-same-length-10 Inv-loop μ-loop
+same-length-10 c = search needs
 
 returns-2 : tie.Need-returns-2 Inv-loop μ-loop
 returns-2 c = search needs
@@ -86,12 +97,14 @@ run-all-spec =
     same-length-2
     same-length-3
     same-length-4
+    same-length-5
     returns
     add-at
     loop-less
     loop-again
-    same-length-5
     same-length-6
     same-length-7
     same-length-8
+    same-length-9
+    same-length-10
     returns-2)

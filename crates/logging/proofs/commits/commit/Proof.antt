@@ -1,6 +1,6 @@
 -- `logging::commit` meets its contract. Assumes nothing.
 use native.Mathlib.Omega.{arith}
-use Rattle.logging.proofs.CommitLaws.{known, held, ends-refused, ends-none, ends-held}
+use Rattle.logging.proofs.CommitLaws.{ends-refused, known, ends-none, held, ends-held}
 use borrow.Author.Needs.{needs}
 use Rattle.logging.proofs.commits.commit.Statement.{statement}
 use Rattle.logging.proofs.commits.commit.Tie as tie
@@ -20,26 +20,24 @@ same-length-2 c = search needs
 same-length-3 : tie.Need-same-length-3
 same-length-3 c = search needs
 
+same-length-4 : tie.Need-same-length-4
+same-length-4 c = search needs
+
 returns : tie.Need-returns
-returns c = ends-refused _ _ _ _ _ _ (c .before .before .commit-verdict .ensures) _ _ _ (c .before .if1 .taken) (c .refused .ensures)
+returns c = ends-refused _ _ _ _ _ _ _ (c .before .before .commit-verdict .ensures) _ _ _ (c .before .if1 .taken) (c .refused .ensures)
 
 writer-requires : tie.Need-writer-requires
-writer-requires c κs = let k = known _ _ _ _ _ _ (c .before .before .commit-verdict .ensures) (c .before .if1 .left) in (k .0, k .1)
+writer-requires c κs = let k = known _ _ _ _ _ _ _ (c .before .before .commit-verdict .ensures) (c .before .if1 .left) in (k .0, k .1)
 
 holds-requires : tie.Need-holds-requires
 holds-requires c κs = search needs
 
 commit-none-requires : tie.Need-commit-none-requires
 commit-none-requires c κs =
-    let c2 = c .before .before .before .before .before in
-    let c1 = c2 .before in
-    let k = known _ _ _ _ _ _ (c1 .commit-verdict .ensures) (c2 .if1 .left) in (k .0, k .1)
+    let k = known _ _ _ _ _ _ _ (c .before .before .before .before .before .before .commit-verdict .ensures) (c .before .before .before .before .before .if1 .left) in (k .0, k .1)
 
 done-requires : tie.Need-done-requires
 done-requires c κs = search needs
-
-same-length-4 : tie.Need-same-length-4
-same-length-4 c = search needs
 
 same-length-5 : tie.Need-same-length-5
 same-length-5 c = search needs
@@ -47,81 +45,55 @@ same-length-5 c = search needs
 same-length-6 : tie.Need-same-length-6
 same-length-6 c = search needs
 
-returns-2 : tie.Need-returns-2
-returns-2 c =
-    let c6 = c .before .before .before in
-    let c5 = c6 .before .before in
-    let c4 = c5 .before in
-    let c3 = c4 .before in
-    let c2 = c3 .before .before in
-    let c1 = c2 .before in
-    ends-none _ _ _ _ _ _ (c1 .commit-verdict .ensures) (c2 .if1 .left) _ _ _ _ _ _ (c3 .writer .ensures) (c4 .holds .ensures)
-    (c5 .if2 .taken) (c6 .commit-none .ensures) (c .done .ensures)
-
-state-requires : tie.Need-state-requires
-state-requires c κs =
-    let c2 = c .before .before .before .before .before in
-    let c1 = c2 .before in
-    known _ _ _ _ _ _ (c1 .commit-verdict .ensures) (c2 .if1 .left) .0
-
-next-position-requires : tie.Need-next-position-requires
-next-position-requires c κs =
-    let c5 = c .before .before in
-    let c4 = c5 .before in
-    let c3 = c4 .before in
-    let c2 = c3 .before .before in
-    let c1 = c2 .before in
-    let k = held _ _ _ _ _ _ (c1 .commit-verdict .ensures) (c2 .if1 .left) _ _ _ (c3 .writer .ensures) (c4 .holds .ensures) (c5 .if2 .left) (c .state2 .ensures) in
-    let m = k .0 in
-    omega (arith, m .high, m .room, m .few, m .filled)
-
-add-ticket : tie.Need-add-ticket
-add-ticket c =
-    let c6 = c .before in
-    let c5 = c6 .before .before in
-    let c4 = c5 .before in
-    let c3 = c4 .before in
-    let c2 = c3 .before .before in
-    let c1 = c2 .before in
-    let k = held _ _ _ _ _ _ (c1 .commit-verdict .ensures) (c2 .if1 .left) _ _ _ (c3 .writer .ensures) (c4 .holds .ensures) (c5 .if2 .left) (c6 .state2 .ensures) in
-    omega (arith, k .1 .high, c .next-position .ensures)
-
-commit-held-requires : tie.Need-commit-held-requires
-commit-held-requires c κs =
-    let c6 = c .before .before .before .before in
-    let c5 = c6 .before .before in
-    let c4 = c5 .before in
-    let c3 = c4 .before in
-    let c2 = c3 .before .before in
-    let c1 = c2 .before in
-    held _ _ _ _ _ _ (c1 .commit-verdict .ensures) (c2 .if1 .left) _ _ _ (c3 .writer .ensures) (c4 .holds .ensures)
-    (c5 .if2 .left) (c6 .state2 .ensures)
-
-done-requires-2 : tie.Need-done-requires-2
-done-requires-2 c κs = search needs
-
 same-length-7 : tie.Need-same-length-7
 same-length-7 c = search needs
 
 same-length-8 : tie.Need-same-length-8
 same-length-8 c = search needs
 
+returns-2 : tie.Need-returns-2
+returns-2 c =
+    ends-none _ _ _ _ _ _ _ (c .before .before .before .before .before .before .before .before .before .before .commit-verdict .ensures) (c .before .before .before .before .before .before .before .before .before .if1 .left) _ _ _ _ _ _ (c .before .before .before .before .before .before .before .writer .ensures) (c .before .before .before .before .before .before .holds .ensures) (c .before .before .before .before .before .if2 .taken)
+    (c .before .before .before .commit-none .ensures) (c .done .ensures)
+
+state-requires : tie.Need-state-requires
+state-requires c κs =
+    known _ _ _ _ _ _ _ (c .before .before .before .before .before .before .commit-verdict .ensures) (c .before .before .before .before .before .if1 .left) .0
+
+next-position-requires : tie.Need-next-position-requires
+next-position-requires c κs =
+    let k = held _ _ _ _ _ _ _ (c .before .before .before .before .before .before .before .commit-verdict .ensures) (c .before .before .before .before .before .before .if1 .left) _ _ _ (c .before .before .before .before .writer .ensures) (c .before .before .before .holds .ensures) (c .before .before .if2 .left) (c .state2 .ensures) in
+    let m = k .0 in
+    omega (arith, m .high, m .room, m .few, m .filled)
+
+add-ticket : tie.Need-add-ticket
+add-ticket c =
+    let k = held _ _ _ _ _ _ _ (c .before .before .before .before .before .before .before .before .commit-verdict .ensures) (c .before .before .before .before .before .before .before .if1 .left) _ _ _ (c .before .before .before .before .before .writer .ensures) (c .before .before .before .before .holds .ensures) (c .before .before .before .if2 .left) (c .before .state2 .ensures) in
+    omega (arith, k .1 .high, c .next-position .ensures)
+
+commit-held-requires : tie.Need-commit-held-requires
+commit-held-requires c κs =
+    held _ _ _ _ _ _ _ (c .before .before .before .before .before .before .before .before .before .before .before .before .commit-verdict .ensures) (c .before .before .before .before .before .before .before .before .before .before .before .if1 .left) _ _ _ (c .before .before .before .before .before .before .before .before .before .writer .ensures) (c .before .before .before .before .before .before .before .before .holds .ensures) (c .before .before .before .before .before .before .before .if2 .left) (c .before .before .before .before .before .state2 .ensures)
+
+done-requires-2 : tie.Need-done-requires-2
+done-requires-2 c κs = search needs
+
 same-length-9 : tie.Need-same-length-9
 same-length-9 c = search needs
 
+same-length-10 : tie.Need-same-length-10
+same-length-10 c = search needs
+
+same-length-11 : tie.Need-same-length-11
+same-length-11 c = search needs
+
+same-length-12 : tie.Need-same-length-12
+same-length-12 c = search needs
+
 returns-3 : tie.Need-returns-3
 returns-3 c =
-    let c8 = c .before .before .before .before .before .before .before in
-    let c7 = c8 .before .before .before .before in
-    let c6 = c7 .before in
-    let c5 = c6 .before .before in
-    let c4 = c5 .before in
-    let c3 = c4 .before in
-    let c2 = c3 .before .before in
-    let c1 = c2 .before in
-    ends-held _ _ _ _ _ _ (c1 .commit-verdict .ensures) (c2 .if1 .left) _ _ _ _ _ _ _ _ _ _ _ (c3 .writer .ensures)
-    (c4 .holds .ensures) (c5 .if2 .left) (c6 .state2 .ensures) (c7 .next-position .ensures) (c8 .commit-held .ensures)
-    (c .done2 .ensures)
+    ends-held _ _ _ _ _ _ _ (c .before .before .before .before .before .before .before .before .before .before .before .before .before .before .before .before .before .before .before .before .before .before .commit-verdict .ensures) (c .before .before .before .before .before .before .before .before .before .before .before .before .before .before .before .before .before .before .before .before .before .if1 .left) _ _ _ _ _ _ _ _ _ _ _ _ (c .before .before .before .before .before .before .before .before .before .before .before .before .before .before .before .before .before .before .before .writer .ensures) (c .before .before .before .before .before .before .before .before .before .before .before .before .before .before .before .before .before .before .holds .ensures) (c .before .before .before .before .before .before .before .before .before .before .before .before .before .before .before .before .before .if2 .left)
+    (c .before .before .before .before .before .before .before .before .before .before .before .before .before .before .before .state2 .ensures) (c .before .before .before .before .before .before .before .before .before .before .before .before .before .before .next-position .ensures) (c .before .before .before .before .before .before .before .before .before .commit-held .ensures) (c .done2 .ensures)
 
 pub commit-spec : {M : Type 1} → statement M
 commit-spec =
@@ -132,21 +104,24 @@ commit-spec =
     same-length
     same-length-2
     same-length-3
+    same-length-4
     returns
     writer-requires
     holds-requires
     commit-none-requires
     done-requires
-    same-length-4
     same-length-5
     same-length-6
+    same-length-7
+    same-length-8
     returns-2
     state-requires
     next-position-requires
     add-ticket
     commit-held-requires
     done-requires-2
-    same-length-7
-    same-length-8
     same-length-9
+    same-length-10
+    same-length-11
+    same-length-12
     returns-3)

@@ -1,6 +1,7 @@
 -- `logging::commit_held` meets its contract. Assumes nothing.
-use Rattle.logging.proofs.LogLaws.{committed-back}
 use borrow.Author.Needs.{needs}
+use native.Mathlib.Omega.{arith}
+use Rattle.logging.proofs.LogLaws.{stretch, committed-back}
 use Rattle.logging.proofs.commits.commit_held.Statement.{statement}
 use Rattle.logging.proofs.commits.commit_held.Tie as tie
 
@@ -9,6 +10,10 @@ close-held-requires c κs = search needs
 
 set-promise-requires : tie.Need-set-promise-requires
 set-promise-requires c κs = search needs
+
+keep-newest-requires : tie.Need-keep-newest-requires
+keep-newest-requires c κs =
+    (stretch _ _ _ _ _ _ _ (c .before .before .before .before .before .before .before .before .before .before .before .before .before .before .before .before .before .before .before .before .pre .0) (c .before .before .before .before .before .before .before .before .before .before .before .before .before .before .before .before .before .before .before .before .pre .1) (omega (arith, c .before .before .before .before .before .before .before .before .before .before .before .before .close-held .kept)), c .before .before .before .before .before .before .before .before .before .before .before .before .before .before .before .before .before .before .before .before .pre .2)
 
 same-length : tie.Need-same-length
 same-length c = search needs
@@ -19,12 +24,22 @@ same-length-2 c = search needs
 same-length-3 : tie.Need-same-length-3
 same-length-3 c = search needs
 
+same-length-4 : tie.Need-same-length-4
+same-length-4 c = search needs
+
 returns : tie.Need-returns
 returns c =
-    let c2 = c .before .before in
-    let c1 = c2 .before .before .before .before .before .before .before .before in
-    committed-back _ _ _ _ _ _ _ _ _ _ _ (c1 .close-held .ensures) (c2 .set-promise .ensures)
+    committed-back _ _ _ _ _ _ _ _ _ _ _ _ _ (c .before .before .before .before .before .before .before .before .before .before .before .before .before .before .before .close-held .ensures) (c .before .before .before .before .before .before .before .set-promise .ensures) (c .before .before .keep-newest .ensures)
 
 pub commit-held-spec : {M : Type 1} → statement M
 commit-held-spec =
-    tie.close (tie.spec close-held-requires set-promise-requires same-length same-length-2 same-length-3 returns)
+    tie.close
+    (tie.spec
+    close-held-requires
+    set-promise-requires
+    keep-newest-requires
+    same-length
+    same-length-2
+    same-length-3
+    same-length-4
+    returns)

@@ -1,6 +1,7 @@
 -- `reading::show` meets its contract. Assumes nothing.
-use native.Mathlib.Omega.{arith}
 use borrow.Author.Needs.{needs}
+use native.Mathlib.Omega.{arith}
+use Rattle.answers.proofs.NewestAnswers.{newest-fits}
 use Rattle.reading.proofs.ReadLaws.{searchable, own-first, shown-held, shown-home, shown-entry}
 use Rattle.reading.proofs.blocks.show.Statement.{statement}
 use Rattle.reading.proofs.blocks.show.Tie as tie
@@ -22,15 +23,14 @@ same-length c = search needs
 
 returns : tie.Need-returns
 returns c =
-    let a = c .before .before .before .before .before in
-    shown-held _ _ _ (a .before .before .state .ensures) (a .before .writer .ensures) _ _ (a .holds-home .ensures)
-    (c .before .before .before .before .if1 .taken) (c .before .before .show-held .ensures)
+    shown-held _ _ _ (c .before .before .before .before .before .before .before .state .ensures) (c .before .before .before .before .before .before .writer .ensures) _ _ (c .before .before .before .before .before .holds-home .ensures) (c .before .before .before .before .if1 .taken) (c .before .before .show-held .ensures)
 
 seen-requires : tie.Need-seen-requires
-seen-requires c κs =
-    let p = c .before .before .before .before .before .before .before .before .pre in
-    let s = c .before .before .before .state .ensures in
-    (searchable _ _ _ _ _ (p .0) s (p .3), own-first _ _ _ _ _ _ (p .0) s (c .before .before .writer .ensures) (p .2))
+seen-requires c κs = (
+  (searchable _ _ _ _ _ (c .before .before .before .before .before .before .before .before .before .pre .0) (c .before .before .before .state .ensures) (c .before .before .before .before .before .before .before .before .before .pre .4)),
+  newest-fits _ _ _ _ _ (c .before .before .before .before .before .before .before .before .before .pre .0) (c .before .before .before .state .ensures) (c .before .before .before .before .before .before .before .before .before .pre .2),
+  own-first _ _ _ _ _ _ (c .before .before .before .before .before .before .before .before .before .pre .0) (c .before .before .before .state .ensures) (c .before .before .writer .ensures) (c .before .before .before .before .before .before .before .before .before .pre .3),
+)
 
 get-home-requires : tie.Need-get-home-requires
 get-home-requires c κs = search needs
@@ -40,10 +40,7 @@ same-length-2 c = search needs
 
 returns-2 : tie.Need-returns-2
 returns-2 c =
-    let a = c .before .before .before .before .before .before .before in
-    let p = a .before .before .before .before .before .before .before .pre in
-    shown-home _ _ _ (a .before .before .state .ensures) (a .before .writer .ensures) _ _ _ (p .0 .order) (a .holds-home .ensures)
-    (c .before .before .before .before .before .before .if1 .left) (c .before .before .before .before .before .seen .ensures)
+    shown-home _ _ _ (c .before .before .before .before .before .before .before .before .before .state .ensures) (c .before .before .before .before .before .before .before .before .writer .ensures) _ _ _ (c .before .before .before .before .before .before .before .before .before .before .before .before .before .before .before .pre .0 .order) (c .before .before .before .before .before .before .before .holds-home .ensures) (c .before .before .before .before .before .before .if1 .left) (c .before .before .before .before .before .seen .ensures)
     (c .before .before .before .before .if2 .taken) (c .before .before .get-home .ensures)
 
 sub-show-entry : tie.Need-sub-show-entry
@@ -51,19 +48,14 @@ sub-show-entry c = search needs
 
 show-entry-requires : tie.Need-show-entry-requires
 show-entry-requires c κs =
-    let p = c .before .before .before .before .before .before .before .before .before .before .before .pre in
-    let s = searchable _ _ _ _ _ (p .0) (c .before .before .before .before .before .before .state .ensures) (p .3) in
-    omega (arith, s)
+    let s = (searchable _ _ _ _ _ (c .before .before .before .before .before .before .before .before .before .before .before .before .pre .0) (c .before .before .before .before .before .before .state .ensures) (c .before .before .before .before .before .before .before .before .before .before .before .before .pre .4)) in omega (arith, s)
 
 same-length-3 : tie.Need-same-length-3
 same-length-3 c = search needs
 
 returns-3 : tie.Need-returns-3
 returns-3 c =
-    let a = c .before .before .before .before .before .before .before in
-    let p = a .before .before .before .before .before .before .before .pre in
-    shown-entry _ _ _ (a .before .before .state .ensures) (a .before .writer .ensures) _ _ _ (p .0 .order) (a .holds-home .ensures)
-    (c .before .before .before .before .before .before .if1 .left) (c .before .before .before .before .before .seen .ensures)
+    shown-entry _ _ _ (c .before .before .before .before .before .before .before .before .before .state .ensures) (c .before .before .before .before .before .before .before .before .writer .ensures) _ _ _ (c .before .before .before .before .before .before .before .before .before .before .before .before .before .before .before .pre .0 .order) (c .before .before .before .before .before .before .before .holds-home .ensures) (c .before .before .before .before .before .before .if1 .left) (c .before .before .before .before .before .seen .ensures)
     (c .before .before .before .before .if2 .left) (c .before .before .show-entry .ensures)
 
 pub show-spec : {M : Type 1} → statement M

@@ -1,5 +1,6 @@
 -- `trimming::move_start` meets its contract. Assumes nothing.
 use borrow.Author.Needs.{needs}
+use native.Mathlib.Omega.{arith}
 use Rattle.trimming.proofs.moves.move_start.Statement.{statement}
 use Rattle.trimming.proofs.moves.move_start.Tie as tie
 
@@ -12,6 +13,12 @@ put-header-requires c κs = search needs
 move-strip-requires : tie.Need-move-strip-requires
 move-strip-requires c κs = search needs
 
+mul-forget : tie.Need-mul-forget
+mul-forget c = omega arith
+
+forget-requires : tie.Need-forget-requires
+forget-requires c κs = omega arith
+
 same-length : tie.Need-same-length
 same-length c = search needs
 
@@ -21,8 +28,12 @@ same-length-2 c = search needs
 same-length-3 : tie.Need-same-length-3
 same-length-3 c = search needs
 
+same-length-4 : tie.Need-same-length-4
+same-length-4 c = search needs
+
 returns : tie.Need-returns
-returns c = search needs
+returns c =
+    (c .before .before .before .before .before .before .before .before .before .before .put-header .ensures, c .before .before .before .before .before .before .move-strip .ensures, c .before .before .forget .ensures, c .before .before .before .before .before .before .before .before .before .before .before .before .before .before .write-header .ensures)
 
 pub move-start-spec : {M : Type 1} → statement M
 move-start-spec =
@@ -31,7 +42,10 @@ move-start-spec =
     write-header-requires
     put-header-requires
     move-strip-requires
+    mul-forget
+    forget-requires
     same-length
     same-length-2
     same-length-3
+    same-length-4
     returns)
