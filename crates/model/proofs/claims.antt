@@ -8,6 +8,8 @@ pub mod YieldsAll
 pub mod DemandTwo
 pub mod StoreLaws
 pub mod StoreAnswers
+pub mod CallAnswers
+pub mod RoundFollows
 pub mod StoreFollows
 pub mod LedgerLaws
 pub mod LedgerSteps

@@ -2,6 +2,7 @@
 pub mod CrashLaws
 pub mod SubmitLaws
 pub mod HomeLaws
+pub mod MixLaws
 pub mod Trace
 pub mod WalkLaws
 pub mod TraceLaws
@@ -9,4 +10,5 @@ pub mod WholeLaws
 pub mod LinkLaws
 pub mod CountLaws
 pub mod ReplayLaws
+pub mod RestoreLaws
 pub mod Survivors

@@ -10,20 +10,21 @@ use lib.ListN.{length}
 use lib.Dec.{leb}
 use borrow.Author.Tests.{leb-true}
 use Rattle.model.specs.Bytes.{puts}
-use Rattle.model.specs.Layout.{groupsIn, homesIn, headerStart, header}
+use Rattle.model.specs.Layout.{groupsIn, homesIn, headerStart, header, homeAt}
 use Rattle.model.specs.Batch.{Record, KW, FN}
 use Rattle.model.specs.State.{State, stateOf, nextPosition, Writer, writerOf, freshState, idle}
 use Rattle.model.specs.Effects.{Given, Effect, openEffect, openTags, openStart, homeWrites}
 use Rattle.model.specs.Questions.{openAnswer, startFits}
 use Rattle.model.specs.Crash.{Memory, fences, persist, persistChosen, fates}
 use Rattle.model.specs.Book.{Commit, Book, homesAfter, writeCommits, owedAll, withCommits, fateAt, run}
-use Rattle.model.specs.Demands.{closedBelow, groupWrites}
+use Rattle.model.specs.Demands.{closedBelow, settledFor, groupWrites}
 use Rattle.model.specs.History.{Call, opening, World, loaded, feed, isConfirm, feedChange}
 use Rattle.model.proofs.bytes.LayoutLaws.{groups-in, homes-in}
 use Rattle.model.proofs.strip.OrderLaws.{in-order, length-fresh, state-fresh, writer-fresh, in-order-fresh}
 use Rattle.model.proofs.strip.QuestionLaws.{open-ready}
-use Rattle.model.proofs.trace.CrashLaws.{writeRecords, submits, write-append, write-FN, fences-append, groupWrites-append, groupWrites-homes}
+use Rattle.model.proofs.trace.CrashLaws.{writeRecords, submits, write-append, write-nil, write-FN, fences-append, groupWrites-append, groupWrites-homes}
 use Rattle.model.proofs.trace.HomeLaws.{log-homes, log-homes-wrote, log-header, area-header, log-header-wrote, area-header-wrote, fences-opening, groupWrites-opening, opening-none, opening-none-fates, opening-one, opening-one-fates}
+use Rattle.model.proofs.trace.MixLaws.{groupPart, homePart}
 use Rattle.model.proofs.trace.Trace.{Ev, hist}
 use Rattle.model.proofs.steps.DoneLaws.{after}
 use Rattle.model.proofs.invariant.OpenLaws.{hs, ts, tags, newStart, newHeader, restored-size, closed-old, early-chosen, early-written, all-written, new-start, new-right, new-size, new-numbers, late-begin}
@@ -157,7 +158,7 @@ module _ (G D : ℕ) (z : Sizes G D) (w : World) (c : Closed G D w) where
 
   -- the strip's numbers
   numbers : stateOf (freshState G D b)
-      ≡ record { groups = G; homes = D; start = b; next = b; filled = 0; settled = 7 * b; fenced = 7 * b; durable = 7 * b; last = 0 }
+      ≡ record { groups = G; homes = D; start = b; next = b; filled = 0; settled = 7 * b; fenced = 7 * b; durable = 7 * b; last = 0; round = 0; cursor = 0 }
   numbers = state-fresh G D b (omega arith) (omega arith) (omega (arith, o .start))
 
   wrote : groupWrites fenced ≡ b - b
@@ -192,22 +193,35 @@ module _ (G D : ℕ) (z : Sizes G D) (w : World) (c : Closed G D w) where
           tasks = λ v l. rw (writer-fresh G D b v) (inl ((unfold idle in refl), c .tasks v));
           rows = c .rows ∙ omega (arith, ap (λ (s : State). s .next) numbers);
           filled = c .filled ∙ sym (ap (λ (s : State). s .filled) numbers);
-          settledHomes = homes-same ∙ sym (ap (homesAfter D) (closed-old D (stateOf (freshState G D b) .settled) old past));
-          settledGroup = (b, ap (λ (s : State). s .settled) numbers);
+          settledHomes = λ h l.
+              ap (λ (a : List ℕ). homeAt a h) (homes-same ∙ sym (ap (homesAfter D) (closed-old D (settledFor (stateOf (freshState G D b)) h) old past)));
         };
         submitted = record {
           fenced = fenced;
           group = b;
           count = 0;
           content = λ n. [];
-          split = rw (c .pending) (unfold submits in (sym whole-batch ∙ sym (append-nil (fenced ++ (FN ∷ [])))));
+          tail = [];
+          done = [];
+          split = rw (c .pending) (sym whole-batch ∙ sym (append-nil (fenced ++ (FN ∷ []))));
+          mixed = tt;
+          groupsOf = unfold submits groupPart in refl;
+          homesOf = unfold homeWrites homePart in refl;
+          behind = λ h i. absurd i;
+          area = ap (λ (m : Memory). m .area) (write-nil (writeRecords fenced (w .memory))) ∙ written-area;
           atFence = ap (λ (s : State). s .fenced) numbers;
           next = omega (arith, ap (λ (s : State). s .next) numbers);
           low = omega arith;
           written = wrote;
           contents = λ n l k. absurd (omega arith);
           logSize = rw written-log (new-size G D z m X o);
-          area = written-area;
+          areaSize = rw written-area (restored-size G D z m X o);
+          homes = λ h l. (
+            7 * b,
+            omega (arith, ap (λ (s : State). s .settled) numbers),
+            omega arith,
+            ap (λ (a : List ℕ). homeAt a h) (written-area ∙ homes-same ∙ sym (ap (homesAfter D) (closed-old D (7 * b) old past))),
+          );
           header = rw written-log (new-right G D z m X o);
           start = rw written-log (new-start G D z m X o ∙ sym (ap (λ (s : State). s .start) numbers));
           numbers = rw written-log (new-numbers G D z m X o);

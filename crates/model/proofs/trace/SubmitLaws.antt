@@ -12,7 +12,7 @@ use lib.ListN.{length, length-append}
 use Rattle.model.specs.Bytes.{puts}
 use Rattle.model.specs.Layout.{headerStart, headerRight, groupOffset, groupAt}
 use Rattle.model.specs.Batch.{GW}
-use Rattle.model.specs.Crash.{Memory, toLog, pieces, writeIf, writeChosen, isFence, persistChosen, groupFate, fatesChosen}
+use Rattle.model.specs.Crash.{Memory, toLog, pieces, write, writeEach, writeIf, writeChosen, isFence, persistChosen, groupFate, fatesChosen}
 use Rattle.model.specs.Book.{fateAt}
 use Rattle.model.proofs.bytes.ByteLaws.{length-puts}
 use Rattle.model.proofs.bytes.LayoutLaws.{header-start-past, header-right-past, group-fits, group-same, group-other, ring}
@@ -42,6 +42,10 @@ chosen-group chosen i slot group m = refl
 fate-group : (chosen : ℕ → Bool) (i slot : ℕ) (group : List ℕ) → fatesChosen chosen i (GW slot group ∷ []) ≡ (λ k. chosen i) ∷ []
 unfolding fatesChosen isFence groupFate
 fate-group chosen i slot group = refl
+
+pub area-group : (slot : ℕ) (group : List ℕ) (m : Memory) → writeRecords (GW slot group ∷ []) m .area ≡ m .area
+unfolding writeRecords pieces writeEach write
+area-group slot group m = refl
 
 module _ (chosen : ℕ → Bool) (i G n₀ : ℕ) (bytes : ℕ → List ℕ) where
   -- the last of them
