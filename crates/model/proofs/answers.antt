@@ -4,3 +4,4 @@ pub mod Computing
 pub mod FormatHolds
 pub mod TrialsHold
 pub mod HistoryHolds
+pub mod RoundsGo

@@ -19,3 +19,4 @@ pub mod FactLaws
 pub mod Ledger
 pub mod PromisesHold
 pub mod WitnessHolds
+pub mod RoundsHold

@@ -17,4 +17,5 @@ pub mod Places
 pub mod Trials
 pub mod Witnesses
 pub mod Promises
+pub mod Rounds
 pub mod Facts

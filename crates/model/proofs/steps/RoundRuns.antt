@@ -382,7 +382,7 @@ module _ (G D : ℕ) (z : Sizes G D) (w : World) (r : Running G D w) (under : 1 
     pub cursor-upto : nextCursor ≤ D
     cursor-upto = let l = marked-below isDue D (getD remaining (k - 1) 0) last-in in omega arith
 
-    cursor-from : st .cursor < nextCursor
+    pub cursor-from : st .cursor < nextCursor
     cursor-from = let l = step-ahead D (omega arith) (getD remaining (k - 1) 0) last-in in omega arith
 
     pub step-now : take k remaining ≡ marked isDue nextCursor
