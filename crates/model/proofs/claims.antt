@@ -19,4 +19,6 @@ pub mod FactLaws
 pub mod Ledger
 pub mod PromisesHold
 pub mod WitnessHolds
+pub mod RoundCounts
+pub mod RoundSteps
 pub mod RoundsHold

@@ -47,7 +47,7 @@ past-snoc (d ∷ cs) c p l = (p .0, past-snoc cs c (p .1) l)
 
 -- ---- what the book's steps do to its commits
 
-store-commits : (b : Book) (v home : ℕ) (block : List ℕ) (t : Task) → storeTask b v home block t .commits ≡ b .commits
+pub store-commits : (b : Book) (v home : ℕ) (block : List ℕ) (t : Task) → storeTask b v home block t .commits ≡ b .commits
 unfolding storeTask withTask
 store-commits b v home block idle = refl
 store-commits b v home block (opened es none) = refl
@@ -59,7 +59,7 @@ store-commits b v home block (opened es (some h)) = go (eqb (h .home) home)
     go true = refl
     go false = filled-commits b
 
-flush-commits : (b : Book) → book.flush b .commits ≡ b .commits
+pub flush-commits : (b : Book) → book.flush b .commits ≡ b .commits
 unfolding book.flush submit
 flush-commits b = go (eqb (b .filled) 0)
   where
