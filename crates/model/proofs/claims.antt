@@ -22,4 +22,6 @@ pub mod AsideHolds
 pub mod Ledger
 pub mod PromisesHold
 pub mod WitnessHolds
+pub mod RoundCounts
+pub mod RoundSteps
 pub mod RoundsHold

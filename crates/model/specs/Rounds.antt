@@ -13,21 +13,26 @@ use Rattle.model.specs.Effects.{roundHomes}
 use Rattle.model.specs.Calls.{Outcome}
 use Rattle.model.specs.Book.{homesAfter}
 use Rattle.model.specs.Demands.{closedBelow, SettledHomes}
-use Rattle.model.specs.History.{Service, settles, roundBegins, roundSteps, trims, reads, Call, opening, confirm, change, service, begin, store, commit, flush, settle, beginRound, stepRound, trim, read, Event, call, crash, World, emptyStore, lent, ends, step, Always}
-use Rattle.model.specs.Trials.{room, fill, lane, positions}
+use Rattle.model.specs.History.{Service, settles, roundBegins, roundSteps, trims, reads, Call, opening, confirm, change, service, begin, store, commit, flush, settle, beginRound, stepRound, trim, read, Event, call, crash, World, emptyStore, lent, ends, feed, step, Always}
+use Rattle.model.specs.Store.{Store, toStep, afterDone}
+use Rattle.model.specs.Trials.{room, lane, fill, positions}
 use Rattle.model.specs.Witnesses.{calls, reopen, plain, goesSo}
 
 -- the homes that the next step of the round under way finds
 unfoldable pub homesLeft : World → List ℕ
 homesLeft w = roundHomes (lent w [] [] 0 0)
 
--- A step that leaves homes: "settled" stays, and so do F and the round; k homes fewer remain.
+unfoldable pub homesLeftBy : Outcome → List ℕ
+homesLeftBy o = roundHomes (record { state = o .state; log = o .log; area = o .area; block = []; batch = []; writer = 0; home = 0 })
+
+-- A step that leaves homes: "settled" stays, and so do F and the round; k homes fewer remain. So a round ends with the step that finds at most k.
 pub record Moved (w : World) (k : ℕ) (o : Outcome) : Type 0 where
   pub settled : stateOf (o .state) .settled ≡ stateOf (w .state) .settled
   pub fenced : stateOf (o .state) .fenced ≡ stateOf (w .state) .fenced
   pub round : stateOf (o .state) .round ≡ stateOf (w .state) .round
   pub cursor : stateOf (w .state) .cursor < stateOf (o .state) .cursor
   pub many : k < length (homesLeft w)
+  pub fewer : length (homesLeftBy o) + k ≡ length (homesLeft w)
 
 -- "the last step, the one after which no home remains (the first if none is touched), writes FN and only then raises the settled position to the
 -- F fixed": the data copy is then what the commits below it say, as one settle at the round's beginning would have left it.
@@ -67,6 +72,29 @@ RoundsThroughout w (e ∷ es) =
 
 abbrev pub RoundsKept : Type 0
 RoundsKept = Always RoundsThroughout
+
+-- Between two steps no call makes more homes remain: with `fewer` above, a round whose first step finds n homes ends after at most n ÷ k steps, rounded
+-- up, at least 1. (Of the abstract store, whose replies all histories' answers are; a ticket lies above the fixed F, which is at most the next position.)
+unfoldable pub mayCome : Call → Bool
+mayCome (opening state newest batch) = false
+mayCome confirm = true
+mayCome (change c) = true
+mayCome (service (settles batch)) = true
+mayCome (service roundBegins) = false
+mayCome (service (roundSteps homes batch)) = false
+mayCome (service (trims batch)) = true
+mayCome (service (reads writer home block)) = true
+
+abbrev pub TicketAbove : Store → Call → ℕ → Type 0
+TicketAbove s c figure = (feed (s .book) c figure .commits ≡ s .book .commits) ⊎ (s .round ≤ figure)
+
+abbrev pub StepsShrink : Type 0
+StepsShrink =
+    (s : Store) (c : Call) (figure : ℕ) →
+    1 ≤ s .round →
+    mayCome c ≡ true →
+    TicketAbove s c figure →
+    length (toStep (afterDone s c figure)) ≤ length (toStep s)
 
 -- Two rounds of a store with four groups and eight homes. In the first a commit, a flush and a trim come between the steps; each of the four ways to
 -- be refused with 21 is taken. The second is cut, and the opening, though lent a strip that says a round is under way, ends it.

@@ -17,18 +17,20 @@ use Rattle.model.specs.Calls.{Outcome, done, outcome, sizeOf, settleCall
 use Rattle.model.specs.Book.{homesAfter}
 use Rattle.model.specs.Demands.{closedBelow, SettledHomes}
 use Rattle.model.specs.History.{Service, settles, roundBegins, roundSteps, trims, reads, Call, opening, confirm, change, service, settle, beginRound, stepRound, Event, call, crash, World, emptyStore, lent, loaded, ends, serviceEnds, isOpening, step, Allowed, AllAllowed}
-use Rattle.model.specs.Rounds.{homesLeft, Moved, Ended, ServiceRaises, Raises, RaisesAt, RoundsThroughout, RoundsKept}
+use Rattle.model.specs.Rounds.{homesLeft, homesLeftBy, Moved, Ended, ServiceRaises, Raises, RaisesAt, RoundsThroughout, RoundsKept}
 use Rattle.model.proofs.strip.OrderLaws.{state-fresh}
+use Rattle.model.proofs.strip.StateLaws.{withCursor}
 use Rattle.model.proofs.strip.QuestionLaws.{settle-ready, begin-round-ready, step-round-ready}
 use Rattle.model.proofs.invariant.Invariant.{Sizes, Closed, Running, Invariant}
 use Rattle.model.proofs.invariant.OpenLaws.{newStart}
 use Rattle.model.proofs.invariant.SettledLaws.{settled-none}
 use Rattle.model.proofs.steps.DoneLaws.{outcome-code}
-use Rattle.model.proofs.steps.RoundRuns.{lent-out, lent-within, begun-numbers, remaining, remaining-are, stepped, step-effect, endedNumbers, ended-numbers, nextCursor, cursor-from, moved-numbers, step-yields}
+use Rattle.model.proofs.steps.RoundRuns.{lent-out, lent-within, begun-numbers, remaining, remaining-are, stepped, step-effect, endedNumbers, ended-numbers, broughtUp, step-now, step-size, nextCursor, cursor-from, cursor-upto, moved-numbers, step-yields}
 use Rattle.model.proofs.steps.OpenStep.{open-effect}
 use Rattle.model.proofs.steps.FormatRuns.{from-format}
 use Rattle.model.proofs.steps.Beginning.{format-closed}
 use Rattle.model.proofs.claims.DemandThree.{keeps}
+use Rattle.model.proofs.claims.RoundCounts.{homes-fewer}
 use Rattle.model.proofs.claims.Yields.{ends-done, step-round-yields}
 
 module _ (G D : ℕ) (z : Sizes G D) (w : World) (r : Running G D w) where
@@ -86,6 +88,31 @@ module _ (G D : ℕ) (z : Sizes G D) (w : World) (r : Running G D w) where
         (ends-done (stepRoundCall g k) g (stepRoundAnswer g k (sizeOf (stepRoundEffect g k))) (stepRoundEffect g k) refl h)
         ∙ (unfold done in ap (λ (e : Effect). e .state) (step-effect G D z w r under k batch))
 
+    log-is : ends w (stepRound k batch) .log ≡ w .log
+    unfolding ends serviceEnds stepRoundCall
+    log-is =
+        ap (λ (x : Outcome). x .log)
+        (ends-done (stepRoundCall g k) g (stepRoundAnswer g k (sizeOf (stepRoundEffect g k))) (stepRoundEffect g k) refl h)
+        ∙ (unfold done in ap (λ (e : Effect). e .log) (step-effect G D z w r under k batch))
+
+    area-is : ends w (stepRound k batch) .area ≡ broughtUp G D z w r under (take k rest)
+    unfolding ends serviceEnds stepRoundCall
+    area-is =
+        ap (λ (x : Outcome). x .area)
+        (ends-done (stepRoundCall g k) g (stepRoundAnswer g k (sizeOf (stepRoundEffect g k))) (stepRoundEffect g k) refl h)
+        ∙ (unfold done in ap (λ (e : Effect). e .area) (step-effect G D z w r under k batch))
+
+    fewer-left : (m : k < length rest)
+        → stateOf (ends w (stepRound k batch) .state) ≡ withCursor (stateOf (w .state)) (nextCursor G D z w r under k one m)
+        → leb (length rest) k ≡ false
+        → length (homesLeftBy (ends w (stepRound k batch))) + k ≡ length (homesLeft w)
+    unfolding homesLeftBy
+    fewer-left m q e =
+        rw (left-is, log-is)
+        (homes-fewer G D z w r under k one m (ends w (stepRound k batch) .state) (ends w (stepRound k batch) .area) q
+        (ap length (area-is ∙ ap (broughtUp G D z w r under) (step-now G D z w r under k one m))
+        ∙ step-size G D z w r under (nextCursor G D z w r under k one m) (cursor-upto G D z w r under k one m) ∙ sym (r .copies .areaSize)))
+
     step-raises : Moved w k (ends w (stepRound k batch)) ⊎ Ended w k (ends w (stepRound k batch))
     step-raises = go (leb (length rest) k) refl
       where
@@ -117,6 +144,7 @@ module _ (G D : ℕ) (z : Sizes G D) (w : World) (r : Running G D w) where
               round = ap (λ (x : State). x .round) q;
               cursor = omega (arith, ap (λ (x : State). x .cursor) q, cursor-from G D z w r under k one m);
               many = rw left-is m;
+              fewer = fewer-left m (numbers false e ∙ moved-numbers G D z w r under k one m) e;
             })
 
   service-raises : (c : Service) → ends w (service c) .code ≡ 0 → ServiceRaises w c (ends w (service c))

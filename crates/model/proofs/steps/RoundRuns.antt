@@ -153,7 +153,7 @@ module _ (G D : ℕ) (z : Sizes G D) (w : World) (r : Running G D w) (under : 1 
   abbrev F : ℕ
   F = fixedIn (stateOf (w .state))
 
-  abbrev ts : List (List ℕ)
+  abbrev pub ts : List (List ℕ)
   ts = closingBelow (fixedIn (stateOf (w .state))) (keptIn (r .b) (r .tr) w)
 
   abbrev pub isDue : ℕ → Bool
@@ -175,7 +175,7 @@ module _ (G D : ℕ) (z : Sizes G D) (w : World) (r : Running G D w) (under : 1 
   unfolding nextPosition
   fixed-inside = omega (arith, fixed-high, c .order .fenced-next)
 
-  round-is : (batch : List ℕ) → roundTransactions (lent w [] batch 0 0) ≡ ts
+  pub round-is : (batch : List ℕ) → roundTransactions (lent w [] batch 0 0) ≡ ts
   unfolding roundTransactions lent
   round-is batch =
       rw (lent-tags G D (r .b) (r .tr) w z c [] batch 0 0, lent-base G D (r .b) (r .tr) w z c [] batch 0 0)
