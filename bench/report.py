@@ -61,6 +61,12 @@ def peer_table(rows):
     return table(head, lines)
 
 
+def read_table(rows):
+    head = ["store", "median ns", "best ns", "best ÷ Kagutin's best"]
+    lines = [[row["store"], number(row["median_ns"]), number(row["best_ns"]), f"{float(row['ratio_of_best']):.2f}"] for row in rows]
+    return table(head, lines)
+
+
 def main():
     if len(sys.argv) != 4:
         sys.exit(__doc__)
@@ -74,7 +80,8 @@ def main():
     if os.path.exists(peers):
         stores = rows_of(peers)
         tables["single"] = peer_table([row for row in stores if row["together"] == "1"])
-        tables["eight"] = peer_table([row for row in stores if row["together"] != "1"])
+        tables["eight"] = peer_table([row for row in stores if row["together"] == "8"])
+        tables["reads"] = read_table([row for row in stores if row["together"] == "0"])
     with open(document) as file:
         text = file.read()
     for name, body in tables.items():

@@ -57,10 +57,6 @@ struct array_u8_2 {
     uint8_t at[2];
 };
 
-struct array_u64_7 {
-    uint64_t at[7];
-};
-
 struct model__Tag {
     uint8_t tag;
     uint64_t u64_0;
@@ -73,6 +69,10 @@ struct recovery__opening__Shape {
     uint64_t groups;
     uint64_t homes;
     uint64_t start;
+};
+
+struct array_u64_7 {
+    uint64_t at[7];
 };
 
 struct scan__commits__Progress {
@@ -964,21 +964,6 @@ static inline bool scan__groups__group_valid(struct slice_u8 group, uint64_t gro
     return n < (start + groups);
 }
 
-/* The words of a group's seven tags, read in a row. */
-static inline struct array_u64_7 scan__groups__tag_words(struct slice_u8 group)
-{
-    struct array_u64_7 t2;
-    uint64_t t3;
-
-    memset(&t2, 0, sizeof t2);
-    t3 = 0u;
-    while (t3 < 7u) {
-        t2.at[(size_t)t3] = load_8(group.ptr + (size_t)(8u + (8u * t3)));
-        t3 = t3 + 1u;
-    }
-    return t2;
-}
-
 /* How many positions from `position` on lie before another. */
 static inline uint64_t scan__commits__skipped(uint64_t position, uint64_t first)
 {
@@ -1024,22 +1009,29 @@ static inline struct model__Tag codec__tags__read_tag(uint64_t word, uint64_t po
     return (struct model__Tag){.tag = 2u, .u64_0 = t5, .u64_1 = t7, .u64_2 = (word >> 27u) & 8191u, .u64_3 = t8};
 }
 
-/* Keeps a position if the word of its tag is an entry of the transaction with first position `first`. Its distance back is
-   compared before all else. */
-static inline void positions__commits__keep_entry(struct slice_mut_u8 newest, uint64_t word, uint64_t position, uint64_t base,
-        uint64_t homes, uint64_t first)
+/* What tag `k` of a group says at a position of a log that starts at position `base` and has `homes` homes. */
+static inline struct model__Tag scan__groups__tag_in(struct slice_u8 group, uint64_t k, uint64_t position, uint64_t base,
+        uint64_t homes)
 {
-    struct model__Tag t12;
+    return codec__tags__read_tag(load_8(group.ptr + (size_t)(8u + (8u * k))), position, base, homes);
+}
 
-    if (((word >> 14u) & 8191u) != (position - first)) {
+/* Keeps a position if tag `k` of its group is an entry of the transaction with first position `first`. Its distance back is
+   compared before all else. */
+static inline void positions__commits__keep_entry(struct slice_mut_u8 newest, struct slice_u8 group, uint64_t k,
+        uint64_t position, uint64_t base, uint64_t homes, uint64_t first)
+{
+    struct model__Tag t13;
+
+    if (((load_8(group.ptr + (size_t)(8u + (8u * k))) >> 14u) & 8191u) != (position - first)) {
         return;
     }
-    t12 = codec__tags__read_tag(word, position, base, homes);
-    if (t12.tag == 0u) {
-    } else if (t12.tag == 1u) {
-        store_8(newest.ptr + (size_t)(8u * t12.u64_0), position);
+    t13 = scan__groups__tag_in(group, k, position, base, homes);
+    if (t13.tag == 0u) {
+    } else if (t13.tag == 1u) {
+        store_8(newest.ptr + (size_t)(8u * t13.u64_0), position);
     } else {
-        store_8(newest.ptr + (size_t)(8u * t12.u64_0), position);
+        store_8(newest.ptr + (size_t)(8u * t13.u64_0), position);
     }
 }
 
@@ -1048,23 +1040,20 @@ static inline void positions__commits__keep_entry(struct slice_mut_u8 newest, ui
 static inline void positions__commits__keep_group(struct slice_u8 group, uint64_t groups, uint64_t homes, uint64_t start,
         uint64_t n, uint64_t m, uint64_t first, struct slice_mut_u8 newest)
 {
-    struct array_u64_7 t9, t15;
-    uint64_t t10, t11, t12;
-    bool t13;
+    uint64_t t9, t10, t11;
+    bool t12;
 
-    t13 = scan__groups__group_valid(group, groups, start, n);
-    if (!t13) {
+    t12 = scan__groups__group_valid(group, groups, start, n);
+    if (!t12) {
         return;
     }
-    t15 = scan__groups__tag_words(group);
-    t9 = t15;
-    t10 = 7u * start;
-    t11 = scan__commits__skipped(7u * n, first);
-    t12 = (7u * n) + t11;
-    while (t11 < m) {
-        positions__commits__keep_entry(newest, t9.at[(size_t)t11], t12, t10, homes, first);
-        t12 = t12 + 1u;
+    t9 = 7u * start;
+    t10 = scan__commits__skipped(7u * n, first);
+    t11 = (7u * n) + t10;
+    while (t10 < m) {
+        positions__commits__keep_entry(newest, group, t10, t11, t9, homes, first);
         t11 = t11 + 1u;
+        t10 = t10 + 1u;
     }
 }
 
@@ -1579,6 +1568,21 @@ static inline uint64_t recovery__opening__may_open(struct slice_u8 log, struct s
     return 0u;
 }
 
+/* The words of a group's seven tags, read in a row. */
+static inline struct array_u64_7 scan__groups__tag_words(struct slice_u8 group)
+{
+    struct array_u64_7 t2;
+    uint64_t t3;
+
+    memset(&t2, 0, sizeof t2);
+    t3 = 0u;
+    while (t3 < 7u) {
+        t2.at[(size_t)t3] = load_8(group.ptr + (size_t)(8u + (8u * t3)));
+        t3 = t3 + 1u;
+    }
+    return t2;
+}
+
 /* Whether a closing entry at a position is linked, by its distance back, to the last one, which ends at `end`, or where there is
    none (0) to a position before the start or to none. */
 static inline bool scan__commits__is_linked(uint64_t end, uint64_t base, uint64_t position, uint64_t link)
@@ -1779,13 +1783,6 @@ static inline uint64_t replay__places__slot_after(uint64_t slot, uint64_t n, uin
         t6 = t4 - groups;
     }
     return t6;
-}
-
-/* What tag `k` of a group says at a position of a log that starts at position `base` and has `homes` homes. */
-static inline struct model__Tag scan__groups__tag_in(struct slice_u8 group, uint64_t k, uint64_t position, uint64_t base,
-        uint64_t homes)
-{
-    return codec__tags__read_tag(load_8(group.ptr + (size_t)(8u + (8u * k))), position, base, homes);
 }
 
 /* What the log says at an offset where there is an entry. */
@@ -2184,26 +2181,26 @@ static inline uint64_t search__own__note(uint64_t written, uint64_t home, uint64
     return position + 1u;
 }
 
-/* The same if the word of a tag is an entry of the transaction with first position `first`. Its distance back is compared before
+/* The same if tag `k` of a group is an entry of the transaction with first position `first`. Its distance back is compared before
    all else. */
-static inline uint64_t search__own__note_entry(uint64_t word, uint64_t position, uint64_t base, uint64_t homes, uint64_t first,
-        uint64_t home, uint64_t newest)
+static inline uint64_t search__own__note_entry(struct slice_u8 group, uint64_t k, uint64_t position, uint64_t base,
+        uint64_t homes, uint64_t first, uint64_t home, uint64_t newest)
 {
-    struct model__Tag t13;
-    uint64_t t14;
+    struct model__Tag t14;
+    uint64_t t15;
 
-    if (((word >> 14u) & 8191u) != (position - first)) {
+    if (((load_8(group.ptr + (size_t)(8u + (8u * k))) >> 14u) & 8191u) != (position - first)) {
         return newest;
     }
-    t13 = codec__tags__read_tag(word, position, base, homes);
-    if (t13.tag == 0u) {
-        t14 = newest;
-    } else if (t13.tag == 1u) {
-        t14 = search__own__note(t13.u64_0, home, position, newest);
+    t14 = scan__groups__tag_in(group, k, position, base, homes);
+    if (t14.tag == 0u) {
+        t15 = newest;
+    } else if (t14.tag == 1u) {
+        t15 = search__own__note(t14.u64_0, home, position, newest);
     } else {
-        t14 = search__own__note(t13.u64_0, home, position, newest);
+        t15 = search__own__note(t14.u64_0, home, position, newest);
     }
-    return t14;
+    return t15;
 }
 
 /* The same for the transaction's entries among the first `m` of a group, which says nothing where it is not the valid group with
@@ -2211,26 +2208,23 @@ static inline uint64_t search__own__note_entry(uint64_t word, uint64_t position,
 static inline uint64_t search__own__note_group(struct slice_u8 group, uint64_t groups, uint64_t homes, uint64_t start, uint64_t n,
         uint64_t m, uint64_t first, uint64_t home, uint64_t newest)
 {
-    struct array_u64_7 t10, t17;
-    uint64_t t11, t12, t13, t14;
-    bool t15;
+    uint64_t t10, t11, t12, t13;
+    bool t14;
 
-    t15 = scan__groups__group_valid(group, groups, start, n);
-    if (!t15) {
+    t14 = scan__groups__group_valid(group, groups, start, n);
+    if (!t14) {
         return newest;
     }
-    t17 = scan__groups__tag_words(group);
-    t10 = t17;
-    t11 = 7u * start;
-    t12 = newest;
-    t13 = scan__commits__skipped(7u * n, first);
-    t14 = (7u * n) + t13;
-    while (t13 < m) {
-        t12 = search__own__note_entry(t10.at[(size_t)t13], t14, t11, homes, first, home, t12);
-        t14 = t14 + 1u;
+    t10 = 7u * start;
+    t11 = newest;
+    t12 = scan__commits__skipped(7u * n, first);
+    t13 = (7u * n) + t12;
+    while (t12 < m) {
+        t11 = search__own__note_entry(group, t12, t13, t10, homes, first, home, t11);
         t13 = t13 + 1u;
+        t12 = t12 + 1u;
     }
-    return t12;
+    return t11;
 }
 
 /* The newest entry for a home, as its position + 1, 0 for none, of the open transaction with first position `first`, below

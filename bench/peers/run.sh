@@ -89,6 +89,9 @@ measure_all()
 {
     round=$1 runs=$2
     shift 2
+    for store in "$@"; do
+        measure_one "$store" 0 4 "$round" "$runs"
+    done
     for together in 1 8; do
         for blocks in 1 4 16; do
             for store in "$@"; do

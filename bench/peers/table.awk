@@ -94,7 +94,10 @@ function mean_bytes(key)
 function print_place(place,    names, count, i, f)
 {
     split(place, f, "\t")
-    printf "\n%s, %s %s per commit\n", f[1] == 1 ? "each commit durable by itself" : f[1] " commits durable together", \
+    if (f[1] == 0)
+        printf "\nreads of random homes, ns per read\n"
+    else
+        printf "\n%s, %s %s per commit\n", f[1] == 1 ? "each commit durable by itself" : f[1] " commits durable together", \
         f[2], f[2] == 1 ? "block" : "blocks"
     printf format, "store", "sync", "median ns", "mean ns", "best ns", "slow call", "bytes", "ratio", "best ratio", \
         "same sync"

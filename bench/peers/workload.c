@@ -9,7 +9,7 @@
 #include <sys/stat.h>
 #include <time.h>
 
-enum { MOST_RUNS = 99, BLOCKS = 4096, PRELOAD = 16, MOST_SIZE = 64, LARGE = 16 };
+enum { MOST_RUNS = 99, BLOCKS = 4096, PRELOAD = 16, MOST_SIZE = 64, LARGE = 16, FILL = 1024, READS = 1 << 18 };
 
 /* What is measured: runs of commits transactions of size blocks. */
 struct plan {
@@ -239,6 +239,43 @@ static void measure_runs(const struct store *store, const struct plan *plan)
     free(writes);
 }
 
+static struct time run_reads(const struct store *store, size_t reads)
+{
+    uint8_t block[BLOCK_SIZE];
+    struct time time;
+    size_t i;
+
+    time.clock = read_clock(CLOCK_MONOTONIC);
+    time.processor = read_clock(CLOCK_PROCESS_CPUTIME_ID);
+    for (i = 0; i < reads; i++)
+        store->read((unsigned)(random_number() % HOMES), block);
+    time.processor = read_clock(CLOCK_PROCESS_CPUTIME_ID) - time.processor;
+    time.clock = read_clock(CLOCK_MONOTONIC) - time.clock;
+    return time;
+}
+
+/* Reads of random homes, after commits that a log still holds in part. A line has ns per read in place of ns per commit. */
+static void measure_reads(const struct store *store, const struct plan *plan)
+{
+    struct plan fill = *plan, reads = *plan;
+    struct time times[MOST_RUNS];
+    struct write *writes;
+    size_t i;
+
+    fill.together = TOGETHER;
+    fill.commits = FILL;
+    writes = allocate(fill.commits * fill.size, sizeof *writes);
+    make_writes(writes, &fill, 0);
+    run(store, &fill, writes);
+    note_writes(writes, fill.commits * fill.size);
+    free(writes);
+    reads.commits = READS;
+    run_reads(store, READS);
+    for (i = 0; i < plan->runs; i++)
+        times[i] = run_reads(store, READS);
+    print_runs(store, &reads, times, 0, 0);
+}
+
 static void measure(const struct store *store, const struct plan *plan, const char *parent)
 {
     char folder[4096];
@@ -248,7 +285,10 @@ static void measure(const struct store *store, const struct plan *plan, const ch
         fail("%s: %s", folder, strerror(errno));
     store->create(folder);
     preload(store);
-    measure_runs(store, plan);
+    if (plan->together)
+        measure_runs(store, plan);
+    else
+        measure_reads(store, plan);
     store->close();
     store->open(folder);
     check(store);
@@ -266,9 +306,9 @@ int measure_stores(int argc, char **argv, const struct store *stores, size_t cou
         plan.round = strtoul(argv[4], NULL, 10);
         plan.runs = strtoul(argv[5], NULL, 10);
     }
-    if ((plan.together != 1 && plan.together != TOGETHER) || plan.size < 1 || plan.size > MOST_SIZE || plan.runs < 1
+    if ((plan.together > 1 && plan.together != TOGETHER) || plan.size < 1 || plan.size > MOST_SIZE || plan.runs < 1
         || plan.runs > MOST_RUNS)
-        fail("usage: %s FOLDER TOGETHER BLOCKS ROUND RUNS; TOGETHER 1 or %d, BLOCKS up to %d, RUNS up to %d", argv[0],
+        fail("usage: %s FOLDER TOGETHER BLOCKS ROUND RUNS; TOGETHER 0 (reads), 1 or %d, BLOCKS up to %d, RUNS up to %d", argv[0],
              TOGETHER, MOST_SIZE, MOST_RUNS);
     make_blocks();
     for (i = 0; i < count; i++) {

@@ -47,8 +47,8 @@ struct store {
 
 /*
  * Measures stores by the program's arguments, FOLDER TOGETHER BLOCKS ROUND RUNS:
- * where to put them, how many commits become durable together (1 or 8), blocks
- * per transaction, a number that chooses the homes, timed runs. Prints a line
+ * where to put them, how many commits become durable together (1 or 8; 0: reads
+ * of random homes are timed, after some commits), blocks per transaction, a number that chooses the homes, timed runs. Prints a line
  * for each run, fields parted by tabs: round, store, together, blocks, ns per
  * commit of processor time, ns per commit by the clock; then, the same for all
  * runs, ns by the clock that one call in a thousand exceeds, bytes per commit.

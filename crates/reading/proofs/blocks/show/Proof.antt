@@ -26,9 +26,11 @@ returns c =
     shown-held _ _ _ (c .before .before .before .before .before .before .before .state .ensures) (c .before .before .before .before .before .before .writer .ensures) _ _ (c .before .before .before .before .before .holds-home .ensures) (c .before .before .before .before .if1 .taken) (c .before .before .show-held .ensures)
 
 seen-requires : tie.Need-seen-requires
-seen-requires c κs =
-    ((searchable _ _ _ _ _ (c .before .before .before .before .before .before .before .before .before .pre .0) (c .before .before .before .state .ensures) (c .before .before .before .before .before .before .before .before .before .pre .4)), newest-fits _ _ _ _ _ (c .before .before .before .before .before .before .before .before .before .pre .0) (c .before .before .before .state .ensures) (c .before .before .before .before .before .before .before .before .before .pre .2),
-    own-first _ _ _ _ _ _ (c .before .before .before .before .before .before .before .before .before .pre .0) (c .before .before .before .state .ensures) (c .before .before .writer .ensures) (c .before .before .before .before .before .before .before .before .before .pre .3))
+seen-requires c κs = (
+  (searchable _ _ _ _ _ (c .before .before .before .before .before .before .before .before .before .pre .0) (c .before .before .before .state .ensures) (c .before .before .before .before .before .before .before .before .before .pre .4)),
+  newest-fits _ _ _ _ _ (c .before .before .before .before .before .before .before .before .before .pre .0) (c .before .before .before .state .ensures) (c .before .before .before .before .before .before .before .before .before .pre .2),
+  own-first _ _ _ _ _ _ (c .before .before .before .before .before .before .before .before .before .pre .0) (c .before .before .before .state .ensures) (c .before .before .writer .ensures) (c .before .before .before .before .before .before .before .before .before .pre .3),
+)
 
 get-home-requires : tie.Need-get-home-requires
 get-home-requires c κs = search needs
