@@ -7,6 +7,7 @@ use crate::layout::{
     blank_slot, header, header_start, home_range, refuse, slot_range, Answer, Shape, BLOCK, HEADER,
     PLACES, START_LIMIT, STATE, WRITERS,
 };
+use crate::rounds::check_no_round;
 use crate::state::{State, Writer};
 use crate::walk::{trim_point, Newest, View};
 
@@ -105,6 +106,7 @@ fn try_settle(
     batch: &mut [u8],
 ) -> Result<Answer, u32> {
     let mut state = State::load(log, data, bytes)?;
+    check_no_round(&state)?;
     let end = (state.fenced - state.first_position()) as u32;
     let view = View { log, shape: state.shape, start: state.start, end };
     let newest = Newest::gather(&view);
