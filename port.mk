@@ -107,7 +107,7 @@ port-check: $(COMPARE) $(PORT_CHECKED:%=$(PORT_OUT)/%.so) $(PORT_OUT)/gcc-saniti
 	$(GCC_TIGHT) --seed $(SEED) --calls 20000 --damaged 4000 --histories 60 --large 3 | tail -n 2
 
 port-compare: $(COMPARE) $(PORT_BUILDS) $(PORT_COMPILERS:%=$(PORT_OUT)/%-sanitize.so)
-	$(COMPARE) --seed $(SEED) --calls 1000000 --damaged 100000 --histories 5000 $(PORT_BUILDS:%=--build %)
+	$(COMPARE) --seed $(SEED) --calls 1000000 --damaged 100000 --histories 5000 --torn 500 $(PORT_BUILDS:%=--build %)
 	$(GCC_TIGHT) --seed $(SEED) --calls 200000 --damaged 40000 --histories 500 | tail -n 2
 	if command -v clang > /dev/null; then $(CLANG_TIGHT) --seed $(SEED) --calls 200000 --damaged 40000 --histories 500 | tail -n 2; fi
 

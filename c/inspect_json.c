@@ -73,7 +73,9 @@ static void json_entry(const struct image *image, const struct fates *fates, uin
     printf("%s\n   {\"position\":%llu,\"kind\":\"%s\"", *comma ? "," : "", (number)position, kinds[tag.kind]);
     *comma = true;
     if (tag.kind == TAG_NOTHING) {
-        printf(",\"torn\":%s,\"why\":", tag.torn ? "true" : "false");
+        if (tag.torn)
+            printf(",\"torn\":true,\"home\":%llu,\"first\":%llu", (number)tag.home, (number)(position - tag.back));
+        fputs(",\"why\":", stdout);
         json_string(tag.why);
     } else {
         printf(",\"home\":%llu,\"first\":%llu", (number)tag.home, (number)(position - tag.back));

@@ -27,6 +27,11 @@ static void text_entry(const struct image *image, const struct fates *fates, uin
 {
     struct tag tag = rule_tag(&image->log, position);
 
+    if (tag.torn) {
+        printf("      %12llu  torn     home %4llu  first %llu\n      %12s  ! nothing: %s\n", (number)position, (number)tag.home,
+               (number)(position - tag.back), "", tag.why);
+        return;
+    }
     if (tag.kind == TAG_NOTHING) {
         if (tag.why)
             printf("      %12llu  reads as nothing: %s\n", (number)position, tag.why);

@@ -128,7 +128,7 @@ struct tag rule_tag(const struct rule_log *log, uint64_t position)
     tag.why = tag_fault(log, position, word, &tag);
     tag.torn = !tag.why && !turn_fits(log, position);
     if (tag.torn)
-        tag.why = "torn: its data block, by the turn bit of another round, has not arrived";
+        tag.why = "its data block has not arrived: the turn bit there is another round's";
     if (!tag.why)
         tag.kind = word & 2 ? TAG_CLOSING : TAG_ENTRY;
     return tag;

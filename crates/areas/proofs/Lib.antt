@@ -3,3 +3,4 @@ pub mod GroupLaws
 pub mod HeaderLaws
 pub mod LengthLaws
 pub mod PieceLaws
+pub mod UnusedLaws

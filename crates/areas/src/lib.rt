@@ -4,8 +4,11 @@ mod groups;
 mod header;
 mod homes;
 mod lengths;
+mod turns;
+mod unused;
 
 pub use blocks::copy_block;
+pub use groups::copy_entry;
 pub use groups::enter;
 pub use groups::put_blank;
 pub use groups::put_entry;
@@ -18,3 +21,6 @@ pub use lengths::data_homes;
 pub use lengths::data_right;
 pub use lengths::log_groups;
 pub use lengths::log_right;
+pub use unused::put_empty_log;
+pub use unused::put_unused;
+pub use unused::unused_bit;

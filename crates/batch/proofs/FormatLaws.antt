@@ -1,17 +1,18 @@
 -- The batch of format: its groups and homes, one record for each number below a bound, and the whole, with its length. Assumes nothing.
 use mathlib.Core.Path.{_≡_, refl, sym, ap, _∙_}
 use mathlib.Core.List.{List, [], _∷_, _++_}
-use Prim.Native.Nat.{ℕ, zero, suc, _+_, _*_}
+use Prim.Native.Nat.{ℕ, zero, suc, _+_, _-_, _*_}
 use native.Mathlib.Nat.{mul-suc}
 use native.Mathlib.Numerals.{add-one}
 use native.Mathlib.Omega.{arith}
 use lib.ListN.{length, length-append}
 use Rattle.model.specs.Bytes.{puts, zeros}
-use Rattle.model.specs.Layout.{header, unusedGroup}
+use Rattle.model.specs.Layout.{header, turnOf, turnBlocks, nextIn, unusedGroup}
 use Rattle.model.specs.Batch.{Record, GW, HW, KW, FN, recordBytes, batchBytes}
-use Rattle.model.specs.Effects.{unusedGroups, zeroHomes, formatted}
+use Rattle.model.specs.Effects.{blankWrites, zeroHomes, formatted}
 use Rattle.model.proofs.bytes.ByteLaws.{puts-nil, length-zeros}
-use Rattle.model.proofs.bytes.LayoutLaws.{length-header, length-unusedGroup}
+use Rattle.model.proofs.bytes.LayoutLaws.{length-header}
+use Rattle.model.proofs.bytes.EmptyLaws.{length-unusedGroup}
 use Rattle.model.proofs.strip.BatchLaws.{batch-one, length-GW, length-HW, length-KW, length-FN}
 use Rattle.batch.proofs.RecordLaws.{length-joined, records-then, records-then-one, one-then-records}
 
@@ -30,32 +31,34 @@ module _ (r : ℕ → Record) (rs : ℕ → List Record) (size : ℕ) (none : rs
   counted-more : (d : List ℕ) (at n : ℕ) → puts (puts d at (batchBytes (rs n))) (at + size * n) (recordBytes (r n)) ≡ puts d at (batchBytes (rs (n + 1)))
   counted-more d at n = rw (add-one, more) (records-then-one d at (rs n) (at + size * n) (r n) (omega (arith, length-counted n)))
 
--- the groups
-group : ℕ → Record
-group n = GW n unusedGroup
+-- the groups of a log that starts at group `start`
+module _ (groups start : ℕ) where
+  group : ℕ → Record
+  group n = GW n (unusedGroup groups start n)
 
-length-group : (n : ℕ) → length (recordBytes (group n)) ≡ 516
-unfolding group
-length-group n = length-GW n unusedGroup length-unusedGroup
+  length-group : (n : ℕ) → length (recordBytes (group n)) ≡ 516
+  unfolding group
+  length-group n = length-GW n (unusedGroup groups start n) (length-unusedGroup groups start n)
 
-no-groups : unusedGroups 0 ≡ []
-unfolding unusedGroups
-no-groups = refl
+  no-groups : blankWrites groups start 0 ≡ []
+  unfolding blankWrites
+  no-groups = refl
 
-more-groups : (n : ℕ) → unusedGroups (suc n) ≡ unusedGroups n ++ (group n ∷ [])
-unfolding unusedGroups group
-more-groups n = refl
+  more-groups : (n : ℕ) → blankWrites groups start (suc n) ≡ blankWrites groups start n ++ (group n ∷ [])
+  unfolding blankWrites group
+  more-groups n = refl
 
-pub length-groups : (n : ℕ) → length (batchBytes (unusedGroups n)) ≡ 516 * n
-length-groups n = length-counted group unusedGroups 516 no-groups more-groups length-group n
+  pub length-groups : (n : ℕ) → length (batchBytes (blankWrites groups start n)) ≡ 516 * n
+  length-groups n = length-counted group (blankWrites groups start) 516 no-groups more-groups length-group n
 
-pub groups-none : (d : List ℕ) (at : ℕ) → d ≡ puts d at (batchBytes (unusedGroups 0))
-groups-none d at = counted-none group unusedGroups 516 no-groups more-groups length-group d at
+  pub groups-none : (d : List ℕ) (at : ℕ) → d ≡ puts d at (batchBytes (blankWrites groups start 0))
+  groups-none d at = counted-none group (blankWrites groups start) 516 no-groups more-groups length-group d at
 
-pub groups-more : (d : List ℕ) (at n : ℕ)
-    → puts (puts d at (batchBytes (unusedGroups n))) (at + 516 * n) (recordBytes (GW n unusedGroup)) ≡ puts d at (batchBytes (unusedGroups (n + 1)))
-unfolding group
-groups-more d at n = counted-more group unusedGroups 516 no-groups more-groups length-group d at n
+  pub groups-more : (d : List ℕ) (at n bit : ℕ) → bit ≡ 1 - turnOf groups (nextIn groups start n)
+      → puts (puts d at (batchBytes (blankWrites groups start n))) (at + 516 * n) (recordBytes (GW n (zeros 64 ++ turnBlocks 7 bit)))
+      ≡ puts d at (batchBytes (blankWrites groups start (n + 1)))
+  unfolding group unusedGroup
+  groups-more d at n bit e = rw e (counted-more group (blankWrites groups start) 516 no-groups more-groups length-group d at n)
 
 -- the homes
 home : ℕ → Record
@@ -122,7 +125,7 @@ module _ (groups homes : ℕ) where
       (puts
       (puts
       (puts
-      (puts (puts (puts d 0 (recordBytes (KW (zeros 64)))) a (recordBytes FN)) b (batchBytes (unusedGroups groups)))
+      (puts (puts (puts d 0 (recordBytes (KW (zeros 64)))) a (recordBytes FN)) b (batchBytes (blankWrites groups 0 groups)))
       c
       (batchBytes (zeroHomes homes)))
       e
@@ -136,6 +139,6 @@ module _ (groups homes : ℕ) where
   formatted-written d a b c e f g ha hb hc he hf hg =
       last-written _ e f g hf hg
       ∙ records-then _ c (zeroHomes homes) e last (omega (arith, length-homes homes))
-      ∙ records-then _ b (unusedGroups groups) c _ (omega (arith, length-groups groups))
+      ∙ records-then _ b (blankWrites groups 0 groups) c _ (omega (arith, length-groups groups 0 groups))
       ∙ one-then-records _ a FN b _ (omega (arith, length-FN))
       ∙ one-then-records d 0 (KW (zeros 64)) a _ (omega (arith, length-KW (zeros 64) (length-zeros 64)))

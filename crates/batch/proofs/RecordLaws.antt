@@ -5,7 +5,7 @@ use Prim.Native.Nat.{ℕ, _+_, _-_, _*_}
 use native.Mathlib.Omega.{arith}
 use lib.ListN.{length, take, drop, length-append}
 use Rattle.model.specs.Bytes.{part, puts, zeros, bytes, putNumber}
-use Rattle.model.specs.Layout.{groupOffset, groupAt, unusedGroup, homeAt}
+use Rattle.model.specs.Layout.{groupOffset, groupAt, homeAt}
 use Rattle.model.specs.Batch.{Record, GW, HW, KW, groupWriteMark, homeWriteMark, headerWriteMark, recordBytes, batchBytes}
 use Rattle.model.proofs.bytes.ByteLaws.{puts-append}
 use Rattle.model.proofs.strip.BatchLaws.{batch-append, batch-one}
@@ -40,10 +40,10 @@ module _ (d : List ℕ) (at : ℕ) where
   unfolding recordBytes
   header-written header = sym (puts-append d at headerWriteMark header)
 
-  pub zero-group-written : (slot : ℕ)
-      → puts (putNumber 2 (puts d at groupWriteMark) (at + 2) slot) (at + 4) (zeros 512) ≡ puts d at (recordBytes (GW slot unusedGroup))
-  unfolding recordBytes unusedGroup
-  zero-group-written slot = marked-written groupWriteMark d at slot (zeros 512) refl
+  pub unused-written : (slot : ℕ) (group : List ℕ)
+      → puts (putNumber 2 (puts d at groupWriteMark) (at + 2) slot) (at + 4) group ≡ puts d at (recordBytes (GW slot group))
+  unfolding recordBytes
+  unused-written slot group = marked-written groupWriteMark d at slot group refl
 
   pub zero-home-written : (home : ℕ)
       → puts (putNumber 2 (puts d at homeWriteMark) (at + 2) home) (at + 4) (zeros 64) ≡ puts d at (recordBytes (HW home (zeros 64)))

@@ -9,6 +9,6 @@ pub use records::fence;
 pub use records::group_write;
 pub use records::header_write;
 pub use records::home_write;
-pub use records::zero_group_write;
+pub use records::unused_write;
 pub use records::zero_header_write;
 pub use records::zero_home_write;

@@ -1,9 +1,10 @@
 // One record appended to a batch: each function writes it from index `at` on and returns the index after it.
 ghost use mathlib.Core.Path.{_≡_};
-ghost use Prim.Native.Nat.{_+_, _*_, _≤_};
+ghost use mathlib.Core.List.{_++_};
+ghost use Prim.Native.Nat.{_+_, _*_, _<_, _≤_};
 ghost use lib.ListN.{length};
 ghost use Rattle.model.specs.Bytes.{puts, zeros};
-ghost use Rattle.model.specs.Layout.{header, groupAt, unusedGroup, homeAt};
+ghost use Rattle.model.specs.Layout.{header, groupAt, turnBlocks, homeAt};
 ghost use Rattle.model.specs.Batch.{GW, HW, KW, FN, recordBytes};
 
 // Appends the write of the group that the log holds in a ring slot.
@@ -52,15 +53,15 @@ pub fn fence(batch: &mut [u8], at: usize) -> usize
     at + 2
 }
 
-// Appends the write of zeros to a ring slot.
-pub fn zero_group_write(batch: &mut [u8], at: usize, slot: usize) -> usize
-    requires { ⌜ at + 516 ≤ length (now batch) ⌝ }
+// Appends the write of an unused group, whose data blocks have the turn bit `bit`, to a ring slot.
+pub fn unused_write(batch: &mut [u8], at: usize, slot: u64, bit: u64) -> usize
+    requires { ⌜ (at + 516 ≤ length (now batch)) × (bit < 2) ⌝ }
     ensures { λ r. ⌜ r ≡ at + 516 ⌝ }
-    ensures { λ _. ⌜ now (batch .exit) ≡ puts (now (batch .entry)) at (recordBytes (GW slot unusedGroup)) ⌝ }
+    ensures { λ _. ⌜ now (batch .exit) ≡ puts (now (batch .entry)) at (recordBytes (GW slot (zeros 64 ++ turnBlocks 7 bit))) ⌝ }
 {
     codec::put_group_write_mark(batch, at);
-    codec::put_number(batch, at + 2, 2, slot as u64);
-    codec::clear(batch, at + 4, 512);
+    codec::put_number(batch, at + 2, 2, slot);
+    areas::put_unused(batch, at + 4, bit);
     at + 516
 }
 

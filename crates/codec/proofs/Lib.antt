@@ -3,4 +3,5 @@ pub mod CopyLaws
 pub mod JoinLaws
 pub mod MarkLaws
 pub mod ReadLaws
+pub mod TopBitLaws
 pub mod WordLaws

@@ -72,12 +72,12 @@ home-bits w =
 -- a tag's fields by shifts and masks
 masked : (w p b d : ℕ) → w < 2 ^ 64
     → readTag w p b d
-    ≡ readFields (bitAnd w 1) (bitAnd (w / 2) 1) (w / 2 ^ 57) (bitAnd (w / 2 ^ 27) 0x3ff_ffff) (homeBits w) (bitAnd (w / 2 ^ 14) 0x1fff)
+    ≡ readFields (bitAnd w 1) (bitAnd (w / 2) 1) (w / 2 ^ 58) (bitAnd (w / 2 ^ 27) 0x3ff_ffff) (homeBits w) (bitAnd (w / 2 ^ 14) 0x1fff)
     (bitAnd (w / 2 ^ 27) 0x1fff) (bitAnd (w / 2 ^ 40) 0x1fff) p b d
 unfolding readTag field
 masked w p b d h =
     let e0 : w / 2 ^ 0 % 2 ^ 1 ≡ w % 2 ^ 1 = omega arith in
-    let e1 : w / 2 ^ 57 % 2 ^ 7 ≡ w / 2 ^ 57 = omega arith in
+    let e1 : w / 2 ^ 58 % 2 ^ 6 ≡ w / 2 ^ 58 = omega arith in
     rw (
       e0,
       e1,
@@ -95,7 +95,7 @@ module _ (w position base homes : ℕ) (fits : w < 2 ^ 64) where
   pub word-unused : bitAnd w 1 ≡ 0 → Nothing ≡ readTag w position base homes
   word-unused e = sym (masked w position base homes fits ∙ unused _ _ _ _ _ _ _ _ _ _ _ e)
 
-  pub word-above : (w / 2 ^ 57 ≡ 0 → ⊥) → Nothing ≡ readTag w position base homes
+  pub word-above : (w / 2 ^ 58 ≡ 0 → ⊥) → Nothing ≡ readTag w position base homes
   word-above e = sym (masked w position base homes fits ∙ bits-above _ _ _ _ _ _ _ _ _ _ _ e)
 
   pub word-home : homes ≤ homeBits w → Nothing ≡ readTag w position base homes
@@ -111,7 +111,7 @@ module _ (w position base homes : ℕ) (fits : w < 2 ^ 64) where
   word-count e f = sym (masked w position base homes fits ∙ no-count _ _ _ _ _ _ _ _ _ _ _ e f)
 
   -- where the first four tests hold
-  module _ (used : bitAnd w 1 ≡ 0 → ⊥) (above : w / 2 ^ 57 ≡ 0) (known : homeBits w < homes)
+  module _ (used : bitAnd w 1 ≡ 0 → ⊥) (above : w / 2 ^ 58 ≡ 0) (known : homeBits w < homes)
       (started : base + bitAnd (w / 2 ^ 14) 0x1fff ≤ position) where
     one : bitAnd w 1 ≡ 1
     one = omega (arith, mask-lt w 1)

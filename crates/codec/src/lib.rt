@@ -1,8 +1,9 @@
-// Numbers, blocks, tags and marks in slices of bytes, as model/specs defines them.
+// Numbers, blocks, tags, turn bits and marks in slices of bytes, as model/specs defines them.
 mod blocks;
 mod marks;
 mod numbers;
 mod tags;
+mod turns;
 
 pub use blocks::all_zero;
 pub use blocks::clear;
@@ -18,5 +19,9 @@ pub use marks::put_home_write_mark;
 pub use numbers::number;
 pub use numbers::put_number;
 pub use tags::commit_word;
+pub use tags::displaced;
 pub use tags::entry_word;
 pub use tags::read_tag;
+pub use tags::with_displaced;
+pub use turns::copy_with_top_bit;
+pub use turns::top_bit;

@@ -69,7 +69,7 @@ pub fn put_header_mark(dst: &mut [u8], at: usize)
     requires { ⌜ at + 2 ≤ length (now dst) ⌝ }
     ensures { λ _. ⌜ now (dst .exit) ≡ puts (now (dst .entry)) at headerMark ⌝ }
 {
-    put_mark(dst, at, b"PH")
+    put_mark(dst, at, b"PT")
 }
 
 // Writes the mark of a group at index `at`.
@@ -85,7 +85,7 @@ pub fn has_header_mark(s: &[u8], at: usize) -> bool
     requires { ⌜ at + 2 ≤ length (now s) ⌝ }
     ensures { λ r. ⌜ r ≡ same (part (now (s .entry)) at 2) headerMark ⌝ }
 {
-    has_mark(s, at, b"PH")
+    has_mark(s, at, b"PT")
 }
 
 // Whether the mark of a group and the number `n` stand in the eight bytes from index `at` on: the number is that word without the

@@ -14,15 +14,17 @@ fn home(t: Tag) -> u64
     }
 }
 
-// The words of the paper's three tags, and of the highest home.
+// The words of the paper's three tags, of the highest home, and of the first tag with a displaced bit.
 fn words() {
     check::expect(codec::entry_word(1, 0) == 5);
     check::expect(codec::commit_word(2, 1, 0, 2) == 2199023271947);
     check::expect(codec::commit_word(5, 2, 0, 3) == 3298534916119);
     check::expect(codec::entry_word(65534, 0) == 0x01e0_0000_0000_3ff9);
+    check::expect(codec::with_displaced(5, 1) == 0x0200_0000_0000_0005);
 }
 
-// The same words read where they stand, one whose first entry would lie before the start, and one for a home that a small station has not.
+// The same words read where they stand, one whose first entry would lie before the start, one for a home that a small station has not, and one with
+// a zero bit set.
 fn tags() {
     check::expect(home(codec::read_tag(5, 0, 0, 8)) == 1);
     check::expect(home(codec::read_tag(2199023271947, 1, 0, 8)) == 2);
@@ -30,6 +32,8 @@ fn tags() {
     check::expect(home(codec::read_tag(3298534916119, 8, 7, 8)) == 0);
     check::expect(home(codec::read_tag(0x01e0_0000_0000_3ff9, 0, 0, 65535)) == 65534);
     check::expect(home(codec::read_tag(0x01e0_0000_0000_3ff9, 0, 0, 4096)) == 0);
+    check::expect(home(codec::read_tag(0x0200_0000_0000_0005, 0, 0, 8)) == 1);
+    check::expect(home(codec::read_tag(0x0400_0000_0000_0005, 0, 0, 8)) == 0);
 }
 
 // A number of six bytes, written and read.

@@ -5,7 +5,7 @@ use mathlib.Core.List.{List}
 use Prim.Native.Nat.{ℕ, _*_, _/_, _≤_, _<_}
 use native.Mathlib.Omega.{arith}
 use Rattle.model.specs.Tag.{readTag}
-use Rattle.model.specs.Layout.{groupTag, groupValid, groupAt, slotOf, indexOf, entryIn, entryAt}
+use Rattle.model.specs.Layout.{groupValid, groupAt, turnOf, slotOf, indexOf, wordThere, entryIn, entryAt}
 use Rattle.model.specs.declared.Tag.{Tag}
 use Rattle.model.specs.declared.Tag.the-variants.{Nothing, Closing}
 use Rattle.model.proofs.bytes.TagLaws.{closing-known}
@@ -17,7 +17,7 @@ valid false t u e n = absurd (n (sym e))
 module _ (log : List ℕ) (groups homes start p : ℕ) where
   -- the word of the entry's tag, and whether it stands in a valid group
   word : ℕ
-  word = groupTag (groupAt log (slotOf groups p)) (indexOf p)
+  word = wordThere (groupAt log (slotOf groups p)) (turnOf groups (p / 7)) (indexOf p)
 
   stands : Bool
   stands = groupValid (groupAt log (slotOf groups p)) groups start (p / 7)

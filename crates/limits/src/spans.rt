@@ -4,7 +4,7 @@ ghost use mathlib.Core.Path.{_≡_};
 ghost use Prim.Native.Nat.{_+_, _-_, _*_, _^_, _≤_, _<_};
 ghost use lib.ListN.{length};
 ghost use Rattle.model.specs.Tag.{readTag};
-ghost use Rattle.model.specs.Layout.{entryIn, entryAt};
+ghost use Rattle.model.specs.Layout.{turnOf, entryIn, entryAt};
 ghost use Rattle.model.specs.Effects.{noneAcross};
 ghost use Rattle.model.proofs.rule.Closings.{closings};
 ghost use Rattle.limits.specs.Limits.{Highest, spanLimit, lowered};
@@ -24,23 +24,24 @@ fn word_limit(word: u64, position: u64, base: u64, homes: u64, limit: u64) -> u6
     }
 }
 
-// A limit lowered by the first `m` tags of a group, which says nothing where it is not the valid group with number `n`.
+// A limit lowered by the first `m` tags of a group, which says nothing where it is not the valid group with number `n` and turn `turn`.
 fn group_limit(
     group: &[u8],
     groups: u64,
     homes: u64,
     start: u64,
     n: u64,
+    turn: u64,
     m: usize,
     limit: u64,
 ) -> u64
-    requires { ⌜ (length (now group) ≡ 512) × (groups ≤ 1024) × (start ≤ 2 ^ 47) × (n < start + 1024) × (m ≤ 7) ⌝ }
+    requires { ⌜ (length (now group) ≡ 512) × (groups ≤ 1024) × (start ≤ 2 ^ 47) × (n < start + 1024) × (turn ≡ turnOf groups n) × (m ≤ 7) ⌝ }
     ensures { λ r. ⌜ r ≡ lowered (entryIn (now (group .entry)) groups homes start) (7 * n) m limit ⌝ }
 {
     if !scan::group_valid(group, groups, start, n) {
         return limit;
     }
-    let words = scan::tag_words(group);
+    let words = scan::tag_words(group, turn);
     let base = 7 * start;
     let mut lowest = limit;
     let mut position = 7 * n;
@@ -61,14 +62,14 @@ pub fn closed_limit(log: &[u8], groups: u64, homes: u64, start: u64, end: u64, l
 {
     let mut lowest = limit;
     let mut number = (end + 6) / 7;
-    let mut slot = scan::first_slot(number, groups);
+    let mut at = scan::first_slot(number, groups);
     while number > lowest {
         number -= 1;
-        slot = scan::previous_slot(slot, groups);
-        let from = 64 + 512 * slot as usize;
+        at = scan::previous_slot(at, groups);
+        let from = 64 + 512 * at.slot as usize;
         let group = &log[from..from + 512];
         let m = scan::in_group(end - 7 * number);
-        lowest = group_limit(group, groups, homes, start, number, m, lowest);
+        lowest = group_limit(group, groups, homes, start, number, at.turn, m, lowest);
     }
     lowest
 }

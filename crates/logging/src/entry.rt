@@ -39,12 +39,13 @@ pub fn log_entry(
     word: u64,
     w: usize,
 ) -> u64
-    requires { ⌜ MayLog (now log) (now state) (now batch) st w ⌝ }
+    requires { ⌜ MayLog (now log) (now state) (now batch) st w × (word < 2 ^ 57) ⌝ }
     ensures { λ r. ⌜ Wrote r (now (state .exit)) (now (log .exit)) (now (batch .exit)) (now (batch .entry)) (logged (now (state .entry)) (now (log .entry)) word (heldOf (now (state .entry)) w)) ⌝ }
 {
     let slot = (st.next % st.groups) as usize;
+    let turn = st.next / st.groups % 2;
     let held = 128 + 96 * w + 32;
-    areas::enter(log, slot, st, word, &state[held..held + 64]);
+    areas::enter(log, slot, turn, st, word, &state[held..held + 64]);
     if st.filled != 6 {
         strip::set_filled(state, st.filled + 1);
         return 0;
@@ -57,7 +58,7 @@ pub fn log_entry(
 // The tag of a held block that is logged at `position` and does not close its transaction.
 pub fn store_word(st: State, r: Writer, position: u64) -> u64
     requires { ⌜ Fits st r position ⌝ }
-    ensures { λ x. ⌜ x ≡ entryWord (r .home) (position - firstFor r position) ⌝ }
+    ensures { λ x. ⌜ (x ≡ entryWord (r .home) (position - firstFor r position)) × (x < 2 ^ 57) ⌝ }
 {
     codec::entry_word(r.home, position - strip::first_for(r, position))
 }
@@ -76,7 +77,7 @@ pub fn link_from(position: u64, st: State) -> u64
 // The tag of a held block that is logged at `position` and commits its transaction.
 pub fn closing_word(st: State, r: Writer, position: u64) -> u64
     requires { ⌜ Fits st r position ⌝ }
-    ensures { λ x. ⌜ x ≡ closingWord (r .home) (position - firstFor r position) (linkFrom position st) (countFor r + 1) ⌝ }
+    ensures { λ x. ⌜ (x ≡ closingWord (r .home) (position - firstFor r position) (linkFrom position st) (countFor r + 1)) × (x < 2 ^ 57) ⌝ }
 {
     let back = position - strip::first_for(r, position);
     let link = link_from(position, st);

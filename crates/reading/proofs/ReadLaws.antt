@@ -4,13 +4,12 @@ use mathlib.Core.Bool.{Bool, true, false, cond}
 use mathlib.Core.List.{List}
 use mathlib.Core.Option.{Option, none, some}
 use Prim.Native.Nat.{ℕ, zero, suc, _+_, _-_, _*_, _/_, _%_, _≤_, _<_}
-use native.Mathlib.Nat.{mod-lt}
 use native.Mathlib.Omega.{arith}
 use lib.Dec.{ltb, eqb}
 use lib.ListN.{length}
 use borrow.Author.Tests.{ltb-true, lt-ltb, le-ltb, leb-true, ne-eqb}
 use Rattle.model.specs.Bytes.{part, puts}
-use Rattle.model.specs.Layout.{groupOffset, groupAt, blockOffset, groupBlock, slotOf, indexOf, blockAt, homesIn, homeAt}
+use Rattle.model.specs.Layout.{groupAt, slotOf, indexOf, blockOf, blockAt, homesIn, homeAt}
 use Rattle.model.specs.Commit.{members, started, walk, committed, eachEntries, transactions, newestIn, newest, orElse}
 use Rattle.model.specs.State.{stateOf, nextPosition, writerOffset, writerOf, heldOf, holds, hasLogged, holdsHome}
 use Rattle.model.specs.declared.State.{State}
@@ -20,7 +19,8 @@ use Rattle.model.specs.Effects.{Given, groups, homes, liveTags, liveBase, newes
 use Rattle.model.specs.Batch.{batchBytes}
 use Rattle.model.specs.Questions.{writerKnown, homeKnown, askBlock, readAnswer}
 use Rattle.model.specs.Calls.{readCall}
-use Rattle.model.proofs.bytes.ByteLaws.{part-within, puts-nil, puts-whole, length-part}
+use Rattle.model.proofs.bytes.ByteLaws.{puts-nil, puts-whole, length-part}
+use Rattle.model.proofs.trace.ReplayLaws.{length-blockAt}
 use Rattle.model.proofs.strip.OrderLaws.{InOrder, next-within}
 use Rattle.answers.proofs.AnswerLaws.{Usable, block-refuses, block-passes, block-stops, block-usable, refused-by, done-by}
 use Rattle.answers.specs.Lent.{leaves}
@@ -130,13 +130,10 @@ held-copied block state w e l h =
     puts-whole block (part state (128 + 96 * w + 32) 64) (omega arith)
 
 pub entry-copied : (block log : List ℕ) (groups p : ℕ) → length block ≡ 64 → length log ≡ 64 + 512 * groups → 0 < groups
-    → puts block 0 (part log (64 + 512 * (p / 7 % groups) + (64 + 64 * (p % 7))) 64) ≡ blockAt log groups p
-unfolding blockAt groupBlock groupAt groupOffset blockOffset slotOf indexOf
+    → puts block 0 (blockOf (groupAt log (p / 7 % groups)) (p % 7)) ≡ blockAt log groups p
+unfolding blockAt slotOf indexOf
 entry-copied block log groups p e l h =
-    let m : p / 7 % groups < groups = mod-lt (p / 7) h in
-    let from : ℕ = 64 + 512 * (p / 7 % groups) + (64 + 64 * (p % 7)) in
-    let q : length (part log from 64) ≡ 64 = length-part log from 64 (omega arith) in
-    puts-whole block (part log from 64) (omega arith) ∙ sym (part-within log (64 + 512 * (p / 7 % groups)) 512 (64 + 64 * (p % 7)) 64 (omega arith))
+    puts-whole block (blockOf (groupAt log (p / 7 % groups)) (p % 7)) (omega (arith, length-blockAt log groups p h l))
 
 -- ---- a home that is held
 

@@ -29,14 +29,14 @@ fn show_held(block: &mut [u8], state: &[u8], w: usize)
     areas::copy_block(block, 0, state, 128 + 96 * w + 32)
 }
 
-// Copies the block of the entry at a position.
+// Copies the block that the entry at a position gives.
 fn show_entry(block: &mut [u8], log: &[u8], groups: u64, position: u64)
     requires { ⌜ (length (now block) ≡ 64) × (length (now log) ≡ 64 + 512 * groups) × (0 < groups) ⌝ }
     ensures { λ _. ⌜ now (block .exit) ≡ blockAt (now (log .entry)) groups position ⌝ }
 {
     let slot = (position / 7 % groups) as usize;
     let k = (position % 7) as usize;
-    areas::copy_block(block, 0, log, 64 + 512 * slot + (64 + 64 * k))
+    areas::copy_entry(block, 0, log, slot, k)
 }
 
 // Copies the block of a home that a writer sees.

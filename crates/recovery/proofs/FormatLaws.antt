@@ -8,9 +8,9 @@ use native.Mathlib.Omega.{arith}
 use lib.ListN.{length}
 use borrow.Author.Tests.{le-leb, lt-leb}
 use Rattle.model.specs.Bytes.{puts, zeros}
-use Rattle.model.specs.Layout.{groupsIn, homesIn, logLengthRight, dataLengthRight, header}
+use Rattle.model.specs.Layout.{groupsIn, homesIn, logLengthRight, dataLengthRight, emptyLog}
 use Rattle.model.specs.Batch.{batchBytes}
-use Rattle.model.specs.Effects.{Given, formatEffect, formatted, formattedLog}
+use Rattle.model.specs.Effects.{Given, formatEffect, formatted}
 use Rattle.model.specs.Questions.{areasRight, batchFits, formatAnswer}
 use Rattle.model.specs.Calls.{sizeOf, formatCall}
 use Rattle.model.proofs.bytes.ByteLaws.{puts-whole, length-zeros}
@@ -75,6 +75,7 @@ homes-most n h = let f = simp tests at h in omega arith
 -- what an answer of 0 says
 pub record Formattable (log area batch : List ℕ) : Type 0 where
   pub log-length : length log ≡ 64 + 512 * groupsIn (length log)
+  pub groups-least : 4 ≤ groupsIn (length log)
   pub groups-most : groupsIn (length log) ≤ 1024
   pub area-length : length area ≡ 64 * homesIn (length area)
   pub homes-most : homesIn (length area) ≤ 65535
@@ -91,19 +92,14 @@ formattable log area batch v e z =
     let s = format-size log area batch in
     record {
       log-length = omega arith;
+      groups-least = omega arith;
       groups-most = omega arith;
       area-length = omega arith;
       homes-most = omega arith;
       batch-length = omega arith;
     }
 
--- ---- the copies
-
-pub log-formatted : (log l m : List ℕ) (groups homes : ℕ) → length log ≡ 64 + 512 * groups → l ≡ puts log 0 (zeros (length log))
-    → m ≡ puts l 0 (header 0 groups homes) → m ≡ formattedLog groups homes
-unfolding formattedLog
-log-formatted log l m groups homes h e f =
-    f ∙ rw (e, puts-whole log (zeros (length log)) (sym (length-zeros (length log))), h)
+-- ---- the data copy
 
 pub area-formatted : (area : List ℕ) → puts area 0 (zeros (length area)) ≡ zeros (length area)
 area-formatted area = puts-whole area (zeros (length area)) (sym (length-zeros (length area)))
@@ -121,7 +117,7 @@ format-refused log area batch v code figure size e h r =
 pub format-done : (log area batch : List ℕ) (v code figure size n groups homes : ℕ) (l a b : List ℕ)
     → v ≡ formatAnswer (asked log area batch) (sizeOf (formatEffect (asked log area batch))) → v ≡ 0
     → (code ≡ 0) × (figure ≡ 0) × (size ≡ n) → groups ≡ groupsIn (length log) → homes ≡ homesIn (length area)
-    → l ≡ formattedLog groups homes → a ≡ zeros (length area) → n ≡ length (batchBytes (formatted groups homes))
+    → l ≡ emptyLog 0 groups homes → a ≡ zeros (length area) → n ≡ length (batchBytes (formatted groups homes))
     → b ≡ puts batch 0 (batchBytes (formatted groups homes))
     → leaves code figure size l a [] [] b ≡ formatCall (asked log area batch)
 unfolding formatCall formatEffect

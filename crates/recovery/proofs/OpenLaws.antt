@@ -9,21 +9,22 @@ use lib.Dec.{eqb, leb}
 use lib.ListN.{length, length-append}
 use borrow.Author.Tests.{not-true, not-false, le-leb, lt-leb}
 use Rattle.model.specs.Bytes.{puts}
-use Rattle.model.specs.Layout.{groupsIn, homesIn, logLengthRight, dataLengthRight, header, headerStart, headerRight, entryAt}
+use Rattle.model.specs.Layout.{groupsIn, homesIn, logLengthRight, dataLengthRight, header, headerStart, headerRight, emptyLog, entryAt}
 use Rattle.model.specs.Batch.{FN, KW, recordBytes, batchBytes}
 use Rattle.model.specs.State.{freshState}
-use Rattle.model.specs.Effects.{Given, touched, replayed, homeWrites, openTags, openStart, openEffect}
+use Rattle.model.specs.Effects.{Given, blankWrites, touched, replayed, homeWrites, openTags, openStart, openEffect}
 use Rattle.model.specs.Questions.{ask, areasRight, stateRight, headerFits, startFits, batchFits, openAnswer}
 use Rattle.model.specs.Calls.{sizeOf, openCall}
-use Rattle.model.proofs.bytes.ByteLaws.{puts-append}
 use Rattle.model.proofs.bytes.LayoutLaws.{length-header}
-use Rattle.model.proofs.strip.BatchLaws.{length-FN, length-KW}
+use Rattle.model.proofs.strip.BatchLaws.{batch-append, length-FN, length-KW}
 use Rattle.model.proofs.strip.QuestionLaws.{ask-yes, ask-no, ask-passed}
 use Rattle.model.proofs.strip.OrderLaws.{tests}
+use Rattle.batch.proofs.RecordLaws.{records-then-one, one-then-records}
+use Rattle.batch.proofs.FormatLaws.{length-groups}
 use Rattle.scan.specs.Walk.{closedBelow}
 use Rattle.answers.specs.Lent.{lent, leaves}
 use Rattle.answers.proofs.AnswerLaws.{refused-by, done-by}
-use Rattle.recovery.specs.Opens.{askOpen}
+use Rattle.recovery.specs.Opens.{askOpen, emptied}
 use Rattle.recovery.specs.Plans.{Searchable, Planned}
 use Rattle.recovery.proofs.PlanLaws.{plan-size, plan-area, plan-batch}
 
@@ -159,19 +160,25 @@ open-searchable log area state groups homes start k q =
 
 -- ---- the records after those of the homes
 
-length-last : (h : List ℕ) → length h ≡ 64 → length (batchBytes (FN ∷ KW h ∷ FN ∷ [])) ≡ 70
-unfolding batchBytes
-length-last h l =
-    let k : length (recordBytes (KW h)) ≡ 66 = length-KW h l in
-    rw (length-append, length-append, append-nil, length-FN, k)
+module _ (start groups homes : ℕ) where
+  length-header-write : length (recordBytes (KW (header start groups homes))) ≡ 66
+  length-header-write = length-KW (header start groups homes) (length-header start groups homes)
 
-pub last-records : (d x y w h : List ℕ) (at n m : ℕ) → length h ≡ 64 → n ≡ at + 2 → x ≡ puts d at (recordBytes FN) → m ≡ n + 66
-    → y ≡ puts x n (recordBytes (KW h)) → w ≡ puts y m (recordBytes FN) → w ≡ puts d at (batchBytes (FN ∷ KW h ∷ FN ∷ []))
-unfolding batchBytes
-last-records d x y w h at n m l e ex f ey ew =
-    let k : length (recordBytes (KW h)) ≡ 66 = length-KW h l in
-    ew ∙ rw (ey, ex)
-    (sym (rw (append-nil, puts-append d at (recordBytes FN), length-FN, ← e, puts-append (puts d at (recordBytes FN)) n (recordBytes (KW h)), k, ← f)))
+  length-emptied : length (batchBytes (emptied start groups homes)) ≡ 72 + 516 * groups
+  unfolding batchBytes
+  length-emptied =
+      rw (length-append, length-append, length-append, batch-append, length-append, append-nil, length-FN, length-header-write, length-groups) (omega arith)
+
+  pub emptied-written : (d x y z u w : List ℕ) (at n m k j : ℕ) → n ≡ at + 2 → x ≡ puts d at (recordBytes FN) → m ≡ n + 66
+      → y ≡ puts x n (recordBytes (KW (header start groups homes))) → k ≡ m + 2 → z ≡ puts y m (recordBytes FN) → j ≡ k + 516 * groups
+      → u ≡ puts z k (batchBytes (blankWrites groups start groups)) → w ≡ puts u j (recordBytes FN)
+      → w ≡ puts d at (batchBytes (emptied start groups homes))
+  emptied-written d x y z u w at n m k j hn hx hm hy hk hz hj hu hw =
+      hw ∙ rw (hu, hz, hy, hx)
+      (records-then-one _ k (blankWrites groups start groups) j FN (omega (arith, length-groups groups start groups))
+      ∙ one-then-records _ m FN k _ (omega (arith, length-FN))
+      ∙ one-then-records _ n (KW (header start groups homes)) m _ (omega (arith, length-header-write))
+      ∙ one-then-records d at FN n _ (omega (arith, length-FN)))
 
 -- ---- how the call ends
 
@@ -217,19 +224,17 @@ module _ (log area state batch : List ℕ) where
     plan-all : Planned log (groupsIn (length log)) (homesIn (length area)) (headerStart log) (7 * groupsIn (length log)) end number count
     plan-all = rw (q .0, q .1, q .2) at p
 
-    open-length : length (batchBytes (openEffect opening .records)) ≡ 68 * count + 70
+    open-length : length (batchBytes (openEffect opening .records)) ≡ 68 * count + (72 + 516 * groups)
     unfolding openEffect openTags
     open-length =
-        plan-size log area _ _ _ _ end number count plan-all area-long
-        (FN ∷ KW (header (openStart opening) (groupsIn (length log)) (homesIn (length area))) ∷ FN ∷ [])
-        ∙ ap (λ (k : ℕ). 68 * count + k)
-        (length-last (header (openStart opening) (groupsIn (length log)) (homesIn (length area))) (length-header _ _ _))
+        plan-size log area _ _ _ _ end number count plan-all area-long (emptied (openStart opening) (groupsIn (length log)) (homesIn (length area)))
+        ∙ omega (arith, length-emptied (openStart opening) (groupsIn (length log)) (homesIn (length area)))
 
-    open-size : sizeOf (openEffect opening) ≡ 68 * count + 70
+    open-size : sizeOf (openEffect opening) ≡ 68 * count + (72 + 516 * groups)
     unfolding sizeOf
     open-size = open-length
 
-    pub open-short : (code figure size : ℕ) (a b : List ℕ) → length batch < 68 * count + 70 → (code ≡ 9) × (figure ≡ 0) × (size ≡ 0)
+    pub open-short : (code figure size : ℕ) (a b : List ℕ) → length batch < 68 * count + (72 + 516 * groups) → (code ≡ 9) × (figure ≡ 0) × (size ≡ 0)
         → a ≡ area → b ≡ batch → leaves code figure size log a state [] b ≡ openCall opening
     unfolding openCall batchFits
     open-short code figure size a b h r ea eb =
@@ -238,14 +243,14 @@ module _ (log area state batch : List ℕ) where
         (r .0 ∙ sym (open-passes v _ e z ∙ ask-no _ 9 0 (lt-leb (sizeOf (openEffect opening)) (length batch) (omega (arith, open-size)))))
         (λ y. let w = r .0 in omega arith) (r .1) (r .2))
 
-    pub open-done : (code figure size at : ℕ) (l a s d b : List ℕ) → 68 * count + 70 ≤ length batch
-        → (code ≡ 0) × (figure ≡ number) × (size ≡ 68 * count + 70)
+    pub open-done : (code figure size at : ℕ) (l a s d b : List ℕ) → 68 * count + (72 + 516 * groups) ≤ length batch
+        → (code ≡ 0) × (figure ≡ number) × (size ≡ 68 * count + (72 + 516 * groups))
         → a ≡ replayed log groups (entryAt log groups homes start) (closedBelow log groups homes start end) area
         → d
         ≡ puts batch 0
         (batchBytes (homeWrites a (touched (entryAt log groups homes start) (closedBelow log groups homes start end) homes)))
-        → b ≡ puts d at (batchBytes (FN ∷ KW (header (start + groups) groups homes) ∷ FN ∷ [])) → at ≡ 68 * count
-        → l ≡ puts log 0 (header (start + groups) groups homes) → s ≡ freshState groups homes (start + groups)
+        → b ≡ puts d at (batchBytes (emptied (start + groups) groups homes)) → at ≡ 68 * count
+        → l ≡ emptyLog (start + groups) groups homes → s ≡ freshState groups homes (start + groups)
         → leaves code figure size l a s [] b ≡ openCall opening
     unfolding openCall batchFits openEffect openTags openStart
     open-done code figure size at l a s d b h r ea ed eb et el es =

@@ -2,10 +2,9 @@
 use answers::Reply;
 ghost use mathlib.Core.Path.{_≡_};
 ghost use mathlib.Core.List.{[]};
-ghost use Prim.Native.Nat.{_+_, _*_};
 ghost use lib.ListN.{length};
 ghost use Rattle.model.specs.Bytes.{zeros};
-ghost use Rattle.model.specs.Effects.{formatEffect, formattedLog};
+ghost use Rattle.model.specs.Effects.{formatEffect};
 ghost use Rattle.model.specs.Questions.{formatAnswer};
 ghost use Rattle.model.specs.Calls.{sizeOf, formatCall};
 ghost use Rattle.answers.specs.Lent.{lent, leaves};
@@ -28,16 +27,6 @@ fn may_format(log: &[u8], area: &[u8], batch: &[u8]) -> u64
     0
 }
 
-// Makes the log copy as it is after formatting.
-fn format_log(log: &mut [u8], groups: u64, homes: u64)
-    requires { ⌜ length (now log) ≡ 64 + 512 * groups ⌝ }
-    ensures { λ _. ⌜ now (log .exit) ≡ formattedLog groups homes ⌝ }
-{
-    let len = log.len();
-    codec::clear(log, 0, len);
-    areas::put_header(log, 0, 0, groups, homes);
-}
-
 // Makes every byte of the data copy zero.
 fn format_area(area: &mut [u8])
     ensures { λ _. ⌜ now (area .exit) ≡ zeros (length (now (area .entry))) ⌝ }
@@ -56,7 +45,7 @@ pub fn format(log: &mut [u8], area: &mut [u8], batch: &mut [u8]) -> Reply
     }
     let groups = areas::log_groups(log.len());
     let homes = areas::data_homes(area.len());
-    format_log(log, groups, homes);
+    areas::put_empty_log(log, 0, groups, homes);
     format_area(area);
     let size = batch::format_batch(batch, groups, homes);
     answers::done(0, size as u64)

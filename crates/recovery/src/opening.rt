@@ -2,16 +2,16 @@
 use super::planning::bring_back;
 use answers::Reply;
 ghost use mathlib.Core.Path.{_≡_};
-ghost use mathlib.Core.List.{[], _∷_};
+ghost use mathlib.Core.List.{[]};
 ghost use Prim.Native.Nat.{_+_, _*_, _^_, _≤_, _<_};
 ghost use lib.ListN.{length};
 ghost use Rattle.model.specs.Bytes.{puts};
-ghost use Rattle.model.specs.Layout.{groupsIn, homesIn, header, headerStart};
-ghost use Rattle.model.specs.Batch.{KW, FN, batchBytes};
+ghost use Rattle.model.specs.Layout.{groupsIn, homesIn, headerStart, emptyLog};
+ghost use Rattle.model.specs.Batch.{batchBytes};
 ghost use Rattle.model.specs.State.{freshState};
 ghost use Rattle.model.specs.Calls.{openCall};
 ghost use Rattle.answers.specs.Lent.{lent, leaves};
-ghost use Rattle.recovery.specs.Opens.{askOpen};
+ghost use Rattle.recovery.specs.Opens.{askOpen, emptied};
 
 // The highest group number that a log may start at.
 const MAX_START: u64 = 0x8000_0000_0000;
@@ -58,23 +58,25 @@ fn may_open(log: &[u8], area: &[u8], state: &[u8]) -> u64
     0
 }
 
-// Writes a fence, the header with a new start and another fence at an index of the batch.
+// Writes a fence, the header with a new start, another fence, all groups as unused, and a last fence at an index of the batch.
 fn open_records(batch: &mut [u8], at: usize, start: u64, groups: u64, homes: u64)
-    requires { ⌜ at + 70 ≤ length (now batch) ⌝ }
-    ensures { λ _. ⌜ now (batch .exit) ≡ puts (now (batch .entry)) at (batchBytes (FN ∷ KW (header start groups homes) ∷ FN ∷ [])) ⌝ }
+    requires { ⌜ (at + (72 + 516 * groups) ≤ length (now batch)) × (0 < groups) ⌝ }
+    ensures { λ _. ⌜ now (batch .exit) ≡ puts (now (batch .entry)) at (batchBytes (emptied start groups homes)) ⌝ }
 {
     let mut next = batch::fence(batch, at);
     next = batch::header_write(batch, next, start, groups, homes);
+    next = batch::fence(batch, next);
+    next = batch::all_groups(batch, next, start, groups);
     batch::fence(batch, next);
 }
 
-// Puts the header with a new start into the log copy, and makes the strip that of an empty log.
+// Makes the log copy empty from a new start on, and the strip that of an empty log.
 fn open_copies(log: &mut [u8], state: &mut [u8], groups: u64, homes: u64, start: u64)
-    requires { ⌜ (64 ≤ length (now log)) × (length (now state) ≡ 1024) × (7 * start < 2 ^ 64) ⌝ }
-    ensures { λ _. ⌜ now (log .exit) ≡ puts (now (log .entry)) 0 (header start groups homes) ⌝ }
+    requires { ⌜ (length (now log) ≡ 64 + 512 * groups) × (0 < groups) × (length (now state) ≡ 1024) × (7 * start < 2 ^ 64) ⌝ }
+    ensures { λ _. ⌜ now (log .exit) ≡ emptyLog start groups homes ⌝ }
     ensures { λ _. ⌜ now (state .exit) ≡ freshState groups homes start ⌝ }
 {
-    areas::put_header(log, 0, start, groups, homes);
+    areas::put_empty_log(log, start, groups, homes);
     strip::fresh(state, groups, homes, start);
 }
 
@@ -92,11 +94,12 @@ pub fn reopen(log: &mut [u8], area: &mut [u8], state: &mut [u8], batch: &mut [u8
     let start = shape.start;
     let found = scan::walk(log, groups, homes, start, 7 * groups);
     let end = found.end;
-    let size = bring_back(log, area, batch, groups, homes, start, end, 70);
+    let more = 72 + 516 * groups;
+    let size = bring_back(log, area, batch, groups, homes, start, end, more);
     if (batch.len() as u64) < size {
         return answers::refused(9);
     }
-    open_records(batch, size as usize - 70, start + groups, groups, homes);
+    open_records(batch, (size - more) as usize, start + groups, groups, homes);
     open_copies(log, state, groups, homes, start + groups);
     answers::done(found.number, size)
 }

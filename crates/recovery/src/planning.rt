@@ -19,7 +19,7 @@ pub fn bring_back(
     end: u64,
     more: u64,
 ) -> u64
-    requires { ⌜ Walkable (now log) groups start end × (homes ≤ 65535) × (length (now area) ≡ 64 * homes) × (more ≤ 70) ⌝ }
+    requires { ⌜ Walkable (now log) groups start end × (homes ≤ 65535) × (length (now area) ≡ 64 * homes) × (more ≤ 600000) ⌝ }
     ensures { λ r. ⌜ r
         ≡ 68 * length (touched (entryAt (now (log .entry)) groups homes start) (closedBelow (now (log .entry)) groups homes start end) homes) + more ⌝ }
     ensures { λ r. ⌜ Brought (now (log .entry)) groups homes start end r (now (area .entry)) (now (batch .entry)) (now (area .exit)) (now (batch .exit)) ⌝ }

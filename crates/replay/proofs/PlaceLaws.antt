@@ -1,17 +1,18 @@
 -- Places of the log by their offset from its start: the ring slot, the group and the block. Assumes nothing.
 use mathlib.Core.Path.{_≡_, refl, sym, ap, _∙_}
-use mathlib.Core.Bool.{Bool, true, false, cond}
+use mathlib.Core.Bool.{Bool, true, false, cond, false≢true}
 use mathlib.Core.List.{List}
 use Prim.Native.Nat.{ℕ, _+_, _-_, _*_, _/_, _%_, _≤_, _<_}
 use native.Mathlib.Nat.{mod-eq-of-lt, mod-eq-sub-mod, mod-add-mod}
 use native.Mathlib.Omega.{arith}
+use lib.Dec.{eqb}
 use lib.ListN.{take, drop}
-use Rattle.model.specs.Bytes.{part, puts}
+use Rattle.model.specs.Bytes.{puts}
 use Rattle.model.specs.Tag.{present, readTag}
-use Rattle.model.specs.Layout.{groupOffset, groupAt, groupTag, groupValid, blockOffset, groupBlock, slotOf, indexOf, entryIn, entryAt, blockAt, putHome}
+use Rattle.model.specs.Layout.{groupAt, groupTag, groupBlock, groupValid, turnOf, topBit, slotOf, indexOf, wordThere, entryIn, blockOf, entryAt, blockAt, putHome}
 use Rattle.model.specs.declared.Tag.{Tag}
 use Rattle.model.specs.declared.Tag.the-variants.{Nothing}
-use Rattle.model.proofs.bytes.ByteLaws.{part-within}
+use Rattle.model.proofs.bytes.TagLaws.{read-zero}
 use Rattle.scan.proofs.GroupLaws.{part-group}
 
 -- ---- ring slots
@@ -34,34 +35,33 @@ offset-index start offset = omega arith
 
 -- ---- what stands at an offset
 
--- an entry that is there stands in a valid group
+-- an entry that is there stands in a valid group, and its block has the turn
 module _ (log : List ℕ) (groups homes start offset slot from : ℕ) (s : slot ≡ (7 * start + offset) / 7 % groups) (g : from ≡ 64 + 512 * slot)
     (there : present (entryAt log groups homes start (7 * start + offset)) ≡ true) where
   pub entry-read : readTag (groupTag (take (from + 512 - from) (drop from log)) (offset % 7)) (7 * start + offset) (7 * start) homes
       ≡ entryAt log groups homes start (7 * start + offset)
-  unfolding entryAt entryIn indexOf slotOf present
+  unfolding entryAt entryIn indexOf slotOf present wordThere
   entry-read =
       let a : take (from + 512 - from) (drop from log) ≡ groupAt log ((7 * start + offset) / 7 % groups) = part-group log slot from g ∙ ap (groupAt log) s in
+      let n : ℕ = (7 * start + offset) / 7 in
+      let group : List ℕ = groupAt log (n % groups) in
       rw (a, ← offset-index start offset)
-      (go (groupValid (groupAt log ((7 * start + offset) / 7 % groups)) groups start ((7 * start + offset) / 7)) there)
+      (go (groupValid group groups start n) (eqb (topBit (groupBlock group ((7 * start + offset) % 7))) (turnOf groups n)) there)
     where
-      t : Tag
-      t = readTag (groupTag (groupAt log ((7 * start + offset) / 7 % groups)) ((7 * start + offset) % 7)) (7 * start + offset) (7 * start) homes
+      w : ℕ
+      w = groupTag (groupAt log ((7 * start + offset) / 7 % groups)) ((7 * start + offset) % 7)
 
-      go : (b : Bool) → present (cond b t Nothing) ≡ true → t ≡ cond b t Nothing
-      go true h = refl
-      go false h = let z : _≡_ {A = ℕ} 0 1 = cc in absurd (omega arith)
+      read : ℕ → Tag
+      read x = readTag x (7 * start + offset) (7 * start) homes
+
+      go : (b c : Bool) → present (cond b (read (cond c w 0)) Nothing) ≡ true → read w ≡ cond b (read (cond c w 0)) Nothing
+      go true true h = refl
+      go true false h = let z : present (read 0) ≡ false = ap present (read-zero (7 * start + offset) (7 * start) homes) in absurd (false≢true (sym z ∙ h))
+      go false c h = absurd (false≢true h)
 
 -- ---- the block at an offset
 
-block-part : (log : List ℕ) (groups p : ℕ) → blockAt log groups p ≡ part log (64 + 512 * (p / 7 % groups) + (64 + 64 * (p % 7))) 64
-unfolding blockAt groupBlock groupAt groupOffset blockOffset slotOf indexOf
-block-part log groups p = part-within log (64 + 512 * (p / 7 % groups)) 512 (64 + 64 * (p % 7)) 64 (omega arith)
-
-pub copied : (log area d : List ℕ) (groups start offset slot home from : ℕ) → d ≡ puts area (64 * home) (part log from 64)
-    → slot ≡ (7 * start + offset) / 7 % groups → from ≡ 64 + 512 * slot + (64 + 64 * (offset % 7))
-    → d ≡ putHome area home (blockAt log groups (7 * start + offset))
-unfolding putHome
-copied log area d groups start offset slot home from e s f =
-    let z : from ≡ 64 + 512 * ((7 * start + offset) / 7 % groups) + (64 + 64 * ((7 * start + offset) % 7)) = rw (← s, offset-index start offset) f in
-    rw (block-part log groups (7 * start + offset), ← z) e
+pub copied : (log area d : List ℕ) (groups start offset slot home : ℕ) → d ≡ puts area (64 * home) (blockOf (groupAt log slot) (offset % 7))
+    → slot ≡ (7 * start + offset) / 7 % groups → d ≡ putHome area home (blockAt log groups (7 * start + offset))
+unfolding putHome blockAt slotOf indexOf
+copied log area d groups start offset slot home e s = rw (offset-index start offset, ← s) e

@@ -4,7 +4,7 @@ ghost use mathlib.Core.Path.{_≡_};
 ghost use Prim.Native.Nat.{_+_, _-_, _*_, _^_, _≤_, _<_};
 ghost use lib.ListN.{length, getD, set, replicate};
 ghost use Rattle.model.specs.Tag.{readTag};
-ghost use Rattle.model.specs.Layout.{entryIn};
+ghost use Rattle.model.specs.Layout.{turnOf, entryIn};
 ghost use Rattle.scan.specs.Scan.{over};
 ghost use Rattle.scan.specs.Walk.{Walkable};
 ghost use Rattle.replay.specs.Chains.{note, Roomy, Chained};
@@ -47,19 +47,20 @@ fn visit(
     }
 }
 
-// Takes the first `m` tags of a group, which says nothing where it is not the valid group with number `n`.
+// Takes the first `m` tags of a group, which says nothing where it is not the valid group with number `n` and turn `turn`.
 fn visit_group(
     group: &[u8],
     groups: u64,
     homes: u64,
     start: u64,
     n: u64,
+    turn: u64,
     m: usize,
     last: &mut [u16],
     heads: &mut [u16],
     links: &mut [u16],
 )
-    requires { ⌜ (length (now group) ≡ 512) × (groups ≤ 1024) × (start ≤ 2 ^ 47) × (start ≤ n) × (n < start + 1024) × (m ≤ 7)
+    requires { ⌜ (length (now group) ≡ 512) × (groups ≤ 1024) × (start ≤ 2 ^ 47) × (start ≤ n) × (n < start + 1024) × (turn ≡ turnOf groups n) × (m ≤ 7)
         × Roomy homes (now last) (now heads) (now links) ⌝ }
     ensures { λ _. ⌜ record { last = now (last .exit); heads = now (heads .exit); links = now (links .exit) }
         ≡ over (note (7 * start)) (entryIn (now (group .entry)) groups homes start) (7 * n) m
@@ -68,7 +69,7 @@ fn visit_group(
     if !scan::group_valid(group, groups, start, n) {
         return;
     }
-    let words = scan::tag_words(group);
+    let words = scan::tag_words(group, turn);
     let base = 7 * start;
     let mut position = 7 * n;
     let mut k: usize = 0;
@@ -100,13 +101,24 @@ pub fn gather(
     }
     let mut left = end - base;
     let mut number = start;
-    let mut slot = scan::first_slot(start, groups);
+    let mut at = scan::first_slot(start, groups);
     while left > 0 {
-        let from = 64 + 512 * slot as usize;
+        let from = 64 + 512 * at.slot as usize;
         let group = &log[from..from + 512];
         let m = scan::in_group(left);
-        visit_group(group, groups, homes, start, number, m, last, heads, links);
-        slot = scan::next_slot(slot, groups);
+        visit_group(
+            group,
+            groups,
+            homes,
+            start,
+            number,
+            at.turn,
+            m,
+            last,
+            heads,
+            links,
+        );
+        at = scan::next_slot(at, groups);
         number += 1;
         left -= m as u64;
     }

@@ -28,7 +28,7 @@ pub fn entry_from(log: &[u8], groups: u64, homes: u64, start: u64, slot: u64, of
     scan::tag_in(group, (offset % 7) as usize, base + offset, base, homes)
 }
 
-// Copies the block at an offset to a home.
+// Copies the block that the entry at an offset gives to a home.
 pub fn restore_block(
     log: &[u8],
     area: &mut [u8],
@@ -42,11 +42,6 @@ pub fn restore_block(
         × (64 * home + 64 ≤ length (now area)) ⌝ }
     ensures { λ _. ⌜ now (area .exit) ≡ putHome (now (area .entry)) home (blockAt (now (log .entry)) groups (7 * start + offset)) ⌝ }
 {
-    let from = 64 + 512 * slot_after(slot, offset / 7, groups) as usize;
-    areas::copy_block(
-        area,
-        64 * home,
-        log,
-        from + (64 + 64 * (offset % 7) as usize),
-    );
+    let place = slot_after(slot, offset / 7, groups) as usize;
+    areas::copy_entry(area, 64 * home, log, place, (offset % 7) as usize)
 }

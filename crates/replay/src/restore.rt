@@ -117,7 +117,7 @@ pub fn bring_back(
         (batchBytes (homeWrites (now (area .exit))
         (touched (entryAt (now (log .entry)) groups homes start) (closedBelow (now (log .entry)) groups homes start end) homes))) ⌝ }
 {
-    let slot = scan::first_slot(start, groups);
+    let slot = scan::first_slot(start, groups).slot;
     let words = ((homes + 63) / 64) as usize;
     let mut at = 0;
     let mut w: usize = 0;

@@ -176,7 +176,7 @@ pub fn count(
     ensures { λ r. ⌜ r
         ≡ length (touched (entryAt (now (log .entry)) groups homes start) (closedBelow (now (log .entry)) groups homes start end) homes) ⌝ }
 {
-    let slot = scan::first_slot(start, groups);
+    let slot = scan::first_slot(start, groups).slot;
     let words = ((homes + 63) / 64) as usize;
     let mut n = 0;
     let mut w: usize = 0;

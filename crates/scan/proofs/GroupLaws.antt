@@ -6,13 +6,13 @@ use Prim.Native.Nat.{ℕ, _+_, _-_, _*_, _%_, _^_, _≤_, _<_}
 use native.Mathlib.Decide.{ℕ-discrete}
 use native.Mathlib.Nat.{mod-eq-of-lt}
 use native.Mathlib.Omega.{arith}
-use borrow.Author.Tests.{ltb-true, le-leb, lt-leb}
+use borrow.Author.Tests.{eq-eqb, ne-eqb, ltb-true, le-leb, lt-leb}
 use lib.Dec.{eqb, leb, ltb}
 use lib.ListN.{length, getD, set, take, drop}
 use lib.Seq.{getD-set-same, getD-set-other}
 use Rattle.model.specs.Bytes.{part, number, same}
 use Rattle.model.specs.Tag.{readTag}
-use Rattle.model.specs.Layout.{groupMark, groupOffset, groupAt, groupNumber, tagOffset, groupTag, groupValid}
+use Rattle.model.specs.Layout.{groupMark, groupOffset, groupAt, groupNumber, tagOffset, groupTag, blockOffset, groupBlock, groupValid, topBit, wordThere}
 
 -- ---- a group's tags
 
@@ -21,13 +21,22 @@ pub tag-read : (group : List ℕ) (k word position base homes : ℕ) → word �
 unfolding groupTag tagOffset
 tag-read group k word position base homes e = rw e
 
+-- a tag's word, by its block's top bit
+module _ (group : List ℕ) (turn k : ℕ) where
+  pub word-other : (topBit (part group (64 + 64 * k) 64) ≡ turn → ⊥) → 0 ≡ wordThere group turn k
+  unfolding wordThere groupBlock blockOffset
+  word-other h = rw (ne-eqb (topBit (part group (64 + 64 * k) 64)) turn h)
+
+  pub word-fits : topBit (part group (64 + 64 * k) 64) ≡ turn → number 8 group (8 + 8 * k) ≡ wordThere group turn k
+  unfolding wordThere groupBlock blockOffset groupTag tagOffset
+  word-fits h = rw (eq-eqb (topBit (part group (64 + 64 * k) 64)) turn h)
+
 -- one word more of those read in a row
-pub words-more : (group words : List ℕ) (k word : ℕ) → length words ≡ 7 → k < 7 → word ≡ number 8 group (8 + 8 * k)
-    → ((j : ℕ) → j < k → getD words j 0 ≡ groupTag group j) → (j : ℕ) → j < k + 1 → getD (set words k word) j 0 ≡ groupTag group j
-unfolding groupTag tagOffset
-words-more group words k word l h e q j m = go (ℕ-discrete j k)
+pub words-more : (group : List ℕ) (turn : ℕ) (words : List ℕ) (k word : ℕ) → length words ≡ 7 → k < 7 → word ≡ wordThere group turn k
+    → ((j : ℕ) → j < k → getD words j 0 ≡ wordThere group turn j) → (j : ℕ) → j < k + 1 → getD (set words k word) j 0 ≡ wordThere group turn j
+words-more group turn words k word l h e q j m = go (ℕ-discrete j k)
   where
-    go : Dec (j ≡ k) → getD (set words k word) j 0 ≡ number 8 group (8 + 8 * j)
+    go : Dec (j ≡ k) → getD (set words k word) j 0 ≡ wordThere group turn j
     go (yes z) = rw z (getD-set-same words k word 0 (omega arith) ∙ e)
     go (no z) = getD-set-other words k j word 0 z ∙ q j (omega arith)
 

@@ -8,7 +8,7 @@ use native.Mathlib.Numerals.{add-one}
 use native.Mathlib.Omega.{arith}
 use lib.ListN.{take, drop}
 use Rattle.model.specs.Tag.{readTag}
-use Rattle.model.specs.Layout.{groupAt, groupTag, groupValid, indexOf, entryIn, entryAt}
+use Rattle.model.specs.Layout.{groupAt, groupValid, turnOf, indexOf, wordThere, entryIn, entryAt}
 use Rattle.model.specs.declared.Tag.{Tag}
 use Rattle.model.specs.declared.Tag.the-variants.{Nothing}
 use Rattle.model.proofs.bytes.LayoutLaws.{position-group, position-rest, position-slot}
@@ -23,7 +23,7 @@ module _ (group : List ℕ) (groups homes start n : ℕ) where
   hole-nothing v k h = rw (position-group n k h, v)
 
   pub valid-tag : groupValid group groups start n ≡ true → (k : ℕ) → k < 7
-      → entryIn group groups homes start (7 * n + k) ≡ readTag (groupTag group k) (7 * n + k) (7 * start) homes
+      → entryIn group groups homes start (7 * n + k) ≡ readTag (wordThere group (turnOf groups n) k) (7 * n + k) (7 * start) homes
   unfolding entryIn indexOf
   valid-tag v k h = rw (position-group n k h, position-rest n k h, v)
 
@@ -76,11 +76,11 @@ module _ {S : Type 0} (step : ℕ → Tag → S → S) where
   group-hole q group groups homes start n m s v h =
       sym (over-nothing q (entryIn group groups homes start) (7 * n) m s (λ k l. hole-nothing group groups homes start n v k (omega arith)))
 
-  pub group-turn : (group : List ℕ) (groups homes start n k position word : ℕ) (s t u : S) → groupValid group groups start n ≡ true → k < 7
-      → position ≡ 7 * n + k → word ≡ groupTag group k → t ≡ step position (readTag word position (7 * start) homes) s
+  pub group-turn : (group : List ℕ) (groups homes start n turn k position word : ℕ) (s t u : S) → groupValid group groups start n ≡ true
+      → turn ≡ turnOf groups n → k < 7 → position ≡ 7 * n + k → word ≡ wordThere group turn k → t ≡ step position (readTag word position (7 * start) homes) s
       → s ≡ over step (entryIn group groups homes start) (7 * n) k u → t ≡ over step (entryIn group groups homes start) (7 * n) (k + 1) u
-  group-turn group groups homes start n k position word s t u v h e w p q =
-      p ∙ rw (e, w, over-one (entryIn group groups homes start) (7 * n) k u, valid-tag group groups homes start n v k h, ← q)
+  group-turn group groups homes start n turn k position word s t u v z h e w p q =
+      p ∙ rw (e, w, z, over-one (entryIn group groups homes start) (7 * n) k u, valid-tag group groups homes start n v k h, ← q)
 
   -- the part of the log from `from` on is its next group
   pub log-turn : (log : List ℕ) (groups homes start p i m n slot from j : ℕ) (s t u : S) → m ≤ 7 → p + i ≡ 7 * n → slot ≡ n % groups

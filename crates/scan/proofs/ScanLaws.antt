@@ -12,7 +12,7 @@ use lib.Dec.{eqb}
 use lib.ListN.{length, getD, set, length-set, length-append}
 use lib.Seq.{getD-set-same, getD-set-other, set-out}
 use Rattle.model.specs.Tag.{belongs, readTag}
-use Rattle.model.specs.Layout.{groupAt, groupTag, groupValid, slotOf, indexOf, entryIn, entryAt}
+use Rattle.model.specs.Layout.{groupAt, groupValid, turnOf, slotOf, indexOf, wordThere, entryIn, entryAt}
 use Rattle.model.specs.Commit.{members, complete, linked, Walk, judged, visit, walk, started, committed}
 use Rattle.model.specs.declared.Tag.{Tag}
 use Rattle.model.specs.declared.Tag.the-variants.{Nothing, Entry, Closing}
@@ -239,14 +239,14 @@ module _ (group : List ℕ) (groups homes start p : ℕ) where
   in-entry : (h f : ℕ) → entryIn group groups homes start p ≡ Entry h f → (7 * start ≤ f) × (f ≤ p)
   unfolding entryIn
   in-entry h f e =
-      let w : ℕ = groupTag group (indexOf p) in
+      let w : ℕ = wordThere group (turnOf groups (p / 7)) (indexOf p) in
       let r = entry-known w p (7 * start) homes h f (cond-entry (groupValid group groups start (p / 7)) (readTag w p (7 * start) homes) h f e) in
       (r .1, r .2)
 
   in-closing : (h f link count : ℕ) → entryIn group groups homes start p ≡ Closing h f link count → (7 * start ≤ f) × (f ≤ p)
   unfolding entryIn
   in-closing h f link count e =
-      let w : ℕ = groupTag group (indexOf p) in
+      let w : ℕ = wordThere group (turnOf groups (p / 7)) (indexOf p) in
       let r = closing-known w p (7 * start) homes h f link count
       (cond-closing (groupValid group groups start (p / 7)) (readTag w p (7 * start) homes) h f link count e) in
       (r .1, r .2)

@@ -8,7 +8,7 @@ ghost use mathlib.Core.Path.{_≡_};
 ghost use Prim.Native.Nat.{_+_, _*_, _^_, min, _<_, _≤_};
 ghost use lib.ListN.{length, getD};
 ghost use Rattle.model.specs.Tag.{readTag};
-ghost use Rattle.model.specs.Layout.{entryIn, entryAt};
+ghost use Rattle.model.specs.Layout.{turnOf, entryIn, entryAt};
 ghost use Rattle.model.specs.Commit.{linked, committed};
 ghost use Rattle.model.proofs.rule.Closings.{endOf};
 ghost use Rattle.model.proofs.rule.ClosingLaws.{lastAt};
@@ -105,24 +105,25 @@ fn visit(
     }
 }
 
-// Takes the first `m` tags of a group, which says nothing where it is not the valid group with number `n`.
+// Takes the first `m` tags of a group, which says nothing where it is not the valid group with number `n` and turn `turn`.
 fn visit_group(
     group: &[u8],
     groups: u64,
     homes: u64,
     start: u64,
     n: u64,
+    turn: u64,
     m: usize,
     counts: &mut [u16],
     progress: Progress,
 ) -> Progress
-    requires { ⌜ (length (now group) ≡ 512) × (groups ≤ 1024) × (start ≤ 2 ^ 47) × (start ≤ n) × (n < start + 1024) × (m ≤ 7) × (7 * n + m ≤ 7 * start + length (now counts)) × Within (7 * start) (7 * n) (record { counts = now counts; progress = progress }) ⌝ }
+    requires { ⌜ (length (now group) ≡ 512) × (groups ≤ 1024) × (start ≤ 2 ^ 47) × (start ≤ n) × (n < start + 1024) × (turn ≡ turnOf groups n) × (m ≤ 7) × (7 * n + m ≤ 7 * start + length (now counts)) × Within (7 * start) (7 * n) (record { counts = now counts; progress = progress }) ⌝ }
     ensures { λ r. ⌜ record { counts = now (counts .exit); progress = r } ≡ entered (entryIn (now (group .entry)) groups homes start) (7 * start) (7 * n) m (record { counts = now (counts .entry); progress = progress }) ⌝ }
 {
     if !group_valid(group, groups, start, n) {
         return progress;
     }
-    let words = tag_words(group);
+    let words = tag_words(group, turn);
     let base = 7 * start;
     let mut reached = progress;
     let mut position = 7 * n;
@@ -163,11 +164,11 @@ pub fn walk(log: &[u8], groups: u64, homes: u64, start: u64, n: u64) -> Found
         number: 0,
         failed: 0,
     };
-    let mut slot = first_slot(start, groups);
+    let mut at = first_slot(start, groups);
     let mut number = start;
     let mut left = n;
     while left > 0 {
-        let from = 64 + 512 * slot as usize;
+        let from = 64 + 512 * at.slot as usize;
         let group = &log[from..from + 512];
         let m = in_group(left);
         progress = visit_group(
@@ -176,6 +177,7 @@ pub fn walk(log: &[u8], groups: u64, homes: u64, start: u64, n: u64) -> Found
             homes,
             start,
             number,
+            at.turn,
             m,
             &mut counts,
             progress,
@@ -183,7 +185,7 @@ pub fn walk(log: &[u8], groups: u64, homes: u64, start: u64, n: u64) -> Found
         if progress.failed != 0 {
             return result(progress);
         }
-        slot = next_slot(slot, groups);
+        at = next_slot(at, groups);
         number += 1;
         left -= m as u64;
     }

@@ -4,7 +4,7 @@ ghost use mathlib.Core.Path.{_≡_};
 ghost use Prim.Native.Nat.{ℕ, _+_, _*_, _^_, _<_, _≤_};
 ghost use lib.ListN.{length, getD};
 ghost use Rattle.model.specs.Tag.{readTag};
-ghost use Rattle.model.specs.Layout.{groupTag, groupValid};
+ghost use Rattle.model.specs.Layout.{groupTag, groupValid, wordThere};
 
 // What tag `k` of a group says at a position of a log that starts at position `base` and has `homes` homes.
 pub fn tag_in(group: &[u8], k: usize, position: u64, base: u64, homes: u64) -> Tag
@@ -14,15 +14,26 @@ pub fn tag_in(group: &[u8], k: usize, position: u64, base: u64, homes: u64) -> T
     codec::read_tag(codec::number(group, 8 + 8 * k, 8), position, base, homes)
 }
 
-// The words of a group's seven tags, read in a row.
-pub fn tag_words(group: &[u8]) -> [u64; 7]
+// The word of tag `k` of a group if its data block has the turn of the group, else that of no entry.
+fn word_there(group: &[u8], turn: u64, k: usize) -> u64
+    requires { ⌜ (length (now group) ≡ 512) × (k < 7) ⌝ }
+    ensures { λ r. ⌜ r ≡ wordThere (now (group .entry)) turn k ⌝ }
+{
+    if codec::top_bit(group, 64 + 64 * k) != turn {
+        return 0;
+    }
+    codec::number(group, 8 + 8 * k, 8)
+}
+
+// The words of a group's seven tags that are there, read in a row; `turn` is the group's.
+pub fn tag_words(group: &[u8], turn: u64) -> [u64; 7]
     requires { ⌜ length (now group) ≡ 512 ⌝ }
-    ensures { λ r. ⌜ ((k : ℕ) → k < 7 → getD r k 0 ≡ groupTag (now (group .entry)) k) ⌝ }
+    ensures { λ r. ⌜ ((k : ℕ) → k < 7 → getD r k 0 ≡ wordThere (now (group .entry)) turn k) ⌝ }
 {
     let mut words = [0u64; 7];
     let mut k: usize = 0;
     while k < 7 {
-        words[k] = codec::number(group, 8 + 8 * k, 8);
+        words[k] = word_there(group, turn, k);
         k += 1;
     }
     words

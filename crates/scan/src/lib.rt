@@ -12,6 +12,7 @@ pub use commits::walk;
 pub use groups::group_valid;
 pub use groups::tag_in;
 pub use groups::tag_words;
+pub use slots::RingSlot;
 pub use slots::first_slot;
 pub use slots::next_slot;
 pub use slots::previous_slot;

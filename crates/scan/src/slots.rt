@@ -1,27 +1,57 @@
-// The ring slot that a pass over the log's groups keeps: one division for its first group, then a step for each group, up or down.
+// The ring slot and the turn that a pass over the log's groups keeps: one division for its first group, then a step for each group, up or down.
 ghost use Prim.Native.Nat.{ℕ, _+_, _-_, _<_, _≤_};
 ghost use Rattle.scan.specs.Slots.{Kept};
 
-// The ring slot of the first group of a pass.
-pub fn first_slot(n: u64, groups: u64) -> u64
+// Where a group lies in the ring, and the turn bit of its data blocks.
+pub struct RingSlot {
+    pub slot: u64,
+    pub turn: u64,
+}
+
+// The ring slot and turn of the first group of a pass.
+pub fn first_slot(n: u64, groups: u64) -> RingSlot
     requires { ⌜ 0 < groups ⌝ }
     ensures { λ r. ⌜ Kept groups n r ⌝ }
 {
-    n % groups
+    RingSlot {
+        slot: n % groups,
+        turn: n / groups % 2,
+    }
 }
 
-// The ring slot of the group after that in `slot`.
-pub fn next_slot(slot: u64, groups: u64) -> u64
-    requires { ⌜ (slot < groups) × (groups ≤ 1024) ⌝ }
-    ensures { λ r. ⌜ (r < groups) × ((n : ℕ) → Kept groups n slot → Kept groups (n + 1) r) ⌝ }
+// Those of the group after: the turn changes where the slots begin again.
+pub fn next_slot(at: RingSlot, groups: u64) -> RingSlot
+    requires { ⌜ (at .slot < groups) × (at .turn < 2) × (groups ≤ 1024) ⌝ }
+    ensures { λ r. ⌜ (r .slot < groups) × ((n : ℕ) → Kept groups n at → Kept groups (n + 1) r) ⌝ }
 {
-    if slot + 1 == groups { 0 } else { slot + 1 }
+    let slot = at.slot + 1;
+    if slot == groups {
+        return RingSlot {
+            slot: 0,
+            turn: 1 - at.turn,
+        };
+    }
+    RingSlot {
+        slot,
+        turn: at.turn,
+    }
 }
 
-// The ring slot of the group before that in `slot`.
-pub fn previous_slot(slot: u64, groups: u64) -> u64
-    requires { ⌜ (slot < groups) × (groups ≤ 1024) ⌝ }
-    ensures { λ r. ⌜ (r < groups) × ((n : ℕ) → 0 < n → Kept groups n slot → Kept groups (n - 1) r) ⌝ }
+// Those of the group before.
+pub fn previous_slot(at: RingSlot, groups: u64) -> RingSlot
+    requires { ⌜ (at .slot < groups) × (at .turn < 2) × (groups ≤ 1024) ⌝ }
+    ensures { λ r. ⌜ (r .slot < groups) × ((n : ℕ) → 0 < n → Kept groups n at → Kept groups (n - 1) r) ⌝ }
 {
-    if slot == 0 { groups - 1 } else { slot - 1 }
+    let slot = at.slot;
+    let turn = at.turn;
+    if slot == 0 {
+        return RingSlot {
+            slot: groups - 1,
+            turn: 1 - turn,
+        };
+    }
+    RingSlot {
+        slot: slot - 1,
+        turn,
+    }
 }

@@ -8,7 +8,7 @@ ghost use lib.Dec.{eqb, ltb};
 ghost use lib.ListN.{length, getD};
 ghost use Rattle.model.specs.Bytes.{zeros};
 ghost use Rattle.model.specs.Tag.{readTag};
-ghost use Rattle.model.specs.Layout.{entryIn, entryAt};
+ghost use Rattle.model.specs.Layout.{turnOf, entryIn, entryAt};
 ghost use Rattle.scan.specs.Scan.{Within};
 ghost use Rattle.search.specs.Codes.{codeOf};
 ghost use Rattle.search.specs.Search.{noted, orOther, newer, seek, sought, chosen};
@@ -90,20 +90,21 @@ fn visit(
     }
 }
 
-// Takes the first `m` tags of a group, which says nothing where it is not the valid group with number `n`.
+// Takes the first `m` tags of a group, which says nothing where it is not the valid group with number `n` and turn `turn`.
 fn visit_group(
     group: &[u8],
     groups: u64,
     homes: u64,
     start: u64,
     n: u64,
+    turn: u64,
     m: usize,
     home: u64,
     counts: &mut [u16],
     latest: &mut [u16],
     search: Search,
 ) -> Search
-    requires { ⌜ (length (now group) ≡ 512) × (groups ≤ 1024) × (start ≤ 2 ^ 47) × (start ≤ n) × (n < start + 1024) × (m ≤ 7) × (7 * n + m ≤ 7 * start + length (now counts)) × (7 * n + m ≤ 7 * start + length (now latest)) × Within (7 * start) (7 * n) (record { counts = now counts; progress = search .progress }) ⌝ }
+    requires { ⌜ (length (now group) ≡ 512) × (groups ≤ 1024) × (start ≤ 2 ^ 47) × (start ≤ n) × (n < start + 1024) × (turn ≡ turnOf groups n) × (m ≤ 7) × (7 * n + m ≤ 7 * start + length (now counts)) × (7 * n + m ≤ 7 * start + length (now latest)) × Within (7 * start) (7 * n) (record { counts = now counts; progress = search .progress }) ⌝ }
     ensures { λ r. ⌜ record { scan = record { counts = now (counts .exit); progress = r .progress }; latest = now (latest .exit); newest = r .newest }
         ≡ sought (entryIn (now (group .entry)) groups homes start) home (7 * start) (7 * n) m
         (record { scan = record { counts = now (counts .entry); progress = search .progress }; latest = now (latest .entry); newest = search .newest }) ⌝ }
@@ -111,7 +112,7 @@ fn visit_group(
     if !scan::group_valid(group, groups, start, n) {
         return search;
     }
-    let words = scan::tag_words(group);
+    let words = scan::tag_words(group, turn);
     let base = 7 * start;
     let mut reached = search;
     let mut position = 7 * n;
@@ -189,11 +190,11 @@ fn seek_with(
     ensures { λ r. ⌜ r ≡ codeOf (seenBy (entryAt (now (log .entry)) groups homes start) home own (7 * start) n) ⌝ }
 {
     let mut search = begin();
-    let mut slot = scan::first_slot(start, groups);
+    let mut at = scan::first_slot(start, groups);
     let mut number = start;
     let mut left = n;
     while left > 0 {
-        let from = 64 + 512 * slot as usize;
+        let from = 64 + 512 * at.slot as usize;
         let group = &log[from..from + 512];
         let m = scan::in_group(left);
         search = visit_group(
@@ -202,6 +203,7 @@ fn seek_with(
             homes,
             start,
             number,
+            at.turn,
             m,
             home,
             counts,
@@ -211,7 +213,7 @@ fn seek_with(
         if may_stop(own, search.progress.failed) {
             return search.newest;
         }
-        slot = scan::next_slot(slot, groups);
+        at = scan::next_slot(at, groups);
         number += 1;
         left -= m as u64;
     }

@@ -1,13 +1,17 @@
-//! `play --seed S --histories N`: random histories, each from its own seed.
+//! `play --seed S --histories N --torn T`: random histories, each from its own
+//! seed, and short ones whose stretches are torn in every choice of blocks.
 
-use second::player::{history, large_history, Tally};
+use second::lent::Lent;
 use second::options::Words;
+use second::player::{history, large_history, Tally};
+use second::tears::{torn_history, Torn};
 use std::panic::{catch_unwind, AssertUnwindSafe};
 use std::process::ExitCode;
 
 const USAGE: &str = "\
-usage: play [--seed S] [--histories N]
-Plays random histories, each from its own seed, on the second implementation.";
+usage: play [--seed S] [--histories N] [--torn T]
+Plays random histories, each from its own seed, on the second implementation; then short ones, of
+which stretches are cut in every choice of up to twelve blocks.";
 
 /// One history in this many is of the largest log.
 const LARGE_EVERY: u64 = 2000;
@@ -16,6 +20,16 @@ const LARGE_EVERY: u64 = 2000;
 fn play(seed: u64, large: bool, tally: &mut Tally) -> Result<(), String> {
     let one = || if large { large_history(seed, tally) } else { history(seed, tally) };
     catch_unwind(AssertUnwindSafe(one)).unwrap_or_else(|_| Err("panic".to_string()))
+}
+
+/// Short histories, each from its own seed, with stretches torn in every choice.
+fn tear(first: u64, histories: u64) -> Result<Torn, String> {
+    let mut torn = Torn::default();
+    for at in 0..histories {
+        let seed = first.wrapping_add(at);
+        torn_history(seed, &mut torn, Box::new(Lent::run)).map_err(|what| format!("seed {seed}: {what}"))?;
+    }
+    Ok(torn)
 }
 
 /// What was played, in words.
@@ -35,6 +49,7 @@ fn main() -> ExitCode {
     let mut words = Words::new(USAGE);
     let first = words.number("--seed", 1);
     let count = words.number("--histories", 1000);
+    let torn = words.number("--torn", 100);
     words.done();
     let mut tally = Tally::default();
     for at in 0..count {
@@ -49,5 +64,15 @@ fn main() -> ExitCode {
         }
     }
     report(&tally);
-    ExitCode::SUCCESS
+    match tear(first, torn) {
+        Ok(torn) => {
+            println!("{} stretches in {} short histories: every opening as the book says", torn.stretches, torn.histories);
+            println!("  {:>9} choices of blocks, {} lost a commit, {} brought one back", torn.choices, torn.lost, torn.brought_back);
+            ExitCode::SUCCESS
+        }
+        Err(what) => {
+            println!("MISMATCH torn, {what}");
+            ExitCode::FAILURE
+        }
+    }
 }

@@ -66,6 +66,26 @@ expect-requires-6 : tie.Need-expect-requires-6
 unfolding homeOf readTag readFields field says
 expect-requires-6 c κs = eq-eqb (c .home6 .result) 0 (c .home6 .ensures ∙ ap homeOf (c .before .read-tag6 .ensures))
 
+read-tag-requires-7 : tie.Need-read-tag-requires-7
+read-tag-requires-7 c κs = search needs
+
+home-requires-7 : tie.Need-home-requires-7
+home-requires-7 c κs = search needs
+
+expect-requires-7 : tie.Need-expect-requires-7
+unfolding homeOf readTag readFields field says
+expect-requires-7 c κs = eq-eqb (c .home7 .result) 1 (c .home7 .ensures ∙ ap homeOf (c .before .read-tag7 .ensures))
+
+read-tag-requires-8 : tie.Need-read-tag-requires-8
+read-tag-requires-8 c κs = search needs
+
+home-requires-8 : tie.Need-home-requires-8
+home-requires-8 c κs = search needs
+
+expect-requires-8 : tie.Need-expect-requires-8
+unfolding homeOf readTag readFields field says
+expect-requires-8 c κs = eq-eqb (c .home8 .result) 0 (c .home8 .ensures ∙ ap homeOf (c .before .read-tag8 .ensures))
+
 returns : tie.Need-returns
 returns c = search needs
 
@@ -91,4 +111,10 @@ tags-spec =
     read-tag-requires-6
     home-requires-6
     expect-requires-6
+    read-tag-requires-7
+    home-requires-7
+    expect-requires-7
+    read-tag-requires-8
+    home-requires-8
+    expect-requires-8
     returns)

@@ -1,7 +1,7 @@
 -- `codec_test::words` meets its contract: each word is the definition, computed. Assumes nothing.
 use borrow.Author.Needs.{needs}
 use borrow.Author.Tests.{eq-eqb}
-use Rattle.model.specs.Tag.{tagWord, entryWord, closingWord}
+use Rattle.model.specs.Tag.{tagWord, entryWord, closingWord, withDisplaced}
 use Rattle.codec_test.proofs.words.Statement.{statement}
 use Rattle.codec_test.proofs.words.Tie as tie
 
@@ -33,6 +33,13 @@ expect-requires-4 : tie.Need-expect-requires-4
 unfolding entryWord tagWord
 expect-requires-4 c κs = eq-eqb (c .entry-word2 .result) 0x01e0_0000_0000_3ff9 (c .entry-word2 .ensures)
 
+with-displaced-requires : tie.Need-with-displaced-requires
+with-displaced-requires c κs = search needs
+
+expect-requires-5 : tie.Need-expect-requires-5
+unfolding withDisplaced
+expect-requires-5 c κs = eq-eqb (c .with-displaced .result) 0x0200_0000_0000_0005 (c .with-displaced .ensures)
+
 returns : tie.Need-returns
 returns c = search needs
 
@@ -48,4 +55,6 @@ words-spec =
     expect-requires-3
     entry-word-requires-2
     expect-requires-4
+    with-displaced-requires
+    expect-requires-5
     returns)

@@ -10,10 +10,10 @@ use borrow.Author.Tests.{eqb-true, eqb-false}
 use lib.Dec.{eqb}
 use lib.ListN.{length, length-append}
 use Rattle.model.specs.Bytes.{part, puts, zeros, same}
-use Rattle.model.specs.Layout.{header, headerStart, headerRight, groupMark, groupOffset, groupAt, groupBlock, groupValid, turnOf, topBit, turnBlocks, nextIn, unusedGroup, unusedSlots, emptyLog}
+use Rattle.model.specs.Layout.{header, headerStart, headerRight, groupMark, groupOffset, groupAt, groupBlock, groupValid, turnOf, topBit, nextIn, unusedGroup, unusedSlots, emptyLog}
 use Rattle.model.proofs.bytes.ByteLaws.{length-zeros, puts-front, part-whole}
 use Rattle.model.proofs.bytes.TurnLaws.{nextIn-from, nextIn-within, nextIn-slot}
-use Rattle.model.proofs.bytes.LayoutLaws.{part-front, part-after, part-of-front, length-header, length-turnBlocks, turnBlocks-turn, header-start, header-right, ring}
+use Rattle.model.proofs.bytes.LayoutLaws.{part-after, part-of-front, length-header, length-turnBlocks, turnBlocks-turn, header-start, header-right, ring}
 
 -- ---- an unused group
 

@@ -1,9 +1,9 @@
 -- Laws of turns (specs/Layout): the top bit of a block's last byte, read and replaced; the turn of a group; the group that a ring slot gets next.
 -- A law takes its variables in the order in which its left side first names them, then its premises. Assumes nothing.
-use mathlib.Core.Path.{_≡_, refl, sym, ap, _∙_}
+use mathlib.Core.Path.{_≡_, refl, ap, _∙_}
 use mathlib.Core.List.{List, [], _∷_}
 use Prim.Native.Nat.{ℕ, zero, suc, _+_, _-_, _*_, _/_, _%_, _^_, _≤_, _<_}
-use native.Mathlib.Nat.{mod-lt, mod-mod, div-add-mod, add-mod-mod, add-div-right, mul-add-mod-self-left, add-mod-right}
+use native.Mathlib.Nat.{mod-lt, div-add-mod, add-mod-mod, add-div-right, mul-add-mod-self-left, add-mod-right}
 use native.Mathlib.Omega.{arith}
 use lib.ListN.{length}
 use Rattle.model.specs.Bytes.{puts, value, number}

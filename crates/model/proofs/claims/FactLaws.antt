@@ -12,7 +12,7 @@ use lib.Dec.{eqb}
 use lib.ListN.{length}
 use borrow.Author.Tests.{eqb-true, eqb-false}
 use Rattle.model.specs.Layout.{groupsIn, groupAt, header}
-use Rattle.model.specs.Batch.{Record, GW, KW, FN, batchBytes}
+use Rattle.model.specs.Batch.{Record, GW, KW, FN}
 use Rattle.model.specs.State.{stateOf, nextPosition, writerOf, holds}
 use Rattle.model.specs.Effects.{Given, Effect, groups, homes, newState, marked, touched, blankWrites, homeWrites, openEffect, openStart, beginEffect, reserveEffect, abortEffect, logged, logHeld, logClosing, storeFirst, storeAgain, storeOther, storeEffect, commitHeld, commitEffect, flushNone, flushPart, flushEffect, confirmEffect, settleEffect, trimStart, trimTo, trimEffect, readEffect}
 use Rattle.model.specs.Questions.{openAnswer, beginAnswer, reserveAnswer, abortAnswer, storeAnswer, commitAnswer, flushAnswer, confirmAnswer, settleAnswer, trimAnswer, readAnswer}
@@ -20,7 +20,7 @@ use Rattle.model.specs.Calls.{outcome, sizeOf, openCall, beginCall, rese
 use Rattle.model.specs.Demands.{groupWrites}
 use Rattle.model.specs.Facts.{slotWritten, headerWritten, writtenOnce, FormatOnce, PendingOnce, RowsWritten}
 use Rattle.model.specs.History.{Change, begins, reserves, aborts, stores, commits, flushes, Service, settles, trims, reads, change, service, changeEnds, serviceEnds, Call, opening, begin, reserve, abort, store, commit, flush, confirm, settle, trim, read, Event, call, crash, World, unopened, emptyStore, lent, loaded, ends, isOpening, afterCrash, step, after as along, Allowed, AllAllowed}
-use Rattle.model.proofs.bytes.LayoutLaws.{length-groupAt, group-fits, length-header}
+use Rattle.model.proofs.bytes.LayoutLaws.{length-groupAt, group-fits}
 use Rattle.model.proofs.strip.BatchLaws.{AllFormed, formed-append}
 use Rattle.model.proofs.strip.QuestionLaws.{open-ready, store-ready, commit-ready, flush-ready, settle-ready, trim-ready}
 use Rattle.model.proofs.trace.CrashLaws.{submits}

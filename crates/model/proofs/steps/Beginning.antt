@@ -1,36 +1,29 @@
 -- A finished format, and what openings can answer.
-use mathlib.Core.Path.{_≡_, refl, sym, ap, _∙_, subst}
+use mathlib.Core.Path.{_≡_, refl, sym, ap, _∙_}
 use mathlib.Core.Logic.{_⊎_, inl, inr}
-use mathlib.Core.Bool.{Bool, true, false, cond, _&&_, false≢true}
+use mathlib.Core.Bool.{Bool, true, false, _&&_, false≢true}
 use mathlib.Core.List.{List, [], _∷_, _++_}
-use mathlib.Core.Option.{Option, none, some}
-use Prim.Native.Nat.{ℕ, zero, suc, _+_, _-_, _*_, _/_, _%_, _^_, _≤_, _<_}
-use native.Mathlib.Nat.{mod-lt, add-zero}
+use Prim.Native.Nat.{ℕ, suc, _+_, _-_, _*_, _/_, _%_, _^_, _≤_, _<_}
+use native.Mathlib.Nat.{add-zero}
 use native.Mathlib.Omega.{arith}
-use lib.ListN.{length, getD, length-take, length-drop}
-use lib.Seq.{ext-getD, getD-take, getD-drop}
+use lib.ListN.{length}
 use lib.Dec.{leb, eqb}
 use borrow.Author.Tests.{le-leb}
-use Rattle.model.specs.Bytes.{part, puts, zeros, same}
-use Rattle.model.specs.Layout.{groupsIn, homesIn, groupMark, groupOffset, groupAt, groupNumber, groupTag, groupValid, slotOf, indexOf, entryIn, entryAt, emptyLog, headerStart, headerRight, logLengthRight, dataLengthRight}
-use Rattle.model.specs.Tag.{readTag}
+use Rattle.model.specs.Bytes.{part, zeros, same}
+use Rattle.model.specs.Layout.{groupsIn, homesIn, groupMark, groupAt, groupNumber, groupValid, slotOf, entryIn, entryAt, emptyLog, headerStart}
 use Rattle.model.specs.Commit.{walk, started, committed, transactions, eachEntries, replay}
 use Rattle.model.specs.Effects.{Given, replayed}
 use Rattle.model.specs.Questions.{ask, areasRight, stateRight, headerFits, startFits, batchFits, openAnswer}
-use Rattle.model.specs.Crash.{Memory}
-use Rattle.model.specs.Book.{Commit, homesAfter, writeCommits, empty}
+use Rattle.model.specs.Book.{homesAfter, writeCommits, empty}
 use Rattle.model.specs.History.{World, unopened, emptyStore, loaded}
 use Rattle.model.specs.Demands.{eachContents}
 use Rattle.model.specs.Store.{foundInMemory}
-use Rattle.model.specs.declared.Tag.{Tag}
 use Rattle.model.specs.declared.Tag.the-variants.{Nothing}
-use Rattle.model.proofs.bytes.ByteLaws.{length-puts, length-zeros, length-part, part-within}
-use Rattle.model.proofs.strip.OrderLaws.{byte-zeros}
+use Rattle.model.proofs.bytes.ByteLaws.{length-zeros}
 use Rattle.model.proofs.bytes.EmptyLaws.{unused-mark, length-emptyLog, emptyLog-start, emptyLog-right, emptyLog-group}
-use Rattle.model.proofs.bytes.LayoutLaws.{groups-in, homes-in, log-length-right, data-length-right}
-use Rattle.model.proofs.strip.QuestionLaws.{ask-yes, ask-no}
+use Rattle.model.proofs.bytes.LayoutLaws.{groups-in, homes-in}
 use Rattle.model.proofs.trace.WalkLaws.{transactions-quiet}
-use Rattle.model.proofs.invariant.Invariant.{Sizes, FoundBelow, NotGroup, OldCommits, Opens, Closed}
+use Rattle.model.proofs.invariant.Invariant.{Sizes, FoundBelow, NotGroup, Opens, Closed}
 use Rattle.model.proofs.invariant.OpenLaws.{found-below}
 
 -- what is not group n is no valid group n

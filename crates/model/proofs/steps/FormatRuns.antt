@@ -1,30 +1,27 @@
 -- Format's train: read off its bytes and landed whole it leaves the empty store; cut anywhere it leaves the old memory, one that no opening takes,
 -- or the new store.
-use mathlib.Core.Path.{_≡_, refl, sym, ap, _∙_, subst}
+use mathlib.Core.Path.{_≡_, refl, sym, ap, _∙_}
 use mathlib.Core.Logic.{_⊎_, inl, inr}
-use mathlib.Core.Bool.{Bool, true, false, cond, _&&_, false≢true}
+use mathlib.Core.Bool.{Bool, true, false, _&&_, false≢true}
 use mathlib.Core.List.{List, [], _∷_, _++_, append-assoc}
 use Prim.Native.Nat.{ℕ, zero, suc, _+_, _-_, _*_, _≤_, _<_}
-use native.Mathlib.Nat.{add-zero}
 use native.Mathlib.Omega.{arith}
 use lib.ListN.{length, take, drop, length-append, replicate-append-replicate}
-use lib.Dec.{leb, eqb}
 use borrow.Author.Tests.{eq-eqb}
 use Rattle.model.specs.Bytes.{part, puts, zeros, same}
-use Rattle.model.specs.Layout.{groupsIn, homesIn, header, headerMark, headerRight, groupOffset, unusedSlots, emptyLog, logLengthRight, dataLengthRight}
-use Rattle.model.specs.Batch.{Record, GW, HW, KW, FN, readBatch}
-use Rattle.model.specs.State.{stateBytes}
+use Rattle.model.specs.Layout.{groupsIn, homesIn, header, headerRight, groupOffset, unusedSlots, emptyLog, logLengthRight, dataLengthRight}
+use Rattle.model.specs.Batch.{Record, GW, HW, KW, FN}
 use Rattle.model.specs.Effects.{Given, blankWrites, zeroHomes, formatted, formatEffect, openEffect, openStart}
 use Rattle.model.specs.Questions.{ask, areasRight, stateRight, headerFits, formatAnswer, openAnswer}
-use Rattle.model.specs.Calls.{Outcome, done, sizeOf, outcome, formatCall, openCall}
+use Rattle.model.specs.Calls.{Outcome, done, sizeOf, formatCall, openCall}
 use Rattle.model.specs.Crash.{Memory, toLog, toArea, blocks, pieces, write, writeEach, writeIf, writeChosen, many, isFence, fences, persistChosen, persist}
-use Rattle.model.specs.Facts.{Emptied, FormatEmpties, NeverOpens, FormatCut}
+use Rattle.model.specs.Facts.{FormatEmpties, NeverOpens, FormatCut}
 use Rattle.model.specs.History.{World, Event, Formatting, formatRecords, landed, unopened, loaded, afterFormat, emptyStore, AllAllowed, Always}
 use Rattle.model.proofs.bytes.ByteLaws.{length-puts, length-zeros, puts-append, puts-nil, puts-whole, puts-front, part-below, part-inside}
 use Rattle.model.proofs.bytes.EmptyLaws.{length-unusedSlots}
 use Rattle.model.proofs.bytes.LayoutLaws.{length-header, log-length, data-length, groups-in, homes-in, log-length-right, data-length-right}
 use Rattle.model.proofs.strip.BatchLaws.{AllFormed, formed-append}
-use Rattle.model.proofs.strip.QuestionLaws.{ask-yes, ask-no, and-true, format-ready}
+use Rattle.model.proofs.strip.QuestionLaws.{and-true, format-ready}
 use Rattle.model.proofs.trace.CrashLaws.{writeRecords, write-append, NoFence, none-append, fences-none, fences-append, chosen-fence, persist-zero, persist-past}
 use Rattle.model.proofs.trace.OpeningLaws.{none-blanks, formed-blanks, write-blanks}
 use Rattle.model.proofs.steps.DoneLaws.{outcome-code, outcome-done, records-read, fits}

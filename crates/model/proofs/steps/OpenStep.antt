@@ -11,7 +11,7 @@ use lib.ListN.{length, drop}
 use lib.Dec.{leb}
 use borrow.Author.Tests.{leb-true}
 use Rattle.model.specs.Bytes.{part, puts, same}
-use Rattle.model.specs.Layout.{groupsIn, homesIn, headerStart, headerRight, header, groupMark, groupAt, groupNumber, unusedGroup, emptyLog}
+use Rattle.model.specs.Layout.{groupsIn, homesIn, headerStart, header, groupMark, groupAt, groupNumber, unusedGroup, emptyLog}
 use Rattle.model.specs.Batch.{Record, KW, FN}
 use Rattle.model.specs.State.{State, stateOf, nextPosition, Writer, writerOf, freshState, idle}
 use Rattle.model.specs.Effects.{Given, Effect, openEffect, openTags, openStart, blankWrites, homeWrites}

@@ -1,7 +1,7 @@
 -- The writes that blank every ring slot, and an opening's records: homes, a fence, the header, a fence, the blank slots, a fence.
 -- A law takes its variables in the order in which its left side first names them, then its premises. Assumes nothing.
 use mathlib.Core.Path.{_≡_, refl, sym, ap, _∙_}
-use mathlib.Core.Bool.{Bool, true, false}
+use mathlib.Core.Bool.{Bool}
 use mathlib.Core.List.{List, [], _∷_, _++_, append-assoc, append-nil}
 use Prim.Native.Nat.{ℕ, zero, suc, _+_, _-_, _*_, _%_, _≤_, _<_}
 use native.Mathlib.Nat.{mod-eq-of-lt}
@@ -9,7 +9,7 @@ use native.Mathlib.Omega.{arith}
 use lib.ListN.{length, length-append}
 use Rattle.model.specs.Bytes.{puts}
 use Rattle.model.specs.Layout.{groupOffset, unusedGroup, unusedSlots}
-use Rattle.model.specs.Batch.{Record, GW, KW, FN}
+use Rattle.model.specs.Batch.{Record, KW, FN}
 use Rattle.model.specs.Effects.{blankWrites, homeWrites}
 use Rattle.model.specs.Crash.{Memory, pieces, writeEach, isFence, fences, persistChosen, persist}
 use Rattle.model.specs.Demands.{groupWrites}

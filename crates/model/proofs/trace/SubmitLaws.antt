@@ -14,7 +14,7 @@ use lib.Seq.{drop-drop}
 use Rattle.model.specs.Bytes.{part, puts}
 use Rattle.model.specs.Layout.{headerStart, headerRight, groupOffset, groupAt}
 use Rattle.model.specs.Batch.{GW}
-use Rattle.model.specs.Crash.{Memory, toLog, blocks, pieces, write, writeEach, writeIf, writeChosen, many, isFence, persistChosen, groupFate, fatesChosen}
+use Rattle.model.specs.Crash.{Memory, toLog, blocks, pieces, write, writeEach, writeIf, writeChosen, isFence, persistChosen, groupFate, fatesChosen}
 use Rattle.model.specs.Book.{fateAt}
 use Rattle.model.proofs.bytes.ByteLaws.{length-puts, puts-nil, puts-append}
 use Rattle.model.proofs.bytes.LayoutLaws.{part-apart, part-written, header-start-same, header-right-same, group-fits, ring}

@@ -22,8 +22,10 @@ same-length c =
 returns : tie.Need-returns
 returns c =
     let j = c .before .before .before .before in
+    let t = j .before .before .before .pre .1 in
     c .before .before .put-entry .ensures
-    ∙ ⊎-elim (λ w. rw (w .5, w .2 .ensures) (entered-first _ _ _ _ _ (w .0 .taken))) (λ w. rw (w .1) (entered-later _ _ _ _ _ (w .0 .left))) (j .if1 .came)
+    ∙ ⊎-elim (λ w. rw (w .5, w .2 .ensures _ t) (entered-first _ _ _ _ _ _ t (w .0 .taken))) (λ w. rw (w .1) (entered-later _ _ _ _ _ _ t (w .0 .left)))
+    (j .if1 .came)
 
 pub enter-spec : {M : Type 1} → statement M
 enter-spec = tie.close (tie.spec put-blank-requires put-entry-requires same-length returns)

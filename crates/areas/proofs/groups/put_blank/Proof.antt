@@ -1,7 +1,7 @@
 -- `areas::put_blank` meets its contract: its pieces stand one after the other. Assumes nothing.
 use mathlib.Core.Path.{_∙_}
-use borrow.Author.Needs.{needs}
 use Rattle.areas.proofs.GroupLaws.{blank-written}
+use borrow.Author.Needs.{needs}
 use Rattle.areas.proofs.groups.put_blank.Statement.{statement}
 use Rattle.areas.proofs.groups.put_blank.Tie as tie
 
@@ -26,15 +26,23 @@ add-clear c = search needs
 clear-requires : tie.Need-clear-requires
 clear-requires c κs = search needs
 
+add-put-turn-blocks : tie.Need-add-put-turn-blocks
+add-put-turn-blocks c = search needs
+
+put-turn-blocks-requires : tie.Need-put-turn-blocks-requires
+put-turn-blocks-requires c κs = search needs
+
 same-length : tie.Need-same-length
 same-length c = search needs
 
 returns : tie.Need-returns
-returns c =
-    let n = c .before .before .before .before .before .before in
+returns c = λ groups t.
+    let z = c .before .before .before .before .before .before in
+    let n = z .before .before .before .before in
     let m = n .before .before .before .before in
     let a = m .before .before .before .args in
-    c .before .before .clear .ensures ∙ rw (n .put-number .ensures, m .put-group-mark .ensures) (blank-written _ (a .slot) _)
+    c .before .before .put-turn-blocks .ensures
+    ∙ rw (z .clear .ensures, n .put-number .ensures, m .put-group-mark .ensures) (blank-written _ (a .slot) _ _ groups t)
 
 pub put-blank-spec : {M : Type 1} → statement M
 put-blank-spec =
@@ -47,5 +55,7 @@ put-blank-spec =
     put-number-requires
     add-clear
     clear-requires
+    add-put-turn-blocks
+    put-turn-blocks-requires
     same-length
     returns)

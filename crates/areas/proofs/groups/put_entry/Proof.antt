@@ -1,9 +1,8 @@
 -- `areas::put_entry` meets its contract. Assumes nothing.
 use mathlib.Core.Path.{_∙_}
-use borrow.Author.Needs.{needs}
 use native.Mathlib.Omega.{arith}
-use Rattle.areas.proofs.CopyLaws.{whole-block}
 use Rattle.areas.proofs.GroupLaws.{entry-written}
+use borrow.Author.Needs.{needs}
 use Rattle.areas.proofs.groups.put_entry.Statement.{statement}
 use Rattle.areas.proofs.groups.put_entry.Tie as tie
 
@@ -12,6 +11,12 @@ mul-at c = search needs
 
 add-at : tie.Need-add-at
 add-at c = search needs
+
+top-bit-requires : tie.Need-top-bit-requires
+top-bit-requires c κs = search needs
+
+with-displaced-requires : tie.Need-with-displaced-requires
+with-displaced-requires c κs = search needs
 
 mul-put-number : tie.Need-mul-put-number
 mul-put-number c = search needs
@@ -25,17 +30,17 @@ add-put-number-2 c = search needs
 put-number-requires : tie.Need-put-number-requires
 put-number-requires c κs = search needs
 
-mul-copy-block : tie.Need-mul-copy-block
-mul-copy-block c = search needs
+mul-copy-with-top-bit : tie.Need-mul-copy-with-top-bit
+mul-copy-with-top-bit c = search needs
 
-add-copy-block : tie.Need-add-copy-block
-add-copy-block c = search needs
+add-copy-with-top-bit : tie.Need-add-copy-with-top-bit
+add-copy-with-top-bit c = search needs
 
-add-copy-block-2 : tie.Need-add-copy-block-2
-add-copy-block-2 c = search needs
+add-copy-with-top-bit-2 : tie.Need-add-copy-with-top-bit-2
+add-copy-with-top-bit-2 c = search needs
 
-copy-block-requires : tie.Need-copy-block-requires
-copy-block-requires c κs = search needs
+copy-with-top-bit-requires : tie.Need-copy-with-top-bit-requires
+copy-with-top-bit-requires c κs = search needs
 
 same-length : tie.Need-same-length
 same-length c = search needs
@@ -43,9 +48,11 @@ same-length c = search needs
 returns : tie.Need-returns
 returns c =
     let n = c .before .before .before .before .before .before in
-    let a = n .before .before .before .before .args in
-    c .before .before .copy-block .ensures
-    ∙ rw (n .put-number .ensures) (whole-block _ _ _ (omega arith) ∙ entry-written _ (a .slot) (a .k) _ _)
+    let w = n .before .before in
+    let t = w .before in
+    let a = t .before .before .before .args in
+    c .before .before .copy-with-top-bit .ensures
+    ∙ rw (n .put-number .ensures) (entry-written _ (a .slot) (a .turn) (a .k) (a .word) _ _ (omega arith) (w .with-displaced .ensures ∙ rw (t .top-bit .ensures .0)))
 
 pub put-entry-spec : {M : Type 1} → statement M
 put-entry-spec =
@@ -53,13 +60,15 @@ put-entry-spec =
     (tie.spec
     mul-at
     add-at
+    top-bit-requires
+    with-displaced-requires
     mul-put-number
     add-put-number
     add-put-number-2
     put-number-requires
-    mul-copy-block
-    add-copy-block
-    add-copy-block-2
-    copy-block-requires
+    mul-copy-with-top-bit
+    add-copy-with-top-bit
+    add-copy-with-top-bit-2
+    copy-with-top-bit-requires
     same-length
     returns)

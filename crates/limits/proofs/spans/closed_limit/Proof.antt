@@ -1,5 +1,5 @@
 -- `limits::closed_limit` meets its contract. The loop's invariant: the transactions that close in the groups from `number` on rule out all starts
--- above `lowest`, and none of them lies across it; and `slot` is the ring slot of group `number`. Assumes nothing.
+-- above `lowest`, and none of them lies across it; and `at` is the ring slot of group `number`. Assumes nothing.
 use mathlib.Core.Path.{refl}
 use Prim.Native.Nat.{_+_, _-_, _*_, _≤_}
 use native.Mathlib.Omega.{arith}
@@ -11,14 +11,14 @@ use Rattle.limits.proofs.spans.closed_limit.Statement.{statement}
 use Rattle.limits.proofs.spans.closed_limit.Tie as tie
 
 abbrev Inv-loop : tie.InvT-loop
-Inv-loop log groups homes start end limit lowest₀ number₀ slot₀ lowest number slot =
+Inv-loop log groups homes start end limit lowest₀ number₀ at₀ lowest number at =
     Lowered (entryAt log groups homes start) (7 * start) end (7 * number) end limit lowest
     × (start ≤ lowest)
     × (7 * number ≤ end + 6)
-    × Kept groups number slot
+    × Kept groups number at
 
 abbrev μ-loop : tie.MeasureT-loop
-μ-loop log groups homes start end limit lowest₀ number₀ slot₀ lowest number slot = number
+μ-loop log groups homes start end limit lowest₀ number₀ at₀ lowest number at = number
 
 add-number : tie.Need-add-number Inv-loop μ-loop
 add-number c = omega arith
@@ -63,7 +63,9 @@ in-group-requires : tie.Need-in-group-requires Inv-loop μ-loop
 in-group-requires c κs = tt
 
 group-limit-requires : tie.Need-group-limit-requires Inv-loop μ-loop
-group-limit-requires c κs = (simp (length-take, length-drop) (omega arith), omega arith, omega arith, omega arith, omega (arith, c .in-group .ensures))
+group-limit-requires c κs =
+    let s = c .before .before .previous-slot .ensures .1 _ (omega arith) (c .before .before .before .before .loop .inv .3) in
+    (simp (length-take, length-drop) (omega arith), omega arith, omega arith, omega arith, s .turn, omega (arith, c .in-group .ensures))
 
 loop-less : tie.Need-loop-less Inv-loop μ-loop
 loop-less c = omega arith

@@ -13,11 +13,11 @@ use Rattle.limits.proofs.spans.group_limit.Statement.{statement}
 use Rattle.limits.proofs.spans.group_limit.Tie as tie
 
 abbrev Inv-loop : tie.InvT-loop
-Inv-loop group groups homes start n m limit words base lowest₀ position₀ k₀ lowest position k =
+Inv-loop group groups homes start n turn m limit words base lowest₀ position₀ k₀ lowest position k =
     (lowest ≡ lowered (entryIn group groups homes start) (7 * n) k limit) × (position ≡ 7 * n + k) × (k ≤ m)
 
 abbrev μ-loop : tie.MeasureT-loop
-μ-loop group groups homes start n m limit words base lowest₀ position₀ k₀ lowest position k = m - k
+μ-loop group groups homes start n turn m limit words base lowest₀ position₀ k₀ lowest position k = m - k
 
 group-valid-requires : tie.Need-group-valid-requires Inv-loop μ-loop
 group-valid-requires c κs = omega arith
@@ -61,7 +61,7 @@ loop-again c =
     let l = c .before .before in
     let w = l .before in
     let g : groupValid _ _ _ _ ≡ true = sym (w .before .before .group-valid .ensures) ∙ not-false _ (w .before .if1 .left) in (
-      group-turn (λ p. spanLimit) _ _ _ _ _ _ _ _ _ _ _ g (omega arith) (l .loop .inv .1) (w .tag-words .ensures (l .loop .k) (omega arith))
+      group-turn (λ p. spanLimit) _ _ _ _ _ _ _ _ _ _ _ _ g (w .before .before .before .before .pre .4) (omega arith) (l .loop .inv .1) (w .tag-words .ensures (l .loop .k) (omega arith))
           (c .word-limit .ensures) (l .loop .inv .0),
       omega arith,
       omega arith,

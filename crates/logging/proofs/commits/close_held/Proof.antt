@@ -38,7 +38,7 @@ returns c =
     let c3 = c4 .before .before .before .before .before .before .before .before in
     let c2 = c3 .before .before .before .before in
     let c1 = c2 .before in
-    committed _ _ _ _ _ _ _ _ _ _ _ _ _ _ (c1 .next-position .ensures) (c2 .closing-word .ensures) (c3 .log-entry .ensures)
+    committed _ _ _ _ _ _ _ _ _ _ _ _ _ _ (c1 .next-position .ensures) (c2 .closing-word .ensures .0) (c3 .log-entry .ensures)
     (c4 .set-last .ensures) (c5 .abort .ensures)
 
 pub close-held-spec : {M : Type 1} → statement M

@@ -1,4 +1,11 @@
 -- `logging::closing_word` meets its contract. Assumes nothing.
+use mathlib.Core.Path.{_≡_}
+use Prim.Native.Nat.{_+_, _-_}
+use native.Mathlib.Omega.{arith}
+use Rattle.model.specs.State.{firstFor, countFor}
+use Rattle.model.specs.Tag.{closingWord}
+use Rattle.model.specs.Effects.{linkFrom}
+use Rattle.model.proofs.bytes.TagLaws.{closing-fits}
 use borrow.Author.Needs.{needs}
 use Rattle.logging.proofs.entry.closing_word.Statement.{statement}
 use Rattle.logging.proofs.entry.closing_word.Tie as tie
@@ -22,7 +29,16 @@ commit-word-requires : tie.Need-commit-word-requires
 commit-word-requires c κs = search needs
 
 returns : tie.Need-returns
-returns c = cc
+returns c =
+    let f = c .before .before .before in
+    let a = f .before .args in
+    let p = f .before .pre in
+    let e : c .commit-word .result
+    ≡ closingWord (a .r .home) (a .position - firstFor (a .r) (a .position)) (linkFrom (a .position) (a .st)) (countFor (a .r) + 1) = cc in (
+      e,
+      rw e (closing-fits (a .r .home) (a .position - firstFor (a .r) (a .position)) (linkFrom (a .position) (a .st)) (countFor (a .r) + 1) (p .home)
+          (omega (arith, p .near)) (p .link) (p .many)),
+    )
 
 pub closing-word-spec : {M : Type 1} → statement M
 closing-word-spec =

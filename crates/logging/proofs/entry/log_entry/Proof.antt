@@ -4,6 +4,7 @@ use native.Mathlib.Omega.{arith}
 use lib.ListN.{length}
 use Rattle.model.proofs.steps.HeldLogs.{held-size}
 use Rattle.model.proofs.invariant.LogStep.{length-entered}
+use Rattle.areas.proofs.UnusedLaws.{turn-quotient}
 use Rattle.logging.proofs.CallLaws.{slot-fits}
 use Rattle.logging.proofs.LogLaws.{held-lent, kept, handed}
 use borrow.Author.Needs.{needs}
@@ -12,6 +13,9 @@ use Rattle.logging.proofs.entry.log_entry.Tie as tie
 
 rem-slot : tie.Need-rem-slot
 rem-slot c = search needs
+
+div-turn : tie.Need-div-turn
+div-turn c = search needs
 
 mul-held : tie.Need-mul-held
 mul-held c = search needs
@@ -36,11 +40,11 @@ part-enter-end c = search needs
 
 enter-requires : tie.Need-enter-requires
 enter-requires c κs =
-    let c1 = c .before .before .before .before .before .before .before in
-    let m = c1 .pre in
+    let c1 = c .before .before .before .before .before .before .before .before in
+    let m = c1 .pre .0 in
     let a = c1 .args in
     let f = slot-fits (a .st .next) (a .st .groups) (length (a .log .now)) (omega (arith, m .some)) (omega (arith, m .log)) in
-    (f, omega (arith, m .filled), ap length (held-lent (a .state .now) (a .w) _ refl) ∙ held-size (a .state .now) (a .w) (m .strip) (m .writer))
+    (f, turn-quotient (a .st .groups) (a .st .next), omega arith, omega (arith, m .filled), c1 .pre .1, ap length (held-lent (a .state .now) (a .w) _ refl) ∙ held-size (a .state .now) (a .w) (m .strip) (m .writer))
 
 add-set-filled : tie.Need-add-set-filled
 add-set-filled c = search needs
@@ -59,8 +63,8 @@ returns c =
     let c4 = c .before .before in
     let c3 = c4 .before .before .before in
     let c2 = c3 .before .before .before .before in
-    let c1 = c2 .before .before .before .before .before .before .before .before in
-    kept _ _ _ _ _ (c1 .pre) _ _ (held-lent _ _ _ refl) _ _ (c3 .if1 .taken) (c2 .enter .ensures) (c4 .set-filled .ensures)
+    let c1 = c2 .before .before .before .before .before .before .before .before .before in
+    kept _ _ _ _ _ (c1 .pre .0) _ _ (held-lent _ _ _ refl) _ _ (c3 .if1 .taken) (c2 .enter .ensures) (c4 .set-filled .ensures)
 
 add-set-next : tie.Need-add-set-next
 add-set-next c = search needs
@@ -75,8 +79,8 @@ group-write-requires : tie.Need-group-write-requires
 group-write-requires c κs =
     let c3 = c .before .before .before .before .before .before .before .before .before .before .before in
     let c2 = c3 .before .before .before .before in
-    let c1 = c2 .before .before .before .before .before .before .before .before in
-    let m = c1 .pre in
+    let c1 = c2 .before .before .before .before .before .before .before .before .before in
+    let m = c1 .pre .0 in
     let a = c1 .args in
     let f = slot-fits (a .st .next) (a .st .groups) (length (a .log .now)) (omega (arith, m .some)) (omega (arith, m .log)) in
     let g = m .batch (omega (arith, c3 .if1 .left)) in
@@ -99,8 +103,8 @@ returns-2 c =
     let c4 = c5 .before .before .before .before in
     let c3 = c4 .before .before .before in
     let c2 = c3 .before .before .before .before in
-    let c1 = c2 .before .before .before .before .before .before .before .before in
-    handed _ _ _ _ _ (c1 .pre) _ _ (held-lent _ _ _ refl) _ _ _ _ _ (omega (arith, c3 .if1 .left)) (c2 .enter .ensures)
+    let c1 = c2 .before .before .before .before .before .before .before .before .before in
+    handed _ _ _ _ _ (c1 .pre .0) _ _ (held-lent _ _ _ refl) _ _ _ _ _ (omega (arith, c3 .if1 .left)) (c2 .enter .ensures)
     (c4 .set-next .ensures) (c5 .set-filled2 .ensures) (c6 .group-write .ensures .0) (c6 .group-write .ensures .1)
 
 pub log-entry-spec : {M : Type 1} → statement M
@@ -108,6 +112,7 @@ log-entry-spec =
     tie.close
     (tie.spec
     rem-slot
+    div-turn
     mul-held
     add-held
     add-held-2

@@ -1,4 +1,10 @@
 -- `logging::store_word` meets its contract. Assumes nothing.
+use mathlib.Core.Path.{_≡_}
+use Prim.Native.Nat.{_-_}
+use native.Mathlib.Omega.{arith}
+use Rattle.model.specs.State.{firstFor}
+use Rattle.model.specs.Tag.{entryWord}
+use Rattle.model.proofs.bytes.TagLaws.{entry-fits}
 use borrow.Author.Needs.{needs}
 use Rattle.logging.proofs.entry.store_word.Statement.{statement}
 use Rattle.logging.proofs.entry.store_word.Tie as tie
@@ -13,7 +19,13 @@ entry-word-requires : tie.Need-entry-word-requires
 entry-word-requires c κs = search needs
 
 returns : tie.Need-returns
-returns c = cc
+returns c =
+    let f = c .before in
+    let a = f .before .args in
+    let p = f .before .pre in
+    let b = f .first-for .ensures in
+    let e : c .entry-word .result ≡ entryWord (a .r .home) (a .position - firstFor (a .r) (a .position)) = cc in
+    (e, rw e (entry-fits (a .r .home) (a .position - firstFor (a .r) (a .position)) (p .home) (omega (arith, p .near))))
 
 pub store-word-spec : {M : Type 1} → statement M
 store-word-spec =

@@ -19,7 +19,7 @@ hold-requires c κs =
 log-entry-requires : tie.Need-log-entry-requires
 log-entry-requires c κs =
     let c1 = c .before .before .before .before .before in
-    may-after _ _ _ _ _ _ _ (c1 .before .before .before .before .before .before .before .before .pre .0) (c1 .hold .ensures)
+    (may-after _ _ _ _ _ _ _ (c1 .before .before .before .before .before .before .before .before .pre .0) (c1 .hold .ensures), c1 .before .before .store-word .ensures .1)
 
 set-held-requires : tie.Need-set-held-requires
 set-held-requires c κs = search needs
@@ -41,7 +41,7 @@ returns c =
     let c2 = c3 .before .before in
     let c1 = c2 .before in
     let p = c1 .before .before .before .before .before .pre in
-    stored _ _ _ _ _ _ _ _ _ _ _ _ _ _ _ _ (c1 .next-position .ensures) (c2 .store-word .ensures) (p .3) (p .4) (c3 .hold .ensures)
+    stored _ _ _ _ _ _ _ _ _ _ _ _ _ _ _ _ (c1 .next-position .ensures) (c2 .store-word .ensures .0) (p .3) (p .4) (c3 .hold .ensures)
     (c4 .log-entry .ensures) (c5 .set-held .ensures)
 
 pub hold-next-spec : {M : Type 1} → statement M

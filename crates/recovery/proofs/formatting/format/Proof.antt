@@ -29,8 +29,8 @@ log-groups-requires c κs = search needs
 data-homes-requires : tie.Need-data-homes-requires
 data-homes-requires c κs = search needs
 
-format-log-requires : tie.Need-format-log-requires
-format-log-requires c κs =
+put-empty-log-requires : tie.Need-put-empty-log-requires
+put-empty-log-requires c κs =
     let c1 = c .before .before .before .before in
     omega (arith, formattable _ _ _ _ (c1 .may-format .ensures) (c .before .before .before .if1 .left), c .before .before .log-groups .ensures)
 
@@ -66,7 +66,7 @@ returns-2 c =
     let c5 = c4 .before in
     let c6 = c5 .before in
     format-done _ _ _ _ _ _ _ _ _ _ _ _ _ (c6 .may-format .ensures) (c5 .if1 .left) (c .done .ensures) (c4 .log-groups .ensures) (c3 .data-homes .ensures)
-    (c2 .format-log .ensures) (c1 .format-area .ensures) (c .before .before .before .format-batch .ensures .0 .0) (c .before .before .before .format-batch .ensures .1)
+    (c2 .put-empty-log .ensures) (c1 .format-area .ensures) (c .before .before .before .format-batch .ensures .0 .0) (c .before .before .before .format-batch .ensures .1)
 
 pub format-spec : {M : Type 1} → statement M
 format-spec =
@@ -80,7 +80,7 @@ format-spec =
     returns
     log-groups-requires
     data-homes-requires
-    format-log-requires
+    put-empty-log-requires
     format-area-requires
     format-batch-requires
     done-requires

@@ -34,6 +34,16 @@ mul-walk c = omega (arith, openable _ _ _ _ (c .before .before .before .before .
 walk-requires : tie.Need-walk-requires
 walk-requires c κs = omega (arith, openable _ _ _ _ (c .before .before .before .before .before .may-open .ensures) (c .before .before .before .before .if1 .left), c .before .measure .ensures)
 
+mul-more : tie.Need-mul-more
+mul-more c =
+    let m = c .before .before in
+    omega (arith, openable _ _ _ _ (m .before .before .before .before .may-open .ensures) (m .before .before .before .if1 .left), m .measure .ensures .0)
+
+add-more : tie.Need-add-more
+add-more c =
+    let m = c .before .before in
+    omega (arith, openable _ _ _ _ (m .before .before .before .before .may-open .ensures) (m .before .before .before .if1 .left), m .measure .ensures .0)
+
 bring-back-requires : tie.Need-bring-back-requires
 bring-back-requires c κs =
     let s = open-searchable _ _ _ _ _ _ (openable _ _ _ _ (c .before .before .before .before .before .before .before .before .before .may-open .ensures) (c .before .before .before .before .before .before .before .before .if1 .left)) (c .before .before .before .before .before .measure .ensures) in
@@ -70,7 +80,8 @@ add-open-records : tie.Need-add-open-records
 add-open-records c = omega (arith, openable _ _ _ _ (c .before .before .before .before .before .before .before .before .before .before .before .before .before .before .before .before .may-open .ensures) (c .before .before .before .before .before .before .before .before .before .before .before .before .before .before .before .if1 .left), c .before .before .before .before .before .before .before .before .before .before .before .before .measure .ensures)
 
 open-records-requires : tie.Need-open-records-requires
-open-records-requires c κs = omega (arith, c .before .if2 .left, c .before .before .before .before .before .before .bring-back .ensures .0)
+open-records-requires c κs =
+    (omega (arith, c .before .if2 .left, c .before .before .before .before .before .before .bring-back .ensures .0), omega (arith, openable _ _ _ _ (c .before .before .before .before .before .before .before .before .before .before .before .before .before .before .before .before .may-open .ensures) (c .before .before .before .before .before .before .before .before .before .before .before .before .before .before .before .if1 .left), c .before .before .before .before .before .before .before .before .before .before .before .before .measure .ensures .0))
 
 add-open-copies : tie.Need-add-open-copies
 add-open-copies c = omega (arith, openable _ _ _ _ (c .before .before .before .before .before .before .before .before .before .before .before .before .before .before .before .before .before .before .before .before .before .may-open .ensures) (c .before .before .before .before .before .before .before .before .before .before .before .before .before .before .before .before .before .before .before .before .if1 .left), c .before .before .before .before .before .before .before .before .before .before .before .before .before .before .before .before .before .measure .ensures)
@@ -117,6 +128,8 @@ reopen-spec =
     measure-requires
     mul-walk
     walk-requires
+    mul-more
+    add-more
     bring-back-requires
     refused-requires-2
     same-length-4

@@ -1,4 +1,4 @@
--- `replay::gather` meets its contract. The loop's invariant: the pass has taken all positions but `left`, and `slot` is the ring slot of group
+-- `replay::gather` meets its contract. The loop's invariant: the pass has taken all positions but `left`, and `at` is the ring slot of group
 -- `number`, the next one. Assumes nothing.
 use mathlib.Core.Path.{_≡_, refl, ap, _∙_}
 use Prim.Native.Nat.{ℕ, _+_, _-_, _*_, _≤_, _<_}
@@ -14,20 +14,20 @@ use Rattle.replay.proofs.gathering.gather.Statement.{statement}
 use Rattle.replay.proofs.gathering.gather.Tie as tie
 
 abbrev Inv-loop : tie.InvT-loop
-Inv-loop log last₀ heads₀ links₀ groups homes start end base left₀ number₀ slot₀ last heads links left number slot =
+Inv-loop log last₀ heads₀ links₀ groups homes start end base left₀ number₀ at₀ last heads links left number at =
     (
     _≡_ {A = Chains} (record { last = last; heads = heads; links = links })
     (over (note (7 * start)) (entryAt log groups homes start) (7 * start) (end - 7 * start - left) fresh)
     )
     × (left ≤ end - 7 * start)
-    × Kept groups number slot
+    × Kept groups number at
     × (0 < left → 7 * start + (end - 7 * start - left) ≡ 7 * number)
     × (length last ≡ 7168)
     × (length heads ≡ 1024)
     × (length links ≡ 7168)
 
 abbrev μ-loop : tie.MeasureT-loop
-μ-loop log last₀ heads₀ links₀ groups homes start end base left₀ number₀ slot₀ last heads links left number slot = left
+μ-loop log last₀ heads₀ links₀ groups homes start end base left₀ number₀ at₀ last heads links left number at = left
 
 mul-base : tie.Need-mul-base Inv-loop μ-loop
 mul-base c = omega arith
@@ -88,6 +88,7 @@ visit-group-requires c κs =
       omega arith,
       omega (arith, next l),
       omega (arith, next l),
+      i .2 .turn,
       omega (arith, c .before .before .before .in-group .ensures),
       record { few = c .before .before .before .before .before .before .before .before .before .before .before .before .before .pre .1; lasts = i .4; words = i .5; each = i .6 },
     )

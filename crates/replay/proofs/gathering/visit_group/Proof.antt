@@ -14,7 +14,7 @@ use Rattle.replay.proofs.gathering.visit_group.Statement.{statement}
 use Rattle.replay.proofs.gathering.visit_group.Tie as tie
 
 abbrev Inv-loop : tie.InvT-loop
-Inv-loop group groups homes start n m last₀ heads₀ links₀ words base position₀ k₀ last heads links position k =
+Inv-loop group groups homes start n turn m last₀ heads₀ links₀ words base position₀ k₀ last heads links position k =
     (
     _≡_ {A = Chains} (record { last = last; heads = heads; links = links })
     (over (note (7 * start)) (entryIn group groups homes start) (7 * n) k (record { last = last₀; heads = heads₀; links = links₀ }))
@@ -26,7 +26,7 @@ Inv-loop group groups homes start n m last₀ heads₀ links₀ words base posit
     × (length links ≡ length links₀)
 
 abbrev μ-loop : tie.MeasureT-loop
-μ-loop group groups homes start n m last₀ heads₀ links₀ words base position₀ k₀ last heads links position k = m - k
+μ-loop group groups homes start n turn m last₀ heads₀ links₀ words base position₀ k₀ last heads links position k = m - k
 
 group-valid-requires : tie.Need-group-valid-requires Inv-loop μ-loop
 group-valid-requires c κs = omega arith
@@ -56,7 +56,7 @@ array-read-visit c = omega arith
 visit-requires : tie.Need-visit-requires Inv-loop μ-loop
 visit-requires c κs =
     let i = c .before .before .before .before .loop .inv in
-    let p = c .before .before .before .before .before .before .before .before .before .before .before .before .pre .6 in (
+    let p = c .before .before .before .before .before .before .before .before .before .before .before .before .pre .7 in (
       omega arith,
       omega arith,
       record { few = p .few; lasts = i .3 ∙ p .lasts; words = i .4 ∙ p .words; each = i .5 ∙ p .each },
@@ -75,7 +75,7 @@ loop-again : tie.Need-loop-again Inv-loop μ-loop
 loop-again c =
     let l = c .before .before .before .before .before .before .before .before .before .before .before .loop in
     let g : groupValid _ _ _ _ ≡ true = sym (c .before .before .before .before .before .before .before .before .before .before .before .before .before .before .group-valid .ensures) ∙ not-false _ (c .before .before .before .before .before .before .before .before .before .before .before .before .before .if1 .left) in (
-      group-turn _ _ _ _ _ _ _ _ _ _ _ _ g (omega arith) (l .inv .1) (c .before .before .before .before .before .before .before .before .before .before .before .before .tag-words .ensures (l .k) (omega arith)) (c .before .before .before .before .before .before .visit .ensures) (l .inv .0),
+      group-turn _ _ _ _ _ _ _ _ _ _ _ _ _ g (c .before .before .before .before .before .before .before .before .before .before .before .before .before .before .before .before .before .before .before .pre .5) (omega arith) (l .inv .1) (c .before .before .before .before .before .before .before .before .before .before .before .before .tag-words .ensures (l .k) (omega arith)) (c .before .before .before .before .before .before .visit .ensures) (l .inv .0),
       omega arith,
       omega arith,
       omega (arith, c .before .before .before .before .before .before .visit .kept, l .inv .3),

@@ -1,5 +1,4 @@
 -- `replay::restore_block` meets its contract. Assumes nothing.
-use mathlib.Core.Path.{refl}
 use native.Mathlib.Nat.{mod-lt}
 use native.Mathlib.Omega.{arith}
 use borrow.Author.Needs.{needs}
@@ -13,44 +12,19 @@ slot-after-requires c κs =
     let m = mod-lt (a .start) {m = a .groups} (omega arith) in
     (omega (arith, m), omega arith, omega arith)
 
-mul-from : tie.Need-mul-from
-mul-from c = search needs
+mul-copy-entry : tie.Need-mul-copy-entry
+mul-copy-entry c = search needs
 
-add-from : tie.Need-add-from
-add-from c = search needs
-
-mul-copy-block : tie.Need-mul-copy-block
-mul-copy-block c = search needs
-
-mul-copy-block-2 : tie.Need-mul-copy-block-2
-mul-copy-block-2 c = search needs
-
-add-copy-block : tie.Need-add-copy-block
-add-copy-block c = search needs
-
-add-copy-block-2 : tie.Need-add-copy-block-2
-add-copy-block-2 c = search needs
-
-copy-block-requires : tie.Need-copy-block-requires
-copy-block-requires c κs = search needs
+copy-entry-requires : tie.Need-copy-entry-requires
+copy-entry-requires c κs = search needs
 
 same-length : tie.Need-same-length
 same-length c = search needs
 
 returns : tie.Need-returns
-returns c = copied _ _ _ _ _ _ _ _ _ (c .before .before .copy-block .ensures) (offset-slot _ _ _ _ _ (c .before .before .before .before .before .before .before .pre .5) (c .before .before .before .before .slot-after .ensures .0)) refl
+returns c =
+    let k = c .before .before .before .before in
+    copied _ _ _ _ _ _ _ _ (c .before .before .copy-entry .ensures) (offset-slot _ _ _ _ _ (k .before .before .before .pre .5) (k .slot-after .ensures .0))
 
 pub restore-block-spec : {M : Type 1} → statement M
-restore-block-spec =
-    tie.close
-    (tie.spec
-    slot-after-requires
-    mul-from
-    add-from
-    mul-copy-block
-    mul-copy-block-2
-    add-copy-block
-    add-copy-block-2
-    copy-block-requires
-    same-length
-    returns)
+restore-block-spec = tie.close (tie.spec slot-after-requires mul-copy-entry copy-entry-requires same-length returns)

@@ -13,7 +13,7 @@ use Rattle.scan.proofs.commits.visit_group.Statement.{statement}
 use Rattle.scan.proofs.commits.visit_group.Tie as tie
 
 abbrev Inv-loop : tie.InvT-loop
-Inv-loop group groups homes start n m counts₀ words base reached₀ position₀ k₀ counts reached position k =
+Inv-loop group groups homes start n turn m counts₀ words base reached₀ position₀ k₀ counts reached position k =
     (
     _≡_ {A = Scan} (record { counts = counts; progress = reached })
     (entered (entryIn group groups homes start) (7 * start) (7 * n) k (record { counts = counts₀; progress = reached₀ }))
@@ -23,7 +23,7 @@ Inv-loop group groups homes start n m counts₀ words base reached₀ position�
     × (length counts ≡ length counts₀)
 
 abbrev μ-loop : tie.MeasureT-loop
-μ-loop group groups homes start n m counts₀ words base reached₀ position₀ k₀ counts reached position k = m - k
+μ-loop group groups homes start n turn m counts₀ words base reached₀ position₀ k₀ counts reached position k = m - k
 
 group-valid-requires : tie.Need-group-valid-requires Inv-loop μ-loop
 group-valid-requires c κs = omega arith
@@ -54,7 +54,7 @@ visit-requires : tie.Need-visit-requires Inv-loop μ-loop
 visit-requires c κs =
     let l = c .before .before .loop in
     let a = c .before .before .before .before .before .before .before .before in
-    (omega arith, omega arith, omega arith, omega arith, within-reached _ _ _ _ _ _ _ (omega arith) (l .inv .1) (l .inv .0) (a .pre .7))
+    (omega arith, omega arith, omega arith, omega arith, within-reached _ _ _ _ _ _ _ (omega arith) (l .inv .1) (l .inv .0) (a .pre .8))
 
 add-position : tie.Need-add-position Inv-loop μ-loop
 add-position c = omega arith
@@ -70,7 +70,7 @@ loop-again c =
     let l = c .before .before .before .before .before in
     let w = l .before in
     let g : groupValid _ _ _ _ ≡ true = sym (w .before .before .group-valid .ensures) ∙ not-false _ (w .before .if1 .left) in (
-      group-turn _ _ _ _ _ _ _ _ _ _ _ _ g (omega arith) (l .loop .inv .1) (w .tag-words .ensures (l .loop .k) (omega arith))
+      group-turn _ _ _ _ _ _ _ _ _ _ _ _ _ g (w .before .before .before .before .before .pre .5) (omega arith) (l .loop .inv .1) (w .tag-words .ensures (l .loop .k) (omega arith))
           (c .before .before .visit .ensures) (l .loop .inv .0),
       omega arith,
       omega arith,

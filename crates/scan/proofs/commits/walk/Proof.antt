@@ -1,4 +1,4 @@
--- `scan::walk` meets its contract. The loop's invariant: the pass has taken the first `n - left` positions, and `slot` is the ring slot of group
+-- `scan::walk` meets its contract. The loop's invariant: the pass has taken the first `n - left` positions, and `at` is the ring slot of group
 -- `number`, the next one. Assumes nothing.
 use mathlib.Core.Path.{_≡_, refl, sym, _∙_}
 use Prim.Native.Nat.{ℕ, _+_, _-_, _*_, _≤_, _<_}
@@ -14,18 +14,18 @@ use Rattle.scan.proofs.commits.walk.Statement.{statement}
 use Rattle.scan.proofs.commits.walk.Tie as tie
 
 abbrev Inv-loop : tie.InvT-loop
-Inv-loop log groups homes start n counts₀ progress₀ slot₀ number₀ left₀ counts progress slot number left =
+Inv-loop log groups homes start n counts₀ progress₀ at₀ number₀ left₀ counts progress at number left =
     (
     _≡_ {A = Scan} (record { counts = counts; progress = progress })
     (entered (entryAt log groups homes start) (7 * start) (7 * start) (n - left) (fresh 7168))
     )
     × (left ≤ n)
-    × Kept groups number slot
+    × Kept groups number at
     × (0 < left → 7 * start + (n - left) ≡ 7 * number)
     × (length counts ≡ 7168)
 
 abbrev μ-loop : tie.MeasureT-loop
-μ-loop log groups homes start n counts₀ progress₀ slot₀ number₀ left₀ counts progress slot number left = left
+μ-loop log groups homes start n counts₀ progress₀ at₀ number₀ left₀ counts progress at number left = left
 
 first-slot-requires : tie.Need-first-slot-requires Inv-loop μ-loop
 first-slot-requires c κs = omega arith
@@ -75,6 +75,7 @@ visit-group-requires c κs =
       omega arith,
       omega (arith, next l),
       omega (arith, next l),
+      l .before .loop .inv .2 .turn,
       omega arith,
       omega (arith, next l, c .before .in-group .ensures, l .before .loop .inv .4),
       small l,
@@ -89,7 +90,7 @@ pass c j =
 reached : (c : tie.After-visit-group Inv-loop μ-loop) (j : ℕ)
     → j ≡ c .before .before .before .before .before .before .before .before .args .n - c .before .before .before .before .before .loop .left
     + c .before .before .in-group .result
-    → _≡_ {A = Scan} (record { counts = c .visit-group .last .1 .1 .1 .1 .1 .1 .0; progress = c .visit-group .result })
+    → _≡_ {A = Scan} (record { counts = c .visit-group .last .1 .1 .1 .1 .1 .1 .1 .0; progress = c .visit-group .result })
     (pass (c .before .before .before .before .before .before .before .before) j)
 reached c j e =
     let l = c .before .before .before .before in

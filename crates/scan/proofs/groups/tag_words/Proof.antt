@@ -3,28 +3,22 @@ use mathlib.Core.Path.{_≡_, refl}
 use Prim.Native.Nat.{ℕ, _-_, _≤_, _<_}
 use native.Mathlib.Omega.{arith}
 use lib.ListN.{length, getD, length-set}
-use Rattle.model.specs.Layout.{groupTag}
+use Rattle.model.specs.Layout.{wordThere}
 use Rattle.scan.proofs.GroupLaws.{words-more}
 use Rattle.scan.proofs.groups.tag_words.Statement.{statement}
 use Rattle.scan.proofs.groups.tag_words.Tie as tie
 
 abbrev Inv-loop : tie.InvT-loop
-Inv-loop group words₀ k₀ words k = ((j : ℕ) → j < k → getD words j 0 ≡ groupTag group j) × (length words ≡ 7) × (k ≤ 7)
+Inv-loop group turn words₀ k₀ words k = ((j : ℕ) → j < k → getD words j 0 ≡ wordThere group turn j) × (length words ≡ 7) × (k ≤ 7)
 
 abbrev μ-loop : tie.MeasureT-loop
-μ-loop group words₀ k₀ words k = 7 - k
+μ-loop group turn words₀ k₀ words k = 7 - k
 
 loop-holds : tie.Need-loop-holds Inv-loop μ-loop
 loop-holds c = (λ j h. absurd (omega arith), refl, omega arith)
 
-mul-number : tie.Need-mul-number Inv-loop μ-loop
-mul-number c = omega arith
-
-add-number : tie.Need-add-number Inv-loop μ-loop
-add-number c = omega arith
-
-number-requires : tie.Need-number-requires Inv-loop μ-loop
-number-requires c κs = (omega arith, omega arith)
+word-there-requires : tie.Need-word-there-requires Inv-loop μ-loop
+word-there-requires c κs = (omega arith, omega arith)
 
 mul-words : tie.Need-mul-words Inv-loop μ-loop
 mul-words c = omega arith
@@ -41,7 +35,7 @@ loop-less c = omega arith
 loop-again : tie.Need-loop-again Inv-loop μ-loop
 loop-again c =
     let l = c .before .before .loop in
-    (words-more _ (l .words) _ _ (l .inv .1) (omega arith) (c .number .ensures .0) (l .inv .0), simp length-set (l .inv .1), omega arith)
+    (words-more _ _ (l .words) _ _ (l .inv .1) (omega arith) (c .word-there .ensures) (l .inv .0), simp length-set (l .inv .1), omega arith)
 
 returns : tie.Need-returns Inv-loop μ-loop
 returns c = λ j h. c .before .loop .inv .0 j (omega arith)
@@ -53,9 +47,7 @@ tag-words-spec =
     Inv-loop
     μ-loop
     loop-holds
-    mul-number
-    add-number
-    number-requires
+    word-there-requires
     mul-words
     array-write-words
     add-k

@@ -1,4 +1,4 @@
--- `search::seek_with` meets its contract. The loop's invariant: the pass has taken the first `n - left` positions, and `slot` is the ring slot of
+-- `search::seek_with` meets its contract. The loop's invariant: the pass has taken the first `n - left` positions, and `at` is the ring slot of
 -- group `number`, the next one. Assumes nothing.
 use mathlib.Core.Path.{_≡_, refl, sym, ap, _∙_}
 use Prim.Native.Nat.{_+_, _-_, _*_, _≤_, _<_}
@@ -16,19 +16,19 @@ use Rattle.search.proofs.pass.seek_with.Statement.{statement}
 use Rattle.search.proofs.pass.seek_with.Tie as tie
 
 abbrev Inv-loop : tie.InvT-loop
-Inv-loop log groups homes start n home own counts₀ latest₀ search₀ slot₀ number₀ left₀ counts latest search slot number left =
+Inv-loop log groups homes start n home own counts₀ latest₀ search₀ at₀ number₀ left₀ counts latest search at number left =
     (
     _≡_ {A = Pass} (record { scan = record { counts = counts; progress = search .progress }; latest = latest; newest = search .newest })
     (sought (entryAt log groups homes start) home (7 * start) (7 * start) (n - left) (unsought (length counts₀)))
     )
     × (left ≤ n)
-    × Kept groups number slot
+    × Kept groups number at
     × (0 < left → 7 * start + (n - left) ≡ 7 * number)
     × (length counts ≡ length counts₀)
     × (length latest ≡ length latest₀)
 
 abbrev μ-loop : tie.MeasureT-loop
-μ-loop log groups homes start n home own counts₀ latest₀ search₀ slot₀ number₀ left₀ counts latest search slot number left = left
+μ-loop log groups homes start n home own counts₀ latest₀ search₀ at₀ number₀ left₀ counts latest search at number left = left
 
 begin-requires : tie.Need-begin-requires Inv-loop μ-loop
 begin-requires c κs = tt
@@ -77,6 +77,7 @@ visit-group-requires c κs =
       omega arith,
       omega (arith, next),
       omega (arith, next),
+      c .before .before .before .before .before .loop .inv .2 .turn,
       omega arith,
       omega (arith, next, c .before .before .in-group .ensures, c .before .before .before .before .before .loop .inv .4),
       omega (arith, next, c .before .before .in-group .ensures, c .before .before .before .before .before .loop .inv .5, same),
@@ -103,7 +104,10 @@ next-slot-requires : tie.Need-next-slot-requires Inv-loop μ-loop
 next-slot-requires c κs = omega arith
 
 add-number : tie.Need-add-number Inv-loop μ-loop
-add-number c = omega (arith, c .before .before .before .before .before .before .before .before .before .before .before .before .before .loop .inv .3 (c .before .before .before .before .before .before .before .before .before .before .before .before .loop-test .taken))
+add-number c =
+    let l = c .before .before .before .before .before .before .before .before .before .before .before .before in
+    let p = l .before .before .before .before .before .before .before .pre in
+    omega (arith, l .before .loop .inv .3 (l .loop-test .taken), p .2, p .4, p .5)
 
 sub-left : tie.Need-sub-left Inv-loop μ-loop
 sub-left c = omega arith

@@ -14,7 +14,7 @@ use Rattle.search.proofs.pass.visit_group.Statement.{statement}
 use Rattle.search.proofs.pass.visit_group.Tie as tie
 
 abbrev Inv-loop : tie.InvT-loop
-Inv-loop group groups homes start n m home counts₀ latest₀ words base reached₀ position₀ k₀ counts latest reached position k =
+Inv-loop group groups homes start n turn m home counts₀ latest₀ words base reached₀ position₀ k₀ counts latest reached position k =
     (
     _≡_ {A = Pass} (record { scan = record { counts = counts; progress = reached .progress }; latest = latest; newest = reached .newest })
     (sought (entryIn group groups homes start) home (7 * start) (7 * n) k
@@ -26,7 +26,7 @@ Inv-loop group groups homes start n m home counts₀ latest₀ words base reache
     × (length latest ≡ length latest₀)
 
 abbrev μ-loop : tie.MeasureT-loop
-μ-loop group groups homes start n m home counts₀ latest₀ words base reached₀ position₀ k₀ counts latest reached position k = m - k
+μ-loop group groups homes start n turn m home counts₀ latest₀ words base reached₀ position₀ k₀ counts latest reached position k = m - k
 
 group-valid-requires : tie.Need-group-valid-requires Inv-loop μ-loop
 group-valid-requires c κs = omega arith
@@ -61,8 +61,8 @@ visit-requires c κs =
       omega arith,
       omega arith,
       omega arith,
-      omega (arith, l .inv .4, a .pre .7),
-      small-reached _ _ _ _ _ _ _ _ (omega arith) (l .inv .1) (l .inv .0) (a .pre .8),
+      omega (arith, l .inv .4, a .pre .8),
+      small-reached _ _ _ _ _ _ _ _ (omega arith) (l .inv .1) (l .inv .0) (a .pre .9),
     )
 
 add-position : tie.Need-add-position Inv-loop μ-loop
@@ -80,7 +80,7 @@ loop-again c =
     let l = r .before .before .before .before in
     let w = l .before in
     let g : groupValid _ _ _ _ ≡ true = sym (w .before .before .group-valid .ensures) ∙ not-false _ (w .before .if1 .left) in (
-      group-turn _ _ _ _ _ _ _ _ _ _ _ _ g (omega arith) (l .loop .inv .1) (w .tag-words .ensures (l .loop .k) (omega arith)) (r .visit .ensures)
+      group-turn _ _ _ _ _ _ _ _ _ _ _ _ _ g (w .before .before .before .before .before .before .pre .5) (omega arith) (l .loop .inv .1) (w .tag-words .ensures (l .loop .k) (omega arith)) (r .visit .ensures)
           (l .loop .inv .0),
       omega arith,
       omega arith,
