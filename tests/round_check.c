@@ -123,6 +123,27 @@ static void check_bounds(void)
     all_free();
 }
 
+/* A log that writer 6 holds back is settled once, not again and again. */
+static void check_held(void)
+{
+    uint8_t block[KAGUTIN_BLOCK_SIZE] = {0};
+
+    start(false);
+    done(kgt_begin(&store, 6), "begin");
+    done(kgt_store(&store, 6, 7, block), "store");
+    done(kgt_store(&store, 6, 8, block), "store");
+    commit_fenced(0, 3);
+    maintain(9, 3, 0);
+    maintain(9, 0, 0);
+    commit_fenced(1, 2);
+    maintain(2, 2, 1); /* what is not trimmed is written again */
+    maintain(2, 1, 0);
+    maintain(2, 0, 0);
+    done(kgt_abort(&store, 6), "abort");
+    maintain(2, 0, 0); /* nothing to settle, but groups to free */
+    all_free();
+}
+
 /* The round keeps to what was fenced when it began. */
 static void check_between(void)
 {
@@ -202,6 +223,7 @@ int main(void)
     int round;
 
     check_bounds();
+    check_held();
     check_between();
     check_full();
     for (round = 0; round < 50; round++)
