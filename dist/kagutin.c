@@ -86,6 +86,11 @@ struct slice_mut_u16 {
     size_t len;
 };
 
+struct scan__slots__RingSlot {
+    uint64_t slot;
+    uint64_t turn;
+};
+
 struct scan__commits__Found {
     uint64_t end;
     uint64_t number;
@@ -786,17 +791,35 @@ static inline void codec__blocks__clear(struct slice_mut_u8 dst, uint64_t at, ui
     }
 }
 
-/* Writes the blank group of number `n` into a ring slot. */
-static inline void areas__groups__put_blank(struct slice_mut_u8 log, uint64_t slot, uint64_t n)
+/* Writes seven data blocks of zeros but for the turn bit `bit` from index `at` on. */
+static inline void areas__turns__put_turn_blocks(struct slice_mut_u8 dst, uint64_t at, uint64_t bit)
 {
-    uint64_t t4, t14;
+    uint8_t t4;
+    uint64_t t5, t6;
 
-    t4 = 64u + (512u * slot);
-    codec__marks__put_group_mark(log, t4);
-    t14 = t4 + 2u;
-    store_4(log.ptr + (size_t)t14, n);
-    store_2(log.ptr + (size_t)(t14 + 4u), n / UINT64_C(0x100000000));
-    codec__blocks__clear(log, t4 + 8u, 504u);
+    t4 = (uint8_t)((uint32_t)128u * (uint8_t)bit);
+    t5 = at;
+    t6 = 7u;
+    while (0u < t6) {
+        codec__blocks__clear(dst, t5, 63u);
+        dst.ptr[(size_t)(t5 + 63u)] = t4;
+        t5 = t5 + 64u;
+        t6 = t6 - 1u;
+    }
+}
+
+/* Writes the blank group of number `n`, which has the turn `turn`, into a ring slot. */
+static inline void areas__groups__put_blank(struct slice_mut_u8 log, uint64_t slot, uint64_t n, uint64_t turn)
+{
+    uint64_t t5, t17;
+
+    t5 = 64u + (512u * slot);
+    codec__marks__put_group_mark(log, t5);
+    t17 = t5 + 2u;
+    store_4(log.ptr + (size_t)t17, n);
+    store_2(log.ptr + (size_t)(t17 + 4u), n / UINT64_C(0x100000000));
+    codec__blocks__clear(log, t5 + 8u, 56u);
+    areas__turns__put_turn_blocks(log, t5 + 64u, turn);
 }
 
 /* Writes the bytes of `src` from index `at` on, and leaves the other bytes as they were. */
@@ -821,34 +844,40 @@ static inline void codec__blocks__copy(struct slice_mut_u8 dst, uint64_t at, str
     }
 }
 
-/* Writes the block that stands in `src` from index `from` on into `dst` from index `at` on. */
-static inline void areas__blocks__copy_block(struct slice_mut_u8 dst, uint64_t at, struct slice_u8 src, uint64_t from)
+/* Writes the block that stands in `src` from index `from` on, with the top bit `bit`, into `dst` from index `at` on. */
+static inline void codec__turns__copy_with_top_bit(struct slice_mut_u8 dst, uint64_t at, struct slice_u8 src, uint64_t from,
+        uint64_t bit)
 {
     codec__blocks__copy(dst, at, (struct slice_u8){src.ptr + (size_t)from, (size_t)((from + 64u) - from)});
+    dst.ptr[(size_t)(at + 63u)] = (uint8_t)((uint32_t)(uint8_t)((uint32_t)src.ptr[(size_t)(from + 63u)] % 128u)
+            + (uint8_t)((uint32_t)128u * (uint8_t)bit));
 }
 
-/* Writes an entry's tag and its block at index `k` of the group in a ring slot. */
-static inline void areas__groups__put_entry(struct slice_mut_u8 log, uint64_t slot, uint64_t k, uint64_t word,
+/* Writes an entry's tag and its block at index `k` of the group in a ring slot: the block gets the turn bit, and the tag the bit
+   that it displaces. */
+static inline void areas__groups__put_entry(struct slice_mut_u8 log, uint64_t slot, uint64_t turn, uint64_t k, uint64_t word,
         struct slice_u8 block)
 {
-    uint64_t t6;
+    uint64_t t7;
 
-    t6 = 64u + (512u * slot);
-    store_8(log.ptr + (size_t)(t6 + (8u + (8u * k))), word);
-    areas__blocks__copy_block(log, t6 + (64u + (64u * k)), block, 0u);
+    t7 = 64u + (512u * slot);
+    store_8(log.ptr + (size_t)(t7 + (8u + (8u * k))), word | ((uint64_t)(uint8_t)((uint32_t)block.ptr[(size_t)((uint64_t)0u
+            + 63u)] >> 7u) << 57u));
+    codec__turns__copy_with_top_bit(log, t7 + (64u + (64u * k)), block, 0u, turn);
 }
 
-/* Writes an entry's tag and block at the next position, and a blank group first where the position is a group's first. */
-static inline void areas__groups__enter(struct slice_mut_u8 log, uint64_t slot, struct model__State st, uint64_t word,
-        struct slice_u8 block)
+/* Writes an entry's tag and block at the next position, whose group has the turn `turn`, and a blank group first where the
+   position is a group's first. */
+static inline void areas__groups__enter(struct slice_mut_u8 log, uint64_t slot, uint64_t turn, struct model__State st,
+        uint64_t word, struct slice_u8 block)
 {
-    uint64_t t6;
+    uint64_t t7;
 
-    t6 = st.filled;
-    if (t6 == 0u) {
-        areas__groups__put_blank(log, slot, st.next);
+    t7 = st.filled;
+    if (t7 == 0u) {
+        areas__groups__put_blank(log, slot, st.next, turn);
     }
-    areas__groups__put_entry(log, slot, t6, word, block);
+    areas__groups__put_entry(log, slot, turn, t7, word, block);
 }
 
 /* Writes the mark of a group write at index `at`. */
@@ -879,19 +908,20 @@ static inline uint64_t batch__records__group_write(struct slice_mut_u8 batch, ui
 static inline uint64_t logging__entry__log_entry(struct slice_mut_u8 log, struct slice_mut_u8 state, struct slice_mut_u8 batch,
         struct model__State st, uint64_t word, uint64_t w)
 {
-    uint64_t t7, t8, t10;
+    uint64_t t7, t9, t11;
 
     t7 = st.next % st.groups;
-    t8 = (128u + (96u * w)) + 32u;
-    areas__groups__enter(log, t7, st, word, (struct slice_u8){state.ptr + (size_t)t8, (size_t)((t8 + 64u) - t8)});
+    t9 = (128u + (96u * w)) + 32u;
+    areas__groups__enter(log, t7, (st.next / st.groups) % 2u, st, word, (struct slice_u8){state.ptr + (size_t)t9, (size_t)((t9
+            + 64u) - t9)});
     if (st.filled != 6u) {
         store_8(state.ptr + 32u, st.filled + 1u);
         return 0u;
     }
     store_8(state.ptr + 24u, st.next + 1u);
     store_8(state.ptr + 32u, 0u);
-    t10 = batch__records__group_write(batch, 0u, t7, (struct slice_u8){log.ptr, log.len});
-    return t10;
+    t11 = batch__records__group_write(batch, 0u, t7, (struct slice_u8){log.ptr, log.len});
+    return t11;
 }
 
 /* Logs the held block as the closing entry and ends the transaction. */
@@ -1122,7 +1152,7 @@ static inline void codec__marks__put_header_mark(struct slice_mut_u8 dst, uint64
     struct array_u8_2 t3;
     struct slice_u8 t10;
 
-    t3 = (struct array_u8_2){{80u, 72u}};
+    t3 = (struct array_u8_2){{80u, 84u}};
     t10 = (struct slice_u8){t3.at, 2u};
     dst.ptr[(size_t)at] = t10.ptr[0u];
     dst.ptr[(size_t)(at + 1u)] = t10.ptr[1u];
@@ -1143,11 +1173,41 @@ static inline void areas__header__put_header(struct slice_mut_u8 dst, uint64_t a
     codec__blocks__clear(dst, at + 12u, 52u);
 }
 
-/* Makes the log copy as it is after formatting. */
-static inline void recovery__formatting__format_log(struct slice_mut_u8 log, uint64_t groups, uint64_t homes)
+/* The turn bit of an unused ring slot: opposite to that of the group which it gets next, in a log whose start lies in the slot
+   `first` and has the turn `turn`. The slots before the start's get a group of the next turn. */
+static inline uint64_t areas__unused__unused_bit(uint64_t slot, uint64_t first, uint64_t turn)
 {
-    codec__blocks__clear(log, 0u, (uint64_t)log.len);
-    areas__header__put_header(log, 0u, 0u, groups, homes);
+    uint64_t t5;
+
+    if (slot < first) {
+        t5 = turn;
+    } else {
+        t5 = 1u - turn;
+    }
+    return t5;
+}
+
+/* Writes an unused group, whose data blocks have the turn bit `bit`, from index `at` on. */
+static inline void areas__unused__put_unused(struct slice_mut_u8 dst, uint64_t at, uint64_t bit)
+{
+    codec__blocks__clear(dst, at, 64u);
+    areas__turns__put_turn_blocks(dst, at + 64u, bit);
+}
+
+/* Makes a log copy empty, with its start at group `start`. */
+static inline void areas__unused__put_empty_log(struct slice_mut_u8 log, uint64_t start, uint64_t groups, uint64_t homes)
+{
+    uint64_t t5, t6, t7, t19;
+
+    areas__header__put_header(log, 0u, start, groups, homes);
+    t5 = start % groups;
+    t6 = (start / groups) % 2u;
+    t7 = 0u;
+    while (t7 < groups) {
+        t19 = areas__unused__unused_bit(t7, t5, t6);
+        areas__unused__put_unused(log, 64u + (512u * t7), t19);
+        t7 = t7 + 1u;
+    }
 }
 
 /* Makes every byte of the data copy zero. */
@@ -1176,27 +1236,30 @@ static inline uint64_t batch__records__zero_header_write(struct slice_mut_u8 bat
     return at + 66u;
 }
 
-/* Appends the write of zeros to a ring slot. */
-static inline uint64_t batch__records__zero_group_write(struct slice_mut_u8 batch, uint64_t at, uint64_t slot)
+/* Appends the write of an unused group, whose data blocks have the turn bit `bit`, to a ring slot. */
+static inline uint64_t batch__records__unused_write(struct slice_mut_u8 batch, uint64_t at, uint64_t slot, uint64_t bit)
 {
     codec__marks__put_group_write_mark(batch, at);
     store_2(batch.ptr + (size_t)(at + 2u), slot);
-    codec__blocks__clear(batch, at + 4u, 512u);
+    areas__unused__put_unused(batch, at + 4u, bit);
     return at + 516u;
 }
 
-/* Appends the writes of zeros to the first `groups` ring slots, rising. */
-static inline uint64_t batch__format__all_groups(struct slice_mut_u8 batch, uint64_t at, uint64_t groups)
+/* Appends the writes of all ring slots as unused, rising, for a log that starts at group `start`. */
+static inline uint64_t batch__format__all_groups(struct slice_mut_u8 batch, uint64_t at, uint64_t start, uint64_t groups)
 {
-    uint64_t t4, t5;
+    uint64_t t5, t6, t7, t8, t13;
 
-    t4 = at;
-    t5 = 0u;
-    while (t5 < groups) {
-        t4 = batch__records__zero_group_write(batch, t4, t5);
-        t5 = t5 + 1u;
+    t5 = start % groups;
+    t6 = (start / groups) % 2u;
+    t7 = at;
+    t8 = 0u;
+    while (t8 < groups) {
+        t13 = areas__unused__unused_bit(t8, t5, t6);
+        t7 = batch__records__unused_write(batch, t7, t8, t13);
+        t8 = t8 + 1u;
     }
-    return t4;
+    return t7;
 }
 
 /* Writes the mark of a home write at index `at`. */
@@ -1250,7 +1313,7 @@ static inline uint64_t batch__format__format_batch(struct slice_mut_u8 batch, ui
 
     t4 = batch__records__zero_header_write(batch, 0u);
     t4 = batch__records__fence(batch, t4);
-    t4 = batch__format__all_groups(batch, t4, groups);
+    t4 = batch__format__all_groups(batch, t4, 0u, groups);
     t4 = batch__format__all_homes(batch, t4, homes);
     t4 = batch__records__fence(batch, t4);
     t4 = batch__records__header_write(batch, t4, 0u, groups, homes);
@@ -1270,7 +1333,7 @@ static inline struct answers__Reply recovery__formatting__format(struct slice_mu
     }
     t5 = areas__lengths__log_groups((uint64_t)log.len);
     t6 = (uint64_t)area.len / 64u;
-    recovery__formatting__format_log(log, t5, t6);
+    areas__unused__put_empty_log(log, 0u, t5, t6);
     recovery__formatting__format_area(area);
     t7 = batch__format__format_batch(batch, t5, t6);
     return (struct answers__Reply){.code = 0u, .figure = 0u, .size = t7};
@@ -1310,7 +1373,7 @@ static inline bool codec__marks__has_header_mark(struct slice_u8 s, uint64_t at)
 {
     struct array_u8_2 t3;
 
-    t3 = (struct array_u8_2){{80u, 72u}};
+    t3 = (struct array_u8_2){{80u, 84u}};
     return codec__marks__has_mark(s, at, (struct slice_u8){t3.at, 2u});
 }
 
@@ -1423,19 +1486,29 @@ static inline bool scan__groups__group_valid(struct slice_u8 group, uint64_t gro
     return n < (start + groups);
 }
 
-/* The words of a group's seven tags, read in a row. */
-static inline struct array_u64_7 scan__groups__tag_words(struct slice_u8 group)
+/* The word of tag `k` of a group if its data block has the turn of the group, else that of no entry. */
+static inline uint64_t scan__groups__word_there(struct slice_u8 group, uint64_t turn, uint64_t k)
 {
-    struct array_u64_7 t2;
-    uint64_t t3;
-
-    memset(&t2, 0, sizeof t2);
-    t3 = 0u;
-    while (t3 < 7u) {
-        t2.at[(size_t)t3] = load_8(group.ptr + (size_t)(8u + (8u * t3)));
-        t3 = t3 + 1u;
+    if ((uint64_t)(uint8_t)((uint32_t)group.ptr[(size_t)((64u + (64u * k)) + 63u)] >> 7u) != turn) {
+        return 0u;
     }
-    return t2;
+    return load_8(group.ptr + (size_t)(8u + (8u * k)));
+}
+
+/* The words of a group's seven tags that are there, read in a row; `turn` is the group's. */
+static inline struct array_u64_7 scan__groups__tag_words(struct slice_u8 group, uint64_t turn)
+{
+    struct array_u64_7 t3;
+    uint64_t t4, t6;
+
+    memset(&t3, 0, sizeof t3);
+    t4 = 0u;
+    while (t4 < 7u) {
+        t6 = scan__groups__word_there(group, turn, t4);
+        t3.at[(size_t)t4] = t6;
+        t4 = t4 + 1u;
+    }
+    return t3;
 }
 
 /* What a word says at a position of a log that starts at position `base` and has `homes` homes. */
@@ -1446,7 +1519,7 @@ static inline struct model__Tag codec__tags__read_tag(uint64_t word, uint64_t po
     if ((word & 1u) == 0u) {
         return (struct model__Tag){.tag = 0u};
     }
-    if ((word >> 57u) != 0u) {
+    if ((word >> 58u) != 0u) {
         return (struct model__Tag){.tag = 0u};
     }
     t5 = ((word >> 2u) & 4095u) | (((word >> 53u) & 15u) << 12u);
@@ -1536,44 +1609,44 @@ static inline struct scan__commits__Progress scan__commits__visit(uint64_t word,
     return t13;
 }
 
-/* Takes the first `m` tags of a group, which says nothing where it is not the valid group with number `n`. */
+/* Takes the first `m` tags of a group, which says nothing where it is not the valid group with number `n` and turn `turn`. */
 static inline struct scan__commits__Progress scan__commits__visit_group(struct slice_u8 group, uint64_t groups, uint64_t homes,
-        uint64_t start, uint64_t n, uint64_t m, struct slice_mut_u16 counts, struct scan__commits__Progress progress)
+        uint64_t start, uint64_t n, uint64_t turn, uint64_t m, struct slice_mut_u16 counts,
+        struct scan__commits__Progress progress)
 {
-    struct array_u64_7 t9, t16;
-    uint64_t t10, t12, t13;
-    struct scan__commits__Progress t11;
-    bool t14;
+    struct array_u64_7 t10, t17;
+    uint64_t t11, t13, t14;
+    struct scan__commits__Progress t12;
+    bool t15;
 
-    t14 = scan__groups__group_valid(group, groups, start, n);
-    if (!t14) {
+    t15 = scan__groups__group_valid(group, groups, start, n);
+    if (!t15) {
         return progress;
     }
-    t16 = scan__groups__tag_words(group);
-    t9 = t16;
-    t10 = 7u * start;
-    t11 = progress;
-    t12 = 7u * n;
-    t13 = 0u;
-    while (t13 < m) {
-        t11 = scan__commits__visit(t9.at[(size_t)t13], t12, t10, homes, counts, t11);
-        t12 = t12 + 1u;
+    t17 = scan__groups__tag_words(group, turn);
+    t10 = t17;
+    t11 = 7u * start;
+    t12 = progress;
+    t13 = 7u * n;
+    t14 = 0u;
+    while (t14 < m) {
+        t12 = scan__commits__visit(t10.at[(size_t)t14], t13, t11, homes, counts, t12);
         t13 = t13 + 1u;
+        t14 = t14 + 1u;
     }
-    return t11;
+    return t12;
 }
 
-/* The ring slot of the group after that in `slot`. */
-static inline uint64_t scan__slots__next_slot(uint64_t slot, uint64_t groups)
+/* Those of the group after: the turn changes where the slots begin again. */
+static inline struct scan__slots__RingSlot scan__slots__next_slot(struct scan__slots__RingSlot at, uint64_t groups)
 {
-    uint64_t t5;
+    uint64_t t3;
 
-    if ((slot + 1u) == groups) {
-        t5 = 0u;
-    } else {
-        t5 = slot + 1u;
+    t3 = at.slot + 1u;
+    if (t3 == groups) {
+        return (struct scan__slots__RingSlot){.slot = 0u, .turn = 1u - at.turn};
     }
-    return t5;
+    return (struct scan__slots__RingSlot){.slot = t3, .turn = at.turn};
 }
 
 /* Walks the `n` positions of the log from its start on, group by group, and finds where the committed transactions end and how
@@ -1583,18 +1656,19 @@ static inline struct scan__commits__Found scan__commits__walk(struct slice_u8 lo
 {
     struct array_u16_7168 t6;
     struct scan__commits__Progress t7;
-    uint64_t t8, t9, t10, t11, t13;
+    struct scan__slots__RingSlot t8;
+    uint64_t t9, t10, t11, t13;
 
     memset(&t6, 0, sizeof t6);
     t7 = (struct scan__commits__Progress){.end = 0u, .number = 0u, .failed = 0u};
-    t8 = start % groups;
+    t8 = (struct scan__slots__RingSlot){.slot = start % groups, .turn = (start / groups) % 2u};
     t9 = start;
     t10 = n;
     while (0u < t10) {
-        t11 = 64u + (512u * t8);
+        t11 = 64u + (512u * t8.slot);
         t13 = scan__commits__in_group(t10);
         t7 = scan__commits__visit_group((struct slice_u8){log.ptr + (size_t)t11, (size_t)((t11 + 512u) - t11)}, groups, homes,
-                start, t9, t13, (struct slice_mut_u16){t6.at, 7168u}, t7);
+                start, t9, t8.turn, t13, (struct slice_mut_u16){t6.at, 7168u}, t7);
         if (t7.failed != 0u) {
             return (struct scan__commits__Found){.end = t7.end, .number = t7.number};
         }
@@ -1627,27 +1701,27 @@ static inline void replay__gathering__visit(uint64_t word, uint64_t position, ui
     }
 }
 
-/* Takes the first `m` tags of a group, which says nothing where it is not the valid group with number `n`. */
+/* Takes the first `m` tags of a group, which says nothing where it is not the valid group with number `n` and turn `turn`. */
 static inline void replay__gathering__visit_group(struct slice_u8 group, uint64_t groups, uint64_t homes, uint64_t start,
-        uint64_t n, uint64_t m, struct slice_mut_u16 last, struct slice_mut_u16 heads, struct slice_mut_u16 links)
+        uint64_t n, uint64_t turn, uint64_t m, struct slice_mut_u16 last, struct slice_mut_u16 heads, struct slice_mut_u16 links)
 {
-    struct array_u64_7 t10, t16;
-    uint64_t t11, t12, t13;
-    bool t14;
+    struct array_u64_7 t11, t17;
+    uint64_t t12, t13, t14;
+    bool t15;
 
-    t14 = scan__groups__group_valid(group, groups, start, n);
-    if (!t14) {
+    t15 = scan__groups__group_valid(group, groups, start, n);
+    if (!t15) {
         return;
     }
-    t16 = scan__groups__tag_words(group);
-    t10 = t16;
-    t11 = 7u * start;
-    t12 = 7u * n;
-    t13 = 0u;
-    while (t13 < m) {
-        replay__gathering__visit(t10.at[(size_t)t13], t12, t11, homes, last, heads, links);
-        t12 = t12 + 1u;
+    t17 = scan__groups__tag_words(group, turn);
+    t11 = t17;
+    t12 = 7u * start;
+    t13 = 7u * n;
+    t14 = 0u;
+    while (t14 < m) {
+        replay__gathering__visit(t11.at[(size_t)t14], t13, t12, homes, last, heads, links);
         t13 = t13 + 1u;
+        t14 = t14 + 1u;
     }
 }
 
@@ -1655,7 +1729,8 @@ static inline void replay__gathering__visit_group(struct slice_u8 group, uint64_
 static inline void replay__gathering__gather(struct slice_u8 log, struct slice_mut_u16 last, struct slice_mut_u16 heads,
         struct slice_mut_u16 links, uint64_t groups, uint64_t homes, uint64_t start, uint64_t end)
 {
-    uint64_t t9, t10, t11, t12, t13, t15;
+    uint64_t t9, t10, t11, t13, t15;
+    struct scan__slots__RingSlot t12;
 
     t9 = 7u * start;
     if (end <= t9) {
@@ -1663,12 +1738,12 @@ static inline void replay__gathering__gather(struct slice_u8 log, struct slice_m
     }
     t10 = end - t9;
     t11 = start;
-    t12 = start % groups;
+    t12 = (struct scan__slots__RingSlot){.slot = start % groups, .turn = (start / groups) % 2u};
     while (0u < t10) {
-        t13 = 64u + (512u * t12);
+        t13 = 64u + (512u * t12.slot);
         t15 = scan__commits__in_group(t10);
         replay__gathering__visit_group((struct slice_u8){log.ptr + (size_t)t13, (size_t)((t13 + 512u) - t13)}, groups, homes,
-                start, t11, t15, last, heads, links);
+                start, t11, t12.turn, t15, last, heads, links);
         t12 = scan__slots__next_slot(t12, groups);
         t11 = t11 + 1u;
         t10 = t10 - t15;
@@ -1798,21 +1873,34 @@ static inline uint64_t replay__words__count_word(struct slice_u8 log, struct sli
 static inline uint64_t replay__words__count(struct slice_u8 log, struct slice_u16 last, struct slice_u16 heads,
         struct slice_u16 links, uint64_t groups, uint64_t homes, uint64_t start, uint64_t end)
 {
-    uint64_t t9, t10, t11, t12, t16;
+    uint64_t t9, t10, t11, t12, t17;
+    struct scan__slots__RingSlot t13;
 
-    t9 = start % groups;
+    t13 = (struct scan__slots__RingSlot){.slot = start % groups, .turn = (start / groups) % 2u};
+    t9 = t13.slot;
     t10 = (homes + 63u) / 64u;
     t11 = 0u;
     t12 = 0u;
     while (t12 < t10) {
-        t16 = replay__words__count_word(log, last, heads, links, t12, groups, homes, start, end, t9);
-        t11 = t11 + t16;
+        t17 = replay__words__count_word(log, last, heads, links, t12, groups, homes, start, end, t9);
+        t11 = t11 + t17;
         t12 = t12 + 1u;
     }
     return t11;
 }
 
-/* Copies the block at an offset to a home. */
+/* Writes the block that the entry at index `k` of the group in a ring slot gives, with the displaced bit back in its place, from
+   index `at` on. */
+static inline void areas__groups__copy_entry(struct slice_mut_u8 dst, uint64_t at, struct slice_u8 log, uint64_t slot, uint64_t k)
+{
+    uint64_t t6;
+
+    t6 = 64u + (512u * slot);
+    codec__turns__copy_with_top_bit(dst, at, log, t6 + (64u + (64u * k)), (load_8(log.ptr + (size_t)(t6 + (8u
+            + (8u * k)))) >> 57u) & 1u);
+}
+
+/* Copies the block that the entry at an offset gives to a home. */
 static inline void replay__places__restore_block(struct slice_u8 log, struct slice_mut_u8 area, uint64_t groups, uint64_t start,
         uint64_t slot, uint64_t offset, uint64_t home)
 {
@@ -1820,7 +1908,7 @@ static inline void replay__places__restore_block(struct slice_u8 log, struct sli
     (void)start;
 
     t9 = replay__places__slot_after(slot, offset / 7u, groups);
-    areas__blocks__copy_block(area, 64u * home, log, (64u + (512u * t9)) + (64u + (64u * (offset % 7u))));
+    areas__groups__copy_entry(area, 64u * home, log, t9, offset % 7u);
 }
 
 /* Copies to each home that one word marks, whose first home is `base`, the block of its newest entry. */
@@ -1835,6 +1923,12 @@ static inline void replay__restore__restore_word(struct slice_u8 log, struct sli
         replay__places__restore_block(log, area, groups, start, slot, (uint64_t)table.ptr[(size_t)t10] - 1u, base + t10);
         t9 = t9 & (t9 - 1u);
     }
+}
+
+/* Writes the block that stands in `src` from index `from` on into `dst` from index `at` on. */
+static inline void areas__blocks__copy_block(struct slice_mut_u8 dst, uint64_t at, struct slice_u8 src, uint64_t from)
+{
+    codec__blocks__copy(dst, at, (struct slice_u8){src.ptr + (size_t)from, (size_t)((from + 64u) - from)});
 }
 
 /* Appends the write of the block that the data area holds in a home. */
@@ -1887,8 +1981,10 @@ static inline uint64_t replay__restore__bring_back(struct slice_u8 log, struct s
         uint64_t end)
 {
     uint64_t t11, t12, t13, t14;
+    struct scan__slots__RingSlot t15;
 
-    t11 = start % groups;
+    t15 = (struct scan__slots__RingSlot){.slot = start % groups, .turn = (start / groups) % 2u};
+    t11 = t15.slot;
     t12 = (homes + 63u) / 64u;
     t13 = 0u;
     t14 = 0u;
@@ -1926,7 +2022,7 @@ static inline uint64_t recovery__planning__bring_back(struct slice_u8 log, struc
     return t13;
 }
 
-/* Writes a fence, the header with a new start and another fence at an index of the batch. */
+/* Writes a fence, the header with a new start, another fence, all groups as unused, and a last fence at an index of the batch. */
 static inline void recovery__opening__open_records(struct slice_mut_u8 batch, uint64_t at, uint64_t start, uint64_t groups,
         uint64_t homes)
 {
@@ -1934,6 +2030,8 @@ static inline void recovery__opening__open_records(struct slice_mut_u8 batch, ui
 
     t6 = batch__records__fence(batch, at);
     t6 = batch__records__header_write(batch, t6, start, groups, homes);
+    t6 = batch__records__fence(batch, t6);
+    t6 = batch__format__all_groups(batch, t6, start, groups);
     (void)batch__records__fence(batch, t6);
 }
 
@@ -1959,11 +2057,11 @@ static inline void strip__fields__fresh(struct slice_mut_u8 s, uint64_t groups, 
     store_8(s.ptr + 56u, t5);
 }
 
-/* Puts the header with a new start into the log copy, and makes the strip that of an empty log. */
+/* Makes the log copy empty from a new start on, and the strip that of an empty log. */
 static inline void recovery__opening__open_copies(struct slice_mut_u8 log, struct slice_mut_u8 state, uint64_t groups,
         uint64_t homes, uint64_t start)
 {
-    areas__header__put_header(log, 0u, start, groups, homes);
+    areas__unused__put_empty_log(log, start, groups, homes);
     strip__fields__fresh(state, groups, homes, start);
 }
 
@@ -1971,7 +2069,7 @@ static inline void recovery__opening__open_copies(struct slice_mut_u8 log, struc
 static inline struct answers__Reply recovery__opening__reopen(struct slice_mut_u8 log, struct slice_mut_u8 area,
         struct slice_mut_u8 state, struct slice_mut_u8 batch)
 {
-    uint64_t t5, t7, t8, t9, t12;
+    uint64_t t5, t7, t8, t9, t12, t13;
     struct recovery__opening__Shape t6;
     struct scan__commits__Found t10;
 
@@ -1985,13 +2083,14 @@ static inline struct answers__Reply recovery__opening__reopen(struct slice_mut_u
     t8 = t6.homes;
     t9 = t6.start;
     t10 = scan__commits__walk((struct slice_u8){log.ptr, log.len}, t7, t8, t9, 7u * t7);
-    t12 = recovery__planning__bring_back((struct slice_u8){log.ptr, log.len}, area, batch, t7, t8, t9, t10.end, 70u);
-    if ((uint64_t)batch.len < t12) {
+    t12 = 72u + (516u * t7);
+    t13 = recovery__planning__bring_back((struct slice_u8){log.ptr, log.len}, area, batch, t7, t8, t9, t10.end, t12);
+    if ((uint64_t)batch.len < t13) {
         return (struct answers__Reply){.code = 9u, .figure = 0u, .size = 0u};
     }
-    recovery__opening__open_records(batch, t12 - 70u, t9 + t7, t7, t8);
+    recovery__opening__open_records(batch, t13 - t12, t9 + t7, t7, t8);
     recovery__opening__open_copies(log, state, t7, t8, t9 + t7);
-    return (struct answers__Reply){.code = 0u, .figure = t10.number, .size = t12};
+    return (struct answers__Reply){.code = 0u, .figure = t10.number, .size = t13};
 }
 
 /* Brings back what a power cut left: replays the committed transactions into the data copy and starts the log anew. */
@@ -2128,32 +2227,32 @@ static inline struct search__pass__Search search__pass__visit(uint64_t word, uin
     return t23;
 }
 
-/* Takes the first `m` tags of a group, which says nothing where it is not the valid group with number `n`. */
+/* Takes the first `m` tags of a group, which says nothing where it is not the valid group with number `n` and turn `turn`. */
 static inline struct search__pass__Search search__pass__visit_group(struct slice_u8 group, uint64_t groups, uint64_t homes,
-        uint64_t start, uint64_t n, uint64_t m, uint64_t home, struct slice_mut_u16 counts, struct slice_mut_u16 latest,
-        struct search__pass__Search search)
+        uint64_t start, uint64_t n, uint64_t turn, uint64_t m, uint64_t home, struct slice_mut_u16 counts,
+        struct slice_mut_u16 latest, struct search__pass__Search search)
 {
-    struct array_u64_7 t11, t18;
-    uint64_t t12, t14, t15;
-    struct search__pass__Search t13;
-    bool t16;
+    struct array_u64_7 t12, t19;
+    uint64_t t13, t15, t16;
+    struct search__pass__Search t14;
+    bool t17;
 
-    t16 = scan__groups__group_valid(group, groups, start, n);
-    if (!t16) {
+    t17 = scan__groups__group_valid(group, groups, start, n);
+    if (!t17) {
         return search;
     }
-    t18 = scan__groups__tag_words(group);
-    t11 = t18;
-    t12 = 7u * start;
-    t13 = search;
-    t14 = 7u * n;
-    t15 = 0u;
-    while (t15 < m) {
-        t13 = search__pass__visit(t11.at[(size_t)t15], t14, t12, homes, home, counts, latest, t13);
-        t14 = t14 + 1u;
+    t19 = scan__groups__tag_words(group, turn);
+    t12 = t19;
+    t13 = 7u * start;
+    t14 = search;
+    t15 = 7u * n;
+    t16 = 0u;
+    while (t16 < m) {
+        t14 = search__pass__visit(t12.at[(size_t)t16], t15, t13, homes, home, counts, latest, t14);
         t15 = t15 + 1u;
+        t16 = t16 + 1u;
     }
-    return t13;
+    return t14;
 }
 
 /* Whether the pass may stop: a closing entry has failed, and the writer has logged nothing. */
@@ -2182,19 +2281,20 @@ static inline uint64_t search__pass__seek_with(struct slice_u8 log, uint64_t gro
         uint64_t home, uint64_t own, struct slice_mut_u16 counts, struct slice_mut_u16 latest)
 {
     struct search__pass__Search t10;
-    uint64_t t11, t12, t13, t14, t16;
+    struct scan__slots__RingSlot t11;
+    uint64_t t12, t13, t14, t16;
     bool t26;
 
     t10 = (struct search__pass__Search){.progress = (struct scan__commits__Progress){.end = 0u, .number = 0u, .failed = 0u},
             .newest = 0u};
-    t11 = start % groups;
+    t11 = (struct scan__slots__RingSlot){.slot = start % groups, .turn = (start / groups) % 2u};
     t12 = start;
     t13 = n;
     while (0u < t13) {
-        t14 = 64u + (512u * t11);
+        t14 = 64u + (512u * t11.slot);
         t16 = scan__commits__in_group(t13);
         t10 = search__pass__visit_group((struct slice_u8){log.ptr + (size_t)t14, (size_t)((t14 + 512u) - t14)}, groups, homes,
-                start, t12, t16, home, counts, latest, t10);
+                start, t12, t11.turn, t16, home, counts, latest, t10);
         t26 = search__pass__may_stop(own, t10.progress.failed);
         if (t26) {
             return t10.newest;
@@ -2246,10 +2346,10 @@ static inline void areas__homes__get_home(struct slice_mut_u8 block, struct slic
     areas__blocks__copy_block(block, 0u, area, 64u * home);
 }
 
-/* Copies the block of the entry at a position. */
+/* Copies the block that the entry at a position gives. */
 static inline void reading__blocks__show_entry(struct slice_mut_u8 block, struct slice_u8 log, uint64_t groups, uint64_t position)
 {
-    areas__blocks__copy_block(block, 0u, log, (64u + (512u * ((position / 7u) % groups))) + (64u + (64u * (position % 7u))));
+    areas__groups__copy_entry(block, 0u, log, (position / 7u) % groups, position % 7u);
 }
 
 /* Copies the block of a home that a writer sees. */
@@ -2616,17 +2716,17 @@ static inline uint64_t limits__writers__open_limit(struct slice_u8 state, uint64
     return t3;
 }
 
-/* The ring slot of the group before that in `slot`. */
-static inline uint64_t scan__slots__previous_slot(uint64_t slot, uint64_t groups)
+/* Those of the group before. */
+static inline struct scan__slots__RingSlot scan__slots__previous_slot(struct scan__slots__RingSlot at, uint64_t groups)
 {
-    uint64_t t4;
+    uint64_t t3, t4;
 
-    if (slot == 0u) {
-        t4 = groups - 1u;
-    } else {
-        t4 = slot - 1u;
+    t3 = at.slot;
+    t4 = at.turn;
+    if (t3 == 0u) {
+        return (struct scan__slots__RingSlot){.slot = groups - 1u, .turn = 1u - t4};
     }
-    return t4;
+    return (struct scan__slots__RingSlot){.slot = t3 - 1u, .turn = t4};
 }
 
 /* A limit lowered to the group in which the transaction begins that the word of a tag closes, if it closes one. */
@@ -2652,48 +2752,50 @@ static inline uint64_t limits__spans__word_limit(uint64_t word, uint64_t positio
     return t9;
 }
 
-/* A limit lowered by the first `m` tags of a group, which says nothing where it is not the valid group with number `n`. */
+/* A limit lowered by the first `m` tags of a group, which says nothing where it is not the valid group with number `n` and turn
+   `turn`. */
 static inline uint64_t limits__spans__group_limit(struct slice_u8 group, uint64_t groups, uint64_t homes, uint64_t start,
-        uint64_t n, uint64_t m, uint64_t limit)
+        uint64_t n, uint64_t turn, uint64_t m, uint64_t limit)
 {
-    struct array_u64_7 t8, t15;
-    uint64_t t9, t10, t11, t12;
-    bool t13;
+    struct array_u64_7 t9, t16;
+    uint64_t t10, t11, t12, t13;
+    bool t14;
 
-    t13 = scan__groups__group_valid(group, groups, start, n);
-    if (!t13) {
+    t14 = scan__groups__group_valid(group, groups, start, n);
+    if (!t14) {
         return limit;
     }
-    t15 = scan__groups__tag_words(group);
-    t8 = t15;
-    t9 = 7u * start;
-    t10 = limit;
-    t11 = 7u * n;
-    t12 = 0u;
-    while (t12 < m) {
-        t10 = limits__spans__word_limit(t8.at[(size_t)t12], t11, t9, homes, t10);
-        t11 = t11 + 1u;
+    t16 = scan__groups__tag_words(group, turn);
+    t9 = t16;
+    t10 = 7u * start;
+    t11 = limit;
+    t12 = 7u * n;
+    t13 = 0u;
+    while (t13 < m) {
+        t11 = limits__spans__word_limit(t9.at[(size_t)t13], t12, t10, homes, t11);
         t12 = t12 + 1u;
+        t13 = t13 + 1u;
     }
-    return t10;
+    return t11;
 }
 
 /* The highest start up to `limit` that no transaction of a closing entry below `end` lies across. */
 static inline uint64_t limits__spans__closed_limit(struct slice_u8 log, uint64_t groups, uint64_t homes, uint64_t start,
         uint64_t end, uint64_t limit)
 {
-    uint64_t t7, t8, t9, t10, t12;
+    uint64_t t7, t8, t10, t12;
+    struct scan__slots__RingSlot t9;
 
     t7 = limit;
     t8 = (end + 6u) / 7u;
-    t9 = t8 % groups;
+    t9 = (struct scan__slots__RingSlot){.slot = t8 % groups, .turn = (t8 / groups) % 2u};
     while (t7 < t8) {
         t8 = t8 - 1u;
         t9 = scan__slots__previous_slot(t9, groups);
-        t10 = 64u + (512u * t9);
+        t10 = 64u + (512u * t9.slot);
         t12 = scan__commits__in_group(end - (7u * t8));
         t7 = limits__spans__group_limit((struct slice_u8){log.ptr + (size_t)t10, (size_t)((t10 + 512u) - t10)}, groups, homes,
-                start, t8, t12, t7);
+                start, t8, t9.turn, t12, t7);
     }
     return t7;
 }
