@@ -191,7 +191,7 @@ static struct kagutin_reply settle(struct kagutin *store)
 
 static struct kagutin_reply trim(struct kagutin *store)
 {
-    return run(store, store->batch, kagutin_trim(AREAS(store), STATE(store), BATCH(store)));
+    return run(store, store->batch, kagutin_trim(AREAS(store), STATE(store), NEWEST(store), BATCH(store)));
 }
 
 static struct kagutin_reply settle_and_trim(struct kagutin *store)
