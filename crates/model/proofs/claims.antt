@@ -21,4 +21,5 @@ pub mod PromisesHold
 pub mod WitnessHolds
 pub mod RoundCounts
 pub mod RoundSteps
+pub mod RoundStays
 pub mod RoundsHold
