@@ -64,7 +64,8 @@ RaisesAt w (call c) = ends w c .code ≡ 0 → Raises w c (ends w c)
 RaisesAt w (crash passed chosen) = Unit {0}
 
 -- Between two steps no call moves the round or makes more homes remain: with `fewer` above, a round whose first step finds n homes ends after at most
--- n ÷ k steps, rounded up, at least 1.
+-- n ÷ k steps, rounded up, at least 1. And none changes what the commits below the fixed F say: the copy in `Ended` is what one settle at the round's
+-- beginning would have left.
 unfoldable pub mayCome : Call → Bool
 mayCome (opening state batch) = false
 mayCome confirm = true
@@ -83,6 +84,8 @@ StaysAt w (call c) =
     → (stateOf (step w (call c) .state) .round ≡ stateOf (w .state) .round)
     × (stateOf (step w (call c) .state) .cursor ≡ stateOf (w .state) .cursor)
     × (length (homesLeft (step w (call c))) ≤ length (homesLeft w))
+    × (homesAfter (w .homes) (closedBelow (fixedIn (stateOf (w .state))) (step w (call c) .book .commits))
+    ≡ homesAfter (w .homes) (closedBelow (fixedIn (stateOf (w .state))) (w .book .commits)))
 StaysAt w (crash passed chosen) = Unit {0}
 
 -- at every moment the data copy, home by home, is what the commits below the fixed F say for a home below the cursor, and below the settled position

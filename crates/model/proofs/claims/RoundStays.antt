@@ -8,10 +8,11 @@ use mathlib.Core.Option.{none, some}
 use native.Mathlib.Omega.{arith}
 use lib.Dec.{eqb}
 use lib.ListN.{length}
-use Rattle.model.specs.State.{State, stateOf, nextPosition}
-use Rattle.model.specs.Book.{Task, idle, opened, commitTask, withTask}
+use Rattle.model.specs.State.{State, stateOf, fixedIn, nextPosition}
+use Rattle.model.specs.Book.{Book, Task, idle, opened, commitTask, withTask, homesAfter}
+use Rattle.model.specs.Demands.{closedBelow}
 use Rattle.model.specs.Book as book
-use Rattle.model.specs.History.{Change, begins, reserves, aborts, stores, commits, flushes, Service, settles, roundBegins, roundSteps, trims, reads, Call, opening, confirm, change, service, call, World, ends, step, feed, feedChange, isOpening}
+use Rattle.model.specs.History.{Change, begins, reserves, aborts, stores, commits, flushes, Service, settles, roundBegins, roundSteps, trims, reads, Call, opening, confirm, change, service, call, World, ends, afterCall, afterDone, step, feed, feedChange, isOpening}
 use Rattle.model.specs.Store.{Store, Reply, told, reply, replyOf, replyChange, commitMustLog, nextOf, toStep, nextStart, numbered, trimmedTo, afterService, afterReply, follow}
 use Rattle.model.specs.Store as store
 use Rattle.model.specs.Rounds.{homesLeft, mayCome, TicketAbove}
@@ -20,7 +21,7 @@ use Rattle.model.proofs.steps.RoundRuns.{remaining-are}
 use Rattle.model.proofs.claims.StoreAnswers.{Numbers, Agrees, position-is}
 use Rattle.model.proofs.claims.CallAnswers.{remaining-is, call-answers}
 use Rattle.model.proofs.claims.YieldsAll.{store-commits, flush-commits}
-use Rattle.model.proofs.claims.RoundSteps.{steps-shrink}
+use Rattle.model.proofs.claims.RoundSteps.{homes-same, steps-shrink}
 
 told-figure : (x figure size : ℕ) → told x figure size .code ≡ 0 → told x figure size .figure ≡ figure
 unfolding told
@@ -92,9 +93,33 @@ module _ (G D : ℕ) (z : Sizes G D) (w : World) (r : Running G D w) (s : Store)
   agrees : Agrees G D (step w (call c)) (store.afterDone s c (ends w c .figure))
   agrees = subst (λ (x : Store). Agrees G D (step w (call c)) x) follows-done a′
 
+  step-book : step w (call c) .book ≡ feed (w .book) c (ends w c .figure)
+  unfolding step afterCall afterDone
+  step-book = rw h
+
+  same-homes : homesAfter (w .homes) (closedBelow (fixedIn (stateOf (w .state))) (step w (call c) .book .commits))
+      ≡ homesAfter (w .homes) (closedBelow (fixedIn (stateOf (w .state))) (w .book .commits))
+  unfolding fixedIn
+  same-homes =
+      let n = a .numbers (r .ready) in
+      ap (λ (b : Book). homesAfter (w .homes) (closedBelow (stateOf (w .state) .round - 1) (b .commits))) step-book
+      ∙ subst
+      (λ (b : Book).
+      homesAfter (w .homes) (closedBelow (stateOf (w .state) .round - 1) (feed b c (ends w c .figure) .commits))
+      ≡ homesAfter (w .homes) (closedBelow (stateOf (w .state) .round - 1) (b .commits)))
+      (a .book)
+      (subst
+      (λ (k : ℕ).
+      homesAfter (w .homes) (closedBelow (k - 1) (feed (s .book) c (ends w c .figure) .commits))
+      ≡ homesAfter (w .homes) (closedBelow (k - 1) (s .book .commits)))
+      (n .round)
+      (homes-same (w .homes) s c (ends w c .figure) (omega (arith, n .round)) m (ticket G D z w r s a c h)))
+
   pub stays : (stateOf (step w (call c) .state) .round ≡ stateOf (w .state) .round)
       × (stateOf (step w (call c) .state) .cursor ≡ stateOf (w .state) .cursor)
       × (length (homesLeft (step w (call c))) ≤ length (homesLeft w))
+      × (homesAfter (w .homes) (closedBelow (fixedIn (stateOf (w .state))) (step w (call c) .book .commits))
+      ≡ homesAfter (w .homes) (closedBelow (fixedIn (stateOf (w .state))) (w .book .commits)))
   stays =
       let n = a .numbers (r .ready) in
       let n′ = agrees .numbers (r′ .ready) in
@@ -104,4 +129,5 @@ module _ (G D : ℕ) (z : Sizes G D) (w : World) (r : Running G D w) (s : Store)
         sym (n′ .cursor) ∙ q .1 ∙ n .cursor,
         rw (left-is G D z w r s a under, left-is G D z (step w (call c)) r′ _ agrees (omega (arith, e)))
             (steps-shrink s c (ends w c .figure) (omega (arith, n .round)) m (ticket G D z w r s a c h)),
+        same-homes,
       )
