@@ -24,4 +24,5 @@ pub mod PromisesHold
 pub mod WitnessHolds
 pub mod RoundCounts
 pub mod RoundSteps
+pub mod RoundStays
 pub mod RoundsHold

@@ -63,18 +63,9 @@ abbrev pub RaisesAt : World → Event → Type 0
 RaisesAt w (call c) = ends w c .code ≡ 0 → Raises w c (ends w c)
 RaisesAt w (crash passed chosen) = Unit {0}
 
--- at every moment the data copy, home by home, is what the commits below the fixed F say for a home below the cursor, and below the settled position
--- for every other
-abbrev pub RoundsThroughout : World → List Event → Type 0
-RoundsThroughout w [] = w .ready ≡ true → SettledHomes (w .homes) (w .area) (stateOf (w .state)) (w .book .commits)
-RoundsThroughout w (e ∷ es) =
-    (w .ready ≡ true → SettledHomes (w .homes) (w .area) (stateOf (w .state)) (w .book .commits)) × RaisesAt w e × RoundsThroughout (step w e) es
-
-abbrev pub RoundsKept : Type 0
-RoundsKept = Always RoundsThroughout
-
--- Between two steps no call makes more homes remain: with `fewer` above, a round whose first step finds n homes ends after at most n ÷ k steps, rounded
--- up, at least 1. (Of the abstract store, whose replies all histories' answers are; a ticket lies above the fixed F, which is at most the next position.)
+-- Between two steps no call moves the round or makes more homes remain: with `fewer` above, a round whose first step finds n homes ends after at most
+-- n ÷ k steps, rounded up, at least 1. And none changes what the commits below the fixed F say: the copy in `Ended` is what one settle at the round's
+-- beginning would have left.
 unfoldable pub mayCome : Call → Bool
 mayCome (opening state newest batch) = false
 mayCome confirm = true
@@ -85,8 +76,34 @@ mayCome (service (roundSteps homes batch)) = false
 mayCome (service (trims batch)) = true
 mayCome (service (reads writer home block)) = true
 
+abbrev pub StaysAt : World → Event → Type 0
+StaysAt w (call c) =
+    ends w c .code ≡ 0
+    → mayCome c ≡ true
+    → 1 ≤ stateOf (w .state) .round
+    → (stateOf (step w (call c) .state) .round ≡ stateOf (w .state) .round)
+    × (stateOf (step w (call c) .state) .cursor ≡ stateOf (w .state) .cursor)
+    × (length (homesLeft (step w (call c))) ≤ length (homesLeft w))
+    × (homesAfter (w .homes) (closedBelow (fixedIn (stateOf (w .state))) (step w (call c) .book .commits))
+    ≡ homesAfter (w .homes) (closedBelow (fixedIn (stateOf (w .state))) (w .book .commits)))
+StaysAt w (crash passed chosen) = Unit {0}
+
+-- at every moment the data copy, home by home, is what the commits below the fixed F say for a home below the cursor, and below the settled position
+-- for every other
+abbrev pub RoundsThroughout : World → List Event → Type 0
+RoundsThroughout w [] = w .ready ≡ true → SettledHomes (w .homes) (w .area) (stateOf (w .state)) (w .book .commits)
+RoundsThroughout w (e ∷ es) =
+    (w .ready ≡ true → SettledHomes (w .homes) (w .area) (stateOf (w .state)) (w .book .commits)) × RaisesAt w e × StaysAt w e × RoundsThroughout (step w e) es
+
+abbrev pub RoundsKept : Type 0
+RoundsKept = Always RoundsThroughout
+
+-- the same of the abstract store, whose replies all histories' answers are; a ticket lies above the fixed F
 abbrev pub TicketAbove : Store → Call → ℕ → Type 0
-TicketAbove s c figure = (feed (s .book) c figure .commits ≡ s .book .commits) ⊎ (s .round ≤ figure)
+TicketAbove s (opening state batch) figure = Unit {0}
+TicketAbove s confirm figure = Unit {0}
+TicketAbove s (change c) figure = (feed (s .book) (change c) figure .commits ≡ s .book .commits) ⊎ (s .round ≤ figure)
+TicketAbove s (service c) figure = Unit {0}
 
 abbrev pub StepsShrink : Type 0
 StepsShrink =

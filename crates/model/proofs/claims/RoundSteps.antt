@@ -10,7 +10,7 @@ use lib.Dec.{leb, ltb, eqb}
 use lib.ListN.{length, length-append}
 use borrow.Author.Tests.{ltb-true, lt-ltb}
 use Rattle.model.specs.Effects.{marked}
-use Rattle.model.specs.Book.{Commit, Book, Task, idle, opened, commitTask, storeTask, withTask, addCommit, entryOf, filledUp, owedBy, withCommits}
+use Rattle.model.specs.Book.{Commit, Book, Task, idle, opened, commitTask, storeTask, withTask, addCommit, entryOf, filledUp, owedBy, withCommits, writeCommits, homesAfter}
 use Rattle.model.specs.Book as book
 use Rattle.model.specs.Demands.{untrimmed, closedBelow, heldEntries}
 use Rattle.model.specs.History.{Change, begins, reserves, aborts, stores, commits, flushes, Service, settles, roundBegins, roundSteps, trims, reads, Call, opening, confirm, change, service, feed, feedChange}
@@ -87,6 +87,31 @@ change-same b (stores v home block batch) bound figure a = ap (closedBelow bound
 change-same b (commits v batch) bound figure (inl e) = ap (closedBelow bound) e
 change-same b (commits v batch) bound figure (inr l) = commit-same b v bound figure (b .tasks v) l
 change-same b (flushes batch) bound figure a = ap (closedBelow bound) (flush-commits b)
+
+-- the homes hang on no flag that a confirm sets
+writes-same : (mark bound : ℕ) (cs : List Commit) (A : List ℕ) → writeCommits (closedBelow bound (owedBy mark cs)) A ≡ writeCommits (closedBelow bound cs) A
+unfolding writeCommits closedBelow owedBy
+writes-same mark bound [] A = refl
+writes-same mark bound (c ∷ cs) A = go (leb (c .ticket) bound) (writes-same mark bound cs)
+  where
+    go : (d : Bool) → ((A : List ℕ) → writeCommits (closedBelow bound (owedBy mark cs)) A ≡ writeCommits (closedBelow bound cs) A)
+        → writeCommits (cond d (record { entries = c .entries; ticket = c .ticket; owed = c .owed || (leb 1 (c .ticket) && leb (c .ticket) mark) } ∷ closedBelow bound (owedBy mark cs)) (closedBelow bound (owedBy mark cs))) A
+        ≡ writeCommits (cond d (c ∷ closedBelow bound cs) (closedBelow bound cs)) A
+    go true i = i _
+    go false i = i A
+
+pub homes-same : (D : ℕ) (s : Store) (c : Call) (figure : ℕ) → 1 ≤ s .round → mayCome c ≡ true → TicketAbove s c figure
+    → homesAfter D (closedBelow (s .round - 1) (feed (s .book) c figure .commits)) ≡ homesAfter D (closedBelow (s .round - 1) (s .book .commits))
+unfolding mayCome feed
+homes-same D s (opening state batch) figure one m a = absurd (false≢true m)
+homes-same D s confirm figure one m a = unfold homesAfter withCommits in writes-same figure (s .round - 1) (s .book .commits) _
+homes-same D s (change c) figure one m a = ap (homesAfter D) (change-same (s .book) c (s .round - 1) figure (above a))
+  where
+    above : (feedChange (s .book) c figure .commits ≡ s .book .commits) ⊎ (s .round ≤ figure)
+        → (feedChange (s .book) c figure .commits ≡ s .book .commits) ⊎ (s .round - 1 < figure)
+    above (inl e) = inl e
+    above (inr l) = inr (omega arith)
+homes-same D s (service c) figure one m a = refl
 
 module _ (s : Store) (one : 1 ≤ s .round) where
   shrinks : (start : ℕ) (cs : List Commit) → s .start ≤ start

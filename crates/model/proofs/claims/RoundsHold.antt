@@ -16,8 +16,9 @@ use Rattle.model.specs.Questions.{settleAnswer, beginRoundAnswer, stepRo
 use Rattle.model.specs.Calls.{Outcome, done, outcome, sizeOf, settleCall, beginRoundCall, stepRoundCall, openCall}
 use Rattle.model.specs.Book.{homesAfter}
 use Rattle.model.specs.Demands.{closedBelow, SettledHomes}
-use Rattle.model.specs.History.{Service, settles, roundBegins, roundSteps, trims, reads, Call, opening, confirm, change, service, settle, beginRound, stepRound, Event, call, crash, World, emptyStore, lent, loaded, ends, serviceEnds, isOpening, step, Allowed, AllAllowed}
-use Rattle.model.specs.Rounds.{homesLeft, homesLeftBy, Moved, Ended, ServiceRaises, Raises, RaisesAt, RoundsThroughout, RoundsKept}
+use Rattle.model.specs.History.{Service, settles, roundBegins, roundSteps, trims, reads, Call, opening, confirm, change, service, settle, beginRound, stepRound, Event, call, crash, World, emptyStore, lent, loaded, ends, serviceEnds, isOpening, afterCall, afterDone, step, Allowed, AllAllowed}
+use Rattle.model.specs.Rounds.{homesLeft, homesLeftBy, Moved, Ended, ServiceRaises, Raises, RaisesAt, mayCome, StaysAt, RoundsThroughout, RoundsKept}
+use Rattle.model.specs.Store.{Store, newStore, follow}
 use Rattle.model.proofs.strip.OrderLaws.{state-fresh}
 use Rattle.model.proofs.strip.StateLaws.{withCursor}
 use Rattle.model.proofs.strip.QuestionLaws.{settle-ready, begin-round-ready, step-round-ready}
@@ -30,6 +31,9 @@ use Rattle.model.proofs.steps.OpenStep.{open-effect}
 use Rattle.model.proofs.steps.FormatRuns.{from-format}
 use Rattle.model.proofs.steps.Beginning.{format-closed}
 use Rattle.model.proofs.claims.DemandThree.{keeps}
+use Rattle.model.proofs.claims.StoreAnswers.{Agrees}
+use Rattle.model.proofs.claims.StoreFollows.{follows, empty-agrees}
+use Rattle.model.proofs.claims.RoundStays.{stays}
 use Rattle.model.proofs.claims.RoundCounts.{homes-fewer}
 use Rattle.model.proofs.claims.Yields.{ends-done, step-round-yields}
 
@@ -196,9 +200,36 @@ module _ (G D : ℕ) (z : Sizes G D) where
   kept-ready w (inl k) h = absurd (false≢true (sym (k .ready) ∙ h))
   kept-ready w (inr r) h = kept G D z w r
 
-  throughout : (es : List Event) (w : World) → Invariant G D w → AllAllowed w es → RoundsThroughout w es
-  throughout [] w i a = kept-ready w i
-  throughout (e ∷ es) w i a = (kept-ready w i, raises-at w i e (a .0), throughout es (step w e) (keeps G D z w i e (a .0) .0) (a .1))
+  -- a done call leaves the store open
+  open-still : (w : World) (c : Call) → ends w c .code ≡ 0 → step w (call c) .ready ≡ true
+  unfolding step afterCall afterDone
+  open-still w c h = rw h
+
+  stays-at : (w : World) → Invariant G D w → (s : Store) → Agrees G D w s → (e : Event) → Allowed w e → Invariant G D (step w e)
+      → Agrees G D (step w e) (follow s w e) → StaysAt w e
+  stays-at w (inl k) s a (call c) l j b = closed-stays c (l ∙ ap not (k .ready))
+    where
+      closed-stays : (c : Call) → isOpening c ≡ true → StaysAt w (call c)
+      closed-stays (opening state batch) o h m u = absurd (false≢true (unfold mayCome in m))
+      closed-stays confirm o h m u = absurd (false≢true (unfold isOpening in o))
+      closed-stays (change c) o h m u = absurd (false≢true (unfold isOpening in o))
+      closed-stays (service c) o h m u = absurd (false≢true (unfold isOpening in o))
+  stays-at w (inr r) s a (call c) l (inl k) b = λ h m u. absurd (false≢true (sym (k .ready) ∙ open-still w c h))
+  stays-at w (inr r) s a (call c) l (inr r′) b = λ h m u. stays G D z w r s a c h m u r′ b
+  stays-at w i s a (crash passed chosen) l j b = tt
+
+  throughout : (es : List Event) (w : World) (s : Store) → Invariant G D w → Agrees G D w s → AllAllowed w es → RoundsThroughout w es
+  throughout [] w s i g a = kept-ready w i
+  throughout (e ∷ es) w s i g a =
+      let j : Invariant G D (step w e) = keeps G D z w i e (a .0) .0 in
+      let b : Agrees G D (step w e) (follow s w e) = follows G D z w i s g e (a .0) .1 in (
+        kept-ready w i,
+        raises-at w i e (a .0),
+        stays-at w i s g e (a .0) j b,
+        throughout es (step w e) (follow s w e) j b (a .1),
+      )
 
 pub rounds-kept : RoundsKept
-rounds-kept = from-format RoundsThroughout (λ G D z es a. throughout G D z es (emptyStore G D) (inl (format-closed G D z)) a)
+rounds-kept =
+    from-format RoundsThroughout
+    (λ G D z es a. throughout G D z es (emptyStore G D) (newStore G D) (inl (format-closed G D z)) (empty-agrees G D z) a)
