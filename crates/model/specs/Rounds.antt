@@ -23,7 +23,7 @@ unfoldable pub homesLeft : World → List ℕ
 homesLeft w = roundHomes (lent w [] [] 0 0)
 
 unfoldable pub homesLeftBy : Outcome → List ℕ
-homesLeftBy o = roundHomes (record { state = o .state; log = o .log; area = o .area; block = []; batch = []; writer = 0; home = 0 })
+homesLeftBy o = roundHomes (record { state = o .state; newest = []; log = o .log; area = o .area; block = []; batch = []; writer = 0; home = 0 })
 
 -- A step that leaves homes: "settled" stays, and so do F and the round; k homes fewer remain. So a round ends with the step that finds at most k.
 pub record Moved (w : World) (k : ℕ) (o : Outcome) : Type 0 where
@@ -100,7 +100,7 @@ RoundsKept = Always RoundsThroughout
 
 -- the same of the abstract store, whose replies all histories' answers are; a ticket lies above the fixed F
 abbrev pub TicketAbove : Store → Call → ℕ → Type 0
-TicketAbove s (opening state batch) figure = Unit {0}
+TicketAbove s (opening state newest batch) figure = Unit {0}
 TicketAbove s confirm figure = Unit {0}
 TicketAbove s (change c) figure = (feed (s .book) (change c) figure .commits ≡ s .book .commits) ⊎ (s .round ≤ figure)
 TicketAbove s (service c) figure = Unit {0}

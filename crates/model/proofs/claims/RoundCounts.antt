@@ -11,7 +11,7 @@ use lib.Seq.{length-take-le}
 use borrow.Author.Tests.{leb-true, leb-false, le-leb, lt-leb}
 use Rattle.model.specs.Commit.{transactions, newest, found}
 use Rattle.model.specs.State.{State, stateOf, fixedIn}
-use Rattle.model.specs.Effects.{Given, groups, homes, marked, touchedFrom, liveTags, liveBase, roundTransactions, roundHomes}
+use Rattle.model.specs.Effects.{Given, groups, homes, marked, touchedFrom, liveTags, liveBase, roundTransactions, roundHomes, tagsOf}
 use Rattle.model.specs.History.{World, lent}
 use Rattle.model.proofs.strip.StateLaws.{withCursor}
 use Rattle.model.proofs.invariant.Invariant.{Sizes, Running}
@@ -41,13 +41,13 @@ marked-count test (suc n) c l = go (decLe c n) (marked-count test n c)
 
 module _ (G D : ℕ) (z : Sizes G D) (w : World) (r : Running G D w) (under : 1 ≤ stateOf (w .state) .round) where
   homes-lent : (s a : List ℕ) (n : ℕ) → stateOf s ≡ withCursor (stateOf (w .state)) n → length a ≡ length (w .area)
-      → roundHomes (record { state = s; log = w .log; area = a; block = []; batch = []; writer = 0; home = 0 })
+      → roundHomes (record { state = s; newest = []; log = w .log; area = a; block = []; batch = []; writer = 0; home = 0 })
       ≡ touchedFrom (liveTags (lent w [] [] 0 0)) (roundTransactions (lent w [] [] 0 0)) n (homes (lent w [] [] 0 0))
-  unfolding roundHomes roundTransactions liveTags liveBase fixedIn lent
+  unfolding roundHomes roundTransactions liveTags tagsOf liveBase fixedIn lent
   homes-lent s a n e l = rw (e, l)
 
   homes-at : (s a : List ℕ) (n : ℕ) → stateOf s ≡ withCursor (stateOf (w .state)) n → length a ≡ length (w .area)
-      → roundHomes (record { state = s; log = w .log; area = a; block = []; batch = []; writer = 0; home = 0 })
+      → roundHomes (record { state = s; newest = []; log = w .log; area = a; block = []; batch = []; writer = 0; home = 0 })
       ≡ marked (λ h. leb n h && found (newest (tagsIn G D w) h (ts G D z w r under))) D
   homes-at s a n e l =
       homes-lent s a n e l
@@ -56,7 +56,7 @@ module _ (G D : ℕ) (z : Sizes G D) (w : World) (r : Running G D w) (under : 1 
 
   pub homes-fewer : (k : ℕ) (one : 1 ≤ k) (many : k < length (remaining G D z w r under)) (s a : List ℕ)
       → stateOf s ≡ withCursor (stateOf (w .state)) (nextCursor G D z w r under k one many) → length a ≡ length (w .area)
-      → length (roundHomes (record { state = s; log = w .log; area = a; block = []; batch = []; writer = 0; home = 0 })) + k
+      → length (roundHomes (record { state = s; newest = []; log = w .log; area = a; block = []; batch = []; writer = 0; home = 0 })) + k
       ≡ length (remaining G D z w r under)
   homes-fewer k one many s a e l =
       let n : ℕ = nextCursor G D z w r under k one many in

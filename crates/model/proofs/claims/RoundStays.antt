@@ -31,7 +31,7 @@ told-figure (suc x) figure size e = absurd (omega arith)
 round-stays : (s : Store) (c : Call) (figure : ℕ) → mayCome c ≡ true
     → (store.afterDone s c figure .round ≡ s .round) × (store.afterDone s c figure .cursor ≡ s .cursor)
 unfolding mayCome store.afterDone afterService numbered trimmedTo
-round-stays s (opening state batch) figure m = absurd (false≢true m)
+round-stays s (opening state newest batch) figure m = absurd (false≢true m)
 round-stays s confirm figure m = (refl, refl)
 round-stays s (change c) figure m = (refl, refl)
 round-stays s (service (settles batch)) figure m = (refl, refl)
@@ -64,7 +64,7 @@ module _ (G D : ℕ) (z : Sizes G D) (w : World) (r : Running G D w) (s : Store)
 
   ticket : (c : Call) → ends w c .code ≡ 0 → TicketAbove s c (ends w c .figure)
   unfolding feed feedChange book.begin book.abort book.store book.commit withTask
-  ticket (opening state batch) h = tt
+  ticket (opening state newest batch) h = tt
   ticket confirm h = tt
   ticket (change (begins v)) h = inl refl
   ticket (change (reserves v n)) h = inl refl

@@ -103,7 +103,7 @@ writes-same mark bound (c ∷ cs) A = go (leb (c .ticket) bound) (writes-same ma
 pub homes-same : (D : ℕ) (s : Store) (c : Call) (figure : ℕ) → 1 ≤ s .round → mayCome c ≡ true → TicketAbove s c figure
     → homesAfter D (closedBelow (s .round - 1) (feed (s .book) c figure .commits)) ≡ homesAfter D (closedBelow (s .round - 1) (s .book .commits))
 unfolding mayCome feed
-homes-same D s (opening state batch) figure one m a = absurd (false≢true m)
+homes-same D s (opening state newest batch) figure one m a = absurd (false≢true m)
 homes-same D s confirm figure one m a = unfold homesAfter withCommits in writes-same figure (s .round - 1) (s .book .commits) _
 homes-same D s (change c) figure one m a = ap (homesAfter D) (change-same (s .book) c (s .round - 1) figure (above a))
   where
@@ -141,7 +141,7 @@ module _ (s : Store) (one : 1 ≤ s .round) where
 
 pub steps-shrink : StepsShrink
 unfolding mayCome afterDone numbered feed
-steps-shrink s (opening state batch) figure one m a = absurd (false≢true m)
+steps-shrink s (opening state newest batch) figure one m a = absurd (false≢true m)
 steps-shrink s confirm figure one m a =
     unfold toStep withCommits in shrinks s one (s .start) (owedBy figure (s .book .commits)) (omega arith) (owed-same figure (s .round - 1) (7 * s .start) (s .book .commits))
 steps-shrink s (change c) figure one m a =

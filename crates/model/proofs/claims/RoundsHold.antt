@@ -210,7 +210,7 @@ module _ (G D : ℕ) (z : Sizes G D) where
   stays-at w (inl k) s a (call c) l j b = closed-stays c (l ∙ ap not (k .ready))
     where
       closed-stays : (c : Call) → isOpening c ≡ true → StaysAt w (call c)
-      closed-stays (opening state batch) o h m u = absurd (false≢true (unfold mayCome in m))
+      closed-stays (opening state newest batch) o h m u = absurd (false≢true (unfold mayCome in m))
       closed-stays confirm o h m u = absurd (false≢true (unfold isOpening in o))
       closed-stays (change c) o h m u = absurd (false≢true (unfold isOpening in o))
       closed-stays (service c) o h m u = absurd (false≢true (unfold isOpening in o))
