@@ -1,0 +1,1 @@
+-- Laws of the packed table. Assumes nothing.

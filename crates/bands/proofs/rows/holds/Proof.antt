@@ -1,0 +1,26 @@
+-- `bands::rows::holds` meets its contract. Assumes nothing.
+use mathlib.Core.Path.{sym, _∙_, ap}
+use Rattle.bands.proofs.RowLaws.{row-from, row-to}
+use Rattle.bands.proofs.CountLaws.{holds-low, holds-test}
+use borrow.Author.Needs.{needs}
+use Rattle.bands.proofs.rows.holds.Statement.{statement}
+use Rattle.bands.proofs.rows.holds.Tie as tie
+
+two-bytes-requires : tie.Need-two-bytes-requires
+two-bytes-requires c κs = search needs
+
+returns : tie.Need-returns
+returns c = ?
+
+add-two-bytes : tie.Need-add-two-bytes
+add-two-bytes c = search needs
+
+two-bytes-requires-2 : tie.Need-two-bytes-requires-2
+two-bytes-requires-2 c κs = search needs
+
+returns-2 : tie.Need-returns-2
+returns-2 c = ?
+
+pub holds-spec : {M : Type 1} → statement M
+holds-spec =
+    tie.close (tie.spec two-bytes-requires returns add-two-bytes two-bytes-requires-2 returns-2)
