@@ -6,7 +6,7 @@ use Prim.Native.Nat.{ℕ, _≤_, _<_}
 use native.Mathlib.Omega.{arith}
 use borrow.Author.Tests.{lt-ltb, le-ltb}
 use Rattle.bands.specs.Rows.{Row, rows}
-use Rattle.bands.specs.Judge.{verdict, depths, allFit, sound, uncovered, doubled, overlaps, coverage, judgement}
+use Rattle.bands.specs.Judge.{Verdict, verdict, depths, allFit, sound, uncovered, doubled, overlaps, coverage, judgement}
 use Rattle.bands.specs.Sweep.{rising}
 use Rattle.bands.proofs.RowLaws.{sound-fit}
 use Rattle.bands.proofs.LowestLaws.{uncovered-is, doubled-is}
@@ -52,3 +52,11 @@ module _ (strip : List ℕ) (e : sound strip ≡ true) where
 
       pub judged-one : 10000 ≤ double → verdict 0 0 ≡ judgement strip
       judged-one h = sym (judged-sound strip e ∙ coverage-one (rows strip) (omega arith) (omega arith))
+
+-- only rows that are asked for are accepted
+pub accepted-sound : (strip : List ℕ) → judgement strip .code ≡ 0 → sound strip ≡ true
+accepted-sound strip h = go (sound strip) refl
+  where
+    go : (t : Bool) → sound strip ≡ t → sound strip ≡ true
+    go true e = e
+    go false e = absurd (omega (arith, ap (λ (v : Verdict). v .code) (judged-unsound strip e)))

@@ -5,3 +5,4 @@ pub mod SweepLaws
 pub mod LoopLaws
 pub mod JudgeLaws
 pub mod PackLaws
+pub mod TableLaws

@@ -7,7 +7,7 @@ use native.Mathlib.Omega.{arith}
 use borrow.Author.Tests.{eq-eqb, ne-eqb, leb-true, leb-false}
 use lib.Dec.{eqb, leb}
 use lib.ListN.{length, getD, List·getD-eq-default}
-use Rattle.bands.specs.Rows.{Row, band, rows, holds, count, place, lookup}
+use Rattle.bands.specs.Rows.{Row, band, row, rows, holds, count, place, lookup}
 use Rattle.bands.specs.Judge.{depths, fit, uncovered}
 use Rattle.bands.specs.Sweep.{rest, rowAt, rising, common, shared, twice}
 use Rattle.bands.proofs.RowLaws.{rest-row, rest-end, numberAt, row-from, row-to, row-pumps, rows-whole, row-of, fit-order, fit-deep, fit-pumps}
@@ -27,6 +27,10 @@ module _ (s : List ℕ) (at : ℕ) {from to : ℕ} (a : from ≡ numberAt s at) 
   pub pumps-left : from ≤ to → to < 10000 → leb (getD s (at + 4) 0) 4 ≡ fit (rowAt s at)
   pumps-left h l =
       rw (← (row-pumps s at)) (sym (fit-pumps (rowAt s at) (omega (arith, row-from s at, row-to s at)) (omega (arith, row-to s at))))
+
+  pub row-read : band from to (getD s (at + 4) 0) ≡ rowAt s at
+  unfolding rowAt row
+  row-read = let e : at + 2 + 1 ≡ at + 3 = omega arith in rw (a, b, e)
 
 module _ (mm : ℕ) (s : List ℕ) (at : ℕ) {from : ℕ} (a : from ≡ numberAt s at) where
   pub above-it : mm < from → holds mm (rowAt s at) ≡ false

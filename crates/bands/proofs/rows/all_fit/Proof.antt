@@ -8,6 +8,9 @@ use Rattle.bands.specs.Judge.{allFit}
 use Rattle.bands.specs.Sweep.{rest}
 use Rattle.bands.proofs.RowLaws.{rest-all, fits-over, fits-under, fits-ended}
 use borrow.Author.Needs.{needs}
+use native.Mathlib.Omega.{arith}
+-- `bands::rows::all_fit` meets its contract. The loop's invariant: the rows from `at` on are such exactly if all are. Assumes nothing.
+use Rattle.bands.proofs.RowLaws.{rest-all, fits-over, fits-under, fits-ended}
 use Rattle.bands.proofs.rows.all_fit.Statement.{statement}
 use Rattle.bands.proofs.rows.all_fit.Tie as tie
 
@@ -18,13 +21,15 @@ abbrev μ-loop : tie.MeasureT-loop
 μ-loop s at₀ at = length s - at
 
 loop-holds : tie.Need-loop-holds Inv-loop μ-loop
-loop-holds c = ?
+loop-holds c = (omega arith, refl, ap allFit (rest-all (c .before .args .s .now)))
 
 fit-requires : tie.Need-fit-requires Inv-loop μ-loop
 fit-requires c κs = search needs
 
 returns : tie.Need-returns Inv-loop μ-loop
-returns c = ?
+returns c =
+    let l = c .before .before .before .loop in
+    sym (fits-under _ _ (omega arith) (sym (c .before .fit .ensures) ∙ not-true _ (c .if1 .taken))) ∙ l .inv .2
 
 add-at : tie.Need-add-at Inv-loop μ-loop
 add-at c = search needs
@@ -33,10 +38,14 @@ loop-less : tie.Need-loop-less Inv-loop μ-loop
 loop-less c = search needs
 
 loop-again : tie.Need-loop-again Inv-loop μ-loop
-loop-again c = ?
+loop-again c =
+    let l = c .before .before .before .loop in
+    (omega arith, omega arith, sym (fits-over _ _ (omega arith) (sym (c .before .fit .ensures) ∙ not-false _ (c .if1 .left))) ∙ l .inv .2)
 
 returns-2 : tie.Need-returns-2 Inv-loop μ-loop
-returns-2 c = ?
+returns-2 c =
+    let l = c .before .loop in
+    sym (fits-ended _ _ (omega arith)) ∙ l .inv .2
 
 pub all-fit-spec : {M : Type 1} → statement M
 all-fit-spec =

@@ -6,6 +6,9 @@ use Rattle.bands.specs.Rows.{rows, place}
 use Rattle.bands.specs.Sweep.{rest}
 use Rattle.bands.proofs.CountLaws.{place-here, place-later, place-ended, place-all}
 use borrow.Author.Needs.{needs}
+use native.Mathlib.Omega.{arith}
+-- `bands::rows::holder` meets its contract. The loop's invariant: the first row among those from `at` on is the first of all. Assumes nothing.
+use Rattle.bands.proofs.CountLaws.{place-here, place-later, place-ended, place-all}
 use Rattle.bands.proofs.rows.holder.Statement.{statement}
 use Rattle.bands.proofs.rows.holder.Tie as tie
 
@@ -16,13 +19,16 @@ abbrev μ-loop : tie.MeasureT-loop
 μ-loop s mm at₀ at = length s - at
 
 loop-holds : tie.Need-loop-holds Inv-loop μ-loop
-loop-holds c = ?
+loop-holds c = (omega arith, refl, omega (arith, place-all (c .before .args .mm) (c .before .args .s .now)))
 
 holds-requires : tie.Need-holds-requires Inv-loop μ-loop
 holds-requires c κs = search needs
 
 returns : tie.Need-returns Inv-loop μ-loop
-returns c = ?
+returns c =
+    let a = c .before .before .before .before .before .args in
+    let l = c .before .before .before .loop in
+    omega (arith, place-here (a .mm) (a .s .now) (l .at) (omega arith) (sym (c .before .holds .ensures) ∙ c .if1 .taken))
 
 add-at : tie.Need-add-at Inv-loop μ-loop
 add-at c = search needs
@@ -31,10 +37,16 @@ loop-less : tie.Need-loop-less Inv-loop μ-loop
 loop-less c = search needs
 
 loop-again : tie.Need-loop-again Inv-loop μ-loop
-loop-again c = ?
+loop-again c =
+    let a = c .before .before .before .before .before .args in
+    let l = c .before .before .before .loop in
+    (omega arith, omega arith, omega (arith, place-later (a .mm) (a .s .now) (l .at) (omega arith) (sym (c .before .holds .ensures) ∙ c .if1 .left)))
 
 returns-2 : tie.Need-returns-2 Inv-loop μ-loop
-returns-2 c = ?
+returns-2 c =
+    let a = c .before .before .before .args in
+    let l = c .before .loop in
+    omega (arith, place-ended (a .mm) (a .s .now) (l .at) (omega arith))
 
 pub holder-spec : {M : Type 1} → statement M
 holder-spec =

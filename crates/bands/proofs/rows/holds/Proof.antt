@@ -1,8 +1,10 @@
 -- `bands::rows::holds` meets its contract. Assumes nothing.
-use mathlib.Core.Path.{sym, _∙_, ap}
+use mathlib.Core.Path.{sym}
+use Rattle.bands.proofs.LoopLaws.{above-it, end-left}
+use borrow.Author.Needs.{needs}
+-- `bands::rows::holds` meets its contract. Assumes nothing.
 use Rattle.bands.proofs.RowLaws.{row-from, row-to}
 use Rattle.bands.proofs.CountLaws.{holds-low, holds-test}
-use borrow.Author.Needs.{needs}
 use Rattle.bands.proofs.rows.holds.Statement.{statement}
 use Rattle.bands.proofs.rows.holds.Tie as tie
 
@@ -10,7 +12,7 @@ two-bytes-requires : tie.Need-two-bytes-requires
 two-bytes-requires c κs = search needs
 
 returns : tie.Need-returns
-returns c = ?
+returns c = sym (above-it _ _ _ (c .before .two-bytes .ensures .0) (c .if1 .taken))
 
 add-two-bytes : tie.Need-add-two-bytes
 add-two-bytes c = search needs
@@ -19,7 +21,7 @@ two-bytes-requires-2 : tie.Need-two-bytes-requires-2
 two-bytes-requires-2 c κs = search needs
 
 returns-2 : tie.Need-returns-2
-returns-2 c = ?
+returns-2 c = end-left _ _ _ (c .before .before .two-bytes .ensures .0) (c .two-bytes2 .ensures .0) (c .before .if1 .left)
 
 pub holds-spec : {M : Type 1} → statement M
 holds-spec =
