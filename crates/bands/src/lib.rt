@@ -1,5 +1,16 @@
 // Depth bands as station engineers set them: which pumps run at which depth. A table is judged, packed into its home blocks and
 // looked up here; the calls that read and store the blocks stand above the store.
-mod judge;
+mod judging;
 mod packed;
 mod rows;
+
+pub use judging::judge;
+pub use judging::Verdict;
+pub use packed::judge_packed;
+pub use packed::look_up;
+pub use packed::pack;
+pub use packed::Lookup;
+pub use packed::SIZE;
+pub use rows::find;
+pub use rows::Row;
+pub use rows::DEPTHS;

@@ -1,5 +1,5 @@
 // A table in its three home blocks, 192 bytes: the number of rows, the rows, zeros behind.
-use crate::judge::judge;
+use crate::judging::judge;
 use crate::rows::find;
 ghost use mathlib.Core.Path.{_≡_};
 ghost use Prim.Native.Nat.{_≤_};

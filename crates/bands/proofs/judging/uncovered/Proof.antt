@@ -1,13 +1,13 @@
--- `bands::judge::uncovered` meets its contract. The loop's invariant: every millimetre below `next` lies in a row. Assumes nothing.
+-- `bands::judging::uncovered` meets its contract. The loop's invariant: every millimetre below `next` lies in a row. Assumes nothing.
 use Prim.Native.Nat.{_-_, _≤_}
 use Rattle.bands.specs.Rows.{rows}
 use Rattle.bands.proofs.LoopLaws.{Covered, covered-none, place-room, found-further, walk-on, walk-gap, walk-done}
 use borrow.Author.Needs.{needs}
 use native.Mathlib.Omega.{arith}
--- `bands::judge::uncovered` meets its contract. The loop's invariant: every millimetre below `next` lies in a row. Assumes nothing.
+-- `bands::judging::uncovered` meets its contract. The loop's invariant: every millimetre below `next` lies in a row. Assumes nothing.
 use Rattle.bands.proofs.LoopLaws.{Covered, covered-none, place-room, found-further, walk-on, walk-gap, walk-done}
-use Rattle.bands.proofs.judge.uncovered.Statement.{statement}
-use Rattle.bands.proofs.judge.uncovered.Tie as tie
+use Rattle.bands.proofs.judging.uncovered.Statement.{statement}
+use Rattle.bands.proofs.judging.uncovered.Tie as tie
 
 abbrev Inv-loop : tie.InvT-loop
 Inv-loop s next₀ next = (next ≤ 65536) × Covered (rows s) next

@@ -1,4 +1,4 @@
--- `bands::judge::doubled` meets its contract. The loop's invariant: the lowest so far and the lowest in two of the rows from `at` on give the lowest in any two. Assumes nothing.
+-- `bands::judging::doubled` meets its contract. The loop's invariant: the lowest so far and the lowest in two of the rows from `at` on give the lowest in any two. Assumes nothing.
 use Prim.Native.Nat.{_-_, _%_, _≤_, min}
 use mathlib.Core.Path.{_≡_, refl, ap}
 use lib.ListN.{length}
@@ -9,12 +9,12 @@ use Rattle.bands.proofs.SweepLaws.{twice-high, doubled-twice}
 use Rattle.bands.proofs.LoopLaws.{twice-over, twice-ended}
 use borrow.Author.Needs.{needs}
 use native.Mathlib.Omega.{arith}
--- `bands::judge::doubled` meets its contract. The loop's invariant: the lowest so far and the lowest in two of the rows from `at` on give the lowest in any two. Assumes nothing.
+-- `bands::judging::doubled` meets its contract. The loop's invariant: the lowest so far and the lowest in two of the rows from `at` on give the lowest in any two. Assumes nothing.
 use Rattle.bands.proofs.RowLaws.{rest-all}
 use Rattle.bands.proofs.SweepLaws.{twice-high, doubled-twice}
 use Rattle.bands.proofs.LoopLaws.{twice-over, twice-ended}
-use Rattle.bands.proofs.judge.doubled.Statement.{statement}
-use Rattle.bands.proofs.judge.doubled.Tie as tie
+use Rattle.bands.proofs.judging.doubled.Statement.{statement}
+use Rattle.bands.proofs.judging.doubled.Tie as tie
 
 abbrev Inv-loop : tie.InvT-loop
 Inv-loop s lowest₀ at₀ lowest at = (at ≤ length s) × (at % 5 ≡ 0) × (lowest ≤ 10000) × (min lowest (twice (rest s at)) ≡ twice (rows s))

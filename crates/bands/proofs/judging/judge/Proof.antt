@@ -1,14 +1,14 @@
--- `bands::judge::judge` meets its contract. Assumes nothing.
+-- `bands::judging::judge` meets its contract. Assumes nothing.
 use mathlib.Core.Path.{sym, _∙_}
 use borrow.Author.Tests.{not-true, not-false}
 use Rattle.bands.proofs.RowLaws.{sound-whole}
 use Rattle.bands.proofs.JudgeLaws.{judged-unsound, judged-rising, judged-gap, judged-double, judged-one}
 use borrow.Author.Needs.{needs}
--- `bands::judge::judge` meets its contract. Assumes nothing.
+-- `bands::judging::judge` meets its contract. Assumes nothing.
 use Rattle.bands.proofs.RowLaws.{sound-whole}
 use Rattle.bands.proofs.JudgeLaws.{judged-unsound, judged-rising, judged-gap, judged-double, judged-one}
-use Rattle.bands.proofs.judge.judge.Statement.{statement}
-use Rattle.bands.proofs.judge.judge.Tie as tie
+use Rattle.bands.proofs.judging.judge.Statement.{statement}
+use Rattle.bands.proofs.judging.judge.Tie as tie
 
 sound-requires : tie.Need-sound-requires
 sound-requires c κs = search needs

@@ -1,4 +1,4 @@
--- `bands::judge::rising` meets its contract. The loop's invariant: the rows from `at` on rise from `next` on exactly if all rows rise from 0 on. Assumes nothing.
+-- `bands::judging::rising` meets its contract. The loop's invariant: the rows from `at` on rise from `next` on exactly if all rows rise from 0 on. Assumes nothing.
 use Prim.Native.Nat.{_-_, _%_, _≤_}
 use mathlib.Core.Path.{_≡_, refl, sym, ap, _∙_}
 use lib.ListN.{length}
@@ -8,8 +8,8 @@ use Rattle.bands.proofs.RowLaws.{rest-all}
 use Rattle.bands.proofs.LoopLaws.{rising-over, rising-broken, rising-ended}
 use borrow.Author.Needs.{needs}
 use native.Mathlib.Omega.{arith}
-use Rattle.bands.proofs.judge.rising.Statement.{statement}
-use Rattle.bands.proofs.judge.rising.Tie as tie
+use Rattle.bands.proofs.judging.rising.Statement.{statement}
+use Rattle.bands.proofs.judging.rising.Tie as tie
 
 abbrev Inv-loop : tie.InvT-loop
 Inv-loop s next₀ at₀ next at = (at ≤ length s) × (at % 5 ≡ 0) × (next ≤ 65536) × (rising next (rest s at) ≡ rising 0 (rows s))

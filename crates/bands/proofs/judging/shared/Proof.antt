@@ -1,4 +1,4 @@
--- `bands::judge::shared` meets its contract. The loop's invariant: the lowest so far and the lowest from `j` on give the lowest of all behind. Assumes nothing.
+-- `bands::judging::shared` meets its contract. The loop's invariant: the lowest so far and the lowest from `j` on give the lowest of all behind. Assumes nothing.
 use Prim.Native.Nat.{_+_, _-_, _%_, _≤_, min}
 use mathlib.Core.Path.{_≡_, _∙_}
 use lib.ListN.{length}
@@ -7,11 +7,11 @@ use Rattle.bands.proofs.SweepLaws.{shared-high}
 use Rattle.bands.proofs.LoopLaws.{shared-over, shared-ended, shared-of}
 use borrow.Author.Needs.{needs}
 use native.Mathlib.Omega.{arith}
--- `bands::judge::shared` meets its contract. The loop's invariant: the lowest so far and the lowest from `j` on give the lowest of all behind. Assumes nothing.
+-- `bands::judging::shared` meets its contract. The loop's invariant: the lowest so far and the lowest from `j` on give the lowest of all behind. Assumes nothing.
 use Rattle.bands.proofs.SweepLaws.{shared-high}
 use Rattle.bands.proofs.LoopLaws.{shared-over, shared-ended, shared-of}
-use Rattle.bands.proofs.judge.shared.Statement.{statement}
-use Rattle.bands.proofs.judge.shared.Tie as tie
+use Rattle.bands.proofs.judging.shared.Statement.{statement}
+use Rattle.bands.proofs.judging.shared.Tie as tie
 
 abbrev Inv-loop : tie.InvT-loop
 Inv-loop s at from to lowest₀ j₀ lowest j = (j ≤ length s) × (j % 5 ≡ 0) × (lowest ≤ 10000)

@@ -1,10 +1,10 @@
--- `bands::judge::common` meets its contract. Assumes nothing.
+-- `bands::judging::common` meets its contract. Assumes nothing.
 use mathlib.Core.Path.{sym, _∙_}
 use mathlib.Core.Logic.{⊎-elim}
 use Rattle.bands.proofs.SweepLaws.{common-meet, common-apart}
 use native.Mathlib.Omega.{arith}
-use Rattle.bands.proofs.judge.common.Statement.{statement}
-use Rattle.bands.proofs.judge.common.Tie as tie
+use Rattle.bands.proofs.judging.common.Statement.{statement}
+use Rattle.bands.proofs.judging.common.Tie as tie
 
 returns : tie.Need-returns
 returns c = sym (common-apart _ _ _ _ (⊎-elim (λ w. omega arith) (λ w. omega arith) (c .before .if1 .came)))
