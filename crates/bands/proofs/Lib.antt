@@ -2,6 +2,7 @@ pub mod RowLaws
 pub mod CountLaws
 pub mod LowestLaws
 pub mod SweepLaws
+pub mod WidthLaws
 pub mod LoopLaws
 pub mod JudgeLaws
 pub mod PackLaws

@@ -2,17 +2,18 @@
 use mathlib.Core.Path.{_≡_, refl, sym, ap, _∙_}
 use mathlib.Core.Bool.{Bool, true, false}
 use mathlib.Core.List.{List, [], _∷_}
-use Prim.Native.Nat.{ℕ, _+_, _*_, _%_, _≤_, _<_, min}
+use Prim.Native.Nat.{ℕ, _+_, _-_, _*_, _%_, _≤_, _<_, min}
 use native.Mathlib.Omega.{arith}
 use borrow.Author.Tests.{eq-eqb, ne-eqb, leb-true, leb-false}
 use lib.Dec.{eqb, leb}
 use lib.ListN.{length, getD, List·getD-eq-default}
 use Rattle.bands.specs.Rows.{Row, band, row, rows, holds, count, place, lookup}
-use Rattle.bands.specs.Judge.{depths, fit, uncovered}
-use Rattle.bands.specs.Sweep.{rest, rowAt, rising, common, shared, twice}
-use Rattle.bands.proofs.RowLaws.{rest-row, rest-end, numberAt, row-from, row-to, row-pumps, rows-whole, row-of, fit-order, fit-deep, fit-pumps}
+use Rattle.bands.specs.Judge.{depths, fit, allFit, uncovered}
+use Rattle.bands.specs.Sweep.{rest, rowAt, rising, width, common, shared, twice}
+use Rattle.bands.proofs.RowLaws.{rest-row, rest-end, rest-all, numberAt, row-from, row-to, row-pumps, rows-whole, row-of, fit-order, fit-deep, fit-pumps, fit-ordered, all-first, all-rest}
 use Rattle.bands.proofs.CountLaws.{holds-below, holds-low, holds-test, place-holds, place-none, place-high}
 use Rattle.bands.proofs.LowestLaws.{uncovered-is}
+use Rattle.bands.proofs.WidthLaws.{width-nil, width-cons}
 use Rattle.bands.proofs.SweepLaws.{walk, shared-nil, shared-cons, twice-nil, twice-cons}
 
 -- ---- the row at a byte, from the numbers read there
@@ -109,6 +110,30 @@ module _ (s : List ℕ) (next : ℕ) (v : Covered (rows s) next) where
 
   pub walk-done : 10000 ≤ next → 10000 ≡ uncovered (rows s)
   walk-done h = sym (uncovered-is (rows s) 10000 (omega arith) (λ j l. v j (omega arith)) (λ m. absurd (omega arith)))
+
+-- ---- the millimetres of all rows
+
+module _ (s : List ℕ) (at : ℕ) (h : at + 5 ≤ length s) where
+  pub width-over : {from to : ℕ} → from ≡ numberAt s at → to ≡ numberAt s (at + 2) → width (rest s at) ≡ to + 1 - from + width (rest s (at + 5))
+  width-over {from} {to} a b =
+      let f : rowAt s at .from ≡ from = row-from s at ∙ sym a in
+      let t : rowAt s at .to ≡ to = row-to s at ∙ sym b in
+      rw (rest-row s at h) (width-cons (rowAt s at) (rest s (at + 5)) ∙ rw (f, t))
+
+  fits-row : allFit (rest s at) ≡ true → allFit (rowAt s at ∷ rest s (at + 5)) ≡ true
+  fits-row f = rw (rest-row s at h) at f
+
+  pub fits-ordered : allFit (rest s at) ≡ true → {from to : ℕ} → from ≡ numberAt s at → to ≡ numberAt s (at + 2) → from ≤ to
+  fits-ordered f a b = omega (arith, fit-ordered (rowAt s at) (all-first (rowAt s at) (rest s (at + 5)) (fits-row f)), row-from s at, row-to s at)
+
+  pub fits-next : allFit (rest s at) ≡ true → allFit (rest s (at + 5)) ≡ true
+  fits-next f = all-rest (rowAt s at) (rest s (at + 5)) (fits-row f)
+
+pub fits-all : (s : List ℕ) → allFit (rows s) ≡ true → allFit (rest s 0) ≡ true
+fits-all s f = ap allFit (rest-all s) ∙ f
+
+pub width-ended : (s : List ℕ) (at : ℕ) → length s ≤ at → width (rest s at) ≡ 0
+width-ended s at h = rw (rest-end s at h) width-nil
 
 -- ---- two rows that meet
 

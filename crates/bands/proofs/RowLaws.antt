@@ -114,6 +114,15 @@ pub fit-ordered : (r : Row) → fit r ≡ true → r .from ≤ r .to
 unfolding fit
 fit-ordered r e = leb-true (r .from) (r .to) (both-left (leb (r .from) (r .to)) _ e)
 
+pub fit-shallow : (r : Row) → fit r ≡ true → r .to < 10000
+unfolding fit depths
+fit-shallow r e =
+    ltb-true (r .to) 10000 (both-left (ltb (r .to) 10000) _ (both-right (leb (r .from) (r .to)) _ e))
+
+pub fit-few : (r : Row) → fit r ≡ true → r .pumps ≤ 4
+unfolding fit depths
+fit-few r e = leb-true (r .pumps) 4 (both-right (ltb (r .to) 10000) _ (both-right (leb (r .from) (r .to)) _ e))
+
 -- ---- and of all
 
 pub all-cons : (r : Row) (rs : List Row) → fit r ≡ true → allFit (r ∷ rs) ≡ allFit rs

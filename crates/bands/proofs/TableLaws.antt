@@ -5,11 +5,11 @@ use mathlib.Core.List.{List}
 use mathlib.Core.Option.{none, some}
 use Prim.Native.Nat.{ℕ, _+_, _-_, _*_, _%_, _≤_, _<_}
 use native.Mathlib.Omega.{arith}
-use borrow.Author.Tests.{eqb-true, leb-true, le-leb, lt-leb, eq-eqb, ne-eqb}
+use borrow.Author.Tests.{eqb-true, eqb-false, leb-true, le-leb, lt-leb, eq-eqb, ne-eqb}
 use lib.Dec.{eqb, leb}
 use lib.ListN.{length, take, drop, getD, length-take}
 use Rattle.bands.specs.Rows.{Row, rows, lookup}
-use Rattle.bands.specs.Judge.{Verdict, verdict, judgement}
+use Rattle.bands.specs.Judge.{judgement}
 use Rattle.bands.specs.Packed.{held, acceptable, tableRows, unpack, Lookup, answered, found, lookUp}
 use Rattle.bands.proofs.RowLaws.{both-left, both-right, sound-some, sound-whole}
 use Rattle.bands.proofs.JudgeLaws.{accepted-sound}
@@ -62,15 +62,15 @@ module _ (packed : List ℕ) where
   pub table-long : {n : ℕ} → n ≡ getD packed 0 0 → 32 < n → 0 ≡ tableRows packed
   table-long e h = sym (table-none (unacceptable-long (omega arith)))
 
-  module _ {n code mm : ℕ} (e : n ≡ getD packed 0 0) (h : n ≤ 32) (v : verdict code mm ≡ judgement (take (1 + 5 * n - 1) (drop 1 packed))) where
-    code-held : code ≡ judgement (held packed) .code
-    code-held = ap (λ (x : Verdict). x .code) v ∙ ap (λ (s : List ℕ). judgement s .code) (part-held packed e)
+  module _ {n : ℕ} {t : Bool} (e : n ≡ getD packed 0 0) (h : n ≤ 32) (v : t ≡ eqb (judgement (take (1 + 5 * n - 1) (drop 1 packed)) .code) 0) where
+    test-held : t ≡ eqb (judgement (held packed) .code) 0
+    test-held = v ∙ ap (λ (s : List ℕ). eqb (judgement s .code) 0) (part-held packed e)
 
-    pub table-refused : (code ≡ 0 → ⊥) → 0 ≡ tableRows packed
-    table-refused f = sym (table-none (unacceptable-rows (omega arith) (λ z. f (code-held ∙ z))))
+    pub table-refused : t ≡ false → 0 ≡ tableRows packed
+    table-refused f = sym (table-none (unacceptable-rows (omega arith) (eqb-false (judgement (held packed) .code) 0 (sym test-held ∙ f))))
 
-    pub table-taken : code ≡ 0 → n ≡ tableRows packed
-    table-taken z = e ∙ sym (table-some (acceptable-rows (omega arith) (sym code-held ∙ z)))
+    pub table-taken : t ≡ true → n ≡ tableRows packed
+    table-taken f = e ∙ sym (table-some (acceptable-rows (omega arith) (eqb-true (judgement (held packed) .code) 0 (sym test-held ∙ f))))
 
   -- ---- lookups
 

@@ -1,5 +1,5 @@
--- What the judging code computes: rows that rise without a gap, and the lowest millimetre that two rows share.
-use Prim.Native.Nat.{ℕ, _+_, min, max}
+-- What the judging code computes: rows that rise without a gap, their millimetres together, and the lowest that two rows share.
+use Prim.Native.Nat.{ℕ, _+_, _-_, min, max}
 use mathlib.Core.Bool.{Bool, _&&_, cond}
 use mathlib.Core.List.{List, [], _∷_}
 use lib.Dec.{eqb, leb}
@@ -19,6 +19,11 @@ rowAt s at = row (getD s at 0) (getD s (at + 1) 0) (getD s (at + 2) 0) (getD s (
 unfoldable pub rising : ℕ → List Row → Bool
 rising next [] = eqb next depths
 rising next (r ∷ rs) = eqb (r .from) next && rising (r .to + 1) rs
+
+-- the millimetres of all rows together
+unfoldable pub width : List Row → ℕ
+width [] = 0
+width (r ∷ rs) = r .to + 1 - r .from + width rs
 
 -- the lowest millimetre in both of two rows, from `f` to `t` and from `g` to `u`; `depths` if there is none
 unfoldable pub common : ℕ → ℕ → ℕ → ℕ → ℕ

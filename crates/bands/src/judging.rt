@@ -1,15 +1,18 @@
-// A table's verdict. The lowest millimetre in no row is 0 or one past some row's end, so a walk from row to row finds it; the lowest
-// in two rows is the higher beginning of two that meet. Rows that rise without a gap need neither.
+// A table's verdict. The lowest millimetre in no row is 0 or one past some row's end, so a walk from row to row finds it, and rows
+// that rise without a gap need no walk. Rows without a gap that have no more millimetres than there are depths share none; the
+// lowest that two share is the higher beginning of two that meet.
 use crate::rows::holder;
 use crate::rows::sound;
 use crate::rows::two_bytes;
 use crate::rows::DEPTHS;
 ghost use mathlib.Core.Path.{_≡_};
 ghost use Prim.Native.Nat.{_+_, _%_, _≤_, _<_, min};
+ghost use mathlib.Core.Bool.{true};
+ghost use lib.Dec.{eqb};
 ghost use lib.ListN.{length};
 ghost use Rattle.bands.specs.Rows.{rows};
-ghost use Rattle.bands.specs.Judge.{verdict, uncovered, doubled, judgement};
-ghost use Rattle.bands.specs.Sweep.{rest, rowAt, rising, common, shared};
+ghost use Rattle.bands.specs.Judge.{verdict, sound, uncovered, doubled, judgement};
+ghost use Rattle.bands.specs.Sweep.{rest, rowAt, rising, width, common, shared};
 
 // The answer, 0, 11, 12 or 13, and the millimetre that 12 and 13 tell.
 pub struct Verdict {
@@ -34,8 +37,8 @@ fn rising(s: &[u8]) -> bool
     next == DEPTHS
 }
 
-// The lowest millimetre in no row; `DEPTHS` if there is none.
-fn uncovered(s: &[u8]) -> u64
+// The lowest millimetre in no row, from row to row; `DEPTHS` if there is none.
+fn walk(s: &[u8]) -> u64
     requires { ⌜ length (now s) % 5 ≡ 0 ⌝ }
     ensures { λ r. ⌜ r ≡ uncovered (rows (now (s .entry))) ⌝ }
 {
@@ -48,6 +51,31 @@ fn uncovered(s: &[u8]) -> u64
         next = two_bytes(s, at + 2) + 1;
     }
     DEPTHS
+}
+
+// The lowest millimetre in no row; `DEPTHS` if there is none.
+fn uncovered(s: &[u8]) -> u64
+    requires { ⌜ sound (now s) ≡ true ⌝ }
+    ensures { λ r. ⌜ r ≡ uncovered (rows (now (s .entry))) ⌝ }
+{
+    if rising(s) {
+        return DEPTHS;
+    }
+    walk(s)
+}
+
+// The millimetres of all rows together.
+fn width(s: &[u8]) -> u64
+    requires { ⌜ sound (now s) ≡ true ⌝ }
+    ensures { λ r. ⌜ r ≡ width (rows (now (s .entry))) ⌝ }
+{
+    let mut sum: u64 = 0;
+    let mut at: usize = 0;
+    while at < s.len() {
+        sum += two_bytes(s, at + 2) + 1 - two_bytes(s, at);
+        at += 5;
+    }
+    sum
 }
 
 fn lesser(a: u64, b: u64) -> u64
@@ -110,12 +138,6 @@ pub fn judge(rows: &[u8]) -> Verdict
             millimetre: 0,
         };
     }
-    if rising(rows) {
-        return Verdict {
-            code: 0,
-            millimetre: 0,
-        };
-    }
     let gap = uncovered(rows);
     if gap < DEPTHS {
         return Verdict {
@@ -123,15 +145,27 @@ pub fn judge(rows: &[u8]) -> Verdict
             millimetre: gap,
         };
     }
-    let double = doubled(rows);
-    if double < DEPTHS {
+    if width(rows) == DEPTHS {
         return Verdict {
-            code: 13,
-            millimetre: double,
+            code: 0,
+            millimetre: 0,
         };
     }
     Verdict {
-        code: 0,
-        millimetre: 0,
+        code: 13,
+        millimetre: doubled(rows),
     }
+}
+
+// Whether a strip of rows is accepted, with no refusal told.
+pub fn accepts(rows: &[u8]) -> bool
+    ensures { λ r. ⌜ r ≡ eqb (judgement (now (rows .entry)) .code) 0 ⌝ }
+{
+    if !sound(rows) {
+        return false;
+    }
+    if width(rows) != DEPTHS {
+        return false;
+    }
+    uncovered(rows) == DEPTHS
 }

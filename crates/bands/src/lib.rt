@@ -4,6 +4,7 @@ mod judging;
 mod packed;
 mod rows;
 
+pub use judging::accepts;
 pub use judging::judge;
 pub use judging::Verdict;
 pub use packed::judge_packed;

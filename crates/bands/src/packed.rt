@@ -1,5 +1,5 @@
 // A table in its three home blocks, 192 bytes: the number of rows, the rows, zeros behind.
-use crate::judging::judge;
+use crate::judging::accepts;
 use crate::rows::find;
 ghost use mathlib.Core.Path.{_≡_};
 ghost use Prim.Native.Nat.{_≤_};
@@ -46,8 +46,7 @@ pub fn judge_packed(packed: &[u8]) -> usize
     if count > 32 {
         return 0;
     }
-    let verdict = judge(&packed[1..1 + 5 * count]);
-    if verdict.code != 0 {
+    if !accepts(&packed[1..1 + 5 * count]) {
         return 0;
     }
     count
