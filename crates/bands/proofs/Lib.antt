@@ -7,3 +7,5 @@ pub mod LoopLaws
 pub mod JudgeLaws
 pub mod PackLaws
 pub mod TableLaws
+pub mod MemberLaws
+pub mod Promised

@@ -6,7 +6,7 @@ use mathlib.Core.Option.{none, some}
 use lib.ListN.{length, getD, replicate}
 use Rattle.bands.specs.Rows.{Row, band, rows, lookup}
 use Rattle.bands.specs.Judge.{Verdict, verdict, judgement}
-use Rattle.bands.specs.Packed.{pack, unpack}
+use Rattle.bands.specs.Packed.{answered, pack, unpack, lookUp}
 
 -- the row of an index
 abbrev pub rowOf : List Row → ℕ → Row
@@ -55,14 +55,21 @@ pub data Judged (strip : List ℕ) : Verdict → Type 0 where
   double : {mm : ℕ} → Sound strip → ((k : ℕ) → k ≤ 9999 → InSome (rows strip) k) → mm ≤ 9999 → InTwo (rows strip) mm
       → ((k : ℕ) → k < mm → InTwo (rows strip) k → ⊥) → Judged strip (verdict 13 mm)
 
+-- "a lookup gives that row": the one row that holds the millimetre
+pub record Told (rs : List Row) (mm : ℕ) : Type 0 where
+  pub one : InOne rs mm
+  pub row : lookup mm rs ≡ rowOf rs (one .at)
+
 -- for strips of any contents and length
 pub record Promise (strip : List ℕ) : Type 0 where
   pub judged : Judged strip (judgement strip)
   pub taken : Sound strip → ((mm : ℕ) → mm ≤ 9999 → InOne (rows strip) mm) → judgement strip ≡ verdict 0 0
-  pub looked : judgement strip .code ≡ 0 → (mm : ℕ) → mm ≤ 9999 → (i : ℕ) → In (rows strip) mm i → lookup mm (rows strip) ≡ rowOf (rows strip) i
-  pub kept : judgement strip .code ≡ 0 → unpack (pack strip) ≡ some strip
+  pub told : judgement strip .code ≡ 0 → (mm : ℕ) → mm ≤ 9999 → Told (rows strip) mm
   pub room : judgement strip .code ≡ 0 → length (pack strip) ≡ 192
+  pub kept : judgement strip .code ≡ 0 → unpack (pack strip) ≡ some strip
+  pub found : judgement strip .code ≡ 0 → (mm : ℕ) → lookUp (pack strip) mm ≡ record { code = 0; row = lookup mm (rows strip) }
 
--- "no acceptable table" in homes that nothing was stored to
-abbrev pub Blank : Type 0
-Blank = unpack (replicate 192 0) ≡ none
+-- homes that nothing was stored to hold "no acceptable table"
+pub record Blank : Type 0 where
+  pub none : unpack (replicate 192 0) ≡ none
+  pub refused : (mm : ℕ) → lookUp (replicate 192 0) mm ≡ answered 11 0 0 0
