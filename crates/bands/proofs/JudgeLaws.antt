@@ -7,7 +7,7 @@ use native.Mathlib.Omega.{arith}
 use borrow.Author.Tests.{leb-true, leb-false, ltb-true, ltb-false, lt-ltb, le-ltb, eq-eqb, ne-eqb}
 use lib.Dec.{eqb, leb, ltb}
 use Rattle.bands.specs.Rows.{Row, rows, count}
-use Rattle.bands.specs.Judge.{Verdict, verdict, depths, allFit, sound, uncovered, doubled, overlaps, coverage, judgement}
+use Rattle.bands.specs.Judge.{Verdict, verdict, depths, sound, uncovered, doubled, overlaps, coverage, judgement}
 use Rattle.bands.specs.Sweep.{rising, width}
 use Rattle.bands.proofs.RowLaws.{sound-fit}
 use Rattle.bands.proofs.LowestLaws.{uncovered-is, uncovered-passed, uncovered-high, doubled-is, doubled-passed}

@@ -1,7 +1,7 @@
 -- One turn of each loop over a strip of rows, and its end. Assumes nothing.
 use mathlib.Core.Path.{_≡_, refl, sym, ap, _∙_}
 use mathlib.Core.Bool.{Bool, true, false}
-use mathlib.Core.List.{List, [], _∷_}
+use mathlib.Core.List.{List, _∷_}
 use Prim.Native.Nat.{ℕ, _+_, _-_, _*_, _%_, _≤_, _<_, min}
 use native.Mathlib.Omega.{arith}
 use borrow.Author.Tests.{eq-eqb, ne-eqb, leb-true, leb-false}
@@ -11,7 +11,7 @@ use Rattle.bands.specs.Rows.{Row, band, row, rows, holds, count, place, 
 use Rattle.bands.specs.Judge.{depths, fit, allFit, uncovered}
 use Rattle.bands.specs.Sweep.{rest, rowAt, rising, width, common, shared, twice}
 use Rattle.bands.proofs.RowLaws.{rest-row, rest-end, rest-all, numberAt, row-from, row-to, row-pumps, rows-whole, row-of, fit-order, fit-deep, fit-pumps, fit-ordered, all-first, all-rest}
-use Rattle.bands.proofs.CountLaws.{holds-below, holds-low, holds-test, place-holds, place-none, place-high}
+use Rattle.bands.proofs.CountLaws.{holds-below, holds-low, holds-test, place-holds, place-none}
 use Rattle.bands.proofs.LowestLaws.{uncovered-is}
 use Rattle.bands.proofs.WidthLaws.{width-nil, width-cons}
 use Rattle.bands.proofs.SweepLaws.{walk, shared-nil, shared-cons, twice-nil, twice-cons}

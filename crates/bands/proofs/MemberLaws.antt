@@ -1,13 +1,13 @@
 -- The rows that a millimetre lies in, by index and by number. Assumes nothing.
-use mathlib.Core.Path.{_≡_, refl, sym, ap, _∙_}
+use mathlib.Core.Path.{_≡_, refl}
 use mathlib.Core.Bool.{Bool, true, false}
 use mathlib.Core.List.{List, [], _∷_}
-use Prim.Native.Nat.{ℕ, zero, suc, _+_, _≤_, _<_}
+use Prim.Native.Nat.{ℕ, zero, suc, _≤_, _<_}
 use native.Mathlib.Omega.{arith}
 use borrow.Author.Tests.{eqb-true, eqb-false, leb-true, leb-false}
 use lib.Dec.{eqb, leb}
-use lib.ListN.{length, getD}
-use Rattle.bands.specs.Rows.{Row, band, holds, count, place, lookup}
+use lib.ListN.{length}
+use Rattle.bands.specs.Rows.{Row, holds, count, place, lookup}
 use Rattle.bands.specs.Promises.{rowOf, In, InSome, InTwo, InOne}
 use Rattle.bands.proofs.CountLaws.{holds-above, holds-below, holds-in, count-nil, count-in, count-out, count-more, count-at, place-holds, place-some}
 

@@ -1,20 +1,20 @@
 -- What the definitions promise, for strips of any contents and length.
 use mathlib.Core.Path.{_≡_, refl, sym, ap, _∙_}
 use mathlib.Core.Bool.{Bool, true, false}
-use mathlib.Core.List.{List, [], _∷_, _++_}
+use mathlib.Core.List.{List, [], _∷_}
 use mathlib.Core.Option.{none, some}
-use Prim.Native.Nat.{ℕ, zero, suc, _+_, _-_, _*_, _/_, _%_, _≤_, _<_}
+use Prim.Native.Nat.{ℕ, zero, suc, _-_, _*_, _/_, _≤_, _<_}
 use native.Mathlib.Omega.{arith}
-use borrow.Author.Tests.{leb-true, leb-false, ltb-true, ltb-false, le-leb}
-use lib.Dec.{leb, ltb}
-use lib.ListN.{length, take, drop, getD, replicate}
+use borrow.Author.Tests.{ltb-true, ltb-false, le-leb}
+use lib.Dec.{ltb}
+use lib.ListN.{length, getD, replicate}
 use lib.Seq.{take-at}
-use Rattle.bands.specs.Rows.{Row, band, rows, count, place, lookup}
+use Rattle.bands.specs.Rows.{Row, rows, place, lookup}
 use Rattle.bands.specs.Judge.{Verdict, verdict, fit, allFit, sound, uncovered, doubled, coverage, judgement}
 use Rattle.bands.specs.Packed.{pack, held, acceptable, unpack, lookUp, found}
-use Rattle.bands.specs.Promises.{rowOf, In, InSome, InTwo, InOne, Fit, Sound, Judged, accepted, unsound, gap, double, Told, Promise, Blank}
+use Rattle.bands.specs.Promises.{rowOf, InSome, InOne, Fit, Sound, Judged, accepted, unsound, gap, double, Told, Promise, Blank}
 use Rattle.bands.proofs.RowLaws.{rows-whole, fit-pumps, fit-ordered, fit-shallow, fit-few, all-nil, all-first, all-rest, all-cons, sound-some, sound-short, sound-whole, sound-fit, sound-rest}
-use Rattle.bands.proofs.LowestLaws.{uncovered-is, uncovered-passed, uncovered-here, uncovered-high, doubled-is, doubled-passed, doubled-here, doubled-high}
+use Rattle.bands.proofs.LowestLaws.{uncovered-is, uncovered-passed, uncovered-here, doubled-is, doubled-passed, doubled-here}
 use Rattle.bands.proofs.JudgeLaws.{coverage-gap, coverage-double, coverage-one, judged-unsound, judged-sound, accepted-sound}
 use Rattle.bands.proofs.PackLaws.{pack-length}
 use Rattle.bands.proofs.TableLaws.{acceptable-rows, lookup-some}

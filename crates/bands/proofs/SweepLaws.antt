@@ -1,18 +1,18 @@
 -- What the judging code computes is what the definitions say. Assumes nothing.
-use mathlib.Core.Path.{_≡_, refl, sym, ap, _∙_}
-use mathlib.Core.Bool.{Bool, true, false, _&&_, cond}
+use mathlib.Core.Path.{_≡_, refl, _∙_}
+use mathlib.Core.Bool.{Bool, true, false}
 use mathlib.Core.List.{List, [], _∷_}
-use Prim.Native.Nat.{ℕ, zero, suc, _+_, _*_, _≤_, _<_, min, max}
+use Prim.Native.Nat.{ℕ, _+_, _≤_, _<_, min, max}
 use native.Mathlib.Omega.{arith}
-use borrow.Author.Tests.{eqb-true, eqb-false, leb-true, leb-false, ltb-true, le-leb, lt-leb, eq-eqb, ne-eqb, le-ltb}
+use borrow.Author.Tests.{eqb-true, leb-true, leb-false, le-leb, lt-leb}
 use lib.Dec.{eqb, leb}
 use lib.ListN.{length, getD}
-use Rattle.bands.specs.Rows.{Row, band, rows, holds, count, place, lookup}
-use Rattle.bands.specs.Judge.{verdict, depths, fit, allFit, uncovered, doubled, overlaps, coverage}
-use Rattle.bands.specs.Sweep.{rest, rowAt, rising, common, shared, twice}
-use Rattle.bands.proofs.RowLaws.{both-left, both-right, rest-row, rest-end, fit-ordered, all-first, all-rest}
+use Rattle.bands.specs.Rows.{Row, band, holds, count, place, lookup}
+use Rattle.bands.specs.Judge.{depths, allFit, doubled}
+use Rattle.bands.specs.Sweep.{rising, common, shared, twice}
+use Rattle.bands.proofs.RowLaws.{both-left, both-right, fit-ordered, all-first, all-rest}
 use Rattle.bands.proofs.CountLaws.{holds-above, holds-below, holds-in, holds-low, holds-high, count-nil, count-in, count-out, count-more, count-at, place-holds}
-use Rattle.bands.proofs.LowestLaws.{uncovered-is, doubled-is}
+use Rattle.bands.proofs.LowestLaws.{doubled-is}
 
 -- ---- rows that rise without a gap
 

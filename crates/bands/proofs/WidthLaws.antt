@@ -1,13 +1,13 @@
 -- Rows that cover all depths have as many millimetres as there are depths exactly if they share none. Assumes nothing.
-use mathlib.Core.Path.{_≡_, refl, sym, ap, _∙_}
-use mathlib.Core.Bool.{Bool, true, false, cond}
+use mathlib.Core.Path.{_≡_, refl, sym, _∙_}
+use mathlib.Core.Bool.{Bool, true, false}
 use mathlib.Core.List.{List, [], _∷_}
 use Prim.Native.Nat.{ℕ, zero, suc, _+_, _-_, _≤_, _<_, min}
 use native.Mathlib.Omega.{arith}
 use borrow.Author.Tests.{eqb-true, eqb-false, leb-true, leb-false}
 use lib.Dec.{eqb, leb}
 use Rattle.bands.specs.Rows.{Row, holds, count}
-use Rattle.bands.specs.Judge.{fit, allFit}
+use Rattle.bands.specs.Judge.{allFit}
 use Rattle.bands.specs.Sweep.{width}
 use Rattle.bands.proofs.RowLaws.{fit-ordered, fit-shallow, all-first, all-rest}
 use Rattle.bands.proofs.CountLaws.{holds-above, holds-below, holds-in, count-nil, count-in, count-out}

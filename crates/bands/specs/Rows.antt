@@ -1,6 +1,6 @@
 -- Tables of depth bands: strips of 5-byte rows, from and to of 16 bits each, lowest byte first, and pumps.
 -- "A table has rows of from, to (inclusive millimetres, 16 bits) and pumps (0 to 4)", "rows are packed, pumps one byte"
-use Prim.Native.Nat.{ℕ, suc, _+_, _*_}
+use Prim.Native.Nat.{ℕ, _+_, _*_}
 use mathlib.Core.Bool.{Bool, _&&_, cond}
 use mathlib.Core.List.{List, [], _∷_}
 use lib.Dec.{leb}

@@ -1,12 +1,12 @@
 // A table's verdict. The lowest millimetre in no row is 0 or one past some row's end, so a walk from row to row finds it, and rows
 // that rise without a gap need no walk. Rows without a gap that have no more millimetres than there are depths share none; the
 // lowest that two share is the higher beginning of two that meet.
+use crate::rows::DEPTHS;
 use crate::rows::holder;
 use crate::rows::sound;
 use crate::rows::two_bytes;
-use crate::rows::DEPTHS;
 ghost use mathlib.Core.Path.{_≡_};
-ghost use Prim.Native.Nat.{_+_, _%_, _≤_, _<_, min};
+ghost use Prim.Native.Nat.{_+_, _%_, _<_, min};
 ghost use mathlib.Core.Bool.{true};
 ghost use lib.Dec.{eqb};
 ghost use lib.ListN.{length};
@@ -108,7 +108,10 @@ fn shared(s: &[u8], at: usize) -> u64
     let mut lowest = DEPTHS;
     let mut j = at + 5;
     while j < s.len() {
-        lowest = lesser(lowest, common(from, to, two_bytes(s, j), two_bytes(s, j + 2)));
+        lowest = lesser(
+            lowest,
+            common(from, to, two_bytes(s, j), two_bytes(s, j + 2)),
+        );
         j += 5;
     }
     lowest

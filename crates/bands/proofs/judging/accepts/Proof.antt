@@ -1,8 +1,8 @@
 -- `bands::judging::accepts` meets its contract. Assumes nothing.
 use mathlib.Core.Path.{sym, _∙_}
 use borrow.Author.Tests.{not-true, not-false}
-use Rattle.bands.proofs.JudgeLaws.{accepts-unsound, accepts-wide, accepts-covered}
 use borrow.Author.Needs.{needs}
+use Rattle.bands.proofs.JudgeLaws.{accepts-unsound, accepts-wide, accepts-covered}
 use Rattle.bands.proofs.judging.accepts.Statement.{statement}
 use Rattle.bands.proofs.judging.accepts.Tie as tie
 

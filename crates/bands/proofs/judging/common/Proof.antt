@@ -1,8 +1,8 @@
 -- `bands::judging::common` meets its contract. Assumes nothing.
 use mathlib.Core.Path.{sym, _∙_}
 use mathlib.Core.Logic.{⊎-elim}
-use Rattle.bands.proofs.SweepLaws.{common-meet, common-apart}
 use native.Mathlib.Omega.{arith}
+use Rattle.bands.proofs.SweepLaws.{common-meet, common-apart}
 use Rattle.bands.proofs.judging.common.Statement.{statement}
 use Rattle.bands.proofs.judging.common.Tie as tie
 

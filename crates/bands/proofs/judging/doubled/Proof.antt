@@ -1,15 +1,11 @@
 -- `bands::judging::doubled` meets its contract. The loop's invariant: the lowest so far and the lowest in two of the rows from `at` on give the lowest in any two. Assumes nothing.
 use Prim.Native.Nat.{_-_, _%_, _≤_, min}
 use mathlib.Core.Path.{_≡_, refl, ap}
+use native.Mathlib.Omega.{arith}
+use borrow.Author.Needs.{needs}
 use lib.ListN.{length}
 use Rattle.bands.specs.Rows.{rows}
 use Rattle.bands.specs.Sweep.{rest, twice}
-use Rattle.bands.proofs.RowLaws.{rest-all}
-use Rattle.bands.proofs.SweepLaws.{twice-high, doubled-twice}
-use Rattle.bands.proofs.LoopLaws.{twice-over, twice-ended}
-use borrow.Author.Needs.{needs}
-use native.Mathlib.Omega.{arith}
--- `bands::judging::doubled` meets its contract. The loop's invariant: the lowest so far and the lowest in two of the rows from `at` on give the lowest in any two. Assumes nothing.
 use Rattle.bands.proofs.RowLaws.{rest-all}
 use Rattle.bands.proofs.SweepLaws.{twice-high, doubled-twice}
 use Rattle.bands.proofs.LoopLaws.{twice-over, twice-ended}

@@ -1,9 +1,9 @@
 -- `bands::judging::judge` meets its contract. Assumes nothing.
 use mathlib.Core.Path.{sym, _∙_}
 use borrow.Author.Tests.{not-true, not-false}
+use borrow.Author.Needs.{needs}
 use Rattle.bands.proofs.RowLaws.{sound-whole}
 use Rattle.bands.proofs.JudgeLaws.{judged-unsound, judged-gap, judged-one, judged-double}
-use borrow.Author.Needs.{needs}
 use Rattle.bands.proofs.judging.judge.Statement.{statement}
 use Rattle.bands.proofs.judging.judge.Tie as tie
 

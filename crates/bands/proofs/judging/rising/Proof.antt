@@ -1,13 +1,13 @@
 -- `bands::judging::rising` meets its contract. The loop's invariant: the rows from `at` on rise from `next` on exactly if all rows rise from 0 on. Assumes nothing.
 use Prim.Native.Nat.{_-_, _%_, _≤_}
 use mathlib.Core.Path.{_≡_, refl, sym, ap, _∙_}
+use native.Mathlib.Omega.{arith}
+use borrow.Author.Needs.{needs}
 use lib.ListN.{length}
 use Rattle.bands.specs.Rows.{rows}
 use Rattle.bands.specs.Sweep.{rest, rising}
 use Rattle.bands.proofs.RowLaws.{rest-all}
 use Rattle.bands.proofs.LoopLaws.{rising-over, rising-broken, rising-ended}
-use borrow.Author.Needs.{needs}
-use native.Mathlib.Omega.{arith}
 use Rattle.bands.proofs.judging.rising.Statement.{statement}
 use Rattle.bands.proofs.judging.rising.Tie as tie
 

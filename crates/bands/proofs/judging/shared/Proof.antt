@@ -1,13 +1,10 @@
 -- `bands::judging::shared` meets its contract. The loop's invariant: the lowest so far and the lowest from `j` on give the lowest of all behind. Assumes nothing.
 use Prim.Native.Nat.{_+_, _-_, _%_, _≤_, min}
 use mathlib.Core.Path.{_≡_, _∙_}
+use native.Mathlib.Omega.{arith}
+use borrow.Author.Needs.{needs}
 use lib.ListN.{length}
 use Rattle.bands.specs.Sweep.{rest, shared}
-use Rattle.bands.proofs.SweepLaws.{shared-high}
-use Rattle.bands.proofs.LoopLaws.{shared-over, shared-ended, shared-of}
-use borrow.Author.Needs.{needs}
-use native.Mathlib.Omega.{arith}
--- `bands::judging::shared` meets its contract. The loop's invariant: the lowest so far and the lowest from `j` on give the lowest of all behind. Assumes nothing.
 use Rattle.bands.proofs.SweepLaws.{shared-high}
 use Rattle.bands.proofs.LoopLaws.{shared-over, shared-ended, shared-of}
 use Rattle.bands.proofs.judging.shared.Statement.{statement}

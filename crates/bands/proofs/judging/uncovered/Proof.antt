@@ -1,8 +1,8 @@
 -- `bands::judging::uncovered` meets its contract. Assumes nothing.
 use mathlib.Core.Path.{sym, _∙_}
+use borrow.Author.Needs.{needs}
 use Rattle.bands.proofs.RowLaws.{sound-whole}
 use Rattle.bands.proofs.JudgeLaws.{rising-covered}
-use borrow.Author.Needs.{needs}
 use Rattle.bands.proofs.judging.uncovered.Statement.{statement}
 use Rattle.bands.proofs.judging.uncovered.Tie as tie
 

@@ -1,10 +1,8 @@
 -- `bands::judging::walk` meets its contract. The loop's invariant: every millimetre below `next` lies in a row. Assumes nothing.
 use Prim.Native.Nat.{_-_, _≤_}
-use Rattle.bands.specs.Rows.{rows}
-use Rattle.bands.proofs.LoopLaws.{Covered, covered-none, place-room, found-further, walk-on, walk-gap, walk-done}
-use borrow.Author.Needs.{needs}
 use native.Mathlib.Omega.{arith}
--- `bands::judging::walk` meets its contract. The loop's invariant: every millimetre below `next` lies in a row. Assumes nothing.
+use borrow.Author.Needs.{needs}
+use Rattle.bands.specs.Rows.{rows}
 use Rattle.bands.proofs.LoopLaws.{Covered, covered-none, place-room, found-further, walk-on, walk-gap, walk-done}
 use Rattle.bands.proofs.judging.walk.Statement.{statement}
 use Rattle.bands.proofs.judging.walk.Tie as tie

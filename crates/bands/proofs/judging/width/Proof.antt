@@ -2,15 +2,12 @@
 use Prim.Native.Nat.{_+_, _-_, _*_, _%_, _≤_}
 use mathlib.Core.Path.{_≡_, refl, ap}
 use mathlib.Core.Bool.{true}
+use native.Mathlib.Omega.{arith}
+use borrow.Author.Needs.{needs}
 use lib.ListN.{length}
 use Rattle.bands.specs.Rows.{rows}
 use Rattle.bands.specs.Judge.{allFit}
 use Rattle.bands.specs.Sweep.{rest, width}
-use Rattle.bands.proofs.RowLaws.{rest-all, sound-short, sound-whole, sound-fit}
-use Rattle.bands.proofs.LoopLaws.{width-over, width-ended, fits-ordered, fits-next, fits-all}
-use borrow.Author.Needs.{needs}
-use native.Mathlib.Omega.{arith}
--- `bands::judging::width` meets its contract. The loop's invariant: the sum so far and the rows from `at` on give all. Assumes nothing.
 use Rattle.bands.proofs.RowLaws.{rest-all, sound-short, sound-whole, sound-fit}
 use Rattle.bands.proofs.LoopLaws.{width-over, width-ended, fits-ordered, fits-next, fits-all}
 use Rattle.bands.proofs.judging.width.Statement.{statement}

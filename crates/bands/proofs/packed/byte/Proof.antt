@@ -1,8 +1,7 @@
 -- `bands::packed::byte` meets its contract. Assumes nothing.
 use mathlib.Core.Path.{sym}
-use lib.ListN.{List·getD-eq-default}
 use borrow.Author.Needs.{needs}
--- `bands::packed::byte` meets its contract. Assumes nothing.
+use lib.ListN.{List·getD-eq-default}
 use Rattle.bands.proofs.packed.byte.Statement.{statement}
 use Rattle.bands.proofs.packed.byte.Tie as tie
 

@@ -1,9 +1,9 @@
 -- `bands::packed::judge_packed` meets its contract. Assumes nothing.
 use mathlib.Core.Path.{refl}
-use borrow.Author.Tests.{not-true, not-false}
-use Rattle.bands.proofs.TableLaws.{table-long, table-refused, table-taken}
-use borrow.Author.Needs.{needs}
 use native.Mathlib.Omega.{arith}
+use borrow.Author.Tests.{not-true, not-false}
+use borrow.Author.Needs.{needs}
+use Rattle.bands.proofs.TableLaws.{table-long, table-refused, table-taken}
 use Rattle.bands.proofs.packed.judge_packed.Statement.{statement}
 use Rattle.bands.proofs.packed.judge_packed.Tie as tie
 

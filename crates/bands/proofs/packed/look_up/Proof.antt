@@ -1,8 +1,7 @@
 -- `bands::packed::look_up` meets its contract. Assumes nothing.
-use Rattle.bands.proofs.TableLaws.{looked-none, looked-few, looked-whole, looked-row}
-use borrow.Author.Needs.{needs}
 use native.Mathlib.Omega.{arith}
--- `bands::packed::look_up` meets its contract. Assumes nothing.
+use borrow.Author.Needs.{needs}
+use Rattle.bands.proofs.TableLaws.{looked-none, looked-few, looked-whole, looked-row}
 use Rattle.bands.proofs.TableLaws.{looked-none, looked-few, looked-row}
 use Rattle.bands.proofs.packed.look_up.Statement.{statement}
 use Rattle.bands.proofs.packed.look_up.Tie as tie

@@ -1,11 +1,11 @@
 -- `bands::packed::pack` meets its contract. The loop's invariant: the first `i` bytes are those of the packed table. Assumes nothing.
 use Prim.Native.Nat.{_-_, _≤_}
 use mathlib.Core.Path.{_≡_, _∙_}
+use native.Mathlib.Omega.{arith}
+use borrow.Author.Needs.{needs}
 use lib.ListN.{length, length-set}
 use Rattle.bands.specs.Packed.{pack}
 use Rattle.bands.proofs.PackLaws.{Alike, pack-first, pack-more, pack-done}
-use borrow.Author.Needs.{needs}
-use native.Mathlib.Omega.{arith}
 use Rattle.bands.proofs.packed.pack.Statement.{statement}
 use Rattle.bands.proofs.packed.pack.Tie as tie
 

@@ -1,15 +1,13 @@
 -- `bands::rows::all_fit` meets its contract. The loop's invariant: the rows from `at` on are such exactly if all are. Assumes nothing.
 use Prim.Native.Nat.{_-_, _%_, _≤_}
 use mathlib.Core.Path.{_≡_, refl, sym, ap, _∙_}
-use lib.ListN.{length}
+use native.Mathlib.Omega.{arith}
 use borrow.Author.Tests.{not-true, not-false}
+use borrow.Author.Needs.{needs}
+use lib.ListN.{length}
 use Rattle.bands.specs.Rows.{rows}
 use Rattle.bands.specs.Judge.{allFit}
 use Rattle.bands.specs.Sweep.{rest}
-use Rattle.bands.proofs.RowLaws.{rest-all, fits-over, fits-under, fits-ended}
-use borrow.Author.Needs.{needs}
-use native.Mathlib.Omega.{arith}
--- `bands::rows::all_fit` meets its contract. The loop's invariant: the rows from `at` on are such exactly if all are. Assumes nothing.
 use Rattle.bands.proofs.RowLaws.{rest-all, fits-over, fits-under, fits-ended}
 use Rattle.bands.proofs.rows.all_fit.Statement.{statement}
 use Rattle.bands.proofs.rows.all_fit.Tie as tie

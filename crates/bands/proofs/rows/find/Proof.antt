@@ -1,10 +1,8 @@
 -- `bands::rows::find` meets its contract. Assumes nothing.
 use Prim.Native.Nat.{_+_}
 use mathlib.Core.Path.{sym, _∙_}
-use Rattle.bands.proofs.LoopLaws.{place-blank, place-row, row-read}
-use borrow.Author.Needs.{needs}
 use native.Mathlib.Omega.{arith}
--- `bands::rows::find` meets its contract. Assumes nothing.
+use borrow.Author.Needs.{needs}
 use Rattle.bands.proofs.LoopLaws.{place-blank, place-row, row-read}
 use Rattle.bands.proofs.rows.find.Statement.{statement}
 use Rattle.bands.proofs.rows.find.Tie as tie

@@ -1,9 +1,7 @@
 -- `bands::rows::fit` meets its contract. Assumes nothing.
 use mathlib.Core.Path.{sym}
-use Rattle.bands.proofs.LoopLaws.{unordered, too-deep, pumps-left}
 use borrow.Author.Needs.{needs}
--- `bands::rows::fit` meets its contract. Assumes nothing.
-use Rattle.bands.proofs.RowLaws.{row-from, row-to, row-pumps, fit-order, fit-deep, fit-pumps}
+use Rattle.bands.proofs.LoopLaws.{unordered, too-deep, pumps-left}
 use Rattle.bands.proofs.rows.fit.Statement.{statement}
 use Rattle.bands.proofs.rows.fit.Tie as tie
 

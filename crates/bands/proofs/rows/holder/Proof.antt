@@ -1,13 +1,11 @@
 -- `bands::rows::holder` meets its contract. The loop's invariant: the first row among those from `at` on is the first of all. Assumes nothing.
 use Prim.Native.Nat.{_+_, _-_, _*_, _%_, _≤_}
 use mathlib.Core.Path.{_≡_, refl, sym, _∙_}
+use native.Mathlib.Omega.{arith}
+use borrow.Author.Needs.{needs}
 use lib.ListN.{length}
 use Rattle.bands.specs.Rows.{rows, place}
 use Rattle.bands.specs.Sweep.{rest}
-use Rattle.bands.proofs.CountLaws.{place-here, place-later, place-ended, place-all}
-use borrow.Author.Needs.{needs}
-use native.Mathlib.Omega.{arith}
--- `bands::rows::holder` meets its contract. The loop's invariant: the first row among those from `at` on is the first of all. Assumes nothing.
 use Rattle.bands.proofs.CountLaws.{place-here, place-later, place-ended, place-all}
 use Rattle.bands.proofs.rows.holder.Statement.{statement}
 use Rattle.bands.proofs.rows.holder.Tie as tie

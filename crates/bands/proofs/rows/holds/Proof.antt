@@ -1,10 +1,7 @@
 -- `bands::rows::holds` meets its contract. Assumes nothing.
 use mathlib.Core.Path.{sym}
-use Rattle.bands.proofs.LoopLaws.{above-it, end-left}
 use borrow.Author.Needs.{needs}
--- `bands::rows::holds` meets its contract. Assumes nothing.
-use Rattle.bands.proofs.RowLaws.{row-from, row-to}
-use Rattle.bands.proofs.CountLaws.{holds-low, holds-test}
+use Rattle.bands.proofs.LoopLaws.{above-it, end-left}
 use Rattle.bands.proofs.rows.holds.Statement.{statement}
 use Rattle.bands.proofs.rows.holds.Tie as tie
 

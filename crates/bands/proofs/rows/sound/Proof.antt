@@ -1,7 +1,7 @@
 -- `bands::rows::sound` meets its contract. Assumes nothing.
 use mathlib.Core.Path.{sym, _∙_}
-use Rattle.bands.proofs.RowLaws.{sound-none, sound-long, sound-parted, sound-rest}
 use borrow.Author.Needs.{needs}
+use Rattle.bands.proofs.RowLaws.{sound-none, sound-long, sound-parted, sound-rest}
 use Rattle.bands.proofs.rows.sound.Statement.{statement}
 use Rattle.bands.proofs.rows.sound.Tie as tie
 
