@@ -25,7 +25,7 @@ pub struct Verdict {
 
 fn bands(strip: &[u8]) -> Vec<Band> {
     let word = |low: u8, high: u8| u64::from(u16::from_le_bytes([low, high]));
-    let band = |row: &[u8]| Band { from: word(row[0], row[1]), to: word(row[2], row[3]), pumps: row[4].into() };
+    let band = |r: &[u8]| Band { from: word(r[0], r[1]), to: word(r[2], r[3]), pumps: r[4].into() };
     strip.chunks_exact(ROW).map(band).collect()
 }
 
@@ -70,7 +70,7 @@ pub fn unpack(packed: &[u8; SIZE]) -> Option<&[u8]> {
     (judge(strip).code == 0).then_some(strip)
 }
 
-/// The row that a millimetre lies in, of the table that the home blocks hold; none if they hold no acceptable one.
+/// The row that a millimetre lies in, if the home blocks hold an acceptable table.
 pub fn look_up(packed: &[u8; SIZE], millimetre: u64) -> Option<Band> {
     let strip = unpack(packed)?;
     bands(strip).into_iter().find(|band| band.holds(millimetre))

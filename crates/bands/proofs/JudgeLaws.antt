@@ -6,10 +6,11 @@ use Prim.Native.Nat.{ℕ, _≤_, _<_}
 use native.Mathlib.Omega.{arith}
 use borrow.Author.Tests.{leb-true, leb-false, ltb-true, ltb-false, lt-ltb, le-ltb, eq-eqb, ne-eqb}
 use lib.Dec.{eqb, leb, ltb}
+use lib.ListN.{length}
 use Rattle.bands.specs.Rows.{Row, rows, count}
 use Rattle.bands.specs.Judge.{Verdict, verdict, depths, sound, uncovered, doubled, overlaps, coverage, judgement}
 use Rattle.bands.specs.Sweep.{rising, width}
-use Rattle.bands.proofs.RowLaws.{sound-fit}
+use Rattle.bands.proofs.RowLaws.{sound-short, sound-fit}
 use Rattle.bands.proofs.LowestLaws.{uncovered-is, uncovered-passed, uncovered-high, doubled-is, doubled-passed}
 use Rattle.bands.proofs.SweepLaws.{rising-one}
 use Rattle.bands.proofs.WidthLaws.{width-single, single-width}
@@ -78,6 +79,10 @@ accepted-sound strip h = go (sound strip) refl
     go : (t : Bool) → sound strip ≡ t → sound strip ≡ true
     go true e = e
     go false e = absurd (omega (arith, ap (λ (v : Verdict). v .code) (judged-unsound strip e)))
+
+-- and they fit into the home blocks
+pub accepted-short : (strip : List ℕ) → judgement strip .code ≡ 0 → length strip ≤ 160
+accepted-short strip h = sound-short strip (accepted-sound strip h)
 
 -- ---- accepted or not, with no refusal told
 

@@ -9,3 +9,4 @@ pub mod PackLaws
 pub mod TableLaws
 pub mod MemberLaws
 pub mod Promised
+pub mod Examples

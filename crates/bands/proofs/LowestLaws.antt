@@ -112,9 +112,6 @@ module _ (rs : List Row) where
   unfolding doubled depths
   lowest-crowded = lowest-holds (λ mm. leb 2 (count mm rs)) 10000 0
 
-  pub doubled-high : doubled rs ≤ 10000
-  doubled-high = omega (arith, lowest-crowded .high)
-
   pub doubled-passed : (j : ℕ) → j < doubled rs → count j rs ≤ 1
   doubled-passed j h = let d = leb-false 2 (count j rs) (lowest-crowded .passed j (omega arith) h) in omega arith
 

@@ -42,6 +42,11 @@ pack-number : (s : List ℕ) → length s ≤ 160 → length s / 5 % 256 ≡ get
 unfolding pack
 pack-number s h = omega arith
 
+-- a table of bytes is packed into bytes
+pub pack-small : (s : List ℕ) → length s ≤ 160 → ((i : ℕ) → getD s i 0 < 256) → (i : ℕ) → getD (pack s) i 0 < 256
+pack-small s h b zero = omega (arith, pack-number s h)
+pack-small s h b (suc j) = rw (← (pack-byte s (suc j) (omega arith))) (b (suc j - 1))
+
 -- ---- byte by byte
 
 -- the first i bytes stand as they are to stand

@@ -15,7 +15,7 @@ use Rattle.bands.specs.Packed.{pack, held, acceptable, unpack, lookUp, f
 use Rattle.bands.specs.Promises.{rowOf, InSome, InOne, Fit, Sound, Judged, accepted, unsound, gap, double, Told, Promise, Blank}
 use Rattle.bands.proofs.RowLaws.{rows-whole, fit-pumps, fit-ordered, fit-shallow, fit-few, all-nil, all-first, all-rest, all-cons, sound-some, sound-short, sound-whole, sound-fit, sound-rest}
 use Rattle.bands.proofs.LowestLaws.{uncovered-is, uncovered-passed, uncovered-here, doubled-is, doubled-passed, doubled-here}
-use Rattle.bands.proofs.JudgeLaws.{coverage-gap, coverage-double, coverage-one, judged-unsound, judged-sound, accepted-sound}
+use Rattle.bands.proofs.JudgeLaws.{coverage-gap, coverage-double, coverage-one, judged-unsound, judged-sound, accepted-sound, accepted-short}
 use Rattle.bands.proofs.PackLaws.{pack-length}
 use Rattle.bands.proofs.TableLaws.{acceptable-rows, lookup-some}
 use Rattle.bands.proofs.MemberLaws.{in-place, counted-some, some-counted, counted-two, two-counted, counted-one, one-counted}
@@ -43,7 +43,7 @@ module _ (strip : List ℕ) where
       let w = rows-whole strip (sound-whole strip e) in
       record {
         whole = sound-whole strip e;
-        some = omega (arith, sound-some strip e);
+        present = omega (arith, sound-some strip e);
         few = omega (arith, sound-short strip e);
         each = all-each (rows strip) (sound-fit strip e);
       }
@@ -51,7 +51,7 @@ module _ (strip : List ℕ) where
   asked-sound : Sound strip → sound strip ≡ true
   asked-sound h =
       let w = rows-whole strip (h .whole) in
-      sound-rest strip (λ z. omega (arith, h .some)) (omega (arith, h .few)) (h .whole) ∙ each-all (rows strip) (h .each)
+      sound-rest strip (λ z. omega (arith, h .present)) (omega (arith, h .few)) (h .whole) ∙ each-all (rows strip) (h .each)
 
   -- ---- the answers
 
@@ -111,16 +111,13 @@ module _ (strip : List ℕ) where
         let p = in-place (rows strip) mm (some-counted (rows strip) mm (record { at = o .at; here = o .here })) in
         record { one = o; row = ap (rowOf (rows strip)) (o .only (place mm (rows strip)) p) }
 
-    short : length strip ≤ 160
-    short = sound-short strip (accepted-sound strip h)
-
     held-pack : held (pack strip) ≡ strip
     unfolding held pack
     held-pack = take-at strip (replicate (191 - length strip) 0) (5 * (length strip / 5)) (omega (arith, sound-whole strip (accepted-sound strip h)))
 
     number-few : getD (pack strip) 0 0 ≤ 32
     unfolding pack
-    number-few = omega (arith, short)
+    number-few = omega (arith, accepted-short strip h)
 
     acceptable-pack : acceptable (pack strip) ≡ true
     acceptable-pack = acceptable-rows (pack strip) number-few (rw held-pack h)
@@ -138,7 +135,7 @@ module _ (strip : List ℕ) where
         judged = judged-as;
         taken = taken-as;
         told = told-as;
-        room = λ h. pack-length strip (short h);
+        room = λ h. pack-length strip (accepted-short strip h);
         kept = kept-as;
         found = found-as;
       }
@@ -147,4 +144,4 @@ module _ (strip : List ℕ) where
 
 pub blank : Blank
 unfolding unpack acceptable held judgement sound lookUp found
-blank = record { none = refl; refused = λ mm. refl }
+blank = record { empty = refl; refused = λ mm. refl }

@@ -43,7 +43,7 @@ pub record Fit (r : Row) : Type 0 where
 
 pub record Sound (strip : List ℕ) : Type 0 where
   pub whole : length strip % 5 ≡ 0
-  pub some : 1 ≤ length (rows strip)
+  pub present : 1 ≤ length (rows strip)
   pub few : length (rows strip) ≤ 32
   pub each : (i : ℕ) → i < length (rows strip) → Fit (rowOf (rows strip) i)
 
@@ -71,5 +71,5 @@ pub record Promise (strip : List ℕ) : Type 0 where
 
 -- homes that nothing was stored to hold "no acceptable table"
 pub record Blank : Type 0 where
-  pub none : unpack (replicate 192 0) ≡ none
+  pub empty : unpack (replicate 192 0) ≡ none
   pub refused : (mm : ℕ) → lookUp (replicate 192 0) mm ≡ answered 11 0 0 0

@@ -16,13 +16,17 @@ width-requires : tie.Need-width-requires
 width-requires c κs = sym (c .before .sound .ensures) ∙ not-false _ (c .if1 .left)
 
 returns-2 : tie.Need-returns-2
-returns-2 c = accepts-wide _ (sym (c .before .before .before .sound .ensures) ∙ not-false _ (c .before .before .if1 .left)) (c .before .width .ensures) (c .if2 .taken)
+returns-2 c =
+    let e = sym (c .before .before .before .sound .ensures) ∙ not-false _ (c .before .before .if1 .left) in
+    accepts-wide _ e (c .before .width .ensures) (c .if2 .taken)
 
 uncovered-requires : tie.Need-uncovered-requires
 uncovered-requires c κs = sym (c .before .before .before .sound .ensures) ∙ not-false _ (c .before .before .if1 .left)
 
 returns-3 : tie.Need-returns-3
-returns-3 c = accepts-covered _ (sym (c .before .before .before .before .sound .ensures) ∙ not-false _ (c .before .before .before .if1 .left)) (c .before .before .width .ensures) (c .before .if2 .left) (c .uncovered .ensures)
+returns-3 c =
+    let e = sym (c .before .before .before .before .sound .ensures) ∙ not-false _ (c .before .before .before .if1 .left) in
+    accepts-covered _ e (c .before .before .width .ensures) (c .before .if2 .left) (c .uncovered .ensures)
 
 pub accepts-spec : {M : Type 1} → statement M
 accepts-spec =

@@ -17,19 +17,26 @@ uncovered-requires : tie.Need-uncovered-requires
 uncovered-requires c κs = sym (c .before .sound .ensures) ∙ not-false _ (c .if1 .left)
 
 returns-2 : tie.Need-returns-2
-returns-2 c = sym (judged-gap _ (sym (c .before .before .before .sound .ensures) ∙ not-false _ (c .before .before .if1 .left)) (c .before .uncovered .ensures) (c .if2 .taken))
+returns-2 c =
+    let e = sym (c .before .before .before .sound .ensures) ∙ not-false _ (c .before .before .if1 .left) in
+    sym (judged-gap _ e (c .before .uncovered .ensures) (c .if2 .taken))
 
 width-requires : tie.Need-width-requires
 width-requires c κs = sym (c .before .before .before .sound .ensures) ∙ not-false _ (c .before .before .if1 .left)
 
 returns-3 : tie.Need-returns-3
-returns-3 c = sym (judged-one _ (sym (c .before .before .before .before .before .sound .ensures) ∙ not-false _ (c .before .before .before .before .if1 .left)) (c .before .before .before .uncovered .ensures) (c .before .before .if2 .left) (c .before .width .ensures) (c .if3 .taken))
+returns-3 c =
+    let e = sym (c .before .before .before .before .before .sound .ensures) ∙ not-false _ (c .before .before .before .before .if1 .left) in
+    sym (judged-one _ e (c .before .before .before .uncovered .ensures) (c .before .before .if2 .left) (c .before .width .ensures) (c .if3 .taken))
 
 doubled-requires : tie.Need-doubled-requires
 doubled-requires c κs = sound-whole _ (sym (c .before .before .before .before .before .sound .ensures) ∙ not-false _ (c .before .before .before .before .if1 .left))
 
 returns-4 : tie.Need-returns-4
-returns-4 c = sym (judged-double _ (sym (c .before .before .before .before .before .before .sound .ensures) ∙ not-false _ (c .before .before .before .before .before .if1 .left)) (c .before .before .before .before .uncovered .ensures) (c .before .before .before .if2 .left) (c .before .before .width .ensures) (c .before .if3 .left) (c .doubled .ensures))
+returns-4 c =
+    let e = sym (c .before .before .before .before .before .before .sound .ensures) ∙ not-false _ (c .before .before .before .before .before .if1 .left) in
+    let w = c .before .before .width .ensures in
+    sym (judged-double _ e (c .before .before .before .before .uncovered .ensures) (c .before .before .before .if2 .left) w (c .before .if3 .left) (c .doubled .ensures))
 
 pub judge-spec : {M : Type 1} → statement M
 judge-spec =

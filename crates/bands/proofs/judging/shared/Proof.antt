@@ -62,11 +62,13 @@ loop-less c = search needs
 loop-again : tie.Need-loop-again Inv-loop μ-loop
 loop-again c =
     let s = c .before .before .before .before .before .before .before .before .before .args .s .now in
-    let l = c .before .before .before .before .before .loop in (
+    let l = c .before .before .before .before .before .loop in
+    let f = c .before .before .before .before .before .before .before .two-bytes .result in
+    let t = c .before .before .before .before .before .before .two-bytes2 .result in (
       omega arith,
       omega arith,
       omega arith,
-      omega (arith, shared-over (c .before .before .before .before .before .before .before .two-bytes .result) (c .before .before .before .before .before .before .two-bytes2 .result) s (l .j) (omega arith) (c .before .before .before .two-bytes3 .ensures .0) (c .before .before .two-bytes4 .ensures .0)),
+      omega (arith, shared-over f t s (l .j) (omega arith) (c .before .before .before .two-bytes3 .ensures .0) (c .before .before .two-bytes4 .ensures .0)),
     )
 
 returns : tie.Need-returns Inv-loop μ-loop

@@ -35,7 +35,9 @@ loop-less : tie.Need-loop-less Inv-loop μ-loop
 loop-less c = omega (arith, found-further _ _ (c .before .before .before .before .before .before .pre) (c .before .before .holder .ensures) (c .before .if1 .left) (c .two-bytes .ensures .0))
 
 loop-again : tie.Need-loop-again Inv-loop μ-loop
-loop-again c = (omega arith, walk-on _ _ (c .before .before .before .before .loop .inv .1) (c .before .before .before .before .before .before .pre) (c .before .before .holder .ensures) (c .before .if1 .left) (c .two-bytes .ensures .0))
+loop-again c =
+    let l = c .before .before .before .before .loop in
+    (omega arith, walk-on _ _ (l .inv .1) (c .before .before .before .before .before .before .pre) (c .before .before .holder .ensures) (c .before .if1 .left) (c .two-bytes .ensures .0))
 
 returns-2 : tie.Need-returns-2 Inv-loop μ-loop
 returns-2 c = walk-done _ _ (c .before .loop .inv .1) (omega arith)

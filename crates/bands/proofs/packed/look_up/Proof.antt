@@ -2,7 +2,6 @@
 use native.Mathlib.Omega.{arith}
 use borrow.Author.Needs.{needs}
 use Rattle.bands.proofs.TableLaws.{looked-none, looked-few, looked-whole, looked-row}
-use Rattle.bands.proofs.TableLaws.{looked-none, looked-few, looked-row}
 use Rattle.bands.proofs.packed.look_up.Statement.{statement}
 use Rattle.bands.proofs.packed.look_up.Tie as tie
 

@@ -24,7 +24,8 @@ slice-write-packed c = search needs
 loop-holds : tie.Need-loop-holds Inv-loop μ-loop
 loop-holds c =
     let a = c .before .before .args in
-    (omega arith, omega arith, length-set (a .packed .now) _ _ ∙ c .before .before .pre .1, c .before .before .pre .0, pack-first (a .rows .now) (c .before .before .pre .0) (a .packed .now) (c .before .before .pre .1))
+    let p = c .before .before .pre in
+    (omega arith, omega arith, length-set (a .packed .now) _ _ ∙ p .1, p .0, pack-first (a .rows .now) (p .0) (a .packed .now) (p .1))
 
 sub-byte : tie.Need-sub-byte Inv-loop μ-loop
 sub-byte c = search needs
@@ -44,8 +45,13 @@ loop-less c = search needs
 loop-again : tie.Need-loop-again Inv-loop μ-loop
 loop-again c =
     let a = c .before .before .before .before .before .args in
-    let l = c .before .before .loop in
-    (omega arith, omega arith, length-set (l .packed) _ _ ∙ l .inv .2, l .inv .3, pack-more (a .rows .now) (l .inv .3) (l .packed) (l .i) _ (l .inv .0) (omega arith) (l .inv .2) (c .byte .ensures) (l .inv .4))
+    let l = c .before .before .loop in (
+      omega arith,
+      omega arith,
+      length-set (l .packed) _ _ ∙ l .inv .2,
+      l .inv .3,
+      pack-more (a .rows .now) (l .inv .3) (l .packed) (l .i) _ (l .inv .0) (omega arith) (l .inv .2) (c .byte .ensures) (l .inv .4),
+    )
 
 same-length : tie.Need-same-length Inv-loop μ-loop
 same-length c = search needs
