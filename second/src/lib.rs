@@ -5,6 +5,7 @@
 #![deny(warnings)]
 
 mod areas;
+pub mod bands;
 pub mod batch;
 pub mod book;
 mod calls;
