@@ -14,6 +14,7 @@ pub mod craft;
 pub mod damage;
 mod expect;
 pub mod gauges;
+pub mod hours;
 pub mod inflow;
 pub mod landing;
 pub mod layout;
