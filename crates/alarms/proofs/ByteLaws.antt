@@ -1,12 +1,12 @@
 -- An alarm's bytes: read from a word, written, and read back. Assumes nothing.
-use mathlib.Core.Path.{_≡_, refl, sym, ap, _∙_}
-use mathlib.Core.List.{List, [], _∷_, _++_, append-assoc}
-use Prim.Native.Nat.{ℕ, _+_, _*_, _/_, _%_, _^_, _≤_, _<_}
+use mathlib.Core.Path.{_≡_, sym, ap, _∙_}
+use mathlib.Core.List.{List, _++_}
+use Prim.Native.Nat.{ℕ, _+_, _*_, _/_, _%_, _≤_, _<_}
 use native.Mathlib.Nat.{add-mul-div-right, div-eq-of-lt}
 use native.Mathlib.Omega.{arith}
 use lib.ListN.{length, drop, getD, length-append}
 use lib.Seq.{take-add, drop-drop}
-use Rattle.model.specs.Bytes.{part, puts, bytes, number, putNumber}
+use Rattle.model.specs.Bytes.{part, puts, number, putNumber}
 use Rattle.model.proofs.bytes.ByteLaws.{puts-append, length-bytes, length-putNumber, number-lt, number-below, number-above, number-same, number-put-below}
 use Rattle.codec.proofs.JoinLaws.{number-join}
 use Rattle.codec.proofs.CopyLaws.{read-bytes}
@@ -15,6 +15,11 @@ use Rattle.alarms.specs.Alarm.{Alarm, alarm, alarmAt, alarmBytes, InRang
 pub length-alarm : (a : Alarm) → length (alarmBytes a) ≡ 7
 unfolding alarmBytes
 length-alarm a = simp (length-append, length-bytes)
+
+-- a run of bytes by its first n and the rest
+pub part-add : (s : List ℕ) (at n m : ℕ) → part s at (n + m) ≡ part s at n ++ part s (at + n) m
+unfolding part
+part-add s at n m = rw (take-add n m (drop at s), drop-drop)
 
 -- ---- read
 
@@ -55,10 +60,17 @@ module _ (s : List ℕ) (at : ℕ) (b : (i : ℕ) → getD s i 0 < 256) where
 
   -- the bytes of an alarm that was read
   pub read-alarm : at + 7 ≤ length s → alarmBytes (alarmAt s at) ≡ part s at 7
-  unfolding alarmBytes alarmAt part
+  unfolding alarmBytes alarmAt
   read-alarm h =
       let e : at + 2 + 1 ≡ at + 3 = omega arith in
-      rw (read-bytes 2 s at b (omega arith), read-bytes 1 s (at + 2) b (omega arith), read-bytes 4 s (at + 3) b (omega arith), take-add 2 5 (drop at s), take-add 1 4 (drop 2 (drop at s)), drop-drop, drop-drop, e)
+      let f : part s (at + 2) 5 ≡ part s (at + 2) 1 ++ part s (at + 3) 4 = rw (← e) (part-add s (at + 2) 1 4) in
+      rw (
+        read-bytes 2 s at b (omega arith),
+        read-bytes 1 s (at + 2) b (omega arith),
+        read-bytes 4 s (at + 3) b (omega arith),
+        part-add s at 2 5,
+        f,
+      )
 
 -- ---- written
 

@@ -3,3 +3,8 @@ pub mod OrderLaws
 pub mod WalkLaws
 pub mod PackLaws
 pub mod EventLaws
+pub mod GravestLaws
+pub mod HasLaws
+pub mod HistoryLaws
+pub mod BackLaws
+pub mod Promised

@@ -1,17 +1,16 @@
 -- The bytes of a list: read back, and made of parts of another list's bytes. Assumes nothing.
-use mathlib.Core.Path.{_≡_, refl, sym, ap, _∙_}
-use mathlib.Core.List.{List, [], _∷_, _++_, append-nil, append-assoc, List·Memᴰ, List·Memᴰ·head, List·Memᴰ·tail, List·Memᴰ·not-nil, List·Memᴰ·append-cases, List·Memᴰ·eq-of-singleton}
+use mathlib.Core.Path.{_≡_, refl, sym, _∙_}
+use mathlib.Core.List.{List, [], _∷_, _++_, append-nil, append-assoc, List·Memᴰ·head, List·Memᴰ·tail, List·Memᴰ·not-nil, List·Memᴰ·append-cases, List·Memᴰ·eq-of-singleton}
 use mathlib.Core.Logic.{⊎-elim}
 use Prim.Native.Nat.{ℕ, zero, suc, _+_, _-_, _*_, _≤_, _<_}
 use native.Mathlib.Omega.{arith}
-use lib.ListN.{length, drop, getD, length-append}
-use lib.Seq.{take-add, drop-drop}
-use Rattle.model.specs.Bytes.{part, puts, zeros, number, putNumber}
-use Rattle.model.proofs.bytes.ByteLaws.{puts-append, puts-whole, length-puts, length-zeros, length-putNumber}
-use Rattle.alarms.specs.Alarm.{Alarm, alarmAt, alarmBytes, InRange}
+use lib.ListN.{length, getD, length-append}
+use Rattle.model.specs.Bytes.{part, puts, zeros}
+use Rattle.model.proofs.bytes.ByteLaws.{puts-append, puts-whole, length-puts, length-zeros}
+use Rattle.alarms.specs.Alarm.{Alarm, alarmBytes, InRange}
 use Rattle.alarms.specs.OpenAlarms.{gravest, told, alarmsFrom, listBytes, sealed, packed}
 use Rattle.alarms.specs.Promises.{AllInRange}
-use Rattle.alarms.proofs.ByteLaws.{length-alarm, at-range, read-alarm, alarm-below, alarm-above, alarm-same}
+use Rattle.alarms.proofs.ByteLaws.{length-alarm, part-add, at-range, read-alarm, alarm-below, alarm-above, alarm-same}
 use Rattle.alarms.proofs.WalkLaws.{length-from}
 
 -- ---- lists joined
@@ -62,10 +61,6 @@ from-above d i t zero at h = refl
 from-above d i t (suc n) at h = rw (alarm-above d i t at h, from-above d i t n (at + 7) (omega arith))
 
 -- the bytes of a list that was read
-part-add : (s : List ℕ) (at n m : ℕ) → part s at (n + m) ≡ part s at n ++ part s (at + n) m
-unfolding part
-part-add s at n m = rw (take-add n m (drop at s), drop-drop)
-
 pub list-bytes : (s : List ℕ) → ((i : ℕ) → getD s i 0 < 256) → (n at : ℕ) → at + 7 * n ≤ length s → listBytes (alarmsFrom s n at) ≡ part s at (7 * n)
 unfolding alarmsFrom listBytes part
 list-bytes s b zero at h = refl

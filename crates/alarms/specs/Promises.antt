@@ -1,12 +1,12 @@
 -- What the definitions promise, read off the request and not off their text.
 use Prim.Native.Nat.{ℕ, _^_, _≤_, _<_}
 use mathlib.Core.Path.{_≡_}
-use mathlib.Core.Bool.{Bool, true, false, _||_, cond}
+use mathlib.Core.Bool.{Bool, false, _||_, cond}
 use mathlib.Core.List.{List, [], _∷_, _++_, List·Memᴰ}
-use mathlib.Core.Option.{Option, none, some}
+use mathlib.Core.Option.{none, some}
 use lib.Dec.{eqb}
-use lib.ListN.{length, take, getD}
-use Rattle.model.specs.Bytes.{zeros}
+use lib.ListN.{length, getD}
+use Rattle.model.specs.Bytes.{part, zeros}
 use Rattle.alarms.specs.Alarm.{Alarm, alarm, InRange}
 use Rattle.alarms.specs.OpenAlarms.{gravest, told, alarmsOf, keptOf, packed}
 use Rattle.alarms.specs.Events.{Event, arrival, clearing, answer, applied}
@@ -115,7 +115,7 @@ pub record Booked (es : List Event) : Type 0 where
 pub record Readable : Type 0 where
   pub list : (xs : List Alarm) → AllInRange xs → length xs ≤ 48 → alarmsOf (packed xs) ≡ xs
   pub kept : (xs : List Alarm) → AllInRange xs → keptOf (packed xs) ≡ told (gravest xs)
-  pub block : (bs : List ℕ) → keptOf (take 64 bs) ≡ keptOf bs
+  pub block : (bs : List ℕ) → keptOf (part bs 0 64) ≡ keptOf bs
   pub size : (xs : List Alarm) → length (packed xs) ≡ 384
   pub few : (bs : List ℕ) → length (alarmsOf bs) ≤ 48
   pub every : (bs : List ℕ) → ((i : ℕ) → getD bs i 0 < 256) → AllInRange (alarmsOf bs)

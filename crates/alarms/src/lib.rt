@@ -13,7 +13,6 @@ ghost use lib.ListN.{length};
 ghost use Rattle.alarms.specs.Alarm.{alarm};
 ghost use Rattle.alarms.specs.OpenAlarms.{keptOf};
 ghost use Rattle.alarms.specs.Events.{arrival, clearing, leaves, applied};
-
 pub use fields::class_known;
 
 // An open alarm: who raises it, how grave it is, and when it came.

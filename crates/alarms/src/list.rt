@@ -9,7 +9,7 @@ ghost use mathlib.Core.List.{[], _∷_, _++_};
 ghost use lib.ListN.{length};
 ghost use Rattle.model.specs.Bytes.{part, puts, zeros};
 ghost use Rattle.alarms.specs.Alarm.{InRange};
-ghost use Rattle.alarms.specs.OpenAlarms.{place, gravestFrom, gravest, told, alarmsFrom, openOf, sealed, packed};
+ghost use Rattle.alarms.specs.OpenAlarms.{place, gravest, told, alarmsFrom, openOf, sealed, packed};
 
 // How many are open.
 pub fn open_count(s: &[u8]) -> usize

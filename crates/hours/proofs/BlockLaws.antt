@@ -2,13 +2,13 @@
 use mathlib.Core.Path.{_≡_, refl, sym, _∙_}
 use mathlib.Core.Bool.{Bool, true, false, not}
 use mathlib.Core.List.{List}
-use Prim.Native.Nat.{ℕ, _+_, _^_, _≤_, _<_}
+use Prim.Native.Nat.{ℕ, _^_, _<_}
 use native.Mathlib.Omega.{arith}
 use lib.Dec.{eqb}
 use lib.ListN.{length, getD}
 use Rattle.model.specs.Bytes.{puts, zeros, value, number, putNumber}
 use Rattle.model.proofs.bytes.ByteLaws.{puts-whole, length-zeros, length-putNumber, number-same, number-put-below, number-lt}
-use Rattle.hours.specs.Pump.{Pump, pump, unused, pumpOf, flag, blockOf, Fits}
+use Rattle.hours.specs.Pump.{Pump, unused, pumpOf, flag, blockOf, Fits}
 
 -- the block field by field
 module _ (p : Pump) where

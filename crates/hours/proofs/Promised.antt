@@ -1,17 +1,17 @@
 -- What the definitions promise, for all events, records and blocks.
-use mathlib.Core.Path.{_≡_, refl, sym, ap, _∙_, subst}
-use mathlib.Core.Bool.{Bool, true, false, not, _&&_, cond}
+use mathlib.Core.Path.{_≡_, refl, sym, ap, _∙_}
+use mathlib.Core.Bool.{Bool, true, false, _&&_, cond}
 use mathlib.Core.List.{List, [], _∷_, _++_, List·Memᴰ·head, List·Memᴰ·tail}
-use Prim.Native.Nat.{ℕ, _+_, _-_, _*_, _/_, _%_, _^_, _≤_, _<_}
+use Prim.Native.Nat.{ℕ, _+_, _-_, _/_, _%_, _^_, _≤_, _<_}
 use native.Mathlib.Nat.{div-add-mod', mod-lt, mul-add-div-right, div-eq-of-lt, mul-add-mod-self-right, mod-eq-of-lt}
 use native.Mathlib.Omega.{arith}
-use borrow.Author.Tests.{eq-eqb, ne-eqb, eqb-true, eqb-false, lt-ltb, le-ltb, ltb-true, ltb-false}
+use borrow.Author.Tests.{eqb-true, lt-ltb}
 use lib.Dec.{eqb, ltb}
 use Rattle.model.specs.Bytes.{zeros}
-use Rattle.hours.specs.Pump.{Pump, pump, unused, pumpOf, blockOf, Fits}
+use Rattle.hours.specs.Pump.{Pump, unused, pumpOf, blockOf, Fits}
 use Rattle.hours.specs.Events.{Event, startAt, stopAt, late, totalAt, answer, after, settled, applied}
 use Rattle.hours.specs.Services.{due}
-use Rattle.hours.specs.Promises.{secondOf, isStart, starts, total, runs, runsFrom, lastSecond, lastFrom, wrongTurn, within, answerBy, joined, doneFrom, done, blockAfter, Says, Kept, Timed, Booked, Grown, Serviced, Readable}
+use Rattle.hours.specs.Promises.{secondOf, isStart, starts, total, runsFrom, lastSecond, lastFrom, wrongTurn, within, answerBy, joined, doneFrom, blockAfter, Says, Kept, Timed, Booked, Grown, Serviced, Readable}
 use Rattle.hours.proofs.BlockLaws.{length-block, read-back, read-zeros, read-fits}
 use Rattle.hours.proofs.EventLaws.{start-done, stop-done}
 use Rattle.hours.proofs.ListLaws.{starts-join, runs-join, last-join, total-start, total-stop}
