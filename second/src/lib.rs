@@ -4,6 +4,7 @@
 
 #![deny(warnings)]
 
+pub mod alarms;
 mod areas;
 pub mod batch;
 pub mod book;
