@@ -1,7 +1,7 @@
 -- What the definitions promise, for all events, lists and bytes.
 use mathlib.Core.Path.{_≡_, refl, sym, ap, _∙_}
 use mathlib.Core.Bool.{Bool, true, false, cond}
-use mathlib.Core.List.{List, [], _∷_, _++_, List·Memᴰ, List·Memᴰ·head, List·Memᴰ·tail, List·Memᴰ·not-nil, List·Memᴰ·append-cases, List·Memᴰ·eq-of-singleton}
+use mathlib.Core.List.{List, [], _∷_, _++_, List·Memᴰ, List·Memᴰ·not-nil, List·Memᴰ·append-cases, List·Memᴰ·eq-of-singleton}
 use mathlib.Core.Logic.{⊎-elim}
 use Prim.Native.Nat.{ℕ, _≤_, _<_}
 use native.Mathlib.Omega.{arith}
@@ -9,10 +9,12 @@ use borrow.Author.Tests.{eqb-true, eqb-false, ne-eqb, le-leb, ltb-true, ltb-fals
 use lib.Dec.{eqb, ltb}
 use lib.ListN.{length, length-append}
 use Rattle.model.specs.Bytes.{zeros}
+use Rattle.events.specs.Offered.{joined, done}
+use Rattle.events.proofs.OfferedLaws.{all-done, kept-all}
 use Rattle.alarms.specs.Alarm.{Alarm, InRange, classKnown}
 use Rattle.alarms.specs.OpenAlarms.{among, gravest, told, alarmsOf, keptOf, packed}
 use Rattle.alarms.specs.Events.{Event, arrival, clearing, answer, after, settled, applied}
-use Rattle.alarms.specs.Promises.{Has, Known, Says, outOfRange, already, noRoom, arrives, notThere, clears, openBy, joined, doneFrom, done, AllInRange, Distinct, nothing, Kept, Typed, Grown, bytesAfter, Booked, Readable}
+use Rattle.alarms.specs.Promises.{Has, Known, Says, outOfRange, already, noRoom, arrives, notThere, clears, openBy, answerBy, AllInRange, Distinct, nothing, Kept, Typed, Grown, heldWith, Booked, Readable}
 use Rattle.alarms.proofs.EventLaws.{class-most}
 use Rattle.alarms.proofs.HasLaws.{among-has, among-none, without-member, without-short, distinct-without, distinct-join}
 use Rattle.alarms.proofs.HistoryLaws.{open-after}
@@ -114,6 +116,7 @@ module _ {ds : List Event} {bs : List ℕ} (k : Kept ds bs) (e : Event) where
   refused-output output n = rw (k .list, ne-eqb (answer (openBy ds) e) 0 n)
 
   pub grown : (output : List ℕ) → Typed e → Grown ds bs output e
+  unfolding answerBy
   grown output t =
       let c = same-code output in
       record {
@@ -125,18 +128,13 @@ module _ {ds : List Event} {bs : List ℕ} (k : Kept ds bs) (e : Event) where
 
 -- ---- all events
 
-joined-kept : {ds : List Event} {bs : List ℕ} (e : Event) → Kept ds bs → Typed e → Kept (joined ds e) (applied bs bs e .output)
-unfolding joined
+joined-kept : {ds : List Event} {bs : List ℕ} (e : Event) → Kept ds bs → Typed e → Kept (joined answerBy ds e) (heldWith bs e)
+unfolding joined answerBy heldWith
 joined-kept {ds} {bs} e k t = go (eqb (answer (openBy ds) e) 0) refl
   where
     go : (b : Bool) → eqb (answer (openBy ds) e) 0 ≡ b → Kept (cond b (ds ++ (e ∷ [])) ds) (applied bs bs e .output)
     go true q = let z = eqb-true (answer (openBy ds) e) 0 q in rw (done-output k e bs z) (packs k e t z)
     go false q = rw (refused-output k e bs (eqb-false (answer (openBy ds) e) 0 q)) k
-
-pub kept-all : (es : List Event) {ds : List Event} {bs : List ℕ} → ((e : Event) → List·Memᴰ e es → Typed e) → Kept ds bs → Kept (doneFrom ds es) (bytesAfter bs es)
-unfolding doneFrom bytesAfter
-kept-all [] t k = k
-kept-all (e ∷ es) t k = kept-all es (λ d m. t d (List·Memᴰ·tail m)) (joined-kept e k (t e (List·Memᴰ·head refl)))
 
 pub kept-none : Kept [] (zeros 384)
 unfolding openBy gravest told
@@ -146,8 +144,12 @@ kept-none =
 
 pub booked : (es : List Event) → ((e : Event) → List·Memᴰ e es → Typed e) → Booked es
 booked es t =
-    let k = kept-all es t kept-none in
-    record { kept = k; answers = λ e. rw (same-code k e (bytesAfter (zeros 384) es)) (says (openBy (done es)) e) }
+    let k = kept-all answerBy Kept Typed heldWith (λ ds b e k f. joined-kept e k f) es [] (zeros 384) t kept-none in
+    record {
+      kept = k;
+      answers = λ e output. rw (same-code k e output) (says (openBy (done answerBy es)) e);
+      accepted = all-done answerBy [] es;
+    }
 
 pub readable : Readable
 readable = record { list = list-back; kept = kept-back; block = kept-block; size = length-packed; few = few-read; every = range-read }

@@ -7,6 +7,7 @@ use mathlib.Core.Option.{none, some}
 use lib.Dec.{eqb}
 use lib.ListN.{length, getD}
 use Rattle.model.specs.Bytes.{part, zeros}
+use Rattle.events.specs.Offered.{heldAfter, done, Accepted}
 use Rattle.alarms.specs.Alarm.{Alarm, alarm, InRange}
 use Rattle.alarms.specs.OpenAlarms.{gravest, told, alarmsOf, keptOf, packed}
 use Rattle.alarms.specs.Events.{Event, arrival, clearing, answer, applied}
@@ -61,16 +62,9 @@ openBy [] = []
 openBy (arrival a ∷ es) = cond (clearedIn (a .identity) es) (openBy es) (a ∷ openBy es)
 openBy (clearing i ∷ es) = openBy es
 
--- of the events that are offered, those that are done
-unfoldable pub joined : List Event → Event → List Event
-joined ds e = cond (eqb (answer (openBy ds) e) 0) (ds ++ (e ∷ [])) ds
-
-unfoldable pub doneFrom : List Event → List Event → List Event
-doneFrom ds [] = ds
-doneFrom ds (e ∷ es) = doneFrom (joined ds e) es
-
-abbrev pub done : List Event → List Event
-done es = doneFrom [] es
+-- what such a list answers
+unfoldable pub answerBy : List Event → Event → ℕ
+answerBy ds e = answer (openBy ds) e
 
 -- ---- bytes
 
@@ -98,18 +92,20 @@ Typed (clearing i) = i < 2 ^ 16
 -- one event: blocks that hold what a list says answer as it does, and hold what it says then
 pub record Grown (ds : List Event) (bs output : List ℕ) (e : Event) : Type 0 where
   pub says : Says (openBy ds) e (applied bs output e .code)
-  pub code : applied bs output e .code ≡ answer (openBy ds) e
+  pub code : applied bs output e .code ≡ answerBy ds e
   pub kept : applied bs output e .code ≡ 0 → Kept (ds ++ (e ∷ [])) (applied bs output e .output)
   pub untouched : (applied bs output e .code ≡ 0 → ⊥) → applied bs output e .output ≡ output
 
-unfoldable pub bytesAfter : List ℕ → List Event → List ℕ
-bytesAfter bs [] = bs
-bytesAfter bs (e ∷ es) = bytesAfter (applied bs bs e .output) es
+-- what the homes hold after an event
+unfoldable pub heldWith : List ℕ → Event → List ℕ
+heldWith bs e = applied bs bs e .output
 
--- for all events that are offered, done or refused: the homes, zeros at first, hold the arrivals not cleared after and their gravest
+-- for all events that are offered, done or refused: the homes, zeros at first, hold the arrivals not cleared after and their gravest; of an accepted
+-- list all are done
 pub record Booked (es : List Event) : Type 0 where
-  pub kept : Kept (done es) (bytesAfter (zeros 384) es)
-  pub answers : (e : Event) → Says (openBy (done es)) e (applied (bytesAfter (zeros 384) es) (bytesAfter (zeros 384) es) e .code)
+  pub kept : Kept (done answerBy es) (heldAfter heldWith (zeros 384) es)
+  pub answers : (e : Event) (output : List ℕ) → Says (openBy (done answerBy es)) e (applied (heldAfter heldWith (zeros 384) es) output e .code)
+  pub accepted : Accepted answerBy es → done answerBy es ≡ es
 
 -- list and gravest are read back as stored, the gravest from the first block alone; all bytes read as a list of at most 48 in range
 pub record Readable : Type 0 where

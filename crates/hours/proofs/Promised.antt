@@ -1,17 +1,19 @@
 -- What the definitions promise, for all events, records and blocks.
 use mathlib.Core.Path.{_≡_, refl, sym, ap, _∙_}
 use mathlib.Core.Bool.{Bool, true, false, _&&_, cond}
-use mathlib.Core.List.{List, [], _∷_, _++_, List·Memᴰ·head, List·Memᴰ·tail}
+use mathlib.Core.List.{List, [], _∷_, _++_, List·Memᴰ}
 use Prim.Native.Nat.{ℕ, _+_, _-_, _/_, _%_, _^_, _≤_, _<_}
 use native.Mathlib.Nat.{div-add-mod', mod-lt, mul-add-div-right, div-eq-of-lt, mul-add-mod-self-right, mod-eq-of-lt}
 use native.Mathlib.Omega.{arith}
 use borrow.Author.Tests.{eqb-true, lt-ltb}
 use lib.Dec.{eqb, ltb}
 use Rattle.model.specs.Bytes.{zeros}
+use Rattle.events.specs.Offered.{joined}
+use Rattle.events.proofs.OfferedLaws.{all-done, kept-all}
 use Rattle.hours.specs.Pump.{Pump, unused, pumpOf, blockOf, Fits}
 use Rattle.hours.specs.Events.{Event, startAt, stopAt, late, totalAt, answer, after, settled, applied}
 use Rattle.hours.specs.Services.{due}
-use Rattle.hours.specs.Promises.{secondOf, isStart, starts, total, runsFrom, lastSecond, lastFrom, wrongTurn, within, answerBy, joined, doneFrom, blockAfter, Says, Kept, Timed, Booked, Grown, Serviced, Readable}
+use Rattle.hours.specs.Promises.{secondOf, isStart, starts, total, runsFrom, lastSecond, lastFrom, wrongTurn, within, answerBy, heldWith, Says, Kept, Timed, Booked, Grown, Serviced, Readable}
 use Rattle.hours.proofs.BlockLaws.{length-block, read-back, read-zeros, read-fits}
 use Rattle.hours.proofs.EventLaws.{start-done, stop-done}
 use Rattle.hours.proofs.ListLaws.{starts-join, runs-join, last-join, total-start, total-stop}
@@ -75,7 +77,7 @@ join {ds} {p} h f l (stopAt s) t z =
     }
 
 pub grown : {ds : List Event} {block : List ℕ} → Kept ds block → (e : Event) → secondOf e < 2 ^ 32 → Grown ds block e
-unfolding applied settled joined
+unfolding applied settled heldWith joined
 grown {ds} {block} k e t =
     let s = same-answer (k .says) (k .fits) e in
     record { code = s; kept = rw s (go (eqb (answerBy ds e) 0) refl) }
@@ -89,11 +91,6 @@ grown {ds} {block} k e t =
 
 -- ---- all events
 
-pub kept-all : (es : List Event) {ds : List Event} {block : List ℕ} → Timed es → Kept ds block → Kept (doneFrom ds es) (blockAfter block es)
-unfolding doneFrom blockAfter
-kept-all [] t k = k
-kept-all (e ∷ es) t k = kept-all es (λ d m. t d (List·Memᴰ·tail m)) (grown k e (t e (List·Memᴰ·head refl)) .kept)
-
 pub kept-none : Kept [] (zeros 64)
 unfolding unused starts total runsFrom lastFrom
 kept-none =
@@ -101,11 +98,11 @@ kept-none =
     let f : Fits unused = record { starts = omega arith; total = omega arith; last = omega arith } in
     record { says = rw read-zeros s; fits = rw read-zeros f; below = omega arith }
 
-pub booked : (es : List Event) → Timed es → Booked es
+pub booked : (es : List Event) → ((e : Event) → List·Memᴰ e es → Timed e) → Booked es
 unfolding applied settled
 booked es t =
-    let k = kept-all es t kept-none in
-    record { kept = k; answers = λ e. same-answer (k .says) (k .fits) e }
+    let k = kept-all answerBy Kept Timed heldWith (λ ds b e k f. grown k e f .kept) es [] (zeros 64) t kept-none in
+    record { kept = k; answers = λ e. same-answer (k .says) (k .fits) e; accepted = all-done answerBy [] es }
 
 -- ---- services and blocks
 

@@ -2,10 +2,11 @@
 use Prim.Native.Nat.{ℕ, _+_, _-_, _*_, _^_, _≤_, _<_}
 use mathlib.Core.Path.{_≡_}
 use mathlib.Core.Bool.{Bool, true, false, not, _&&_, cond}
-use mathlib.Core.List.{List, [], _∷_, _++_, List·Memᴰ}
-use lib.Dec.{eqb, ltb}
+use mathlib.Core.List.{List, [], _∷_, _++_}
+use lib.Dec.{ltb}
 use lib.ListN.{length, getD}
 use Rattle.model.specs.Bytes.{zeros}
+use Rattle.events.specs.Offered.{heldAfter, joined, done, Accepted}
 use Rattle.hours.specs.Pump.{Pump, pumpOf, blockOf, Fits}
 use Rattle.hours.specs.Events.{Event, startAt, stopAt, applied}
 use Rattle.hours.specs.Services.{due}
@@ -61,22 +62,11 @@ within es = ltb (starts es) (2 ^ 32) && ltb (total es) (2 ^ 32)
 unfoldable pub answerBy : List Event → Event → ℕ
 answerBy es e = cond (wrongTurn e (runs es)) 15 (cond (ltb (secondOf e) (lastSecond es)) 16 (cond (within (es ++ (e ∷ []))) 0 16))
 
--- of the events that a pump is offered, those that are done
-unfoldable pub joined : List Event → Event → List Event
-joined es e = cond (eqb (answerBy es e) 0) (es ++ (e ∷ [])) es
-
-unfoldable pub doneFrom : List Event → List Event → List Event
-doneFrom ds [] = ds
-doneFrom ds (e ∷ es) = doneFrom (joined ds e) es
-
-abbrev pub done : List Event → List Event
-done es = doneFrom [] es
-
 -- ---- blocks
 
-unfoldable pub blockAfter : List ℕ → List Event → List ℕ
-blockAfter block [] = block
-blockAfter block (e ∷ es) = blockAfter (applied block e .block) es
+-- what a pump's block holds after an event
+unfoldable pub heldWith : List ℕ → Event → List ℕ
+heldWith block e = applied block e .block
 
 pub record Says (es : List Event) (p : Pump) : Type 0 where
   pub starts : p .starts ≡ starts es
@@ -93,16 +83,18 @@ pub record Kept (ds : List Event) (block : List ℕ) : Type 0 where
 -- one event: a block that holds what a list says answers as the list does, and holds what the list says then
 pub record Grown (ds : List Event) (block : List ℕ) (e : Event) : Type 0 where
   pub code : applied block e .code ≡ answerBy ds e
-  pub kept : Kept (joined ds e) (applied block e .block)
+  pub kept : Kept (joined answerBy ds e) (heldWith block e)
 
--- seconds of 32 bits
-abbrev pub Timed : List Event → Type 0
-Timed es = (e : Event) → List·Memᴰ e es → secondOf e < 2 ^ 32
+-- a second of 32 bits
+abbrev pub Timed : Event → Type 0
+Timed e = secondOf e < 2 ^ 32
 
--- for all events that a pump is offered, done or refused: its home, zeros at first, holds what the done ones say, and every next answer is theirs
+-- for all events that a pump is offered, done or refused: its home, zeros at first, holds what the done ones say, and every next answer is theirs;
+-- of an accepted list all are done
 pub record Booked (es : List Event) : Type 0 where
-  pub kept : Kept (done es) (blockAfter (zeros 64) es)
-  pub answers : (e : Event) → applied (blockAfter (zeros 64) es) e .code ≡ answerBy (done es) e
+  pub kept : Kept (done answerBy es) (heldAfter heldWith (zeros 64) es)
+  pub answers : (e : Event) → applied (heldAfter heldWith (zeros 64) es) e .code ≡ answerBy (done answerBy es) e
+  pub accepted : Accepted answerBy es → done answerBy es ≡ es
 
 -- "services × interval + left over is the total, and left over is below the interval", and no other two numbers are so
 pub record Serviced (total interval : ℕ) : Type 0 where
