@@ -4,6 +4,7 @@
 
 #![deny(warnings)]
 
+pub mod alarms;
 mod areas;
 pub mod bands;
 pub mod batch;
@@ -15,6 +16,7 @@ pub mod craft;
 pub mod damage;
 mod expect;
 pub mod gauges;
+pub mod hours;
 pub mod inflow;
 pub mod landing;
 pub mod layout;
