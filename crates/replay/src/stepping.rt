@@ -101,7 +101,7 @@ pub fn count_from(
     ensures { λ r. ⌜ (r ≤ limit → r ≡ length (span (touches (now (log .entry)) groups homes start end) cursor (homes - cursor)))
         × (r ≤ length (span (touches (now (log .entry)) groups homes start end) cursor (homes - cursor))) ⌝ }
 {
-    let slot = scan::first_slot(start, groups);
+    let slot = scan::first_slot(start, groups).slot;
     let mut n = 0;
     let mut h = cursor;
     while h < homes {
@@ -234,7 +234,7 @@ pub fn bring_from(
     ensures { λ r. ⌜ Stepped (now (log .entry)) groups homes start end cursor r 0 limit (now (area .entry)) (now (batch .entry)) r limit
         (now (area .exit)) (now (batch .exit)) ⌝ }
 {
-    let slot = scan::first_slot(start, groups);
+    let slot = scan::first_slot(start, groups).slot;
     let mut n = 0;
     let mut h = cursor;
     while h < homes {
