@@ -14,7 +14,7 @@ use Rattle.model.specs.Commit.{transactions, newest, found}
 use Rattle.model.specs.Batch.{FN, recordBytes, batchBytes}
 use Rattle.model.specs.declared.State.{State}
 use Rattle.model.specs.State.{stateOf, setRound, setCursor, underWay, fixedIn}
-use Rattle.model.specs.Effects.{Given, marked, homeWrites, touchedFrom, restoredHomes, liveTags, liveBase, roundTransactions, roundHomes, roundEnded, roundMoved, stepHomes, beginRoundEffect, stepRoundEffect}
+use Rattle.model.specs.Effects.{Given, marked, homeWrites, touchedFrom, restoredHomes, liveTags, liveBase, roundTransactions, roundHomes, roundEnded, roundMoved, stepHomes, beginRoundEffect, stepRoundEffect, tagsOf}
 use Rattle.model.specs.Questions.{ask, askState, batchFits, inRound, beginRoundAnswer, stepRoundAnswer}
 use Rattle.model.specs.Calls.{sizeOf, beginRoundCall, stepRoundCall}
 use Rattle.model.proofs.bytes.ByteLaws.{puts-append}
@@ -148,11 +148,11 @@ module _ (log area state batch : List ℕ) (k : ℕ) where
       made = rw (f, order .groups-same, order .homes-same) at m
 
       closed : closedBelow log (groupsIn (length log)) (homesIn (length area)) (stateOf state .start) end ≡ roundTransactions stepping
-      unfolding roundTransactions liveTags liveBase fixedIn
+      unfolding roundTransactions liveTags tagsOf liveBase fixedIn
       closed = rw (f, order .groups-same, order .homes-same) at below
 
       due-is : remaining log (groupsIn (length log)) (homesIn (length area)) (stateOf state .start) end (stateOf state .cursor) ≡ due
-      unfolding roundHomes liveTags
+      unfolding roundHomes liveTags tagsOf
       due-is =
           ap
           (λ (ts : List (List ℕ)).
@@ -163,7 +163,7 @@ module _ (log area state batch : List ℕ) (k : ℕ) where
       sized = rw due-is at (made .sized)
 
       copied : size ≤ length batch → a ≡ brought
-      unfolding liveTags
+      unfolding liveTags tagsOf
       copied h = rw (due-is, closed) at (made .copied h)
 
       written : size ≤ length batch → d ≡ puts batch 0 (batchBytes (homeWrites a (take k due)))
@@ -227,8 +227,8 @@ module _ (log area state batch : List ℕ) (k : ℕ) where
       step-moved code figure told x s y h t r ex es ey =
           let l : leb (length due) k ≡ false = lt-leb (length due) k (ltb-true k (length due) (sym left ∙ t)) in
           let q : next ≡ getD due (k - 1) 0 + 1 = rw due-is at (made .moved h t (omega (arith, o))) in
-          done-by stepping (stepRoundEffect stepping k) _ code figure told log x s [] y (asked ∙ fits h)
-          (r .0) (r .1) (r .2 ∙ sym length-is) refl (ex ∙ copied h) (es ∙ rw (q, l)) refl
+          done-by stepping (stepRoundEffect stepping k) _ code figure told log x s [] [] y (asked ∙ fits h)
+          (r .0) (r .1) (r .2 ∙ sym length-is) refl (ex ∙ copied h) (es ∙ rw (q, l)) refl refl
           (ey ∙ written h ∙ rw (copied h, l, append-nil (homeWrites brought (take k due))))
 
       pub step-ended : (code figure told at : ℕ) (x s y : List ℕ) → size ≤ length batch → more ≡ false
@@ -238,6 +238,6 @@ module _ (log area state batch : List ℕ) (k : ℕ) where
       step-ended code figure told at x s y h t r ex es ey ea =
           let l : leb (length due) k ≡ true = le-leb (length due) k (ltb-false k (length due) (sym left ∙ t)) in
           let p : 0 + length (batchBytes (homeWrites brought (take k due))) ≡ at = omega (arith, homes-size, sized, ap (λ (b : Bool). cond {A = ℕ} b 2 0) l) in
-          done-by stepping (stepRoundEffect stepping k) _ code figure told log x s [] y (asked ∙ fits h)
-          (r .0) (r .1) (r .2 ∙ sym length-is) refl (ex ∙ copied h) (es ∙ rw (f, l)) refl
+          done-by stepping (stepRoundEffect stepping k) _ code figure told log x s [] [] y (asked ∙ fits h)
+          (r .0) (r .1) (r .2 ∙ sym length-is) refl (ex ∙ copied h) (es ∙ rw (f, l)) refl refl
           (ey ∙ rw (written h, copied h, l, batch-append (homeWrites brought (take k due)) (FN ∷ []), puts-append, p, batch-one FN))
