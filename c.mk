@@ -32,13 +32,14 @@ C_DRIVER_CHECK = driver_check driver driver_file $(C_STORE)
 C_QUICKSTART = quickstart $(C_STORE)
 C_STORE_CHECK = store_check play $(C_STORE)
 C_RESERVE_CHECK = reserve_check $(C_STORE)
+C_ROUND_CHECK = round_check $(C_STORE)
 C_FILE_CHECK = file_check play $(C_STORE)
 C_KILL_CHECK = kill_check play $(C_STORE)
 C_FRAM_CHECK = fram_check play $(C_STORE)
 C_GAUGES = gauges readings levels_plot
 C_GAUGES_COST = gauges_cost
 C_INFLOW = inflow
-C_PROGRAMS = station inspect quickstart driver_check store_check reserve_check file_check kill_check fram_check gauges gauges_cost inflow
+C_PROGRAMS = station inspect quickstart driver_check store_check reserve_check round_check file_check kill_check fram_check gauges gauges_cost inflow
 
 .PHONY: station inspect quickstart gauges inflow c-sanitize c-check c-kills c-dist install uninstall c-clean
 
@@ -80,6 +81,7 @@ $(eval $(call C_PROGRAM,quickstart,$(C_QUICKSTART),$(LIB)))
 $(eval $(call C_PROGRAM,driver_check,$(C_DRIVER_CHECK),$(LIB)))
 $(eval $(call C_PROGRAM,store_check,$(C_STORE_CHECK),$(LIB)))
 $(eval $(call C_PROGRAM,reserve_check,$(C_RESERVE_CHECK),$(LIB)))
+$(eval $(call C_PROGRAM,round_check,$(C_ROUND_CHECK),$(LIB)))
 $(eval $(call C_PROGRAM,file_check,$(C_FILE_CHECK),$(LIB)))
 $(eval $(call C_PROGRAM,kill_check,$(C_KILL_CHECK),$(LIB)))
 $(eval $(call C_PROGRAM,fram_check,$(C_FRAM_CHECK),$(LIB)))

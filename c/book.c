@@ -38,6 +38,8 @@ void book_start(struct book *book, size_t groups, size_t homes, const uint8_t *c
     book->kept = resize(NULL, size);
     book->newest = resize(NULL, size);
     book->home = resize(NULL, size);
+    book->ahead = resize(NULL, size);
+    book->due = resize(NULL, homes);
     if (contents)
         memcpy(book->kept, contents, size);
     else
@@ -65,6 +67,8 @@ void book_free(struct book *book)
     free(book->kept);
     free(book->newest);
     free(book->home);
+    free(book->ahead);
+    free(book->due);
     free(book->persisted);
     memset(book, 0, sizeof *book);
 }
@@ -73,6 +77,7 @@ void book_opened(struct book *book, uint64_t start)
 {
     book->start = book->next = start;
     book->fenced = book->settled = KAGUTIN_GROUP_ENTRIES * start;
+    book->in_round = false;
 }
 
 void book_begin(struct book *book, unsigned writer, uint64_t promised)
@@ -219,13 +224,66 @@ void book_confirm(struct book *book, uint64_t mark)
         book->commits[i].owed = true;
 }
 
+/* Writes the commits below the fenced position home, from one on; gives how many are. */
+static size_t put_fenced(const struct book *book, uint8_t *homes, size_t from)
+{
+    while (from < book->commit_count && book->commits[from].ticket <= book->fenced)
+        put_commit(homes, &book->commits[from++]);
+    return from;
+}
+
 void book_settle(struct book *book)
 {
-    while (book->settled_commits < book->commit_count
-           && book->commits[book->settled_commits].ticket <= book->fenced)
-        put_commit(book->home, &book->commits[book->settled_commits++]);
+    book->settled_commits = put_fenced(book, book->home, book->settled_commits);
     book->settled = book->fenced;
     book->fenced = KAGUTIN_GROUP_ENTRIES * book->next;
+}
+
+void book_begin_round(struct book *book)
+{
+    memcpy(book->ahead, book->home, kagutin_area_size(book->homes));
+    book->ahead_commits = put_fenced(book, book->ahead, book->settled_commits);
+    book->fixed = book->fenced;
+    book->cursor = 0;
+    book->in_round = true;
+}
+
+/* Those from the cursor on that commits below the fixed position write, of the ones not trimmed. */
+size_t book_round_homes(struct book *book)
+{
+    size_t i, k, count = 0;
+
+    memset(book->due, 0, book->homes);
+    for (i = book->ahead_commits; i > 0 && book->commits[i - 1].ticket > KAGUTIN_GROUP_ENTRIES * book->start; i--)
+        for (k = 0; k < book->commits[i - 1].count; k++)
+            book->due[book->commits[i - 1].entries[k].home] = 1;
+    for (i = book->cursor; i < book->homes; i++)
+        count += book->due[i];
+    return count;
+}
+
+bool book_step_round(struct book *book, size_t homes)
+{
+    bool last = book_round_homes(book) <= homes;
+
+    for (; homes > 0 && book->cursor < book->homes; book->cursor++)
+        if (book->due[book->cursor]) {
+            memcpy(book->home + kagutin_area_size(book->cursor), book->ahead + kagutin_area_size(book->cursor),
+                   KAGUTIN_BLOCK_SIZE);
+            homes--;
+        }
+    if (!last)
+        return false;
+    book->settled_commits = book->ahead_commits;
+    book->settled = book->fixed;
+    book->fenced = KAGUTIN_GROUP_ENTRIES * book->next;
+    book->in_round = false;
+    return true;
+}
+
+bool book_is_ahead(const struct book *book)
+{
+    return memcmp(book->home, book->ahead, kagutin_area_size(book->homes)) == 0;
 }
 
 /* The group in which a transaction across 7 x start begins; start if there is none. */

@@ -52,6 +52,11 @@ struct book {
     uint8_t *newest; /* homes after all commits */
     uint8_t *home;   /* homes as settle has left them */
     size_t settled_commits;
+    bool in_round;
+    uint8_t *ahead;       /* homes as the round under way will leave them */
+    size_t ahead_commits; /* settled when it is over */
+    size_t cursor;        /* its homes below this one are done */
+    uint8_t *due;         /* by home: 1 if the round has still to write it */
 
     uint64_t rows, first_row; /* rows written: ever, up to the last cut */
     size_t filled;            /* entries in the row that is being filled */
@@ -59,7 +64,7 @@ struct book {
     size_t persisted_room;
 
     /* Group numbers and positions, from the last opening on. */
-    uint64_t start, next, fenced, settled;
+    uint64_t start, next, fenced, settled, fixed; /* fixed: the fenced position that the round covers */
 };
 
 /* What a cut did to the list. */
@@ -97,6 +102,16 @@ uint64_t book_commit(struct book *book, unsigned writer);
 void book_flush(struct book *book);
 void book_confirm(struct book *book, uint64_t mark);
 void book_settle(struct book *book);
+
+/*
+ * A round: the homes that remain of it; a step by so many of them, which says
+ * whether the round is over. Then every home must be as a settle at its
+ * beginning would have left it.
+ */
+void book_begin_round(struct book *book);
+size_t book_round_homes(struct book *book);
+bool book_step_round(struct book *book, size_t homes);
+bool book_is_ahead(const struct book *book);
 
 /* The start to which a trim must move; the present one if it must not. */
 uint64_t book_trim_start(const struct book *book);

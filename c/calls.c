@@ -46,7 +46,7 @@ static void expect_group(struct station *station, const char *call, uint64_t gro
         station_mismatch(station, "%s did not submit group %llu", call, (unsigned long long)group);
 }
 
-/* Checks HW records, rising, with the blocks of the data copy, up to a fence. */
+/* Checks HW records, rising, with the blocks of the data copy; gives where they end. */
 static size_t expect_homes(struct station *station, const char *call, size_t size)
 {
     const struct driver *driver = &station->driver;
@@ -63,7 +63,12 @@ static size_t expect_homes(struct station *station, const char *call, size_t siz
         least = record.place + 1;
         at += record.size;
     }
-    if (size - at < 2 || memcmp(driver->batch + at, "FN", 2) != 0)
+    return at;
+}
+
+static size_t expect_fence(struct station *station, const char *call, size_t at, size_t size)
+{
+    if (size - at < 2 || memcmp(station->driver.batch + at, "FN", 2) != 0)
         station_mismatch(station, "%s wrote no fence after the homes", call);
     return at + 2;
 }
@@ -169,6 +174,7 @@ void call_open(struct station *station)
     expect(station, "open", reply, walk.commit_count, reply.size);
     rule_free(&walk);
     at = expect_homes(station, "open", (size_t)reply.size);
+    at = expect_fence(station, "open", at, (size_t)reply.size);
     start = expect_header(station, "open", at, at + KAGUTIN_TRIM_BATCH);
     expect_blanks(station, at + KAGUTIN_TRIM_BATCH, (size_t)reply.size, start);
     if (start != log.start + log.groups)
@@ -330,15 +336,47 @@ void call_confirm(struct station *station)
     station->counters.confirms++;
 }
 
+/* A round under way is finished first. */
 void call_settle(struct station *station)
 {
-    struct kagutin_reply reply = kagutin_settle(AREAS(station), STATE(station), BATCH(station));
+    struct kagutin_reply reply;
+    size_t at;
 
+    if (station->book.in_round)
+        call_step_round(station, station->driver.homes);
+    reply = kagutin_settle(AREAS(station), STATE(station), BATCH(station));
     expect(station, "settle", reply, 0, reply.size);
-    if (expect_homes(station, "settle", (size_t)reply.size) != reply.size)
+    at = expect_homes(station, "settle", (size_t)reply.size);
+    if (expect_fence(station, "settle", at, (size_t)reply.size) != reply.size)
         station_mismatch(station, "settle wrote more than homes and a fence");
     book_settle(&station->book);
     expect_area(station, "settle", station->book.home);
+    submit(station, reply.size);
+}
+
+void call_begin_round(struct station *station)
+{
+    expect(station, "begin_round", kagutin_begin_round(AREAS(station), STATE(station)), 0, 0);
+    book_begin_round(&station->book);
+    station->counters.rounds++;
+}
+
+void call_step_round(struct station *station, size_t homes)
+{
+    size_t due = book_round_homes(&station->book), now = due < homes ? due : homes, at;
+    bool last = book_step_round(&station->book, homes);
+    struct kagutin_reply reply = kagutin_step_round(AREAS(station), STATE(station), BATCH(station), homes);
+
+    expect(station, "step_round", reply, 0, KAGUTIN_HW_SIZE * now + (last ? KAGUTIN_FN_SIZE : 0));
+    at = expect_homes(station, "step_round", (size_t)reply.size);
+    if (last)
+        at = expect_fence(station, "step_round", at, (size_t)reply.size);
+    if (at != reply.size)
+        station_mismatch(station, "step_round wrote more than homes, and at the end a fence");
+    expect_area(station, "step_round", station->book.home);
+    if (last && !book_is_ahead(&station->book))
+        station_mismatch(station, "a round left other homes than a settle at its beginning");
+    station->counters.steps++;
     submit(station, reply.size);
 }
 

@@ -22,6 +22,8 @@ bool call_commit(struct station *station, unsigned writer);
 bool call_flush(struct station *station);
 void call_confirm(struct station *station);
 void call_settle(struct station *station);
+void call_begin_round(struct station *station);
+void call_step_round(struct station *station, size_t homes);
 void call_trim(struct station *station);
 void call_read(struct station *station, unsigned writer, size_t home, uint8_t *block);
 

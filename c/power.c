@@ -112,6 +112,19 @@ static void power_up(struct station *station, struct report_cut *cut)
     }
 }
 
+/* Settles in small steps, so that pump switching goes on; now and then all at once. */
+static void settle_some(struct station *station, uint64_t calm)
+{
+    if (station->book.in_round && station_random(station, 6 * calm) == 0)
+        call_step_round(station, 1 + (size_t)station_random(station, 3));
+    if (station_random(station, 60 * calm))
+        return;
+    if (!station->book.in_round && station_random(station, 4))
+        call_begin_round(station);
+    else
+        call_settle(station);
+}
+
 /*
  * Work between two cuts. The memory follows at once, slowly, or hardly at all;
  * at times next to no fence comes between, so that a cut finds many writes.
@@ -130,8 +143,7 @@ static void work(struct station *station)
             call_flush(station);
         if (station_random(station, 60 * calm) == 0)
             call_confirm(station);
-        if (station_random(station, 80 * calm) == 0)
-            call_settle(station);
+        settle_some(station, calm);
         if (station_random(station, 80 * calm) == 0)
             call_trim(station);
         if (station_random(station, 40) == 0)

@@ -120,14 +120,25 @@ static void try_turns(struct station *s)
                   KAGUTIN_NOT_OPEN);
 }
 
-/* Batches one byte too short for a flush or a settle. */
+/* Batches one byte too short for a flush, or for a settle or step that writes only a fence. */
 static void try_short_batches(struct station *s)
 {
     size_t flush = s->book.filled ? KAGUTIN_FLUSH_BATCH : KAGUTIN_FN_SIZE;
 
     refusal_check(s, "flush", kagutin_flush(LOG(s), AREA(s), STATE(s), s->driver.batch, flush - 1),
                   book_may_flush(&s->book) ? KAGUTIN_SHORT_BATCH : KAGUTIN_PROMISED);
-    refusal_check(s, "settle", kagutin_settle(LOG(s), AREA(s), STATE(s), s->driver.batch, 1), KAGUTIN_SHORT_BATCH);
+    refusal_check(s, "settle", kagutin_settle(LOG(s), AREA(s), STATE(s), s->driver.batch, 1),
+                  s->book.in_round ? KAGUTIN_WRONG_ROUND : KAGUTIN_SHORT_BATCH);
+    refusal_check(s, "step_round", kagutin_step_round(LOG(s), AREA(s), STATE(s), s->driver.batch, 1, 1),
+                  s->book.in_round ? KAGUTIN_SHORT_BATCH : KAGUTIN_WRONG_ROUND);
+}
+
+/* Calls out of turn for a round. */
+static void try_rounds(struct station *s)
+{
+    refusal_check(s, "step_round", kagutin_step_round(LOG(s), AREA(s), STATE(s), BATCH(s), 0), KAGUTIN_WRONG_ROUND);
+    if (s->book.in_round)
+        refusal_check(s, "begin_round", kagutin_begin_round(LOG(s), AREA(s), STATE(s)), KAGUTIN_WRONG_ROUND);
 }
 
 /* A state that is out of order, or belongs to other areas. */
@@ -145,7 +156,7 @@ static void try_bad_state(struct station *s)
 void refusal_try(struct station *station)
 {
     refusal_prepare(station);
-    switch (station_random(station, 4)) {
+    switch (station_random(station, 5)) {
     case 0:
         try_arguments(station);
         break;
@@ -154,6 +165,9 @@ void refusal_try(struct station *station)
         break;
     case 2:
         try_short_batches(station);
+        break;
+    case 3:
+        try_rounds(station);
         break;
     default:
         try_bad_state(station);

@@ -24,7 +24,7 @@ struct task {
 };
 
 struct counters {
-    unsigned long calls, refusals, full, reserves, waits, reads, commits, aborts, given_up, confirms, trims;
+    unsigned long calls, refusals, full, reserves, waits, reads, commits, aborts, given_up, confirms, trims, rounds, steps;
     unsigned long full_live, full_dead, holds[KAGUTIN_WRITERS]; /* places, and who held the log, when it was full */
     unsigned long replayed, cuts, opening_cuts;
     unsigned long kept[KAGUTIN_WRITERS], lost[KAGUTIN_WRITERS], unissued[KAGUTIN_WRITERS]; /* commits by task */

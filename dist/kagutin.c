@@ -33,6 +33,8 @@ struct model__State {
     uint64_t fenced;
     uint64_t durable;
     uint64_t last;
+    uint64_t round;
+    uint64_t cursor;
 };
 
 struct model__Writer {
@@ -63,6 +65,11 @@ struct model__Tag {
     uint64_t u64_1;
     uint64_t u64_2;
     uint64_t u64_3;
+};
+
+struct scan__slots__RingSlot {
+    uint64_t slot;
+    uint64_t turn;
 };
 
 struct recovery__opening__Shape {
@@ -115,6 +122,17 @@ struct array_u16_64 {
 
 struct array_u16_1024 {
     uint16_t at[1024];
+};
+
+struct replay__stepping__Reached {
+    uint64_t home;
+    uint64_t done;
+};
+
+struct recovery__planning__Made {
+    uint64_t size;
+    uint64_t next;
+    bool more;
 };
 
 #if defined(__GNUC__) && !defined(KAGUTIN_PLAIN_C)
@@ -299,10 +317,23 @@ static inline bool answers__lengths_right(struct slice_u8 log, struct slice_u8 a
     return (uint64_t)state.len == 1024u;
 }
 
+/* Whether the position that a round has fixed lies from the settled to the fenced one, or there is no round. */
+static inline bool strip__order__round_in_order(struct model__State st)
+{
+    if (st.round == 0u) {
+        return true;
+    }
+    if (st.round <= st.settled) {
+        return false;
+    }
+    return st.round <= (st.fenced + 1u);
+}
+
 /* Whether the numbers of the strip are in order, where its group numbers and the places filled are. */
 static inline bool strip__order__positions_in_order(struct model__State st)
 {
     uint64_t t2;
+    bool t3;
 
     t2 = 7u * st.start;
     if (st.settled < t2) {
@@ -315,6 +346,10 @@ static inline bool strip__order__positions_in_order(struct model__State st)
         return false;
     }
     if (st.fenced < st.durable) {
+        return false;
+    }
+    t3 = strip__order__round_in_order(st);
+    if (!t3) {
         return false;
     }
     if (st.last == 0u) {
@@ -445,11 +480,13 @@ static inline bool strip__order__in_order(struct slice_u8 s, uint64_t groups, ui
 {
     struct model__State t4;
     bool t5;
-    uint64_t t8;
+    uint64_t t8, t10, t11;
 
-    t4 = (struct model__State){.groups = load_8(s.ptr), .homes = load_8(s.ptr + 8u), .start = load_8(s.ptr + 16u),
-            .next = load_8(s.ptr + 24u), .filled = load_8(s.ptr + 32u), .settled = load_8(s.ptr + 40u), .fenced = load_8(s.ptr
-            + 48u), .durable = load_8(s.ptr + 56u), .last = load_8(s.ptr + 64u)};
+    t10 = load_8(s.ptr);
+    t11 = load_8(s.ptr + 8u);
+    t4 = (struct model__State){.groups = t10, .homes = t11, .start = load_8(s.ptr + 16u), .next = load_8(s.ptr + 24u),
+            .filled = load_8(s.ptr + 32u), .settled = load_8(s.ptr + 40u), .fenced = load_8(s.ptr + 48u), .durable = load_8(s.ptr
+            + 56u), .last = load_8(s.ptr + 64u), .round = load_8(s.ptr + 88u), .cursor = load_8(s.ptr + 96u)};
     if (t4.groups != groups) {
         return false;
     }
@@ -637,6 +674,38 @@ static inline struct answers__Reply kagutin__kagutin_begin(struct slice_u8 log, 
     return sessions__begin(log, area, state, writer);
 }
 
+/* Begins a round that covers what is fenced now. */
+static inline struct answers__Reply recovery__rounds__begin_round(struct slice_u8 log, struct slice_u8 area,
+        struct slice_mut_u8 state)
+{
+    uint64_t t4, t19, t20;
+    struct model__State t5;
+
+    t4 = answers__in_use(log, area, (struct slice_u8){state.ptr, state.len});
+    if (t4 != 0u) {
+        return (struct answers__Reply){.code = t4, .figure = 0u, .size = 0u};
+    }
+    t19 = load_8(state.ptr);
+    t20 = load_8(state.ptr + 8u);
+    t5 = (struct model__State){.groups = t19, .homes = t20, .start = load_8(state.ptr + 16u), .next = load_8(state.ptr + 24u),
+            .filled = load_8(state.ptr + 32u), .settled = load_8(state.ptr + 40u), .fenced = load_8(state.ptr + 48u),
+            .durable = load_8(state.ptr + 56u), .last = load_8(state.ptr + 64u), .round = load_8(state.ptr + 88u),
+            .cursor = load_8(state.ptr + 96u)};
+    if (t5.round != 0u) {
+        return (struct answers__Reply){.code = 21u, .figure = 0u, .size = 0u};
+    }
+    store_8(state.ptr + 88u, t5.fenced + 1u);
+    store_8(state.ptr + 96u, 0u);
+    return (struct answers__Reply){.code = 0u, .figure = 0u, .size = 0u};
+}
+
+/* Begins a round of settling in small steps, which covers the commits below the fenced position of now. */
+static inline struct answers__Reply kagutin__kagutin_begin_round(struct slice_u8 log, struct slice_u8 area,
+        struct slice_mut_u8 state)
+{
+    return recovery__rounds__begin_round(log, area, state);
+}
+
 /* Questions 1 and 2 of a call that is lent the newest positions, eight bytes for each home. */
 static inline uint64_t answers__in_use_newest(struct slice_u8 log, struct slice_u8 area, struct slice_u8 state,
         struct slice_u8 newest)
@@ -682,7 +751,7 @@ static inline uint64_t logging__entry__may_log(struct slice_u8 state, struct mod
 static inline uint64_t logging__commits__commit_verdict(struct slice_u8 log, struct slice_u8 area, struct slice_u8 state,
         struct slice_u8 newest, struct slice_u8 batch, uint64_t writer)
 {
-    uint64_t t7, t15;
+    uint64_t t7, t15, t437, t438;
     struct model__Writer t8;
 
     t7 = answers__in_use_newest(log, area, state, newest);
@@ -701,10 +770,12 @@ static inline uint64_t logging__commits__commit_verdict(struct slice_u8 log, str
     if (!(2u <= t8.mode)) {
         return 0u;
     }
-    return logging__entry__may_log(state, (struct model__State){.groups = load_8(state.ptr), .homes = load_8(state.ptr + 8u),
-            .start = load_8(state.ptr + 16u), .next = load_8(state.ptr + 24u), .filled = load_8(state.ptr + 32u),
-            .settled = load_8(state.ptr + 40u), .fenced = load_8(state.ptr + 48u), .durable = load_8(state.ptr + 56u),
-            .last = load_8(state.ptr + 64u)}, writer, (uint64_t)batch.len);
+    t437 = load_8(state.ptr);
+    t438 = load_8(state.ptr + 8u);
+    return logging__entry__may_log(state, (struct model__State){.groups = t437, .homes = t438, .start = load_8(state.ptr + 16u),
+            .next = load_8(state.ptr + 24u), .filled = load_8(state.ptr + 32u), .settled = load_8(state.ptr + 40u),
+            .fenced = load_8(state.ptr + 48u), .durable = load_8(state.ptr + 56u), .last = load_8(state.ptr + 64u),
+            .round = load_8(state.ptr + 88u), .cursor = load_8(state.ptr + 96u)}, writer, (uint64_t)batch.len);
 }
 
 /* Ends the transaction of a writer that holds nothing, and gives back the places promised to it. */
@@ -787,17 +858,35 @@ static inline void codec__blocks__clear(struct slice_mut_u8 dst, uint64_t at, ui
     }
 }
 
-/* Writes the blank group of number `n` into a ring slot. */
-static inline void areas__groups__put_blank(struct slice_mut_u8 log, uint64_t slot, uint64_t n)
+/* Writes seven data blocks of zeros but for the turn bit `bit` from index `at` on. */
+static inline void areas__turns__put_turn_blocks(struct slice_mut_u8 dst, uint64_t at, uint64_t bit)
 {
-    uint64_t t4, t14;
+    uint8_t t4;
+    uint64_t t5, t6;
 
-    t4 = 64u + (512u * slot);
-    codec__marks__put_group_mark(log, t4);
-    t14 = t4 + 2u;
-    store_4(log.ptr + (size_t)t14, n);
-    store_2(log.ptr + (size_t)(t14 + 4u), n / UINT64_C(0x100000000));
-    codec__blocks__clear(log, t4 + 8u, 504u);
+    t4 = (uint8_t)((uint32_t)128u * (uint8_t)bit);
+    t5 = at;
+    t6 = 7u;
+    while (0u < t6) {
+        codec__blocks__clear(dst, t5, 63u);
+        dst.ptr[(size_t)(t5 + 63u)] = t4;
+        t5 = t5 + 64u;
+        t6 = t6 - 1u;
+    }
+}
+
+/* Writes the blank group of number `n`, which has the turn `turn`, into a ring slot. */
+static inline void areas__groups__put_blank(struct slice_mut_u8 log, uint64_t slot, uint64_t n, uint64_t turn)
+{
+    uint64_t t5, t17;
+
+    t5 = 64u + (512u * slot);
+    codec__marks__put_group_mark(log, t5);
+    t17 = t5 + 2u;
+    store_4(log.ptr + (size_t)t17, n);
+    store_2(log.ptr + (size_t)(t17 + 4u), n / UINT64_C(0x100000000));
+    codec__blocks__clear(log, t5 + 8u, 56u);
+    areas__turns__put_turn_blocks(log, t5 + 64u, turn);
 }
 
 /* Writes the bytes of `src` from index `at` on, and leaves the other bytes as they were. */
@@ -822,34 +911,40 @@ static inline void codec__blocks__copy(struct slice_mut_u8 dst, uint64_t at, str
     }
 }
 
-/* Writes the block that stands in `src` from index `from` on into `dst` from index `at` on. */
-static inline void areas__blocks__copy_block(struct slice_mut_u8 dst, uint64_t at, struct slice_u8 src, uint64_t from)
+/* Writes the block that stands in `src` from index `from` on, with the top bit `bit`, into `dst` from index `at` on. */
+static inline void codec__turns__copy_with_top_bit(struct slice_mut_u8 dst, uint64_t at, struct slice_u8 src, uint64_t from,
+        uint64_t bit)
 {
     codec__blocks__copy(dst, at, (struct slice_u8){src.ptr + (size_t)from, (size_t)((from + 64u) - from)});
+    dst.ptr[(size_t)(at + 63u)] = (uint8_t)((uint32_t)(uint8_t)((uint32_t)src.ptr[(size_t)(from + 63u)] % 128u)
+            + (uint8_t)((uint32_t)128u * (uint8_t)bit));
 }
 
-/* Writes an entry's tag and its block at index `k` of the group in a ring slot. */
-static inline void areas__groups__put_entry(struct slice_mut_u8 log, uint64_t slot, uint64_t k, uint64_t word,
+/* Writes an entry's tag and its block at index `k` of the group in a ring slot: the block gets the turn bit, and the tag the bit
+   that it displaces. */
+static inline void areas__groups__put_entry(struct slice_mut_u8 log, uint64_t slot, uint64_t turn, uint64_t k, uint64_t word,
         struct slice_u8 block)
 {
-    uint64_t t6;
+    uint64_t t7;
 
-    t6 = 64u + (512u * slot);
-    store_8(log.ptr + (size_t)(t6 + (8u + (8u * k))), word);
-    areas__blocks__copy_block(log, t6 + (64u + (64u * k)), block, 0u);
+    t7 = 64u + (512u * slot);
+    store_8(log.ptr + (size_t)(t7 + (8u + (8u * k))), word | ((uint64_t)(uint8_t)((uint32_t)block.ptr[(size_t)((uint64_t)0u
+            + 63u)] >> 7u) << 57u));
+    codec__turns__copy_with_top_bit(log, t7 + (64u + (64u * k)), block, 0u, turn);
 }
 
-/* Writes an entry's tag and block at the next position, and a blank group first where the position is a group's first. */
-static inline void areas__groups__enter(struct slice_mut_u8 log, uint64_t slot, struct model__State st, uint64_t word,
-        struct slice_u8 block)
+/* Writes an entry's tag and block at the next position, whose group has the turn `turn`, and a blank group first where the
+   position is a group's first. */
+static inline void areas__groups__enter(struct slice_mut_u8 log, uint64_t slot, uint64_t turn, struct model__State st,
+        uint64_t word, struct slice_u8 block)
 {
-    uint64_t t6;
+    uint64_t t7;
 
-    t6 = st.filled;
-    if (t6 == 0u) {
-        areas__groups__put_blank(log, slot, st.next);
+    t7 = st.filled;
+    if (t7 == 0u) {
+        areas__groups__put_blank(log, slot, st.next, turn);
     }
-    areas__groups__put_entry(log, slot, t6, word, block);
+    areas__groups__put_entry(log, slot, turn, t7, word, block);
 }
 
 /* Writes the mark of a group write at index `at`. */
@@ -880,19 +975,20 @@ static inline uint64_t batch__records__group_write(struct slice_mut_u8 batch, ui
 static inline uint64_t logging__entry__log_entry(struct slice_mut_u8 log, struct slice_mut_u8 state, struct slice_mut_u8 batch,
         struct model__State st, uint64_t word, uint64_t w)
 {
-    uint64_t t7, t8, t10;
+    uint64_t t7, t9, t11;
 
     t7 = st.next % st.groups;
-    t8 = (128u + (96u * w)) + 32u;
-    areas__groups__enter(log, t7, st, word, (struct slice_u8){state.ptr + (size_t)t8, (size_t)((t8 + 64u) - t8)});
+    t9 = (128u + (96u * w)) + 32u;
+    areas__groups__enter(log, t7, (st.next / st.groups) % 2u, st, word, (struct slice_u8){state.ptr + (size_t)t9, (size_t)((t9
+            + 64u) - t9)});
     if (st.filled != 6u) {
         store_8(state.ptr + 32u, st.filled + 1u);
         return 0u;
     }
     store_8(state.ptr + 24u, st.next + 1u);
     store_8(state.ptr + 32u, 0u);
-    t10 = batch__records__group_write(batch, 0u, t7, (struct slice_u8){log.ptr, log.len});
-    return t10;
+    t11 = batch__records__group_write(batch, 0u, t7, (struct slice_u8){log.ptr, log.len});
+    return t11;
 }
 
 /* Logs the held block as the closing entry and ends the transaction. */
@@ -973,6 +1069,25 @@ static inline uint64_t scan__commits__skipped(uint64_t position, uint64_t first)
     return first - position;
 }
 
+/* The word of tag `k` of a group if its data block has the turn of the group, else that of no entry. */
+static inline uint64_t scan__groups__word_there(struct slice_u8 group, uint64_t turn, uint64_t k)
+{
+    if ((uint64_t)(uint8_t)((uint32_t)group.ptr[(size_t)((64u + (64u * k)) + 63u)] >> 7u) != turn) {
+        return 0u;
+    }
+    return load_8(group.ptr + (size_t)(8u + (8u * k)));
+}
+
+/* The distance back to its first entry that tag `k` of a group holds, used or not, if its data block has the turn of the group:
+   what belongs to a transaction has it, so it is compared first. */
+static inline uint64_t scan__groups__back_in(struct slice_u8 group, uint64_t turn, uint64_t k)
+{
+    uint64_t t4;
+
+    t4 = scan__groups__word_there(group, turn, k);
+    return (t4 >> 14u) & 8191u;
+}
+
 /* What a word says at a position of a log that starts at position `base` and has `homes` homes. */
 static inline struct model__Tag codec__tags__read_tag(uint64_t word, uint64_t position, uint64_t base, uint64_t homes)
 {
@@ -981,7 +1096,7 @@ static inline struct model__Tag codec__tags__read_tag(uint64_t word, uint64_t po
     if ((word & 1u) == 0u) {
         return (struct model__Tag){.tag = 0u};
     }
-    if ((word >> 57u) != 0u) {
+    if ((word >> 58u) != 0u) {
         return (struct model__Tag){.tag = 0u};
     }
     t5 = ((word >> 2u) & 4095u) | (((word >> 53u) & 15u) << 12u);
@@ -1009,65 +1124,69 @@ static inline struct model__Tag codec__tags__read_tag(uint64_t word, uint64_t po
     return (struct model__Tag){.tag = 2u, .u64_0 = t5, .u64_1 = t7, .u64_2 = (word >> 27u) & 8191u, .u64_3 = t8};
 }
 
-/* What tag `k` of a group says at a position of a log that starts at position `base` and has `homes` homes. */
-static inline struct model__Tag scan__groups__tag_in(struct slice_u8 group, uint64_t k, uint64_t position, uint64_t base,
-        uint64_t homes)
+/* What tag `k` of a group says if its data block has the turn of the group. */
+static inline struct model__Tag scan__groups__tag_there(struct slice_u8 group, uint64_t turn, uint64_t k, uint64_t position,
+        uint64_t base, uint64_t homes)
 {
-    return codec__tags__read_tag(load_8(group.ptr + (size_t)(8u + (8u * k))), position, base, homes);
+    uint64_t t7;
+
+    t7 = scan__groups__word_there(group, turn, k);
+    return codec__tags__read_tag(t7, position, base, homes);
 }
 
-/* Keeps a position if tag `k` of its group is an entry of the transaction with first position `first`. Its distance back is
-   compared before all else. */
-static inline void positions__commits__keep_entry(struct slice_mut_u8 newest, struct slice_u8 group, uint64_t k,
+/* Keeps a position if tag `k` of its group, whose turn is `turn`, is an entry of the transaction with first position `first`. Its
+   distance back is compared before all else. */
+static inline void positions__commits__keep_entry(struct slice_mut_u8 newest, struct slice_u8 group, uint64_t turn, uint64_t k,
         uint64_t position, uint64_t base, uint64_t homes, uint64_t first)
 {
-    struct model__Tag t13;
+    uint64_t t11;
+    struct model__Tag t14;
 
-    if (((load_8(group.ptr + (size_t)(8u + (8u * k))) >> 14u) & 8191u) != (position - first)) {
+    t11 = scan__groups__back_in(group, turn, k);
+    if (t11 != (position - first)) {
         return;
     }
-    t13 = scan__groups__tag_in(group, k, position, base, homes);
-    if (t13.tag == 0u) {
-    } else if (t13.tag == 1u) {
-        store_8(newest.ptr + (size_t)(8u * t13.u64_0), position);
+    t14 = scan__groups__tag_there(group, turn, k, position, base, homes);
+    if (t14.tag == 0u) {
+    } else if (t14.tag == 1u) {
+        store_8(newest.ptr + (size_t)(8u * t14.u64_0), position);
     } else {
-        store_8(newest.ptr + (size_t)(8u * t13.u64_0), position);
+        store_8(newest.ptr + (size_t)(8u * t14.u64_0), position);
     }
 }
 
 /* Keeps the transaction's entries among the first `m` of a group, which says nothing where it is not the valid group with number
-   `n`. */
+   `n` and turn `turn`. */
 static inline void positions__commits__keep_group(struct slice_u8 group, uint64_t groups, uint64_t homes, uint64_t start,
-        uint64_t n, uint64_t m, uint64_t first, struct slice_mut_u8 newest)
+        uint64_t n, uint64_t turn, uint64_t m, uint64_t first, struct slice_mut_u8 newest)
 {
-    uint64_t t9, t10, t11;
-    bool t12;
+    uint64_t t10, t11, t12;
+    bool t13;
 
-    t12 = scan__groups__group_valid(group, groups, start, n);
-    if (!t12) {
+    t13 = scan__groups__group_valid(group, groups, start, n);
+    if (!t13) {
         return;
     }
-    t9 = 7u * start;
-    t10 = scan__commits__skipped(7u * n, first);
-    t11 = (7u * n) + t10;
-    while (t10 < m) {
-        positions__commits__keep_entry(newest, group, t10, t11, t9, homes, first);
+    t10 = 7u * start;
+    t11 = scan__commits__skipped(7u * n, first);
+    t12 = (7u * n) + t11;
+    while (t11 < m) {
+        positions__commits__keep_entry(newest, group, turn, t11, t12, t10, homes, first);
+        t12 = t12 + 1u;
         t11 = t11 + 1u;
-        t10 = t10 + 1u;
     }
 }
 
-/* The ring slot of the group after that in `slot`. */
-static inline uint64_t scan__slots__next_slot(uint64_t slot, uint64_t groups)
+/* Those of the group after: the turn changes where the slots begin again. */
+static inline struct scan__slots__RingSlot scan__slots__next_slot(struct scan__slots__RingSlot at, uint64_t groups)
 {
-    uint64_t t5;
+    uint64_t t3;
 
-    if ((slot + 1u) == groups) {
-        t5 = 0u;
-    } else {
-        t5 = slot + 1u;
+    t3 = at.slot + 1u;
+    if (t3 == groups) {
+        return (struct scan__slots__RingSlot){.slot = 0u, .turn = 1u - at.turn};
     }
-    return t5;
+    return (struct scan__slots__RingSlot){.slot = t3, .turn = at.turn};
 }
 
 /* Keeps the position of each entry of the transaction from position `first` to the closing one, so that the later position wins.
@@ -1075,16 +1194,17 @@ static inline uint64_t scan__slots__next_slot(uint64_t slot, uint64_t groups)
 static inline void positions__commits__keep_entries(struct slice_u8 log, uint64_t groups, uint64_t homes, uint64_t start,
         uint64_t first, uint64_t closing, struct slice_mut_u8 newest)
 {
-    uint64_t t8, t9, t10, t11, t13;
+    uint64_t t8, t10, t11, t13;
+    struct scan__slots__RingSlot t9;
 
     t8 = first / 7u;
-    t9 = t8 % groups;
+    t9 = (struct scan__slots__RingSlot){.slot = t8 % groups, .turn = (t8 / groups) % 2u};
     t10 = (closing + 1u) - (7u * t8);
     while (0u < t10) {
-        t11 = 64u + (512u * t9);
+        t11 = 64u + (512u * t9.slot);
         t13 = scan__commits__in_group(t10);
         positions__commits__keep_group((struct slice_u8){log.ptr + (size_t)t11, (size_t)((t11 + 512u) - t11)}, groups, homes,
-                start, t8, t13, first, newest);
+                start, t8, t9.turn, t13, first, newest);
         t9 = scan__slots__next_slot(t9, groups);
         t8 = t8 + 1u;
         t10 = t10 - t13;
@@ -1119,7 +1239,7 @@ static inline uint64_t logging__commits__commit_held(struct slice_mut_u8 log, st
 static inline struct answers__Reply logging__commits__commit(struct slice_mut_u8 log, struct slice_u8 area,
         struct slice_mut_u8 state, struct slice_mut_u8 newest, struct slice_mut_u8 batch, uint64_t writer)
 {
-    uint64_t t7, t8, t12, t41;
+    uint64_t t7, t8, t12, t41, t463, t464;
     struct model__Writer t9;
     struct model__State t10;
 
@@ -1136,9 +1256,12 @@ static inline struct answers__Reply logging__commits__commit(struct slice_mut_u8
         logging__commits__commit_none(state, t8);
         return (struct answers__Reply){.code = 0u, .figure = 0u, .size = 0u};
     }
-    t10 = (struct model__State){.groups = load_8(state.ptr), .homes = load_8(state.ptr + 8u), .start = load_8(state.ptr + 16u),
-            .next = load_8(state.ptr + 24u), .filled = load_8(state.ptr + 32u), .settled = load_8(state.ptr + 40u),
-            .fenced = load_8(state.ptr + 48u), .durable = load_8(state.ptr + 56u), .last = load_8(state.ptr + 64u)};
+    t463 = load_8(state.ptr);
+    t464 = load_8(state.ptr + 8u);
+    t10 = (struct model__State){.groups = t463, .homes = t464, .start = load_8(state.ptr + 16u), .next = load_8(state.ptr + 24u),
+            .filled = load_8(state.ptr + 32u), .settled = load_8(state.ptr + 40u), .fenced = load_8(state.ptr + 48u),
+            .durable = load_8(state.ptr + 56u), .last = load_8(state.ptr + 64u), .round = load_8(state.ptr + 88u),
+            .cursor = load_8(state.ptr + 96u)};
     t12 = logging__commits__commit_held(log, state, newest, batch, t10, t9, t8);
     return (struct answers__Reply){.code = 0u, .figure = ((7u * t10.next) + t10.filled) + 1u, .size = t12};
 }
@@ -1153,16 +1276,19 @@ static inline struct answers__Reply kagutin__kagutin_commit(struct slice_mut_u8 
 /* Makes the fenced position the durable mark, and returns it: all fences so far have passed. */
 static inline struct answers__Reply sessions__confirm(struct slice_u8 log, struct slice_u8 area, struct slice_mut_u8 state)
 {
-    uint64_t t4, t5;
+    uint64_t t4, t5, t17, t18;
     struct model__State t9;
 
     t4 = answers__in_use(log, area, (struct slice_u8){state.ptr, state.len});
     if (t4 != 0u) {
         return (struct answers__Reply){.code = t4, .figure = 0u, .size = 0u};
     }
-    t9 = (struct model__State){.groups = load_8(state.ptr), .homes = load_8(state.ptr + 8u), .start = load_8(state.ptr + 16u),
-            .next = load_8(state.ptr + 24u), .filled = load_8(state.ptr + 32u), .settled = load_8(state.ptr + 40u),
-            .fenced = load_8(state.ptr + 48u), .durable = load_8(state.ptr + 56u), .last = load_8(state.ptr + 64u)};
+    t17 = load_8(state.ptr);
+    t18 = load_8(state.ptr + 8u);
+    t9 = (struct model__State){.groups = t17, .homes = t18, .start = load_8(state.ptr + 16u), .next = load_8(state.ptr + 24u),
+            .filled = load_8(state.ptr + 32u), .settled = load_8(state.ptr + 40u), .fenced = load_8(state.ptr + 48u),
+            .durable = load_8(state.ptr + 56u), .last = load_8(state.ptr + 64u), .round = load_8(state.ptr + 88u),
+            .cursor = load_8(state.ptr + 96u)};
     t5 = t9.fenced;
     store_8(state.ptr + 56u, t5);
     return (struct answers__Reply){.code = 0u, .figure = t5, .size = 0u};
@@ -1199,7 +1325,7 @@ static inline uint64_t logging__flushes__flush_size(struct model__State st)
 static inline uint64_t logging__flushes__flush_verdict(struct slice_u8 log, struct slice_u8 area, struct slice_u8 state,
         struct slice_u8 batch)
 {
-    uint64_t t5, t10;
+    uint64_t t5, t10, t12, t13;
     struct model__State t6;
     bool t7;
 
@@ -1207,9 +1333,12 @@ static inline uint64_t logging__flushes__flush_verdict(struct slice_u8 log, stru
     if (t5 != 0u) {
         return t5;
     }
-    t6 = (struct model__State){.groups = load_8(state.ptr), .homes = load_8(state.ptr + 8u), .start = load_8(state.ptr + 16u),
-            .next = load_8(state.ptr + 24u), .filled = load_8(state.ptr + 32u), .settled = load_8(state.ptr + 40u),
-            .fenced = load_8(state.ptr + 48u), .durable = load_8(state.ptr + 56u), .last = load_8(state.ptr + 64u)};
+    t12 = load_8(state.ptr);
+    t13 = load_8(state.ptr + 8u);
+    t6 = (struct model__State){.groups = t12, .homes = t13, .start = load_8(state.ptr + 16u), .next = load_8(state.ptr + 24u),
+            .filled = load_8(state.ptr + 32u), .settled = load_8(state.ptr + 40u), .fenced = load_8(state.ptr + 48u),
+            .durable = load_8(state.ptr + 56u), .last = load_8(state.ptr + 64u), .round = load_8(state.ptr + 88u),
+            .cursor = load_8(state.ptr + 96u)};
     t7 = strip__promises__keeps_promises(state, t6);
     if (!t7) {
         return 18u;
@@ -1265,7 +1394,7 @@ static inline void logging__flushes__flush_part(struct slice_u8 log, struct slic
 static inline struct answers__Reply logging__flushes__flush(struct slice_u8 log, struct slice_u8 area, struct slice_mut_u8 state,
         struct slice_mut_u8 batch)
 {
-    uint64_t t5;
+    uint64_t t5, t27, t28;
     struct model__State t6;
 
     t5 = logging__flushes__flush_verdict(log, area, (struct slice_u8){state.ptr, state.len}, (struct slice_u8){batch.ptr,
@@ -1273,9 +1402,12 @@ static inline struct answers__Reply logging__flushes__flush(struct slice_u8 log,
     if (t5 != 0u) {
         return (struct answers__Reply){.code = t5, .figure = 0u, .size = 0u};
     }
-    t6 = (struct model__State){.groups = load_8(state.ptr), .homes = load_8(state.ptr + 8u), .start = load_8(state.ptr + 16u),
-            .next = load_8(state.ptr + 24u), .filled = load_8(state.ptr + 32u), .settled = load_8(state.ptr + 40u),
-            .fenced = load_8(state.ptr + 48u), .durable = load_8(state.ptr + 56u), .last = load_8(state.ptr + 64u)};
+    t27 = load_8(state.ptr);
+    t28 = load_8(state.ptr + 8u);
+    t6 = (struct model__State){.groups = t27, .homes = t28, .start = load_8(state.ptr + 16u), .next = load_8(state.ptr + 24u),
+            .filled = load_8(state.ptr + 32u), .settled = load_8(state.ptr + 40u), .fenced = load_8(state.ptr + 48u),
+            .durable = load_8(state.ptr + 56u), .last = load_8(state.ptr + 64u), .round = load_8(state.ptr + 88u),
+            .cursor = load_8(state.ptr + 96u)};
     if (t6.filled == 0u) {
         logging__flushes__flush_none(state, batch, t6);
         return (struct answers__Reply){.code = 0u, .figure = 0u, .size = 2u};
@@ -1318,7 +1450,7 @@ static inline void codec__marks__put_header_mark(struct slice_mut_u8 dst, uint64
     struct array_u8_2 t3;
     struct slice_u8 t10;
 
-    t3 = (struct array_u8_2){{80u, 72u}};
+    t3 = (struct array_u8_2){{80u, 84u}};
     t10 = (struct slice_u8){t3.at, 2u};
     dst.ptr[(size_t)at] = t10.ptr[0u];
     dst.ptr[(size_t)(at + 1u)] = t10.ptr[1u];
@@ -1339,11 +1471,41 @@ static inline void areas__header__put_header(struct slice_mut_u8 dst, uint64_t a
     codec__blocks__clear(dst, at + 12u, 52u);
 }
 
-/* Makes the log copy as it is after formatting. */
-static inline void recovery__formatting__format_log(struct slice_mut_u8 log, uint64_t groups, uint64_t homes)
+/* The turn bit of an unused ring slot: opposite to that of the group which it gets next, in a log whose start lies in the slot
+   `first` and has the turn `turn`. The slots before the start's get a group of the next turn. */
+static inline uint64_t areas__unused__unused_bit(uint64_t slot, uint64_t first, uint64_t turn)
 {
-    codec__blocks__clear(log, 0u, (uint64_t)log.len);
-    areas__header__put_header(log, 0u, 0u, groups, homes);
+    uint64_t t5;
+
+    if (slot < first) {
+        t5 = turn;
+    } else {
+        t5 = 1u - turn;
+    }
+    return t5;
+}
+
+/* Writes an unused group, whose data blocks have the turn bit `bit`, from index `at` on. */
+static inline void areas__unused__put_unused(struct slice_mut_u8 dst, uint64_t at, uint64_t bit)
+{
+    codec__blocks__clear(dst, at, 64u);
+    areas__turns__put_turn_blocks(dst, at + 64u, bit);
+}
+
+/* Makes a log copy empty, with its start at group `start`. */
+static inline void areas__unused__put_empty_log(struct slice_mut_u8 log, uint64_t start, uint64_t groups, uint64_t homes)
+{
+    uint64_t t5, t6, t7, t19;
+
+    areas__header__put_header(log, 0u, start, groups, homes);
+    t5 = start % groups;
+    t6 = (start / groups) % 2u;
+    t7 = 0u;
+    while (t7 < groups) {
+        t19 = areas__unused__unused_bit(t7, t5, t6);
+        areas__unused__put_unused(log, 64u + (512u * t7), t19);
+        t7 = t7 + 1u;
+    }
 }
 
 /* Makes every byte of the data copy zero. */
@@ -1372,27 +1534,30 @@ static inline uint64_t batch__records__zero_header_write(struct slice_mut_u8 bat
     return at + 66u;
 }
 
-/* Appends the write of zeros to a ring slot. */
-static inline uint64_t batch__records__zero_group_write(struct slice_mut_u8 batch, uint64_t at, uint64_t slot)
+/* Appends the write of an unused group, whose data blocks have the turn bit `bit`, to a ring slot. */
+static inline uint64_t batch__records__unused_write(struct slice_mut_u8 batch, uint64_t at, uint64_t slot, uint64_t bit)
 {
     codec__marks__put_group_write_mark(batch, at);
     store_2(batch.ptr + (size_t)(at + 2u), slot);
-    codec__blocks__clear(batch, at + 4u, 512u);
+    areas__unused__put_unused(batch, at + 4u, bit);
     return at + 516u;
 }
 
-/* Appends the writes of zeros to the first `groups` ring slots, rising. */
-static inline uint64_t batch__format__all_groups(struct slice_mut_u8 batch, uint64_t at, uint64_t groups)
+/* Appends the writes of all ring slots as unused, rising, for a log that starts at group `start`. */
+static inline uint64_t batch__format__all_groups(struct slice_mut_u8 batch, uint64_t at, uint64_t start, uint64_t groups)
 {
-    uint64_t t4, t5;
+    uint64_t t5, t6, t7, t8, t13;
 
-    t4 = at;
-    t5 = 0u;
-    while (t5 < groups) {
-        t4 = batch__records__zero_group_write(batch, t4, t5);
-        t5 = t5 + 1u;
+    t5 = start % groups;
+    t6 = (start / groups) % 2u;
+    t7 = at;
+    t8 = 0u;
+    while (t8 < groups) {
+        t13 = areas__unused__unused_bit(t8, t5, t6);
+        t7 = batch__records__unused_write(batch, t7, t8, t13);
+        t8 = t8 + 1u;
     }
-    return t4;
+    return t7;
 }
 
 /* Writes the mark of a home write at index `at`. */
@@ -1446,7 +1611,7 @@ static inline uint64_t batch__format__format_batch(struct slice_mut_u8 batch, ui
 
     t4 = batch__records__zero_header_write(batch, 0u);
     t4 = batch__records__fence(batch, t4);
-    t4 = batch__format__all_groups(batch, t4, groups);
+    t4 = batch__format__all_groups(batch, t4, 0u, groups);
     t4 = batch__format__all_homes(batch, t4, homes);
     t4 = batch__records__fence(batch, t4);
     t4 = batch__records__header_write(batch, t4, 0u, groups, homes);
@@ -1466,7 +1631,7 @@ static inline struct answers__Reply recovery__formatting__format(struct slice_mu
     }
     t5 = areas__lengths__log_groups((uint64_t)log.len);
     t6 = (uint64_t)area.len / 64u;
-    recovery__formatting__format_log(log, t5, t6);
+    areas__unused__put_empty_log(log, 0u, t5, t6);
     recovery__formatting__format_area(area);
     t7 = batch__format__format_batch(batch, t5, t6);
     return (struct answers__Reply){.code = 0u, .figure = 0u, .size = t7};
@@ -1494,7 +1659,7 @@ static inline bool codec__marks__has_header_mark(struct slice_u8 s, uint64_t at)
 {
     struct array_u8_2 t3;
 
-    t3 = (struct array_u8_2){{80u, 72u}};
+    t3 = (struct array_u8_2){{80u, 84u}};
     return codec__marks__has_mark(s, at, (struct slice_u8){t3.at, 2u});
 }
 
@@ -1568,19 +1733,20 @@ static inline uint64_t recovery__opening__may_open(struct slice_u8 log, struct s
     return 0u;
 }
 
-/* The words of a group's seven tags, read in a row. */
-static inline struct array_u64_7 scan__groups__tag_words(struct slice_u8 group)
+/* The words of a group's seven tags that are there, read in a row; `turn` is the group's. */
+static inline struct array_u64_7 scan__groups__tag_words(struct slice_u8 group, uint64_t turn)
 {
-    struct array_u64_7 t2;
-    uint64_t t3;
+    struct array_u64_7 t3;
+    uint64_t t4, t6;
 
-    memset(&t2, 0, sizeof t2);
-    t3 = 0u;
-    while (t3 < 7u) {
-        t2.at[(size_t)t3] = load_8(group.ptr + (size_t)(8u + (8u * t3)));
-        t3 = t3 + 1u;
+    memset(&t3, 0, sizeof t3);
+    t4 = 0u;
+    while (t4 < 7u) {
+        t6 = scan__groups__word_there(group, turn, t4);
+        t3.at[(size_t)t4] = t6;
+        t4 = t4 + 1u;
     }
-    return t2;
+    return t3;
 }
 
 /* Whether a closing entry at a position is linked, by its distance back, to the last one, which ends at `end`, or where there is
@@ -1645,31 +1811,32 @@ static inline struct scan__commits__Progress scan__commits__visit(uint64_t word,
     return t13;
 }
 
-/* Takes the first `m` tags of a group, which says nothing where it is not the valid group with number `n`. */
+/* Takes the first `m` tags of a group, which says nothing where it is not the valid group with number `n` and turn `turn`. */
 static inline struct scan__commits__Progress scan__commits__visit_group(struct slice_u8 group, uint64_t groups, uint64_t homes,
-        uint64_t start, uint64_t n, uint64_t m, struct slice_mut_u16 counts, struct scan__commits__Progress progress)
+        uint64_t start, uint64_t n, uint64_t turn, uint64_t m, struct slice_mut_u16 counts,
+        struct scan__commits__Progress progress)
 {
-    struct array_u64_7 t9, t16;
-    uint64_t t10, t12, t13;
-    struct scan__commits__Progress t11;
-    bool t14;
+    struct array_u64_7 t10, t17;
+    uint64_t t11, t13, t14;
+    struct scan__commits__Progress t12;
+    bool t15;
 
-    t14 = scan__groups__group_valid(group, groups, start, n);
-    if (!t14) {
+    t15 = scan__groups__group_valid(group, groups, start, n);
+    if (!t15) {
         return progress;
     }
-    t16 = scan__groups__tag_words(group);
-    t9 = t16;
-    t10 = 7u * start;
-    t11 = progress;
-    t12 = 7u * n;
-    t13 = 0u;
-    while (t13 < m) {
-        t11 = scan__commits__visit(t9.at[(size_t)t13], t12, t10, homes, counts, t11);
-        t12 = t12 + 1u;
+    t17 = scan__groups__tag_words(group, turn);
+    t10 = t17;
+    t11 = 7u * start;
+    t12 = progress;
+    t13 = 7u * n;
+    t14 = 0u;
+    while (t14 < m) {
+        t12 = scan__commits__visit(t10.at[(size_t)t14], t13, t11, homes, counts, t12);
         t13 = t13 + 1u;
+        t14 = t14 + 1u;
     }
-    return t11;
+    return t12;
 }
 
 /* Walks the `n` positions of the log from its start on, group by group, and finds where the committed transactions end and how
@@ -1679,18 +1846,19 @@ static inline struct scan__commits__Found scan__commits__walk(struct slice_u8 lo
 {
     struct array_u16_7168 t6;
     struct scan__commits__Progress t7;
-    uint64_t t8, t9, t10, t11, t13;
+    struct scan__slots__RingSlot t8;
+    uint64_t t9, t10, t11, t13;
 
     memset(&t6, 0, sizeof t6);
     t7 = (struct scan__commits__Progress){.end = 0u, .number = 0u, .failed = 0u};
-    t8 = start % groups;
+    t8 = (struct scan__slots__RingSlot){.slot = start % groups, .turn = (start / groups) % 2u};
     t9 = start;
     t10 = n;
     while (0u < t10) {
-        t11 = 64u + (512u * t8);
+        t11 = 64u + (512u * t8.slot);
         t13 = scan__commits__in_group(t10);
         t7 = scan__commits__visit_group((struct slice_u8){log.ptr + (size_t)t11, (size_t)((t11 + 512u) - t11)}, groups, homes,
-                start, t9, t13, (struct slice_mut_u16){t6.at, 7168u}, t7);
+                start, t9, t8.turn, t13, (struct slice_mut_u16){t6.at, 7168u}, t7);
         if (t7.failed != 0u) {
             return (struct scan__commits__Found){.end = t7.end, .number = t7.number};
         }
@@ -1723,27 +1891,27 @@ static inline void replay__gathering__visit(uint64_t word, uint64_t position, ui
     }
 }
 
-/* Takes the first `m` tags of a group, which says nothing where it is not the valid group with number `n`. */
+/* Takes the first `m` tags of a group, which says nothing where it is not the valid group with number `n` and turn `turn`. */
 static inline void replay__gathering__visit_group(struct slice_u8 group, uint64_t groups, uint64_t homes, uint64_t start,
-        uint64_t n, uint64_t m, struct slice_mut_u16 last, struct slice_mut_u16 heads, struct slice_mut_u16 links)
+        uint64_t n, uint64_t turn, uint64_t m, struct slice_mut_u16 last, struct slice_mut_u16 heads, struct slice_mut_u16 links)
 {
-    struct array_u64_7 t10, t16;
-    uint64_t t11, t12, t13;
-    bool t14;
+    struct array_u64_7 t11, t17;
+    uint64_t t12, t13, t14;
+    bool t15;
 
-    t14 = scan__groups__group_valid(group, groups, start, n);
-    if (!t14) {
+    t15 = scan__groups__group_valid(group, groups, start, n);
+    if (!t15) {
         return;
     }
-    t16 = scan__groups__tag_words(group);
-    t10 = t16;
-    t11 = 7u * start;
-    t12 = 7u * n;
-    t13 = 0u;
-    while (t13 < m) {
-        replay__gathering__visit(t10.at[(size_t)t13], t12, t11, homes, last, heads, links);
-        t12 = t12 + 1u;
+    t17 = scan__groups__tag_words(group, turn);
+    t11 = t17;
+    t12 = 7u * start;
+    t13 = 7u * n;
+    t14 = 0u;
+    while (t14 < m) {
+        replay__gathering__visit(t11.at[(size_t)t14], t13, t12, homes, last, heads, links);
         t13 = t13 + 1u;
+        t14 = t14 + 1u;
     }
 }
 
@@ -1751,7 +1919,8 @@ static inline void replay__gathering__visit_group(struct slice_u8 group, uint64_
 static inline void replay__gathering__gather(struct slice_u8 log, struct slice_mut_u16 last, struct slice_mut_u16 heads,
         struct slice_mut_u16 links, uint64_t groups, uint64_t homes, uint64_t start, uint64_t end)
 {
-    uint64_t t9, t10, t11, t12, t13, t15;
+    uint64_t t9, t10, t11, t13, t15;
+    struct scan__slots__RingSlot t12;
 
     t9 = 7u * start;
     if (end <= t9) {
@@ -1759,12 +1928,12 @@ static inline void replay__gathering__gather(struct slice_u8 log, struct slice_m
     }
     t10 = end - t9;
     t11 = start;
-    t12 = start % groups;
+    t12 = (struct scan__slots__RingSlot){.slot = start % groups, .turn = (start / groups) % 2u};
     while (0u < t10) {
-        t13 = 64u + (512u * t12);
+        t13 = 64u + (512u * t12.slot);
         t15 = scan__commits__in_group(t10);
         replay__gathering__visit_group((struct slice_u8){log.ptr + (size_t)t13, (size_t)((t13 + 512u) - t13)}, groups, homes,
-                start, t11, t15, last, heads, links);
+                start, t11, t12.turn, t15, last, heads, links);
         t12 = scan__slots__next_slot(t12, groups);
         t11 = t11 + 1u;
         t10 = t10 - t15;
@@ -1783,6 +1952,13 @@ static inline uint64_t replay__places__slot_after(uint64_t slot, uint64_t n, uin
         t6 = t4 - groups;
     }
     return t6;
+}
+
+/* What tag `k` of a group says at a position of a log that starts at position `base` and has `homes` homes. */
+static inline struct model__Tag scan__groups__tag_in(struct slice_u8 group, uint64_t k, uint64_t position, uint64_t base,
+        uint64_t homes)
+{
+    return codec__tags__read_tag(load_8(group.ptr + (size_t)(8u + (8u * k))), position, base, homes);
 }
 
 /* What the log says at an offset where there is an entry. */
@@ -1887,21 +2063,34 @@ static inline uint64_t replay__words__count_word(struct slice_u8 log, struct sli
 static inline uint64_t replay__words__count(struct slice_u8 log, struct slice_u16 last, struct slice_u16 heads,
         struct slice_u16 links, uint64_t groups, uint64_t homes, uint64_t start, uint64_t end)
 {
-    uint64_t t9, t10, t11, t12, t16;
+    uint64_t t9, t10, t11, t12, t17;
+    struct scan__slots__RingSlot t13;
 
-    t9 = start % groups;
+    t13 = (struct scan__slots__RingSlot){.slot = start % groups, .turn = (start / groups) % 2u};
+    t9 = t13.slot;
     t10 = (homes + 63u) / 64u;
     t11 = 0u;
     t12 = 0u;
     while (t12 < t10) {
-        t16 = replay__words__count_word(log, last, heads, links, t12, groups, homes, start, end, t9);
-        t11 = t11 + t16;
+        t17 = replay__words__count_word(log, last, heads, links, t12, groups, homes, start, end, t9);
+        t11 = t11 + t17;
         t12 = t12 + 1u;
     }
     return t11;
 }
 
-/* Copies the block at an offset to a home. */
+/* Writes the block that the entry at index `k` of the group in a ring slot gives, with the displaced bit back in its place, from
+   index `at` on. */
+static inline void areas__groups__copy_entry(struct slice_mut_u8 dst, uint64_t at, struct slice_u8 log, uint64_t slot, uint64_t k)
+{
+    uint64_t t6;
+
+    t6 = 64u + (512u * slot);
+    codec__turns__copy_with_top_bit(dst, at, log, t6 + (64u + (64u * k)), (load_8(log.ptr + (size_t)(t6 + (8u
+            + (8u * k)))) >> 57u) & 1u);
+}
+
+/* Copies the block that the entry at an offset gives to a home. */
 static inline void replay__places__restore_block(struct slice_u8 log, struct slice_mut_u8 area, uint64_t groups, uint64_t start,
         uint64_t slot, uint64_t offset, uint64_t home)
 {
@@ -1909,7 +2098,7 @@ static inline void replay__places__restore_block(struct slice_u8 log, struct sli
     (void)start;
 
     t9 = replay__places__slot_after(slot, offset / 7u, groups);
-    areas__blocks__copy_block(area, 64u * home, log, (64u + (512u * t9)) + (64u + (64u * (offset % 7u))));
+    areas__groups__copy_entry(area, 64u * home, log, t9, offset % 7u);
 }
 
 /* Copies to each home that one word marks, whose first home is `base`, the block of its newest entry. */
@@ -1924,6 +2113,12 @@ static inline void replay__restore__restore_word(struct slice_u8 log, struct sli
         replay__places__restore_block(log, area, groups, start, slot, (uint64_t)table.ptr[(size_t)t10] - 1u, base + t10);
         t9 = t9 & (t9 - 1u);
     }
+}
+
+/* Writes the block that stands in `src` from index `from` on into `dst` from index `at` on. */
+static inline void areas__blocks__copy_block(struct slice_mut_u8 dst, uint64_t at, struct slice_u8 src, uint64_t from)
+{
+    codec__blocks__copy(dst, at, (struct slice_u8){src.ptr + (size_t)from, (size_t)((from + 64u) - from)});
 }
 
 /* Appends the write of the block that the data area holds in a home. */
@@ -1976,8 +2171,10 @@ static inline uint64_t replay__restore__bring_back(struct slice_u8 log, struct s
         uint64_t end)
 {
     uint64_t t11, t12, t13, t14;
+    struct scan__slots__RingSlot t15;
 
-    t11 = start % groups;
+    t15 = (struct scan__slots__RingSlot){.slot = start % groups, .turn = (start / groups) % 2u};
+    t11 = t15.slot;
     t12 = (homes + 63u) / 64u;
     t13 = 0u;
     t14 = 0u;
@@ -2015,7 +2212,7 @@ static inline uint64_t recovery__planning__bring_back(struct slice_u8 log, struc
     return t13;
 }
 
-/* Writes a fence, the header with a new start and another fence at an index of the batch. */
+/* Writes a fence, the header with a new start, another fence, all groups as unused, and a last fence at an index of the batch. */
 static inline void recovery__opening__open_records(struct slice_mut_u8 batch, uint64_t at, uint64_t start, uint64_t groups,
         uint64_t homes)
 {
@@ -2023,6 +2220,8 @@ static inline void recovery__opening__open_records(struct slice_mut_u8 batch, ui
 
     t6 = batch__records__fence(batch, at);
     t6 = batch__records__header_write(batch, t6, start, groups, homes);
+    t6 = batch__records__fence(batch, t6);
+    t6 = batch__format__all_groups(batch, t6, start, groups);
     (void)batch__records__fence(batch, t6);
 }
 
@@ -2063,11 +2262,11 @@ static inline void positions__strip__keep_nothing(struct slice_mut_u8 newest, ui
     }
 }
 
-/* Puts the header with a new start into the log copy, makes the strip that of an empty log, and keeps no position. */
+/* Makes the log copy empty from a new start on, the strip that of an empty log, and keeps no position. */
 static inline void recovery__opening__open_copies(struct slice_mut_u8 log, struct slice_mut_u8 state, struct slice_mut_u8 newest,
         uint64_t groups, uint64_t homes, uint64_t start)
 {
-    areas__header__put_header(log, 0u, start, groups, homes);
+    areas__unused__put_empty_log(log, start, groups, homes);
     strip__fields__fresh(state, groups, homes, start);
     positions__strip__keep_nothing(newest, homes);
 }
@@ -2076,7 +2275,7 @@ static inline void recovery__opening__open_copies(struct slice_mut_u8 log, struc
 static inline struct answers__Reply recovery__opening__reopen(struct slice_mut_u8 log, struct slice_mut_u8 area,
         struct slice_mut_u8 state, struct slice_mut_u8 newest, struct slice_mut_u8 batch)
 {
-    uint64_t t6, t8, t9, t10, t13;
+    uint64_t t6, t8, t9, t10, t13, t14;
     struct recovery__opening__Shape t7;
     struct scan__commits__Found t11;
 
@@ -2090,13 +2289,14 @@ static inline struct answers__Reply recovery__opening__reopen(struct slice_mut_u
     t9 = t7.homes;
     t10 = t7.start;
     t11 = scan__commits__walk((struct slice_u8){log.ptr, log.len}, t8, t9, t10, 7u * t8);
-    t13 = recovery__planning__bring_back((struct slice_u8){log.ptr, log.len}, area, batch, t8, t9, t10, t11.end, 70u);
-    if ((uint64_t)batch.len < t13) {
+    t13 = 72u + (516u * t8);
+    t14 = recovery__planning__bring_back((struct slice_u8){log.ptr, log.len}, area, batch, t8, t9, t10, t11.end, t13);
+    if ((uint64_t)batch.len < t14) {
         return (struct answers__Reply){.code = 9u, .figure = 0u, .size = 0u};
     }
-    recovery__opening__open_records(batch, t13 - 70u, t10 + t8, t8, t9);
+    recovery__opening__open_records(batch, t14 - t13, t10 + t8, t8, t9);
     recovery__opening__open_copies(log, state, newest, t8, t9, t10 + t8);
-    return (struct answers__Reply){.code = 0u, .figure = t11.number, .size = t13};
+    return (struct answers__Reply){.code = 0u, .figure = t11.number, .size = t14};
 }
 
 /* Brings back what a power cut left: replays the committed transactions into the data copy and starts the log anew. */
@@ -2181,50 +2381,51 @@ static inline uint64_t search__own__note(uint64_t written, uint64_t home, uint64
     return position + 1u;
 }
 
-/* The same if tag `k` of a group is an entry of the transaction with first position `first`. Its distance back is compared before
-   all else. */
-static inline uint64_t search__own__note_entry(struct slice_u8 group, uint64_t k, uint64_t position, uint64_t base,
+/* The same if tag `k` of a group with turn `turn` is an entry of the transaction with first position `first`. Its distance back
+   is compared before all else. */
+static inline uint64_t search__own__note_entry(struct slice_u8 group, uint64_t turn, uint64_t k, uint64_t position, uint64_t base,
         uint64_t homes, uint64_t first, uint64_t home, uint64_t newest)
 {
-    struct model__Tag t14;
-    uint64_t t15;
+    uint64_t t12, t16;
+    struct model__Tag t15;
 
-    if (((load_8(group.ptr + (size_t)(8u + (8u * k))) >> 14u) & 8191u) != (position - first)) {
+    t12 = scan__groups__back_in(group, turn, k);
+    if (t12 != (position - first)) {
         return newest;
     }
-    t14 = scan__groups__tag_in(group, k, position, base, homes);
-    if (t14.tag == 0u) {
-        t15 = newest;
-    } else if (t14.tag == 1u) {
-        t15 = search__own__note(t14.u64_0, home, position, newest);
+    t15 = scan__groups__tag_there(group, turn, k, position, base, homes);
+    if (t15.tag == 0u) {
+        t16 = newest;
+    } else if (t15.tag == 1u) {
+        t16 = search__own__note(t15.u64_0, home, position, newest);
     } else {
-        t15 = search__own__note(t14.u64_0, home, position, newest);
+        t16 = search__own__note(t15.u64_0, home, position, newest);
     }
-    return t15;
+    return t16;
 }
 
 /* The same for the transaction's entries among the first `m` of a group, which says nothing where it is not the valid group with
-   number `n`. */
+   number `n` and turn `turn`. */
 static inline uint64_t search__own__note_group(struct slice_u8 group, uint64_t groups, uint64_t homes, uint64_t start, uint64_t n,
-        uint64_t m, uint64_t first, uint64_t home, uint64_t newest)
+        uint64_t turn, uint64_t m, uint64_t first, uint64_t home, uint64_t newest)
 {
-    uint64_t t10, t11, t12, t13;
-    bool t14;
+    uint64_t t11, t12, t13, t14;
+    bool t15;
 
-    t14 = scan__groups__group_valid(group, groups, start, n);
-    if (!t14) {
+    t15 = scan__groups__group_valid(group, groups, start, n);
+    if (!t15) {
         return newest;
     }
-    t10 = 7u * start;
-    t11 = newest;
-    t12 = scan__commits__skipped(7u * n, first);
-    t13 = (7u * n) + t12;
-    while (t12 < m) {
-        t11 = search__own__note_entry(group, t12, t13, t10, homes, first, home, t11);
+    t11 = 7u * start;
+    t12 = newest;
+    t13 = scan__commits__skipped(7u * n, first);
+    t14 = (7u * n) + t13;
+    while (t13 < m) {
+        t12 = search__own__note_entry(group, turn, t13, t14, t11, homes, first, home, t12);
+        t14 = t14 + 1u;
         t13 = t13 + 1u;
-        t12 = t12 + 1u;
     }
-    return t11;
+    return t12;
 }
 
 /* The newest entry for a home, as its position + 1, 0 for none, of the open transaction with first position `first`, below
@@ -2232,17 +2433,18 @@ static inline uint64_t search__own__note_group(struct slice_u8 group, uint64_t g
 static inline uint64_t search__own__newest_own(struct slice_u8 log, uint64_t groups, uint64_t homes, uint64_t start,
         uint64_t first, uint64_t end, uint64_t home)
 {
-    uint64_t t8, t9, t10, t11, t12, t14;
+    uint64_t t8, t9, t11, t12, t14;
+    struct scan__slots__RingSlot t10;
 
     t8 = 0u;
     t9 = first / 7u;
-    t10 = t9 % groups;
+    t10 = (struct scan__slots__RingSlot){.slot = t9 % groups, .turn = (t9 / groups) % 2u};
     t11 = end - (7u * t9);
     while (0u < t11) {
-        t12 = 64u + (512u * t10);
+        t12 = 64u + (512u * t10.slot);
         t14 = scan__commits__in_group(t11);
         t8 = search__own__note_group((struct slice_u8){log.ptr + (size_t)t12, (size_t)((t12 + 512u) - t12)}, groups, homes, start,
-                t9, t14, first, home, t8);
+                t9, t10.turn, t14, first, home, t8);
         t10 = scan__slots__next_slot(t10, groups);
         t9 = t9 + 1u;
         t11 = t11 - t14;
@@ -2272,28 +2474,30 @@ static inline uint64_t reading__newest__if_home(uint64_t written, uint64_t home,
 /* The entry for a home at a position of the log. */
 static inline uint64_t reading__newest__entry_there(struct slice_u8 log, struct model__State st, uint64_t home, uint64_t position)
 {
-    uint64_t t5, t6, t7, t19;
-    struct slice_u8 t8;
-    bool t16;
-    struct model__Tag t18;
+    uint64_t t5, t6, t8, t20;
+    struct scan__slots__RingSlot t7;
+    struct slice_u8 t9;
+    bool t17;
+    struct model__Tag t19;
 
     t5 = position / 7u;
     t6 = position % 7u;
-    t7 = 64u + (512u * (t5 % st.groups));
-    t8 = (struct slice_u8){log.ptr + (size_t)t7, (size_t)((t7 + 512u) - t7)};
-    t16 = scan__groups__group_valid(t8, st.groups, st.start, t5);
-    if (!t16) {
+    t7 = (struct scan__slots__RingSlot){.slot = t5 % st.groups, .turn = (t5 / st.groups) % 2u};
+    t8 = 64u + (512u * t7.slot);
+    t9 = (struct slice_u8){log.ptr + (size_t)t8, (size_t)((t8 + 512u) - t8)};
+    t17 = scan__groups__group_valid(t9, st.groups, st.start, t5);
+    if (!t17) {
         return 0u;
     }
-    t18 = scan__groups__tag_in(t8, t6, position, 7u * st.start, st.homes);
-    if (t18.tag == 0u) {
-        t19 = 0u;
-    } else if (t18.tag == 1u) {
-        t19 = reading__newest__if_home(t18.u64_0, home, position);
+    t19 = scan__groups__tag_there(t9, t7.turn, t6, position, 7u * st.start, st.homes);
+    if (t19.tag == 0u) {
+        t20 = 0u;
+    } else if (t19.tag == 1u) {
+        t20 = reading__newest__if_home(t19.u64_0, home, position);
     } else {
-        t19 = reading__newest__if_home(t18.u64_0, home, position);
+        t20 = reading__newest__if_home(t19.u64_0, home, position);
     }
-    return t19;
+    return t20;
 }
 
 /* The entry for a home at the position kept for it, if that lies from the start of the log to below the next position. */
@@ -2331,10 +2535,10 @@ static inline void areas__homes__get_home(struct slice_mut_u8 block, struct slic
     areas__blocks__copy_block(block, 0u, area, 64u * home);
 }
 
-/* Copies the block of the entry at a position. */
+/* Copies the block that the entry at a position gives. */
 static inline void reading__blocks__show_entry(struct slice_mut_u8 block, struct slice_u8 log, uint64_t groups, uint64_t position)
 {
-    areas__blocks__copy_block(block, 0u, log, (64u + (512u * ((position / 7u) % groups))) + (64u + (64u * (position % 7u))));
+    areas__groups__copy_entry(block, 0u, log, (position / 7u) % groups, position % 7u);
 }
 
 /* Copies the block of a home that a writer sees. */
@@ -2342,17 +2546,20 @@ static inline void reading__blocks__show(struct slice_u8 log, struct slice_u8 ar
         struct slice_mut_u8 block, uint64_t writer, uint64_t home)
 {
     struct model__State t8;
-    uint64_t t9, t11, t954;
+    uint64_t t9, t11, t26, t27, t1160;
     struct model__Writer t10;
     bool t12;
 
-    t8 = (struct model__State){.groups = load_8(state.ptr), .homes = load_8(state.ptr + 8u), .start = load_8(state.ptr + 16u),
-            .next = load_8(state.ptr + 24u), .filled = load_8(state.ptr + 32u), .settled = load_8(state.ptr + 40u),
-            .fenced = load_8(state.ptr + 48u), .durable = load_8(state.ptr + 56u), .last = load_8(state.ptr + 64u)};
+    t26 = load_8(state.ptr);
+    t27 = load_8(state.ptr + 8u);
+    t8 = (struct model__State){.groups = t26, .homes = t27, .start = load_8(state.ptr + 16u), .next = load_8(state.ptr + 24u),
+            .filled = load_8(state.ptr + 32u), .settled = load_8(state.ptr + 40u), .fenced = load_8(state.ptr + 48u),
+            .durable = load_8(state.ptr + 56u), .last = load_8(state.ptr + 64u), .round = load_8(state.ptr + 88u),
+            .cursor = load_8(state.ptr + 96u)};
     t9 = writer;
-    t954 = 128u + (96u * t9);
-    t10 = (struct model__Writer){.mode = load_8(state.ptr + (size_t)t954), .home = load_8(state.ptr + (size_t)(t954 + 8u)),
-            .first = load_8(state.ptr + (size_t)(t954 + 16u)), .count = load_8(state.ptr + (size_t)(t954 + 24u))};
+    t1160 = 128u + (96u * t9);
+    t10 = (struct model__Writer){.mode = load_8(state.ptr + (size_t)t1160), .home = load_8(state.ptr + (size_t)(t1160 + 8u)),
+            .first = load_8(state.ptr + (size_t)(t1160 + 16u)), .count = load_8(state.ptr + (size_t)(t1160 + 24u))};
     t12 = reading__blocks__holds_home(t10, home);
     if (t12) {
         reading__blocks__show_held(block, state, t9);
@@ -2417,17 +2624,19 @@ static inline bool strip__promises__may_promise(struct slice_u8 s, struct model_
 static inline uint64_t sessions__reserve_answer(struct slice_u8 log, struct slice_u8 area, struct slice_u8 state, uint64_t writer,
         uint64_t n)
 {
-    uint64_t t6;
+    uint64_t t6, t11, t12;
     bool t7;
 
     t6 = sessions__begin_answer(log, area, state, writer);
     if (t6 != 0u) {
         return t6;
     }
-    t7 = strip__promises__may_promise(state, (struct model__State){.groups = load_8(state.ptr), .homes = load_8(state.ptr + 8u),
-            .start = load_8(state.ptr + 16u), .next = load_8(state.ptr + 24u), .filled = load_8(state.ptr + 32u),
-            .settled = load_8(state.ptr + 40u), .fenced = load_8(state.ptr + 48u), .durable = load_8(state.ptr + 56u),
-            .last = load_8(state.ptr + 64u)}, n);
+    t11 = load_8(state.ptr);
+    t12 = load_8(state.ptr + 8u);
+    t7 = strip__promises__may_promise(state, (struct model__State){.groups = t11, .homes = t12, .start = load_8(state.ptr + 16u),
+            .next = load_8(state.ptr + 24u), .filled = load_8(state.ptr + 32u), .settled = load_8(state.ptr + 40u),
+            .fenced = load_8(state.ptr + 48u), .durable = load_8(state.ptr + 56u), .last = load_8(state.ptr + 64u),
+            .round = load_8(state.ptr + 88u), .cursor = load_8(state.ptr + 96u)}, n);
     if (!t7) {
         return 17u;
     }
@@ -2460,7 +2669,7 @@ static inline struct answers__Reply kagutin__kagutin_reserve(struct slice_u8 log
 static inline struct answers__Reply recovery__settling__settle(struct slice_u8 log, struct slice_mut_u8 area,
         struct slice_mut_u8 state, struct slice_mut_u8 batch)
 {
-    uint64_t t5, t10, t23;
+    uint64_t t5, t10, t23, t33, t34;
     struct model__State t6;
     struct scan__commits__Found t8;
 
@@ -2468,9 +2677,15 @@ static inline struct answers__Reply recovery__settling__settle(struct slice_u8 l
     if (t5 != 0u) {
         return (struct answers__Reply){.code = t5, .figure = 0u, .size = 0u};
     }
-    t6 = (struct model__State){.groups = load_8(state.ptr), .homes = load_8(state.ptr + 8u), .start = load_8(state.ptr + 16u),
-            .next = load_8(state.ptr + 24u), .filled = load_8(state.ptr + 32u), .settled = load_8(state.ptr + 40u),
-            .fenced = load_8(state.ptr + 48u), .durable = load_8(state.ptr + 56u), .last = load_8(state.ptr + 64u)};
+    t33 = load_8(state.ptr);
+    t34 = load_8(state.ptr + 8u);
+    t6 = (struct model__State){.groups = t33, .homes = t34, .start = load_8(state.ptr + 16u), .next = load_8(state.ptr + 24u),
+            .filled = load_8(state.ptr + 32u), .settled = load_8(state.ptr + 40u), .fenced = load_8(state.ptr + 48u),
+            .durable = load_8(state.ptr + 56u), .last = load_8(state.ptr + 64u), .round = load_8(state.ptr + 88u),
+            .cursor = load_8(state.ptr + 96u)};
+    if (t6.round != 0u) {
+        return (struct answers__Reply){.code = 21u, .figure = 0u, .size = 0u};
+    }
     t8 = scan__commits__walk(log, t6.groups, t6.homes, t6.start, t6.fenced - (7u * t6.start));
     t10 = recovery__planning__bring_back(log, area, batch, t6.groups, t6.homes, t6.start, t8.end, 2u);
     t23 = (uint64_t)batch.len;
@@ -2490,11 +2705,263 @@ static inline struct answers__Reply kagutin__kagutin_settle(struct slice_u8 log,
     return recovery__settling__settle(log, area, state, batch);
 }
 
+/* The end of the homes of the word that a home is in, or of all homes. */
+static inline uint64_t replay__stepping__word_end(uint64_t home, uint64_t homes)
+{
+    uint64_t t3, t7;
+
+    t3 = (64u * (home / 64u)) + 64u;
+    if (t3 < homes) {
+        t7 = t3;
+    } else {
+        t7 = homes;
+    }
+    return t7;
+}
+
+/* 1 if a code of the table says that its home has a newest entry, 0 if not. */
+static inline uint64_t replay__stepping__one_if(uint16_t code)
+{
+    uint64_t t3;
+
+    if (code == 0u) {
+        t3 = 0u;
+    } else {
+        t3 = 1u;
+    }
+    return t3;
+}
+
+/* How many of the homes from `from` to below `upto`, all of word `w`, are touched. */
+static inline uint64_t replay__stepping__count_part(struct slice_u8 log, struct slice_u16 last, struct slice_u16 heads,
+        struct slice_u16 links, uint64_t w, uint64_t from, uint64_t upto, uint64_t groups, uint64_t homes, uint64_t start,
+        uint64_t end, uint64_t slot)
+{
+    struct array_u16_64 t13;
+    uint64_t t14, t15, t16, t21, t25;
+
+    if (heads.ptr[(size_t)w] == 0u) {
+        return 0u;
+    }
+    memset(&t13, 0, sizeof t13);
+    t21 = replay__words__newest_in(log, last, heads, links, (struct slice_mut_u16){t13.at, 64u}, w, groups, homes, start, end,
+            slot);
+    t21 = w;
+    t14 = 64u * t21;
+    t15 = 0u;
+    t16 = from;
+    while (t16 < upto) {
+        t25 = replay__stepping__one_if(t13.at[(size_t)(t16 - t14)]);
+        t15 = t15 + t25;
+        t16 = t16 + 1u;
+    }
+    return t15;
+}
+
+/* How many homes from the cursor on the transactions of all closing entries below `end` touch, if they are at most `limit`; else
+   more than that. */
+static inline uint64_t replay__stepping__count_from(struct slice_u8 log, struct slice_u16 last, struct slice_u16 heads,
+        struct slice_u16 links, uint64_t groups, uint64_t homes, uint64_t start, uint64_t end, uint64_t cursor, uint64_t limit)
+{
+    uint64_t t11, t12, t13, t14, t17;
+    struct scan__slots__RingSlot t15;
+
+    t15 = (struct scan__slots__RingSlot){.slot = start % groups, .turn = (start / groups) % 2u};
+    t11 = t15.slot;
+    t12 = 0u;
+    t13 = cursor;
+    while (t13 < homes) {
+        if (limit < t12) {
+            return t12;
+        }
+        t14 = replay__stepping__word_end(t13, homes);
+        t17 = replay__stepping__count_part(log, last, heads, links, t13 / 64u, t13, t14, groups, homes, start, end, t11);
+        t12 = t12 + t17;
+        t13 = t14;
+    }
+    return t12;
+}
+
+/* The lesser of two numbers. */
+static inline uint64_t recovery__planning__least(uint64_t a, uint64_t b)
+{
+    uint64_t t4;
+
+    if (a < b) {
+        t4 = a;
+    } else {
+        t4 = b;
+    }
+    return t4;
+}
+
+/* The bytes of the last step's fence, if the homes found are within the limit. */
+static inline uint64_t recovery__planning__fence_size(uint64_t found, uint64_t limit)
+{
+    uint64_t t4;
+
+    if (limit < found) {
+        t4 = 0u;
+    } else {
+        t4 = 2u;
+    }
+    return t4;
+}
+
+/* Brings a home back whose newest entry is said by a code of the table, and writes its record as the one after `done` others;
+   returns how many it then are. A code of 0 leaves all as it is. */
+static inline uint64_t replay__stepping__bring_home(struct slice_u8 log, struct slice_mut_u8 area, struct slice_mut_u8 batch,
+        uint16_t code, uint64_t groups, uint64_t start, uint64_t slot, uint64_t home, uint64_t done)
+{
+    if (code == 0u) {
+        return done;
+    }
+    replay__places__restore_block(log, area, groups, start, slot, (uint64_t)code - 1u, home);
+    (void)batch__records__home_write(batch, 68u * done, home, (struct slice_u8){area.ptr, area.len});
+    return done + 1u;
+}
+
+/* Brings the touched homes from `from` to below `upto` back, all of word `w`, until `limit` are done in all. */
+static inline struct replay__stepping__Reached replay__stepping__bring_part(struct slice_u8 log, struct slice_mut_u8 area,
+        struct slice_mut_u8 batch, struct slice_u16 last, struct slice_u16 heads, struct slice_u16 links, uint64_t w,
+        uint64_t from, uint64_t upto, uint64_t groups, uint64_t homes, uint64_t start, uint64_t end, uint64_t slot, uint64_t done,
+        uint64_t limit)
+{
+    struct array_u16_64 t17;
+    uint64_t t18, t19, t20, t26;
+
+    if (heads.ptr[(size_t)w] == 0u) {
+        return (struct replay__stepping__Reached){.home = upto, .done = done};
+    }
+    memset(&t17, 0, sizeof t17);
+    t26 = replay__words__newest_in(log, last, heads, links, (struct slice_mut_u16){t17.at, 64u}, w, groups, homes, start, end,
+            slot);
+    t26 = w;
+    t18 = 64u * t26;
+    t19 = done;
+    t20 = from;
+    while (t20 < upto) {
+        if (t19 == limit) {
+            return (struct replay__stepping__Reached){.home = t20, .done = t19};
+        }
+        t19 = replay__stepping__bring_home(log, area, batch, t17.at[(size_t)(t20 - t18)], groups, start, slot, t20, t19);
+        t20 = t20 + 1u;
+    }
+    return (struct replay__stepping__Reached){.home = t20, .done = t19};
+}
+
+/* Brings the first `limit` touched homes from the cursor on back into the data copy, and writes their records at the batch's
+   beginning; returns the home after the last of them, if there is one. */
+static inline uint64_t replay__stepping__bring_from(struct slice_u8 log, struct slice_mut_u8 area, struct slice_mut_u8 batch,
+        struct slice_u16 last, struct slice_u16 heads, struct slice_u16 links, uint64_t groups, uint64_t homes, uint64_t start,
+        uint64_t end, uint64_t cursor, uint64_t limit)
+{
+    uint64_t t13, t14, t15, t16;
+    struct replay__stepping__Reached t17;
+    struct scan__slots__RingSlot t18;
+
+    t18 = (struct scan__slots__RingSlot){.slot = start % groups, .turn = (start / groups) % 2u};
+    t13 = t18.slot;
+    t14 = 0u;
+    t15 = cursor;
+    while (t15 < homes) {
+        if (t14 == limit) {
+            return t15;
+        }
+        t16 = replay__stepping__word_end(t15, homes);
+        t17 = replay__stepping__bring_part(log, area, batch, last, heads, links, t15 / 64u, t15, t16, groups, homes, start, end,
+                t13, t14, limit);
+        t14 = t17.done;
+        t15 = t17.home;
+    }
+    return t15;
+}
+
+/* Finds the bytes that a step of at most `limit` homes from the cursor on takes. If the batch has them, those homes are brought
+   back into the data copy, and their records stand at the batch's beginning. */
+static inline struct recovery__planning__Made recovery__planning__step(struct slice_u8 log, struct slice_mut_u8 area,
+        struct slice_mut_u8 batch, uint64_t groups, uint64_t homes, uint64_t start, uint64_t end, uint64_t cursor, uint64_t limit)
+{
+    struct array_u16_7168 t10, t12;
+    struct array_u16_1024 t11;
+    uint64_t t13, t14, t15, t17, t32;
+    bool t16;
+
+    memset(&t10, 0, sizeof t10);
+    memset(&t11, 0, sizeof t11);
+    memset(&t12, 0, sizeof t12);
+    replay__gathering__gather(log, (struct slice_mut_u16){t10.at, 7168u}, (struct slice_mut_u16){t11.at, 1024u},
+            (struct slice_mut_u16){t12.at, 7168u}, groups, homes, start, end);
+    t13 = replay__stepping__count_from(log, (struct slice_u16){t10.at, 7168u}, (struct slice_u16){t11.at, 1024u},
+            (struct slice_u16){t12.at, 7168u}, groups, homes, start, end, cursor, limit);
+    t14 = recovery__planning__least(t13, limit);
+    t32 = recovery__planning__fence_size(t13, limit);
+    t15 = (68u * t14) + t32;
+    t16 = limit < t13;
+    if ((uint64_t)batch.len < t15) {
+        return (struct recovery__planning__Made){.size = t15, .next = cursor, .more = t16};
+    }
+    t17 = replay__stepping__bring_from(log, area, batch, (struct slice_u16){t10.at, 7168u}, (struct slice_u16){t11.at, 1024u},
+            (struct slice_u16){t12.at, 7168u}, groups, homes, start, end, cursor, t14);
+    return (struct recovery__planning__Made){.size = t15, .next = t17, .more = t16};
+}
+
+/* Moves the round on by the next `homes` homes, or all that remain: then it is over. */
+static inline struct answers__Reply recovery__rounds__step_round(struct slice_u8 log, struct slice_mut_u8 area,
+        struct slice_mut_u8 state, struct slice_mut_u8 batch, uint64_t homes)
+{
+    uint64_t t6, t11, t25, t38, t39;
+    struct model__State t7;
+    struct scan__commits__Found t9;
+    struct recovery__planning__Made t10;
+
+    t6 = answers__in_use(log, (struct slice_u8){area.ptr, area.len}, (struct slice_u8){state.ptr, state.len});
+    if (t6 != 0u) {
+        return (struct answers__Reply){.code = t6, .figure = 0u, .size = 0u};
+    }
+    t38 = load_8(state.ptr);
+    t39 = load_8(state.ptr + 8u);
+    t7 = (struct model__State){.groups = t38, .homes = t39, .start = load_8(state.ptr + 16u), .next = load_8(state.ptr + 24u),
+            .filled = load_8(state.ptr + 32u), .settled = load_8(state.ptr + 40u), .fenced = load_8(state.ptr + 48u),
+            .durable = load_8(state.ptr + 56u), .last = load_8(state.ptr + 64u), .round = load_8(state.ptr + 88u),
+            .cursor = load_8(state.ptr + 96u)};
+    if (t7.round == 0u) {
+        return (struct answers__Reply){.code = 21u, .figure = 0u, .size = 0u};
+    }
+    if (homes == 0u) {
+        return (struct answers__Reply){.code = 21u, .figure = 0u, .size = 0u};
+    }
+    t9 = scan__commits__walk(log, t7.groups, t7.homes, t7.start, (t7.round - 1u) - (7u * t7.start));
+    t10 = recovery__planning__step(log, area, batch, t7.groups, t7.homes, t7.start, t9.end, t7.cursor, homes);
+    t11 = t10.size;
+    t25 = (uint64_t)batch.len;
+    if (t25 < t11) {
+        return (struct answers__Reply){.code = 9u, .figure = 0u, .size = 0u};
+    }
+    if (t10.more) {
+        store_8(state.ptr + 96u, t10.next);
+        return (struct answers__Reply){.code = 0u, .figure = 0u, .size = t11};
+    }
+    t25 = batch__records__fence(batch, t11 - 2u);
+    store_8(state.ptr + 40u, t7.round - 1u);
+    store_8(state.ptr + 48u, 7u * t7.next);
+    store_8(state.ptr + 88u, 0u);
+    store_8(state.ptr + 96u, 0u);
+    return (struct answers__Reply){.code = 0u, .figure = 0u, .size = t11};
+}
+
+/* Writes the next `homes` homes of the round under way; with the last of them a fence, and the round is over. */
+static inline struct answers__Reply kagutin__kagutin_step_round(struct slice_u8 log, struct slice_mut_u8 area,
+        struct slice_mut_u8 state, struct slice_mut_u8 batch, uint64_t homes)
+{
+    return recovery__rounds__step_round(log, area, state, batch, homes);
+}
+
 /* The answer of a store: 0, or the number of the question that refuses it. */
 static inline uint64_t logging__stores__store_verdict(struct slice_u8 log, struct slice_u8 area, struct slice_u8 state,
         struct slice_u8 block, struct slice_u8 batch, uint64_t writer, uint64_t home)
 {
-    uint64_t t8, t19;
+    uint64_t t8, t19, t441, t442;
     struct model__Writer t9;
 
     t8 = answers__in_use_block(log, area, state, block);
@@ -2519,10 +2986,12 @@ static inline uint64_t logging__stores__store_verdict(struct slice_u8 log, struc
     if (t9.home == home) {
         return 0u;
     }
-    return logging__entry__may_log(state, (struct model__State){.groups = load_8(state.ptr), .homes = load_8(state.ptr + 8u),
-            .start = load_8(state.ptr + 16u), .next = load_8(state.ptr + 24u), .filled = load_8(state.ptr + 32u),
-            .settled = load_8(state.ptr + 40u), .fenced = load_8(state.ptr + 48u), .durable = load_8(state.ptr + 56u),
-            .last = load_8(state.ptr + 64u)}, writer, (uint64_t)batch.len);
+    t441 = load_8(state.ptr);
+    t442 = load_8(state.ptr + 8u);
+    return logging__entry__may_log(state, (struct model__State){.groups = t441, .homes = t442, .start = load_8(state.ptr + 16u),
+            .next = load_8(state.ptr + 24u), .filled = load_8(state.ptr + 32u), .settled = load_8(state.ptr + 40u),
+            .fenced = load_8(state.ptr + 48u), .durable = load_8(state.ptr + 56u), .last = load_8(state.ptr + 64u),
+            .round = load_8(state.ptr + 88u), .cursor = load_8(state.ptr + 96u)}, writer, (uint64_t)batch.len);
 }
 
 /* The record `r` once its writer holds a block for `home`; a block that it held for another home was logged at `position`. */
@@ -2637,7 +3106,7 @@ static inline uint64_t logging__stores__store_other(struct slice_mut_u8 log, str
 static inline struct answers__Reply logging__stores__store(struct slice_mut_u8 log, struct slice_u8 area,
         struct slice_mut_u8 state, struct slice_u8 block, struct slice_mut_u8 batch, uint64_t writer, uint64_t home)
 {
-    uint64_t t8, t9, t12, t39;
+    uint64_t t8, t9, t12, t39, t462, t463;
     struct model__Writer t10;
 
     t8 = logging__stores__store_verdict((struct slice_u8){log.ptr, log.len}, area, (struct slice_u8){state.ptr, state.len}, block,
@@ -2657,10 +3126,12 @@ static inline struct answers__Reply logging__stores__store(struct slice_mut_u8 l
         strip__writers__set_held(state, t9, block);
         return (struct answers__Reply){.code = 0u, .figure = 0u, .size = 0u};
     }
-    t12 = logging__stores__store_other(log, state, block, batch, (struct model__State){.groups = load_8(state.ptr),
-            .homes = load_8(state.ptr + 8u), .start = load_8(state.ptr + 16u), .next = load_8(state.ptr + 24u),
-            .filled = load_8(state.ptr + 32u), .settled = load_8(state.ptr + 40u), .fenced = load_8(state.ptr + 48u),
-            .durable = load_8(state.ptr + 56u), .last = load_8(state.ptr + 64u)}, t10, t9, home);
+    t462 = load_8(state.ptr);
+    t463 = load_8(state.ptr + 8u);
+    t12 = logging__stores__store_other(log, state, block, batch, (struct model__State){.groups = t462, .homes = t463,
+            .start = load_8(state.ptr + 16u), .next = load_8(state.ptr + 24u), .filled = load_8(state.ptr + 32u),
+            .settled = load_8(state.ptr + 40u), .fenced = load_8(state.ptr + 48u), .durable = load_8(state.ptr + 56u),
+            .last = load_8(state.ptr + 64u), .round = load_8(state.ptr + 88u), .cursor = load_8(state.ptr + 96u)}, t10, t9, home);
     return (struct answers__Reply){.code = 0u, .figure = 0u, .size = t12};
 }
 
@@ -2701,17 +3172,17 @@ static inline uint64_t limits__writers__open_limit(struct slice_u8 state, uint64
     return t3;
 }
 
-/* The ring slot of the group before that in `slot`. */
-static inline uint64_t scan__slots__previous_slot(uint64_t slot, uint64_t groups)
+/* Those of the group before. */
+static inline struct scan__slots__RingSlot scan__slots__previous_slot(struct scan__slots__RingSlot at, uint64_t groups)
 {
-    uint64_t t4;
+    uint64_t t3, t4;
 
-    if (slot == 0u) {
-        t4 = groups - 1u;
-    } else {
-        t4 = slot - 1u;
+    t3 = at.slot;
+    t4 = at.turn;
+    if (t3 == 0u) {
+        return (struct scan__slots__RingSlot){.slot = groups - 1u, .turn = 1u - t4};
     }
-    return t4;
+    return (struct scan__slots__RingSlot){.slot = t3 - 1u, .turn = t4};
 }
 
 /* A limit lowered to the group in which the transaction begins that the word of a tag closes, if it closes one. */
@@ -2737,48 +3208,50 @@ static inline uint64_t limits__spans__word_limit(uint64_t word, uint64_t positio
     return t9;
 }
 
-/* A limit lowered by the first `m` tags of a group, which says nothing where it is not the valid group with number `n`. */
+/* A limit lowered by the first `m` tags of a group, which says nothing where it is not the valid group with number `n` and turn
+   `turn`. */
 static inline uint64_t limits__spans__group_limit(struct slice_u8 group, uint64_t groups, uint64_t homes, uint64_t start,
-        uint64_t n, uint64_t m, uint64_t limit)
+        uint64_t n, uint64_t turn, uint64_t m, uint64_t limit)
 {
-    struct array_u64_7 t8, t15;
-    uint64_t t9, t10, t11, t12;
-    bool t13;
+    struct array_u64_7 t9, t16;
+    uint64_t t10, t11, t12, t13;
+    bool t14;
 
-    t13 = scan__groups__group_valid(group, groups, start, n);
-    if (!t13) {
+    t14 = scan__groups__group_valid(group, groups, start, n);
+    if (!t14) {
         return limit;
     }
-    t15 = scan__groups__tag_words(group);
-    t8 = t15;
-    t9 = 7u * start;
-    t10 = limit;
-    t11 = 7u * n;
-    t12 = 0u;
-    while (t12 < m) {
-        t10 = limits__spans__word_limit(t8.at[(size_t)t12], t11, t9, homes, t10);
-        t11 = t11 + 1u;
+    t16 = scan__groups__tag_words(group, turn);
+    t9 = t16;
+    t10 = 7u * start;
+    t11 = limit;
+    t12 = 7u * n;
+    t13 = 0u;
+    while (t13 < m) {
+        t11 = limits__spans__word_limit(t9.at[(size_t)t13], t12, t10, homes, t11);
         t12 = t12 + 1u;
+        t13 = t13 + 1u;
     }
-    return t10;
+    return t11;
 }
 
 /* The highest start up to `limit` that no transaction of a closing entry below `end` lies across. */
 static inline uint64_t limits__spans__closed_limit(struct slice_u8 log, uint64_t groups, uint64_t homes, uint64_t start,
         uint64_t end, uint64_t limit)
 {
-    uint64_t t7, t8, t9, t10, t12;
+    uint64_t t7, t8, t10, t12;
+    struct scan__slots__RingSlot t9;
 
     t7 = limit;
     t8 = (end + 6u) / 7u;
-    t9 = t8 % groups;
+    t9 = (struct scan__slots__RingSlot){.slot = t8 % groups, .turn = (t8 / groups) % 2u};
     while (t7 < t8) {
         t8 = t8 - 1u;
         t9 = scan__slots__previous_slot(t9, groups);
-        t10 = 64u + (512u * t9);
+        t10 = 64u + (512u * t9.slot);
         t12 = scan__commits__in_group(end - (7u * t8));
         t7 = limits__spans__group_limit((struct slice_u8){log.ptr + (size_t)t10, (size_t)((t10 + 512u) - t10)}, groups, homes,
-                start, t8, t12, t7);
+                start, t8, t9.turn, t12, t7);
     }
     return t7;
 }
@@ -2873,7 +3346,7 @@ static inline void trimming__moves__move_start(struct slice_mut_u8 log, struct s
 static inline struct answers__Reply trimming__trim(struct slice_mut_u8 log, struct slice_u8 area, struct slice_mut_u8 state,
         struct slice_mut_u8 newest, struct slice_mut_u8 batch)
 {
-    uint64_t t6, t8;
+    uint64_t t6, t8, t34, t35;
     struct model__State t7;
 
     t6 = answers__in_use_newest((struct slice_u8){log.ptr, log.len}, area, (struct slice_u8){state.ptr, state.len},
@@ -2881,9 +3354,12 @@ static inline struct answers__Reply trimming__trim(struct slice_mut_u8 log, stru
     if (t6 != 0u) {
         return (struct answers__Reply){.code = t6, .figure = 0u, .size = 0u};
     }
-    t7 = (struct model__State){.groups = load_8(state.ptr), .homes = load_8(state.ptr + 8u), .start = load_8(state.ptr + 16u),
-            .next = load_8(state.ptr + 24u), .filled = load_8(state.ptr + 32u), .settled = load_8(state.ptr + 40u),
-            .fenced = load_8(state.ptr + 48u), .durable = load_8(state.ptr + 56u), .last = load_8(state.ptr + 64u)};
+    t34 = load_8(state.ptr);
+    t35 = load_8(state.ptr + 8u);
+    t7 = (struct model__State){.groups = t34, .homes = t35, .start = load_8(state.ptr + 16u), .next = load_8(state.ptr + 24u),
+            .filled = load_8(state.ptr + 32u), .settled = load_8(state.ptr + 40u), .fenced = load_8(state.ptr + 48u),
+            .durable = load_8(state.ptr + 56u), .last = load_8(state.ptr + 64u), .round = load_8(state.ptr + 88u),
+            .cursor = load_8(state.ptr + 96u)};
     t8 = trimming__start__new_start((struct slice_u8){log.ptr, log.len}, area, (struct slice_u8){state.ptr, state.len}, t7);
     if (UINT64_C(0x800000000000) < t8) {
         return (struct answers__Reply){.code = 10u, .figure = 0u, .size = 0u};
@@ -2919,6 +3395,15 @@ struct kagutin_reply kagutin_begin(const uint8_t *log, size_t log_size, const ui
 {
     struct answers__Reply r = kagutin__kagutin_begin((struct slice_u8){log, log_size}, (struct slice_u8){area, area_size},
             (struct slice_mut_u8){state, state_size}, writer);
+
+    return (struct kagutin_reply){.code = r.code, .figure = r.figure, .size = r.size};
+}
+
+struct kagutin_reply kagutin_begin_round(const uint8_t *log, size_t log_size, const uint8_t *area, size_t area_size,
+        uint8_t *state, size_t state_size)
+{
+    struct answers__Reply r = kagutin__kagutin_begin_round((struct slice_u8){log, log_size}, (struct slice_u8){area, area_size},
+            (struct slice_mut_u8){state, state_size});
 
     return (struct kagutin_reply){.code = r.code, .figure = r.figure, .size = r.size};
 }
@@ -2995,6 +3480,15 @@ struct kagutin_reply kagutin_settle(const uint8_t *log, size_t log_size, uint8_t
 {
     struct answers__Reply r = kagutin__kagutin_settle((struct slice_u8){log, log_size}, (struct slice_mut_u8){area, area_size},
             (struct slice_mut_u8){state, state_size}, (struct slice_mut_u8){batch, batch_size});
+
+    return (struct kagutin_reply){.code = r.code, .figure = r.figure, .size = r.size};
+}
+
+struct kagutin_reply kagutin_step_round(const uint8_t *log, size_t log_size, uint8_t *area, size_t area_size, uint8_t *state,
+        size_t state_size, uint8_t *batch, size_t batch_size, uint64_t homes)
+{
+    struct answers__Reply r = kagutin__kagutin_step_round((struct slice_u8){log, log_size}, (struct slice_mut_u8){area,
+            area_size}, (struct slice_mut_u8){state, state_size}, (struct slice_mut_u8){batch, batch_size}, homes);
 
     return (struct kagutin_reply){.code = r.code, .figure = r.figure, .size = r.size};
 }

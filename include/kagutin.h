@@ -78,7 +78,7 @@ extern "C" {
 #define KAGUTIN_FLUSH_BATCH (KAGUTIN_GW_SIZE + KAGUTIN_FN_SIZE)
 #define KAGUTIN_TRIM_BATCH (KAGUTIN_KW_SIZE + KAGUTIN_FN_SIZE)
 
-/* Answers. A call asks its questions in the order 1 to 8, 17, 18, 10, 9. */
+/* Answers. A call asks its questions in the order 1 to 8, 17, 18, 21, 10, 9. */
 enum kagutin_answer {
     KAGUTIN_DONE = 0,
     KAGUTIN_BAD_LENGTH = 1,   /* a lent length is wrong */
@@ -92,7 +92,8 @@ enum kagutin_answer {
     KAGUTIN_SHORT_BATCH = 9,  /* the batch cannot hold what the call writes */
     KAGUTIN_WORN_OUT = 10,    /* open, trim: the new start would exceed 2^47 */
     KAGUTIN_NO_PLACES = 17,   /* reserve: n is 0 or more than are free */
-    KAGUTIN_PROMISED = 18     /* flush: it would leave too few for promises */
+    KAGUTIN_PROMISED = 18,    /* flush: it would leave too few for promises */
+    KAGUTIN_WRONG_ROUND = 21  /* settle, begin_round: a round is under way; step_round: none is, or 0 homes */
 };
 
 struct kagutin_reply {
@@ -133,7 +134,15 @@ static inline size_t kagutin_settle_batch(size_t groups, size_t homes)
     return (size_t)KAGUTIN_HW_SIZE * (homes < entries ? homes : entries) + KAGUTIN_FN_SIZE;
 }
 
-/* The most that open can write: the same, then the header, FN, every group and FN. */
+/* The most that a step by so many homes can write: one HW for each, FN if it is the last. */
+static inline size_t kagutin_step_batch(size_t groups, size_t homes, uint64_t step)
+{
+    size_t all = kagutin_settle_batch(groups, homes);
+
+    return step < all / KAGUTIN_HW_SIZE ? (size_t)KAGUTIN_HW_SIZE * (size_t)step + KAGUTIN_FN_SIZE : all;
+}
+
+/* The most that open can write: as settle, then the header, FN, every group and FN. */
 static inline size_t kagutin_open_batch(size_t groups, size_t homes)
 {
     return kagutin_settle_batch(groups, homes) + KAGUTIN_KW_SIZE + KAGUTIN_FN_SIZE
@@ -157,6 +166,7 @@ static inline const char *kagutin_answer_text(uint64_t code)
     case KAGUTIN_WORN_OUT: return "the new start would exceed 2^47";
     case KAGUTIN_NO_PLACES: return "not so many places are free";
     case KAGUTIN_PROMISED: return "too few places would be left for promises";
+    case KAGUTIN_WRONG_ROUND: return "a round of settling is under way, or none is";
     default: return "not an answer";
     }
 }
@@ -253,11 +263,34 @@ struct kagutin_reply kagutin_confirm(
 
 /*
  * Writes home what is committed and fenced, so that trim can free its groups.
- * Batch: HW of each such home, rising, FN. Answers 1, 2, 9.
+ * Batch: HW of each such home, rising, FN. Answers 1, 2, 21 (in a round), 9.
  */
 struct kagutin_reply kagutin_settle(
     const uint8_t *log, size_t log_size, uint8_t *area, size_t area_size,
     uint8_t *state, size_t state_size, uint8_t *batch, size_t batch_size);
+
+/*
+ * Begins a round, which settles in small steps what a settle would now: it
+ * fixes the fenced position that it covers. Every other call but settle may
+ * come between its steps; an opening ends it. Writes nothing.
+ * Answers 1, 2, 21 (a round is under way).
+ */
+struct kagutin_reply kagutin_begin_round(
+    const uint8_t *log, size_t log_size, const uint8_t *area, size_t area_size,
+    uint8_t *state, size_t state_size);
+
+/*
+ * Moves the round on by its next so many homes, or all that remain. The step
+ * after which none remains (the first if there is none) ends the round: only
+ * then trim can free its groups. A round over n homes ends after n / homes
+ * steps at the latest, rounded up, or one. The round stays as it was at 9.
+ * Batch: HW of each such home, rising; FN if the round ends.
+ * Answers 1, 2, 21 (no round, or homes is 0), 9.
+ */
+struct kagutin_reply kagutin_step_round(
+    const uint8_t *log, size_t log_size, uint8_t *area, size_t area_size,
+    uint8_t *state, size_t state_size, uint8_t *batch, size_t batch_size,
+    uint64_t homes);
 
 /*
  * Frees the groups below the settled position that no open or committed

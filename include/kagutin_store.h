@@ -235,9 +235,11 @@ struct kagutin_reply kgt_sync(struct kagutin *store);
 
 /*
  * Frees log space in the background: writes home what is committed and fenced,
- * and trims. most bounds the homes that one call writes, 0: no bound; figure:
- * 1 if there is more to do, so that a caller goes on until it is 0. Today one
- * call does all of it whatever the bound.
+ * and trims. most bounds the homes that one call writes; it begins a round if
+ * none is under way and something is to be settled, moves it on by one step,
+ * and trims when it is over. 0: no bound, all in one call. figure: 1 if there
+ * is more to do, so that a caller goes on until it is 0. Other calls may come
+ * between; a full log makes them finish the round.
  */
 struct kagutin_reply kgt_maintain(struct kagutin *store, uint64_t most);
 

@@ -5,7 +5,7 @@ import sys
 
 CORES = (('m0plus', 'Cortex-M0+'), ('m4', 'Cortex-M4'), ('m33', 'Cortex-M33'))
 LEVELS = ('Os', 'O2')
-CALLS = ('format', 'open', 'begin', 'abort', 'store', 'commit', 'flush', 'confirm', 'settle', 'trim', 'read')
+CALLS = ('format', 'open', 'begin', 'abort', 'store', 'commit', 'flush', 'confirm', 'settle', 'begin_round', 'step_round', 'trim', 'read')
 
 
 def table(head, rows):
@@ -64,7 +64,7 @@ def stacks(cost, folder):
 
 def instructions(cost):
     names = ['begin', 'store', 'commit', 'flush', 'confirm', 'abort', 'settle', 'trim', 'read, full log', 'settle, full log',
-             'open, full log', 'format']
+             'begin_round', 'step_round, 8 homes, full log', 'open, full log', 'format']
     columns = [(core, level) for core, _ in CORES for level in LEVELS]
     rows = [['**begin, 4 × store, commit**'] + [
         '**' + number(cost[c]['begin'][0] + 4 * cost[c]['store'][0] + cost[c]['commit'][0]) + '**' for c in columns]]

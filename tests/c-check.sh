@@ -64,7 +64,7 @@ fi
 
 # --- stack of each call ---
 gives 0 "stack: built" "$cc" -std=c99 -D_GNU_SOURCE -Wall -Wextra -pedantic -O2 -Iinclude tests/stack.c "$lib" ${C_LIBS:-} -o "$tmp/stack"
-gives 0 "stack: every call below 32 KiB" "$tmp/stack"
+gives 0 "stack: every call within its bound" "$tmp/stack"
 
 # --- no heap in the object; nm prints what it calls ---
 quiet sh -c "nm -u $out/store/store.o $out/store/usage.o $out/store/batch.o $out/store/fram.o | grep -E 'alloc|free'"
@@ -80,6 +80,7 @@ gives 0 "driver" "$san/driver_check" "$tmp/driver.img"
 gives 0 "store: power gone after every byte, any words or blocks at a cut" "$out/store_check" 1 5000
 gives 0 "store: the same under sanitizers, every 17 bytes" "$san/store_check" 17 1500
 gives 0 "store: places promised beforehand" "$san/reserve_check"
+gives 0 "store: settling in small steps, cut inside a round" "$san/round_check"
 gives 0 "files: written and mapped, stopped inside writes, locks, failures" "$san/file_check" "$fast"
 gives 0 "FRAM: power gone after every byte" "$out/fram_check" 1
 gives 0 "FRAM: under sanitizers" "$san/fram_check" 13
@@ -122,6 +123,7 @@ gives 0 "station, every cut" "$san/station" --cuts 60 --verbose
 grep -q '^log full (.* 0 free; task [0-7] holds it' "$tmp/out"; report $? "station: says why the log is full"
 grep -q '^ *[0-9]* live at the end, [0-9]* dead, [0-9]* free$' "$tmp/out"; report $? "station: what fills the log at the end"
 grep -q '[1-9][0-9]* times the radio task had its places promised' "$tmp/out"; report $? "station: the radio task has places promised"
+grep -q '^ *[1-9][0-9]* rounds of settling begun, in [1-9][0-9]* steps' "$tmp/out"; report $? "station: settles in small steps"
 "$san/station" --cuts 1000000 --csv > "$tmp/out" 2> "$tmp/log" &
 sleep 1; kill -INT $!; wait $!; status=$?
 [ $status -eq 130 ] && [ "$(wc -l < "$tmp/out")" -eq 9 ]; report $? "station interrupted: its sheet is written"
@@ -147,7 +149,7 @@ image=$tmp/station.img
 gives 0 "station on a new file" "$san/station" --seed 3 --cuts 10 --groups 12 --homes 20 --file "$image"
 gives 0 "station goes on with it" "$san/station" --seed 4 --cuts 10 --file "$image"
 says "other numbers" 3 "station with another shape" "$san/station" --groups 4 --file "$image"
-gives 0 "station leaves a cut" "$san/station" --seed 11 --cuts 7 --file "$image" --keep-cut
+gives 0 "station leaves a cut" "$san/station" --seed 30 --cuts 7 --file "$image" --keep-cut
 grep -q 'kept .*came back' "$tmp/out" && grep -q 'in the image' "$tmp/out"
 report $? "and counts what is in it as not opened"
 gives 0 "inspect a sound image" "$san/inspect" "$image"

@@ -26,7 +26,7 @@ use lib.Dec.{eqb}
 use lib.ListN.{replicate}
 use Rattle.model.specs.Bytes.{same}
 use Rattle.model.specs.Effects.{Given}
-use Rattle.model.specs.Calls.{Outcome, formatCall, openCall, beginCall, reserveCall, abortCall, storeCall, commitCall, flushCall, confirmCall, settleCall, trimCall, readCall}
+use Rattle.model.specs.Calls.{Outcome, formatCall, openCall, beginCall, reserveCall, abortCall, storeCall, commitCall, flushCall, confirmCall, settleCall, beginRoundCall, stepRoundCall, trimCall, readCall}
 use Rattle.model.proofs.Computing.{all-definitions}
 
 data Run : Type 0 where
@@ -51,9 +51,10 @@ def runs(pairs):
 def statement(number, case):
     lent = " ".join(runs(case[k]) for k in ("state", "newest", "log", "data", "block", "batch"))
     left = " ".join(runs(case[k]) for k in ("state2", "newest2", "log2", "data2", "block2", "batch2"))
-    call = f"{case['call']}Call (gives {lent} {case['writer']} {case['home']})"
-    if case["call"] == "reserve":
-        call = f"reserveCall (gives {lent} {case['writer']} 0) {case['home']}"
+    name = {"begin_round": "beginRound", "step_round": "stepRound"}.get(case["call"], case["call"])
+    call = f"{name}Call (gives {lent} {case['writer']} {case['home']})"
+    if case["call"] in ("reserve", "step_round"):
+        call = f"{name}Call (gives {lent} {case['writer']} 0) {case['home']}"
     claim = f"agrees ({call}) {case['code']} {case['figure']} {case['len']} {left} ≡ true"
     return f"\ncase{number} : {claim}\nunfolding all-definitions spread agrees gives\ncase{number} = refl\n"
 

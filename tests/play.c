@@ -177,7 +177,7 @@ static bool step(struct play *play)
     if (what == 0)
         return sync_all(play);
     if (what == 1)
-        return done(play, kgt_maintain(play->store, 0), "maintain");
+        return done(play, kgt_maintain(play->store, play_random(play, 4)), "maintain");
     if (what == 2)
         return reads(play, 7, play_random(play, play->homes), play->committed);
     if (!play->open[writer])

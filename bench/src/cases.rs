@@ -1,7 +1,7 @@
 //! All that is measured, in order.
 
 use crate::rings::{filled, half_settled, shared_first};
-use crate::script::{reads, single, Recorder, Script, Step};
+use crate::script::{reads, single, step, Recorder, Script, Step};
 use crate::steady;
 use second::lent::{Kind, Lent};
 
@@ -73,6 +73,9 @@ fn whole_rings(seed: u64, visit: Visit) {
     one("new store", 0, single(Kind::Format, &Lent::new(GROUPS, HOMES)));
     one("full log", GROUPS, single(Kind::Open, &full));
     one("full log", GROUPS, single(Kind::Settle, &full));
+    one("full log", GROUPS, single(Kind::BeginRound, &full));
+    one("full log, 1 home", GROUPS, step(1, &full));
+    one("full log, 8 homes", GROUPS, step(8, &full));
     one("empty log", 0, reads(seed, 256, &empty));
     one("half-full log", GROUPS / 2, reads(seed, 256, &half));
     one("full log", GROUPS, reads(seed, 256, &full));

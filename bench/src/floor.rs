@@ -55,6 +55,13 @@ impl Before {
                 Kind::Confirm => NUMBER,
                 // Homes of the copy, `settled` and `fenced`.
                 Kind::Settle => BLOCK * homes(batch) + 2 * NUMBER,
+                // `round` and `cursor`.
+                Kind::BeginRound => 2 * NUMBER,
+                // Homes of the copy and `cursor`; at the end all four.
+                Kind::StepRound => {
+                    let numbers = if batch % HOME_WRITE_LEN == 0 { 1 } else { 4 };
+                    BLOCK * (batch / HOME_WRITE_LEN) + numbers * NUMBER
+                }
                 // The header of the copy, `start`, `fenced` and `last`.
                 Kind::Trim if batch > 0 => HEADER + 3 * NUMBER,
                 Kind::Trim => 0,

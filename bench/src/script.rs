@@ -93,6 +93,15 @@ pub fn single(kind: Kind, lent: &Lent) -> Script {
     recorder.finish()
 }
 
+/// A script of one step of a round that has begun on this log.
+pub fn step(homes: u64, lent: &Lent) -> Script {
+    let mut begun = lent.clone();
+    assert_eq!(begun.run(Kind::BeginRound, 0, 0).code, 0);
+    let mut recorder = Recorder::new(0, begun);
+    recorder.call(Kind::StepRound, 0, homes);
+    recorder.finish()
+}
+
 /// A script of reads of random homes by writer 0.
 pub fn reads(seed: u64, count: u64, lent: &Lent) -> Script {
     let mut recorder = Recorder::new(seed, lent.clone());

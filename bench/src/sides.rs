@@ -55,6 +55,8 @@ wrap! {
     second_flush: flush [log g area d state s batch n] [];
     second_confirm: confirm [log g area d state s] [];
     second_settle: settle [log g area d state s batch n] [];
+    second_begin_round: begin_round [log g area d state s] [];
+    second_step_round: step_round [log g area d state s batch n] [homes];
     second_trim: trim [log g area d state s newest p batch n] [];
     second_read: read [log g area d state s newest p block k] [writer home];
 }
@@ -76,6 +78,8 @@ fn call(kind: Kind, slices: Slices, writer: u64, home: u64) -> Reply {
             Kind::Flush => second_flush(log, g, area, d, state, s, batch, n),
             Kind::Confirm => second_confirm(log, g, area, d, state, s),
             Kind::Settle => second_settle(log, g, area, d, state, s, batch, n),
+            Kind::BeginRound => second_begin_round(log, g, area, d, state, s),
+            Kind::StepRound => second_step_round(log, g, area, d, state, s, batch, n, home),
             Kind::Trim => second_trim(log, g, area, d, state, s, newest, p, batch, n),
             Kind::Read => second_read(log, g, area, d, state, s, newest, p, block, k, writer, home),
         }
@@ -116,6 +120,8 @@ floors! {
     Flush floor_flush
     Confirm floor_confirm
     Settle floor_settle
+    BeginRound floor_begin_round
+    StepRound floor_step_round
     Trim floor_trim
     Read floor_read
 }

@@ -8,8 +8,8 @@
 #define NEWEST(s) (s)->newest, (s)->newest_size
 #define BATCH(s) (s)->batch, (s)->batch_size
 
-/* Where the log's start stands in the state; docs/FORMAT.md. */
-enum { STATE_START = 16 };
+/* Where numbers stand in the state; docs/FORMAT.md. */
+enum { STATE_START = 16, STATE_SETTLED = 40, STATE_FENCED = 48, STATE_ROUND = 88 };
 
 const char *kgt_answer_text(uint64_t code)
 {
@@ -142,14 +142,29 @@ struct kagutin_reply kgt_open(struct kagutin *store)
 
 /* ---- a full log ---- */
 
-static uint64_t start_of(const struct kagutin *store)
+static uint64_t number(const struct kagutin *store, int at)
 {
-    uint64_t start = 0;
+    uint64_t value = 0;
     int i;
 
     for (i = 7; i >= 0; i--)
-        start = start << 8 | store->state[STATE_START + i];
-    return start;
+        value = value << 8 | store->state[at + i];
+    return value;
+}
+
+static uint64_t start_of(const struct kagutin *store)
+{
+    return number(store, STATE_START);
+}
+
+static bool in_round(const struct kagutin *store)
+{
+    return number(store, STATE_ROUND) != 0;
+}
+
+static bool is_settled(const struct kagutin *store)
+{
+    return number(store, STATE_SETTLED) == number(store, STATE_FENCED);
 }
 
 static struct kagutin_reply flush(struct kagutin *store)
@@ -157,17 +172,48 @@ static struct kagutin_reply flush(struct kagutin *store)
     return run(store, store->batch, kagutin_flush(AREAS(store), STATE(store), BATCH(store)));
 }
 
+static struct kagutin_reply step_round(struct kagutin *store, uint64_t homes)
+{
+    return run(store, store->batch, kagutin_step_round(AREAS(store), STATE(store), BATCH(store), homes));
+}
+
+/* Settles all that is fenced; a round under way is finished first. */
 static struct kagutin_reply settle(struct kagutin *store)
 {
-    return run(store, store->batch, kagutin_settle(AREAS(store), STATE(store), BATCH(store)));
+    struct kagutin_reply reply = answer(KAGUTIN_DONE, 0);
+
+    if (in_round(store))
+        reply = step_round(store, UINT64_MAX);
+    if (reply.code == KAGUTIN_DONE)
+        reply = run(store, store->batch, kagutin_settle(AREAS(store), STATE(store), BATCH(store)));
+    return reply;
+}
+
+static struct kagutin_reply trim(struct kagutin *store)
+{
+    return run(store, store->batch, kagutin_trim(AREAS(store), STATE(store), NEWEST(store), BATCH(store)));
 }
 
 static struct kagutin_reply settle_and_trim(struct kagutin *store)
 {
     struct kagutin_reply reply = settle(store);
 
+    return reply.code == KAGUTIN_DONE ? trim(store) : reply;
+}
+
+/* One step of the round under way, or of a new one if something is to be settled; a trim when it is over. */
+static struct kagutin_reply settle_some(struct kagutin *store, uint64_t most)
+{
+    struct kagutin_reply reply = answer(KAGUTIN_DONE, 0);
+
+    if (!in_round(store) && !is_settled(store))
+        reply = kagutin_begin_round(AREAS(store), STATE(store));
+    if (reply.code == KAGUTIN_DONE && in_round(store))
+        reply = step_round(store, most);
+    if (reply.code == KAGUTIN_DONE && !in_round(store))
+        reply = trim(store);
     if (reply.code == KAGUTIN_DONE)
-        reply = run(store, store->batch, kagutin_trim(AREAS(store), STATE(store), NEWEST(store), BATCH(store)));
+        reply.figure = in_round(store) || !is_settled(store);
     return reply;
 }
 
@@ -306,10 +352,9 @@ struct kagutin_reply kgt_maintain(struct kagutin *store, uint64_t most)
 {
     struct kagutin_reply reply;
 
-    (void)most;
     if (!enter(store, &reply))
         return reply;
-    return leave(store, settle_and_trim(store));
+    return leave(store, most ? settle_some(store, most) : settle_and_trim(store));
 }
 
 struct kagutin_reply kgt_usage(struct kagutin *store, struct kgt_places *places)

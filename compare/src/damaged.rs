@@ -138,6 +138,9 @@ fn arguments(rng: &mut Rng, kind: Kind, shape: Shape, lent: &Lent) -> (u64, u64)
             home = rng.pick(&[0, 1, 3, free(&lent.state), free(&lent.state).wrapping_add(1)]);
         }
     }
+    if kind == Kind::StepRound {
+        home = rng.pick(&[0, 1, 1, 2, 3, 8, shape.homes, 1 << 32, u64::MAX]);
+    }
     if rng.chance(4) {
         writer = far(rng, 8, writer);
     }
@@ -194,12 +197,13 @@ fn damage_strip(rng: &mut Rng, lent: &mut Lent, old: &[Vec<u8>]) {
             lent.state = old[rng.below(old.len() as u64) as usize].clone();
         }
         8 => {
-            let field = 8 * rng.below(9) as usize;
+            let field = 8 * rng.pick(&[0, 1, 2, 3, 4, 5, 6, 7, 8, 11, 12]);
             let wraps = u64::MAX / 7 + 1;
             let value = rng.pick(&[0, 1, 1 << 32, 1 << 47, 7 << 47, 1 << 63, u64::MAX, wraps]);
             put_word(&mut lent.state, field, value.wrapping_add(rng.below(3)).wrapping_sub(1));
         }
-        9..=11 => settle_all(lent),
+        9..=10 => settle_all(lent),
+        11 => make_round(rng, lent),
         12 => {
             damage_state(rng, lent);
             damage_state(rng, lent);
@@ -291,9 +295,20 @@ fn tags(rng: &mut Rng, lent: &mut Lent, shape: Shape) {
     }
 }
 
-/// Puts the settled and fenced positions as high as they may be.
+/// Puts the settled and fenced positions as high as they may be; no round is under way.
 fn settle_all(lent: &mut Lent) {
     let highest = word(&lent.state, at::NEXT).saturating_mul(7);
     put_word(&mut lent.state, at::SETTLED, highest);
     put_word(&mut lent.state, at::FENCED, highest);
+    put_word(&mut lent.state, at::ROUND, 0);
+}
+
+/// A round under way, as question 2 lets it be, or one position off.
+fn make_round(rng: &mut Rng, lent: &mut Lent) {
+    let [settled, fenced, homes] = [at::SETTLED, at::FENCED, at::HOMES].map(|from| word(&lent.state, from));
+    let between = settled.wrapping_add(rng.below(fenced.wrapping_sub(settled).max(1)));
+    let fixed = rng.pick(&[settled, fenced, fenced, between, settled.wrapping_sub(1), fenced.wrapping_add(1)]);
+    put_word(&mut lent.state, at::ROUND, fixed.wrapping_add(1));
+    let inside = rng.below(homes.max(1));
+    put_word(&mut lent.state, at::CURSOR, rng.pick(&[0, 0, inside, inside, homes, u64::MAX]));
 }

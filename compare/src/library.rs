@@ -67,6 +67,8 @@ declare! {
     kagutin_flush: [log area state batch] [];
     kagutin_confirm: [log area state] [];
     kagutin_settle: [log area state batch] [];
+    kagutin_begin_round: [log area state] [];
+    kagutin_step_round: [log area state batch] [homes];
     kagutin_trim: [log area state newest batch] [];
     kagutin_read: [log area state newest block] [writer home];
 }
@@ -91,6 +93,8 @@ impl Calls {
                 Kind::Flush => (self.kagutin_flush)(log, g, area, d, state, s, batch, n),
                 Kind::Confirm => (self.kagutin_confirm)(log, g, area, d, state, s),
                 Kind::Settle => (self.kagutin_settle)(log, g, area, d, state, s, batch, n),
+                Kind::BeginRound => (self.kagutin_begin_round)(log, g, area, d, state, s),
+                Kind::StepRound => (self.kagutin_step_round)(log, g, area, d, state, s, batch, n, home),
                 Kind::Trim => (self.kagutin_trim)(log, g, area, d, state, s, newest, p, batch, n),
                 Kind::Read => (self.kagutin_read)(log, g, area, d, state, s, newest, p, block, k, writer, home),
             }

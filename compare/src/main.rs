@@ -97,7 +97,7 @@ fn run(options: &Options) -> Result<(), String> {
     let pair = Pair::new(seed, builds);
 
     trials::play(&mut pair.borrow_mut())?;
-    println!("trials 11 to 13 and head marks: {} calls, as the paper says", pair.borrow().case);
+    println!("trials 11 to 13, head marks and a round: {} calls, as the paper says", pair.borrow().case);
     pair.borrow_mut().counts = Default::default();
 
     let mut next = 1;
@@ -146,6 +146,10 @@ fn run(options: &Options) -> Result<(), String> {
         tally.histories, tally.calls, tally.crashes, tally.openings
     );
     println!("  {} commits, {} of them lost to cuts", tally.commits, tally.commits_lost);
+    println!(
+        "  {} rounds of settling, {} steps, {} of them leaving homes for later",
+        tally.rounds, tally.steps, tally.part_steps
+    );
     println!(
         "torn stretches: {} in {} histories, {} choices of blocks, each opened as the book says",
         torn.stretches, torn.histories, torn.choices

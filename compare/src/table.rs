@@ -14,7 +14,8 @@ fn answers(kind: Kind) -> &'static [usize] {
         Kind::Store => &[0, 1, 2, 4, 5, 7, 8, 9],
         Kind::Commit => &[0, 1, 2, 4, 7, 8, 9],
         Kind::Flush => &[0, 1, 2, 9, 18],
-        Kind::Settle => &[0, 1, 2, 9],
+        Kind::Settle | Kind::StepRound => &[0, 1, 2, 9, 21],
+        Kind::BeginRound => &[0, 1, 2, 21],
         Kind::Confirm => &[0, 1, 2],
         Kind::Trim => &[0, 1, 2, 9, 10],
         Kind::Read => &[0, 1, 2, 4, 5],
@@ -22,16 +23,16 @@ fn answers(kind: Kind) -> &'static [usize] {
 }
 
 /// All answers that calls give.
-const ANSWERS: [usize; 13] = [0, 1, 2, 3, 4, 5, 6, 7, 8, 9, 10, 17, 18];
+const ANSWERS: [usize; 14] = [0, 1, 2, 3, 4, 5, 6, 7, 8, 9, 10, 17, 18, 21];
 
 /// One row for each call, one column for each answer.
 pub fn show(title: &str, counts: &Counts) {
     println!("{title}: calls compared, by answer (0 is done)");
-    print!("{:9}", "");
+    print!("{:11}", "");
     ANSWERS.iter().for_each(|answer| print!("{answer:>8}"));
     println!();
     for kind in Kind::ALL {
-        print!("{:9}", kind.name());
+        print!("{:11}", kind.name());
         for answer in ANSWERS {
             let count = counts[kind as usize][answer];
             let possible = count > 0 || answers(kind).contains(&answer);

@@ -1,5 +1,5 @@
-//! The paper's trials 11 to 13, with the answers it gives, and the head mark
-//! of older logs.
+//! The paper's trials 11 to 13, with the answers it gives, the head mark of
+//! older logs, and the answers of a round.
 
 use crate::pair::Pair;
 use second::layout::{header, Shape};
@@ -38,7 +38,36 @@ pub fn play(pair: &mut Pair) -> Result<(), String> {
     numbers(pair)?;
     short_batch(pair)?;
     high_start(pair)?;
-    old_head(pair)
+    old_head(pair)?;
+    round(pair)
+}
+
+/// Two homes settled by steps of one.
+fn round(pair: &mut Pair) -> Result<(), String> {
+    let mut trial = Trial::new("a round", pair)?;
+    trial.expect(Kind::StepRound, 0, 1, 21)?;
+    trial.expect(Kind::Begin, 0, 0, 0)?;
+    trial.expect(Kind::Store, 0, 1, 0)?;
+    trial.expect(Kind::Store, 0, 6, 0)?;
+    trial.expect(Kind::Commit, 0, 0, 0)?;
+    trial.expect(Kind::Flush, 0, 0, 0)?;
+    trial.expect(Kind::BeginRound, 0, 0, 0)?;
+    trial.expect(Kind::BeginRound, 0, 0, 21)?;
+    trial.expect(Kind::Settle, 0, 0, 21)?;
+    trial.lent.batch = vec![0xcc; 67];
+    trial.expect(Kind::StepRound, 0, 0, 21)?;
+    trial.expect(Kind::StepRound, 0, 1, 9)?;
+    trial.lent.batch = vec![0xcc; 68];
+    trial.expect(Kind::StepRound, 0, 1, 0)?;
+    trial.expect(Kind::Settle, 0, 0, 21)?;
+    trial.expect(Kind::StepRound, 0, u64::MAX, 9)?;
+    trial.lent.batch = vec![0xcc; 70];
+    trial.expect(Kind::StepRound, 0, u64::MAX, 0)?;
+    trial.expect(Kind::StepRound, 0, 1, 21)?;
+    trial.expect(Kind::Trim, 0, 0, 0)?;
+    trial.expect(Kind::BeginRound, 0, 0, 0)?;
+    trial.lent.batch = vec![0xcc; 2];
+    trial.expect(Kind::StepRound, 0, 1, 0)
 }
 
 fn old_head(pair: &mut Pair) -> Result<(), String> {

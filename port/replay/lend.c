@@ -6,7 +6,7 @@
 struct lent lent;
 
 const char *const call_names[CALLS] = { "format", "open", "begin", "abort", "store", "commit", "flush", "confirm", "settle", "trim",
-                                        "read" };
+                                        "read", "begin_round", "step_round" };
 
 void lend(size_t groups, size_t homes, size_t batch_size)
 {
@@ -45,6 +45,8 @@ struct kagutin_reply make_call(enum call call, uint64_t writer, uint64_t home)
     case CONFIRM: return kagutin_confirm(AREAS, STATE);
     case SETTLE: return kagutin_settle(AREAS, STATE, BATCH);
     case TRIM: return kagutin_trim(AREAS, STATE, NEWEST, BATCH);
+    case BEGIN_ROUND: return kagutin_begin_round(AREAS, STATE);
+    case STEP_ROUND: return kagutin_step_round(AREAS, STATE, BATCH, home);
     default: return kagutin_read(AREAS, STATE, NEWEST, BLOCK, writer, home);
     }
 }

@@ -1,7 +1,8 @@
 /*
  * What each call costs on a bare board: instructions, by the system timer of an emulator that counts one nanosecond for each
  * (-icount shift=0), and the deepest stack. Eight writers commit 4 blocks each in turn at G 1,024 and D 4,096; flush and confirm follow
- * every eighth commit, and settle, confirm and trim a log of three quarters. Then the log is filled and read, settled and opened.
+ * every eighth commit, and settle, confirm and trim a log of three quarters. Then the log is filled and read,
+ * settled by a step of 8 homes and whole, and opened.
  */
 #include <string.h>
 
@@ -147,10 +148,15 @@ int main(void)
     one(ABORT, 0, 0, 1);
     one(FLUSH, 0, 0, 1);
     one(READ, 0, 77, 1);
+    one(BEGIN_ROUND, 0, 0, 1);
+    one(STEP_ROUND, 0, 8, 1);
+    make_call(STEP_ROUND, 0, MOST_HOMES);
     one(SETTLE, 0, 0, 1);
     one(OPEN, 0, 0, 1);
     show("read, full log", READ, NS_EACH_TICK);
     show("settle, full log", SETTLE, NS_EACH_TICK);
+    show("begin_round", BEGIN_ROUND, NS_EACH_TICK);
+    show("step_round, 8 homes, full log", STEP_ROUND, NS_EACH_TICK);
     show("open, full log", OPEN, NS_EACH_TICK);
     show("format", FORMAT, NS_EACH_TICK);
     show("abort", ABORT, NS_EACH_TICK);

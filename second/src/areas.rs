@@ -8,6 +8,7 @@ use crate::layout::{
     PLACES, START_LIMIT, STATE, WRITERS,
 };
 use crate::newest::{check_newest, forget};
+use crate::rounds::check_no_round;
 use crate::state::{State, Writer};
 use crate::walk::{trim_point, Newest, View};
 
@@ -115,6 +116,7 @@ fn try_settle(
     batch: &mut [u8],
 ) -> Result<Answer, u32> {
     let mut state = State::load(log, data, bytes)?;
+    check_no_round(&state)?;
     let end = (state.fenced - state.first_position()) as u32;
     let view = View { log, shape: state.shape, start: state.start, end };
     let newest = Newest::gather(&view);

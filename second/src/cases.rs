@@ -30,7 +30,7 @@ pub struct Cases {
 }
 
 /// In the order of `Kind::ALL`.
-const WEIGHTS: [u64; Kind::COUNT] = [3, 14, 6, 8, 6, 22, 18, 8, 5, 12, 14, 14];
+const WEIGHTS: [u64; Kind::COUNT] = [3, 14, 6, 8, 6, 22, 18, 8, 5, 12, 6, 14, 14, 14];
 
 impl Cases {
     pub fn new(seed: u64) -> Cases {
@@ -102,11 +102,12 @@ fn fill_group(lent: &mut Lent) {
     }
 }
 
-/// Puts the settled and fenced positions as high as they may be.
+/// Puts the settled and fenced positions as high as they may be; no round is under way.
 fn settle_all(lent: &mut Lent) {
     let highest = word(&lent.state, at::NEXT).saturating_mul(7);
     put_word(&mut lent.state, at::SETTLED, highest);
     put_word(&mut lent.state, at::FENCED, highest);
+    put_word(&mut lent.state, at::ROUND, 0);
 }
 
 fn damage(rng: &mut Rng, lent: &mut Lent, shape: Shape, kind: Kind) {
@@ -125,7 +126,7 @@ fn damage(rng: &mut Rng, lent: &mut Lent, shape: Shape, kind: Kind) {
     if kind == Kind::Open && rng.chance(80) {
         lent.state.fill(0xee);
     } else if rng.chance(15) {
-        let spare = rng.pick(&[88, 100, 127, 896, 1000, 1023]);
+        let spare = rng.pick(&[104, 110, 127, 896, 1000, 1023]);
         lent.state[spare] ^= 0x5a;
     }
 }
@@ -152,6 +153,9 @@ fn arguments(rng: &mut Rng, kind: Kind, shape: Shape, lent: &Lent) -> (u64, u64)
     }
     if kind == Kind::Reserve {
         home = rng.pick(&[0, 1, 2, 5, 7, 14, 28, 29]);
+    }
+    if kind == Kind::StepRound {
+        home = rng.pick(&[0, 1, 1, 2, 2, 3, 4, u64::MAX]);
     }
     if rng.chance(6) {
         writer = rng.pick(&[8, 9, 256, 1 << 32, u64::MAX]);
@@ -181,7 +185,7 @@ fn finish(rng: &mut Rng, kind: Kind, shape: Shape, writer: u64, home: u64, mut l
     let mut after = lent.clone();
     let answer = after.run(kind, writer, home);
     let writer = if kind.takes_writer() { writer } else { 0 };
-    let home = if kind.takes_home() || kind == Kind::Reserve { home } else { 0 };
+    let home = if kind.takes_home() || kind.takes_number() { home } else { 0 };
     Case { kind, shape, writer, home, before: lent, after, answer }
 }
 

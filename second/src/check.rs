@@ -8,7 +8,7 @@ use crate::state::{mode, pending_range, promise, State, Writer};
 use crate::world::{Call, Odd, World};
 use std::collections::BTreeMap;
 
-fn must(holds: bool, what: &str) -> Result<(), String> {
+pub fn must(holds: bool, what: &str) -> Result<(), String> {
     if holds { Ok(()) } else { Err(what.to_string()) }
 }
 
@@ -26,6 +26,7 @@ impl World {
         if call.odd.is_some() || (deep && expected.code != 0) {
             return self.perform_refused(call, expected);
         }
+        self.foresee_round(call, expected)?;
         let answer = (self.runner)(&mut self.lent, call.kind, call.writer, call.home);
         must(answer == expected, &format!("answer {answer:?}, expected {expected:?}"))?;
         must(self.lent.batch[answer.len..].iter().all(|&b| b == 0xcc), "batch past its length")?;
@@ -49,7 +50,7 @@ impl World {
     }
 
     fn check_done(&mut self, call: &Call, answer: Answer, deep: bool) -> Result<(), String> {
-        let below_fence = self.below_fence();
+        let below_fence = self.below(self.shadow.fenced);
         let header_before = literal::header_start(&self.image.log);
         let records = self.submit(answer.len)?;
         self.follow(call, answer, &records);
@@ -64,6 +65,7 @@ impl World {
                 let want = self.book.homes_after(below_fence, self.shape.homes);
                 must(self.lent.data == want, "settle: data copy")?;
             }
+            Kind::StepRound => self.check_step()?,
             _ => {}
         }
         if call.kind != Kind::Read {
@@ -97,6 +99,8 @@ impl World {
             fenced: self.shadow.fenced,
             durable: self.shadow.durable,
             last_closing: if last > 7 * self.shadow.start { last } else { 0 },
+            round: self.shadow.round.as_ref().map_or(0, |round| round.fixed + 1),
+            cursor: self.shadow.round.as_ref().map_or(0, |round| round.cursor),
         };
         must(state == want, &format!("state {state:?}, expected {want:?}"))?;
         (0..8).try_for_each(|writer| self.check_writer(writer))
@@ -128,6 +132,7 @@ impl World {
         if self.book.row.is_empty() {
             must(self.lent.log == self.full.log, "log copy and submitted writes differ")?;
         }
+        self.check_homes()?;
         let start = self.shadow.start;
         must(word(&self.lent.log, 0) >> 16 == start, "start in the log copy")?;
         let next = self.next_position();

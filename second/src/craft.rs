@@ -139,6 +139,17 @@ fn craft_state(rng: &mut Rng, lent: &mut Lent, shape: Shape, start: u64, tags: &
             _ if used > 0 && rng.chance(50) => 7 * start + 1 + rng.below(used),
             _ => 0,
         },
+        round: match rng.below(6) {
+            0 => settled + 1,
+            1 => fenced + 1,
+            2 => 1 + rng.between(settled, fenced),
+            _ => 0,
+        },
+        cursor: match rng.below(8) {
+            0 => u64::MAX - rng.below(2),
+            1..=3 => 0,
+            _ => rng.below(shape.homes + 2),
+        },
     };
     let spare = if rng.chance(50) { 0 } else { rng.next() as u8 };
     lent.state.fill(spare);

@@ -67,13 +67,15 @@ pub fn damage_state(rng: &mut Rng, lent: &mut Lent) {
         at::SETTLED => [base, fenced, base, u64::MAX],
         at::FENCED => [settled, next.wrapping_mul(7), next.wrapping_mul(7), u64::MAX],
         at::DURABLE => [fenced, fenced, 0, u64::MAX],
+        at::ROUND => [1, settled.wrapping_add(1), fenced.wrapping_add(1), u64::MAX],
+        at::CURSOR => [homes, homes / 2, 1 << 32, u64::MAX],
         _ => [base.wrapping_add(1), position, 0, u64::MAX],
     };
     let off = rng.pick(&[0, 1, u64::MAX]);
     put_word(bytes, field, rng.pick(&limits).wrapping_add(off));
 }
 
-const FIELDS: [usize; 15] = [
+const FIELDS: [usize; 18] = [
     at::GROUPS,
     at::HOMES,
     at::START,
@@ -85,6 +87,9 @@ const FIELDS: [usize; 15] = [
     at::LAST_CLOSING,
     at::PROMISE,
     at::PROMISE,
+    at::ROUND,
+    at::ROUND,
+    at::CURSOR,
     at::WRITER,
     at::WRITER,
     at::WRITER,

@@ -34,7 +34,9 @@ impl World {
             }
             Kind::Flush => self.foresee_flush(),
             Kind::Confirm => Ok(Answer { code: 0, figure: self.shadow.fenced, len: 0 }),
-            Kind::Settle => Ok(Answer::wrote(self.settled_homes() * HOME_WRITE_LEN + FENCE_LEN)),
+            Kind::Settle => self.foresee_settle(),
+            Kind::BeginRound => self.foresee_begin_round(),
+            Kind::StepRound => self.foresee_step(call.home),
             Kind::Trim => self.foresee_trim(),
             Kind::Read => Ok(Answer::DONE),
             Kind::Format => unreachable!(),
@@ -82,17 +84,25 @@ impl World {
         Ok(Answer { code: 0, figure, len: self.group_write(6) })
     }
 
-    /// Homes of untrimmed commits below the fenced position.
-    fn settled_homes(&self) -> usize {
-        let from = self.untrimmed();
-        let below = self.below_fence().max(from);
-        let entries = self.book.commits[from..below].iter().flatten();
-        entries.map(|&index| self.book.entries[index].home).collect::<BTreeSet<u64>>().len()
+    fn foresee_settle(&self) -> Result<Answer, u32> {
+        if self.shadow.round.is_some() {
+            return Err(21);
+        }
+        let homes = self.touched(self.shadow.fenced).len();
+        Ok(Answer::wrote(homes * HOME_WRITE_LEN + FENCE_LEN))
     }
 
-    /// How many commits, from the first on, lie below the fenced position.
-    pub fn below_fence(&self) -> usize {
-        self.spans.iter().take_while(|span| span.1 < self.shadow.fenced).count()
+    /// Homes of untrimmed commits below a position.
+    pub fn touched(&self, position: u64) -> BTreeSet<u64> {
+        let from = self.untrimmed();
+        let below = self.below(position).max(from);
+        let entries = self.book.commits[from..below].iter().flatten();
+        entries.map(|&index| self.book.entries[index].home).collect()
+    }
+
+    /// How many commits, from the first on, lie below a position.
+    pub fn below(&self, position: u64) -> usize {
+        self.spans.iter().take_while(|span| span.1 < position).count()
     }
 
     fn foresee_trim(&self) -> Result<Answer, u32> {

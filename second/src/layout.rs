@@ -32,8 +32,9 @@ pub mod refuse {
     pub const START: u32 = 10;
     pub const NO_PLACES: u32 = 17;
     pub const PROMISED: u32 = 18;
+    pub const ROUND: u32 = 21;
     /// One more than the highest.
-    pub const END: usize = 19;
+    pub const END: usize = 22;
 }
 
 /// What every call gives back. A refusal has its number as `code`, and zeros.

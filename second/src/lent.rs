@@ -16,12 +16,14 @@ pub enum Kind {
     Flush,
     Confirm,
     Settle,
+    BeginRound,
+    StepRound,
     Trim,
     Read,
 }
 
 impl Kind {
-    pub const COUNT: usize = 12;
+    pub const COUNT: usize = 14;
 
     pub const ALL: [Kind; Kind::COUNT] = [
         Kind::Format,
@@ -34,6 +36,8 @@ impl Kind {
         Kind::Flush,
         Kind::Confirm,
         Kind::Settle,
+        Kind::BeginRound,
+        Kind::StepRound,
         Kind::Trim,
         Kind::Read,
     ];
@@ -50,6 +54,8 @@ impl Kind {
             Kind::Flush => "flush",
             Kind::Confirm => "confirm",
             Kind::Settle => "settle",
+            Kind::BeginRound => "begin_round",
+            Kind::StepRound => "step_round",
             Kind::Trim => "trim",
             Kind::Read => "read",
         }
@@ -68,7 +74,10 @@ impl Kind {
     }
 
     pub fn takes_batch(self) -> bool {
-        !matches!(self, Kind::Begin | Kind::Reserve | Kind::Abort | Kind::Confirm | Kind::Read)
+        !matches!(
+            self,
+            Kind::Begin | Kind::Reserve | Kind::Abort | Kind::Confirm | Kind::BeginRound | Kind::Read
+        )
     }
 
     pub fn takes_writer(self) -> bool {
@@ -81,6 +90,11 @@ impl Kind {
     /// Does it open a transaction?
     pub fn begins(self) -> bool {
         matches!(self, Kind::Begin | Kind::Reserve)
+    }
+
+    /// Does it take a number in place of a home?
+    pub fn takes_number(self) -> bool {
+        matches!(self, Kind::Reserve | Kind::StepRound)
     }
 
     pub fn takes_home(self) -> bool {
@@ -113,7 +127,7 @@ impl Lent {
         }
     }
 
-    /// `home` is the number of places for a reserve.
+    /// `home` is the number of places for a reserve, and of homes for a step.
     pub fn run(&mut self, kind: Kind, writer: u64, home: u64) -> Answer {
         let Lent { log, data, state, newest, block, batch } = self;
         match kind {
@@ -127,6 +141,8 @@ impl Lent {
             Kind::Flush => crate::flush(log, data, state, batch),
             Kind::Confirm => crate::confirm(log, data, state),
             Kind::Settle => crate::settle(log, data, state, batch),
+            Kind::BeginRound => crate::begin_round(log, data, state),
+            Kind::StepRound => crate::step_round(log, data, state, batch, home),
             Kind::Trim => crate::trim(log, data, state, newest, batch),
             Kind::Read => crate::read(log, data, state, newest, block, writer, home),
         }

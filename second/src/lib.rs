@@ -4,7 +4,9 @@
 
 #![deny(warnings)]
 
+pub mod alarms;
 mod areas;
+pub mod bands;
 pub mod batch;
 pub mod book;
 mod calls;
@@ -14,6 +16,7 @@ pub mod craft;
 pub mod damage;
 mod expect;
 pub mod gauges;
+pub mod hours;
 pub mod inflow;
 pub mod landing;
 pub mod layout;
@@ -23,6 +26,8 @@ pub mod newest;
 pub mod options;
 pub mod player;
 pub mod rng;
+mod round_check;
+mod rounds;
 pub mod state;
 pub mod tag;
 pub mod tears;
@@ -32,3 +37,4 @@ pub mod world;
 pub use areas::{format, open, settle, trim};
 pub use calls::{abort, begin, commit, confirm, flush, read, reserve, store};
 pub use layout::Answer;
+pub use rounds::{begin_round, step_round};

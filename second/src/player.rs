@@ -1,5 +1,6 @@
 //! Random histories: calls, refused ones included, and crashes.
 
+use crate::batch::HOME_WRITE_LEN;
 use crate::layout::{refuse, Answer, Shape, START_LIMIT};
 use crate::lent::{ample, Kind, Lent, Runner};
 use crate::rng::Rng;
@@ -17,11 +18,15 @@ pub struct Tally {
     pub commits_lost: u64,
     pub trims: u64,
     pub settles: u64,
+    /// Rounds begun, their steps, and those that left homes for later.
+    pub rounds: u64,
+    pub steps: u64,
+    pub part_steps: u64,
     /// Answers by number.
     pub answers: [u64; refuse::END],
 }
 
-const LIVE: [Kind; 10] = [
+const LIVE: [Kind; 12] = [
     Kind::Begin,
     Kind::Reserve,
     Kind::Abort,
@@ -32,12 +37,14 @@ const LIVE: [Kind; 10] = [
     Kind::Settle,
     Kind::Trim,
     Kind::Read,
+    Kind::BeginRound,
+    Kind::StepRound,
 ];
 
 /// How likely each thing is in one history.
 #[derive(Clone, Debug)]
 pub struct Profile {
-    weights: [u64; 10],
+    weights: [u64; 12],
     /// Crashes in a thousand steps.
     crash: u64,
     /// Unusual arguments in a hundred calls.
@@ -47,14 +54,14 @@ pub struct Profile {
 
 impl Profile {
     pub fn random(rng: &mut Rng) -> Profile {
-        let base = [9, 4, 2, 40, 12, 5, 3, 4, 4, 6];
+        let base = [9, 4, 2, 40, 12, 5, 3, 4, 4, 6, 1, 12];
         let mut weights = base.map(|weight| 1 + weight * rng.pick(&[1, 2, 2, 2, 4]) / 2);
         for weight in &mut weights[4..9] {
             *weight *= rng.pick(&[1, 1, 1, 2, 5]);
         }
         if rng.chance(50) {
             // Few fences, so that several groups are under way at a crash.
-            weights = [11, 5, 2, rng.pick(&[60, 150]), rng.pick(&[8, 30]), 1, 1, 1, 1, 3];
+            weights = [11, 5, 2, rng.pick(&[60, 150]), rng.pick(&[8, 30]), 1, 1, 1, 1, 3, 1, 4];
         }
         Profile {
             weights,
@@ -67,7 +74,7 @@ impl Profile {
     /// One that fills a large log.
     pub fn filling(rng: &mut Rng) -> Profile {
         let mut profile = Profile::random(rng);
-        profile.weights = [6, 4, 1, rng.pick(&[60, 200]), 10, 1, 1, 1, 1, 2];
+        profile.weights = [6, 4, 1, rng.pick(&[60, 200]), 10, 1, 1, 1, 1, 2, 1, 4];
         profile.crash = 1;
         profile
     }
@@ -104,6 +111,9 @@ impl Call {
         if idle && matches!(kind, Kind::Abort | Kind::Store | Kind::Commit) && rng.chance(90) {
             kind = Kind::Begin;
         }
+        if rng.chance(80) {
+            kind = within_round(kind, world);
+        }
         let groups = world.shape.groups;
         let mut call = Call {
             kind,
@@ -118,6 +128,9 @@ impl Call {
         }
         if kind == Kind::Reserve {
             call.home = random_places(rng, world);
+        }
+        if kind == Kind::StepRound {
+            call.home = rng.pick(&[1, 1, 1, 1, 1, 1, 1, 2, 2, 2, 3, 3, 8, 0, u64::MAX]);
         }
         if kind.takes_writer() && kind != Kind::Read && rng.chance(80) {
             call.writer = likely_writer(rng, profile, world, kind);
@@ -150,6 +163,16 @@ fn block_of(call: usize) -> [u8; 64] {
     block[0] = number[1];
     block[1] = number[2];
     block
+}
+
+/// Settling that goes with the round under way, or with none.
+fn within_round(kind: Kind, world: &World) -> Kind {
+    match (kind, world.shadow.round.is_some()) {
+        (Kind::Settle | Kind::BeginRound, true) => Kind::StepRound,
+        (Kind::StepRound, false) if world.below(world.shadow.fenced) > world.untrimmed() => Kind::BeginRound,
+        (Kind::StepRound, false) => Kind::Flush,
+        _ => kind,
+    }
 }
 
 /// Places to reserve: few, or about all that are free.
@@ -265,6 +288,11 @@ impl Tally {
             Kind::Commit if answer.figure > 0 => self.commits += 1,
             Kind::Trim if answer.len > 0 => self.trims += 1,
             Kind::Settle => self.settles += 1,
+            Kind::BeginRound => self.rounds += 1,
+            Kind::StepRound => {
+                self.steps += 1;
+                self.part_steps += u64::from(answer.len % HOME_WRITE_LEN == 0);
+            }
             _ => {}
         }
     }

@@ -16,6 +16,8 @@ pub mod at {
     pub const LAST_CLOSING: usize = 64;
     pub const PROMISE: usize = 72;
     pub const PROMISE_SIZE: usize = 2;
+    pub const ROUND: usize = 88;
+    pub const CURSOR: usize = 96;
     pub const WRITER: usize = 128;
     pub const WRITER_SIZE: usize = 96;
     pub const MODE: usize = 0;
@@ -47,6 +49,10 @@ pub struct State {
     pub durable: u64,
     /// Position of the last commit entry plus one, 0 for none.
     pub last_closing: u64,
+    /// The F that the round under way has fixed, plus one; 0 for no round.
+    pub round: u64,
+    /// Its homes below this one are done.
+    pub cursor: u64,
 }
 
 /// The four numbers of a writer's record.
@@ -74,6 +80,8 @@ impl State {
             fenced: word(bytes, at::FENCED),
             durable: word(bytes, at::DURABLE),
             last_closing: word(bytes, at::LAST_CLOSING),
+            round: word(bytes, at::ROUND),
+            cursor: word(bytes, at::CURSOR),
         };
         let named = Shape { groups: word(bytes, at::GROUPS), homes: word(bytes, at::HOMES) };
         let in_order = named == shape
@@ -96,6 +104,7 @@ impl State {
             && self.fenced <= PLACES * self.next
             && self.durable <= self.fenced
             && (self.last_closing == 0 || self.is_used(self.last_closing - 1))
+            && (self.round == 0 || (self.settled < self.round && self.round - 1 <= self.fenced))
     }
 
     fn writer_in_order(&self, writer: Writer) -> bool {
@@ -149,6 +158,8 @@ impl State {
         put_word(bytes, at::FENCED, self.fenced);
         put_word(bytes, at::DURABLE, self.durable);
         put_word(bytes, at::LAST_CLOSING, self.last_closing);
+        put_word(bytes, at::ROUND, self.round);
+        put_word(bytes, at::CURSOR, self.cursor);
     }
 
     /// The state bytes just after an opening.
@@ -166,6 +177,8 @@ impl State {
             fenced: position,
             durable: position,
             last_closing: 0,
+            round: 0,
+            cursor: 0,
         };
         fresh.save(bytes);
     }

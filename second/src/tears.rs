@@ -8,6 +8,7 @@ use crate::literal;
 use crate::player::{step, Profile, Tally};
 use crate::rng::Rng;
 use crate::world::World;
+use crate::newest::POSITION;
 
 /// Blocks whose every choice is tried.
 const FREE: usize = 12;
@@ -54,8 +55,15 @@ impl World {
 
     fn open_copy(&mut self, image: Areas) -> (Answer, Lent) {
         let batch = vec![0; ample(self.shape.groups, self.shape.homes)];
-        let mut lent =
-            Lent { log: image.log, data: image.data, state: vec![0; STATE], block: vec![0; 64], batch };
+        let newest = vec![0; POSITION * self.shape.homes as usize];
+        let mut lent = Lent {
+            log: image.log,
+            data: image.data,
+            state: vec![0; STATE],
+            newest,
+            block: vec![0; 64],
+            batch,
+        };
         let answer = (self.runner)(&mut lent, Kind::Open, 0, 0);
         (answer, lent)
     }

@@ -5,6 +5,7 @@ use crate::book::{Block, Book};
 use crate::landing::{parse, Areas, Piece, Record, Submitted, Target};
 use crate::layout::{header, word, Answer, Shape, HEADER};
 use crate::lent::{Kind, Lent, Runner};
+use crate::round_check::Round;
 use std::collections::HashSet;
 
 /// One call with its arguments.
@@ -12,7 +13,7 @@ use std::collections::HashSet;
 pub struct Call {
     pub kind: Kind,
     pub writer: u64,
-    /// The places of a reserve.
+    /// The places of a reserve, the homes of a step.
     pub home: u64,
     pub block: Block,
     pub batch_len: usize,
@@ -41,6 +42,8 @@ pub struct Shadow {
     pub first: [Option<u64>; 8],
     /// Places that the reserve of each open transaction was granted.
     pub granted: [u64; 8],
+    /// The round under way.
+    pub round: Option<Round>,
 }
 
 /// Where a commit lies: first position and commit entry's position.
@@ -56,6 +59,8 @@ pub struct World {
     pub submitted: Submitted,
     pub book: Book,
     pub shadow: Shadow,
+    /// A round that the last call has ended.
+    pub ended: Option<Round>,
     /// One for each commit of the book.
     pub spans: Vec<Span>,
     /// Commits of the book when the last done opening ended.
@@ -93,6 +98,7 @@ impl World {
             submitted: Submitted::default(),
             book: Book::default(),
             shadow: Shadow::default(),
+            ended: None,
             spans: Vec::new(),
             brought: 0,
             confirmed: 0,
@@ -170,6 +176,8 @@ impl World {
             Kind::Flush => self.book.flush(self.calls),
             Kind::Confirm => self.confirm(answer.figure),
             Kind::Settle => self.shadow.settled = self.shadow.fenced,
+            Kind::StepRound => self.follow_step(call.home, records),
+            Kind::Trim => self.follow_trim(records),
             _ => {}
         }
         if call.kind.begins() || matches!(call.kind, Kind::Abort | Kind::Commit) {
@@ -205,6 +213,7 @@ impl World {
             durable: position,
             first: [None; 8],
             granted: [0; 8],
+            round: None,
         };
         self.opened = true;
         self.brought = self.book.commits.len();

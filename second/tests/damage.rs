@@ -70,7 +70,7 @@ fn large() {
 #[test]
 fn cases_agree_with_the_model() {
     let mut cases = Cases::new(77);
-    let mut seen = [0; 19];
+    let mut seen = [0; 22];
     for _ in 0..20_000 {
         let case = cases.case();
         seen[case.answer.code as usize] += 1;
@@ -80,6 +80,6 @@ fn cases_agree_with_the_model() {
             assert!(case.before == case.after);
         }
     }
-    let given = [0, 1, 2, 3, 4, 5, 6, 7, 8, 9, 10, 17, 18];
+    let given = [0, 1, 2, 3, 4, 5, 6, 7, 8, 9, 10, 17, 18, 21];
     assert!(given.iter().all(|&code| seen[code] > 50), "{seen:?}");
 }

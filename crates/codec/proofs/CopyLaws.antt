@@ -11,7 +11,7 @@ use Rattle.model.proofs.bytes.ByteLaws.{puts-append, length-part, number-more}
 use Rattle.codec.proofs.BlockLaws.{part-cons}
 
 -- the bytes of a number that was read
-read-bytes : (k : ℕ) (xs : List ℕ) (at : ℕ) → ((i : ℕ) → getD xs i 0 < 256) → at + k ≤ length xs → bytes k (number k xs at) ≡ part xs at k
+pub read-bytes : (k : ℕ) (xs : List ℕ) (at : ℕ) → ((i : ℕ) → getD xs i 0 < 256) → at + k ≤ length xs → bytes k (number k xs at) ≡ part xs at k
 unfolding bytes part
 read-bytes zero xs at b h = refl
 read-bytes (suc k) xs at b h =

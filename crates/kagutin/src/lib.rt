@@ -2,7 +2,7 @@
 use answers::Reply;
 ghost use mathlib.Core.Path.{_≡_};
 ghost use mathlib.Core.List.{[]};
-ghost use Rattle.model.specs.Calls.{formatCall, openCall, beginCall, reserveCall, abortCall, storeCall, commitCall, flushCall, confirmCall, settleCall, trimCall, readCall};
+ghost use Rattle.model.specs.Calls.{formatCall, openCall, beginCall, reserveCall, abortCall, storeCall, commitCall, flushCall, confirmCall, settleCall, trimCall, readCall, beginRoundCall, stepRoundCall};
 ghost use Rattle.answers.specs.Lent.{lentAll, leavesAll, lent, leaves};
 
 // Writes an empty store: every group unused, every home zeros, then the header.
@@ -120,6 +120,28 @@ pub extern "C" fn kagutin_settle(
     ensures { λ r. ⌜ leaves (r .code) (r .figure) (r .size) (now (log .entry)) (now (area .exit)) (now (state .exit)) [] (now (batch .exit)) ≡ settleCall (lent (now (log .entry)) (now (area .entry)) (now (state .entry)) [] (now (batch .entry)) 0 0) ⌝ }
 {
     recovery::settle(log, area, state, batch)
+}
+
+// Begins a round of settling in small steps, which covers the commits below the fenced position of now.
+#[no_mangle]
+pub extern "C" fn kagutin_begin_round(log: &[u8], area: &[u8], state: &mut [u8]) -> Reply
+    ensures { λ r. ⌜ leaves (r .code) (r .figure) (r .size) (now (log .entry)) (now (area .entry)) (now (state .exit)) [] [] ≡ beginRoundCall (lent (now (log .entry)) (now (area .entry)) (now (state .entry)) [] [] 0 0) ⌝ }
+{
+    recovery::begin_round(log, area, state)
+}
+
+// Writes the next `homes` homes of the round under way; with the last of them a fence, and the round is over.
+#[no_mangle]
+pub extern "C" fn kagutin_step_round(
+    log: &[u8],
+    area: &mut [u8],
+    state: &mut [u8],
+    batch: &mut [u8],
+    homes: u64,
+) -> Reply
+    ensures { λ r. ⌜ leaves (r .code) (r .figure) (r .size) (now (log .entry)) (now (area .exit)) (now (state .exit)) [] (now (batch .exit)) ≡ stepRoundCall (lent (now (log .entry)) (now (area .entry)) (now (state .entry)) [] (now (batch .entry)) 0 0) homes ⌝ }
+{
+    recovery::step_round(log, area, state, batch, homes)
 }
 
 // Moves the log's start up as far as no transaction lies across it.

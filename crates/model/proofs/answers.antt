@@ -7,3 +7,4 @@ pub mod HistoryHolds
 pub mod ReservationsHold
 pub mod TearsHold
 pub mod PositionsHold
+pub mod RoundsGo

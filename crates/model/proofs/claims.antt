@@ -7,6 +7,8 @@ pub mod Yields
 pub mod YieldsAll
 pub mod StoreLaws
 pub mod StoreAnswers
+pub mod CallAnswers
+pub mod RoundFollows
 pub mod StoreFollows
 pub mod KeptSteps
 pub mod KeptHolds
@@ -20,3 +22,7 @@ pub mod AsideHolds
 pub mod Ledger
 pub mod PromisesHold
 pub mod WitnessHolds
+pub mod RoundCounts
+pub mod RoundSteps
+pub mod RoundStays
+pub mod RoundsHold

@@ -1,5 +1,6 @@
 -- What holds at every moment of a history, of memory and of strip and copies, and how it carries over when the log grows, a fence passes or an opening comes.
 pub mod Invariant
+pub mod SettledLaws
 pub mod OpenLaws
 pub mod GrowLaws
 pub mod GrowImages

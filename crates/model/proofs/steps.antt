@@ -11,11 +11,13 @@ pub mod LogSubmits
 pub mod HeldLogs
 pub mod StoreCommit
 pub mod FenceRuns
+pub mod HomeRuns
 pub mod NumberRuns
 pub mod FlushRuns
 pub mod TrimLaws
 pub mod TrimRuns
 pub mod SettleRuns
+pub mod RoundRuns
 pub mod CrashRuns
 pub mod CallRuns
 pub mod OpenKeeps

@@ -4,6 +4,7 @@ pub mod SubmitLaws
 pub mod HomeLaws
 pub mod OpeningLaws
 pub mod FateLaws
+pub mod MixLaws
 pub mod Trace
 pub mod WalkLaws
 pub mod TraceLaws
@@ -11,4 +12,5 @@ pub mod WholeLaws
 pub mod LinkLaws
 pub mod CountLaws
 pub mod ReplayLaws
+pub mod RestoreLaws
 pub mod Survivors

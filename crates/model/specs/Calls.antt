@@ -6,8 +6,8 @@ use lib.Dec.{eqb}
 use lib.ListN.{length}
 use Rattle.model.specs.Bytes.{puts}
 use Rattle.model.specs.Batch.{Record, batchBytes}
-use Rattle.model.specs.Effects.{Given, Effect, formatEffect, openEffect, openStart, beginEffect, reserveEffect, abortEffect, storeEffect, commitEffect, flushEffect, confirmEffect, settleEffect, trimStart, trimEffect, readEffect}
-use Rattle.model.specs.Questions.{formatAnswer, openAnswer, beginAnswer, reserveAnswer, abortAnswer, storeAnswer, commitAnswer, flushAnswer, confirmAnswer, settleAnswer, trimAnswer, readAnswer}
+use Rattle.model.specs.Effects.{Given, Effect, formatEffect, openEffect, openStart, beginEffect, reserveEffect, abortEffect, storeEffect, commitEffect, flushEffect, confirmEffect, settleEffect, beginRoundEffect, stepRoundEffect, trimStart, trimEffect, readEffect}
+use Rattle.model.specs.Questions.{formatAnswer, openAnswer, beginAnswer, reserveAnswer, abortAnswer, storeAnswer, commitAnswer, flushAnswer, confirmAnswer, settleAnswer, beginRoundAnswer, stepRoundAnswer, trimAnswer, readAnswer}
 
 -- all that a call gives and leaves: its number, figure and batch length, the strip, the newest positions, both copies, the block and the whole batch
 -- buffer
@@ -90,6 +90,12 @@ confirmCall g = let e : Effect = confirmEffect g in outcome g (confirmAnswer g) 
 
 unfoldable pub settleCall : Given → Outcome
 settleCall g = let e : Effect = settleEffect g in outcome g (settleAnswer g (sizeOf e)) e
+
+unfoldable pub beginRoundCall : Given → Outcome
+beginRoundCall g = let e : Effect = beginRoundEffect g in outcome g (beginRoundAnswer g) e
+
+unfoldable pub stepRoundCall : Given → ℕ → Outcome
+stepRoundCall g k = let e : Effect = stepRoundEffect g k in outcome g (stepRoundAnswer g k (sizeOf e)) e
 
 unfoldable pub trimCall : Given → Outcome
 trimCall g = let s : ℕ = trimStart g in let e : Effect = trimEffect g s in outcome g (trimAnswer g s (sizeOf e)) e

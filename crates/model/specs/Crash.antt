@@ -3,7 +3,7 @@
 -- fences, from the first on, have passed, at least all before a done confirm. All writes before the last passed fence have landed, any choice of
 -- those up to the next, none beyond. What has not landed never will, and no later fence waits for it." "Demand 3 must hold with each 64-byte block
 -- landing or not by itself, blanking included: an entry has landed when its tag's block and its data block both have."
-use Prim.Native.Nat.{ℕ, zero, suc, _+_, _*_}
+use Prim.Native.Nat.{ℕ, zero, suc, _+_, _*_, _%_}
 use mathlib.Core.Bool.{Bool, true, false, cond, _&&_}
 use mathlib.Core.List.{List, [], _∷_, _++_}
 use lib.ListN.{take, drop}
@@ -79,9 +79,9 @@ persist zero chosen (r ∷ rs) m = persistChosen chosen 0 (r ∷ rs) m
 persist (suc n) chosen (r ∷ rs) m = persist (cond (isFence r) n (suc n)) chosen rs (writeEach (pieces r) m)
 
 -- Which entries of each submitted group persisted, by the number of the group write: what the book is fed at a crash. `fate` says which pieces of the
--- record did: "an entry has landed when its tag's block and its data block both have", piece 0 and piece k + 1.
+-- record did: "an entry has landed when its tag's block and its data block both have", piece 0 and piece k + 1 (k from 0 to 6).
 unfoldable pub groupFate : Record → (ℕ → Bool) → List (ℕ → Bool)
-groupFate (GW slot group) fate = (λ k. fate 0 && fate (k + 1)) ∷ []
+groupFate (GW slot group) fate = (λ k. fate 0 && fate (k % 7 + 1)) ∷ []
 groupFate (HW home block) fate = []
 groupFate (KW header) fate = []
 groupFate FN fate = []

@@ -8,16 +8,16 @@ use mathlib.Core.Option.{Option, none, some}
 use lib.Dec.{eqb, leb, ltb}
 use lib.ListN.{length, drop}
 use Rattle.model.specs.Tag.{homeOf}
-use Rattle.model.specs.Layout.{groupsIn, headerStart, blockAt}
+use Rattle.model.specs.Layout.{groupsIn, headerStart, blockAt, homeAt}
 use Rattle.model.specs.Commit.{transactions}
 use Rattle.model.specs.Batch.{Record, GW, HW, KW, FN}
-use Rattle.model.specs.State.{State, stateOf, nextPosition, inOrder}
+use Rattle.model.specs.State.{State, stateOf, nextPosition, underWay, fixedIn, inOrder}
 use Rattle.model.specs.Effects.{Given, groups, liveTags, liveBase}
 use Rattle.model.specs.declared.Tag.{Tag}
 use Rattle.model.specs.Calls.{Outcome}
 use Rattle.model.specs.Crash.{fences}
 use Rattle.model.specs.Book.{Kept, row, persisted, Entry, Commit, Held, Task, idle, opened, Book, run, homesAfter, reads as readBy, owedBy}
-use Rattle.model.specs.History.{Service, settles, trims, reads, Call, opening, confirm, change, service, read, Event, call, crash, World, lent, ends, rowFates, step, Always}
+use Rattle.model.specs.History.{Service, settles, trims, reads, Call, opening, confirm, change, service, read, Event, call, crash, World, lent, ends, rowFates, step, Always, roundBegins, roundSteps}
 
 -- Demand 3
 
@@ -148,9 +148,19 @@ pub record Trimmed (w : World) (start : ℕ) : Type 0 where
   pub settled : 7 * start ≤ stateOf (w .state) .settled
   pub furthest : (s : ℕ) → 7 * s ≤ stateOf (w .state) .settled → free w s ≡ true → s ≤ start
 
+-- Rounds: a home of the data copy holds what the commits below a position wrote: the F that the round under way has fixed where the home is below
+-- its cursor, else the settled position
+unfoldable pub settledFor : State → ℕ → ℕ
+settledFor st home = cond (underWay st && ltb home (st .cursor)) (fixedIn st) (st .settled)
+
+abbrev pub SettledHomes : ℕ → List ℕ → State → List Commit → Type 0
+SettledHomes homes area st commits = (h : ℕ) → h < homes → homeAt area h ≡ homeAt (homesAfter homes (closedBelow (settledFor st h) commits)) h
+
 -- what a done call yields, in the book's terms
 abbrev pub ServiceYields : World → Service → Outcome → Type 0
 ServiceYields w (settles batch) o = o .area ≡ homesAfter (w .homes) (closedBelow (stateOf (w .state) .fenced) (w .book .commits))
+ServiceYields w roundBegins o = fixedIn (stateOf (o .state)) ≡ stateOf (w .state) .fenced
+ServiceYields w (roundSteps homes batch) o = SettledHomes (w .homes) (o .area) (stateOf (o .state)) (w .book .commits)
 ServiceYields w (trims batch) o = Trimmed w (stateOf (o .state) .start)
 ServiceYields w (reads writer home block) o = o .block ≡ readBy (w .homes) (w .book) writer home
 

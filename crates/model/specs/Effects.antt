@@ -4,13 +4,13 @@ use mathlib.Core.Bool.{Bool, true, false, cond, not, _&&_, _||_}
 use mathlib.Core.List.{List, [], _∷_, _++_}
 use mathlib.Core.Option.{Option, none, some}
 use lib.Dec.{eqb, leb, ltb}
-use lib.ListN.{length}
+use lib.ListN.{length, getD, take}
 use Rattle.model.specs.Bytes.{puts, zeros, part}
 use Rattle.model.specs.Tag.{entryWord, closingWord, homeOf, present}
 use Rattle.model.specs.Layout.{groupsIn, homesIn, header, headerStart, groupAt, turnOf, unusedGroup, emptyLog, putBlank, putEntry, entryAt, blockAt, homeAt, putHome}
 use Rattle.model.specs.Commit.{Span, committed, transactions, replay, members, newestIn, newest, found, entries}
 use Rattle.model.specs.Batch.{Record, GW, HW, KW, FN}
-use Rattle.model.specs.State.{State, stateOf, setStart, setNext, setFilled, setSettled, setFenced, setDurable, setLast, nextPosition, Writer, writerOf, setWriter, heldOf, setHeld, setPromise, promiseLeft, idle, begun, holding, logging, isOpen, holds, hasLogged, holdsHome, firstFor, countFor, freshState}
+use Rattle.model.specs.State.{State, stateOf, setStart, setNext, setFilled, setSettled, setFenced, setDurable, setLast, nextPosition, Writer, writerOf, setWriter, heldOf, setHeld, setPromise, promiseLeft, idle, begun, holding, logging, isOpen, holds, hasLogged, holdsHome, firstFor, countFor, freshState, setRound, setCursor, fixedIn}
 use Rattle.model.specs.Newest.{keptFor, nothingKept, keepEntries, forget}
 use Rattle.model.specs.declared.Tag.{Tag}
 
@@ -305,6 +305,59 @@ settleEffect g =
       block = g .block;
       records = homeWrites area (touched (liveTags g) ts (homes g)) ++ (FN ∷ []);
     }
+
+-- Rounds: "Let a round be begun, fixing the F it covers, then moved on by the next k homes a step, or all that remain in the log as it then stands,
+-- rising; the last step, the one after which no home remains (the first if none is touched), writes FN and only then raises the settled position
+-- to the F fixed."
+
+unfoldable pub beginRoundEffect : Given → Effect
+beginRoundEffect g = newState g (setCursor (setRound (g .state) (stateOf (g .state) .fenced + 1)) 0) 0
+
+-- the homes from a cursor on that some transactions write
+unfoldable pub touchedFrom : (ℕ → Tag) → List (List ℕ) → ℕ → ℕ → List ℕ
+touchedFrom tags ts cursor homes = marked (λ h. leb cursor h && found (newest tags h ts)) homes
+
+-- some homes of the data copy with the newest value that each has among some transactions
+unfoldable pub restoreHome : List ℕ → ℕ → ℕ → Option ℕ → List ℕ → List ℕ
+restoreHome log groups h none area = area
+restoreHome log groups h (some p) area = putHome area h (blockAt log groups p)
+
+unfoldable pub restoredHomes : List ℕ → ℕ → (ℕ → Tag) → List (List ℕ) → List ℕ → List ℕ → List ℕ
+restoredHomes log groups tags ts [] area = area
+restoredHomes log groups tags ts (h ∷ hs) area =
+    restoredHomes log groups tags ts hs (restoreHome log groups h (newest tags h ts) area)
+
+-- the committed transactions "in the log as it then stands" that close below the fixed F
+unfoldable pub roundTransactions : Given → List (List ℕ)
+roundTransactions g = transactions (liveTags g) (liveBase g) (fixedIn (stateOf (g .state)) - liveBase g)
+
+-- the homes that remain
+unfoldable pub roundHomes : Given → List ℕ
+roundHomes g = touchedFrom (liveTags g) (roundTransactions g) (stateOf (g .state) .cursor) (homes g)
+
+-- the strip after the last step, and after one that leaves homes: the last of the step's k homes is done
+unfoldable pub roundEnded : List ℕ → State → List ℕ
+roundEnded s st = setCursor (setRound (setFenced (setSettled s (fixedIn st)) (7 * st .next)) 0) 0
+
+unfoldable pub roundMoved : List ℕ → List ℕ → ℕ → List ℕ
+roundMoved s due k = setCursor s (getD due (k - 1) 0 + 1)
+
+-- a step of k homes, where `due` remain, and whether it is the last
+unfoldable pub stepHomes : Given → ℕ → List ℕ → Bool → Effect
+stepHomes g k due last =
+    let area : List ℕ = restoredHomes (g .log) (groups g) (liveTags g) (roundTransactions g) (take k due) (g .area) in
+    record {
+      figure = 0;
+      state = cond last (roundEnded (g .state) (stateOf (g .state))) (roundMoved (g .state) due k);
+      newest = g .newest;
+      log = g .log;
+      area = area;
+      block = g .block;
+      records = homeWrites area (take k due) ++ cond last (FN ∷ []) [];
+    }
+
+unfoldable pub stepRoundEffect : Given → ℕ → Effect
+stepRoundEffect g k = let due : List ℕ = roundHomes g in stepHomes g k due (leb (length due) k)
 
 -- Trim: "the largest start s with 7 × s at most the settled position and no open or committed transaction lying on both sides of 7 × s (an open
 -- one counts as reaching beyond). If it moves: KW, FN; a last closing before it becomes none. Else nothing."

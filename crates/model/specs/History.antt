@@ -9,7 +9,7 @@ use Rattle.model.specs.Bytes.{zeros}
 use Rattle.model.specs.Layout.{groupsIn, emptyLog}
 use Rattle.model.specs.Batch.{Record, readBatch}
 use Rattle.model.specs.Effects.{Given}
-use Rattle.model.specs.Calls.{Outcome, formatCall, openCall, beginCall, reserveCall, abortCall, storeCall, commitCall, flushCall, confirmCall, settleCall, trimCall, readCall}
+use Rattle.model.specs.Calls.{Outcome, formatCall, openCall, beginCall, reserveCall, abortCall, storeCall, commitCall, flushCall, confirmCall, settleCall, trimCall, readCall, beginRoundCall, stepRoundCall}
 use Rattle.model.specs.Crash.{Memory, fences, persist, fates}
 use Rattle.model.specs.Book as book
 use Rattle.model.specs.Book.{Book}
@@ -30,6 +30,8 @@ pub data Change : Type 0 where
 -- those that change nothing in it
 pub data Service : Type 0 where
   settles : (batch : List ℕ) → Service
+  roundBegins : Service
+  roundSteps : (homes : ℕ) (batch : List ℕ) → Service
   trims : (batch : List ℕ) → Service
   reads : (writer home : ℕ) (block : List ℕ) → Service
 
@@ -59,6 +61,12 @@ flush batch = change (flushes batch)
 
 abbrev pub settle : List ℕ → Call
 settle batch = service (settles batch)
+
+abbrev pub beginRound : Call
+beginRound = service roundBegins
+
+abbrev pub stepRound : ℕ → List ℕ → Call
+stepRound homes batch = service (roundSteps homes batch)
 
 abbrev pub trim : List ℕ → Call
 trim batch = service (trims batch)
@@ -164,6 +172,8 @@ changeEnds w (flushes batch) = flushCall (lent w [] batch 0 0)
 
 unfoldable pub serviceEnds : World → Service → Outcome
 serviceEnds w (settles batch) = settleCall (lent w [] batch 0 0)
+serviceEnds w roundBegins = beginRoundCall (lent w [] [] 0 0)
+serviceEnds w (roundSteps homes batch) = stepRoundCall (lent w [] batch 0 0) homes
 serviceEnds w (trims batch) = trimCall (lent w [] batch 0 0)
 serviceEnds w (reads writer home block) = readCall (lent w block [] writer home)
 

@@ -21,4 +21,5 @@ pub mod Reservations
 pub mod Tears
 pub mod Promises
 pub mod Kept
+pub mod Rounds
 pub mod Facts

@@ -133,7 +133,7 @@ pub record Accounted (s : Store) (fs : List Fate) : Type 0 where
       ≡ 7 * s .groups
   pub freeAre : many s fs free (7 * s .start) (7 * s .groups) ≡ placesLeft s
 
--- "with no transaction open .. flush, settle and trim leave all free, given trains long enough and a next group after the flush of at most 2^47"
+-- "with no transaction open, and no round under way, flush, settle and trim leave all free, given trains long enough and a next group after the flush of at most 2^47"
 abbrev pub AllIdle : Store → Type 0
 AllIdle s = (v : ℕ) → v < 8 → s .book .tasks v ≡ idle
 
@@ -154,7 +154,7 @@ pub record Drained (w : World) (s : Store) (first second third : List ℕ) : Typ
 
 abbrev pub Drains : World → Store → Type 0
 Drains w s =
-    AllIdle s → (first second third : List ℕ) → 518 ≤ length first → 68 * s .homes + 2 ≤ length second → 68 ≤ length third →
+    AllIdle s → s .round ≡ 0 → (first second third : List ℕ) → 518 ≤ length first → 68 * s .homes + 2 ≤ length second → 68 ≤ length third →
     firstGroup s + book.flush (s .book) .rows ≤ maxStart → Drained w s first second third
 
 -- When a log does not drain: an open transaction holds it. What a writer has logged lies at or above every start that a trim can reach.

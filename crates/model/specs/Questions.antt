@@ -7,7 +7,7 @@ use mathlib.Core.List.{List, []}
 use lib.Dec.{eqb, leb, ltb}
 use lib.ListN.{length}
 use Rattle.model.specs.Layout.{maxStart, logLengthRight, dataLengthRight, headerRight, headerStart}
-use Rattle.model.specs.State.{State, stateOf, stateBytes, inOrder, promiseOf, promised, places, freePlaces, Writer, writerOf, isOpen, holds, holdsHome}
+use Rattle.model.specs.State.{State, stateOf, stateBytes, underWay, inOrder, promiseOf, promised, places, freePlaces, Writer, writerOf, isOpen, holds, holdsHome}
 use Rattle.model.specs.Effects.{Given, groups, homes}
 
 -- a question: if it is answered no, the call's answer is `number`; else the next question follows
@@ -82,6 +82,10 @@ keepsPromises s =
     let st : State = stateOf s in
     eqb (st .filled) 0 || leb (promised s 8) (7 * (st .start + st .groups) - 7 * (st .next + 1))
 
+-- 21. "a step with no round or k 0, a second begin, or a plain settle during a round; after 2"
+unfoldable pub inRound : Given → Bool
+inRound g = underWay (stateOf (g .state))
+
 -- The calls' questions in order. `size` is the number of bytes that the call writes.
 
 unfoldable pub formatAnswer : Given → ℕ → ℕ
@@ -132,7 +136,13 @@ unfoldable pub confirmAnswer : Given → ℕ
 confirmAnswer g = askState g 0
 
 unfoldable pub settleAnswer : Given → ℕ → ℕ
-settleAnswer g size = askState g (ask (batchFits g size) 9 0)
+settleAnswer g size = askState g (ask (not (inRound g)) 21 (ask (batchFits g size) 9 0))
+
+unfoldable pub beginRoundAnswer : Given → ℕ
+beginRoundAnswer g = askState g (ask (not (inRound g)) 21 0)
+
+unfoldable pub stepRoundAnswer : Given → ℕ → ℕ → ℕ
+stepRoundAnswer g k size = askState g (ask (inRound g && leb 1 k) 21 (ask (batchFits g size) 9 0))
 
 unfoldable pub trimAnswer : Given → ℕ → ℕ → ℕ
 trimAnswer g start size = askNewest g (ask (startFits start) 10 (ask (batchFits g size) 9 0))

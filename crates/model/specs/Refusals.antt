@@ -1,5 +1,5 @@
 -- "A refused call changes none and gives one of ten numbers", field by field, for everything that a call can be lent. Later requests' numbers "join
--- demand 1's ten": 17 and 18.
+-- demand 1's ten": 17, 18 and 21.
 use Prim.Native.Nat.{ℕ}
 use mathlib.Core.Bool.{Bool, true, _&&_, _||_}
 use lib.Dec.{eqb, leb}
@@ -7,11 +7,11 @@ use mathlib.Core.Path.{_≡_}
 use mathlib.Core.Logic.{_⊎_}
 use mathlib.Core.List.{List, [], _∷_}
 use Rattle.model.specs.Effects.{Given}
-use Rattle.model.specs.Calls.{Outcome, formatCall, openCall, beginCall, reserveCall, abortCall, storeCall, commitCall, flushCall, confirmCall, settleCall, trimCall, readCall}
+use Rattle.model.specs.Calls.{Outcome, formatCall, openCall, beginCall, reserveCall, abortCall, storeCall, commitCall, flushCall, confirmCall, settleCall, beginRoundCall, stepRoundCall, trimCall, readCall}
 
 -- the numbers that refuse
 unfoldable pub refuses : ℕ → Bool
-refuses k = (leb 1 k && leb k 10) || eqb k 17 || eqb k 18
+refuses k = (leb 1 k && leb k 10) || eqb k 17 || eqb k 18 || eqb k 21
 
 -- "A refusal returns its number, no other figure but zero, no train bytes, and all lent memory untouched."
 pub record Untouched (g : Given) (o : Outcome) : Type 0 where
@@ -34,7 +34,7 @@ EachDoneOrUntouched (c ∷ cs) = DoneOrUntouched c × EachDoneOrUntouched cs
 
 abbrev pub everyCall : ℕ → List (Given → Outcome)
 everyCall n =
-    formatCall ∷ openCall ∷ beginCall ∷ (λ g. reserveCall g n) ∷ abortCall ∷ storeCall ∷ commitCall ∷ flushCall ∷ confirmCall ∷ settleCall ∷ trimCall ∷ readCall ∷ []
+    formatCall ∷ openCall ∷ beginCall ∷ (λ g. reserveCall g n) ∷ abortCall ∷ storeCall ∷ commitCall ∷ flushCall ∷ confirmCall ∷ settleCall ∷ beginRoundCall ∷ (λ g. stepRoundCall g n) ∷ trimCall ∷ readCall ∷ []
 
 abbrev pub Refusals : Type 0
 Refusals = (n : ℕ) → EachDoneOrUntouched (everyCall n)

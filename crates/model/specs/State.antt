@@ -26,6 +26,8 @@ stateOf s =
       fenced = number 8 s 48;
       durable = number 8 s 56;
       last = number 8 s 64;
+      round = number 8 s 88;
+      cursor = number 8 s 96;
     }
 
 unfoldable pub setGroups : List ℕ → ℕ → List ℕ
@@ -55,9 +57,23 @@ setDurable s v = putNumber 8 s 56 v
 unfoldable pub setLast : List ℕ → ℕ → List ℕ
 setLast s v = putNumber 8 s 64 v
 
+unfoldable pub setRound : List ℕ → ℕ → List ℕ
+setRound s v = putNumber 8 s 88 v
+
+unfoldable pub setCursor : List ℕ → ℕ → List ℕ
+setCursor s v = putNumber 8 s 96 v
+
 -- "such a call looks only at positions below the next one (7 × next group + places filled)"
 unfoldable pub nextPosition : State → ℕ
 nextPosition s = 7 * s .next + s .filled
+
+-- rounds: "Let a round be begun, fixing the F it covers"
+
+unfoldable pub underWay : State → Bool
+underWay st = leb 1 (st .round)
+
+unfoldable pub fixedIn : State → ℕ
+fixedIn st = st .round - 1
 
 -- promises
 -- "The state strip gains the promises": the places promised to each writer that no entry has used up yet.
@@ -160,13 +176,14 @@ freshState groups homes start =
 
 -- Question 2
 -- "start ≤ 2^47; start ≤ next group ≤ start + G; 0 to 6 places filled, none at start + G; 7 × start ≤ settled ≤ F ≤ 7 × next group; mark ≤ F;
--- last closing none or from 7 × start to below the next position"
+-- last closing none or from 7 × start to below the next position"; "question 2 also asks that the fixed F lies from settled to F"
 unfoldable pub numbersInOrder : State → Bool
 numbersInOrder s =
     leb (s .start) maxStart && leb (s .start) (s .next) && leb (s .next) (s .start + s .groups) && leb (s .filled) 6
     && (ltb (s .next) (s .start + s .groups) || eqb (s .filled) 0) && leb (7 * s .start) (s .settled) && leb (s .settled) (s .fenced)
     && leb (s .fenced) (7 * s .next) && leb (s .durable) (s .fenced)
     && (eqb (s .last) 0 || ltb (7 * s .start) (s .last) && leb (s .last) (nextPosition s))
+    && (eqb (s .round) 0 || ltb (s .settled) (s .round) && leb (s .round) (s .fenced + 1))
 
 -- "an idle writer holds nothing; a held home < D; a logging writer holds a block, its first position is in that range and its count from 1 to
 -- the positions since"

@@ -7,7 +7,7 @@ use mathlib.Core.Bool.{Bool, true, false, cond, not, _&&_, _||_}
 use mathlib.Core.List.{List, [], _∷_, _++_}
 use mathlib.Core.Option.{Option, none, some}
 use lib.Dec.{eqb, leb, ltb}
-use lib.ListN.{length}
+use lib.ListN.{length, getD, take}
 use Rattle.model.specs.Layout.{maxStart, headerStart, entryAt}
 use Rattle.model.specs.Commit.{transactions}
 use Rattle.model.specs.Effects.{marked, largest}
@@ -16,13 +16,14 @@ use Rattle.model.specs.Calls.{Outcome}
 use Rattle.model.specs.Crash.{Memory, persist}
 use Rattle.model.specs.Book.{Held, Commit, Task, idle, opened, Book, run}
 use Rattle.model.specs.Book as book
-use Rattle.model.specs.History.{Change, begins, reserves, aborts, stores, commits, flushes, Service, settles, trims, reads, Call, opening, confirm, change, service, Event, call, crash, World, Formatting, afterFormat, ends, feed, rowFates, step, AllAllowed}
+use Rattle.model.specs.History.{Change, begins, reserves, aborts, stores, commits, flushes, Service, settles, trims, reads, Call, opening, confirm, change, service, Event, call, crash, World, Formatting, afterFormat, ends, feed, rowFates, step, AllAllowed, roundBegins, roundSteps}
 use Rattle.model.specs.Demands.{eachContents, untrimmed, closedBelow, anyAcross, anyOpenBefore}
 
 -- G and D; whether an opening is done since the last crash; the start that the header in lasting memory says, as the last crash (or format) left
 -- it, and what the run's commits that this header has not trimmed wrote: the next opening, or the last, brings these back. Then the numbers since the
 -- last done opening: the log's start, the settled position, the fenced position F, the durable mark, the ticket of the last commit at or above the
--- start (0: none), and for each writer the places promised to it that no entry has used up. Last the book.
+-- start (0: none), for each writer the places promised to it that no entry has used up, and the round under way: the F that it has fixed + 1 (0: no
+-- round) and its cursor. Last the book.
 pub record Store : Type 0 where
   pub groups : ℕ
   pub homes : ℕ
@@ -35,6 +36,8 @@ pub record Store : Type 0 where
   pub durable : ℕ
   pub last : ℕ
   pub promises : ℕ → ℕ
+  pub round : ℕ
+  pub cursor : ℕ
   pub book : Book
 
 -- a new format
@@ -52,6 +55,8 @@ newStore groups homes =
       durable = 0;
       last = 0;
       promises = λ v. 0;
+      round = 0;
+      cursor = 0;
       book = book.empty;
     }
 
@@ -125,6 +130,10 @@ manyHomes homes ts = length (marked (λ h. anyWrote h ts) homes)
 unfoldable pub toSettle : Store → List (List Held)
 toSettle s = untrimmed (7 * s .start) (closedBelow (s .fenced) (s .book .commits))
 
+-- the homes that the round's next step finds: those from the cursor on that such commits below the fixed F wrote
+unfoldable pub toStep : Store → List ℕ
+toStep s = marked (λ h. leb (s .cursor) h && anyWrote h (untrimmed (7 * s .start) (closedBelow (s .round - 1) (s .book .commits)))) (s .homes)
+
 -- "the largest start s with 7 × s at most the settled position and no open or committed transaction lying on both sides of 7 × s"
 unfoldable pub mayStart : Store → ℕ → Bool
 mayStart s start =
@@ -176,7 +185,14 @@ replyChange s (flushes batch) =
     told (ask (mayFlush s) 18 (askBatch size batch)) 0 size
 
 unfoldable pub replyService : Store → Service → Reply
-replyService s (settles batch) = let size : ℕ = 68 * manyHomes (s .homes) (toSettle s) + 2 in told (askBatch size batch) 0 size
+replyService s (settles batch) =
+    let size : ℕ = 68 * manyHomes (s .homes) (toSettle s) + 2 in
+    told (ask (eqb (s .round) 0) 21 (askBatch size batch)) 0 size
+replyService s roundBegins = told (ask (eqb (s .round) 0) 21 0) 0 0
+replyService s (roundSteps homes batch) =
+    let due : List ℕ = toStep s in
+    let size : ℕ = 68 * length (take homes due) + cond (leb (length due) homes) 2 0 in
+    told (ask (leb 1 (s .round) && leb 1 homes) 21 (askBatch size batch)) 0 size
 replyService s (trims batch) =
     let size : ℕ = cond (eqb (nextStart s) (s .start)) 0 68 in
     told (ask (leb (nextStart s) maxStart) 10 (askBatch size batch)) 0 size
@@ -241,8 +257,34 @@ numbered s start settled fenced durable last promises b =
       durable = durable;
       last = last;
       promises = promises;
+      round = s .round;
+      cursor = s .cursor;
       book = b;
     }
+
+-- the store with another round and cursor
+unfoldable pub inRound : Store → ℕ → ℕ → Store
+inRound s round cursor =
+    record {
+      groups = s .groups;
+      homes = s .homes;
+      ready = true;
+      head = s .head;
+      back = s .back;
+      start = s .start;
+      settled = s .settled;
+      fenced = s .fenced;
+      durable = s .durable;
+      last = s .last;
+      promises = s .promises;
+      round = round;
+      cursor = cursor;
+      book = s .book;
+    }
+
+-- the round's last step: "only then raises the settled position to the F fixed"
+unfoldable pub roundOver : Store → Store
+roundOver s = inRound (numbered s (s .start) (s .round - 1) (7 * nextGroup s) (s .durable) (s .last) (s .promises) (s .book)) 0 0
 
 -- a trim that moves
 unfoldable pub trimmedTo : Store → ℕ → Store
@@ -251,13 +293,17 @@ trimmedTo s start =
 
 unfoldable pub afterService : Store → Service → Store
 afterService s (settles batch) = numbered s (s .start) (s .fenced) (7 * nextGroup s) (s .durable) (s .last) (s .promises) (s .book)
+afterService s roundBegins = inRound s (s .fenced + 1) 0
+afterService s (roundSteps homes batch) =
+    let due : List ℕ = toStep s in
+    cond (leb (length due) homes) (roundOver s) (inRound s (s .round) (getD due (homes - 1) 0 + 1))
 afterService s (trims batch) = let moved : Store = trimmedTo s (nextStart s) in cond (eqb (nextStart s) (s .start)) s moved
 afterService s (reads writer home block) = s
 
 unfoldable pub afterDone : Store → Call → ℕ → Store
 afterDone s (opening state newest batch) figure =
     let first : ℕ = firstGroup s in
-    numbered s first (7 * first) (7 * first) (7 * first) 0 (λ v. 0) (feed (s .book) (opening state newest batch) figure)
+    inRound (numbered s first (7 * first) (7 * first) (7 * first) 0 (λ v. 0) (feed (s .book) (opening state newest batch) figure)) 0 0
 afterDone s confirm figure = numbered s (s .start) (s .settled) (s .fenced) figure (s .last) (s .promises) (feed (s .book) confirm figure)
 afterDone s (change c) figure =
     numbered s (s .start) (s .settled) (fencedAfter s c) (s .durable) (lastAfter (s .last) c figure) (promisesAfter s c)
@@ -283,6 +329,8 @@ afterCrash s fs head =
       durable = s .durable;
       last = s .last;
       promises = s .promises;
+      round = s .round;
+      cursor = s .cursor;
       book = book.crash (s .book) fs;
     }
 

@@ -24,6 +24,9 @@ pub struct State {
     pub durable: u64,
     // the last closing entry's position + 1, or 0 for none since the start
     pub last: u64,
+    // the fenced position that the round under way has fixed + 1, or 0 for no round; homes below the cursor are done in it
+    pub round: u64,
+    pub cursor: u64,
 }
 
 // A writer's record, but for the held block.

@@ -86,7 +86,17 @@ pub fn keep_entries(
         let from = 64 + 512 * at.slot as usize;
         let group = &log[from..from + 512];
         let m = scan::in_group(left);
-        keep_group(group, groups, homes, start, number, at.turn, m, first, newest);
+        keep_group(
+            group,
+            groups,
+            homes,
+            start,
+            number,
+            at.turn,
+            m,
+            first,
+            newest,
+        );
         at = scan::next_slot(at, groups);
         number += 1;
         left -= m as u64;

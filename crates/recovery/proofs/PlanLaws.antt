@@ -49,7 +49,7 @@ end-within log groups homes start n end s e =
     go (inl z) = omega arith
     go (inr z) = omega arith
 
-below-end : (log : List ℕ) (groups homes start n end : ℕ) → end ≡ endOf (committed (entryAt log groups homes start) (7 * start) n)
+pub below-end : (log : List ℕ) (groups homes start n end : ℕ) → end ≡ endOf (committed (entryAt log groups homes start) (7 * start) n)
     → closedBelow log groups homes start end ≡ transactions (entryAt log groups homes start) (7 * start) n
 unfolding transactions
 below-end log groups homes start n end e =

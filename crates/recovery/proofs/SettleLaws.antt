@@ -1,6 +1,7 @@
 -- Settle: what its first questions give, what it does to the strip and the batch, and how the call ends. Assumes nothing.
 use mathlib.Core.Path.{_≡_, refl, sym, ap, _∙_}
 use mathlib.Core.Logic.{_≢_}
+use mathlib.Core.Bool.{not}
 use mathlib.Core.List.{List, [], _∷_}
 use Prim.Native.Nat.{ℕ, _+_, _-_, _*_, _^_, _≤_, _<_}
 use native.Mathlib.Omega.{arith}
@@ -12,7 +13,7 @@ use Rattle.model.specs.Batch.{FN, recordBytes, batchBytes}
 use Rattle.model.specs.declared.State.{State}
 use Rattle.model.specs.State.{stateOf, setSettled, setFenced}
 use Rattle.model.specs.Effects.{Given, touched, replayed, homeWrites, tagsOf, liveTags, liveBase, settleEffect}
-use Rattle.model.specs.Questions.{ask, askState, batchFits, settleAnswer}
+use Rattle.model.specs.Questions.{ask, askState, batchFits, settleAnswer, inRound}
 use Rattle.model.specs.Calls.{sizeOf, settleCall}
 use Rattle.model.proofs.strip.BatchLaws.{batch-one, length-FN}
 use Rattle.model.proofs.strip.QuestionLaws.{ask-yes, ask-no}
@@ -22,6 +23,7 @@ use Rattle.answers.specs.Lent.{lent, leaves}
 use Rattle.answers.proofs.AnswerLaws.{Usable, state-usable, state-only, state-refuses, state-passes, refused-by, done-by}
 use Rattle.recovery.specs.Plans.{Searchable, Planned}
 use Rattle.recovery.proofs.PlanLaws.{plan-size, plan-area, plan-batch}
+use Rattle.recovery.proofs.RoundLaws.{round-out, round-in}
 
 -- ---- the numbers of a strip in order
 
@@ -36,6 +38,8 @@ pub record Numbers (log area state : List ℕ) (st : State) : Type 0 where
   pub start-fenced : 7 * st .start ≤ st .fenced
   pub fenced-most : st .fenced ≤ 7 * (st .start + st .groups)
   pub next-most : st .next ≤ st .start + st .groups
+  pub start-round : st .round ≢ 0 → 7 * st .start ≤ st .round - 1
+  pub round-most : st .round ≤ st .fenced + 1
 
 pub numbers : (log area state : List ℕ) (code : ℕ) (st : State) → code ≡ askState (lent log area state [] [] 0 0) 0 → code ≡ 0
     → st ≡ stateOf state → Numbers log area state st
@@ -54,6 +58,8 @@ numbers log area state code st e z f =
       start-fenced = omega arith;
       fenced-most = omega arith;
       next-most = omega arith;
+      start-round = λ n. let k = o .round-settled (omega arith) in omega (arith, o .start-settled);
+      round-most = omega (arith, o .round-fenced);
     })
 
 pub state-length : (log area state : List ℕ) (code : ℕ) → code ≡ askState (lent log area state [] [] 0 0) 0 → code ≡ 0 → length state ≡ 1024
@@ -71,6 +77,18 @@ settle-searchable log area state st k =
       within = omega (arith, k .fenced-most);
     }
 
+pub round-searchable : (log area state : List ℕ) (st : State) → Numbers log area state st
+    → Searchable log (st .groups) (st .homes) (st .start) (st .round - 1 - 7 * st .start)
+round-searchable log area state st k =
+    record {
+      long = k .log-length;
+      least = k .groups-least;
+      most = k .groups-most;
+      homes-most = k .homes-most;
+      low = k .start-most;
+      within = omega (arith, k .fenced-most, k .round-most);
+    }
+
 -- ---- how the call ends
 
 module _ (log area state batch : List ℕ) where
@@ -84,8 +102,18 @@ module _ (log area state batch : List ℕ) where
       refused-by settling (settleEffect settling) _ code figure size
       (r .0 ∙ state-refuses settling v _ (e ∙ sym (state-only log area state [] batch 0 0 0)) h) (λ z. h (sym (r .0) ∙ z)) (r .1) (r .2)
 
+  -- during a round
+  pub settle-busy : (v code figure size : ℕ) (st : State) → v ≡ askState (lent log area state [] [] 0 0) 0 → v ≡ 0 → st ≡ stateOf state → st .round ≢ 0
+      → (code ≡ 21) × (figure ≡ 0) × (size ≡ 0) → leaves code figure size log area state [] batch ≡ settleCall settling
+  unfolding settleCall settleAnswer
+  settle-busy v code figure size st e z f n r =
+      refused-by settling (settleEffect settling) _ code figure size
+      (r .0
+      ∙ sym (state-passes settling _ (state-only log area state [] batch 0 0 0 ∙ sym e ∙ z)
+      ∙ ask-no _ 21 _ (ap not (round-in log area state batch st f n)))) (λ y. let w = r .0 in omega arith) (r .1) (r .2)
+
   module _ (v end number count : ℕ) (st : State) (e : v ≡ askState (lent log area state [] [] 0 0) 0) (z : v ≡ 0)
-      (f : st ≡ stateOf state)
+      (f : st ≡ stateOf state) (calm : st .round ≡ 0)
       (p : Planned log (st .groups) (st .homes) (st .start) (st .fenced - 7 * st .start) end number count) where
     order : InOrder state (groupsIn (length log)) (homesIn (length area))
     order = state-usable (lent log area state [] [] 0 0) (sym e ∙ z) .order
@@ -106,8 +134,11 @@ module _ (log area state batch : List ℕ) where
     unfolding sizeOf
     settle-length = settle-size
 
-    asked : askState settling (ask (batchFits settling (sizeOf (settleEffect settling))) 9 0) ≡ ask (batchFits settling (sizeOf (settleEffect settling))) 9 0
-    asked = state-passes settling _ (state-only log area state [] batch 0 0 0 ∙ sym e ∙ z)
+    asked : askState settling (ask (not (inRound settling)) 21 (ask (batchFits settling (sizeOf (settleEffect settling))) 9 0))
+        ≡ ask (batchFits settling (sizeOf (settleEffect settling))) 9 0
+    asked =
+        state-passes settling _ (state-only log area state [] batch 0 0 0 ∙ sym e ∙ z)
+        ∙ ask-yes _ 21 _ (ap not (round-out log area state batch st f calm))
 
     pub settle-short : (code figure size : ℕ) (a b : List ℕ) → length batch < 68 * count + 2 → (code ≡ 9) × (figure ≡ 0) × (size ≡ 0)
         → a ≡ area → b ≡ batch → leaves code figure size log a state [] b ≡ settleCall settling

@@ -1,13 +1,15 @@
 -- What is found out before committed transactions are brought back, and what bringing them back leaves.
 use mathlib.Core.Path.{_≡_}
+use mathlib.Core.Bool.{Bool, true, cond}
 use mathlib.Core.List.{List}
-use Prim.Native.Nat.{ℕ, _+_, _*_, _^_, _≤_, _<_}
-use lib.ListN.{length}
+use Prim.Native.Nat.{ℕ, _+_, _-_, _*_, _^_, _≤_, _<_}
+use lib.Dec.{leb, ltb}
+use lib.ListN.{length, getD, take}
 use Rattle.model.specs.Bytes.{puts}
 use Rattle.model.specs.Layout.{entryAt}
 use Rattle.model.specs.Commit.{transactions}
 use Rattle.model.specs.Batch.{batchBytes}
-use Rattle.model.specs.Effects.{touched, replayed, homeWrites}
+use Rattle.model.specs.Effects.{touched, replayed, homeWrites, touchedFrom, restoredHomes}
 use Rattle.scan.specs.Walk.{Walkable, closedBelow}
 
 -- a log copy whose n positions from the start on can be walked over
@@ -34,5 +36,26 @@ pub record Brought (log : List ℕ) (groups homes start end size : ℕ) (area ba
       → b
       ≡ puts batch 0
       (batchBytes (homeWrites a (touched (entryAt log groups homes start) (closedBelow log groups homes start end) homes)))
+  pub same-area : length batch < size → a ≡ area
+  pub same-batch : length batch < size → b ≡ batch
+
+-- the homes that remain for a round's step
+abbrev pub remaining : List ℕ → ℕ → ℕ → ℕ → ℕ → ℕ → List ℕ
+remaining log groups homes start end cursor =
+    touchedFrom (entryAt log groups homes start) (closedBelow log groups homes start end) cursor homes
+
+-- A data copy and a batch, before and after a step of at most `limit` homes from the cursor on, if the batch has `size` bytes; the home after the last
+-- one done; and whether more remain.
+pub record StepMade (log : List ℕ) (groups homes start end cursor limit size next : ℕ) (more : Bool) (area batch a b : List ℕ) : Type 0 where
+  pub sized :
+      size
+      ≡ 68 * length (take limit (remaining log groups homes start end cursor)) + cond (leb (length (remaining log groups homes start end cursor)) limit) 2 0
+  pub left : more ≡ ltb limit (length (remaining log groups homes start end cursor))
+  pub moved : size ≤ length batch → more ≡ true → 1 ≤ limit → next ≡ getD (remaining log groups homes start end cursor) (limit - 1) 0 + 1
+  pub copied : size ≤ length batch
+      → a
+      ≡ restoredHomes log groups (entryAt log groups homes start) (closedBelow log groups homes start end)
+      (take limit (remaining log groups homes start end cursor)) area
+  pub written : size ≤ length batch → b ≡ puts batch 0 (batchBytes (homeWrites a (take limit (remaining log groups homes start end cursor))))
   pub same-area : length batch < size → a ≡ area
   pub same-batch : length batch < size → b ≡ batch

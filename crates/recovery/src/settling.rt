@@ -29,6 +29,9 @@ pub fn settle(log: &[u8], area: &mut [u8], state: &mut [u8], batch: &mut [u8]) -
         return answers::refused(code);
     }
     let st = strip::state(state);
+    if st.round != 0 {
+        return answers::refused(21);
+    }
     let n = st.fenced - 7 * st.start;
     let found = scan::walk(log, st.groups, st.homes, st.start, n);
     let end = found.end;

@@ -3,3 +3,4 @@ pub mod ChainLaws
 pub mod NewestLaws
 pub mod PlaceLaws
 pub mod RestoreLaws
+pub mod StepLaws

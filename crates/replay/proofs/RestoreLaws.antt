@@ -38,7 +38,7 @@ use Rattle.replay.proofs.NewestLaws.{agrees-start, newest-all}
 
 -- ---- lists of homes
 
-raised-in : (base h : ℕ) (ks : List ℕ) → In h (raised base ks) → (k : ℕ) × (h ≡ base + k) × In k ks
+pub raised-in : (base h : ℕ) (ks : List ℕ) → In h (raised base ks) → (k : ℕ) × (h ≡ base + k) × In k ks
 unfolding raised
 raised-in base h [] i = absurd i
 raised-in base h (x ∷ ks) (inl e) = (x, e, inl refl)
@@ -47,7 +47,7 @@ raised-in base h (x ∷ ks) (inr i) = let r = raised-in base h ks i in (r .0, r 
 raised-least : (base h : ℕ) (ks : List ℕ) → In h (raised base ks) → base ≤ h
 raised-least base h ks i = let r = raised-in base h ks i in omega (arith, r .1)
 
-writes-same : (a b hs : List ℕ) → ((h : ℕ) → In h hs → homeAt a h ≡ homeAt b h) → homeWrites a hs ≡ homeWrites b hs
+pub writes-same : (a b hs : List ℕ) → ((h : ℕ) → In h hs → homeAt a h ≡ homeAt b h) → homeWrites a hs ≡ homeWrites b hs
 unfolding homeWrites
 writes-same a b [] e = refl
 writes-same a b (h ∷ hs) e = rw (e h (inl refl), writes-same a b hs (λ x i. e x (inr i)))
@@ -60,12 +60,12 @@ module _ (log : List ℕ) (groups : ℕ) (at : ℕ → ℕ) where
   length-restored [] area = refl
   length-restored (h ∷ hs) area = length-restored hs _ ∙ length-putHome area h (blockAt log groups (at h))
 
-  restored-append : (hs ks area : List ℕ) → restored log groups at (hs ++ ks) area ≡ restored log groups at ks (restored log groups at hs area)
+  pub restored-append : (hs ks area : List ℕ) → restored log groups at (hs ++ ks) area ≡ restored log groups at ks (restored log groups at hs area)
   unfolding restored
   restored-append [] ks area = refl
   restored-append (h ∷ hs) ks area = restored-append hs ks _
 
-  restored-nil : (area : List ℕ) → restored log groups at [] area ≡ area
+  pub restored-nil : (area : List ℕ) → restored log groups at [] area ≡ area
   unfolding restored
   restored-nil area = refl
 
@@ -183,7 +183,7 @@ module _ (log : List ℕ) (groups : ℕ) (at : ℕ → ℕ) (some-groups : 0 < g
       (rw (← e) (home-same area h (blockOf h) (length-blockOf h) l))
   restored-in (x ∷ hs) area h l (inr i) = restored-in hs (putHome area x (blockOf x)) h (omega (arith, length-putHome area x (blockOf x))) i
 
-  restored-out : (hs area : List ℕ) (h : ℕ) → (In h hs → ⊥) → homeAt (restored log groups at hs area) h ≡ homeAt area h
+  pub restored-out : (hs area : List ℕ) (h : ℕ) → (In h hs → ⊥) → homeAt (restored log groups at hs area) h ≡ homeAt area h
   unfolding restored
   restored-out [] area h n = refl
   restored-out (x ∷ hs) area h n =
@@ -220,7 +220,7 @@ module _ (log : List ℕ) (groups homes start end : ℕ) (w : Walkable log group
       go (no l) = absurd (false≢true (sym (touches-above h (omega arith)) ∙ t))
 
   -- a touched home has a newest entry
-  touched-some : (h : ℕ) → touches log groups homes start end h ≡ true → (p : ℕ) × (newest tags h ts ≡ some p) × (7 * start ≤ p)
+  pub touched-some : (h : ℕ) → touches log groups homes start end h ≡ true → (p : ℕ) × (newest tags h ts ≡ some p) × (7 * start ≤ p)
   touched-some h t = go (newest tags h ts) refl t
     where
       go : (o : Option ℕ) → newest (entryAt log groups homes start) h (closedBelow log groups homes start end) ≡ o → found o ≡ true

@@ -3,8 +3,11 @@
 mod gathering;
 mod places;
 mod restore;
+mod stepping;
 mod words;
 
 pub use gathering::gather;
 pub use restore::bring_back;
+pub use stepping::bring_from;
+pub use stepping::count_from;
 pub use words::count;

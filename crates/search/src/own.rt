@@ -100,7 +100,18 @@ pub fn newest_own(
         let from = 64 + 512 * at.slot as usize;
         let group = &log[from..from + 512];
         let m = scan::in_group(left);
-        newest = note_group(group, groups, homes, start, number, at.turn, m, first, home, newest);
+        newest = note_group(
+            group,
+            groups,
+            homes,
+            start,
+            number,
+            at.turn,
+            m,
+            first,
+            home,
+            newest,
+        );
         at = scan::next_slot(at, groups);
         number += 1;
         left -= m as u64;

@@ -7,13 +7,13 @@ use Prim.Native.Nat.{ℕ, zero, suc, _+_, _*_, _≤_, _<_}
 use native.Mathlib.Decide.{decLt}
 use native.Mathlib.Numerals.{add-one}
 use native.Mathlib.Omega.{arith}
-use borrow.Author.Tests.{eq-eqb, ne-eqb, le-leb, lt-leb, not-true, not-false}
+use borrow.Author.Tests.{lt-ltb, eq-eqb, ne-eqb, le-leb, lt-leb, not-true, not-false}
 use Rattle.model.specs.declared.State.{State}
 use Rattle.model.specs.declared.Writer.{Writer}
 use lib.Dec.{leb}
 use Rattle.model.specs.State.{stateOf, writerOf, isOpen, promiseOf, promised, places, nextPosition, numbersInOrder, writerInOrder, promiseInOrder, writerAtInOrder, writersInOrder, inOrder}
 use Rattle.model.proofs.strip.OrderLaws.{tests, WriterInOrder, writer-order}
-use Rattle.strip.specs.Order.{GroupsInOrder}
+use Rattle.strip.specs.Order.{GroupsInOrder, roundInOrder}
 
 refuted : (b : Bool) → (b ≡ true → ⊥) → false ≡ b
 refuted true h = absurd (h refl)
@@ -35,6 +35,24 @@ pub record PositionsInOrder (st : State) : Type 0 where
   pub fenced-next : st .fenced ≤ 7 * st .next
   pub durable-fenced : st .durable ≤ st .fenced
   pub last-closing : st .last ≢ 0 → (7 * st .start < st .last) × (st .last ≤ nextPosition st)
+  pub round : roundInOrder st ≡ true
+
+round-facts : (st : State) → roundInOrder st ≡ true → st .round ≢ 0 → (st .settled < st .round) × (st .round ≤ st .fenced + 1)
+unfolding roundInOrder
+round-facts st h = let f = simp tests at h in f
+
+-- a round: none, out of order, or as its last test says
+module _ (st : State) where
+  pub round-none : st .round ≡ 0 → true ≡ roundInOrder st
+  unfolding roundInOrder
+  round-none e = rw (eq-eqb (st .round) 0 e)
+
+  pub round-low : st .round ≢ 0 → st .round ≤ st .settled → false ≡ roundInOrder st
+  round-low n l = refuted (roundInOrder st) (λ h. let f = round-facts st h n in omega arith)
+
+  pub round-last : st .round ≢ 0 → st .settled < st .round → leb (st .round) (st .fenced + 1) ≡ roundInOrder st
+  unfolding roundInOrder
+  round-last n l = rw (ne-eqb (st .round) 0 n, lt-ltb (st .settled) (st .round) l)
 
 module _ (st : State) where
   pub groups-order : st .groups ≤ 1024 → numbersInOrder st ≡ true → GroupsInOrder st
@@ -47,7 +65,7 @@ module _ (st : State) where
         start-next = omega arith;
         next-most = omega arith;
         filled-most = omega arith;
-        filled-none = λ k. f .0 .0 .0 .0 .0 .1 (omega arith);
+        filled-none = λ k. f .0 .0 .0 .0 .0 .0 .1 (omega arith);
       }
 
   pub groups-refused : st .groups ≤ 1024 → (GroupsInOrder st → ⊥) → false ≡ numbersInOrder st
@@ -65,7 +83,8 @@ module _ (st : State) where
         settled-fenced = omega arith;
         fenced-next = omega arith;
         durable-fenced = omega arith;
-        last-closing = f .1;
+        last-closing = f .0 .1;
+        round = (unfold roundInOrder in simp tests (f .1));
       }))
 
   pub numbers-held : GroupsInOrder st → PositionsInOrder st → true ≡ numbersInOrder st
@@ -73,8 +92,11 @@ module _ (st : State) where
   numbers-held g p =
       sym
       (simp tests (
-        (((((omega arith, λ k. g .filled-none (omega arith)), p .start-settled), p .settled-fenced), p .fenced-next), p .durable-fenced),
-        p .last-closing,
+        (
+          (((((omega arith, λ k. g .filled-none (omega arith)), p .start-settled), p .settled-fenced), p .fenced-next), p .durable-fenced),
+          p .last-closing,
+        ),
+        round-facts st (p .round),
       ))
 
 -- ---- a writer, and the writers one after the other

@@ -4,9 +4,9 @@ ghost use mathlib.Core.Path.{_≡_};
 ghost use Prim.Native.Nat.{_+_, _*_, _^_, _<_};
 ghost use lib.ListN.{length};
 ghost use Rattle.model.specs.Bytes.{zeros};
-ghost use Rattle.model.specs.State.{stateBytes, stateOf, setGroups, setHomes, setStart, setNext, setFilled, setSettled, setFenced, setDurable, setLast, nextPosition, freshState};
+ghost use Rattle.model.specs.State.{stateBytes, stateOf, setGroups, setHomes, setStart, setNext, setFilled, setSettled, setFenced, setDurable, setLast, setRound, setCursor, nextPosition, freshState};
 
-// Reads the nine numbers of the strip `s`.
+// Reads the eleven numbers of the strip `s`.
 pub fn state(s: &[u8]) -> State
     requires { ⌜ length (now s) ≡ 1024 ⌝ }
     ensures { λ r. ⌜ r ≡ stateOf (now (s .entry)) ⌝ }
@@ -20,6 +20,8 @@ pub fn state(s: &[u8]) -> State
     let fenced = codec::number(s, 48, 8);
     let durable = codec::number(s, 56, 8);
     let last = codec::number(s, 64, 8);
+    let round = codec::number(s, 88, 8);
+    let cursor = codec::number(s, 96, 8);
     State {
         groups,
         homes,
@@ -30,6 +32,8 @@ pub fn state(s: &[u8]) -> State
         fenced,
         durable,
         last,
+        round,
+        cursor,
     }
 }
 
@@ -103,6 +107,22 @@ pub fn set_last(s: &mut [u8], v: u64)
     ensures { λ _. ⌜ now (s .exit) ≡ setLast (now (s .entry)) v ⌝ }
 {
     codec::put_number(s, 64, 8, v)
+}
+
+// Stores `v`, the fenced position that the round under way has fixed + 1 or 0 for no round, and leaves the rest of the strip as it was.
+pub fn set_round(s: &mut [u8], v: u64)
+    requires { ⌜ length (now s) ≡ 1024 ⌝ }
+    ensures { λ _. ⌜ now (s .exit) ≡ setRound (now (s .entry)) v ⌝ }
+{
+    codec::put_number(s, 88, 8, v)
+}
+
+// Stores `v` as the round's cursor, and leaves the rest of the strip as it was.
+pub fn set_cursor(s: &mut [u8], v: u64)
+    requires { ⌜ length (now s) ≡ 1024 ⌝ }
+    ensures { λ _. ⌜ now (s .exit) ≡ setCursor (now (s .entry)) v ⌝ }
+{
+    codec::put_number(s, 96, 8, v)
 }
 
 // The position of the next entry: seven for each group before the next one, and the places that are filled.

@@ -6,11 +6,13 @@ mod writers;
 
 pub use fields::fresh;
 pub use fields::next_position;
+pub use fields::set_cursor;
 pub use fields::set_durable;
 pub use fields::set_fenced;
 pub use fields::set_filled;
 pub use fields::set_last;
 pub use fields::set_next;
+pub use fields::set_round;
 pub use fields::set_settled;
 pub use fields::set_start;
 pub use fields::state;

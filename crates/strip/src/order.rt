@@ -12,10 +12,24 @@ ghost use mathlib.Core.Path.{_≡_};
 ghost use Prim.Native.Nat.{_+_, _*_, _^_, _≤_, _<_};
 ghost use lib.ListN.{length};
 ghost use Rattle.model.specs.State.{numbersInOrder, writerInOrder, writerAtInOrder, writersInOrder, inOrder};
-ghost use Rattle.strip.specs.Order.{GroupsInOrder};
+ghost use Rattle.strip.specs.Order.{GroupsInOrder, roundInOrder};
 
 // The highest group number that a log may start at.
 const MAX_START: u64 = 0x8000_0000_0000;
+
+// Whether the position that a round has fixed lies from the settled to the fenced one, or there is no round.
+fn round_in_order(st: State) -> bool
+    requires { ⌜ st .fenced < 2 ^ 63 ⌝ }
+    ensures { λ r. ⌜ r ≡ roundInOrder st ⌝ }
+{
+    if st.round == 0 {
+        return true;
+    }
+    if st.round <= st.settled {
+        return false;
+    }
+    st.round <= st.fenced + 1
+}
 
 // Whether the numbers of the strip are in order, where its group numbers and the places filled are.
 fn positions_in_order(st: State) -> bool
@@ -33,6 +47,9 @@ fn positions_in_order(st: State) -> bool
         return false;
     }
     if st.fenced < st.durable {
+        return false;
+    }
+    if !round_in_order(st) {
         return false;
     }
     if st.last == 0 {

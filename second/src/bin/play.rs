@@ -38,6 +38,7 @@ fn report(tally: &Tally) {
     println!("  {:>9} crashes and {} openings, which brought back {} transactions", tally.crashes, tally.openings, tally.brought_back);
     println!("  {:>9} commits, {} of them lost by a crash before they were durable", tally.commits, tally.commits_lost);
     println!("  {:>9} settles, {} trims", tally.settles, tally.trims);
+    println!("  {:>9} rounds of settling, {} steps, {} of them leaving homes for later", tally.rounds, tally.steps, tally.part_steps);
     println!("  {:>9} calls, by their answers:", tally.calls);
     for (number, count) in tally.answers.iter().enumerate().filter(|(_, count)| **count > 0) {
         println!("  {count:>9} answered {number}{}", if number == 0 { ", done" } else { "" });

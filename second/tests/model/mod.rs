@@ -1,5 +1,5 @@
 //! A plain model of the calls: here those that read groups, over the literal
-//! commit rule (open, settle, trim, read); the others in `writers`. It gives
+//! commit rule (open, settle, rounds, trim, read); the others in `writers`. It gives
 //! the answer and all lent memory after it.
 
 mod writers;
@@ -56,7 +56,7 @@ pub fn in_order(lent: &Lent) -> bool {
     let (g, d) = ((lent.log.len() as i128 - 64) / 512, lent.data.len() as i128 / 64);
     let (start, next, filled) = (big(s, 16), big(s, 24), big(s, 32));
     let (settled, fenced, durable) = (big(s, 40), big(s, 48), big(s, 56));
-    let last = big(s, 64) - 1;
+    let (last, round) = (big(s, 64) - 1, big(s, 88) - 1);
     let position = 7 * next + filled;
     let writer = |w: usize| {
         let r = 128 + 96 * w;
@@ -80,6 +80,7 @@ pub fn in_order(lent: &Lent) -> bool {
         && fenced <= 7 * next
         && durable <= fenced
         && (last == -1 || (7 * start <= last && last < position))
+        && (round == -1 || (settled <= round && round <= fenced))
         && (0..8).all(writer)
         && promised(s) <= places(s)
 }
@@ -120,6 +121,8 @@ fn attempt(
         Kind::Format => writers::format(before, after),
         Kind::Open => open(before, after),
         Kind::Settle => settle(before, after),
+        Kind::BeginRound => begin_round(before, after),
+        Kind::StepRound => step_round(home, before, after),
         Kind::Trim => trim(before, after),
         Kind::Read => read(before, after, writer, home),
         Kind::Flush => writers::flush(before, after),
@@ -138,7 +141,6 @@ fn home_writes(values: &Values, after: &mut Lent, batch: &mut Vec<u8>) {
         batch.extend(block);
         after.data[64 * *home as usize..64 * *home as usize + 64].copy_from_slice(block);
     }
-    batch.extend([0x46, 0x4e]);
 }
 
 fn head_write(shape: Shape, start: u64, after: &mut Lent, batch: &mut Vec<u8>) {
@@ -175,6 +177,7 @@ fn open(before: &Lent, after: &mut Lent) -> Outcome {
     let list = committed(&present(&before.log, shape.homes, start, None), start);
     let mut batch = Vec::new();
     home_writes(&replay(&list), after, &mut batch);
+    batch.extend([0x46, 0x4e]);
     head_write(shape, new_start, after, &mut batch);
     blank_writes(shape, new_start, after, &mut batch);
     batch.extend([0x46, 0x4e]);
@@ -197,14 +200,54 @@ fn live(before: &Lent) -> (u64, u64, Vec<Transaction>) {
     (start, next, committed(&present(&before.log, homes, start, Some(next)), start))
 }
 
+/// The values of the committed transactions that close below a position.
+fn values_below(before: &Lent, position: u64) -> Values {
+    let (_, _, mut list) = live(before);
+    list.retain(|transaction| transaction.closing < i128::from(position));
+    replay(&list)
+}
+
 fn settle(before: &Lent, after: &mut Lent) -> Outcome {
     let fenced = number(&before.state, 48);
-    let (_, _, mut list) = live(before);
-    list.retain(|transaction| transaction.closing < i128::from(fenced));
+    if number(&before.state, 88) != 0 {
+        return Err(21);
+    }
     let mut batch = Vec::new();
-    home_writes(&replay(&list), after, &mut batch);
+    home_writes(&values_below(before, fenced), after, &mut batch);
+    batch.extend([0x46, 0x4e]);
     put(&mut after.state, 40, fenced);
     put(&mut after.state, 48, 7 * number(&before.state, 24));
+    Ok((0, batch))
+}
+
+fn begin_round(before: &Lent, after: &mut Lent) -> Outcome {
+    if number(&before.state, 88) != 0 {
+        return Err(21);
+    }
+    put(&mut after.state, 88, number(&before.state, 48) + 1);
+    put(&mut after.state, 96, 0);
+    Ok((0, Vec::new()))
+}
+
+fn step_round(k: u64, before: &Lent, after: &mut Lent) -> Outcome {
+    let (round, cursor) = (number(&before.state, 88), number(&before.state, 96));
+    if round == 0 || k == 0 {
+        return Err(21);
+    }
+    let mut values = values_below(before, round - 1);
+    values.retain(|home, _| *home >= cursor);
+    let last = values.len() as u64 <= k;
+    let now: Values = values.into_iter().take(k as usize).collect();
+    let mut batch = Vec::new();
+    home_writes(&now, after, &mut batch);
+    if last {
+        batch.extend([0x46, 0x4e]);
+        for (at, value) in [(40, round - 1), (48, 7 * number(&before.state, 24)), (88, 0), (96, 0)] {
+            put(&mut after.state, at, value);
+        }
+    } else {
+        put(&mut after.state, 96, now.keys().last().unwrap() + 1);
+    }
     Ok((0, batch))
 }
 

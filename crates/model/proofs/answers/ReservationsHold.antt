@@ -2,7 +2,7 @@
 use mathlib.Core.Path.{_≡_, refl}
 use mathlib.Core.Bool.{Bool, true}
 use Rattle.model.specs.Store as store
-use Rattle.model.specs.Store.{newStore, firstGroup, nextGroup, nextOf, storeMustLog, commitMustLog, lastAfter, fencedAfter, setFor, promisesAfter, numbered, afterReply, replyOf, follow}
+use Rattle.model.specs.Store.{newStore, firstGroup, nextGroup, nextOf, storeMustLog, commitMustLog, lastAfter, fencedAfter, setFor, promisesAfter, numbered, inRound, afterReply, replyOf, follow}
 use Rattle.model.specs.Places as places
 use Rattle.model.specs.Places.{settleOne, settleAll, enter, enterCall, enterEvent, classOf, fateOn, classAt, sameClass}
 use Rattle.model.specs.Reservations.{promising, givingBack, closing, reserving, answeredSo, reservesSo, counts, countsSo, tagsSo}
@@ -13,7 +13,7 @@ unfolding all-definitions promising givingBack closing reserving answeredSo rese
 reserves-so = refl
 
 pub counts-so : countsSo ≡ true
-unfolding all-definitions promising givingBack closing reserving counts countsSo newStore firstGroup nextGroup nextOf storeMustLog commitMustLog lastAfter fencedAfter setFor promisesAfter numbered store.afterDone afterReply replyOf follow settleOne settleAll enter enterCall enterEvent classOf fateOn classAt sameClass places.many
+unfolding all-definitions promising givingBack closing reserving counts countsSo newStore firstGroup nextGroup nextOf storeMustLog commitMustLog lastAfter fencedAfter setFor promisesAfter numbered inRound store.afterDone afterReply replyOf follow settleOne settleAll enter enterCall enterEvent classOf fateOn classAt sameClass places.many
 counts-so = refl
 
 pub tags-so : tagsSo ≡ true

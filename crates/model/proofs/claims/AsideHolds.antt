@@ -6,7 +6,7 @@ use Prim.Native.Nat.{ℕ, zero, suc}
 use lib.Dec.{eqb}
 use Rattle.model.specs.State.{Writer, stateOf, nextPosition, writerOf, holds}
 use Rattle.model.specs.Effects.{Given, Effect, newState, formatEffect, beginEffect, reserveEffect, abortEffect, logHeld, storeFirst, storeAgain, storeOther, storeEffect, flushPart, flushNone, flushEffect, confirmEffect, tagsOf, liveTags, liveBase, settleEffect}
-use Rattle.model.specs.Questions.{areasRight, stateRight, blockRight, stripInOrder, writerKnown, homeKnown, writerOpen, room, storeLogs, batchFits, askState, askBlock, formatAnswer, beginAnswer, reserveAnswer, abortAnswer, storeAnswer, flushAnswer, confirmAnswer, settleAnswer}
+use Rattle.model.specs.Questions.{areasRight, stateRight, blockRight, stripInOrder, writerKnown, homeKnown, writerOpen, room, storeLogs, batchFits, inRound, askState, askBlock, formatAnswer, beginAnswer, reserveAnswer, abortAnswer, storeAnswer, flushAnswer, confirmAnswer, settleAnswer}
 use Rattle.model.specs.Calls.{refused, done, sizeOf, outcome, formatCall, beginCall, reserveCall, abortCall, storeCall, flushCall, confirmCall, settleCall}
 use Rattle.model.specs.Facts.{lentWith, leftWith, AsideIn, Aside}
 
@@ -122,7 +122,7 @@ unfolding settleCall
 settle-aside g n =
     beside-sized g n settleAnswer (settleEffect g) (settleEffect (lentWith n g))
     (unfold settleEffect liveTags tagsOf liveBase effectWith lentWith in refl)
-    (λ size. unfold settleAnswer askState areasRight stateRight stripInOrder batchFits lentWith in refl)
+    (λ size. unfold settleAnswer inRound askState areasRight stateRight stripInOrder batchFits lentWith in refl)
 
 pub aside : Aside
 aside k = (format-aside, (begin-aside, (reserve-aside k, (abort-aside, (store-aside, (flush-aside, (confirm-aside, (settle-aside, tt))))))))

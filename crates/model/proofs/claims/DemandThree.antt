@@ -7,19 +7,21 @@ use Prim.Native.Nat.{ℕ, zero, suc, _+_, _*_, _^_, _≤_, _<_}
 use native.Mathlib.Omega.{arith}
 use lib.ListN.{length}
 use borrow.Author.Tests.{leb-true}
-use Rattle.model.specs.Effects.{Given, settleEffect, trimEffect, trimStart}
-use Rattle.model.specs.Questions.{settleAnswer, trimAnswer, startFits}
-use Rattle.model.specs.Calls.{sizeOf, settleCall, trimCall}
+use Rattle.model.specs.State.{stateOf}
+use Rattle.model.specs.Effects.{Given, newState, settleEffect, beginRoundEffect, stepRoundEffect, trimEffect, trimStart}
+use Rattle.model.specs.Questions.{settleAnswer, beginRoundAnswer, stepRoundAnswer, trimAnswer, startFits}
+use Rattle.model.specs.Calls.{sizeOf, settleCall, beginRoundCall, stepRoundCall, trimCall}
 use Rattle.model.specs.Crash.{fences, persist, fates}
 use Rattle.model.specs.Book.{Commit, Book, run, ended, crash}
 use Rattle.model.specs.Demands.{Opened, Crashed, NoneOwed, lost, Holds, AllHold, CallHolds, Demand3}
-use Rattle.model.specs.History.{Change, begins, reserves, aborts, stores, commits, flushes, Service, settles, trims, reads, Call, opening, confirm, change, service, settle, trim, Event, call, crash as cut, World, emptyStore, lent, ends, serviceEnds, isOpening, step, afterCrash, Allowed, AllAllowed}
-use Rattle.model.proofs.strip.QuestionLaws.{settle-ready, trim-ready}
+use Rattle.model.specs.History.{Change, begins, reserves, aborts, stores, commits, flushes, Service, settles, roundBegins, roundSteps, trims, reads, Call, opening, confirm, change, service, settle, beginRound, stepRound, trim, Event, call, crash as cut, World, emptyStore, lent, ends, serviceEnds, isOpening, step, afterCrash, Allowed, AllAllowed}
+use Rattle.model.proofs.strip.QuestionLaws.{settle-ready, begin-round-ready, step-round-ready, trim-ready}
 use Rattle.model.proofs.steps.DoneLaws.{after, fits}
 use Rattle.model.proofs.steps.FormatRuns.{from-format}
 use Rattle.model.proofs.steps.Beginning.{format-closed}
-use Rattle.model.proofs.steps.CallRuns.{Done, by-answer, begin-keeps, reserve-keeps, abort-keeps, store-keeps, commit-keeps, flush-keeps, confirm-keeps, read-keeps}
+use Rattle.model.proofs.steps.CallRuns.{Done, by-answer, no-bytes, begin-keeps, reserve-keeps, abort-keeps, store-keeps, commit-keeps, flush-keeps, confirm-keeps, read-keeps}
 use Rattle.model.proofs.steps.SettleRuns.{settle-runs, settle-formed}
+use Rattle.model.proofs.steps.RoundRuns.{lent-out, lent-within, begin-round-runs, step-round-runs, step-round-formed}
 use Rattle.model.proofs.steps.TrimRuns.{trim-runs, trim-formed}
 use Rattle.model.proofs.steps.OpenKeeps.{open-keeps, open-holds}
 use Rattle.model.proofs.steps.CrashRuns.{crash-closed, crash-owed, quiet-closed, quiet-owed}
@@ -33,8 +35,32 @@ module _ (G D : ℕ) (z : Sizes G D) where
       by-answer (Running G D) w (settle batch) g (settleAnswer g (sizeOf (settleEffect g))) (settleEffect g) refl r
       (λ a. record {
         formed = settle-formed G D z w r batch;
-        fit = fits g (sizeOf (settleEffect g)) (settle-ready g (sizeOf (settleEffect g)) a .1);
-        next = settle-runs G D z w r batch;
+        fit = fits g (sizeOf (settleEffect g)) (settle-ready g (sizeOf (settleEffect g)) a .2);
+        next = settle-runs G D z w r batch (lent-out w batch (settle-ready g (sizeOf (settleEffect g)) a .1));
+      })
+
+  begin-round-keeps : (w : World) → Running G D w → Running G D (step w (call beginRound))
+  unfolding ends serviceEnds beginRoundCall
+  begin-round-keeps w r =
+      let g : Given = lent w [] [] 0 0 in
+      by-answer (Running G D) w beginRound g (beginRoundAnswer g) (beginRoundEffect g) refl r
+      (λ a. record {
+        formed = unfold beginRoundEffect newState in tt;
+        fit = no-bytes g (beginRoundEffect g) (unfold beginRoundEffect newState in refl);
+        next = begin-round-runs G D z w r (lent-out w [] (begin-round-ready g a .1));
+      })
+
+  step-round-keeps : (w : World) → Running G D w → (k : ℕ) (batch : List ℕ) → Running G D (step w (call (stepRound k batch)))
+  unfolding ends serviceEnds stepRoundCall
+  step-round-keeps w r k batch =
+      let g : Given = lent w [] batch 0 0 in
+      by-answer (Running G D) w (stepRound k batch) g (stepRoundAnswer g k (sizeOf (stepRoundEffect g k))) (stepRoundEffect g k) refl r
+      (λ a. let q = step-round-ready g k (sizeOf (stepRoundEffect g k)) a in
+      let under : 1 ≤ stateOf (w .state) .round = lent-within w batch (q .1) in
+      record {
+        formed = step-round-formed G D z w r under k batch (q .2);
+        fit = fits g (sizeOf (stepRoundEffect g k)) (q .3);
+        next = step-round-runs G D z w r under k batch (q .2);
       })
 
   trim-keeps : (w : World) → Running G D w → (batch : List ℕ) → Running G D (step w (call (trim batch)))
@@ -62,6 +88,8 @@ module _ (G D : ℕ) (z : Sizes G D) where
 
   service-keeps : (w : World) → Running G D w → (c : Service) → Running G D (step w (call (service c)))
   service-keeps w r (settles batch) = settle-keeps w r batch
+  service-keeps w r roundBegins = begin-round-keeps w r
+  service-keeps w r (roundSteps k batch) = step-round-keeps w r k batch
   service-keeps w r (trims batch) = trim-keeps w r batch
   service-keeps w r (reads v home block) = read-keeps G D z w r v home block
 

@@ -8,34 +8,36 @@ use mathlib.Core.Bool.{Bool, true, false, cond, not, false≢true}
 use mathlib.Core.List.{List, [], _∷_, _++_, append-nil, append-assoc}
 use native.Mathlib.Omega.{arith}
 use native.Mathlib.Decide.{decLt}
-use lib.Dec.{eqb}
+use lib.Dec.{eqb, leb}
 use lib.ListN.{length}
-use borrow.Author.Tests.{eqb-true, eqb-false}
+use borrow.Author.Tests.{eqb-true, eqb-false, ne-eqb, leb-true, leb-false}
 use Rattle.model.specs.Layout.{groupsIn, groupAt, header}
 use Rattle.model.specs.Batch.{Record, GW, KW, FN}
+use lib.Seq.{take-all}
 use Rattle.model.specs.State.{stateOf, nextPosition, writerOf, holds}
-use Rattle.model.specs.Effects.{Given, Effect, groups, homes, newState, marked, touched, blankWrites, homeWrites, openEffect, openStart, beginEffect, reserveEffect, abortEffect, logged, logHeld, logClosing, storeFirst, storeAgain, storeOther, storeEffect, commitHeld, commitEffect, flushNone, flushPart, flushEffect, confirmEffect, settleEffect, trimStart, trimTo, trimEffect, readEffect}
-use Rattle.model.specs.Questions.{openAnswer, beginAnswer, reserveAnswer, abortAnswer, storeAnswer, commitAnswer, flushAnswer, confirmAnswer, settleAnswer, trimAnswer, readAnswer}
-use Rattle.model.specs.Calls.{outcome, sizeOf, openCall, beginCall, reserveCall, abortCall, storeCall, commitCall, flushCall, confirmCall, settleCall, trimCall, readCall}
+use Rattle.model.specs.Effects.{Given, Effect, groups, homes, newState, marked, touched, blankWrites, homeWrites, openEffect, openStart, beginEffect, reserveEffect, abortEffect, logged, logHeld, logClosing, storeFirst, storeAgain, storeOther, storeEffect, commitHeld, commitEffect, flushNone, flushPart, flushEffect, confirmEffect, settleEffect, trimStart, trimTo, trimEffect, readEffect, beginRoundEffect, stepRoundEffect}
+use Rattle.model.specs.Questions.{openAnswer, beginAnswer, reserveAnswer, abortAnswer, storeAnswer, commitAnswer, flushAnswer, confirmAnswer, settleAnswer, trimAnswer, readAnswer, beginRoundAnswer, stepRoundAnswer}
+use Rattle.model.specs.Calls.{outcome, sizeOf, openCall, beginCall, reserveCall, abortCall, storeCall, commitCall, flushCall, confirmCall, settleCall, trimCall, readCall, beginRoundCall, stepRoundCall}
 use Rattle.model.specs.Demands.{groupWrites}
-use Rattle.model.specs.Facts.{slotWritten, headerWritten, writtenOnce, FormatOnce, PendingOnce, RowsWritten}
-use Rattle.model.specs.History.{Change, begins, reserves, aborts, stores, commits, flushes, Service, settles, trims, reads, change, service, changeEnds, serviceEnds, Call, opening, begin, reserve, abort, store, commit, flush, confirm, settle, trim, read, Event, call, crash, World, unopened, emptyStore, lent, loaded, ends, isOpening, afterCrash, step, after as along, Allowed, AllAllowed}
-use Rattle.model.proofs.bytes.LayoutLaws.{length-groupAt, group-fits}
+use Rattle.model.specs.Facts.{slotWritten, headerWritten, writtenOnce, FormatOnce, PendingOnce, RowsWritten, homeWritten}
+use Rattle.model.specs.History.{Change, begins, reserves, aborts, stores, commits, flushes, Service, settles, trims, reads, change, service, changeEnds, serviceEnds, Call, opening, begin, reserve, abort, store, commit, flush, confirm, settle, trim, read, Event, call, crash, World, unopened, emptyStore, lent, loaded, ends, isOpening, afterCrash, step, after as along, Allowed, AllAllowed, roundBegins, roundSteps, beginRound, stepRound}
+use Rattle.model.proofs.bytes.LayoutLaws.{length-groupAt, group-fits, ring}
 use Rattle.model.proofs.strip.BatchLaws.{AllFormed, formed-append}
-use Rattle.model.proofs.strip.QuestionLaws.{open-ready, store-ready, commit-ready, flush-ready, settle-ready, trim-ready}
-use Rattle.model.proofs.trace.CrashLaws.{submits}
+use Rattle.model.proofs.strip.QuestionLaws.{and-true, open-ready, store-ready, commit-ready, flush-ready, settle-ready, step-round-ready, trim-ready}
 use Rattle.model.proofs.steps.DoneLaws.{fits}
 use Rattle.model.proofs.invariant.LogStep.{length-entered}
 use Rattle.model.proofs.steps.LogRuns.{logged-records, logged-log}
 use Rattle.model.proofs.steps.CallRuns.{no-bytes, by-answer}
 use Rattle.model.proofs.steps.OpenKeeps.{open-formed}
 use Rattle.model.proofs.steps.SettleRuns.{settle-formed}
+use Rattle.model.proofs.steps.RoundRuns.{lent-out, lent-within, isDue, remaining, broughtUp, stepped, step-effect, step-fresh, step-now, nextCursor, cursor-upto, step-round-formed}
+use Rattle.model.proofs.trace.HomeLaws.{In}
 use Rattle.model.proofs.steps.TrimRuns.{trim-formed}
 use Rattle.model.proofs.steps.FormatRuns.{from-format}
 use Rattle.model.proofs.steps.Beginning.{format-closed}
 use Rattle.model.proofs.claims.DemandThree.{keeps}
 use Rattle.model.proofs.claims.Yields.{rows-pending}
-use Rattle.model.proofs.claims.OnceLaws.{once-fence, once-end, once-more, once-append, avoids-submits, once-submits, once-next, slot-homes, once-marked, once-blanks, once-formatted}
+use Rattle.model.proofs.claims.OnceLaws.{once-fence, once-end, once-more, once-append, avoids-submits, slot-homes, once-marked, once-blanks, once-formatted, Avoids, avoids-mixed, avoids-homes, once-group, slot-group, home-group, slot-header, home-header, home-homes}
 use Rattle.model.proofs.invariant.Invariant.{Sizes, Closed, Running, Invariant}
 
 abbrev pub Once : World → Type 0
@@ -58,46 +60,62 @@ module _ (G D : ℕ) (z : Sizes G D) (w : World) (r : Running G D w) where
   -- ---- the groups pending since the last fence, and what a call adds to them
 
   abbrev tail : List Record
-  tail = submits G (r .submitted .group) (r .submitted .content) (r .submitted .count)
+  tail = r .submitted .tail
 
-  pub few : r .submitted .count ≤ G
-  few =
-      let o = r .copies .order in
+  once-tail : Once w → writtenOnce tail ≡ true
+  once-tail h =
       let s = r .submitted in
-      omega (arith, s .next, s .atFence, o .next-most, o .groups-same, o .start-settled, o .settled-fenced)
+      and-true (writtenOnce (s .fenced)) (writtenOnce tail)
+      (sym (once-fence (s .fenced) tail) ∙ ap writtenOnce (sym (append-assoc (s .fenced) (FN ∷ []) tail)) ∙ ap writtenOnce (sym (s .split)) ∙ h) .1
 
-  once-tail : writtenOnce tail ≡ true
-  once-tail = once-submits G (r .submitted .group) (r .submitted .content) (r .submitted .count) few
+  -- records that write neither the slot of a group submitted since the last fence nor a home that the round has done since
+  avoids-tail : (S : List Record)
+      → ((n : ℕ) → r .submitted .group ≤ n → n < r .submitted .group + r .submitted .count → slotWritten (n % G) S ≡ false)
+      → ((h : ℕ) → In h (r .submitted .done) → homeWritten h S ≡ false) → Avoids tail S
+  avoids-tail S f g =
+      let s = r .submitted in
+      avoids-mixed tail S (s .mixed) (rw (s .groupsOf) (avoids-submits G (s .group) (s .content) (s .count) S f))
+      (rw (s .homesOf) (avoids-homes (w .area) (s .done) S g))
 
   added : (X : List Record) → Once w → writtenOnce (tail ++ X) ≡ true → writtenOnce (w .pending ++ X) ≡ true
   added X h k = once-more (w .pending) (r .submitted .fenced) tail X (r .submitted .split) h k
 
-  once-none : writtenOnce (tail ++ []) ≡ true
-  once-none = rw (append-nil tail) once-tail
+  once-none : Once w → writtenOnce (tail ++ []) ≡ true
+  once-none h = rw (append-nil tail) (once-tail h)
 
   -- a group
-  once-handed : (X : List Record) → Handed G w X → writtenOnce (tail ++ X) ≡ true
-  once-handed X (inl e) = rw e once-none
-  once-handed X (inr k) =
+  once-handed : Once w → (X : List Record) → Handed G w X → writtenOnce (tail ++ X) ≡ true
+  once-handed h X (inl e) = rw e (once-none h)
+  once-handed h X (inr k) =
       let o = r .copies .order in
       let s = r .submitted in
-      let l : s .count < G = omega (arith, s .next, s .atFence, k .room, o .start-settled, o .settled-fenced) in
-      rw (k .record-is, ← s .next) (once-next G (s .group) (s .content) (s .count) (k .bytes) l)
+      rw (k .record-is)
+      (once-append tail (GW (stateOf (w .state) .next % G) (k .bytes) ∷ []) (once-tail h) (once-group (stateOf (w .state) .next % G) (k .bytes))
+      (avoids-tail (GW (stateOf (w .state) .next % G) (k .bytes) ∷ [])
+      (λ n i j.
+      let apart : stateOf (w .state) .next % G ≡ n % G → ⊥ =
+      λ e.
+      let q : stateOf (w .state) .next ≡ n =
+      ring (s .group) G (stateOf (w .state) .next) n (omega (arith, s .next))
+      (omega (arith, s .atFence, k .room, o .start-settled, o .settled-fenced)) i (omega (arith, s .next, s .atFence, k .room, o .start-settled, o .settled-fenced)) e in
+      omega (arith, s .next) in
+      slot-group (n % G) (stateOf (w .state) .next % G) (k .bytes) apart)
+      (λ x i. home-group x (stateOf (w .state) .next % G) (k .bytes))))
 
   -- and a fence
   once-fenced : (X : List Record) → writtenOnce (tail ++ X) ≡ true → writtenOnce (tail ++ (X ++ (FN ∷ []))) ≡ true
   once-fenced X h = rw (← append-assoc tail X (FN ∷ [])) (once-end (tail ++ X) h)
 
-  once-homes : (area : List ℕ) (test : ℕ → Bool) (n : ℕ) → writtenOnce (tail ++ homeWrites area (marked test n)) ≡ true
-  once-homes area test n =
-      once-append tail (homeWrites area (marked test n)) once-tail (once-marked area test n)
-      (avoids-submits G (r .submitted .group) (r .submitted .content) (r .submitted .count) (homeWrites area (marked test n))
-      (λ m l h. slot-homes (m % G) area (marked test n)))
+  once-homes : Once w → (area : List ℕ) (test : ℕ → Bool) (n : ℕ) → ((h : ℕ) → In h (r .submitted .done) → In h (marked test n) → ⊥)
+      → writtenOnce (tail ++ homeWrites area (marked test n)) ≡ true
+  once-homes h area test n f =
+      once-append tail (homeWrites area (marked test n)) (once-tail h) (once-marked area test n)
+      (avoids-tail (homeWrites area (marked test n)) (λ m l i. slot-homes (m % G) area (marked test n)) (λ x i. home-homes x area (marked test n) (f x i)))
 
-  once-header : (head : List ℕ) → writtenOnce (tail ++ (KW head ∷ [])) ≡ true
-  once-header head =
-      once-append tail (KW head ∷ []) once-tail (unfold writtenOnce headerWritten in refl)
-      (avoids-submits G (r .submitted .group) (r .submitted .content) (r .submitted .count) (KW head ∷ []) (λ m l h. (unfold slotWritten in refl)))
+  once-header : Once w → (head : List ℕ) → writtenOnce (tail ++ (KW head ∷ [])) ≡ true
+  once-header h head =
+      once-append tail (KW head ∷ []) (once-tail h) (unfold writtenOnce headerWritten in refl)
+      (avoids-tail (KW head ∷ []) (λ m l i. slot-header (m % G) head) (λ x i. home-header x head))
 
   -- ---- what each call adds
 
@@ -204,7 +222,7 @@ module _ (G D : ℕ) (z : Sizes G D) (w : World) (r : Running G D w) where
         (λ a. record {
           formed = handed-formed (e .records) k;
           fit = fits g (sizeOf e) (store-ready g (sizeOf e) a .batch);
-          next = added (e .records) h (once-handed (e .records) k);
+          next = added (e .records) h (once-handed h (e .records) k);
         })
 
     commit-once : (v : ℕ) (batch : List ℕ) → Once (step w (call (commit v batch)))
@@ -217,7 +235,7 @@ module _ (G D : ℕ) (z : Sizes G D) (w : World) (r : Running G D w) where
         (λ a. record {
           formed = handed-formed (e .records) k;
           fit = fits g (sizeOf e) (commit-ready g (sizeOf e) a .batch);
-          next = added (e .records) h (once-handed (e .records) k);
+          next = added (e .records) h (once-handed h (e .records) k);
         })
 
     flush-once : (batch : List ℕ) → Once (step w (call (flush batch)))
@@ -230,7 +248,7 @@ module _ (G D : ℕ) (z : Sizes G D) (w : World) (r : Running G D w) where
         (λ a. record {
           formed = rw (k .1) (formed-append (k .0) (FN ∷ []) (handed-formed (k .0) (k .2)) (tt, tt));
           fit = fits g (sizeOf e) (flush-ready g (sizeOf e) a .2);
-          next = added (e .records) h (rw (k .1) (once-fenced (k .0) (once-handed (k .0) (k .2))));
+          next = added (e .records) h (rw (k .1) (once-fenced (k .0) (once-handed h (k .0) (k .2))));
         })
 
     settle-once : (batch : List ℕ) → Once (step w (call (settle batch)))
@@ -241,12 +259,42 @@ module _ (G D : ℕ) (z : Sizes G D) (w : World) (r : Running G D w) where
         by-answer Once w (settle batch) g (settleAnswer g (sizeOf e)) e refl h
         (λ a. record {
           formed = settle-formed G D z w r batch;
-          fit = fits g (sizeOf e) (settle-ready g (sizeOf e) a .1);
-          next = added (e .records) h (settle-adds g);
+          fit = fits g (sizeOf e) (settle-ready g (sizeOf e) a .2);
+          next = added (e .records) h (settle-adds g (lent-out w batch (settle-ready g (sizeOf e) a .1)));
         })
       where
-        settle-adds : (g : Given) → writtenOnce (tail ++ settleEffect g .records) ≡ true
-        settle-adds g = (unfold settleEffect touched in once-fenced _ (once-homes _ _ (homes g)))
+        settle-adds : (g : Given) → stateOf (w .state) .round ≡ 0 → writtenOnce (tail ++ settleEffect g .records) ≡ true
+        settle-adds g none =
+            (unfold settleEffect touched in
+            once-fenced _ (once-homes h _ _ (homes g) (λ x i j. omega (arith, r .submitted .behind x i .1))))
+
+    step-round-once : (k : ℕ) (batch : List ℕ) → Once (step w (call (stepRound k batch)))
+    unfolding ends serviceEnds stepRoundCall
+    step-round-once k batch =
+        let g : Given = lent w [] batch 0 0 in
+        let e : Effect = stepRoundEffect g k in
+        by-answer Once w (stepRound k batch) g (stepRoundAnswer g k (sizeOf e)) e refl h
+        (λ a. let q = step-round-ready g k (sizeOf e) a in
+        let under : 1 ≤ stateOf (w .state) .round = lent-within w batch (q .1) in
+        record {
+          formed = step-round-formed G D z w r under k batch (q .2);
+          fit = fits g (sizeOf e) (q .3);
+          next = added (e .records) h (rw (step-effect G D z w r under k batch) (adds under (q .2) (leb (length (remaining G D z w r under)) k) refl));
+        })
+      where
+        adds : (under : 1 ≤ stateOf (w .state) .round) → 1 ≤ k → (d : Bool) → leb (length (remaining G D z w r under)) k ≡ d
+            → writtenOnce (tail ++ stepped G D z w r under k d .records) ≡ true
+        adds under one true e =
+            rw (take-all k (remaining G D z w r under) (leb-true (length (remaining G D z w r under)) k e))
+            (once-fenced _ (once-homes h _ (isDue G D z w r under) D (step-fresh G D z w r under D (omega arith))))
+        adds under one false e =
+            let many : k < length (remaining G D z w r under) = leb-false (length (remaining G D z w r under)) k e in
+            let n : ℕ = nextCursor G D z w r under k one many in
+            rw (
+              step-now G D z w r under k one many,
+              append-nil (homeWrites (broughtUp G D z w r under (marked (isDue G D z w r under) n)) (marked (isDue G D z w r under) n)),
+            )
+            (once-homes h _ (isDue G D z w r under) n (step-fresh G D z w r under n (cursor-upto G D z w r under k one many)))
 
     trim-once : (batch : List ℕ) → Once (step w (call (trim batch)))
     unfolding ends serviceEnds trimCall
@@ -265,8 +313,8 @@ module _ (G D : ℕ) (z : Sizes G D) (w : World) (r : Running G D w) where
         trim-adds g s = (unfold trimEffect in go (eqb s (stateOf (g .state) .start)))
           where
             go : (d : Bool) → writtenOnce (tail ++ cond d (newState g (g .state) 0) (trimTo g (stateOf (g .state)) s) .records) ≡ true
-            go true = (unfold newState in once-none)
-            go false = (unfold trimTo in once-fenced (KW (header s (groups g) (homes g)) ∷ []) (once-header (header s (groups g) (homes g))))
+            go true = (unfold newState in once-none h)
+            go false = (unfold trimTo in once-fenced (KW (header s (groups g) (homes g)) ∷ []) (once-header h (header s (groups g) (homes g))))
 
     change-once : (c : Change) → Once (step w (call (change c)))
     change-once (begins v) =
@@ -285,6 +333,11 @@ module _ (G D : ℕ) (z : Sizes G D) (w : World) (r : Running G D w) where
 
     service-once : (c : Service) → Once (step w (call (service c)))
     service-once (settles batch) = settle-once batch
+    service-once roundBegins =
+        (unfold ends serviceEnds beginRoundCall in
+        quiet beginRound (lent w [] [] 0 0) (beginRoundAnswer (lent w [] [] 0 0)) (beginRoundEffect (lent w [] [] 0 0)) refl
+        (unfold beginRoundEffect newState in refl))
+    service-once (roundSteps k batch) = step-round-once k batch
     service-once (trims batch) = trim-once batch
     service-once (reads v home block) =
         (unfold ends serviceEnds readCall in

@@ -6,8 +6,8 @@ use mathlib.Core.Bool.{Bool, true, false, cond, not, false≢true}
 use mathlib.Core.List.{List, [], _∷_, _++_}
 use mathlib.Core.Option.{Option, none, some}
 use native.Mathlib.Omega.{arith}
-use lib.Dec.{eqb, ltb}
-use lib.ListN.{length}
+use lib.Dec.{eqb, ltb, leb}
+use lib.ListN.{length, getD}
 use borrow.Author.Tests.{leb-true, leb-false, ltb-true, eqb-true, le-ltb}
 use Rattle.model.specs.declared.Tag.{Tag}
 use Rattle.model.specs.Layout.{homesIn, headerStart}
@@ -19,9 +19,9 @@ use Rattle.model.specs.Questions.{writerKnown, commitAnswer, commitLogs,
 use Rattle.model.specs.Calls.{Outcome, done, sizeOf, commitCall, trimCall}
 use Rattle.model.specs.Book.{Task, commitTask, withTask, withCommits}
 use Rattle.model.specs.Book as book
-use Rattle.model.specs.Store.{Store, newStore, numbered, afterService, follow}
+use Rattle.model.specs.Store.{Store, newStore, numbered, afterService, follow, toStep, inRound, roundOver}
 use Rattle.model.specs.Store as store
-use Rattle.model.specs.History.{Change, begins, reserves, aborts, stores, commits, flushes, Service, settles, trims, reads, Call, opening, confirm, change, service, commit, trim, Event, call, crash, World, emptyStore, unopened, lent, loaded, ends, changeEnds, serviceEnds, feed, feedChange, isOpening, afterDone, afterCrash, step, Allowed}
+use Rattle.model.specs.History.{Change, begins, reserves, aborts, stores, commits, flushes, Service, settles, roundBegins, roundSteps, trims, reads, Call, opening, confirm, change, service, commit, trim, Event, call, crash, World, emptyStore, unopened, lent, loaded, ends, changeEnds, serviceEnds, feed, feedChange, isOpening, afterDone, afterCrash, step, Allowed}
 use Rattle.model.proofs.bytes.LayoutLaws.{homes-in}
 use Rattle.model.proofs.strip.NewestLaws.{Keepable, kept-else, kept-entries, kept-forget, kept-nothing}
 use Rattle.model.proofs.strip.QuestionLaws.{Roomy, room-true, CommitReady, commit-ready}
@@ -33,7 +33,7 @@ use Rattle.model.proofs.invariant.Invariant.{Sizes, TaskOk, Running, Cl
 use Rattle.model.proofs.invariant.LiveLog.{tagsIn, baseOf, keptIn, Shown, live-from, live-order, live-room, lent-groups, lent-homes, live-transactions, live-spans, kept-shown}
 use Rattle.model.proofs.invariant.KeptBook.{lastEntry, lastCommitted, committed-more, committed-old, committed-by, committed-all, HomeIn, newest-entries, trimmedAt, committed-trimmed}
 use Rattle.model.proofs.steps.DoneLaws.{outcome-code, after}
-use Rattle.model.proofs.steps.NewestSteps.{done-newest, quiet-newest, settle-newest, read-newest, confirm-newest, open-newest}
+use Rattle.model.proofs.steps.NewestSteps.{done-newest, quiet-newest, settle-newest, begin-round-newest, step-round-newest, read-newest, confirm-newest, open-newest}
 use Rattle.model.proofs.steps.StoreCommit.{Closing, commit-closes}
 use Rattle.model.proofs.steps.TrimRuns.{MayMove, trim-may}
 use Rattle.model.proofs.claims.Yields.{ends-done}
@@ -301,6 +301,16 @@ module _ (G D : ℕ) (z : Sizes G D) (w : World) (r : Running G D w) (s : Store)
   service-placed (settles batch) h =
       quiet-placed (service (settles batch)) (unfold isOpening in refl) h (unfold ends in settle-newest w batch)
       (unfold store.afterDone afterService numbered in refl) (λ b c x. unfold feed in refl)
+  service-placed roundBegins h =
+      quiet-placed (service roundBegins) (unfold isOpening in refl) h (unfold ends in begin-round-newest w)
+      (unfold store.afterDone afterService inRound in refl) (λ b c x. unfold feed in refl)
+  service-placed (roundSteps k batch) h =
+      quiet-placed (service (roundSteps k batch)) (unfold isOpening in refl) h (unfold ends in step-round-newest w k batch)
+      (unfold store.afterDone afterService in go (leb (length (toStep s)) k)) (λ b c x. unfold feed in refl)
+    where
+      go : (last : Bool) → cond last (roundOver s) (inRound s (s .round) (getD (toStep s) (k - 1) 0 + 1)) .start ≡ s .start
+      go true = unfold roundOver inRound numbered in refl
+      go false = unfold inRound in refl
   service-placed (trims batch) h = trim-placed batch h
   service-placed (reads v home block) h =
       quiet-placed (service (reads v home block)) (unfold isOpening in refl) h (unfold ends in read-newest w v home block)

@@ -8,17 +8,17 @@ use mathlib.Core.List.{List, [], _∷_, _++_}
 use mathlib.Core.Option.{Option, none, some}
 use native.Mathlib.Omega.{arith}
 use lib.Dec.{eqb, leb}
-use lib.ListN.{length, length-append}
+use lib.ListN.{length, getD, length-append}
 use borrow.Author.Tests.{eq-eqb, ne-eqb, eqb-true, eqb-false, leb-true, leb-false, ltb-true}
-use Rattle.model.specs.State.{State, stateOf, nextPosition, setStart, setNext, setFilled, setSettled, setFenced, setDurable, setLast, Writer, writerOf, setWriter, heldOf, setHeld, promiseOf, setPromise, promiseLeft, promised, places, freePlaces, isOpen, holds, begun, holding, logging, firstFor, countFor, idle as idleWriter}
-use Rattle.model.specs.Effects.{Given, Effect, newState, beginEffect, reserveEffect, abortEffect, logged, logHeld, logClosing, storeFirst, storeAgain, storeOther, storeEffect, commitHeld, commitEffect, flushNone, flushPart, flushEffect, confirmEffect, settleEffect, trimStart, trimTo, trimEffect, readEffect, openEffect, openStart}
-use Rattle.model.specs.Questions.{beginAnswer, reserveAnswer, abortAnswer, storeAnswer, commitAnswer, flushAnswer, confirmAnswer, settleAnswer, trimAnswer, readAnswer, openAnswer, writerKnown, writerOpen, blockRight}
-use Rattle.model.specs.Calls.{Outcome, done, sizeOf, outcome, beginCall, reserveCall, abortCall, storeCall, commitCall, flushCall, confirmCall, settleCall, trimCall, readCall, openCall}
+use Rattle.model.specs.State.{State, stateOf, nextPosition, setStart, setNext, setFilled, setSettled, setFenced, setDurable, setLast, setRound, setCursor, fixedIn, Writer, writerOf, setWriter, heldOf, setHeld, promiseOf, setPromise, promiseLeft, promised, places, freePlaces, isOpen, holds, begun, holding, logging, firstFor, countFor, idle as idleWriter}
+use Rattle.model.specs.Effects.{Given, Effect, newState, beginEffect, reserveEffect, abortEffect, logged, logHeld, logClosing, storeFirst, storeAgain, storeOther, storeEffect, commitHeld, commitEffect, flushNone, flushPart, flushEffect, confirmEffect, settleEffect, beginRoundEffect, roundHomes, roundEnded, roundMoved, stepHomes, stepRoundEffect, trimStart, trimTo, trimEffect, readEffect, openEffect, openStart}
+use Rattle.model.specs.Questions.{beginAnswer, reserveAnswer, abortAnswer, storeAnswer, commitAnswer, flushAnswer, confirmAnswer, settleAnswer, beginRoundAnswer, stepRoundAnswer, trimAnswer, readAnswer, openAnswer, writerKnown, writerOpen, blockRight}
+use Rattle.model.specs.Calls.{Outcome, done, sizeOf, outcome, beginCall, reserveCall, abortCall, storeCall, commitCall, flushCall, confirmCall, settleCall, beginRoundCall, stepRoundCall, trimCall, readCall, openCall}
 use Rattle.model.specs.Book.{Entry, Held, Task, idle, opened, Book, withTask, setTask, filledUp, entryOf, submit, addCommit, storeTask, commitTask, hold, withCommits}
 use Rattle.model.specs.Book as book
-use Rattle.model.specs.History.{Change, begins, reserves, aborts, stores, commits, flushes, Service, settles, trims, reads, Call, opening, confirm, change, service, Event, call, crash, World, lent, loaded, ends, changeEnds, serviceEnds, feed, feedChange, isOpening, afterDone, afterCall, step, Allowed}
+use Rattle.model.specs.History.{Change, begins, reserves, aborts, stores, commits, flushes, Service, settles, roundBegins, roundSteps, trims, reads, Call, opening, confirm, change, service, Event, call, crash, World, lent, loaded, ends, changeEnds, serviceEnds, feed, feedChange, isOpening, afterDone, afterCall, step, Allowed}
 use Rattle.model.specs.Promises.{none as nothing, grantTo, grantChange, grantDone, grantCall, grant, entriesOf}
-use Rattle.model.proofs.strip.PromiseLaws.{promise-setStart, promise-setNext, promise-setFilled, promise-setSettled, promise-setFenced, promise-setDurable, promise-setLast, promise-setWriter, promise-setHeld, length-setPromise, promise-setPromise, promise-setPromise-other, promise-most}
+use Rattle.model.proofs.strip.PromiseLaws.{promise-setStart, promise-setNext, promise-setFilled, promise-setSettled, promise-setFenced, promise-setDurable, promise-setLast, promise-setRound, promise-setCursor, promise-setWriter, promise-setHeld, length-setPromise, promise-setPromise, promise-setPromise-other, promise-most}
 use Rattle.model.proofs.strip.WriterLaws.{length-setWriter, length-setHeld}
 use Rattle.model.proofs.strip.StateLaws.{length-setLast}
 use Rattle.model.proofs.strip.OrderLaws.{InOrder, Promises, promise-fresh}
@@ -300,6 +300,29 @@ module _ (G D : ℕ) (z : Sizes G D) (granted : ℕ → ℕ) (w : World) (r : Ru
   unfolding settleEffect lent
   settle-agrees batch x l = rw (promise-setFenced (setSettled s (stateOf s .fenced)) (7 * stateOf s .next) x, promise-setSettled s (stateOf s .fenced) x) (a x l)
 
+  begin-round-agrees : Agree granted (beginRoundEffect (lent w [] [] 0 0) .state) tasks
+  unfolding beginRoundEffect newState lent
+  begin-round-agrees x l =
+      rw (promise-setCursor (setRound s (stateOf s .fenced + 1)) 0 x l, promise-setRound s (stateOf s .fenced + 1) x l) (a x l)
+
+  step-round-agrees : (k : ℕ) (batch : List ℕ) → Agree granted (stepRoundEffect (lent w [] batch 0 0) k .state) tasks
+  unfolding stepRoundEffect stepHomes roundEnded roundMoved lent
+  step-round-agrees k batch = go (leb (length (roundHomes (lent w [] batch 0 0))) k)
+    where
+      F : ℕ
+      F = fixedIn (stateOf s)
+
+      go : (d : Bool)
+          → Agree granted (cond d (roundEnded s (stateOf s)) (roundMoved s (roundHomes (lent w [] batch 0 0)) k)) tasks
+      go true x l =
+          rw (
+            promise-setCursor (setRound (setFenced (setSettled s F) (7 * stateOf s .next)) 0) 0 x l,
+            promise-setRound (setFenced (setSettled s F) (7 * stateOf s .next)) 0 x l,
+            promise-setFenced (setSettled s F) (7 * stateOf s .next) x,
+            promise-setSettled s F x,
+          ) (a x l)
+      go false x l = rw (promise-setCursor s (getD (roundHomes (lent w [] batch 0 0)) (k - 1) 0 + 1) x l) (a x l)
+
   trim-agrees : (batch : List ℕ) (start : ℕ) → Agree granted (trimEffect (lent w [] batch 0 0) start .state) tasks
   unfolding trimEffect trimTo newState lent
   trim-agrees batch start = go (eqb start (stateOf s .start))
@@ -341,11 +364,18 @@ module _ (G D : ℕ) (z : Sizes G D) (granted : ℕ → ℕ) (w : World) (r : Ru
       rw (state-done (flushCall g) g (flushAnswer g (sizeOf e)) e refl h) (flush-agrees batch)
 
   service-agrees : (c : Service) → ends w (service c) .code ≡ 0 → Agree granted (ends w (service c) .state) tasks
-  unfolding ends serviceEnds settleCall trimCall readCall
+  unfolding ends serviceEnds settleCall beginRoundCall stepRoundCall trimCall readCall
   service-agrees (settles batch) h =
       let g = lent w [] batch 0 0 in
       let e : Effect = settleEffect g in
       rw (state-done (settleCall g) g (settleAnswer g (sizeOf e)) e refl h) (settle-agrees batch)
+  service-agrees roundBegins h =
+      let g = lent w [] [] 0 0 in
+      rw (state-done (beginRoundCall g) g (beginRoundAnswer g) (beginRoundEffect g) refl h) begin-round-agrees
+  service-agrees (roundSteps k batch) h =
+      let g = lent w [] batch 0 0 in
+      let e : Effect = stepRoundEffect g k in
+      rw (state-done (stepRoundCall g k) g (stepRoundAnswer g k (sizeOf e)) e refl h) (step-round-agrees k batch)
   service-agrees (trims batch) h =
       let g = lent w [] batch 0 0 in
       let n : ℕ = trimStart g in

@@ -33,6 +33,7 @@ use Rattle.model.proofs.trace.ReplayLaws.{blockFor, replay-home, good-f
 use Rattle.model.proofs.invariant.RunLaws.{closedBelow-old}
 use Rattle.model.proofs.invariant.Invariant.{Sizes, entryFor, entriesFor, Matches, OldCommits, Commits, TaskOk, Copies, Running}
 use Rattle.model.proofs.invariant.LiveLog.{tagsIn, baseOf, endOf, keptIn, Shown, all-each, live-from, live-order, lent-groups, lent-homes, lent-tags, live-tags, live-transactions, kept-shown, open-shown}
+use Rattle.model.proofs.invariant.SettledLaws.{settled-most}
 use Rattle.model.proofs.steps.SettleRuns.{settle-area}
 use Rattle.model.proofs.invariant.ReadBack.{SeenIn, untrimmed-old, untrimmed-matches}
 
@@ -137,7 +138,8 @@ module _ (G D b : ℕ) (tr : List Ev) (old : List Commit) (w : World) (z : Sizes
       ≡ homesAfter D (w .book .commits)
   homes-now =
       let o = c .order in
-      settle-area G D b tr old w z k c (endOf w) (unfold nextPosition in omega (arith, o .settled-fenced, o .fenced-next)) (omega arith)
+      settle-area G D b tr old w z k c (endOf w) (unfold nextPosition in omega (arith, o .settled-fenced, o .fenced-next))
+      (λ h. unfold nextPosition in omega (arith, settled-most (w .state) G D o h, o .fenced-next)) (omega arith)
       ∙ rw (c .position, closed-all D b tr old (w .book .commits) k)
 
   module _ (block : List ℕ) (v h : ℕ) where

@@ -10,10 +10,10 @@ use Rattle.model.specs.Layout.{homeAt}
 use Rattle.model.specs.Batch.{Record, GW, HW, KW, FN}
 use Rattle.model.specs.Effects.{marked, homeWrites, blankWrites, zeroHomes, formatted}
 use Rattle.model.specs.Facts.{slotWritten, homeWritten, headerWritten, writtenOnce}
-use Rattle.model.proofs.bytes.LayoutLaws.{ring}
 use Rattle.model.proofs.strip.QuestionLaws.{and-true}
 use Rattle.model.proofs.trace.HomeLaws.{In, marked-below}
 use Rattle.model.proofs.trace.CrashLaws.{submits}
+use Rattle.model.proofs.trace.MixLaws.{Mixed, groupPart, homePart}
 
 -- ---- a fence
 
@@ -114,6 +114,15 @@ avoids-both (HW home block ∷ Q) R S a b = (a .0, avoids-both Q R S (a .1) b)
 avoids-both (KW header ∷ Q) R S a b = (a .0, avoids-both Q R S (a .1) b)
 avoids-both (FN ∷ Q) R S a b = absurd a
 
+-- a mixture of group writes and home writes
+pub avoids-mixed : (R S : List Record) → Mixed R → Avoids (groupPart R) S → Avoids (homePart R) S → Avoids R S
+unfolding groupPart homePart
+avoids-mixed [] S m a b = tt
+avoids-mixed (GW slot group ∷ R) S m a b = (a .0, avoids-mixed R S m (a .1) b)
+avoids-mixed (HW home block ∷ R) S m a b = (b .0, avoids-mixed R S m a (b .1))
+avoids-mixed (KW header ∷ R) S m a b = absurd m
+avoids-mixed (FN ∷ R) S m a b = absurd m
+
 -- ---- the writes of groups
 
 pub avoids-submits : (G n₀ : ℕ) (bytes : ℕ → List ℕ) (k : ℕ) (S : List Record)
@@ -124,30 +133,25 @@ avoids-submits G n₀ bytes (suc k) S f =
     avoids-both (submits G n₀ bytes k) (GW ((n₀ + k) % G) (bytes (n₀ + k)) ∷ []) S
     (avoids-submits G n₀ bytes k S (λ n l h. f n l (omega arith))) (f (n₀ + k) (omega arith) (omega arith), tt)
 
--- one group more, in a ring that has room for it
-pub avoids-next : (G n₀ : ℕ) (bytes : ℕ → List ℕ) (k : ℕ) (group : List ℕ) → k < G
-    → Avoids (submits G n₀ bytes k) (GW ((n₀ + k) % G) group ∷ [])
+pub slot-group : (slot other : ℕ) (group : List ℕ) → (other ≡ slot → ⊥) → slotWritten slot (GW other group ∷ []) ≡ false
 unfolding slotWritten
-avoids-next G n₀ bytes k group l =
-    avoids-submits G n₀ bytes k (GW ((n₀ + k) % G) group ∷ [])
-    (λ n i h. rw (ne-eqb ((n₀ + k) % G) (n % G) (λ e. let q : n₀ + k ≡ n = ring n₀ G (n₀ + k) n (omega arith) (omega arith) i (omega arith) e in omega arith)))
+slot-group slot other group n = rw (ne-eqb other slot n)
 
-once-group : (slot : ℕ) (group : List ℕ) → writtenOnce (GW slot group ∷ []) ≡ true
+pub home-group : (home slot : ℕ) (group : List ℕ) → homeWritten home (GW slot group ∷ []) ≡ false
+unfolding homeWritten
+home-group home slot group = refl
+
+pub slot-header : (slot : ℕ) (header : List ℕ) → slotWritten slot (KW header ∷ []) ≡ false
+unfolding slotWritten
+slot-header slot header = refl
+
+pub home-header : (home : ℕ) (header : List ℕ) → homeWritten home (KW header ∷ []) ≡ false
+unfolding homeWritten
+home-header home header = refl
+
+pub once-group : (slot : ℕ) (group : List ℕ) → writtenOnce (GW slot group ∷ []) ≡ true
 unfolding writtenOnce slotWritten
 once-group slot group = refl
-
-pub once-submits : (G n₀ : ℕ) (bytes : ℕ → List ℕ) (k : ℕ) → k ≤ G → writtenOnce (submits G n₀ bytes k) ≡ true
-unfolding submits
-once-submits G n₀ bytes zero l = (unfold writtenOnce in refl)
-once-submits G n₀ bytes (suc k) l =
-    once-append (submits G n₀ bytes k) (GW ((n₀ + k) % G) (bytes (n₀ + k)) ∷ []) (once-submits G n₀ bytes k (omega arith))
-    (once-group ((n₀ + k) % G) (bytes (n₀ + k))) (avoids-next G n₀ bytes k (bytes (n₀ + k)) (omega arith))
-
-pub once-next : (G n₀ : ℕ) (bytes : ℕ → List ℕ) (k : ℕ) (group : List ℕ) → k < G
-    → writtenOnce (submits G n₀ bytes k ++ (GW ((n₀ + k) % G) group ∷ [])) ≡ true
-once-next G n₀ bytes k group l =
-    once-append (submits G n₀ bytes k) (GW ((n₀ + k) % G) group ∷ []) (once-submits G n₀ bytes k (omega arith)) (once-group ((n₀ + k) % G) group)
-    (avoids-next G n₀ bytes k group l)
 
 -- ---- the writes of homes
 
@@ -156,7 +160,12 @@ unfolding slotWritten homeWrites
 slot-homes slot area [] = refl
 slot-homes slot area (h ∷ hs) = slot-homes slot area hs
 
-avoids-homes : (area hs : List ℕ) (S : List Record) → ((h : ℕ) → In h hs → homeWritten h S ≡ false) → Avoids (homeWrites area hs) S
+pub home-homes : (home : ℕ) (area hs : List ℕ) → (In home hs → ⊥) → homeWritten home (homeWrites area hs) ≡ false
+unfolding homeWritten homeWrites
+home-homes home area [] n = refl
+home-homes home area (h ∷ hs) n = rw (ne-eqb h home (λ e. n (inl (sym e))), home-homes home area hs (λ i. n (inr i)))
+
+pub avoids-homes : (area hs : List ℕ) (S : List Record) → ((h : ℕ) → In h hs → homeWritten h S ≡ false) → Avoids (homeWrites area hs) S
 unfolding homeWrites
 avoids-homes area [] S f = tt
 avoids-homes area (h ∷ hs) S f = (f h (inl refl), avoids-homes area hs S (λ x i. f x (inr i)))

@@ -7,7 +7,7 @@ use mathlib.Core.List.{List, [], _∷_, _++_}
 use native.Mathlib.Omega.{arith}
 use lib.Dec.{eqb, leb, ltb}
 use lib.ListN.{length, length-append}
-use borrow.Author.Tests.{leb-true, ltb-true, eqb-true, le-leb, lt-leb, ltb-false, ne-eqb}
+use borrow.Author.Tests.{eq-eqb, leb-true, ltb-true, eqb-true, le-leb, lt-leb, ltb-false, ne-eqb}
 use Rattle.model.specs.Layout.{maxStart}
 use Rattle.model.specs.State.{State, stateOf, nextPosition, promiseOf, Writer, writerOf, heldOf}
 use Rattle.model.specs.Effects.{marked}
@@ -18,7 +18,7 @@ use Rattle.model.specs.Book.{Kept, row, persisted, Entry, Held, Task, id
 use Rattle.model.specs.Book as book
 use Rattle.model.specs.Demands.{free as mayBe, keptBefore, someBefore, openBefore, anyOpenBefore, anyAcross}
 use Rattle.model.specs.History.{Change, begins, reserves, aborts, stores, commits, flushes, Service, settles, trims, reads, Call, opening, confirm, change, service, flush, settle, trim, Event, call, crash, World, unopened, emptyStore, ends, feed, feedChange, isOpening, afterDone, afterCall, afterCrash, step, Allowed, AllAllowed}
-use Rattle.model.specs.Store.{Store, newStore, firstGroup, nextGroup, nextOf, placesLeft, promisedTo, mayFlush, isIdle, storeMustLog, commitMustLog, manyHomes, toSettle, mayStart, nextStart, Reply, told, askBatch, replyChange, replyService, reply, replyOf, numbered, fencedAfter, trimmedTo, afterService, afterReply, follow}
+use Rattle.model.specs.Store.{Store, newStore, firstGroup, nextGroup, nextOf, placesLeft, promisedTo, mayFlush, isIdle, storeMustLog, commitMustLog, manyHomes, toSettle, mayStart, nextStart, Reply, told, askBatch, replyChange, replyService, reply, replyOf, numbered, inRound, fencedAfter, trimmedTo, afterService, afterReply, follow}
 use Rattle.model.specs.Store as store
 use Rattle.model.specs.Places.{Fate, Class, live, dead, free, many, liesAt, anyAt, taskAt, enter, enterCall, enterEvent, Accounted, AllIdle, Drained, Drains, drained, HeldBack, Told, AccountedThroughout, PlacesAccounted}
 use Rattle.model.proofs.strip.QuestionLaws.{ask-passed, and-true}
@@ -32,7 +32,8 @@ use Rattle.model.proofs.steps.FormatRuns.{sizes, after-format}
 use Rattle.model.proofs.steps.TrimRuns.{MayMove, trim-may, trim-most}
 use Rattle.model.proofs.claims.DemandThree.{keeps}
 use Rattle.model.proofs.claims.TrimYields.{trimmed, none-open}
-use Rattle.model.proofs.claims.StoreAnswers.{Agrees, first-is, next-is, filled-is, position-is, may-is, start-is, call-answers}
+use Rattle.model.proofs.claims.StoreAnswers.{Agrees, first-is, next-is, filled-is, position-is, may-is, start-is}
+use Rattle.model.proofs.claims.CallAnswers.{call-answers}
 use Rattle.model.proofs.claims.StoreFollows.{follows, service-same, empty-agrees}
 use Rattle.model.proofs.claims.LedgerLaws.{many-all, many-free}
 use Rattle.model.proofs.claims.LedgerSteps.{Led, begin-led, abort-led, store-led, commit-led, flush-led, confirm-led, opened-led}
@@ -204,7 +205,7 @@ module _ (G D : ℕ) (z : Sizes G D) (w : World) (r : Running G D w) (s : Store)
 
 led-opening : (G D : ℕ) (z : Sizes G D) (w : World) → Closed G D w → (s : Store) → Agrees G D w s → (state newest batch : List ℕ) → (fs : List Fate)
     → ends w (opening state newest batch) .code ≡ 0 → LedBy (store.afterDone s (opening state newest batch) (ends w (opening state newest batch) .figure)) (enterCall s (opening state newest batch) fs)
-unfolding store.afterDone numbered enterCall feed firstGroup
+unfolding store.afterDone numbered enterCall feed firstGroup inRound
 led-opening G D z w k s a state newest batch fs h =
     subst (λ (b : Book). Led (s .head + s .groups) (book.withCommits b (book.owedAll (b .commits))) []) (sym (a .book))
     (opened-led D (s .head + s .groups) (w .book) (k .rows) (k .filled) (k .tasks) (k .past))
@@ -298,10 +299,12 @@ flush-reply s batch e l =
     go true = omega arith
     go false = l
 
-settle-reply : (s : Store) (batch : List ℕ) → 68 * s .homes + 2 ≤ length batch → replyService s (settles batch) .code ≡ 0
+settle-reply : (s : Store) (batch : List ℕ) → s .round ≡ 0 → 68 * s .homes + 2 ≤ length batch → replyService s (settles batch) .code ≡ 0
 unfolding replyService
-settle-reply s batch l =
-    told-code _ 0 _ ∙ long-enough (68 * manyHomes (s .homes) (toSettle s) + 2) batch (omega (arith, many-most (s .homes) s))
+settle-reply s batch calm l =
+    told-code _ 0 _
+    ∙ rw (eq-eqb (s .round) 0 calm)
+    (unfold ask in long-enough (68 * manyHomes (s .homes) (toSettle s) + 2) batch (omega (arith, many-most (s .homes) s)))
 
 trim-reply : (s : Store) (batch : List ℕ) → nextStart s ≤ maxStart → 68 ≤ length batch → replyService s (trims batch) .code ≡ 0
 unfolding replyService
@@ -335,6 +338,10 @@ flush-filled b = go (eqb (b .filled) 0) refl
 flushed-book : (s : Store) (batch : List ℕ) (figure : ℕ) → store.afterDone s (change (flushes batch)) figure .book ≡ book.flush (s .book)
 unfolding store.afterDone numbered feed feedChange
 flushed-book s batch figure = refl
+
+flushed-round : (s : Store) (batch : List ℕ) (figure : ℕ) → store.afterDone s (change (flushes batch)) figure .round ≡ s .round
+unfolding store.afterDone numbered
+flushed-round s batch figure = refl
 
 flushed-fenced : (s : Store) (batch : List ℕ) (figure : ℕ)
     → store.afterDone s (change (flushes batch)) figure .fenced ≡ 7 * (firstGroup s + book.flush (s .book) .rows)
@@ -432,7 +439,7 @@ drained-start G D z w r s a idles f e =
     } in
     omega (arith, start-is G D z w r s a [], trim-most G D z w r [] (st .next) m, trim-may G D z w r [] .upto, n .settled)
 
-module _ (G D : ℕ) (z : Sizes G D) (w : World) (r : Running G D w) (s : Store) (a : Agrees G D w s) (idles : AllIdle s) (first second third : List ℕ)
+module _ (G D : ℕ) (z : Sizes G D) (w : World) (r : Running G D w) (s : Store) (a : Agrees G D w s) (idles : AllIdle s) (calm : s .round ≡ 0) (first second third : List ℕ)
     (l₁ : 518 ≤ length first) (l₂ : 68 * s .homes + 2 ≤ length second) (l₃ : 68 ≤ length third)
     (most : firstGroup s + book.flush (s .book) .rows ≤ maxStart) where
   none-promised : promisedTo (s .promises) 8 ≡ 0
@@ -472,10 +479,13 @@ module _ (G D : ℕ) (z : Sizes G D) (w : World) (r : Running G D w) (s : Store)
   fenced₁ : s₁ .fenced ≡ 7 * (firstGroup s + book.flush (s .book) .rows)
   fenced₁ = ap (λ (x : Store). x .fenced) s₁-is ∙ flushed-fenced s first (ends w (flush first) .figure)
 
+  round₁ : s₁ .round ≡ 0
+  round₁ = ap (λ (x : Store). x .round) s₁-is ∙ flushed-round s first (ends w (flush first) .figure) ∙ calm
+
   settle-done : ends w₁ (settle second) .code ≡ 0
   settle-done =
       answered G D z w₁ r₁ s₁ a₁ (settle second) (service-is (settles second))
-      (ap (λ (x : Reply). x .code) (reply-service s₁ (settles second)) ∙ settle-reply s₁ second (omega (arith, a .homes, a₁ .homes)))
+      (ap (λ (x : Reply). x .code) (reply-service s₁ (settles second)) ∙ settle-reply s₁ second round₁ (omega (arith, a .homes, a₁ .homes)))
 
   abbrev w₂ : World
   w₂ = step w₁ (call (settle second))

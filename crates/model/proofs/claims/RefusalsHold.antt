@@ -6,9 +6,9 @@ use Prim.Native.Nat.{ℕ, zero, suc}
 use native.Mathlib.Omega.{arith}
 use lib.Dec.{eqb}
 use borrow.Author.Tests.{ne-eqb}
-use Rattle.model.specs.Effects.{Given, Effect, formatEffect, openEffect, openStart, beginEffect, reserveEffect, abortEffect, storeEffect, commitEffect, flushEffect, confirmEffect, settleEffect, trimStart, trimEffect, readEffect}
-use Rattle.model.specs.Questions.{ask, askState, askBlock, askNewest, askBoth, formatAnswer, openAnswer, beginAnswer, reserveAnswer, abortAnswer, storeAnswer, commitAnswer, flushAnswer, confirmAnswer, settleAnswer, trimAnswer, readAnswer}
-use Rattle.model.specs.Calls.{Outcome, refused, done, sizeOf, outcome, formatCall, openCall, beginCall, reserveCall, abortCall, storeCall, commitCall, flushCall, confirmCall, settleCall, trimCall, readCall}
+use Rattle.model.specs.Effects.{Given, Effect, formatEffect, openEffect, openStart, beginEffect, reserveEffect, abortEffect, storeEffect, commitEffect, flushEffect, confirmEffect, settleEffect, trimStart, trimEffect, readEffect, beginRoundEffect, stepRoundEffect}
+use Rattle.model.specs.Questions.{ask, askState, askBlock, askNewest, askBoth, formatAnswer, openAnswer, beginAnswer, reserveAnswer, abortAnswer, storeAnswer, commitAnswer, flushAnswer, confirmAnswer, settleAnswer, trimAnswer, readAnswer, beginRoundAnswer, stepRoundAnswer}
+use Rattle.model.specs.Calls.{Outcome, refused, done, sizeOf, outcome, formatCall, openCall, beginCall, reserveCall, abortCall, storeCall, commitCall, flushCall, confirmCall, settleCall, trimCall, readCall, beginRoundCall, stepRoundCall}
 use Rattle.model.specs.Refusals.{refuses, Untouched, DoneOrUntouched, Refusals}
 
 -- an answer is 0 or one of the numbers that refuse
@@ -83,7 +83,15 @@ confirm-untouched g = by-number g _ _ (state-known g 0 refl)
 
 settle-untouched : DoneOrUntouched settleCall
 unfolding settleCall settleAnswer refuses
-settle-untouched g = by-number g _ _ (state-known g _ (known _ 9 0 refl refl))
+settle-untouched g = by-number g _ _ (state-known g _ (known _ 21 _ refl (known _ 9 0 refl refl)))
+
+begin-round-untouched : DoneOrUntouched beginRoundCall
+unfolding beginRoundCall beginRoundAnswer refuses
+begin-round-untouched g = by-number g _ _ (state-known g _ (known _ 21 0 refl refl))
+
+step-round-untouched : (n : ℕ) → DoneOrUntouched (λ g. stepRoundCall g n)
+unfolding stepRoundCall stepRoundAnswer refuses
+step-round-untouched n g = by-number g _ _ (state-known g _ (known _ 21 _ refl (known _ 9 0 refl refl)))
 
 trim-untouched : DoneOrUntouched trimCall
 unfolding trimCall trimAnswer refuses
@@ -95,4 +103,4 @@ read-untouched g = by-number g _ _ (both-known g _ (known _ 4 _ refl (known _ 5 
 
 pub refusals : Refusals
 refusals n =
-    (format-untouched, (open-untouched, (begin-untouched, (reserve-untouched n, (abort-untouched, (store-untouched, (commit-untouched, (flush-untouched, (confirm-untouched, (settle-untouched, (trim-untouched, (read-untouched, tt))))))))))))
+    (format-untouched, (open-untouched, (begin-untouched, (reserve-untouched n, (abort-untouched, (store-untouched, (commit-untouched, (flush-untouched, (confirm-untouched, (settle-untouched, (begin-round-untouched, (step-round-untouched n, (trim-untouched, (read-untouched, tt))))))))))))))

@@ -10,13 +10,13 @@ use native.Mathlib.Decide.{decLt}
 use native.Mathlib.Omega.{arith}
 use lib.Dec.{eqb, leb, ltb}
 use lib.ListN.{length, length-append}
-use borrow.Author.Tests.{leb-true, ltb-true, eqb-true, eqb-false, le-leb, lt-leb, eq-eqb, ne-eqb}
+use borrow.Author.Tests.{leb-false, leb-true, ltb-true, eqb-true, eqb-false, le-leb, lt-leb, eq-eqb, ne-eqb}
 use Rattle.model.specs.Layout.{groupsIn, homesIn, logLengthRight, dataLengthRight, groupAt, header, headerStart, entryAt, maxStart}
 use Rattle.model.specs.Commit.{transactions, newest, found}
 use Rattle.model.specs.Batch.{Record, GW, KW, FN, recordBytes, batchBytes}
-use Rattle.model.specs.State.{State, stateOf, nextPosition, promiseOf, promised, places, freePlaces, Writer, writerOf, heldOf, isOpen, holds}
+use Rattle.model.specs.State.{State, stateOf, nextPosition, promiseOf, promised, places, freePlaces, Writer, writerOf, heldOf, isOpen, holds, underWay}
 use Rattle.model.specs.Effects.{Given, Effect, groups, homes, logged, logHeld, logClosing, beginEffect, reserveEffect, abortEffect, storeFirst, storeAgain, storeOther, storeEffect, commitHeld, commitEffect, flushNone, flushPart, flushEffect, confirmEffect, settleEffect, trimStart, trimTo, trimEffect, readEffect, newState, openEffect, openStart, touched, marked, blankWrites, homeWrites, largest}
-use Rattle.model.specs.Questions.{ask, areasRight, stateRight, blockRight, stripInOrder, headerFits, writerKnown, homeKnown, writerOpen, roomFor, room, mayPromise, keepsPromises, storeLogs, commitLogs, startFits, batchFits, openAnswer, askState, askBlock, beginAnswer, reserveAnswer, abortAnswer, storeAnswer, commitAnswer, flushAnswer, confirmAnswer, settleAnswer, trimAnswer, readAnswer, newestRight, askNewest, askBoth}
+use Rattle.model.specs.Questions.{ask, areasRight, stateRight, blockRight, stripInOrder, headerFits, writerKnown, homeKnown, writerOpen, roomFor, room, mayPromise, keepsPromises, storeLogs, commitLogs, startFits, batchFits, openAnswer, askState, askBlock, beginAnswer, reserveAnswer, abortAnswer, storeAnswer, commitAnswer, flushAnswer, confirmAnswer, settleAnswer, trimAnswer, readAnswer, newestRight, askNewest, askBoth, inRound}
 use Rattle.model.specs.Calls.{Outcome, outcome, sizeOf, openCall, beginCall, reserveCall, abortCall, storeCall, commitCall, flushCall, confirmCall, settleCall, trimCall, readCall}
 use Rattle.model.specs.Book.{Held, Task, idle, opened, Book, homesAfter}
 use Rattle.model.specs.History.{Change, begins, reserves, aborts, stores, commits, flushes, Service, settles, trims, reads, Call, opening, confirm, change, service, World, lent, loaded, ends, changeEnds, serviceEnds, isOpening}
@@ -50,6 +50,8 @@ pub record Numbers (s : Store) (st : State) : Type 0 where
   pub fenced : s .fenced ≡ st .fenced
   pub durable : s .durable ≡ st .durable
   pub last : s .last ≡ st .last
+  pub round : s .round ≡ st .round
+  pub cursor : s .cursor ≡ st .cursor
 
 -- the abstract store agrees with the world
 pub record Agrees (G D : ℕ) (w : World) (s : Store) : Type 0 where
@@ -94,7 +96,7 @@ logs-task b tr r held ps t home (inr (inr (inr h))) = rw (h .0, h .1)
 
 -- ---- the bytes of a call's records
 
-size-none : (e : Effect) → e .records ≡ [] → sizeOf e ≡ 0
+pub size-none : (e : Effect) → e .records ≡ [] → sizeOf e ≡ 0
 unfolding sizeOf batchBytes
 size-none e h = rw h
 
@@ -159,7 +161,7 @@ module _ (G D : ℕ) (z : Sizes G D) (w : World) (r : Running G D w) (s : Store)
   unfolding stripInOrder
   strip-right block batch v h = rw (lent-groups block batch v h, lent-homes block batch v h) (unfold lent in order-in (w .state) G D o)
 
-  asked : (block batch : List ℕ) (v h k : ℕ) → askState (lent w block batch v h) k ≡ k
+  pub asked : (block batch : List ℕ) (v h k : ℕ) → askState (lent w block batch v h) k ≡ k
   unfolding askState ask
   asked block batch v h k = rw (areas-right block batch v h, state-right block batch v h, strip-right block batch v h)
 
@@ -231,7 +233,7 @@ module _ (G D : ℕ) (z : Sizes G D) (w : World) (r : Running G D w) (s : Store)
       ∙ ask-same (ltb v 8) 4 (ask (not (writerOpen (lent w [] [] v 0))) 6 0) (ask (isIdle (s .book .tasks v)) 6 0)
       (λ l. ap (λ (b : Bool). ask b 6 0) (ap not (open-is [] [] v 0 (ltb-true v 8 l)) ∙ double-not (isIdle (s .book .tasks v))))
 
-  begin-answers : (v : ℕ) → replyOf (beginCall (lent w [] [] v 0)) ≡ replyChange s (begins v)
+  pub begin-answers : (v : ℕ) → replyOf (beginCall (lent w [] [] v 0)) ≡ replyChange s (begins v)
   unfolding beginCall replyChange
   begin-answers v =
       let g : Given = lent w [] [] v 0 in
@@ -258,7 +260,7 @@ module _ (G D : ℕ) (z : Sizes G D) (w : World) (r : Running G D w) (s : Store)
   unfolding reserveAnswer writerKnown lent
   reserve-number v places = asked [] [] v 0 _ ∙ ask-same (ltb v 8) 4 _ _ (λ l. reserve-inner v places (ltb-true v 8 l))
 
-  reserve-answers : (v places : ℕ) → replyOf (reserveCall (lent w [] [] v 0) places) ≡ replyChange s (reserves v places)
+  pub reserve-answers : (v places : ℕ) → replyOf (reserveCall (lent w [] [] v 0) places) ≡ replyChange s (reserves v places)
   unfolding reserveCall replyChange
   reserve-answers v places =
       let g : Given = lent w [] [] v 0 in
@@ -273,7 +275,7 @@ module _ (G D : ℕ) (z : Sizes G D) (w : World) (r : Running G D w) (s : Store)
       ∙ ask-same (ltb v 8) 4 (ask (writerOpen (lent w [] [] v 0)) 7 0) (ask (not (isIdle (s .book .tasks v))) 7 0)
       (λ l. ap (λ (b : Bool). ask b 7 0) (open-is [] [] v 0 (ltb-true v 8 l)))
 
-  abort-answers : (v : ℕ) → replyOf (abortCall (lent w [] [] v 0)) ≡ replyChange s (aborts v)
+  pub abort-answers : (v : ℕ) → replyOf (abortCall (lent w [] [] v 0)) ≡ replyChange s (aborts v)
   unfolding abortCall replyChange
   abort-answers v =
       let g : Given = lent w [] [] v 0 in
@@ -287,14 +289,14 @@ module _ (G D : ℕ) (z : Sizes G D) (w : World) (r : Running G D w) (s : Store)
       asked-both block [] v h (ask (ltb v 8) 4 (ask (homeKnown (lent w block [] v h)) 5 0))
       ∙ ap (λ (b : Bool). ask (eqb (length block) 64) 1 (ask (ltb v 8) 4 (ask b 5 0))) (home-is block [] v h)
 
-  read-answers : (v h : ℕ) (block : List ℕ) → replyOf (readCall (lent w block [] v h)) ≡ replyService s (reads v h block)
+  pub read-answers : (v h : ℕ) (block : List ℕ) → replyOf (readCall (lent w block [] v h)) ≡ replyService s (reads v h block)
   unfolding readCall replyService
   read-answers v h block =
       let g : Given = lent w block [] v h in
       answers g (readAnswer g) (readEffect g) (ask (eqb (length block) 64) 1 (ask (ltb v 8) 4 (ask (ltb h (s .homes)) 5 0))) 0 0
       (read-number v h block) (λ e. (unfold readEffect in refl, size-none (readEffect g) (unfold readEffect in refl)))
 
-  confirm-answers : replyOf (confirmCall (lent w [] [] 0 0)) ≡ reply s confirm
+  pub confirm-answers : replyOf (confirmCall (lent w [] [] 0 0)) ≡ reply s confirm
   unfolding confirmCall reply
   confirm-answers =
       let g : Given = lent w [] [] 0 0 in
@@ -330,7 +332,7 @@ module _ (G D : ℕ) (z : Sizes G D) (w : World) (r : Running G D w) (s : Store)
       go true false = (unfold sizeOf storeOther logHeld in size-logged _ (heldOf (w .state) v))
       go false e = size-none (storeFirst (lent w block batch v h)) (unfold storeFirst newState in refl)
 
-  batch-is : (block batch : List ℕ) (v h size size′ : ℕ) → size ≡ size′ → ask (batchFits (lent w block batch v h) size) 9 0 ≡ askBatch size′ batch
+  pub batch-is : (block batch : List ℕ) (v h size size′ : ℕ) → size ≡ size′ → ask (batchFits (lent w block batch v h) size) 9 0 ≡ askBatch size′ batch
   unfolding batchFits askBatch lent
   batch-is block batch v h size size′ e = rw e
 
@@ -372,7 +374,7 @@ module _ (G D : ℕ) (z : Sizes G D) (w : World) (r : Running G D w) (s : Store)
   known : (b c : Bool) (v k : ℕ) → ask b 1 (ask (ltb v 8) 4 k) ≡ 0 → v < 8
   known b c v k e = ltb-true v 8 (ask-passed (ltb v 8) 3 k (ask-passed b 0 (ask (ltb v 8) 4 k) e .1) .0)
 
-  store-answers : (v h : ℕ) (block batch : List ℕ) → replyOf (storeCall (lent w block batch v h)) ≡ replyChange s (stores v h block batch)
+  pub store-answers : (v h : ℕ) (block batch : List ℕ) → replyOf (storeCall (lent w block batch v h)) ≡ replyChange s (stores v h block batch)
   unfolding storeCall replyChange
   store-answers v h block batch =
       let g : Given = lent w block batch v h in
@@ -428,7 +430,7 @@ module _ (G D : ℕ) (z : Sizes G D) (w : World) (r : Running G D w) (s : Store)
   unfolding commitAnswer writerKnown lent
   commit-number v batch = asked-newest [] batch v 0 _ ∙ ask-same (ltb v 8) 4 _ _ (λ l. commit-inner v batch (ltb-true v 8 l))
 
-  commit-answers : (v : ℕ) (batch : List ℕ) → replyOf (commitCall (lent w [] batch v 0)) ≡ replyChange s (commits v batch)
+  pub commit-answers : (v : ℕ) (batch : List ℕ) → replyOf (commitCall (lent w [] batch v 0)) ≡ replyChange s (commits v batch)
   unfolding commitCall replyChange
   commit-answers v batch =
       let g : Given = lent w [] batch v 0 in
@@ -480,7 +482,7 @@ module _ (G D : ℕ) (z : Sizes G D) (w : World) (r : Running G D w) (s : Store)
       ∙ ap (λ (k : ℕ). ask (keepsPromises (lent w [] batch 0 0 .state)) 18 k) (batch-is [] batch 0 0 _ _ (flush-bytes batch .0))
       ∙ (unfold lent in ap (λ (b : Bool). ask b 18 (askBatch (cond (eqb (s .book .filled) 0) 2 518) batch)) flush-keeps)
 
-  flush-answers : (batch : List ℕ) → replyOf (flushCall (lent w [] batch 0 0)) ≡ replyChange s (flushes batch)
+  pub flush-answers : (batch : List ℕ) → replyOf (flushCall (lent w [] batch 0 0)) ≡ replyChange s (flushes batch)
   unfolding flushCall replyChange
   flush-answers batch =
       let g : Given = lent w [] batch 0 0 in
@@ -489,21 +491,24 @@ module _ (G D : ℕ) (z : Sizes G D) (w : World) (r : Running G D w) (s : Store)
 
   -- ---- settle
 
-  -- what the commits that close below F wrote, as the log copy shows it
-  settle-contents : eachContents (tagsIn G D w) (w .log) G (closingBelow (st .fenced) (keptIn (r .b) (r .tr) w)) ≡ toSettle s
-  unfolding toSettle
-  settle-contents =
+  -- what the commits that close below a position wrote, as the log copy shows it
+  pub below-contents : (F : ℕ)
+      → eachContents (tagsIn G D w) (w .log) G (closingBelow F (keptIn (r .b) (r .tr) w)) ≡ untrimmed (7 * s .start) (closedBelow F (s .book .commits))
+  below-contents F =
       let b : ℕ = r .b in
       let tr : List Ev = r .tr in
       let k = r .commits in
-      let F : ℕ = st .fenced in
       ap (eachContents (tagsIn G D w) (w .log) G) (sym (below-from (baseOf w) F (hist (7 * b) tr .done)))
       ∙ untrimmed-matches (tagsIn G D w) (w .log) G b tr (baseOf w) (closedBelow F (k .new)) (closingBelow F (hist (7 * b) tr .done))
       (closedBelow-matches b tr F (k .new) (hist (7 * b) tr .done) (k .matches))
       (rw (below-from (baseOf w) F (hist (7 * b) tr .done))
       (all-each (Shown G D b tr w) (SeenIn (tagsIn G D w) (w .log) G b tr) (λ p x. (x .home, x .block)) (closingBelow F (keptIn b tr w))
       (upto-shown G D b tr w z (r .copies) F)))
-      ∙ sym (rw (n .start, n .fenced, a .book, k .split, closedBelow-old D F (r .old) (k .new) (k .past), untrimmed-old D (baseOf w) (r .old) (closedBelow F (k .new)) (k .past)))
+      ∙ sym (rw (n .start, a .book, k .split, closedBelow-old D F (r .old) (k .new) (k .past), untrimmed-old D (baseOf w) (r .old) (closedBelow F (k .new)) (k .past)))
+
+  settle-contents : eachContents (tagsIn G D w) (w .log) G (closingBelow (st .fenced) (keptIn (r .b) (r .tr) w)) ≡ toSettle s
+  unfolding toSettle
+  settle-contents = rw (n .fenced) (below-contents (st .fenced))
 
   due-many : length (due G D z w r) ≡ manyHomes (s .homes) (toSettle s)
   unfolding manyHomes touched
@@ -527,12 +532,22 @@ module _ (G D : ℕ) (z : Sizes G D) (w : World) (r : Running G D w) (s : Store)
         refl,
       )
 
-  settle-answers : (batch : List ℕ) → replyOf (settleCall (lent w [] batch 0 0)) ≡ replyService s (settles batch)
+  -- whether a round is under way
+  pub no-round : (batch : List ℕ) → not (inRound (lent w [] batch 0 0)) ≡ eqb (s .round) 0
+  unfolding inRound underWay lent
+  no-round batch = rw (n .round) (go (leb 1 (st .round)) refl)
+    where
+      go : (d : Bool) → leb 1 (st .round) ≡ d → not d ≡ eqb (st .round) 0
+      go true e = sym (ne-eqb (st .round) 0 (λ q. let k = leb-true 1 (st .round) e in omega arith))
+      go false e = sym (eq-eqb (st .round) 0 (let k = leb-false 1 (st .round) e in omega arith))
+
+  pub settle-answers : (batch : List ℕ) → replyOf (settleCall (lent w [] batch 0 0)) ≡ replyService s (settles batch)
   unfolding settleCall replyService
   settle-answers batch =
       let g : Given = lent w [] batch 0 0 in
       answers g (settleAnswer g (sizeOf (settleEffect g))) (settleEffect g) _ 0 (68 * manyHomes (s .homes) (toSettle s) + 2)
-      (unfold settleAnswer in (asked [] batch 0 0 _ ∙ batch-is [] batch 0 0 _ _ (settle-bytes batch .0)))
+      (unfold settleAnswer in
+      (asked [] batch 0 0 _ ∙ rw (no-round batch) (ap (λ (x : ℕ). ask (eqb (s .round) 0) 21 x) (batch-is [] batch 0 0 _ _ (settle-bytes batch .0)))))
       (λ e. (settle-bytes batch .1, settle-bytes batch .0))
 
   -- ---- trim
@@ -595,37 +610,13 @@ module _ (G D : ℕ) (z : Sizes G D) (w : World) (r : Running G D w) (s : Store)
       asked-newest [] batch 0 0 _
       ∙ rw (start-is batch) (ap (λ (k : ℕ). ask (leb (nextStart s) maxStart) 10 k) (batch-is [] batch 0 0 _ _ (trim-bytes batch (nextStart s) .0)))
 
-  trim-answers : (batch : List ℕ) → replyOf (trimCall (lent w [] batch 0 0)) ≡ replyService s (trims batch)
+  pub trim-answers : (batch : List ℕ) → replyOf (trimCall (lent w [] batch 0 0)) ≡ replyService s (trims batch)
   unfolding trimCall replyService
   trim-answers batch =
       let g : Given = lent w [] batch 0 0 in
       let x : ℕ = trimStart g in
       answers g (trimAnswer g x (sizeOf (trimEffect g x))) (trimEffect g x) _ 0 (cond (eqb (nextStart s) (s .start)) 0 68) (trim-number batch)
       (λ e. (trim-bytes batch x .1, trim-bytes batch x .0 ∙ ap (λ (y : ℕ). cond (eqb y (s .start)) 0 68) (start-is batch)))
-
-  -- ---- every call of an era
-
-  change-answers : (c : Change) → replyOf (ends w (change c)) ≡ replyChange s c
-  unfolding ends changeEnds
-  change-answers (begins v) = begin-answers v
-  change-answers (reserves v places) = reserve-answers v places
-  change-answers (aborts v) = abort-answers v
-  change-answers (stores v home block batch) = store-answers v home block batch
-  change-answers (commits v batch) = commit-answers v batch
-  change-answers (flushes batch) = flush-answers batch
-
-  service-answers : (c : Service) → replyOf (ends w (service c)) ≡ replyService s c
-  unfolding ends serviceEnds
-  service-answers (settles batch) = settle-answers batch
-  service-answers (trims batch) = trim-answers batch
-  service-answers (reads v home block) = read-answers v home block
-
-  pub call-answers : (c : Call) → isOpening c ≡ false → replyOf (ends w c) ≡ reply s c
-  unfolding ends reply isOpening
-  call-answers (opening state positions batch) e = absurd (false≢true (sym e))
-  call-answers confirm e = confirm-answers
-  call-answers (change c) e = (unfold ends in change-answers c)
-  call-answers (service c) e = (unfold ends in service-answers c)
 
 -- ---- openings
 

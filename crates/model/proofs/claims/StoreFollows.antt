@@ -6,7 +6,7 @@ use mathlib.Core.Bool.{Bool, true, false, cond, not, _&&_, false≢true}
 use mathlib.Core.List.{List, [], _∷_, _++_}
 use native.Mathlib.Omega.{arith}
 use lib.Dec.{eqb, leb, ltb}
-use lib.ListN.{length}
+use lib.ListN.{length, getD}
 use borrow.Author.Tests.{leb-true, ltb-true, eqb-true, eqb-false, le-leb, lt-leb, ne-eqb}
 use Rattle.model.specs.Tag.{entryWord, closingWord}
 use Rattle.model.specs.Layout.{groupsIn, homesIn, headerStart}
@@ -18,8 +18,8 @@ use Rattle.model.specs.Crash.{Memory, fences, persist, fates}
 use Rattle.model.specs.Book.{Book, homesAfter, run}
 use Rattle.model.specs.Book as book
 use Rattle.model.specs.Demands.{untrimmed}
-use Rattle.model.specs.History.{Change, begins, reserves, aborts, stores, commits, flushes, Service, settles, trims, reads, Call, opening, confirm, change, service, Event, call, crash, World, unopened, emptyStore, lent, loaded, ends, changeEnds, serviceEnds, feed, isOpening, afterDone, afterCall, afterCrash, step, Allowed, AllAllowed, rowFates}
-use Rattle.model.specs.Store.{Store, newStore, firstGroup, nextGroup, nextOf, nextStart, replyOf, reply, storeMustLog, lastAfter, fencedAfter, setFor, promisesAfter, numbered, trimmedTo, afterService, afterReply, follow, foundInMemory, AnswersAt, AnswersThroughout, Answers}
+use Rattle.model.specs.History.{Change, begins, reserves, aborts, stores, commits, flushes, Service, settles, trims, reads, Call, opening, confirm, change, service, Event, call, crash, World, unopened, emptyStore, lent, loaded, ends, changeEnds, serviceEnds, feed, isOpening, afterDone, afterCall, afterCrash, step, Allowed, AllAllowed, rowFates, roundBegins, roundSteps}
+use Rattle.model.specs.Store.{Store, newStore, firstGroup, nextGroup, nextOf, nextStart, replyOf, reply, storeMustLog, lastAfter, fencedAfter, setFor, promisesAfter, numbered, trimmedTo, afterService, afterReply, follow, foundInMemory, AnswersAt, AnswersThroughout, Answers, inRound, roundOver, toStep}
 use Rattle.model.specs.Store as store
 use Rattle.model.proofs.bytes.LayoutLaws.{groups-in, homes-in}
 use Rattle.model.proofs.strip.StateLaws.{withStart, withFenced, withSettled, withLast, withDurable, withNext, withFilled, length-setNext, length-setFilled, state-setNext, state-setFilled, state-setFenced, state-setDurable, state-setLast, length-setLast}
@@ -43,7 +43,9 @@ use Rattle.model.proofs.steps.Beginning.{format-closed, formatted-start
 use Rattle.model.proofs.steps.FormatRuns.{sizes, after-format}
 use Rattle.model.proofs.claims.DemandThree.{keeps}
 use Rattle.model.proofs.claims.Yields.{ends-done}
-use Rattle.model.proofs.claims.StoreAnswers.{Numbers, Agrees, first-is, next-is, filled-is, position-is, start-is, store-logs, call-answers, open-answers}
+use Rattle.model.proofs.claims.StoreAnswers.{Numbers, Agrees, first-is, next-is, filled-is, position-is, start-is, store-logs, open-answers}
+use Rattle.model.proofs.claims.CallAnswers.{call-answers}
+use Rattle.model.proofs.claims.RoundFollows.{begin-round-numbers, begin-round-promises, step-round-numbers, step-round-promises}
 
 -- what a done call leaves in the strip and gives as its figure
 done-state : (o : Outcome) (g : Given) (a : ℕ) (e : Effect) → o ≡ outcome g a e → o .code ≡ 0 → o .state ≡ e .state
@@ -54,9 +56,15 @@ done-figure o g a e q h = ap (λ (x : Outcome). x .figure) (ends-done o g a e q 
 
 -- where the strip has the numbers, the store numbered so agrees
 numbers-as : (s : Store) (p : ℕ → ℕ) (b : Book) (start settled fenced durable last : ℕ) (st : State) → start ≡ st .start → settled ≡ st .settled
-    → fenced ≡ st .fenced → durable ≡ st .durable → last ≡ st .last → Numbers (numbered s start settled fenced durable last p b) st
+    → fenced ≡ st .fenced → durable ≡ st .durable → last ≡ st .last → s .round ≡ st .round → s .cursor ≡ st .cursor
+    → Numbers (numbered s start settled fenced durable last p b) st
 unfolding numbered
-numbers-as s p b start settled fenced durable last st e₁ e₂ e₃ e₄ e₅ = record { start = e₁; settled = e₂; fenced = e₃; durable = e₄; last = e₅ }
+numbers-as s p b start settled fenced durable last st e₁ e₂ e₃ e₄ e₅ e₆ e₇ =
+    record { start = e₁; settled = e₂; fenced = e₃; durable = e₄; last = e₅; round = e₆; cursor = e₇ }
+
+writer-ok : (w : World) (v h : ℕ) (block batch : List ℕ) → writerKnown (lent w block batch v h) ≡ true → v < 8
+unfolding writerKnown lent
+writer-ok w v h block batch e = ltb-true v 8 e
 
 start-small : (x : ℕ) → startFits x ≡ true → x ≤ 2 ^ 47
 unfolding startFits
@@ -86,7 +94,7 @@ module _ (G D : ℕ) (z : Sizes G D) (w : World) (r : Running G D w) (s : Store)
 
   -- the same numbers
   stays : (p : ℕ → ℕ) (b : Book) (t : List ℕ) → stateOf t ≡ st → Numbers (numbered s (s .start) (s .settled) (s .fenced) (s .durable) (s .last) p b) (stateOf t)
-  stays p b t e = rw e (numbers-as s p b (s .start) (s .settled) (s .fenced) (s .durable) (s .last) st (n .start) (n .settled) (n .fenced) (n .durable) (n .last))
+  stays p b t e = rw e (numbers-as s p b (s .start) (s .settled) (s .fenced) (s .durable) (s .last) st (n .start) (n .settled) (n .fenced) (n .durable) (n .last) (n .round) (n .cursor))
 
   next-small : 7 * st .next + 7 < 2 ^ 64
   next-small = omega (arith, o .next-most, o .start-most, o .groups-same, z .high)
@@ -104,27 +112,28 @@ module _ (G D : ℕ) (z : Sizes G D) (w : World) (r : Running G D w) (s : Store)
       let ad = advanced word block in
       numbers-as s p b (s .start) (s .settled) (s .fenced) (s .durable) (s .last) (stateOf (logged (w .state) (w .log) word block .state))
       (n .start ∙ sym (ad .start)) (n .settled ∙ sym (ad .settled)) (n .fenced ∙ sym (ad .fenced)) (n .durable ∙ sym (ad .durable)) (n .last ∙ sym (ad .last))
+      (n .round ∙ sym (ad .round)) (n .cursor ∙ sym (ad .cursor))
 
   -- ---- store
 
-  other-numbers : (v h : ℕ) (block batch : List ℕ) (p : ℕ → ℕ) (b : Book) → length block ≡ 64
+  other-numbers : (v h : ℕ) (block batch : List ℕ) (p : ℕ → ℕ) (b : Book) → v < 8 → length block ≡ 64
       → Numbers (numbered s (s .start) (s .settled) (s .fenced) (s .durable) (s .last) p b)
       (stateOf (storeOther (lent w block batch v h) (writerOf (w .state) v) (nextPosition (stateOf (w .state))) .state))
   unfolding storeOther logHeld lent
-  other-numbers v h block batch ps b l =
+  other-numbers v h block batch ps b wk l =
       let x : Writer = writerOf (w .state) v in
       let p : ℕ = nextPosition (stateOf (w .state)) in
       let word : ℕ = entryWord (x .home) (p - firstFor x p) in
       let after : List ℕ = logged (w .state) (w .log) word (heldOf (w .state) v) .state in
       let y : Writer = logging h (firstFor x p) (countFor x + 1) in
       subst (λ (q : State). Numbers (numbered s (s .start) (s .settled) (s .fenced) (s .durable) (s .last) ps b) q)
-      (sym (state-setPromise (setHeld (setWriter after v y) v block) v (promiseLeft (w .state) v) ∙ state-setHeld (setWriter after v y) v block l ∙ state-setWriter after v y))
+      (sym (state-setPromise (setHeld (setWriter after v y) v block) v (promiseLeft (w .state) v) wk ∙ state-setHeld (setWriter after v y) v block l ∙ state-setWriter after v y))
       (logged-stays ps b word (heldOf (w .state) v))
 
-  store-numbers : (v h : ℕ) (block batch : List ℕ) (p : ℕ → ℕ) (b : Book) → length block ≡ 64
+  store-numbers : (v h : ℕ) (block batch : List ℕ) (p : ℕ → ℕ) (b : Book) → v < 8 → length block ≡ 64
       → Numbers (numbered s (s .start) (s .settled) (s .fenced) (s .durable) (s .last) p b) (stateOf (storeEffect (lent w block batch v h) .state))
   unfolding storeEffect storeFirst storeAgain newState lent
-  store-numbers v h block batch p b l = go (holds (writerOf (w .state) v)) (eqb (writerOf (w .state) v .home) h)
+  store-numbers v h block batch p b wk l = go (holds (writerOf (w .state) v)) (eqb (writerOf (w .state) v .home) h)
     where
       go : (d e : Bool)
           → Numbers (numbered s (s .start) (s .settled) (s .fenced) (s .durable) (s .last) p b)
@@ -132,21 +141,21 @@ module _ (G D : ℕ) (z : Sizes G D) (w : World) (r : Running G D w) (s : Store)
           (cond d (cond e (storeAgain (lent w block batch v h)) (storeOther (lent w block batch v h) (writerOf (w .state) v) (nextPosition (stateOf (w .state)))))
           (storeFirst (lent w block batch v h)) .state))
       go true true = stays p b (setHeld (w .state) v block) (state-setHeld (w .state) v block l)
-      go true false = other-numbers v h block batch p b l
+      go true false = other-numbers v h block batch p b wk l
       go false e =
           stays p b (setHeld (setWriter (w .state) v (holding h)) v block)
           (state-setHeld (setWriter (w .state) v (holding h)) v block l ∙ state-setWriter (w .state) v (holding h))
 
   -- ---- commit
 
-  idle-state : (v : ℕ) → stateOf (setPromise (setWriter (w .state) v idle) v 0) ≡ stateOf (w .state)
-  idle-state v = state-setPromise (setWriter (w .state) v idle) v 0 ∙ state-setWriter (w .state) v idle
+  idle-state : (v : ℕ) → v < 8 → stateOf (setPromise (setWriter (w .state) v idle) v 0) ≡ stateOf (w .state)
+  idle-state v l = state-setPromise (setWriter (w .state) v idle) v 0 l ∙ state-setWriter (w .state) v idle
 
-  held-numbers : (v : ℕ) (batch : List ℕ) (p : ℕ → ℕ) (b : Book)
+  held-numbers : (v : ℕ) (batch : List ℕ) (p : ℕ → ℕ) (b : Book) → v < 8
       → Numbers (numbered s (s .start) (s .settled) (s .fenced) (s .durable) (nextPosition (stateOf (w .state)) + 1) p b)
       (stateOf (commitHeld (lent w [] batch v 0) (writerOf (w .state) v) (nextPosition (stateOf (w .state))) .state))
   unfolding commitHeld logClosing lent
-  held-numbers v batch ps b =
+  held-numbers v batch ps b wk =
       let x : Writer = writerOf (w .state) v in
       let p : ℕ = nextPosition (stateOf (w .state)) in
       let word : ℕ = closingWord (x .home) (p - firstFor x p) (linkFrom p (stateOf (w .state))) (countFor x + 1) in
@@ -154,16 +163,16 @@ module _ (G D : ℕ) (z : Sizes G D) (w : World) (r : Running G D w) (s : Store)
       let ad = advanced word (heldOf (w .state) v) in
       let q : p ≡ 7 * st .next + st .filled = unfold nextPosition in refl in
       subst (λ (q : State). Numbers (numbered s (s .start) (s .settled) (s .fenced) (s .durable) (p + 1) ps b) q)
-      (sym (state-setPromise (setWriter (setLast after (p + 1)) v idle) v 0 ∙ state-setWriter (setLast after (p + 1)) v idle
+      (sym (state-setPromise (setWriter (setLast after (p + 1)) v idle) v 0 wk ∙ state-setWriter (setLast after (p + 1)) v idle
       ∙ state-setLast after (p + 1) (logged-size word (heldOf (w .state) v)) (omega (arith, next-small, q, o .filled-most))))
       (numbers-as s ps b (s .start) (s .settled) (s .fenced) (s .durable) (p + 1) (withLast (stateOf after) (p + 1)) (n .start ∙ sym (ad .start))
-      (n .settled ∙ sym (ad .settled)) (n .fenced ∙ sym (ad .fenced)) (n .durable ∙ sym (ad .durable)) refl)
+      (n .settled ∙ sym (ad .settled)) (n .fenced ∙ sym (ad .fenced)) (n .durable ∙ sym (ad .durable)) refl (n .round ∙ sym (ad .round)) (n .cursor ∙ sym (ad .cursor)))
 
-  commit-numbers : (v : ℕ) (batch : List ℕ) (p : ℕ → ℕ) (b : Book)
+  commit-numbers : (v : ℕ) (batch : List ℕ) (p : ℕ → ℕ) (b : Book) → v < 8
       → Numbers (numbered s (s .start) (s .settled) (s .fenced) (s .durable) (lastAfter (s .last) (commits v batch) (commitEffect (lent w [] batch v 0) .figure)) p b)
       (stateOf (commitEffect (lent w [] batch v 0) .state))
   unfolding commitEffect lastAfter lent
-  commit-numbers v batch p b = go (holds (writerOf (w .state) v))
+  commit-numbers v batch p b wk = go (holds (writerOf (w .state) v))
     where
       go : (d : Bool)
           → Numbers
@@ -178,8 +187,8 @@ module _ (G D : ℕ) (z : Sizes G D) (w : World) (r : Running G D w) (s : Store)
       go true =
           let f : commitHeld (lent w [] batch v 0) (writerOf (w .state) v) (nextPosition (stateOf (w .state))) .figure ≡ nextPosition (stateOf (w .state)) + 1 =
           unfold commitHeld in refl in
-          rw (f, ne-eqb (nextPosition (stateOf (w .state)) + 1) 0 (λ e. omega arith)) (held-numbers v batch p b)
-      go false = (unfold abortEffect newState in stays p b (setPromise (setWriter (w .state) v idle) v 0) (idle-state v))
+          rw (f, ne-eqb (nextPosition (stateOf (w .state)) + 1) 0 (λ e. omega arith)) (held-numbers v batch p b wk)
+      go false = (unfold abortEffect newState in stays p b (setPromise (setWriter (w .state) v idle) v 0) (idle-state v wk))
 
   -- ---- flush
 
@@ -221,13 +230,13 @@ module _ (G D : ℕ) (z : Sizes G D) (w : World) (r : Running G D w) (s : Store)
           (unfold flushNone in
           rw none-state
           (numbers-as s p b (s .start) (s .settled) (7 * (firstGroup s + s .book .rows)) (s .durable) (s .last)
-          (withFenced (stateOf (w .state)) (7 * stateOf (w .state) .next)) (n .start) (n .settled) (omega (arith, rows)) (n .durable) (n .last)))
+          (withFenced (stateOf (w .state)) (7 * stateOf (w .state) .next)) (n .start) (n .settled) (omega (arith, rows)) (n .durable) (n .last) (n .round) (n .cursor)))
       go false =
           (unfold flushPart book.submit in
           rw part-state
           (numbers-as s p b (s .start) (s .settled) (7 * (firstGroup s + (s .book .rows + 1))) (s .durable) (s .last)
           (withFenced (withFilled (withNext (stateOf (w .state)) (stateOf (w .state) .next + 1)) 0) (7 * (stateOf (w .state) .next + 1))) (n .start) (n .settled)
-          (omega (arith, rows)) (n .durable) (n .last)))
+          (omega (arith, rows)) (n .durable) (n .last) (n .round) (n .cursor)))
 
   -- ---- the calls that the book is fed
 
@@ -245,22 +254,27 @@ module _ (G D : ℕ) (z : Sizes G D) (w : World) (r : Running G D w) (s : Store)
       rw (done-state _ g (reserveAnswer g places) (reserveEffect g places) refl h)
       (unfold reserveEffect newState lent fencedAfter lastAfter in
       stays _ _ (setPromise (setWriter (w .state) v begun) v places)
-      (state-setPromise (setWriter (w .state) v begun) v places ∙ state-setWriter (w .state) v begun)))
+      (state-setPromise (setWriter (w .state) v begun) v places
+      (writer-ok w v 0 [] [] (reserve-ready g places (sym (outcome-code g (reserveAnswer g places) (reserveEffect g places)) ∙ h) .1)) ∙ state-setWriter (w .state) v begun)))
   change-numbers (aborts v) h =
       let g : Given = lent w [] [] v 0 in
       (unfold abortCall in
       rw (done-state _ g (abortAnswer g) (abortEffect g) refl h)
-      (unfold abortEffect newState lent fencedAfter lastAfter in stays _ _ (setPromise (setWriter (w .state) v idle) v 0) (idle-state v)))
+      (unfold abortEffect newState lent fencedAfter lastAfter in stays _ _ (setPromise (setWriter (w .state) v idle) v 0)
+      (idle-state v (writer-ok w v 0 [] [] (abort-ready g (sym (outcome-code g (abortAnswer g) (abortEffect g)) ∙ h) .1)))))
   change-numbers (stores v home block batch) h =
       let g : Given = lent w block batch v home in
       (unfold storeCall in
       rw (done-state _ g (storeAnswer g (sizeOf (storeEffect g))) (storeEffect g) refl h)
-      (unfold fencedAfter lastAfter in store-numbers v home block batch _ _ (block-ok w v home block batch h)))
+      (unfold fencedAfter lastAfter in store-numbers v home block batch _ _
+      (writer-ok w v home block batch (store-ready g (sizeOf (storeEffect g)) (sym (outcome-code g (storeAnswer g (sizeOf (storeEffect g))) (storeEffect g)) ∙ h) .writer))
+      (block-ok w v home block batch h)))
   change-numbers (commits v batch) h =
       let g : Given = lent w [] batch v 0 in
       (unfold commitCall in
       rw (done-state _ g (commitAnswer g (sizeOf (commitEffect g))) (commitEffect g) refl h, done-figure _ g (commitAnswer g (sizeOf (commitEffect g))) (commitEffect g) refl h)
-      (unfold fencedAfter in commit-numbers v batch _ _))
+      (unfold fencedAfter in commit-numbers v batch _ _
+      (writer-ok w v 0 [] batch (commit-ready g (sizeOf (commitEffect g)) (sym (outcome-code g (commitAnswer g (sizeOf (commitEffect g))) (commitEffect g)) ∙ h) .writer))))
   change-numbers (flushes batch) h =
       let g : Given = lent w [] batch 0 0 in
       (unfold flushCall in
@@ -468,7 +482,7 @@ module _ (G D : ℕ) (z : Sizes G D) (w : World) (r : Running G D w) (s : Store)
         state-setDurable (w .state) (st .fenced) (r .copies .stateSize) (omega (arith, next-small, o .fenced-next)),
       )
       (numbers-as s _ _ (s .start) (s .settled) (s .fenced) (st .fenced) (s .last) (withDurable (stateOf (w .state)) (stateOf (w .state) .fenced)) (n .start)
-      (n .settled) (n .fenced) refl (n .last))
+      (n .settled) (n .fenced) refl (n .last) (n .round) (n .cursor))
 
   confirm-promises : ends w confirm .code ≡ 0 → (x : ℕ) → x < 8 → s .promises x ≡ promiseOf (ends w confirm .state) x
   unfolding ends confirmCall
@@ -486,7 +500,7 @@ module _ (G D : ℕ) (z : Sizes G D) (w : World) (r : Running G D w) (s : Store)
       rw (done-state _ g (settleAnswer g (sizeOf (settleEffect g))) (settleEffect g) refl h, settle-effect G D z w r batch, numbers G D z w r)
       (numbers-as s (s .promises) (s .book) (s .start) (s .fenced) (7 * nextGroup s) (s .durable) (s .last)
       (withFenced (withSettled (stateOf (w .state)) (stateOf (w .state) .fenced)) (7 * stateOf (w .state) .next)) (n .start) (n .fenced)
-      (ap (λ (x : ℕ). 7 * x) (next-is G D z w r s a)) (n .durable) (n .last))
+      (ap (λ (x : ℕ). 7 * x) (next-is G D z w r s a)) (n .durable) (n .last) (n .round) (n .cursor))
 
   -- a trim to a group at which the log may start
   trim-to-numbers : (batch : List ℕ) (x : ℕ) → MayMove G D w r x → x ≤ 2 ^ 47
@@ -508,7 +522,8 @@ module _ (G D : ℕ) (z : Sizes G D) (w : World) (r : Running G D w) (s : Store)
           (sym (moved-numbers G D z w r x t most))
           (numbers-as s (s .promises) (s .book) x (s .settled) (7 * nextGroup s) (s .durable) (cond (leb (s .last) (7 * x)) 0 (s .last))
           (withLast (withFenced (withStart (stateOf (w .state)) x) (7 * stateOf (w .state) .next)) (cond (leb (stateOf (w .state) .last) (7 * x)) 0 (stateOf (w .state) .last)))
-          refl (n .settled) (ap (λ (y : ℕ). 7 * y) (next-is G D z w r s a)) (n .durable) (ap (λ (y : ℕ). cond (leb y (7 * x)) 0 y) (n .last)))
+          refl (n .settled) (ap (λ (y : ℕ). 7 * y) (next-is G D z w r s a)) (n .durable) (ap (λ (y : ℕ). cond (leb y (7 * x)) 0 y) (n .last))
+          (n .round) (n .cursor))
 
       go : (d : Bool)
           → Numbers (cond d s (numbered s x (s .settled) (7 * nextGroup s) (s .durable) (cond (leb (s .last) (7 * x)) 0 (s .last)) (s .promises) (s .book)))
@@ -531,6 +546,8 @@ module _ (G D : ℕ) (z : Sizes G D) (w : World) (r : Running G D w) (s : Store)
 
   service-numbers : (c : Service) → ends w (service c) .code ≡ 0 → Numbers (afterService s c) (stateOf (ends w (service c) .state))
   service-numbers (settles batch) h = settle-numbers batch h
+  service-numbers roundBegins h = begin-round-numbers G D z w r s a h
+  service-numbers (roundSteps k batch) h = step-round-numbers G D z w r s a k batch h
   service-numbers (trims batch) h = trim-numbers batch h
   service-numbers (reads v home block) h =
       let g : Given = lent w block [] v home in
@@ -571,6 +588,8 @@ module _ (G D : ℕ) (z : Sizes G D) (w : World) (r : Running G D w) (s : Store)
 
   service-promises : (c : Service) → ends w (service c) .code ≡ 0 → (x : ℕ) → x < 8 → s .promises x ≡ promiseOf (ends w (service c) .state) x
   service-promises (settles batch) h x l = settle-promises batch x l h
+  service-promises roundBegins h x l = ps x l ∙ sym (begin-round-promises G D z w r s a h x l)
+  service-promises (roundSteps k batch) h x l = ps x l ∙ sym (step-round-promises G D z w r s a k batch h x l)
   service-promises (trims batch) h x l = trim-promises batch x l h
   service-promises (reads v home block) h x l =
       let g : Given = lent w block [] v home in
@@ -582,8 +601,20 @@ module _ (G D : ℕ) (z : Sizes G D) (w : World) (r : Running G D w) (s : Store)
   pub service-same : (c : Service)
       → (afterService s c .groups ≡ s .groups) × (afterService s c .homes ≡ s .homes) × (afterService s c .head ≡ s .head) × (afterService s c .back ≡ s .back)
       × (afterService s c .book ≡ s .book) × (afterService s c .promises ≡ s .promises)
-  unfolding afterService numbered trimmedTo
+  unfolding afterService numbered inRound roundOver trimmedTo
   service-same (settles batch) = (refl, refl, refl, refl, refl, refl)
+  service-same roundBegins = (refl, refl, refl, refl, refl, refl)
+  service-same (roundSteps k batch) = go (leb (length (toStep s)) k)
+    where
+      next : Store
+      next = inRound s (s .round) (getD (toStep s) (k - 1) 0 + 1)
+
+      go : (d : Bool)
+          → (cond d (roundOver s) next .groups ≡ s .groups) × (cond d (roundOver s) next .homes ≡ s .homes)
+          × (cond d (roundOver s) next .head ≡ s .head) × (cond d (roundOver s) next .back ≡ s .back)
+          × (cond d (roundOver s) next .book ≡ s .book) × (cond d (roundOver s) next .promises ≡ s .promises)
+      go true = (refl, refl, refl, refl, refl, refl)
+      go false = (refl, refl, refl, refl, refl, refl)
   service-same (trims batch) = go (eqb (nextStart s) (s .start))
     where
       go : (d : Bool)
@@ -672,8 +703,16 @@ module _ (G D : ℕ) (z : Sizes G D) (w : World) (c : Closed G D w) (s : Store) 
   opened-numbers =
       let m : b ≤ 2 ^ 47 = opened-small in
       rw (opened-state, state-fresh G D b (omega (arith, z .high)) (omega (arith, z .homes)) (omega arith))
-      (numbers-as s _ _ (firstGroup s) (7 * firstGroup s) (7 * firstGroup s) (7 * firstGroup s) 0 _ opened-first (omega (arith, opened-first))
-      (omega (arith, opened-first)) (omega (arith, opened-first)) refl)
+      (unfold inRound numbered in
+      (record {
+        start = opened-first;
+        settled = omega (arith, opened-first);
+        fenced = omega (arith, opened-first);
+        durable = omega (arith, opened-first);
+        last = refl;
+        round = refl;
+        cursor = refl;
+      }))
 
   opened-newest : length (ends w (opening state newest batch) .newest) ≡ 8 * D
   opened-newest =
@@ -685,14 +724,14 @@ module _ (G D : ℕ) (z : Sizes G D) (w : World) (c : Closed G D w) (s : Store) 
   unfolding afterDone
   opened-agrees =
       record {
-        groups = unfold store.afterDone numbered in a .groups;
-        homes = unfold store.afterDone numbered in a .homes;
-        head = unfold store.afterDone numbered in a .head;
-        found = unfold store.afterDone numbered in a .found;
-        book = unfold store.afterDone numbered in ap (λ (x : Book). feed x (opening state newest batch) (ends w (opening state newest batch) .figure)) (a .book);
+        groups = unfold store.afterDone inRound numbered in a .groups;
+        homes = unfold store.afterDone inRound numbered in a .homes;
+        head = unfold store.afterDone inRound numbered in a .head;
+        found = unfold store.afterDone inRound numbered in a .found;
+        book = unfold store.afterDone inRound numbered in ap (λ (x : Book). feed x (opening state newest batch) (ends w (opening state newest batch) .figure)) (a .book);
         numbers = λ k. opened-numbers;
         newest = λ k. opened-newest;
-        promises = λ k x l. unfold store.afterDone numbered in sym (ap (λ (t : List ℕ). promiseOf t x) opened-state ∙ promise-fresh G D b x);
+        promises = λ k x l. unfold store.afterDone inRound numbered in sym (ap (λ (t : List ℕ). promiseOf t x) opened-state ∙ promise-fresh G D b x);
       }
 
 -- ---- a call, done or refused

@@ -1,6 +1,6 @@
 -- What a done settle and a done confirm yield in the book's terms, and the strip that every call of an era finds in order. Assumes nothing.
 use Prim.Native.Nat.{ℕ, _+_, _-_, _*_, _/_, _≤_, _<_}
-use mathlib.Core.Path.{_≡_, refl, sym, ap, _∙_}
+use mathlib.Core.Path.{_≡_, refl, sym, ap, _∙_, subst}
 use mathlib.Core.Bool.{Bool, true, false, _&&_, and-true}
 use mathlib.Core.List.{List, [], _∷_, _++_}
 use native.Mathlib.Omega.{arith}
@@ -10,23 +10,28 @@ use lib.ListN.{length}
 use borrow.Author.Tests.{le-leb, lt-ltb, le-ltb}
 use Rattle.model.specs.Layout.{groupsIn}
 use Rattle.model.specs.Batch.{Record, FN}
-use Rattle.model.specs.State.{stateOf, inOrder}
-use Rattle.model.specs.Effects.{Given, Effect, newState, confirmEffect, settleEffect}
-use Rattle.model.specs.Questions.{confirmAnswer, settleAnswer}
-use Rattle.model.specs.Calls.{Outcome, outcome, done, sizeOf, confirmCall, settleCall}
+use Rattle.model.specs.State.{State, stateOf, setRound, setCursor, fixedIn, inOrder}
+use Rattle.model.specs.Effects.{Given, Effect, newState, confirmEffect, settleEffect, beginRoundEffect, stepRoundEffect}
+use Rattle.model.specs.Questions.{confirmAnswer, settleAnswer, beginRoundAnswer, stepRoundAnswer}
+use Rattle.model.specs.Calls.{Outcome, outcome, done, sizeOf, confirmCall, settleCall, beginRoundCall, stepRoundCall}
 use Rattle.model.specs.Crash.{isFence, fences}
 use Rattle.model.specs.Book.{row, Entry, Commit, homesAfter, owedBy}
-use Rattle.model.specs.Demands.{closedBelow, groupWrites, fencedRows, rowsFenced, keptBelow, allBelow, owedRows}
-use Rattle.model.specs.History.{confirm, settle, World, lent, ends, serviceEnds}
+use Rattle.model.specs.Demands.{closedBelow, groupWrites, fencedRows, rowsFenced, keptBelow, allBelow, owedRows, SettledHomes}
+use Rattle.model.specs.History.{confirm, settle, World, lent, ends, serviceEnds, beginRound, stepRound}
 use Rattle.model.proofs.bytes.LayoutLaws.{groups-in}
 use Rattle.model.proofs.strip.OrderLaws.{order-in}
-use Rattle.model.proofs.trace.CrashLaws.{submits, NoFence, none-submits, fences-append, fences-none, groupWrites-append, groupWrites-fence, groupWrites-submits}
+use Rattle.model.proofs.trace.CrashLaws.{NoFence, fences-append, fences-none, groupWrites-append, groupWrites-fence}
+use Rattle.model.proofs.trace.MixLaws.{none-mixed}
+use Rattle.model.proofs.steps.FenceRuns.{tail-groups}
 use Rattle.model.proofs.trace.Trace.{Ev, hist, closerOf}
 use Rattle.model.proofs.trace.TraceLaws.{All, Falling, Long, done-falling, done-long}
 use Rattle.model.proofs.invariant.RunLaws.{ticket-below}
 use Rattle.model.proofs.steps.DoneLaws.{outcome-code, outcome-done}
 use Rattle.model.proofs.steps.SettleRuns as settles
 use Rattle.model.proofs.steps.FenceRuns.{lasting-groups}
+use Rattle.model.proofs.steps.RoundRuns.{lent-out, lent-within, begun-numbers, step-yields}
+use Rattle.model.proofs.strip.QuestionLaws.{begin-round-ready, step-round-ready}
+use Rattle.model.proofs.strip.StateLaws.{withRound, withCursor}
 use Rattle.model.proofs.invariant.Invariant.{Sizes, entryFor, entriesFor, Matches, OldCommits, Commits, Running}
 
 -- an answer of 0 is a done call
@@ -168,9 +173,9 @@ module _ (G D : ℕ) (z : Sizes G D) (w : World) (r : Running G D w) where
   pub rows-pending : w .book .rows ≡ groupWrites (w .pending) - groupsIn (length (w .memory .log))
   rows-pending =
       let s = r .submitted in
-      let n : groupWrites ((s .fenced ++ (FN ∷ [])) ++ submits G (s .group) (s .content) (s .count)) ≡ groupWrites (s .fenced) + s .count =
-      groupWrites-append (s .fenced ++ (FN ∷ [])) (submits G (s .group) (s .content) (s .count))
-      ∙ rw (groupWrites-fence (s .fenced), groupWrites-submits G (s .group) (s .content) (s .count)) in
+      let n : groupWrites ((s .fenced ++ (FN ∷ [])) ++ s .tail) ≡ groupWrites (s .fenced) + s .count =
+      groupWrites-append (s .fenced ++ (FN ∷ [])) (s .tail)
+      ∙ rw (groupWrites-fence (s .fenced), tail-groups G D (r .b) (r .tr) (r .old) w s) in
       r .copies .rows ∙ rw (lasting, s .split) (omega (arith, s .next, s .written, s .low, n))
 
   pub rows-fenced : rowsFenced w ≡ r .submitted .group - r .b
@@ -179,7 +184,7 @@ module _ (G D : ℕ) (z : Sizes G D) (w : World) (r : Running G D w) where
       let s = r .submitted in
       let n : fencedRows (w .pending) ≡ s .group - r .b + G =
       ap fencedRows (s .split)
-      ∙ fenced-rows (s .fenced) (submits G (s .group) (s .content) (s .count)) (none-submits G (s .group) (s .content) (s .count))
+      ∙ fenced-rows (s .fenced) (s .tail) (none-mixed (s .tail) (s .mixed))
       ∙ s .written in
       rw (lasting, n) (omega arith)
 
@@ -206,3 +211,37 @@ module _ (G D : ℕ) (z : Sizes G D) (w : World) (r : Running G D w) where
       ap (λ (o : Outcome). o .area) (ends-done (settleCall g) g (settleAnswer g (sizeOf (settleEffect g))) (settleEffect g) refl h)
       ∙ e ∙ settles.settle-yields G D z w r batch
       ∙ ap (λ (d : ℕ). homesAfter d (closedBelow (stateOf (w .state) .fenced) (w .book .commits))) (sym (r .copies .homes))
+
+  -- a round
+  pub begin-round-yields : ends w beginRound .code ≡ 0 → fixedIn (stateOf (ends w beginRound .state)) ≡ stateOf (w .state) .fenced
+  unfolding ends serviceEnds beginRoundCall
+  begin-round-yields h =
+      let g : Given = lent w [] [] 0 0 in
+      let q = ends-done (beginRoundCall g) g (beginRoundAnswer g) (beginRoundEffect g) refl h in
+      let none : stateOf (w .state) .round ≡ 0 =
+      lent-out w [] (begin-round-ready g (sym (outcome-code g (beginRoundAnswer g) (beginRoundEffect g)) ∙ h) .1) in
+      ap (λ (o : Outcome). fixedIn (stateOf (o .state))) q
+      ∙ fixed (begun-numbers G D z w r none)
+    where
+      fixed : stateOf (setCursor (setRound (w .state) (stateOf (w .state) .fenced + 1)) 0)
+          ≡ withCursor (withRound (stateOf (w .state)) (stateOf (w .state) .fenced + 1)) 0
+          → fixedIn (stateOf (done (lent w [] [] 0 0) (beginRoundEffect (lent w [] [] 0 0)) .state)) ≡ stateOf (w .state) .fenced
+      fixed e = unfold done beginRoundEffect newState lent fixedIn in (ap (λ (x : State). x .round - 1) e ∙ omega arith)
+
+  pub step-round-yields : (k : ℕ) (batch : List ℕ) → ends w (stepRound k batch) .code ≡ 0
+      → SettledHomes (w .homes) (ends w (stepRound k batch) .area) (stateOf (ends w (stepRound k batch) .state)) (w .book .commits)
+  unfolding ends serviceEnds stepRoundCall
+  step-round-yields k batch h =
+      let g : Given = lent w [] batch 0 0 in
+      let e : Effect = stepRoundEffect g k in
+      let a : stepRoundAnswer g k (sizeOf e) ≡ 0 = sym (outcome-code g (stepRoundAnswer g k (sizeOf e)) e) ∙ h in
+      let q = step-round-ready g k (sizeOf e) a in
+      let under : 1 ≤ stateOf (w .state) .round = lent-within w batch (q .1) in
+      subst (λ (o : Outcome). SettledHomes (w .homes) (o .area) (stateOf (o .state)) (w .book .commits))
+      (sym (ends-done (stepRoundCall g k) g (stepRoundAnswer g k (sizeOf e)) e refl h))
+      (subst (λ (d : ℕ). SettledHomes d (done g e .area) (stateOf (done g e .state)) (w .book .commits)) (sym (r .copies .homes))
+      (left g e (step-yields G D z w r under k batch (q .2))))
+    where
+      left : (g : Given) (e : Effect) → SettledHomes D (e .area) (stateOf (e .state)) (w .book .commits)
+          → SettledHomes D (done g e .area) (stateOf (done g e .state)) (w .book .commits)
+      left g e f = unfold done in f

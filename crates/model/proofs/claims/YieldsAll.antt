@@ -16,14 +16,14 @@ use Rattle.model.specs.Calls.{Outcome, done, sizeOf, commitCall}
 use Rattle.model.specs.Book.{Commit, Task, idle, opened, Book, filledUp, submit, grown, withTask, addCommit, entryOf, storeTask, commitTask, owedBy, owedAll, withCommits}
 use Rattle.model.specs.Book as book
 use Rattle.model.specs.Demands.{Live, Yields, ServiceYields, YieldsAt}
-use Rattle.model.specs.History.{Change, begins, reserves, aborts, stores, commits, flushes, Service, settles, trims, reads, Call, opening, confirm, change, service, commit, Event, call, crash, World, unopened, emptyStore, lent, ends, changeEnds, feed, feedChange, isOpening, afterDone, afterCall, afterCrash, step, Allowed}
+use Rattle.model.specs.History.{Change, begins, reserves, aborts, stores, commits, flushes, Service, settles, trims, reads, Call, opening, confirm, change, service, commit, Event, call, crash, World, unopened, emptyStore, lent, ends, changeEnds, feed, feedChange, isOpening, afterDone, afterCall, afterCrash, step, Allowed, roundBegins, roundSteps}
 use Rattle.model.proofs.strip.QuestionLaws.{commit-ready}
 use Rattle.model.proofs.steps.RefusalLaws.{left-as-lent}
 use Rattle.model.proofs.steps.DoneLaws.{outcome-code}
 use Rattle.model.proofs.trace.Trace.{Ev}
 use Rattle.model.proofs.invariant.Invariant.{Sizes, TaskOk, Running, Invariant}
 use Rattle.model.proofs.claims.DemandThree.{keeps}
-use Rattle.model.proofs.claims.Yields.{PastOwed, ends-done, confirm-yields, settle-yields}
+use Rattle.model.proofs.claims.Yields.{PastOwed, ends-done, confirm-yields, settle-yields, begin-round-yields, step-round-yields}
 use Rattle.model.proofs.claims.TrimYields.{trim-yields}
 use Rattle.model.proofs.steps.HeldLogs.{filled-commits}
 
@@ -174,6 +174,8 @@ module _ (G D : ℕ) (z : Sizes G D) where
 
   service-yields : (w : World) (r : Running G D w) → Live w → (c : Service) → ends w (service c) .code ≡ 0 → ServiceYields w c (ends w (service c))
   service-yields w r l (settles batch) h = settle-yields G D z w r batch h
+  service-yields w r l roundBegins h = begin-round-yields G D z w r h
+  service-yields w r l (roundSteps k batch) h = step-round-yields G D z w r k batch h
   service-yields w r l (trims batch) h = trim-yields G D z w r batch h
   service-yields w r l (reads v home block) h = l .readable v home block h
 

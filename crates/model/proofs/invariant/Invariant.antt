@@ -14,14 +14,16 @@ use Rattle.model.specs.Layout.{groupMark, groupAt, groupNumber, groupTag
 use Rattle.model.specs.Commit.{transactions}
 use Rattle.model.specs.Batch.{Record, FN}
 use Rattle.model.specs.State.{State, stateOf, nextPosition, Writer, writerOf, heldOf}
-use Rattle.model.specs.Effects.{replayed}
+use Rattle.model.specs.Effects.{replayed, homeWrites}
 use Rattle.model.specs.Crash.{Memory, fences, persist, fates}
 use Rattle.model.specs.Book.{Kept, row, persisted, Entry, Commit, Held, Task, idle, opened, Book, fateAt, run, homesAfter}
-use Rattle.model.specs.Demands.{closedBelow, groupWrites}
+use Rattle.model.specs.Demands.{closedBelow, SettledHomes, groupWrites}
 use Rattle.model.specs.History.{World}
 use Rattle.model.specs.declared.Tag.{Tag}
 use Rattle.model.proofs.strip.OrderLaws.{InOrder}
 use Rattle.model.proofs.trace.CrashLaws.{writeRecords, submits}
+use Rattle.model.proofs.trace.HomeLaws.{In}
+use Rattle.model.proofs.trace.MixLaws.{Mixed, groupPart, homePart}
 use Rattle.model.proofs.trace.Trace.{Ev, Hist, mine, hist, firstOf, tagAt, homeOn, blockOn, linkIn, closerOf, oldestOf, Apart, LinkOk, Linked, LinkedIf}
 
 pub record Sizes (G D : ℕ) : Type 0 where
@@ -152,6 +154,11 @@ unfoldable pub touchesAbove : ℕ → ℕ → List Commit → Bool
 touchesAbove c h [] = false
 touchesAbove c h (k ∷ ks) = (ltb c (k .ticket) && hasHome h (k .entries)) || touchesAbove c h ks
 
+-- a home of a data area holds what the commits below some position wrote, which lies between two others
+abbrev pub HeldHome : ℕ → List Commit → ℕ → ℕ → List ℕ → ℕ → Type 0
+HeldHome D commits low high area h =
+    (bound : ℕ) × (low ≤ bound) × (bound ≤ high) × (homeAt area h ≡ homeAt (homesAfter D (closedBelow bound commits)) h)
+
 -- which positions of the era persisted
 unfoldable pub landedIn : ℕ → List (ℕ → Bool) → ℕ → Bool
 landedIn b fs p = fateAt fs (p / 7 - b) (p % 7)
@@ -234,16 +241,24 @@ pub record Copies (G D b : ℕ) (tr : List Ev) (w : World) : Type 0 where
   pub tasks : (v : ℕ) → v < 8 → TaskOk b tr (writerOf (w .state) v) (heldOf (w .state) v) (hist (7 * b) tr .openOf v) (w .book .tasks v)
   pub rows : w .book .rows ≡ stateOf (w .state) .next - b
   pub filled : w .book .filled ≡ stateOf (w .state) .filled
-  pub settledHomes : w .area ≡ homesAfter D (closedBelow (stateOf (w .state) .settled) (w .book .commits))
-  pub settledGroup : (n : ℕ) × (stateOf (w .state) .settled ≡ 7 * n)
+  pub settledHomes : SettledHomes D (w .area) (stateOf (w .state)) (w .book .commits)
 
--- the records since the last crash: those up to the last fence, then the groups submitted since
+-- the records since the last crash: those up to the last fence, then the groups submitted since and, mixed with them, the homes that the round under
+-- way has done since
 pub record Submitted (G D b : ℕ) (tr : List Ev) (old : List Commit) (w : World) : Type 0 where
   pub fenced : List Record
   pub group : ℕ
   pub count : ℕ
   pub content : ℕ → List ℕ
-  pub split : w .pending ≡ (fenced ++ (FN ∷ [])) ++ submits G group content count
+  pub tail : List Record
+  pub done : List ℕ
+  pub split : w .pending ≡ (fenced ++ (FN ∷ [])) ++ tail
+  pub mixed : Mixed tail
+  pub groupsOf : groupPart tail ≡ submits G group content count
+  pub homesOf : homePart tail ≡ homeWrites (w .area) done
+  pub behind : (h : ℕ) → In h done → (h < D) × (1 ≤ stateOf (w .state) .round) × (h < stateOf (w .state) .cursor)
+  -- all of them written, the data area is the data copy
+  pub area : writeRecords tail (writeRecords fenced (w .memory)) .area ≡ w .area
   pub atFence : stateOf (w .state) .fenced ≡ 7 * group
   pub next : group + count ≡ stateOf (w .state) .next
   pub low : b ≤ group
@@ -251,7 +266,9 @@ pub record Submitted (G D b : ℕ) (tr : List Ev) (old : List Commit) (w : World
   pub contents : (n : ℕ) → group ≤ n → n < group + count → Holds G (7 * b) tr (content n) n
   -- the memory where everything up to the last fence has persisted
   pub logSize : length (writeRecords fenced (w .memory) .log) ≡ 64 + 512 * G
-  pub area : writeRecords fenced (w .memory) .area ≡ w .area
+  pub areaSize : length (writeRecords fenced (w .memory) .area) ≡ 64 * D
+  pub homes :
+      (h : ℕ) → h < D → HeldHome D (w .book .commits) (stateOf (w .state) .settled) (7 * group) (writeRecords fenced (w .memory) .area) h
   pub header : headerRight (writeRecords fenced (w .memory) .log) G D ≡ true
   pub start : headerStart (writeRecords fenced (w .memory) .log) ≡ stateOf (w .state) .start
   pub numbers : FoundBelow (writeRecords fenced (w .memory) .log) G group

@@ -7,10 +7,9 @@ use mathlib.Core.Option.{none}
 use lib.ListN.{length}
 use Rattle.model.specs.Layout.{groupAt, headerRight, headerStart}
 use Rattle.model.specs.Crash.{Memory}
-use Rattle.model.specs.Book.{Commit, homesAfter}
-use Rattle.model.specs.Demands.{closedBelow}
+use Rattle.model.specs.Book.{Commit}
 use Rattle.model.proofs.trace.Trace.{Ev, hist, tagAt, Apart, Linked}
-use Rattle.model.proofs.invariant.Invariant.{Sizes, Sound, Holds, FoundBelow, Turned, Commits}
+use Rattle.model.proofs.invariant.Invariant.{Sizes, Sound, Holds, FoundBelow, Turned, Commits, HeldHome}
 
 -- `start` and `settled` are the strip's; groups below `group` were submitted before the fence, those from it to group + count since
 pub record Now (G D b : ℕ) (tr : List Ev) (old commits : List Commit) (start settled group count : ℕ) (content : ℕ → List ℕ) (m : Memory) : Type 0 where
@@ -25,7 +24,8 @@ pub record Now (G D b : ℕ) (tr : List Ev) (old commits : List Commit) (start s
   pub logged : 7 * (group + count) ≤ 7 * b + length tr
   pub contents : (n : ℕ) → group ≤ n → n < group + count → Holds G (7 * b) tr (content n) n
   pub logSize : length (m .log) ≡ 64 + 512 * G
-  pub area : m .area ≡ homesAfter D (closedBelow settled commits)
+  pub areaSize : length (m .area) ≡ 64 * D
+  pub homes : (h : ℕ) → h < D → HeldHome D commits settled (7 * group) (m .area) h
   pub header : headerRight (m .log) G D ≡ true
   pub headStart : headerStart (m .log) ≡ start
   pub numbers : FoundBelow (m .log) G group

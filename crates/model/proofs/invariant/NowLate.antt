@@ -1,5 +1,5 @@
--- The memory that a crash may leave in the stretch after the last fence: any choice of the groups submitted since, and of the homes that a settle
--- writes or the header that a trim writes, leaves memory as the invariant has it (Late). Assumes nothing.
+-- The memory that a crash may leave in the stretch after the last fence: any choice of the groups submitted since, and of the homes that a settle or
+-- a round's steps write or the header that a trim writes, leaves memory as the invariant has it (Late). Assumes nothing.
 use Prim.Native.Nat.{ℕ, zero, suc, _+_, _-_, _*_, _/_, _%_, _^_, _≤_, _<_}
 use mathlib.Core.Path.{_≡_, refl, sym, ap, _∙_}
 use mathlib.Core.Logic.{_⊎_, inl, inr}
@@ -13,7 +13,7 @@ use lib.ListN.{length}
 use borrow.Author.Tests.{ne-eqb, leb-true, leb-false}
 use Rattle.model.specs.Bytes.{part, puts, same}
 use Rattle.model.specs.Layout.{header, groupMark, groupAt, groupNumber, groupBlock, turnOf, topBit, headerRight, headerStart, homeAt}
-use Rattle.model.specs.Batch.{KW}
+use Rattle.model.specs.Batch.{KW, Record}
 use Rattle.model.specs.Effects.{homeWrites}
 use Rattle.model.specs.Crash.{Memory, persistChosen, fatesChosen}
 use Rattle.model.specs.Book.{Commit, fateAt, run, homesAfter}
@@ -23,14 +23,14 @@ use Rattle.model.proofs.bytes.ByteLaws.{length-puts}
 use Rattle.model.proofs.bytes.TurnLaws.{turnOf-lt}
 use Rattle.model.proofs.bytes.LayoutLaws.{length-header, header-start, header-right, length-groupAt, group-fits, group-header, ring}
 use Rattle.model.proofs.bytes.BlockLaws.{blockIn, same-mark, same-number, same-tag, same-data, group-ext}
-use Rattle.model.proofs.trace.CrashLaws.{trues, submits, pieceCount, none-submits, chosen-append, fate-append, fateAt-trues, fateAt-after}
+use Rattle.model.proofs.trace.CrashLaws.{trues, submits, pieceCount, none-submits, chosen-append, fate-append, fateAt-trues, fateAt-after, NoFence, none-homes, none-append}
 use Rattle.model.proofs.trace.SubmitLaws.{fateAt-submits, fateAt-submits-past, area-submits, length-submits, headerStart-submits, headerRight-submits, groupAt-elsewhere, blockIn-submits, meta-submits}
 use Rattle.model.proofs.trace.HomeLaws.{In, fates-homes, log-homes, length-homes, homeAt-homes, log-header, area-header, fates-header}
 use Rattle.model.proofs.trace.Trace.{Ev, hist, tagAt, closerOf, Apart, Linked, LinkedIf}
 use Rattle.model.proofs.trace.LinkLaws.{linked-later}
-use Rattle.model.proofs.invariant.Invariant.{Holds, HoldsAt, NotGroup, NotAt, FoundBelow, touchesAbove, landedIn, Late}
+use Rattle.model.proofs.invariant.Invariant.{Holds, HoldsAt, NotGroup, NotAt, FoundBelow, touchesAbove, landedIn, Late, HeldHome}
 use Rattle.model.proofs.invariant.GrowLaws.{holds-at}
-use Rattle.model.proofs.invariant.TouchLaws.{commits-fit, length-homesAfter, touches-more, homesAfter-untouched, LandedBelow, touches-run}
+use Rattle.model.proofs.invariant.TouchLaws.{commits-fit, touches-more, homesAfter-untouched, LandedBelow, touches-run}
 use Rattle.model.proofs.invariant.Now.{Now}
 
 -- ---- numbers
@@ -88,10 +88,11 @@ module _ {G D b : ℕ} {tr : List Ev} {old commits : List Commit} {start settled
     abbrev pub took : ℕ → ℕ → Bool
     took n j = chosen (0 + 8 * (n - group) + j)
 
-    fate-since : (n k : ℕ) → group ≤ n → n < group + count → fateAt fatesNow (n - b) k ≡ (took n 0 && took n (k + 1))
-    fate-since n k x y =
+    fate-since : (n k : ℕ) → group ≤ n → n < group + count → k < 7 → fateAt fatesNow (n - b) k ≡ (took n 0 && took n (k + 1))
+    fate-since n k x y z =
         let e : n - b - (group - b) ≡ n - group = omega (arith, low) in
-        fateAt-after (group - b) _ (n - b) k (omega arith) ∙ rw e (fateAt-submits chosen 0 G group content count (n - group) k (omega arith))
+        let i : k % 7 ≡ k = omega arith in
+        fateAt-after (group - b) _ (n - b) k (omega arith) ∙ rw e (rw i at (fateAt-submits chosen 0 G group content count (n - group) k (omega arith)))
 
     fate-beyond : (n k : ℕ) → group + count ≤ n → fateAt fatesNow (n - b) k ≡ false
     fate-beyond n k h =
@@ -195,8 +196,7 @@ module _ {G D b : ℕ} {tr : List Ev} {old commits : List Commit} {start settled
     module _ (s : ℕ) (M : Memory) (from : start ≤ s) (upto : 7 * s ≤ settled) (most : s ≤ 2 ^ 47) (apart : Apart (7 * s) (hist (7 * b) tr .done))
         (logSize : length (M .log) ≡ 64 + 512 * G) (areaSize : length (M .area) ≡ 64 * D) (right : headerRight (M .log) G D ≡ true)
         (at : headerStart (M .log) ≡ s) (groups : (slot : ℕ) → groupAt (M .log) slot ≡ groupAt (image .log) slot)
-        (homes : (h : ℕ) → h < D → (homeAt (M .area) h ≡ homeAt (homesAfter D (closedBelow settled commits)) h)
-        ⊎ (touchesAbove (7 * s) h (closedBelow (7 * group) commits) ≡ true)) where
+        (homes : (h : ℕ) → h < D → HeldHome D commits (7 * s) (7 * group) (M .area) h) where
       late-there : (n k : ℕ) → s ≤ n → k < 7 → fateAt fatesNow (n - b) k ≡ true → HoldsAt G (7 * b) tr (groupAt (M .log) (n % G)) n k
       late-there n k x i t = rw (groups (n % G)) (go (where-is n group count))
         where
@@ -207,7 +207,7 @@ module _ {G D b : ℕ} {tr : List Ev} {old commits : List Commit} {start settled
           go : (n < group) ⊎ (((group ≤ n) × (n < group + count)) ⊎ (group + count ≤ n)) → HoldsAt G (7 * b) tr (groupAt (image .log) (n % G)) n k
           go (inl h) = holds-at G (7 * b) tr (groupAt (image .log) (n % G)) n k i (there-before n (omega arith) h)
           go (inr (inl h)) =
-              let q = both (took n 0) (took n (k + 1)) (sym (fate-since n k (h .0) (h .1)) ∙ t) in
+              let q = both (took n 0) (took n (k + 1)) (sym (fate-since n k (h .0) (h .1) i) ∙ t) in
               entry-since n k (h .0) (h .1) i (q .0) (q .1)
           go (inr (inr h)) = absurd (false≢true (sym (fate-beyond n k h) ∙ t))
 
@@ -216,24 +216,22 @@ module _ {G D b : ℕ} {tr : List Ev} {old commits : List Commit} {start settled
         where
           go : (n < group) ⊎ (((group ≤ n) × (n < group + count)) ⊎ (group + count ≤ n)) → NotAt G (groupAt (image .log) (n % G)) n k
           go (inl h) = absurd (false≢true (sym t ∙ fate-before n k (omega (arith, N .from)) h))
-          go (inr (inl h)) = absent-since n k (h .0) (h .1) i (sym (fate-since n k (h .0) (h .1)) ∙ t)
+          go (inr (inl h)) = absent-since n k (h .0) (h .1) i (sym (fate-since n k (h .0) (h .1) i) ∙ t)
           go (inr (inr h)) = inl (found-not (image .log) G (group + count) (n % G) n numbers-now (mod-lt n (omega (arith, N .sizes .low))) h)
 
       late-homes : (h : ℕ) → h < D
           → (homeAt (M .area) h ≡ homeAt (homesAfter D (closedBelow (7 * s) commits)) h) ⊎ (touchesAbove (7 * s) h (run fatesNow commits) ≡ true)
-      late-homes h l = go (homes h l) (touchesAbove (7 * s) h (closedBelow settled commits)) refl
+      late-homes h l = let x = homes h l in go (x .0) (x .1) (x .2) (x .3) (touchesAbove (7 * s) h (closedBelow (x .0) commits)) refl
         where
-          go : (homeAt (M .area) h ≡ homeAt (homesAfter D (closedBelow settled commits)) h)
-              ⊎ (touchesAbove (7 * s) h (closedBelow (7 * group) commits) ≡ true)
-              → (d : Bool) → touchesAbove (7 * s) h (closedBelow settled commits) ≡ d
+          go : (bound : ℕ) → 7 * s ≤ bound → bound ≤ 7 * group → homeAt (M .area) h ≡ homeAt (homesAfter D (closedBelow bound commits)) h
+              → (d : Bool) → touchesAbove (7 * s) h (closedBelow bound commits) ≡ d
               → (homeAt (M .area) h ≡ homeAt (homesAfter D (closedBelow (7 * s) commits)) h) ⊎ (touchesAbove (7 * s) h (run fatesNow commits) ≡ true)
-          go (inr t) d q = inr (touches-run D b (7 * group) (7 * s) h tr old commits fatesNow (N .booked) landed-below t)
-          go (inl e) true q =
+          go bound x y e true q =
               inr
               (touches-run D b (7 * group) (7 * s) h tr old commits fatesNow (N .booked) landed-below
-              (touches-more (7 * s) h settled (7 * group) commits (N .settledGroup) q))
-          go (inl e) false q =
-              inl (e ∙ sym (homesAfter-untouched D h (7 * s) settled upto commits (commits-fit D b tr old commits (N .sound) (N .booked)) q))
+              (touches-more (7 * s) h bound (7 * group) commits y q))
+          go bound x y e false q =
+              inl (e ∙ sym (homesAfter-untouched D h (7 * s) bound x commits (commits-fit D b tr old commits (N .sound) (N .booked)) q))
 
       late : Late G D b tr commits M fatesNow
       late =
@@ -271,93 +269,110 @@ module _ {G D b : ℕ} {tr : List Ev} {old commits : List Commit} {start settled
   pub image-size : (chosen : ℕ → Bool) → length (image chosen .log) ≡ 64 + 512 * G
   image-size chosen = length-submits chosen 0 G group content count m ∙ N .logSize
 
-  pub image-area : (chosen : ℕ → Bool) → image chosen .area ≡ homesAfter D (closedBelow settled commits)
-  image-area chosen = area-submits chosen 0 G group content count m ∙ N .area
+  pub image-area : (chosen : ℕ → Bool) → image chosen .area ≡ m .area
+  image-area chosen = area-submits chosen 0 G group content count m
 
   pub image-homes : (chosen : ℕ → Bool) → length (image chosen .area) ≡ 64 * D
-  image-homes chosen = ap length (image-area chosen) ∙ length-homesAfter D (closedBelow settled commits)
+  image-homes chosen = ap length (image-area chosen) ∙ N .areaSize
 
-  pub now-late : (chosen : ℕ → Bool)
-      → Late G D b tr commits (persistChosen chosen 0 (submits G group content count) m)
-      (trues (group - b) ++ fatesChosen chosen 0 (submits G group content count))
-  now-late chosen =
-      late chosen start (image chosen) (omega arith) (N .startSettled) (N .most) (N .apart) (image-size chosen) (image-homes chosen)
-      (image-right chosen) (image-start chosen) (λ slot. refl) (λ h l. inl (ap (λ a. homeAt a h) (image-area chosen)))
+  -- ---- the groups, and homes that are written after them
 
-  -- ---- homes that a settle writes after them
+  module _ (area′ hs : List ℕ) (size : length area′ ≡ 64 * D) (inside : (h : ℕ) → In h hs → h < D)
+      (held : (h : ℕ) → In h hs → HeldHome D commits settled (7 * group) area′ h) (chosen : ℕ → Bool) where
+    abbrev stretch : List Record
+    stretch = submits G group content count ++ homeWrites area′ hs
 
-  module _ (area′ hs : List ℕ) (settles : area′ ≡ homesAfter D (closedBelow (7 * group) commits)) (inside : (h : ℕ) → In h hs → h < D) where
-    area-size : length area′ ≡ 64 * D
-    area-size = ap length settles ∙ length-homesAfter D (closedBelow (7 * group) commits)
+    abbrev at : ℕ
+    at = 0 + pieceCount (submits G group content count)
 
-    pub now-late-settle : ((h : ℕ) → In h hs → touchesAbove (7 * start) h (closedBelow (7 * group) commits) ≡ true) → (chosen : ℕ → Bool)
-        → Late G D b tr commits (persistChosen chosen 0 (submits G group content count ++ homeWrites area′ hs) m)
-        (trues (group - b) ++ fatesChosen chosen 0 (submits G group content count ++ homeWrites area′ hs))
-    now-late-settle touched chosen =
-        rw (
-          chosen-append chosen 0 (submits G group content count) (homeWrites area′ hs) m (none-submits G group content count),
-          fate-append chosen 0 (submits G group content count) (homeWrites area′ hs) (none-submits G group content count),
-          fates-homes,
-          append-nil (fatesChosen chosen 0 (submits G group content count)),
-        )
-        (late chosen start M (omega arith) (N .startSettled) (N .most) (N .apart) (rw log (image-size chosen))
-        (length-homes chosen i area′ hs (image chosen) ∙ image-homes chosen) (rw log (image-right chosen)) (rw log (image-start chosen))
-        (λ slot. rw log)
-        (λ h l. go h (homeAt-homes chosen i area′ hs (image chosen) h D inside (image-homes chosen) area-size)))
+    abbrev homed : Memory
+    homed = persistChosen chosen at (homeWrites area′ hs) (image chosen)
+
+    homed-is : persistChosen chosen 0 stretch m ≡ homed
+    homed-is = chosen-append chosen 0 (submits G group content count) (homeWrites area′ hs) m (none-submits G group content count)
+
+    homed-fates : fatesChosen chosen 0 stretch ≡ fatesChosen chosen 0 (submits G group content count)
+    homed-fates =
+        fate-append chosen 0 (submits G group content count) (homeWrites area′ hs) (none-submits G group content count)
+        ∙ rw fates-homes (append-nil (fatesChosen chosen 0 (submits G group content count)))
+
+    homed-log : homed .log ≡ image chosen .log
+    homed-log = log-homes chosen at area′ hs (image chosen)
+
+    homed-size : length (homed .area) ≡ 64 * D
+    homed-size = length-homes chosen at area′ hs (image chosen) ∙ image-homes chosen
+
+    -- each home is as it was, or as the settle or the round's step has it
+    homed-homes : (s : ℕ) → 7 * s ≤ settled → (h : ℕ) → h < D → HeldHome D commits (7 * s) (7 * group) (homed .area) h
+    homed-homes s l h i = go (homeAt-homes chosen at area′ hs (image chosen) h D inside (image-homes chosen) size)
       where
-        i : ℕ
-        i = 0 + pieceCount (submits G group content count)
+        go : (homeAt (homed .area) h ≡ homeAt (image chosen .area) h) ⊎ (In h hs × (homeAt (homed .area) h ≡ homeAt area′ h))
+            → HeldHome D commits (7 * s) (7 * group) (homed .area) h
+        go (inl e) = let x = N .homes h i in (x .0, omega (arith, x .1), x .2, e ∙ ap (λ a. homeAt a h) (image-area chosen) ∙ x .3)
+        go (inr p) = let x = held h (p .0) in (x .0, omega (arith, x .1), x .2, p .1 ∙ x .3)
 
-        M : Memory
-        M = persistChosen chosen i (homeWrites area′ hs) (image chosen)
+    pub now-late-homes : Late G D b tr commits (persistChosen chosen 0 stretch m) (trues (group - b) ++ fatesChosen chosen 0 stretch)
+    now-late-homes =
+        rw (homed-is, homed-fates)
+        (late chosen start homed (omega arith) (N .startSettled) (N .most) (N .apart) (rw homed-log (image-size chosen)) homed-size
+        (rw homed-log (image-right chosen)) (rw homed-log (image-start chosen)) (λ slot. rw homed-log)
+        (λ h l. homed-homes start (N .startSettled) h l))
 
-        log : M .log ≡ image chosen .log
-        log = log-homes chosen i area′ hs (image chosen)
+    pub same-start : headerStart (persistChosen chosen 0 stretch m .log) ≡ start
+    same-start = rw (homed-is, homed-log) (image-start chosen)
 
-        go : (h : ℕ) → (homeAt (M .area) h ≡ homeAt (image chosen .area) h) ⊎ (In h hs × (homeAt (M .area) h ≡ homeAt area′ h))
-            → (homeAt (M .area) h ≡ homeAt (homesAfter D (closedBelow settled commits)) h)
-            ⊎ (touchesAbove (7 * start) h (closedBelow (7 * group) commits) ≡ true)
-        go h (inl e) = inl (e ∙ ap (λ a. homeAt a h) (image-area chosen))
-        go h (inr p) = inr (touched h (p .0))
+    -- ---- the header that a trim writes after them
 
-  -- ---- the header that a trim writes after them
+    module _ (s : ℕ) (from : start ≤ s) (upto : 7 * s ≤ settled) (most : s ≤ 2 ^ 47) (apart : Apart (7 * s) (hist (7 * b) tr .done)) where
+      abbrev moved : Memory
+      moved = persistChosen chosen (0 + pieceCount stretch) (KW (header s G D) ∷ []) (persistChosen chosen 0 stretch m)
 
-  module _ (s : ℕ) (from : start ≤ s) (upto : 7 * s ≤ settled) (most : s ≤ 2 ^ 47) (apart : Apart (7 * s) (hist (7 * b) tr .done)) where
-    pub now-late-trim : (chosen : ℕ → Bool)
-        → Late G D b tr commits (persistChosen chosen 0 (submits G group content count ++ (KW (header s G D) ∷ [])) m)
-        (trues (group - b) ++ fatesChosen chosen 0 (submits G group content count ++ (KW (header s G D) ∷ [])))
-    now-late-trim chosen =
-        rw (
-          chosen-append chosen 0 (submits G group content count) (KW (header s G D) ∷ []) m (none-submits G group content count),
-          fate-append chosen 0 (submits G group content count) (KW (header s G D) ∷ []) (none-submits G group content count),
-          fates-header,
-          append-nil (fatesChosen chosen 0 (submits G group content count)),
-        )
-        (go (chosen i) (log-header chosen i (header s G D) (image chosen)))
-      where
-        i : ℕ
-        i = 0 + pieceCount (submits G group content count)
+      no-fence : NoFence stretch
+      no-fence = none-append (submits G group content count) (homeWrites area′ hs) (none-submits G group content count) (none-homes area′ hs)
 
-        M : Memory
-        M = persistChosen chosen i (KW (header s G D) ∷ []) (image chosen)
+      moved-is : persistChosen chosen 0 (stretch ++ (KW (header s G D) ∷ [])) m ≡ moved
+      moved-is = chosen-append chosen 0 stretch (KW (header s G D) ∷ []) m no-fence
 
-        area : M .area ≡ homesAfter D (closedBelow settled commits)
-        area = area-header chosen i (header s G D) (image chosen) ∙ image-area chosen
+      moved-fates : fatesChosen chosen 0 (stretch ++ (KW (header s G D) ∷ [])) ≡ fatesChosen chosen 0 (submits G group content count)
+      moved-fates =
+          fate-append chosen 0 stretch (KW (header s G D) ∷ []) no-fence ∙ rw fates-header (append-nil (fatesChosen chosen 0 stretch)) ∙ homed-fates
 
-        size : length (M .area) ≡ 64 * D
-        size = ap length area ∙ length-homesAfter D (closedBelow settled commits)
+      moved-area : moved .area ≡ homed .area
+      moved-area = area-header chosen (0 + pieceCount stretch) (header s G D) (persistChosen chosen 0 stretch m) ∙ ap (λ (x : Memory). x .area) homed-is
 
-        long : 64 ≤ length (image chosen .log)
-        long = omega (arith, image-size chosen)
+      moved-log : moved .log ≡ cond (chosen (0 + pieceCount stretch)) (puts (image chosen .log) 0 (header s G D)) (image chosen .log)
+      moved-log =
+          log-header chosen (0 + pieceCount stretch) (header s G D) (persistChosen chosen 0 stretch m)
+          ∙ rw (homed-is, homed-log)
 
-        go : (d : Bool) → M .log ≡ cond d (puts (image chosen .log) 0 (header s G D)) (image chosen .log)
-            → Late G D b tr commits M (trues (group - b) ++ fatesChosen chosen 0 (submits G group content count))
-        go true e =
-            late chosen s M from upto most apart (rw e (length-puts (image chosen .log) 0 (header s G D) ∙ image-size chosen)) size
-            (rw e (header-right (image chosen .log) s G D (omega (arith, N .sizes .high)) (omega (arith, N .sizes .homes)) long))
-            (rw e (header-start (image chosen .log) s G D (omega arith) long))
-            (λ slot. rw e (group-header (image chosen .log) (header s G D) slot (omega (arith, length-header s G D))))
-            (λ h l. inl (ap (λ a. homeAt a h) area))
-        go false e =
-            late chosen start M (omega arith) (N .startSettled) (N .most) (N .apart) (rw e (image-size chosen)) size (rw e (image-right chosen))
-            (rw e (image-start chosen)) (λ slot. rw e) (λ h l. inl (ap (λ a. homeAt a h) area))
+      long : 64 ≤ length (image chosen .log)
+      long = omega (arith, image-size chosen)
+
+      moved-homes : (r : ℕ) → 7 * r ≤ settled → (h : ℕ) → h < D → HeldHome D commits (7 * r) (7 * group) (moved .area) h
+      moved-homes r l h i = rw moved-area (homed-homes r l h i)
+
+      pub now-late-trim :
+          Late G D b tr commits (persistChosen chosen 0 (stretch ++ (KW (header s G D) ∷ [])) m)
+          (trues (group - b) ++ fatesChosen chosen 0 (stretch ++ (KW (header s G D) ∷ [])))
+      now-late-trim = rw (moved-is, moved-fates) (go (chosen (0 + pieceCount stretch)) moved-log)
+        where
+          go : (d : Bool) → moved .log ≡ cond d (puts (image chosen .log) 0 (header s G D)) (image chosen .log)
+              → Late G D b tr commits moved (trues (group - b) ++ fatesChosen chosen 0 (submits G group content count))
+          go true e =
+              late chosen s moved from upto most apart (rw e (length-puts (image chosen .log) 0 (header s G D) ∙ image-size chosen))
+              (rw moved-area homed-size)
+              (rw e (header-right (image chosen .log) s G D (omega (arith, N .sizes .high)) (omega (arith, N .sizes .homes)) long))
+              (rw e (header-start (image chosen .log) s G D (omega arith) long))
+              (λ slot. rw e (group-header (image chosen .log) (header s G D) slot (omega (arith, length-header s G D))))
+              (λ h l. moved-homes s upto h l)
+          go false e =
+              late chosen start moved (omega arith) (N .startSettled) (N .most) (N .apart) (rw e (image-size chosen)) (rw moved-area homed-size)
+              (rw e (image-right chosen)) (rw e (image-start chosen)) (λ slot. rw e) (λ h l. moved-homes start (N .startSettled) h l)
+
+      -- the header of memory is the old one or the new one
+      pub start-trim : headerStart (persistChosen chosen 0 (stretch ++ (KW (header s G D) ∷ [])) m .log) ≤ s
+      start-trim = rw moved-is (go (chosen (0 + pieceCount stretch)) moved-log)
+        where
+          go : (d : Bool) → moved .log ≡ cond d (puts (image chosen .log) 0 (header s G D)) (image chosen .log) → headerStart (moved .log) ≤ s
+          go true e = rw (e, header-start (image chosen .log) s G D (omega arith) long) (omega arith)
+          go false e = rw (e, image-start chosen) from

@@ -16,16 +16,17 @@ use Rattle.model.specs.Book.{Kept, persisted, Entry, Commit, Book, fateA
 use Rattle.model.specs.Book as book
 use Rattle.model.specs.Demands.{groupWrites, lost, NoneOwed, Crashed}
 use Rattle.model.specs.History.{World, rowFates, afterCrash}
-use Rattle.model.proofs.trace.CrashLaws.{trues, submits, writeRecords, fences-append, fences-submits, groupWrites-fence, persist-stop, fates-stop, persist-last, fates-last, fates-fenced, fateAt-trues}
+use Rattle.model.proofs.trace.CrashLaws.{trues, writeRecords, fences-append, groupWrites-fence, persist-stop, fates-stop, persist-last, fates-last, fates-fenced, fateAt-trues, fences-none}
 use Rattle.model.proofs.trace.FateLaws.{fateAt-drop, drop-trues}
+use Rattle.model.proofs.trace.MixLaws.{none-mixed}
 use Rattle.model.proofs.trace.Trace.{Ev, hist, closerOf, allLanded, whole}
 use Rattle.model.proofs.trace.TraceLaws.{All, Falling, Rising, Long, done-rising, done-falling, done-long}
 use Rattle.model.proofs.trace.WholeLaws.{whole-ext, whole-none}
 use Rattle.model.proofs.invariant.RunLaws.{survive-landed, run-matches, run-old}
 use Rattle.model.proofs.invariant.TouchLaws.{all-append, EntryFits, CommitFits, commits-fit}
 use Rattle.model.proofs.invariant.LateOpens.{late-opens}
-use Rattle.model.proofs.invariant.NowLate.{now-late}
-use Rattle.model.proofs.steps.FenceRuns.{lasting-groups, now-of}
+use Rattle.model.proofs.invariant.NowLate.{now-late-homes}
+use Rattle.model.proofs.steps.FenceRuns.{lasting-groups, now-of, inOrder, in-order-chosen, done-held}
 use Rattle.model.proofs.invariant.Invariant.{Sizes, Sound, OldEntries, OldCommits, OwedBelow, Matches, landedIn, entriesFor, Commits, Copies, Submitted, Confirmed, Running, Closed, Opens, Early, Late, ImageOk}
 
 -- commits of the run, once it is over
@@ -201,7 +202,18 @@ module _ (G D : ℕ) (z : Sizes G D) (w : World) (r : Running G D w) (passed : �
 
   -- what memory opens to
   pending-fences : fences (w .pending) ≡ fences (s .fenced ++ (FN ∷ []))
-  pending-fences = ap fences (s .split) ∙ fences-append (s .fenced ++ (FN ∷ [])) (submits G (s .group) (s .content) (s .count)) ∙ omega (arith, fences-submits G (s .group) (s .content) (s .count))
+  pending-fences =
+      ap fences (s .split) ∙ fences-append (s .fenced ++ (FN ∷ [])) (s .tail) ∙ omega (arith, fences-none (s .tail) (none-mixed (s .tail) (s .mixed)))
+
+  -- everything up to the last fence, and a choice of what was written since
+  late-now : Late G D (r .b) (r .tr) (w .book .commits) (persistChosen chosen 0 (s .tail) (writeRecords (s .fenced) (w .memory)))
+      (trues (s .group - r .b) ++ fatesChosen chosen 0 (s .tail))
+  late-now =
+      rw append-nil
+      at (in-order-chosen G D (r .b) (r .tr) (r .old) w s (λ x y. Late G D (r .b) (r .tr) (w .book .commits) x (trues (s .group - r .b) ++ y)) []
+      (λ c. rw (append-nil (inOrder G D (r .b) (r .tr) (r .old) w s))
+      (now-late-homes (now-of G D (r .b) (r .tr) (r .old) w z (r .commits) (r .copies) s) (w .area) (s .done) (r .copies .areaSize) (λ h i. s .behind h i .0)
+      (done-held G D (r .b) (r .tr) (r .old) w s (r .copies)) c)) chosen)
 
   pub image : ImageOk G D (r .b) (w .memory .log) (r .tr) (r .old) (w .book .commits) m fs
   image = rw fates-are (go (decLt passed (fences (s .fenced ++ (FN ∷ [])))))
@@ -213,15 +225,14 @@ module _ (G D : ℕ) (z : Sizes G D) (w : World) (r : Running G D w) (passed : �
           rw (e₁, e₂) (s .images passed chosen h)
       go (no h) =
           let p : passed ≡ fences (s .fenced ++ (FN ∷ [])) = omega (arith, pending-fences) in
-          let e₁ : m ≡ persistChosen chosen 0 (submits G (s .group) (s .content) (s .count)) (writeRecords (s .fenced) (w .memory)) =
-          ap (λ (x : List Record). persist passed chosen x (w .memory)) (s .split) ∙ ap (λ (n : ℕ). persist n chosen ((s .fenced ++ (FN ∷ [])) ++ submits G (s .group) (s .content) (s .count)) (w .memory)) p
-          ∙ persist-last (s .fenced) chosen (submits G (s .group) (s .content) (s .count)) (w .memory) in
-          let e₂ : fates passed chosen (w .pending) ≡ trues (s .group - r .b + G) ++ fatesChosen chosen 0 (submits G (s .group) (s .content) (s .count)) =
-          ap (fates passed chosen) (s .split) ∙ ap (λ (n : ℕ). fates n chosen ((s .fenced ++ (FN ∷ [])) ++ submits G (s .group) (s .content) (s .count))) p
-          ∙ fates-last (s .fenced) chosen (submits G (s .group) (s .content) (s .count)) ∙ ap (λ (n : ℕ). trues n ++ fatesChosen chosen 0 (submits G (s .group) (s .content) (s .count))) (s .written) in
+          let e₁ : m ≡ persistChosen chosen 0 (s .tail) (writeRecords (s .fenced) (w .memory)) =
+          ap (λ (x : List Record). persist passed chosen x (w .memory)) (s .split) ∙ ap (λ (n : ℕ). persist n chosen ((s .fenced ++ (FN ∷ [])) ++ s .tail) (w .memory)) p
+          ∙ persist-last (s .fenced) chosen (s .tail) (w .memory) in
+          let e₂ : fates passed chosen (w .pending) ≡ trues (s .group - r .b + G) ++ fatesChosen chosen 0 (s .tail) =
+          ap (fates passed chosen) (s .split) ∙ ap (λ (n : ℕ). fates n chosen ((s .fenced ++ (FN ∷ [])) ++ s .tail)) p
+          ∙ fates-last (s .fenced) chosen (s .tail) ∙ ap (λ (n : ℕ). trues n ++ fatesChosen chosen 0 (s .tail)) (s .written) in
           let e₃ : s .group - r .b + G - G ≡ s .group - r .b = omega arith in
-          rw (e₁, e₂, drop-trues G (s .group - r .b + G) (fatesChosen chosen 0 (submits G (s .group) (s .content) (s .count))) (omega arith), e₃)
-          (inr (now-late (now-of G D (r .b) (r .tr) (r .old) w z (r .commits) (r .copies) s) chosen))
+          rw (e₁, e₂, drop-trues G (s .group - r .b + G) (fatesChosen chosen 0 (s .tail)) (omega arith), e₃) (inr late-now)
 
   opens-to : Opens G D m (homesAfter D (run fs (w .book .commits)))
   opens-to = go image

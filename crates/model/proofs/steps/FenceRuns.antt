@@ -11,15 +11,19 @@ use lib.ListN.{length, drop}
 use Rattle.model.specs.Layout.{groupsIn, headerStart}
 use Rattle.model.specs.State.{State, stateOf, nextPosition}
 use Rattle.model.specs.Batch.{Record, FN}
+use Rattle.model.specs.Effects.{homeWrites}
 use Rattle.model.specs.Crash.{Memory, fences, persist, persistChosen, fates, fatesChosen}
 use Rattle.model.specs.Book.{Commit, fateAt}
 use Rattle.model.specs.Demands.{groupWrites}
 use Rattle.model.specs.History.{World}
 use Rattle.model.proofs.bytes.LayoutLaws.{groups-in}
-use Rattle.model.proofs.trace.CrashLaws.{writeRecords, trues, NoFence, submits, fences-append, fences-fence, fences-none, none-append, none-submits, groupWrites-append, groupWrites-fence, groupWrites-submits, write-append, write-fence, length-write, persist-stop, fates-stop, persist-last, fates-last, chosen-fence, fate-fence}
+use Rattle.model.proofs.trace.CrashLaws.{writeRecords, trues, NoFence, submits, fences-append, fences-fence, fences-none, none-append, groupWrites-append, groupWrites-fence, groupWrites-submits, write-append, write-fence, length-write, persist-stop, fates-stop, persist-last, fates-last, chosen-fence, fate-fence, write-nil}
 use Rattle.model.proofs.trace.FateLaws.{drop-trues}
+use Rattle.model.proofs.trace.HomeLaws.{In}
+use Rattle.model.proofs.trace.MixLaws.{groupPart, homePart, groupWrites-part, none-mixed, sorted-then, sorted-wrote}
 use Rattle.model.proofs.trace.Trace.{Ev}
-use Rattle.model.proofs.invariant.Invariant.{Sizes, Late, ImageOk, Copies, Submitted, Commits, Running}
+use Rattle.model.proofs.invariant.Invariant.{Sizes, HeldHome, Late, ImageOk, Copies, Submitted, Commits, Running}
+use Rattle.model.proofs.invariant.SettledLaws.{copy-held}
 use Rattle.model.proofs.invariant.Now.{Now}
 
 -- G by the memory of the last crash: what has been written since keeps the log's length
@@ -45,7 +49,8 @@ now-of G D b tr old w z k c s =
       logged = omega (arith, s .next);
       contents = s .contents;
       logSize = s .logSize;
-      area = s .area ∙ c .settledHomes;
+      areaSize = s .areaSize;
+      homes = s .homes;
       header = s .header;
       headStart = s .start;
       numbers = s .numbers;
@@ -55,16 +60,57 @@ now-of G D b tr old w z k c s =
       links = c .links;
     }
 
+-- the records since the last fence, sorted: the groups, then the homes of the round under way
+module _ (G D b : ℕ) (tr : List Ev) (old : List Commit) (w : World) (s : Submitted G D b tr old w) where
+  abbrev pub fencedMemory : Memory
+  fencedMemory = writeRecords (s .fenced) (w .memory)
+
+  abbrev pub inOrder : List Record
+  inOrder = submits G (s .group) (s .content) (s .count) ++ homeWrites (w .area) (s .done)
+
+  parts : groupPart (s .tail) ++ homePart (s .tail) ≡ inOrder
+  parts = rw (s .groupsOf, s .homesOf)
+
+  -- what holds of any choice of them holds of any choice as they were written
+  pub in-order-chosen : (P : Memory → List (ℕ → Bool) → Type 0) (X : List Record)
+      → ((chosen : ℕ → Bool) → P (persistChosen chosen 0 (inOrder ++ X) fencedMemory) (fatesChosen chosen 0 (inOrder ++ X)))
+      → (chosen : ℕ → Bool) → P (persistChosen chosen 0 (s .tail ++ X) fencedMemory) (fatesChosen chosen 0 (s .tail ++ X))
+  in-order-chosen P X f chosen =
+      let t = sorted-then chosen (s .tail) X fencedMemory (s .mixed) in
+      rw (t .memory, t .fates)
+      (subst (λ (T : List Record). P (persistChosen (t .choice) 0 (T ++ X) fencedMemory) (fatesChosen (t .choice) 0 (T ++ X))) (sym parts) (f (t .choice)))
+
+  in-order-tail : writeRecords (s .tail) fencedMemory ≡ writeRecords inOrder fencedMemory
+  in-order-tail = sorted-wrote (s .tail) fencedMemory (s .mixed) ∙ ap (λ (T : List Record). writeRecords T fencedMemory) parts
+
+  pub in-order-wrote : (X : List Record) → writeRecords (s .tail ++ X) fencedMemory ≡ writeRecords (inOrder ++ X) fencedMemory
+  in-order-wrote X =
+      write-append (s .tail) X fencedMemory ∙ ap (writeRecords X) in-order-tail ∙ sym (write-append inOrder X fencedMemory)
+
+  pub in-order-area : writeRecords inOrder fencedMemory .area ≡ w .area
+  in-order-area = ap (λ (m : Memory). m .area) (sym in-order-tail) ∙ s .area
+
+  pub tail-groups : groupWrites (s .tail) ≡ s .count
+  tail-groups = groupWrites-part (s .tail) ∙ rw (s .groupsOf) (groupWrites-submits G (s .group) (s .content) (s .count))
+
+  -- each of the homes done holds what commits below the last fence wrote
+  pub done-held : Copies G D b tr w → (h : ℕ) → In h (s .done)
+      → HeldHome D (w .book .commits) (stateOf (w .state) .settled) (7 * s .group) (w .area) h
+  done-held c h i = copy-held G D b tr w c (7 * s .group) h (omega (arith, s .atFence)) (s .behind h i .0)
+
 -- Memory that a crash may leave before a new fence: before the old one, or between the two
 module _ (G D b : ℕ) (tr : List Ev) (old : List Commit) (w : World) (s : Submitted G D b tr old w) (X : List Record) (nx : NoFence X) where
   abbrev stretch : List Record
-  stretch = submits G (s .group) (s .content) (s .count) ++ X
+  stretch = s .tail ++ X
 
   abbrev upto : List Record
-  upto = (s .fenced ++ (FN ∷ [])) ++ (submits G (s .group) (s .content) (s .count) ++ X)
+  upto = (s .fenced ++ (FN ∷ [])) ++ (s .tail ++ X)
+
+  abbrev next : List Record
+  next = inOrder G D b tr old w s ++ X
 
   no-fence : NoFence stretch
-  no-fence = none-append (submits G (s .group) (s .content) (s .count)) X (none-submits G (s .group) (s .content) (s .count)) nx
+  no-fence = none-append (s .tail) X (none-mixed (s .tail) (s .mixed)) nx
 
   upto-fences : fences upto ≡ fences (s .fenced ++ (FN ∷ []))
   upto-fences = fences-append (s .fenced ++ (FN ∷ [])) stretch ∙ omega (arith, fences-none stretch no-fence)
@@ -107,41 +153,58 @@ module _ (G D b : ℕ) (tr : List Ev) (old : List Commit) (w : World) (s : Submi
           rw (e, persist-new chosen, fates-new chosen) (g chosen)
 
   -- the memory once the new fence has passed
-  upto-written : writeRecords upto (w .memory) ≡ writeRecords stretch (writeRecords (s .fenced) (w .memory))
-  upto-written = write-append (s .fenced ++ (FN ∷ [])) stretch (w .memory) ∙ ap (writeRecords stretch) (write-fence (s .fenced) (w .memory))
+  upto-written : writeRecords upto (w .memory) ≡ writeRecords next (fencedMemory G D b tr old w s)
+  upto-written =
+      write-append (s .fenced ++ (FN ∷ [])) stretch (w .memory) ∙ ap (writeRecords stretch) (write-fence (s .fenced) (w .memory))
+      ∙ in-order-wrote G D b tr old w s X
 
   pub submitted-fence : (u : World) (start settled : ℕ) (content : ℕ → List ℕ) → groupWrites X ≡ 0
-      → Now G D b tr old (w .book .commits) start settled (s .group + s .count) 0 content (writeRecords stretch (writeRecords (s .fenced) (w .memory)))
+      → Now G D b tr old (w .book .commits) start settled (s .group + s .count) 0 content (writeRecords next (fencedMemory G D b tr old w s))
       → u .pending ≡ w .pending ++ (X ++ (FN ∷ [])) → u .memory ≡ w .memory → u .book .commits ≡ w .book .commits
-      → u .area ≡ writeRecords stretch (writeRecords (s .fenced) (w .memory)) .area
-      → stateOf (u .state) .start ≡ start → stateOf (u .state) .fenced ≡ 7 * (s .group + s .count) → stateOf (u .state) .next ≡ s .group + s .count
+      → u .area ≡ writeRecords next (fencedMemory G D b tr old w s) .area
+      → stateOf (u .state) .start ≡ start → stateOf (u .state) .settled ≡ settled
+      → stateOf (u .state) .fenced ≡ 7 * (s .group + s .count) → stateOf (u .state) .next ≡ s .group + s .count
       → stateOf (w .state) .start ≤ start
-      → ((chosen : ℕ → Bool) → Late G D b tr (w .book .commits) (persistChosen chosen 0 stretch (writeRecords (s .fenced) (w .memory))) (trues (s .group - b) ++ fatesChosen chosen 0 stretch))
-      → ((chosen : ℕ → Bool) → headerStart (persistChosen chosen 0 stretch (writeRecords (s .fenced) (w .memory)) .log) ≤ start)
+      → ((chosen : ℕ → Bool) → Late G D b tr (w .book .commits) (persistChosen chosen 0 next (fencedMemory G D b tr old w s)) (trues (s .group - b) ++ fatesChosen chosen 0 next))
+      → ((chosen : ℕ → Bool) → headerStart (persistChosen chosen 0 next (fencedMemory G D b tr old w s) .log) ≤ start)
       → Submitted G D b tr old u
-  unfolding submits
-  submitted-fence u start settled content gx n ep em ec ea es ef en mono late bound =
+  unfolding submits groupPart homePart homeWrites
+  submitted-fence u start settled content gx n ep em ec ea es et ef en mono late bound =
       record {
         fenced = upto;
         group = s .group + s .count;
         count = 0;
         content = content;
+        tail = [];
+        done = [];
         split = ep ∙ rw (s .split) (regroup ∙ sym (append-nil (upto ++ (FN ∷ []))));
+        mixed = tt;
+        groupsOf = refl;
+        homesOf = refl;
+        behind = λ h i. absurd i;
+        area = ap (λ (m : Memory). m .area) (write-nil (writeRecords upto (u .memory))) ∙ rw (em, upto-written) (sym ea);
         atFence = ef;
         next = omega (arith, en);
         low = omega (arith, s .low);
-        written = omega (arith, groupWrites-append (s .fenced ++ (FN ∷ [])) stretch, groupWrites-fence (s .fenced), groupWrites-append (submits G (s .group) (s .content) (s .count)) X, groupWrites-submits G (s .group) (s .content) (s .count), gx, s .written, s .low);
+        written = omega (arith, groupWrites-append (s .fenced ++ (FN ∷ [])) stretch, groupWrites-fence (s .fenced), groupWrites-append (s .tail) X, tail-groups G D b tr old w s, gx, s .written, s .low);
         contents = λ k a h. absurd (omega arith);
         logSize = rw (em, upto-written) (n .logSize);
-        area = rw (em, upto-written) (sym ea);
+        areaSize = rw (em, upto-written) (n .areaSize);
+        homes = rw (em, upto-written, ec, et) (n .homes);
         header = rw (em, upto-written) (n .header);
         start = rw (em, upto-written, es) (n .headStart);
         numbers = rw (em, upto-written) (n .numbers);
         there = rw (em, upto-written, es) (n .there);
         turned = rw (em, upto-written, es) (n .turned);
-        images = rw (em, ec) (each-passed (λ m fs. ImageOk G D b (w .memory .log) tr old (w .book .commits) m fs) (s .images) (λ chosen. inr (late chosen)));
-        bounded = rw (em, es) (each-passed (λ m fs. headerStart (m .log) ≤ start) (λ passed chosen l. let h = s .bounded passed chosen l in omega arith) bound);
+        images =
+            rw (em, ec)
+            (each-passed (λ m fs. ImageOk G D b (w .memory .log) tr old (w .book .commits) m fs) (s .images)
+            (in-order-chosen G D b tr old w s (λ m fs. ImageOk G D b (w .memory .log) tr old (w .book .commits) m (trues (s .group - b) ++ fs)) X (λ chosen. inr (late chosen))));
+        bounded =
+            rw (em, es)
+            (each-passed (λ m fs. headerStart (m .log) ≤ start) (λ passed chosen l. let h = s .bounded passed chosen l in omega arith)
+            (in-order-chosen G D b tr old w s (λ m fs. headerStart (m .log) ≤ start) X bound));
       }
     where
-      regroup : ((s .fenced ++ (FN ∷ [])) ++ submits G (s .group) (s .content) (s .count)) ++ (X ++ (FN ∷ [])) ≡ upto ++ (FN ∷ [])
+      regroup : ((s .fenced ++ (FN ∷ [])) ++ s .tail) ++ (X ++ (FN ∷ [])) ≡ upto ++ (FN ∷ [])
       regroup = simp append-assoc

@@ -22,7 +22,8 @@ use Rattle.model.proofs.strip.StateLaws.{withFenced, withNext, withFill
 use Rattle.model.proofs.strip.OrderLaws.{InOrder, WriterInOrder, Promises}
 use Rattle.model.proofs.strip.PromiseLaws.{promise-setFenced, promise-setNext, promise-setFilled, promised-agree}
 use Rattle.model.proofs.trace.CrashLaws.{writeRecords, submits, NoFence, trues, groupWrites-fence}
-use Rattle.model.proofs.trace.SubmitLaws.{headerStart-submits, area-wrote}
+use Rattle.model.proofs.trace.HomeLaws.{In}
+use Rattle.model.proofs.trace.MixLaws.{mixed-append}
 use Rattle.model.proofs.trace.Trace.{Ev, Hist, hist, tagAt, closerOf, Apart, Linked}
 use Rattle.model.proofs.trace.TraceLaws.{all-map}
 use Rattle.model.proofs.trace.LinkLaws.{linked-ext}
@@ -31,11 +32,12 @@ use Rattle.model.proofs.invariant.GrowImages.{image-gap, closers-older}
 use Rattle.model.proofs.steps.DoneLaws.{after}
 use Rattle.model.proofs.invariant.Invariant.{Sizes, Sound, Holds, TaskOk, Copies, Submitted, Confirmed, Commits, Running, LastOk, lastCloser, ImageOk, Late, OwedBelow}
 use Rattle.model.proofs.invariant.Now.{Now}
-use Rattle.model.proofs.invariant.NowLate.{now-late}
+use Rattle.model.proofs.invariant.NowLate.{now-late-homes, same-start}
 use Rattle.model.proofs.invariant.NowNext.{now-fenced}
-use Rattle.model.proofs.steps.FenceRuns.{now-of, submitted-fence}
+use Rattle.model.proofs.invariant.SettledLaws.{settled-homes-same, copy-held}
+use Rattle.model.proofs.steps.FenceRuns.{now-of, inOrder, in-order-area, done-held, submitted-fence}
 use Rattle.model.proofs.steps.LogRuns.{task-grows}
-use Rattle.model.proofs.steps.LogSubmits.{submits-more, confirmed-more}
+use Rattle.model.proofs.steps.LogSubmits.{submits-more, groups-more, homes-more, area-more, confirmed-more}
 use Rattle.model.proofs.steps.NumberRuns.{Renumbered, copies-renumber}
 
 -- no part-filled group: only a fence
@@ -48,7 +50,9 @@ flush-none-runs G D z w r batch empty =
     let st : State = stateOf (w .state) in
     let o = c .order in
     let N = now-of G D (r .b) (r .tr) (r .old) w z (r .commits) c s in
-    let S = submits G (s .group) (s .content) (s .count) in
+    let S = inOrder G D (r .b) (r .tr) (r .old) w s in
+    let held = done-held G D (r .b) (r .tr) (r .old) w s c in
+    let inside : (h : ℕ) → In h (s .done) → h < D = λ h i. s .behind h i .0 in
     let e : stateOf (setFenced (w .state) (7 * st .next)) ≡ withFenced st (7 * st .next) = state-setFenced (w .state) (7 * st .next) (c .stateSize) (omega (arith, o .next-most, o .start-most, o .groups-same)) in
     let u : World = after w (flush batch) (flushNone (lent w [] batch 0 0) (stateOf (w .state))) in
     let eb : u .book ≡ w .book = rw (eq-eqb (w .book .filled) 0 (c .filled ∙ empty)) in
@@ -61,18 +65,22 @@ flush-none-runs G D z w r batch empty =
       commits = rw eb (r .commits);
       copies =
           copies-renumber G D (r .b) (r .tr) w u c
-          (rw e (record { groups = refl; homes = refl; next = refl; filled = refl; start = omega arith; most = o .start-most; upto = o .start-next; low = o .start-settled; settled = omega (arith, o .settled-fenced, o .fenced-next); fenced = omega arith; durable = omega (arith, o .durable-fenced, o .fenced-next) }))
+          (rw e (record { groups = refl; homes = refl; next = refl; filled = refl; start = omega arith; most = o .start-most; upto = o .start-next; low = o .start-settled; settled = omega (arith, o .settled-fenced, o .fenced-next); fenced = omega arith; durable = omega (arith, o .durable-fenced, o .fenced-next); round-settled = o .round-settled; round-fenced = omega (arith, o .round-fenced, o .fenced-next) }))
           (length-setFenced (w .state) (7 * st .next) ∙ c .stateSize) (λ x. writer-setFenced (w .state) (7 * st .next) x) (λ x. held-setFenced (w .state) (7 * st .next) x)
-          (λ x. promise-setFenced (w .state) (7 * st .next) x)
+          (λ x l. promise-setFenced (w .state) (7 * st .next) x)
           (rw e (o .last-closing)) (λ x l h. rw e (o .writers x l .logged h .0)) refl refl (λ slot. refl) refl
           (ap (λ (k : Book). k .tasks) eb) (ap (λ (k : Book). k .rows) eb) (ap (λ (k : Book). k .filled) eb)
-          (rw (e, eb) (c .settledHomes)) (rw e (c .settledGroup)) (rw e (c .apart)) (rw e (c .links)) (rw e (c .last));
+          (rw (e, eb) (settled-homes-same D (w .area) st (withFenced st (7 * st .next)) (w .book .commits) refl refl refl (c .settledHomes))) (rw e (c .apart)) (rw e (c .links)) (rw e (c .last));
       submitted =
           submitted-fence G D (r .b) (r .tr) (r .old) w s [] tt u (st .start) (st .settled) (s .content) (unfold groupWrites in refl)
-          (rw (append-nil S) (now-fenced N)) refl refl (ap (λ (k : Book). k .commits) eb)
-          (rw (append-nil S) (sym (area-wrote G (s .group) (s .content) (s .count) (writeRecords (s .fenced) (w .memory)) ∙ s .area)))
-          (rw e) (rw e (ap (λ (n : ℕ). 7 * n) (sym (s .next)))) (rw e (sym (s .next))) (omega arith) (λ chosen. rw (append-nil S) (now-late N chosen))
-          (λ chosen. rw (append-nil S, headerStart-submits chosen 0 G (s .group) (s .content) (s .count) (writeRecords (s .fenced) (w .memory)), s .start) (omega arith));
+          (rw (append-nil S)
+          (now-fenced N (w .area) (s .done) (st .settled) (o .start-settled) (omega (arith, o .settled-fenced, s .atFence))
+          (λ h l. rw (in-order-area G D (r .b) (r .tr) (r .old) w s) (copy-held G D (r .b) (r .tr) w c (7 * (s .group + s .count)) h (omega (arith, s .atFence)) l))))
+          refl refl (ap (λ (k : Book). k .commits) eb)
+          (rw (append-nil S) (sym (in-order-area G D (r .b) (r .tr) (r .old) w s)))
+          (rw e) (rw e) (rw e (ap (λ (n : ℕ). 7 * n) (sym (s .next)))) (rw e (sym (s .next))) (omega arith)
+          (λ chosen. rw (append-nil S) (now-late-homes N (w .area) (s .done) (c .areaSize) inside held chosen))
+          (λ chosen. rw (append-nil S, same-start N (w .area) (s .done) (c .areaSize) inside held chosen) (omega arith));
       confirmed = confirmed-more G (r .b) w u (FN ∷ []) (r .confirmed) refl refl (rw e (o .fenced-next)) (λ bound h. rw eb h);
     }
 
@@ -221,6 +229,8 @@ module _ (G D : ℕ) (z : Sizes G D) (w : World) (r : Running G D w) (part : 0 <
           fenced-next = rw numbers₁ (omega (arith, o .fenced-next));
           durable-fenced = rw numbers₁ (o .durable-fenced);
           last-closing = rw numbers₁ (later (o .last-closing));
+          round-settled = rw numbers₁ (o .round-settled);
+          round-fenced = rw numbers₁ (o .round-fenced);
           promises = record {
             within = rw (numbers₁, promised-agree (w .state) s₁ 8 (λ x l. promises₁ x)) (unfold places nextPosition in omega (arith, kept));
             none-idle = λ x l. rw (writers₁ x, promises₁ x) (o .promises .none-idle x l);
@@ -242,8 +252,7 @@ module _ (G D : ℕ) (z : Sizes G D) (w : World) (r : Running G D w) (part : 0 <
         tasks = λ x l. rw (writers₁ x, held₁ x) (tasks₁ x (writerOf (w .state) x) (heldOf (w .state) x) (w .book .tasks x) (c .tasks x l));
         rows = rw numbers₁ (omega (arith, c .rows, c .from, o .start-next));
         filled = rw numbers₁;
-        settledHomes = rw numbers₁ (c .settledHomes);
-        settledGroup = rw numbers₁ (c .settledGroup);
+        settledHomes = rw numbers₁ (settled-homes-same D (w .area) st (withFilled (withNext st n₁) 0) (w .book .commits) refl refl refl (c .settledHomes));
       }
 
   submitted₁ : Submitted G D b tr₁ (r .old) w₁
@@ -254,18 +263,24 @@ module _ (G D : ℕ) (z : Sizes G D) (w : World) (r : Running G D w) (part : 0 <
         group = s .group;
         count = s .count + 1;
         content = λ x. cond (eqb x (st .next)) (groupAt (w .log) (st .next % G)) (s .content x);
-        split =
-            ap (λ (x : List Record). x ++ (GW (st .next % G) (groupAt (w .log) (st .next % G)) ∷ [])) (s .split)
-            ∙ append-assoc (s .fenced ++ (FN ∷ [])) (submits G (s .group) (s .content) (s .count)) (GW (st .next % G) (groupAt (w .log) (st .next % G)) ∷ [])
-            ∙ ap (λ (x : List Record). (s .fenced ++ (FN ∷ [])) ++ x)
-            (sym (submits-more G (s .group) (s .content) (s .count) (st .next) (groupAt (w .log) (st .next % G)) (s .next)));
+        tail = s .tail ++ more;
+        done = s .done;
+        split = ap (λ (x : List Record). x ++ more) (s .split) ∙ append-assoc (s .fenced ++ (FN ∷ [])) (s .tail) more;
+        mixed = mixed-append (s .tail) more (s .mixed) tt;
+        groupsOf =
+            groups-more (s .tail) (st .next % G) (groupAt (w .log) (st .next % G))
+            ∙ rw (s .groupsOf) (sym (submits-more G (s .group) (s .content) (s .count) (st .next) (groupAt (w .log) (st .next % G)) (s .next)));
+        homesOf = homes-more (s .tail) (st .next % G) (groupAt (w .log) (st .next % G)) ∙ s .homesOf;
+        behind = rw numbers₁ (s .behind);
+        area = area-more (s .tail) (st .next % G) (groupAt (w .log) (st .next % G)) (writeRecords (s .fenced) (w .memory)) ∙ s .area;
         atFence = rw numbers₁ (s .atFence);
         next = rw numbers₁ (omega (arith, s .next));
         low = s .low;
         written = s .written;
         contents = λ n x y. sub n x y (eqb n (st .next)) refl;
         logSize = s .logSize;
-        area = s .area;
+        areaSize = s .areaSize;
+        homes = rw numbers₁ (s .homes);
         header = s .header;
         start = rw numbers₁ (s .start);
         numbers = s .numbers;
@@ -277,6 +292,9 @@ module _ (G D : ℕ) (z : Sizes G D) (w : World) (r : Running G D w) (part : 0 <
         bounded = rw numbers₁ (s .bounded);
       }
     where
+      more : List Record
+      more = GW (st .next % G) (groupAt (w .log) (st .next % G)) ∷ []
+
       sub : (n : ℕ) → s .group ≤ n → n < s .group + (s .count + 1) → (t : Bool) → eqb n (st .next) ≡ t
           → Holds G (7 * b) tr₁ (cond t (groupAt (w .log) (st .next % G)) (s .content n)) n
       sub n x y true k =

@@ -14,7 +14,7 @@ use Rattle.model.specs.State.{State, stateOf, setNext, setFilled, setLas
 use Rattle.model.specs.Effects.{Logged, entered, submitted, logged}
 use Rattle.model.specs.Batch.{Record, GW, FN}
 use Rattle.model.specs.Book.{Kept, row, Entry, Commit, Held, Task, opened, idle, Book, homesAfter, entryOf, submit, grown, filledUp, withTask}
-use Rattle.model.specs.Demands.{closedBelow}
+use Rattle.model.specs.Demands.{closedBelow, settledFor}
 use Rattle.model.specs.History.{World}
 use Rattle.model.proofs.strip.StateLaws.{state-laws, writer-laws, held-laws, length-laws, state-setNext, state-setFilled, length-setNext, length-setFilled, writer-setNext, writer-setFilled, held-setNext, held-setFilled}
 use Rattle.model.proofs.strip.OrderLaws.{InOrder, WriterInOrder, Promises}
@@ -27,6 +27,7 @@ use Rattle.model.proofs.invariant.GrowLaws.{holds-older, sound-grow, cl
 use Rattle.model.proofs.invariant.GrowImages.{closers-older, apart-snoc}
 use Rattle.model.proofs.invariant.LogStep.{log-groups, length-entered}
 use Rattle.model.proofs.invariant.Invariant.{Sizes, Sound, SoundAt, Holds, plainOf, entriesFor, TaskOk, Copies, LastOk, lastCloser}
+use Rattle.model.proofs.invariant.SettledLaws.{settled-same, settled-most}
 use Rattle.model.proofs.steps.WriterSteps.{each-writer}
 
 -- the numbers of the strip once an entry is logged
@@ -38,6 +39,8 @@ pub record Advance (st st′ : State) (final : ℕ) : Type 0 where
   pub fenced : st′ .fenced ≡ st .fenced
   pub durable : st′ .durable ≡ st .durable
   pub last : st′ .last ≡ final
+  pub round : st′ .round ≡ st .round
+  pub cursor : st′ .cursor ≡ st .cursor
   pub moved : ((st .filled < 6) × (st′ .next ≡ st .next) × (st′ .filled ≡ st .filled + 1)) ⊎ ((st .filled ≡ 6) × (st′ .next ≡ st .next + 1) × (st′ .filled ≡ 0))
 
 pub advance-position : (st st′ : State) (last : ℕ) → Advance st st′ last → nextPosition st′ ≡ nextPosition st + 1
@@ -79,11 +82,11 @@ logged-numbers s log word block h f n = go (eqb (stateOf s .filled) 6) refl
     go true e =
         let q = eqb-true (stateOf s .filled) 6 e in
         rw (state-setFilled (setNext s (stateOf s .next + 1)) 0 (length-setNext s (stateOf s .next + 1) ∙ h) (omega arith), state-setNext s (stateOf s .next + 1) h (omega arith))
-        (record { groups = refl; homes = refl; start = refl; settled = refl; fenced = refl; durable = refl; last = refl; moved = inr (q, refl, refl) })
+        (record { groups = refl; homes = refl; start = refl; settled = refl; fenced = refl; durable = refl; last = refl; round = refl; cursor = refl; moved = inr (q, refl, refl) })
     go false e =
         let q = eqb-false (stateOf s .filled) 6 e in
         rw (state-setFilled s (stateOf s .filled + 1) h (omega arith))
-        (record { groups = refl; homes = refl; start = refl; settled = refl; fenced = refl; durable = refl; last = refl; moved = inl (omega arith, refl, refl) })
+        (record { groups = refl; homes = refl; start = refl; settled = refl; fenced = refl; durable = refl; last = refl; round = refl; cursor = refl; moved = inl (omega arith, refl, refl) })
 
 pub logged-log : (s log : List ℕ) (word : ℕ) (block : List ℕ)
     → logged s log word block .log ≡ entered (stateOf s) (stateOf s .next % stateOf s .groups) log word block
@@ -163,7 +166,7 @@ pub copies-logged : (G D b : ℕ) (tr : List Ev) (w u : World) (v : ℕ) (e : Ev
     → u .log ≡ entered (stateOf (w .state)) (stateOf (w .state) .next % G) (w .log) (plainOf (7 * b + length tr) e (mine (hist (7 * b) tr) e) (e .final)) (e .block)
     → u .area ≡ w .area → u .book .tasks v ≡ t → ((x : ℕ) → (x ≡ v → ⊥) → u .book .tasks x ≡ w .book .tasks x)
     → u .book .rows ≡ filledUp (w .book) .rows → u .book .filled ≡ filledUp (w .book) .filled
-    → homesAfter D (closedBelow (stateOf (w .state) .settled) (u .book .commits)) ≡ homesAfter D (closedBelow (stateOf (w .state) .settled) (w .book .commits))
+    → ((bound : ℕ) → bound ≤ stateOf (w .state) .fenced → closedBelow bound (u .book .commits) ≡ closedBelow bound (w .book .commits))
     → Apart (7 * stateOf (w .state) .start) (hist (7 * b) (e ∷ tr) .done)
     → Linked (7 * stateOf (w .state) .start) (tagAt (7 * b) (e ∷ tr)) none (hist (7 * b) (e ∷ tr) .done)
     → LastOk (stateOf (w .state) .start) last (lastCloser (hist (7 * b) (e ∷ tr) .done))
@@ -196,6 +199,8 @@ copies-logged G D b tr w u v e t last z c l room us who sd a size ow oh wo pr tk
         fenced-next = ⊎-elim (λ h. omega (arith, a .fenced, o .fenced-next)) (λ h. omega (arith, a .fenced, o .fenced-next)) (a .moved);
         durable-fenced = omega (arith, a .durable, a .fenced, o .durable-fenced);
         last-closing = ⊎-elim (λ h. inl (a .last ∙ h)) (λ h. inr (omega (arith, a .start, a .last), omega (arith, a .last, p))) lc;
+        round-settled = λ h. let k = o .round-settled (omega (arith, a .round)) in omega (arith, a .round, a .settled);
+        round-fenced = omega (arith, a .round, a .fenced, o .round-fenced);
         promises = pr;
         writers = λ x h. each-writer (λ y. WriterInOrder st′ (writerOf (u .state) y)) v x wo (λ n. rw (ow x n) (order-grows st st′ last (writerOf (w .state) x) a (o .writers x h)));
       };
@@ -212,6 +217,6 @@ copies-logged G D b tr w u v e t last z c l room us who sd a size ow oh wo pr tk
           (task-grows b e tr (writerOf (w .state) x) (heldOf (w .state) x) (hist (7 * b) tr .openOf x) (w .book .tasks x) (entries-older b e tr (hist (7 * b) tr .openOf x) (open-below (7 * b) tr x)) (c .tasks x h)));
       rows = er ∙ rm .0;
       filled = ef ∙ rm .1;
-      settledHomes = ea ∙ c .settledHomes ∙ sym eh′ ∙ rw (a .settled);
-      settledGroup = rw (a .settled) (c .settledGroup);
+      settledHomes = λ h k.
+          rw (ea, settled-same st st′ h (a .round) (a .cursor) (a .settled), eh′ (settledFor st h) (settled-most (w .state) G D o h)) (c .settledHomes h k);
     }

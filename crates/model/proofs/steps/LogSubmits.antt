@@ -15,13 +15,16 @@ use Rattle.model.specs.State.{State, stateOf, nextPosition}
 use Rattle.model.specs.Batch.{Record, GW, FN}
 use Rattle.model.specs.Crash.{Memory, fences, persist, fates}
 use Rattle.model.specs.Book.{Commit, fateAt}
-use Rattle.model.specs.Demands.{groupWrites}
+use Rattle.model.specs.Demands.{closedBelow, groupWrites}
 use Rattle.model.specs.History.{World}
-use Rattle.model.proofs.trace.CrashLaws.{submits, fateAt-none, groupWrites-fence}
+use Rattle.model.proofs.trace.CrashLaws.{submits, fateAt-none, groupWrites-fence, writeRecords, write-append}
 use Rattle.model.proofs.trace.FateLaws.{fateAt-drop}
+use Rattle.model.proofs.trace.SubmitLaws.{area-group}
+use Rattle.model.proofs.trace.HomeLaws.{In}
+use Rattle.model.proofs.trace.MixLaws.{groupPart, homePart, mixed-append, groupPart-append, homePart-append}
 use Rattle.model.proofs.trace.Trace.{Ev}
 use Rattle.model.proofs.invariant.GrowLaws.{holds-older}
-use Rattle.model.proofs.invariant.Invariant.{Holds, ImageOk, Copies, Submitted, Confirmed, OwedBelow}
+use Rattle.model.proofs.invariant.Invariant.{Holds, HeldHome, ImageOk, Copies, Submitted, Confirmed, OwedBelow}
 use Rattle.model.proofs.steps.LogRuns.{Advance}
 
 pub submits-same : (G n₀ : ℕ) (f g : ℕ → List ℕ) (k : ℕ) → ((n : ℕ) → n₀ ≤ n → n < n₀ + k → f n ≡ g n) → submits G n₀ f k ≡ submits G n₀ g k
@@ -36,15 +39,29 @@ unfolding submits
 submits-more G n₀ f k n g e =
     rw (add-one k, e, eq-eqb n n refl, submits-same G n₀ (λ x. cond (eqb x n) g (f x)) f k (λ x a b. rw (ne-eqb x n (λ q. omega arith))))
 
+-- one more group write behind a mixture
+pub groups-more : (R : List Record) (slot : ℕ) (group : List ℕ) → groupPart (R ++ (GW slot group ∷ [])) ≡ groupPart R ++ (GW slot group ∷ [])
+unfolding groupPart
+groups-more R slot group = groupPart-append R (GW slot group ∷ [])
+
+pub homes-more : (R : List Record) (slot : ℕ) (group : List ℕ) → homePart (R ++ (GW slot group ∷ [])) ≡ homePart R
+unfolding homePart
+homes-more R slot group = homePart-append R (GW slot group ∷ []) ∙ append-nil (homePart R)
+
+pub area-more : (R : List Record) (slot : ℕ) (group : List ℕ) (m : Memory)
+    → writeRecords (R ++ (GW slot group ∷ [])) m .area ≡ writeRecords R m .area
+area-more R slot group m = ap (λ (x : Memory). x .area) (write-append R (GW slot group ∷ []) m) ∙ area-group slot group (writeRecords R m)
+
 pub submitted-logged : (G D b : ℕ) (tr : List Ev) (old : List Commit) (w u : World) (e : Ev) (last : ℕ)
     → Submitted G D b tr old w → Copies G D b tr w → Copies G D b (e ∷ tr) u → Advance (stateOf (w .state)) (stateOf (u .state)) last
     → stateOf (w .state) .next < stateOf (w .state) .start + G
     → u .pending ≡ w .pending ++ cond (eqb (stateOf (w .state) .filled) 6) (GW (stateOf (w .state) .next % G) (groupAt (u .log) (stateOf (w .state) .next % G)) ∷ []) []
     → u .memory ≡ w .memory → u .area ≡ w .area
+    → ((bound : ℕ) → bound ≤ stateOf (w .state) .fenced → closedBelow bound (u .book .commits) ≡ closedBelow bound (w .book .commits))
     → ((m : Memory) (fs : List (ℕ → Bool)) → headerStart (m .log) ≤ stateOf (w .state) .start → fateAt fs ((7 * b + length tr) / 7 - b) ((7 * b + length tr) % 7) ≡ false
     → ImageOk G D b (w .memory .log) tr old (w .book .commits) m fs → ImageOk G D b (w .memory .log) (e ∷ tr) old (u .book .commits) m fs)
     → Submitted G D b (e ∷ tr) old u
-submitted-logged G D b tr old w u e last s c c′ a room up um ua ig = go (a .moved)
+submitted-logged G D b tr old w u e last s c c′ a room up um ua uc ig = go (a .moved)
   where
     st : State
     st = stateOf (w .state)
@@ -54,6 +71,15 @@ submitted-logged G D b tr old w u e last s c c′ a room up um ua ig = go (a .mo
 
     older : (bytes : List ℕ) (n : ℕ) → n < st .next → Holds G (7 * b) tr bytes n → Holds G (7 * b) (e ∷ tr) bytes n
     older bytes n l h = holds-older G (7 * b) e tr bytes n (omega (arith, q)) h
+
+    homes′ : (h : ℕ) → h < D
+        → HeldHome D (u .book .commits) (stateOf (u .state) .settled) (7 * s .group) (writeRecords (s .fenced) (w .memory) .area) h
+    homes′ h l =
+        let x = s .homes h l in
+        (x .0, omega (arith, x .1, a .settled), x .2, x .3 ∙ sym (rw (uc (x .0) (omega (arith, x .2, s .atFence)))))
+
+    behind′ : (h : ℕ) → In h (s .done) → (h < D) × (1 ≤ stateOf (u .state) .round) × (h < stateOf (u .state) .cursor)
+    behind′ = rw (a .round, a .cursor) (s .behind)
 
     images′ : (passed : ℕ) (chosen : ℕ → Bool) → passed < fences (s .fenced ++ (FN ∷ []))
         → ImageOk G D b (w .memory .log) (e ∷ tr) old (u .book .commits) (persist passed chosen (s .fenced ++ (FN ∷ [])) (w .memory)) (drop G (fates passed chosen (s .fenced ++ (FN ∷ []))))
@@ -70,14 +96,22 @@ submitted-logged G D b tr old w u e last s c c′ a room up um ua ig = go (a .mo
       group = s .group;
       count = s .count;
       content = s .content;
+      tail = s .tail;
+      done = s .done;
       split = up ∙ rw (ne-eqb (st .filled) 6 (λ z. omega arith)) (append-nil (w .pending) ∙ s .split);
+      mixed = s .mixed;
+      groupsOf = s .groupsOf;
+      homesOf = rw ua (s .homesOf);
+      behind = behind′;
+      area = rw (um, ua) (s .area);
       atFence = a .fenced ∙ s .atFence;
       next = s .next ∙ sym (h .1);
       low = s .low;
       written = s .written;
       contents = λ n x y. older (s .content n) n (omega (arith, s .next)) (s .contents n x y);
       logSize = rw um (s .logSize);
-      area = rw (um, ua) (s .area);
+      areaSize = rw um (s .areaSize);
+      homes = rw um homes′;
       header = rw um (s .header);
       start = rw (um, a .start) (s .start);
       numbers = rw um (s .numbers);
@@ -91,16 +125,22 @@ submitted-logged G D b tr old w u e last s c c′ a room up um ua ig = go (a .mo
       group = s .group;
       count = s .count + 1;
       content = λ x. cond (eqb x (st .next)) (groupAt (u .log) (st .next % G)) (s .content x);
-      split =
-          up ∙ rw (eq-eqb (st .filled) 6 (h .0), s .split, submits-more G (s .group) (s .content) (s .count) (st .next) (groupAt (u .log) (st .next % G)) (s .next))
-          (append-assoc (s .fenced ++ (FN ∷ [])) (submits G (s .group) (s .content) (s .count)) (GW (st .next % G) (groupAt (u .log) (st .next % G)) ∷ []));
+      tail = s .tail ++ more;
+      done = s .done;
+      split = up ∙ rw (eq-eqb (st .filled) 6 (h .0), s .split) (append-assoc (s .fenced ++ (FN ∷ [])) (s .tail) more);
+      mixed = mixed-append (s .tail) more (s .mixed) tt;
+      groupsOf = groups-more (s .tail) (st .next % G) (groupAt (u .log) (st .next % G)) ∙ rw (s .groupsOf) (sym (submits-more G (s .group) (s .content) (s .count) (st .next) (groupAt (u .log) (st .next % G)) (s .next)));
+      homesOf = homes-more (s .tail) (st .next % G) (groupAt (u .log) (st .next % G)) ∙ rw ua (s .homesOf);
+      behind = behind′;
+      area = rw (um, ua) (area-more (s .tail) (st .next % G) (groupAt (u .log) (st .next % G)) (writeRecords (s .fenced) (w .memory)) ∙ s .area);
       atFence = a .fenced ∙ s .atFence;
       next = omega (arith, s .next);
       low = s .low;
       written = s .written;
       contents = λ n x y. sub n x y (eqb n (st .next)) refl;
       logSize = rw um (s .logSize);
-      area = rw (um, ua) (s .area);
+      areaSize = rw um (s .areaSize);
+      homes = rw um homes′;
       header = rw um (s .header);
       start = rw (um, a .start) (s .start);
       numbers = rw um (s .numbers);
@@ -110,6 +150,9 @@ submitted-logged G D b tr old w u e last s c c′ a room up um ua ig = go (a .mo
       bounded = rw (um, a .start) (s .bounded);
     }
       where
+        more : List Record
+        more = GW (st .next % G) (groupAt (u .log) (st .next % G)) ∷ []
+
         sub : (n : ℕ) → s .group ≤ n → n < s .group + (s .count + 1) → (t : Bool) → eqb n (st .next) ≡ t
             → Holds G (7 * b) (e ∷ tr) (cond t (groupAt (u .log) (st .next % G)) (s .content n)) n
         sub n x y true k =

@@ -6,11 +6,11 @@ use Prim.Native.Nat.{ℕ, zero, suc, _*_}
 use lib.Dec.{eqb}
 use lib.ListN.{length}
 use Rattle.model.specs.State.{stateOf, nextPosition, writerOf, holds}
-use Rattle.model.specs.Effects.{Given, Effect, homes, newState, openEffect, openStart, beginEffect, reserveEffect, abortEffect, storeFirst, storeAgain, storeOther, storeEffect, keptCommit, commitHeld, commitEffect, flushNone, flushPart, flushEffect, confirmEffect, settleEffect, trimStart, trimTo, trimEffect, readEffect}
+use Rattle.model.specs.Effects.{Given, Effect, homes, newState, openEffect, openStart, beginEffect, reserveEffect, abortEffect, storeFirst, storeAgain, storeOther, storeEffect, keptCommit, commitHeld, commitEffect, flushNone, flushPart, flushEffect, confirmEffect, settleEffect, beginRoundEffect, stepHomes, stepRoundEffect, trimStart, trimTo, trimEffect, readEffect}
 use Rattle.model.specs.Newest.{nothingKept}
-use Rattle.model.specs.Questions.{openAnswer, beginAnswer, reserveAnswer, abortAnswer, storeAnswer, commitAnswer, flushAnswer, confirmAnswer, settleAnswer, trimAnswer, readAnswer}
-use Rattle.model.specs.Calls.{Outcome, refused, done, sizeOf, outcome, openCall, beginCall, reserveCall, abortCall, storeCall, commitCall, flushCall, confirmCall, settleCall, trimCall, readCall}
-use Rattle.model.specs.History.{Change, begins, reserves, aborts, stores, commits, flushes, Service, settles, trims, reads, Call, opening, confirm, change, service, World, lent, loaded, ends, changeEnds, serviceEnds, isOpening}
+use Rattle.model.specs.Questions.{openAnswer, beginAnswer, reserveAnswer, abortAnswer, storeAnswer, commitAnswer, flushAnswer, confirmAnswer, settleAnswer, beginRoundAnswer, stepRoundAnswer, trimAnswer, readAnswer}
+use Rattle.model.specs.Calls.{Outcome, refused, done, sizeOf, outcome, openCall, beginCall, reserveCall, abortCall, storeCall, commitCall, flushCall, confirmCall, settleCall, beginRoundCall, stepRoundCall, trimCall, readCall}
+use Rattle.model.specs.History.{Change, begins, reserves, aborts, stores, commits, flushes, Service, settles, roundBegins, roundSteps, trims, reads, Call, opening, confirm, change, service, World, lent, loaded, ends, changeEnds, serviceEnds, isOpening}
 use Rattle.model.proofs.strip.NewestLaws.{length-entries, length-forget}
 use Rattle.model.proofs.steps.DoneLaws.{outcome-code, outcome-done}
 
@@ -100,6 +100,17 @@ settle-newest w batch =
     let g : Given = lent w [] batch 0 0 in
     outcome-newest g (settleAnswer g (sizeOf (settleEffect g))) (settleEffect g) (unfold settleEffect in refl)
 
+pub begin-round-newest : (w : World) → serviceEnds w roundBegins .newest ≡ w .newest
+unfolding serviceEnds beginRoundCall lent
+begin-round-newest w =
+    let g : Given = lent w [] [] 0 0 in outcome-newest g (beginRoundAnswer g) (beginRoundEffect g) (unfold beginRoundEffect newState in refl)
+
+pub step-round-newest : (w : World) (k : ℕ) (batch : List ℕ) → serviceEnds w (roundSteps k batch) .newest ≡ w .newest
+unfolding serviceEnds stepRoundCall lent
+step-round-newest w k batch =
+    let g : Given = lent w [] batch 0 0 in
+    outcome-newest g (stepRoundAnswer g k (sizeOf (stepRoundEffect g k))) (stepRoundEffect g k) (unfold stepRoundEffect stepHomes in refl)
+
 pub read-newest : (w : World) (v home : ℕ) (block : List ℕ) → serviceEnds w (reads v home block) .newest ≡ w .newest
 unfolding serviceEnds readCall lent
 read-newest w v home block =
@@ -123,6 +134,8 @@ change-length w (flushes batch) = ap length (quiet-newest w (flushes batch) tt)
 service-length : (w : World) (c : Service) → length (serviceEnds w c .newest) ≡ length (w .newest)
 unfolding serviceEnds trimCall lent
 service-length w (settles batch) = ap length (settle-newest w batch)
+service-length w roundBegins = ap length (begin-round-newest w)
+service-length w (roundSteps k batch) = ap length (step-round-newest w k batch)
 service-length w (trims batch) =
     let g : Given = lent w [] batch 0 0 in
     let s : ℕ = trimStart g in

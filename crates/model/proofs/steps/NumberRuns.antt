@@ -7,27 +7,24 @@ use mathlib.Core.Option.{Option, none, some}
 use Prim.Native.Nat.{ℕ, zero, suc, _+_, _-_, _*_, _/_, _%_, _^_, _≤_, _<_}
 use native.Mathlib.Omega.{arith}
 use lib.ListN.{length}
-use Rattle.model.specs.Layout.{groupAt, headerStart}
+use Rattle.model.specs.Layout.{groupAt, headerStart, homeAt}
 use Rattle.model.specs.State.{State, stateOf, setFenced, setDurable, nextPosition, promiseOf, promised, places, Writer, writerOf, heldOf}
 use Rattle.model.specs.Effects.{Effect, flushNone, confirmEffect, newState}
 use Rattle.model.specs.Batch.{Record, FN}
 use Rattle.model.specs.Crash.{Memory, fences, persistChosen}
 use Rattle.model.specs.Book.{Commit, Entry, Book, homesAfter, writeCommits, owedBy, withCommits, run, allSurvive}
 use Rattle.model.specs.Book as book
-use Rattle.model.specs.Demands.{closedBelow, groupWrites}
+use Rattle.model.specs.Demands.{closedBelow, settledFor, SettledHomes, groupWrites}
 use Rattle.model.specs.History.{Call, World, lent, feed, isConfirm, flush, confirm, feedChange}
 use Rattle.model.proofs.strip.StateLaws.{withDurable, state-setFenced, length-setFenced, writer-setFenced, held-setFenced, state-setDurable, length-setDurable, writer-setDurable, held-setDurable}
 use Rattle.model.proofs.strip.OrderLaws.{InOrder, WriterInOrder, Promises}
 use Rattle.model.proofs.strip.PromiseLaws.{promise-setDurable, promised-agree}
-use Rattle.model.proofs.trace.CrashLaws.{writeRecords, submits, NoFence, fences-append, fences-fence, fences-submits, groupWrites-append, groupWrites-fence, groupWrites-submits}
-use Rattle.model.proofs.trace.SubmitLaws.{headerStart-submits, area-wrote}
+use Rattle.model.proofs.trace.CrashLaws.{fences-append, fences-none, groupWrites-fence}
+use Rattle.model.proofs.trace.MixLaws.{none-mixed}
 use Rattle.model.proofs.trace.Trace.{Ev, Hist, hist, tagAt, Apart, Linked}
 use Rattle.model.proofs.steps.DoneLaws.{after}
 use Rattle.model.proofs.invariant.Invariant.{Sizes, Holds, TaskOk, Copies, Submitted, Confirmed, Commits, Running, LastOk, lastCloser, OwedBelow, OldCommits, Matches, ImageOk, Late, touchesAbove}
-use Rattle.model.proofs.invariant.Now.{Now}
-use Rattle.model.proofs.invariant.NowLate.{now-late}
-use Rattle.model.proofs.invariant.NowNext.{now-fenced}
-use Rattle.model.proofs.steps.FenceRuns.{now-of, submitted-fence}
+use Rattle.model.proofs.invariant.SettledLaws.{settled-same}
 use Rattle.model.proofs.steps.LogSubmits.{confirmed-more}
 
 -- what the strip's numbers keep, and how they may change
@@ -43,19 +40,21 @@ pub record Renumbered (st st′ : State) : Type 0 where
   pub settled : st′ .settled ≤ st′ .fenced
   pub fenced : st′ .fenced ≤ 7 * st .next
   pub durable : st′ .durable ≤ st′ .fenced
+  pub round-settled : 1 ≤ st′ .round → st′ .settled < st′ .round
+  pub round-fenced : st′ .round ≤ st′ .fenced + 1
 
 -- the start goes up at most, so there are no fewer places
 promises-renumber : (s t : List ℕ) → Promises s → Renumbered (stateOf s) (stateOf t) → ((x : ℕ) → writerOf t x ≡ writerOf s x)
-    → ((x : ℕ) → promiseOf t x ≡ promiseOf s x) → Promises t
+    → ((x : ℕ) → x < 8 → promiseOf t x ≡ promiseOf s x) → Promises t
 unfolding places nextPosition
 promises-renumber s t p n ew ep =
     record {
-      within = omega (arith, promised-agree s t 8 (λ x l. ep x), p .within, n .start, n .groups, n .next, n .filled);
-      none-idle = λ x l. rw (ew x, ep x) (p .none-idle x l);
+      within = omega (arith, promised-agree s t 8 ep, p .within, n .start, n .groups, n .next, n .filled);
+      none-idle = λ x l. rw (ew x, ep x l) (p .none-idle x l);
     }
 
 pub order-renumber : (G D : ℕ) (s t : List ℕ) → InOrder s G D → Renumbered (stateOf s) (stateOf t) → ((x : ℕ) → writerOf t x ≡ writerOf s x)
-    → ((x : ℕ) → promiseOf t x ≡ promiseOf s x)
+    → ((x : ℕ) → x < 8 → promiseOf t x ≡ promiseOf s x)
     → (stateOf t .last ≡ 0) ⊎ ((7 * stateOf t .start < stateOf t .last) × (stateOf t .last ≤ nextPosition (stateOf s)))
     → ((x : ℕ) → x < 8 → 3 ≤ writerOf s x .mode → 7 * stateOf t .start ≤ writerOf s x .first) → InOrder t G D
 order-renumber G D s t o n ew ep lc fs =
@@ -73,6 +72,8 @@ order-renumber G D s t o n ew ep lc fs =
       fenced-next = omega (arith, n .fenced, n .next);
       durable-fenced = n .durable;
       last-closing = ⊎-elim inl (λ h. inr (h .0, omega (arith, p))) lc;
+      round-settled = n .round-settled;
+      round-fenced = n .round-fenced;
       promises = promises-renumber s t (o .promises) n ew ep;
       writers = λ x l. rw (ew x) (let k = o .writers x l in
           record {
@@ -84,15 +85,15 @@ order-renumber G D s t o n ew ep lc fs =
 
 pub copies-renumber : (G D b : ℕ) (tr : List Ev) (w u : World) → Copies G D b tr w → Renumbered (stateOf (w .state)) (stateOf (u .state))
     → length (u .state) ≡ 1024 → ((x : ℕ) → writerOf (u .state) x ≡ writerOf (w .state) x) → ((x : ℕ) → heldOf (u .state) x ≡ heldOf (w .state) x)
-    → ((x : ℕ) → promiseOf (u .state) x ≡ promiseOf (w .state) x)
+    → ((x : ℕ) → x < 8 → promiseOf (u .state) x ≡ promiseOf (w .state) x)
     → (stateOf (u .state) .last ≡ 0) ⊎ ((7 * stateOf (u .state) .start < stateOf (u .state) .last) × (stateOf (u .state) .last ≤ nextPosition (stateOf (w .state))))
     → ((x : ℕ) → x < 8 → 3 ≤ writerOf (w .state) x .mode → 7 * stateOf (u .state) .start ≤ writerOf (w .state) x .first)
     → u .homes ≡ w .homes → length (u .log) ≡ length (w .log) → ((slot : ℕ) → groupAt (u .log) slot ≡ groupAt (w .log) slot) → length (u .area) ≡ length (w .area)
     → u .book .tasks ≡ w .book .tasks → u .book .rows ≡ w .book .rows → u .book .filled ≡ w .book .filled
-    → u .area ≡ homesAfter D (closedBelow (stateOf (u .state) .settled) (u .book .commits)) → (n : ℕ) × (stateOf (u .state) .settled ≡ 7 * n)
+    → SettledHomes D (u .area) (stateOf (u .state)) (u .book .commits)
     → Apart (7 * stateOf (u .state) .start) (hist (7 * b) tr .done) → Linked (7 * stateOf (u .state) .start) (tagAt (7 * b) tr) none (hist (7 * b) tr .done)
     → LastOk (stateOf (u .state) .start) (stateOf (u .state) .last) (lastCloser (hist (7 * b) tr .done)) → Copies G D b tr u
-copies-renumber G D b tr w u c n size ew eh ep lc fs ho ll lg la et er ef ar sg ap′ ln lo =
+copies-renumber G D b tr w u c n size ew eh ep lc fs ho ll lg la et er ef ar ap′ ln lo =
     let p : nextPosition (stateOf (u .state)) ≡ nextPosition (stateOf (w .state)) = unfold nextPosition in omega (arith, n .next, n .filled) in
     record {
       homes = ho ∙ c .homes;
@@ -111,7 +112,6 @@ copies-renumber G D b tr w u c n size ew eh ep lc fs ho ll lg la et er ef ar sg 
       rows = er ∙ c .rows ∙ omega (arith, n .next);
       filled = ef ∙ c .filled ∙ sym (n .filled);
       settledHomes = ar;
-      settledGroup = sg;
     }
 
 -- confirm: commits become owed, and the fences so far have passed
@@ -241,23 +241,35 @@ confirm-runs G D z w r =
       commits = owed-commits D (r .b) (r .tr) (r .old) (w .book .commits) F (r .commits);
       copies =
           copies-renumber G D (r .b) (r .tr) w u c
-          (rw e (record { groups = refl; homes = refl; next = refl; filled = refl; start = omega arith; most = o .start-most; upto = o .start-next; low = o .start-settled; settled = o .settled-fenced; fenced = o .fenced-next; durable = omega arith }))
-          (length-setDurable (w .state) F ∙ c .stateSize) (λ x. writer-setDurable (w .state) F x) (λ x. held-setDurable (w .state) F x) (λ x. promise-setDurable (w .state) F x)
+          (rw e (record { groups = refl; homes = refl; next = refl; filled = refl; start = omega arith; most = o .start-most; upto = o .start-next; low = o .start-settled; settled = o .settled-fenced; fenced = o .fenced-next; durable = omega arith; round-settled = o .round-settled; round-fenced = o .round-fenced }))
+          (length-setDurable (w .state) F ∙ c .stateSize) (λ x. writer-setDurable (w .state) F x) (λ x. held-setDurable (w .state) F x) (λ x l. promise-setDurable (w .state) F x)
           (rw e (o .last-closing)) (λ x l h. rw e (o .writers x l .logged h .0)) refl refl (λ slot. refl) refl refl refl refl
-          (rw e (c .settledHomes ∙ sym (owed-homes D F (st .settled) (w .book .commits)))) (rw e (c .settledGroup)) (rw e (c .apart)) (rw e (c .links)) (rw e (c .last));
+          (λ h l.
+          rw (e, settled-same st (withDurable st F) h refl refl refl)
+          (c .settledHomes h l ∙ sym (ap (λ (a : List ℕ). homeAt a h) (owed-homes D F (settledFor st h) (w .book .commits))))) (rw e (c .apart)) (rw e (c .links)) (rw e (c .last));
       submitted = record {
         fenced = s .fenced;
         group = s .group;
         count = s .count;
         content = s .content;
+        tail = s .tail;
+        done = s .done;
         split = append-nil (w .pending) ∙ s .split;
+        mixed = s .mixed;
+        groupsOf = s .groupsOf;
+        homesOf = s .homesOf;
+        behind = rw e (s .behind);
+        area = s .area;
         atFence = rw e (s .atFence);
         next = rw e (s .next);
         low = s .low;
         written = s .written;
         contents = s .contents;
         logSize = s .logSize;
-        area = s .area;
+        areaSize = s .areaSize;
+        homes = λ h l.
+            let x = s .homes h l in
+            rw e (x .0, x .1, x .2, x .3 ∙ sym (ap (λ (a : List ℕ). homeAt a h) (owed-homes D F (x .0) (w .book .commits))));
         header = s .header;
         start = rw e (s .start);
         numbers = s .numbers;
@@ -268,9 +280,9 @@ confirm-runs G D z w r =
       };
       confirmed = record {
         before = s .fenced ++ (FN ∷ []);
-        after = submits G (s .group) (s .content) (s .count);
+        after = s .tail;
         split = append-nil (w .pending) ∙ s .split;
-        count = sym (ap fences (s .split) ∙ fences-append (s .fenced ++ (FN ∷ [])) (submits G (s .group) (s .content) (s .count)) ∙ omega (arith, fences-submits G (s .group) (s .content) (s .count)));
+        count = sym (ap fences (s .split) ∙ fences-append (s .fenced ++ (FN ∷ [])) (s .tail) ∙ omega (arith, fences-none (s .tail) (none-mixed (s .tail) (s .mixed))));
         ends = inr (s .fenced, refl);
         owed = subst (λ (x : ℕ). OwedBelow x (owedBy F (w .book .commits))) (omega (arith, s .atFence, groupWrites-fence (s .fenced), s .written, s .low))
             (marked-below F (7 * (r .b + (groupWrites (r .confirmed .before) - G))) (w .book .commits) (r .confirmed .owed) (r .confirmed .reached));

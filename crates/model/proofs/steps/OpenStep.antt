@@ -11,7 +11,7 @@ use lib.ListN.{length, drop}
 use lib.Dec.{leb}
 use borrow.Author.Tests.{leb-true}
 use Rattle.model.specs.Bytes.{part, puts, same}
-use Rattle.model.specs.Layout.{groupsIn, homesIn, headerStart, header, groupMark, groupAt, groupNumber, unusedGroup, emptyLog}
+use Rattle.model.specs.Layout.{groupsIn, homesIn, headerStart, header, groupMark, groupAt, groupNumber, unusedGroup, emptyLog, homeAt}
 use Rattle.model.specs.Batch.{Record, KW, FN}
 use Rattle.model.specs.State.{State, stateOf, nextPosition, Writer, writerOf, freshState, idle}
 use Rattle.model.specs.Effects.{Given, Effect, openEffect, openTags, openStart, blankWrites, homeWrites}
@@ -19,7 +19,7 @@ use Rattle.model.specs.Questions.{openAnswer, startFits}
 use Rattle.model.specs.Newest.{nothingKept}
 use Rattle.model.specs.Crash.{Memory, fences, persist, persistChosen, fates}
 use Rattle.model.specs.Book.{Commit, Book, homesAfter, writeCommits, owedAll, withCommits, fateAt, run}
-use Rattle.model.specs.Demands.{closedBelow, groupWrites}
+use Rattle.model.specs.Demands.{closedBelow, settledFor, groupWrites}
 use Rattle.model.specs.History.{Call, opening, World, loaded, feed, isConfirm, feedChange}
 use Rattle.model.proofs.bytes.ByteLaws.{puts-whole}
 use Rattle.model.proofs.bytes.LayoutLaws.{length-header, groups-in, homes-in}
@@ -27,11 +27,12 @@ use Rattle.model.proofs.bytes.BlockLaws.{blockIn, same-mark, same-numbe
 use Rattle.model.proofs.bytes.EmptyLaws.{length-unusedGroup, unused-mark, unused-opposite, length-emptyLog, emptyLog-start, emptyLog-right, emptyLog-group}
 use Rattle.model.proofs.strip.OrderLaws.{in-order, length-fresh, state-fresh, writer-fresh, in-order-fresh}
 use Rattle.model.proofs.strip.QuestionLaws.{open-ready}
-use Rattle.model.proofs.trace.CrashLaws.{writeRecords, submits, NoFence, write-append, write-FN, groupWrites-fence}
+use Rattle.model.proofs.trace.CrashLaws.{writeRecords, submits, NoFence, write-append, write-FN, groupWrites-fence, write-nil}
 use Rattle.model.proofs.trace.HomeLaws.{log-homes, log-homes-wrote, log-header, area-header, log-header-wrote, area-header-wrote}
 use Rattle.model.proofs.trace.SubmitLaws.{area-submits, length-submits, headerStart-submits, headerRight-submits, meta-submits}
 use Rattle.model.proofs.trace.OpeningLaws.{none-blanks, groupWrites-blanks, blank-submits, write-blanks, openingRecords, fences-opening, groupWrites-opening, opening-none, opening-one, opening-two}
 use Rattle.model.proofs.trace.FateLaws.{drop-fates}
+use Rattle.model.proofs.trace.MixLaws.{groupPart, homePart}
 use Rattle.model.proofs.trace.Trace.{Ev, hist}
 use Rattle.model.proofs.steps.DoneLaws.{after}
 use Rattle.model.proofs.invariant.OpenLaws.{hs, ts, tags, newStart, newHeader, restored-size, closed-old, early-chosen, early-written, all-written, new-start, new-right, new-size, new-numbers, late-begin}
@@ -253,7 +254,7 @@ module _ (G D : ℕ) (z : Sizes G D) (w : World) (c : Closed G D w) where
 
   -- the strip's numbers
   numbers : stateOf (freshState G D b)
-      ≡ record { groups = G; homes = D; start = b; next = b; filled = 0; settled = 7 * b; fenced = 7 * b; durable = 7 * b; last = 0 }
+      ≡ record { groups = G; homes = D; start = b; next = b; filled = 0; settled = 7 * b; fenced = 7 * b; durable = 7 * b; last = 0; round = 0; cursor = 0 }
   numbers = state-fresh G D b (omega arith) (omega arith) (omega (arith, o .start))
 
   wrote : groupWrites fenced ≡ b - b + G
@@ -288,22 +289,35 @@ module _ (G D : ℕ) (z : Sizes G D) (w : World) (c : Closed G D w) where
           tasks = λ v l. rw (writer-fresh G D b v) (inl ((unfold idle in refl), c .tasks v));
           rows = c .rows ∙ omega (arith, ap (λ (s : State). s .next) numbers);
           filled = c .filled ∙ sym (ap (λ (s : State). s .filled) numbers);
-          settledHomes = homes-same ∙ sym (ap (homesAfter D) (closed-old D (stateOf (freshState G D b) .settled) old past));
-          settledGroup = (b, ap (λ (s : State). s .settled) numbers);
+          settledHomes = λ h l.
+              ap (λ (a : List ℕ). homeAt a h) (homes-same ∙ sym (ap (homesAfter D) (closed-old D (settledFor (stateOf (freshState G D b)) h) old past)));
         };
         submitted = record {
           fenced = fenced;
           group = b;
           count = 0;
           content = λ n. [];
-          split = rw (c .pending) (unfold submits in (sym whole-batch ∙ sym (append-nil (fenced ++ (FN ∷ [])))));
+          tail = [];
+          done = [];
+          split = rw (c .pending) (sym whole-batch ∙ sym (append-nil (fenced ++ (FN ∷ []))));
+          mixed = tt;
+          groupsOf = unfold submits groupPart in refl;
+          homesOf = unfold homeWrites homePart in refl;
+          behind = λ h i. absurd i;
+          area = ap (λ (m : Memory). m .area) (write-nil (writeRecords fenced (w .memory))) ∙ written-area;
           atFence = ap (λ (s : State). s .fenced) numbers;
           next = omega (arith, ap (λ (s : State). s .next) numbers);
           low = omega arith;
           written = wrote;
           contents = λ n l k. absurd (omega arith);
           logSize = rw written-log (length-emptyLog b G D);
-          area = written-area;
+          areaSize = rw written-area (restored-size G D z m X o);
+          homes = λ h l. (
+            7 * b,
+            omega (arith, ap (λ (s : State). s .settled) numbers),
+            omega arith,
+            ap (λ (a : List ℕ). homeAt a h) (written-area ∙ homes-same ∙ sym (ap (homesAfter D) (closed-old D (7 * b) old past))),
+          );
           header = rw written-log (emptyLog-right b G D (omega arith) (omega arith));
           start = rw written-log (emptyLog-start b G D (omega arith) ∙ sym (ap (λ (s : State). s .start) numbers));
           numbers = rw written-log (empty-numbers b);

@@ -6,10 +6,10 @@ use Prim.Native.Nat.{ℕ, zero, suc, _+_, _≤_, _<_}
 use native.Mathlib.Omega.{arith}
 use lib.ListN.{length, take}
 use Rattle.model.specs.Batch.{Record, readBatch, readRecords}
-use Rattle.model.specs.Effects.{Given, Effect, openEffect, openStart, beginEffect, reserveEffect, abortEffect, storeEffect, commitEffect, flushEffect, confirmEffect, settleEffect, trimStart, trimEffect, readEffect}
-use Rattle.model.specs.Questions.{openAnswer, beginAnswer, reserveAnswer, abortAnswer, storeAnswer, commitAnswer, flushAnswer, confirmAnswer, settleAnswer, trimAnswer, readAnswer}
-use Rattle.model.specs.Calls.{Outcome, refused, done, sizeOf, outcome, openCall, beginCall, reserveCall, abortCall, storeCall, commitCall, flushCall, confirmCall, settleCall, trimCall, readCall}
-use Rattle.model.specs.History.{Change, begins, reserves, aborts, stores, commits, flushes, Service, settles, trims, reads, Call, opening, confirm, change, service, Event, call, World, lent, loaded, ends, changeEnds, serviceEnds, isOpening, afterRefused, afterCall, step}
+use Rattle.model.specs.Effects.{Given, Effect, openEffect, openStart, beginEffect, reserveEffect, abortEffect, storeEffect, commitEffect, flushEffect, confirmEffect, settleEffect, beginRoundEffect, stepRoundEffect, trimStart, trimEffect, readEffect}
+use Rattle.model.specs.Questions.{openAnswer, beginAnswer, reserveAnswer, abortAnswer, storeAnswer, commitAnswer, flushAnswer, confirmAnswer, settleAnswer, beginRoundAnswer, stepRoundAnswer, trimAnswer, readAnswer}
+use Rattle.model.specs.Calls.{Outcome, refused, done, sizeOf, outcome, openCall, beginCall, reserveCall, abortCall, storeCall, commitCall, flushCall, confirmCall, settleCall, beginRoundCall, stepRoundCall, trimCall, readCall}
+use Rattle.model.specs.History.{Change, begins, reserves, aborts, stores, commits, flushes, Service, settles, roundBegins, roundSteps, trims, reads, Call, opening, confirm, change, service, Event, call, World, lent, loaded, ends, changeEnds, serviceEnds, isOpening, afterRefused, afterCall, step}
 
 -- a number other than 0 refuses
 outcome-refused : (g : Given) (a k : ℕ) (e : Effect) → outcome g a e .code ≡ suc k → outcome g a e ≡ refused g (suc k)
@@ -72,10 +72,16 @@ change-refused w (flushes batch) k h =
     lent-refused w _ g (flushAnswer g (sizeOf (flushEffect g))) k (flushEffect g) refl h (refused-world w _ [] batch 0 0 _)
 
 service-refused : (w : World) (c : Service) (k : ℕ) → ends w (service c) .code ≡ suc k → afterRefused w (service c) (ends w (service c)) ≡ w
-unfolding ends serviceEnds settleCall trimCall readCall
+unfolding ends serviceEnds settleCall beginRoundCall stepRoundCall trimCall readCall
 service-refused w (settles batch) k h =
     let g : Given = lent w [] batch 0 0 in
     lent-refused w _ g (settleAnswer g (sizeOf (settleEffect g))) k (settleEffect g) refl h (refused-world w _ [] batch 0 0 _)
+service-refused w roundBegins k h =
+    let g : Given = lent w [] [] 0 0 in
+    lent-refused w _ g (beginRoundAnswer g) k (beginRoundEffect g) refl h (refused-world w _ [] [] 0 0 _)
+service-refused w (roundSteps n batch) k h =
+    let g : Given = lent w [] batch 0 0 in
+    lent-refused w _ g (stepRoundAnswer g n (sizeOf (stepRoundEffect g n))) k (stepRoundEffect g n) refl h (refused-world w _ [] batch 0 0 _)
 service-refused w (trims batch) k h =
     let g : Given = lent w [] batch 0 0 in
     let s : ℕ = trimStart g in

@@ -2,30 +2,27 @@
 use Prim.Native.Nat.{ℕ, suc, _+_, _-_, _*_, _≤_, _<_}
 use mathlib.Core.Path.{_≡_, refl, sym, ap, _∙_}
 use mathlib.Core.Logic.{_⊎_, inl, inr}
-use mathlib.Core.Bool.{Bool, true, false, cond}
+use mathlib.Core.Bool.{Bool, true, false, cond, false≢true}
 use mathlib.Core.List.{List, [], _∷_, _++_}
 use native.Mathlib.Omega.{arith}
 use lib.Dec.{leb, ltb}
 use lib.ListN.{length}
 use borrow.Author.Tests.{leb-true, leb-false, lt-ltb, le-ltb}
 use Rattle.model.specs.Bytes.{zeros}
-use Rattle.model.specs.Layout.{headerStart, homeAt}
+use Rattle.model.specs.Layout.{homeAt}
 use Rattle.model.specs.Commit.{transactions, replay, newest, found}
 use Rattle.model.specs.State.{State, stateOf, setSettled, setFenced, nextPosition, promiseOf, writerOf, heldOf}
 use Rattle.model.specs.Effects.{Given, groups, homes, Effect, restore, replayed, touched, homeWrites, liveTags, liveBase, settleEffect}
 use Rattle.model.specs.Batch.{FN}
-use Rattle.model.specs.Crash.{Memory, persistChosen}
 use Rattle.model.specs.Book.{Commit, writeCommits, homesAfter}
-use Rattle.model.specs.Demands.{closedBelow}
+use Rattle.model.specs.Demands.{closedBelow, settledFor}
 use Rattle.model.specs.History.{World, lent, feed, isConfirm, settle, feedChange}
 use Rattle.model.specs.declared.Tag.{Tag}
 use Rattle.model.proofs.bytes.ByteLaws.{length-part}
 use Rattle.model.proofs.strip.BatchLaws.{AllFormed, formed-append}
 use Rattle.model.proofs.strip.PromiseLaws.{promise-setSettled, promise-setFenced}
 use Rattle.model.proofs.strip.StateLaws.{withSettled, withFenced, length-setSettled, length-setFenced, state-setSettled, state-setFenced, writer-setSettled, writer-setFenced, held-setSettled, held-setFenced}
-use Rattle.model.proofs.trace.CrashLaws.{writeRecords, submits, none-submits, none-homes, groupWrites-homes, chosen-append}
-use Rattle.model.proofs.trace.SubmitLaws.{headerStart-submits}
-use Rattle.model.proofs.trace.HomeLaws.{In, in-marked, marked-in, marked-below, log-homes}
+use Rattle.model.proofs.trace.HomeLaws.{In, in-marked, marked-in, marked-below}
 use Rattle.model.proofs.trace.Trace.{Ev, hist, homeOn, closerOf, closingFrom}
 use Rattle.model.proofs.trace.TraceLaws.{Rising, done-rising}
 use Rattle.model.proofs.trace.WholeLaws.{closingFrom-all}
@@ -34,10 +31,9 @@ use Rattle.model.proofs.invariant.RunLaws.{none-below, closedBelow-old,
 use Rattle.model.proofs.invariant.BookReplay.{place, writeCommits-append, replay-append, commits-replay, replay-ext, restore-place, hitsAny, Fits, replay-area, touches-hits, touches-old}
 use Rattle.model.proofs.invariant.TouchLaws.{commits-fit, length-homesAfter, touches-more, touches-lower, homesAfter-untouched}
 use Rattle.model.proofs.invariant.Invariant.{Sizes, Commits, Copies, Submitted, Running, touchesAbove}
-use Rattle.model.proofs.invariant.NowLate.{now-late-settle}
-use Rattle.model.proofs.invariant.NowNext.{now-settled}
+use Rattle.model.proofs.invariant.SettledLaws.{settled-none, settled-least, settled-most}
 use Rattle.model.proofs.steps.DoneLaws.{after}
-use Rattle.model.proofs.steps.FenceRuns.{now-of, submitted-fence}
+use Rattle.model.proofs.steps.HomeRuns.{submitted-homes}
 use Rattle.model.proofs.steps.LogSubmits.{confirmed-more}
 use Rattle.model.proofs.steps.NumberRuns.{Renumbered, copies-renumber}
 use Rattle.model.proofs.invariant.LiveLog.{tagsIn, baseOf, endOf, keptIn, Shown, all-each, live-upto, upto-shown, found-hits, lent-groups, lent-homes, lent-tags}
@@ -136,37 +132,56 @@ module _ (G D b : ℕ) (tr : List Ev) (old : List Commit) (w : World) (z : Sizes
 
   -- ---- what a settle leaves in the data copy
 
-  home-agrees : (F h : ℕ) → stateOf (w .state) .settled ≤ F
+  home-agrees : (F h : ℕ) → h < D → settledFor (stateOf (w .state)) h ≤ F
       → (homeAt (w .area) h ≡ homeAt (homesAfter D (closedBelow (baseOf w) (w .book .commits))) h)
       ⊎ (hitsAny (homeOn (7 * b) tr) h (closingBelow F (keptIn b tr w)) ≡ true)
-  home-agrees F h l = go (touchesAbove (baseOf w) h (closedBelow (stateOf (w .state) .settled) (w .book .commits))) refl
+  home-agrees F h i l = go (touchesAbove (baseOf w) h (closedBelow (settledFor (stateOf (w .state)) h) (w .book .commits))) refl
     where
-      go : (d : Bool) → touchesAbove (baseOf w) h (closedBelow (stateOf (w .state) .settled) (w .book .commits)) ≡ d
+      go : (d : Bool) → touchesAbove (baseOf w) h (closedBelow (settledFor (stateOf (w .state)) h) (w .book .commits)) ≡ d
           → (homeAt (w .area) h ≡ homeAt (homesAfter D (closedBelow (baseOf w) (w .book .commits))) h)
           ⊎ (hitsAny (homeOn (7 * b) tr) h (closingBelow F (keptIn b tr w)) ≡ true)
-      go true t = inr (sym (touches-upto F h) ∙ touches-more (baseOf w) h (stateOf (w .state) .settled) F (w .book .commits) l t)
+      go true t = inr (sym (touches-upto F h) ∙ touches-more (baseOf w) h (settledFor (stateOf (w .state)) h) F (w .book .commits) l t)
       go false t =
           inl
-          (ap (λ (a : List ℕ). homeAt a h) (c .settledHomes)
-          ∙ sym (homesAfter-untouched D h (baseOf w) (stateOf (w .state) .settled) (c .order .start-settled) (w .book .commits)
+          (c .settledHomes h i
+          ∙ sym (homesAfter-untouched D h (baseOf w) (settledFor (stateOf (w .state)) h)
+          (omega (arith, c .order .start-settled, settled-least (w .state) G D (c .order) h)) (w .book .commits)
           (commits-fit D b tr old (w .book .commits) (c .sound) k) t))
 
-  pub settle-replay : (F : ℕ) → stateOf (w .state) .settled ≤ F
+  pub settle-replay : (F : ℕ) → stateOf (w .state) .settled ≤ F → ((h : ℕ) → settledFor (stateOf (w .state)) h ≤ F)
       → replayed (w .log) G (tagsIn G D w) (closingBelow F (keptIn b tr w)) (w .area) ≡ homesAfter D (closedBelow F (w .book .commits))
   unfolding replayed
-  settle-replay F l =
+  settle-replay F l u =
       replay-ext (restore (w .log) G (tagsIn G D w)) (place b tr) (closingBelow F (keptIn b tr w)) (w .area)
       (all-each (Shown G D b tr w) (λ p. (a : List ℕ) → restore (w .log) G (tagsIn G D w) p a ≡ place b tr p a)
       (λ p s. restore-place (w .log) G (tagsIn G D w) b tr p (s .home) (s .block)) (closingBelow F (keptIn b tr w)) (upto-shown G D b tr w z c F))
       ∙ replay-area D b tr (closingBelow F (keptIn b tr w)) (w .area) (homesAfter D (closedBelow (baseOf w) (w .book .commits)))
       (all-each (Shown G D b tr w) (Fits D b tr) (λ p s. s .fits) (closingBelow F (keptIn b tr w)) (upto-shown G D b tr w z c F)) (c .areaSize)
-      (length-homesAfter D (closedBelow (baseOf w) (w .book .commits))) (λ h i. home-agrees F h l)
+      (length-homesAfter D (closedBelow (baseOf w) (w .book .commits))) (λ h i. home-agrees F h i (u h))
       ∙ sym (book-upto F (omega (arith, c .order .start-settled)))
 
-  pub settle-area : (F : ℕ) → stateOf (w .state) .settled ≤ F → F ≤ endOf w
+  pub settle-area : (F : ℕ) → stateOf (w .state) .settled ≤ F → ((h : ℕ) → settledFor (stateOf (w .state)) h ≤ F) → F ≤ endOf w
       → replayed (w .log) G (tagsIn G D w) (transactions (tagsIn G D w) (baseOf w) (F - baseOf w)) (w .area)
       ≡ homesAfter D (closedBelow F (w .book .commits))
-  settle-area F l h = rw (live-upto G D b tr w z c F (omega (arith, c .order .start-settled)) h) (settle-replay F l)
+  settle-area F l u h = rw (live-upto G D b tr w z c F (omega (arith, c .order .start-settled)) h) (settle-replay F l u)
+
+  -- a home that no commit from the start on touches
+  pub settle-untouched : (F h : ℕ) → h < D → settledFor (stateOf (w .state)) h ≤ F
+      → touchesAbove (baseOf w) h (closedBelow F (w .book .commits)) ≡ false
+      → homeAt (w .area) h ≡ homeAt (homesAfter D (closedBelow F (w .book .commits))) h
+  settle-untouched F h i l n = c .settledHomes h i ∙ go (touchesAbove (settledFor (stateOf (w .state)) h) h (closedBelow F (w .book .commits))) refl
+    where
+      go : (d : Bool) → touchesAbove (settledFor (stateOf (w .state)) h) h (closedBelow F (w .book .commits)) ≡ d
+          → homeAt (homesAfter D (closedBelow (settledFor (stateOf (w .state)) h) (w .book .commits))) h
+          ≡ homeAt (homesAfter D (closedBelow F (w .book .commits))) h
+      go true t =
+          absurd
+          (false≢true
+          (sym n
+          ∙ touches-lower (settledFor (stateOf (w .state)) h) (baseOf w) h (closedBelow F (w .book .commits))
+          (omega (arith, c .order .start-settled, settled-least (w .state) G D (c .order) h)) t))
+      go false t =
+          homesAfter-untouched D h (settledFor (stateOf (w .state)) h) F l (w .book .commits) (commits-fit D b tr old (w .book .commits) (c .sound) k) t
 
 -- ---- the effect
 
@@ -187,7 +202,7 @@ unfolding settleEffect
 settle-at g n d tags ts area en ed et es ea = rw (en, ed, et, es, ea)
 
 -- a settle's home writes are well formed
-formed-homes : (area hs : List ℕ) (D : ℕ) → D ≤ 65535 → length area ≡ 64 * D → ((h : ℕ) → In h hs → h < D) → AllFormed (homeWrites area hs)
+pub formed-homes : (area hs : List ℕ) (D : ℕ) → D ≤ 65535 → length area ≡ 64 * D → ((h : ℕ) → In h hs → h < D) → AllFormed (homeWrites area hs)
 unfolding homeWrites homeAt
 formed-homes area [] D d l u = tt
 formed-homes area (h ∷ hs) D d l u =
@@ -237,7 +252,8 @@ module _ (G D : ℕ) (z : Sizes G D) (w : World) (r : Running G D w) where
       (lent-groups G D (r .b) (r .tr) w z c [] batch 0 0) (lent-homes G D (r .b) (r .tr) w z c [] batch 0 0)
       (lent-tags G D (r .b) (r .tr) w z c [] batch 0 0)
       (live-upto G D (r .b) (r .tr) w z c (st .fenced) (omega (arith, c .order .start-settled, c .order .settled-fenced)) fenced-inside)
-      (settle-replay G D (r .b) (r .tr) (r .old) w z (r .commits) c (st .fenced) (c .order .settled-fenced))
+      (settle-replay G D (r .b) (r .tr) (r .old) w z (r .commits) c (st .fenced) (c .order .settled-fenced)
+      (settled-most (w .state) G D (c .order)))
 
   pub numbers : stateOf newState ≡ withFenced (withSettled st (st .fenced)) (7 * st .next)
   numbers =
@@ -247,8 +263,8 @@ module _ (G D : ℕ) (z : Sizes G D) (w : World) (r : Running G D w) where
       ∙ ap (λ (x : State). withFenced x (7 * st .next))
       (state-setSettled (w .state) (st .fenced) (c .stateSize) (omega (arith, o .fenced-next, o .next-most, o .start-most, o .groups-same)))
 
-  renumbered : Renumbered st (withFenced (withSettled st (st .fenced)) (7 * st .next))
-  renumbered =
+  renumbered : st .round ≡ 0 → Renumbered st (withFenced (withSettled st (st .fenced)) (7 * st .next))
+  renumbered none =
       let o = c .order in
       record {
         groups = refl;
@@ -262,6 +278,8 @@ module _ (G D : ℕ) (z : Sizes G D) (w : World) (r : Running G D w) where
         settled = o .fenced-next;
         fenced = omega arith;
         durable = omega (arith, o .durable-fenced, o .fenced-next);
+        round-settled = λ h. absurd (omega arith);
+        round-fenced = omega arith;
       }
 
   size : length newState ≡ 1024
@@ -274,11 +292,8 @@ module _ (G D : ℕ) (z : Sizes G D) (w : World) (r : Running G D w) where
   held : (x : ℕ) → heldOf newState x ≡ heldOf (w .state) x
   held x = held-setFenced (setSettled (w .state) (st .fenced)) (7 * st .next) x ∙ held-setSettled (w .state) (st .fenced) x
 
-  promises : (x : ℕ) → promiseOf newState x ≡ promiseOf (w .state) x
-  promises x = promise-setFenced (setSettled (w .state) (st .fenced)) (7 * st .next) x ∙ promise-setSettled (w .state) (st .fenced) x
-
-  settles : newArea ≡ homesAfter D (closedBelow (7 * s .group) (w .book .commits))
-  settles = rw (s .atFence)
+  promises : (x : ℕ) → x < 8 → promiseOf newState x ≡ promiseOf (w .state) x
+  promises x l = promise-setFenced (setSettled (w .state) (st .fenced)) (7 * st .next) x ∙ promise-setSettled (w .state) (st .fenced) x
 
   pub area-size : length newArea ≡ 64 * D
   area-size = length-homesAfter D (closedBelow (st .fenced) (w .book .commits))
@@ -286,32 +301,22 @@ module _ (G D : ℕ) (z : Sizes G D) (w : World) (r : Running G D w) where
   pub inside : (h : ℕ) → In h due → h < D
   inside h i = due-below G D (r .b) (r .tr) (r .old) w z (r .commits) c (st .fenced) h i
 
-  covers : (h : ℕ) → h < D → touchesAbove (st .settled) h (closedBelow (7 * s .group) (w .book .commits)) ≡ true → In h due
-  covers h l t =
-      touched-due G D (r .b) (r .tr) (r .old) w z (r .commits) c (st .fenced) h l
-      (touches-lower (st .settled) (baseOf w) h (closedBelow (st .fenced) (w .book .commits)) (c .order .start-settled) (rw (s .atFence) t))
+  others : (h : ℕ) → h < D → (In h due → ⊥) → homeAt newArea h ≡ homeAt (w .area) h
+  others h l n =
+      sym
+      (settle-untouched G D (r .b) (r .tr) (r .old) w z (r .commits) c (st .fenced) h l (settled-most (w .state) G D (c .order) h)
+      (go (touchesAbove (baseOf w) h (closedBelow (st .fenced) (w .book .commits))) refl))
+    where
+      go : (d : Bool) → touchesAbove (baseOf w) h (closedBelow (st .fenced) (w .book .commits)) ≡ d
+          → touchesAbove (baseOf w) h (closedBelow (st .fenced) (w .book .commits)) ≡ false
+      go true t = absurd (n (touched-due G D (r .b) (r .tr) (r .old) w z (r .commits) c (st .fenced) h l t))
+      go false t = t
 
-  reaches : (h : ℕ) → In h due → touchesAbove (baseOf w) h (closedBelow (7 * s .group) (w .book .commits)) ≡ true
-  reaches h i = rw (s .atFence) at (due-touched G D (r .b) (r .tr) (r .old) w z (r .commits) c (st .fenced) h i)
-
-  -- no header is written
-  same-start : (chosen : ℕ → Bool) (m : Memory)
-      → headerStart (persistChosen chosen 0 (submits G (s .group) (s .content) (s .count) ++ homeWrites newArea due) m .log) ≡ headerStart (m .log)
-  same-start chosen m =
-      rw (
-        chosen-append chosen 0 (submits G (s .group) (s .content) (s .count)) (homeWrites newArea due) m
-            (none-submits G (s .group) (s .content) (s .count)),
-        log-homes,
-      )
-      (headerStart-submits chosen 0 G (s .group) (s .content) (s .count) m)
-
-  running : (batch : List ℕ) → Running G D (after w (settle batch) effect)
+  running : (batch : List ℕ) → st .round ≡ 0 → Running G D (after w (settle batch) effect)
   unfolding feed feedChange isConfirm
-  running batch =
+  running batch none =
       let o = c .order in
       let u : World = after w (settle batch) effect in
-      let N = now-of G D (r .b) (r .tr) (r .old) w z (r .commits) c s in
-      let N′ = now-settled N newArea due settles inside covers in
       record {
         b = r .b;
         tr = r .tr;
@@ -321,21 +326,20 @@ module _ (G D : ℕ) (z : Sizes G D) (w : World) (r : Running G D w) where
         commits = r .commits;
         copies =
             copies-renumber G D (r .b) (r .tr) w u c
-            (rw numbers renumbered) size writers held promises (rw numbers (o .last-closing)) (λ x l h. rw numbers (o .writers x l .logged h .0)) refl refl
-            (λ slot. refl) (area-size ∙ sym (c .areaSize)) refl refl refl (rw numbers) (s .group, rw numbers (s .atFence))
+            (rw numbers (renumbered none)) size writers held promises (rw numbers (o .last-closing)) (λ x l h. rw numbers (o .writers x l .logged h .0)) refl
+            refl (λ slot. refl) (area-size ∙ sym (c .areaSize)) refl refl refl
+            (λ h l. rw (numbers, settled-none (withFenced (withSettled st (st .fenced)) (7 * st .next)) h none))
             (rw numbers (c .apart)) (rw numbers (c .links)) (rw numbers (c .last));
         submitted =
-            submitted-fence G D (r .b) (r .tr) (r .old) w s (homeWrites newArea due) (none-homes newArea due) u (st .start) (7 * s .group)
-            (s .content) (groupWrites-homes newArea due) N′ refl refl refl (settles ∙ sym (N′ .area)) (rw numbers)
-            (rw numbers (ap (λ (n : ℕ). 7 * n) (sym (s .next)))) (rw numbers (sym (s .next))) (omega arith)
-            (λ chosen. now-late-settle N newArea due settles inside reaches chosen)
-            (λ chosen. omega (arith, same-start chosen (writeRecords (s .fenced) (w .memory)), s .start));
+            submitted-homes G D (r .b) (r .tr) (r .old) w z (r .commits) c s newArea due area-size inside
+            (λ h i. absurd (omega (arith, s .behind h i .1))) others u (st .fenced) (o .settled-fenced) (omega (arith, s .atFence))
+            (λ h l. (st .fenced, omega arith, omega (arith, s .atFence), refl)) refl refl refl refl (rw numbers) (rw numbers) (rw numbers) (rw numbers);
         confirmed =
             confirmed-more G (r .b) w u (homeWrites newArea due ++ (FN ∷ [])) (r .confirmed) refl refl (rw numbers (o .fenced-next)) (λ bound h. h);
       }
 
-  pub settle-runs : (batch : List ℕ) → Running G D (after w (settle batch) (settleEffect (lent w [] batch 0 0)))
-  settle-runs batch = rw (settle-effect batch) (running batch)
+  pub settle-runs : (batch : List ℕ) → st .round ≡ 0 → Running G D (after w (settle batch) (settleEffect (lent w [] batch 0 0)))
+  settle-runs batch none = rw (settle-effect batch) (running batch none)
 
   pub settle-yields : (batch : List ℕ)
       → settleEffect (lent w [] batch 0 0) .area ≡ homesAfter D (closedBelow (stateOf (w .state) .fenced) (w .book .commits))

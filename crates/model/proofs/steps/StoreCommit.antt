@@ -182,7 +182,7 @@ module _ (G D : ℕ) (z : Sizes G D) (w : World) (R : Running G D w) (v : ℕ) (
     state-is = refl
 
     numbers-are : stateOf (u .state) ≡ stateOf (lo .state)
-    numbers-are = rw state-is (state-setPromise s₃ v n₃ ∙ state-setHeld s₁ v block hb ∙ state-setWriter (lo .state) v _)
+    numbers-are = rw state-is (state-setPromise s₃ v n₃ l ∙ state-setHeld s₁ v block hb ∙ state-setWriter (lo .state) v _)
 
     writer-is : writerOf (u .state) v ≡ logging home (firstFor r P) (countFor r + 1)
     writer-is =
@@ -274,7 +274,7 @@ module _ (G D : ℕ) (z : Sizes G D) (w : World) (R : Running G D w) (v : ℕ) (
         in-order-is promises-are task-is refl log-becomes refl
         (ap (λ (k : Book). k .tasks v) book-is ∙ task-here (filledUp (w .book)) v _)
         (λ x n. ap (λ (k : Book). k .tasks x) book-is ∙ task-other (filledUp (w .book)) v x _ n ∙ ap (λ (f : ℕ → Task). f x) (filled-tasks (w .book)))
-        (ap (λ (k : Book). k .rows) book-is) (ap (λ (k : Book). k .filled) book-is) (rw commits-are) (rw done-is (c .apart)) links-are (rw done-is (c .last))
+        (ap (λ (k : Book). k .rows) book-is) (ap (λ (k : Book). k .filled) book-is) (λ bound h. rw commits-are) (rw done-is (c .apart)) links-are (rw done-is (c .last))
         (⊎-elim inl (λ h. inr (h .0, omega arith)) (c .order .last-closing))
 
     pending-is : u .pending ≡ w .pending ++ cond (eqb (st .filled) 6) (GW (st .next % G) (groupAt (u .log) (st .next % G)) ∷ []) []
@@ -293,7 +293,7 @@ module _ (G D : ℕ) (z : Sizes G D) (w : World) (R : Running G D w) (v : ℕ) (
           commits = rw commits-are (commits-open D b e₀ tr (R .old) (w .book .commits) refl (R .commits));
           copies = copies-are;
           submitted =
-              submitted-logged G D b tr (R .old) w u e₀ (st .last) (R .submitted) c copies-are adv roomy pending-is refl refl
+              submitted-logged G D b tr (R .old) w u e₀ (st .last) (R .submitted) c copies-are adv roomy pending-is refl refl (λ bound h. rw commits-are)
               (λ k fs hs ff i. rw commits-are (image-open G D b (w .memory .log) e₀ tr (R .old) (w .book .commits) k fs refl i));
           confirmed = confirmed-more G b w u _ (R .confirmed) pending-is refl (omega (arith, adv .fenced)) (λ bound o. rw commits-are o);
         }
@@ -338,7 +338,7 @@ module _ (G D : ℕ) (z : Sizes G D) (w : World) (R : Running G D w) (v : ℕ) (
     c-state-is = refl
 
     c-numbers : stateOf (y .state) ≡ stateOf s₂
-    c-numbers = rw c-state-is (state-setPromise s₄ v 0 ∙ state-setWriter s₂ v idle)
+    c-numbers = rw c-state-is (state-setPromise s₄ v 0 l ∙ state-setWriter s₂ v idle)
 
     c-writer : writerOf (y .state) v ≡ idle
     c-writer = rw c-state-is (writer-setPromise s₄ v 0 v l ∙ writer-setWriter s₂ v idle size₂ l fits-idle)
@@ -366,6 +366,8 @@ module _ (G D : ℕ) (z : Sizes G D) (w : World) (R : Running G D w) (v : ℕ) (
           settled = a .settled;
           fenced = a .fenced;
           durable = a .durable;
+          round = a .round;
+          cursor = a .cursor;
           last = refl;
           moved = a .moved;
         })
@@ -413,9 +415,8 @@ module _ (G D : ℕ) (z : Sizes G D) (w : World) (R : Running G D w) (v : ℕ) (
     unfolding commitHeld logClosing lent event
     c-log = rw closing-word (log-is (closingWord (r .home) (P - firstFor r P) lk (countFor r + 1)))
 
-    c-homes : homesAfter D (closedBelow (st .settled) (y .book .commits)) ≡ homesAfter D (closedBelow (st .settled) (w .book .commits))
-    c-homes =
-        rw (c-commits, closed-snoc (st .settled) (w .book .commits) cm (unfold nextPosition in omega (arith, c .order .settled-fenced, c .order .fenced-next)))
+    c-homes : (bound : ℕ) → bound ≤ st .fenced → closedBelow bound (y .book .commits) ≡ closedBelow bound (w .book .commits)
+    c-homes bound h = rw (c-commits, closed-snoc bound (w .book .commits) cm (unfold nextPosition in omega (arith, c .order .fenced-next)))
 
     c-copies : Copies G D b (e₁ ∷ tr) y
     unfolding event commitHeld lent withTask addCommit
@@ -449,7 +450,7 @@ module _ (G D : ℕ) (z : Sizes G D) (w : World) (R : Running G D w) (v : ℕ) (
           commits = rw c-commits (commits-close D b e₁ tr (R .old) (w .book .commits) cm refl refl (sym (entry-is true lk)) (omega (arith, position)) (R .commits));
           copies = c-copies;
           submitted =
-              submitted-logged G D b tr (R .old) w y e₁ (P + 1) (R .submitted) c c-copies c-adv roomy c-pending refl refl
+              submitted-logged G D b tr (R .old) w y e₁ (P + 1) (R .submitted) c c-copies c-adv roomy c-pending refl refl c-homes
               (λ k fs hs ff i. rw c-commits (image-close G D b (w .memory .log) e₁ tr (R .old) (w .book .commits) k fs cm refl refl (sym (entry-is true lk)) (omega (arith, position)) ff (λ lt. omega (arith, low-first true lk)) i));
           confirmed = confirmed-more G b w y _ (R .confirmed) c-pending refl (omega (arith, c-adv .fenced)) (λ bound o. rw c-commits (owed-snoc bound (w .book .commits) cm refl o));
         }

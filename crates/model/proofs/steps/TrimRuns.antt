@@ -11,32 +11,32 @@ use lib.Dec.{eqb, leb}
 use lib.ListN.{length}
 use borrow.Author.Tests.{eqb-true, leb-true, leb-false}
 use Rattle.model.specs.Bytes.{puts}
-use Rattle.model.specs.Layout.{header, headerStart}
+use Rattle.model.specs.Layout.{header}
 use Rattle.model.specs.Batch.{Record, KW, FN}
 use Rattle.model.specs.State.{State, stateOf, setStart, setFenced, setLast, nextPosition, promiseOf, writerOf, heldOf}
 use Rattle.model.specs.Newest.{forget}
 use Rattle.model.specs.Effects.{Given, groups, homes, newState, mayStart, largest, noneAcross, noneOpenBefore, trimStart, trimTo, trimEffect}
-use Rattle.model.specs.Crash.{Memory, isFence, persistChosen}
+use Rattle.model.specs.Crash.{Memory, isFence}
 use Rattle.model.specs.Demands.{groupWrites}
 use Rattle.model.specs.History.{World, lent, feed, isConfirm, trim, feedChange}
 use Rattle.model.proofs.bytes.ByteLaws.{length-puts}
-use Rattle.model.proofs.bytes.LayoutLaws.{length-header, header-start, group-header}
+use Rattle.model.proofs.bytes.LayoutLaws.{length-header, group-header}
 use Rattle.model.proofs.strip.BatchLaws.{AllFormed}
 use Rattle.model.proofs.strip.StateLaws.{withStart, withFenced, withLast, state-setStart, length-setStart, writer-setStart, held-setStart, state-setFenced, length-setFenced, writer-setFenced, held-setFenced, state-setLast, length-setLast, writer-setLast, held-setLast}
 use Rattle.model.proofs.strip.PromiseLaws.{promise-setStart, promise-setFenced, promise-setLast}
 use Rattle.model.proofs.strip.QuestionLaws.{and-true}
-use Rattle.model.proofs.trace.CrashLaws.{writeRecords, submits, none-submits, pieceCount, chosen-append, write-append}
-use Rattle.model.proofs.trace.SubmitLaws.{headerStart-submits, area-wrote, length-submits}
-use Rattle.model.proofs.trace.HomeLaws.{log-header, area-header-wrote}
+use Rattle.model.proofs.trace.CrashLaws.{writeRecords, write-append}
+use Rattle.model.proofs.trace.HomeLaws.{In, area-header-wrote}
 use Rattle.model.proofs.trace.Trace.{hist, tagAt, Apart}
 use Rattle.model.proofs.trace.LinkLaws.{linked-later}
 use Rattle.model.proofs.trace.CountLaws.{spansOf}
 use Rattle.model.proofs.steps.DoneLaws.{after}
-use Rattle.model.proofs.invariant.Invariant.{Sizes, Copies, Submitted, Running, LastOk, lastCloser}
+use Rattle.model.proofs.invariant.Invariant.{Sizes, HeldHome, Copies, Submitted, Running, LastOk, lastCloser}
 use Rattle.model.proofs.invariant.Now.{Now}
-use Rattle.model.proofs.invariant.NowLate.{now-late-trim}
+use Rattle.model.proofs.invariant.NowLate.{now-late-trim, start-trim}
 use Rattle.model.proofs.invariant.NowNext.{now-trimmed}
-use Rattle.model.proofs.steps.FenceRuns.{now-of, submitted-fence}
+use Rattle.model.proofs.invariant.SettledLaws.{settled-homes-same, copy-held}
+use Rattle.model.proofs.steps.FenceRuns.{now-of, inOrder, in-order-area, done-held, submitted-fence}
 use Rattle.model.proofs.steps.LogSubmits.{confirmed-more}
 use Rattle.model.proofs.steps.NumberRuns.{Renumbered, copies-renumber}
 use Rattle.model.proofs.invariant.LiveLog.{keptIn, lent-groups, lent-homes, lent-tags, lent-base, live-spans}
@@ -152,8 +152,8 @@ module _ (G D : ℕ) (z : Sizes G D) (w : World) (r : Running G D w) (s : ℕ) (
       held-setLast (setFenced (setStart (w .state) s) (7 * st .next)) last x ∙ held-setFenced (setStart (w .state) s) (7 * st .next) x
       ∙ held-setStart (w .state) s x
 
-  promises : (x : ℕ) → promiseOf strip x ≡ promiseOf (w .state) x
-  promises x =
+  promises : (x : ℕ) → x < 8 → promiseOf strip x ≡ promiseOf (w .state) x
+  promises x l =
       promise-setLast (setFenced (setStart (w .state) s) (7 * st .next)) last x ∙ promise-setFenced (setStart (w .state) s) (7 * st .next) x
       ∙ promise-setStart (w .state) s x
 
@@ -173,6 +173,8 @@ module _ (G D : ℕ) (z : Sizes G D) (w : World) (r : Running G D w) (s : ℕ) (
         settled = omega (arith, o .settled-fenced, o .fenced-next);
         fenced = omega arith;
         durable = omega (arith, o .durable-fenced, o .fenced-next);
+        round-settled = o .round-settled;
+        round-fenced = omega (arith, o .round-fenced, o .fenced-next);
       })
 
   copies′ : Copies G D (r .b) (r .tr) moved
@@ -180,13 +182,15 @@ module _ (G D : ℕ) (z : Sizes G D) (w : World) (r : Running G D w) (s : ℕ) (
       copies-renumber G D (r .b) (r .tr) w moved c renumbered size writers blocks promises
       (rw moved-numbers (last-order (st .start) s (st .last) (nextPosition st) (c .order .last-closing))) (rw moved-numbers (t .opens)) refl
       (length-puts (w .log) 0 head) (λ slot. group-header (w .log) head slot (omega (arith, length-header s G D))) refl refl refl refl
-      (rw moved-numbers (c .settledHomes)) (rw moved-numbers (c .settledGroup)) (rw moved-numbers (t .apart))
+      (rw moved-numbers
+      (settled-homes-same D (w .area) st (withLast (withFenced (withStart st s) (7 * st .next)) last) (w .book .commits) refl refl refl (c .settledHomes)))
+      (rw moved-numbers (t .apart))
       (rw moved-numbers
       (linked-later (7 * st .start) (7 * s) (tagAt (7 * r .b) (r .tr)) none (hist (7 * r .b) (r .tr) .done) (omega (arith, t .from)) (c .links)))
       (rw moved-numbers (last-ok (st .start) s (st .last) (lastCloser (hist (7 * r .b) (r .tr) .done)) (t .from) (c .last)))
 
   abbrev S : List Record
-  S = submits G (r .submitted .group) (r .submitted .content) (r .submitted .count)
+  S = inOrder G D (r .b) (r .tr) (r .old) w (r .submitted)
 
   abbrev memory : Memory
   memory = writeRecords (r .submitted .fenced) (w .memory)
@@ -196,30 +200,26 @@ module _ (G D : ℕ) (z : Sizes G D) (w : World) (r : Running G D w) (s : ℕ) (
       (r .submitted .count) (r .submitted .content) (writeRecords (r .submitted .fenced) (w .memory))
   N = now-of G D (r .b) (r .tr) (r .old) w z (r .commits) (r .copies) (r .submitted)
 
-  -- the header of memory that a crash may leave is the old one or the new one
-  bound : (chosen : ℕ → Bool) → headerStart (persistChosen chosen 0 (S ++ (KW head ∷ [])) memory .log) ≤ s
-  bound chosen =
-      rw (
-        chosen-append chosen 0 S (KW head ∷ []) memory (none-submits G (sb .group) (sb .content) (sb .count)),
-        log-header chosen (0 + pieceCount S) head (persistChosen chosen 0 S memory),
-      ) (go (chosen (0 + pieceCount S)))
-    where
-      size-now : length (persistChosen chosen 0 S memory .log) ≡ 64 + 512 * G
-      size-now = length-submits chosen 0 G (sb .group) (sb .content) (sb .count) memory ∙ sb .logSize
-
-      go : (b : Bool) → headerStart (cond b (puts (persistChosen chosen 0 S memory .log) 0 head) (persistChosen chosen 0 S memory .log)) ≤ s
-      go true = rw (header-start (persistChosen chosen 0 S memory .log) s G D (omega arith) (omega (arith, size-now))) (omega arith)
-      go false = rw (headerStart-submits chosen 0 G (sb .group) (sb .content) (sb .count) memory, sb .start) (t .from)
-
   submitted′ : Submitted G D (r .b) (r .tr) (r .old) moved
   submitted′ =
       submitted-fence G D (r .b) (r .tr) (r .old) w sb (KW head ∷ []) (unfold isFence in (refl, tt)) moved s (st .settled) (sb .content)
       (unfold groupWrites in refl)
-      (now-trimmed N s (t .from) (t .upto) most (t .apart)) refl refl refl
-      (sym
-      (rw write-append (area-header-wrote head (writeRecords S memory)) ∙ area-wrote G (sb .group) (sb .content) (sb .count) memory ∙ sb .area))
-      (rw moved-numbers) (rw moved-numbers (ap (λ (n : ℕ). 7 * n) (sym (sb .next)))) (rw moved-numbers (sym (sb .next))) (t .from)
-      (λ chosen. now-late-trim N s (t .from) (t .upto) most (t .apart) chosen) bound
+      (now-trimmed N (w .area) (sb .done) s (t .from) (t .upto) most (t .apart)
+      (λ h l. rw area (copy-held G D (r .b) (r .tr) w c (7 * (sb .group + sb .count)) h (omega (arith, sb .atFence)) l))) refl refl refl
+      (sym area) (rw moved-numbers) (rw moved-numbers) (rw moved-numbers (ap (λ (n : ℕ). 7 * n) (sym (sb .next)))) (rw moved-numbers (sym (sb .next)))
+      (t .from)
+      (λ chosen. now-late-trim N (w .area) (sb .done) (c .areaSize) inside held chosen s (t .from) (t .upto) most (t .apart))
+      (λ chosen. start-trim N (w .area) (sb .done) (c .areaSize) inside held chosen s (t .from) (t .upto) most (t .apart))
+    where
+      area : writeRecords (S ++ (KW head ∷ [])) memory .area ≡ w .area
+      area =
+          rw write-append (area-header-wrote head (writeRecords S memory)) ∙ in-order-area G D (r .b) (r .tr) (r .old) w sb
+
+      inside : (h : ℕ) → In h (sb .done) → h < D
+      inside h i = sb .behind h i .0
+
+      held : (h : ℕ) → In h (sb .done) → HeldHome D (w .book .commits) (st .settled) (7 * sb .group) (w .area) h
+      held = done-held G D (r .b) (r .tr) (r .old) w sb c
 
   pub moved-runs : Running G D moved
   moved-runs =

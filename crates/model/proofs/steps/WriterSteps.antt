@@ -71,6 +71,8 @@ order-same v s t G D b o h p =
       fenced-next = rw e at (o .fenced-next);
       durable-fenced = rw e at (o .durable-fenced);
       last-closing = rw e at (o .last-closing);
+      round-settled = rw e at (o .round-settled);
+      round-fenced = rw e at (o .round-fenced);
       promises = p;
       writers = λ x l.
           each-writer (λ y. WriterInOrder (stateOf t) (writerOf t y)) v x (rw e at h) (λ n. rw (b .writer x n) (rw e at (o .writers x l)));
@@ -111,8 +113,7 @@ copies-writer G D b tr w u v t c s l o p k eh el ea eb =
           (λ n. rw (ap (λ (z : Book). z .tasks x) eb ∙ task-other (w .book) v x t n, s .writer x n, s .held x n) (c .tasks x h));
       rows = ap (λ (z : Book). z .rows) eb ∙ (rw e at (c .rows));
       filled = ap (λ (z : Book). z .filled) eb ∙ (rw e at (c .filled));
-      settledHomes = ea ∙ rw (ap (λ (z : Book). z .commits) eb) (rw e at (c .settledHomes));
-      settledGroup = rw e at (c .settledGroup);
+      settledHomes = rw (ea, ap (λ (z : Book). z .commits) eb) (rw e at (c .settledHomes));
     }
 
 -- the records since the last crash, where nothing is written and the strip's numbers stay
@@ -125,14 +126,22 @@ submitted-same G D b tr old w u s e ep em ea ec =
       group = s .group;
       count = s .count;
       content = s .content;
+      tail = s .tail;
+      done = s .done;
       split = ep ∙ s .split;
+      mixed = s .mixed;
+      groupsOf = s .groupsOf;
+      homesOf = rw ea (s .homesOf);
+      behind = rw e′ at (s .behind);
+      area = rw (em, ea) (s .area);
       atFence = rw e′ at (s .atFence);
       next = rw e′ at (s .next);
       low = s .low;
       written = s .written;
       contents = s .contents;
       logSize = rw em (s .logSize);
-      area = rw (em, ea) (s .area);
+      areaSize = rw em (s .areaSize);
+      homes = rw (em, ec) (rw e′ at (s .homes));
       header = rw em (s .header);
       start = rw em (rw e′ at (s .start));
       numbers = rw em (s .numbers);
@@ -200,7 +209,7 @@ pub same-promise : (s : List ℕ) (v n : ℕ) → length s ≡ 1024 → v < 8 �
 same-promise s v n h l =
     record {
       size = length-setPromise s v n ∙ h;
-      numbers = state-setPromise s v n;
+      numbers = state-setPromise s v n l;
       writer = λ x d. writer-setPromise s v n x l;
       held = λ x d. held-setPromise s v n x l;
       promise = λ x m d. promise-setPromise-other s v n x d;

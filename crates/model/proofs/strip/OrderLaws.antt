@@ -67,6 +67,8 @@ pub record InOrder (s : List ℕ) (groups homes : ℕ) : Type 0 where
   pub fenced-next : stateOf s .fenced ≤ 7 * stateOf s .next
   pub durable-fenced : stateOf s .durable ≤ stateOf s .fenced
   pub last-closing : (stateOf s .last ≡ 0) ⊎ ((7 * stateOf s .start < stateOf s .last) × (stateOf s .last ≤ nextPosition (stateOf s)))
+  pub round-settled : 1 ≤ stateOf s .round → stateOf s .settled < stateOf s .round
+  pub round-fenced : stateOf s .round ≤ stateOf s .fenced + 1
   pub promises : Promises s
   pub writers : (w : ℕ) → w < 8 → WriterInOrder (stateOf s) (writerOf s w)
 
@@ -135,12 +137,14 @@ in-order s groups homes h =
       start-next = omega arith;
       next-most = omega arith;
       filled-most = omega arith;
-      filled-none = λ e. f .0 .0 .1 .0 .0 .0 .0 .0 .1 (omega arith);
+      filled-none = λ e. f .0 .0 .1 .0 .0 .0 .0 .0 .0 .1 (omega arith);
       start-settled = omega arith;
       settled-fenced = omega arith;
       fenced-next = omega arith;
       durable-fenced = omega arith;
-      last-closing = last (ℕ-discrete (stateOf s .last) 0) (f .0 .0 .1 .1);
+      last-closing = last (ℕ-discrete (stateOf s .last) 0) (f .0 .0 .1 .0 .1);
+      round-settled = λ k. f .0 .0 .1 .1 (λ e. omega arith) .0;
+      round-fenced = fixed (ℕ-discrete (stateOf s .round) 0) (f .0 .0 .1 .1);
       promises =
           record { within = f .0 .1; none-idle = λ w k. at-order s (stateOf s) w (writer-among s (stateOf s) 8 w (f .1) k) .1 };
       writers = λ w k. at-order s (stateOf s) w (writer-among s (stateOf s) 8 w (f .1) k) .0;
@@ -150,6 +154,12 @@ in-order s groups homes h =
     last (yes e) k = inl e
     last (no e) k = inr (k e)
 
+    fixed : Dec (stateOf s .round ≡ 0)
+        → (stateOf s .round ≢ 0 → (stateOf s .settled < stateOf s .round) × (stateOf s .round ≤ stateOf s .fenced + 1))
+        → stateOf s .round ≤ stateOf s .fenced + 1
+    fixed (yes e) k = omega arith
+    fixed (no e) k = k e .1
+
 pub order-in : (s : List ℕ) (groups homes : ℕ) → InOrder s groups homes → inOrder s groups homes ≡ true
 unfolding inOrder numbersInOrder
 order-in s groups homes o =
@@ -158,8 +168,11 @@ order-in s groups homes o =
         (
           (o .groups-same, o .homes-same),
           (
-            (((((omega arith, λ h. o .filled-none (omega arith)), o .start-settled), o .settled-fenced), o .fenced-next), o .durable-fenced),
-            last (o .last-closing),
+            (
+              (((((omega arith, λ h. o .filled-none (omega arith)), o .start-settled), o .settled-fenced), o .fenced-next), o .durable-fenced),
+              last (o .last-closing),
+            ),
+            λ h. (o .round-settled (omega arith), o .round-fenced),
           ),
         ),
         o .promises .within,
@@ -196,7 +209,7 @@ byte-zeros (suc n) zero = refl
 byte-zeros (suc n) (suc i) = byte-zeros n i
 
 state-zeros : (n : ℕ) → stateOf (zeros n)
-    ≡ record { groups = 0; homes = 0; start = 0; next = 0; filled = 0; settled = 0; fenced = 0; durable = 0; last = 0 }
+    ≡ record { groups = 0; homes = 0; start = 0; next = 0; filled = 0; settled = 0; fenced = 0; durable = 0; last = 0; round = 0; cursor = 0 }
 unfolding stateOf
 state-zeros n = simp number-zeros
 
@@ -227,6 +240,8 @@ module _ (groups homes start : ℕ) where
         fenced = 7 * start;
         durable = 7 * start;
         last = 0;
+        round = 0;
+        cursor = 0;
       }
   unfolding freshState
   state-fresh g h k =

@@ -7,7 +7,7 @@ use native.Mathlib.Decide.{decLt, ℕ-discrete}
 use native.Mathlib.Omega.{arith}
 use lib.ListN.{length, getD}
 use Rattle.model.specs.Bytes.{part, zeros, putNumber}
-use Rattle.model.specs.State.{stateOf, setGroups, setHomes, setStart, setNext, setFilled, setSettled, setFenced, setDurable, setLast, Writer, writerOffset, writerOf, setWriter, heldOf, setHeld, promiseOffset, promiseOf, setPromise, promised}
+use Rattle.model.specs.State.{stateOf, setGroups, setHomes, setStart, setNext, setFilled, setSettled, setFenced, setDurable, setLast, setRound, setCursor, Writer, writerOffset, writerOf, setWriter, heldOf, setHeld, promiseOffset, promiseOf, setPromise, promised}
 use Rattle.model.proofs.bytes.ByteLaws.{length-putNumber, number-same, number-put-below, number-put-above, number-same-part, number-lt, part-put-below, part-put-above}
 use Rattle.model.proofs.bytes.LayoutLaws.{number-zeros}
 use Rattle.model.proofs.strip.StateLaws.{Spare, state-agree, writer-agree, byte-agree}
@@ -15,10 +15,15 @@ use Rattle.model.proofs.strip.WriterLaws.{part-setWriter, part-setHeld}
 
 -- ---- the promises after the other setters
 
--- a number written among the nine
+-- a number written below them
 promise-put : (s : List ℕ) (o v : ℕ) → o + 8 ≤ 72 → (x : ℕ) → promiseOf (putNumber 8 s o v) x ≡ promiseOf s x
 unfolding promiseOf promiseOffset
 promise-put s o v h x = number-put-above 2 8 s o v (72 + 2 * x) (omega arith)
+
+-- one written above them
+promise-below : (s : List ℕ) (o v : ℕ) → 88 ≤ o → (x : ℕ) → x < 8 → promiseOf (putNumber 8 s o v) x ≡ promiseOf s x
+unfolding promiseOf promiseOffset
+promise-below s o v h x l = number-put-below 2 8 s o v (72 + 2 * x) (omega arith)
 
 module _ (s : List ℕ) (v : ℕ) where
   pub promise-setGroups : (x : ℕ) → promiseOf (setGroups s v) x ≡ promiseOf s x
@@ -57,6 +62,14 @@ module _ (s : List ℕ) (v : ℕ) where
   unfolding setLast
   promise-setLast = promise-put s 64 v (omega arith)
 
+  pub promise-setRound : (x : ℕ) → x < 8 → promiseOf (setRound s v) x ≡ promiseOf s x
+  unfolding setRound
+  promise-setRound = promise-below s 88 v (omega arith)
+
+  pub promise-setCursor : (x : ℕ) → x < 8 → promiseOf (setCursor s v) x ≡ promiseOf s x
+  unfolding setCursor
+  promise-setCursor = promise-below s 96 v (omega arith)
+
 pub ruleset promise-laws =
     (promise-setGroups, promise-setHomes, promise-setStart, promise-setNext, promise-setFilled, promise-setSettled, promise-setFenced, promise-setDurable, promise-setLast)
 
@@ -77,9 +90,10 @@ module _ (s : List ℕ) (w n : ℕ) where
   unfolding setPromise
   length-setPromise = length-putNumber 2 s (promiseOffset w) n
 
-  pub state-setPromise : stateOf (setPromise s w n) ≡ stateOf s
+  pub state-setPromise : w < 8 → stateOf (setPromise s w n) ≡ stateOf s
   unfolding setPromise promiseOffset
-  state-setPromise = state-agree (setPromise s w n) s (part-put-below 2 s (72 + 2 * w) n 0 72 (omega arith))
+  state-setPromise l =
+      state-agree (setPromise s w n) s (part-put-below 2 s (72 + 2 * w) n 0 72 (omega arith)) (part-put-above 2 s (72 + 2 * w) n 88 16 (omega arith))
 
   pub writer-setPromise : (v : ℕ) → w < 8 → writerOf (setPromise s w n) v ≡ writerOf s v
   unfolding setPromise promiseOffset writerOffset

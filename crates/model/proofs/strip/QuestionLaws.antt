@@ -9,9 +9,9 @@ use lib.ListN.{length}
 use lib.Dec.{leb, ltb, eqb}
 use borrow.Author.Tests.{leb-true, leb-false, ltb-true, eqb-true, eqb-false, lt-leb, le-leb, eq-eqb, ne-eqb}
 use Rattle.model.specs.Layout.{maxStart}
-use Rattle.model.specs.State.{State, stateOf, nextPosition, promiseOf, promised, places, freePlaces}
+use Rattle.model.specs.State.{State, stateOf, underWay, nextPosition, promiseOf, promised, places, freePlaces}
 use Rattle.model.specs.Effects.{Given}
-use Rattle.model.specs.Questions.{ask, areasRight, stateRight, blockRight, newestRight, stripInOrder, headerFits, writerKnown, homeKnown, writerOpen, roomFor, room, mayPromise, keepsPromises, storeLogs, commitLogs, startFits, batchFits, formatAnswer, openAnswer, askState, askBlock, askNewest, askBoth, beginAnswer, reserveAnswer, abortAnswer, storeAnswer, commitAnswer, flushAnswer, confirmAnswer, settleAnswer, trimAnswer, readAnswer}
+use Rattle.model.specs.Questions.{ask, areasRight, stateRight, blockRight, newestRight, stripInOrder, headerFits, writerKnown, homeKnown, writerOpen, roomFor, room, mayPromise, keepsPromises, storeLogs, commitLogs, startFits, batchFits, formatAnswer, openAnswer, askState, askBlock, askNewest, askBoth, beginAnswer, reserveAnswer, abortAnswer, storeAnswer, commitAnswer, flushAnswer, confirmAnswer, settleAnswer, trimAnswer, readAnswer, inRound, beginRoundAnswer, stepRoundAnswer}
 
 -- a question answered no, answered yes, and one that let an answer of 0 through
 pub ask-no : (b : Bool) (k v : ℕ) → b ≡ false → ask b k v ≡ k
@@ -218,12 +218,39 @@ pub confirm-ready : (g : Given) → confirmAnswer g ≡ 0 → InUse g
 unfolding confirmAnswer
 confirm-ready g e = state-passed g 0 e .0
 
-pub settle-ready : (g : Given) (size : ℕ) → settleAnswer g size ≡ 0 → InUse g × (batchFits g size ≡ true)
+pub settle-ready : (g : Given) (size : ℕ) → settleAnswer g size ≡ 0 → InUse g × (inRound g ≡ false) × (batchFits g size ≡ true)
 unfolding settleAnswer
 settle-ready g size e =
     let a = state-passed g _ e in
-    let b = ask-passed (batchFits g size) 8 0 (a .1) in
-    (a .0, b .0)
+    let b = ask-passed (not (inRound g)) 20 _ (a .1) in
+    let c = ask-passed (batchFits g size) 8 0 (b .1) in
+    (a .0, not-true (inRound g) (b .0), c .0)
+
+pub begin-round-ready : (g : Given) → beginRoundAnswer g ≡ 0 → InUse g × (inRound g ≡ false)
+unfolding beginRoundAnswer
+begin-round-ready g e =
+    let a = state-passed g _ e in
+    let b = ask-passed (not (inRound g)) 20 0 (a .1) in
+    (a .0, not-true (inRound g) (b .0))
+
+pub step-round-ready : (g : Given) (k size : ℕ) → stepRoundAnswer g k size ≡ 0
+    → InUse g × (inRound g ≡ true) × (1 ≤ k) × (batchFits g size ≡ true)
+unfolding stepRoundAnswer
+step-round-ready g k size e =
+    let a = state-passed g _ e in
+    let b = ask-passed (inRound g && leb 1 k) 20 _ (a .1) in
+    let c = ask-passed (batchFits g size) 8 0 (b .1) in
+    let d = and-true (inRound g) (leb 1 k) (b .0) in
+    (a .0, d .0, leb-true 1 k (d .1), c .0)
+
+-- whether a round is under way, by the strip's number
+pub out-of-round : (g : Given) → inRound g ≡ false → stateOf (g .state) .round ≡ 0
+unfolding inRound underWay
+out-of-round g e = let k = leb-false 1 (stateOf (g .state) .round) e in omega arith
+
+pub within-round : (g : Given) → inRound g ≡ true → 1 ≤ stateOf (g .state) .round
+unfolding inRound underWay
+within-round g e = leb-true 1 (stateOf (g .state) .round) e
 
 pub trim-ready : (g : Given) (start size : ℕ) → trimAnswer g start size ≡ 0
     → InUse g × (startFits start ≡ true) × (batchFits g size ≡ true) × (newestRight g ≡ true)

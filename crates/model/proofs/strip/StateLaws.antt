@@ -1,4 +1,4 @@
--- Laws of the nine numbers at the head of the state strip (specs/State). Those of setStart are length-setStart, state-setStart, writer-setStart,
+-- Laws of the eleven numbers of the state strip but the writers' (specs/State). Those of setStart are length-setStart, state-setStart, writer-setStart,
 -- held-setStart and spare-setStart, and so for the others; length-laws, state-laws and so on are sets of them for simp. Assumes nothing.
 use mathlib.Core.Path.{_≡_, sym, _∙_}
 use mathlib.Core.Logic.{_⊎_, inl, inr}
@@ -8,7 +8,7 @@ use native.Mathlib.Omega.{arith}
 use borrow.Author.Tests.{leb-true}
 use lib.ListN.{length, getD}
 use Rattle.model.specs.Bytes.{part, number, putNumber}
-use Rattle.model.specs.State.{State, stateOf, setGroups, setHomes, setStart, setNext, setFilled, setSettled, setFenced, setDurable, setLast, writerOffset, writerOf, heldOf}
+use Rattle.model.specs.State.{State, stateOf, setGroups, setHomes, setStart, setNext, setFilled, setSettled, setFenced, setDurable, setLast, setRound, setCursor, writerOffset, writerOf, heldOf}
 use Rattle.model.proofs.bytes.ByteLaws.{length-putNumber, number-same, number-put-below, number-put-above, number-same-part, number-part, number-more, number-none, number-lt, part-put-above}
 
 -- ---- a number of eight bytes, written and read
@@ -33,11 +33,13 @@ number-agree s t at n i e h k =
     let f : number 8 (part s at n) (i - at) ≡ number 8 (part t at n) (i - at) = rw e in
     rw q at (sym (number-part 8 s at n (i - at) (omega arith)) ∙ f ∙ number-part 8 t at n (i - at) (omega arith))
 
-pub state-agree : (s t : List ℕ) → part s 0 72 ≡ part t 0 72 → stateOf s ≡ stateOf t
+pub state-agree : (s t : List ℕ) → part s 0 72 ≡ part t 0 72 → part s 88 16 ≡ part t 88 16 → stateOf s ≡ stateOf t
 unfolding stateOf
-state-agree s t e =
+state-agree s t e e′ =
     let f : (i : ℕ) → i + 8 ≤ 72 → number 8 s i ≡ number 8 t i = λ i h. number-agree s t 0 72 i e (omega arith) (omega arith) in
-    simp (f, leb-true)
+    let round : number 8 s 88 ≡ number 8 t 88 = number-agree s t 88 16 88 e′ (omega arith) (omega arith) in
+    let cursor : number 8 s 96 ≡ number 8 t 96 = number-agree s t 88 16 96 e′ (omega arith) (omega arith) in
+    rw (round, cursor) (simp (f, leb-true))
 
 pub writer-agree : (s t : List ℕ) (w : ℕ) → part s (writerOffset w) 32 ≡ part t (writerOffset w) 32 → writerOf s w ≡ writerOf t w
 unfolding writerOf
@@ -52,14 +54,14 @@ byte-number s i = number-more 0 s i ∙ rw number-none (omega arith)
 pub byte-agree : (s t : List ℕ) (i : ℕ) → part s i 1 ≡ part t i 1 → getD s i 0 ≡ getD t i 0
 byte-agree s t i e = sym (byte-number s i) ∙ number-same-part 1 s i t i e ∙ byte-number t i
 
--- ---- a number written among the nine: what else the strip holds stays
+-- ---- a number written among them: what else the strip holds stays
 
 -- the bytes that no field has
 abbrev pub Spare : ℕ → Type 0
-Spare i = ((88 ≤ i) × (i < 128)) ⊎ (896 ≤ i)
+Spare i = ((104 ≤ i) × (i < 128)) ⊎ (896 ≤ i)
 
-module _ (s : List ℕ) (o v : ℕ) (h : o + 8 ≤ 72) where
-  part-put : (a n : ℕ) → 72 ≤ a → part (putNumber 8 s o v) a n ≡ part s a n
+module _ (s : List ℕ) (o v : ℕ) (h : o + 8 ≤ 104) where
+  part-put : (a n : ℕ) → 104 ≤ a → part (putNumber 8 s o v) a n ≡ part s a n
   part-put a n k = part-put-above 8 s o v a n (omega arith)
 
   writer-put : (w : ℕ) → writerOf (putNumber 8 s o v) w ≡ writerOf s w
@@ -113,41 +115,56 @@ module _ (s : List ℕ) (v : ℕ) where
   unfolding setLast
   length-setLast = length-putNumber 8 s 64 v
 
+  pub length-setRound : length (setRound s v) ≡ length s
+  unfolding setRound
+  length-setRound = length-putNumber 8 s 88 v
+
+  pub length-setCursor : length (setCursor s v) ≡ length s
+  unfolding setCursor
+  length-setCursor = length-putNumber 8 s 96 v
+
 pub ruleset length-laws =
-    (length-setGroups, length-setHomes, length-setStart, length-setNext, length-setFilled, length-setSettled, length-setFenced, length-setDurable, length-setLast)
+    (length-setGroups, length-setHomes, length-setStart, length-setNext, length-setFilled, length-setSettled, length-setFenced, length-setDurable, length-setLast, length-setRound, length-setCursor)
 
 -- ---- the numbers read after each setter: those of the state before, one replaced
 
-abbrev numbers : ℕ → ℕ → ℕ → ℕ → ℕ → ℕ → ℕ → ℕ → ℕ → State
-numbers a b c d e f g h i = record { groups = a; homes = b; start = c; next = d; filled = e; settled = f; fenced = g; durable = h; last = i }
+abbrev numbers : ℕ → ℕ → ℕ → ℕ → ℕ → ℕ → ℕ → ℕ → ℕ → ℕ → ℕ → State
+numbers a b c d e f g h i j k =
+    record { groups = a; homes = b; start = c; next = d; filled = e; settled = f; fenced = g; durable = h; last = i; round = j; cursor = k }
 
 module _ (s : State) (v : ℕ) where
   abbrev pub withGroups : State
-  withGroups = numbers v (s .homes) (s .start) (s .next) (s .filled) (s .settled) (s .fenced) (s .durable) (s .last)
+  withGroups = numbers v (s .homes) (s .start) (s .next) (s .filled) (s .settled) (s .fenced) (s .durable) (s .last) (s .round) (s .cursor)
 
   abbrev pub withHomes : State
-  withHomes = numbers (s .groups) v (s .start) (s .next) (s .filled) (s .settled) (s .fenced) (s .durable) (s .last)
+  withHomes = numbers (s .groups) v (s .start) (s .next) (s .filled) (s .settled) (s .fenced) (s .durable) (s .last) (s .round) (s .cursor)
 
   abbrev pub withStart : State
-  withStart = numbers (s .groups) (s .homes) v (s .next) (s .filled) (s .settled) (s .fenced) (s .durable) (s .last)
+  withStart = numbers (s .groups) (s .homes) v (s .next) (s .filled) (s .settled) (s .fenced) (s .durable) (s .last) (s .round) (s .cursor)
 
   abbrev pub withNext : State
-  withNext = numbers (s .groups) (s .homes) (s .start) v (s .filled) (s .settled) (s .fenced) (s .durable) (s .last)
+  withNext = numbers (s .groups) (s .homes) (s .start) v (s .filled) (s .settled) (s .fenced) (s .durable) (s .last) (s .round) (s .cursor)
 
   abbrev pub withFilled : State
-  withFilled = numbers (s .groups) (s .homes) (s .start) (s .next) v (s .settled) (s .fenced) (s .durable) (s .last)
+  withFilled = numbers (s .groups) (s .homes) (s .start) (s .next) v (s .settled) (s .fenced) (s .durable) (s .last) (s .round) (s .cursor)
 
   abbrev pub withSettled : State
-  withSettled = numbers (s .groups) (s .homes) (s .start) (s .next) (s .filled) v (s .fenced) (s .durable) (s .last)
+  withSettled = numbers (s .groups) (s .homes) (s .start) (s .next) (s .filled) v (s .fenced) (s .durable) (s .last) (s .round) (s .cursor)
 
   abbrev pub withFenced : State
-  withFenced = numbers (s .groups) (s .homes) (s .start) (s .next) (s .filled) (s .settled) v (s .durable) (s .last)
+  withFenced = numbers (s .groups) (s .homes) (s .start) (s .next) (s .filled) (s .settled) v (s .durable) (s .last) (s .round) (s .cursor)
 
   abbrev pub withDurable : State
-  withDurable = numbers (s .groups) (s .homes) (s .start) (s .next) (s .filled) (s .settled) (s .fenced) v (s .last)
+  withDurable = numbers (s .groups) (s .homes) (s .start) (s .next) (s .filled) (s .settled) (s .fenced) v (s .last) (s .round) (s .cursor)
 
   abbrev pub withLast : State
-  withLast = numbers (s .groups) (s .homes) (s .start) (s .next) (s .filled) (s .settled) (s .fenced) (s .durable) v
+  withLast = numbers (s .groups) (s .homes) (s .start) (s .next) (s .filled) (s .settled) (s .fenced) (s .durable) v (s .round) (s .cursor)
+
+  abbrev pub withRound : State
+  withRound = numbers (s .groups) (s .homes) (s .start) (s .next) (s .filled) (s .settled) (s .fenced) (s .durable) (s .last) v (s .cursor)
+
+  abbrev pub withCursor : State
+  withCursor = numbers (s .groups) (s .homes) (s .start) (s .next) (s .filled) (s .settled) (s .fenced) (s .durable) (s .last) (s .round) v
 
 module _ (s : List ℕ) (v : ℕ) (h : length s ≡ 1024) (g : v < 2 ^ 64) where
   pub state-setGroups : stateOf (setGroups s v) ≡ withGroups (stateOf s) v
@@ -186,8 +203,16 @@ module _ (s : List ℕ) (v : ℕ) (h : length s ≡ 1024) (g : v < 2 ^ 64) where
   unfolding stateOf setLast
   state-setLast = simp at-numerals
 
+  pub state-setRound : stateOf (setRound s v) ≡ withRound (stateOf s) v
+  unfolding stateOf setRound
+  state-setRound = simp at-numerals
+
+  pub state-setCursor : stateOf (setCursor s v) ≡ withCursor (stateOf s) v
+  unfolding stateOf setCursor
+  state-setCursor = simp at-numerals
+
 pub ruleset state-laws =
-    (state-setGroups, state-setHomes, state-setStart, state-setNext, state-setFilled, state-setSettled, state-setFenced, state-setDurable, state-setLast)
+    (state-setGroups, state-setHomes, state-setStart, state-setNext, state-setFilled, state-setSettled, state-setFenced, state-setDurable, state-setLast, state-setRound, state-setCursor)
 
 -- ---- writers, held blocks and spare bytes stay
 
@@ -228,6 +253,14 @@ module _ (s : List ℕ) (v : ℕ) where
   unfolding setLast
   writer-setLast = writer-put s 64 v (omega arith)
 
+  pub writer-setRound : (w : ℕ) → writerOf (setRound s v) w ≡ writerOf s w
+  unfolding setRound
+  writer-setRound = writer-put s 88 v (omega arith)
+
+  pub writer-setCursor : (w : ℕ) → writerOf (setCursor s v) w ≡ writerOf s w
+  unfolding setCursor
+  writer-setCursor = writer-put s 96 v (omega arith)
+
   pub held-setGroups : (w : ℕ) → heldOf (setGroups s v) w ≡ heldOf s w
   unfolding setGroups
   held-setGroups = held-put s 0 v (omega arith)
@@ -263,6 +296,14 @@ module _ (s : List ℕ) (v : ℕ) where
   pub held-setLast : (w : ℕ) → heldOf (setLast s v) w ≡ heldOf s w
   unfolding setLast
   held-setLast = held-put s 64 v (omega arith)
+
+  pub held-setRound : (w : ℕ) → heldOf (setRound s v) w ≡ heldOf s w
+  unfolding setRound
+  held-setRound = held-put s 88 v (omega arith)
+
+  pub held-setCursor : (w : ℕ) → heldOf (setCursor s v) w ≡ heldOf s w
+  unfolding setCursor
+  held-setCursor = held-put s 96 v (omega arith)
 
   pub spare-setGroups : (i : ℕ) → Spare i → getD (setGroups s v) i 0 ≡ getD s i 0
   unfolding setGroups
@@ -300,14 +341,22 @@ module _ (s : List ℕ) (v : ℕ) where
   unfolding setLast
   spare-setLast = spare-put s 64 v (omega arith)
 
+  pub spare-setRound : (i : ℕ) → Spare i → getD (setRound s v) i 0 ≡ getD s i 0
+  unfolding setRound
+  spare-setRound = spare-put s 88 v (omega arith)
+
+  pub spare-setCursor : (i : ℕ) → Spare i → getD (setCursor s v) i 0 ≡ getD s i 0
+  unfolding setCursor
+  spare-setCursor = spare-put s 96 v (omega arith)
+
 pub ruleset writer-laws =
-    (writer-setGroups, writer-setHomes, writer-setStart, writer-setNext, writer-setFilled, writer-setSettled, writer-setFenced, writer-setDurable, writer-setLast)
+    (writer-setGroups, writer-setHomes, writer-setStart, writer-setNext, writer-setFilled, writer-setSettled, writer-setFenced, writer-setDurable, writer-setLast, writer-setRound, writer-setCursor)
 
 pub ruleset held-laws =
-    (held-setGroups, held-setHomes, held-setStart, held-setNext, held-setFilled, held-setSettled, held-setFenced, held-setDurable, held-setLast)
+    (held-setGroups, held-setHomes, held-setStart, held-setNext, held-setFilled, held-setSettled, held-setFenced, held-setDurable, held-setLast, held-setRound, held-setCursor)
 
 pub ruleset spare-laws =
-    (spare-setGroups, spare-setHomes, spare-setStart, spare-setNext, spare-setFilled, spare-setSettled, spare-setFenced, spare-setDurable, spare-setLast)
+    (spare-setGroups, spare-setHomes, spare-setStart, spare-setNext, spare-setFilled, spare-setSettled, spare-setFenced, spare-setDurable, spare-setLast, spare-setRound, spare-setCursor)
 
 -- ---- of bytes, each number is below 2 ^ 64
 
@@ -321,6 +370,8 @@ pub record StateFits (s : State) : Type 0 where
   pub fenced : s .fenced < 2 ^ 64
   pub durable : s .durable < 2 ^ 64
   pub last : s .last < 2 ^ 64
+  pub round : s .round < 2 ^ 64
+  pub cursor : s .cursor < 2 ^ 64
 
 pub state-fits : (s : List ℕ) → ((i : ℕ) → getD s i 0 < 256) → StateFits (stateOf s)
 unfolding stateOf
@@ -336,4 +387,6 @@ state-fits s h =
       fenced = f 48;
       durable = f 56;
       last = f 64;
+      round = f 88;
+      cursor = f 96;
     }

@@ -96,7 +96,7 @@ spare-apart w i h (inr k) = inr (omega arith)
 module _ (s : List ℕ) (w : ℕ) (r : Writer) where
   pub state-setWriter : stateOf (setWriter s w r) ≡ stateOf s
   unfolding writerOffset
-  state-setWriter = state-agree (setWriter s w r) s (part-setWriter s w r 0 72 (inl (omega arith)))
+  state-setWriter = state-agree (setWriter s w r) s (part-setWriter s w r 0 72 (inl (omega arith))) (part-setWriter s w r 88 16 (inl (omega arith)))
 
   pub writer-setWriter : length s ≡ 1024 → w < 8 → WriterFits r → writerOf (setWriter s w r) w ≡ r
   unfolding writerOf setWriter writerOffset
@@ -131,7 +131,7 @@ module _ (s : List ℕ) (w : ℕ) (r : Writer) where
 module _ (s : List ℕ) (w : ℕ) (block : List ℕ) where
   pub state-setHeld : length block ≡ 64 → stateOf (setHeld s w block) ≡ stateOf s
   unfolding writerOffset
-  state-setHeld l = state-agree (setHeld s w block) s (part-setHeld s w block 0 72 l (inl (omega arith)))
+  state-setHeld l = state-agree (setHeld s w block) s (part-setHeld s w block 0 72 l (inl (omega arith))) (part-setHeld s w block 88 16 l (inl (omega arith)))
 
   pub writer-setHeld : (v : ℕ) → length block ≡ 64 → writerOf (setHeld s w block) v ≡ writerOf s v
   writer-setHeld v l =

@@ -158,6 +158,10 @@ pub write-fence : (R : List Record) (m : Memory) → writeRecords (R ++ (FN ∷ 
 unfolding writeRecords pieces writeEach
 write-fence R m = write-append R (FN ∷ []) m
 
+pub write-nil : (m : Memory) → writeRecords [] m ≡ m
+unfolding writeRecords
+write-nil m = refl
+
 pub write-FN : (m : Memory) → writeRecords (FN ∷ []) m ≡ m
 unfolding writeRecords pieces writeEach
 write-FN m = refl

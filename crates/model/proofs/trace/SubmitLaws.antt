@@ -126,7 +126,7 @@ unfolding persistChosen isFence pieces
 chosen-group chosen i slot group m = refl
 
 fate-group : (chosen : ℕ → Bool) (i slot : ℕ) (group : List ℕ)
-    → fatesChosen chosen i (GW slot group ∷ []) ≡ (λ e. chosen (i + 0) && chosen (i + (e + 1))) ∷ []
+    → fatesChosen chosen i (GW slot group ∷ []) ≡ (λ e. chosen (i + 0) && chosen (i + (e % 7 + 1))) ∷ []
 unfolding fatesChosen isFence groupFate
 fate-group chosen i slot group = refl
 
@@ -134,6 +134,10 @@ pub write-group : (slot : ℕ) (group : List ℕ) (m : Memory) → length group 
     → writeRecords (GW slot group ∷ []) m ≡ record { log = puts (m .log) (groupOffset slot) group; area = m .area }
 unfolding writeRecords pieces
 write-group slot group m e = write-blocks (groupOffset slot) group 8 m e
+
+pub area-group : (slot : ℕ) (group : List ℕ) (m : Memory) → writeRecords (GW slot group ∷ []) m .area ≡ m .area
+unfolding writeRecords pieces blocks writeEach write
+area-group slot group m = refl
 
 module _ (chosen : ℕ → Bool) (i slot : ℕ) (group : List ℕ) (m : Memory) where
   abbrev wrote-group : Memory
@@ -161,7 +165,7 @@ module _ (chosen : ℕ → Bool) (i G n₀ : ℕ) (bytes : ℕ → List ℕ) whe
   -- the last of them
   fate-more : (k : ℕ)
       → fatesChosen chosen i (submits G n₀ bytes (suc k))
-      ≡ fatesChosen chosen i (submits G n₀ bytes k) ++ ((λ e. chosen (i + 8 * k + 0) && chosen (i + 8 * k + (e + 1))) ∷ [])
+      ≡ fatesChosen chosen i (submits G n₀ bytes k) ++ ((λ e. chosen (i + 8 * k + 0) && chosen (i + 8 * k + (e % 7 + 1))) ∷ [])
   unfolding submits
   fate-more k =
       fate-append chosen i (submits G n₀ bytes k) (GW ((n₀ + k) % G) (bytes (n₀ + k)) ∷ []) (none-submits G n₀ bytes k)
@@ -174,17 +178,17 @@ module _ (chosen : ℕ → Bool) (i G n₀ : ℕ) (bytes : ℕ → List ℕ) whe
 
   -- "an entry has landed when its tag's block and its data block both have"
   pub fateAt-submits : (k j e : ℕ) → j < k
-      → fateAt (fatesChosen chosen i (submits G n₀ bytes k)) j e ≡ (chosen (i + 8 * j + 0) && chosen (i + 8 * j + (e + 1)))
+      → fateAt (fatesChosen chosen i (submits G n₀ bytes k)) j e ≡ (chosen (i + 8 * j + 0) && chosen (i + 8 * j + (e % 7 + 1)))
   unfolding fateAt
   fateAt-submits zero j e h = absurd (omega arith)
   fateAt-submits (suc k) j e h = rw fate-more (go (eqb j k) refl (fateAt-submits k j e))
     where
       both : ℕ → Bool
-      both x = chosen (i + 8 * k + 0) && chosen (i + 8 * k + (x + 1))
+      both x = chosen (i + 8 * k + 0) && chosen (i + 8 * k + (x % 7 + 1))
 
       go : (b : Bool) → eqb j k ≡ b
-          → (j < k → fateAt (fatesChosen chosen i (submits G n₀ bytes k)) j e ≡ (chosen (i + 8 * j + 0) && chosen (i + 8 * j + (e + 1))))
-          → fateAt (fatesChosen chosen i (submits G n₀ bytes k) ++ (both ∷ [])) j e ≡ (chosen (i + 8 * j + 0) && chosen (i + 8 * j + (e + 1)))
+          → (j < k → fateAt (fatesChosen chosen i (submits G n₀ bytes k)) j e ≡ (chosen (i + 8 * j + 0) && chosen (i + 8 * j + (e % 7 + 1))))
+          → fateAt (fatesChosen chosen i (submits G n₀ bytes k) ++ (both ∷ [])) j e ≡ (chosen (i + 8 * j + 0) && chosen (i + 8 * j + (e % 7 + 1)))
       go true t f =
           let q : j ≡ k = eqb-true j k t in
           let l : length (fatesChosen chosen i (submits G n₀ bytes k)) ≡ k = length-fates-submits k in

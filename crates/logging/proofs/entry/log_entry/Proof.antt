@@ -73,7 +73,12 @@ set-next-requires : tie.Need-set-next-requires
 set-next-requires c κs = search needs
 
 set-filled-requires-2 : tie.Need-set-filled-requires-2
-set-filled-requires-2 c κs = search needs
+set-filled-requires-2 c κs =
+    let c4 = c .before .before .before in
+    let c3 = c4 .before .before .before in
+    let c2 = c3 .before .before .before .before in
+    let c1 = c2 .before .before .before .before .before .before .before .before .before in
+    omega (arith, c4 .set-next .kept, c1 .pre .0 .strip)
 
 group-write-requires : tie.Need-group-write-requires
 group-write-requires c κs =

@@ -31,10 +31,18 @@ number-requires-8 c κs = search needs
 number-requires-9 : tie.Need-number-requires-9
 number-requires-9 c κs = search needs
 
+number-requires-10 : tie.Need-number-requires-10
+number-requires-10 c κs = search needs
+
+number-requires-11 : tie.Need-number-requires-11
+number-requires-11 c κs = search needs
+
 returns : tie.Need-returns
 unfolding stateOf
 returns c =
-    let c8 = c .before in
+    let c10 = c .before in
+    let c9 = c10 .before in
+    let c8 = c9 .before in
     let c7 = c8 .before in
     let c6 = c7 .before in
     let c5 = c6 .before in
@@ -51,7 +59,9 @@ returns c =
       c6 .number6 .ensures .0,
       c7 .number7 .ensures .0,
       c8 .number8 .ensures .0,
-      c .number9 .ensures .0,
+      c9 .number9 .ensures .0,
+      c10 .number10 .ensures .0,
+      c .number11 .ensures .0,
     )
 
 pub state-spec : {M : Type 1} → statement M
@@ -67,4 +77,6 @@ state-spec =
     number-requires-7
     number-requires-8
     number-requires-9
+    number-requires-10
+    number-requires-11
     returns)

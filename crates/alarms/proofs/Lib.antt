@@ -1,0 +1,10 @@
+pub mod ByteLaws
+pub mod OrderLaws
+pub mod WalkLaws
+pub mod PackLaws
+pub mod EventLaws
+pub mod GravestLaws
+pub mod HasLaws
+pub mod HistoryLaws
+pub mod BackLaws
+pub mod Promised

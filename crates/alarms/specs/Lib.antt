@@ -1,0 +1,4 @@
+pub mod Alarm
+pub mod OpenAlarms
+pub mod Events
+pub mod Promises

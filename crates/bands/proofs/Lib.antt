@@ -1,0 +1,12 @@
+pub mod RowLaws
+pub mod CountLaws
+pub mod LowestLaws
+pub mod SweepLaws
+pub mod WidthLaws
+pub mod LoopLaws
+pub mod JudgeLaws
+pub mod PackLaws
+pub mod TableLaws
+pub mod MemberLaws
+pub mod Promised
+pub mod Examples

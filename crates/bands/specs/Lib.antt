@@ -1,0 +1,5 @@
+pub mod Rows
+pub mod Judge
+pub mod Packed
+pub mod Sweep
+pub mod Promises

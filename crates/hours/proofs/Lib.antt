@@ -1,0 +1,4 @@
+pub mod BlockLaws
+pub mod EventLaws
+pub mod ListLaws
+pub mod Promised

@@ -1,0 +1,4 @@
+pub mod Pump
+pub mod Events
+pub mod Services
+pub mod Promises
