@@ -8,3 +8,4 @@ pub mod ReservationsHold
 pub mod TearsHold
 pub mod PositionsHold
 pub mod RoundsGo
+pub mod HiddenHolds
