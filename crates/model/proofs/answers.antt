@@ -9,3 +9,4 @@ pub mod TearsHold
 pub mod PositionsHold
 pub mod GuardedHolds
 pub mod RoundsGo
+pub mod HiddenHolds

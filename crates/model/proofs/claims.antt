@@ -29,3 +29,9 @@ pub mod RoundCounts
 pub mod RoundSteps
 pub mod RoundStays
 pub mod RoundsHold
+-- Rights keep what a writer may not read from it.
+pub mod AlikeBook
+pub mod AlikeReplies
+pub mod AlikeFollows
+pub mod AlikeHistories
+pub mod IsolationHolds

@@ -26,4 +26,5 @@ pub mod Kept
 pub mod Guarded
 pub mod Rounds
 pub mod Isolation
+pub mod Hidden
 pub mod Facts
