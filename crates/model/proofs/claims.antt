@@ -29,3 +29,4 @@ pub mod RoundCounts
 pub mod RoundSteps
 pub mod RoundStays
 pub mod RoundsHold
+pub mod RoundEnds

@@ -24,5 +24,6 @@ pub mod Tears
 pub mod Promises
 pub mod Kept
 pub mod Rounds
+pub mod RoundEnds
 pub mod Isolation
 pub mod Facts
