@@ -25,6 +25,7 @@ pub mod Promises
 pub mod Kept
 pub mod Guarded
 pub mod Rounds
+pub mod RoundEnds
 pub mod Isolation
 pub mod Hidden
 pub mod Facts
