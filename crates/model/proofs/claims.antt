@@ -32,3 +32,4 @@ pub mod AlikeReplies
 pub mod AlikeFollows
 pub mod AlikeHistories
 pub mod IsolationHolds
+pub mod HiddenThere
