@@ -36,3 +36,4 @@ pub mod AlikeFollows
 pub mod AlikeHistories
 pub mod IsolationHolds
 pub mod RoundEnds
+pub mod HiddenThere

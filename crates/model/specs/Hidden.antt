@@ -1,12 +1,13 @@
 -- What rights hide, and what they do not: two histories (G 4, D 12) under one committed list, which differ only in the bytes stored in home 4, one block
 -- before them and one in them. Writer 1 may not read home 4: all its answers and blocks are the same in both. Writer 2 may: its blocks differ.
-use Prim.Native.Nat.{ℕ}
-use mathlib.Core.Bool.{Bool, cond, not, _&&_}
+use Prim.Native.Nat.{ℕ, _+_, _*_}
+use mathlib.Core.Bool.{Bool, cond, _&&_}
 use mathlib.Core.List.{List, [], _∷_, _++_}
 use lib.Dec.{eqb}
 use Rattle.model.specs.Bytes.{zeros, bytes, same}
+use Rattle.model.specs.Effects.{Given}
 use Rattle.model.specs.Calls.{Outcome}
-use Rattle.model.specs.History.{Service, settles, roundBegins, roundSteps, trims, reads, Call, opening, confirm, change, service, begin, store, commit, read, Event, call, World, emptyStore, ends, step}
+use Rattle.model.specs.History.{Service, settles, roundBegins, roundSteps, trims, reads, Call, opening, confirm, change, service, begin, store, commit, read, call, World, emptyStore, ends, step}
 use Rattle.model.specs.Trials.{room, lane, fill, goes, answers}
 use Rattle.model.specs.Witnesses.{plain}
 
@@ -21,17 +22,31 @@ firstWriters = rangeOf 0 12 ++ (rangeOf 0 12 ++ (rangeOf 3 1 ++ rangeOf 3 1))
 unfoldable pub nextWriters : List ℕ
 nextWriters = rangeOf 4 1 ++ (rangeOf 3 2 ++ zeros 32)
 
+-- a new format of that size, and its opening
+unfoldable pub unformatted : Given
+unformatted =
+    record { state = []; newest = []; log = zeros (64 + 512 * 4); area = zeros (64 * 12); block = []; batch = zeros 3018; writer = 0; home = 0 }
+
+unfoldable pub firstOpening : Call
+firstOpening = opening (zeros 1024) (zeros 96) lane
+
 -- writer 0 commits homes 3 and 4 and the list, and home 4 gets bytes a
+unfoldable pub listing : ℕ → List Call
+listing a =
+    begin 0 ∷ store 0 3 (fill 5) room ∷ store 0 4 (fill a) room ∷ store 0 8 firstWriters room ∷ store 0 9 nextWriters room ∷ commit 0 room ∷ []
+
 unfoldable pub listedBefore : ℕ → List Call
-listedBefore a =
-    opening (zeros 1024) (zeros 96) lane ∷ begin 0 ∷ store 0 3 (fill 5) room ∷ store 0 4 (fill a) room ∷ store 0 8 firstWriters room
-    ∷ store 0 9 nextWriters room ∷ commit 0 room ∷ []
+listedBefore a = firstOpening ∷ listing a
 
 -- then both writers read, writer 2 commits bytes b in home 4, and writer 1, which tries that too, commits home 3
 unfoldable pub bothAtWork : ℕ → List Call
 bothAtWork b =
     read 1 3 (fill 9) ∷ read 1 4 (fill 9) ∷ read 2 4 (fill 9) ∷ begin 2 ∷ store 2 4 (fill b) room ∷ commit 2 room ∷ begin 1 ∷ store 1 4 (fill 7) room
     ∷ store 1 3 (fill 7) room ∷ commit 1 room ∷ read 1 3 (fill 9) ∷ read 1 4 (fill 9) ∷ read 2 4 (fill 9) ∷ []
+
+-- the home that is hidden from writer 1
+unfoldable pub fourth : ℕ → Bool
+fourth home = eqb home 4
 
 unfoldable pub listedWorld : ℕ → World
 listedWorld a = goes (emptyStore 4 12) (listedBefore a)

@@ -3,18 +3,18 @@ use Prim.Native.Nat.{ℕ, _+_, _*_}
 use mathlib.Core.Path.{_≡_, refl, sym, ap, _∙_}
 use mathlib.Core.Bool.{Bool, true, false, cond, _&&_, _||_, false≢true}
 use mathlib.Core.List.{List, [], _∷_, _++_}
-use mathlib.Core.Option.{Option, none, some}
+use mathlib.Core.Option.{some}
 use lib.Dec.{eqb, leb}
 use lib.ListN.{length}
 use borrow.Author.Tests.{eqb-true}
 use Rattle.model.specs.Bytes.{zeros}
 use Rattle.model.specs.Layout.{homeAt}
-use Rattle.model.specs.Book.{Entry, Commit, Held, Task, idle, opened, Book, setTask, withTask, begin, abort, entryOf, submit, grown, filledUp, hold, storeTask, store, addCommit, commitTask, commit, flush, owedBy, withCommits, writeEntries, writeCommits, homesAfter, newestEntry, heldOr, ownOr, reads}
+use Rattle.model.specs.Book.{Entry, Commit, Held, Task, opened, Book, setTask, withTask, begin, abort, entryOf, submit, grown, filledUp, hold, storeTask, store, addCommit, commitTask, commit, flush, owedBy, withCommits, writeEntries, writeCommits, homesAfter, newestEntry, heldOr, ownOr, reads}
 use Rattle.model.specs.History.{Change, begins, reserves, aborts, stores, commits, flushes, Call, opening, confirm, change, service, feed, feedChange, isOpening}
 use Rattle.model.specs.Isolation.{Each, both, more, EntryAlike, CommitAlike, HeldAlike, TaskAlike, idles, empties, holds, CallAlike, equal, stored}
 use Rattle.model.proofs.bytes.ByteLaws.{length-zeros}
 use Rattle.model.proofs.trace.TraceLaws.{All}
-use Rattle.model.proofs.invariant.TouchLaws.{EntryFits, CommitFits, homeAt-entries}
+use Rattle.model.proofs.invariant.TouchLaws.{CommitFits, homeAt-entries}
 use Rattle.model.proofs.invariant.BookReplay.{length-writeCommits}
 
 each-append : {A : Type 0} {R : A → A → Type 0} {xs ys us vs : List A} → Each R xs ys → Each R us vs → Each R (xs ++ us) (ys ++ vs)

@@ -1,14 +1,12 @@
 -- Stores that are alike but for bytes in hidden homes stay so over calls that are alike and answered alike. Assumes nothing.
-use Prim.Native.Nat.{ℕ, zero, suc, _+_, _-_, _*_}
-use mathlib.Core.Path.{_≡_, refl, sym, ap, _∙_}
+use Prim.Native.Nat.{ℕ, _+_, _-_, _*_}
+use mathlib.Core.Path.{_≡_, refl, sym, ap}
 use mathlib.Core.Bool.{Bool, true, false, cond, false≢true}
-use mathlib.Core.List.{List, []}
 use lib.Dec.{eqb, leb}
 use lib.ListN.{length, getD}
 use Rattle.model.specs.Book.{Book}
-use Rattle.model.specs.History.{Change, begins, reserves, aborts, stores, commits, flushes, Service, settles, trims, reads, roundBegins, roundSteps, Call, opening, confirm, change, service, isOpening, feed}
-use Rattle.model.specs.Book as book
-use Rattle.model.specs.Store.{Store, firstGroup, nextGroup, nextStart, toStep, storeMustLog, lastAfter, fencedAfter, setFor, promisesAfter, numbered, inRound, roundOver, trimmedTo, afterService, afterDone, Reply, afterReply}
+use Rattle.model.specs.History.{Change, begins, reserves, aborts, stores, commits, flushes, Service, settles, trims, reads, roundBegins, roundSteps, Call, opening, confirm, change, service, isOpening}
+use Rattle.model.specs.Store.{Store, nextGroup, nextStart, toStep, storeMustLog, lastAfter, fencedAfter, setFor, promisesAfter, numbered, inRound, roundOver, trimmedTo, afterService, afterDone, Reply, afterReply}
 use Rattle.model.specs.Isolation.{StoreAlike, CallAlike, equal, stored}
 use Rattle.model.proofs.claims.AlikeBook.{BookAlike, feed-alike, flush-alike}
 use Rattle.model.proofs.claims.AlikeReplies.{first-alike, group-alike, start-alike, step-alike, store-logs-alike}

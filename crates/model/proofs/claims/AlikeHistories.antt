@@ -3,7 +3,7 @@
 -- the book says, and the blocks of all commits have 64 bytes. Assumes nothing.
 use Prim.Native.Nat.{ℕ, zero, suc, _+_, _-_}
 use mathlib.Core.Path.{_≡_, refl, sym, ap, _∙_, subst}
-use mathlib.Core.Bool.{Bool, true, false, cond, not, false≢true}
+use mathlib.Core.Bool.{Bool, true, false, cond, not}
 use mathlib.Core.List.{List, [], _∷_, _++_}
 use native.Mathlib.Omega.{arith}
 use lib.Dec.{eqb, leb, ltb}
@@ -126,7 +126,7 @@ read-allowed s v home block h =
     let e₂ = ask-passed (ltb v 8) 3 (ask (ltb home (s .homes)) 5 may) e₁ .1 in
     ask-passed (mayRead (s .homes) (listOf s) v home) 19 0 (ask-passed (ltb home (s .homes)) 4 may e₂ .1) .0
 
-ready-on : (w : World) (c : Call) → w .ready ≡ true → step w (call c) .ready ≡ true
+pub ready-on : (w : World) (c : Call) → w .ready ≡ true → step w (call c) .ready ≡ true
 unfolding step
 ready-on w c h = go (ends w c .code)
   where

@@ -1,29 +1,28 @@
 -- Stores that are alike but for bytes in hidden homes answer every call alike: the answers hang on numbers, on homes and on the list of rights, and the
 -- list's own homes are never hidden. Assumes nothing.
 use Prim.Native.Nat.{ℕ, zero, suc, _+_, _-_, _*_, _/_, _≤_, _<_}
-use mathlib.Core.Path.{_≡_, refl, sym, ap, _∙_, subst}
-use mathlib.Core.Bool.{Bool, true, false, cond, not, _&&_, _||_, false≢true}
-use mathlib.Core.List.{List, [], _∷_, _++_}
-use mathlib.Core.Option.{Option, none, some}
+use mathlib.Core.Path.{_≡_, refl, sym, ap, _∙_}
+use mathlib.Core.Bool.{Bool, true, false, cond, _&&_, false≢true}
+use mathlib.Core.List.{List, _∷_}
 use native.Mathlib.Omega.{arith}
-use lib.Dec.{eqb, leb, ltb}
-use lib.ListN.{length, take}
+use lib.Dec.{leb, ltb}
+use lib.ListN.{length}
 use borrow.Author.Tests.{leb-true, le-leb, lt-ltb}
 use Rattle.model.specs.Bytes.{part}
-use Rattle.model.specs.Layout.{maxStart, homeAt}
+use Rattle.model.specs.Layout.{homeAt}
 use Rattle.model.specs.State.{listHome}
-use Rattle.model.specs.Effects.{marked, largest}
+use Rattle.model.specs.Effects.{largest}
 use Rattle.model.specs.Rights.{ofList, isList, mayStore, mayRead}
-use Rattle.model.specs.Questions.{ask}
-use Rattle.model.specs.Book.{Entry, Commit, Held, Task, idle, opened, homesAfter}
-use Rattle.model.specs.Demands.{heldEntries, untrimmed, closedBelow, keptBefore, someBefore, across, anyAcross, openBefore, anyOpenBefore}
+use Rattle.model.specs.Book.{Entry, Commit, Task, homesAfter}
+use Rattle.model.specs.Demands.{heldEntries, untrimmed, closedBelow, someBefore, across, anyAcross, openBefore, anyOpenBefore}
 use Rattle.model.specs.History.{Change, begins, reserves, aborts, stores, commits, flushes, Service, settles, trims, reads, roundBegins, roundSteps, Call, opening, confirm, change, service, isOpening}
-use Rattle.model.specs.Store.{Store, firstGroup, nextGroup, nextOf, placesLeft, promisedTo, freeLeft, hasRoom, mayFlush, entryBytes, isIdle, storeMustLog, commitMustLog, wrote, anyWrote, manyHomes, toSettle, toStep, mayStart, nextStart, listOf, Reply, told, askBatch, replyChange, replyService, reply}
-use Rattle.model.specs.Isolation.{Each, both, more, EntryAlike, CommitAlike, HeldAlike, TaskAlike, idles, empties, holds, StoreAlike, CallAlike, equal, stored, Denied}
+use Rattle.model.specs.Store.{Store, firstGroup, nextGroup, nextOf, placesLeft, promisedTo, freeLeft, hasRoom, mayFlush, entryBytes, isIdle, storeMustLog, commitMustLog, wrote, anyWrote, manyHomes, toSettle, toStep, mayStart, nextStart, listOf, replyChange, replyService, reply}
+use Rattle.model.specs.Isolation.{Each, both, more, EntryAlike, CommitAlike, TaskAlike, idles, empties, holds, StoreAlike, CallAlike, equal, stored, Denied}
 use Rattle.model.proofs.bytes.ByteLaws.{length-part, part-within}
 use Rattle.model.proofs.bytes.LayoutLaws.{area-ext}
 use Rattle.model.proofs.trace.TraceLaws.{All}
 use Rattle.model.proofs.invariant.TouchLaws.{CommitFits, length-homesAfter}
+use Rattle.model.proofs.claims.StoreLaws.{marked-same}
 use Rattle.model.proofs.claims.AlikeBook.{homes-alike}
 
 -- ---- tests that are the same everywhere
@@ -32,11 +31,6 @@ largest-same : (f g : ℕ → Bool) (start n : ℕ) → ((x : ℕ) → f x ≡ g
 unfolding largest
 largest-same f g start zero e = refl
 largest-same f g start (suc n) e = rw (e (start + suc n), largest-same f g start n e)
-
-marked-same : (f g : ℕ → Bool) (n : ℕ) → ((h : ℕ) → f h ≡ g h) → marked f n ≡ marked g n
-unfolding marked
-marked-same f g zero e = refl
-marked-same f g (suc n) e = rw (e n, marked-same f g n e)
 
 promised-same : (f g : ℕ → ℕ) (n : ℕ) → ((w : ℕ) → f w ≡ g w) → promisedTo f n ≡ promisedTo g n
 unfolding promisedTo

@@ -14,7 +14,7 @@ use Rattle.model.proofs.invariant.TouchLaws.{CommitFits, commits-fit}
 use Rattle.model.proofs.steps.FormatRuns.{sizes, after-format}
 use Rattle.model.proofs.steps.Beginning.{format-closed}
 use Rattle.model.proofs.claims.DemandThree.{keeps}
-use Rattle.model.proofs.claims.StoreFollows.{answers-hold}
+use Rattle.model.proofs.claims.AnswersHold.{answers-hold}
 use Rattle.model.proofs.claims.DemandTwo.{demand2}
 use Rattle.model.proofs.claims.AlikeHistories.{FitThroughout, Runs, runs-after, told-throughout}
 
