@@ -7,6 +7,7 @@ use crate::layout::{
     Answer, Shape, BLOCK,
 };
 use crate::newest::{check_newest, keep, position};
+use crate::rights::{carry_listed, check_read, check_store};
 use crate::state::{
     check_home, check_writer, mode, pending_range, promise, promised, set_promise, State, Writer,
 };
@@ -94,6 +95,7 @@ fn try_store(
     let state = load_with_block(log, data, bytes, block)?;
     check_writer(writer)?;
     check_home(state.shape, home)?;
+    check_store(&View::live(log, &state), data, bytes, writer, home)?;
     let record = load_open(bytes, writer)?;
     let mut len = 0;
     if !record.holds() {
@@ -197,6 +199,7 @@ fn try_commit(
         answer.figure = position + 1;
         answer.len = append(log, state, bytes, batch, writer, tag);
         keep_entries(log, &state, first, position, newest);
+        carry_listed(state.shape.homes, newest, bytes);
     }
     Writer::IDLE.save(bytes, writer);
     set_promise(bytes, writer, 0);
@@ -276,15 +279,14 @@ fn try_read(
     let state = load_with_block(log, data, bytes, block)?;
     check_writer(writer)?;
     check_home(state.shape, home)?;
+    let view = View::live(log, &state);
+    check_read(&view, data, newest, writer, home)?;
     let record = Writer::load(bytes, writer);
     if record.holds() && record.home == home {
         block.copy_from_slice(&bytes[pending_range(writer)]);
         return Ok(Answer::DONE);
     }
-    let base = state.first_position();
-    let end = (state.next_position() - base) as u32;
-    let view = View { log, shape: state.shape, start: state.start, end };
-    let own = record.logged().map(|(first, _)| (first - base) as u32);
+    let own = record.logged().map(|(first, _)| (first - state.first_position()) as u32);
     let own = own.and_then(|first| newest_own(&view, home as u32, first));
     let found = own.or_else(|| kept_entry(&view, home, position(newest, home)));
     match found {

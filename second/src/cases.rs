@@ -3,10 +3,11 @@
 
 use crate::batch::GROUP_WRITE_LEN;
 use crate::craft::craft;
-use crate::damage::{damage_group, damage_header, damage_lengths, damage_newest, damage_state};
+use crate::damage::{damage_group, damage_header, damage_lengths, damage_listed, damage_newest, damage_state};
 use crate::layout::{put_word, word, Answer, Shape, START_LIMIT};
 use crate::lent::{ample, Kind, Lent};
 use crate::player::{random_crash, step, Profile, Tally};
+use crate::rights::{has_room, LIST_HOME};
 use crate::rng::Rng;
 use crate::state::{at, Writer};
 use crate::world::World;
@@ -44,7 +45,7 @@ impl Cases {
         let rng = &mut self.rng;
         let kind = Kind::ALL[rng.weighted(&WEIGHTS)];
         let (shape, mut lent) = if rng.chance(40) {
-            let shape = Shape { groups: 4, homes: rng.between(1, 8) };
+            let shape = Shape { groups: 4, homes: random_homes(rng) };
             (shape, craft(rng, shape))
         } else {
             self.advance(kind);
@@ -58,7 +59,7 @@ impl Cases {
             settle_all(&mut lent);
         }
         damage(rng, &mut lent, shape, kind);
-        disagree(rng, &mut lent, kind);
+        disagree(rng, &mut lent, shape, kind);
         let (writer, home) = arguments(rng, kind, shape, &lent);
         finish(rng, kind, shape, writer, home, lent)
     }
@@ -89,9 +90,14 @@ impl Cases {
 }
 
 fn fresh_world(rng: &mut Rng) -> World {
-    let shape = Shape { groups: 4, homes: rng.between(1, 8) };
+    let shape = Shape { groups: 4, homes: random_homes(rng) };
     let start = if rng.chance(15) { START_LIMIT - rng.between(4, 14) } else { 0 };
     World::new(shape, start)
+}
+
+/// Few homes, or about as many as a list of rights needs.
+fn random_homes(rng: &mut Rng) -> u64 {
+    if rng.chance(50) { rng.between(1, 8) } else { rng.pick(&[9, 10, 11, 12, 12, 13, 13, 13]) }
 }
 
 /// Leaves one place in the next group, if the log is not full.
@@ -126,14 +132,19 @@ fn damage(rng: &mut Rng, lent: &mut Lent, shape: Shape, kind: Kind) {
     if kind == Kind::Open && rng.chance(80) {
         lent.state.fill(0xee);
     } else if rng.chance(15) {
-        let spare = rng.pick(&[104, 110, 127, 896, 1000, 1023]);
+        let spare = rng.pick(&[104, 110, 127, 928, 1000, 1023]);
         lent.state[spare] ^= 0x5a;
     }
 }
 
-/// Newest positions that disagree with the log, most often for a read.
-fn disagree(rng: &mut Rng, lent: &mut Lent, kind: Kind) {
-    if rng.chance(if kind == Kind::Read { 60 } else { 20 }) {
+/// Newest positions that disagree with the log, most often for a read; for a
+/// store those of the list in the state.
+fn disagree(rng: &mut Rng, lent: &mut Lent, shape: Shape, kind: Kind) {
+    if rng.chance(if kind == Kind::Store && has_room(shape.homes) { 40 } else { 5 }) {
+        damage_listed(rng, lent);
+    }
+    let reads = kind == Kind::Read;
+    if rng.chance(if reads && has_room(shape.homes) { 40 } else if reads { 60 } else { 20 }) {
         damage_newest(rng, lent);
     }
 }
@@ -150,6 +161,9 @@ fn arguments(rng: &mut Rng, kind: Kind, shape: Shape, lent: &Lent) -> (u64, u64)
     }
     if rng.chance(15) {
         home = Writer::load(&lent.state, writer).home;
+    }
+    if rng.chance(10) && shape.homes > LIST_HOME {
+        home = LIST_HOME + rng.below(shape.homes - LIST_HOME);
     }
     if kind == Kind::Reserve {
         home = rng.pick(&[0, 1, 2, 5, 7, 14, 28, 29]);
@@ -168,7 +182,7 @@ fn arguments(rng: &mut Rng, kind: Kind, shape: Shape, lent: &Lent) -> (u64, u64)
 
 fn finish(rng: &mut Rng, kind: Kind, shape: Shape, writer: u64, home: u64, mut lent: Lent) -> Case {
     lent.block = vec![rng.next() as u8; 64];
-    lent.batch = vec![0; ample(4, 8)];
+    lent.batch = vec![0; ample(4, shape.homes)];
     let need = lent.clone().run(kind, writer, home).len;
     let len = match rng.below(10) {
         0 if need > 0 => need - 1,

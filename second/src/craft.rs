@@ -2,12 +2,15 @@
 //! history leaves, to try the commit rule on damaged contents.
 
 use crate::layout::{
-    group_head, header, put_word, set_top_bit, slot_range, turn, Shape, BLOCK, START_LIMIT,
+    group_head, header, put_word, set_top_bit, slot_range, turn, word, Shape, BLOCK, START_LIMIT,
 };
 use crate::lent::Lent;
+use crate::lists::random_block;
+use crate::newest::keep;
+use crate::rights::{carry_listed, has_room, of_list};
 use crate::rng::Rng;
 use crate::state::{at, mode, set_promise, State, Writer};
-use crate::tag::{closing_tag, entry_tag, with_displaced};
+use crate::tag::{closing_tag, entry_tag, tag_home, with_displaced};
 
 /// A made-up log, data area and state, with blocks of one byte each but for
 /// turn bits, most of which fit.
@@ -26,10 +29,38 @@ pub fn craft(rng: &mut Rng, shape: Shape) -> Lent {
         craft_group(rng, &mut lent, shape, start + index as u64, seven);
     }
     for home in 0..shape.homes as usize {
-        lent.data[BLOCK * home..BLOCK * (home + 1)].fill(rng.next() as u8);
+        let block = craft_block(rng, shape, home as u64);
+        lent.data[BLOCK * home..BLOCK * (home + 1)].copy_from_slice(&block);
     }
     craft_state(rng, &mut lent, shape, start, &tags);
+    craft_kept(rng, &mut lent, shape, &tags);
     lent
+}
+
+/// Any bytes of one value, or for the list's homes most often ranges.
+fn craft_block(rng: &mut Rng, shape: Shape, home: u64) -> [u8; BLOCK] {
+    if has_room(shape.homes) && of_list(home) && rng.chance(85) {
+        random_block(rng, shape.homes)
+    } else {
+        [rng.next() as u8; BLOCK]
+    }
+}
+
+/// Positions of the last entry for each home, or of none; those of the list's
+/// homes in the state as well, most often.
+fn craft_kept(rng: &mut Rng, lent: &mut Lent, shape: Shape, tags: &[u64]) {
+    lent.newest.fill(0xff);
+    let base = 7 * word(&lent.state, at::START);
+    let skip = rng.pick(&[0, 30, 100]);
+    for (offset, &tag) in tags.iter().enumerate() {
+        let home = tag_home(tag);
+        if home < shape.homes && !rng.chance(skip) {
+            keep(&mut lent.newest, home, base.wrapping_add(offset as u64));
+        }
+    }
+    if rng.chance(85) {
+        carry_listed(shape.homes, &lent.newest, &mut lent.state);
+    }
 }
 
 fn craft_group(rng: &mut Rng, lent: &mut Lent, shape: Shape, number: u64, tags: &[u64]) {
@@ -47,7 +78,7 @@ fn craft_group(rng: &mut Rng, lent: &mut Lent, shape: Shape, number: u64, tags: 
         let displaced = if tag == 0 { false } else { rng.chance(50) };
         put_word(group, 8 + 8 * place, with_displaced(tag, displaced));
         let block = &mut group[BLOCK * (1 + place)..BLOCK * (2 + place)];
-        block.fill(rng.next() as u8);
+        block.copy_from_slice(&craft_block(rng, shape, tag_home(tag)));
         set_top_bit(block, turn(shape, number) != rng.chance(torn));
     }
 }

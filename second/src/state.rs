@@ -19,6 +19,9 @@ pub mod at {
     pub const ROUND: usize = 88;
     pub const CURSOR: usize = 96;
     pub const WRITER: usize = 128;
+    /// The newest positions of the list's four homes.
+    pub const LISTED: usize = 896;
+    pub const LISTED_END: usize = 928;
     pub const WRITER_SIZE: usize = 96;
     pub const MODE: usize = 0;
     pub const HELD_HOME: usize = 8;
@@ -181,6 +184,7 @@ impl State {
             cursor: 0,
         };
         fresh.save(bytes);
+        bytes[at::LISTED..at::LISTED_END].fill(0xff);
     }
 }
 

@@ -39,7 +39,7 @@ fn report(tally: &Tally) {
     println!("  {:>9} commits, {} of them lost by a crash before they were durable", tally.commits, tally.commits_lost);
     println!("  {:>9} settles, {} trims", tally.settles, tally.trims);
     println!("  {:>9} rounds of settling, {} steps, {} of them leaving homes for later", tally.rounds, tally.steps, tally.part_steps);
-    println!("  {:>9} calls, by their answers:", tally.calls);
+    println!("  {:>9} calls, {} of them under a list of rights, by their answers:", tally.calls, tally.listed);
     for (number, count) in tally.answers.iter().enumerate().filter(|(_, count)| **count > 0) {
         println!("  {count:>9} answered {number}{}", if number == 0 { ", done" } else { "" });
     }
