@@ -205,7 +205,7 @@ impl World {
     }
 }
 
-fn cut_to_odd(lent: &mut crate::lent::Lent, odd: Odd) {
+pub(crate) fn cut_to_odd(lent: &mut crate::lent::Lent, odd: Odd) {
     match odd {
         Odd::Log(len) => lent.log.resize(len, 0),
         Odd::Data(len) => lent.data.resize(len, 0),

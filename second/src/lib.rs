@@ -25,6 +25,7 @@ pub mod lists;
 pub mod literal;
 pub mod newest;
 pub mod options;
+pub mod pairs;
 pub mod player;
 pub mod rights;
 pub mod rng;
