@@ -4,6 +4,8 @@
 #![deny(warnings)]
 
 mod build;
+#[cfg(feature = "chains")]
+mod chains;
 mod damaged;
 mod demand;
 mod gauges;
@@ -168,6 +170,11 @@ fn run(options: &Options) -> Result<(), String> {
         pairs.stores, pairs.reads, pairs.refused
     );
     println!("in all {} calls compared", pair.case);
+    #[cfg(feature = "chains")]
+    {
+        let played = chains::play(seed, calls / 10, options.guarded)?;
+        println!("calls on several homes: {} done and {} refused, the same on both sides", played.done, played.refused);
+    }
     let played = gauges::play(seed, calls / 50, options.guarded)?;
     println!("gauges: {} comparisons done and {} refused, the same on both sides", played.done, played.refused);
     let played = inflow::play(seed, calls / 10)?;

@@ -1,6 +1,7 @@
 //! Logs and states made up at random: in order by question 2, but such as no
 //! history leaves, to try the commit rule on damaged contents.
 
+use crate::damage::{damage_group, damage_lengths, damage_listed, damage_newest, damage_state};
 use crate::layout::{
     group_head, header, put_word, set_top_bit, slot_range, turn, word, Shape, BLOCK, START_LIMIT,
 };
@@ -128,6 +129,47 @@ fn craft_link(rng: &mut Rng, offset: u64, start: u64, last: Option<u64>, wrong: 
         None => 0,
     };
     if rng.chance(wrong) { rng.pick(&[0, 1, right + 1, before]) } else { right }
+}
+
+/// Memory for a call on several homes, damaged at times, with a writer, most
+/// often an idle one, and a home.
+pub fn random_chain(rng: &mut Rng) -> (Lent, u64, u64) {
+    let shape = Shape { groups: 4, homes: rng.pick(&[1, 4, 8, 10, 12, 14, 20, 20]) };
+    let mut lent = craft(rng, shape);
+    if rng.chance(50) {
+        damage_group(rng, &mut lent, shape);
+    }
+    if rng.chance(15) {
+        damage_state(rng, &mut lent);
+    }
+    if rng.chance(40) {
+        damage_newest(rng, &mut lent);
+    }
+    if rng.chance(30) {
+        damage_listed(rng, &mut lent);
+    }
+    let blocks = rng.pick(&[1, 1, 1, 2, 3, 3, 6, 7, 7, 0, 8]);
+    lent.block = vec![0; BLOCK * blocks];
+    lent.block.chunks_mut(BLOCK).for_each(|block| block.fill(rng.next() as u8));
+    if rng.chance(3) {
+        lent.block.push(0);
+    }
+    if rng.chance(40) {
+        lent.batch = vec![0xcc; rng.pick(&[0, 515, 515, 516, 517])];
+    }
+    let mut writer = rng.below(8);
+    if rng.chance(70) {
+        let idle = |writer: &u64| Writer::load(&lent.state, *writer).mode == mode::IDLE;
+        writer = (0..8).map(|add| (writer + add) % 8).find(idle).unwrap_or(writer);
+    }
+    let mut home = rng.below(shape.homes.saturating_sub(blocks as u64) + 1);
+    match rng.below(40) {
+        0 => writer = rng.pick(&[8, 1 << 32, u64::MAX]),
+        1 | 2 => home = rng.pick(&[shape.homes, shape.homes - 1, u64::MAX, u64::MAX - 3]),
+        3 => damage_lengths(rng, &mut lent),
+        _ => {}
+    }
+    (lent, writer, home)
 }
 
 /// Spoils a tag: a set zero bit, a distance past the start, any bit.

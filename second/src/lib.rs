@@ -11,6 +11,7 @@ pub mod batch;
 pub mod book;
 mod calls;
 pub mod cases;
+pub mod chains;
 mod check;
 pub mod craft;
 pub mod damage;

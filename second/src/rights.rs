@@ -96,9 +96,14 @@ pub fn check_store(view: &View, data: &[u8], state: &[u8], writer: u64, home: u6
     if list.may_store(writer, home) { Ok(()) } else { Err(refuse::STORE_RIGHT) }
 }
 
+/// The list as a call finds it that is lent the newest positions.
+pub fn newest_list(view: &View, data: &[u8], newest: &[u8]) -> List {
+    find(view, data, |home| position(newest, home))
+}
+
 /// Question 20.
 pub fn check_read(view: &View, data: &[u8], newest: &[u8], writer: u64, home: u64) -> Result<(), u32> {
-    let list = find(view, data, |home| position(newest, home));
+    let list = newest_list(view, data, newest);
     if list.may_read(writer, home) { Ok(()) } else { Err(refuse::READ_RIGHT) }
 }
 

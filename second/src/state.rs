@@ -74,7 +74,19 @@ impl State {
         if bytes.len() != STATE {
             return Err(refuse::LENGTHS);
         }
-        let state = State {
+        let state = State::read(shape, bytes);
+        let named = Shape { groups: word(bytes, at::GROUPS), homes: word(bytes, at::HOMES) };
+        let in_order = named == shape
+            && state.numbers_in_order()
+            && (0..WRITERS).all(|w| state.writer_in_order(Writer::load(bytes, w)))
+            && promised(bytes) <= state.places()
+            && (0..WRITERS).all(|w| Writer::load(bytes, w).mode != mode::IDLE || promise(bytes, w) == 0);
+        if in_order { Ok(state) } else { Err(refuse::STATE) }
+    }
+
+    /// The numbers as they stand there.
+    pub fn read(shape: Shape, bytes: &[u8]) -> State {
+        State {
             shape,
             start: word(bytes, at::START),
             next: word(bytes, at::NEXT),
@@ -85,14 +97,7 @@ impl State {
             last_closing: word(bytes, at::LAST_CLOSING),
             round: word(bytes, at::ROUND),
             cursor: word(bytes, at::CURSOR),
-        };
-        let named = Shape { groups: word(bytes, at::GROUPS), homes: word(bytes, at::HOMES) };
-        let in_order = named == shape
-            && state.numbers_in_order()
-            && (0..WRITERS).all(|w| state.writer_in_order(Writer::load(bytes, w)))
-            && promised(bytes) <= state.places()
-            && (0..WRITERS).all(|w| Writer::load(bytes, w).mode != mode::IDLE || promise(bytes, w) == 0);
-        if in_order { Ok(state) } else { Err(refuse::STATE) }
+        }
     }
 
     /// Each test guards the arithmetic of those after it.

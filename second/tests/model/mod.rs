@@ -1,7 +1,11 @@
 //! A plain model of the calls: here those that read groups, over the literal
 //! commit rule (open, settle, rounds, trim, read); the others in `writers`, the
-//! list of rights in `rights`. It gives the answer and all lent memory after it.
+//! list of rights in `rights`, calls on several homes in `chains`. It gives the
+//! answer and all lent memory after it.
 
+#![allow(dead_code)]
+
+pub mod chains;
 mod rights;
 mod writers;
 

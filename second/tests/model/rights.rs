@@ -32,13 +32,22 @@ fn open_to_all(list: &[u8]) -> bool {
 }
 
 pub fn may_store(before: &Lent, writer: u64, home: u64) -> bool {
+    may_store_by(before, &before.state, 896, writer, home)
+}
+
+/// The same for a call that is lent the newest positions.
+pub fn may_store_lent_newest(before: &Lent, writer: u64, home: u64) -> bool {
+    may_store_by(before, &before.newest, 64, writer, home)
+}
+
+fn may_store_by(before: &Lent, kept: &[u8], from: usize, writer: u64, home: u64) -> bool {
     if (8..=11).contains(&home) {
         return writer == 0;
     }
     if shape(before).homes < 12 {
         return true;
     }
-    let list = list(before, &before.state, 896);
+    let list = list(before, kept, from);
     open_to_all(&list) || granted(&list, 32 * writer as usize, home)
 }
 
