@@ -2,7 +2,8 @@
 //! after one call, and its answer.
 
 use crate::batch::GROUP_WRITE_LEN;
-use crate::craft::craft;
+use crate::chains::Chain;
+use crate::craft::{craft, random_chain};
 use crate::damage::{damage_group, damage_header, damage_lengths, damage_listed, damage_newest, damage_state};
 use crate::layout::{put_word, word, Answer, Shape, START_LIMIT};
 use crate::lent::{ample, Kind, Lent};
@@ -232,23 +233,35 @@ fn runs(bytes: &[u8]) -> String {
 }
 
 impl Case {
-    /// One line of JSON without spaces.
     pub fn json(&self) -> String {
-        let mut text = format!(
-            "{{\"call\":\"{}\",\"g\":{},\"d\":{},\"writer\":{},\"home\":{}",
-            self.kind.name(),
-            self.shape.groups,
-            self.shape.homes,
-            self.writer,
-            self.home
-        );
-        parts(&mut text, &self.before, "");
-        let Answer { code, figure, len } = self.answer;
-        write!(text, ",\"code\":{code},\"figure\":{figure},\"len\":{len}").unwrap();
-        parts(&mut text, &self.after, "2");
-        text.push('}');
-        text
+        line(self.kind.name(), (self.writer, self.home), [&self.before, &self.after], self.answer)
     }
+}
+
+/// A case of a call on several homes, as JSON.
+pub fn several(rng: &mut Rng) -> String {
+    let chain = rng.pick(&Chain::ALL);
+    let (mut lent, writer, home) = random_chain(rng);
+    let need = lent.clone().chain(chain, writer, home).len;
+    lent.batch.truncate(need + rng.below(70) as usize);
+    if chain != Chain::Transact {
+        lent.batch.clear();
+    }
+    let mut after = lent.clone();
+    let answer = after.chain(chain, writer, home);
+    line(chain.name(), (writer, home), [&lent, &after], answer)
+}
+
+/// One line of JSON without spaces.
+fn line(call: &str, (writer, home): (u64, u64), [before, after]: [&Lent; 2], answer: Answer) -> String {
+    let (groups, homes) = (before.log.len().saturating_sub(64) / 512, before.data.len() / 64);
+    let mut text = format!("{{\"call\":\"{call}\",\"g\":{groups},\"d\":{homes},\"writer\":{writer},\"home\":{home}");
+    parts(&mut text, before, "");
+    let Answer { code, figure, len } = answer;
+    write!(text, ",\"code\":{code},\"figure\":{figure},\"len\":{len}").unwrap();
+    parts(&mut text, after, "2");
+    text.push('}');
+    text
 }
 
 fn parts(text: &mut String, lent: &Lent, suffix: &str) {
