@@ -1,4 +1,4 @@
--- The claims: the refusals, demands 2 and 3, what every call answers, the newest positions, the facts stated in passing, and a history that meets the premises.
+-- The claims: the refusals, demands 2 and 3, what every call answers, the newest positions, rounds, isolation, the facts stated in passing, and a history that meets the premises.
 pub mod RefusalsHold
 pub mod LiveHolds
 pub mod DemandThree
@@ -29,11 +29,10 @@ pub mod RoundCounts
 pub mod RoundSteps
 pub mod RoundStays
 pub mod RoundsHold
--- Rights keep what a writer may not read from it.
+pub mod RoundEnds
 pub mod AlikeBook
 pub mod AlikeReplies
 pub mod AlikeFollows
 pub mod AlikeHistories
 pub mod IsolationHolds
-pub mod RoundEnds
 pub mod HiddenThere

@@ -12,6 +12,7 @@ use Rattle.model.specs.Rights.{mayRead}
 use Rattle.model.specs.Book.{Entry, Commit, Held, Task, idle, opened}
 use Rattle.model.specs.History.{Call, store, read, Event, call, World, Formatting, afterFormat, ends, step, after, AllAllowed}
 use Rattle.model.specs.Store.{Store, newStore, listOf, replyOf, follow}
+use Rattle.model.specs.Witnesses.{calls}
 
 -- two lists of one length, element by element
 pub data Each {A : Type 0} (Alike : A → A → Type 0) : List A → List A → Type 0 where
@@ -63,11 +64,7 @@ module _ (hidden : ℕ → Bool) where
     equal : {c : Call} → CallAlike c c
     stored : {writer home : ℕ} {a b batch : List ℕ} → hidden home ≡ true → length a ≡ length b → CallAlike (store writer home a batch) (store writer home b batch)
 
--- a list of calls as events, and the abstract store after events
-unfoldable pub calls : List Call → List Event
-calls [] = []
-calls (c ∷ cs) = call c ∷ calls cs
-
+-- the abstract store after events
 unfoldable pub followed : Store → World → List Event → Store
 followed s w [] = s
 followed s w (e ∷ es) = followed (follow s w e) (step w e) es

@@ -16,7 +16,8 @@ use Rattle.model.specs.Book.{Entry, Commit, Task, idle, opened}
 use Rattle.model.specs.History.{Call, Event, call, World, Formatting, afterFormat, emptyStore, unopened, ends, isOpening, step, after, AllAllowed}
 use Rattle.model.specs.Store.{Store, newStore, firstGroup, numbered, inRound, listOf, lastAfter, fencedAfter, setFor, promisesAfter, storeMustLog, Reply, replyOf, afterService, afterReply, follow}
 use Rattle.model.specs.Store as abstract-store
-use Rattle.model.specs.Isolation.{Each, both, more, EntryAlike, CommitAlike, TaskAlike, idles, empties, holds, StoreAlike, CallAlike, equal, stored, calls, followed, Denied, DeniedThroughout, ToldSameThroughout}
+use Rattle.model.specs.Isolation.{Each, both, more, EntryAlike, CommitAlike, TaskAlike, idles, empties, holds, StoreAlike, CallAlike, equal, stored, followed, Denied, DeniedThroughout, ToldSameThroughout}
+use Rattle.model.specs.Witnesses.{calls}
 use Rattle.model.specs.Hidden.{rangeOf, firstWriters, nextWriters, unformatted, firstOpening, listing, listedBefore, bothAtWork, fourth}
 use Rattle.model.proofs.bytes.ByteLaws.{length-zeros}
 use Rattle.model.proofs.steps.FormatRuns.{after-format}
