@@ -124,6 +124,14 @@ struct array_u16_1024 {
     uint16_t at[1024];
 };
 
+struct array_u8_32 {
+    uint8_t at[32];
+};
+
+struct array_u8_64 {
+    uint8_t at[64];
+};
+
 struct replay__stepping__Reached {
     uint64_t home;
     uint64_t done;
@@ -1222,7 +1230,23 @@ static inline void logging__commits__keep_newest(struct slice_u8 log, struct sli
     positions__commits__keep_entries(log, st.groups, st.homes, st.start, t6, t5, newest);
 }
 
-/* The closing entry, with the places promised to the writer given back and the newest positions kept. */
+/* Stores the four positions, and leaves the rest of the strip as it was. */
+static inline void strip__listed__set_listed(struct slice_mut_u8 s, struct slice_u8 positions)
+{
+    codec__blocks__copy(s, 896u, positions);
+}
+
+/* Carries the four positions over from the newest positions of `homes` homes, where the list has its homes. */
+static inline void strip__listed__carry_listed(struct slice_mut_u8 s, struct slice_u8 newest, uint64_t homes)
+{
+    if (homes < 12u) {
+        return;
+    }
+    strip__listed__set_listed(s, (struct slice_u8){newest.ptr + 64u, (size_t)((uint64_t)96u - 64u)});
+}
+
+/* The closing entry, with the places promised to the writer given back, the newest positions kept, and those of the list of
+   rights carried over. */
 static inline uint64_t logging__commits__commit_held(struct slice_mut_u8 log, struct slice_mut_u8 state,
         struct slice_mut_u8 newest, struct slice_mut_u8 batch, struct model__State st, struct model__Writer r, uint64_t w)
 {
@@ -1231,6 +1255,7 @@ static inline uint64_t logging__commits__commit_held(struct slice_mut_u8 log, st
     t8 = logging__commits__close_held(log, state, batch, st, r, w);
     store_2(state.ptr + (size_t)(72u + (2u * w)), 0u);
     logging__commits__keep_newest((struct slice_u8){log.ptr, log.len}, newest, st, r);
+    strip__listed__carry_listed(state, (struct slice_u8){newest.ptr, newest.len}, st.homes);
     return t8;
 }
 
@@ -2231,8 +2256,8 @@ static inline void strip__fields__clear(struct slice_mut_u8 s)
     codec__blocks__clear(s, 0u, 1024u);
 }
 
-/* Makes `s` the strip of an opened store whose log is empty at the group number `start`. */
-static inline void strip__fields__fresh(struct slice_mut_u8 s, uint64_t groups, uint64_t homes, uint64_t start)
+/* Makes `s` the numbers of an opened store whose log is empty at the group number `start`, and else zeros. */
+static inline void strip__fields__fresh_numbers(struct slice_mut_u8 s, uint64_t groups, uint64_t homes, uint64_t start)
 {
     uint64_t t5;
 
@@ -2245,6 +2270,17 @@ static inline void strip__fields__fresh(struct slice_mut_u8 s, uint64_t groups, 
     store_8(s.ptr + 40u, t5);
     store_8(s.ptr + 48u, t5);
     store_8(s.ptr + 56u, t5);
+}
+
+/* Makes `s` the strip of an opened store whose log is empty at the group number `start`: no position of the list of rights is
+   kept. */
+static inline void strip__fields__fresh(struct slice_mut_u8 s, uint64_t groups, uint64_t homes, uint64_t start)
+{
+    struct array_u8_32 t5;
+
+    memset(&t5, 255u, sizeof t5);
+    strip__fields__fresh_numbers(s, groups, homes, start);
+    strip__listed__set_listed(s, (struct slice_u8){t5.at, 32u});
 }
 
 /* Keeps no position for any home. */
@@ -2338,11 +2374,212 @@ static inline uint64_t answers__in_use_both(struct slice_u8 log, struct slice_u8
     return answers__in_use_block(log, area, state, block);
 }
 
+/* Whether a home is one of the list's own. */
+static inline bool rights__ranges__of_list(uint64_t home)
+{
+    if (home < 8u) {
+        return false;
+    }
+    return home < 12u;
+}
+
+/* Whether an entry for a home stands at a position below the next one. */
+static inline bool shown__entry_there(struct slice_u8 log, struct model__State st, uint64_t home, uint64_t position)
+{
+    uint64_t t5, t6, t8;
+    struct scan__slots__RingSlot t7;
+    struct slice_u8 t9;
+    bool t17, t20;
+    struct model__Tag t19;
+
+    t5 = position / 7u;
+    t6 = position % 7u;
+    t7 = (struct scan__slots__RingSlot){.slot = t5 % st.groups, .turn = (t5 / st.groups) % 2u};
+    t8 = 64u + (512u * t7.slot);
+    t9 = (struct slice_u8){log.ptr + (size_t)t8, (size_t)((t8 + 512u) - t8)};
+    t17 = scan__groups__group_valid(t9, st.groups, st.start, t5);
+    if (!t17) {
+        return false;
+    }
+    t19 = scan__groups__tag_there(t9, t7.turn, t6, position, 7u * st.start, st.homes);
+    if (t19.tag == 0u) {
+        t20 = false;
+    } else if (t19.tag == 1u) {
+        t20 = t19.u64_0 == home;
+    } else {
+        t20 = t19.u64_0 == home;
+    }
+    return t20;
+}
+
+/* Whether an entry for a home is at the position kept for it, if that lies from the start of the log to below the next position.
+   */
+static inline bool shown__is_there(struct slice_u8 log, struct model__State st, uint64_t home, uint64_t position)
+{
+    if (position < (7u * st.start)) {
+        return false;
+    }
+    if (((7u * st.next) + st.filled) <= position) {
+        return false;
+    }
+    return shown__entry_there(log, st, home, position);
+}
+
+/* Whether an entry for a home is at the position kept for it; the strip's numbers are read only where a position is kept. */
+static inline bool rights__list__found(struct slice_u8 log, struct slice_u8 state, uint64_t home, uint64_t position)
+{
+    uint64_t t8, t9;
+
+    if (position == UINT64_C(0xffffffffffffffff)) {
+        return false;
+    }
+    t8 = load_8(state.ptr);
+    t9 = load_8(state.ptr + 8u);
+    return shown__is_there(log, (struct model__State){.groups = t8, .homes = t9, .start = load_8(state.ptr + 16u),
+            .next = load_8(state.ptr + 24u), .filled = load_8(state.ptr + 32u), .settled = load_8(state.ptr + 40u),
+            .fenced = load_8(state.ptr + 48u), .durable = load_8(state.ptr + 56u), .last = load_8(state.ptr + 64u),
+            .round = load_8(state.ptr + 88u), .cursor = load_8(state.ptr + 96u)}, home, position);
+}
+
+/* Whether a home lies in the range at index `at`. */
+static inline bool rights__ranges__in_range(struct slice_u8 s, uint64_t at, uint64_t home)
+{
+    uint64_t t4;
+
+    t4 = load_2(s.ptr + (size_t)at);
+    if (home < t4) {
+        return false;
+    }
+    return home < (t4 + load_2(s.ptr + (size_t)(at + 2u)));
+}
+
+/* Whether a home lies in one of the four ranges from index `at` on. */
+static inline bool rights__ranges__in_ranges(struct slice_u8 s, uint64_t at, uint64_t home)
+{
+    bool t4, t5, t7;
+
+    t4 = rights__ranges__in_range(s, at, home);
+    if (t4) {
+        return true;
+    }
+    t5 = rights__ranges__in_range(s, at + 4u, home);
+    if (t5) {
+        return true;
+    }
+    t7 = rights__ranges__in_range(s, at + 8u, home);
+    if (t7) {
+        return true;
+    }
+    return rights__ranges__in_range(s, at + 12u, home);
+}
+
+/* Copies the block that the entry at a position gives. */
+static inline void shown__show_entry(struct slice_mut_u8 block, struct slice_u8 log, uint64_t groups, uint64_t position)
+{
+    areas__groups__copy_entry(block, 0u, log, (position / 7u) % groups, position % 7u);
+}
+
+/* Whether a home lies in one of the four ranges from byte `at` of the list on; they lie in one block. */
+static inline bool rights__list__own_ranges(struct slice_u8 log, struct slice_u8 area, struct slice_u8 state,
+        struct slice_u8 kept, uint64_t from, uint64_t at, uint64_t home)
+{
+    uint64_t t8, t9, t14;
+    struct array_u8_64 t10;
+    bool t13;
+    uint8_t *t22;
+
+    t8 = at / 64u;
+    t9 = load_8(kept.ptr + (size_t)(from + (8u * t8)));
+    t13 = rights__list__found(log, state, 8u + t8, t9);
+    if (!t13) {
+        return rights__ranges__in_ranges(area, (64u * (8u + t8)) + (at % 64u), home);
+    }
+    memset(&t10, 0u, sizeof t10);
+    t22 = t10.at;
+    t14 = areas__lengths__log_groups((uint64_t)log.len);
+    shown__show_entry((struct slice_mut_u8){t22, 64u}, log, t14, t9);
+    return rights__ranges__in_ranges((struct slice_u8){t10.at, 64u}, at % 64u, home);
+}
+
+/* Whether block `i` of the list is all zeros. */
+static inline bool rights__list__is_zero(struct slice_u8 log, struct slice_u8 area, struct slice_u8 state, struct slice_u8 kept,
+        uint64_t from, uint64_t i)
+{
+    uint64_t t7, t12;
+    struct array_u8_64 t8;
+    bool t11;
+    uint8_t *t18;
+
+    t7 = load_8(kept.ptr + (size_t)(from + (8u * i)));
+    t11 = rights__list__found(log, state, 8u + i, t7);
+    if (!t11) {
+        return codec__blocks__all_zero(area, 64u * (8u + i), 64u);
+    }
+    memset(&t8, 0u, sizeof t8);
+    t18 = t8.at;
+    t12 = areas__lengths__log_groups((uint64_t)log.len);
+    shown__show_entry((struct slice_mut_u8){t18, 64u}, log, t12, t7);
+    return codec__blocks__all_zero((struct slice_u8){t8.at, 64u}, 0u, 64u);
+}
+
+/* Whether the whole list is all zeros. */
+static inline bool rights__list__no_list(struct slice_u8 log, struct slice_u8 area, struct slice_u8 state, struct slice_u8 kept,
+        uint64_t from)
+{
+    bool t6;
+
+    t6 = rights__list__is_zero(log, area, state, kept, from, 0u);
+    if (!t6) {
+        return false;
+    }
+    t6 = rights__list__is_zero(log, area, state, kept, from, 1u);
+    if (!t6) {
+        return false;
+    }
+    t6 = rights__list__is_zero(log, area, state, kept, from, 2u);
+    if (!t6) {
+        return false;
+    }
+    return rights__list__is_zero(log, area, state, kept, from, 3u);
+}
+
+/* Whether the ranges from byte `at` of the list on open a home, or there is no list. The ranges are asked first: they are one
+   block. */
+static inline bool rights__list__open_to(struct slice_u8 log, struct slice_u8 area, struct slice_u8 state, struct slice_u8 kept,
+        uint64_t from, uint64_t at, uint64_t home)
+{
+    bool t10;
+
+    if ((uint64_t)area.len < 768u) {
+        return true;
+    }
+    t10 = rights__list__own_ranges(log, area, state, kept, from, at, home);
+    if (t10) {
+        return true;
+    }
+    return rights__list__no_list(log, area, state, kept, from);
+}
+
+/* Whether a writer may read a home. The list is found by the newest positions. */
+static inline bool rights__may_read(struct slice_u8 log, struct slice_u8 area, struct slice_u8 state, struct slice_u8 newest,
+        struct model__State st, uint64_t writer, uint64_t home)
+{
+    bool t8;
+    (void)st;
+
+    t8 = rights__ranges__of_list(home);
+    if (t8) {
+        return true;
+    }
+    return rights__list__open_to(log, area, state, newest, 64u, (32u * writer) + 16u, home);
+}
+
 /* The questions of a read: 0 if none refuses it, else the number of the refusal. */
 static inline uint64_t reading__judge(struct slice_u8 log, struct slice_u8 area, struct slice_u8 state, struct slice_u8 newest,
         struct slice_u8 block, uint64_t writer, uint64_t home)
 {
-    uint64_t t8;
+    uint64_t t8, t17, t18;
+    bool t10;
 
     t8 = answers__in_use_both(log, area, state, newest, block);
     if (t8 != 0u) {
@@ -2353,6 +2590,15 @@ static inline uint64_t reading__judge(struct slice_u8 log, struct slice_u8 area,
     }
     if (((uint64_t)area.len / 64u) <= home) {
         return 5u;
+    }
+    t17 = load_8(state.ptr);
+    t18 = load_8(state.ptr + 8u);
+    t10 = rights__may_read(log, area, state, newest, (struct model__State){.groups = t17, .homes = t18, .start = load_8(state.ptr
+            + 16u), .next = load_8(state.ptr + 24u), .filled = load_8(state.ptr + 32u), .settled = load_8(state.ptr + 40u),
+            .fenced = load_8(state.ptr + 48u), .durable = load_8(state.ptr + 56u), .last = load_8(state.ptr + 64u),
+            .round = load_8(state.ptr + 88u), .cursor = load_8(state.ptr + 96u)}, writer, home);
+    if (!t10) {
+        return 20u;
     }
     return 0u;
 }
@@ -2462,58 +2708,19 @@ static inline uint64_t reading__newest__own_entry(struct slice_u8 log, struct mo
     return search__own__newest_own(log, st.groups, st.homes, st.start, r.first, (7u * st.next) + st.filled, home);
 }
 
-/* A position + 1, or 0 where its entry is for another home. */
-static inline uint64_t reading__newest__if_home(uint64_t written, uint64_t home, uint64_t position)
-{
-    if (written != home) {
-        return 0u;
-    }
-    return position + 1u;
-}
-
-/* The entry for a home at a position of the log. */
-static inline uint64_t reading__newest__entry_there(struct slice_u8 log, struct model__State st, uint64_t home, uint64_t position)
-{
-    uint64_t t5, t6, t8, t20;
-    struct scan__slots__RingSlot t7;
-    struct slice_u8 t9;
-    bool t17;
-    struct model__Tag t19;
-
-    t5 = position / 7u;
-    t6 = position % 7u;
-    t7 = (struct scan__slots__RingSlot){.slot = t5 % st.groups, .turn = (t5 / st.groups) % 2u};
-    t8 = 64u + (512u * t7.slot);
-    t9 = (struct slice_u8){log.ptr + (size_t)t8, (size_t)((t8 + 512u) - t8)};
-    t17 = scan__groups__group_valid(t9, st.groups, st.start, t5);
-    if (!t17) {
-        return 0u;
-    }
-    t19 = scan__groups__tag_there(t9, t7.turn, t6, position, 7u * st.start, st.homes);
-    if (t19.tag == 0u) {
-        t20 = 0u;
-    } else if (t19.tag == 1u) {
-        t20 = reading__newest__if_home(t19.u64_0, home, position);
-    } else {
-        t20 = reading__newest__if_home(t19.u64_0, home, position);
-    }
-    return t20;
-}
-
-/* The entry for a home at the position kept for it, if that lies from the start of the log to below the next position. */
+/* The entry for a home at the position kept for it. */
 static inline uint64_t reading__newest__kept_entry(struct slice_u8 log, struct slice_u8 newest, struct model__State st,
         uint64_t home)
 {
     uint64_t t5;
+    bool t7;
 
     t5 = load_8(newest.ptr + (size_t)(8u * home));
-    if (t5 < (7u * st.start)) {
+    t7 = shown__is_there(log, st, home, t5);
+    if (!t7) {
         return 0u;
     }
-    if (((7u * st.next) + st.filled) <= t5) {
-        return 0u;
-    }
-    return reading__newest__entry_there(log, st, home, t5);
+    return t5 + 1u;
 }
 
 /* The entry for a home that a writer sees: its newest own one, else that at the kept position. */
@@ -2533,12 +2740,6 @@ static inline uint64_t reading__newest__seen(struct slice_u8 log, struct slice_u
 static inline void areas__homes__get_home(struct slice_mut_u8 block, struct slice_u8 area, uint64_t home)
 {
     areas__blocks__copy_block(block, 0u, area, 64u * home);
-}
-
-/* Copies the block that the entry at a position gives. */
-static inline void reading__blocks__show_entry(struct slice_mut_u8 block, struct slice_u8 log, uint64_t groups, uint64_t position)
-{
-    areas__groups__copy_entry(block, 0u, log, (position / 7u) % groups, position % 7u);
 }
 
 /* Copies the block of a home that a writer sees. */
@@ -2570,7 +2771,7 @@ static inline void reading__blocks__show(struct slice_u8 log, struct slice_u8 ar
         areas__homes__get_home(block, area, home);
         return;
     }
-    reading__blocks__show_entry(block, log, t8.groups, t11 - 1u);
+    shown__show_entry(block, log, t8.groups, t11 - 1u);
 }
 
 /* Reads the block of a home as a writer sees it: the held one, else its newest own entry, else that at the position kept for the
@@ -2957,12 +3158,28 @@ static inline struct answers__Reply kagutin__kagutin_step_round(struct slice_u8 
     return recovery__rounds__step_round(log, area, state, batch, homes);
 }
 
+/* Whether a writer may store to a home. The list is found by the positions of its homes in the state strip. */
+static inline bool rights__may_store(struct slice_u8 log, struct slice_u8 area, struct slice_u8 state, struct model__State st,
+        uint64_t writer, uint64_t home)
+{
+    bool t7;
+    (void)st;
+
+    t7 = rights__ranges__of_list(home);
+    if (t7) {
+        return writer == 0u;
+    }
+    return rights__list__open_to(log, area, state, state, 896u, 32u * writer, home);
+}
+
 /* The answer of a store: 0, or the number of the question that refuses it. */
 static inline uint64_t logging__stores__store_verdict(struct slice_u8 log, struct slice_u8 area, struct slice_u8 state,
         struct slice_u8 block, struct slice_u8 batch, uint64_t writer, uint64_t home)
 {
-    uint64_t t8, t19, t441, t442;
-    struct model__Writer t9;
+    uint64_t t8, t19, t20, t1153;
+    struct model__State t9;
+    struct model__Writer t10;
+    bool t11;
 
     t8 = answers__in_use_block(log, area, state, block);
     if (t8 != 0u) {
@@ -2974,24 +3191,29 @@ static inline uint64_t logging__stores__store_verdict(struct slice_u8 log, struc
     if (((uint64_t)area.len / 64u) <= home) {
         return 5u;
     }
-    t19 = 128u + (96u * writer);
-    t9 = (struct model__Writer){.mode = load_8(state.ptr + (size_t)t19), .home = load_8(state.ptr + (size_t)(t19 + 8u)),
-            .first = load_8(state.ptr + (size_t)(t19 + 16u)), .count = load_8(state.ptr + (size_t)(t19 + 24u))};
-    if (!(1u <= t9.mode)) {
+    t19 = load_8(state.ptr);
+    t20 = load_8(state.ptr + 8u);
+    t9 = (struct model__State){.groups = t19, .homes = t20, .start = load_8(state.ptr + 16u), .next = load_8(state.ptr + 24u),
+            .filled = load_8(state.ptr + 32u), .settled = load_8(state.ptr + 40u), .fenced = load_8(state.ptr + 48u),
+            .durable = load_8(state.ptr + 56u), .last = load_8(state.ptr + 64u), .round = load_8(state.ptr + 88u),
+            .cursor = load_8(state.ptr + 96u)};
+    t11 = rights__may_store(log, area, state, t9, writer, home);
+    if (!t11) {
+        return 19u;
+    }
+    t1153 = 128u + (96u * writer);
+    t10 = (struct model__Writer){.mode = load_8(state.ptr + (size_t)t1153), .home = load_8(state.ptr + (size_t)(t1153 + 8u)),
+            .first = load_8(state.ptr + (size_t)(t1153 + 16u)), .count = load_8(state.ptr + (size_t)(t1153 + 24u))};
+    if (!(1u <= t10.mode)) {
         return 7u;
     }
-    if (!(2u <= t9.mode)) {
+    if (!(2u <= t10.mode)) {
         return 0u;
     }
-    if (t9.home == home) {
+    if (t10.home == home) {
         return 0u;
     }
-    t441 = load_8(state.ptr);
-    t442 = load_8(state.ptr + 8u);
-    return logging__entry__may_log(state, (struct model__State){.groups = t441, .homes = t442, .start = load_8(state.ptr + 16u),
-            .next = load_8(state.ptr + 24u), .filled = load_8(state.ptr + 32u), .settled = load_8(state.ptr + 40u),
-            .fenced = load_8(state.ptr + 48u), .durable = load_8(state.ptr + 56u), .last = load_8(state.ptr + 64u),
-            .round = load_8(state.ptr + 88u), .cursor = load_8(state.ptr + 96u)}, writer, (uint64_t)batch.len);
+    return logging__entry__may_log(state, t9, writer, (uint64_t)batch.len);
 }
 
 /* The record `r` once its writer holds a block for `home`; a block that it held for another home was logged at `position`. */
@@ -3331,7 +3553,8 @@ static inline void positions__strip__forget(struct slice_mut_u8 newest, uint64_t
     }
 }
 
-/* Moves the start: the batch, the header in the log copy, the strip, and the newest positions. */
+/* Moves the start: the batch, the header in the log copy, the strip, and the newest positions, with those of the list of rights
+   carried over. */
 static inline void trimming__moves__move_start(struct slice_mut_u8 log, struct slice_mut_u8 state, struct slice_mut_u8 newest,
         struct slice_mut_u8 batch, struct model__State st, uint64_t start)
 {
@@ -3339,6 +3562,7 @@ static inline void trimming__moves__move_start(struct slice_mut_u8 log, struct s
     areas__header__put_header(log, 0u, start, st.groups, st.homes);
     trimming__moves__move_strip(state, st, start);
     positions__strip__forget(newest, 7u * start, st.homes);
+    strip__listed__carry_listed(state, (struct slice_u8){newest.ptr, newest.len}, st.homes);
 }
 
 /* Moves the log's start up as far as no open or committed transaction lies across it, and writes the new header and a fence if it

@@ -4,7 +4,7 @@
 The second implementation prints cases on random and damaged input: what a call is lent, what it answers and leaves. For each case a statement is
 written down that the definition leaves the same answer, figure, batch length, strip, newest positions, copies, block and batch buffer, and the prover computes it.
 
-usage: definitions.py SEED COUNT      (COUNT cases)
+usage: definitions.py SEED COUNT      (COUNT cases; one in five is of a call on several homes)
 """
 import collections
 import json
@@ -27,6 +27,7 @@ use lib.ListN.{replicate}
 use Rattle.model.specs.Bytes.{same}
 use Rattle.model.specs.Effects.{Given}
 use Rattle.model.specs.Calls.{Outcome, formatCall, openCall, beginCall, reserveCall, abortCall, storeCall, commitCall, flushCall, confirmCall, settleCall, beginRoundCall, stepRoundCall, trimCall, readCall}
+use Rattle.model.specs.Chains.{SEVERAL}
 use Rattle.model.proofs.Computing.{all-definitions}
 
 data Run : Type 0 where
@@ -44,6 +45,11 @@ gives s p l a b t w h = record { state = spread s; newest = spread p; log = spre
 """
 
 
+# The definitions of calls on several homes, unfolded for their cases.
+SEVERAL = """blocksLent lentOn andThen storedFirst transactEffect blocksRead fetchEffect blocksRight homesKnown allOf mayStoreAll mayReadAll
+roomForAll askHomes fetchAnswer reviseAnswer transactAnswer fetchCall reviseCall transactCall""".split()
+
+
 def runs(pairs):
     return "(" + "".join(f"r {byte} {count} ∷ " for byte, count in pairs) + "[])"
 
@@ -56,14 +62,17 @@ def statement(number, case):
     if case["call"] in ("reserve", "step_round"):
         call = f"{name}Call (gives {lent} {case['writer']} 0) {case['home']}"
     claim = f"agrees ({call}) {case['code']} {case['figure']} {case['len']} {left} ≡ true"
-    return f"\ncase{number} : {claim}\nunfolding all-definitions spread agrees gives\ncase{number} = refl\n"
+    more = " ".join([""] + SEVERAL) if case["call"] in ("fetch", "revise", "transact") else ""
+    return f"\ncase{number} : {claim}\nunfolding all-definitions spread agrees gives{more}\ncase{number} = refl\n"
 
 
 def main():
     seed, count = sys.argv[1:3]
-    printed = subprocess.run([VECTORS, "--seed", seed, "--count", count], capture_output=True, text=True, check=True).stdout
+    several = int(count) // 5
+    words = [VECTORS, "--seed", seed, "--count", str(int(count) - several), "--several", str(several)]
+    printed = subprocess.run(words, capture_output=True, text=True, check=True).stdout
     cases = [json.loads(line) for line in printed.splitlines()]
-    text = HEAD + "".join(statement(n, case) for n, case in enumerate(cases))
+    text = HEAD.replace("SEVERAL", ", ".join(SEVERAL)) + "".join(statement(n, case) for n, case in enumerate(cases))
     with tempfile.TemporaryDirectory() as folder:
         model = pathlib.Path(folder) / "crates/model"
         for part in ("src", "specs"):

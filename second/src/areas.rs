@@ -8,6 +8,7 @@ use crate::layout::{
     PLACES, START_LIMIT, STATE, WRITERS,
 };
 use crate::newest::{check_newest, forget};
+use crate::rights::carry_listed;
 use crate::rounds::check_no_round;
 use crate::state::{State, Writer};
 use crate::walk::{trim_point, Newest, View};
@@ -163,6 +164,7 @@ fn try_trim(
     }
     state.save(bytes);
     forget(kept, PLACES * new_start);
+    carry_listed(state.shape.homes, kept, bytes);
     Ok(Answer::wrote(out.len()))
 }
 
@@ -178,7 +180,6 @@ fn trimmed_start(log: &[u8], state: &State, bytes: &[u8]) -> u64 {
     if limit == state.start {
         return state.start;
     }
-    let end = (state.next_position() - state.first_position()) as u32;
-    let view = View { log, shape: state.shape, start: state.start, end };
+    let view = View::live(log, state);
     state.start + u64::from(trim_point(&view, (limit - state.start) as u32))
 }

@@ -129,8 +129,13 @@ impl Book {
                 return block;
             }
         }
-        let committed = self.commits.iter().rev();
-        committed.filter_map(|commit| self.newest(commit, home)).next().unwrap_or([0; 64])
+        self.committed(home)
+    }
+
+    /// The newest committed block of a home.
+    pub fn committed(&self, home: u64) -> Block {
+        let newest = self.commits.iter().rev().find_map(|commit| self.newest(commit, home));
+        newest.unwrap_or([0; 64])
     }
 
     fn newest(&self, list: &[usize], home: u64) -> Option<Block> {

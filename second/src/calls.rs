@@ -7,6 +7,7 @@ use crate::layout::{
     Answer, Shape, BLOCK,
 };
 use crate::newest::{check_newest, keep, position};
+use crate::rights::{carry_listed, check_read, check_store};
 use crate::state::{
     check_home, check_writer, mode, pending_range, promise, promised, set_promise, State, Writer,
 };
@@ -94,12 +95,29 @@ fn try_store(
     let state = load_with_block(log, data, bytes, block)?;
     check_writer(writer)?;
     check_home(state.shape, home)?;
+    check_store(&View::live(log, &state), data, bytes, writer, home)?;
     let record = load_open(bytes, writer)?;
+    if record.holds() && record.home != home {
+        check_room(&state, bytes, batch, writer)?;
+    }
+    Ok(Answer::wrote(hold(log, state, bytes, block, batch, writer, home)))
+}
+
+/// What a done store does. Gives the batch bytes written.
+pub fn hold(
+    log: &mut [u8],
+    state: State,
+    bytes: &mut [u8],
+    block: &[u8],
+    batch: &mut [u8],
+    writer: u64,
+    home: u64,
+) -> usize {
+    let record = Writer::load(bytes, writer);
     let mut len = 0;
     if !record.holds() {
         Writer { mode: mode::HOLDING, home, first: 0, count: 0 }.save(bytes, writer);
     } else if record.home != home {
-        check_room(&state, bytes, batch, writer)?;
         let position = state.next_position();
         let (first, count) = record.logged().unwrap_or((position, 0));
         let tag = entry_tag(record.home, position - first);
@@ -108,7 +126,7 @@ fn try_store(
         set_promise(bytes, writer, promise(bytes, writer).saturating_sub(1));
     }
     bytes[pending_range(writer)].copy_from_slice(block);
-    Ok(Answer::wrote(len))
+    len
 }
 
 /// Questions 1 and 2 with a lent block.
@@ -183,12 +201,26 @@ fn try_commit(
     writer: u64,
 ) -> Result<Answer, u32> {
     check_newest(Shape::of(log.len(), data.len())?, newest)?;
-    let mut state = State::load(log, data, bytes)?;
+    let state = State::load(log, data, bytes)?;
     check_writer(writer)?;
-    let record = load_open(bytes, writer)?;
+    if load_open(bytes, writer)?.holds() {
+        check_room(&state, bytes, batch, writer)?;
+    }
+    Ok(close(log, state, bytes, newest, batch, writer))
+}
+
+/// What a done commit does.
+pub fn close(
+    log: &mut [u8],
+    mut state: State,
+    bytes: &mut [u8],
+    newest: &mut [u8],
+    batch: &mut [u8],
+    writer: u64,
+) -> Answer {
+    let record = Writer::load(bytes, writer);
     let mut answer = Answer::DONE;
     if record.holds() {
-        check_room(&state, bytes, batch, writer)?;
         let position = state.next_position();
         let (first, count) = record.logged().unwrap_or((position, 0));
         let link = if state.last_closing == 0 { 0 } else { position + 1 - state.last_closing };
@@ -197,10 +229,11 @@ fn try_commit(
         answer.figure = position + 1;
         answer.len = append(log, state, bytes, batch, writer, tag);
         keep_entries(log, &state, first, position, newest);
+        carry_listed(state.shape.homes, newest, bytes);
     }
     Writer::IDLE.save(bytes, writer);
     set_promise(bytes, writer, 0);
-    Ok(answer)
+    answer
 }
 
 /// The position of each entry of the transaction from `first` to `closing`,
@@ -276,20 +309,31 @@ fn try_read(
     let state = load_with_block(log, data, bytes, block)?;
     check_writer(writer)?;
     check_home(state.shape, home)?;
+    let view = View::live(log, &state);
+    check_read(&view, data, newest, writer, home)?;
+    show(&view, data, bytes, newest, block, (writer, home));
+    Ok(Answer::DONE)
+}
+
+/// What a done read does: the writer's held block, else its newest own, else
+/// the one at the kept position, else the data copy's.
+pub fn show(
+    view: &View,
+    data: &[u8],
+    bytes: &[u8],
+    newest: &[u8],
+    block: &mut [u8],
+    (writer, home): (u64, u64),
+) {
     let record = Writer::load(bytes, writer);
     if record.holds() && record.home == home {
-        block.copy_from_slice(&bytes[pending_range(writer)]);
-        return Ok(Answer::DONE);
+        return block.copy_from_slice(&bytes[pending_range(writer)]);
     }
-    let base = state.first_position();
-    let end = (state.next_position() - base) as u32;
-    let view = View { log, shape: state.shape, start: state.start, end };
-    let own = record.logged().map(|(first, _)| (first - base) as u32);
-    let own = own.and_then(|first| newest_own(&view, home as u32, first));
-    let found = own.or_else(|| kept_entry(&view, home, position(newest, home)));
+    let own = record.logged().map(|(first, _)| (first - 7 * view.start) as u32);
+    let own = own.and_then(|first| newest_own(view, home as u32, first));
+    let found = own.or_else(|| kept_entry(view, home, position(newest, home)));
     match found {
         Some(offset) => block.copy_from_slice(&view.block(offset)),
         None => block.copy_from_slice(&data[home_range(home as usize)]),
     }
-    Ok(Answer::DONE)
 }

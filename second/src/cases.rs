@@ -2,11 +2,13 @@
 //! after one call, and its answer.
 
 use crate::batch::GROUP_WRITE_LEN;
-use crate::craft::craft;
-use crate::damage::{damage_group, damage_header, damage_lengths, damage_newest, damage_state};
+use crate::chains::Chain;
+use crate::craft::{craft, random_chain};
+use crate::damage::{damage_group, damage_header, damage_lengths, damage_listed, damage_newest, damage_state};
 use crate::layout::{put_word, word, Answer, Shape, START_LIMIT};
 use crate::lent::{ample, Kind, Lent};
 use crate::player::{random_crash, step, Profile, Tally};
+use crate::rights::{has_room, LIST_HOME};
 use crate::rng::Rng;
 use crate::state::{at, Writer};
 use crate::world::World;
@@ -30,7 +32,7 @@ pub struct Cases {
 }
 
 /// In the order of `Kind::ALL`.
-const WEIGHTS: [u64; Kind::COUNT] = [3, 14, 6, 8, 6, 22, 18, 8, 5, 12, 6, 14, 14, 14];
+const WEIGHTS: [u64; Kind::COUNT] = [3, 14, 6, 8, 6, 26, 18, 8, 5, 12, 6, 14, 14, 24];
 
 impl Cases {
     pub fn new(seed: u64) -> Cases {
@@ -43,8 +45,9 @@ impl Cases {
     pub fn case(&mut self) -> Case {
         let rng = &mut self.rng;
         let kind = Kind::ALL[rng.weighted(&WEIGHTS)];
-        let (shape, mut lent) = if rng.chance(40) {
-            let shape = Shape { groups: 4, homes: rng.between(1, 8) };
+        let (shape, mut lent) = if rng.chance(if kind.takes_home() { 55 } else { 40 }) {
+            let listed = kind.takes_home() && rng.chance(50);
+            let shape = Shape { groups: 4, homes: if listed { 13 } else { random_homes(rng) } };
             (shape, craft(rng, shape))
         } else {
             self.advance(kind);
@@ -58,7 +61,7 @@ impl Cases {
             settle_all(&mut lent);
         }
         damage(rng, &mut lent, shape, kind);
-        disagree(rng, &mut lent, kind);
+        disagree(rng, &mut lent, shape, kind);
         let (writer, home) = arguments(rng, kind, shape, &lent);
         finish(rng, kind, shape, writer, home, lent)
     }
@@ -89,9 +92,14 @@ impl Cases {
 }
 
 fn fresh_world(rng: &mut Rng) -> World {
-    let shape = Shape { groups: 4, homes: rng.between(1, 8) };
+    let shape = Shape { groups: 4, homes: random_homes(rng) };
     let start = if rng.chance(15) { START_LIMIT - rng.between(4, 14) } else { 0 };
     World::new(shape, start)
+}
+
+/// Few homes, or about as many as a list of rights needs.
+fn random_homes(rng: &mut Rng) -> u64 {
+    if rng.chance(50) { rng.between(1, 8) } else { rng.pick(&[9, 10, 11, 12, 12, 13, 13, 13]) }
 }
 
 /// Leaves one place in the next group, if the log is not full.
@@ -126,14 +134,19 @@ fn damage(rng: &mut Rng, lent: &mut Lent, shape: Shape, kind: Kind) {
     if kind == Kind::Open && rng.chance(80) {
         lent.state.fill(0xee);
     } else if rng.chance(15) {
-        let spare = rng.pick(&[104, 110, 127, 896, 1000, 1023]);
+        let spare = rng.pick(&[104, 110, 127, 928, 1000, 1023]);
         lent.state[spare] ^= 0x5a;
     }
 }
 
-/// Newest positions that disagree with the log, most often for a read.
-fn disagree(rng: &mut Rng, lent: &mut Lent, kind: Kind) {
-    if rng.chance(if kind == Kind::Read { 60 } else { 20 }) {
+/// Newest positions that disagree with the log, most often for a read; for a
+/// store those of the list in the state.
+fn disagree(rng: &mut Rng, lent: &mut Lent, shape: Shape, kind: Kind) {
+    if rng.chance(if kind == Kind::Store && has_room(shape.homes) { 40 } else { 5 }) {
+        damage_listed(rng, lent);
+    }
+    let reads = kind == Kind::Read;
+    if rng.chance(if reads && has_room(shape.homes) { 40 } else if reads { 60 } else { 20 }) {
         damage_newest(rng, lent);
     }
 }
@@ -150,6 +163,9 @@ fn arguments(rng: &mut Rng, kind: Kind, shape: Shape, lent: &Lent) -> (u64, u64)
     }
     if rng.chance(15) {
         home = Writer::load(&lent.state, writer).home;
+    }
+    if rng.chance(10) && shape.homes > LIST_HOME {
+        home = LIST_HOME + rng.below(shape.homes - LIST_HOME);
     }
     if kind == Kind::Reserve {
         home = rng.pick(&[0, 1, 2, 5, 7, 14, 28, 29]);
@@ -168,7 +184,7 @@ fn arguments(rng: &mut Rng, kind: Kind, shape: Shape, lent: &Lent) -> (u64, u64)
 
 fn finish(rng: &mut Rng, kind: Kind, shape: Shape, writer: u64, home: u64, mut lent: Lent) -> Case {
     lent.block = vec![rng.next() as u8; 64];
-    lent.batch = vec![0; ample(4, 8)];
+    lent.batch = vec![0; ample(4, shape.homes)];
     let need = lent.clone().run(kind, writer, home).len;
     let len = match rng.below(10) {
         0 if need > 0 => need - 1,
@@ -217,23 +233,35 @@ fn runs(bytes: &[u8]) -> String {
 }
 
 impl Case {
-    /// One line of JSON without spaces.
     pub fn json(&self) -> String {
-        let mut text = format!(
-            "{{\"call\":\"{}\",\"g\":{},\"d\":{},\"writer\":{},\"home\":{}",
-            self.kind.name(),
-            self.shape.groups,
-            self.shape.homes,
-            self.writer,
-            self.home
-        );
-        parts(&mut text, &self.before, "");
-        let Answer { code, figure, len } = self.answer;
-        write!(text, ",\"code\":{code},\"figure\":{figure},\"len\":{len}").unwrap();
-        parts(&mut text, &self.after, "2");
-        text.push('}');
-        text
+        line(self.kind.name(), (self.writer, self.home), [&self.before, &self.after], self.answer)
     }
+}
+
+/// A case of a call on several homes, as JSON.
+pub fn several(rng: &mut Rng) -> String {
+    let chain = rng.pick(&Chain::ALL);
+    let (mut lent, writer, home) = random_chain(rng);
+    let need = lent.clone().chain(chain, writer, home).len;
+    lent.batch.truncate(need + rng.below(70) as usize);
+    if chain != Chain::Transact {
+        lent.batch.clear();
+    }
+    let mut after = lent.clone();
+    let answer = after.chain(chain, writer, home);
+    line(chain.name(), (writer, home), [&lent, &after], answer)
+}
+
+/// One line of JSON without spaces.
+fn line(call: &str, (writer, home): (u64, u64), [before, after]: [&Lent; 2], answer: Answer) -> String {
+    let (groups, homes) = (before.log.len().saturating_sub(64) / 512, before.data.len() / 64);
+    let mut text = format!("{{\"call\":\"{call}\",\"g\":{groups},\"d\":{homes},\"writer\":{writer},\"home\":{home}");
+    parts(&mut text, before, "");
+    let Answer { code, figure, len } = answer;
+    write!(text, ",\"code\":{code},\"figure\":{figure},\"len\":{len}").unwrap();
+    parts(&mut text, after, "2");
+    text.push('}');
+    text
 }
 
 fn parts(text: &mut String, lent: &Lent, suffix: &str) {

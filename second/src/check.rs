@@ -4,7 +4,8 @@ use crate::layout::{word, Answer};
 use crate::lent::Kind;
 use crate::literal;
 use crate::newest::{position, NONE};
-use crate::state::{mode, pending_range, promise, State, Writer};
+use crate::rights::has_room;
+use crate::state::{at, mode, pending_range, promise, State, Writer};
 use crate::world::{Call, Odd, World};
 use std::collections::BTreeMap;
 
@@ -103,7 +104,17 @@ impl World {
             cursor: self.shadow.round.as_ref().map_or(0, |round| round.cursor),
         };
         must(state == want, &format!("state {state:?}, expected {want:?}"))?;
+        must(bytes[at::LISTED..at::LISTED_END] == self.listed(), "positions of the list in the state")?;
         (0..8).try_for_each(|writer| self.check_writer(writer))
+    }
+
+    /// The newest positions of the list's homes, none where D is too small for it.
+    fn listed(&self) -> [u8; 32] {
+        let mut listed = [0xff; 32];
+        if has_room(self.shape.homes) {
+            listed.copy_from_slice(&self.lent.newest[64..96]);
+        }
+        listed
     }
 
     fn check_writer(&self, writer: u64) -> Result<(), String> {
@@ -142,7 +153,7 @@ impl World {
             self.check_commits(&committed)?;
             self.check_newest(&present, &committed)?;
         }
-        if self.shape.homes <= 8 {
+        if self.shape.homes <= 13 {
             for at in 0..8 * self.shape.homes {
                 self.check_read(at / self.shape.homes, at % self.shape.homes)?;
             }
@@ -185,12 +196,16 @@ impl World {
     fn check_read(&mut self, writer: u64, home: u64) -> Result<(), String> {
         self.lent.block.fill(0xaa);
         let answer = (self.runner)(&mut self.lent, Kind::Read, writer, home);
+        if !self.may_read(writer, home) {
+            must(answer.code == 20 && self.lent.block == [0xaa; 64], "read without the right")?;
+            return Ok(());
+        }
         must(answer == Answer::DONE, "read refused")?;
         must(self.lent.block == self.book.read(writer, home), "read differs from the book")
     }
 }
 
-fn cut_to_odd(lent: &mut crate::lent::Lent, odd: Odd) {
+pub(crate) fn cut_to_odd(lent: &mut crate::lent::Lent, odd: Odd) {
     match odd {
         Odd::Log(len) => lent.log.resize(len, 0),
         Odd::Data(len) => lent.data.resize(len, 0),

@@ -1,13 +1,17 @@
 //! Logs and states made up at random: in order by question 2, but such as no
 //! history leaves, to try the commit rule on damaged contents.
 
+use crate::damage::{damage_group, damage_lengths, damage_listed, damage_newest, damage_state};
 use crate::layout::{
-    group_head, header, put_word, set_top_bit, slot_range, turn, Shape, BLOCK, START_LIMIT,
+    group_head, header, put_word, set_top_bit, slot_range, turn, word, Shape, BLOCK, START_LIMIT,
 };
 use crate::lent::Lent;
+use crate::lists::random_block;
+use crate::newest::keep;
+use crate::rights::{carry_listed, has_room, of_list};
 use crate::rng::Rng;
 use crate::state::{at, mode, set_promise, State, Writer};
-use crate::tag::{closing_tag, entry_tag, with_displaced};
+use crate::tag::{closing_tag, entry_tag, tag_home, with_displaced};
 
 /// A made-up log, data area and state, with blocks of one byte each but for
 /// turn bits, most of which fit.
@@ -26,10 +30,38 @@ pub fn craft(rng: &mut Rng, shape: Shape) -> Lent {
         craft_group(rng, &mut lent, shape, start + index as u64, seven);
     }
     for home in 0..shape.homes as usize {
-        lent.data[BLOCK * home..BLOCK * (home + 1)].fill(rng.next() as u8);
+        let block = craft_block(rng, shape, home as u64);
+        lent.data[BLOCK * home..BLOCK * (home + 1)].copy_from_slice(&block);
     }
     craft_state(rng, &mut lent, shape, start, &tags);
+    craft_kept(rng, &mut lent, shape, &tags);
     lent
+}
+
+/// Any bytes of one value, or for the list's homes most often ranges.
+fn craft_block(rng: &mut Rng, shape: Shape, home: u64) -> [u8; BLOCK] {
+    if has_room(shape.homes) && of_list(home) && rng.chance(85) {
+        random_block(rng, shape.homes)
+    } else {
+        [rng.next() as u8; BLOCK]
+    }
+}
+
+/// Positions of the last entry for each home, or of none; those of the list's
+/// homes in the state as well, most often.
+fn craft_kept(rng: &mut Rng, lent: &mut Lent, shape: Shape, tags: &[u64]) {
+    lent.newest.fill(0xff);
+    let base = 7 * word(&lent.state, at::START);
+    let skip = rng.pick(&[0, 30, 100]);
+    for (offset, &tag) in tags.iter().enumerate() {
+        let home = tag_home(tag);
+        if home < shape.homes && !rng.chance(skip) {
+            keep(&mut lent.newest, home, base.wrapping_add(offset as u64));
+        }
+    }
+    if rng.chance(85) {
+        carry_listed(shape.homes, &lent.newest, &mut lent.state);
+    }
 }
 
 fn craft_group(rng: &mut Rng, lent: &mut Lent, shape: Shape, number: u64, tags: &[u64]) {
@@ -47,7 +79,7 @@ fn craft_group(rng: &mut Rng, lent: &mut Lent, shape: Shape, number: u64, tags: 
         let displaced = if tag == 0 { false } else { rng.chance(50) };
         put_word(group, 8 + 8 * place, with_displaced(tag, displaced));
         let block = &mut group[BLOCK * (1 + place)..BLOCK * (2 + place)];
-        block.fill(rng.next() as u8);
+        block.copy_from_slice(&craft_block(rng, shape, tag_home(tag)));
         set_top_bit(block, turn(shape, number) != rng.chance(torn));
     }
 }
@@ -97,6 +129,47 @@ fn craft_link(rng: &mut Rng, offset: u64, start: u64, last: Option<u64>, wrong: 
         None => 0,
     };
     if rng.chance(wrong) { rng.pick(&[0, 1, right + 1, before]) } else { right }
+}
+
+/// Memory for a call on several homes, damaged at times, with a writer, most
+/// often an idle one, and a home.
+pub fn random_chain(rng: &mut Rng) -> (Lent, u64, u64) {
+    let shape = Shape { groups: 4, homes: rng.pick(&[1, 4, 8, 10, 12, 14, 20, 20]) };
+    let mut lent = craft(rng, shape);
+    if rng.chance(50) {
+        damage_group(rng, &mut lent, shape);
+    }
+    if rng.chance(15) {
+        damage_state(rng, &mut lent);
+    }
+    if rng.chance(40) {
+        damage_newest(rng, &mut lent);
+    }
+    if rng.chance(30) {
+        damage_listed(rng, &mut lent);
+    }
+    let blocks = rng.pick(&[1, 1, 1, 2, 3, 3, 6, 7, 7, 0, 8]);
+    lent.block = vec![0; BLOCK * blocks];
+    lent.block.chunks_mut(BLOCK).for_each(|block| block.fill(rng.next() as u8));
+    if rng.chance(3) {
+        lent.block.push(0);
+    }
+    if rng.chance(40) {
+        lent.batch = vec![0xcc; rng.pick(&[0, 515, 515, 516, 517])];
+    }
+    let mut writer = rng.below(8);
+    if rng.chance(70) {
+        let idle = |writer: &u64| Writer::load(&lent.state, *writer).mode == mode::IDLE;
+        writer = (0..8).map(|add| (writer + add) % 8).find(idle).unwrap_or(writer);
+    }
+    let mut home = rng.below(shape.homes.saturating_sub(blocks as u64) + 1);
+    match rng.below(40) {
+        0 => writer = rng.pick(&[8, 1 << 32, u64::MAX]),
+        1 | 2 => home = rng.pick(&[shape.homes, shape.homes - 1, u64::MAX, u64::MAX - 3]),
+        3 => damage_lengths(rng, &mut lent),
+        _ => {}
+    }
+    (lent, writer, home)
 }
 
 /// Spoils a tag: a set zero bit, a distance past the start, any bit.

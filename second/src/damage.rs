@@ -4,6 +4,7 @@ use crate::craft::distort;
 use crate::layout::{group_head, header, put_word, slot_range, word, Shape, BLOCK, START_LIMIT};
 use crate::lent::Lent;
 use crate::newest::{keep, position, NONE, POSITION};
+use crate::rights::LIST_HOMES;
 use crate::rng::Rng;
 use crate::state::{at, promise, promised, set_promise, State};
 
@@ -145,6 +146,19 @@ pub fn damage_newest(rng: &mut Rng, lent: &mut Lent) {
         let any = base.wrapping_add(rng.below(next.wrapping_sub(base).wrapping_add(2).max(1)));
         let values = [rng.next(), other, any, any, base.wrapping_sub(1), next, next.wrapping_sub(1), NONE];
         keep(&mut lent.newest, home, rng.pick(&values));
+    }
+}
+
+/// Positions of the list's homes in the state that disagree with the log, or
+/// with the newest positions.
+pub fn damage_listed(rng: &mut Rng, lent: &mut Lent) {
+    let base = word(&lent.state, at::START).wrapping_mul(7);
+    let next = word(&lent.state, at::NEXT).wrapping_mul(7).wrapping_add(word(&lent.state, at::FILLED));
+    for _ in 0..rng.between(1, 6) {
+        let [index, other] = [(); 2].map(|()| at::LISTED + POSITION * rng.below(LIST_HOMES) as usize);
+        let any = base.wrapping_add(rng.below(next.wrapping_sub(base).wrapping_add(2).max(1)));
+        let values = [rng.next(), word(&lent.state, other), any, any, base.wrapping_sub(1), next, next.wrapping_sub(1), NONE];
+        put_word(&mut lent.state, index, rng.pick(&values));
     }
 }
 

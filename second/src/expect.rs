@@ -4,6 +4,7 @@ use crate::batch::{FENCE_LEN, GROUP_WRITE_LEN, HEADER_WRITE_LEN, HOME_WRITE_LEN}
 use crate::layout::{Answer, START_LIMIT};
 use crate::lent::Kind;
 use crate::literal;
+use crate::rights::{has_room, List, LIST_HOME};
 use crate::world::{Call, World};
 use std::collections::BTreeSet;
 
@@ -27,6 +28,12 @@ impl World {
         if call.kind.takes_home() && call.home >= self.shape.homes {
             return Err(5);
         }
+        if call.kind == Kind::Store && !self.may_store(call.writer, call.home) {
+            return Err(19);
+        }
+        if call.kind == Kind::Read && !self.may_read(call.writer, call.home) {
+            return Err(20);
+        }
         match call.kind {
             Kind::Open => self.foresee_open(),
             Kind::Begin | Kind::Reserve | Kind::Abort | Kind::Store | Kind::Commit => {
@@ -41,6 +48,23 @@ impl World {
             Kind::Read => Ok(Answer::DONE),
             Kind::Format => unreachable!(),
         }
+    }
+
+    /// The list that the book has committed.
+    pub fn list(&self) -> List {
+        let mut list = List::NONE;
+        if has_room(self.shape.homes) {
+            list.0 = std::array::from_fn(|index| self.book.committed(LIST_HOME + index as u64));
+        }
+        list
+    }
+
+    pub fn may_store(&self, writer: u64, home: u64) -> bool {
+        self.list().may_store(writer, home)
+    }
+
+    pub fn may_read(&self, writer: u64, home: u64) -> bool {
+        self.list().may_read(writer, home)
     }
 
     /// The bytes of a group write if at least this many places are filled.

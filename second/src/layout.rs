@@ -32,6 +32,8 @@ pub mod refuse {
     pub const START: u32 = 10;
     pub const NO_PLACES: u32 = 17;
     pub const PROMISED: u32 = 18;
+    pub const STORE_RIGHT: u32 = 19;
+    pub const READ_RIGHT: u32 = 20;
     pub const ROUND: u32 = 21;
     /// One more than the highest.
     pub const END: usize = 22;

@@ -1,6 +1,7 @@
 //! The memory lent to a call, and one entry point for all calls.
 
 use crate::batch::{FENCE_LEN, GROUP_WRITE_LEN, HEADER_WRITE_LEN, HOME_WRITE_LEN};
+use crate::chains::{self, Chain};
 use crate::layout::{Answer, BLOCK, STATE};
 use crate::newest::POSITION;
 
@@ -145,6 +146,16 @@ impl Lent {
             Kind::StepRound => crate::step_round(log, data, state, batch, home),
             Kind::Trim => crate::trim(log, data, state, newest, batch),
             Kind::Read => crate::read(log, data, state, newest, block, writer, home),
+        }
+    }
+
+    /// A call on several homes, from `home` on; `block` is one for each.
+    pub fn chain(&mut self, chain: Chain, writer: u64, home: u64) -> Answer {
+        let Lent { log, data, state, newest, block, batch } = self;
+        match chain {
+            Chain::Fetch => chains::fetch(log, data, state, newest, block, writer, home),
+            Chain::Revise => chains::revise(log, data, state, newest, block, writer, home),
+            Chain::Transact => chains::transact(log, data, state, newest, block, batch, writer, home),
         }
     }
 }

@@ -3,6 +3,8 @@
 use crate::batch::HOME_WRITE_LEN;
 use crate::layout::{refuse, Answer, Shape, START_LIMIT};
 use crate::lent::{ample, Kind, Lent, Runner};
+use crate::lists::random_block;
+use crate::rights::{has_room, of_list, LIST_HOME, LIST_HOMES};
 use crate::rng::Rng;
 use crate::world::{Call, Odd, World};
 
@@ -22,6 +24,8 @@ pub struct Tally {
     pub rounds: u64,
     pub steps: u64,
     pub part_steps: u64,
+    /// Calls under a committed list of rights.
+    pub listed: u64,
     /// Answers by number.
     pub answers: [u64; refuse::END],
 }
@@ -88,7 +92,8 @@ pub fn random_shape(rng: &mut Rng) -> Shape {
         _ => rng.between(21, 60),
     };
     let homes = match rng.below(10) {
-        0..=6 => rng.between(1, 8),
+        0..=3 => rng.between(1, 8),
+        4..=6 => rng.between(9, 16),
         7 | 8 => rng.between(9, 70),
         _ => rng.between(71, 300),
     };
@@ -135,10 +140,36 @@ impl Call {
         if kind.takes_writer() && kind != Kind::Read && rng.chance(80) {
             call.writer = likely_writer(rng, profile, world, kind);
         }
+        if kind.takes_home() {
+            call.respect(rng, world);
+        }
         if rng.chance(profile.odd) {
             call.distort(rng, world);
         }
         call
+    }
+
+    /// Writer 0 stores a list now and then; most other homes are such as the
+    /// list lets the writer touch.
+    fn respect(&mut self, rng: &mut Rng, world: &World) {
+        let homes = world.shape.homes;
+        let stores = self.kind == Kind::Store;
+        if has_room(homes) && rng.chance(if self.writer == 0 { 15 } else { 2 }) {
+            self.home = LIST_HOME + rng.below(LIST_HOMES);
+        }
+        if stores && of_list(self.home) && has_room(homes) {
+            self.block = random_block(rng, homes);
+        }
+        let list = world.list();
+        let may = |home: u64| match stores {
+            true => list.may_store(self.writer, home),
+            false => list.may_read(self.writer, home),
+        };
+        let mut tries = rng.pick(&[0, 8, 8, 8]);
+        while tries > 0 && !may(self.home) {
+            self.home = rng.below(homes);
+            tries -= 1;
+        }
     }
 
     /// Makes one argument unusual.
@@ -263,6 +294,7 @@ pub fn step(
     let call = Call::random(rng, profile, world);
     let answer = world.perform(&call, deep).map_err(|what| format!("{call:?}: {what}"))?;
     tally.count(&call, answer);
+    tally.listed += u64::from(world.list().is_there());
     Ok(Some((call, answer)))
 }
 

@@ -19,6 +19,9 @@ pub mod at {
     pub const ROUND: usize = 88;
     pub const CURSOR: usize = 96;
     pub const WRITER: usize = 128;
+    /// The newest positions of the list's four homes.
+    pub const LISTED: usize = 896;
+    pub const LISTED_END: usize = 928;
     pub const WRITER_SIZE: usize = 96;
     pub const MODE: usize = 0;
     pub const HELD_HOME: usize = 8;
@@ -71,7 +74,19 @@ impl State {
         if bytes.len() != STATE {
             return Err(refuse::LENGTHS);
         }
-        let state = State {
+        let state = State::read(shape, bytes);
+        let named = Shape { groups: word(bytes, at::GROUPS), homes: word(bytes, at::HOMES) };
+        let in_order = named == shape
+            && state.numbers_in_order()
+            && (0..WRITERS).all(|w| state.writer_in_order(Writer::load(bytes, w)))
+            && promised(bytes) <= state.places()
+            && (0..WRITERS).all(|w| Writer::load(bytes, w).mode != mode::IDLE || promise(bytes, w) == 0);
+        if in_order { Ok(state) } else { Err(refuse::STATE) }
+    }
+
+    /// The numbers as they stand there.
+    pub fn read(shape: Shape, bytes: &[u8]) -> State {
+        State {
             shape,
             start: word(bytes, at::START),
             next: word(bytes, at::NEXT),
@@ -82,14 +97,7 @@ impl State {
             last_closing: word(bytes, at::LAST_CLOSING),
             round: word(bytes, at::ROUND),
             cursor: word(bytes, at::CURSOR),
-        };
-        let named = Shape { groups: word(bytes, at::GROUPS), homes: word(bytes, at::HOMES) };
-        let in_order = named == shape
-            && state.numbers_in_order()
-            && (0..WRITERS).all(|w| state.writer_in_order(Writer::load(bytes, w)))
-            && promised(bytes) <= state.places()
-            && (0..WRITERS).all(|w| Writer::load(bytes, w).mode != mode::IDLE || promise(bytes, w) == 0);
-        if in_order { Ok(state) } else { Err(refuse::STATE) }
+        }
     }
 
     /// Each test guards the arithmetic of those after it.
@@ -181,6 +189,7 @@ impl State {
             cursor: 0,
         };
         fresh.save(bytes);
+        bytes[at::LISTED..at::LISTED_END].fill(0xff);
     }
 }
 

@@ -28,10 +28,16 @@ pub enum Tag {
     Closing { home: u32, first: u32, link: u32, count: u32 },
 }
 
+/// The home that a tag names.
+#[inline]
+pub fn tag_home(tag: u64) -> u64 {
+    tag >> HOME_SHIFT & TWELVE | (tag >> HIGH_SHIFT & FOUR) << 12
+}
+
 /// Reads the tag word found at `offset`.
 #[inline]
 pub fn read_tag(tag: u64, offset: u32, homes: u32) -> Tag {
-    let home = (tag >> HOME_SHIFT & TWELVE | (tag >> HIGH_SHIFT & FOUR) << 12) as u32;
+    let home = tag_home(tag) as u32;
     let back = (tag >> BACK_SHIFT & THIRTEEN) as u32;
     if tag & USED == 0 || tag >> ZERO_SHIFT != 0 || home >= homes || back > offset {
         return Tag::Nothing;

@@ -6,6 +6,7 @@
 use crate::layout::{
     group_head, set_top_bit, slot_range, top_bit, turn, word, Shape, BLOCK, MAX_GROUPS, MAX_OFFSETS,
 };
+use crate::state::State;
 use crate::tag::{displaced, read_tag, Tag};
 
 /// The part of the log that a call looks at.
@@ -18,7 +19,13 @@ pub struct View<'a> {
     pub end: u32,
 }
 
-impl View<'_> {
+impl<'a> View<'a> {
+    /// All positions in use: from the start to below the next one.
+    pub fn live(log: &'a [u8], state: &State) -> View<'a> {
+        let end = (state.next_position() - state.first_position()) as u32;
+        View { log, shape: state.shape, start: state.start, end }
+    }
+
     /// Visits every entry by rising offset. Holes are passed over, and so is
     /// an entry whose block has not its group's turn bit.
     #[inline]

@@ -4,7 +4,7 @@ mod model;
 
 use second::cases::Cases;
 use second::craft::craft;
-use second::damage::{damage_group, damage_header, damage_newest, damage_state, in_order};
+use second::damage::{damage_group, damage_header, damage_listed, damage_newest, damage_state, in_order};
 use second::layout::Shape;
 use second::lent::{Kind, Lent};
 use second::rng::Rng;
@@ -20,9 +20,9 @@ fn compare(rng: &mut Rng, kind: Kind, lent: &Lent) -> (u32, u64) {
     (answer.code, if kind == Kind::Open { answer.figure } else { 0 })
 }
 
-fn rounds(seed: u64, count: u64, shape: impl Fn(&mut Rng) -> Shape) {
+fn rounds(seed: u64, count: u64, shape: impl Fn(&mut Rng) -> Shape) -> [u64; 22] {
     let mut rng = Rng::new(seed);
-    let (mut done, mut back) = (0u64, 0);
+    let (mut done, mut back, mut seen) = (0u64, 0, [0u64; 22]);
     for _ in 0..count {
         let shape = shape(&mut rng);
         let mut lent = craft(&mut rng, shape);
@@ -38,23 +38,36 @@ fn rounds(seed: u64, count: u64, shape: impl Fn(&mut Rng) -> Shape) {
         if rng.chance(50) {
             damage_newest(&mut rng, &mut lent);
         }
+        if rng.chance(30) {
+            damage_listed(&mut rng, &mut lent);
+        }
         assert_eq!(in_order(&lent), model::in_order(&lent));
         if rng.chance(20) {
             lent.batch = vec![0xcc; rng.below(300) as usize];
         }
-        for kind in Kind::ALL {
+        let more = [Kind::Store, Kind::Read].repeat(2);
+        for kind in Kind::ALL.into_iter().chain(more) {
             let (code, figure) = compare(&mut rng, kind, &lent);
+            seen[code as usize] += 1;
             done += u64::from(code == 0);
             back += figure;
         }
     }
     assert!(done > 3 * count, "{done} of {count} times {} done", Kind::COUNT);
     assert!(back > count / 2, "{back} transactions brought back");
+    seen
 }
 
 #[test]
 fn small() {
     rounds(1, 40_000, |rng| Shape { groups: 4, homes: rng.between(1, 8) });
+}
+
+/// D about as large as a list of rights needs.
+#[test]
+fn listed() {
+    let seen = rounds(4, 20_000, |rng| Shape { groups: 4, homes: rng.between(8, 14) });
+    assert!(seen[19] > 2000 && seen[20] > 2000, "{seen:?}");
 }
 
 #[test]
@@ -80,6 +93,6 @@ fn cases_agree_with_the_model() {
             assert!(case.before == case.after);
         }
     }
-    let given = [0, 1, 2, 3, 4, 5, 6, 7, 8, 9, 10, 17, 18, 21];
+    let given = [0, 1, 2, 3, 4, 5, 6, 7, 8, 9, 10, 17, 18, 19, 20, 21];
     assert!(given.iter().all(|&code| seen[code] > 50), "{seen:?}");
 }

@@ -9,6 +9,7 @@ fn short_histories() {
         history(seed, &mut tally).unwrap_or_else(|what| panic!("seed {seed}: {what}"));
     }
     assert!(tally.crashes > 1000 && tally.trims > 200 && tally.commits_lost > 300, "{tally:?}");
+    assert!(tally.listed > 5000 && tally.answers[19] > 500 && tally.answers[20] > 200, "{tally:?}");
     assert!(tally.rounds > 1000 && tally.part_steps > 500 && tally.answers[21] > 200, "{tally:?}");
 }
 

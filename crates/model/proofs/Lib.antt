@@ -14,5 +14,5 @@ pub mod trace
 pub mod invariant
 -- Each call and each crash keeps the invariant.
 pub mod steps
--- The claims: the refusals, demands 2 and 3, what every call answers, the newest positions, the facts stated in passing, and a history that meets the premises.
+-- The claims: the refusals, demands 2 and 3, what every call answers, the newest positions, rounds, isolation, the facts stated in passing, and a history that meets the premises.
 pub mod claims

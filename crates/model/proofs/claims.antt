@@ -1,4 +1,4 @@
--- The claims: the refusals, demands 2 and 3, what every call answers, the newest positions, the facts stated in passing, and a history that meets the premises.
+-- The claims: the refusals, demands 2 and 3, what every call answers, the newest positions, rounds, isolation, the facts stated in passing, and a history that meets the premises.
 pub mod RefusalsHold
 pub mod LiveHolds
 pub mod DemandThree
@@ -7,11 +7,14 @@ pub mod Yields
 pub mod YieldsAll
 pub mod StoreLaws
 pub mod StoreAnswers
+pub mod RightsHold
 pub mod CallAnswers
 pub mod RoundFollows
 pub mod StoreFollows
 pub mod KeptSteps
+pub mod ListedSteps
 pub mod KeptHolds
+pub mod AnswersHold
 pub mod DemandTwo
 pub mod LedgerLaws
 pub mod LedgerSteps
@@ -26,3 +29,10 @@ pub mod RoundCounts
 pub mod RoundSteps
 pub mod RoundStays
 pub mod RoundsHold
+pub mod RoundEnds
+pub mod AlikeBook
+pub mod AlikeReplies
+pub mod AlikeFollows
+pub mod AlikeHistories
+pub mod IsolationHolds
+pub mod HiddenThere

@@ -11,7 +11,7 @@ use Rattle.model.specs.Layout.{groupsIn, homesIn, header, headerStart, g
 use Rattle.model.specs.Commit.{Span, committed, transactions, replay, members, newestIn, newest, found, entries}
 use Rattle.model.specs.Batch.{Record, GW, HW, KW, FN}
 use Rattle.model.specs.State.{State, stateOf, setStart, setNext, setFilled, setSettled, setFenced, setDurable, setLast, nextPosition, Writer, writerOf, setWriter, heldOf, setHeld, setPromise, promiseLeft, idle, begun, holding, logging, isOpen, holds, hasLogged, holdsHome, firstFor, countFor, freshState, setRound, setCursor, fixedIn}
-use Rattle.model.specs.Newest.{keptFor, nothingKept, keepEntries, forget}
+use Rattle.model.specs.Newest.{keptFor, nothingKept, keepEntries, forget, carryListed}
 use Rattle.model.specs.declared.Tag.{Tag}
 
 -- what a call is lent: state strip, newest positions, log copy, data copy, block and batch buffer, and its two numbers. What a call is not lent is
@@ -230,10 +230,11 @@ keptCommit g log first position =
 unfoldable pub commitHeld : Given → Writer → ℕ → Effect
 commitHeld g r position =
     let l : Logged = logClosing g r position in
+    let newest : List ℕ = keptCommit g (l .log) (firstFor r position) position in
     record {
       figure = position + 1;
-      state = setPromise (setWriter (setLast (l .state) (position + 1)) (g .writer) idle) (g .writer) 0;
-      newest = keptCommit g (l .log) (firstFor r position) position;
+      state = carryListed (homes g) newest (setPromise (setWriter (setLast (l .state) (position + 1)) (g .writer) idle) (g .writer) 0);
+      newest = newest;
       log = l .log;
       area = g .area;
       block = g .block;
@@ -390,10 +391,12 @@ trimStart g =
 -- the log starts at a new group
 unfoldable pub trimTo : Given → State → ℕ → Effect
 trimTo g st start =
+    let newest : List ℕ = forget (g .newest) (7 * start) (homes g) in
+    let s : List ℕ = setLast (setFenced (setStart (g .state) start) (7 * st .next)) (cond (leb (st .last) (7 * start)) 0 (st .last)) in
     record {
       figure = 0;
-      state = setLast (setFenced (setStart (g .state) start) (7 * st .next)) (cond (leb (st .last) (7 * start)) 0 (st .last));
-      newest = forget (g .newest) (7 * start) (homes g);
+      state = carryListed (homes g) newest s;
+      newest = newest;
       log = puts (g .log) 0 (header start (groups g) (homes g));
       area = g .area;
       block = g .block;

@@ -1,12 +1,13 @@
 -- The newest positions are true at every moment after a done opening. "Under 3's premises that keeps it true, and a read, which uses it, gives what it
 -- gave."
-use Prim.Native.Nat.{ℕ, _*_, _<_}
+use Prim.Native.Nat.{ℕ, _+_, _*_, _<_, _≤_}
 use mathlib.Core.Path.{_≡_}
 use mathlib.Core.Bool.{true, false}
 use mathlib.Core.List.{List, [], _∷_}
 use lib.ListN.{length, getD}
 use Rattle.model.specs.Bytes.{zeros}
 use Rattle.model.specs.Layout.{homeAt}
+use Rattle.model.specs.State.{listHome, listedOf}
 use Rattle.model.specs.Newest.{noPosition, keptAs, keptFor, keep}
 use Rattle.model.specs.Effects.{Given, newestCommitted, ownElse, shown, visible}
 use Rattle.model.specs.Calls.{commitCall, trimCall, readCall}
@@ -21,6 +22,8 @@ pub record Kept (w : World) : Type 0 where
   pub positions : (home : ℕ) → home < w .homes → keptFor (w .newest) home ≡ keptAs (newestCommitted (lent w [] [] 0 home))
   -- the block there, and where none is kept the data copy's, is the newest committed one by the book
   pub blocks : (home : ℕ) → home < w .homes → shown (lent w [] [] 0 home) ≡ homeAt (homesAfter (w .homes) (w .book .commits)) home
+  -- the state strip has the same positions for the list's four homes
+  pub listed : listHome + 4 ≤ w .homes → (i : ℕ) → i < 4 → listedOf (w .state) i ≡ keptFor (w .newest) (listHome + i)
   -- what a read shows is what it showed while it searched the log
   pub same : (writer home : ℕ) → home < w .homes → ownElse (lent w [] [] writer home) (shown (lent w [] [] writer home)) ≡ visible (lent w [] [] writer home)
 

@@ -6,8 +6,10 @@ pub mod Batch
 pub mod State
 pub mod Newest
 pub mod Effects
+pub mod Rights
 pub mod Questions
 pub mod Calls
+pub mod Chains
 pub mod Refusals
 pub mod Crash
 pub mod Book
@@ -21,5 +23,9 @@ pub mod Reservations
 pub mod Tears
 pub mod Promises
 pub mod Kept
+pub mod Guarded
 pub mod Rounds
+pub mod RoundEnds
+pub mod Isolation
+pub mod Hidden
 pub mod Facts

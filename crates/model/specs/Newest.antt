@@ -3,11 +3,12 @@ use Prim.Native.Nat.{ℕ, zero, suc, _+_, _-_, _*_, _^_}
 use mathlib.Core.Bool.{Bool, true, false, cond}
 use mathlib.Core.List.{List, [], _∷_}
 use mathlib.Core.Option.{Option, none, some}
-use lib.Dec.{ltb}
+use lib.Dec.{leb, ltb}
 use lib.ListN.{replicate}
-use Rattle.model.specs.Bytes.{number, putNumber}
+use Rattle.model.specs.Bytes.{part, number, putNumber}
 use Rattle.model.specs.Tag.{homeOf}
 use Rattle.model.specs.Commit.{writeAll}
+use Rattle.model.specs.State.{listHome, setListed}
 use Rattle.model.specs.declared.Tag.{Tag}
 
 abbrev pub noPosition : ℕ
@@ -42,3 +43,7 @@ unfoldable pub forget : List ℕ → ℕ → ℕ → List ℕ
 forget newest bound zero = newest
 forget newest bound (suc n) =
     let before : List ℕ = forget newest bound n in cond (ltb (keptFor newest n) bound) (keep before n noPosition) before
+
+-- the state strip with the positions of the list's four homes as they are kept here; where D is too small for a list it has none of them
+unfoldable pub carryListed : ℕ → List ℕ → List ℕ → List ℕ
+carryListed homes newest s = cond (leb (listHome + 4) homes) (setListed s (part newest (8 * listHome) 32)) s

@@ -9,6 +9,7 @@ use lib.ListN.{length}
 use Rattle.model.specs.Layout.{maxStart, logLengthRight, dataLengthRight, headerRight, headerStart}
 use Rattle.model.specs.State.{State, stateOf, stateBytes, underWay, inOrder, promiseOf, promised, places, freePlaces, Writer, writerOf, isOpen, holds, holdsHome}
 use Rattle.model.specs.Effects.{Given, groups, homes}
+use Rattle.model.specs.Rights.{mayStore, mayRead, storeList, readList}
 
 -- a question: if it is answered no, the call's answer is `number`; else the next question follows
 unfoldable pub ask : Bool → ℕ → ℕ → ℕ
@@ -44,6 +45,13 @@ writerKnown g = ltb (g .writer) 8
 -- 5. "Is the home below D? No: 5."
 unfoldable pub homeKnown : Given → Bool
 homeKnown g = ltb (g .home) (homes g)
+
+-- "19 no right to store, 20 no right to read, both directly after 5, before any other"
+unfoldable pub storeAllowed : Given → Bool
+storeAllowed g = mayStore (homes g) (storeList g) (g .writer) (g .home)
+
+unfoldable pub readAllowed : Given → Bool
+readAllowed g = mayRead (homes g) (readList g) (g .writer) (g .home)
 
 -- 6. "Begin: is the writer idle? No: 6." 7. "Store, commit, abort: is it open? No: 7."
 unfoldable pub writerOpen : Given → Bool
@@ -122,7 +130,8 @@ unfoldable pub storeAnswer : Given → ℕ → ℕ
 storeAnswer g size =
     askBlock g
     (ask (writerKnown g) 4
-    (ask (homeKnown g) 5 (ask (writerOpen g) 7 (ask (not (storeLogs g) || room g) 8 (ask (batchFits g size) 9 0)))))
+    (ask (homeKnown g) 5
+    (ask (storeAllowed g) 19 (ask (writerOpen g) 7 (ask (not (storeLogs g) || room g) 8 (ask (batchFits g size) 9 0))))))
 
 unfoldable pub commitAnswer : Given → ℕ → ℕ
 commitAnswer g size =
@@ -148,4 +157,4 @@ unfoldable pub trimAnswer : Given → ℕ → ℕ → ℕ
 trimAnswer g start size = askNewest g (ask (startFits start) 10 (ask (batchFits g size) 9 0))
 
 unfoldable pub readAnswer : Given → ℕ
-readAnswer g = askBoth g (ask (writerKnown g) 4 (ask (homeKnown g) 5 0))
+readAnswer g = askBoth g (ask (writerKnown g) 4 (ask (homeKnown g) 5 (ask (readAllowed g) 20 0)))

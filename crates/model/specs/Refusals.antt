@@ -1,5 +1,5 @@
 -- "A refused call changes none and gives one of ten numbers", field by field, for everything that a call can be lent. Later requests' numbers "join
--- demand 1's ten": 17, 18 and 21.
+-- demand 1's ten": 17 to 21.
 use Prim.Native.Nat.{ℕ}
 use mathlib.Core.Bool.{Bool, true, _&&_, _||_}
 use lib.Dec.{eqb, leb}
@@ -11,7 +11,7 @@ use Rattle.model.specs.Calls.{Outcome, formatCall, openCall, beginCall, 
 
 -- the numbers that refuse
 unfoldable pub refuses : ℕ → Bool
-refuses k = (leb 1 k && leb k 10) || eqb k 17 || eqb k 18 || eqb k 21
+refuses k = (leb 1 k && leb k 10) || (leb 17 k && leb k 21)
 
 -- "A refusal returns its number, no other figure but zero, no train bytes, and all lent memory untouched."
 pub record Untouched (g : Given) (o : Outcome) : Type 0 where

@@ -4,6 +4,7 @@ use Prim.Native.Nat.{ℕ, zero, suc, _+_, _-_, _*_}
 use mathlib.Core.Bool.{Bool, true, false, cond, _&&_, _||_}
 use mathlib.Core.List.{List, [], _∷_}
 use lib.Dec.{eqb, leb, ltb}
+use lib.ListN.{replicate}
 use Rattle.model.specs.Bytes.{part, puts, zeros, number, putNumber}
 use Rattle.model.specs.Layout.{maxStart}
 pub use Rattle.model.specs.declared.State.{State}
@@ -104,6 +105,19 @@ freePlaces s = places (stateOf s) - promised s 8
 unfoldable pub promiseLeft : List ℕ → ℕ → ℕ
 promiseLeft s w = promiseOf s w - 1
 
+-- the list of rights (Rights)
+-- "A list lies in four homes of its own in a row, 8 or above": homes 8 to 11. "a call lent g's strip finds it by that"; store is not lent it, so this
+-- strip has the newest committed positions of the four homes too, all ones for none.
+
+abbrev pub listHome : ℕ
+listHome = 8
+
+unfoldable pub listedOf : List ℕ → ℕ → ℕ
+listedOf s i = number 8 s (896 + 8 * i)
+
+unfoldable pub setListed : List ℕ → List ℕ → List ℕ
+setListed s positions = puts s 896 positions
+
 -- writers
 -- The struct `Writer` of the crate's source: a writer's record but for the held block.
 
@@ -165,14 +179,17 @@ firstFor r position = cond (hasLogged r) (r .first) position
 unfoldable pub countFor : Writer → ℕ
 countFor r = cond (hasLogged r) (r .count) 0
 
--- the strip that an opening leaves: all else zeros
-unfoldable pub freshState : ℕ → ℕ → ℕ → List ℕ
-freshState groups homes start =
+-- the strip that an opening leaves: no position of the list's homes, all else zeros
+unfoldable pub freshNumbers : ℕ → ℕ → ℕ → List ℕ
+freshNumbers groups homes start =
     setDurable
     (setFenced
     (setSettled (setNext (setStart (setHomes (setGroups (zeros stateBytes) groups) homes) start) start) (7 * start))
     (7 * start))
     (7 * start)
+
+unfoldable pub freshState : ℕ → ℕ → ℕ → List ℕ
+freshState groups homes start = setListed (freshNumbers groups homes start) (replicate 32 255)
 
 -- Question 2
 -- "start ≤ 2^47; start ≤ next group ≤ start + G; 0 to 6 places filled, none at start + G; 7 × start ≤ settled ≤ F ≤ 7 × next group; mark ≤ F;

@@ -8,9 +8,12 @@ use mathlib.Core.List.{List, [], _∷_, _++_}
 use mathlib.Core.Option.{Option, none, some}
 use lib.Dec.{eqb, leb, ltb}
 use lib.ListN.{length, getD, take}
+use Rattle.model.specs.Bytes.{part}
 use Rattle.model.specs.Layout.{maxStart, headerStart, entryAt}
 use Rattle.model.specs.Commit.{transactions}
 use Rattle.model.specs.Effects.{marked, largest}
+use Rattle.model.specs.State.{listHome}
+use Rattle.model.specs.Rights.{mayStore, mayRead}
 use Rattle.model.specs.Questions.{ask}
 use Rattle.model.specs.Calls.{Outcome}
 use Rattle.model.specs.Crash.{Memory, persist}
@@ -142,6 +145,10 @@ mayStart s start =
 unfoldable pub nextStart : Store → ℕ
 nextStart s = largest (mayStart s) (s .start) (s .settled / 7 - s .start)
 
+-- the list of rights: "A changed list counts from its commit", for every writer
+unfoldable pub listOf : Store → List ℕ
+listOf s = part (book.homesAfter (s .homes) (s .book .commits)) (64 * listHome) 256
+
 -- What a call tells: its number, its figure and the bytes of records it writes. A refusal tells its number alone.
 pub record Reply : Type 0 where
   pub code : ℕ
@@ -170,7 +177,9 @@ replyChange s (stores writer home block batch) =
     told
     (ask (eqb (length block) 64) 1
     (ask (ltb writer 8) 4
-    (ask (ltb home (s .homes)) 5 (ask (not (isIdle (s .book .tasks writer))) 7 (ask (not logs || hasRoom s writer) 8 (askBatch size batch))))))
+    (ask (ltb home (s .homes)) 5
+    (ask (mayStore (s .homes) (listOf s) writer home) 19
+    (ask (not (isIdle (s .book .tasks writer))) 7 (ask (not logs || hasRoom s writer) 8 (askBatch size batch)))))))
     0
     size
 replyChange s (commits writer batch) =
@@ -197,7 +206,10 @@ replyService s (trims batch) =
     let size : ℕ = cond (eqb (nextStart s) (s .start)) 0 68 in
     told (ask (leb (nextStart s) maxStart) 10 (askBatch size batch)) 0 size
 replyService s (reads writer home block) =
-    told (ask (eqb (length block) 64) 1 (ask (ltb writer 8) 4 (ask (ltb home (s .homes)) 5 0))) 0 0
+    told
+    (ask (eqb (length block) 64) 1 (ask (ltb writer 8) 4 (ask (ltb home (s .homes)) 5 (ask (mayRead (s .homes) (listOf s) writer home) 20 0))))
+    0
+    0
 
 -- An opening is done if the strip has 1,024 bytes and that of the newest positions 8 a home, start + G is at most 2^47, and the batch holds 72 bytes,
 -- 516 for each group and 68 for each home that it brings back.

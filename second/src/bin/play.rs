@@ -1,17 +1,20 @@
-//! `play --seed S --histories N --torn T`: random histories, each from its own
-//! seed, and short ones whose stretches are torn in every choice of blocks.
+//! `play --seed S --histories N --torn T --pairs P`: random histories, each from
+//! its own seed, short ones whose stretches are torn in every choice of blocks,
+//! and pairs that differ in bytes a writer may not read.
 
-use second::lent::Lent;
+use second::lent::{Lent, Runner};
 use second::options::Words;
+use second::pairs::{pair, Pairs};
 use second::player::{history, large_history, Tally};
 use second::tears::{torn_history, Torn};
 use std::panic::{catch_unwind, AssertUnwindSafe};
 use std::process::ExitCode;
 
 const USAGE: &str = "\
-usage: play [--seed S] [--histories N] [--torn T]
+usage: play [--seed S] [--histories N] [--torn T] [--pairs P]
 Plays random histories, each from its own seed, on the second implementation; then short ones, of
-which stretches are cut in every choice of up to twelve blocks.";
+which stretches are cut in every choice of up to twelve blocks; then pairs of histories that differ
+in bytes of homes a writer may not read, and must tell it the same.";
 
 /// One history in this many is of the largest log.
 const LARGE_EVERY: u64 = 2000;
@@ -32,6 +35,17 @@ fn tear(first: u64, histories: u64) -> Result<Torn, String> {
     Ok(torn)
 }
 
+/// Pairs of histories, each from its own seed.
+fn compare(first: u64, count: u64) -> Result<Pairs, String> {
+    let mut pairs = Pairs::default();
+    let mut runner: Runner = Box::new(Lent::run);
+    for at in 0..count {
+        let seed = first.wrapping_add(at);
+        pair(seed, &mut pairs, &mut runner).map_err(|what| format!("seed {seed}: {what}"))?;
+    }
+    Ok(pairs)
+}
+
 /// What was played, in words.
 fn report(tally: &Tally) {
     println!("{} histories: every opening and every answer as the book says", tally.histories);
@@ -39,7 +53,7 @@ fn report(tally: &Tally) {
     println!("  {:>9} commits, {} of them lost by a crash before they were durable", tally.commits, tally.commits_lost);
     println!("  {:>9} settles, {} trims", tally.settles, tally.trims);
     println!("  {:>9} rounds of settling, {} steps, {} of them leaving homes for later", tally.rounds, tally.steps, tally.part_steps);
-    println!("  {:>9} calls, by their answers:", tally.calls);
+    println!("  {:>9} calls, {} of them under a list of rights, by their answers:", tally.calls, tally.listed);
     for (number, count) in tally.answers.iter().enumerate().filter(|(_, count)| **count > 0) {
         println!("  {count:>9} answered {number}{}", if number == 0 { ", done" } else { "" });
     }
@@ -50,6 +64,7 @@ fn main() -> ExitCode {
     let first = words.number("--seed", 1);
     let count = words.number("--histories", 1000);
     let torn = words.number("--torn", 100);
+    let pairs = words.number("--pairs", 1000);
     words.done();
     let mut tally = Tally::default();
     for at in 0..count {
@@ -68,10 +83,20 @@ fn main() -> ExitCode {
         Ok(torn) => {
             println!("{} stretches in {} short histories: every opening as the book says", torn.stretches, torn.histories);
             println!("  {:>9} choices of blocks, {} lost a commit, {} brought one back", torn.choices, torn.lost, torn.brought_back);
-            ExitCode::SUCCESS
         }
         Err(what) => {
             println!("MISMATCH torn, {what}");
+            return ExitCode::FAILURE;
+        }
+    }
+    match compare(first, pairs) {
+        Ok(pairs) => {
+            println!("{} pairs of histories: nothing that a writer may not read shows", pairs.pairs);
+            println!("  {:>9} calls, {} stores with other bytes, {} reads by the writer, {} of them refused", pairs.calls, pairs.stores, pairs.reads, pairs.refused);
+            ExitCode::SUCCESS
+        }
+        Err(what) => {
+            println!("MISMATCH pair, {what}");
             ExitCode::FAILURE
         }
     }

@@ -1,7 +1,12 @@
 //! A plain model of the calls: here those that read groups, over the literal
-//! commit rule (open, settle, rounds, trim, read); the others in `writers`. It gives
-//! the answer and all lent memory after it.
+//! commit rule (open, settle, rounds, trim, read); the others in `writers`, the
+//! list of rights in `rights`, calls on several homes in `chains`. It gives the
+//! answer and all lent memory after it.
 
+#![allow(dead_code)]
+
+pub mod chains;
+mod rights;
 mod writers;
 
 use second::layout::{header, Shape};
@@ -117,6 +122,12 @@ fn attempt(
     if kind.takes_home() && home >= before.data.len() as u64 / 64 {
         return Err(5);
     }
+    if kind == Kind::Store && !rights::may_store(before, writer, home) {
+        return Err(19);
+    }
+    if kind == Kind::Read && !rights::may_read(before, writer, home) {
+        return Err(20);
+    }
     match kind {
         Kind::Format => writers::format(before, after),
         Kind::Open => open(before, after),
@@ -188,6 +199,7 @@ fn open(before: &Lent, after: &mut Lent) -> Outcome {
     for at in [40, 48, 56] {
         put(&mut after.state, at, 7 * new_start);
     }
+    after.state[896..928].fill(255);
     after.newest.fill(255);
     Ok((list.len() as u64, batch))
 }
@@ -273,6 +285,7 @@ fn trim(before: &Lent, after: &mut Lent) -> Outcome {
                 after.newest[at..at + 8].fill(255);
             }
         }
+        rights::carry(after);
     }
     Ok((0, batch))
 }
@@ -286,6 +299,7 @@ fn keep(after: &mut Lent, start: u64, first: u64, closing: u64) {
             put(&mut after.newest, 8 * entry.home as usize, *position as u64);
         }
     }
+    rights::carry(after);
 }
 
 fn read(before: &Lent, after: &mut Lent, writer: u64, home: u64) -> Outcome {

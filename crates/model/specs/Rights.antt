@@ -1,0 +1,71 @@
+-- Who may touch what: the list of rights, where it lies and what it says.
+-- "A list lies in four homes of its own in a row, 8 or above, that all may read and only writer 0 may store to: for each writer, rising, four home
+-- ranges it may store to, then four it may read, each first home and number of homes, 16 bits; all zeros, or D too small for it, is no list. While no
+-- list is committed every other home is open to all."
+use Prim.Native.Nat.{ℕ, zero, suc, _+_, _*_}
+use mathlib.Core.Bool.{Bool, true, false, cond, not, _&&_, _||_}
+use mathlib.Core.List.{List, [], _++_}
+use mathlib.Core.Option.{Option, none, some}
+use lib.Dec.{eqb, leb, ltb}
+use Rattle.model.specs.Bytes.{zeros, number, same}
+use Rattle.model.specs.Layout.{homeAt}
+use Rattle.model.specs.State.{listHome, listedOf}
+use Rattle.model.specs.Newest.{keptFor}
+use Rattle.model.specs.Effects.{Given, isThere, blockOr}
+
+-- Which list counts: "A changed list counts from its commit; a call lent g's strip finds it by that." Each of the four homes shows its newest
+-- committed block, never a writer's own.
+
+-- the same lent, for another home
+unfoldable pub forHome : Given → ℕ → Given
+forHome g home =
+    record {
+      state = g .state;
+      newest = g .newest;
+      log = g .log;
+      area = g .area;
+      block = g .block;
+      batch = g .batch;
+      writer = g .writer;
+      home = home;
+    }
+
+-- what the call's home shows where a position is kept for it: the entry's block if one for that home is there, else the data copy's
+unfoldable pub shownAt : Given → ℕ → List ℕ
+shownAt g p = blockOr g (cond (isThere g p) (some p) none) (homeAt (g .area) (g .home))
+
+-- the first n blocks of the list, by the position kept for each
+unfoldable pub listBy : Given → (ℕ → ℕ) → ℕ → List ℕ
+listBy g kept zero = []
+listBy g kept (suc n) = listBy g kept n ++ shownAt (forHome g (listHome + n)) (kept n)
+
+-- store finds it by the four positions in the state strip, a call that is lent the newest positions by those
+unfoldable pub storeList : Given → List ℕ
+storeList g = listBy g (listedOf (g .state)) 4
+
+unfoldable pub readList : Given → List ℕ
+readList g = listBy g (λ i. keptFor (g .newest) (listHome + i)) 4
+
+-- What it says
+
+-- the list's own homes
+unfoldable pub ofList : ℕ → Bool
+ofList home = leb listHome home && ltb home (listHome + 4)
+
+unfoldable pub isList : ℕ → List ℕ → Bool
+isList homes list = leb (listHome + 4) homes && not (same list (zeros 256))
+
+-- "each first home and number of homes, 16 bits": whether a home lies in the range at a byte, and in one of the n ranges from there on
+unfoldable pub inRange : List ℕ → ℕ → ℕ → Bool
+inRange list at home = leb (number 2 list at) home && ltb home (number 2 list at + number 2 list (at + 2))
+
+unfoldable pub inRanges : List ℕ → ℕ → ℕ → ℕ → Bool
+inRanges list at home zero = false
+inRanges list at home (suc n) = inRanges list at home n || inRange list (at + 4 * n) home
+
+unfoldable pub mayStore : ℕ → List ℕ → ℕ → ℕ → Bool
+mayStore homes list writer home =
+    cond (ofList home) (eqb writer 0) (not (isList homes list) || inRanges list (32 * writer) home 4)
+
+unfoldable pub mayRead : ℕ → List ℕ → ℕ → ℕ → Bool
+mayRead homes list writer home = ofList home || (not (isList homes list) || inRanges list (32 * writer + 16) home 4)
