@@ -25,4 +25,5 @@ pub mod Promises
 pub mod Kept
 pub mod Rounds
 pub mod Isolation
+pub mod Units
 pub mod Facts
