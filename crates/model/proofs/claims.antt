@@ -12,6 +12,8 @@ pub mod RoundFollows
 pub mod StoreFollows
 pub mod KeptSteps
 pub mod KeptHolds
+pub mod UnitBooks
+pub mod UnitSteps
 pub mod DemandTwo
 pub mod LedgerLaws
 pub mod LedgerSteps

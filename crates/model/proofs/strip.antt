@@ -5,4 +5,5 @@ pub mod WriterLaws
 pub mod PromiseLaws
 pub mod OrderLaws
 pub mod QuestionLaws
+pub mod ChainLaws
 pub mod NewestLaws
