@@ -9,7 +9,7 @@ use native.Mathlib.Omega.{arith}
 use lib.Dec.{eqb}
 use lib.ListN.{length, take, length-append}
 use lib.Seq.{take-at, take-all}
-use borrow.Author.Tests.{eqb-true, eqb-false, eq-eqb, ne-eqb}
+use borrow.Author.Tests.{eqb-true, eqb-false, ne-eqb}
 use Rattle.model.specs.Bytes.{part}
 use Rattle.model.specs.Effects.{Given, storeEffect}
 use Rattle.model.specs.Questions.{storeAnswer}
@@ -24,6 +24,7 @@ use Rattle.model.proofs.bytes.ByteLaws.{length-part}
 use Rattle.model.proofs.strip.ChainLaws.{HomesReady, TransactReady, transact-ready, store-block}
 use Rattle.model.proofs.steps.DoneLaws.{outcome-code}
 use Rattle.model.proofs.claims.UnitBooks.{spread, held-append, Outside, outside-append, Says, Fit, fit-length, fit-snoc}
+use Rattle.model.proofs.claims.TransactBooks.{filled-commits, filled-tasks, Transacted, transacted}
 
 -- ---- commits
 
@@ -94,122 +95,6 @@ joins home n b cs c ls l e f s t =
 one-of : (P : Task → Type 0) (d : Bool) (t s : Task) → P t → P s → P (cond d t s)
 one-of P true t s p q = p
 one-of P false t s p q = q
-
-filled-commits : (b : Book) → filledUp b .commits ≡ b .commits
-unfolding filledUp submit grown
-filled-commits b = go (eqb (b .filled) 6)
-  where
-    go : (d : Bool) → cond d (submit b) (grown b) .commits ≡ b .commits
-    go true = refl
-    go false = refl
-
-filled-tasks : (b : Book) → filledUp b .tasks ≡ b .tasks
-unfolding filledUp submit grown
-filled-tasks b = go (eqb (b .filled) 6)
-  where
-    go : (d : Bool) → cond d (submit b) (grown b) .tasks ≡ b .tasks
-    go true = refl
-    go false = refl
-
--- the book after begin and some of the stores of a transact: the writer has logged all but the last of them, which it holds
-abbrev heldAfter : ℕ → List ℕ → ℕ → Option Held
-heldAfter h blocks zero = none
-heldAfter h blocks (suc k) = some (record { home = h + k; block = part blocks (64 * k) 64 })
-
-abbrev loggedAfter : ℕ → List ℕ → ℕ → List Held
-loggedAfter h blocks zero = []
-loggedAfter h blocks (suc k) = spread h blocks k
-
-record Chained (b c : Book) (v h : ℕ) (blocks : List ℕ) (k : ℕ) : Type 0 where
-  commits : c .commits ≡ b .commits
-  others : (x : ℕ) → (x ≡ v → ⊥) → c .tasks x ≡ b .tasks x
-  logged : List Entry
-  entries : heldEntries logged ≡ loggedAfter h blocks k
-  task : c .tasks v ≡ opened logged (heldAfter h blocks k)
-
-task-here : (b : Book) (v : ℕ) (t : Task) → withTask b v t .tasks v ≡ t
-unfolding withTask setTask
-task-here b v t = rw (eq-eqb v v refl)
-
-task-other : (b : Book) (v x : ℕ) (t : Task) → (x ≡ v → ⊥) → withTask b v t .tasks x ≡ b .tasks x
-unfolding withTask setTask
-task-other b v x t n = rw (ne-eqb v x (λ e. n (sym e)))
-
-chained-store : (b c : Book) (v h : ℕ) (blocks : List ℕ) (k : ℕ) → Chained b c v h blocks k
-    → Chained b (storeTask c v (h + k) (part blocks (64 * k) 64) (c .tasks v)) v h blocks (suc k)
-unfolding storeTask hold
-chained-store b c v h blocks zero r =
-    rw (r .task)
-    (let t : Task = opened (r .logged) (heldAfter h blocks 1) in
-    record {
-      commits = (unfold withTask in r .commits);
-      others = λ x n. task-other c v x t n ∙ r .others x n;
-      logged = r .logged;
-      entries = r .entries ∙ (unfold spread in refl);
-      task = task-here c v t;
-    })
-chained-store b c v h blocks (suc k) r =
-    let last : Held = record { home = h + k; block = part blocks (64 * k) 64 } in
-    let es : List Entry = r .logged ++ (entryOf c last ∷ []) in
-    let t : Task = opened es (heldAfter h blocks (suc (suc k))) in
-    rw (r .task, ne-eqb (h + k) (h + suc k) (λ e. omega arith))
-    (record {
-      commits = (unfold withTask in filled-commits c ∙ r .commits);
-      others = λ x n. task-other (filledUp c) v x t n ∙ ap (λ (ts : ℕ → Task). ts x) (filled-tasks c) ∙ r .others x n;
-      logged = es;
-      entries = held-append (r .logged) (entryOf c last ∷ []) ∙ rw (r .entries) (unfold heldEntries entryOf spread in refl);
-      task = task-here (filledUp c) v t;
-    })
-
-chained : (b : Book) (v h : ℕ) (blocks : List ℕ) (k : ℕ) → Chained b (feedStores b v h blocks k) v h blocks k
-unfolding feedStores book.begin book.store
-chained b v h blocks zero =
-    record {
-      commits = (unfold withTask in refl);
-      others = λ x n. task-other b v x (opened [] none) n;
-      logged = [];
-      entries = (unfold heldEntries spread in refl);
-      task = task-here b v (opened [] none);
-    }
-chained b v h blocks (suc k) = chained-store b (feedStores b v h blocks k) v h blocks k (chained b v h blocks k)
-
--- a transact adds one commit, of all its homes and blocks, and leaves every writer as it was but its own, which is idle
-pub record Transacted (b c : Book) (v h : ℕ) (blocks : List ℕ) : Type 0 where
-  pub commit : Commit
-  pub commits : c .commits ≡ b .commits ++ (commit ∷ [])
-  pub entries : heldEntries (commit .entries) ≡ spread h blocks (length blocks / 64)
-  pub others : (x : ℕ) → (x ≡ v → ⊥) → c .tasks x ≡ b .tasks x
-  pub own : c .tasks v ≡ idle
-
-transacted-commit : (b c : Book) (v h : ℕ) (blocks : List ℕ) (figure k : ℕ) → length blocks / 64 ≡ suc k → Chained b c v h blocks (suc k)
-    → Transacted b (commitTask c v figure (c .tasks v)) v h blocks
-unfolding commitTask
-transacted-commit b c v h blocks figure k e r =
-    let last : Held = record { home = h + k; block = part blocks (64 * k) 64 } in
-    let new : Commit = record { entries = r .logged ++ (entryOf c last ∷ []); ticket = figure; owed = false } in
-    let d : Book = addCommit (filledUp c) new in
-    let same : (x : ℕ) → d .tasks x ≡ c .tasks x = λ x. (unfold addCommit in ap (λ (ts : ℕ → Task). ts x) (filled-tasks c)) in
-    rw (r .task)
-    (record {
-      commit = new;
-      commits = (unfold withTask addCommit in rw (filled-commits c, r .commits));
-      entries = rw e (held-append (r .logged) (entryOf c last ∷ []) ∙ rw (r .entries) (unfold heldEntries entryOf spread in refl));
-      others = λ x n. task-other d v x idle n ∙ same x ∙ r .others x n;
-      own = task-here d v idle;
-    })
-
-pub transacted : (b : Book) (v h : ℕ) (blocks : List ℕ) (figure : ℕ) → 1 ≤ length blocks / 64 → Transacted b (feedTransact b v h blocks figure) v h blocks
-unfolding feedTransact book.commit
-transacted b v h blocks figure l = go (length blocks / 64) refl l
-  where
-    go : (m : ℕ) → length blocks / 64 ≡ m → 1 ≤ m
-        → Transacted b
-        (commitTask (feedStores b v h blocks (length blocks / 64)) v figure (feedStores b v h blocks (length blocks / 64) .tasks v)) v h blocks
-    go zero e p = absurd (omega arith)
-    go (suc k) e p =
-        subst
-        (λ (m : ℕ). Transacted b (commitTask (feedStores b v h blocks m) v figure (feedStores b v h blocks m .tasks v)) v h blocks) (sym e)
-        (transacted-commit b (feedStores b v h blocks (suc k)) v h blocks figure k e (chained b v h blocks (suc k)))
 
 module _ (home n : ℕ) where
   with-task : (b : Book) (v : ℕ) (t : Task) (ls : List Label) → Labelled home n b ls → TaskOutside home n t → Labelled home n (withTask b v t) ls
