@@ -95,7 +95,7 @@ unfolding after
 last-live [] w h = h
 last-live (e ∷ es) w h = last-live es (step w e) (h .2)
 
-pub call-answers : (w : World) (s : Store) (c : Call) → Reached w s → isOpening c ≡ not (w .ready) → replyOf (ends w c) ≡ reply s c
+call-answers : (w : World) (s : Store) (c : Call) → Reached w s → isOpening c ≡ not (w .ready) → replyOf (ends w c) ≡ reply s c
 call-answers w s c r a =
     let w₀ : World = afterFormat (r .format) in
     let s₀ : Store = newStore (r .groups) (r .homes) in
@@ -103,6 +103,10 @@ call-answers w s c r a =
     (allowed-append (r .events) (call c ∷ []) w₀ (r .allowed) (subst (λ (v : World). AllAllowed v (call c ∷ [])) (sym (r .world)) (a, tt))) in
     subst (λ (v : World). replyOf (ends v c) ≡ reply s c) (r .world)
     (subst (λ (t : Store). replyOf (ends (after w₀ (r .events)) c) ≡ reply t c) (r .store) (last-answers (r .events) (call c) w₀ s₀ h))
+
+pub call-code : (w : World) (s : Store) (c : Call) → Reached w s → isOpening c ≡ not (w .ready) → ends w c .code ≡ reply s c .code
+unfolding replyOf
+call-code w s c r a = ap (λ (x : Reply). x .code) (call-answers w s c r a)
 
 pub kept-then : (w : World) (s : Store) → Reached w s → w .ready ≡ true → Kept w
 kept-then w s r =

@@ -1,7 +1,7 @@
 -- What an answer of 0 says of a call on several homes. Assumes nothing.
 use Prim.Native.Nat.{ℕ, zero, suc, _+_, _*_, _/_, _≤_, _<_}
 use mathlib.Core.Path.{_≡_, refl, sym, ap, _∙_}
-use mathlib.Core.Bool.{Bool, true, false, not, _&&_, false≢true}
+use mathlib.Core.Bool.{Bool, true, false, not, _&&_, _||_}
 use mathlib.Core.List.{List}
 use native.Mathlib.Omega.{arith}
 use lib.Dec.{eqb, leb}
@@ -9,7 +9,7 @@ use lib.ListN.{length}
 use borrow.Author.Tests.{leb-true, eqb-true, eqb-false}
 use Rattle.model.specs.State.{freePlaces}
 use Rattle.model.specs.Effects.{Given, homes}
-use Rattle.model.specs.Questions.{ask, areasRight, stateRight, newestRight, blockRight, stripInOrder, writerKnown, writerOpen, batchFits, askBlock, storeAnswer}
+use Rattle.model.specs.Questions.{ask, areasRight, stateRight, newestRight, blockRight, stripInOrder, writerKnown, homeKnown, storeAllowed, writerOpen, storeLogs, commitLogs, room, batchFits, askBlock, askNewest, storeAnswer, commitAnswer}
 use Rattle.model.specs.Chains.{blocksLent, blocksRight, homesKnown, allOf, mayStoreAll, mayReadAll, roomForAll, askHomes, fetchAnswer, reviseAnswer, transactAnswer}
 use Rattle.model.proofs.strip.QuestionLaws.{ask-passed, and-true}
 
@@ -100,3 +100,26 @@ unfolding storeAnswer askBlock blockRight
 store-block g size e =
     let a = ask-passed (areasRight g && stateRight g && blockRight g) 0 _ e in
     eqb-true (length (g .block)) 64 (and-true (areasRight g && stateRight g) (blockRight g) (a .0) .1)
+
+-- and its batch is long enough, as is a commit's
+pub store-fits : (g : Given) (size : ℕ) → storeAnswer g size ≡ 0 → batchFits g size ≡ true
+unfolding storeAnswer askBlock
+store-fits g size e =
+    let a = ask-passed (areasRight g && stateRight g && blockRight g) 0 _ e in
+    let b = ask-passed (stripInOrder g) 1 _ (a .1) in
+    let c = ask-passed (writerKnown g) 3 _ (b .1) in
+    let d = ask-passed (homeKnown g) 4 _ (c .1) in
+    let f = ask-passed (storeAllowed g) 18 _ (d .1) in
+    let h = ask-passed (writerOpen g) 6 _ (f .1) in
+    let i = ask-passed (not (storeLogs g) || room g) 7 _ (h .1) in
+    ask-passed (batchFits g size) 8 0 (i .1) .0
+
+pub commit-fits : (g : Given) (size : ℕ) → commitAnswer g size ≡ 0 → batchFits g size ≡ true
+unfolding commitAnswer askNewest
+commit-fits g size e =
+    let a = ask-passed (areasRight g && stateRight g && newestRight g) 0 _ e in
+    let b = ask-passed (stripInOrder g) 1 _ (a .1) in
+    let c = ask-passed (writerKnown g) 3 _ (b .1) in
+    let d = ask-passed (writerOpen g) 6 _ (c .1) in
+    let f = ask-passed (not (commitLogs g) || room g) 7 _ (d .1) in
+    ask-passed (batchFits g size) 8 0 (f .1) .0
