@@ -12,8 +12,8 @@ use Rattle.model.specs.Batch.{readBatch}
 use Rattle.model.specs.Calls.{Outcome}
 use Rattle.model.specs.Chains.{fetchCall, reviseCall, transactCall}
 use Rattle.model.specs.Book as book
-use Rattle.model.specs.Book.{Book, homesAfter}
-use Rattle.model.specs.History.{Change, begins, reserves, aborts, stores, commits, flushes, Call, opening, confirm, change, service, begin, store, commit, Event, call, crash, World, Formatting, afterFormat, lent, step, Allowed}
+use Rattle.model.specs.Book.{Book, homesAfter, reads as readBy}
+use Rattle.model.specs.History.{Change, begins, reserves, aborts, stores, commits, flushes, Call, opening, confirm, change, service, begin, store, commit, Event, call, crash, World, Formatting, afterFormat, lent, step, after, Allowed, AllAllowed}
 
 -- Acts
 
@@ -103,6 +103,29 @@ expand w (revises writer home blocks) = []
 unfoldable pub expandAll : World → List Act → List Event
 expandAll w [] = []
 expandAll w (a ∷ more) = expand w a ++ expandAll (act w a) more
+
+-- A history of acts leaves the world that the events it stands for leave, and these meet the premises: what holds of every history of events holds of
+-- them.
+abbrev pub ActsExpand : Type 0
+ActsExpand =
+    (groups homes : ℕ) (f : Formatting groups homes) (acts : List Act) → AllActsAllowed (afterFormat f) acts →
+    AllAllowed (afterFormat f) (expandAll (afterFormat f) acts) × (after (afterFormat f) (expandAll (afterFormat f) acts) ≡ acted (afterFormat f) acts)
+
+-- "For whom it reads": its own held or logged block, else the newest committed one, home by home
+unfoldable pub readsFrom : ℕ → Book → ℕ → ℕ → ℕ → List ℕ
+readsFrom homes b writer home zero = []
+readsFrom homes b writer home (suc n) = readsFrom homes b writer home n ++ readBy homes b writer (home + n)
+
+pub record ReadTogether (w : World) (writer home : ℕ) (blocks : List ℕ) : Type 0 where
+  pub fetched :
+      fetchEnds w writer home blocks .code ≡ 0 → fetchEnds w writer home blocks .block ≡ readsFrom (w .homes) (w .book) writer home (length blocks / 64)
+  pub revised :
+      reviseEnds w writer home blocks .code ≡ 0 → reviseEnds w writer home blocks .block ≡ readsFrom (w .homes) (w .book) writer home (length blocks / 64)
+
+abbrev pub ActsRead : Type 0
+ActsRead =
+    (groups homes : ℕ) (f : Formatting groups homes) (acts : List Act) → AllActsAllowed (afterFormat f) acts →
+    acted (afterFormat f) acts .ready ≡ true → (writer home : ℕ) (blocks : List ℕ) → ReadTogether (acted (afterFormat f) acts) writer home blocks
 
 -- Labels: "its commit carries the event as a label". Beside the book's list of commits a list of what each was: the commit that an act adds gets the
 -- act's label, and a crash leaves as many labels as commits.
