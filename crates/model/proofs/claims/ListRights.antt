@@ -54,7 +54,7 @@ module _ (w : World) (blocks batch : List ℕ) (v h x : ℕ) where
   block-same none other = refl
   block-same (some p) other = refl
 
-  shown-at : shownAt (forHome (lent w blocks batch v h) x) (keptFor (w .newest) x) ≡ shown (lent w [] [] 0 x)
+  pub shown-at : shownAt (forHome (lent w blocks batch v h) x) (keptFor (w .newest) x) ≡ shown (lent w [] [] 0 x)
   unfolding shownAt shown keptPosition forHome lent
   shown-at =
       let p : ℕ = keptFor (w .newest) x in

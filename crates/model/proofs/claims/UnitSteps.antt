@@ -63,11 +63,11 @@ fit-cut home n fs (c ∷ cs) (l ∷ ls) more f = go (allSurvive fs (c .entries))
 
 -- ---- tasks
 
-abbrev HeldOutside : ℕ → ℕ → Option Held → Type 0
+abbrev pub HeldOutside : ℕ → ℕ → Option Held → Type 0
 HeldOutside home n none = Unit {0}
 HeldOutside home n (some h) = (length (h .block) ≡ 64) × Apart home n (h .home) 1
 
-abbrev TaskOutside : ℕ → ℕ → Task → Type 0
+abbrev pub TaskOutside : ℕ → ℕ → Task → Type 0
 TaskOutside home n idle = Unit {0}
 TaskOutside home n (opened es held) = Outside home n (heldEntries es) × HeldOutside home n held
 
