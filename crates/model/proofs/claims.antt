@@ -7,11 +7,14 @@ pub mod Yields
 pub mod YieldsAll
 pub mod StoreLaws
 pub mod StoreAnswers
+pub mod RightsHold
 pub mod CallAnswers
 pub mod RoundFollows
 pub mod StoreFollows
 pub mod KeptSteps
+pub mod ListedSteps
 pub mod KeptHolds
+pub mod AnswersHold
 pub mod DemandTwo
 pub mod Reached
 pub mod UnitBooks

@@ -3,6 +3,8 @@ pub mod BatchLaws
 pub mod StateLaws
 pub mod WriterLaws
 pub mod PromiseLaws
+pub mod ListedLaws
+pub mod RightLaws
 pub mod OrderLaws
 pub mod QuestionLaws
 pub mod ChainLaws

@@ -392,11 +392,10 @@ trimStart g =
 unfoldable pub trimTo : Given → State → ℕ → Effect
 trimTo g st start =
     let newest : List ℕ = forget (g .newest) (7 * start) (homes g) in
+    let s : List ℕ = setLast (setFenced (setStart (g .state) start) (7 * st .next)) (cond (leb (st .last) (7 * start)) 0 (st .last)) in
     record {
       figure = 0;
-      state =
-          carryListed (homes g) newest
-          (setLast (setFenced (setStart (g .state) start) (7 * st .next)) (cond (leb (st .last) (7 * start)) 0 (st .last)));
+      state = carryListed (homes g) newest s;
       newest = newest;
       log = puts (g .log) 0 (header start (groups g) (homes g));
       area = g .area;

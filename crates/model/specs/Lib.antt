@@ -23,6 +23,7 @@ pub mod Reservations
 pub mod Tears
 pub mod Promises
 pub mod Kept
+pub mod Guarded
 pub mod Rounds
 pub mod Isolation
 pub mod Units

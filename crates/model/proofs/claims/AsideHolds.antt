@@ -2,13 +2,15 @@
 use mathlib.Core.Path.{_≡_, refl, ap, _∙_}
 use mathlib.Core.Bool.{Bool, true, false, cond}
 use mathlib.Core.List.{List}
-use Prim.Native.Nat.{ℕ, zero, suc}
+use Prim.Native.Nat.{ℕ, zero, suc, _+_}
 use lib.Dec.{eqb}
-use Rattle.model.specs.State.{Writer, stateOf, nextPosition, writerOf, holds}
+use Rattle.model.specs.State.{Writer, stateOf, nextPosition, writerOf, holds, listHome, listedOf}
 use Rattle.model.specs.Effects.{Given, Effect, newState, formatEffect, beginEffect, reserveEffect, abortEffect, logHeld, storeFirst, storeAgain, storeOther, storeEffect, flushPart, flushNone, flushEffect, confirmEffect, tagsOf, liveTags, liveBase, settleEffect}
-use Rattle.model.specs.Questions.{areasRight, stateRight, blockRight, stripInOrder, writerKnown, homeKnown, writerOpen, room, storeLogs, batchFits, inRound, askState, askBlock, formatAnswer, beginAnswer, reserveAnswer, abortAnswer, storeAnswer, flushAnswer, confirmAnswer, settleAnswer}
+use Rattle.model.specs.Questions.{areasRight, stateRight, blockRight, stripInOrder, writerKnown, homeKnown, storeAllowed, writerOpen, room, storeLogs, batchFits, inRound, askState, askBlock, formatAnswer, beginAnswer, reserveAnswer, abortAnswer, storeAnswer, flushAnswer, confirmAnswer, settleAnswer}
 use Rattle.model.specs.Calls.{refused, done, sizeOf, outcome, formatCall, beginCall, reserveCall, abortCall, storeCall, flushCall, confirmCall, settleCall}
+use Rattle.model.specs.Rights.{forHome, storeList}
 use Rattle.model.specs.Facts.{lentWith, leftWith, AsideIn, Aside}
+use Rattle.model.proofs.strip.RightLaws.{shown-by, list-by}
 
 -- an effect with other newest positions
 unfoldable effectWith : List ℕ → Effect → Effect
@@ -98,11 +100,16 @@ abort-aside g n =
     (unfold abortEffect newState effectWith lentWith in refl)
     (unfold abortAnswer askState areasRight stateRight stripInOrder writerKnown writerOpen lentWith in refl)
 
+-- the list that store goes by is found without them
+allowed-aside : (g : Given) (n : List ℕ) → storeAllowed (lentWith n g) ≡ storeAllowed g
+unfolding storeAllowed storeList lentWith
+allowed-aside g n = rw (list-by (lentWith n g) g (listedOf (g .state)) (listedOf (g .state)) 4 (λ i l. unfold forHome lentWith in shown-by (forHome g (listHome + i)) n (g .block) (g .batch) (g .writer) (listedOf (g .state) i)))
+
 store-aside : AsideIn storeCall
 unfolding storeCall
 store-aside g n =
     beside-sized g n storeAnswer (storeEffect g) (storeEffect (lentWith n g)) (store-beside g n)
-    (λ size. unfold storeAnswer askBlock areasRight stateRight blockRight stripInOrder writerKnown homeKnown writerOpen storeLogs room batchFits lentWith in refl)
+    (λ size. unfold storeAnswer askBlock areasRight stateRight blockRight stripInOrder writerKnown homeKnown writerOpen storeLogs room batchFits lentWith in rw (allowed-aside g n))
 
 flush-aside : AsideIn flushCall
 unfolding flushCall

@@ -23,6 +23,7 @@ use Rattle.model.proofs.invariant.Invariant.{Sizes, Running}
 use Rattle.model.proofs.invariant.LiveLog.{tagsIn, keptIn}
 use Rattle.model.proofs.steps.RoundRuns.{isDue, remaining, broughtUp, stepped, step-effect, step-size, step-inside, step-now, nextCursor, cursor-upto}
 use Rattle.model.proofs.claims.StoreLaws.{answers, marked-same, found-any-wrote, bytes-homes}
+use Rattle.model.proofs.claims.RightsHold.{ChangeRights, ServiceRights, RightsAt}
 use Rattle.model.proofs.claims.StoreAnswers.{Numbers, Agrees, size-none, asked, batch-is, no-round, below-contents, begin-answers, reserve-answers, abort-answers, store-answers, commit-answers, flush-answers, confirm-answers, settle-answers, trim-answers, read-answers}
 
 no-records : length (batchBytes []) ≡ 0
@@ -135,26 +136,26 @@ module _ (G D : ℕ) (z : Sizes G D) (w : World) (r : Running G D w) (s : Store)
 
   -- ---- every call of an era
 
-  change-answers : (c : Change) → replyOf (ends w (change c)) ≡ replyChange s c
+  change-answers : (c : Change) → ChangeRights w s c → replyOf (ends w (change c)) ≡ replyChange s c
   unfolding ends changeEnds
-  change-answers (begins v) = begin-answers G D z w r s a v
-  change-answers (reserves v places) = reserve-answers G D z w r s a v places
-  change-answers (aborts v) = abort-answers G D z w r s a v
-  change-answers (stores v home block batch) = store-answers G D z w r s a v home block batch
-  change-answers (commits v batch) = commit-answers G D z w r s a v batch
-  change-answers (flushes batch) = flush-answers G D z w r s a batch
+  change-answers (begins v) right = begin-answers G D z w r s a v
+  change-answers (reserves v places) right = reserve-answers G D z w r s a v places
+  change-answers (aborts v) right = abort-answers G D z w r s a v
+  change-answers (stores v home block batch) right = store-answers G D z w r s a v home block batch right
+  change-answers (commits v batch) right = commit-answers G D z w r s a v batch
+  change-answers (flushes batch) right = flush-answers G D z w r s a batch
 
-  service-answers : (c : Service) → replyOf (ends w (service c)) ≡ replyService s c
+  service-answers : (c : Service) → ServiceRights w s c → replyOf (ends w (service c)) ≡ replyService s c
   unfolding ends serviceEnds
-  service-answers (settles batch) = settle-answers G D z w r s a batch
-  service-answers roundBegins = begin-round-answers
-  service-answers (roundSteps k batch) = step-round-answers k batch
-  service-answers (trims batch) = trim-answers G D z w r s a batch
-  service-answers (reads v home block) = read-answers G D z w r s a v home block
+  service-answers (settles batch) right = settle-answers G D z w r s a batch
+  service-answers roundBegins right = begin-round-answers
+  service-answers (roundSteps k batch) right = step-round-answers k batch
+  service-answers (trims batch) right = trim-answers G D z w r s a batch
+  service-answers (reads v home block) right = read-answers G D z w r s a v home block right
 
-  pub call-answers : (c : Call) → isOpening c ≡ false → replyOf (ends w c) ≡ reply s c
+  pub call-answers : (c : Call) → isOpening c ≡ false → RightsAt w s c → replyOf (ends w c) ≡ reply s c
   unfolding ends reply isOpening
-  call-answers (opening state newest batch) e = absurd (false≢true (sym e))
-  call-answers confirm e = confirm-answers G D z w r s a
-  call-answers (change c) e = (unfold ends in change-answers c)
-  call-answers (service c) e = (unfold ends in service-answers c)
+  call-answers (opening state newest batch) e right = absurd (false≢true (sym e))
+  call-answers confirm e right = confirm-answers G D z w r s a
+  call-answers (change c) e right = (unfold ends in change-answers c right)
+  call-answers (service c) e right = (unfold ends in service-answers c right)

@@ -1,5 +1,5 @@
 -- The newest positions are true at every moment after a done opening, and a read, which uses them, gives what it gave while it searched the log.
-use Prim.Native.Nat.{ℕ, _-_, _*_, _≤_, _<_}
+use Prim.Native.Nat.{ℕ, _+_, _-_, _*_, _≤_, _<_}
 use mathlib.Core.Path.{_≡_, refl, sym, ap, _∙_, subst}
 use mathlib.Core.Logic.{inl, inr}
 use mathlib.Core.Bool.{Bool, true, false, cond, _&&_, false≢true}
@@ -13,11 +13,11 @@ use Rattle.model.specs.Tag.{present, homeOf}
 use Rattle.model.specs.declared.Tag.{Tag}
 use Rattle.model.specs.Layout.{homeAt}
 use Rattle.model.specs.Commit.{newestIn, orElse, newest}
-use Rattle.model.specs.State.{stateOf, nextPosition}
+use Rattle.model.specs.State.{stateOf, nextPosition, listHome}
 use Rattle.model.specs.Newest.{noPosition, keptAs, keptFor}
 use Rattle.model.specs.Effects.{Given, liveTags, liveBase, newestCommitted, current, ownElse, visible, isThere, keptPosition, shown}
 use Rattle.model.specs.Book.{homesAfter}
-use Rattle.model.specs.History.{Event, World, emptyStore, lent, step, AllAllowed}
+use Rattle.model.specs.History.{Event, World, emptyStore, unopened, lent, step, Allowed, AllAllowed}
 use Rattle.model.specs.Kept.{Kept, KeptThroughout, NewestKept}
 use Rattle.model.proofs.trace.TraceLaws.{All}
 use Rattle.model.proofs.invariant.Invariant.{Sizes, Running, Invariant}
@@ -27,6 +27,7 @@ use Rattle.model.proofs.steps.FormatRuns.{from-format}
 use Rattle.model.proofs.steps.Beginning.{format-closed}
 use Rattle.model.proofs.claims.LiveHolds.{current-is}
 use Rattle.model.proofs.claims.DemandThree.{keeps}
+use Rattle.model.proofs.claims.ListedSteps.{Listed, listed-keeps}
 use Rattle.model.proofs.claims.KeptSteps.{Placed, Kept-along, along-keeps, along-begins}
 
 -- ---- what is known of a newest position
@@ -122,8 +123,8 @@ module _ (G D : ℕ) (z : Sizes G D) (w : World) (r : Running G D w) (p : Placed
     unfolding visible
     shown-same l = ap (ownElse g) (shown-current l)
 
-  pub kept-holds : length (w .newest) ≡ 8 * D → Kept w
-  kept-holds e =
+  pub kept-holds : length (w .newest) ≡ 8 * D → Listed D (w .state) (w .newest) → Kept w
+  kept-holds e listed =
       let d : w .homes ≡ D = r .copies .homes in
       record {
         size = rw d e;
@@ -132,22 +133,33 @@ module _ (G D : ℕ) (z : Sizes G D) (w : World) (r : Running G D w) (p : Placed
             let i : h < D = subst (λ (n : ℕ). h < n) d l in
             shown-current [] 0 h i ∙ current-is G D (r .b) (r .tr) (r .old) w z (r .commits) (r .copies) [] 0 h i
             ∙ ap (λ (n : ℕ). homeAt (homesAfter n (w .book .commits)) h) (sym d);
+        listed = λ m. listed (subst (λ (n : ℕ). listHome + 4 ≤ n) d m);
         same = λ v h l. shown-same [] v h (subst (λ (n : ℕ). h < n) d l);
       }
 
 -- ---- every history
 
-module _ (G D : ℕ) (z : Sizes G D) where
-  kept-ready : (w : World) → Invariant G D w → Kept-along G D w → w .ready ≡ true → Kept w
-  kept-ready w (inl k) a h = absurd (false≢true (sym (k .ready) ∙ h))
-  kept-ready w (inr r) a h = kept-holds G D z w r (a .2 h) (a .1 .newest h)
+-- the positions go along in the newest strip, and in the state strip for the list's homes
+abbrev pub Kept-now : ℕ → ℕ → World → Type 0
+Kept-now G D w = Kept-along G D w × (w .ready ≡ true → Listed D (w .state) (w .newest))
 
-  kept-throughout : (es : List Event) (w : World) → Invariant G D w → Kept-along G D w → AllAllowed w es → KeptThroughout w es
+module _ (G D : ℕ) (z : Sizes G D) where
+  pub kept-ready : (w : World) → Invariant G D w → Kept-now G D w → w .ready ≡ true → Kept w
+  kept-ready w (inl k) a h = absurd (false≢true (sym (k .ready) ∙ h))
+  kept-ready w (inr r) a h = kept-holds G D z w r (a .0 .2 h) (a .0 .1 .newest h) (a .1 h)
+
+  pub now-keeps : (w : World) → Invariant G D w → Kept-now G D w → (e : Event) → Allowed w e → Kept-now G D (step w e)
+  now-keeps w i k e h = (along-keeps G D z w i (k .0) e h, listed-keeps G D z w i (k .0 .1 .newest) (k .1) e h)
+
+  pub now-begins : Kept-now G D (emptyStore G D)
+  now-begins = (along-begins G D z, λ h. absurd (false≢true (unfold emptyStore unopened in h)))
+
+  kept-throughout : (es : List Event) (w : World) → Invariant G D w → Kept-now G D w → AllAllowed w es → KeptThroughout w es
   kept-throughout [] w i k a = kept-ready w i k
   kept-throughout (e ∷ es) w i k a =
-      (kept-ready w i k, kept-throughout es (step w e) (keeps G D z w i e (a .0) .0) (along-keeps G D z w i k e (a .0)) (a .1))
+      (kept-ready w i k, kept-throughout es (step w e) (keeps G D z w i e (a .0) .0) (now-keeps w i k e (a .0)) (a .1))
 
 pub newest-kept : NewestKept
 newest-kept =
     from-format KeptThroughout
-    (λ G D z es a. kept-throughout G D z es (emptyStore G D) (inl (format-closed G D z)) (along-begins G D z) a)
+    (λ G D z es a. kept-throughout G D z es (emptyStore G D) (inl (format-closed G D z)) (now-begins G D z) a)

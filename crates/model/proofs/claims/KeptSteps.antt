@@ -360,7 +360,7 @@ module _ (G D : ℕ) (z : Sizes G D) where
   placed-keeps w i s a p (crash passed chosen) h = λ q. absurd (false≢true (unfold step afterCrash in q))
 
   pub along-keeps : (w : World) → Invariant G D w → Kept-along G D w → (e : Event) → Allowed w e → Kept-along G D (step w e)
-  along-keeps w i k e h = (follow (k .0) w e, follows G D z w i (k .0) (k .1) e h .1, placed-keeps w i (k .0) (k .1) (k .2) e h)
+  along-keeps w i k e h = (follow (k .0) w e, follows G D z w i (k .0) (k .1) e h, placed-keeps w i (k .0) (k .1) (k .2) e h)
 
   pub along-begins : Kept-along G D (emptyStore G D)
   along-begins = (newStore G D, empty-agrees G D z, λ h. absurd (false≢true (unfold emptyStore unopened in h)))

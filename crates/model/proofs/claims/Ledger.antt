@@ -21,6 +21,7 @@ use Rattle.model.specs.Promises.{none as nothing, grantTo, grantChange, 
 use Rattle.model.proofs.strip.PromiseLaws.{promise-setStart, promise-setNext, promise-setFilled, promise-setSettled, promise-setFenced, promise-setDurable, promise-setLast, promise-setRound, promise-setCursor, promise-setWriter, promise-setHeld, length-setPromise, promise-setPromise, promise-setPromise-other, promise-most}
 use Rattle.model.proofs.strip.WriterLaws.{length-setWriter, length-setHeld}
 use Rattle.model.proofs.strip.StateLaws.{length-setLast}
+use Rattle.model.proofs.strip.ListedLaws.{promise-carry}
 use Rattle.model.proofs.strip.OrderLaws.{InOrder, Promises, promise-fresh}
 use Rattle.model.proofs.strip.QuestionLaws.{begin-ready, reserve-ready, may-promise, abort-ready, StoreReady, store-ready, CommitReady, commit-ready}
 use Rattle.model.proofs.trace.Trace.{Ev}
@@ -272,8 +273,8 @@ module _ (G D : ℕ) (z : Sizes G D) (granted : ℕ → ℕ) (w : World) (r : Ru
         let t = holding-task (r .b) (r .tr) (writerOf s v) (heldOf s v) _ (tasks v) (leb-true 2 (writerOf s v .mode) f) (r .copies .tasks v lv₂) in
         rw (f, t .1)
         (agree-grant granted s _ _ v 0 idle (rw (filled-tasks (w .book)) a)
-        (promise-setPromise _ v 0 (length-setWriter _ v idleWriter ∙ length-setLast _ _ ∙ logged-size _ _) lv₂ (omega arith)) refl
-        (λ x l d. promise-setPromise-other _ v 0 x d ∙ promise-setWriter _ v idleWriter x l ∙ promise-setLast _ _ x ∙ logged-promise _ _ x))
+        (promise-carry _ _ _ v lv₂ ∙ promise-setPromise _ v 0 (length-setWriter _ v idleWriter ∙ length-setLast _ _ ∙ logged-size _ _) lv₂ (omega arith)) refl
+        (λ x l d. promise-carry _ _ _ x l ∙ promise-setPromise-other _ v 0 x d ∙ promise-setWriter _ v idleWriter x l ∙ promise-setLast _ _ x ∙ logged-promise _ _ x))
 
     commit-agrees : Agree (grantTo granted v 0) (commitEffect g₂ .state) (book.commit (w .book) v figure .tasks)
     commit-agrees = go (holds (writerOf s v)) refl
@@ -330,8 +331,8 @@ module _ (G D : ℕ) (z : Sizes G D) (granted : ℕ → ℕ) (w : World) (r : Ru
       go : (d : Bool) → Agree granted (cond d (newState (lent w [] batch 0 0) s 0) (trimTo (lent w [] batch 0 0) (stateOf s) start) .state) tasks
       go true x l = a x l
       go false x l =
-          rw (promise-setLast (setFenced (setStart s start) (7 * stateOf s .next)) _ x, promise-setFenced (setStart s start) (7 * stateOf s .next) x, promise-setStart s start x)
-          (a x l)
+          promise-carry _ _ _ x l ∙ promise-setLast (setFenced (setStart s start) (7 * stateOf s .next)) _ x
+          ∙ promise-setFenced (setStart s start) (7 * stateOf s .next) x ∙ promise-setStart s start x ∙ a x l
 
   -- ---- a done call
 
@@ -406,7 +407,7 @@ unfolding ends openCall nothing
 open-agrees w state newest batch tasks h x l =
     let g = loaded w state newest batch in
     let e : Effect = openEffect g in
-    rw (state-done (openCall g) g (openAnswer g (openStart g) (sizeOf e)) e refl h) (unfold openEffect in rw promise-fresh (omega arith))
+    rw (state-done (openCall g) g (openAnswer g (openStart g) (sizeOf e)) e refl h) (unfold openEffect in (promise-fresh _ _ _ x l ∙ omega arith))
 
 opening-agrees : (granted : ℕ → ℕ) (w : World) (c : Call) → isOpening c ≡ true → ends w c .code ≡ 0 → Ledger (grantDone granted c) (afterDone w c (ends w c))
 unfolding isOpening grantDone afterDone

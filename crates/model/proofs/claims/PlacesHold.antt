@@ -10,29 +10,31 @@ use lib.ListN.{length, length-append}
 use borrow.Author.Tests.{eq-eqb, leb-true, ltb-true, eqb-true, le-leb, lt-leb, ltb-false, ne-eqb}
 use Rattle.model.specs.Layout.{maxStart}
 use Rattle.model.specs.State.{State, stateOf, nextPosition, promiseOf, Writer, writerOf, heldOf}
-use Rattle.model.specs.Effects.{marked}
-use Rattle.model.specs.Questions.{ask}
-use Rattle.model.specs.Calls.{Outcome}
+use Rattle.model.specs.Effects.{Given, storeEffect, marked}
+use Rattle.model.specs.Questions.{ask, writerKnown, storeAnswer}
+use Rattle.model.specs.Calls.{Outcome, sizeOf, storeCall}
 use mathlib.Core.Option.{Option, none, some}
 use Rattle.model.specs.Book.{Kept, row, persisted, Entry, Held, Task, idle, opened, Book}
 use Rattle.model.specs.Book as book
 use Rattle.model.specs.Demands.{free as mayBe, keptBefore, someBefore, openBefore, anyOpenBefore, anyAcross}
-use Rattle.model.specs.History.{Change, begins, reserves, aborts, stores, commits, flushes, Service, settles, trims, reads, Call, opening, confirm, change, service, flush, settle, trim, Event, call, crash, World, unopened, emptyStore, ends, feed, feedChange, isOpening, afterDone, afterCall, afterCrash, step, Allowed, AllAllowed}
+use Rattle.model.specs.History.{Change, begins, reserves, aborts, stores, commits, flushes, Service, settles, trims, reads, Call, opening, confirm, change, service, flush, settle, trim, Event, call, crash, World, unopened, emptyStore, lent, ends, changeEnds, feed, feedChange, isOpening, afterDone, afterCall, afterCrash, step, Allowed, AllAllowed}
 use Rattle.model.specs.Store.{Store, newStore, firstGroup, nextGroup, nextOf, placesLeft, promisedTo, mayFlush, isIdle, storeMustLog, commitMustLog, manyHomes, toSettle, mayStart, nextStart, Reply, told, askBatch, replyChange, replyService, reply, replyOf, numbered, inRound, fencedAfter, trimmedTo, afterService, afterReply, follow}
 use Rattle.model.specs.Store as store
 use Rattle.model.specs.Places.{Fate, Class, live, dead, free, many, liesAt, anyAt, taskAt, enter, enterCall, enterEvent, Accounted, AllIdle, Drained, Drains, drained, HeldBack, Told, AccountedThroughout, PlacesAccounted}
-use Rattle.model.proofs.strip.QuestionLaws.{ask-passed, and-true}
+use Rattle.model.proofs.strip.QuestionLaws.{ask-passed, and-true, store-ready}
 use Rattle.model.proofs.strip.OrderLaws.{InOrder}
 use Rattle.model.proofs.trace.Trace.{Ev, hist, closerOf, Apart}
 use Rattle.model.proofs.trace.TraceLaws.{Rising, done-rising}
 use Rattle.model.proofs.invariant.Invariant.{Sizes, TaskOk, Running, Closed, Invariant}
 use Rattle.model.proofs.steps.RefusalLaws.{step-refused}
+use Rattle.model.proofs.steps.DoneLaws.{outcome-code}
 use Rattle.model.proofs.steps.Beginning.{format-closed}
 use Rattle.model.proofs.steps.FormatRuns.{sizes, after-format}
 use Rattle.model.proofs.steps.TrimRuns.{MayMove, trim-may, trim-most}
 use Rattle.model.proofs.claims.DemandThree.{keeps}
 use Rattle.model.proofs.claims.TrimYields.{trimmed, none-open}
 use Rattle.model.proofs.claims.StoreAnswers.{Agrees, first-is, next-is, filled-is, position-is, may-is, start-is}
+use Rattle.model.proofs.claims.RightsHold.{ChangeRights, RightsAt}
 use Rattle.model.proofs.claims.CallAnswers.{call-answers}
 use Rattle.model.proofs.claims.StoreFollows.{follows, service-same, empty-agrees}
 use Rattle.model.proofs.claims.LedgerLaws.{many-all, many-free}
@@ -118,31 +120,33 @@ LedBy s fs = Led (firstGroup s) (s .book) fs
 
 module _ (G D : ℕ) (z : Sizes G D) (w : World) (r : Running G D w) (s : Store) (a : Agrees G D w s) (fs : List Fate) (l : LedBy s fs) where
   -- what a done call was answered
-  passed-reply : (c : Call) → isOpening c ≡ false → ends w c .code ≡ 0 → reply s c .code ≡ 0
-  passed-reply c n h = sym (reply-code (ends w c) (reply s c) (call-answers G D z w r s a c n)) ∙ h
+  passed-reply : (c : Call) → isOpening c ≡ false → RightsAt w s c → ends w c .code ≡ 0 → reply s c .code ≡ 0
+  passed-reply c n right h = sym (reply-code (ends w c) (reply s c) (call-answers G D z w r s a c n right)) ∙ h
 
-  change-reply : (c : Change) → ends w (change c) .code ≡ 0 → replyChange s c .code ≡ 0
+  change-reply : (c : Change) → ChangeRights w s c → ends w (change c) .code ≡ 0 → replyChange s c .code ≡ 0
   unfolding reply
-  change-reply c h = passed-reply (change c) (unfold isOpening in refl) h
+  change-reply c right h = passed-reply (change c) (unfold isOpening in refl) right h
 
   begin-idle : (v : ℕ) → ends w (change (begins v)) .code ≡ 0 → isIdle (s .book .tasks v) ≡ true
   unfolding replyChange
   begin-idle v h =
-      let e : ask (ltb v 8) 4 (ask (isIdle (s .book .tasks v)) 6 0) ≡ 0 = told-done _ 0 0 (change-reply (begins v) h) in
+      let e : ask (ltb v 8) 4 (ask (isIdle (s .book .tasks v)) 6 0) ≡ 0 = told-done _ 0 0 (change-reply (begins v) tt h) in
       ask-passed (isIdle (s .book .tasks v)) 5 0 (ask-passed (ltb v 8) 3 (ask (isIdle (s .book .tasks v)) 6 0) e .1) .0
 
   reserve-idle : (v m : ℕ) → ends w (change (reserves v m)) .code ≡ 0 → isIdle (s .book .tasks v) ≡ true
   unfolding replyChange
-  reserve-idle v m h = ask-passed (isIdle (s .book .tasks v)) 5 _ (ask-passed (ltb v 8) 3 _ (told-done _ 0 0 (change-reply (reserves v m) h)) .1) .0
+  reserve-idle v m h = ask-passed (isIdle (s .book .tasks v)) 5 _ (ask-passed (ltb v 8) 3 _ (told-done _ 0 0 (change-reply (reserves v m) tt h)) .1) .0
 
   store-writer : (v home : ℕ) (block batch : List ℕ) → ends w (change (stores v home block batch)) .code ≡ 0 → v < 8
-  unfolding replyChange
+  unfolding ends changeEnds storeCall writerKnown lent
   store-writer v home block batch h =
-      ltb-true v 8 (ask-passed (ltb v 8) 3 _ (ask-passed (eqb (length block) 64) 0 _ (told-done _ 0 _ (change-reply (stores v home block batch) h)) .1) .0)
+      let g : Given = lent w block batch v home in
+      ltb-true v 8
+      (store-ready g (sizeOf (storeEffect g)) (sym (outcome-code g (storeAnswer g (sizeOf (storeEffect g))) (storeEffect g)) ∙ h) .writer)
 
   commit-writer : (v : ℕ) (batch : List ℕ) → ends w (change (commits v batch)) .code ≡ 0 → v < 8
   unfolding replyChange
-  commit-writer v batch h = ltb-true v 8 (ask-passed (ltb v 8) 3 _ (told-done _ _ _ (change-reply (commits v batch) h)) .0)
+  commit-writer v batch h = ltb-true v 8 (ask-passed (ltb v 8) 3 _ (told-done _ _ _ (change-reply (commits v batch) tt h)) .0)
 
   change-led : (c : Change) (figure : ℕ) → ends w (change c) .code ≡ 0 → Led (firstGroup s) (feedChange (s .book) c figure) (enter s c fs)
   unfolding feedChange enter
@@ -394,12 +398,12 @@ module _ (G D : ℕ) (z : Sizes G D) (w : World) (r : Running G D w) (s : Store)
   next-running = running-of G D (step w (call c)) (keeps G D z w (inr r) (call c) may-call .0) (step-ready w c h)
 
   next-agrees : Agrees G D (step w (call c)) (follow s w (call c))
-  next-agrees = follows G D z w (inr r) s a (call c) may-call .1
+  next-agrees = follows G D z w (inr r) s a (call c) may-call
 
 -- a call of an era is done if the store says so
-answered : (G D : ℕ) (z : Sizes G D) (w : World) (r : Running G D w) (s : Store) → Agrees G D w s → (c : Call) → isOpening c ≡ false → reply s c .code ≡ 0
+answered : (G D : ℕ) (z : Sizes G D) (w : World) (r : Running G D w) (s : Store) → Agrees G D w s → (c : Call) → isOpening c ≡ false → RightsAt w s c → reply s c .code ≡ 0
     → ends w c .code ≡ 0
-answered G D z w r s a c n h = reply-code (ends w c) (reply s c) (call-answers G D z w r s a c n) ∙ h
+answered G D z w r s a c n right h = reply-code (ends w c) (reply s c) (call-answers G D z w r s a c n right) ∙ h
 
 change-is : (c : Change) → isOpening (change c) ≡ false
 unfolding isOpening
@@ -452,7 +456,7 @@ module _ (G D : ℕ) (z : Sizes G D) (w : World) (r : Running G D w) (s : Store)
 
   flush-done : ends w (flush first) .code ≡ 0
   flush-done =
-      answered G D z w r s a (flush first) (change-is (flushes first))
+      answered G D z w r s a (flush first) (change-is (flushes first)) tt
       (ap (λ (x : Reply). x .code) (reply-change s (flushes first)) ∙ flush-reply s first none-promised l₁)
 
   abbrev w₁ : World
@@ -484,7 +488,7 @@ module _ (G D : ℕ) (z : Sizes G D) (w : World) (r : Running G D w) (s : Store)
 
   settle-done : ends w₁ (settle second) .code ≡ 0
   settle-done =
-      answered G D z w₁ r₁ s₁ a₁ (settle second) (service-is (settles second))
+      answered G D z w₁ r₁ s₁ a₁ (settle second) (service-is (settles second)) tt
       (ap (λ (x : Reply). x .code) (reply-service s₁ (settles second)) ∙ settle-reply s₁ second round₁ (omega (arith, a .homes, a₁ .homes)))
 
   abbrev w₂ : World
@@ -527,7 +531,7 @@ module _ (G D : ℕ) (z : Sizes G D) (w : World) (r : Running G D w) (s : Store)
 
   trim-done : ends w₂ (trim third) .code ≡ 0
   trim-done =
-      answered G D z w₂ r₂ s₂ a₂ (trim third) (service-is (trims third))
+      answered G D z w₂ r₂ s₂ a₂ (trim third) (service-is (trims third)) tt
       (ap (λ (x : Reply). x .code) (reply-service s₂ (trims third)) ∙ trim-reply s₂ third (omega (arith, start₂, next₂)) l₃)
 
   abbrev s₃ : Store
@@ -572,7 +576,7 @@ module _ (G D : ℕ) (z : Sizes G D) where
   throughout [] w s fs i a l h = told-all w i s a fs l
   throughout (e ∷ es) w s fs i a l h = (
     told-all w i s a fs l,
-    throughout es (step w e) (follow s w e) (enterEvent s w e fs) (keeps G D z w i e (h .0) .0) (follows G D z w i s a e (h .0) .1)
+    throughout es (step w e) (follow s w e) (enterEvent s w e fs) (keeps G D z w i e (h .0) .0) (follows G D z w i s a e (h .0))
         (led-keeps G D z w i s a fs l e (h .0)) (h .1),
   )
 

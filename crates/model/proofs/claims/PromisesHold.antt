@@ -55,8 +55,9 @@ store-never g size l =
     (ask-never _ 2 _ 8 (λ e. omega arith)
     (ask-never _ 4 _ 8 (λ e. omega arith)
     (ask-never _ 5 _ 8 (λ e. omega arith)
+    (ask-never _ 19 _ 8 (λ e. omega arith)
     (ask-never _ 7 _ 8 (λ e. omega arith)
-    (yes-never _ 8 _ 8 (room-left (g .state) (g .writer) (storeLogs g) l) (ask-never _ 9 _ 8 (λ e. omega arith) (λ e. omega arith)))))))
+    (yes-never _ 8 _ 8 (room-left (g .state) (g .writer) (storeLogs g) l) (ask-never _ 9 _ 8 (λ e. omega arith) (λ e. omega arith))))))))
 
 commit-never : (g : Given) (size : ℕ) → 1 ≤ promiseOf (g .state) (g .writer) → commitAnswer g size ≢ 8
 unfolding commitAnswer askNewest room

@@ -1,4 +1,4 @@
--- A refused call leaves everything that it was lent as it was, field by field, and its number is one of ten. Assumes nothing.
+-- A refused call leaves everything that it was lent as it was, field by field, and its number is one of those that refuse. Assumes nothing.
 use mathlib.Core.Path.{_≡_, refl}
 use mathlib.Core.Logic.{_⊎_, inl, inr}
 use mathlib.Core.Bool.{Bool, true, false, not, _&&_, _||_}
@@ -67,7 +67,7 @@ abort-untouched g = by-number g _ _ (state-known g _ (known _ 4 _ refl (known _ 
 store-untouched : DoneOrUntouched storeCall
 unfolding storeCall storeAnswer refuses
 store-untouched g =
-    by-number g _ _ (block-known g _ (known _ 4 _ refl (known _ 5 _ refl (known _ 7 _ refl (known _ 8 _ refl (known _ 9 0 refl refl))))))
+    by-number g _ _ (block-known g _ (known _ 4 _ refl (known _ 5 _ refl (known _ 19 _ refl (known _ 7 _ refl (known _ 8 _ refl (known _ 9 0 refl refl)))))))
 
 commit-untouched : DoneOrUntouched commitCall
 unfolding commitCall commitAnswer refuses
@@ -99,7 +99,7 @@ trim-untouched g = by-number g _ _ (newest-known g _ (known _ 10 _ refl (known _
 
 read-untouched : DoneOrUntouched readCall
 unfolding readCall readAnswer refuses
-read-untouched g = by-number g _ _ (both-known g _ (known _ 4 _ refl (known _ 5 0 refl refl)))
+read-untouched g = by-number g _ _ (both-known g _ (known _ 4 _ refl (known _ 5 _ refl (known _ 20 0 refl refl))))
 
 pub refusals : Refusals
 refusals n =

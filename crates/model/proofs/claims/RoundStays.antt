@@ -53,7 +53,7 @@ module _ (G D : ℕ) (z : Sizes G D) (w : World) (r : Running G D w) (s : Store)
       → ends w (change (commits v batch)) .figure ≡ cond (commitMustLog (s .book .tasks v)) (nextOf s + 1) 0
   unfolding reply replyChange replyOf isOpening
   commit-figure v batch h =
-      let q : replyOf (ends w (change (commits v batch))) ≡ reply s (change (commits v batch)) = call-answers G D z w r s a (change (commits v batch)) refl in
+      let q : replyOf (ends w (change (commits v batch))) ≡ reply s (change (commits v batch)) = call-answers G D z w r s a (change (commits v batch)) refl tt in
       ap (λ (x : Reply). x .figure) q ∙ told-figure _ _ _ (sym (ap (λ (x : Reply). x .code) q) ∙ h)
 
   above : s .round ≤ nextOf s + 1

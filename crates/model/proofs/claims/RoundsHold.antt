@@ -222,7 +222,7 @@ module _ (G D : ℕ) (z : Sizes G D) where
   throughout [] w s i g a = kept-ready w i
   throughout (e ∷ es) w s i g a =
       let j : Invariant G D (step w e) = keeps G D z w i e (a .0) .0 in
-      let b : Agrees G D (step w e) (follow s w e) = follows G D z w i s g e (a .0) .1 in (
+      let b : Agrees G D (step w e) (follow s w e) = follows G D z w i s g e (a .0) in (
         kept-ready w i,
         raises-at w i e (a .0),
         stays-at w i s g e (a .0) j b,

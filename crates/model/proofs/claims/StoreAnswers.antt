@@ -16,12 +16,13 @@ use Rattle.model.specs.Commit.{transactions, newest, found}
 use Rattle.model.specs.Batch.{Record, GW, KW, FN, recordBytes, batchBytes}
 use Rattle.model.specs.State.{State, stateOf, nextPosition, promiseOf, promised, places, freePlaces, Writer, writerOf, heldOf, isOpen, holds, underWay}
 use Rattle.model.specs.Effects.{Given, Effect, groups, homes, logged, logHeld, logClosing, beginEffect, reserveEffect, abortEffect, storeFirst, storeAgain, storeOther, storeEffect, commitHeld, commitEffect, flushNone, flushPart, flushEffect, confirmEffect, settleEffect, trimStart, trimTo, trimEffect, readEffect, newState, openEffect, openStart, touched, marked, blankWrites, homeWrites, largest}
-use Rattle.model.specs.Questions.{ask, areasRight, stateRight, blockRight, stripInOrder, headerFits, writerKnown, homeKnown, writerOpen, roomFor, room, mayPromise, keepsPromises, storeLogs, commitLogs, startFits, batchFits, openAnswer, askState, askBlock, beginAnswer, reserveAnswer, abortAnswer, storeAnswer, commitAnswer, flushAnswer, confirmAnswer, settleAnswer, trimAnswer, readAnswer, newestRight, askNewest, askBoth, inRound}
+use Rattle.model.specs.Rights.{mayStore, mayRead}
+use Rattle.model.specs.Questions.{ask, areasRight, stateRight, blockRight, stripInOrder, headerFits, writerKnown, homeKnown, storeAllowed, readAllowed, writerOpen, roomFor, room, mayPromise, keepsPromises, storeLogs, commitLogs, startFits, batchFits, openAnswer, askState, askBlock, beginAnswer, reserveAnswer, abortAnswer, storeAnswer, commitAnswer, flushAnswer, confirmAnswer, settleAnswer, trimAnswer, readAnswer, newestRight, askNewest, askBoth, inRound}
 use Rattle.model.specs.Calls.{Outcome, outcome, sizeOf, openCall, beginCall, reserveCall, abortCall, storeCall, commitCall, flushCall, confirmCall, settleCall, trimCall, readCall}
 use Rattle.model.specs.Book.{Held, Task, idle, opened, Book, homesAfter}
 use Rattle.model.specs.History.{Change, begins, reserves, aborts, stores, commits, flushes, Service, settles, trims, reads, Call, opening, confirm, change, service, World, lent, loaded, ends, changeEnds, serviceEnds, isOpening}
 use Rattle.model.specs.Demands.{eachContents, untrimmed, closedBelow, free, firstGroup as groupOfRow, Trimmed}
-use Rattle.model.specs.Store.{Store, firstGroup, nextGroup, nextOf, placesLeft, promisedTo, freeLeft, hasRoom, mayFlush, entryBytes, isIdle, storeMustLog, commitMustLog, anyWrote, manyHomes, toSettle, mayStart, nextStart, Reply, told, askBatch, replyChange, replyService, reply, replyOf, foundInMemory}
+use Rattle.model.specs.Store.{Store, firstGroup, nextGroup, nextOf, placesLeft, promisedTo, freeLeft, hasRoom, mayFlush, entryBytes, isIdle, storeMustLog, commitMustLog, anyWrote, manyHomes, toSettle, mayStart, nextStart, listOf, Reply, told, askBatch, replyChange, replyService, reply, replyOf, foundInMemory}
 use Rattle.model.proofs.bytes.LayoutLaws.{groups-in, homes-in, log-length-right, data-length-right, length-groupAt, group-fits, length-header}
 use Rattle.model.proofs.strip.BatchLaws.{length-GW, length-KW, length-FN, batch-append, batch-one}
 use Rattle.model.proofs.strip.OrderLaws.{InOrder, order-in}
@@ -282,19 +283,22 @@ module _ (G D : ℕ) (z : Sizes G D) (w : World) (r : Running G D w) (s : Store)
       answers g (abortAnswer g) (abortEffect g) (ask (ltb v 8) 4 (ask (not (isIdle (s .book .tasks v))) 7 0)) 0 0 (abort-number v)
       (λ e. (unfold abortEffect newState in refl, size-none (abortEffect g) (unfold abortEffect newState in refl)))
 
-  read-number : (v h : ℕ) (block : List ℕ)
-      → readAnswer (lent w block [] v h) ≡ ask (eqb (length block) 64) 1 (ask (ltb v 8) 4 (ask (ltb h (s .homes)) 5 0))
+  -- the rights are those of the abstract store's list (RightsHold)
+  read-number : (v h : ℕ) (block : List ℕ) → readAllowed (lent w block [] v h) ≡ mayRead (s .homes) (listOf s) v h
+      → readAnswer (lent w block [] v h)
+      ≡ ask (eqb (length block) 64) 1 (ask (ltb v 8) 4 (ask (ltb h (s .homes)) 5 (ask (mayRead (s .homes) (listOf s) v h) 20 0)))
   unfolding readAnswer writerKnown lent
-  read-number v h block =
-      asked-both block [] v h (ask (ltb v 8) 4 (ask (homeKnown (lent w block [] v h)) 5 0))
-      ∙ ap (λ (b : Bool). ask (eqb (length block) 64) 1 (ask (ltb v 8) 4 (ask b 5 0))) (home-is block [] v h)
+  read-number v h block right =
+      asked-both block [] v h (ask (ltb v 8) 4 (ask (homeKnown (lent w block [] v h)) 5 (ask (readAllowed (lent w block [] v h)) 20 0)))
+      ∙ ap (λ (b : Bool). ask (eqb (length block) 64) 1 (ask (ltb v 8) 4 (ask b 5 (ask (readAllowed (lent w block [] v h)) 20 0)))) (home-is block [] v h)
+      ∙ ap (λ (b : Bool). ask (eqb (length block) 64) 1 (ask (ltb v 8) 4 (ask (ltb h (s .homes)) 5 (ask b 20 0)))) right
 
-  pub read-answers : (v h : ℕ) (block : List ℕ) → replyOf (readCall (lent w block [] v h)) ≡ replyService s (reads v h block)
+  pub read-answers : (v h : ℕ) (block : List ℕ) → readAllowed (lent w block [] v h) ≡ mayRead (s .homes) (listOf s) v h
+      → replyOf (readCall (lent w block [] v h)) ≡ replyService s (reads v h block)
   unfolding readCall replyService
-  read-answers v h block =
+  read-answers v h block right =
       let g : Given = lent w block [] v h in
-      answers g (readAnswer g) (readEffect g) (ask (eqb (length block) 64) 1 (ask (ltb v 8) 4 (ask (ltb h (s .homes)) 5 0))) 0 0
-      (read-number v h block) (λ e. (unfold readEffect in refl, size-none (readEffect g) (unfold readEffect in refl)))
+      answers g (readAnswer g) (readEffect g) _ 0 0 (read-number v h block right) (λ e. (unfold readEffect in refl, size-none (readEffect g) (unfold readEffect in refl)))
 
   pub confirm-answers : replyOf (confirmCall (lent w [] [] 0 0)) ≡ reply s confirm
   unfolding confirmCall reply
@@ -341,45 +345,50 @@ module _ (G D : ℕ) (z : Sizes G D) (w : World) (r : Running G D w) (s : Store)
   store-size v h block batch l =
       store-bytes v h block batch ∙ ap (λ (b : Bool). cond b (entryBytes s) 0) (store-logs block batch v h l)
 
-  store-inner : (v h : ℕ) (block batch : List ℕ) → v < 8
+  store-inner : (v h : ℕ) (block batch : List ℕ) → storeAllowed (lent w block batch v h) ≡ mayStore (s .homes) (listOf s) v h → v < 8
       → ask (homeKnown (lent w block batch v h)) 5
+      (ask (storeAllowed (lent w block batch v h)) 19
       (ask (writerOpen (lent w block batch v h)) 7
       (ask (not (storeLogs (lent w block batch v h)) || room (lent w block batch v h)) 8
-      (ask (batchFits (lent w block batch v h) (sizeOf (storeEffect (lent w block batch v h)))) 9 0)))
+      (ask (batchFits (lent w block batch v h) (sizeOf (storeEffect (lent w block batch v h)))) 9 0))))
       ≡ ask (ltb h (s .homes)) 5
+      (ask (mayStore (s .homes) (listOf s) v h) 19
       (ask (not (isIdle (s .book .tasks v))) 7
-      (ask (not (storeMustLog (s .book .tasks v) h) || hasRoom s v) 8 (askBatch (cond (storeMustLog (s .book .tasks v) h) (entryBytes s) 0) batch)))
-  store-inner v h block batch l =
+      (ask (not (storeMustLog (s .book .tasks v) h) || hasRoom s v) 8 (askBatch (cond (storeMustLog (s .book .tasks v) h) (entryBytes s) 0) batch))))
+  store-inner v h block batch right l =
       rw (
         home-is block batch v h,
+        right,
         open-is block batch v h l,
         room-is block batch v h l,
         batch-is block batch v h _ _ (store-size v h block batch l),
         store-logs block batch v h l,
       )
 
-  store-number : (v h : ℕ) (block batch : List ℕ)
+  store-number : (v h : ℕ) (block batch : List ℕ) → storeAllowed (lent w block batch v h) ≡ mayStore (s .homes) (listOf s) v h
       → storeAnswer (lent w block batch v h) (sizeOf (storeEffect (lent w block batch v h)))
       ≡ ask (eqb (length block) 64) 1
       (ask (ltb v 8) 4
       (ask (ltb h (s .homes)) 5
+      (ask (mayStore (s .homes) (listOf s) v h) 19
       (ask (not (isIdle (s .book .tasks v))) 7
-      (ask (not (storeMustLog (s .book .tasks v) h) || hasRoom s v) 8 (askBatch (cond (storeMustLog (s .book .tasks v) h) (entryBytes s) 0) batch)))))
+      (ask (not (storeMustLog (s .book .tasks v) h) || hasRoom s v) 8 (askBatch (cond (storeMustLog (s .book .tasks v) h) (entryBytes s) 0) batch))))))
   unfolding storeAnswer writerKnown lent
-  store-number v h block batch =
+  store-number v h block batch right =
       asked-block block batch v h _
-      ∙ ap (λ (k : ℕ). ask (eqb (length block) 64) 1 k) (ask-same (ltb v 8) 4 _ _ (λ l. store-inner v h block batch (ltb-true v 8 l)))
+      ∙ ap (λ (k : ℕ). ask (eqb (length block) 64) 1 k) (ask-same (ltb v 8) 4 _ _ (λ l. store-inner v h block batch right (ltb-true v 8 l)))
 
   -- what an answer of 0 says of the writer
   known : (b c : Bool) (v k : ℕ) → ask b 1 (ask (ltb v 8) 4 k) ≡ 0 → v < 8
   known b c v k e = ltb-true v 8 (ask-passed (ltb v 8) 3 k (ask-passed b 0 (ask (ltb v 8) 4 k) e .1) .0)
 
-  pub store-answers : (v h : ℕ) (block batch : List ℕ) → replyOf (storeCall (lent w block batch v h)) ≡ replyChange s (stores v h block batch)
+  pub store-answers : (v h : ℕ) (block batch : List ℕ) → storeAllowed (lent w block batch v h) ≡ mayStore (s .homes) (listOf s) v h
+      → replyOf (storeCall (lent w block batch v h)) ≡ replyChange s (stores v h block batch)
   unfolding storeCall replyChange
-  store-answers v h block batch =
+  store-answers v h block batch right =
       let g : Given = lent w block batch v h in
       answers g (storeAnswer g (sizeOf (storeEffect g))) (storeEffect g) _ 0 (cond (storeMustLog (s .book .tasks v) h) (entryBytes s) 0)
-      (store-number v h block batch)
+      (store-number v h block batch right)
       (λ e. (figure-zero v h block batch, store-size v h block batch (known (eqb (length block) 64) true v _ e)))
     where
       figure-zero : (v h : ℕ) (block batch : List ℕ) → storeEffect (lent w block batch v h) .figure ≡ 0

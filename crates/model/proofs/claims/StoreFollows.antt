@@ -18,13 +18,14 @@ use Rattle.model.specs.Crash.{Memory, fences, persist, fates}
 use Rattle.model.specs.Book.{Book, homesAfter, run}
 use Rattle.model.specs.Book as book
 use Rattle.model.specs.Demands.{untrimmed}
-use Rattle.model.specs.History.{Change, begins, reserves, aborts, stores, commits, flushes, Service, settles, trims, reads, Call, opening, confirm, change, service, Event, call, crash, World, unopened, emptyStore, lent, loaded, ends, changeEnds, serviceEnds, feed, isOpening, afterDone, afterCall, afterCrash, step, Allowed, AllAllowed, rowFates, roundBegins, roundSteps}
-use Rattle.model.specs.Store.{Store, newStore, firstGroup, nextGroup, nextOf, nextStart, replyOf, reply, storeMustLog, lastAfter, fencedAfter, setFor, promisesAfter, numbered, trimmedTo, afterService, afterReply, follow, foundInMemory, AnswersAt, AnswersThroughout, Answers, inRound, roundOver, toStep}
+use Rattle.model.specs.History.{Change, begins, reserves, aborts, stores, commits, flushes, Service, settles, trims, reads, Call, opening, confirm, change, service, Event, call, crash, World, unopened, emptyStore, lent, loaded, ends, changeEnds, serviceEnds, feed, isOpening, afterDone, afterCall, afterCrash, step, Allowed, rowFates, roundBegins, roundSteps}
+use Rattle.model.specs.Store.{Store, newStore, firstGroup, nextGroup, nextOf, nextStart, replyOf, storeMustLog, lastAfter, fencedAfter, setFor, promisesAfter, numbered, trimmedTo, afterService, afterReply, follow, foundInMemory, inRound, roundOver, toStep}
 use Rattle.model.specs.Store as store
 use Rattle.model.proofs.bytes.LayoutLaws.{groups-in, homes-in}
 use Rattle.model.proofs.strip.StateLaws.{withStart, withFenced, withSettled, withLast, withDurable, withNext, withFilled, length-setNext, length-setFilled, state-setNext, state-setFilled, state-setFenced, state-setDurable, state-setLast, length-setLast}
 use Rattle.model.proofs.strip.WriterLaws.{length-setWriter, length-setHeld, state-setWriter, state-setHeld}
 use Rattle.model.proofs.strip.PromiseLaws.{promise-setStart, promise-setNext, promise-setFilled, promise-setSettled, promise-setFenced, promise-setDurable, promise-setLast, promise-setWriter, promise-setHeld, state-setPromise, promise-setPromise, promise-setPromise-other, promise-most}
+use Rattle.model.proofs.strip.ListedLaws.{state-carry, promise-carry}
 use Rattle.model.proofs.strip.OrderLaws.{InOrder, state-fresh, promise-fresh}
 use Rattle.model.proofs.strip.NewestLaws.{length-nothing}
 use Rattle.model.proofs.strip.QuestionLaws.{reserve-ready, may-promise, abort-ready, store-ready, commit-ready, trim-ready, open-ready}
@@ -36,15 +37,12 @@ use Rattle.model.proofs.steps.DoneLaws.{outcome-code}
 use Rattle.model.proofs.steps.NewestSteps.{newest-length, open-newest}
 use Rattle.model.proofs.steps.LogRuns.{Advance, logged-numbers, logged-writers}
 use Rattle.model.proofs.steps.SettleRuns.{newArea, due, effect, settle-effect, numbers}
-use Rattle.model.proofs.steps.TrimRuns.{MayMove, trim-may, lastKept, moved-numbers}
+use Rattle.model.proofs.steps.TrimRuns.{MayMove, trim-may, lastKept, renumbered-is}
 use Rattle.model.proofs.steps.CrashRuns.{image, same-memory}
 use Rattle.model.proofs.steps.OpenStep.{opens-with, open-effect}
-use Rattle.model.proofs.steps.Beginning.{format-closed, formatted-start, formatted-found}
-use Rattle.model.proofs.steps.FormatRuns.{sizes, after-format}
-use Rattle.model.proofs.claims.DemandThree.{keeps}
+use Rattle.model.proofs.steps.Beginning.{formatted-start, formatted-found}
 use Rattle.model.proofs.claims.Yields.{ends-done}
-use Rattle.model.proofs.claims.StoreAnswers.{Numbers, Agrees, first-is, next-is, filled-is, position-is, start-is, store-logs, open-answers}
-use Rattle.model.proofs.claims.CallAnswers.{call-answers}
+use Rattle.model.proofs.claims.StoreAnswers.{Numbers, Agrees, first-is, next-is, filled-is, position-is, start-is, store-logs}
 use Rattle.model.proofs.claims.RoundFollows.{begin-round-numbers, begin-round-promises, step-round-numbers, step-round-promises}
 
 -- what a done call leaves in the strip and gives as its figure
@@ -163,7 +161,7 @@ module _ (G D : ℕ) (z : Sizes G D) (w : World) (r : Running G D w) (s : Store)
       let ad = advanced word (heldOf (w .state) v) in
       let q : p ≡ 7 * st .next + st .filled = unfold nextPosition in refl in
       subst (λ (q : State). Numbers (numbered s (s .start) (s .settled) (s .fenced) (s .durable) (p + 1) ps b) q)
-      (sym (state-setPromise (setWriter (setLast after (p + 1)) v idle) v 0 wk ∙ state-setWriter (setLast after (p + 1)) v idle
+      (sym (state-carry _ _ (setPromise (setWriter (setLast after (p + 1)) v idle) v 0) ∙ state-setPromise (setWriter (setLast after (p + 1)) v idle) v 0 wk ∙ state-setWriter (setLast after (p + 1)) v idle
       ∙ state-setLast after (p + 1) (logged-size word (heldOf (w .state) v)) (omega (arith, next-small, q, o .filled-most))))
       (numbers-as s ps b (s .start) (s .settled) (s .fenced) (s .durable) (p + 1) (withLast (stateOf after) (p + 1)) (n .start ∙ sym (ad .start))
       (n .settled ∙ sym (ad .settled)) (n .fenced ∙ sym (ad .fenced)) (n .durable ∙ sym (ad .durable)) refl (n .round ∙ sym (ad .round)) (n .cursor ∙ sym (ad .cursor)))
@@ -370,6 +368,7 @@ module _ (G D : ℕ) (z : Sizes G D) (w : World) (r : Running G D w) (s : Store)
       set-promise (setWriter (setLast after (p + 1)) v idle) v 0 x
       (length-setWriter (setLast after (p + 1)) v idle ∙ length-setLast after (p + 1) ∙ k .size) lv (omega arith) lx
       (λ y m. promise-setWriter (setLast after (p + 1)) v idle y m ∙ promise-setLast after (p + 1) y ∙ k .promise y)
+      ∙ sym (promise-carry _ _ (setPromise (setWriter (setLast after (p + 1)) v idle) v 0) x lx)
 
   commit-promises : (v : ℕ) (batch : List ℕ) (x : ℕ) → v < 8 → x < 8
       → setFor (s .promises) v 0 x ≡ promiseOf (commitEffect (lent w [] batch v 0) .state) x
@@ -519,7 +518,7 @@ module _ (G D : ℕ) (z : Sizes G D) (w : World) (r : Running G D w) (s : Store)
           (setLast (setFenced (setStart (w .state) x) (7 * stateOf (w .state) .next)) (cond (leb (stateOf (w .state) .last) (7 * x)) 0 (stateOf (w .state) .last))))
       moved =
           subst (λ (q : State). Numbers (numbered s x (s .settled) (7 * nextGroup s) (s .durable) (cond (leb (s .last) (7 * x)) 0 (s .last)) (s .promises) (s .book)) q)
-          (sym (moved-numbers G D z w r x t most))
+          (sym (renumbered-is G D z w r x t most))
           (numbers-as s (s .promises) (s .book) x (s .settled) (7 * nextGroup s) (s .durable) (cond (leb (s .last) (7 * x)) 0 (s .last))
           (withLast (withFenced (withStart (stateOf (w .state)) x) (7 * stateOf (w .state) .next)) (cond (leb (stateOf (w .state) .last) (7 * x)) 0 (stateOf (w .state) .last)))
           refl (n .settled) (ap (λ (y : ℕ). 7 * y) (next-is G D z w r s a)) (n .durable) (ap (λ (y : ℕ). cond (leb y (7 * x)) 0 y) (n .last))
@@ -529,7 +528,9 @@ module _ (G D : ℕ) (z : Sizes G D) (w : World) (r : Running G D w) (s : Store)
           → Numbers (cond d s (numbered s x (s .settled) (7 * nextGroup s) (s .durable) (cond (leb (s .last) (7 * x)) 0 (s .last)) (s .promises) (s .book)))
           (stateOf (cond d (newState (lent w [] batch 0 0) (w .state) 0) (trimTo (lent w [] batch 0 0) (stateOf (w .state)) x) .state))
       go true = n
-      go false = moved
+      go false =
+          subst (λ (q : State). Numbers (numbered s x (s .settled) (7 * nextGroup s) (s .durable) (cond (leb (s .last) (7 * x)) 0 (s .last)) (s .promises) (s .book)) q)
+          (sym (state-carry _ _ _)) moved
 
   trim-numbers : (batch : List ℕ) → ends w (service (trims batch)) .code ≡ 0
       → Numbers (afterService s (trims batch)) (stateOf (ends w (service (trims batch)) .state))
@@ -554,16 +555,16 @@ module _ (G D : ℕ) (z : Sizes G D) (w : World) (r : Running G D w) (s : Store)
       (unfold afterService ends serviceEnds readCall in
       rw (done-state _ g (readAnswer g) (readEffect g) refl h) (unfold readEffect lent in n))
 
-  kept-promises : (batch : List ℕ) (y x : ℕ) → promiseOf (trimEffect (lent w [] batch 0 0) y .state) x ≡ promiseOf (w .state) x
+  kept-promises : (batch : List ℕ) (y x : ℕ) → x < 8 → promiseOf (trimEffect (lent w [] batch 0 0) y .state) x ≡ promiseOf (w .state) x
   unfolding trimEffect trimTo newState lent
-  kept-promises batch y x = go (eqb y (stateOf (w .state) .start))
+  kept-promises batch y x l = go (eqb y (stateOf (w .state) .start))
     where
       go : (d : Bool)
           → promiseOf (cond d (newState (lent w [] batch 0 0) (w .state) 0) (trimTo (lent w [] batch 0 0) (stateOf (w .state)) y) .state) x
           ≡ promiseOf (w .state) x
       go true = refl
       go false =
-          promise-setLast (setFenced (setStart (w .state) y) (7 * st .next)) (cond (leb (st .last) (7 * y)) 0 (st .last)) x
+          promise-carry _ _ _ x l ∙ promise-setLast (setFenced (setStart (w .state) y) (7 * st .next)) (cond (leb (st .last) (7 * y)) 0 (st .last)) x
           ∙ promise-setFenced (setStart (w .state) y) (7 * st .next) x ∙ promise-setStart (w .state) y x
 
   settle-promises : (batch : List ℕ) (x : ℕ) → x < 8 → ends w (service (settles batch)) .code ≡ 0
@@ -584,7 +585,7 @@ module _ (G D : ℕ) (z : Sizes G D) (w : World) (r : Running G D w) (s : Store)
       let y : ℕ = trimStart g in
       ps x l
       ∙ sym (ap (λ (t : List ℕ). promiseOf t x) (done-state _ g (trimAnswer g y (sizeOf (trimEffect g y))) (trimEffect g y) refl h)
-      ∙ kept-promises batch y x)
+      ∙ kept-promises batch y x l)
 
   service-promises : (c : Service) → ends w (service c) .code ≡ 0 → (x : ℕ) → x < 8 → s .promises x ≡ promiseOf (ends w (service c) .state) x
   service-promises (settles batch) h x l = settle-promises batch x l h
@@ -731,7 +732,7 @@ module _ (G D : ℕ) (z : Sizes G D) (w : World) (c : Closed G D w) (s : Store) 
         book = unfold store.afterDone inRound numbered in ap (λ (x : Book). feed x (opening state newest batch) (ends w (opening state newest batch) .figure)) (a .book);
         numbers = λ k. opened-numbers;
         newest = λ k. opened-newest;
-        promises = λ k x l. unfold store.afterDone inRound numbered in sym (ap (λ (t : List ℕ). promiseOf t x) opened-state ∙ promise-fresh G D b x);
+        promises = λ k x l. unfold store.afterDone inRound numbered in sym (ap (λ (t : List ℕ). promiseOf t x) opened-state ∙ promise-fresh G D b x l);
       }
 
 -- ---- a call, done or refused
@@ -811,31 +812,19 @@ module _ (G D : ℕ) (z : Sizes G D) (w : World) (s : Store) (a : Agrees G D w s
 
 module _ (G D : ℕ) (z : Sizes G D) where
   opening-follows : (w : World) → Closed G D w → (s : Store) → Agrees G D w s → (c : Call) → isOpening c ≡ true
-      → (replyOf (ends w c) ≡ reply s c) × Agrees G D (step w (call c)) (follow s w (call c))
+      → Agrees G D (step w (call c)) (follow s w (call c))
   unfolding isOpening
   opening-follows w k s a (opening state newest batch) e =
-      (open-answers G D z w k s a state newest batch, call-follows G D w s (opening state newest batch) a (opened-agrees G D z w k s a state newest batch))
+      call-follows G D w s (opening state newest batch) a (opened-agrees G D z w k s a state newest batch)
   opening-follows w k s a confirm e = absurd (false≢true e)
   opening-follows w k s a (change c) e = absurd (false≢true e)
   opening-follows w k s a (service c) e = absurd (false≢true e)
 
-  pub follows : (w : World) → Invariant G D w → (s : Store) → Agrees G D w s → (e : Event) → Allowed w e
-      → AnswersAt w s e × Agrees G D (step w e) (follow s w e)
+  pub follows : (w : World) → Invariant G D w → (s : Store) → Agrees G D w s → (e : Event) → Allowed w e → Agrees G D (step w e) (follow s w e)
   follows w (inl k) s a (call c) h = opening-follows w k s a c (h ∙ ap not (k .ready))
-  follows w (inr r) s a (call c) h =
-      let q : isOpening c ≡ false = h ∙ ap not (r .ready) in
-      (call-answers G D z w r s a c q, call-follows G D w s c a (done-agrees G D z w r s a c q))
-  follows w (inl k) s a (crash passed chosen) h = (tt, (unfold step in closed-crash G D z w s a passed chosen k))
-  follows w (inr r) s a (crash passed chosen) h = (tt, (unfold step in running-crash G D z w s a passed chosen r (h .0) (h .1)))
-
-  found-now : (w : World) (s : Store) → Agrees G D w s → foundInMemory (s .groups) (s .homes) (w .memory) ≡ s .back
-  found-now w s a = rw (a .groups, a .homes) (a .found)
-
-  throughout : (es : List Event) (w : World) (s : Store) → Invariant G D w → Agrees G D w s → AllAllowed w es → AnswersThroughout w s es
-  throughout [] w s i a h = found-now w s a
-  throughout (e ∷ es) w s i a h =
-      let k = follows w i s a e (h .0) in
-      (found-now w s a, k .0, throughout es (step w e) (follow s w e) (keeps G D z w i e (h .0) .0) (k .1) (h .1))
+  follows w (inr r) s a (call c) h = call-follows G D w s c a (done-agrees G D z w r s a c (h ∙ ap not (r .ready)))
+  follows w (inl k) s a (crash passed chosen) h = (unfold step in closed-crash G D z w s a passed chosen k)
+  follows w (inr r) s a (crash passed chosen) h = (unfold step in running-crash G D z w s a passed chosen r (h .0) (h .1))
 
   pub empty-agrees : Agrees G D (emptyStore G D) (newStore G D)
   unfolding emptyStore unopened newStore
@@ -850,9 +839,3 @@ module _ (G D : ℕ) (z : Sizes G D) where
         newest = λ e. absurd (false≢true e);
         promises = λ e. absurd (false≢true e);
       }
-
-pub answers-hold : Answers
-answers-hold G D f es h =
-    let z : Sizes G D = sizes f in
-    rw (after-format f)
-    (throughout G D z es (emptyStore G D) (newStore G D) (inl (format-closed G D z)) (empty-agrees G D z) (rw (after-format f) at h))

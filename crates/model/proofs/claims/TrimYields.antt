@@ -19,6 +19,7 @@ use Rattle.model.specs.Book.{Kept, row, persisted, Entry, Commit, Task, 
 use Rattle.model.specs.Demands.{firstGroup, keptBefore, someBefore, across, anyAcross, openBefore, anyOpenBefore, free, Trimmed}
 use Rattle.model.specs.History.{Call, trim, World, lent, ends, serviceEnds}
 use Rattle.model.proofs.strip.StateLaws.{withStart, withFenced, withLast, state-setStart, length-setStart, state-setFenced, length-setFenced, state-setLast}
+use Rattle.model.proofs.strip.ListedLaws.{state-carry}
 use Rattle.model.proofs.strip.QuestionLaws.{and-true, trim-ready}
 use Rattle.model.proofs.trace.Trace.{Ev, hist, firstOf, closerOf, oldestOf, Apart}
 use Rattle.model.proofs.trace.TraceLaws.{All, Falling, Long, firstOf-inside, open-falling, done-falling, done-long}
@@ -258,7 +259,7 @@ module _ (G D : ℕ) (z : Sizes G D) (w : World) (r : Running G D w) where
       go : (d : Bool) → eqb s (st .start) ≡ d
           → stateOf (cond d (newState (lent w [] batch 0 0) (w .state) 0) (trimTo (lent w [] batch 0 0) (stateOf (w .state)) s) .state) .start ≡ s
       go true e = sym (eqb-true s (st .start) e)
-      go false e = moved
+      go false e = ap (λ (x : State). x .start) (state-carry _ _ _) ∙ moved
 
   start-most : (s : ℕ) → startFits s ≡ true → s ≤ 2 ^ 47
   unfolding startFits

@@ -66,7 +66,7 @@ flush-none-runs G D z w r batch empty =
       copies =
           copies-renumber G D (r .b) (r .tr) w u c
           (rw e (record { groups = refl; homes = refl; next = refl; filled = refl; start = omega arith; most = o .start-most; upto = o .start-next; low = o .start-settled; settled = omega (arith, o .settled-fenced, o .fenced-next); fenced = omega arith; durable = omega (arith, o .durable-fenced, o .fenced-next); round-settled = o .round-settled; round-fenced = omega (arith, o .round-fenced, o .fenced-next) }))
-          (length-setFenced (w .state) (7 * st .next) ∙ c .stateSize) (λ x. writer-setFenced (w .state) (7 * st .next) x) (λ x. held-setFenced (w .state) (7 * st .next) x)
+          (length-setFenced (w .state) (7 * st .next) ∙ c .stateSize) (λ x l. writer-setFenced (w .state) (7 * st .next) x) (λ x l. held-setFenced (w .state) (7 * st .next) x)
           (λ x l. promise-setFenced (w .state) (7 * st .next) x)
           (rw e (o .last-closing)) (λ x l h. rw e (o .writers x l .logged h .0)) refl refl (λ slot. refl) refl
           (ap (λ (k : Book). k .tasks) eb) (ap (λ (k : Book). k .rows) eb) (ap (λ (k : Book). k .filled) eb)

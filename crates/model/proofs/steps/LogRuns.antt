@@ -159,7 +159,8 @@ pub copies-logged : (G D b : ℕ) (tr : List Ev) (w u : World) (v : ℕ) (e : Ev
     → Sizes G D → Copies G D b tr w → v < 8 → stateOf (w .state) .next < stateOf (w .state) .start + G
     → e .used ≡ true → e .writer ≡ v → SoundAt D (7 * b + length tr) e (mine (hist (7 * b) tr) e)
     → Advance (stateOf (w .state)) (stateOf (u .state)) last → length (u .state) ≡ 1024
-    → ((x : ℕ) → (x ≡ v → ⊥) → writerOf (u .state) x ≡ writerOf (w .state) x) → ((x : ℕ) → (x ≡ v → ⊥) → heldOf (u .state) x ≡ heldOf (w .state) x)
+    → ((x : ℕ) → x < 8 → (x ≡ v → ⊥) → writerOf (u .state) x ≡ writerOf (w .state) x)
+    → ((x : ℕ) → x < 8 → (x ≡ v → ⊥) → heldOf (u .state) x ≡ heldOf (w .state) x)
     → WriterInOrder (stateOf (u .state)) (writerOf (u .state) v) → Promises (u .state)
     → TaskOk b (e ∷ tr) (writerOf (u .state) v) (heldOf (u .state) v) (hist (7 * b) (e ∷ tr) .openOf v) t
     → u .homes ≡ w .homes
@@ -202,7 +203,7 @@ copies-logged G D b tr w u v e t last z c l room us who sd a size ow oh wo pr tk
         round-settled = λ h. let k = o .round-settled (omega (arith, a .round)) in omega (arith, a .round, a .settled);
         round-fenced = omega (arith, a .round, a .fenced, o .round-fenced);
         promises = pr;
-        writers = λ x h. each-writer (λ y. WriterInOrder st′ (writerOf (u .state) y)) v x wo (λ n. rw (ow x n) (order-grows st st′ last (writerOf (w .state) x) a (o .writers x h)));
+        writers = λ x h. each-writer (λ y. WriterInOrder st′ (writerOf (u .state) y)) v x wo (λ n. rw (ow x h n) (order-grows st st′ last (writerOf (w .state) x) a (o .writers x h)));
       };
       from = omega (arith, a .start, c .from);
       position = p ∙ omega (arith, c .position);
@@ -213,7 +214,7 @@ copies-logged G D b tr w u v e t last z c l room us who sd a size ow oh wo pr tk
       last = rw (a .start, a .last) lo;
       tasks = λ x h.
           each-writer (λ y. TaskOk b (e ∷ tr) (writerOf (u .state) y) (heldOf (u .state) y) (hist (7 * b) (e ∷ tr) .openOf y) (u .book .tasks y)) v x (rw tv tk)
-          (λ n. rw (to x n, ow x n, oh x n, open-other (7 * b) e tr x (λ y. n (sym y ∙ who)))
+          (λ n. rw (to x n, ow x h n, oh x h n, open-other (7 * b) e tr x (λ y. n (sym y ∙ who)))
           (task-grows b e tr (writerOf (w .state) x) (heldOf (w .state) x) (hist (7 * b) tr .openOf x) (w .book .tasks x) (entries-older b e tr (hist (7 * b) tr .openOf x) (open-below (7 * b) tr x)) (c .tasks x h)));
       rows = er ∙ rm .0;
       filled = ef ∙ rm .1;

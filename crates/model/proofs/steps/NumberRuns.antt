@@ -44,16 +44,16 @@ pub record Renumbered (st st′ : State) : Type 0 where
   pub round-fenced : st′ .round ≤ st′ .fenced + 1
 
 -- the start goes up at most, so there are no fewer places
-promises-renumber : (s t : List ℕ) → Promises s → Renumbered (stateOf s) (stateOf t) → ((x : ℕ) → writerOf t x ≡ writerOf s x)
+promises-renumber : (s t : List ℕ) → Promises s → Renumbered (stateOf s) (stateOf t) → ((x : ℕ) → x < 8 → writerOf t x ≡ writerOf s x)
     → ((x : ℕ) → x < 8 → promiseOf t x ≡ promiseOf s x) → Promises t
 unfolding places nextPosition
 promises-renumber s t p n ew ep =
     record {
       within = omega (arith, promised-agree s t 8 ep, p .within, n .start, n .groups, n .next, n .filled);
-      none-idle = λ x l. rw (ew x, ep x l) (p .none-idle x l);
+      none-idle = λ x l. rw (ew x l, ep x l) (p .none-idle x l);
     }
 
-pub order-renumber : (G D : ℕ) (s t : List ℕ) → InOrder s G D → Renumbered (stateOf s) (stateOf t) → ((x : ℕ) → writerOf t x ≡ writerOf s x)
+pub order-renumber : (G D : ℕ) (s t : List ℕ) → InOrder s G D → Renumbered (stateOf s) (stateOf t) → ((x : ℕ) → x < 8 → writerOf t x ≡ writerOf s x)
     → ((x : ℕ) → x < 8 → promiseOf t x ≡ promiseOf s x)
     → (stateOf t .last ≡ 0) ⊎ ((7 * stateOf t .start < stateOf t .last) × (stateOf t .last ≤ nextPosition (stateOf s)))
     → ((x : ℕ) → x < 8 → 3 ≤ writerOf s x .mode → 7 * stateOf t .start ≤ writerOf s x .first) → InOrder t G D
@@ -75,7 +75,7 @@ order-renumber G D s t o n ew ep lc fs =
       round-settled = n .round-settled;
       round-fenced = n .round-fenced;
       promises = promises-renumber s t (o .promises) n ew ep;
-      writers = λ x l. rw (ew x) (let k = o .writers x l in
+      writers = λ x l. rw (ew x l) (let k = o .writers x l in
           record {
             mode = k .mode;
             home = λ h. let j = k .home h in omega (arith, n .homes);
@@ -84,7 +84,7 @@ order-renumber G D s t o n ew ep lc fs =
     }
 
 pub copies-renumber : (G D b : ℕ) (tr : List Ev) (w u : World) → Copies G D b tr w → Renumbered (stateOf (w .state)) (stateOf (u .state))
-    → length (u .state) ≡ 1024 → ((x : ℕ) → writerOf (u .state) x ≡ writerOf (w .state) x) → ((x : ℕ) → heldOf (u .state) x ≡ heldOf (w .state) x)
+    → length (u .state) ≡ 1024 → ((x : ℕ) → x < 8 → writerOf (u .state) x ≡ writerOf (w .state) x) → ((x : ℕ) → x < 8 → heldOf (u .state) x ≡ heldOf (w .state) x)
     → ((x : ℕ) → x < 8 → promiseOf (u .state) x ≡ promiseOf (w .state) x)
     → (stateOf (u .state) .last ≡ 0) ⊎ ((7 * stateOf (u .state) .start < stateOf (u .state) .last) × (stateOf (u .state) .last ≤ nextPosition (stateOf (w .state))))
     → ((x : ℕ) → x < 8 → 3 ≤ writerOf (w .state) x .mode → 7 * stateOf (u .state) .start ≤ writerOf (w .state) x .first)
@@ -108,7 +108,7 @@ copies-renumber G D b tr w u c n size ew eh ep lc fs ho ll lg la et er ef ar ap�
       apart = ap′;
       links = ln;
       last = lo;
-      tasks = λ x h. rw (ew x, eh x, et) (c .tasks x h);
+      tasks = λ x h. rw (ew x h, eh x h, et) (c .tasks x h);
       rows = er ∙ c .rows ∙ omega (arith, n .next);
       filled = ef ∙ c .filled ∙ sym (n .filled);
       settledHomes = ar;
@@ -242,7 +242,7 @@ confirm-runs G D z w r =
       copies =
           copies-renumber G D (r .b) (r .tr) w u c
           (rw e (record { groups = refl; homes = refl; next = refl; filled = refl; start = omega arith; most = o .start-most; upto = o .start-next; low = o .start-settled; settled = o .settled-fenced; fenced = o .fenced-next; durable = omega arith; round-settled = o .round-settled; round-fenced = o .round-fenced }))
-          (length-setDurable (w .state) F ∙ c .stateSize) (λ x. writer-setDurable (w .state) F x) (λ x. held-setDurable (w .state) F x) (λ x l. promise-setDurable (w .state) F x)
+          (length-setDurable (w .state) F ∙ c .stateSize) (λ x l. writer-setDurable (w .state) F x) (λ x l. held-setDurable (w .state) F x) (λ x l. promise-setDurable (w .state) F x)
           (rw e (o .last-closing)) (λ x l h. rw e (o .writers x l .logged h .0)) refl refl (λ slot. refl) refl refl refl refl
           (λ h l.
           rw (e, settled-same st (withDurable st F) h refl refl refl)

@@ -286,7 +286,7 @@ module _ (G D : ℕ) (z : Sizes G D) (w : World) (c : Closed G D w) where
           apart = tt;
           links = tt;
           last = inl (ap (λ (s : State). s .last) numbers ∙ (unfold lastCloser in refl));
-          tasks = λ v l. rw (writer-fresh G D b v) (inl ((unfold idle in refl), c .tasks v));
+          tasks = λ v l. rw (writer-fresh G D b v l) (inl ((unfold idle in refl), c .tasks v));
           rows = c .rows ∙ omega (arith, ap (λ (s : State). s .next) numbers);
           filled = c .filled ∙ sym (ap (λ (s : State). s .filled) numbers);
           settledHomes = λ h l.

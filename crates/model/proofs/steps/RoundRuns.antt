@@ -100,8 +100,8 @@ module _ (G D : ℕ) (z : Sizes G D) (w : World) (r : Running G D w) (none : sta
               round-fenced = omega arith;
             }))
             (length-setCursor (setRound (w .state) F) 0 ∙ length-setRound (w .state) F ∙ c .stateSize)
-            (λ x. writer-setCursor (setRound (w .state) F) 0 x ∙ writer-setRound (w .state) F x)
-            (λ x. held-setCursor (setRound (w .state) F) 0 x ∙ held-setRound (w .state) F x)
+            (λ x l. writer-setCursor (setRound (w .state) F) 0 x ∙ writer-setRound (w .state) F x)
+            (λ x l. held-setCursor (setRound (w .state) F) 0 x ∙ held-setRound (w .state) F x)
             (λ x l. promise-setCursor (setRound (w .state) F) 0 x l ∙ promise-setRound (w .state) F x l)
             (rw e (o .last-closing)) (λ x l h. rw e (o .writers x l .logged h .0)) refl refl (λ slot. refl) refl refl refl refl
             (λ h l. rw (e, settled-ahead (withCursor (withRound st F) 0) h (omega arith), ← settled-none st h none) (c .settledHomes h l))
@@ -360,7 +360,7 @@ module _ (G D : ℕ) (z : Sizes G D) (w : World) (r : Running G D w) (under : 1 
               round-settled = λ h. absurd (omega arith);
               round-fenced = omega arith;
             }))
-            ended-size ended-writers ended-held ended-promises (rw e (o .last-closing)) (λ x l h. rw e (o .writers x l .logged h .0)) refl refl
+            ended-size (λ x l. ended-writers x) (λ x l. ended-held x) ended-promises (rw e (o .last-closing)) (λ x l h. rw e (o .writers x l .logged h .0)) refl refl
             (λ slot. refl) (rw q (step-size D (omega arith)) ∙ sym (c .areaSize)) refl refl refl (rw (e, q) ended-settled)
             (rw e (c .apart)) (rw e (c .links)) (rw e (c .last));
         submitted =
@@ -495,8 +495,8 @@ module _ (G D : ℕ) (z : Sizes G D) (w : World) (r : Running G D w) (under : 1 
                 round-settled = o .round-settled;
                 round-fenced = o .round-fenced;
               }))
-              (length-setCursor (w .state) nextCursor ∙ c .stateSize) (λ x. writer-setCursor (w .state) nextCursor x)
-              (λ x. held-setCursor (w .state) nextCursor x) (λ x l. promise-setCursor (w .state) nextCursor x l) (rw e (o .last-closing))
+              (length-setCursor (w .state) nextCursor ∙ c .stateSize) (λ x l. writer-setCursor (w .state) nextCursor x)
+              (λ x l. held-setCursor (w .state) nextCursor x) (λ x l. promise-setCursor (w .state) nextCursor x l) (rw e (o .last-closing))
               (λ x l h. rw e (o .writers x l .logged h .0)) refl refl (λ slot. refl)
               (rw step-now (step-size nextCursor cursor-upto) ∙ sym (c .areaSize)) refl refl refl (rw (e, step-now) moved-settled)
               (rw e (c .apart)) (rw e (c .links)) (rw e (c .last));

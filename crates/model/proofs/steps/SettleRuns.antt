@@ -326,7 +326,7 @@ module _ (G D : ℕ) (z : Sizes G D) (w : World) (r : Running G D w) where
         commits = r .commits;
         copies =
             copies-renumber G D (r .b) (r .tr) w u c
-            (rw numbers (renumbered none)) size writers held promises (rw numbers (o .last-closing)) (λ x l h. rw numbers (o .writers x l .logged h .0)) refl
+            (rw numbers (renumbered none)) size (λ x l. writers x) (λ x l. held x) promises (rw numbers (o .last-closing)) (λ x l h. rw numbers (o .writers x l .logged h .0)) refl
             refl (λ slot. refl) (area-size ∙ sym (c .areaSize)) refl refl refl
             (λ h l. rw (numbers, settled-none (withFenced (withSettled st (st .fenced)) (7 * st .next)) h none))
             (rw numbers (c .apart)) (rw numbers (c .links)) (rw numbers (c .last));

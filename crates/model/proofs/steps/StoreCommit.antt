@@ -12,7 +12,8 @@ use borrow.Author.Tests.{eqb-true, eqb-false, eq-eqb, ne-eqb}
 use Rattle.model.specs.Tag.{entryWord, closingWord}
 use Rattle.model.specs.Layout.{groupAt, headerStart}
 use Rattle.model.specs.State.{State, stateOf, setLast, nextPosition, Writer, writerOf, setWriter, heldOf, setHeld, promiseOf, setPromise, promiseLeft, promised, places, firstFor, countFor, logging, idle}
-use Rattle.model.specs.Effects.{Given, Effect, Logged, entered, logged, logHeld, storeOther, linkFrom, logClosing, commitHeld}
+use Rattle.model.specs.Newest.{carryListed}
+use Rattle.model.specs.Effects.{Given, Effect, homes, Logged, entered, logged, logHeld, storeOther, linkFrom, logClosing, commitHeld}
 use Rattle.model.specs.Batch.{Record, GW, FN}
 use Rattle.model.specs.Crash.{Memory}
 use Rattle.model.specs.Book.{Kept, row, Entry, Commit, Held, Task, opened, Book, fateAt, homesAfter, entryOf, filledUp, withTask, addCommit}
@@ -21,6 +22,7 @@ use Rattle.model.specs.Demands.{closedBelow}
 use Rattle.model.specs.History.{Call, World, lent, feed, isConfirm, store, commit, feedChange}
 use Rattle.model.proofs.strip.StateLaws.{state-setLast, length-setLast, writer-setLast, held-setLast}
 use Rattle.model.proofs.strip.WriterLaws.{length-setWriter, length-setHeld, state-setWriter, writer-setWriter, writer-setWriter-other, held-setWriter, state-setHeld, writer-setHeld, held-setHeld, held-setHeld-other, fits-idle, fits-logging}
+use Rattle.model.proofs.strip.ListedLaws.{length-carry, state-carry, writer-carry, held-carry, promise-carry}
 use Rattle.model.proofs.strip.OrderLaws.{InOrder, WriterInOrder, Promises, place-below}
 use Rattle.model.proofs.strip.QuestionLaws.{Roomy}
 use Rattle.model.proofs.strip.PromiseLaws.{promise-setLast, promise-setWriter, promise-setHeld, length-setPromise, state-setPromise, writer-setPromise, held-setPromise, promise-setPromise, promise-setPromise-other, promise-most}
@@ -269,8 +271,8 @@ module _ (G D : ℕ) (z : Sizes G D) (w : World) (R : Running G D w) (v : ℕ) (
     copies-are =
         copies-logged G D b tr w u v e₀
         (opened (entriesFor b tr ps ++ (entryOf (w .book) (record { home = r .home; block = hd }) ∷ [])) (some (record { home = home; block = block })))
-        (st .last) z c l roomy refl refl (sound-event false 0 (omega arith)) adv (rw state-is (length-setPromise s₃ v n₃ ∙ size₃)) writer-others
-        (λ x n. rw state-is (held-setPromise s₃ v n₃ x l ∙ held-setHeld-other s₁ v block x n hb ∙ held-setWriter (lo .state) v _ x ∙ keeps _ .held x))
+        (st .last) z c l roomy refl refl (sound-event false 0 (omega arith)) adv (rw state-is (length-setPromise s₃ v n₃ ∙ size₃)) (λ x k. writer-others x)
+        (λ x k n. rw state-is (held-setPromise s₃ v n₃ x l ∙ held-setHeld-other s₁ v block x n hb ∙ held-setWriter (lo .state) v _ x ∙ keeps _ .held x))
         in-order-is promises-are task-is refl log-becomes refl
         (ap (λ (k : Book). k .tasks v) book-is ∙ task-here (filledUp (w .book)) v _)
         (λ x n. ap (λ (k : Book). k .tasks x) book-is ∙ task-other (filledUp (w .book)) v x _ n ∙ ap (λ (f : ℕ → Task). f x) (filled-tasks (w .book)))
@@ -333,27 +335,34 @@ module _ (G D : ℕ) (z : Sizes G D) (w : World) (R : Running G D w) (v : ℕ) (
     size₄ : length s₄ ≡ 1024
     size₄ = length-setWriter s₂ v idle ∙ size₂
 
-    c-state-is : y .state ≡ setPromise s₄ v 0
+    -- the positions of the list's homes are carried over
+    abbrev s₅ : List ℕ
+    s₅ = carryListed (homes (lent w [] batch v 0)) (y .newest) (setPromise s₄ v 0)
+
+    c-state-is : y .state ≡ s₅
     unfolding commitHeld logClosing lent
     c-state-is = refl
 
+    size₅ : length s₅ ≡ 1024
+    size₅ = length-carry _ _ (setPromise s₄ v 0) ∙ length-setPromise s₄ v 0 ∙ size₄
+
     c-numbers : stateOf (y .state) ≡ stateOf s₂
-    c-numbers = rw c-state-is (state-setPromise s₄ v 0 l ∙ state-setWriter s₂ v idle)
+    c-numbers = rw c-state-is (state-carry _ _ (setPromise s₄ v 0) ∙ state-setPromise s₄ v 0 l ∙ state-setWriter s₂ v idle)
 
     c-writer : writerOf (y .state) v ≡ idle
-    c-writer = rw c-state-is (writer-setPromise s₄ v 0 v l ∙ writer-setWriter s₂ v idle size₂ l fits-idle)
+    c-writer = rw c-state-is (writer-carry _ _ (setPromise s₄ v 0) v l ∙ writer-setPromise s₄ v 0 v l ∙ writer-setWriter s₂ v idle size₂ l fits-idle)
 
-    c-writers : (x : ℕ) → (x ≡ v → ⊥) → writerOf (y .state) x ≡ writerOf (w .state) x
-    c-writers x n =
-        rw c-state-is (writer-setPromise s₄ v 0 x l ∙ writer-setWriter-other s₂ v idle x n ∙ writer-setLast (lc .state) (P + 1) x ∙ keeps _ .writer x)
+    c-writers : (x : ℕ) → x < 8 → (x ≡ v → ⊥) → writerOf (y .state) x ≡ writerOf (w .state) x
+    c-writers x k n =
+        rw c-state-is (writer-carry _ _ (setPromise s₄ v 0) x k ∙ writer-setPromise s₄ v 0 x l ∙ writer-setWriter-other s₂ v idle x n ∙ writer-setLast (lc .state) (P + 1) x ∙ keeps _ .writer x)
 
     c-promises : (x : ℕ) → x < 8 → (x ≡ v → ⊥) → promiseOf (y .state) x ≡ promiseOf (w .state) x
     c-promises x m n =
         rw c-state-is
-        (promise-setPromise-other s₄ v 0 x n ∙ promise-setWriter s₂ v idle x m ∙ promise-setLast (lc .state) (P + 1) x ∙ keeps _ .promise x)
+        (promise-carry _ _ (setPromise s₄ v 0) x m ∙ promise-setPromise-other s₄ v 0 x n ∙ promise-setWriter s₂ v idle x m ∙ promise-setLast (lc .state) (P + 1) x ∙ keeps _ .promise x)
 
     c-promise : promiseOf (y .state) v ≡ 0
-    c-promise = rw c-state-is (promise-setPromise s₄ v 0 size₄ l (omega arith))
+    c-promise = rw c-state-is (promise-carry _ _ (setPromise s₄ v 0) v l ∙ promise-setPromise s₄ v 0 size₄ l (omega arith))
 
     c-adv : Advance st (stateOf (y .state)) (P + 1)
     c-adv =
@@ -374,7 +383,7 @@ module _ (G D : ℕ) (z : Sizes G D) (w : World) (R : Running G D w) (v : ℕ) (
 
     c-in-order : Promises (y .state)
     c-in-order =
-        promises-logged (w .state) (y .state) v (P + 1) l (c .order .promises) c-adv left c-promises (λ x m. c-writers x) (omega (arith, c-promise)) (λ h. c-promise)
+        promises-logged (w .state) (y .state) v (P + 1) l (c .order .promises) c-adv left c-promises c-writers (omega (arith, c-promise)) (λ h. c-promise)
 
     abbrev cm : Commit
     cm =
@@ -421,8 +430,8 @@ module _ (G D : ℕ) (z : Sizes G D) (w : World) (R : Running G D w) (v : ℕ) (
     c-copies : Copies G D b (e₁ ∷ tr) y
     unfolding event commitHeld lent withTask addCommit
     c-copies =
-        copies-logged G D b tr w y v e₁ book.idle (P + 1) z c l roomy refl refl (sound-event true lk lk-small) c-adv (rw c-state-is (length-setPromise s₄ v 0 ∙ size₄)) c-writers
-        (λ x n. rw c-state-is (held-setPromise s₄ v 0 x l ∙ held-setWriter s₂ v idle x ∙ held-setLast (lc .state) (P + 1) x ∙ keeps _ .held x))
+        copies-logged G D b tr w y v e₁ book.idle (P + 1) z c l roomy refl refl (sound-event true lk lk-small) c-adv (rw c-state-is size₅) c-writers
+        (λ x k n. rw c-state-is (held-carry _ _ (setPromise s₄ v 0) x k ∙ held-setPromise s₄ v 0 x l ∙ held-setWriter s₂ v idle x ∙ held-setLast (lc .state) (P + 1) x ∙ keeps _ .held x))
         (rw c-writer (order-idle _)) c-in-order (rw c-writer (inl ((unfold idle in refl), refl))) refl c-log refl
         (ap (λ (k : Book). k .tasks v) c-book ∙ task-here (addCommit (filledUp (w .book)) cm) v book.idle)
         (λ x n. ap (λ (k : Book). k .tasks x) c-book ∙ task-other (addCommit (filledUp (w .book)) cm) v x book.idle n ∙ ap (λ (f : ℕ → Task). f x) (filled-tasks (w .book)))

@@ -14,7 +14,7 @@ use Rattle.model.specs.Bytes.{puts}
 use Rattle.model.specs.Layout.{header}
 use Rattle.model.specs.Batch.{Record, KW, FN}
 use Rattle.model.specs.State.{State, stateOf, setStart, setFenced, setLast, nextPosition, promiseOf, writerOf, heldOf}
-use Rattle.model.specs.Newest.{forget}
+use Rattle.model.specs.Newest.{forget, carryListed}
 use Rattle.model.specs.Effects.{Given, groups, homes, newState, mayStart, largest, noneAcross, noneOpenBefore, trimStart, trimTo, trimEffect}
 use Rattle.model.specs.Crash.{Memory, isFence}
 use Rattle.model.specs.Demands.{groupWrites}
@@ -24,6 +24,7 @@ use Rattle.model.proofs.bytes.LayoutLaws.{length-header, group-header}
 use Rattle.model.proofs.strip.BatchLaws.{AllFormed}
 use Rattle.model.proofs.strip.StateLaws.{withStart, withFenced, withLast, state-setStart, length-setStart, writer-setStart, held-setStart, state-setFenced, length-setFenced, writer-setFenced, held-setFenced, state-setLast, length-setLast, writer-setLast, held-setLast}
 use Rattle.model.proofs.strip.PromiseLaws.{promise-setStart, promise-setFenced, promise-setLast}
+use Rattle.model.proofs.strip.ListedLaws.{length-carry, state-carry, writer-carry, held-carry, promise-carry}
 use Rattle.model.proofs.strip.QuestionLaws.{and-true}
 use Rattle.model.proofs.trace.CrashLaws.{writeRecords, write-append}
 use Rattle.model.proofs.trace.HomeLaws.{In, area-header-wrote}
@@ -98,14 +99,22 @@ module _ (G D : ℕ) (z : Sizes G D) (w : World) (r : Running G D w) (s : ℕ) (
   abbrev last : ℕ
   last = lastKept s (stateOf (w .state) .last)
 
+  abbrev renumbered-strip : List ℕ
+  renumbered-strip = setLast (setFenced (setStart (w .state) s) (7 * stateOf (w .state) .next)) (lastKept s (stateOf (w .state) .last))
+
+  -- and the positions of the list's homes carried over
   abbrev strip : List ℕ
-  strip = setLast (setFenced (setStart (w .state) s) (7 * stateOf (w .state) .next)) (lastKept s (stateOf (w .state) .last))
+  strip =
+      carryListed D (forget (w .newest) (7 * s) D)
+      (setLast (setFenced (setStart (w .state) s) (7 * stateOf (w .state) .next)) (lastKept s (stateOf (w .state) .last)))
 
   abbrev moved : World
   moved =
       record {
         homes = w .homes;
-        state = setLast (setFenced (setStart (w .state) s) (7 * stateOf (w .state) .next)) (lastKept s (stateOf (w .state) .last));
+        state =
+            carryListed D (forget (w .newest) (7 * s) D)
+            (setLast (setFenced (setStart (w .state) s) (7 * stateOf (w .state) .next)) (lastKept s (stateOf (w .state) .last)));
         newest = forget (w .newest) (7 * s) D;
         log = puts (w .log) 0 (header s G D);
         area = w .area;
@@ -128,8 +137,8 @@ module _ (G D : ℕ) (z : Sizes G D) (w : World) (r : Running G D w) (s : ℕ) (
           let q : nextPosition st ≡ 7 * st .next + st .filled = unfold nextPosition in refl in
           omega (arith, next-small, c .order .filled-most)
 
-  pub moved-numbers : stateOf strip ≡ withLast (withFenced (withStart st s) (7 * st .next)) last
-  moved-numbers =
+  pub renumbered-is : stateOf renumbered-strip ≡ withLast (withFenced (withStart st s) (7 * st .next)) last
+  renumbered-is =
       state-setLast (setFenced (setStart (w .state) s) (7 * st .next)) last
       (length-setFenced (setStart (w .state) s) (7 * st .next) ∙ length-setStart (w .state) s ∙ c .stateSize)
       (last-most s (st .last) (2 ^ 64) last-small)
@@ -137,24 +146,27 @@ module _ (G D : ℕ) (z : Sizes G D) (w : World) (r : Running G D w) (s : ℕ) (
       (state-setFenced (setStart (w .state) s) (7 * st .next) (length-setStart (w .state) s ∙ c .stateSize) (omega (arith, next-small))
       ∙ ap (λ (x : State). withFenced x (7 * st .next)) (state-setStart (w .state) s (c .stateSize) (omega arith)))
 
+  moved-numbers : stateOf strip ≡ withLast (withFenced (withStart st s) (7 * st .next)) last
+  moved-numbers = state-carry D _ renumbered-strip ∙ renumbered-is
+
   size : length strip ≡ 1024
   size =
-      length-setLast (setFenced (setStart (w .state) s) (7 * st .next)) last ∙ length-setFenced (setStart (w .state) s) (7 * st .next)
+      length-carry D _ renumbered-strip ∙ length-setLast (setFenced (setStart (w .state) s) (7 * st .next)) last ∙ length-setFenced (setStart (w .state) s) (7 * st .next)
       ∙ length-setStart (w .state) s ∙ c .stateSize
 
-  writers : (x : ℕ) → writerOf strip x ≡ writerOf (w .state) x
-  writers x =
-      writer-setLast (setFenced (setStart (w .state) s) (7 * st .next)) last x ∙ writer-setFenced (setStart (w .state) s) (7 * st .next) x
+  writers : (x : ℕ) → x < 8 → writerOf strip x ≡ writerOf (w .state) x
+  writers x l =
+      writer-carry D _ renumbered-strip x l ∙ writer-setLast (setFenced (setStart (w .state) s) (7 * st .next)) last x ∙ writer-setFenced (setStart (w .state) s) (7 * st .next) x
       ∙ writer-setStart (w .state) s x
 
-  blocks : (x : ℕ) → heldOf strip x ≡ heldOf (w .state) x
-  blocks x =
-      held-setLast (setFenced (setStart (w .state) s) (7 * st .next)) last x ∙ held-setFenced (setStart (w .state) s) (7 * st .next) x
+  blocks : (x : ℕ) → x < 8 → heldOf strip x ≡ heldOf (w .state) x
+  blocks x l =
+      held-carry D _ renumbered-strip x l ∙ held-setLast (setFenced (setStart (w .state) s) (7 * st .next)) last x ∙ held-setFenced (setStart (w .state) s) (7 * st .next) x
       ∙ held-setStart (w .state) s x
 
   promises : (x : ℕ) → x < 8 → promiseOf strip x ≡ promiseOf (w .state) x
   promises x l =
-      promise-setLast (setFenced (setStart (w .state) s) (7 * st .next)) last x ∙ promise-setFenced (setStart (w .state) s) (7 * st .next) x
+      promise-carry D _ renumbered-strip x l ∙ promise-setLast (setFenced (setStart (w .state) s) (7 * st .next)) last x ∙ promise-setFenced (setStart (w .state) s) (7 * st .next) x
       ∙ promise-setStart (w .state) s x
 
   renumbered : Renumbered st (stateOf strip)
@@ -340,7 +352,7 @@ module _ (G D : ℕ) (z : Sizes G D) (w : World) (r : Running G D w) (batch : Li
       go : (d : Bool) → eqb s (stateOf (w .state) .start) ≡ d
           → stateOf (cond d (newState (lent w [] batch 0 0) (w .state) 0) (trimTo (lent w [] batch 0 0) (stateOf (w .state)) s) .state) .start ≡ s
       go true e = sym (eqb-true s (stateOf (w .state) .start) e)
-      go false e = ap (λ (x : State). x .start) (moved-numbers G D z w r s t most)
+      go false e = ap (λ (x : State). x .start) (state-carry _ _ _ ∙ renumbered-is G D z w r s t most)
 
   pub trim-runs : trimStart (lent w [] batch 0 0) ≤ 2 ^ 47
       → Running G D (after w (trim batch) (trimEffect (lent w [] batch 0 0) (trimStart (lent w [] batch 0 0))))

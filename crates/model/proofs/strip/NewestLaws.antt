@@ -136,8 +136,15 @@ value-ones (suc k) n =
     let e : suc k + n ≡ suc (k + n) = omega arith in
     rw (e, pow-suc) (omega (arith, value-ones k n))
 
+-- a number among bytes of all ones
+pub number-ones : (n at : ℕ) → at + 8 ≤ n → number 8 (replicate n 255) at ≡ noPosition
+unfolding number
+number-ones n at h =
+    let e : n ≡ at + (8 + (n - at - 8)) = omega arith in
+    let f : number 8 (replicate (at + (8 + (n - at - 8))) 255) at ≡ noPosition =
+    rw (drop-replicate at (8 + (n - at - 8)) 255) (omega (arith, value-ones 8 (n - at - 8))) in
+    rw (← e) at f
+
 pub kept-nothing : (homes x : ℕ) → x < homes → keptFor (nothingKept homes) x ≡ noPosition
-unfolding keptFor nothingKept number
-kept-nothing homes x h =
-    let e : 8 * homes ≡ 8 * x + (8 + (8 * homes - 8 * x - 8)) = omega arith in
-    rw (e, drop-replicate (8 * x) (8 + (8 * homes - 8 * x - 8)) 255) (omega (arith, value-ones 8 (8 * homes - 8 * x - 8)))
+unfolding keptFor nothingKept
+kept-nothing homes x h = number-ones (8 * homes) (8 * x) (omega arith)

@@ -1,5 +1,5 @@
 -- Question 2 (specs/State): what a strip in order is, as plain facts. And the strip that an opening leaves, which is in order. Assumes nothing.
-use mathlib.Core.Path.{_≡_, refl}
+use mathlib.Core.Path.{_≡_, refl, _∙_}
 use mathlib.Core.Bool.{Bool, true, false, _&&_, _||_}
 use mathlib.Core.Logic.{_⊎_, inl, inr, _↔_, _≢_}
 use mathlib.Core.List.{List}
@@ -11,10 +11,11 @@ use borrow.Author.Tests.{leb-true, leb-false, eqb-true, eqb-false, le-leb, lt-le
 use lib.Dec.{leb, eqb}
 use lib.ListN.{length, getD}
 use Rattle.model.specs.Bytes.{zeros, number}
-use Rattle.model.specs.State.{State, stateOf, Writer, writerOf, idle, isOpen, promiseOf, promised, places, freshState, nextPosition, numbersInOrder, writerInOrder, promiseInOrder, writerAtInOrder, writersInOrder, inOrder}
+use Rattle.model.specs.State.{State, stateOf, Writer, writerOf, idle, isOpen, promiseOf, promised, places, freshNumbers, freshState, nextPosition, numbersInOrder, writerInOrder, promiseInOrder, writerAtInOrder, writersInOrder, inOrder}
 use Rattle.model.proofs.bytes.ByteLaws.{length-zeros, number-none, number-more}
 use Rattle.model.proofs.strip.StateLaws.{length-laws, state-laws, writer-laws}
 use Rattle.model.proofs.strip.PromiseLaws.{promise-laws, promise-zeros, promised-none, promise-most}
+use Rattle.model.proofs.strip.ListedLaws.{length-setListed, state-setListed, writer-setListed, promise-setListed}
 use Rattle.model.proofs.bytes.LayoutLaws.{number-zeros}
 
 -- ---- tests and what they tell: simp by the set turns a chain of tests into its facts, and back
@@ -225,8 +226,8 @@ idle-in-order st = refl
 
 module _ (groups homes start : ℕ) where
   pub length-fresh : length (freshState groups homes start) ≡ 1024
-  unfolding freshState
-  length-fresh = simp (length-laws, length-zeros)
+  unfolding freshState freshNumbers
+  length-fresh = length-setListed _ _ ∙ simp (length-laws, length-zeros)
 
   pub state-fresh : groups < 2 ^ 64 → homes < 2 ^ 64 → 7 * start < 2 ^ 64
       → stateOf (freshState groups homes start)
@@ -243,18 +244,18 @@ module _ (groups homes start : ℕ) where
         round = 0;
         cursor = 0;
       }
-  unfolding freshState
+  unfolding freshState freshNumbers
   state-fresh g h k =
       let q : start < 2 ^ 64 = omega arith in
-      simp (state-laws, length-laws, length-zeros, state-zeros)
+      state-setListed _ _ ∙ simp (state-laws, length-laws, length-zeros, state-zeros)
 
-  pub writer-fresh : (w : ℕ) → writerOf (freshState groups homes start) w ≡ idle
-  unfolding freshState
-  writer-fresh w = simp (writer-laws, writer-zeros)
+  pub writer-fresh : (w : ℕ) → w < 8 → writerOf (freshState groups homes start) w ≡ idle
+  unfolding freshState freshNumbers
+  writer-fresh w l = writer-setListed _ _ w l ∙ simp (writer-laws, writer-zeros)
 
-  pub promise-fresh : (w : ℕ) → promiseOf (freshState groups homes start) w ≡ 0
-  unfolding freshState
-  promise-fresh w = simp (promise-laws, promise-zeros)
+  pub promise-fresh : (w : ℕ) → w < 8 → promiseOf (freshState groups homes start) w ≡ 0
+  unfolding freshState freshNumbers
+  promise-fresh w l = promise-setListed _ _ w l ∙ simp (promise-laws, promise-zeros)
 
   pub in-order-fresh : start ≤ 2 ^ 47 → groups ≤ 1024 → homes ≤ 65535 → inOrder (freshState groups homes start) groups homes ≡ true
   unfolding inOrder numbersInOrder nextPosition
@@ -263,5 +264,5 @@ module _ (groups homes start : ℕ) where
       (simp tests (
         omega arith,
         among-writers (freshState groups homes start) _ 8
-            (λ w k. order-at (freshState groups homes start) _ w (rw writer-fresh (writer-order _ idle (idle-in-order _))) (λ e. promise-fresh w)),
+            (λ w k. order-at (freshState groups homes start) _ w (rw (writer-fresh w k) (writer-order _ idle (idle-in-order _))) (λ e. promise-fresh w k)),
       ))

@@ -164,7 +164,7 @@ promise-most s v (suc n) l = go (ℕ-discrete v n) (promise-most s v n)
     go (yes e) below = rw e (omega arith)
     go (no e) below = omega (arith, below (omega arith))
 
-pub promised-none : (s : List ℕ) (n : ℕ) → ((x : ℕ) → promiseOf s x ≡ 0) → promised s n ≡ 0
+pub promised-none : (s : List ℕ) (n : ℕ) → ((x : ℕ) → x < n → promiseOf s x ≡ 0) → promised s n ≡ 0
 unfolding promised
 promised-none s zero f = refl
-promised-none s (suc n) f = rw (promised-none s n f, f n)
+promised-none s (suc n) f = rw (promised-none s n (λ x l. f x (omega arith)), f n (omega arith))

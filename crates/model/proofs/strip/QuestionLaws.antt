@@ -11,7 +11,7 @@ use borrow.Author.Tests.{leb-true, leb-false, ltb-true, eqb-true, eqb-false, lt-
 use Rattle.model.specs.Layout.{maxStart}
 use Rattle.model.specs.State.{State, stateOf, underWay, nextPosition, promiseOf, promised, places, freePlaces}
 use Rattle.model.specs.Effects.{Given}
-use Rattle.model.specs.Questions.{ask, areasRight, stateRight, blockRight, newestRight, stripInOrder, headerFits, writerKnown, homeKnown, writerOpen, roomFor, room, mayPromise, keepsPromises, storeLogs, commitLogs, startFits, batchFits, formatAnswer, openAnswer, askState, askBlock, askNewest, askBoth, beginAnswer, reserveAnswer, abortAnswer, storeAnswer, commitAnswer, flushAnswer, confirmAnswer, settleAnswer, trimAnswer, readAnswer, inRound, beginRoundAnswer, stepRoundAnswer}
+use Rattle.model.specs.Questions.{ask, areasRight, stateRight, blockRight, newestRight, stripInOrder, headerFits, writerKnown, homeKnown, storeAllowed, readAllowed, writerOpen, roomFor, room, mayPromise, keepsPromises, storeLogs, commitLogs, startFits, batchFits, formatAnswer, openAnswer, askState, askBlock, askNewest, askBoth, beginAnswer, reserveAnswer, abortAnswer, storeAnswer, commitAnswer, flushAnswer, confirmAnswer, settleAnswer, trimAnswer, readAnswer, inRound, beginRoundAnswer, stepRoundAnswer}
 
 -- a question answered no, answered yes, and one that let an answer of 0 through
 pub ask-no : (b : Bool) (k v : ℕ) → b ≡ false → ask b k v ≡ k
@@ -155,6 +155,7 @@ pub record StoreReady (g : Given) (size : ℕ) : Type 0 where
   pub block : blockRight g ≡ true
   pub writer : writerKnown g ≡ true
   pub home : homeKnown g ≡ true
+  pub allowed : storeAllowed g ≡ true
   pub opened : writerOpen g ≡ true
   pub roomy : storeLogs g ≡ true → room g ≡ true
   pub batch : batchFits g size ≡ true
@@ -165,7 +166,8 @@ store-ready g size e =
     let a = block-passed g _ e in
     let b = ask-passed (writerKnown g) 3 _ (a .2) in
     let c = ask-passed (homeKnown g) 4 _ (b .1) in
-    let d = ask-passed (writerOpen g) 6 _ (c .1) in
+    let k = ask-passed (storeAllowed g) 18 _ (c .1) in
+    let d = ask-passed (writerOpen g) 6 _ (k .1) in
     let f = ask-passed (not (storeLogs g) || room g) 7 _ (d .1) in
     let h = ask-passed (batchFits g size) 8 0 (f .1) in
     record {
@@ -173,6 +175,7 @@ store-ready g size e =
       block = a .1;
       writer = b .0;
       home = c .0;
+      allowed = k .0;
       opened = d .0;
       roomy = room-for (storeLogs g) (room g) (f .0);
       batch = h .0;
@@ -262,13 +265,14 @@ trim-ready g start size e =
     (a .0, b .0, c .0, a .1)
 
 pub read-ready : (g : Given) → readAnswer g ≡ 0
-    → InUse g × (blockRight g ≡ true) × (writerKnown g ≡ true) × (homeKnown g ≡ true) × (newestRight g ≡ true)
+    → InUse g × (blockRight g ≡ true) × (writerKnown g ≡ true) × (homeKnown g ≡ true) × (newestRight g ≡ true) × (readAllowed g ≡ true)
 unfolding readAnswer
 read-ready g e =
     let a = both-passed g _ e in
     let b = ask-passed (writerKnown g) 3 _ (a .3) in
-    let c = ask-passed (homeKnown g) 4 0 (b .1) in
-    (a .0, a .2, b .0, c .0, a .1)
+    let c = ask-passed (homeKnown g) 4 _ (b .1) in
+    let d = ask-passed (readAllowed g) 19 0 (c .1) in
+    (a .0, a .2, b .0, c .0, a .1, d .0)
 
 -- "Question 9 answers 10 and comes before question 10": a start that does not fit answers 10, whatever the batch
 pub open-start-first : (g : Given) (start size : ℕ) → (areasRight g && stateRight g && newestRight g) ≡ true → headerFits g ≡ true → maxStart < start

@@ -1,0 +1,88 @@
+-- Histories with a list of rights: who may store and read what, before it is committed, under it, under the next one, after a trim and after an opening.
+use Prim.Native.Nat.{ℕ, zero, suc, _+_, _*_}
+use mathlib.Core.Bool.{Bool, false, _&&_}
+use mathlib.Core.List.{List, [], _∷_, _++_}
+use Rattle.model.specs.Bytes.{zeros, bytes, same}
+use Rattle.model.specs.State.{listHome, listedOf}
+use Rattle.model.specs.Newest.{noPosition, keptFor}
+use Rattle.model.specs.History.{Call, opening, begin, store, commit, flush, settle, trim, read, Event, call, crash, World, emptyStore, ends, step}
+use Rattle.model.specs.Trials.{room, lane, fill, goes}
+
+-- numbers of 16 bits; two ranges of a writer's four, each first home and number of homes
+unfoldable pub sixteens : List ℕ → List ℕ
+sixteens [] = []
+sixteens (n ∷ ns) = bytes 2 n ++ sixteens ns
+
+unfoldable pub ranges : ℕ → ℕ → ℕ → ℕ → List ℕ
+ranges a m b n = sixteens (a ∷ m ∷ b ∷ n ∷ 0 ∷ 0 ∷ 0 ∷ 0 ∷ [])
+
+-- The first block of a list, for writers 0 and 1: to store, to read, and so again. Writer 0 may store to homes 0 to 2 and read them, writer 1 store to
+-- home 3 and read homes 3 and 6; the ranges that begin below 65,536 and end beyond it hold none of the first homes.
+unfoldable pub firstList : List ℕ
+firstList = ranges 0 3 65530 10 ++ (ranges 0 3 0 0 ++ (ranges 3 1 65535 10 ++ ranges 3 1 6 1))
+
+-- the next list gives home 4 to writer 1 in place of them
+unfoldable pub nextList : List ℕ
+nextList = ranges 0 3 0 0 ++ (ranges 0 3 0 0 ++ (ranges 4 1 0 0 ++ ranges 4 1 0 0))
+
+-- the numbers that calls answer, one after the other
+unfoldable pub numbers : World → List Call → List ℕ
+numbers w [] = []
+numbers w (c ∷ cs) = ends w c .code ∷ numbers (step w (call c)) cs
+
+unfoldable pub reads : ℕ → ℕ → Call
+reads writer home = read writer home (zeros 64)
+
+unfoldable pub writes : ℕ → ℕ → Call
+writes writer home = store writer home (fill 9) room
+
+-- what the state strip and the newest positions have for the list's first home
+unfoldable pub listedIn : World → List ℕ
+listedIn w = listedOf (w .state) 0 ∷ keptFor (w .newest) listHome ∷ []
+
+-- a new format (G 4, D 13) opened: positions from 28 on
+unfoldable pub reopening : Event
+reopening = call (opening (zeros 1024) (zeros 104) lane)
+
+unfoldable pub unguarded : World
+unguarded = step (emptyStore 4 13) reopening
+
+-- While no list is committed all is open but the list's own homes, which only writer 0 may store to; an open transaction is asked for after that. A
+-- list that writer 0 holds, and one it has logged, does not count yet.
+unfoldable pub beforeList : List Call
+beforeList =
+    begin 1 ∷ writes 1 5 ∷ writes 1 8 ∷ writes 2 11 ∷ writes 2 3 ∷ reads 2 3 ∷ begin 0 ∷ store 0 8 firstList room ∷ reads 0 4 ∷ store 0 9 (zeros 64) room ∷ reads 0 4
+    ∷ writes 1 5 ∷ commit 0 room ∷ []
+
+unfoldable pub guarded : World
+guarded = goes unguarded beforeList
+
+-- under the list: a block that writer 1 held before, its homes, homes that are not its own, and a writer that has none
+unfoldable pub underList : List Call
+underList =
+    reads 1 5 ∷ writes 1 3 ∷ writes 1 4 ∷ writes 1 6 ∷ writes 2 3 ∷ reads 1 3 ∷ reads 1 4 ∷ reads 1 6 ∷ reads 1 9 ∷ reads 2 3 ∷ reads 0 4 ∷ writes 0 3 ∷ begin 0
+    ∷ writes 0 3 ∷ writes 0 2 ∷ commit 1 room ∷ []
+
+unfoldable pub replaced : World
+replaced = goes (goes guarded underList) (store 0 8 nextList room ∷ commit 0 room ∷ [])
+
+-- under the next one; the transactions of both writers are closed, so that 7 is what a store meets that it has the right to
+unfoldable pub underNext : List Call
+underNext = writes 1 4 ∷ writes 1 3 ∷ reads 1 4 ∷ reads 1 3 ∷ reads 1 6 ∷ writes 1 11 ∷ writes 0 11 ∷ []
+
+-- with both in the data copy and the log empty; and after another commit of the first list, a crash with all of it persisted, and an opening
+unfoldable pub trimmed : World
+trimmed = goes replaced (flush room ∷ settle room ∷ trim room ∷ [])
+
+unfoldable pub openedAgain : World
+openedAgain =
+    step (step (goes trimmed (begin 0 ∷ store 0 8 firstList room ∷ commit 0 room ∷ flush room ∷ [])) (crash 7 (λ i. false))) reopening
+
+unfoldable pub underFirst : List Call
+underFirst = writes 1 3 ∷ writes 1 4 ∷ reads 1 3 ∷ reads 1 4 ∷ reads 1 6 ∷ []
+
+-- D 11 is too small for a list: homes 8 to 10 are writer 0's alone to store to, and all else is open
+unfoldable pub tooSmall : List ℕ
+tooSmall =
+    numbers (step (emptyStore 4 11) (call (opening (zeros 1024) (zeros 88) lane)))
+    (begin 0 ∷ store 0 8 firstList room ∷ commit 0 room ∷ begin 1 ∷ writes 1 4 ∷ writes 1 7 ∷ writes 1 8 ∷ writes 1 10 ∷ writes 1 11 ∷ reads 2 3 ∷ reads 1 10 ∷ [])
