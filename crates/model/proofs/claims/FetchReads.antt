@@ -24,6 +24,7 @@ use Rattle.model.specs.Store.{newStore}
 use Rattle.model.specs.Units.{Act, fetchEnds, reviseEnds, acted, AllActsAllowed, readsFrom, ReadTogether, ActsRead}
 use Rattle.model.proofs.bytes.ByteLaws.{length-zeros}
 use Rattle.model.proofs.strip.QuestionLaws.{ask-yes}
+use Rattle.model.proofs.strip.RightLaws.{list-by}
 use Rattle.model.proofs.strip.ChainLaws.{HomesReady, each-of, fetch-ready, revise-ready}
 use Rattle.model.proofs.steps.DoneLaws.{outcome-code, outcome-done}
 use Rattle.model.proofs.claims.Reached.{begins, live-then}
@@ -79,16 +80,11 @@ module _ (g : Given) (block batch : List ℕ) where
 
 -- ---- a read of one of the homes
 
-list-both : (w : World) (b b′ t t′ : List ℕ) (v v′ h h′ n : ℕ)
-    → listBy (lent w b t v h) (λ i. keptFor (w .newest) (listHome + i)) n ≡ listBy (lent w b′ t′ v′ h′) (λ i. keptFor (w .newest) (listHome + i)) n
-unfolding listBy
-list-both w b b′ t t′ v v′ h h′ zero = refl
-list-both w b b′ t t′ v v′ h h′ (suc n) =
-    rw (list-both w b b′ t t′ v v′ h h′ n, shown-at w b t v h (listHome + n), shown-at w b′ t′ v′ h′ (listHome + n))
-
 list-same : (w : World) (b b′ t t′ : List ℕ) (v v′ h h′ : ℕ) → readList (lent w b t v h) ≡ readList (lent w b′ t′ v′ h′)
 unfolding readList lent
-list-same w b b′ t t′ v v′ h h′ = list-both w b b′ t t′ v v′ h h′ 4
+list-same w b b′ t t′ v v′ h h′ =
+    list-by (lent w b t v h) (lent w b′ t′ v′ h′) (λ i. keptFor (w .newest) (listHome + i)) (λ i. keptFor (w .newest) (listHome + i)) 4
+    (λ i l. shown-at w b t v h (listHome + i) ∙ sym (shown-at w b′ t′ v′ h′ (listHome + i)))
 
 module _ (w : World) (v h x : ℕ) (blocks : List ℕ) where
   abbrev one : Given

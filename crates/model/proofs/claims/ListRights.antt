@@ -1,26 +1,25 @@
 -- The list of rights that a call on several homes finds is that of the book. Assumes nothing.
 use Prim.Native.Nat.{ℕ, zero, suc, _+_, _*_, _≤_, _<_}
 use mathlib.Core.Path.{_≡_, refl, sym, ap, _∙_, subst}
-use mathlib.Core.Bool.{Bool, true, false, cond, not, _&&_, _||_}
+use mathlib.Core.Bool.{true}
 use mathlib.Core.List.{List, [], _∷_, _++_}
-use mathlib.Core.Option.{Option, none, some}
-use native.Mathlib.Decide.{decLe}
+use native.Mathlib.Decide.{decLt}
 use native.Mathlib.Omega.{arith}
-use lib.Dec.{eqb, leb, ltb}
 use lib.ListN.{length, take, drop}
 use lib.Seq.{take-add, drop-drop}
-use borrow.Author.Tests.{eqb-true, lt-leb}
-use Rattle.model.specs.Bytes.{part, zeros, same}
+use borrow.Author.Tests.{eqb-true}
+use Rattle.model.specs.Bytes.{part}
 use Rattle.model.specs.Layout.{homeAt}
 use Rattle.model.specs.State.{listHome}
 use Rattle.model.specs.Newest.{keptFor}
-use Rattle.model.specs.Effects.{Given, homes, tagsOf, liveTags, liveBase, blockOr, isThere, keptPosition, shown}
-use Rattle.model.specs.Rights.{forHome, shownAt, listBy, readList, ofList, isList, inRanges, mayStore}
+use Rattle.model.specs.Effects.{homes, keptPosition, shown}
+use Rattle.model.specs.Rights.{forHome, shownAt, readList, mayStore}
 use Rattle.model.specs.Questions.{newestRight}
 use Rattle.model.specs.Book.{homesAfter}
 use Rattle.model.specs.History.{World, lent}
 use Rattle.model.specs.Kept.{Kept}
 use Rattle.model.specs.Store.{Store, listOf}
+use Rattle.model.proofs.strip.RightLaws.{shown-by, list-part, no-list-store}
 
 -- ---- blocks one behind the other
 
@@ -44,48 +43,24 @@ joined-part area home (suc n) =
 
 -- ---- the list
 
-module _ (w : World) (blocks batch : List ℕ) (v h x : ℕ) where
-  there-same : (p : ℕ) → isThere (forHome (lent w blocks batch v h) x) p ≡ isThere (lent w [] [] 0 x) p
-  unfolding isThere liveBase liveTags tagsOf forHome lent
-  there-same p = refl
-
-  block-same : (o : Option ℕ) (other : List ℕ) → blockOr (forHome (lent w blocks batch v h) x) o other ≡ blockOr (lent w [] [] 0 x) o other
-  unfolding blockOr forHome lent
-  block-same none other = refl
-  block-same (some p) other = refl
-
-  pub shown-at : shownAt (forHome (lent w blocks batch v h) x) (keptFor (w .newest) x) ≡ shown (lent w [] [] 0 x)
-  unfolding shownAt shown keptPosition forHome lent
-  shown-at =
-      let p : ℕ = keptFor (w .newest) x in
-      block-same (cond (isThere (forHome (lent w blocks batch v h) x) p) (some p) none) (homeAt (w .area) x)
-      ∙ ap (λ (b : Bool). blockOr (lent w [] [] 0 x) (cond b (some p) none) (homeAt (w .area) x)) (there-same p)
-
-list-joined : (g : Given) (kept : ℕ → ℕ) (area : List ℕ) (n : ℕ)
-    → ((i : ℕ) → i < n → shownAt (forHome g (listHome + i)) (kept i) ≡ homeAt area (listHome + i)) → listBy g kept n ≡ joined area listHome n
-unfolding listBy joined
-list-joined g kept area zero f = refl
-list-joined g kept area (suc n) f = rw (list-joined g kept area n (λ i l. f i (omega arith)), f n (omega arith))
+pub shown-at : (w : World) (blocks batch : List ℕ) (v h x : ℕ)
+    → shownAt (forHome (lent w blocks batch v h) x) (keptFor (w .newest) x) ≡ shown (lent w [] [] 0 x)
+unfolding shown keptPosition shownAt forHome lent
+shown-at w blocks batch v h x = shown-by (lent w [] [] 0 x) (w .newest) blocks batch v (keptFor (w .newest) x)
 
 list-found : (w : World) (blocks batch : List ℕ) (v h : ℕ) → Kept w → listHome + 4 ≤ w .homes
     → readList (lent w blocks batch v h) ≡ part (homesAfter (w .homes) (w .book .commits)) (64 * listHome) 256
 unfolding readList lent
 list-found w blocks batch v h k l =
-    list-joined (lent w blocks batch v h) (λ i. keptFor (w .newest) (listHome + i)) (homesAfter (w .homes) (w .book .commits)) 4
+    list-part (lent w blocks batch v h) (λ i. keptFor (w .newest) (listHome + i)) (homesAfter (w .homes) (w .book .commits)) 4
     (λ i m. shown-at w blocks batch v h (listHome + i) ∙ k .blocks (listHome + i) (omega arith))
-    ∙ joined-part (homesAfter (w .homes) (w .book .commits)) listHome 4
-
--- with too few homes for a list it does not count
-none-counts : (homes : ℕ) (list : List ℕ) → homes < listHome + 4 → isList homes list ≡ false
-unfolding isList
-none-counts homes list l = rw (lt-leb (listHome + 4) homes l)
 
 store-same : (homes : ℕ) (list list′ : List ℕ) (v x : ℕ) → (listHome + 4 ≤ homes → list ≡ list′) → mayStore homes list v x ≡ mayStore homes list′ v x
-store-same homes list list′ v x f = go (decLe (listHome + 4) homes)
+store-same homes list list′ v x f = go (decLt homes (listHome + 4))
   where
-    go : Dec (listHome + 4 ≤ homes) → mayStore homes list v x ≡ mayStore homes list′ v x
-    go (yes l) = ap (λ (ls : List ℕ). mayStore homes ls v x) (f l)
-    go (no l) = unfold mayStore in rw (none-counts homes list (omega arith), none-counts homes list′ (omega arith))
+    go : Dec (homes < listHome + 4) → mayStore homes list v x ≡ mayStore homes list′ v x
+    go (yes l) = no-list-store homes list list′ v x l
+    go (no l) = ap (λ (ls : List ℕ). mayStore homes ls v x) (f (omega arith))
 
 -- what is lent has the world's number of homes
 pub lent-homes : (w : World) (blocks batch : List ℕ) (v h : ℕ) → Kept w → newestRight (lent w blocks batch v h) ≡ true → homes (lent w blocks batch v h) ≡ w .homes

@@ -15,8 +15,8 @@ use Rattle.model.specs.Kept.{Kept, KeptThroughout}
 use Rattle.model.specs.History.{Change, Service, settles, roundBegins, roundSteps, trims, reads, Call, opening, confirm, change, service, Event, call, crash, World, unopened, Formatting, afterFormat, ends, feed, isOpening, afterCall, afterDone, afterRefused, afterCrash, step, after, Allowed, AllAllowed}
 use Rattle.model.specs.Store.{Store, newStore, Reply, nextStart, toStep, numbered, inRound, roundOver, trimmedTo, afterService, afterReply, reply, replyOf, follow, AnswersAt, AnswersThroughout}
 use Rattle.model.specs.Store as store
-use Rattle.model.proofs.claims.StoreFollows.{answers-hold}
 use Rattle.model.proofs.claims.KeptHolds.{newest-kept}
+use Rattle.model.proofs.claims.AnswersHold.{answers-hold}
 use Rattle.model.proofs.claims.DemandTwo.{demand2}
 
 unfoldable pub followed : Store → World → List Event → Store
