@@ -211,7 +211,7 @@ module _ (home n : ℕ) where
   apart-each h m (inl a) j l = inl (omega arith)
   apart-each h m (inr a) j l = inr (omega arith)
 
-  apart-home : (h m : ℕ) → 1 ≤ n → 1 ≤ m → Apart home n h m → h ≡ home → ⊥
+  pub apart-home : (h m : ℕ) → 1 ≤ n → 1 ≤ m → Apart home n h m → h ≡ home → ⊥
   apart-home h m p q (inl a) e = omega arith
   apart-home h m p q (inr a) e = omega arith
 

@@ -53,7 +53,7 @@ unfolding step afterCrash
 event-homes w (call c) = call-homes w c (ends w c) (ends w c .code)
 event-homes w (crash passed chosen) = refl
 
-act-homes : (w : World) (a : Act) → act w a .homes ≡ w .homes
+pub act-homes : (w : World) (a : Act) → act w a .homes ≡ w .homes
 unfolding act leftBy
 act-homes w (plain e) = event-homes w e
 act-homes w (transacts v h blocks batch) = refl
@@ -115,7 +115,7 @@ module _ (home n : ℕ) (w : World) (ls : List Label) (fits : home + n ≤ w .ho
       (reads-joined home n (w .homes) (w .book) v n (omega arith) (k .tasks v) ∙ joined-part (homesAfter (w .homes) (w .book .commits)) home n
       ∙ held-so (w .book .commits) ls (k .fit))
 
-  unit-kept : (w .ready ≡ true → (v h : ℕ) (blocks : List ℕ) → ReadTogether w v h blocks) → UnitKept home n w ls
+  pub unit-kept : (w .ready ≡ true → (v h : ℕ) (blocks : List ℕ) → ReadTogether w v h blocks) → UnitKept home n w ls
   unit-kept reads =
       record {
         many = fit-length home n (w .book .commits) ls (k .fit);
