@@ -1,22 +1,22 @@
 -- Events over the homes of a unit of the store, in every history: the homes hold what the events of the book's list made of them. Assumes nothing.
 use Prim.Native.Nat.{ℕ, zero, suc, _+_, _*_, _/_, _≤_}
 use mathlib.Core.Path.{_≡_, refl, sym, ap, _∙_, subst}
-use mathlib.Core.Logic.{_⊎_, inl, inr}
+use mathlib.Core.Logic.{inl, inr}
 use mathlib.Core.Bool.{Bool, true, false, cond}
 use mathlib.Core.List.{List, [], _∷_, _++_, append-nil, append-assoc}
 use mathlib.Core.Option.{Option, none, some}
 use native.Mathlib.Omega.{arith}
 use lib.Dec.{eqb}
-use lib.ListN.{length, take, length-append}
+use lib.ListN.{length, take}
 use lib.Seq.{take-at, take-length}
 use borrow.Author.Tests.{eqb-true, eqb-false, eq-eqb, ne-eqb}
 use Rattle.model.specs.Bytes.{part, zeros}
-use Rattle.model.specs.Calls.{Outcome, sizeOf}
+use Rattle.model.specs.Calls.{sizeOf}
 use Rattle.model.specs.Chains.{blocksLent, transactEffect, transactAnswer, transactCall}
 use Rattle.model.specs.Effects.{Given}
-use Rattle.model.specs.History.{World, Formatting, unopened, afterFormat, lent}
+use Rattle.model.specs.History.{World, unopened, afterFormat, lent}
 use Rattle.model.specs.Store.{newStore}
-use Rattle.model.specs.Units.{Act, plain, transacts, fetches, revises, transactEnds, fetchEnds, reviseEnds, act, acted, ActAllowed, relabel, Label, other, unit, labelOf, lastUnit, Apart, Spared, UnitKept}
+use Rattle.model.specs.Units.{Act, plain, transacts, fetches, revises, transactEnds, act, acted, ActAllowed, relabel, Label, other, unit, labelOf, lastUnit, Spared, UnitKept}
 use Rattle.model.proofs.bytes.ByteLaws.{length-zeros}
 use Rattle.model.proofs.strip.ChainLaws.{transact-ready}
 use Rattle.model.proofs.steps.DoneLaws.{outcome-code}
@@ -27,7 +27,7 @@ use Rattle.model.proofs.claims.ActsHold.{refused-stays, revise-stays, Somewhere
 use Rattle.model.proofs.claims.FetchReads.{read-at}
 use Rattle.model.proofs.claims.UnitsHold.{act-homes, unit-kept}
 use Rattle.events.specs.Offered.{heldAfter, AcceptedFrom}
-use Rattle.events.specs.Folded.{Step, acts, offers, sets, first, noted, AllFit, noteOf, readFor, verdict, storing, actsOf, stepped, ran, notesFrom, notes, StepAllowed, AllStepsAllowed, SparedByAct, SparedByStep, SparedBySteps, JudgedFrom, Folded, EventsFolded, Recorded, Growing, EventsRecorded}
+use Rattle.events.specs.Folded.{Step, acts, offers, sets, first, noted, AllFit, noteOf, readFor, verdict, storing, actsOf, answered, stepped, ran, notesFrom, notes, StepAllowed, AllStepsAllowed, SparedByAct, SparedByStep, SparedBySteps, JudgedFrom, Folded, EventsFolded, Recorded, Growing, EventsRecorded}
 
 first-zero : (a b : ℕ) → first a b ≡ 0 → (a ≡ 0) × (b ≡ 0)
 unfolding first
@@ -220,7 +220,6 @@ module _ {E : Type 0} (home n : ℕ) (judge : List ℕ → E → ℕ) (apply : L
     unfolding acted
     one-act w a = refl
 
-
     two-acts : (w : World) (a c : Act) → acted w (a ∷ c ∷ []) ≡ act (act w a) c
     unfolding acted
     two-acts w a c = refl
@@ -260,6 +259,13 @@ module _ {E : Type 0} (home n : ℕ) (judge : List ℕ → E → ℕ) (apply : L
     all-go (s ∷ ss) w ns g ok f =
         all-go ss (stepped home n judge apply w s) (relabel (stepped home n judge apply w s) ns (noteOf s)) (step-goes w ns s g (ok .0) (f .0)) (ok .1) (f .1)
 
+  -- what an event's call answers once its read is done
+  answered-is : (w : World) (v : ℕ) (e : E) (batch : List ℕ) → readFor home n judge apply w v .code ≡ 0
+      → answered home n judge apply w v e batch
+      ≡ first (judge (readFor home n judge apply w v .block) e) (transactEnds w v home (apply (readFor home n judge apply w v .block) e) batch .code)
+  unfolding answered verdict first
+  answered-is w v e batch z = rw (eq-eqb (readFor home n judge apply w v .code) 0 z)
+
   going-folded : (w : World) (ns : List (Option E)) → Going w ns → Folded home n judge apply Fit w ns
   going-folded w ns g =
       let front : (k : ℕ) → Agree blank (take k ns) (take k (g .labels)) = λ k. agree-take k blank ns (g .labels) (g .agree) in
@@ -269,12 +275,10 @@ module _ {E : Type 0} (home n : ℕ) (judge : List ℕ → E → ℕ) (apply : L
         judged = λ k. agree-judged blank (take k ns) (take k (g .labels)) (front k) .0;
         held = λ k. kept w ns g .held k ∙ agree-last blank (take k ns) (take k (g .labels)) (front k);
         fetched = λ v blocks ready l z. kept w ns g .fetched v blocks ready l z ∙ agree-last blank ns (g .labels) (g .agree);
-        answers = λ v e ready z. verdict-is v e z ∙ ap (λ (b : List ℕ). judge b e) (read-blocks w ns g v ready z);
+        partly = λ v from m blocks ready l e z.
+            kept w ns g .partly v from m blocks ready l e z ∙ ap (λ (b : List ℕ). part b (64 * from) (64 * m)) (agree-last blank ns (g .labels) (g .agree));
+        read = λ v ready z. read-blocks w ns g v ready z;
       }
-    where
-      verdict-is : (v : ℕ) (e : E) → readFor home n judge apply w v .code ≡ 0
-          → verdict home n judge apply w v e ≡ judge (readFor home n judge apply w v .block) e
-      verdict-is v e z = (unfold verdict first in rw (eq-eqb (readFor home n judge apply w v .code) 0 z))
 
   pub events-folded : EventsFolded home n judge apply Fit
   unfolding notes
@@ -315,7 +319,9 @@ module _ {E : Type 0} (home n : ℕ) (judge : List ℕ → E → ℕ) (apply : L
           accepted = λ k. front k .0;
           kept = λ k. subst (Kept (noted (take k ns))) (sym (f .held k)) (front k .1);
           fetched = λ v blocks ready l z. subst (Kept (noted ns)) (sym (f .fetched v blocks ready l z)) all;
-          answers = λ v e ready z t. f .answers v e ready z ∙ grows (noted ns) (heldAfter apply blank (noted ns)) e all t .0;
+          partly = λ v from m blocks ready l e z. (heldAfter apply blank (noted ns), all, f .partly v from m blocks ready l e z);
+          answers = λ v e batch ready z t.
+              answered-is w v e batch z ∙ ap (λ (a : ℕ). first a (transactEnds w v home (apply (readFor home n judge apply w v .block) e) batch .code)) (ap (λ (b : List ℕ). judge b e) (f .read v ready z) ∙ grows (noted ns) (heldAfter apply blank (noted ns)) e all t .0);
         }
 
   pub events-recorded : (answer : List E → E → ℕ) (Kept : List E → List ℕ → Type 0) → EventsRecorded home n judge apply Fit answer Kept

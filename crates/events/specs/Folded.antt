@@ -1,8 +1,8 @@
 -- Events over the homes of a unit of the store. An event's call reads the homes for its writer, judges the event by the blocks read and, where they
 -- answer 0, stores what the event makes of them, all homes in one transaction. "events .. asks the store's questions once, in 01's order, for all of it"
-use Prim.Native.Nat.{ℕ, zero, suc, _+_, _*_, _/_, _≤_}
+use Prim.Native.Nat.{ℕ, _+_, _*_, _/_, _≤_}
 use mathlib.Core.Path.{_≡_}
-use mathlib.Core.Bool.{Bool, true, false, cond}
+use mathlib.Core.Bool.{true, cond}
 use mathlib.Core.List.{List, [], _∷_, _++_}
 use mathlib.Core.Option.{Option, none, some}
 use lib.Dec.{eqb}
@@ -11,8 +11,8 @@ use Rattle.model.specs.Bytes.{part, zeros}
 use Rattle.model.specs.Calls.{Outcome}
 use Rattle.model.specs.Book.{homesAfter}
 use Rattle.model.specs.History.{World, Formatting, afterFormat}
-use Rattle.model.specs.Units.{Act, plain, transacts, fetches, revises, transactEnds, fetchEnds, reviseEnds, act, acted, ActAllowed, relabel, Apart, SparedByEvent}
-use Rattle.events.specs.Offered.{heldAfter, AcceptedFrom, Accepted}
+use Rattle.model.specs.Units.{Act, plain, transacts, fetches, revises, transactEnds, fetchEnds, reviseEnds, acted, ActAllowed, relabel, Apart, SparedByEvent}
+use Rattle.events.specs.Offered.{heldAfter, Accepted}
 
 -- an act of the history, an event that a writer offers to the unit, with its batch buffer, or one that is done whatever the blocks hold and reads
 -- nothing ("a table stores only")
@@ -111,8 +111,8 @@ module _ {E : Type 0} (home n : ℕ) (judge : List ℕ → E → ℕ) (apply : L
   JudgedFrom b [] = Unit {0}
   JudgedFrom b (e ∷ es) = (judge b e ≡ 0) × JudgedFrom (apply b e) es
 
-  -- For every front of the book's list, its events are a list of done ones, and the homes hold what these made of zeros; a done fetch or revise gives
-  -- what the events of the whole list made of them, and so these answer the next event.
+  -- For every front of the book's list, its events are a list of done ones, and the homes hold what these made of zeros; a done fetch gives what the
+  -- events of the whole list made of them, a done fetch of some homes their part of it; and the next event is judged by what they made.
   pub record Folded (Fit : E → Type 0) (w : World) (ns : List (Option E)) : Type 0 where
     pub many : length ns ≡ length (w .book .commits)
     pub fit : (k : ℕ) → AllFit Fit (noted (take k ns))
@@ -125,8 +125,14 @@ module _ {E : Type 0} (home n : ℕ) (judge : List ℕ → E → ℕ) (apply : L
         length blocks ≡ 64 * n →
         fetchEnds w writer home blocks .code ≡ 0 →
         fetchEnds w writer home blocks .block ≡ heldAfter apply (zeros (64 * n)) (noted ns)
-    pub answers :
-        (writer : ℕ) (e : E) → w .ready ≡ true → readFor w writer .code ≡ 0 → verdict w writer e ≡ judge (heldAfter apply (zeros (64 * n)) (noted ns)) e
+    pub partly :
+        (writer from m : ℕ) (blocks : List ℕ) →
+        w .ready ≡ true →
+        from + m ≤ n →
+        length blocks ≡ 64 * m →
+        fetchEnds w writer (home + from) blocks .code ≡ 0 →
+        fetchEnds w writer (home + from) blocks .block ≡ part (heldAfter apply (zeros (64 * n)) (noted ns)) (64 * from) (64 * m)
+    pub read : (writer : ℕ) → w .ready ≡ true → readFor w writer .code ≡ 0 → readFor w writer .block ≡ heldAfter apply (zeros (64 * n)) (noted ns)
 
   -- at the end of every history from a done format on, and so at every moment of it
   abbrev pub EventsFolded : (E → Type 0) → Type 0
@@ -137,7 +143,7 @@ module _ {E : Type 0} (home n : ℕ) (judge : List ℕ → E → ℕ) (apply : L
 
   -- Where the blocks that hold what a list of done events says (`Kept`) answer as the list does and hold, after one more, what the longer list says: for
   -- every front of the book's list its events are an accepted list, and the homes hold what it says; a done fetch gives what the whole list says, and
-  -- the list answers the next event.
+  -- the list answers the next event, before the transaction does.
   pub record Recorded (Fit : E → Type 0) (answer : List E → E → ℕ) (Kept : List E → List ℕ → Type 0) (w : World) (ns : List (Option E)) : Type 0 where
     pub many : length ns ≡ length (w .book .commits)
     pub accepted : (k : ℕ) → Accepted answer (noted (take k ns))
@@ -148,7 +154,19 @@ module _ {E : Type 0} (home n : ℕ) (judge : List ℕ → E → ℕ) (apply : L
         length blocks ≡ 64 * n →
         fetchEnds w writer home blocks .code ≡ 0 →
         Kept (noted ns) (fetchEnds w writer home blocks .block)
-    pub answers : (writer : ℕ) (e : E) → w .ready ≡ true → readFor w writer .code ≡ 0 → Fit e → verdict w writer e ≡ answer (noted ns) e
+    pub partly :
+        (writer from m : ℕ) (blocks : List ℕ) →
+        w .ready ≡ true →
+        from + m ≤ n →
+        length blocks ≡ 64 * m →
+        fetchEnds w writer (home + from) blocks .code ≡ 0 →
+        (b : List ℕ) × Kept (noted ns) b × (fetchEnds w writer (home + from) blocks .block ≡ part b (64 * from) (64 * m))
+    pub answers :
+        (writer : ℕ) (e : E) (batch : List ℕ) →
+        w .ready ≡ true →
+        readFor w writer .code ≡ 0 →
+        Fit e →
+        answered w writer e batch ≡ first (answer (noted ns) e) (transactEnds w writer home (apply (readFor w writer .block) e) batch .code)
 
   abbrev pub Growing : (E → Type 0) → (List E → E → ℕ) → (List E → List ℕ → Type 0) → Type 0
   Growing Fit answer Kept =

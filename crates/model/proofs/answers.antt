@@ -8,4 +8,5 @@ pub mod ReservationsHold
 pub mod TearsHold
 pub mod PositionsHold
 pub mod GuardedHolds
+pub mod TogetherHolds
 pub mod RoundsGo

@@ -27,4 +27,5 @@ pub mod Guarded
 pub mod Rounds
 pub mod Isolation
 pub mod Units
+pub mod Together
 pub mod Facts

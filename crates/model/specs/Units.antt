@@ -3,7 +3,7 @@
 use Prim.Native.Nat.{ℕ, zero, suc, _+_, _*_, _/_, _≤_}
 use mathlib.Core.Path.{_≡_}
 use mathlib.Core.Logic.{_⊎_}
-use mathlib.Core.Bool.{Bool, true, false, cond, not}
+use mathlib.Core.Bool.{true, cond}
 use mathlib.Core.List.{List, [], _∷_, _++_}
 use lib.Dec.{eqb}
 use lib.ListN.{length, take}
@@ -188,7 +188,7 @@ Reserved home n [] = Unit {0}
 Reserved home n (a ∷ more) = Spared home n a × Reserved home n more
 
 -- What the unit of n homes from `home` on holds: "for EVERY prefix of L the homes after it encode what its labels say", and a done fetch or revise
--- gives what the last label of the whole list says.
+-- gives what the last label of the whole list says; a fetch of some of its homes gives their part of it.
 pub record UnitKept (home n : ℕ) (w : World) (ls : List Label) : Type 0 where
   pub many : length ls ≡ length (w .book .commits)
   pub held : (k : ℕ) → part (homesAfter (w .homes) (take k (w .book .commits))) (64 * home) (64 * n) ≡ lastUnit home (zeros (64 * n)) (take k ls)
@@ -198,6 +198,13 @@ pub record UnitKept (home n : ℕ) (w : World) (ls : List Label) : Type 0 where
       length blocks ≡ 64 * n →
       fetchEnds w writer home blocks .code ≡ 0 →
       fetchEnds w writer home blocks .block ≡ lastUnit home (zeros (64 * n)) ls
+  pub partly :
+      (writer first m : ℕ) (blocks : List ℕ) →
+      w .ready ≡ true →
+      first + m ≤ n →
+      length blocks ≡ 64 * m →
+      fetchEnds w writer (home + first) blocks .code ≡ 0 →
+      fetchEnds w writer (home + first) blocks .block ≡ part (lastUnit home (zeros (64 * n)) ls) (64 * first) (64 * m)
   pub revised :
       (writer : ℕ) (blocks : List ℕ) →
       w .ready ≡ true →

@@ -1,33 +1,22 @@
 -- Histories with calls on several homes are histories of the events that they stand for; and what a done fetch or revise gives, in the book's terms.
 -- Assumes nothing.
-use Prim.Native.Nat.{ℕ, zero, suc, _+_, _*_, _/_, _≤_, _<_}
+use Prim.Native.Nat.{ℕ, zero, suc}
 use mathlib.Core.Path.{_≡_, refl, sym, ap, _∙_, subst}
-use mathlib.Core.Bool.{Bool, true, false, cond, not, _&&_}
-use mathlib.Core.List.{List, [], _∷_, _++_, append-nil}
-use mathlib.Core.Option.{Option, none, some}
-use native.Mathlib.Omega.{arith}
-use lib.Dec.{eqb, leb, ltb}
-use lib.ListN.{length, take}
-use borrow.Author.Tests.{eqb-true, eqb-false, ne-eqb, lt-ltb, le-leb}
-use Rattle.model.specs.Bytes.{zeros}
-use Rattle.model.specs.Layout.{homeAt}
-use Rattle.model.specs.State.{Writer, writerOf}
-use Rattle.model.specs.Batch.{Record, batchBytes, readBatch, readRecords}
-use Rattle.model.specs.Effects.{Given, Effect, homes, newestOwn, blockOr, ownElse, isThere, liveTags, liveBase, tagsOf, keptPosition, shown, readEffect}
-use Rattle.model.specs.Rights.{forHome, mayRead, listBy, shownAt, readList}
-use Rattle.model.specs.Questions.{ask, areasRight, stateRight, newestRight, blockRight, stripInOrder, writerKnown, homeKnown, readAllowed, askBoth, readAnswer}
-use Rattle.model.specs.Calls.{Outcome, refused, done, outcome, sizeOf, readCall}
-use Rattle.model.specs.Chains.{blocksLent, blocksRead, fetchEffect, mayReadAll, fetchAnswer, reviseAnswer, fetchCall, reviseCall, transactEffect, transactAnswer, transactCall}
-use Rattle.model.specs.Book.{Book, reads as readBy}
-use Rattle.model.specs.Demands.{Live}
-use Rattle.model.specs.History.{Call, read, Event, call, World, Formatting, afterFormat, lent, ends, serviceEnds, step, after, Allowed, AllAllowed, Always}
+use mathlib.Core.Bool.{Bool, true, false, cond}
+use mathlib.Core.List.{List, [], _∷_, append-nil}
+use lib.Dec.{eqb}
+use lib.ListN.{take}
+use borrow.Author.Tests.{eqb-true, eqb-false, ne-eqb}
+use Rattle.model.specs.Batch.{batchBytes, readBatch, readRecords}
+use Rattle.model.specs.Effects.{Given, Effect, homes}
+use Rattle.model.specs.Calls.{refused, done, outcome, sizeOf}
+use Rattle.model.specs.Chains.{fetchEffect, fetchAnswer, reviseAnswer, fetchCall, reviseCall, transactEffect, transactAnswer, transactCall}
+use Rattle.model.specs.Book.{Book}
+use Rattle.model.specs.History.{Event, World, Formatting, afterFormat, lent, step, after, AllAllowed}
 use Rattle.model.specs.Store.{Store, newStore}
-use Rattle.model.specs.Units.{Act, plain, transacts, fetches, revises, transactEnds, fetchEnds, reviseEnds, feedTransact, leftBy, act, acted, ActAllowed, AllActsAllowed, chain, expand, expandAll, ActsExpand, readsFrom, ReadTogether, ActsRead}
-use Rattle.model.proofs.bytes.ByteLaws.{length-zeros}
-use Rattle.model.proofs.strip.QuestionLaws.{ask-yes}
-use Rattle.model.proofs.strip.ChainLaws.{HomesReady, each-of, fetch-ready, revise-ready}
-use Rattle.model.proofs.steps.DoneLaws.{outcome-code, outcome-done}
-use Rattle.model.proofs.claims.Reached.{Reached, begins, after-append, allowed-append, goes-on, live-then}
+use Rattle.model.specs.Units.{Act, plain, transacts, fetches, revises, transactEnds, fetchEnds, reviseEnds, feedTransact, leftBy, act, acted, ActAllowed, AllActsAllowed, chain, expand, expandAll, ActsExpand}
+use Rattle.model.proofs.steps.DoneLaws.{outcome-code}
+use Rattle.model.proofs.claims.Reached.{Reached, begins, after-append, allowed-append, goes-on}
 use Rattle.model.proofs.claims.ChainRuns.{transact-chain}
 
 -- ---- a refused call, and one that reads only, leaves the world as it is
@@ -73,9 +62,6 @@ revise-stays w v h blocks = fetch-left w blocks v h (reviseAnswer (lent w blocks
 
 -- ---- expansion
 
-
-
-
 none-expands : (w u : World) → u ≡ w → AllAllowed w [] × (after w [] ≡ u)
 unfolding after
 none-expands w u e = (tt, sym e)
@@ -113,8 +99,7 @@ unfolding expandAll acted
 acts-expand [] w r a = (tt, (unfold after in refl))
 acts-expand (c ∷ more) w r a =
     let x = act-expands w (r .0) c (r .1) (a .0) in
-    let y = acts-expand more (act w c) (act-somewhere w c r (a .0)) (a .1) in
-    (
+    let y = acts-expand more (act w c) (act-somewhere w c r (a .0)) (a .1) in (
       allowed-append (expand w c) (expandAll (act w c) more) w (x .0) (subst (λ (u : World). AllAllowed u (expandAll (act w c) more)) (sym (x .1)) (y .0)),
       after-append (expand w c) (expandAll (act w c) more) w ∙ ap (λ (u : World). after u (expandAll (act w c) more)) (x .1) ∙ y .1,
     )
@@ -128,7 +113,8 @@ pub expanded : ActsExpand
 expanded groups homes f acts a = acts-expand acts (afterFormat f) (newStore groups homes, begins f) a
 
 -- what holds of every history of events holds of the events that a history of acts stands for
-pub holds-of-acts : (Claim : World → List Event → Type 0) → Always Claim → (groups homes : ℕ) (f : Formatting groups homes) (acts : List Act)
-    → AllActsAllowed (afterFormat f) acts → Claim (afterFormat f) (expandAll (afterFormat f) acts)
+pub holds-of-acts : (Claim : ℕ → ℕ → World → List Event → Type 0)
+    → ((groups homes : ℕ) (f : Formatting groups homes) (es : List Event) → AllAllowed (afterFormat f) es → Claim groups homes (afterFormat f) es)
+    → (groups homes : ℕ) (f : Formatting groups homes) (acts : List Act) → AllActsAllowed (afterFormat f) acts
+    → Claim groups homes (afterFormat f) (expandAll (afterFormat f) acts)
 holds-of-acts Claim h groups homes f acts a = h groups homes f (expandAll (afterFormat f) acts) (expanded groups homes f acts a .0)
-

@@ -1,30 +1,30 @@
 -- A done transact is its begin, stores and commit, one after the other: all of them are done, and they leave the world that it leaves. Assumes nothing.
 use Prim.Native.Nat.{ℕ, zero, suc, _+_, _*_, _/_, _≤_, _<_}
 use mathlib.Core.Path.{_≡_, refl, sym, ap, _∙_, subst}
-use mathlib.Core.Bool.{Bool, true, false, cond, not, _&&_}
+use mathlib.Core.Bool.{true, false, cond, not, _&&_}
 use mathlib.Core.List.{List, [], _∷_, _++_, append-assoc}
 use native.Mathlib.Omega.{arith}
-use lib.Dec.{eqb, leb, ltb}
+use lib.Dec.{eqb}
 use lib.ListN.{length, take}
 use borrow.Author.Tests.{eq-eqb, le-leb, ltb-true}
 use Rattle.model.specs.Bytes.{part}
-use Rattle.model.specs.Batch.{Record, batchBytes, readBatch}
+use Rattle.model.specs.Batch.{batchBytes, readBatch}
 use Rattle.model.specs.State.{freePlaces}
-use Rattle.model.specs.Effects.{Given, Effect, homes, newState, tagsOf, liveBase, logHeld, logClosing, linkFrom, storeFirst, storeAgain, storeOther, keptCommit, commitHeld, abortEffect, beginEffect, reserveEffect, storeEffect, commitEffect}
+use Rattle.model.specs.Effects.{Given, Effect, homes, newState, tagsOf, liveBase, logHeld, logClosing, storeFirst, storeAgain, storeOther, keptCommit, commitHeld, abortEffect, beginEffect, reserveEffect, storeEffect, commitEffect}
 use Rattle.model.specs.Rights.{mayStore, readList}
 use Rattle.model.specs.Questions.{ask, areasRight, stateRight, stripInOrder, writerKnown, writerOpen, mayPromise, askState, beginAnswer, reserveAnswer, storeAnswer, commitAnswer}
 use Rattle.model.specs.Calls.{Outcome, done, outcome, sizeOf, beginCall, reserveCall, storeCall, commitCall}
 use Rattle.model.specs.Chains.{blocksLent, lentOn, andThen, storedFirst, transactEffect, mayStoreAll, transactAnswer, transactCall}
 use Rattle.model.specs.Book.{Book}
 use Rattle.model.specs.Book as book
-use Rattle.model.specs.History.{Change, begins, stores, commits, Call, change, begin, reserve, store, commit, Event, call, World, lent, ends, changeEnds, feed, feedChange, isOpening, isConfirm, step, after as played, Allowed, AllAllowed}
-use Rattle.model.specs.Store.{Store, listOf, afterReply, reply, replyOf, follow}
+use Rattle.model.specs.History.{Call, begin, reserve, store, commit, Event, call, World, lent, ends, changeEnds, feed, feedChange, isOpening, isConfirm, step, after as played, Allowed, AllAllowed}
+use Rattle.model.specs.Store.{Store, listOf, afterReply, replyOf, follow}
 use Rattle.model.specs.Store as abstract
-use Rattle.model.specs.Units.{Act, transacts, transactEnds, feedStores, feedTransact, leftBy, act, roomy, storesFrom, chain}
+use Rattle.model.specs.Units.{transacts, transactEnds, feedStores, feedTransact, leftBy, act, roomy, storesFrom, chain}
 use Rattle.model.proofs.bytes.ByteLaws.{length-part}
 use Rattle.model.proofs.strip.BatchLaws.{AllFormed, formed-append}
 use Rattle.model.proofs.strip.QuestionLaws.{ask-yes}
-use Rattle.model.proofs.strip.ChainLaws.{HomesReady, each-of, TransactReady, transact-ready, store-fits, commit-fits}
+use Rattle.model.proofs.strip.ChainLaws.{each-of, TransactReady, transact-ready, store-fits, commit-fits}
 use Rattle.model.proofs.steps.DoneLaws.{outcome-code, outcome-done, records-read, after, step-done, fits}
 use Rattle.model.proofs.steps.FormedLaws.{store-formed, commit-formed}
 use Rattle.model.proofs.claims.Reached.{Reached, after-append, allowed-append, goes-on, call-code, kept-then, same-book, same-homes}

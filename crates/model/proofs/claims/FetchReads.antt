@@ -1,27 +1,26 @@
 -- What a done fetch or revise gives, in the book's terms: what a read of each home gives. Assumes nothing.
-use Prim.Native.Nat.{ℕ, zero, suc, _+_, _*_, _/_, _≤_, _<_}
-use mathlib.Core.Path.{_≡_, refl, sym, ap, _∙_, subst}
-use mathlib.Core.Bool.{Bool, true, false, cond, _&&_}
-use mathlib.Core.List.{List, [], _∷_, _++_}
+use Prim.Native.Nat.{ℕ, zero, suc, _+_, _/_, _<_}
+use mathlib.Core.Path.{_≡_, refl, sym, ap, _∙_}
+use mathlib.Core.Bool.{true, cond, _&&_}
+use mathlib.Core.List.{List, []}
 use mathlib.Core.Option.{Option, none, some}
 use native.Mathlib.Omega.{arith}
-use lib.Dec.{eqb, leb, ltb}
 use lib.ListN.{length}
 use borrow.Author.Tests.{eq-eqb, lt-ltb}
 use Rattle.model.specs.Bytes.{zeros}
 use Rattle.model.specs.Layout.{homesIn, homeAt}
 use Rattle.model.specs.State.{listHome, Writer, writerOf, heldOf, holdsHome}
 use Rattle.model.specs.Newest.{keptFor}
-use Rattle.model.specs.Effects.{Given, Effect, homes, newestOwn, blockOr, ownElse, isThere, liveTags, liveBase, tagsOf, keptPosition, shown, readEffect}
-use Rattle.model.specs.Rights.{forHome, shownAt, listBy, readList, mayRead}
-use Rattle.model.specs.Questions.{ask, areasRight, stateRight, newestRight, blockRight, stripInOrder, writerKnown, homeKnown, readAllowed, askBoth, readAnswer}
-use Rattle.model.specs.Calls.{Outcome, done, outcome, readCall}
+use Rattle.model.specs.Effects.{Given, homes, newestOwn, blockOr, ownElse, isThere, liveTags, liveBase, tagsOf, keptPosition, shown, readEffect}
+use Rattle.model.specs.Rights.{forHome, readList, mayRead}
+use Rattle.model.specs.Questions.{areasRight, stateRight, newestRight, blockRight, stripInOrder, writerKnown, homeKnown, readAllowed, askBoth, readAnswer}
+use Rattle.model.specs.Calls.{done, outcome, readCall}
 use Rattle.model.specs.Chains.{blocksLent, blocksRead, fetchEffect, mayReadAll, fetchAnswer, reviseAnswer, fetchCall, reviseCall}
-use Rattle.model.specs.Book.{Book, reads as readBy}
+use Rattle.model.specs.Book.{reads as readBy}
 use Rattle.model.specs.Demands.{Live}
-use Rattle.model.specs.History.{read, World, Formatting, afterFormat, lent, ends, serviceEnds}
+use Rattle.model.specs.History.{read, World, afterFormat, lent, ends, serviceEnds}
 use Rattle.model.specs.Store.{newStore}
-use Rattle.model.specs.Units.{Act, fetchEnds, reviseEnds, acted, AllActsAllowed, readsFrom, ReadTogether, ActsRead}
+use Rattle.model.specs.Units.{fetchEnds, reviseEnds, acted, readsFrom, ReadTogether, ActsRead}
 use Rattle.model.proofs.bytes.ByteLaws.{length-zeros}
 use Rattle.model.proofs.strip.QuestionLaws.{ask-yes}
 use Rattle.model.proofs.strip.RightLaws.{list-by}

@@ -6,13 +6,10 @@ use mathlib.Core.List.{List, [], _∷_, _++_}
 use lib.Dec.{eqb, leb}
 use lib.ListN.{length}
 use native.Mathlib.Omega.{arith}
-use borrow.Author.Tests.{eq-eqb, ne-eqb}
-use Rattle.model.specs.Calls.{Outcome}
-use Rattle.model.specs.Book.{Book}
-use Rattle.model.specs.Book as book
+use borrow.Author.Tests.{ne-eqb}
 use Rattle.model.specs.Demands.{Live, LiveThroughout}
 use Rattle.model.specs.Kept.{Kept, KeptThroughout}
-use Rattle.model.specs.History.{Change, Service, settles, roundBegins, roundSteps, trims, reads, Call, opening, confirm, change, service, Event, call, crash, World, unopened, Formatting, afterFormat, ends, feed, isOpening, afterCall, afterDone, afterRefused, afterCrash, step, after, Allowed, AllAllowed}
+use Rattle.model.specs.History.{Service, settles, roundBegins, roundSteps, trims, reads, Call, opening, confirm, change, service, Event, call, crash, World, unopened, Formatting, afterFormat, ends, feed, isOpening, afterCall, afterDone, afterRefused, afterCrash, step, after, Allowed, AllAllowed}
 use Rattle.model.specs.Store.{Store, newStore, Reply, nextStart, toStep, numbered, inRound, roundOver, trimmedTo, afterService, afterReply, reply, replyOf, follow, AnswersAt, AnswersThroughout}
 use Rattle.model.specs.Store as store
 use Rattle.model.proofs.claims.KeptHolds.{newest-kept}

@@ -1,26 +1,23 @@
 -- The abstract store along a transact: each of its calls is done. Assumes nothing.
 use Prim.Native.Nat.{ℕ, zero, suc, _+_, _-_, _*_, _≤_, _<_}
-use mathlib.Core.Path.{_≡_, refl, sym, ap, _∙_, subst}
+use mathlib.Core.Path.{_≡_, refl, sym, ap, _∙_}
 use mathlib.Core.Bool.{Bool, true, false, cond, not, _&&_, _||_}
-use mathlib.Core.List.{List, [], _∷_, _++_}
-use mathlib.Core.Option.{Option, none, some}
+use mathlib.Core.List.{List}
 use native.Mathlib.Omega.{arith}
 use lib.Dec.{eqb, leb, ltb}
 use lib.ListN.{length}
 use borrow.Author.Tests.{eqb-true, leb-true, eq-eqb, ne-eqb, le-leb, lt-ltb}
 use Rattle.model.specs.Bytes.{part, zeros}
-use Rattle.model.specs.State.{listHome}
 use Rattle.model.specs.Rights.{mayStore}
-use Rattle.model.specs.Questions.{ask}
-use Rattle.model.specs.Book.{Held, Task, idle, opened, Book, withTask, filledUp, submit, grown, entryOf, hold, storeTask, homesAfter}
+use Rattle.model.specs.Book.{Task, Book, withTask, filledUp, submit, grown, storeTask}
 use Rattle.model.specs.Book as book
-use Rattle.model.specs.History.{Change, begins, reserves, stores, commits, Call, change, begin, reserve, store, commit, feed, feedChange}
-use Rattle.model.specs.Store.{Store, firstGroup, nextGroup, nextOf, placesLeft, promisedTo, freeLeft, hasRoom, entryBytes, isIdle, storeMustLog, commitMustLog, listOf, Reply, told, askBatch, replyChange, reply, setFor, promisesAfter, numbered}
+use Rattle.model.specs.History.{commits, begin, reserve, store, commit, feed, feedChange}
+use Rattle.model.specs.Store.{Store, firstGroup, nextGroup, nextOf, placesLeft, promisedTo, freeLeft, hasRoom, entryBytes, isIdle, storeMustLog, commitMustLog, listOf, told, askBatch, replyChange, reply, setFor, promisesAfter, numbered}
 use Rattle.model.specs.Store as abstract
 use Rattle.model.specs.Units.{roomy, feedStores}
 use Rattle.model.proofs.bytes.ByteLaws.{length-zeros}
 use Rattle.model.proofs.strip.QuestionLaws.{ask-yes, ask-passed, and-true}
-use Rattle.model.proofs.claims.TransactBooks.{heldAfter, Chained, chained-store, chained}
+use Rattle.model.proofs.claims.TransactBooks.{Chained, chained-store, chained}
 
 -- ---- a reply's number
 

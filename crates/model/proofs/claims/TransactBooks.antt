@@ -7,21 +7,15 @@ use mathlib.Core.Option.{Option, none, some}
 use native.Mathlib.Omega.{arith}
 use lib.Dec.{eqb}
 use lib.ListN.{length}
-use borrow.Author.Tests.{eq-eqb, ne-eqb}
+use borrow.Author.Tests.{ne-eqb}
 use Rattle.model.specs.Bytes.{part}
-use Rattle.model.specs.Book.{Entry, Commit, Held, Task, idle, opened, Book, setTask, withTask, entryOf, submit, grown, filledUp, hold, storeTask, addCommit, commitTask}
+use Rattle.model.specs.Book.{Entry, Commit, Held, Task, idle, opened, Book, withTask, entryOf, submit, grown, filledUp, hold, storeTask, addCommit, commitTask}
 use Rattle.model.specs.Book as book
 use Rattle.model.specs.Demands.{heldEntries}
 use Rattle.model.specs.Units.{feedStores, feedTransact}
+use Rattle.model.proofs.steps.WriterSteps.{task-here, task-other}
+use Rattle.model.proofs.steps.HeldLogs.{filled-commits}
 use Rattle.model.proofs.claims.UnitBooks.{spread, held-append}
-
-pub filled-commits : (b : Book) → filledUp b .commits ≡ b .commits
-unfolding filledUp submit grown
-filled-commits b = go (eqb (b .filled) 6)
-  where
-    go : (d : Bool) → cond d (submit b) (grown b) .commits ≡ b .commits
-    go true = refl
-    go false = refl
 
 pub filled-tasks : (b : Book) → filledUp b .tasks ≡ b .tasks
 unfolding filledUp submit grown
@@ -46,14 +40,6 @@ pub record Chained (b c : Book) (v h : ℕ) (blocks : List ℕ) (k : ℕ) : Type
   pub logged : List Entry
   pub entries : heldEntries logged ≡ loggedAfter h blocks k
   pub task : c .tasks v ≡ opened logged (heldAfter h blocks k)
-
-task-here : (b : Book) (v : ℕ) (t : Task) → withTask b v t .tasks v ≡ t
-unfolding withTask setTask
-task-here b v t = rw (eq-eqb v v refl)
-
-task-other : (b : Book) (v x : ℕ) (t : Task) → (x ≡ v → ⊥) → withTask b v t .tasks x ≡ b .tasks x
-unfolding withTask setTask
-task-other b v x t n = rw (ne-eqb v x (λ e. n (sym e)))
 
 pub chained-store : (b c : Book) (v h : ℕ) (blocks : List ℕ) (k : ℕ) → Chained b c v h blocks k
     → Chained b (storeTask c v (h + k) (part blocks (64 * k) 64) (c .tasks v)) v h blocks (suc k)

@@ -1,22 +1,20 @@
 -- The book under labels: what its commits wrote to the homes of a unit is what their labels say, for every front of its list. Assumes nothing.
-use Prim.Native.Nat.{ℕ, zero, suc, _+_, _*_, _/_, _≤_, _<_}
-use mathlib.Core.Path.{_≡_, refl, sym, ap, _∙_, subst}
+use Prim.Native.Nat.{ℕ, zero, suc, _+_, _*_, _/_, _≤_}
+use mathlib.Core.Path.{_≡_, refl, sym, ap, _∙_}
 use mathlib.Core.Logic.{_⊎_, inl, inr}
-use mathlib.Core.Bool.{Bool, true, false, cond, false≢true}
-use mathlib.Core.List.{List, [], _∷_, _++_, append-nil}
-use mathlib.Core.Option.{Option, none, some}
+use mathlib.Core.Bool.{cond}
+use mathlib.Core.List.{List, [], _∷_, _++_}
 use native.Mathlib.Omega.{arith}
-use native.Mathlib.Numerals.{add-one}
 use lib.Dec.{eqb}
-use lib.ListN.{length, take, drop, length-append}
+use lib.ListN.{length, take}
 use lib.Seq.{take-add, length-take-le, take-all}
-use borrow.Author.Tests.{eqb-true, eqb-false, eq-eqb, ne-eqb}
-use Rattle.model.specs.Bytes.{part, puts, zeros}
+use borrow.Author.Tests.{eq-eqb, ne-eqb}
+use Rattle.model.specs.Bytes.{part, puts}
 use Rattle.model.specs.Layout.{putHome}
-use Rattle.model.specs.Book.{Kept, Entry, Commit, Held, writeEntries, writeCommits, homesAfter}
+use Rattle.model.specs.Book.{Entry, Commit, Held, writeEntries, writeCommits}
 use Rattle.model.specs.Demands.{heldEntries}
 use Rattle.model.specs.Units.{Label, other, unit, lastUnit, Apart}
-use Rattle.model.proofs.bytes.ByteLaws.{puts-append, puts-nil, length-puts}
+use Rattle.model.proofs.bytes.ByteLaws.{puts-append, puts-nil}
 use Rattle.model.proofs.bytes.LayoutLaws.{part-apart, part-written, length-putHome}
 
 -- ---- the entries of a unit
@@ -95,6 +93,12 @@ length-written : (hs : List Held) (area : List ℕ) → length (writeHeld hs are
 unfolding writeHeld
 length-written [] area = refl
 length-written (h ∷ hs) area = length-written hs (putHome area (h .home) (h .block)) ∙ length-putHome area (h .home) (h .block)
+
+pub commits-length : (cs : List Commit) (area : List ℕ) → length (writeCommits cs area) ≡ length area
+unfolding writeCommits
+commits-length [] area = refl
+commits-length (c ∷ cs) area =
+    commits-length cs (writeEntries (c .entries) area) ∙ ap length (write-held (c .entries) area) ∙ length-written (heldEntries (c .entries)) area
 
 -- ---- labels
 

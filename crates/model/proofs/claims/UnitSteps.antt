@@ -2,29 +2,30 @@
 use Prim.Native.Nat.{ℕ, zero, suc, _+_, _*_, _/_, _≤_, _<_}
 use mathlib.Core.Path.{_≡_, refl, sym, ap, _∙_, subst}
 use mathlib.Core.Logic.{_⊎_, inl, inr}
-use mathlib.Core.Bool.{Bool, true, false, cond, false≢true}
-use mathlib.Core.List.{List, [], _∷_, _++_, append-nil}
+use mathlib.Core.Bool.{Bool, true, false, cond}
+use mathlib.Core.List.{List, [], _∷_, _++_}
 use mathlib.Core.Option.{Option, none, some}
 use native.Mathlib.Omega.{arith}
 use lib.Dec.{eqb}
-use lib.ListN.{length, take, length-append}
+use lib.ListN.{length, take}
 use lib.Seq.{take-at, take-all}
 use borrow.Author.Tests.{eqb-true, eqb-false, ne-eqb}
 use Rattle.model.specs.Bytes.{part}
 use Rattle.model.specs.Effects.{Given, storeEffect}
 use Rattle.model.specs.Questions.{storeAnswer}
-use Rattle.model.specs.Calls.{Outcome, sizeOf, storeCall}
+use Rattle.model.specs.Calls.{sizeOf, storeCall}
 use Rattle.model.specs.Chains.{blocksLent, transactEffect, transactAnswer, transactCall}
-use Rattle.model.specs.Book.{Kept, Entry, Commit, Held, Task, idle, opened, Book, setTask, withTask, entryOf, submit, grown, filledUp, hold, storeTask, addCommit, commitTask, owedBy, owedAll, withCommits, allSurvive, run, settledEntries, ended, empty}
+use Rattle.model.specs.Book.{Entry, Commit, Held, Task, idle, opened, Book, setTask, withTask, entryOf, submit, filledUp, hold, storeTask, addCommit, commitTask, owedBy, owedAll, withCommits, allSurvive, run, settledEntries, ended, empty}
 use Rattle.model.specs.Book as book
 use Rattle.model.specs.Demands.{heldEntries}
-use Rattle.model.specs.History.{Change, begins, reserves, aborts, stores, commits, flushes, Service, Call, opening, confirm, change, service, Event, call, crash, World, lent, ends, changeEnds, feed, feedChange, afterDone, afterRefused, afterCall, afterCrash, rowFates, step}
-use Rattle.model.specs.Units.{Act, plain, transacts, fetches, revises, transactEnds, feedStores, feedTransact, leftBy, act, acted, relabel, Label, other, unit, labelOf, labelsFrom, Apart, SparedByChange, SparedByCall, SparedByEvent, Spared, Reserved}
+use Rattle.model.specs.History.{Change, begins, reserves, aborts, stores, commits, flushes, Call, opening, confirm, change, service, Event, call, crash, World, lent, ends, changeEnds, feed, feedChange, afterDone, afterRefused, afterCall, afterCrash, rowFates, step}
+use Rattle.model.specs.Units.{Act, plain, transacts, fetches, revises, transactEnds, feedTransact, leftBy, act, acted, relabel, Label, other, unit, labelOf, labelsFrom, Apart, SparedByChange, SparedByCall, SparedByEvent, Spared, Reserved}
 use Rattle.model.proofs.bytes.ByteLaws.{length-part}
-use Rattle.model.proofs.strip.ChainLaws.{HomesReady, TransactReady, transact-ready, store-block}
+use Rattle.model.proofs.strip.ChainLaws.{TransactReady, transact-ready, store-block}
 use Rattle.model.proofs.steps.DoneLaws.{outcome-code}
+use Rattle.model.proofs.steps.HeldLogs.{filled-commits}
 use Rattle.model.proofs.claims.UnitBooks.{spread, held-append, Outside, outside-append, Says, Fit, fit-length, fit-snoc}
-use Rattle.model.proofs.claims.TransactBooks.{filled-commits, filled-tasks, Transacted, transacted}
+use Rattle.model.proofs.claims.TransactBooks.{filled-tasks, Transacted, transacted}
 
 -- ---- commits
 
@@ -195,7 +196,6 @@ module _ (home n : ℕ) where
       unfold book.crash in
       record { fit = fit-cut home n (rowFates w passed chosen) (w .book .commits) ls (other ∷ []) (k .fit); tasks = λ v. tt }
 
-
   -- ---- a done transact
 
   spread-outside : (h : ℕ) (blocks : List ℕ) (k : ℕ) → 64 * k ≤ length blocks → ((j : ℕ) → j < k → Apart home n (h + j) 1)
@@ -219,9 +219,13 @@ module _ (home n : ℕ) where
       → hs ≡ spread h blocks (length blocks / 64) → ((h ≡ home) × (length blocks ≡ 64 * n)) ⊎ Apart home n h (length blocks / 64)
       → Says home n hs (unit h blocks)
   unit-says h blocks hs p q r e (inl s) = (e, inl s)
-  unit-says h blocks hs p q r e (inr s) =
-      (e, inr (apart-home h (length blocks / 64) p q s,
-      subst (Outside home n) (sym e) (spread-outside h blocks (length blocks / 64) (omega (arith, r)) (apart-each h (length blocks / 64) s))))
+  unit-says h blocks hs p q r e (inr s) = (
+    e,
+    inr (
+      apart-home h (length blocks / 64) p q s,
+      subst (Outside home n) (sym e) (spread-outside h blocks (length blocks / 64) (omega (arith, r)) (apart-each h (length blocks / 64) s)),
+    ),
+  )
 
   transact-labelled : (b c : Book) (v h : ℕ) (blocks : List ℕ) (ls : List Label) → Transacted b c v h blocks → Labelled home n b ls
       → Says home n (spread h blocks (length blocks / 64)) (unit h blocks) → Relabelled home n c ls (unit h blocks)

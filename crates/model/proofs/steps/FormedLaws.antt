@@ -1,18 +1,17 @@
 -- The records of a done begin, store or commit can be read back off its batch, whatever world it is called in. Assumes nothing.
-use Prim.Native.Nat.{ℕ, zero, suc, _+_, _*_, _%_, _≤_, _<_}
-use mathlib.Core.Path.{_≡_, refl, sym, ap, _∙_, subst}
-use mathlib.Core.Bool.{Bool, true, false, cond, not, _&&_, _||_}
-use mathlib.Core.List.{List, [], _∷_, _++_}
+use Prim.Native.Nat.{ℕ, _+_, _*_, _%_, _≤_, _<_}
+use mathlib.Core.Path.{_≡_, _∙_}
+use mathlib.Core.Bool.{Bool, true, false, cond, _&&_}
+use mathlib.Core.List.{List}
 use native.Mathlib.Nat.{mod-lt}
 use native.Mathlib.Omega.{arith}
 use lib.Dec.{eqb, leb}
 use lib.ListN.{length}
 use borrow.Author.Tests.{eqb-true}
-use Rattle.model.specs.Layout.{groupsIn, groupAt, logLengthRight, dataLengthRight}
-use Rattle.model.specs.Batch.{Record, GW}
+use Rattle.model.specs.Layout.{logLengthRight, dataLengthRight}
 use Rattle.model.specs.State.{State, stateOf, nextPosition, Writer, writerOf, holds, numbersInOrder, promised, places, writersInOrder, inOrder}
-use Rattle.model.specs.Effects.{Given, Effect, groups, homes, newState, entered, submitted, logged, logHeld, logClosing, storeFirst, storeAgain, storeOther, storeEffect, commitHeld, abortEffect, commitEffect}
-use Rattle.model.specs.Questions.{areasRight, stateRight, newestRight, blockRight, stripInOrder, batchFits, askBlock, askNewest, storeAnswer, commitAnswer, ask}
+use Rattle.model.specs.Effects.{Given, groups, homes, newState, entered, submitted, logged, logHeld, logClosing, storeFirst, storeAgain, storeOther, storeEffect, commitHeld, abortEffect, commitEffect}
+use Rattle.model.specs.Questions.{areasRight, stateRight, newestRight, blockRight, stripInOrder, askBlock, askNewest, storeAnswer, commitAnswer}
 use Rattle.model.proofs.bytes.LayoutLaws.{log-length, length-groupAt, group-fits}
 use Rattle.model.proofs.strip.BatchLaws.{AllFormed}
 use Rattle.model.proofs.strip.QuestionLaws.{ask-passed, and-true}

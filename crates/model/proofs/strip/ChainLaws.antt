@@ -1,15 +1,14 @@
 -- What an answer of 0 says of a call on several homes. Assumes nothing.
-use Prim.Native.Nat.{ℕ, zero, suc, _+_, _*_, _/_, _≤_, _<_}
-use mathlib.Core.Path.{_≡_, refl, sym, ap, _∙_}
+use Prim.Native.Nat.{ℕ, zero, suc, _+_, _*_, _≤_, _<_}
+use mathlib.Core.Path.{_≡_, refl, ap, _∙_}
 use mathlib.Core.Bool.{Bool, true, false, not, _&&_, _||_}
-use mathlib.Core.List.{List}
 use native.Mathlib.Omega.{arith}
 use lib.Dec.{eqb, leb}
 use lib.ListN.{length}
 use borrow.Author.Tests.{leb-true, eqb-true, eqb-false}
 use Rattle.model.specs.State.{freePlaces}
 use Rattle.model.specs.Effects.{Given, homes}
-use Rattle.model.specs.Questions.{ask, areasRight, stateRight, newestRight, blockRight, stripInOrder, writerKnown, homeKnown, storeAllowed, writerOpen, storeLogs, commitLogs, room, batchFits, askBlock, askNewest, storeAnswer, commitAnswer}
+use Rattle.model.specs.Questions.{areasRight, stateRight, newestRight, blockRight, stripInOrder, writerKnown, homeKnown, storeAllowed, writerOpen, storeLogs, commitLogs, room, batchFits, askBlock, askNewest, storeAnswer, commitAnswer}
 use Rattle.model.specs.Chains.{blocksLent, blocksRight, homesKnown, allOf, mayStoreAll, mayReadAll, roomForAll, askHomes, fetchAnswer, reviseAnswer, transactAnswer}
 use Rattle.model.proofs.strip.QuestionLaws.{ask-passed, and-true}
 
@@ -36,8 +35,7 @@ homes-passed g next e =
     let q = and-true (areasRight g && stateRight g) (newestRight g) (p .0) in
     let r = and-true (areasRight g) (stateRight g) (q .0) in
     let s = and-true (eqb (length (g .block)) (64 * blocksLent g) && leb 1 (blocksLent g)) (leb (blocksLent g) 7) (p .1) in
-    let t = and-true (eqb (length (g .block)) (64 * blocksLent g)) (leb 1 (blocksLent g)) (s .0) in
-    (
+    let t = and-true (eqb (length (g .block)) (64 * blocksLent g)) (leb 1 (blocksLent g)) (s .0) in (
       record {
         areas = r .0;
         strip = r .1;
