@@ -1,5 +1,5 @@
--- A history with calls on several homes (G 4, D 8, positions from 28 on): what they answer and read, and what a crash leaves of a unit of two homes, 3
--- and 4, and of its labels.
+-- Histories with calls on several homes (G 4, D 8, positions from 28 on): what they answer and read, what a crash leaves of a unit of two homes, 3 and
+-- 4, and of its labels; and what they answer under a list of rights.
 use Prim.Native.Nat.{ℕ, zero, suc}
 use mathlib.Core.Bool.{Bool, false}
 use mathlib.Core.List.{List, [], _∷_, _++_}
@@ -59,3 +59,11 @@ flushedOnce = transacts 0 3 (two 1 2) room ∷ plain (call (flush room)) ∷ tra
 
 unfoldable pub cut : ℕ → List Act
 cut passed = plain (crash passed (λ i. false)) ∷ again ∷ []
+
+-- Under the list of specs/Guarded: writer 1, whose transaction is open, may store to home 3 and read homes 3 and 6, writer 0 store to homes 0 to 2, and
+-- writer 2 nothing. One home without the right refuses all.
+unfoldable pub withRights : List Act
+withRights =
+    fetches 1 3 (zeros 64) ∷ fetches 1 3 (zeros 128) ∷ fetches 1 6 (zeros 64) ∷ revises 1 3 (zeros 64) ∷ revises 1 6 (zeros 64) ∷ revises 1 3 (zeros 128)
+    ∷ transacts 1 3 (fill 1) room ∷ transacts 1 3 (two 1 2) room ∷ transacts 2 3 (fill 1) room ∷ transacts 0 1 (two 1 2) room ∷ transacts 0 2 (two 1 2) room
+    ∷ fetches 2 8 (zeros 256) ∷ transacts 1 11 (fill 1) room ∷ []
