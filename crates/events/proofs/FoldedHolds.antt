@@ -282,7 +282,7 @@ module _ {E : Type 0} (home n : ℕ) (judge : List ℕ → E → ℕ) (apply : L
 
   pub events-folded : EventsFolded home n judge apply Fit
   unfolding notes
-  events-folded groups homes p d sized f ss ok s =
+  events-folded p sized groups homes d f ss ok s =
       let w : World = afterFormat f in
       let start : Going w [] =
       record {
@@ -325,6 +325,6 @@ module _ {E : Type 0} (home n : ℕ) (judge : List ℕ → E → ℕ) (apply : L
         }
 
   pub events-recorded : (answer : List E → E → ℕ) (Kept : List E → List ℕ → Type 0) → EventsRecorded home n judge apply Fit answer Kept
-  events-recorded answer Kept groups homes p d sized base grows f ss ok s =
+  events-recorded answer Kept p sized base grows groups homes d f ss ok s =
       folded-recorded answer Kept grows (ran home n judge apply (afterFormat f) ss) (notes home n judge apply (afterFormat f) ss) base
-      (events-folded groups homes p d sized f ss ok s)
+      (events-folded p sized groups homes d f ss ok s)

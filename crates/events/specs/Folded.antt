@@ -134,12 +134,15 @@ module _ {E : Type 0} (home n : ℕ) (judge : List ℕ → E → ℕ) (apply : L
         fetchEnds w writer (home + from) blocks .block ≡ part (heldAfter apply (zeros (64 * n)) (noted ns)) (64 * from) (64 * m)
     pub read : (writer : ℕ) → w .ready ≡ true → readFor w writer .code ≡ 0 → readFor w writer .block ≡ heldAfter apply (zeros (64 * n)) (noted ns)
 
+  -- what a done event makes of the blocks fills the homes
+  abbrev pub Filling : Type 0
+  Filling = (b : List ℕ) (e : E) → judge b e ≡ 0 → length (apply b e) ≡ 64 * n
+
   -- at the end of every history from a done format on, and so at every moment of it
   abbrev pub EventsFolded : (E → Type 0) → Type 0
   EventsFolded Fit =
-      (groups homes : ℕ) → 1 ≤ n → home + n ≤ homes → ((b : List ℕ) (e : E) → judge b e ≡ 0 → length (apply b e) ≡ 64 * n) →
-      (f : Formatting groups homes) (ss : List (Step E)) → AllStepsAllowed (afterFormat f) ss → SparedBySteps Fit ss →
-      Folded Fit (ran (afterFormat f) ss) (notes (afterFormat f) ss)
+      1 ≤ n → Filling → (groups homes : ℕ) → home + n ≤ homes → (f : Formatting groups homes) (ss : List (Step E)) →
+      AllStepsAllowed (afterFormat f) ss → SparedBySteps Fit ss → Folded Fit (ran (afterFormat f) ss) (notes (afterFormat f) ss)
 
   -- Where the blocks that hold what a list of done events says (`Kept`) answer as the list does and hold, after one more, what the longer list says: for
   -- every front of the book's list its events are an accepted list, and the homes hold what it says; a done fetch gives what the whole list says, and
@@ -172,8 +175,10 @@ module _ {E : Type 0} (home n : ℕ) (judge : List ℕ → E → ℕ) (apply : L
   Growing Fit answer Kept =
       (ds : List E) (b : List ℕ) (e : E) → Kept ds b → Fit e → (judge b e ≡ answer ds e) × (judge b e ≡ 0 → Kept (ds ++ (e ∷ [])) (apply b e))
 
+  abbrev pub AlwaysRecorded : (E → Type 0) → (List E → E → ℕ) → (List E → List ℕ → Type 0) → Type 0
+  AlwaysRecorded Fit answer Kept =
+      (groups homes : ℕ) → home + n ≤ homes → (f : Formatting groups homes) (ss : List (Step E)) → AllStepsAllowed (afterFormat f) ss →
+      SparedBySteps Fit ss → Recorded Fit answer Kept (ran (afterFormat f) ss) (notes (afterFormat f) ss)
+
   abbrev pub EventsRecorded : (E → Type 0) → (List E → E → ℕ) → (List E → List ℕ → Type 0) → Type 0
-  EventsRecorded Fit answer Kept =
-      (groups homes : ℕ) → 1 ≤ n → home + n ≤ homes → ((b : List ℕ) (e : E) → judge b e ≡ 0 → length (apply b e) ≡ 64 * n) →
-      Kept [] (zeros (64 * n)) → Growing Fit answer Kept → (f : Formatting groups homes) (ss : List (Step E)) →
-      AllStepsAllowed (afterFormat f) ss → SparedBySteps Fit ss → Recorded Fit answer Kept (ran (afterFormat f) ss) (notes (afterFormat f) ss)
+  EventsRecorded Fit answer Kept = 1 ≤ n → Filling → Kept [] (zeros (64 * n)) → Growing Fit answer Kept → AlwaysRecorded Fit answer Kept
