@@ -1,10 +1,10 @@
 -- Histories with a list of rights: who may store and read what, before it is committed, under it, under the next one, after a trim and after an opening.
-use Prim.Native.Nat.{ℕ, zero, suc, _+_, _*_}
-use mathlib.Core.Bool.{Bool, false, _&&_}
+use Prim.Native.Nat.{ℕ}
+use mathlib.Core.Bool.{false}
 use mathlib.Core.List.{List, [], _∷_, _++_}
-use Rattle.model.specs.Bytes.{zeros, bytes, same}
+use Rattle.model.specs.Bytes.{zeros, bytes}
 use Rattle.model.specs.State.{listHome, listedOf}
-use Rattle.model.specs.Newest.{noPosition, keptFor}
+use Rattle.model.specs.Newest.{keptFor}
 use Rattle.model.specs.History.{Call, opening, begin, store, commit, flush, settle, trim, read, Event, call, crash, World, emptyStore, ends, step}
 use Rattle.model.specs.Trials.{room, lane, fill, goes}
 
@@ -36,9 +36,9 @@ reads writer home = read writer home (zeros 64)
 unfoldable pub writes : ℕ → ℕ → Call
 writes writer home = store writer home (fill 9) room
 
--- what the state strip and the newest positions have for the list's first home
-unfoldable pub listedIn : World → List ℕ
-listedIn w = listedOf (w .state) 0 ∷ keptFor (w .newest) listHome ∷ []
+-- what the state strip and the newest positions have for the list's first home, and the numbers
+unfoldable pub seen : World → List Call → List ℕ
+seen w cs = listedOf (w .state) 0 ∷ keptFor (w .newest) listHome ∷ numbers w cs
 
 -- a new format (G 4, D 13) opened: positions from 28 on
 unfoldable pub reopening : Event
@@ -70,16 +70,18 @@ replaced = goes (goes guarded underList) (store 0 8 nextList room ∷ commit 0 r
 unfoldable pub underNext : List Call
 underNext = writes 1 4 ∷ writes 1 3 ∷ reads 1 4 ∷ reads 1 3 ∷ reads 1 6 ∷ writes 1 11 ∷ writes 0 11 ∷ []
 
--- with both in the data copy and the log empty; and after another commit of the first list, a crash with all of it persisted, and an opening
-unfoldable pub trimmed : World
-trimmed = goes replaced (flush room ∷ settle room ∷ trim room ∷ [])
+-- the log trimmed, with all of it in the data copy; another commit of the first list, a crash after it has persisted, and an opening
+unfoldable pub trimmed : World → World
+trimmed w = goes w (flush room ∷ settle room ∷ trim room ∷ [])
 
-unfoldable pub openedAgain : World
-openedAgain =
-    step (step (goes trimmed (begin 0 ∷ store 0 8 firstList room ∷ commit 0 room ∷ flush room ∷ [])) (crash 7 (λ i. false))) reopening
+unfoldable pub openedAgain : World → World
+openedAgain w = step (step (goes w (begin 0 ∷ store 0 8 firstList room ∷ commit 0 room ∷ flush room ∷ [])) (crash 7 (λ i. false))) reopening
 
 unfoldable pub underFirst : List Call
 underFirst = writes 1 3 ∷ writes 1 4 ∷ reads 1 3 ∷ reads 1 4 ∷ reads 1 6 ∷ []
+
+unfoldable pub afterwards : List ℕ
+afterwards = let w : World = replaced in let v : World = trimmed w in seen w underNext ++ (seen v underNext ++ seen (openedAgain v) underFirst)
 
 -- D 11 is too small for a list: homes 8 to 10 are writer 0's alone to store to, and all else is open
 unfoldable pub tooSmall : List ℕ
