@@ -16,6 +16,16 @@ pub mod ListedSteps
 pub mod KeptHolds
 pub mod AnswersHold
 pub mod DemandTwo
+pub mod Reached
+pub mod UnitBooks
+pub mod TransactBooks
+pub mod StoreChains
+pub mod ListRights
+pub mod ChainRuns
+pub mod ActsHold
+pub mod FetchReads
+pub mod UnitSteps
+pub mod UnitsHold
 pub mod LedgerLaws
 pub mod LedgerSteps
 pub mod PlacesHold

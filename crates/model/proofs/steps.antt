@@ -1,6 +1,7 @@
 -- Each call and each crash keeps the invariant.
 pub mod RefusalLaws
 pub mod DoneLaws
+pub mod FormedLaws
 pub mod NewestSteps
 pub mod WriterSteps
 pub mod OpenStep

@@ -28,4 +28,6 @@ pub mod Rounds
 pub mod RoundEnds
 pub mod Isolation
 pub mod Hidden
+pub mod Units
+pub mod Together
 pub mod Facts
