@@ -11,6 +11,7 @@ pub mod batch;
 pub mod book;
 mod calls;
 pub mod cases;
+pub mod chains;
 mod check;
 pub mod craft;
 pub mod damage;
@@ -34,6 +35,9 @@ mod rounds;
 pub mod state;
 pub mod tag;
 pub mod tears;
+mod unit_book;
+pub mod unit_player;
+pub mod units;
 pub mod walk;
 pub mod world;
 
