@@ -25,21 +25,22 @@ C_SANITIZE = -O1 -g -fno-omit-frame-pointer -fsanitize=address,undefined -fno-sa
 C_OUT = target/c
 C_HEADERS = $(wildcard include/*.h c/*.h c/store/*.h)
 
-C_STORE = store/store store/usage store/batch store/memory store/file store/file_io store/fram
-C_STATION = station_main options power tasks wear calls refusals report station book rule driver driver_file $(C_STORE)
-C_INSPECT = inspect inspect_image inspect_fate inspect_text inspect_json rule
+C_STORE = store/store store/usage store/rights store/batch store/memory store/file store/file_io store/fram
+C_STATION = station_main options power tasks wear rights calls refusals report station book rule driver driver_file $(C_STORE)
+C_INSPECT = inspect inspect_image inspect_fate inspect_rights inspect_text inspect_json rule
 C_DRIVER_CHECK = driver_check driver driver_file $(C_STORE)
 C_QUICKSTART = quickstart $(C_STORE)
 C_STORE_CHECK = store_check play $(C_STORE)
 C_RESERVE_CHECK = reserve_check $(C_STORE)
 C_ROUND_CHECK = round_check $(C_STORE)
+C_RIGHTS_CHECK = rights_check $(C_STORE)
 C_FILE_CHECK = file_check play $(C_STORE)
 C_KILL_CHECK = kill_check play $(C_STORE)
 C_FRAM_CHECK = fram_check play $(C_STORE)
 C_GAUGES = gauges readings levels_plot
 C_GAUGES_COST = gauges_cost
 C_INFLOW = inflow
-C_PROGRAMS = station inspect quickstart driver_check store_check reserve_check round_check file_check kill_check fram_check gauges gauges_cost inflow
+C_PROGRAMS = station inspect quickstart driver_check store_check reserve_check round_check rights_check file_check kill_check fram_check gauges gauges_cost inflow
 
 .PHONY: station inspect quickstart gauges inflow c-sanitize c-check c-kills c-dist install uninstall c-clean
 
@@ -82,6 +83,7 @@ $(eval $(call C_PROGRAM,driver_check,$(C_DRIVER_CHECK),$(LIB)))
 $(eval $(call C_PROGRAM,store_check,$(C_STORE_CHECK),$(LIB)))
 $(eval $(call C_PROGRAM,reserve_check,$(C_RESERVE_CHECK),$(LIB)))
 $(eval $(call C_PROGRAM,round_check,$(C_ROUND_CHECK),$(LIB)))
+$(eval $(call C_PROGRAM,rights_check,$(C_RIGHTS_CHECK),$(LIB)))
 $(eval $(call C_PROGRAM,file_check,$(C_FILE_CHECK),$(LIB)))
 $(eval $(call C_PROGRAM,kill_check,$(C_KILL_CHECK),$(LIB)))
 $(eval $(call C_PROGRAM,fram_check,$(C_FRAM_CHECK),$(LIB)))
@@ -108,7 +110,7 @@ $(STORE_LIB): $(C_STORE:%=$(C_OUT)/%.o)
 	rm -f $@
 	$(AR) rcs $@ $^
 
-C_PUBLIC = kagutin kagutin_store kagutin_file kagutin_memory kagutin_fram
+C_PUBLIC = kagutin kagutin_store kagutin_rights kagutin_file kagutin_memory kagutin_fram
 
 # c/store/NAME.c becomes kagutin_NAME.c there; all headers and sources of dist/ stand in one folder.
 DIST ?= dist

@@ -6,6 +6,7 @@
 
 #include "refusals.h"
 #include "report.h"
+#include "rights.h"
 #include "rule.h"
 
 #define AREAS(s) (s)->driver.log, (s)->driver.log_size, (s)->driver.area, (s)->driver.area_size
@@ -403,14 +404,22 @@ void call_trim(struct station *station)
     call_usage(station);
 }
 
-void call_read(struct station *station, unsigned writer, size_t home, uint8_t *block)
+bool call_read(struct station *station, unsigned writer, size_t home, uint8_t *block)
 {
-    struct kagutin_reply reply = kagutin_read(AREAS(station), STATE(station), NEWEST(station), block, KAGUTIN_BLOCK_SIZE,
-                                              writer, home);
+    bool may = rights_may_read(station, writer, home);
+    struct kagutin_reply reply;
 
+    if (!may)
+        refusal_prepare(station);
+    reply = kagutin_read(AREAS(station), STATE(station), NEWEST(station), block, KAGUTIN_BLOCK_SIZE, writer, home);
+    if (!may) {
+        refusal_check(station, "read", reply, KAGUTIN_NO_READ);
+        return false;
+    }
     expect(station, "read", reply, 0, 0);
     if (memcmp(block, book_read(&station->book, writer, home), KAGUTIN_BLOCK_SIZE) != 0)
         station_mismatch(station, "writer %u reads another block of home %lu than the book has", writer,
                          (unsigned long)home);
     station->counters.reads++;
+    return true;
 }

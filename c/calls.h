@@ -11,7 +11,7 @@ void call_formatted(struct station *station);
  * Calls that must be done, checked against the book, their batches queued.
  * They give false, and leave all untouched: store and commit if the log is
  * full, reserve if too few places are free, flush if it would pass over
- * promised ones.
+ * promised ones, read if the list of rights forbids it.
  */
 void call_open(struct station *station);
 void call_begin(struct station *station, unsigned writer);
@@ -25,7 +25,7 @@ void call_settle(struct station *station);
 void call_begin_round(struct station *station);
 void call_step_round(struct station *station, size_t homes);
 void call_trim(struct station *station);
-void call_read(struct station *station, unsigned writer, size_t home, uint8_t *block);
+bool call_read(struct station *station, unsigned writer, size_t home, uint8_t *block);
 
 /* Counts what fills the log. */
 void call_usage(struct station *station);

@@ -1,7 +1,8 @@
 /*
  * Prints an image: its header, each group with its entries, the transactions
- * that the commit rule finds and why its walk stopped, and the homes. Written
- * from the format alone; it does not use the library and changes nothing.
+ * that the commit rule finds and why its walk stopped, the homes and what the
+ * list of rights says. Written from the format alone; it does not use the
+ * library and changes nothing.
  */
 #include "inspect.h"
 
@@ -16,7 +17,7 @@
 static const char usage[] =
     "usage: inspect [--json] [--groups N] [--homes N] [--start N] [-h, --help] [--version] IMAGE\n"
     "Prints the header of an image, its groups and entries, which transactions the commit rule finds, and\n"
-    "each home's value as an opening would give it. Changes nothing.\n"
+    "each home's value as an opening would give it, and who may touch which home. Changes nothing.\n"
     "  --json      the same as JSON\n"
     "  --groups N  groups of the log, 4 to 1024, if the header is damaged\n"
     "  --homes N   home blocks, 1 to 65535 (default: as the header or the file's size says)\n"

@@ -75,6 +75,10 @@ const char *fate_text(enum fate fate);
 void print_text(const struct image *image, const struct rule_walk *walk, const struct fates *fates);
 void print_json(const struct image *image, const struct rule_walk *walk, const struct fates *fates);
 
+/* The list of rights, as an opening leaves it, or why there is none. */
+void text_rights(const struct image *image, const struct fates *fates);
+void json_rights(const struct image *image, const struct fates *fates);
+
 /* Why the walk stopped, in words. */
 void describe_stop(const struct rule_walk *walk, char *text, size_t size);
 

@@ -188,7 +188,9 @@ void print_json(const struct image *image, const struct rule_walk *walk, const s
     printf(",\"unreached\":%lu},\n \"homes\":[", (unsigned long)walk->unreached);
     for (i = 0; i < log->homes; i++)
         json_home(image, fates, i);
-    fputs("],\n \"damage\":[", stdout);
+    fputs("],\n \"rights\":", stdout);
+    json_rights(image, fates);
+    fputs(",\n \"damage\":[", stdout);
     for (i = 0; i < image->note_count; i++) {
         fputs(i ? ",\n  " : "\n  ", stdout);
         json_string(image->notes[i]);

@@ -149,6 +149,7 @@ void print_text(const struct image *image, const struct rule_walk *walk, const s
     if (walk->unreached)
         printf("closing entries after that: %lu\n", (unsigned long)walk->unreached);
     text_homes(image, fates);
+    text_rights(image, fates);
     printf("\ndamage (%lu)\n", (unsigned long)image->note_count);
     for (i = 0; i < image->note_count; i++)
         printf("  %s\n", image->notes[i]);

@@ -101,13 +101,17 @@ static void power_up(struct station *station, struct report_cut *cut)
             return;
         }
         if (!cut && !wear_fits(station))
-            power_refuse_image(station, "its first homes are no pumps' blocks");
+            power_refuse_image(station, "its pumps' homes are no pumps' blocks");
         wear_check(station);
-        if (!cut)
+        if (!cut) {
+            tasks_set_rights(station);
             return;
+        }
         report_opened(station, cut, station->counters.replayed - replayed);
-        if (station->counters.cuts + 1 >= station->cuts || station_random(station, 5))
+        if (station->counters.cuts + 1 >= station->cuts || station_random(station, 5)) {
+            tasks_set_rights(station);
             return;
+        }
         power_cut(station, true, cut);
     }
 }

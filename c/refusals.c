@@ -3,6 +3,7 @@
 
 #include <string.h>
 
+#include "rights.h"
 #include "rule.h"
 
 #define LOG(s) (s)->driver.log, (s)->driver.log_size
@@ -49,6 +50,8 @@ void refusal_check(struct station *station, const char *call, struct kagutin_rep
 
     station->counters.refusals++;
     station->counters.full += code == KAGUTIN_FULL;
+    station->counters.no_store += code == KAGUTIN_NO_STORE;
+    station->counters.no_read += code == KAGUTIN_NO_READ;
     if (reply.code != code)
         station_mismatch(station, "%s answered %llu, it must be refused with %llu (%s)", call,
                          (unsigned long long)reply.code, (unsigned long long)code, kagutin_answer_text(code));
@@ -116,7 +119,7 @@ static void try_turns(struct station *s)
                   KAGUTIN_NO_PLACES);
     refusal_check(s, "abort", kagutin_abort(LOG(s), AREA(s), STATE(s), writer), KAGUTIN_NOT_OPEN);
     refusal_check(s, "commit", kagutin_commit(LOG(s), AREA(s), STATE(s), NEWEST(s), BATCH(s), writer), KAGUTIN_NOT_OPEN);
-    refusal_check(s, "store", kagutin_store(LOG(s), AREA(s), STATE(s), block, sizeof block, BATCH(s), writer, 0),
+    refusal_check(s, "store", kagutin_store(LOG(s), AREA(s), STATE(s), block, sizeof block, BATCH(s), writer, STATION_RUN(writer)),
                   KAGUTIN_NOT_OPEN);
 }
 
@@ -141,6 +144,21 @@ static void try_rounds(struct station *s)
         refusal_check(s, "begin_round", kagutin_begin_round(LOG(s), AREA(s), STATE(s)), KAGUTIN_WRONG_ROUND);
 }
 
+/* A task tries a home that is another's, whether it has a transaction open or not. */
+static void try_rights(struct station *s)
+{
+    unsigned writer = (unsigned)station_random(s, KAGUTIN_WRITERS);
+    size_t home = (size_t)station_random(s, STATION_MIN_HOMES);
+    uint8_t block[KAGUTIN_BLOCK_SIZE] = {0};
+
+    if (!rights_may_store(s, writer, home))
+        refusal_check(s, "store", kagutin_store(LOG(s), AREA(s), STATE(s), block, sizeof block, BATCH(s), writer, home),
+                      KAGUTIN_NO_STORE);
+    if (!rights_may_read(s, writer, home))
+        refusal_check(s, "read", kagutin_read(LOG(s), AREA(s), STATE(s), NEWEST(s), block, sizeof block, writer, home),
+                      KAGUTIN_NO_READ);
+}
+
 /* A state that is out of order, or belongs to other areas. */
 static void try_bad_state(struct station *s)
 {
@@ -156,7 +174,7 @@ static void try_bad_state(struct station *s)
 void refusal_try(struct station *station)
 {
     refusal_prepare(station);
-    switch (station_random(station, 5)) {
+    switch (station_random(station, 6)) {
     case 0:
         try_arguments(station);
         break;
@@ -168,6 +186,9 @@ void refusal_try(struct station *station)
         break;
     case 3:
         try_rounds(station);
+        break;
+    case 4:
+        try_rights(station);
         break;
     default:
         try_bad_state(station);

@@ -1,7 +1,7 @@
 /*
  * The state of a station's run, which all its parts share. They build on each
  * other in this order, each including only what stands before it: station,
- * report, refusals, calls, wear, tasks, power.
+ * report, rights, refusals, calls, wear, tasks, power.
  */
 #ifndef STATION_H
 #define STATION_H
@@ -11,7 +11,11 @@
 #include "book.h"
 #include "driver.h"
 
-#define STATION_MIN_HOMES (2 * KAGUTIN_WRITERS)
+/* The homes of a pump's run seconds and starts, and of the notes; docs/HOMES.md has the others. */
+#define STATION_RUN(pump) ((size_t)(pump))
+#define STATION_STARTS(pump) ((size_t)16 + (size_t)(pump))
+#define STATION_NOTES 32
+#define STATION_MIN_HOMES (STATION_STARTS(KAGUTIN_WRITERS))
 
 enum exit_status { EXIT_FINE = 0, EXIT_MISMATCH = 1, EXIT_USAGE = 2, EXIT_TROUBLE = 3, EXIT_WORN_OUT = 4, EXIT_INTERRUPTED = 130 };
 
@@ -26,6 +30,7 @@ struct task {
 struct counters {
     unsigned long calls, refusals, full, reserves, waits, reads, commits, aborts, given_up, confirms, trims, rounds, steps;
     unsigned long full_live, full_dead, holds[KAGUTIN_WRITERS]; /* places, and who held the log, when it was full */
+    unsigned long lists, no_store, no_read; /* lists committed, and what they forbid */
     unsigned long replayed, cuts, opening_cuts;
     unsigned long kept[KAGUTIN_WRITERS], lost[KAGUTIN_WRITERS], unissued[KAGUTIN_WRITERS]; /* commits by task */
     unsigned long left; /* commits in an image that was not opened after its last cut */

@@ -1,23 +1,22 @@
 /*
  * The eight tasks. Task w looks after pump w: when the pump has run, its run
- * seconds (home 2w) and its starts (home 2w + 1) go into one transaction. Homes
- * from 16 on are notes that all tasks write. The radio task reserves its places.
+ * seconds (home w) and its starts (home 16 + w) go into one transaction. Homes
+ * from 32 on are notes that all tasks write. The radio task reserves its places.
  */
 #include "tasks.h"
 
 #include <string.h>
 
 #include "calls.h"
+#include "rights.h"
 #include "wear.h"
-
-#define PUMP_HOMES STATION_MIN_HOMES
 
 enum { RADIO = 4 };
 
 /* Homes of the notes, with repetitions; the log's size bounds the long ones. */
 static void plan_notes(struct station *station, struct task *task)
 {
-    size_t notes = station->driver.homes - PUMP_HOMES;
+    size_t notes = station->driver.homes > STATION_NOTES ? station->driver.homes - STATION_NOTES : 0;
     size_t most = station_random(station, 12) ? 5 : 40, count, i;
 
     if (!notes)
@@ -26,7 +25,7 @@ static void plan_notes(struct station *station, struct task *task)
     for (i = 0; i < count; i++) {
         uint64_t home = station_random(station, notes < 8 || station_random(station, 2) ? notes : 8);
 
-        task->plan[task->count++] = (uint16_t)(PUMP_HOMES + home);
+        task->plan[task->count++] = (uint16_t)(STATION_NOTES + home);
     }
 }
 
@@ -34,8 +33,8 @@ static void plan_pump(struct station *station, struct task *task, unsigned write
 {
     size_t i;
 
-    task->plan[task->count++] = (uint16_t)(2 * writer);
-    task->plan[task->count++] = (uint16_t)(2 * writer + 1);
+    task->plan[task->count++] = (uint16_t)STATION_RUN(writer);
+    task->plan[task->count++] = (uint16_t)STATION_STARTS(writer);
     for (i = task->count; i > 1; i--) { /* in any order among the notes */
         size_t other = (size_t)station_random(station, i);
         uint16_t home = task->plan[i - 1];
@@ -43,7 +42,7 @@ static void plan_pump(struct station *station, struct task *task, unsigned write
         task->plan[i - 1] = task->plan[other];
         task->plan[other] = home;
     }
-    wear_read(station, writer, &task->serial, &task->seconds, &task->starts);
+    wear_read(station, writer, writer, &task->serial, &task->seconds, &task->starts);
     task->serial++;
     task->starts++;
     task->seconds += 20 + station_random(station, 1800);
@@ -92,9 +91,9 @@ static void fill_block(struct station *station, const struct task *task, unsigne
     uint8_t other[KAGUTIN_BLOCK_SIZE];
     size_t i;
 
-    if (home == 2 * writer) {
+    if (home == STATION_RUN(writer)) {
         wear_blocks(writer, task->serial, task->seconds, task->starts, block, other);
-    } else if (home == 2 * writer + 1) {
+    } else if (home == STATION_STARTS(writer)) {
         wear_blocks(writer, task->serial, task->seconds, task->starts, other, block);
     } else {
         for (i = 0; i < KAGUTIN_BLOCK_SIZE; i++)
@@ -146,6 +145,25 @@ void tasks_step(struct station *station)
     call_abort(station, writer);
     task->open = false;
     station->counters.given_up++;
+}
+
+void tasks_set_rights(struct station *station)
+{
+    struct kgt_rights list;
+    size_t i;
+
+    if (rights_are_set(station))
+        return;
+    rights_make(&list);
+    call_begin(station, 0);
+    for (i = 0; i < KGT_RIGHTS_HOMES; i++)
+        if (!call_store(station, 0, KGT_RIGHTS_HOME + i, list.bytes + kagutin_area_size(i)))
+            station_mismatch(station, "there is no room for the list of rights in an empty log");
+    if (!call_commit(station, 0))
+        station_mismatch(station, "there is no room for the list of rights in an empty log");
+    station->counters.lists++;
+    if (station_random(station, 2) && call_flush(station))
+        call_confirm(station); /* else a cut may take it, and the next opening finds none */
 }
 
 void tasks_power_cut(struct station *station)

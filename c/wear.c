@@ -10,6 +10,7 @@
 #include <string.h>
 
 #include "calls.h"
+#include "rights.h"
 #include "rule.h"
 
 static const char *const tasks[KAGUTIN_WRITERS] = {
@@ -74,9 +75,10 @@ bool wear_fits(const struct station *station)
     unsigned pump;
 
     for (pump = 0; pump < KAGUTIN_WRITERS; pump++) {
-        const uint8_t *run = station->driver.area + kagutin_area_size(2 * (size_t)pump);
+        const uint8_t *area = station->driver.area;
 
-        if (!read_blocks(run, run + KAGUTIN_BLOCK_SIZE, pump, figures))
+        if (!read_blocks(area + kagutin_area_size(STATION_RUN(pump)), area + kagutin_area_size(STATION_STARTS(pump)), pump,
+                         figures))
             return false;
     }
     return true;
@@ -88,19 +90,21 @@ void wear_check(struct station *station)
     unsigned pump;
 
     for (pump = 0; pump < KAGUTIN_WRITERS; pump++) {
-        const uint8_t *run = station->driver.area + kagutin_area_size(2 * (size_t)pump);
+        const uint8_t *area = station->driver.area;
 
-        check_pump(station, pump, run, run + KAGUTIN_BLOCK_SIZE, figures);
+        check_pump(station, pump, area + kagutin_area_size(STATION_RUN(pump)),
+                   area + kagutin_area_size(STATION_STARTS(pump)), figures);
     }
 }
 
-void wear_read(struct station *station, unsigned pump, uint64_t *serial, uint64_t *seconds, uint64_t *starts)
+void wear_read(struct station *station, unsigned task, unsigned pump, uint64_t *serial, uint64_t *seconds,
+               uint64_t *starts)
 {
     uint8_t run[KAGUTIN_BLOCK_SIZE], start[KAGUTIN_BLOCK_SIZE];
     uint64_t figures[3];
 
-    call_read(station, pump, 2 * (size_t)pump, run);
-    call_read(station, pump, 2 * (size_t)pump + 1, start);
+    call_read(station, task, STATION_RUN(pump), run);
+    call_read(station, task, STATION_STARTS(pump), start);
     check_pump(station, pump, run, start, figures);
     *serial = figures[0];
     *seconds = figures[1];
@@ -115,7 +119,7 @@ static void print_csv(struct station *station)
 
     puts("pump,task,starts,run_seconds,seconds_per_start,commits_kept,commits_lost,commits_never_issued");
     for (pump = 0; pump < KAGUTIN_WRITERS; pump++) {
-        wear_read(station, pump, &serial, &seconds, &starts);
+        wear_read(station, SERVICE, pump, &serial, &seconds, &starts);
         printf("%u,%s,%llu,%llu,%llu,%lu,%lu,%lu\n", pump, tasks[pump], (unsigned long long)starts,
                (unsigned long long)seconds, (unsigned long long)(starts ? seconds / starts : 0), counters->kept[pump],
                counters->lost[pump], counters->unissued[pump]);
@@ -128,7 +132,7 @@ static void print_pumps(struct station *station)
     unsigned pump, most = 0;
 
     for (pump = 0; pump < KAGUTIN_WRITERS; pump++) {
-        wear_read(station, pump, &serial, &seconds[pump], &starts[pump]);
+        wear_read(station, SERVICE, pump, &serial, &seconds[pump], &starts[pump]);
         if (seconds[pump] > seconds[most])
             most = pump;
     }

@@ -12,6 +12,11 @@
  *
  * Open, commit, trim and read are lent newest; open takes any bytes there.
  *
+ * Homes 8 to 11 hold the list of rights: which homes each writer may store to
+ * and read. Only writer 0 may store to those four, all may read them; without a
+ * committed list every other home is open to all. kagutin_rights.h makes a
+ * list, docs/HOMES.md says what lies in which home.
+ *
  * It reaches lasting memory only by the batch: records that a call asks the
  * driver to write, in order. docs/FORMAT.md gives all bytes.
  *
@@ -78,7 +83,7 @@ extern "C" {
 #define KAGUTIN_FLUSH_BATCH (KAGUTIN_GW_SIZE + KAGUTIN_FN_SIZE)
 #define KAGUTIN_TRIM_BATCH (KAGUTIN_KW_SIZE + KAGUTIN_FN_SIZE)
 
-/* Answers. A call asks its questions in the order 1 to 8, 17, 18, 21, 10, 9. */
+/* Answers. A call asks its questions in the order 1 to 5, 19, 20, 6 to 8, 17, 18, 21, 10, 9. */
 enum kagutin_answer {
     KAGUTIN_DONE = 0,
     KAGUTIN_BAD_LENGTH = 1,   /* a lent length is wrong */
@@ -93,6 +98,8 @@ enum kagutin_answer {
     KAGUTIN_WORN_OUT = 10,    /* open, trim: the new start would exceed 2^47 */
     KAGUTIN_NO_PLACES = 17,   /* reserve: n is 0 or more than are free */
     KAGUTIN_PROMISED = 18,    /* flush: it would leave too few for promises */
+    KAGUTIN_NO_STORE = 19,    /* store: the writer has no right to store to this home */
+    KAGUTIN_NO_READ = 20,     /* read: the writer has no right to read this home */
     KAGUTIN_WRONG_ROUND = 21  /* settle, begin_round: a round is under way; step_round: none is, or 0 homes */
 };
 
@@ -166,6 +173,8 @@ static inline const char *kagutin_answer_text(uint64_t code)
     case KAGUTIN_WORN_OUT: return "the new start would exceed 2^47";
     case KAGUTIN_NO_PLACES: return "not so many places are free";
     case KAGUTIN_PROMISED: return "too few places would be left for promises";
+    case KAGUTIN_NO_STORE: return "no right to store to this home";
+    case KAGUTIN_NO_READ: return "no right to read this home";
     case KAGUTIN_WRONG_ROUND: return "a round of settling is under way, or none is";
     default: return "not an answer";
     }
@@ -222,7 +231,9 @@ struct kagutin_reply kagutin_abort(
  * the state; storing the same home again replaces it, another home first logs
  * the held one. A home may be stored any number of times; the last one counts.
  * Batch: GW if the entry logged is the seventh of its group, else nothing.
- * Answers 1, 2, 4, 5, 7, 8, 9. 8: flush, settle and trim make room, unless an
+ * Answers 1, 2, 4, 5, 19, 7, 8, 9. 19: homes 8 to 11 are for writer 0; other
+ * homes, while a list is committed, for the writers it gives them to. A list
+ * counts from its commit, never while it is only stored. 8: flush, settle and trim make room, unless an
  * open transaction holds the log; the transaction stays open and as it was.
  */
 struct kagutin_reply kagutin_store(
@@ -306,7 +317,8 @@ struct kagutin_reply kagutin_trim(
  * Gives a home's block as the writer sees it: its own newest one if its open
  * transaction stored one, else the newest committed one, found at the position
  * kept for the home. An idle writer reads what is committed. Only the block is
- * changed. Answers 1, 2, 4, 5.
+ * changed. Answers 1, 2, 4, 5, 20. 20: a list is committed and does not let the
+ * writer read this home, which is not one of 8 to 11; also for its own block.
  */
 struct kagutin_reply kagutin_read(
     const uint8_t *log, size_t log_size, const uint8_t *area, size_t area_size,

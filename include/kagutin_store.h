@@ -208,7 +208,7 @@ struct kagutin_reply kgt_open(struct kagutin *store);
  * answer 8, and figure is the writer whose open transaction holds the log's
  * oldest groups (8: none): commit or abort that one; if it is this writer
  * itself, its transaction is too long for the log. The transaction stays open
- * and as it was.
+ * and as it was. 19 and 20 come from the list of rights; kagutin_rights.h.
  */
 struct kagutin_reply kgt_begin(struct kagutin *store, uint64_t writer);
 struct kagutin_reply kgt_store(struct kagutin *store, uint64_t writer, uint64_t home, const uint8_t *block);

@@ -67,7 +67,7 @@ gives 0 "stack: built" "$cc" -std=c99 -D_GNU_SOURCE -Wall -Wextra -pedantic -O2 
 gives 0 "stack: every call within its bound" "$tmp/stack"
 
 # --- no heap in the object; nm prints what it calls ---
-quiet sh -c "nm -u $out/store/store.o $out/store/usage.o $out/store/batch.o $out/store/fram.o | grep -E 'alloc|free'"
+quiet sh -c "nm -u $out/store/store.o $out/store/usage.o $out/store/rights.o $out/store/batch.o $out/store/fram.o | grep -E 'alloc|free'"
 [ $? -ne 0 ]; report $? "the object and the FRAM driver use no heap"
 
 # --- quick start, driver, station ---
@@ -81,6 +81,7 @@ gives 0 "store: power gone after every byte, any words or blocks at a cut" "$out
 gives 0 "store: the same under sanitizers, every 17 bytes" "$san/store_check" 17 1500
 gives 0 "store: places promised beforehand" "$san/reserve_check"
 gives 0 "store: settling in small steps, cut inside a round" "$san/round_check"
+gives 0 "store: the list of rights, its ranges and the moment it counts" "$san/rights_check"
 gives 0 "files: written and mapped, stopped inside writes, locks, failures" "$san/file_check" "$fast"
 gives 0 "FRAM: power gone after every byte" "$out/fram_check" 1
 gives 0 "FRAM: under sanitizers" "$san/fram_check" 13
@@ -103,7 +104,7 @@ fi
 for seed in 1 2 3 4; do
     gives 0 "station, seed $seed" "$san/station" --seed $seed --cuts 120
 done
-for shape in "4 16" "4 17" "5 24" "16 4096" "16 65535" "1024 16"; do
+for shape in "4 24" "4 33" "5 40" "16 4096" "16 65535" "1024 24"; do
     set -- $shape
     gives 0 "station, $1 groups, $2 homes" "$san/station" --seed 9 --cuts 40 --groups "$1" --homes "$2"
 done
@@ -123,6 +124,8 @@ gives 0 "station, every cut" "$san/station" --cuts 60 --verbose
 grep -q '^log full (.* 0 free; task [0-7] holds it' "$tmp/out"; report $? "station: says why the log is full"
 grep -q '^ *[0-9]* live at the end, [0-9]* dead, [0-9]* free$' "$tmp/out"; report $? "station: what fills the log at the end"
 grep -q '[1-9][0-9]* times the radio task had its places promised' "$tmp/out"; report $? "station: the radio task has places promised"
+grep -q '^ *[1-9][0-9]* stores and [1-9][0-9]* reads of a home that the list of rights does not give' "$tmp/out"
+report $? "station: tasks that try another's home are refused"
 grep -q '^ *[1-9][0-9]* rounds of settling begun, in [1-9][0-9]* steps' "$tmp/out"; report $? "station: settles in small steps"
 "$san/station" --cuts 1000000 --csv > "$tmp/out" 2> "$tmp/log" &
 sleep 1; kill -INT $!; wait $!; status=$?
@@ -135,7 +138,7 @@ says "from 0 to" 2 "station --seed -1" "$san/station" --seed -1
 says "from 1 to" 2 "station --cuts 0" "$san/station" --cuts 0
 says "from 4 to" 2 "station --groups 3" "$san/station" --groups 3
 says "from 4 to" 2 "station --groups 12x" "$san/station" --groups 12x
-says "from 16 to" 2 "station --homes 65536" "$san/station" --homes 65536
+says "from 24 to" 2 "station --homes 65536" "$san/station" --homes 65536
 says "goes with --file" 2 "station --keep-cut without a file" "$san/station" --keep-cut
 says "no image" 2 "inspect without an image" "$san/inspect"
 says "unknown option" 2 "inspect --frob" "$san/inspect" --frob x
@@ -146,15 +149,17 @@ says "cannot be opened" 3 "inspect of a missing file" "$san/inspect" "$tmp/none"
 
 # --- files ---
 image=$tmp/station.img
-gives 0 "station on a new file" "$san/station" --seed 3 --cuts 10 --groups 12 --homes 20 --file "$image"
+gives 0 "station on a new file" "$san/station" --seed 3 --cuts 10 --groups 12 --homes 40 --file "$image"
 gives 0 "station goes on with it" "$san/station" --seed 4 --cuts 10 --file "$image"
 says "other numbers" 3 "station with another shape" "$san/station" --groups 4 --file "$image"
-gives 0 "station leaves a cut" "$san/station" --seed 30 --cuts 7 --file "$image" --keep-cut
+gives 0 "station leaves a cut" "$san/station" --seed 13 --cuts 7 --file "$image" --keep-cut
 grep -q 'kept .*came back' "$tmp/out" && grep -q 'in the image' "$tmp/out"
 report $? "and counts what is in it as not opened"
 gives 0 "inspect a sound image" "$san/inspect" "$image"
 grep -q '^commits ([1-9]' "$tmp/out"; report $? "inspect: finds commits"
 grep -q '^the walk stopped: ' "$tmp/out"; report $? "inspect: says why the walk stopped"
+grep -q '^  writer 3  stores to 3, 19, 32 to 65534; reads 3, 19, 32 to 65534$' "$tmp/out"; report $? "inspect: a writer's rights"
+grep -q '^  writer 7 .*; reads 7, 23, 32 to 65534, 0 to 65534$' "$tmp/out"; report $? "inspect: overlapping ranges"
 gives 0 "inspect --json" "$san/inspect" --json "$image"
 if command -v python3 > /dev/null; then
     quiet python3 -m json.tool "$tmp/out"; report $? "inspect: its JSON is JSON"
@@ -163,8 +168,12 @@ if command -v python3 > /dev/null; then
     cp "$image" "$tmp/Pumpenhäuschen.img"
     "$san/inspect" --json "$tmp/Pumpenhäuschen.img" > "$tmp/out" 2> "$tmp/log"
     python3 -c 'import json,sys; v = json.load(open(sys.argv[1])); sys.exit(not (v["image"].endswith("/Pumpenhäuschen.img")
-        and len(v["homes"]) == 20 and any(e.get("comes_back") for s in v["slots"] for e in s.get("entries", []))))' "$tmp/out" 2>> "$tmp/log"
+        and len(v["homes"]) == 40 and any(e.get("comes_back") for s in v["slots"] for e in s.get("entries", []))))' "$tmp/out" 2>> "$tmp/log"
     report $? "inspect: a name in UTF-8, every home, entries that come back"
+    python3 -c 'import json,sys; r = json.load(open(sys.argv[1]))["rights"]
+sys.exit(not (r["list"] and len(r["writers"]) == 8 and r["writers"][2]["store"] == [{"first": 2, "number": 1}, {"first": 18, "number": 1},
+    {"first": 32, "number": 65503}] and r["writers"][7]["read"][3] == {"first": 0, "number": 65535}))' "$tmp/out" 2>> "$tmp/log"
+    report $? "inspect: the list of rights as JSON"
     python3 -c 'import json,sys; v = json.load(open(sys.argv[1])); p = v["places"]
 e = [x["comes_back"] for s in v["slots"] for x in s.get("entries", []) if x["kind"] != "nothing"]
 t = [x for s in v["slots"] for x in s.get("entries", []) if x.get("torn")]
@@ -176,6 +185,7 @@ sys.exit(not (sum(p.values()) == 7 * len(v["slots"]) and p["committed"] == sum(e
     quiet python3 -m json.tool "$tmp/out"; report $? "inspect: a name that is no UTF-8"
 fi
 gives 0 "inspect the quick start's image" "$san/inspect" "$tmp/quickstart.img"
+grep -q '^rights: no list, homes 8 to 11 are zeros' "$tmp/out"; report $? "inspect: no list of rights"
 grep -q '^ *7 .*2 starts.*from position' "$tmp/out"; report $? "inspect: a home's value, in text, and where it comes from"
 printf 'torn' | dd of="$tmp/quickstart.img" bs=1 seek=$((64 + 512 * 9 + 70)) conv=notrunc 2> /dev/null
 gives 0 "inspect a torn group whose number has not arrived" "$san/inspect" "$tmp/quickstart.img"
@@ -206,7 +216,7 @@ size=$(wc -c < "$image")
 start() { printf "$2" | dd of="$1" bs=1 seek=2 conv=notrunc 2> /dev/null; }
 for bytes in '\364\377\377\377\377\177' '\350\377\377\377\377\177' '\000\000\000\000\000\200'; do
     rm -f "$tmp/worn.img"
-    quiet "$out/station" --seed 3 --cuts 1 --groups 12 --homes 20 --file "$tmp/worn.img"
+    quiet "$out/station" --seed 3 --cuts 1 --groups 12 --homes 40 --file "$tmp/worn.img"
     start "$tmp/worn.img" "$bytes"
     gives 4 "station on a worn-out image" "$san/station" --seed 3 --cuts 60 --file "$tmp/worn.img"
     grep -q 'worn out' "$tmp/out"; report $? "and says so"
@@ -263,7 +273,7 @@ report $trouble "inspect 30 garbled images in six ways"
 # --- valgrind ---
 if command -v valgrind > /dev/null; then
     memcheck="valgrind -q --error-exitcode=9 --leak-check=full"
-    gives 0 "station under memcheck" $memcheck "$out/station" --seed 6 --cuts 25 --groups 6 --homes 20
+    gives 0 "station under memcheck" $memcheck "$out/station" --seed 6 --cuts 25 --groups 6 --homes 40
     gives 0 "inspect under memcheck" $memcheck "$out/inspect" "$tmp/kept.img"
     gives 0 "quick start under memcheck" $memcheck "$out/quickstart" "$tmp/memcheck.img"
     gives 0 "store under memcheck" $memcheck "$out/store_check" 499 30

@@ -19,7 +19,7 @@
 #include "kagutin_file.h"
 #include "play.h"
 
-enum { GROUPS = 5, HOMES = 9, STEPS = 150 };
+enum { GROUPS = 5, HOMES = 8, STEPS = 150 };
 
 static uint8_t memory[KGT_MEMORY_SIZE(GROUPS, HOMES)];
 static char path[4096];

@@ -17,7 +17,7 @@
 #include "kagutin_file.h"
 #include "play.h"
 
-enum { GROUPS = 6, HOMES = 12 };
+enum { GROUPS = 6, HOMES = 16 };
 
 static uint8_t memory[KGT_MEMORY_SIZE(GROUPS, HOMES)];
 static struct kgt_file file;

@@ -7,7 +7,7 @@
 
 #include "kagutin_memory.h"
 
-enum { GROUPS = 5, HOMES = 9, PLACES = KAGUTIN_GROUP_ENTRIES * GROUPS, RADIO = 4 };
+enum { GROUPS = 5, HOMES = 8, PLACES = KAGUTIN_GROUP_ENTRIES * GROUPS, RADIO = 4 };
 
 static uint8_t memory[KGT_MEMORY_SIZE(GROUPS, HOMES)], scratch[KGT_FORMAT_SIZE(GROUPS, HOMES)];
 static uint8_t lasting[KGT_LOG_SIZE(GROUPS) + KGT_HOMES_SIZE(HOMES)], written[sizeof lasting];

@@ -5,7 +5,7 @@
 
 #include "kagutin_memory.h"
 
-enum { GROUPS = 5, HOMES = 9, PLACES = KAGUTIN_GROUP_ENTRIES * GROUPS };
+enum { GROUPS = 5, HOMES = 8, PLACES = KAGUTIN_GROUP_ENTRIES * GROUPS };
 
 static uint8_t memory[KGT_MEMORY_SIZE(GROUPS, HOMES)], scratch[KGT_FORMAT_SIZE(GROUPS, HOMES)];
 static uint8_t lasting[KGT_LOG_SIZE(GROUPS) + KGT_HOMES_SIZE(HOMES)], written[sizeof lasting];
@@ -112,7 +112,7 @@ static void check_bounds(void)
     done(kgt_usage(&store, &usage), "usage");
     check(usage.live == HOMES, "nothing is trimmed inside a round");
     maintain(1, 1, 1);
-    maintain(9, 2, 0);
+    maintain(9, 1, 0);
     all_free();
     maintain(1, 0, 0);
     commit_fenced(1, 3);
@@ -131,7 +131,7 @@ static void check_held(void)
     start(false);
     done(kgt_begin(&store, 6), "begin");
     done(kgt_store(&store, 6, 7, block), "store");
-    done(kgt_store(&store, 6, 8, block), "store");
+    done(kgt_store(&store, 6, 6, block), "store");
     commit_fenced(0, 3);
     maintain(9, 3, 0);
     maintain(9, 0, 0);
@@ -156,7 +156,7 @@ static void check_between(void)
     maintain(1, 1, 1);
     commit(1, 0, 2);
     commit(1, 3, 2);
-    commit(1, 8, 2);
+    commit(1, 7, 2);
     done(kgt_sync(&store), "sync");
     maintain(2, 2, 1);
     maintain(2, 1, 1); /* over; the three commits since are to be settled */
@@ -164,7 +164,7 @@ static void check_between(void)
     check(byte_of(0) == 2 && byte_of(1) == 1 && byte_of(3) == 2, "homes after a round");
     maintain(3, 3, 0);
     all_free();
-    check(byte_of(0) == 2 && byte_of(1) == 1 && byte_of(8) == 2, "homes after the next round");
+    check(byte_of(0) == 2 && byte_of(1) == 1 && byte_of(7) == 2, "homes after the next round");
 }
 
 /* The log fills inside a round, and a reserve needs room: the object finishes the round, and nobody meets answer 21. */

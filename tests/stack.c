@@ -7,7 +7,7 @@
 
 #include "kagutin.h"
 
-enum { GROUPS = 1024, HOMES = 65535, STACK = 1 << 18, LIMIT = 32768, STEP_LIMIT = 47104 };
+enum { GROUPS = 1024, HOMES = 65535, FREE = 12 /* the homes behind the list of rights */, STACK = 1 << 18, LIMIT = 32768, STEP_LIMIT = 47104 };
 enum { FORMAT, OPEN, BEGIN, STORE, COMMIT, FLUSH, CONFIRM, SETTLE, TRIM, READ, ABORT, RESERVE, BEGIN_ROUND, STEP_ROUND, EMPTY };
 
 static uint8_t log_area[KAGUTIN_HEADER_SIZE + KAGUTIN_GROUP_SIZE * GROUPS], area[KAGUTIN_BLOCK_SIZE * HOMES];
@@ -66,6 +66,22 @@ static uint64_t call(int k)
     return reply.code;
 }
 
+/* Writer 0 commits a list of rights under which every writer may touch all, by the last of its ranges. */
+static uint64_t give_all(void)
+{
+    static const uint8_t all[4] = { 0, 0, 255, 255 };
+    uint64_t code;
+    size_t at;
+
+    for (at = 12; at < sizeof block; at += 16)
+        memcpy(block + at, all, sizeof all);
+    who = 0;
+    code = call(BEGIN);
+    for (where = FREE - 4; where < FREE && !code; where++)
+        code = call(STORE);
+    return code ? code : call(COMMIT);
+}
+
 int main(void)
 {
     static const char *names[] = { "format", "open", "begin", "store", "commit", "flush", "confirm", "settle", "trim", "read",
@@ -76,12 +92,14 @@ int main(void)
     call(EMPTY);
     call(FORMAT);
     call(OPEN);
+    if (give_all())
+        return 2;
     for (i = 0; i < 7 * GROUPS; i++) { /* until the log is full */
         who = i % KAGUTIN_WRITERS;
         call(BEGIN);
-        where = (i * 7) % HOMES;
+        where = FREE + (i * 7) % (HOMES - FREE - 1);
         call(STORE);
-        where = (where + 1) % HOMES;
+        where++;
         if (call(STORE) || call(COMMIT))
             break;
         if (i == GROUPS && (call(FLUSH) || call(SETTLE)))

@@ -11,7 +11,7 @@
 #include "kagutin_memory.h"
 #include "play.h"
 
-enum { GROUPS = 5, HOMES = 9, STEPS = 260 };
+enum { GROUPS = 5, HOMES = 8, STEPS = 260 };
 
 static uint8_t memory[KGT_MEMORY_SIZE(GROUPS, HOMES)], before[KGT_MEMORY_SIZE(GROUPS, HOMES)];
 static uint8_t scratch[KGT_FORMAT_SIZE(GROUPS, HOMES)];

@@ -12,7 +12,7 @@
 
 #include "kagutin_memory.h"
 
-enum { GROUPS = 12, HOMES = 2 * KAGUTIN_WRITERS, ROUNDS = 400, RADIO = 4 };
+enum { GROUPS = 12, OTHERS = 16, HOMES = OTHERS + KAGUTIN_WRITERS, ROUNDS = 400, RADIO = 4 };
 
 static uint8_t memory[KGT_MEMORY_SIZE(GROUPS, HOMES)], scratch[KGT_FORMAT_SIZE(GROUPS, HOMES)];
 static uint8_t lasting[KGT_LOG_SIZE(GROUPS) + KGT_HOMES_SIZE(HOMES)], written[sizeof lasting];
@@ -48,11 +48,11 @@ static void *task(void *argument)
             continue;
         }
         failures[writer] += reply.code != KAGUTIN_DONE;
-        reply = kgt_store(&store, writer, 2 * writer, block);
+        reply = kgt_store(&store, writer, writer, block);
         if (reply.code == KAGUTIN_DONE)
-            reply = kgt_store(&store, writer, 2 * writer + 1, block);
+            reply = kgt_store(&store, writer, OTHERS + writer, block);
         if (reply.code == KAGUTIN_DONE) {
-            failures[writer] += kgt_read(&store, writer, 2 * writer, own).code != KAGUTIN_DONE
+            failures[writer] += kgt_read(&store, writer, writer, own).code != KAGUTIN_DONE
                 || memcmp(own, block, sizeof own) != 0;
             reply = kgt_commit(&store, writer);
         }
@@ -107,10 +107,12 @@ int main(void)
     wrong += kgt_sync(&store).code;
     kgt_memory_cut(&medium, lands_never, NULL);
     wrong += kgt_open(&store).code;
-    for (i = 0; i < HOMES; i++) {
-        wrong += kgt_read(&store, 0, i, block).code || block[0] != commits[i / 2] % 251 || block[63] != block[0];
-        done += i % 2 ? 0 : commits[i / 2];
-        tries += i % 2 ? 0 : full[i / 2];
+    for (i = 0; i < 2 * KAGUTIN_WRITERS; i++) {
+        size_t writer = i % KAGUTIN_WRITERS, home = i < KAGUTIN_WRITERS ? writer : OTHERS + writer;
+
+        wrong += kgt_read(&store, writer, home, block).code || block[0] != commits[writer] % 251 || block[63] != block[0];
+        done += i < KAGUTIN_WRITERS ? commits[writer] : 0;
+        tries += i < KAGUTIN_WRITERS ? full[writer] : 0;
     }
     for (i = 0; i <= KAGUTIN_WRITERS; i++)
         wrong += failures[i];

@@ -25,8 +25,16 @@ enum { GROUPS = KAGUTIN_MAX_GROUPS, TRIM_AT = GROUPS / 4 * 3, LINE = 64, PAGE = 
 
 enum driver { PLAIN, ORDERED, MSYNC };
 
-static uint8_t log_area[KAGUTIN_HEADER_SIZE + KAGUTIN_GROUP_SIZE * GROUPS], area[KAGUTIN_BLOCK_SIZE * HOMES];
-static uint8_t state[KAGUTIN_STATE_SIZE], newest[KAGUTIN_POSITION_SIZE * HOMES], *batch, *image;
+/* The blocks of the workload lie around the list of rights, homes 8 to 11. */
+enum { LIST = 8, LIST_HOMES = 4, ALL_HOMES = HOMES + LIST_HOMES };
+
+static unsigned place_of(unsigned home)
+{
+    return home < LIST ? home : home + LIST_HOMES;
+}
+
+static uint8_t log_area[KAGUTIN_HEADER_SIZE + KAGUTIN_GROUP_SIZE * GROUPS], area[KAGUTIN_BLOCK_SIZE * ALL_HOMES];
+static uint8_t state[KAGUTIN_STATE_SIZE], newest[KAGUTIN_POSITION_SIZE * ALL_HOMES], *batch, *image;
 static size_t batch_size;
 static uint64_t written;
 static enum driver driver;
@@ -201,7 +209,7 @@ static void make_durable(uint64_t ticket)
 
 static void store_block(unsigned writer, const struct write *write)
 {
-    done("store", kagutin_store(AREAS, STATE, write->block, BLOCK_SIZE, BATCH, writer, write->home));
+    done("store", kagutin_store(AREAS, STATE, write->block, BLOCK_SIZE, BATCH, writer, place_of(write->home)));
 }
 
 static void commit(const struct write *writes, size_t count)
@@ -233,7 +241,7 @@ static void commit_together(const struct write *writes, size_t count)
 
 static void read_home(unsigned home, uint8_t *block)
 {
-    done("read", kagutin_read(AREAS, STATE, NEWEST, block, BLOCK_SIZE, 0, home));
+    done("read", kagutin_read(AREAS, STATE, NEWEST, block, BLOCK_SIZE, 0, place_of(home)));
 }
 
 /* ---- image ---- */
@@ -309,7 +317,7 @@ int main(int argc, char **argv)
     };
 
     choose_flush();
-    batch_size = kagutin_format_batch(GROUPS, HOMES);
+    batch_size = kagutin_format_batch(GROUPS, ALL_HOMES);
     batch = malloc(batch_size);
     if (!batch)
         fail("out of memory");

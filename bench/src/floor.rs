@@ -4,6 +4,7 @@
 use second::batch::{FENCE_LEN, GROUP_WRITE_LEN, HEADER_WRITE_LEN, HOME_WRITE_LEN};
 use second::layout::{word, BLOCK, GROUP, HEADER, STATE};
 use second::lent::{Kind, Lent};
+use second::rights::has_room;
 use second::state::{at, Writer};
 
 /// A number of the strip.
@@ -18,6 +19,8 @@ pub struct Before {
     groups: usize,
     filled: u64,
     record: Writer,
+    /// The list of rights' positions in the strip, where D is large enough for one.
+    listed: usize,
 }
 
 impl Before {
@@ -27,6 +30,7 @@ impl Before {
             groups: lent.log.len().saturating_sub(HEADER) / GROUP,
             filled: word(&lent.state, at::FILLED),
             record: Writer::load(&lent.state, writer),
+            listed: if has_room((lent.data.len() / BLOCK) as u64) { 4 * NUMBER } else { 0 },
         }
     }
 
@@ -45,8 +49,8 @@ impl Before {
                 Kind::Begin | Kind::Abort => RECORD,
                 Kind::Reserve => RECORD + 2,
                 Kind::Store => self.store(home),
-                // The record, the closing entry, the strip's `last`.
-                Kind::Commit if self.record.holds() => RECORD + self.entry() + NUMBER,
+                // The record, the closing entry, the strip's `last`, the list's positions.
+                Kind::Commit if self.record.holds() => RECORD + self.entry() + NUMBER + self.listed,
                 Kind::Commit => RECORD,
                 // `fenced`, and with a group `next` and `filled`.
                 Kind::Flush if self.filled > 0 => 3 * NUMBER,
@@ -62,8 +66,8 @@ impl Before {
                     let numbers = if batch % HOME_WRITE_LEN == 0 { 1 } else { 4 };
                     BLOCK * (batch / HOME_WRITE_LEN) + numbers * NUMBER
                 }
-                // The header of the copy, `start`, `fenced` and `last`.
-                Kind::Trim if batch > 0 => HEADER + 3 * NUMBER,
+                // The header of the copy, `start`, `fenced` and `last`, the list's positions.
+                Kind::Trim if batch > 0 => HEADER + 3 * NUMBER + self.listed,
                 Kind::Trim => 0,
                 Kind::Read => BLOCK,
             }

@@ -4,6 +4,7 @@
 use crate::floor::Before;
 use second::layout::{word, BLOCK};
 use second::lent::{Kind, Lent};
+use second::rights::of_list;
 use second::rng::Rng;
 use second::state::at;
 use second::Answer;
@@ -65,8 +66,14 @@ impl Recorder {
         }
     }
 
+    /// Not one of the list of rights, to which only writer 0 may store.
     pub fn random_home(&mut self) -> u64 {
-        self.rng.below(word(&self.lent.state, at::HOMES))
+        loop {
+            let home = self.rng.below(word(&self.lent.state, at::HOMES));
+            if !of_list(home) {
+                return home;
+            }
+        }
     }
 
     /// Forgets the steps so far: the script starts from here.

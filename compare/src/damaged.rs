@@ -3,11 +3,12 @@
 use crate::histories::{far, random_shape, Player, MOST_GROUPS};
 use crate::pair::Pair;
 use second::craft::craft;
-use second::damage::{damage_group, damage_header, damage_lengths, damage_newest, damage_state};
+use second::damage::{damage_group, damage_header, damage_lengths, damage_listed, damage_newest, damage_state};
 use second::layout::{
     group_head, header, put_word, set_top_bit, slot_range, turn, word, Shape, BLOCK, START_LIMIT,
 };
 use second::lent::{ample, Kind, Lent};
+use second::rights::LIST_HOME;
 use second::rng::Rng;
 use second::state::{at, promised, Writer};
 use second::world::World;
@@ -138,6 +139,9 @@ fn arguments(rng: &mut Rng, kind: Kind, shape: Shape, lent: &Lent) -> (u64, u64)
             home = rng.pick(&[0, 1, 3, free(&lent.state), free(&lent.state).wrapping_add(1)]);
         }
     }
+    if rng.chance(8) && shape.homes > LIST_HOME {
+        home = LIST_HOME + rng.below((shape.homes - LIST_HOME).min(5));
+    }
     if kind == Kind::StepRound {
         home = rng.pick(&[0, 1, 1, 2, 3, 8, shape.homes, 1 << 32, u64::MAX]);
     }
@@ -165,6 +169,9 @@ fn damage(rng: &mut Rng, lent: &mut Lent, shape: Shape, old: &[Vec<u8>]) {
         0 => {}
         1 => scribble(rng, &mut lent.newest),
         _ => damage_newest(rng, lent),
+    }
+    if rng.chance(30) {
+        damage_listed(rng, lent);
     }
     if rng.chance(8) {
         damage_lengths(rng, lent);

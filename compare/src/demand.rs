@@ -1,9 +1,11 @@
 //! Demand 3 on the library: it performs every call of random histories, and
-//! what it answers and leaves is held to the book. The builds take turns.
+//! what it answers and leaves is held to the book; and what rights keep from a
+//! writer. The builds take turns.
 
 use crate::library::Calls;
 use crate::trap;
-use second::lent::Lent;
+use second::lent::{Lent, Runner};
+use second::pairs::{pair, Pairs};
 use second::player::{history_with, large_history_with, Tally};
 use second::tears::{torn_history, Torn};
 use std::panic::{catch_unwind, AssertUnwindSafe};
@@ -55,4 +57,21 @@ pub fn tear(builds: &[Calls], seed: u64, histories: u64) -> Result<Torn, String>
         })?;
     }
     Ok(torn)
+}
+
+/// Pairs of histories that differ in bytes a writer may not read: it must be told the same in both.
+pub fn pairs(builds: &[Calls], seed: u64, count: u64) -> Result<Pairs, String> {
+    let mut pairs = Pairs::default();
+    for at in 0..count {
+        let one = seed.wrapping_add(at);
+        trap::note(one, at);
+        let build = builds[(at % builds.len() as u64) as usize];
+        let mut runner: Runner = Box::new(move |lent: &mut Lent, kind, writer, home| build.run(lent, kind, writer, home));
+        let outcome = catch_unwind(AssertUnwindSafe(|| pair(one, &mut pairs, &mut runner)));
+        outcome.unwrap_or_else(|_| Err("panic".to_string())).map_err(|what| {
+            let repeat = format!("--seed {one} --calls 0 --damaged 0 --histories 0 --torn 0 --pairs 1");
+            format!("pairs of histories, seed {one}: {what}\n  repeat with {repeat}")
+        })?;
+    }
+    Ok(pairs)
 }

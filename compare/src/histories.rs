@@ -26,12 +26,14 @@ pub struct Played {
     pub large_calls: u64,
 }
 
-/// Small sizes often, so that most calls cost little.
+/// Small sizes often, so that most calls cost little; around 12 often, where a list of rights begins to fit.
 pub fn random_homes(rng: &mut Rng) -> u64 {
     match rng.below(100) {
         0..=19 => 1,
-        20..=64 => 7,
-        65..=84 => 64,
+        20..=39 => 7,
+        40..=64 => 13,
+        65..=69 => rng.between(8, 12),
+        70..=84 => 64,
         85..=94 => rng.between(2, 70),
         95..=98 => 4096,
         _ => 65535,

@@ -23,7 +23,7 @@ use std::process::ExitCode;
 
 const USAGE: &str = "\
 usage: compare [--seed S] [--calls N] [--damaged M] [--histories H]
-               [--large L] [--large-histories K] [--torn T] [--tight] [--build FILE]...
+               [--large L] [--large-histories K] [--torn T] [--pairs P] [--tight] [--build FILE]...
   --seed S             repeats a run exactly (1)
   --calls N            calls compared over valid histories with cuts (100000)
   --damaged M          damaged images and strips, several calls on each (20000)
@@ -31,6 +31,7 @@ usage: compare [--seed S] [--calls N] [--damaged M] [--histories H]
   --large L            how many in a thousand calls and images have G 1024 (10)
   --large-histories K  long histories of demand 3 with G 1024 (0)
   --torn T             short histories with every choice of 12 blocks of a stretch (40)
+  --pairs P            pairs of histories that differ in bytes a writer may not read (500)
   --tight              no guard bytes, so that a memory checker sees reads outside
   --build FILE         a shared object of dist/kagutin.c, compared as well";
 
@@ -42,6 +43,7 @@ struct Options {
     large: u64,
     large_histories: u64,
     torn: u64,
+    pairs: u64,
     guarded: bool,
     builds: Vec<String>,
 }
@@ -57,6 +59,7 @@ impl Options {
             large: words.number("--large", 10),
             large_histories: words.number("--large-histories", 0),
             torn: words.number("--torn", 40),
+            pairs: words.number("--pairs", 500),
             guarded: !words.flag("--tight"),
             builds: words.texts("--build"),
         };
@@ -97,7 +100,7 @@ fn run(options: &Options) -> Result<(), String> {
     let pair = Pair::new(seed, builds);
 
     trials::play(&mut pair.borrow_mut())?;
-    println!("trials 11 to 13, head marks and a round: {} calls, as the paper says", pair.borrow().case);
+    println!("trials 11 to 13, head marks, a round and rights: {} calls, as the paper says", pair.borrow().case);
     pair.borrow_mut().counts = Default::default();
 
     let mut next = 1;
@@ -126,6 +129,7 @@ fn run(options: &Options) -> Result<(), String> {
     })?;
 
     let torn = demand::tear(&all, seed, options.torn)?;
+    let pairs = demand::pairs(&all, seed, options.pairs)?;
 
     println!();
     table::show("Valid histories", &valid);
@@ -155,6 +159,14 @@ fn run(options: &Options) -> Result<(), String> {
         torn.stretches, torn.histories, torn.choices
     );
     println!("  {} lost a commit, {} brought one back", torn.lost, torn.brought_back);
+    println!(
+        "rights: {} calls under a list; {} pairs of histories, nothing that a writer may not read shows",
+        tally.listed, pairs.pairs
+    );
+    println!(
+        "  {} stores with other bytes, {} reads by the writer, {} of them refused",
+        pairs.stores, pairs.reads, pairs.refused
+    );
     println!("in all {} calls compared", pair.case);
     let played = gauges::play(seed, calls / 50, options.guarded)?;
     println!("gauges: {} comparisons done and {} refused, the same on both sides", played.done, played.refused);

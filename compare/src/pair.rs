@@ -15,8 +15,8 @@ pub type Counts = [[u64; refuse::END]; Kind::COUNT];
 
 /// Sizes that are counted apart, and one more row and column for all others.
 pub const GROUPS: [usize; 4] = [4, 5, 64, 1024];
-pub const HOMES: [usize; 5] = [1, 7, 64, 4096, 65535];
-pub type Sizes = [[u64; 6]; 5];
+pub const HOMES: [usize; 6] = [1, 7, 13, 64, 4096, 65535];
+pub type Sizes = [[u64; HOMES.len() + 1]; GROUPS.len() + 1];
 
 pub struct Pair {
     builds: Vec<Build>,
@@ -58,7 +58,7 @@ impl Pair {
         self.counts[kind as usize][answer.code as usize] += 1;
         let row = GROUPS.iter().position(|groups| lent.log.len() == 64 + 512 * groups);
         let column = HOMES.iter().position(|homes| lent.data.len() == 64 * homes);
-        self.sizes[row.unwrap_or(4)][column.unwrap_or(5)] += 1;
+        self.sizes[row.unwrap_or(GROUPS.len())][column.unwrap_or(HOMES.len())] += 1;
         for (build, reply) in self.builds.iter().zip(replies) {
             let Some(what) = build.compare(kind, reply, answer, lent) else { continue };
             let lengths = views(lent).map(<[u8]>::len);

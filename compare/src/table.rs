@@ -11,19 +11,19 @@ fn answers(kind: Kind) -> &'static [usize] {
         Kind::Begin => &[0, 1, 2, 4, 6],
         Kind::Reserve => &[0, 1, 2, 4, 6, 17],
         Kind::Abort => &[0, 1, 2, 4, 7],
-        Kind::Store => &[0, 1, 2, 4, 5, 7, 8, 9],
+        Kind::Store => &[0, 1, 2, 4, 5, 7, 8, 9, 19],
         Kind::Commit => &[0, 1, 2, 4, 7, 8, 9],
         Kind::Flush => &[0, 1, 2, 9, 18],
         Kind::Settle | Kind::StepRound => &[0, 1, 2, 9, 21],
         Kind::BeginRound => &[0, 1, 2, 21],
         Kind::Confirm => &[0, 1, 2],
         Kind::Trim => &[0, 1, 2, 9, 10],
-        Kind::Read => &[0, 1, 2, 4, 5],
+        Kind::Read => &[0, 1, 2, 4, 5, 20],
     }
 }
 
 /// All answers that calls give.
-const ANSWERS: [usize; 14] = [0, 1, 2, 3, 4, 5, 6, 7, 8, 9, 10, 17, 18, 21];
+const ANSWERS: [usize; 16] = [0, 1, 2, 3, 4, 5, 6, 7, 8, 9, 10, 17, 18, 19, 20, 21];
 
 /// One row for each call, one column for each answer.
 pub fn show(title: &str, counts: &Counts) {
@@ -51,7 +51,7 @@ pub fn show_sizes(sizes: &Sizes) {
     };
     println!("Calls compared, by size");
     print!("{:9}", "");
-    (0..6).for_each(|at| print!("{:>10}", name('D', &HOMES, at)));
+    (0..=HOMES.len()).for_each(|at| print!("{:>10}", name('D', &HOMES, at)));
     println!();
     for (at, row) in sizes.iter().enumerate() {
         print!("{:9}", name('G', &GROUPS, at));

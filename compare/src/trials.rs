@@ -1,9 +1,10 @@
 //! The paper's trials 11 to 13, with the answers it gives, the head mark of
-//! older logs, and the answers of a round.
+//! older logs, and the answers of a round and of rights.
 
 use crate::pair::Pair;
 use second::layout::{header, Shape};
 use second::lent::{Kind, Lent};
+use second::rights::{List, RANGES};
 
 const SHAPE: Shape = Shape { groups: 4, homes: 8 };
 const LIMIT: u64 = 1 << 47;
@@ -16,7 +17,12 @@ struct Trial<'a> {
 
 impl Trial<'_> {
     fn new<'a>(name: &'static str, pair: &'a mut Pair) -> Result<Trial<'a>, String> {
-        let mut trial = Trial { name, lent: Lent::new(SHAPE.groups, SHAPE.homes), pair };
+        Trial::of(name, SHAPE.homes, pair)
+    }
+
+    /// Just formatted and opened, with this many homes.
+    fn of<'a>(name: &'static str, homes: u64, pair: &'a mut Pair) -> Result<Trial<'a>, String> {
+        let mut trial = Trial { name, lent: Lent::new(SHAPE.groups, homes), pair };
         trial.expect(Kind::Format, 0, 0, 0)?;
         trial.expect(Kind::Open, 0, 0, 0)?;
         Ok(trial)
@@ -39,7 +45,65 @@ pub fn play(pair: &mut Pair) -> Result<(), String> {
     short_batch(pair)?;
     high_start(pair)?;
     old_head(pair)?;
-    round(pair)
+    round(pair)?;
+    few_homes(pair)?;
+    rights(pair)
+}
+
+/// Homes from 8 on are writer 0's, also where D is too small for a list.
+fn few_homes(pair: &mut Pair) -> Result<(), String> {
+    for homes in 8..13 {
+        let mut trial = Trial::of("homes for a list", homes, pair)?;
+        for writer in [0, 1] {
+            trial.expect(Kind::Begin, writer, 0, 0)?;
+            for home in 8..homes {
+                trial.lent.block = vec![0xff; 64];
+                trial.expect(Kind::Store, writer, home, if writer == 0 || home > 11 { 0 } else { 19 })?;
+                trial.expect(Kind::Read, writer, home, 0)?;
+            }
+            trial.expect(Kind::Store, writer, homes, 5)?;
+            trial.expect(Kind::Read, writer, homes, 5)?;
+            trial.expect(Kind::Store, writer, 7, 0)?;
+            trial.expect(Kind::Read, writer, 7, 0)?;
+        }
+        trial.expect(Kind::Commit, 0, 0, 0)?;
+        trial.expect(Kind::Store, 1, 7, if homes > 11 { 19 } else { 0 })?;
+        trial.expect(Kind::Read, 1, 7, if homes > 11 { 20 } else { 0 })?;
+    }
+    Ok(())
+}
+
+/// Ranges at their edges; a list counts from its commit; 19 and 20 come before all but 1, 2, 4 and 5.
+fn rights(pair: &mut Pair) -> Result<(), String> {
+    let mut trial = Trial::of("rights", 16, pair)?;
+    let mut list = List::NONE;
+    list.put(1, 0, 3, 2);
+    list.put(1, 3, 15, 65535);
+    list.put(1, RANGES + 2, 0, 1);
+    list.put(6, RANGES, 65535, 65535);
+    trial.expect(Kind::Begin, 0, 0, 0)?;
+    for (block, home) in list.0.iter().zip(8..) {
+        trial.lent.block = block.to_vec();
+        trial.expect(Kind::Store, 0, home, 0)?;
+    }
+    trial.expect(Kind::Store, 7, 0, 7)?;
+    trial.expect(Kind::Read, 0, 0, 0)?;
+    trial.expect(Kind::Commit, 0, 0, 0)?;
+    trial.expect(Kind::Begin, 1, 0, 0)?;
+    for home in 0..16 {
+        let stores = [3, 4, 15].contains(&home);
+        let reads = home == 0 || (8..12).contains(&home);
+        trial.expect(Kind::Store, 1, home, if stores { 0 } else { 19 })?;
+        trial.expect(Kind::Read, 1, home, if reads { 0 } else { 20 })?;
+        for writer in [0, 6, 7] {
+            trial.expect(Kind::Store, writer, home, if writer == 0 && (8..12).contains(&home) { 7 } else { 19 })?;
+            trial.expect(Kind::Read, writer, home, if (8..12).contains(&home) { 0 } else { 20 })?;
+        }
+    }
+    trial.lent.batch.clear();
+    trial.expect(Kind::Store, 8, 0, 4)?;
+    trial.expect(Kind::Store, 7, 16, 5)?;
+    trial.expect(Kind::Store, 7, 0, 19)
 }
 
 /// Two homes settled by steps of one.

@@ -46,6 +46,25 @@ static enum call any_call(void)
     return (enum call)k;
 }
 
+/* A block of the list of rights: ranges of two writers, to store and to read, each all homes, a few or none. */
+static void fill_list(void)
+{
+    int none = one_in(6);
+    size_t at;
+
+    memset(lent.block, 0, sizeof lent.block);
+    for (at = 0; at < sizeof lent.block && !none; at += 16) {
+        int wide = !one_in(3);
+        uint32_t first = wide ? 0 : below((uint32_t)lent.homes);
+        uint32_t number = wide ? 65535 : below(8);
+
+        lent.block[at] = (uint8_t)first;
+        lent.block[at + 1] = (uint8_t)(first >> 8);
+        lent.block[at + 2] = (uint8_t)number;
+        lent.block[at + 3] = (uint8_t)(number >> 8);
+    }
+}
+
 /* A call with arguments that are mostly right; then its batch is carried out, whole or up to a cut. */
 static void step(size_t full_batch)
 {
@@ -62,6 +81,8 @@ static void step(size_t full_batch)
     lent.batch_size = one_in(30) ? below(600) : full_batch;
     lent.state_size = one_in(200) ? sizeof lent.state - 1 : sizeof lent.state;
     memset(lent.block, (int)below(256), sizeof lent.block);
+    if (call == STORE && home >= 8 && home < 12 && !one_in(20))
+        fill_list();
     reply = play(call, writer, home);
     if (reply.code != KAGUTIN_DONE)
         return;

@@ -74,12 +74,13 @@ static struct kagutin_reply one(enum call call, uint64_t writer, uint64_t home, 
     return reply;
 }
 
+/* Behind the list of rights. */
 static uint32_t random_home(void)
 {
     static uint64_t seed = 7;
 
     seed = seed * UINT64_C(6364136223846793005) + UINT64_C(1442695040888963407);
-    return (uint32_t)(seed >> 32) % MOST_HOMES;
+    return 12 + (uint32_t)(seed >> 32) % (MOST_HOMES - 12);
 }
 
 /* A commit of 4 blocks; 0 if the log is full. */

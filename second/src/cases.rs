@@ -31,7 +31,7 @@ pub struct Cases {
 }
 
 /// In the order of `Kind::ALL`.
-const WEIGHTS: [u64; Kind::COUNT] = [3, 14, 6, 8, 6, 22, 18, 8, 5, 12, 6, 14, 14, 14];
+const WEIGHTS: [u64; Kind::COUNT] = [3, 14, 6, 8, 6, 26, 18, 8, 5, 12, 6, 14, 14, 24];
 
 impl Cases {
     pub fn new(seed: u64) -> Cases {
@@ -44,8 +44,9 @@ impl Cases {
     pub fn case(&mut self) -> Case {
         let rng = &mut self.rng;
         let kind = Kind::ALL[rng.weighted(&WEIGHTS)];
-        let (shape, mut lent) = if rng.chance(40) {
-            let shape = Shape { groups: 4, homes: random_homes(rng) };
+        let (shape, mut lent) = if rng.chance(if kind.takes_home() { 55 } else { 40 }) {
+            let listed = kind.takes_home() && rng.chance(50);
+            let shape = Shape { groups: 4, homes: if listed { 13 } else { random_homes(rng) } };
             (shape, craft(rng, shape))
         } else {
             self.advance(kind);
