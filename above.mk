@@ -3,6 +3,7 @@
 # bands         sets, shows and looks up the table of depth bands of an image
 # wear          the wear sheet of images: text, CSV or one HTML page
 # above-check   tests of these and of the calls on the store object
+# above-compare the calls against the second implementation: histories with cuts, damaged images, homes, strips and lengths
 
 # Each unit is one C file, dist/kagutin_UNIT.c, that calls the store's functions of dist/kagutin.c. Where dist/ has none of them the second
 # implementation stands in, so that programs and tests can be built.
@@ -11,16 +12,17 @@ ABOVE_DIST = $(ABOVE:%=dist/kagutin_%.c)
 ABOVE_STAND_IN = $(C_OUT)/libkagutin_above.a
 ABOVE_LIBS ?= $(if $(wildcard $(ABOVE_DIST)),$(ABOVE:%=$(C_OUT)/libkagutin_%.a),$(ABOVE_STAND_IN))
 ABOVE_SHIM = tests/above_shim/target/release/libabove_shim.a
-ifneq ($(filter $(ABOVE_STAND_IN),$(ABOVE_LIBS)),)
-C_LIBS += -lgcc_s -lpthread -ldl -lm
-endif
-
 C_ABOVE = bands wear above_check
 C_BANDS = bands bands_table copy store/units $(C_STORE)
 C_WEAR = wear_main wear_text wear_page copy store/units $(C_STORE)
 C_ABOVE_CHECK = above_check store/units $(C_STORE)
+C_ABOVE_PROGRAMS = $(C_ABOVE:%=$(C_OUT)/%) $(C_ABOVE:%=$(C_OUT)/sanitize/%)
 
-.PHONY: bands wear above-check
+ifneq ($(filter $(ABOVE_STAND_IN),$(ABOVE_LIBS)),)
+$(C_ABOVE_PROGRAMS): C_LIBS += -lgcc_s -lpthread -ldl -lm
+endif
+
+.PHONY: bands wear above-check above-compare
 
 bands: $(C_OUT)/bands
 wear: $(C_OUT)/wear
@@ -50,7 +52,30 @@ $(ABOVE_STAND_IN) $(ABOVE_STAND_IN:$(C_OUT)/%=$(C_OUT)/sanitize/%): $(ABOVE_SHIM
 	@mkdir -p $(@D)
 	cp $< $@
 
-above-check: $(C_ABOVE:%=$(C_OUT)/%) $(C_ABOVE:%=$(C_OUT)/sanitize/%)
+above-check: $(C_ABOVE_PROGRAMS)
 	CC="$(CC)" LIB="$(LIB)" sh tests/above-check.sh $(C_OUT)
 
 c-check: above-check
+
+# Shared objects for the comparison: the store and the units in one, plain and with sanitizers.
+ABOVE_SOURCES = dist/kagutin.c $(ABOVE_DIST)
+ABOVE_PARTS = $(if $(wildcard $(ABOVE_DIST)),$(PORT_OUT)/above.so,$(ABOVE_SHIM:.a=.so))
+ABOVE_TIGHT = $(if $(wildcard $(ABOVE_DIST)),$(PORT_OUT)/above-sanitize.so)
+COMPARE_UNITS = compare/target/release/units
+
+$(PORT_OUT)/above.so: $(ABOVE_SOURCES) $(C_HEADERS)
+	@mkdir -p $(@D)
+	gcc $(PORT_SHARED) -O2 $(ABOVE_SOURCES) -o $@
+
+$(PORT_OUT)/above-sanitize.so: $(ABOVE_SOURCES) $(C_HEADERS)
+	@mkdir -p $(@D)
+	gcc $(PORT_SHARED) $(C_SANITIZE) $(ABOVE_SOURCES) -o $@
+
+$(ABOVE_SHIM:.a=.so): $(ABOVE_SHIM)
+
+$(COMPARE_UNITS): $(COMPARE)
+
+above-compare: $(COMPARE_UNITS) $(ABOVE_PARTS) $(ABOVE_TIGHT)
+	$(COMPARE_UNITS) --seed $(SEED) --build $(ABOVE_PARTS)
+	$(if $(ABOVE_TIGHT),ASAN_OPTIONS=detect_leaks=0 LD_PRELOAD=$$(gcc -print-file-name=libasan.so) $(COMPARE_UNITS) --seed $(SEED) --tight \
+	    --histories 40 --damaged 2000 --build $(ABOVE_TIGHT) | tail -n 1)

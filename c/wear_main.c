@@ -10,6 +10,7 @@
 #include "wear_sheet.h"
 
 enum { STATUS_DONE = 0, STATUS_USAGE = 2, STATUS_TROUBLE = 3 };
+enum { RUNNING = 12 }; /* byte of a pump's home; docs/HOMES.md */
 
 static const char usage[] =
     "usage: wear [--interval HOURS] [--csv | --html FILE] [--all] [--writer W] IMAGE..\n"
@@ -22,7 +23,7 @@ static const char usage[] =
     "  --writer W        the writer that reads, 0 to 7 (0)\n"
     "  -h, --help        this text\n"
     "The images stay as they are. Status: 0 done, 2 wrong options, 3 a file cannot be read or written, or an image has no\n"
-    "homes for pumps; the others are in the sheet all the same.\n";
+    "homes for pumps or something else in them; the others are in the sheet all the same.\n";
 
 struct options {
     char **images; /* the words that are no options, moved to the front */
@@ -105,6 +106,19 @@ static struct options read_options(int count, char **words)
     return options;
 }
 
+/* Whether a pump's home holds what the hours book stores: every block reads as a record, so another's would show as hours. */
+static bool is_record(struct copy *copy, uint64_t writer, unsigned pump)
+{
+    uint8_t block[KAGUTIN_BLOCK_SIZE] = {0};
+    size_t i;
+
+    if (kgt_read(&copy->store, writer, KAGUTIN_PUMP_HOME + pump, block).code != KAGUTIN_DONE)
+        return true; /* the call on hours says why */
+    for (i = RUNNING + 1; i < sizeof block && block[i] == 0; i++)
+        ;
+    return i == sizeof block && block[RUNNING] <= 1;
+}
+
 /* One pump into the sheet; false if the library refuses. */
 static bool read_pump(struct wear_sheet *sheet, struct copy *copy, const struct options *options, const char *path,
                       unsigned pump)
@@ -115,6 +129,10 @@ static bool read_pump(struct wear_sheet *sheet, struct copy *copy, const struct 
 
     if (hours.code != KAGUTIN_DONE || due.code != KAGUTIN_DONE) {
         complain("%s: pump %u: %s", path, pump, kgt_unit_answer_text(hours.code ? hours.code : due.code));
+        return false;
+    }
+    if (!is_record(copy, options->writer, pump)) {
+        complain("%s: home %u holds no record of pump %u", path, KAGUTIN_PUMP_HOME + pump, pump);
         return false;
     }
     if (hours.first == 0 && !options->all) {
@@ -147,8 +165,8 @@ static bool read_image(struct wear_sheet *sheet, const struct options *options, 
         return false;
     }
     sheet->images++;
-    for (pump = 0; pump < KAGUTIN_PUMPS && KAGUTIN_PUMP_HOME + pump < copy.homes && done; pump++)
-        done = read_pump(sheet, &copy, options, path, pump);
+    for (pump = 0; pump < KAGUTIN_PUMPS && KAGUTIN_PUMP_HOME + pump < copy.homes; pump++)
+        done = read_pump(sheet, &copy, options, path, pump) && done;
     copy_close(&copy);
     return done;
 }

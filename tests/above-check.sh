@@ -126,6 +126,10 @@ gives 0 "an image without events" "$out/above_check" --image "$tmp/new.img" 0 4
 gives 0 "a page of nothing" "$san/wear" --html "$tmp/none.html" --interval 1000000 "$tmp/new.img"
 gives 0 "a sheet of nothing" "$san/wear" "$tmp/new.img"
 shows '^8 pumps never started'
+cp "$tmp/new.img" "$tmp/other.img"
+printf 'x' | dd of="$tmp/other.img" bs=1 seek=$((64 + 512 * 16 + 64 * 19 + 20)) conv=notrunc 2> /dev/null
+says "home 19 holds no record of pump 3" 3 "a pump's home with other bytes" "$san/wear" "$tmp/other.img" "$tmp/north.img"
+shows '^Wear sheet: 2 images'
 says "cannot be opened" 3 "a missing image among others" "$san/wear" "$tmp/missing.img" "$tmp/north.img"
 shows '^.*north.img  *[0-3]  '
 says "an image is expected" 2 "no image" "$san/wear"
