@@ -12,7 +12,7 @@ shows() {
 }
 
 # --- headers ---
-for unit in bands hours alarms units; do
+for unit in chains bands hours alarms units; do
     printf '#include "kagutin_%s.h"\n' "$unit" > "$tmp/header.c"
     cp "$tmp/header.c" "$tmp/header.cpp"
     gives 0 "kagutin_$unit.h as c99" "$cc" -std=c99 -Wall -Wextra -pedantic -Werror -Iinclude -fsyntax-only "$tmp/header.c"
