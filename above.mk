@@ -3,6 +3,7 @@
 # bands         sets, shows and looks up the table of depth bands of an image
 # wear          the wear sheet of images: text, CSV or one HTML page
 # above-check   tests of these and of the calls on the store object
+# above-dist    makes dist/kagutin_UNIT.c again from the proved crates; above-dist-check fails if a byte of them differs
 # above-compare the calls against the second implementation: histories with cuts, damaged images, homes, strips and lengths
 
 # Each unit is one C file, dist/kagutin_UNIT.c, that calls the store's functions of dist/kagutin.c. Where dist/ has none of them the second
@@ -12,6 +13,27 @@ ABOVE_DIST = $(ABOVE:%=dist/kagutin_%.c)
 ABOVE_STAND_IN = $(C_OUT)/libkagutin_above.a
 ABOVE_LIBS ?= $(if $(wildcard $(ABOVE_DIST)),$(ABOVE:%=$(C_OUT)/libkagutin_%.a),$(ABOVE_STAND_IN))
 ABOVE_SHIM = tests/above_shim/target/release/libabove_shim.a
+# Their crates, and the structs of their results.
+ABOVE_CRATES = band_calls hour_calls alarm_calls
+GENERATE_ABOVE = $(GENERATE_BESIDE) --import kagutin --header kagutin_chains.h --result answers::Reply=kagutin_reply
+GENERATE_bands = $(GENERATE_ABOVE) --export band_calls --header kagutin_bands.h --result band_calls::Band=kagutin_band
+GENERATE_hours = $(GENERATE_ABOVE) --export hour_calls --header kagutin_hours.h --result hour_calls::Figures=kagutin_figures
+GENERATE_alarms = $(GENERATE_ABOVE) --export alarm_calls --header kagutin_alarms.h --result alarm_calls::Gravest=kagutin_alarm
+
+.PHONY: above-dist above-dist-check
+
+above-dist:
+	@mkdir -p $(PORT_OUT)
+	@rt check $(ABOVE_CRATES) > $(PORT_OUT)/proved.log 2>&1 || { cat $(PORT_OUT)/proved.log; exit 1; }
+	@$(foreach u,$(ABOVE),$(GENERATE_$(u)) --out dist/kagutin_$(u).c &&) true
+
+above-dist-check:
+	@rm -rf $(PORT_OUT)/above && mkdir -p $(PORT_OUT)/above
+	@$(foreach u,$(ABOVE),$(GENERATE_$(u)) --out $(PORT_OUT)/above/kagutin_$(u).c &&) true
+	@for file in $(ABOVE_DIST); do cmp $(PORT_OUT)/above/$${file#dist/} $$file \
+	    || { echo "$$file is not what the proved program gives; make above-dist makes it again" >&2; exit 1; }; done
+	@echo "dist: $(ABOVE_DIST): what the proved program gives"
+
 C_ABOVE = bands wear above_check
 C_BANDS = bands bands_table copy store/units $(C_STORE)
 C_WEAR = wear_main wear_text wear_page copy store/units $(C_STORE)
