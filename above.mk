@@ -74,6 +74,36 @@ $(ABOVE_STAND_IN) $(ABOVE_STAND_IN:$(C_OUT)/%=$(C_OUT)/sanitize/%): $(ABOVE_SHIM
 	@mkdir -p $(@D)
 	cp $< $@
 
+# The calls on the store object as an archive of their own. Installed, and gone again, where dist/ has the units.
+UNITS_LIB = $(C_OUT)/libkagutin_units.a
+ABOVE_HEADERS = $(patsubst %,include/kagutin_%.h,chains $(ABOVE) units)
+ABOVE_INSTALLED = $(notdir $(UNITS_LIB) $(ABOVE_LIBS))
+
+$(UNITS_LIB): $(C_OUT)/store/units.o
+	rm -f $@
+	$(AR) rcs $@ $^
+
+.PHONY: install-above uninstall-above c-dist-above
+
+install-above: $(UNITS_LIB) $(ABOVE_LIBS) $(ABOVE_HEADERS)
+	install -d $(DESTDIR)$(PREFIX)/include $(DESTDIR)$(PREFIX)/lib
+	install -m 644 $(ABOVE_HEADERS) $(DESTDIR)$(PREFIX)/include
+	install -m 644 $(UNITS_LIB) $(ABOVE_LIBS) $(DESTDIR)$(PREFIX)/lib
+
+uninstall-above:
+	rm -f $(ABOVE_HEADERS:include/%=$(DESTDIR)$(PREFIX)/include/%) $(ABOVE_INSTALLED:%=$(DESTDIR)$(PREFIX)/lib/%)
+
+c-dist-above: $(ABOVE_HEADERS) c/store/units.c
+	install -d $(DIST)
+	install -m 644 $(ABOVE_HEADERS) $(DIST)
+	install -m 644 c/store/units.c $(DIST)/kagutin_units.c
+
+ifneq ($(wildcard $(ABOVE_DIST)),)
+install: install-above
+uninstall: uninstall-above
+c-dist: c-dist-above
+endif
+
 above-check: $(C_ABOVE_PROGRAMS)
 	CC="$(CC)" LIB="$(LIB)" sh tests/above-check.sh $(C_OUT)
 

@@ -318,6 +318,36 @@ static void check_refusals(struct kagutin *store)
     same("writer 8", kgt_alarm_gravest(store, 8).code, KAGUTIN_BAD_WRITER);
 }
 
+/* ---- the lock ---- */
+
+static int locked;
+static bool lock_fails;
+
+static int take_lock(void *context)
+{
+    (void)context;
+    if (lock_fails)
+        return 1;
+    same("locks held", (uint64_t)locked++, 0);
+    return 0;
+}
+
+static void give_lock(void *context)
+{
+    (void)context;
+    locked--;
+}
+
+static void check_lock(struct kagutin *store)
+{
+    lock_fails = true;
+    same("no lock for an event", kgt_pump_start(store, 1, 0, 0).code, KGT_LOCK_FAILED);
+    same("no lock for a lookup", kgt_bands_look_up(store, 1, 0).code, KGT_LOCK_FAILED);
+    same("no lock for services", kgt_pump_services(store, 1, 0, 5).code, KGT_LOCK_FAILED);
+    same("no lock for the gravest", kgt_alarm_gravest(store, 1).code, KGT_LOCK_FAILED);
+    lock_fails = false;
+}
+
 static int play_in_memory(void)
 {
     static uint8_t lasting[KGT_LOG_SIZE(GROUPS) + KGT_HOMES_SIZE(HOMES)], written[sizeof lasting];
@@ -329,8 +359,11 @@ static int play_in_memory(void)
     kgt_memory_keep_blocks(&medium);
     kgt_init(&store, memory, sizeof memory, GROUPS, HOMES, kgt_memory_driver(&medium));
     same("format", kgt_format(&store, scratch, sizeof scratch).code, 0);
+    kgt_set_lock(&store, take_lock, give_lock, NULL);
     check_refusals(&store);
+    check_lock(&store);
     play(&medium, &store);
+    same("locks left", (uint64_t)locked, 0);
     printf("above_check: %llu events, %llu cuts, %llu events lost, each opening at one moment of all units\n",
            (unsigned long long)events_done, (unsigned long long)cuts, (unsigned long long)events_lost);
     return events_lost == 0;

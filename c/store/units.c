@@ -124,7 +124,12 @@ static struct kagutin_reply take(struct kagutin *store, uint64_t writer, const s
     }
     if (room.code == KAGUTIN_DONE)
         room = kgt_abort(store, writer);
-    return room.code == KAGUTIN_DONE ? try_once(store, writer, event) : room;
+    if (room.code != KAGUTIN_DONE)
+        return room;
+    reply = try_once(store, writer, event);
+    if (reply.code == KAGUTIN_FULL) /* other tasks were quicker */
+        reply.figure = KAGUTIN_WRITERS;
+    return reply;
 }
 
 struct kagutin_reply kgt_bands_set(struct kagutin *store, uint64_t writer, const uint8_t *rows, size_t size)
