@@ -8,7 +8,7 @@
 # make bench      instructions and times of each call against the second implementation; other stores, if installed
 # make bench-docs tables of docs/PERFORMANCE.md and docs/ring-cost.svg from the last bench
 # make install    headers, libraries and pkg-config file, under DESTDIR and PREFIX; make uninstall takes them away
-# make inspect    the inspector, target/c/inspect; make station, quickstart, gauges and inflow the other programs
+# make inspect    the inspector, target/c/inspect; make station, quickstart, gauges, inflow, bands and wear the other programs
 # make c-check    tests of the C side alone; make c-kills KILLS=N kills a process at work N times
 # make clean      removes all that was built and proved
 # make help       this list
@@ -85,6 +85,7 @@ test-library: bench/target/release/bench
 	$(MAKE) --no-print-directory dist-check
 	$(MAKE) --no-print-directory generator-check
 	$(MAKE) --no-print-directory port-check
+	$(MAKE) --no-print-directory above-compare
 	$(MAKE) --no-print-directory board-check RECORD_LIB=$(ARCHIVE)
 	bench/target/release/bench --seed $(SEED) --no-counts --out target/bench-test > /dev/null && echo "bench: the same answers on both sides"
 	$(MAKE) --no-print-directory c-check

@@ -139,6 +139,7 @@ uninstall:
 	rm -f $(DESTDIR)$(PREFIX)/lib/libkagutin_store.a $(DESTDIR)$(PREFIX)/lib/pkgconfig/kagutin.pc
 
 include port.mk
+include above.mk
 
 c-clean:
 	rm -rf $(C_OUT)

@@ -44,6 +44,7 @@ dist-check:
 generator-check:
 	python3 tests/forms.py
 	python3 tests/generator.py $(GENERATE_WORDS)
+	python3 tests/imports.py
 
 # The libraries of the C programs.
 DIST_LIBS = kagutin $(BESIDE:%=kagutin_%)

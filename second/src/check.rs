@@ -86,7 +86,7 @@ impl World {
     }
 
     /// The state's fields by the shadow and the book.
-    fn check_state(&self) -> Result<(), String> {
+    pub(crate) fn check_state(&self) -> Result<(), String> {
         let bytes = &self.lent.state;
         let state = State::load(&self.lent.log, &self.lent.data, bytes)
             .map_err(|code| format!("state not in order: {code}"))?;
@@ -138,7 +138,7 @@ impl World {
     }
 
     /// Demand 2 over the whole copies.
-    fn check_areas(&mut self) -> Result<(), String> {
+    pub(crate) fn check_areas(&mut self) -> Result<(), String> {
         must(self.lent.data == self.full.data, "data copy and submitted writes differ")?;
         if self.book.row.is_empty() {
             must(self.lent.log == self.full.log, "log copy and submitted writes differ")?;

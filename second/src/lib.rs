@@ -35,6 +35,9 @@ mod rounds;
 pub mod state;
 pub mod tag;
 pub mod tears;
+mod unit_book;
+pub mod unit_player;
+pub mod units;
 pub mod walk;
 pub mod world;
 
