@@ -24,7 +24,7 @@ use Rattle.answers.proofs.AnswerLaws.{Usable, refused-by, done-by}
 use Rattle.reading.specs.Shown.{readBlock}
 use Rattle.model.specs.Rights.{forHome}
 use Rattle.model.specs.Chains.{blocksLent, blocksRead, fetchEffect, askHomes, allOf, mayStoreAll, mayReadAll, fetchAnswer, reviseAnswer, fetchCall, reviseCall}
-use Rattle.chains.proofs.RightsLaws.{block-same, read-list-same, storeTest, readTest}
+use Rattle.chains.proofs.AllowedLaws.{block-same, read-list-same, storeTest, readTest}
 use Rattle.chains.proofs.VerdictLaws.{HomesLent, homes-refuse, homes-pass, homes-first, homes-lent}
 
 -- ---- one block in its place
@@ -70,10 +70,9 @@ module _ (l a s p x : List ℕ) (w h : ℕ) where
   read-more i d d′ f k =
       let m : i + 1 ≡ suc i = omega arith in
       let e : blocksRead (lentAll l a s p x [] w h) (i + 1)
-          ≡ blocksRead (lentAll l a s p x [] w h) i ++ readBlock (lentAll l a s p [] [] w (h + i)) =
+      ≡ blocksRead (lentAll l a s p x [] w h) i ++ readBlock (lentAll l a s p [] [] w (h + i)) =
       rw m (next-block i ∙ rw (read-same l a s p x [] w (h + i))) in
-      let z : 0 + length (blocksRead (lentAll l a s p x [] w h) i) ≡ 64 * i = omega (arith, f .1) in
-      (
+      let z : 0 + length (blocksRead (lentAll l a s p x [] w h) i) ≡ 64 * i = omega (arith, f .1) in (
         k .0 ∙ rw (f .0, e) (sym (puts-append x 0 (blocksRead (lentAll l a s p x [] w h) i) (readBlock (lentAll l a s p [] [] w (h + i))) ∙ rw z)),
         omega (arith, ap length e, length-append (blocksRead (lentAll l a s p x [] w h) i) (readBlock (lentAll l a s p [] [] w (h + i))), f .1, k .1),
       )

@@ -1,5 +1,5 @@
+pub mod AllowedLaws
 pub mod FetchLaws
-pub mod RightsLaws
 pub mod StepLaws
 pub mod StoredLaws
 pub mod TransactLaws

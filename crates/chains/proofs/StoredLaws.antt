@@ -133,8 +133,7 @@ module _ (g : Given) (n : ℕ) (c : Chain (g .log) (g .state) (g .block) (g .wri
         → MayLog (e .log) (e .state) b (stateOf (e .state)) (g .writer)
         × Fits (stateOf (e .state)) (writerOf (e .state) (g .writer)) (nextPosition (stateOf (e .state)))
     may-log b room =
-        let base : nextPosition (stateOf (g .state)) ≡ 7 * stateOf (g .state) .next + stateOf (g .state) .filled = unfold nextPosition in refl in
-        (
+        let base : nextPosition (stateOf (g .state)) ≡ 7 * stateOf (g .state) .next + stateOf (g .state) .filled = unfold nextPosition in refl in (
           record {
             state = refl;
             strip = h .strip;

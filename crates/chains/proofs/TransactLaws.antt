@@ -23,10 +23,10 @@ use Rattle.model.proofs.strip.QuestionLaws.{ask-yes, ask-no, ask-passed}
 use Rattle.answers.specs.Lent.{lentAll, leavesAll}
 use Rattle.answers.proofs.AnswerLaws.{Usable, refused-by, done-by}
 use Rattle.logging.specs.Logs.{MayLog, Fits, loggedClosing, keptBy, Committed}
-use Rattle.logging.proofs.CommitLaws.{effect-held}
+use Rattle.logging.proofs.CommitLaws.{effect-held, carried}
 use Rattle.model.specs.Chains.{blocksLent, blocksRight, homesKnown, lentOn, andThen, storedFirst, transactEffect, askHomes, allOf, mayStoreAll, roomForAll, transactAnswer, transactCall}
 use Rattle.chains.specs.Steps.{Chain, BatchRoom, Moved, Stored, Reached}
-use Rattle.chains.proofs.RightsLaws.{read-list-same, storeTest}
+use Rattle.chains.proofs.AllowedLaws.{read-list-same, storeTest}
 use Rattle.chains.proofs.StoredLaws.{sizes-more, may-log, moves, moved-more, bytes-more, stored}
 use Rattle.chains.proofs.VerdictLaws.{HomesLent, homes-refuse, homes-pass, homes-first, homes-lent}
 
@@ -121,7 +121,7 @@ module _ (g : Given) (n : ℕ) (c : Chain (g .log) (g .state) (g .block) (g .wri
       let kept : p′ ≡ keptCommit final (lo .log) (firstFor r p) p =
       d .newest ∙ kept-same (ap length (h .area)) u l′ ∙ ap (λ y. keptCommit final y (firstFor r p) p) (d .log) in
       done-by g (andThen g e (commitHeld final r p)) answer c′ figure size l′ (g .area) s′ p′ (g .block) b′ z (q .0) (q .1)
-      (q .2 ∙ rw (em, d .size) (sizes-more (e .records) (lo .records))) (d .log) (sym (h .area)) (d .state ∙ rw (homes-same (ap length (h .area)) u, kept)) kept refl
+      (q .2 ∙ rw (em, d .size) (sizes-more (e .records) (lo .records))) (d .log) (sym (h .area)) (carried _ _ _ _ _ _ _ (d .state) (homes-same (ap length (h .area)) u) kept refl) kept refl
       (bytes-more g n c e j h (omega arith) word (heldOf (e .state) (g .writer)) (g .batch) b b′ eb (d .batch))
 
 -- the whole call

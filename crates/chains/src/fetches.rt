@@ -28,7 +28,15 @@ fn show_at(
     ensures { λ _. ⌜ (now (blocks .exit) ≡ puts (now (blocks .entry)) at (readBlock (lentAll (now (log .entry)) (now (area .entry)) (now (state .entry)) (now (newest .entry)) [] [] writer home)))
         × (length (readBlock (lentAll (now (log .entry)) (now (area .entry)) (now (state .entry)) (now (newest .entry)) [] [] writer home)) ≡ 64) ⌝ }
 {
-    reading::show(log, area, state, newest, &mut blocks[at..at + 64], writer, home)
+    reading::show(
+        log,
+        area,
+        state,
+        newest,
+        &mut blocks[at..at + 64],
+        writer,
+        home,
+    )
 }
 
 // Copies the blocks that a writer sees of the homes from `home` on, one behind the other.
@@ -47,7 +55,16 @@ fn show_all(
     let n = blocks.len() / 64;
     let mut i: usize = 0;
     while i < n {
-        show_at(log, area, state, newest, blocks, 64 * i, writer, home + i as u64);
+        show_at(
+            log,
+            area,
+            state,
+            newest,
+            blocks,
+            64 * i,
+            writer,
+            home + i as u64,
+        );
         i += 1;
     }
 }

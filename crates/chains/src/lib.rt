@@ -1,6 +1,6 @@
 // Calls on several homes in a row under one verdict: fetch and revise read them, transact begins, stores them and commits.
+mod allowed;
 mod fetches;
-mod rights_all;
 mod steps;
 mod transacts;
 mod verdicts;

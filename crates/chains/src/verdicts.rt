@@ -1,6 +1,6 @@
 // The questions of the calls on several homes.
-use crate::rights_all::may_read_all;
-use crate::rights_all::may_store_all;
+use crate::allowed::may_read_all;
+use crate::allowed::may_store_all;
 use model::State;
 ghost use mathlib.Core.Path.{_≡_};
 ghost use mathlib.Core.Bool.{cond, _&&_};
@@ -60,7 +60,11 @@ fn homes_answer(
     if writer >= 8 {
         return 4;
     }
-    if !homes_known(areas::data_homes(area.len()), home, (blocks.len() / 64) as u64) {
+    if !homes_known(
+        areas::data_homes(area.len()),
+        home,
+        (blocks.len() / 64) as u64,
+    ) {
         return 5;
     }
     0
@@ -82,7 +86,15 @@ pub fn fetch_verdict(
     if asked != 0 {
         return asked;
     }
-    if !may_read_all(log, area, state, newest, writer, home, (blocks.len() / 64) as u64) {
+    if !may_read_all(
+        log,
+        area,
+        state,
+        newest,
+        writer,
+        home,
+        (blocks.len() / 64) as u64,
+    ) {
         return 20;
     }
     0

@@ -4,9 +4,9 @@ use mathlib.Core.Bool.{true}
 use Prim.Native.Nat.{_+_, _-_, _≤_}
 use native.Mathlib.Omega.{arith}
 use Rattle.model.specs.Chains.{allOf}
-use Rattle.chains.proofs.RightsLaws.{all-none, all-more, all-refused, all-done, readTest, read-test}
-use Rattle.chains.proofs.rights_all.may_read_all.Statement.{statement}
-use Rattle.chains.proofs.rights_all.may_read_all.Tie as tie
+use Rattle.chains.proofs.AllowedLaws.{all-none, all-more, all-refused, all-done, readTest, read-test}
+use Rattle.chains.proofs.allowed.may_read_all.Statement.{statement}
+use Rattle.chains.proofs.allowed.may_read_all.Tie as tie
 
 abbrev Inv-loop : tie.InvT-loop
 Inv-loop log area state newest writer home n st i₀ i =
@@ -48,9 +48,11 @@ loop-less c =
 
 loop-again : tie.Need-loop-again Inv-loop μ-loop
 loop-again c =
-    let x = c .before .before .before .before .before .before .before .before .before .args in
-    (omega arith, all-more (readTest (x .log .now) (x .area .now) (x .state .now) (x .newest .now) (x .writer)) (x .home) (c .before .before .before .loop .i) _ (c .before .before .before .loop .inv .1)
-    (read-test (x .log .now) (x .area .now) (x .state .now) (x .newest .now) (x .writer) (x .home + c .before .before .before .loop .i) _ (c .before .may-read .ensures)) (c .if1 .left))
+    let x = c .before .before .before .before .before .before .before .before .before .args in (
+      omega arith,
+      all-more (readTest (x .log .now) (x .area .now) (x .state .now) (x .newest .now) (x .writer)) (x .home) (c .before .before .before .loop .i) _ (c .before .before .before .loop .inv .1)
+          (read-test (x .log .now) (x .area .now) (x .state .now) (x .newest .now) (x .writer) (x .home + c .before .before .before .loop .i) _ (c .before .may-read .ensures)) (c .if1 .left),
+    )
 
 returns-2 : tie.Need-returns-2 Inv-loop μ-loop
 returns-2 c =
