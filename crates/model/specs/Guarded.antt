@@ -1,10 +1,10 @@
 -- Histories with a list of rights: who may store and read what, before it is committed, under it, under the next one, after a trim and after an opening.
-use Prim.Native.Nat.{ℕ, zero, suc, _+_, _*_}
-use mathlib.Core.Bool.{Bool, false, _&&_}
+use Prim.Native.Nat.{ℕ}
+use mathlib.Core.Bool.{false}
 use mathlib.Core.List.{List, [], _∷_, _++_}
-use Rattle.model.specs.Bytes.{zeros, bytes, same}
+use Rattle.model.specs.Bytes.{zeros, bytes}
 use Rattle.model.specs.State.{listHome, listedOf}
-use Rattle.model.specs.Newest.{noPosition, keptFor}
+use Rattle.model.specs.Newest.{keptFor}
 use Rattle.model.specs.History.{Call, opening, begin, store, commit, flush, settle, trim, read, Event, call, crash, World, emptyStore, ends, step}
 use Rattle.model.specs.Trials.{room, lane, fill, goes}
 

@@ -60,9 +60,9 @@ module _ (G D : ℕ) (z : Sizes G D) (w : World) (r : Running G D w) (s : Store)
       shown-by (lent w [] [] 0 (listHome + i)) (w .newest) block batch v (keptFor (w .newest) (listHome + i))
       ∙ shown-kept (listHome + i) ∙ q ∙ ap (λ (n : ℕ). homeAt (homesAfter n (w .book .commits)) (listHome + i)) d
 
-  list-is : listHome + 4 ≤ D → readList g ≡ listOf s
+  pub read-list : listHome + 4 ≤ D → readList g ≡ listOf s
   unfolding readList listOf lent
-  list-is m =
+  read-list m =
       rw (a .homes, a .book) (list-part g (λ i. keptFor (w .newest) (listHome + i)) (homesAfter D (w .book .commits)) 4 (block-is m))
 
   -- the state strip has the same four positions
@@ -71,10 +71,7 @@ module _ (G D : ℕ) (z : Sizes G D) (w : World) (r : Running G D w) (s : Store)
   store-list m =
       let d : listHome + 4 ≤ w .homes = subst (λ (n : ℕ). listHome + 4 ≤ n) (sym (r .copies .homes)) m in
       list-by g g (listedOf (w .state)) (λ i. keptFor (w .newest) (listHome + i)) 4
-      (λ i l. ap (shownAt (forHome g (listHome + i))) (k .listed d i l)) ∙ list-is m
-
-  pub read-list : listHome + 4 ≤ D → readList g ≡ listOf s
-  read-list = list-is
+      (λ i l. ap (shownAt (forHome g (listHome + i))) (k .listed d i l)) ∙ read-list m
 
   homes-are : homes g ≡ s .homes
   homes-are = lent-homes G D (r .b) (r .tr) w z (r .copies) block batch v h ∙ sym (a .homes)
@@ -93,7 +90,7 @@ module _ (G D : ℕ) (z : Sizes G D) (w : World) (r : Running G D w) (s : Store)
     where
       go : Dec (s .homes < listHome + 4) → mayRead (s .homes) (readList g) v h ≡ mayRead (s .homes) (listOf s) v h
       go (yes l) = no-list-read (s .homes) (readList g) (listOf s) v h l
-      go (no l) = rw (list-is (omega (arith, l, a .homes)))
+      go (no l) = rw (read-list (omega (arith, l, a .homes)))
 
 module _ (G D : ℕ) (z : Sizes G D) (w : World) (r : Running G D w) (s : Store) (a : Agrees G D w s) (k : Kept w) where
   change-rights : (c : Change) → ChangeRights w s c

@@ -56,7 +56,7 @@ byte-agree s t i e = sym (byte-number s i) ∙ number-same-part 1 s i t i e ∙ 
 
 -- ---- a number written among them: what else the strip holds stays
 
--- the bytes that no field has
+-- the bytes that no field has, and those of the list's positions (ListedLaws)
 abbrev pub Spare : ℕ → Type 0
 Spare i = ((104 ≤ i) × (i < 128)) ⊎ (896 ≤ i)
 
