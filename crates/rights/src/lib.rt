@@ -70,5 +70,5 @@ pub fn may_store_newest(
     if of_list(home) {
         return writer == 0;
     }
-    open_to(log, area, st, newest, 64, 32 * writer as usize, home)
+    open_to(log, area, state, newest, 64, 32 * writer as usize, home)
 }
