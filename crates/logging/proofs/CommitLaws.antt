@@ -35,7 +35,7 @@ effect-none : (g : Given) (r : Writer) → r ≡ writerOf (g .state) (g .writer)
 unfolding commitEffect
 effect-none g r e h = let k : holds (writerOf (g .state) (g .writer)) ≡ false = ap holds (sym e) ∙ h in rw k
 
-effect-held : (g : Given) (r : Writer) (st : State) → r ≡ writerOf (g .state) (g .writer) → st ≡ stateOf (g .state) → holds r ≡ true
+pub effect-held : (g : Given) (r : Writer) (st : State) → r ≡ writerOf (g .state) (g .writer) → st ≡ stateOf (g .state) → holds r ≡ true
     → commitEffect g ≡ commitHeld g r (nextPosition st)
 unfolding commitEffect
 effect-held g r st e es h =
@@ -55,7 +55,7 @@ logs-is : (g : Given) (r : Writer) (t : Bool) → r ≡ writerOf (g .state) (g .
 unfolding commitLogs
 logs-is g r t e h = ap holds (sym e) ∙ h
 
-carried : (n m : ℕ) (p q x y s : List ℕ) → s ≡ carryListed n p x → n ≡ m → p ≡ q → x ≡ y → s ≡ carryListed m q y
+pub carried : (n m : ℕ) (p q x y s : List ℕ) → s ≡ carryListed n p x → n ≡ m → p ≡ q → x ≡ y → s ≡ carryListed m q y
 carried n m p q x y s e f g h = e ∙ rw (f, g, h)
 
 -- ---- its answer

@@ -30,7 +30,7 @@ use Rattle.logging.proofs.ReadyLaws.{quiet, loud, may, fits-tag}
 
 -- ---- its effect
 
-effect-first : (g : Given) (r : Writer) → r ≡ writerOf (g .state) (g .writer) → holds r ≡ false → storeEffect g ≡ storeFirst g
+pub effect-first : (g : Given) (r : Writer) → r ≡ writerOf (g .state) (g .writer) → holds r ≡ false → storeEffect g ≡ storeFirst g
 unfolding storeEffect
 effect-first g r e h = let k : holds (writerOf (g .state) (g .writer)) ≡ false = ap holds (sym e) ∙ h in rw k
 
@@ -41,7 +41,7 @@ effect-again g r e h m =
     let q : eqb (writerOf (g .state) (g .writer) .home) (g .home) ≡ true = eq-eqb _ _ (ap (λ (x : Writer). x .home) (sym e) ∙ m) in
     rw (k, q)
 
-effect-other : (g : Given) (r : Writer) (st : State) → r ≡ writerOf (g .state) (g .writer) → st ≡ stateOf (g .state) → holds r ≡ true
+pub effect-other : (g : Given) (r : Writer) (st : State) → r ≡ writerOf (g .state) (g .writer) → st ≡ stateOf (g .state) → holds r ≡ true
     → r .home ≢ g .home → storeEffect g ≡ storeOther g r (nextPosition st)
 unfolding storeEffect
 effect-other g r st e es h m =

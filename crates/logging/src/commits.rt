@@ -57,7 +57,7 @@ fn keep_newest(log: &[u8], newest: &mut [u8], st: State, r: Writer)
 }
 
 // The closing entry, with the places promised to the writer given back, the newest positions kept, and those of the list of rights carried over.
-fn commit_held(
+pub fn commit_held(
     log: &mut [u8],
     state: &mut [u8],
     newest: &mut [u8],

@@ -3,7 +3,7 @@ mod blocks;
 mod newest;
 
 use answers::Reply;
-use blocks::show;
+pub use blocks::show;
 ghost use mathlib.Core.Path.{_≡_};
 ghost use mathlib.Core.List.{[]};
 ghost use Rattle.model.specs.Questions.{readAnswer};

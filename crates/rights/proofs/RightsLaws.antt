@@ -314,6 +314,26 @@ module _ (log area state : List ℕ) (st : State) (u : Usable log area state) (e
       kept-at : (i : ℕ) → keptFor newest (8 + i) ≡ number 8 newest (64 + 8 * i)
       kept-at i = let z : 8 * (8 + i) ≡ 64 + 8 * i = omega arith in rw z
 
+  pub newest-listed : (newest : List ℕ) (writer home : ℕ) (b : Bool) → b ≡ ofList home → b ≡ true
+      → eqb writer 0 ≡ mayStore (homesIn (length area)) (readList (lentAll log area state newest [] [] writer home)) writer home
+  unfolding mayStore
+  newest-listed newest writer home b e t = rw (sym e ∙ t)
+
+  pub newest-open : (newest : List ℕ) (writer home : ℕ) (b r : Bool) → b ≡ ofList home → b ≡ false
+      → r ≡ opens (st .homes) (blocksBy log area st newest 64 4) (32 * writer) home
+      → r ≡ mayStore (homesIn (length area)) (readList (lentAll log area state newest [] [] writer home)) writer home
+  unfolding mayStore readList opens keptFor
+  newest-open newest writer home b r e t q =
+      q
+      ∙ rw (
+        sym e ∙ t,
+        list-same (lentAll log area state newest [] [] writer home) st es (u .order) newest 64 (λ i. keptFor newest (8 + i)) kept-at 4,
+        homes-by,
+      )
+    where
+      kept-at : (i : ℕ) → keptFor newest (8 + i) ≡ number 8 newest (64 + 8 * i)
+      kept-at i = let z : 8 * (8 + i) ≡ 64 + 8 * i = omega arith in rw z
+
 -- ---- neither the block nor the batch is asked
 
 module _ (log area state newest block batch : List ℕ) (writer home : ℕ) where

@@ -11,6 +11,7 @@ ghost use Prim.Native.Nat.{_*_, _<_};
 ghost use lib.ListN.{length};
 ghost use Rattle.model.specs.Layout.{homesIn};
 ghost use Rattle.model.specs.State.{stateOf};
+ghost use Rattle.model.specs.Rights.{mayStore, readList};
 ghost use Rattle.model.specs.Questions.{storeAllowed, readAllowed};
 ghost use Rattle.answers.specs.Lent.{lent, lentAll};
 ghost use Rattle.answers.proofs.AnswerLaws.{Usable};
@@ -51,4 +52,23 @@ pub fn may_read(
         32 * writer as usize + 16,
         home,
     )
+}
+
+// Whether a writer may store to a home, for a call that is lent the newest positions: the list is found by those.
+pub fn may_store_newest(
+    log: &[u8],
+    area: &[u8],
+    state: &[u8],
+    newest: &[u8],
+    st: State,
+    writer: u64,
+    home: u64,
+) -> bool
+    requires { ⌜ Usable (now log) (now area) (now state) × (st ≡ stateOf (now state)) × (writer < 8) × (length (now newest) ≡ 8 * homesIn (length (now area))) ⌝ }
+    ensures { λ r. ⌜ r ≡ mayStore (homesIn (length (now (area .entry)))) (readList (lentAll (now (log .entry)) (now (area .entry)) (now (state .entry)) (now (newest .entry)) [] [] writer home)) writer home ⌝ }
+{
+    if of_list(home) {
+        return writer == 0;
+    }
+    open_to(log, area, state, newest, 64, 32 * writer as usize, home)
 }
