@@ -14,7 +14,7 @@ const HOME: u64 = 24;
 pub struct Gravest {
     pub code: u64,
     pub identity: u64,
-    pub class: u64,
+    pub alarm_class: u64,
     pub second: u64,
 }
 
@@ -78,7 +78,7 @@ pub extern "C" fn kagutin_alarm_gravest(
     newest: &[u8],
     writer: u64,
 ) -> Gravest
-    ensures { λ r. ⌜ tells (r .code) (r .identity) (r .class) (r .second) ≡ gravestCall (lentTo (now (log .entry)) (now (area .entry)) (now (state .entry)) (now (newest .entry)) []) writer ⌝ }
+    ensures { λ r. ⌜ tells (r .code) (r .identity) (r .«alarm_class») (r .second) ≡ gravestCall (lentTo (now (log .entry)) (now (area .entry)) (now (state .entry)) (now (newest .entry)) []) writer ⌝ }
 {
     let mut block = [0; 64];
     let read = kagutin::kagutin_fetch(log, area, state, newest, &mut block, writer, HOME);
@@ -86,7 +86,7 @@ pub extern "C" fn kagutin_alarm_gravest(
         return Gravest {
             code: read.code,
             identity: 0,
-            class: 0,
+            alarm_class: 0,
             second: 0,
         };
     }
@@ -94,7 +94,7 @@ pub extern "C" fn kagutin_alarm_gravest(
     Gravest {
         code: 0,
         identity: a.identity,
-        class: a.class,
+        alarm_class: a.class,
         second: a.second,
     }
 }

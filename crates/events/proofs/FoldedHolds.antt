@@ -19,13 +19,13 @@ use Rattle.model.specs.Store.{newStore}
 use Rattle.model.specs.Units.{Act, plain, transacts, fetches, revises, transactEnds, act, acted, ActAllowed, relabel, Label, other, unit, labelOf, lastUnit, Spared, UnitKept}
 use Rattle.model.proofs.bytes.ByteLaws.{length-zeros}
 use Rattle.model.proofs.strip.ChainLaws.{transact-ready}
-use Rattle.model.proofs.steps.DoneLaws.{outcome-code}
-use Rattle.model.proofs.claims.Reached.{begins}
-use Rattle.model.proofs.claims.UnitBooks.{fit-length}
-use Rattle.model.proofs.claims.UnitSteps.{Labelled, apart-home, act-labelled, empty-labelled}
-use Rattle.model.proofs.claims.ActsHold.{refused-stays, revise-stays, Somewhere, act-somewhere}
-use Rattle.model.proofs.claims.FetchReads.{read-at}
-use Rattle.model.proofs.claims.UnitsHold.{act-homes, unit-kept}
+use Rattle.claims.proofs.steps.DoneLaws.{outcome-code}
+use Rattle.claims.proofs.claims.Reached.{begins}
+use Rattle.claims.proofs.claims.UnitBooks.{fit-length}
+use Rattle.claims.proofs.claims.UnitSteps.{Labelled, apart-home, act-labelled, empty-labelled}
+use Rattle.claims.proofs.claims.ActsHold.{refused-stays, revise-stays, Somewhere, act-somewhere}
+use Rattle.claims.proofs.claims.FetchReads.{read-at}
+use Rattle.claims.proofs.claims.UnitsHold.{act-homes, unit-kept}
 use Rattle.events.specs.Offered.{heldAfter, AcceptedFrom}
 use Rattle.events.specs.Folded.{Step, acts, offers, sets, first, noted, AllFit, noteOf, readFor, verdict, storing, actsOf, answered, stepped, ran, notesFrom, notes, StepAllowed, AllStepsAllowed, SparedByAct, SparedByStep, SparedBySteps, JudgedFrom, Folded, EventsFolded, Recorded, Growing, EventsRecorded}
 

@@ -18,7 +18,6 @@ use Rattle.model.specs.Effects.{Given, newState, abortEffect, logClosing, tagsO
 use Rattle.model.specs.Questions.{ask, askNewest, writerKnown, writerOpen, roomFor, room, commitLogs, batchFits, commitAnswer}
 use Rattle.model.specs.Calls.{sizeOf, commitCall}
 use Rattle.model.proofs.bytes.ByteLaws.{puts-nil}
-use Rattle.model.proofs.steps.DoneLaws.{fits}
 use Rattle.model.proofs.strip.OrderLaws.{place-below}
 use Rattle.model.proofs.strip.QuestionLaws.{ask-yes, ask-no, room-true, CommitReady, commit-ready}
 use Rattle.answers.specs.Lent.{lentAll, leavesAll}
@@ -28,6 +27,7 @@ use Rattle.logging.specs.Logs.{MayLog, Fits, loggedClosing, keptBy, Comm
 use Rattle.logging.proofs.CallLaws.{newest-first, ends}
 use Rattle.logging.proofs.LogLaws.{logged-size}
 use Rattle.logging.proofs.ReadyLaws.{quiet, loud, may, fits-tag}
+use Rattle.model.proofs.strip.LoggingLaws.{fits}
 
 -- ---- its effect
 

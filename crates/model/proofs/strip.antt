@@ -9,3 +9,4 @@ pub mod OrderLaws
 pub mod QuestionLaws
 pub mod ChainLaws
 pub mod NewestLaws
+pub mod LoggingLaws
