@@ -15,7 +15,7 @@ use Rattle.alarms.specs.Stored.{firstHome, judged, AlarmsRecorded, Grave
 use Rattle.alarms.proofs.BackLaws.{length-packed, kept-block}
 use Rattle.alarms.proofs.Promised.{grown, kept-none}
 
-filling : Filling firstHome 6 judged heldWith
+pub filling : Filling firstHome 6 judged heldWith
 unfolding judged heldWith applied settled
 filling bs e z = rw (eq-eqb (answer (alarmsOf bs) e) 0 z) (length-packed (after (alarmsOf bs) e))
 

@@ -11,9 +11,10 @@ use Rattle.units.specs.Unit.{Lent, untouched, fetched, transacted}
 use Rattle.units.specs.Shown.{Shown}
 use Rattle.bands.specs.Judge.{depths, judgement}
 use Rattle.bands.specs.Packed.{pack, found}
+use Rattle.bands.specs.Stored.{lastFrom, lastOf}
 use Rattle.bands.proofs.Promised.{promised, blank}
 use Rattle.band_calls.specs.Calls.{tableHome, accepted, setCall, foundIn, lookUpCall}
-use Rattle.band_calls.specs.Claims.{lastFrom, lastOf, Kept, Recording, Claim, Claimed}
+use Rattle.band_calls.specs.Claims.{Kept, Recording, Claim, Claimed}
 
 last-join : (t : Option (List ℕ)) (ts : List (List ℕ)) (strip : List ℕ) → lastFrom t (ts ++ (strip ∷ [])) ≡ some strip
 unfolding lastFrom
@@ -24,11 +25,11 @@ some-same : {a b : List ℕ} → _≡_ {A = Option (List ℕ)} (some a) (some b)
 some-same e = cc
 
 kept-none : Kept [] (zeros 192)
-unfolding zeros lastFrom found
+unfolding zeros lastFrom lastOf found
 kept-none = record { looks = λ mm. blank .refused mm; passed = λ s e. cc }
 
 grows : (ts : List (List ℕ)) (strip : List ℕ) → judgement strip .code ≡ 0 → Kept (ts ++ (strip ∷ [])) (pack strip)
-unfolding found
+unfolding found lastOf
 grows ts strip z =
     let j = last-join none ts strip in
     record {

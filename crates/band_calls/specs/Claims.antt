@@ -13,15 +13,8 @@ use Rattle.bands.specs.Rows.{rows}
 use Rattle.bands.specs.Judge.{judgement}
 use Rattle.bands.specs.Packed.{pack, found, lookUp}
 use Rattle.bands.specs.Promises.{Told}
+use Rattle.bands.specs.Stored.{lastOf}
 use Rattle.band_calls.specs.Calls.{tableHome, setCall, lookUpCall}
-
--- the last table of a list of strips
-unfoldable pub lastFrom : Option (List ℕ) → List (List ℕ) → Option (List ℕ)
-lastFrom t [] = t
-lastFrom t (strip ∷ strips) = lastFrom (some strip) strips
-
-abbrev pub lastOf : List (List ℕ) → Option (List ℕ)
-lastOf ts = lastFrom none ts
 
 -- blocks that hold the last table of a list, an accepted one
 pub record Kept (ts : List (List ℕ)) (blocks : List ℕ) : Type 0 where

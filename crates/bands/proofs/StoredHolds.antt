@@ -25,7 +25,7 @@ kept-none : Kept [] (zeros (64 * 3))
 unfolding lastOf lastFrom zeros
 kept-none = kept-of [] (zeros (64 * 3)) (blank .empty)
 
-filling : Filling firstHome 3 judged stored
+pub filling : Filling firstHome 3 judged stored
 unfolding judged stored
 filling blocks strip z = promised strip .room z
 

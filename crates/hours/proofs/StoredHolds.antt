@@ -16,7 +16,7 @@ use Rattle.hours.specs.Stored.{homeOf, judged, HoursRecorded}
 use Rattle.hours.proofs.BlockLaws.{length-block}
 use Rattle.hours.proofs.Promised.{grown, kept-none}
 
-filling : (pump : ℕ) → Filling (homeOf pump) 1 judged heldWith
+pub filling : (pump : ℕ) → Filling (homeOf pump) 1 judged heldWith
 unfolding judged heldWith applied settled
 filling pump block e z = rw (eq-eqb (answer (pumpOf block) e) 0 z) (length-block (after (pumpOf block) e))
 
