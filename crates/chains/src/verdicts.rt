@@ -160,12 +160,12 @@ pub fn transact_verdict(
     if asked != 0 {
         return asked;
     }
-    let n = (blocks.len() / 64) as u64;
-    if !may_store_all(log, area, state, newest, writer, home, n) {
+    let count = (blocks.len() / 64) as u64;
+    if !may_store_all(log, area, state, newest, writer, home, count) {
         return 19;
     }
     if strip::is_open(strip::writer(state, writer as usize)) {
         return 6;
     }
-    may_log_all(state, strip::state(state), n, batch.len())
+    may_log_all(state, strip::state(state), count, batch.len())
 }
