@@ -20,11 +20,11 @@ unfoldable pub oneIf : Bool → ℕ
 oneIf true = 1
 oneIf false = 0
 
-one-true : oneIf true ≡ 1
+pub one-true : oneIf true ≡ 1
 unfolding oneIf
 one-true = refl
 
-one-false : oneIf false ≡ 0
+pub one-false : oneIf false ≡ 0
 unfolding oneIf
 one-false = refl
 
