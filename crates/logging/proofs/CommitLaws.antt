@@ -13,6 +13,7 @@ use Rattle.model.specs.Batch.{batchBytes}
 use Rattle.model.specs.declared.State.{State}
 use Rattle.model.specs.declared.Writer.{Writer}
 use Rattle.model.specs.State.{stateOf, nextPosition, writerOf, setWriter, setPromise, idle, isOpen, holds, firstFor}
+use Rattle.model.specs.Newest.{carryListed}
 use Rattle.model.specs.Effects.{Given, newState, abortEffect, logClosing, tagsOf, liveBase, keptCommit, commitHeld, commitEffect}
 use Rattle.model.specs.Questions.{ask, askNewest, writerKnown, writerOpen, roomFor, room, commitLogs, batchFits, commitAnswer}
 use Rattle.model.specs.Calls.{sizeOf, commitCall}
@@ -53,6 +54,9 @@ size-held g r st es h k = logged-size (g .state) (g .log) _ _ st es h k
 logs-is : (g : Given) (r : Writer) (t : Bool) → r ≡ writerOf (g .state) (g .writer) → holds r ≡ t → commitLogs g ≡ t
 unfolding commitLogs
 logs-is g r t e h = ap holds (sym e) ∙ h
+
+carried : (n m : ℕ) (p q x y s : List ℕ) → s ≡ carryListed n p x → n ≡ m → p ≡ q → x ≡ y → s ≡ carryListed m q y
+carried n m p q x y s e f g h = e ∙ rw (f, g, h)
 
 -- ---- its answer
 
@@ -164,6 +168,9 @@ module _ (l a s ps b : List ℕ) (v : ℕ) where
       unfolding keptBy keptCommit tagsOf liveBase
       newest-same r st l′ es = rw (es, lentFor .order .groups-same, lentFor .order .homes-same)
 
+      homes-by : (st : State) → st ≡ stateOf s → st .homes ≡ homesIn (length a)
+      homes-by st es = ap (λ (x : State). x .homes) es ∙ lentFor .order .homes-same
+
       pub ends-held : (r : Writer) (t : Bool) (st : State) (n q : ℕ) (s′ p′ l′ b′ : List ℕ) (c figure size : ℕ) → r ≡ writerOf s v → t ≡ holds r
           → not t ≡ false → st ≡ stateOf s → q ≡ nextPosition st → Committed n s′ p′ l′ b′ s ps l b st r v → (c ≡ 0) × (figure ≡ q + 1) × (size ≡ n)
           → leavesAll c figure size l′ a s′ p′ [] b′ ≡ commitCall (lentAll l a s ps [] b v 0)
@@ -174,4 +181,4 @@ module _ (l a s ps b : List ℕ) (v : ℕ) where
           ends (lentAll l a s ps [] b v 0) (commitEffect (lentAll l a s ps [] b v 0)) (commitHeld (lentAll l a s ps [] b v 0) r (nextPosition st)) _ c figure size l′ a
           s′ p′ [] b′
           (effect-held (lentAll l a s ps [] b v 0) r st er es (sym et ∙ not-false t o)) (sym e ∙ z) (y .0) (y .1 ∙ rw eq) (y .2 ∙ d .size ∙ rw (← es))
-          (d .log ∙ rw (← es)) refl (d .state ∙ rw (← es)) (k ∙ rw (← es)) refl (d .batch ∙ rw (← es))
+          (d .log ∙ rw (← es)) refl (carried _ _ _ _ _ _ _ (d .state) (homes-by st es) (k ∙ rw (← es)) (rw (← es))) (k ∙ rw (← es)) refl (d .batch ∙ rw (← es))

@@ -11,7 +11,7 @@ use borrow.Author.Tests.{le-leb, lt-leb, leb-false, not-true, not-false, eq-eqb,
 use Rattle.model.specs.Bytes.{part, puts}
 use Rattle.model.specs.Layout.{groupAt, entryAt}
 use Rattle.model.specs.Commit.{entries}
-use Rattle.model.specs.Newest.{keepEntries}
+use Rattle.model.specs.Newest.{carryListed, keepEntries}
 use Rattle.model.specs.Batch.{GW, recordBytes, batchBytes}
 use Rattle.model.specs.declared.State.{State}
 use Rattle.model.specs.declared.Writer.{Writer}
@@ -183,11 +183,11 @@ module _ (l s b : List ℕ) (st : State) (r : Writer) (w : ℕ) where
       → s′ ≡ setPromise s₁ w k → StoredOther n s′ l′ b′ s l b x st r w home
   stored-used x home n k s₁ s′ l′ b′ ek h e = record { size = h .size; state = e ∙ rw (h .state, ek); log = h .log; batch = h .batch }
 
-  -- and the newest positions
-  pub committed-back : (n : ℕ) (s₁ s′ l′ b′ p p′ : List ℕ) → Closed n s₁ l′ b′ s l b st r w → s′ ≡ setPromise s₁ w 0 → p′ ≡ keptBy l′ st r p
-      → Committed n s′ p′ l′ b′ s p l b st r w
-  committed-back n s₁ s′ l′ b′ p p′ h e k =
-      record { size = h .size; state = e ∙ rw (h .state); newest = k; log = h .log; batch = h .batch }
+  -- and the newest positions, with those of the list
+  pub committed-back : (n : ℕ) (s₁ s₂ s′ l′ b′ p p′ : List ℕ) → Closed n s₁ l′ b′ s l b st r w → s₂ ≡ setPromise s₁ w 0 → p′ ≡ keptBy l′ st r p
+      → s′ ≡ carryListed (st .homes) p′ s₂ → Committed n s′ p′ l′ b′ s p l b st r w
+  committed-back n s₁ s₂ s′ l′ b′ p p′ h e k q =
+      record { size = h .size; state = q ∙ rw (e, h .state); newest = k; log = h .log; batch = h .batch }
 
   -- the stretch of the log from the transaction's first position to the closing one
   pub stretch : (l′ : List ℕ) → MayLog l s b st w → Fits st r (nextPosition st) → length l′ ≡ length l

@@ -14,7 +14,7 @@ use Rattle.model.specs.declared.State.{State}
 use Rattle.model.specs.declared.Writer.{Writer}
 use Rattle.model.specs.State.{stateOf, nextPosition, writerOf, setWriter, setHeld, holding, isOpen, holds}
 use Rattle.model.specs.Effects.{Given, newState, logHeld, storeFirst, storeAgain, storeOther, storeEffect}
-use Rattle.model.specs.Questions.{ask, askBlock, writerKnown, homeKnown, writerOpen, roomFor, room, storeLogs, batchFits, storeAnswer}
+use Rattle.model.specs.Questions.{ask, askBlock, writerKnown, homeKnown, writerOpen, roomFor, room, storeLogs, batchFits, storeAllowed, storeAnswer}
 use Rattle.model.specs.Calls.{sizeOf, storeCall}
 use Rattle.model.proofs.bytes.ByteLaws.{puts-nil}
 use Rattle.model.proofs.steps.DoneLaws.{fits}
@@ -22,6 +22,7 @@ use Rattle.model.proofs.strip.OrderLaws.{place-below}
 use Rattle.model.proofs.strip.QuestionLaws.{ask-yes, ask-no, room-true, StoreReady, store-ready}
 use Rattle.answers.specs.Lent.{lent, leaves}
 use Rattle.answers.proofs.AnswerLaws.{Usable, block-usable, block-refuses, block-passes, block-only, refused-by}
+use Rattle.rights.proofs.RightsLaws.{store-only}
 use Rattle.logging.specs.Logs.{MayLog, Fits, loggedEntry, StoredOther}
 use Rattle.logging.proofs.CallLaws.{block-first, ends}
 use Rattle.logging.proofs.LogLaws.{logged-size}
@@ -108,13 +109,27 @@ module _ (l a s x b : List ℕ) (v h : ℕ) where
           (block-passes (lent l a s x b v h) _ zeroed ∙ ask-yes (ltb v 8) 4 _ (lt-ltb v 8 k)
           ∙ ask-no (ltb h (homesIn (length a))) 5 _ (le-ltb h (homesIn (length a)) (omega arith)))
 
-      module _ (n : ℕ) (r : Writer) (o : Bool) (k : v < 8) (en : n ≡ homesIn (length a)) (m : h < n) (er : r ≡ writerOf s v) (eo : o ≡ isOpen r) where
+      pub right-no : (n : ℕ) (q : Bool) → v < 8 → n ≡ homesIn (length a) → h < n → q ≡ storeAllowed (lent l a s [] [] v h) → not q ≡ true
+          → 19 ≡ storeAnswer (lent l a s x b v h) (sizeOf (storeEffect (lent l a s x b v h)))
+      unfolding storeAnswer writerKnown homeKnown
+      right-no n q k en m eq p =
+          sym
+          (block-passes (lent l a s x b v h) _ zeroed ∙ ask-yes (ltb v 8) 4 _ (lt-ltb v 8 k)
+          ∙ ask-yes (ltb h (homesIn (length a))) 5 _ (lt-ltb h (homesIn (length a)) (omega arith))
+          ∙ ask-no (storeAllowed (lent l a s x b v h)) 19 _ (store-only l a s x b v h ∙ sym eq ∙ not-true q p))
+
+      module _ (n : ℕ) (q : Bool) (r : Writer) (o : Bool) (k : v < 8) (en : n ≡ homesIn (length a)) (m : h < n) (eq : q ≡ storeAllowed (lent l a s [] [] v h))
+          (nq : not q ≡ false) (er : r ≡ writerOf s v) (eo : o ≡ isOpen r) where
+        allowed : storeAllowed (lent l a s x b v h) ≡ true
+        allowed = store-only l a s x b v h ∙ sym eq ∙ not-false q nq
+
         pub open-no : not o ≡ true → 7 ≡ storeAnswer (lent l a s x b v h) (sizeOf (storeEffect (lent l a s x b v h)))
         unfolding storeAnswer writerKnown homeKnown writerOpen
         open-no p =
             sym
             (block-passes (lent l a s x b v h) _ zeroed ∙ ask-yes (ltb v 8) 4 _ (lt-ltb v 8 k)
             ∙ ask-yes (ltb h (homesIn (length a))) 5 _ (lt-ltb h (homesIn (length a)) (omega arith))
+            ∙ ask-yes (storeAllowed (lent l a s x b v h)) 19 _ allowed
             ∙ ask-no (isOpen (writerOf s v)) 7 _ (ap isOpen (sym er) ∙ sym eo ∙ not-true o p))
 
         rest : (size : ℕ) → not o ≡ false
@@ -124,6 +139,7 @@ module _ (l a s x b : List ℕ) (v h : ℕ) where
         rest size p =
             block-passes (lent l a s x b v h) _ zeroed ∙ ask-yes (ltb v 8) 4 _ (lt-ltb v 8 k)
             ∙ ask-yes (ltb h (homesIn (length a))) 5 _ (lt-ltb h (homesIn (length a)) (omega arith))
+            ∙ ask-yes (storeAllowed (lent l a s x b v h)) 19 _ allowed
             ∙ ask-yes (isOpen (writerOf s v)) 7 _ (ap isOpen (sym er) ∙ sym eo ∙ not-false o p)
 
         pub first-yes : (t : Bool) → not o ≡ false → t ≡ holds r → not t ≡ true

@@ -11,7 +11,7 @@ use Rattle.model.specs.declared.Writer.{Writer}
 use Rattle.model.specs.Tag.{entryWord, closingWord}
 use Rattle.model.specs.Layout.{entryAt}
 use Rattle.model.specs.Commit.{entries}
-use Rattle.model.specs.Newest.{keepEntries}
+use Rattle.model.specs.Newest.{carryListed, keepEntries}
 use Rattle.model.specs.Effects.{Logged, logged, linkFrom}
 use Rattle.model.specs.declared.Tag.{Tag}
 
@@ -73,7 +73,7 @@ pub record StoredOther (n : ℕ) (s l b : List ℕ) (s₀ l₀ b₀ x : List ℕ
   pub log : l ≡ loggedEntry s₀ l₀ st r w .log
   pub batch : b ≡ puts b₀ 0 (batchBytes (loggedEntry s₀ l₀ st r w .records))
 
--- a commit that logs the held block: the closing entry, and with the promise given back and the newest positions kept
+-- a commit that logs the held block: the closing entry, and with the promise given back, the newest positions kept and those of the list carried over
 pub record Closed (n : ℕ) (s l b : List ℕ) (s₀ l₀ b₀ : List ℕ) (st : State) (r : Writer) (w : ℕ) : Type 0 where
   pub size : n ≡ length (batchBytes (loggedClosing s₀ l₀ st r w .records))
   pub state : s ≡ setWriter (setLast (loggedClosing s₀ l₀ st r w .state) (nextPosition st + 1)) w idle
@@ -88,7 +88,8 @@ keptBy log st r newest =
 
 pub record Committed (n : ℕ) (s p l b : List ℕ) (s₀ p₀ l₀ b₀ : List ℕ) (st : State) (r : Writer) (w : ℕ) : Type 0 where
   pub size : n ≡ length (batchBytes (loggedClosing s₀ l₀ st r w .records))
-  pub state : s ≡ setPromise (setWriter (setLast (loggedClosing s₀ l₀ st r w .state) (nextPosition st + 1)) w idle) w 0
+  pub state : s
+      ≡ carryListed (st .homes) p (setPromise (setWriter (setLast (loggedClosing s₀ l₀ st r w .state) (nextPosition st + 1)) w idle) w 0)
   pub newest : p ≡ keptBy l st r p₀
   pub log : l ≡ loggedClosing s₀ l₀ st r w .log
   pub batch : b ≡ puts b₀ 0 (batchBytes (loggedClosing s₀ l₀ st r w .records))

@@ -56,7 +56,7 @@ fn keep_newest(log: &[u8], newest: &mut [u8], st: State, r: Writer)
     positions::keep_entries(log, st.groups, st.homes, st.start, first, position, newest)
 }
 
-// The closing entry, with the places promised to the writer given back and the newest positions kept.
+// The closing entry, with the places promised to the writer given back, the newest positions kept, and those of the list of rights carried over.
 fn commit_held(
     log: &mut [u8],
     state: &mut [u8],
@@ -72,6 +72,7 @@ fn commit_held(
     let size = close_held(log, state, batch, st, r, w);
     strip::set_promise(state, w, 0);
     keep_newest(log, newest, st, r);
+    strip::carry_listed(state, newest, st.homes);
     size
 }
 

@@ -90,6 +90,10 @@ fn store_verdict(
     if home >= areas::data_homes(area.len()) {
         return 5;
     }
+    let st = strip::state(state);
+    if !rights::may_store(log, area, state, st, writer, home) {
+        return 19;
+    }
     let r = strip::writer(state, writer as usize);
     if !strip::is_open(r) {
         return 7;
@@ -100,7 +104,7 @@ fn store_verdict(
     if r.home == home {
         return 0;
     }
-    may_log(state, strip::state(state), writer as usize, batch.len())
+    may_log(state, st, writer as usize, batch.len())
 }
 
 // Holds a block for a home in a writer's open transaction; a block held for another home is logged first.

@@ -1,61 +1,41 @@
 -- Laws for read: the entry that a writer sees, found layer by layer, and the block that is shown. Assumes nothing.
 use mathlib.Core.Path.{_≡_, refl, sym, ap, _∙_}
-use mathlib.Core.Bool.{Bool, true, false, cond, _&&_, and-false}
+use mathlib.Core.Bool.{Bool, true, false, cond, not}
 use mathlib.Core.List.{List}
 use mathlib.Core.Option.{Option, none, some}
-use Prim.Native.Nat.{ℕ, zero, suc, _+_, _-_, _*_, _/_, _%_, _≤_, _<_}
+use Prim.Native.Nat.{ℕ, _+_, _-_, _*_, _^_, _≤_, _<_}
 use native.Mathlib.Omega.{arith}
-use lib.Dec.{leb, ltb, eqb}
-use lib.ListN.{length, take, drop}
-use borrow.Author.Tests.{ltb-true, lt-ltb, le-ltb, leb-true, le-leb, lt-leb}
+use lib.Dec.{ltb, eqb}
+use lib.ListN.{length}
+use borrow.Author.Tests.{not-true, not-false, ltb-true, lt-ltb, le-ltb, leb-true}
 use Rattle.model.specs.Bytes.{part, puts}
-use Rattle.model.specs.Layout.{groupAt, slotOf, indexOf, blockOf, blockAt, homesIn, homeAt, turnOf, wordThere, groupValid, entryIn, entryAt}
+use Rattle.model.specs.Layout.{blockAt, homesIn, homeAt}
 use Rattle.model.specs.Commit.{members, newestIn, orElse}
-use Rattle.model.specs.Tag.{present, homeOf, readTag}
 use Rattle.model.specs.Newest.{keptFor}
 use Rattle.model.specs.State.{stateOf, nextPosition, writerOffset, writerOf, heldOf, holds, hasLogged, holdsHome}
 use Rattle.model.specs.declared.State.{State}
-use Rattle.model.specs.declared.Tag.{Tag}
-use Rattle.model.specs.declared.Tag.the-variants.{Nothing, Entry, Closing}
 use Rattle.model.specs.declared.Writer.{Writer}
-use Rattle.model.specs.Effects.{Given, groups, homes, tagsOf, liveTags, liveBase, newestOwn, blockOr, ownElse, isThere, keptPosition, shown, readEffect}
+use Rattle.model.specs.Effects.{Given, groups, homes, tagsOf, liveTags, liveBase, newestOwn, blockOr, ownElse, keptPosition, shown, readEffect}
 use Rattle.model.specs.Batch.{batchBytes}
-use Rattle.model.specs.Questions.{writerKnown, homeKnown, askBoth, readAnswer}
+use Rattle.model.specs.Questions.{writerKnown, homeKnown, readAllowed, askBoth, readAnswer}
 use Rattle.model.specs.Calls.{readCall}
 use Rattle.model.proofs.bytes.ByteLaws.{puts-nil, puts-whole, length-part}
-use Rattle.model.proofs.trace.ReplayLaws.{length-blockAt}
-use Rattle.model.proofs.strip.OrderLaws.{InOrder, next-within}
+use Rattle.model.proofs.strip.OrderLaws.{InOrder}
 use Rattle.answers.proofs.AnswerLaws.{Usable, refused-by, done-by}
 use Rattle.answers.proofs.NewestAnswers.{both-refuses, both-passes, both-zero, both-usable}
 use Rattle.answers.specs.Lent.{leavesAll}
 use Rattle.model.proofs.strip.QuestionLaws.{ask-yes, ask-no, ask-passed}
 use Rattle.scan.specs.Members.{Stretch}
-use Rattle.scan.specs.declared.slots.RingSlot.{RingSlot}
-use Rattle.scan.specs.Slots.{Kept}
-use Rattle.scan.proofs.GroupLaws.{part-group}
+use Rattle.shown.specs.There.{tagsBy, thereBy, Searchable}
+use Rattle.shown.proofs.ThereLaws.{there-same, there-below}
 use Rattle.search.specs.Codes.{codeOf}
-use Rattle.reading.specs.Newest.{tagsBy, ownEntry, entryThere, keptEntry, seenEntry, Searchable}
+use Rattle.reading.specs.Newest.{ownEntry, keptEntry, seenEntry}
 use Rattle.reading.specs.Shown.{readBlock}
 
--- ---- what a usable store gives the search
+-- ---- the numbers of a usable strip
 
-pub searchable : (log area state : List ℕ) (st : State) (home : ℕ) → Usable log area state → st ≡ stateOf state → home < homesIn (length area)
-    → Searchable log st home
-unfolding nextPosition
-searchable log area state st home u e h =
-    let o = u .order in
-    rw e
-    (record {
-      long = omega arith;
-      least = omega arith;
-      most = omega arith;
-      homes-most = omega arith;
-      low = o .start-most;
-      next = refl;
-      first = omega arith;
-      within = rw (o .groups-same) (next-within state _ _ o);
-      known = omega arith;
-    })
+pub home-known : (log area state : List ℕ) (st : State) (home : ℕ) → Usable log area state → st ≡ stateOf state → home < homesIn (length area) → home < st .homes
+home-known log area state st home u e h = rw e (omega (arith, u .order .homes-same))
 
 pub own-first : (log area state : List ℕ) (st : State) (r : Writer) (w : ℕ) → Usable log area state → st ≡ stateOf state → r ≡ writerOf state w → w < 8
     → 3 ≤ r .mode → (7 * st .start ≤ r .first) × (r .first < nextPosition st)
@@ -73,11 +53,6 @@ unfolding codeOf
 code-some none x e n = absurd (n e)
 code-some (some p) x e n = let q : p ≡ x - 1 = omega arith in ap some q
 
-code-cond : (b : Bool) (p : ℕ) → cond b (p + 1) 0 ≡ codeOf (cond b (some p) none)
-unfolding codeOf
-code-cond true p = refl
-code-cond false p = refl
-
 -- ---- a writer's own entries
 
 pub own-none : (log : List ℕ) (st : State) (r : Writer) (home : ℕ) (b : Bool) → b ≡ hasLogged r → b ≡ false → 0 ≡ codeOf (ownEntry log st r home)
@@ -94,10 +69,10 @@ own-mode : (r : Writer) (b : Bool) → b ≡ hasLogged r → b ≡ true → 3 �
 unfolding hasLogged
 own-mode r b e f = leb-true 3 (r .mode) (sym e ∙ f)
 
-pub own-stretch : (log : List ℕ) (st : State) (r : Writer) (home end : ℕ) (b : Bool) → Searchable log st home
+pub own-stretch : (log : List ℕ) (st : State) (r : Writer) (end : ℕ) (b : Bool) → Searchable log st
     → (3 ≤ r .mode → (7 * st .start ≤ r .first) × (r .first < nextPosition st)) → b ≡ hasLogged r → b ≡ true → end ≡ nextPosition st
     → Stretch log (st .groups) (st .start) (r .first) end
-own-stretch log st r home end b s p e f g =
+own-stretch log st r end b s p e f g =
     let k = p (own-mode r b e f) in
     record {
       long = s .long;
@@ -109,52 +84,19 @@ own-stretch log st r home end b s p e f g =
       within = omega (arith, s .within);
     }
 
--- ---- the entry at a position
-
--- what stands there, by the part of the log that is its group
-module _ (log : List ℕ) (st : State) (p : ℕ) (at : RingSlot) (from : ℕ) (v : Bool) (q : Kept (st .groups) (p / 7) at) (f : from ≡ 64 + 512 * at .slot)
-    (e : v ≡ groupValid (take (from + 512 - from) (drop from log)) (st .groups) (st .start) (p / 7)) where
-  there-tag : tagsBy log st p ≡ cond v (readTag (wordThere (take (from + 512 - from) (drop from log)) (at .turn) (p % 7)) p (7 * st .start) (st .homes)) Nothing
-  unfolding entryAt entryIn slotOf indexOf
-  there-tag =
-      let a : take (from + 512 - from) (drop from log) ≡ groupAt log (p / 7 % st .groups) = part-group log (at .slot) from f ∙ ap (groupAt log) (q .same) in
-      rw (e, a, q .turn)
-
-  pub there-none : v ≡ false → tagsBy log st p ≡ Nothing
-  there-none h = there-tag ∙ rw h
-
-  pub there-some : (t : Tag) → v ≡ true → t ≡ readTag (wordThere (take (from + 512 - from) (drop from log)) (at .turn) (p % 7)) p (7 * st .start) (st .homes)
-      → tagsBy log st p ≡ t
-  there-some t h k = there-tag ∙ rw (h, k)
-
-module _ (log : List ℕ) (st : State) (home p : ℕ) where
-  pub there-hole : tagsBy log st p ≡ Nothing → 0 ≡ codeOf (entryThere log st home p)
-  unfolding entryThere codeOf present
-  there-hole e = rw e
-
-  pub there-entry : (h f x : ℕ) → tagsBy log st p ≡ Entry h f → x ≡ cond (eqb h home) (p + 1) 0 → x ≡ codeOf (entryThere log st home p)
-  unfolding entryThere present homeOf
-  there-entry h f x e q = rw (e) (q ∙ code-cond (eqb h home) p)
-
-  pub there-closing : (h f l c x : ℕ) → tagsBy log st p ≡ Closing h f l c → x ≡ cond (eqb h home) (p + 1) 0 → x ≡ codeOf (entryThere log st home p)
-  unfolding entryThere present homeOf
-  there-closing h f l c x e q = rw (e) (q ∙ code-cond (eqb h home) p)
-
 -- ---- the entry at the kept position
 
-module _ (log newest : List ℕ) (st : State) (home p : ℕ) (e : p ≡ keptFor newest home) where
-  pub kept-before : p < 7 * st .start → 0 ≡ codeOf (keptEntry log newest st home)
+module _ (log newest : List ℕ) (st : State) (home p : ℕ) (b : Bool) (e : p ≡ keptFor newest home) (t : b ≡ thereBy log st home p) where
+  pub kept-none : b ≡ false → 0 ≡ codeOf (keptEntry log newest st home)
   unfolding keptEntry codeOf
-  kept-before h = rw (← e, lt-leb (7 * st .start) p h)
+  kept-none f = rw (← e, sym t ∙ f)
 
-  pub kept-past : (n : ℕ) → n ≡ nextPosition st → n ≤ p → 0 ≡ codeOf (keptEntry log newest st home)
+  pub kept-some : b ≡ true → p + 1 ≡ codeOf (keptEntry log newest st home)
   unfolding keptEntry codeOf
-  kept-past n f h = let k : ltb p (nextPosition st) ≡ false = le-ltb p (nextPosition st) (omega arith) in rw (← e) (simp (k, and-false))
+  kept-some f = rw (← e, sym t ∙ f)
 
-  pub kept-within : (n x : ℕ) → n ≡ nextPosition st → 7 * st .start ≤ p → p < n → x ≡ codeOf (entryThere log st home p)
-      → x ≡ codeOf (keptEntry log newest st home)
-  unfolding keptEntry
-  kept-within n x f h k q = q ∙ rw (← e, le-leb (7 * st .start) p h, lt-ltb p (nextPosition st) (omega arith))
+  pub kept-low : Searchable log st → b ≡ true → p + 1 < 2 ^ 64
+  kept-low s f = omega (arith, there-below log st home p (sym t ∙ f), s .within, s .low, s .most)
 
 -- ---- the entry that a writer sees
 
@@ -180,12 +122,6 @@ held-copied block state w e l h =
     let q : length (part state (128 + 96 * w + 32) 64) ≡ 64 = length-part state (128 + 96 * w + 32) 64 (omega arith) in
     puts-whole block (part state (128 + 96 * w + 32) 64) (omega arith)
 
-pub entry-copied : (block log : List ℕ) (groups p : ℕ) → length block ≡ 64 → length log ≡ 64 + 512 * groups → 0 < groups
-    → puts block 0 (blockOf (groupAt log (p / 7 % groups)) (p % 7)) ≡ blockAt log groups p
-unfolding blockAt slotOf indexOf
-entry-copied block log groups p e l h =
-    puts-whole block (blockOf (groupAt log (p / 7 % groups)) (p % 7)) (omega (arith, length-blockAt log groups p h l))
-
 -- ---- a home that is held
 
 pub held-other : (r : Writer) (home : ℕ) (b : Bool) → b ≡ holds r → b ≡ false → false ≡ holdsHome r home
@@ -203,25 +139,9 @@ module _ (g : Given) (st : State) (r : Writer) (es : st ≡ stateOf (g .state)) 
   unfolding newestOwn ownEntry liveTags tagsOf liveBase
   own-same o = rw (es, o .groups-same, o .homes-same)
 
-  tags-same : InOrder (g .state) (groups g) (homes g) → (p : ℕ) → liveTags g p ≡ tagsBy (g .log) st p
-  unfolding liveTags tagsOf
-  tags-same o p = rw (es, o .groups-same, o .homes-same)
-
-  base-same : liveBase g ≡ 7 * st .start
-  unfolding liveBase
-  base-same = rw es
-
   kept-same : InOrder (g .state) (groups g) (homes g) → keptPosition g ≡ keptEntry (g .log) (g .newest) st (g .home)
-  unfolding keptPosition isThere keptEntry entryThere
-  kept-same o =
-      let p : ℕ = keptFor (g .newest) (g .home) in
-      rw (tags-same o, base-same, ← es)
-      (go (leb (7 * st .start) p) (ltb p (nextPosition st)) (present (tagsBy (g .log) st p)) (eqb (homeOf (tagsBy (g .log) st p)) (g .home)) p)
-    where
-      go : (a b c d : Bool) (p : ℕ) → cond (a && b && c && d) (some p) none ≡ cond (a && b) (cond (c && d) (some p) none) none
-      go true true c d p = refl
-      go true false c d p = refl
-      go false b c d p = refl
+  unfolding keptPosition keptEntry
+  kept-same o = rw (there-same g st es o (keptFor (g .newest) (g .home)))
 
   pub shown-held : (b : Bool) (d : List ℕ) → b ≡ holdsHome r (g .home) → b ≡ true → d ≡ heldOf (g .state) (g .writer) → d ≡ readBlock g
   unfolding ownElse
@@ -270,12 +190,24 @@ module _ (g : Given) where
   pub home-refused : askBoth g 0 ≡ 0 → g .writer < 8 → homes g ≤ g .home → 5 ≡ readAnswer g
   unfolding readAnswer writerKnown homeKnown
   home-refused e w h =
-      sym (both-passes g _ e ∙ ask-yes (ltb (g .writer) 8) 4 _ (lt-ltb (g .writer) 8 w) ∙ ask-no (ltb (g .home) (homes g)) 5 0 (le-ltb (g .home) (homes g) h))
+      sym (both-passes g _ e ∙ ask-yes (ltb (g .writer) 8) 4 _ (lt-ltb (g .writer) 8 w) ∙ ask-no (ltb (g .home) (homes g)) 5 _ (le-ltb (g .home) (homes g) h))
 
-  pub none-refused : askBoth g 0 ≡ 0 → g .writer < 8 → g .home < homes g → 0 ≡ readAnswer g
-  unfolding readAnswer writerKnown homeKnown
-  none-refused e w h =
-      sym (both-passes g _ e ∙ ask-yes (ltb (g .writer) 8) 4 _ (lt-ltb (g .writer) 8 w) ∙ ask-yes (ltb (g .home) (homes g)) 5 0 (lt-ltb (g .home) (homes g) h))
+  module _ (e : askBoth g 0 ≡ 0) (w : g .writer < 8) (h : g .home < homes g) (b : Bool) (q : b ≡ readAllowed g) where
+    pub right-refused : not b ≡ true → 20 ≡ readAnswer g
+    unfolding readAnswer writerKnown homeKnown
+    right-refused n =
+        sym
+        (both-passes g _ e ∙ ask-yes (ltb (g .writer) 8) 4 _ (lt-ltb (g .writer) 8 w)
+        ∙ ask-yes (ltb (g .home) (homes g)) 5 _ (lt-ltb (g .home) (homes g) h)
+        ∙ ask-no (readAllowed g) 20 0 (sym q ∙ not-true b n))
+
+    pub none-refused : not b ≡ false → 0 ≡ readAnswer g
+    unfolding readAnswer writerKnown homeKnown
+    none-refused n =
+        sym
+        (both-passes g _ e ∙ ask-yes (ltb (g .writer) 8) 4 _ (lt-ltb (g .writer) 8 w)
+        ∙ ask-yes (ltb (g .home) (homes g)) 5 _ (lt-ltb (g .home) (homes g) h)
+        ∙ ask-yes (readAllowed g) 20 0 (sym q ∙ not-false b n))
 
   -- what a read that none refuses is lent
   pub ready : readAnswer g ≡ 0 → Usable (g .log) (g .area) (g .state) × (length (g .block) ≡ 64) × (length (g .newest) ≡ 8 * homes g) × (g .writer < 8) × (g .home < homes g)
@@ -285,7 +217,7 @@ module _ (g : Given) where
       let b = both-usable g a in
       let r = sym (both-passes g _ a) ∙ e in
       let w = ask-passed (ltb (g .writer) 8) 3 _ r in
-      let h = ask-passed (ltb (g .home) (homes g)) 4 0 (w .1) in
+      let h = ask-passed (ltb (g .home) (homes g)) 4 _ (w .1) in
       (b .0, b .1, b .2, ltb-true (g .writer) 8 (w .0), ltb-true (g .home) (homes g) (h .0))
 
   -- how a read ends

@@ -3,9 +3,9 @@ use crate::newest::seen;
 use model::Writer;
 ghost use mathlib.Core.Path.{_≡_};
 ghost use mathlib.Core.List.{[]};
-ghost use Prim.Native.Nat.{_+_, _*_, _<_, _≤_};
+ghost use Prim.Native.Nat.{_*_, _<_};
 ghost use lib.ListN.{length};
-ghost use Rattle.model.specs.Layout.{homesIn, blockAt};
+ghost use Rattle.model.specs.Layout.{homesIn};
 ghost use Rattle.model.specs.State.{heldOf, holdsHome};
 ghost use Rattle.answers.specs.Lent.{lentAll};
 ghost use Rattle.answers.proofs.AnswerLaws.{Usable};
@@ -27,16 +27,6 @@ fn show_held(block: &mut [u8], state: &[u8], w: usize)
     ensures { λ _. ⌜ now (block .exit) ≡ heldOf (now (state .entry)) w ⌝ }
 {
     areas::copy_block(block, 0, state, 128 + 96 * w + 32)
-}
-
-// Copies the block that the entry at a position gives.
-fn show_entry(block: &mut [u8], log: &[u8], groups: u64, position: u64)
-    requires { ⌜ (length (now block) ≡ 64) × (length (now log) ≡ 64 + 512 * groups) × (0 < groups) ⌝ }
-    ensures { λ _. ⌜ now (block .exit) ≡ blockAt (now (log .entry)) groups position ⌝ }
-{
-    let slot = (position / 7 % groups) as usize;
-    let k = (position % 7) as usize;
-    areas::copy_entry(block, 0, log, slot, k)
 }
 
 // Copies the block of a home that a writer sees.
@@ -64,5 +54,5 @@ pub fn show(
         areas::get_home(block, area, home as usize);
         return;
     }
-    show_entry(block, log, st.groups, entry - 1)
+    shown::show_entry(block, log, st.groups, entry - 1)
 }

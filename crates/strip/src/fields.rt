@@ -1,10 +1,11 @@
 // The numbers of the state strip but those of the writers, eight bytes each.
+use crate::listed::set_listed;
 use model::State;
 ghost use mathlib.Core.Path.{_≡_};
 ghost use Prim.Native.Nat.{_+_, _*_, _^_, _<_};
 ghost use lib.ListN.{length};
 ghost use Rattle.model.specs.Bytes.{zeros};
-ghost use Rattle.model.specs.State.{stateBytes, stateOf, setGroups, setHomes, setStart, setNext, setFilled, setSettled, setFenced, setDurable, setLast, setRound, setCursor, nextPosition, freshState};
+ghost use Rattle.model.specs.State.{stateBytes, stateOf, setGroups, setHomes, setStart, setNext, setFilled, setSettled, setFenced, setDurable, setLast, setRound, setCursor, nextPosition, freshNumbers, freshState};
 
 // Reads the eleven numbers of the strip `s`.
 pub fn state(s: &[u8]) -> State
@@ -141,10 +142,10 @@ fn clear(s: &mut [u8])
     codec::clear(s, 0, 1024)
 }
 
-// Makes `s` the strip of an opened store whose log is empty at the group number `start`.
-pub fn fresh(s: &mut [u8], groups: u64, homes: u64, start: u64)
+// Makes `s` the numbers of an opened store whose log is empty at the group number `start`, and else zeros.
+fn fresh_numbers(s: &mut [u8], groups: u64, homes: u64, start: u64)
     requires { ⌜ (length (now s) ≡ 1024) × (7 * start < 2 ^ 64) ⌝ }
-    ensures { λ _. ⌜ now (s .exit) ≡ freshState groups homes start ⌝ }
+    ensures { λ _. ⌜ now (s .exit) ≡ freshNumbers groups homes start ⌝ }
 {
     clear(s);
     set_groups(s, groups);
@@ -155,4 +156,13 @@ pub fn fresh(s: &mut [u8], groups: u64, homes: u64, start: u64)
     set_settled(s, position);
     set_fenced(s, position);
     set_durable(s, position);
+}
+
+// Makes `s` the strip of an opened store whose log is empty at the group number `start`: no position of the list of rights is kept.
+pub fn fresh(s: &mut [u8], groups: u64, homes: u64, start: u64)
+    requires { ⌜ (length (now s) ≡ 1024) × (7 * start < 2 ^ 64) ⌝ }
+    ensures { λ _. ⌜ now (s .exit) ≡ freshState groups homes start ⌝ }
+{
+    fresh_numbers(s, groups, homes, start);
+    set_listed(s, &[255u8; 32]);
 }

@@ -1,5 +1,6 @@
-// The state strip of 1,024 bytes as model/specs/State defines it: its numbers, its writers' records, held blocks and promises, and whether it is in order.
+// The state strip of 1,024 bytes as model/specs/State defines it: its numbers, its writers' records, held blocks and promises, the positions of the list of rights, and whether it is in order.
 mod fields;
+mod listed;
 mod order;
 mod promises;
 mod writers;
@@ -16,6 +17,7 @@ pub use fields::set_round;
 pub use fields::set_settled;
 pub use fields::set_start;
 pub use fields::state;
+pub use listed::carry_listed;
 pub use order::in_order;
 pub use order::numbers_in_order;
 pub use order::writer_in_order;

@@ -11,7 +11,7 @@ use Rattle.model.specs.Bytes.{puts}
 use Rattle.model.specs.Layout.{maxStart, header, entryAt}
 use Rattle.model.specs.Commit.{committed}
 use Rattle.model.specs.State.{stateOf, nextPosition, setStart, setFenced, setLast}
-use Rattle.model.specs.Newest.{forget}
+use Rattle.model.specs.Newest.{forget, carryListed}
 use Rattle.model.specs.Batch.{KW, FN, recordBytes, batchBytes}
 use Rattle.model.specs.Effects.{Given, groups, homes, newState, tagsOf, liveTags, liveBase, noneOpenBefore, mayStart, largest, trimStart, trimTo, trimEffect}
 use Rattle.model.specs.Questions.{startFits, batchFits, askNewest, trimAnswer}
@@ -192,13 +192,14 @@ module _ (g : Given) where
       rw (length-append, length-append, l, length-FN)
 
   moved-ends : (start v code figure size : ℕ) (log state newest batch : List ℕ) → v ≡ 0 → code ≡ 0 → figure ≡ 0 → size ≡ 68
-      → log ≡ puts (g .log) 0 (header start (groups g) (homes g)) → state ≡ movedStrip (g .state) (stateOf (g .state)) start
+      → log ≡ puts (g .log) 0 (header start (groups g) (homes g)) → state ≡ carryListed (homes g) newest (movedStrip (g .state) (stateOf (g .state)) start)
       → newest ≡ forget (g .newest) (7 * start) (homes g)
       → batch ≡ puts (g .batch) 0 (batchBytes (KW (header start (groups g) (homes g)) ∷ FN ∷ []))
       → leavesAll code figure size log (g .area) state newest (g .block) batch ≡ outcome g v (trimTo g (stateOf (g .state)) start)
   unfolding trimTo movedStrip keptLast sizeOf
   moved-ends start v code figure size log state newest batch z h f s p q k t =
-      done-by g (trimTo g (stateOf (g .state)) start) v code figure size log (g .area) state newest (g .block) batch z h f (s ∙ sym (moved-size start)) p refl q k refl t
+      done-by g (trimTo g (stateOf (g .state)) start) v code figure size log (g .area) state newest (g .block) batch z h f (s ∙ sym (moved-size start)) p refl
+      (q ∙ ap (λ (x : List ℕ). carryListed (homes g) x (movedStrip (g .state) (stateOf (g .state)) start)) k) k refl t
 
   pub batch-refused : (start code figure size : ℕ) → askNewest g 0 ≡ 0 → start ≡ trimStart g → start ≤ 2 ^ 47 → (start ≡ stateOf (g .state) .start → ⊥)
       → length (g .batch) < 68 → code ≡ 9 → figure ≡ 0 → size ≡ 0
@@ -214,7 +215,7 @@ module _ (g : Given) where
 
   pub start-moved : (st : State) (start code figure size : ℕ) (log state newest batch : List ℕ) → Usable (g .log) (g .area) (g .state) → askNewest g 0 ≡ 0
       → st ≡ stateOf (g .state) → start ≡ trimStart g → start ≤ 2 ^ 47 → (start ≡ st .start → ⊥) → 68 ≤ length (g .batch) → code ≡ 0
-      → figure ≡ 0 → size ≡ 68 → log ≡ puts (g .log) 0 (header start (st .groups) (st .homes)) → state ≡ movedStrip (g .state) st start
+      → figure ≡ 0 → size ≡ 68 → log ≡ puts (g .log) 0 (header start (st .groups) (st .homes)) → state ≡ carryListed (st .homes) newest (movedStrip (g .state) st start)
       → newest ≡ forget (g .newest) (7 * start) (st .homes)
       → batch ≡ puts (g .batch) 0 (batchBytes (KW (header start (st .groups) (st .homes)) ∷ FN ∷ []))
       → leavesAll code figure size log (g .area) state newest (g .block) batch ≡ trimCall g
@@ -228,4 +229,4 @@ module _ (g : Given) where
       rw (← e, moved start (λ z. n (z ∙ sym (ap (λ (x : State). x .start) es))))
       (moved-ends start _ code figure size log state newest batch
       (newest-passes g _ a ∙ ask-yes (leb start maxStart) 10 _ (le-leb start maxStart l) ∙ y)
-      h f s (rw (eg, ed) at p) (rw es at q) (rw ed at k) (rw (eg, ed) at t))
+      h f s (rw (eg, ed) at p) ((rw es at q) ∙ ap (λ (x : ℕ). carryListed x newest (movedStrip (g .state) (stateOf (g .state)) start)) (o .homes-same)) (rw ed at k) (rw (eg, ed) at t))

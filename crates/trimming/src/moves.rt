@@ -6,7 +6,7 @@ ghost use Prim.Native.Nat.{_*_, _^_, _≤_, _<_};
 ghost use lib.ListN.{length};
 ghost use Rattle.model.specs.Bytes.{puts};
 ghost use Rattle.model.specs.Layout.{header};
-ghost use Rattle.model.specs.Newest.{forget};
+ghost use Rattle.model.specs.Newest.{forget, carryListed};
 ghost use Rattle.model.specs.Batch.{KW, FN, batchBytes};
 ghost use Rattle.trimming.specs.Moved.{keptLast, movedStrip};
 
@@ -38,7 +38,7 @@ fn write_header(batch: &mut [u8], groups: u64, homes: u64, start: u64)
     batch::fence(batch, at);
 }
 
-// Moves the start: the batch, the header in the log copy, the strip, and the newest positions.
+// Moves the start: the batch, the header in the log copy, the strip, and the newest positions, with those of the list of rights carried over.
 pub fn move_start(
     log: &mut [u8],
     state: &mut [u8],
@@ -49,7 +49,7 @@ pub fn move_start(
 )
     requires { ⌜ (64 ≤ length (now log)) × (length (now state) ≡ 1024) × (length (now newest) ≡ 8 * st .homes) × (68 ≤ length (now batch)) × (start ≤ 2 ^ 47) × (7 * st .next < 2 ^ 64) ⌝ }
     ensures { λ _. ⌜ (now (log .exit) ≡ puts (now (log .entry)) 0 (header start (st .groups) (st .homes)))
-        × (now (state .exit) ≡ movedStrip (now (state .entry)) st start)
+        × (now (state .exit) ≡ carryListed (st .homes) (now (newest .exit)) (movedStrip (now (state .entry)) st start))
         × (now (newest .exit) ≡ forget (now (newest .entry)) (7 * start) (st .homes))
         × (now (batch .exit) ≡ puts (now (batch .entry)) 0 (batchBytes (KW (header start (st .groups) (st .homes)) ∷ FN ∷ []))) ⌝ }
 {
@@ -57,4 +57,5 @@ pub fn move_start(
     areas::put_header(log, 0, start, st.groups, st.homes);
     move_strip(state, st, start);
     positions::forget(newest, 7 * start, st.homes as usize);
+    strip::carry_listed(state, newest, st.homes);
 }

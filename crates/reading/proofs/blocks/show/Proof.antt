@@ -2,7 +2,8 @@
 use borrow.Author.Needs.{needs}
 use native.Mathlib.Omega.{arith}
 use Rattle.answers.proofs.NewestAnswers.{newest-fits}
-use Rattle.reading.proofs.ReadLaws.{searchable, own-first, shown-held, shown-home, shown-entry}
+use Rattle.shown.proofs.ThereLaws.{searchable}
+use Rattle.reading.proofs.ReadLaws.{home-known, own-first, shown-held, shown-home, shown-entry}
 use Rattle.reading.proofs.blocks.show.Statement.{statement}
 use Rattle.reading.proofs.blocks.show.Tie as tie
 
@@ -27,9 +28,10 @@ returns c =
 
 seen-requires : tie.Need-seen-requires
 seen-requires c κs = (
-  (searchable _ _ _ _ _ (c .before .before .before .before .before .before .before .before .before .pre .0) (c .before .before .before .state .ensures) (c .before .before .before .before .before .before .before .before .before .pre .4)),
+  searchable _ _ _ _ (c .before .before .before .before .before .before .before .before .before .pre .0) (c .before .before .before .state .ensures),
   newest-fits _ _ _ _ _ (c .before .before .before .before .before .before .before .before .before .pre .0) (c .before .before .before .state .ensures) (c .before .before .before .before .before .before .before .before .before .pre .2),
   own-first _ _ _ _ _ _ (c .before .before .before .before .before .before .before .before .before .pre .0) (c .before .before .before .state .ensures) (c .before .before .writer .ensures) (c .before .before .before .before .before .before .before .before .before .pre .3),
+  home-known _ _ _ _ _ (c .before .before .before .before .before .before .before .before .before .pre .0) (c .before .before .before .state .ensures) (c .before .before .before .before .before .before .before .before .before .pre .4),
 )
 
 get-home-requires : tie.Need-get-home-requires
@@ -48,7 +50,7 @@ sub-show-entry c = search needs
 
 show-entry-requires : tie.Need-show-entry-requires
 show-entry-requires c κs =
-    let s = (searchable _ _ _ _ _ (c .before .before .before .before .before .before .before .before .before .before .before .before .pre .0) (c .before .before .before .before .before .before .state .ensures) (c .before .before .before .before .before .before .before .before .before .before .before .before .pre .4)) in omega (arith, s)
+    let s = searchable _ _ _ _ (c .before .before .before .before .before .before .before .before .before .before .before .before .pre .0) (c .before .before .before .before .before .before .state .ensures) in omega (arith, s)
 
 same-length-3 : tie.Need-same-length-3
 same-length-3 c = search needs

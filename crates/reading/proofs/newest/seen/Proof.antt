@@ -11,7 +11,7 @@ returns : tie.Need-returns
 returns c = seen-own _ _ _ _ _ _ (c .before .own-entry .ensures) (c .if1 .taken)
 
 kept-entry-requires : tie.Need-kept-entry-requires
-kept-entry-requires c κs = (c .before .before .before .before .pre .0, c .before .before .before .before .pre .1)
+kept-entry-requires c κs = (c .before .before .before .before .pre .0, c .before .before .before .before .pre .1, c .before .before .before .before .pre .3)
 
 returns-2 : tie.Need-returns-2
 returns-2 c = seen-kept _ _ _ _ _ _ (c .before .before .own-entry .ensures) _ (c .before .if1 .left) (c .kept-entry .ensures)

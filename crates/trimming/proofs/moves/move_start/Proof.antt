@@ -1,6 +1,6 @@
 -- `trimming::move_start` meets its contract. Assumes nothing.
 use borrow.Author.Needs.{needs}
-use native.Mathlib.Omega.{arith}
+use mathlib.Core.Path.{_∙_}
 use Rattle.trimming.proofs.moves.move_start.Statement.{statement}
 use Rattle.trimming.proofs.moves.move_start.Tie as tie
 
@@ -14,10 +14,13 @@ move-strip-requires : tie.Need-move-strip-requires
 move-strip-requires c κs = search needs
 
 mul-forget : tie.Need-mul-forget
-mul-forget c = omega arith
+mul-forget c = search needs
 
 forget-requires : tie.Need-forget-requires
-forget-requires c κs = omega arith
+forget-requires c κs = search needs
+
+carry-listed-requires : tie.Need-carry-listed-requires
+carry-listed-requires c κs = search needs
 
 same-length : tie.Need-same-length
 same-length c = search needs
@@ -32,8 +35,7 @@ same-length-4 : tie.Need-same-length-4
 same-length-4 c = search needs
 
 returns : tie.Need-returns
-returns c =
-    (c .before .before .before .before .before .before .before .before .before .before .put-header .ensures, c .before .before .before .before .before .before .move-strip .ensures, c .before .before .forget .ensures, c .before .before .before .before .before .before .before .before .before .before .before .before .before .before .write-header .ensures)
+returns c = (c .before .before .before .before .before .before .before .before .before .before .before .before .before .before .before .put-header .ensures, c .before .before .carry-listed .ensures ∙ rw (c .before .before .before .before .before .before .before .before .before .before .before .move-strip .ensures), c .before .before .before .before .before .before .before .forget .ensures, c .before .before .before .before .before .before .before .before .before .before .before .before .before .before .before .before .before .before .before .write-header .ensures)
 
 pub move-start-spec : {M : Type 1} → statement M
 move-start-spec =
@@ -44,6 +46,7 @@ move-start-spec =
     move-strip-requires
     mul-forget
     forget-requires
+    carry-listed-requires
     same-length
     same-length-2
     same-length-3

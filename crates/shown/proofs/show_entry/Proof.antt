@@ -1,12 +1,12 @@
--- `reading::show_entry` meets its contract. Assumes nothing.
+-- `shown::show_entry` meets its contract. Assumes nothing.
 use mathlib.Core.Path.{_∙_}
 use Prim.Native.Nat.{_/_, _%_, _<_}
 use native.Mathlib.Nat.{mod-lt}
 use native.Mathlib.Omega.{arith}
 use borrow.Author.Needs.{needs}
-use Rattle.reading.proofs.ReadLaws.{entry-copied}
-use Rattle.reading.proofs.blocks.show_entry.Statement.{statement}
-use Rattle.reading.proofs.blocks.show_entry.Tie as tie
+use Rattle.shown.proofs.ThereLaws.{entry-copied}
+use Rattle.shown.proofs.show_entry.Statement.{statement}
+use Rattle.shown.proofs.show_entry.Tie as tie
 
 -- the ring slot is one of the log's
 slot : (c : tie.After-copy-entry-arg)

@@ -1,0 +1,345 @@
+-- Laws of the list of rights: its blocks, its ranges in one block, and when it is none. Assumes nothing.
+use mathlib.Core.Path.{_≡_, refl, sym, ap, _∙_}
+use mathlib.Core.Bool.{Bool, true, false, cond, not, _&&_, _||_}
+use mathlib.Core.List.{List, [], _∷_, _++_}
+use mathlib.Core.Option.{none, some}
+use Prim.Native.Nat.{ℕ, zero, suc, _+_, _-_, _*_, _/_, _%_, _^_, _≤_, _<_}
+use native.Mathlib.Omega.{arith}
+use borrow.Author.Tests.{eqb-true, eqb-false, le-leb, lt-leb}
+use lib.Dec.{eqb, leb, ltb}
+use lib.ListN.{length, length-append, replicate}
+use Rattle.model.specs.Bytes.{part, zeros, number, same}
+use Rattle.model.specs.Layout.{groupsIn, homesIn, blockAt, homeAt}
+use Rattle.model.specs.State.{stateOf, listedOf, nextPosition}
+use Rattle.model.specs.declared.State.{State}
+use Rattle.model.specs.Newest.{keptFor}
+use Rattle.model.specs.Effects.{Given, groups, homes, tagsOf, liveTags, liveBase, blockOr, isThere}
+use Rattle.model.specs.Rights.{forHome, shownAt, listBy, storeList, readList, ofList, isList, inRange, inRanges, mayStore, mayRead}
+use Rattle.model.specs.Questions.{storeAllowed, readAllowed}
+use Rattle.model.proofs.bytes.ByteLaws.{length-part, number-part, part-whole}
+use Rattle.model.proofs.bytes.LayoutLaws.{part-after, part-of-front}
+use Rattle.model.proofs.trace.ReplayLaws.{length-blockAt}
+use Rattle.model.proofs.strip.OrderLaws.{InOrder}
+use Rattle.answers.specs.Lent.{lent, lentAll}
+use Rattle.answers.proofs.AnswerLaws.{Usable}
+use Rattle.shown.specs.There.{thereBy, shownBy, Searchable}
+use Rattle.shown.proofs.ThereLaws.{searchable, shown-same, kept-past}
+use Rattle.rights.specs.Listed.{Listed, blockBy, blocksBy, opens}
+
+-- ---- ranges in a part
+
+range-part : (xs : List ℕ) (a o home : ℕ) → o + 4 ≤ 64 → inRange xs (a + o) home ≡ inRange (part xs a 64) o home
+unfolding inRange
+range-part xs a o home h =
+    let e : a + o + 2 ≡ a + (o + 2) = omega arith in
+    rw (number-part 2 xs a 64 o (omega arith), number-part 2 xs a 64 (o + 2) (omega arith), e)
+
+pub ranges-part : (xs : List ℕ) (a o home n : ℕ) → o + 4 * n ≤ 64 → inRanges xs (a + o) home n ≡ inRanges (part xs a 64) o home n
+unfolding inRanges
+ranges-part xs a o home zero h = refl
+ranges-part xs a o home (suc n) h =
+    let e : a + o + 4 * n ≡ a + (o + 4 * n) = omega arith in
+    rw (ranges-part xs a o home n (omega arith), e, range-part xs a (o + 4 * n) home (omega arith))
+
+-- ---- a range as it is tested
+
+module _ (xs : List ℕ) (at home first : ℕ) (e : first ≡ number 2 xs at) where
+  pub range-before : home < first → false ≡ inRange xs at home
+  unfolding inRange
+  range-before h = rw (← e, lt-leb first home h)
+
+  pub range-within : (n : ℕ) → n ≡ number 2 xs (at + 2) → first ≤ home → ltb home (first + n) ≡ inRange xs at home
+  unfolding inRange
+  range-within n q h = rw (← e, ← q, le-leb first home h)
+
+pub list-before : (home : ℕ) → home < 8 → false ≡ ofList home
+unfolding ofList
+list-before home h = rw (lt-leb 8 home h)
+
+pub list-within : (home : ℕ) → 8 ≤ home → ltb home 12 ≡ ofList home
+unfolding ofList
+list-within home h = rw (le-leb 8 home h)
+
+-- four ranges, one after the other
+four-ranges : (xs : List ℕ) (at home : ℕ)
+    → inRanges xs at home 4 ≡ (((inRange xs at home || inRange xs (at + 4) home) || inRange xs (at + 8) home) || inRange xs (at + 12) home)
+unfolding inRanges
+four-ranges xs at home = let e : at + 0 ≡ at = omega arith in rw e
+
+module _ (xs : List ℕ) (at home : ℕ) (a : Bool) (ea : a ≡ inRange xs at home) where
+  pub ranges-first : a ≡ true → true ≡ inRanges xs at home 4
+  ranges-first t = sym (four-ranges xs at home ∙ rw (sym ea ∙ t))
+
+  module _ (b : Bool) (eb : b ≡ inRange xs (at + 4) home) (fa : a ≡ false) where
+    pub ranges-second : b ≡ true → true ≡ inRanges xs at home 4
+    ranges-second t = sym (four-ranges xs at home ∙ rw (sym ea ∙ fa, sym eb ∙ t))
+
+    module _ (c : Bool) (ec : c ≡ inRange xs (at + 8) home) (fb : b ≡ false) where
+      pub ranges-third : c ≡ true → true ≡ inRanges xs at home 4
+      ranges-third t = sym (four-ranges xs at home ∙ rw (sym ea ∙ fa, sym eb ∙ fb, sym ec ∙ t))
+
+      pub ranges-fourth : (d : Bool) → d ≡ inRange xs (at + 12) home → c ≡ false → d ≡ inRanges xs at home 4
+      ranges-fourth d ed fc = ed ∙ sym (four-ranges xs at home ∙ rw (sym ea ∙ fa, sym eb ∙ fb, sym ec ∙ fc))
+
+-- ---- zeros in a row
+
+zeros-append : (xs ys : List ℕ) (m n : ℕ) → length xs ≡ m → same (xs ++ ys) (zeros (m + n)) ≡ (same xs (zeros m) && same ys (zeros n))
+unfolding same zeros
+zeros-append [] ys zero n h = let e : 0 + n ≡ n = omega arith in rw e
+zeros-append [] ys (suc m) n h = absurd (omega arith)
+zeros-append (x ∷ xs) ys zero n h = absurd (omega arith)
+zeros-append (x ∷ xs) ys (suc m) n h =
+    let e : suc m + n ≡ suc (m + n) = omega arith in
+    rw e (go (eqb x 0) (zeros-append xs ys m n (omega arith)))
+  where
+    go : (b : Bool) → same (xs ++ ys) (replicate (m + n) 0) ≡ (same xs (replicate m 0) && same ys (replicate n 0))
+        → (b && same (xs ++ ys) (replicate (m + n) 0)) ≡ ((b && same xs (replicate m 0)) && same ys (replicate n 0))
+    go true q = q
+    go false q = refl
+
+-- ---- the blocks
+
+module _ (log area : List ℕ) (st : State) (kept : List ℕ) (from : ℕ) (x : Listed log area st kept from) (d : 12 ≤ st .homes) where
+  length-block : (i : ℕ) → i < 4 → length (blockBy log area st kept from i) ≡ 64
+  unfolding blockBy shownBy homeAt
+  length-block i h = go (thereBy log st (8 + i) (number 8 kept (from + 8 * i)))
+    where
+      go : (b : Bool) → length (cond b (blockAt log (st .groups) (number 8 kept (from + 8 * i))) (part area (64 * (8 + i)) 64)) ≡ 64
+      go true = length-blockAt log (st .groups) _ (omega (arith, x .search .least)) (x .search .long)
+      go false = length-part area (64 * (8 + i)) 64 (omega (arith, x .long))
+
+  length-blocks : (n : ℕ) → n ≤ 4 → length (blocksBy log area st kept from n) ≡ 64 * n
+  unfolding blocksBy
+  length-blocks zero h = refl
+  length-blocks (suc n) h = rw (length-append, length-blocks n (omega arith), length-block n (omega arith)) (omega arith)
+
+  block-part : (n i : ℕ) → n ≤ 4 → i < n → part (blocksBy log area st kept from n) (64 * i) 64 ≡ blockBy log area st kept from i
+  unfolding blocksBy
+  block-part zero i l h = absurd (omega arith)
+  block-part (suc n) i l h = go (eqb i n) refl (block-part n i (omega arith))
+    where
+      go : (b : Bool) → eqb i n ≡ b → (i < n → part (blocksBy log area st kept from n) (64 * i) 64 ≡ blockBy log area st kept from i)
+          → part (blocksBy log area st kept from n ++ blockBy log area st kept from n) (64 * i) 64 ≡ blockBy log area st kept from i
+      go true t f =
+          let e : i ≡ n = eqb-true i n t in
+          let z : 64 * n ≡ 64 * n + 0 = omega arith in
+          rw (e, z)
+          (part-after (blocksBy log area st kept from n) (blockBy log area st kept from n) (64 * n) 0 64 (length-blocks n (omega arith))
+          ∙ part-whole (blockBy log area st kept from n) 64 (omega (arith, length-block n (omega arith))))
+      go false t f =
+          let k : i < n = omega (arith, eqb-false i n t) in
+          sym (part-of-front (blocksBy log area st kept from n) (blockBy log area st kept from n) (64 * n) (64 * i) 64 (length-blocks n (omega arith)) (omega arith)) ∙ f k
+
+  -- the four ranges of a writer lie in one block
+  ranges-own : (at home : ℕ) → at < 256 → at % 64 + 16 ≤ 64
+      → inRanges (blocksBy log area st kept from 4) at home 4 ≡ inRanges (blockBy log area st kept from (at / 64)) (at % 64) home 4
+  ranges-own at home h k =
+      let e : at ≡ 64 * (at / 64) + at % 64 = omega arith in
+      let q : inRanges (blocksBy log area st kept from 4) at home 4 ≡ inRanges (blocksBy log area st kept from 4) (64 * (at / 64) + at % 64) home 4 =
+      ap (λ (a : ℕ). inRanges (blocksBy log area st kept from 4) a home 4) e in
+      q ∙ ranges-part (blocksBy log area st kept from 4) (64 * (at / 64)) (at % 64) home 4 (omega arith)
+      ∙ ap (λ (xs : List ℕ). inRanges xs (at % 64) home 4) (block-part 4 (at / 64) (omega arith) (omega arith))
+
+  zero-more : (n : ℕ) → n < 4
+      → same (blocksBy log area st kept from (suc n)) (zeros (64 * n + 64))
+      ≡ (same (blocksBy log area st kept from n) (zeros (64 * n)) && same (blockBy log area st kept from n) (zeros 64))
+  unfolding blocksBy
+  zero-more n h = zeros-append _ _ (64 * n) 64 (length-blocks n (omega arith))
+
+  none-none : same (blocksBy log area st kept from 0) (zeros 0) ≡ true
+  unfolding blocksBy zeros same
+  none-none = refl
+
+  four-zeros : (a b c e : Bool) → a ≡ same (blockBy log area st kept from 0) (zeros 64) → b ≡ same (blockBy log area st kept from 1) (zeros 64)
+      → c ≡ same (blockBy log area st kept from 2) (zeros 64) → e ≡ same (blockBy log area st kept from 3) (zeros 64)
+      → (a && (b && (c && e))) ≡ same (blocksBy log area st kept from 4) (zeros 256)
+  four-zeros a b c e p q r s =
+      sym (zero-more 3 (omega arith) ∙ rw (zero-more 2 (omega arith), zero-more 1 (omega arith), zero-more 0 (omega arith), none-none, ← p, ← q, ← r, ← s) (go a b c e))
+    where
+      go : (a b c e : Bool) → ((((true && a) && b) && c) && e) ≡ (a && (b && (c && e)))
+      go true true c e = refl
+      go true false c e = refl
+      go false b c e = refl
+
+  module _ (a : Bool) (ea : a ≡ same (blockBy log area st kept from 0) (zeros 64)) where
+    pub zeros-first : a ≡ false → false ≡ same (blocksBy log area st kept from 4) (zeros 256)
+    zeros-first f = rw f at (four-zeros a _ _ _ ea refl refl refl)
+
+    module _ (b : Bool) (eb : b ≡ same (blockBy log area st kept from 1) (zeros 64)) (ta : a ≡ true) where
+      pub zeros-second : b ≡ false → false ≡ same (blocksBy log area st kept from 4) (zeros 256)
+      zeros-second f = rw (ta, f) at (four-zeros a b _ _ ea eb refl refl)
+
+      module _ (c : Bool) (ec : c ≡ same (blockBy log area st kept from 2) (zeros 64)) (tb : b ≡ true) where
+        pub zeros-third : c ≡ false → false ≡ same (blocksBy log area st kept from 4) (zeros 256)
+        zeros-third f = rw (ta, tb, f) at (four-zeros a b c _ ea eb ec refl)
+
+        pub zeros-fourth : (e : Bool) → e ≡ same (blockBy log area st kept from 3) (zeros 64) → c ≡ true
+            → e ≡ same (blocksBy log area st kept from 4) (zeros 256)
+        zeros-fourth e ee tc = rw (ta, tb, tc) at (four-zeros a b c e ea eb ec ee)
+
+  -- ---- the answer in the order in which it is asked
+
+  pub open-ranges : (at home : ℕ) (b : Bool) → at < 256 → at % 64 + 16 ≤ 64
+      → b ≡ inRanges (blockBy log area st kept from (at / 64)) (at % 64) home 4 → b ≡ true
+      → true ≡ opens (st .homes) (blocksBy log area st kept from 4) at home
+  unfolding opens
+  open-ranges at home b h k e t =
+      let q : inRanges (blocksBy log area st kept from 4) at home 4 ≡ true = ranges-own at home h k ∙ sym e ∙ t in
+      rw q (go (isList (st .homes) (blocksBy log area st kept from 4)))
+    where
+      go : (a : Bool) → true ≡ (not a || true)
+      go true = refl
+      go false = refl
+
+  pub open-none : (at home : ℕ) (b z : Bool) → at < 256 → at % 64 + 16 ≤ 64
+      → b ≡ inRanges (blockBy log area st kept from (at / 64)) (at % 64) home 4 → b ≡ false
+      → z ≡ same (blocksBy log area st kept from 4) (zeros 256)
+      → z ≡ opens (st .homes) (blocksBy log area st kept from 4) at home
+  unfolding opens isList
+  open-none at home b z h k e t r =
+      let q : inRanges (blocksBy log area st kept from 4) at home 4 ≡ false = ranges-own at home h k ∙ sym e ∙ t in
+      rw (q, le-leb 12 (st .homes) d, ← r) (go z)
+    where
+      go : (z : Bool) → z ≡ (not (not z) || false)
+      go true = refl
+      go false = refl
+
+-- none is kept: no log has such a position
+pub none-kept : (log : List ℕ) (st : State) (home p : ℕ) → Searchable log st → p ≡ 2 ^ 64 - 1 → false ≡ thereBy log st home p
+none-kept log st home p s e = kept-past log st home p (nextPosition st) refl (omega (arith, s .within, s .low, s .most))
+
+-- the number of groups by the length of the log
+module _ (log : List ℕ) (st : State) (n : ℕ) (s : Searchable log st) (e : n ≡ groupsIn (length log)) where
+  groups-by : n ≡ st .groups
+  unfolding groupsIn
+  groups-by = omega (arith, s .long)
+
+  pub groups-fit : (length log ≡ 64 + 512 * n) × (0 < n)
+  groups-fit = (omega (arith, s .long, groups-by), omega (arith, s .least, groups-by))
+
+  pub shown-groups : (p : ℕ) (d : List ℕ) → d ≡ blockAt log n p → d ≡ blockAt log (st .groups) p
+  shown-groups p d q = q ∙ ap (λ (k : ℕ). blockAt log k p) groups-by
+
+-- D too small for a list
+pub open-small : (homes : ℕ) (list : List ℕ) (at home : ℕ) → homes < 12 → true ≡ opens homes list at home
+unfolding opens isList
+open-small homes list at home h = rw (lt-leb 12 homes h)
+
+-- ---- a block that is shown
+
+module _ (log area : List ℕ) (st : State) (kept : List ℕ) (from i p : ℕ) (b : Bool) (e : p ≡ number 8 kept (from + 8 * i))
+    (t : b ≡ thereBy log st (8 + i) p) where
+  pub block-home : b ≡ false → blockBy log area st kept from i ≡ part area (64 * (8 + i)) 64
+  unfolding blockBy shownBy homeAt
+  block-home f = rw (← e, ← t, f)
+
+  pub block-entry : b ≡ true → blockBy log area st kept from i ≡ blockAt log (st .groups) p
+  unfolding blockBy shownBy
+  block-entry f = rw (← e, ← t, f)
+
+  -- zeros, and ranges, as they are tested in it
+  pub zero-home : (r : Bool) → b ≡ false → r ≡ same (part area (64 * (8 + i)) 64) (zeros 64) → r ≡ same (blockBy log area st kept from i) (zeros 64)
+  zero-home r f q = q ∙ rw (block-home f)
+
+  pub zero-entry : (r : Bool) (d : List ℕ) → b ≡ true → d ≡ blockAt log (st .groups) p → length d ≡ 64 → r ≡ same (part d 0 64) (zeros 64)
+      → r ≡ same (blockBy log area st kept from i) (zeros 64)
+  zero-entry r d f s l q = q ∙ rw (block-entry f, part-whole d 64 (omega arith), s)
+
+  pub ranges-home : (r : Bool) (o home : ℕ) → b ≡ false → o + 16 ≤ 64 → r ≡ inRanges area (64 * (8 + i) + o) home 4
+      → r ≡ inRanges (blockBy log area st kept from i) o home 4
+  ranges-home r o home f h q = q ∙ ranges-part area (64 * (8 + i)) o home 4 h ∙ rw (block-home f)
+
+  pub ranges-entry : (r : Bool) (d : List ℕ) (o home : ℕ) → b ≡ true → d ≡ blockAt log (st .groups) p → r ≡ inRanges d o home 4
+      → r ≡ inRanges (blockBy log area st kept from i) o home 4
+  ranges-entry r d o home f s q = q ∙ rw (block-entry f, s)
+
+-- ---- by what a call is lent
+
+module _ (g : Given) (st : State) (es : st ≡ stateOf (g .state)) (o : InOrder (g .state) (groups g) (homes g)) (kept : List ℕ) (from : ℕ) (by : ℕ → ℕ)
+    (q : (i : ℕ) → by i ≡ number 8 kept (from + 8 * i)) where
+  list-same : (n : ℕ) → listBy g by n ≡ blocksBy (g .log) (g .area) st kept from n
+  unfolding listBy blocksBy blockBy forHome
+  list-same zero = refl
+  list-same (suc n) = rw (list-same n, q n, shown-same (forHome g (8 + n)) st es o)
+
+module _ (log area state : List ℕ) (st : State) (u : Usable log area state) (es : st ≡ stateOf state) where
+  pub listed-state : Listed log area st state 896
+  listed-state =
+      record {
+        search = searchable log area state st u es;
+        long = rw es (omega (arith, u .area-length, u .order .homes-same));
+        holds = λ d. omega (arith, u .state-length);
+        low = omega arith;
+      }
+
+  pub listed-newest : (newest : List ℕ) → length newest ≡ 8 * homesIn (length area) → Listed log area st newest 64
+  listed-newest newest l =
+      let h : st .homes ≡ homesIn (length area) = ap (λ (s : State). s .homes) es ∙ u .order .homes-same in
+      record {
+        search = searchable log area state st u es;
+        long = rw es (omega (arith, u .area-length, u .order .homes-same));
+        holds = λ d. omega (arith, h);
+        low = omega arith;
+      }
+
+  homes-by : st .homes ≡ homesIn (length area)
+  homes-by = ap (λ (s : State). s .homes) es ∙ u .order .homes-same
+
+  pub store-listed : (writer home : ℕ) (b : Bool) → b ≡ ofList home → b ≡ true → eqb writer 0 ≡ storeAllowed (lent log area state [] [] writer home)
+  unfolding storeAllowed mayStore
+  store-listed writer home b e t = rw (sym e ∙ t)
+
+  pub store-open : (writer home : ℕ) (b r : Bool) → b ≡ ofList home → b ≡ false
+      → r ≡ opens (st .homes) (blocksBy log area st state 896 4) (32 * writer) home → r ≡ storeAllowed (lent log area state [] [] writer home)
+  unfolding storeAllowed mayStore storeList opens listedOf
+  store-open writer home b r e t q =
+      q ∙ rw (sym e ∙ t, list-same (lent log area state [] [] writer home) st es (u .order) state 896 (listedOf state) (λ i. refl) 4, homes-by)
+
+  pub read-listed : (newest : List ℕ) (writer home : ℕ) (b : Bool) → b ≡ ofList home → b ≡ true
+      → true ≡ readAllowed (lentAll log area state newest [] [] writer home)
+  unfolding readAllowed mayRead
+  read-listed newest writer home b e t = rw (sym e ∙ t)
+
+  pub read-open : (newest : List ℕ) (writer home : ℕ) (b r : Bool) → b ≡ ofList home → b ≡ false
+      → r ≡ opens (st .homes) (blocksBy log area st newest 64 4) (32 * writer + 16) home → r ≡ readAllowed (lentAll log area state newest [] [] writer home)
+  unfolding readAllowed mayRead readList opens keptFor
+  read-open newest writer home b r e t q =
+      q
+      ∙ rw (
+        sym e ∙ t,
+        list-same (lentAll log area state newest [] [] writer home) st es (u .order) newest 64 (λ i. keptFor newest (8 + i)) kept-at 4,
+        homes-by,
+      )
+    where
+      kept-at : (i : ℕ) → keptFor newest (8 + i) ≡ number 8 newest (64 + 8 * i)
+      kept-at i = let z : 8 * (8 + i) ≡ 64 + 8 * i = omega arith in rw z
+
+-- ---- neither the block nor the batch is asked
+
+module _ (log area state newest block batch : List ℕ) (writer home : ℕ) where
+  shown-only : (h p : ℕ)
+      → shownAt (forHome (lentAll log area state newest block batch writer home) h) p ≡ shownAt (forHome (lentAll log area state newest [] [] writer home) h) p
+  unfolding shownAt forHome isThere blockOr liveTags tagsOf liveBase
+  shown-only h p = go (isThere (forHome (lentAll log area state newest [] [] writer home) h) p)
+    where
+      go : (b : Bool)
+          → blockOr (forHome (lentAll log area state newest block batch writer home) h) (cond b (some p) none) (homeAt area h)
+          ≡ blockOr (forHome (lentAll log area state newest [] [] writer home) h) (cond b (some p) none) (homeAt area h)
+      go true = refl
+      go false = refl
+
+  list-only : (by : ℕ → ℕ) (n : ℕ)
+      → listBy (lentAll log area state newest block batch writer home) by n ≡ listBy (lentAll log area state newest [] [] writer home) by n
+  unfolding listBy
+  list-only by zero = refl
+  list-only by (suc n) = rw (list-only by n, shown-only (8 + n) (by n))
+
+  pub read-only : readAllowed (lentAll log area state newest block batch writer home) ≡ readAllowed (lentAll log area state newest [] [] writer home)
+  unfolding readAllowed readList
+  read-only = ap (λ (xs : List ℕ). mayRead (homesIn (length area)) xs writer home) (list-only _ 4)
+
+pub store-only : (log area state block batch : List ℕ) (writer home : ℕ)
+    → storeAllowed (lent log area state block batch writer home) ≡ storeAllowed (lent log area state [] [] writer home)
+unfolding storeAllowed storeList
+store-only log area state block batch writer home =
+    ap (λ (xs : List ℕ). mayStore (homesIn (length area)) xs writer home) (list-only log area state [] block batch writer home (listedOf state) 4)

@@ -1,0 +1,29 @@
+-- The list of rights over the numbers of the strip, block by block, with its homes' positions kept in a list of bytes from an index on.
+use mathlib.Core.Path.{_≡_}
+use mathlib.Core.Bool.{Bool, not, _||_}
+use mathlib.Core.List.{List, [], _++_}
+use Prim.Native.Nat.{ℕ, zero, suc, _+_, _*_, _^_, _≤_, _<_}
+use lib.ListN.{length}
+use Rattle.model.specs.Bytes.{number}
+use Rattle.model.specs.Rights.{isList, inRanges}
+use Rattle.model.specs.declared.State.{State}
+use Rattle.shown.specs.There.{shownBy, Searchable}
+
+-- block i of it, and the first n
+unfoldable pub blockBy : List ℕ → List ℕ → State → List ℕ → ℕ → ℕ → List ℕ
+blockBy log area st kept from i = shownBy log area st (8 + i) (number 8 kept (from + 8 * i))
+
+unfoldable pub blocksBy : List ℕ → List ℕ → State → List ℕ → ℕ → ℕ → List ℕ
+blocksBy log area st kept from zero = []
+blocksBy log area st kept from (suc n) = blocksBy log area st kept from n ++ blockBy log area st kept from n
+
+-- no list, or a home lies in one of the four ranges from a byte on
+unfoldable pub opens : ℕ → List ℕ → ℕ → ℕ → Bool
+opens homes list at home = not (isList homes list) || inRanges list at home 4
+
+-- copies and positions in which the list can be looked up, where D is large enough for it
+pub record Listed (log area : List ℕ) (st : State) (kept : List ℕ) (from : ℕ) : Type 0 where
+  pub search : Searchable log st
+  pub long : length area ≡ 64 * st .homes
+  pub holds : 12 ≤ st .homes → from + 32 ≤ length kept
+  pub low : from < 2 ^ 32

@@ -1,0 +1,44 @@
+// Homes and ranges of homes: first home and number of homes, 16 bits each.
+ghost use mathlib.Core.Path.{_≡_};
+ghost use Prim.Native.Nat.{_+_, _≤_};
+ghost use lib.ListN.{length};
+ghost use Rattle.model.specs.Rights.{ofList, inRange, inRanges};
+
+// Whether a home is one of the list's own.
+pub fn of_list(home: u64) -> bool
+    ensures { λ r. ⌜ r ≡ ofList home ⌝ }
+{
+    if home < 8 {
+        return false;
+    }
+    home < 12
+}
+
+// Whether a home lies in the range at index `at`.
+fn in_range(s: &[u8], at: usize, home: u64) -> bool
+    requires { ⌜ at + 4 ≤ length (now s) ⌝ }
+    ensures { λ r. ⌜ r ≡ inRange (now (s .entry)) at home ⌝ }
+{
+    let first = codec::number(s, at, 2);
+    if home < first {
+        return false;
+    }
+    home < first + codec::number(s, at + 2, 2)
+}
+
+// Whether a home lies in one of the four ranges from index `at` on.
+pub fn in_ranges(s: &[u8], at: usize, home: u64) -> bool
+    requires { ⌜ at + 16 ≤ length (now s) ⌝ }
+    ensures { λ r. ⌜ r ≡ inRanges (now (s .entry)) at home 4 ⌝ }
+{
+    if in_range(s, at, home) {
+        return true;
+    }
+    if in_range(s, at + 4, home) {
+        return true;
+    }
+    if in_range(s, at + 8, home) {
+        return true;
+    }
+    in_range(s, at + 12, home)
+}

@@ -1,0 +1,134 @@
+-- Laws of what a home shows: the entry at its kept position, layer by layer, and the block. Assumes nothing.
+use mathlib.Core.Path.{_≡_, refl, sym, ap, _∙_}
+use mathlib.Core.Bool.{Bool, true, false, cond, _&&_, and-false, false≢true}
+use mathlib.Core.List.{List}
+use mathlib.Core.Option.{Option, none, some}
+use Prim.Native.Nat.{ℕ, _+_, _-_, _*_, _/_, _%_, _≤_, _<_}
+use native.Mathlib.Omega.{arith}
+use lib.Dec.{leb, ltb, eqb}
+use lib.ListN.{length, take, drop}
+use borrow.Author.Tests.{ltb-true, lt-ltb, le-ltb, leb-true, le-leb, lt-leb}
+use Rattle.model.specs.Bytes.{part, puts}
+use Rattle.model.specs.Layout.{groupAt, slotOf, indexOf, blockOf, blockAt, homeAt, turnOf, wordThere, groupValid, entryIn, entryAt}
+use Rattle.model.specs.Tag.{present, homeOf, readTag}
+use Rattle.model.specs.State.{stateOf, nextPosition}
+use Rattle.model.specs.declared.State.{State}
+use Rattle.model.specs.declared.Tag.{Tag}
+use Rattle.model.specs.declared.Tag.the-variants.{Nothing, Entry, Closing}
+use Rattle.model.specs.Effects.{Given, groups, homes, tagsOf, liveTags, liveBase, blockOr, isThere}
+use Rattle.model.specs.Rights.{shownAt}
+use Rattle.model.proofs.bytes.ByteLaws.{puts-whole}
+use Rattle.model.proofs.trace.ReplayLaws.{length-blockAt}
+use Rattle.model.proofs.strip.OrderLaws.{InOrder, next-within}
+use Rattle.answers.proofs.AnswerLaws.{Usable}
+use Rattle.scan.specs.declared.slots.RingSlot.{RingSlot}
+use Rattle.scan.specs.Slots.{Kept}
+use Rattle.scan.proofs.GroupLaws.{part-group}
+use Rattle.shown.specs.There.{tagsBy, thereBy, shownBy, Searchable}
+
+-- ---- what a usable store gives the search
+
+pub searchable : (log area state : List ℕ) (st : State) → Usable log area state → st ≡ stateOf state → Searchable log st
+unfolding nextPosition
+searchable log area state st u e =
+    let o = u .order in
+    rw e
+    (record {
+      long = omega arith;
+      least = omega arith;
+      most = omega arith;
+      homes-most = omega arith;
+      low = o .start-most;
+      next = refl;
+      first = omega arith;
+      within = rw (o .groups-same) (next-within state _ _ o);
+    })
+
+-- ---- the entry at a position
+
+-- what stands there, by the part of the log that is its group
+module _ (log : List ℕ) (st : State) (p : ℕ) (at : RingSlot) (from : ℕ) (v : Bool) (q : Kept (st .groups) (p / 7) at) (f : from ≡ 64 + 512 * at .slot)
+    (e : v ≡ groupValid (take (from + 512 - from) (drop from log)) (st .groups) (st .start) (p / 7)) where
+  there-tag : tagsBy log st p ≡ cond v (readTag (wordThere (take (from + 512 - from) (drop from log)) (at .turn) (p % 7)) p (7 * st .start) (st .homes)) Nothing
+  unfolding entryAt entryIn slotOf indexOf
+  there-tag =
+      let a : take (from + 512 - from) (drop from log) ≡ groupAt log (p / 7 % st .groups) = part-group log (at .slot) from f ∙ ap (groupAt log) (q .same) in
+      rw (e, a, q .turn)
+
+  pub there-none : v ≡ false → tagsBy log st p ≡ Nothing
+  there-none h = there-tag ∙ rw h
+
+  pub there-some : (t : Tag) → v ≡ true → t ≡ readTag (wordThere (take (from + 512 - from) (drop from log)) (at .turn) (p % 7)) p (7 * st .start) (st .homes)
+      → tagsBy log st p ≡ t
+  there-some t h k = there-tag ∙ rw (h, k)
+
+module _ (t : Tag) (home : ℕ) where
+  pub there-hole : t ≡ Nothing → false ≡ (present t && eqb (homeOf t) home)
+  unfolding present
+  there-hole e = rw e
+
+  pub there-entry : (h f : ℕ) → t ≡ Entry h f → eqb h home ≡ (present t && eqb (homeOf t) home)
+  unfolding present homeOf
+  there-entry h f e = rw e
+
+  pub there-closing : (h f l c : ℕ) → t ≡ Closing h f l c → eqb h home ≡ (present t && eqb (homeOf t) home)
+  unfolding present homeOf
+  there-closing h f l c e = rw e
+
+-- ---- the entry at the kept position
+
+module _ (log : List ℕ) (st : State) (home p : ℕ) where
+  pub kept-before : p < 7 * st .start → false ≡ thereBy log st home p
+  unfolding thereBy
+  kept-before h = rw (lt-leb (7 * st .start) p h)
+
+  pub kept-past : (n : ℕ) → n ≡ nextPosition st → n ≤ p → false ≡ thereBy log st home p
+  unfolding thereBy
+  kept-past n f h = let k : ltb p (nextPosition st) ≡ false = le-ltb p (nextPosition st) (omega arith) in simp (k, and-false)
+
+  pub kept-within : (n : ℕ) (x : Bool) → n ≡ nextPosition st → 7 * st .start ≤ p → p < n
+      → x ≡ (present (tagsBy log st p) && eqb (homeOf (tagsBy log st p)) home) → x ≡ thereBy log st home p
+  unfolding thereBy
+  kept-within n x f h k q = q ∙ rw (le-leb (7 * st .start) p h, lt-ltb p (nextPosition st) (omega arith))
+
+  -- a kept position with an entry lies below the next one
+  pub there-below : thereBy log st home p ≡ true → p < nextPosition st
+  unfolding thereBy
+  there-below e =
+      ltb-true p (nextPosition st)
+      (second (leb (7 * st .start) p) (ltb p (nextPosition st)) (present (tagsBy log st p)) (eqb (homeOf (tagsBy log st p)) home) e)
+    where
+      second : (a b c d : Bool) → (a && b && c && d) ≡ true → b ≡ true
+      second true true c d e = refl
+      second true false c d e = e
+      second false b c d e = absurd (false≢true e)
+
+-- ---- the block
+
+pub entry-copied : (block log : List ℕ) (groups p : ℕ) → length block ≡ 64 → length log ≡ 64 + 512 * groups → 0 < groups
+    → puts block 0 (blockOf (groupAt log (p / 7 % groups)) (p % 7)) ≡ blockAt log groups p
+unfolding blockAt slotOf indexOf
+entry-copied block log groups p e l h =
+    puts-whole block (blockOf (groupAt log (p / 7 % groups)) (p % 7)) (omega (arith, length-blockAt log groups p h l))
+
+-- ---- the same by what a call is lent
+
+module _ (g : Given) (st : State) (es : st ≡ stateOf (g .state)) (o : InOrder (g .state) (groups g) (homes g)) where
+  tags-same : (p : ℕ) → liveTags g p ≡ tagsBy (g .log) st p
+  unfolding liveTags tagsOf
+  tags-same p = rw (es, o .groups-same, o .homes-same)
+
+  pub there-same : (p : ℕ) → isThere g p ≡ thereBy (g .log) st (g .home) p
+  unfolding isThere thereBy liveBase
+  there-same p = rw (tags-same, ← es)
+
+  pub shown-same : (p : ℕ) → shownAt g p ≡ shownBy (g .log) (g .area) st (g .home) p
+  unfolding shownAt shownBy blockOr
+  shown-same p =
+      let q : groups g ≡ st .groups = sym (o .groups-same) ∙ ap (λ (s : State). s .groups) (sym es) in
+      rw (there-same p) (go (thereBy (g .log) st (g .home) p) q)
+    where
+      go : (b : Bool) → groups g ≡ st .groups
+          → blockOr g (cond b (some p) none) (homeAt (g .area) (g .home)) ≡ cond b (blockAt (g .log) (st .groups) p) (homeAt (g .area) (g .home))
+      go true q = ap (λ (n : ℕ). blockAt (g .log) n p) q
+      go false q = refl
