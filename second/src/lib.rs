@@ -35,6 +35,7 @@ mod rounds;
 pub mod state;
 pub mod tag;
 pub mod tears;
+pub mod usage;
 pub mod walk;
 pub mod world;
 

@@ -1,8 +1,10 @@
 // The calls of the store as C sees them: each is the proved call of its crate under an exported name.
 use answers::Reply;
+use model::Usage;
 ghost use mathlib.Core.Path.{_≡_};
 ghost use mathlib.Core.List.{[]};
 ghost use Rattle.model.specs.Calls.{formatCall, openCall, beginCall, reserveCall, abortCall, storeCall, commitCall, flushCall, confirmCall, settleCall, trimCall, readCall, beginRoundCall, stepRoundCall};
+ghost use Rattle.model.specs.Usage.{usageCall};
 ghost use Rattle.answers.specs.Lent.{lentAll, leavesAll, lent, leaves};
 
 // Writes an empty store: every group unused, every home zeros, then the header.
@@ -172,4 +174,12 @@ pub extern "C" fn kagutin_read(
     ensures { λ r. ⌜ leavesAll (r .code) (r .figure) (r .size) (now (log .entry)) (now (area .entry)) (now (state .entry)) (now (newest .entry)) (now (block .exit)) [] ≡ readCall (lentAll (now (log .entry)) (now (area .entry)) (now (state .entry)) (now (newest .entry)) (now (block .entry)) [] writer home) ⌝ }
 {
     reading::read(log, area, state, newest, block, writer, home)
+}
+
+// Tells how many places of the log are live, dead, free and promised, and which open transaction lies lowest in it.
+#[no_mangle]
+pub extern "C" fn kagutin_usage(log: &[u8], area: &[u8], state: &[u8]) -> Usage
+    ensures { λ r. ⌜ r ≡ usageCall (lent (now (log .entry)) (now (area .entry)) (now (state .entry)) [] [] 0 0) ⌝ }
+{
+    usage::usage(log, area, state)
 }

@@ -15,6 +15,7 @@ use Rattle.model.specs.History.{Event, World, Formatting, afterFormat, l
 use Rattle.model.specs.Store.{Store, newStore, firstGroup, nextStart, promisedTo, follow}
 use Rattle.model.specs.Places.{Fate, live, dead, free, many, taskAt, enterEvent}
 pub use Rattle.model.specs.declared.Usage.{Usage}
+pub use Rattle.model.specs.declared.Holder.{Holder}
 
 -- the entries of some transactions together
 unfoldable pub entriesIn : List (List ℕ) → ℕ
@@ -31,10 +32,6 @@ openEntries s zero = 0
 openEntries s (suc n) = openEntries s n + countFor (writerOf s n)
 
 -- the writer that holds the log back, and from which position on: of those with logged entries the one whose first lies lowest; 8 and 0 if there is none
-pub record Holder : Type 0 where
-  pub writer : ℕ
-  pub first : ℕ
-
 unfoldable pub noHolder : Holder
 noHolder = record { writer = 8; first = 0 }
 

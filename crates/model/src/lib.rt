@@ -52,3 +52,9 @@ pub struct Usage {
     pub holder: u64,
     pub first: u64,
 }
+
+// The writer that holds a log back and the position from which on, 8 and 0 for none.
+pub struct Holder {
+    pub writer: u64,
+    pub first: u64,
+}
