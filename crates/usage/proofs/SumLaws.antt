@@ -2,20 +2,22 @@
 use mathlib.Core.Path.{_≡_, refl, sym, ap, _∙_}
 use mathlib.Core.Bool.{Bool, true, false, _&&_, false≢true}
 use mathlib.Core.List.{List, [], _∷_, _++_}
-use Prim.Native.Nat.{ℕ, zero, suc, _+_, _-_, _^_, _≤_, _<_}
+use Prim.Native.Nat.{ℕ, zero, suc, _+_, _-_, _*_, _^_, _≤_, _<_}
 use native.Mathlib.Omega.{arith}
 use borrow.Author.Tests.{eqb-true}
 use lib.Dec.{eqb}
 use lib.ListN.{length}
 use Rattle.model.specs.Tag.{readTag}
+use Rattle.model.specs.Layout.{entryAt}
 use Rattle.model.specs.Commit.{members, complete, linked, Span, Walk, started, judged, visit, walk, committed, entries, eachEntries, transactions}
 use Rattle.model.specs.Usage.{entriesIn}
 use Rattle.model.specs.declared.Tag.{Tag}
 use Rattle.model.specs.declared.Tag.the-variants.{Nothing, Entry, Closing}
 use Rattle.model.proofs.bytes.TagLaws.{field-lt, closing-fields}
 use Rattle.model.proofs.rule.Closings.{endOf}
-use Rattle.model.proofs.rule.ClosingLaws.{end-more}
+use Rattle.model.proofs.rule.ClosingLaws.{end-more, committed-most}
 use Rattle.scan.specs.Scan.{over}
+use Rattle.scan.specs.Walk.{Walkable}
 use Rattle.usage.specs.Sums.{addCount, summed}
 
 -- ---- the count of one tag, as the code adds it
@@ -107,3 +109,11 @@ module _ (tags : ℕ → Tag) (base : ℕ) where
       → r ≡ entriesIn (transactions tags base n)
   unfolding transactions committed
   committed-sum n r end e q = q ∙ ap (λ (x : ℕ). summed tags base (x - base) 0) e ∙ sym (tallied n .all)
+
+-- the walk's end lies within the log
+pub walkable : (log : List ℕ) (groups homes start n end : ℕ)
+    → (length log ≡ 64 + 512 * groups) × (4 ≤ groups) × (groups ≤ 1024) × (homes ≤ 65535) × (start ≤ 2 ^ 47) × (n ≤ 7 * groups)
+    → end ≡ endOf (committed (entryAt log groups homes start) (7 * start) n) → Walkable log groups start end
+walkable log groups homes start n end p e =
+    let m = committed-most (entryAt log groups homes start) (7 * start) n in
+    record { long = p .0; some = omega (arith, p .1); most = p .2; low = p .4; within = omega (arith, p .5, m, e) }

@@ -14,7 +14,9 @@ use Rattle.model.specs.Commit.{transactions}
 use Rattle.model.specs.State.{stateOf, nextPosition, places, promised, writerOf, hasLogged, countFor}
 use Rattle.model.specs.Effects.{Given, groups, homes, tagsOf, liveTags, liveBase}
 use Rattle.model.specs.Questions.{askState}
-use Rattle.model.specs.Usage.{Usage, Holder, noHolder, holdsLower, holderOf, entriesIn, committedEntries, openEntries, usageOf, usageRefused, usageIf, usageCall}
+use Rattle.model.specs.declared.Usage.{Usage}
+use Rattle.model.specs.declared.Holder.{Holder}
+use Rattle.model.specs.Usage.{noHolder, holdsLower, holderOf, entriesIn, committedEntries, openEntries, usageOf, usageRefused, usageIf, usageCall}
 use Rattle.model.specs.declared.State.{State}
 use Rattle.model.specs.declared.Writer.{Writer}
 use Rattle.model.proofs.strip.OrderLaws.{InOrder, next-within}
@@ -65,29 +67,34 @@ counts-fit log area state u w l = go (hasLogged (writerOf state w)) refl
 
 -- ---- open transactions
 
+pub open-none : (s : List ℕ) → 0 ≡ openEntries s 0
+unfolding openEntries
+open-none s = refl
+
 pub open-more : (s : List ℕ) (w sum n : ℕ) → sum ≡ openEntries s w → n ≡ countFor (writerOf s w) → sum + n ≡ openEntries s (w + 1)
 unfolding openEntries
 open-more s w sum n e q = rw (add-one w, e, q)
 
-module _ (r : Writer) (w : ℕ) (h : Holder) where
-  abbrev new : Holder
-  new = record { writer = w; first = r .first }
+-- a writer's record t, which is r, against the holder h of the writers before it
+module _ (t r : Writer) (e : t ≡ r) (w : ℕ) (h : Holder) where
+  abbrev new : Writer → Holder
+  new x = record { writer = w; first = x .first }
 
-  pub lower-none : hasLogged r ≡ false → h ≡ cond (holdsLower r h) new h
+  pub lower-none : hasLogged t ≡ false → h ≡ cond (holdsLower r h) (new r) h
   unfolding holdsLower
-  lower-none e = rw e
+  lower-none d = rw (← e, d)
 
-  pub lower-not : hasLogged r ≡ true → h .writer ≢ 8 → h .first ≤ r .first → h ≡ cond (holdsLower r h) new h
+  pub lower-not : hasLogged t ≡ true → h .writer ≢ 8 → h .first ≤ t .first → h ≡ cond (holdsLower r h) (new r) h
   unfolding holdsLower
-  lower-not e n l = rw (e, ne-eqb (h .writer) 8 n, le-ltb (r .first) (h .first) l)
+  lower-not d n l = rw (← e, d, ne-eqb (h .writer) 8 n, le-ltb (t .first) (h .first) l)
 
-  pub lower-first : hasLogged r ≡ true → h .writer ≡ 8 → new ≡ cond (holdsLower r h) new h
+  pub lower-first : hasLogged t ≡ true → h .writer ≡ 8 → new t ≡ cond (holdsLower r h) (new r) h
   unfolding holdsLower
-  lower-first e n = rw (e, eq-eqb (h .writer) 8 n)
+  lower-first d n = rw (← e, d, eq-eqb (h .writer) 8 n)
 
-  pub lower-less : hasLogged r ≡ true → h .writer ≢ 8 → r .first < h .first → new ≡ cond (holdsLower r h) new h
+  pub lower-less : hasLogged t ≡ true → h .writer ≢ 8 → t .first < h .first → new t ≡ cond (holdsLower r h) (new r) h
   unfolding holdsLower
-  lower-less e n l = rw (e, ne-eqb (h .writer) 8 n, lt-ltb (r .first) (h .first) l)
+  lower-less d n l = rw (← e, d, ne-eqb (h .writer) 8 n, lt-ltb (t .first) (h .first) l)
 
 pub holder-none : (s : List ℕ) → _≡_ {A = Holder} (record { writer = 8; first = 0 }) (holderOf s 0)
 unfolding holderOf noHolder
@@ -100,12 +107,17 @@ holder-more s w h r e q = q ∙ rw (add-one w, e)
 
 -- ---- what the call tells
 
-pub committed-is : (log area state : List ℕ) (st : State) (n r : ℕ) → Usable log area state → st ≡ stateOf state → n ≡ nextPosition st - 7 * st .start
+committed-is : (log area state : List ℕ) (st : State) (n r : ℕ) → Usable log area state → st ≡ stateOf state → n ≡ nextPosition st - 7 * st .start
     → r ≡ entriesIn (transactions (entryAt log (st .groups) (st .homes) (st .start)) (7 * st .start) n)
     → r ≡ committedEntries (lent log area state [] [] 0 0)
 unfolding committedEntries liveTags tagsOf liveBase
 committed-is log area state st n r u e k q =
     let o = u .order in q ∙ rw (k, e, o .groups-same, o .homes-same)
+
+pub live-is : (log area state : List ℕ) (st : State) (n r o : ℕ) → Usable log area state → st ≡ stateOf state → n ≡ nextPosition st - 7 * st .start
+    → r ≡ entriesIn (transactions (entryAt log (st .groups) (st .homes) (st .start)) (7 * st .start) n) → o ≡ openEntries state 8
+    → r + o ≡ committedEntries (lent log area state [] [] 0 0) + openEntries state 8
+live-is log area state st n r o u e k q d = rw (committed-is log area state st n r u e k q, d)
 
 pub usage-refused : (g : Given) (code : ℕ) (r : Usage) → code ≡ askState g 0 → code ≢ 0 → r ≡ usageRefused code → r ≡ usageCall g
 unfolding usageCall usageIf
