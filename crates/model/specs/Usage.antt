@@ -70,30 +70,24 @@ usageIf (suc k) g = usageRefused (suc k)
 unfoldable pub usageCall : Given → Usage
 usageCall g = usageIf (askState g 0) g
 
+-- what it tells at a moment of a history
+abbrev pub toldAt : World → Usage
+toldAt w = usageCall (lent w [] [] 0 0)
+
 -- At every moment after a done opening the call is done and tells the ledger's numbers. If it names no holder, no open transaction has a place; else
 -- the holder's has one at the position told, none has one below, and no start that a trim can reach lies above it.
 pub record Usages (w : World) (s : Store) (fs : List Fate) : Type 0 where
-  pub done : usageCall (lent w [] [] 0 0) .code ≡ 0
-  pub liveAre : usageCall (lent w [] [] 0 0) .live ≡ many s fs live (7 * s .start) (7 * s .groups)
-  pub deadAre : usageCall (lent w [] [] 0 0) .dead ≡ many s fs dead (7 * s .start) (7 * s .groups)
-  pub freeAre : usageCall (lent w [] [] 0 0) .free ≡ many s fs free (7 * s .start) (7 * s .groups)
-  pub promisedAre : usageCall (lent w [] [] 0 0) .promised ≡ promisedTo (s .promises) 8
-  pub known : usageCall (lent w [] [] 0 0) .holder ≤ 8
-  pub nobody :
-      usageCall (lent w [] [] 0 0) .holder ≡ 8 →
-      (writer p : ℕ) →
-      writer < 8 →
-      taskAt (firstGroup s) p (s .book .tasks writer) ≡ false
-  pub holds :
-      usageCall (lent w [] [] 0 0) .holder < 8 →
-      taskAt (firstGroup s) (usageCall (lent w [] [] 0 0) .first) (s .book .tasks (usageCall (lent w [] [] 0 0) .holder)) ≡ true
+  pub done : toldAt w .code ≡ 0
+  pub liveAre : toldAt w .live ≡ many s fs live (7 * s .start) (7 * s .groups)
+  pub deadAre : toldAt w .dead ≡ many s fs dead (7 * s .start) (7 * s .groups)
+  pub freeAre : toldAt w .free ≡ many s fs free (7 * s .start) (7 * s .groups)
+  pub promisedAre : toldAt w .promised ≡ promisedTo (s .promises) 8
+  pub known : toldAt w .holder ≤ 8
+  pub nobody : toldAt w .holder ≡ 8 → (writer p : ℕ) → writer < 8 → taskAt (firstGroup s) p (s .book .tasks writer) ≡ false
+  pub holds : toldAt w .holder < 8 → taskAt (firstGroup s) (toldAt w .first) (s .book .tasks (toldAt w .holder)) ≡ true
   pub lowest :
-      usageCall (lent w [] [] 0 0) .holder < 8 →
-      (writer p : ℕ) →
-      writer < 8 →
-      taskAt (firstGroup s) p (s .book .tasks writer) ≡ true →
-      usageCall (lent w [] [] 0 0) .first ≤ p
-  pub bounds : usageCall (lent w [] [] 0 0) .holder < 8 → 7 * nextStart s ≤ usageCall (lent w [] [] 0 0) .first
+      toldAt w .holder < 8 → (writer p : ℕ) → writer < 8 → taskAt (firstGroup s) p (s .book .tasks writer) ≡ true → toldAt w .first ≤ p
+  pub bounds : toldAt w .holder < 8 → 7 * nextStart s ≤ toldAt w .first
 
 abbrev pub UsageThroughout : World → Store → List Fate → List Event → Type 0
 UsageThroughout w s fs [] = w .ready ≡ true → Usages w s fs
