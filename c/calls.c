@@ -191,9 +191,11 @@ void call_open(struct station *station)
 
 void call_usage(struct station *station)
 {
-    struct kgt_places *usage = &station->usage, book;
+    struct kagutin_usage *usage = &station->usage, book;
 
-    kgt_count(station->driver.log, station->driver.state, usage);
+    *usage = kagutin_usage(AREAS(station), STATE(station));
+    if (usage->code != KAGUTIN_DONE)
+        station_mismatch(station, "usage answered %llu", (unsigned long long)usage->code);
     book_usage(&station->book, &book);
     if (usage->promised != book.promised)
         station_mismatch(station, "%llu places are promised, by the book %llu", (unsigned long long)usage->promised,

@@ -124,6 +124,14 @@ struct array_u16_1024 {
     uint16_t at[1024];
 };
 
+struct array_u8_32 {
+    uint8_t at[32];
+};
+
+struct array_u8_64 {
+    uint8_t at[64];
+};
+
 struct replay__stepping__Reached {
     uint64_t home;
     uint64_t done;
@@ -133,6 +141,21 @@ struct recovery__planning__Made {
     uint64_t size;
     uint64_t next;
     bool more;
+};
+
+struct model__Holder {
+    uint64_t writer;
+    uint64_t first;
+};
+
+struct model__Usage {
+    uint64_t code;
+    uint64_t live;
+    uint64_t dead;
+    uint64_t free;
+    uint64_t promised;
+    uint64_t holder;
+    uint64_t first;
 };
 
 #if defined(__GNUC__) && !defined(KAGUTIN_PLAIN_C)
@@ -1222,7 +1245,23 @@ static inline void logging__commits__keep_newest(struct slice_u8 log, struct sli
     positions__commits__keep_entries(log, st.groups, st.homes, st.start, t6, t5, newest);
 }
 
-/* The closing entry, with the places promised to the writer given back and the newest positions kept. */
+/* Stores the four positions, and leaves the rest of the strip as it was. */
+static inline void strip__listed__set_listed(struct slice_mut_u8 s, struct slice_u8 positions)
+{
+    codec__blocks__copy(s, 896u, positions);
+}
+
+/* Carries the four positions over from the newest positions of `homes` homes, where the list has its homes. */
+static inline void strip__listed__carry_listed(struct slice_mut_u8 s, struct slice_u8 newest, uint64_t homes)
+{
+    if (homes < 12u) {
+        return;
+    }
+    strip__listed__set_listed(s, (struct slice_u8){newest.ptr + 64u, (size_t)((uint64_t)96u - 64u)});
+}
+
+/* The closing entry, with the places promised to the writer given back, the newest positions kept, and those of the list of
+   rights carried over. */
 static inline uint64_t logging__commits__commit_held(struct slice_mut_u8 log, struct slice_mut_u8 state,
         struct slice_mut_u8 newest, struct slice_mut_u8 batch, struct model__State st, struct model__Writer r, uint64_t w)
 {
@@ -1231,6 +1270,7 @@ static inline uint64_t logging__commits__commit_held(struct slice_mut_u8 log, st
     t8 = logging__commits__close_held(log, state, batch, st, r, w);
     store_2(state.ptr + (size_t)(72u + (2u * w)), 0u);
     logging__commits__keep_newest((struct slice_u8){log.ptr, log.len}, newest, st, r);
+    strip__listed__carry_listed(state, (struct slice_u8){newest.ptr, newest.len}, st.homes);
     return t8;
 }
 
@@ -2231,8 +2271,8 @@ static inline void strip__fields__clear(struct slice_mut_u8 s)
     codec__blocks__clear(s, 0u, 1024u);
 }
 
-/* Makes `s` the strip of an opened store whose log is empty at the group number `start`. */
-static inline void strip__fields__fresh(struct slice_mut_u8 s, uint64_t groups, uint64_t homes, uint64_t start)
+/* Makes `s` the numbers of an opened store whose log is empty at the group number `start`, and else zeros. */
+static inline void strip__fields__fresh_numbers(struct slice_mut_u8 s, uint64_t groups, uint64_t homes, uint64_t start)
 {
     uint64_t t5;
 
@@ -2245,6 +2285,17 @@ static inline void strip__fields__fresh(struct slice_mut_u8 s, uint64_t groups, 
     store_8(s.ptr + 40u, t5);
     store_8(s.ptr + 48u, t5);
     store_8(s.ptr + 56u, t5);
+}
+
+/* Makes `s` the strip of an opened store whose log is empty at the group number `start`: no position of the list of rights is
+   kept. */
+static inline void strip__fields__fresh(struct slice_mut_u8 s, uint64_t groups, uint64_t homes, uint64_t start)
+{
+    struct array_u8_32 t5;
+
+    memset(&t5, 255u, sizeof t5);
+    strip__fields__fresh_numbers(s, groups, homes, start);
+    strip__listed__set_listed(s, (struct slice_u8){t5.at, 32u});
 }
 
 /* Keeps no position for any home. */
@@ -2338,11 +2389,212 @@ static inline uint64_t answers__in_use_both(struct slice_u8 log, struct slice_u8
     return answers__in_use_block(log, area, state, block);
 }
 
+/* Whether a home is one of the list's own. */
+static inline bool rights__ranges__of_list(uint64_t home)
+{
+    if (home < 8u) {
+        return false;
+    }
+    return home < 12u;
+}
+
+/* Whether an entry for a home stands at a position below the next one. */
+static inline bool shown__entry_there(struct slice_u8 log, struct model__State st, uint64_t home, uint64_t position)
+{
+    uint64_t t5, t6, t8;
+    struct scan__slots__RingSlot t7;
+    struct slice_u8 t9;
+    bool t17, t20;
+    struct model__Tag t19;
+
+    t5 = position / 7u;
+    t6 = position % 7u;
+    t7 = (struct scan__slots__RingSlot){.slot = t5 % st.groups, .turn = (t5 / st.groups) % 2u};
+    t8 = 64u + (512u * t7.slot);
+    t9 = (struct slice_u8){log.ptr + (size_t)t8, (size_t)((t8 + 512u) - t8)};
+    t17 = scan__groups__group_valid(t9, st.groups, st.start, t5);
+    if (!t17) {
+        return false;
+    }
+    t19 = scan__groups__tag_there(t9, t7.turn, t6, position, 7u * st.start, st.homes);
+    if (t19.tag == 0u) {
+        t20 = false;
+    } else if (t19.tag == 1u) {
+        t20 = t19.u64_0 == home;
+    } else {
+        t20 = t19.u64_0 == home;
+    }
+    return t20;
+}
+
+/* Whether an entry for a home is at the position kept for it, if that lies from the start of the log to below the next position.
+   */
+static inline bool shown__is_there(struct slice_u8 log, struct model__State st, uint64_t home, uint64_t position)
+{
+    if (position < (7u * st.start)) {
+        return false;
+    }
+    if (((7u * st.next) + st.filled) <= position) {
+        return false;
+    }
+    return shown__entry_there(log, st, home, position);
+}
+
+/* Whether an entry for a home is at the position kept for it; the strip's numbers are read only where a position is kept. */
+static inline bool rights__list__found(struct slice_u8 log, struct slice_u8 state, uint64_t home, uint64_t position)
+{
+    uint64_t t8, t9;
+
+    if (position == UINT64_C(0xffffffffffffffff)) {
+        return false;
+    }
+    t8 = load_8(state.ptr);
+    t9 = load_8(state.ptr + 8u);
+    return shown__is_there(log, (struct model__State){.groups = t8, .homes = t9, .start = load_8(state.ptr + 16u),
+            .next = load_8(state.ptr + 24u), .filled = load_8(state.ptr + 32u), .settled = load_8(state.ptr + 40u),
+            .fenced = load_8(state.ptr + 48u), .durable = load_8(state.ptr + 56u), .last = load_8(state.ptr + 64u),
+            .round = load_8(state.ptr + 88u), .cursor = load_8(state.ptr + 96u)}, home, position);
+}
+
+/* Whether a home lies in the range at index `at`. */
+static inline bool rights__ranges__in_range(struct slice_u8 s, uint64_t at, uint64_t home)
+{
+    uint64_t t4;
+
+    t4 = load_2(s.ptr + (size_t)at);
+    if (home < t4) {
+        return false;
+    }
+    return home < (t4 + load_2(s.ptr + (size_t)(at + 2u)));
+}
+
+/* Whether a home lies in one of the four ranges from index `at` on. */
+static inline bool rights__ranges__in_ranges(struct slice_u8 s, uint64_t at, uint64_t home)
+{
+    bool t4, t5, t7;
+
+    t4 = rights__ranges__in_range(s, at, home);
+    if (t4) {
+        return true;
+    }
+    t5 = rights__ranges__in_range(s, at + 4u, home);
+    if (t5) {
+        return true;
+    }
+    t7 = rights__ranges__in_range(s, at + 8u, home);
+    if (t7) {
+        return true;
+    }
+    return rights__ranges__in_range(s, at + 12u, home);
+}
+
+/* Copies the block that the entry at a position gives. */
+static inline void shown__show_entry(struct slice_mut_u8 block, struct slice_u8 log, uint64_t groups, uint64_t position)
+{
+    areas__groups__copy_entry(block, 0u, log, (position / 7u) % groups, position % 7u);
+}
+
+/* Whether a home lies in one of the four ranges from byte `at` of the list on; they lie in one block. */
+static inline bool rights__list__own_ranges(struct slice_u8 log, struct slice_u8 area, struct slice_u8 state,
+        struct slice_u8 kept, uint64_t from, uint64_t at, uint64_t home)
+{
+    uint64_t t8, t9, t14;
+    struct array_u8_64 t10;
+    bool t13;
+    uint8_t *t22;
+
+    t8 = at / 64u;
+    t9 = load_8(kept.ptr + (size_t)(from + (8u * t8)));
+    t13 = rights__list__found(log, state, 8u + t8, t9);
+    if (!t13) {
+        return rights__ranges__in_ranges(area, (64u * (8u + t8)) + (at % 64u), home);
+    }
+    memset(&t10, 0u, sizeof t10);
+    t22 = t10.at;
+    t14 = areas__lengths__log_groups((uint64_t)log.len);
+    shown__show_entry((struct slice_mut_u8){t22, 64u}, log, t14, t9);
+    return rights__ranges__in_ranges((struct slice_u8){t10.at, 64u}, at % 64u, home);
+}
+
+/* Whether block `i` of the list is all zeros. */
+static inline bool rights__list__is_zero(struct slice_u8 log, struct slice_u8 area, struct slice_u8 state, struct slice_u8 kept,
+        uint64_t from, uint64_t i)
+{
+    uint64_t t7, t12;
+    struct array_u8_64 t8;
+    bool t11;
+    uint8_t *t18;
+
+    t7 = load_8(kept.ptr + (size_t)(from + (8u * i)));
+    t11 = rights__list__found(log, state, 8u + i, t7);
+    if (!t11) {
+        return codec__blocks__all_zero(area, 64u * (8u + i), 64u);
+    }
+    memset(&t8, 0u, sizeof t8);
+    t18 = t8.at;
+    t12 = areas__lengths__log_groups((uint64_t)log.len);
+    shown__show_entry((struct slice_mut_u8){t18, 64u}, log, t12, t7);
+    return codec__blocks__all_zero((struct slice_u8){t8.at, 64u}, 0u, 64u);
+}
+
+/* Whether the whole list is all zeros. */
+static inline bool rights__list__no_list(struct slice_u8 log, struct slice_u8 area, struct slice_u8 state, struct slice_u8 kept,
+        uint64_t from)
+{
+    bool t6;
+
+    t6 = rights__list__is_zero(log, area, state, kept, from, 0u);
+    if (!t6) {
+        return false;
+    }
+    t6 = rights__list__is_zero(log, area, state, kept, from, 1u);
+    if (!t6) {
+        return false;
+    }
+    t6 = rights__list__is_zero(log, area, state, kept, from, 2u);
+    if (!t6) {
+        return false;
+    }
+    return rights__list__is_zero(log, area, state, kept, from, 3u);
+}
+
+/* Whether the ranges from byte `at` of the list on open a home, or there is no list. The ranges are asked first: they are one
+   block. */
+static inline bool rights__list__open_to(struct slice_u8 log, struct slice_u8 area, struct slice_u8 state, struct slice_u8 kept,
+        uint64_t from, uint64_t at, uint64_t home)
+{
+    bool t10;
+
+    if ((uint64_t)area.len < 768u) {
+        return true;
+    }
+    t10 = rights__list__own_ranges(log, area, state, kept, from, at, home);
+    if (t10) {
+        return true;
+    }
+    return rights__list__no_list(log, area, state, kept, from);
+}
+
+/* Whether a writer may read a home. The list is found by the newest positions. */
+static inline bool rights__may_read(struct slice_u8 log, struct slice_u8 area, struct slice_u8 state, struct slice_u8 newest,
+        struct model__State st, uint64_t writer, uint64_t home)
+{
+    bool t8;
+    (void)st;
+
+    t8 = rights__ranges__of_list(home);
+    if (t8) {
+        return true;
+    }
+    return rights__list__open_to(log, area, state, newest, 64u, (32u * writer) + 16u, home);
+}
+
 /* The questions of a read: 0 if none refuses it, else the number of the refusal. */
 static inline uint64_t reading__judge(struct slice_u8 log, struct slice_u8 area, struct slice_u8 state, struct slice_u8 newest,
         struct slice_u8 block, uint64_t writer, uint64_t home)
 {
-    uint64_t t8;
+    uint64_t t8, t17, t18;
+    bool t10;
 
     t8 = answers__in_use_both(log, area, state, newest, block);
     if (t8 != 0u) {
@@ -2353,6 +2605,15 @@ static inline uint64_t reading__judge(struct slice_u8 log, struct slice_u8 area,
     }
     if (((uint64_t)area.len / 64u) <= home) {
         return 5u;
+    }
+    t17 = load_8(state.ptr);
+    t18 = load_8(state.ptr + 8u);
+    t10 = rights__may_read(log, area, state, newest, (struct model__State){.groups = t17, .homes = t18, .start = load_8(state.ptr
+            + 16u), .next = load_8(state.ptr + 24u), .filled = load_8(state.ptr + 32u), .settled = load_8(state.ptr + 40u),
+            .fenced = load_8(state.ptr + 48u), .durable = load_8(state.ptr + 56u), .last = load_8(state.ptr + 64u),
+            .round = load_8(state.ptr + 88u), .cursor = load_8(state.ptr + 96u)}, writer, home);
+    if (!t10) {
+        return 20u;
     }
     return 0u;
 }
@@ -2462,58 +2723,19 @@ static inline uint64_t reading__newest__own_entry(struct slice_u8 log, struct mo
     return search__own__newest_own(log, st.groups, st.homes, st.start, r.first, (7u * st.next) + st.filled, home);
 }
 
-/* A position + 1, or 0 where its entry is for another home. */
-static inline uint64_t reading__newest__if_home(uint64_t written, uint64_t home, uint64_t position)
-{
-    if (written != home) {
-        return 0u;
-    }
-    return position + 1u;
-}
-
-/* The entry for a home at a position of the log. */
-static inline uint64_t reading__newest__entry_there(struct slice_u8 log, struct model__State st, uint64_t home, uint64_t position)
-{
-    uint64_t t5, t6, t8, t20;
-    struct scan__slots__RingSlot t7;
-    struct slice_u8 t9;
-    bool t17;
-    struct model__Tag t19;
-
-    t5 = position / 7u;
-    t6 = position % 7u;
-    t7 = (struct scan__slots__RingSlot){.slot = t5 % st.groups, .turn = (t5 / st.groups) % 2u};
-    t8 = 64u + (512u * t7.slot);
-    t9 = (struct slice_u8){log.ptr + (size_t)t8, (size_t)((t8 + 512u) - t8)};
-    t17 = scan__groups__group_valid(t9, st.groups, st.start, t5);
-    if (!t17) {
-        return 0u;
-    }
-    t19 = scan__groups__tag_there(t9, t7.turn, t6, position, 7u * st.start, st.homes);
-    if (t19.tag == 0u) {
-        t20 = 0u;
-    } else if (t19.tag == 1u) {
-        t20 = reading__newest__if_home(t19.u64_0, home, position);
-    } else {
-        t20 = reading__newest__if_home(t19.u64_0, home, position);
-    }
-    return t20;
-}
-
-/* The entry for a home at the position kept for it, if that lies from the start of the log to below the next position. */
+/* The entry for a home at the position kept for it. */
 static inline uint64_t reading__newest__kept_entry(struct slice_u8 log, struct slice_u8 newest, struct model__State st,
         uint64_t home)
 {
     uint64_t t5;
+    bool t7;
 
     t5 = load_8(newest.ptr + (size_t)(8u * home));
-    if (t5 < (7u * st.start)) {
+    t7 = shown__is_there(log, st, home, t5);
+    if (!t7) {
         return 0u;
     }
-    if (((7u * st.next) + st.filled) <= t5) {
-        return 0u;
-    }
-    return reading__newest__entry_there(log, st, home, t5);
+    return t5 + 1u;
 }
 
 /* The entry for a home that a writer sees: its newest own one, else that at the kept position. */
@@ -2533,12 +2755,6 @@ static inline uint64_t reading__newest__seen(struct slice_u8 log, struct slice_u
 static inline void areas__homes__get_home(struct slice_mut_u8 block, struct slice_u8 area, uint64_t home)
 {
     areas__blocks__copy_block(block, 0u, area, 64u * home);
-}
-
-/* Copies the block that the entry at a position gives. */
-static inline void reading__blocks__show_entry(struct slice_mut_u8 block, struct slice_u8 log, uint64_t groups, uint64_t position)
-{
-    areas__groups__copy_entry(block, 0u, log, (position / 7u) % groups, position % 7u);
 }
 
 /* Copies the block of a home that a writer sees. */
@@ -2570,7 +2786,7 @@ static inline void reading__blocks__show(struct slice_u8 log, struct slice_u8 ar
         areas__homes__get_home(block, area, home);
         return;
     }
-    reading__blocks__show_entry(block, log, t8.groups, t11 - 1u);
+    shown__show_entry(block, log, t8.groups, t11 - 1u);
 }
 
 /* Reads the block of a home as a writer sees it: the held one, else its newest own entry, else that at the position kept for the
@@ -2957,12 +3173,28 @@ static inline struct answers__Reply kagutin__kagutin_step_round(struct slice_u8 
     return recovery__rounds__step_round(log, area, state, batch, homes);
 }
 
+/* Whether a writer may store to a home. The list is found by the positions of its homes in the state strip. */
+static inline bool rights__may_store(struct slice_u8 log, struct slice_u8 area, struct slice_u8 state, struct model__State st,
+        uint64_t writer, uint64_t home)
+{
+    bool t7;
+    (void)st;
+
+    t7 = rights__ranges__of_list(home);
+    if (t7) {
+        return writer == 0u;
+    }
+    return rights__list__open_to(log, area, state, state, 896u, 32u * writer, home);
+}
+
 /* The answer of a store: 0, or the number of the question that refuses it. */
 static inline uint64_t logging__stores__store_verdict(struct slice_u8 log, struct slice_u8 area, struct slice_u8 state,
         struct slice_u8 block, struct slice_u8 batch, uint64_t writer, uint64_t home)
 {
-    uint64_t t8, t19, t441, t442;
-    struct model__Writer t9;
+    uint64_t t8, t19, t20, t1153;
+    struct model__State t9;
+    struct model__Writer t10;
+    bool t11;
 
     t8 = answers__in_use_block(log, area, state, block);
     if (t8 != 0u) {
@@ -2974,24 +3206,29 @@ static inline uint64_t logging__stores__store_verdict(struct slice_u8 log, struc
     if (((uint64_t)area.len / 64u) <= home) {
         return 5u;
     }
-    t19 = 128u + (96u * writer);
-    t9 = (struct model__Writer){.mode = load_8(state.ptr + (size_t)t19), .home = load_8(state.ptr + (size_t)(t19 + 8u)),
-            .first = load_8(state.ptr + (size_t)(t19 + 16u)), .count = load_8(state.ptr + (size_t)(t19 + 24u))};
-    if (!(1u <= t9.mode)) {
+    t19 = load_8(state.ptr);
+    t20 = load_8(state.ptr + 8u);
+    t9 = (struct model__State){.groups = t19, .homes = t20, .start = load_8(state.ptr + 16u), .next = load_8(state.ptr + 24u),
+            .filled = load_8(state.ptr + 32u), .settled = load_8(state.ptr + 40u), .fenced = load_8(state.ptr + 48u),
+            .durable = load_8(state.ptr + 56u), .last = load_8(state.ptr + 64u), .round = load_8(state.ptr + 88u),
+            .cursor = load_8(state.ptr + 96u)};
+    t11 = rights__may_store(log, area, state, t9, writer, home);
+    if (!t11) {
+        return 19u;
+    }
+    t1153 = 128u + (96u * writer);
+    t10 = (struct model__Writer){.mode = load_8(state.ptr + (size_t)t1153), .home = load_8(state.ptr + (size_t)(t1153 + 8u)),
+            .first = load_8(state.ptr + (size_t)(t1153 + 16u)), .count = load_8(state.ptr + (size_t)(t1153 + 24u))};
+    if (!(1u <= t10.mode)) {
         return 7u;
     }
-    if (!(2u <= t9.mode)) {
+    if (!(2u <= t10.mode)) {
         return 0u;
     }
-    if (t9.home == home) {
+    if (t10.home == home) {
         return 0u;
     }
-    t441 = load_8(state.ptr);
-    t442 = load_8(state.ptr + 8u);
-    return logging__entry__may_log(state, (struct model__State){.groups = t441, .homes = t442, .start = load_8(state.ptr + 16u),
-            .next = load_8(state.ptr + 24u), .filled = load_8(state.ptr + 32u), .settled = load_8(state.ptr + 40u),
-            .fenced = load_8(state.ptr + 48u), .durable = load_8(state.ptr + 56u), .last = load_8(state.ptr + 64u),
-            .round = load_8(state.ptr + 88u), .cursor = load_8(state.ptr + 96u)}, writer, (uint64_t)batch.len);
+    return logging__entry__may_log(state, t9, writer, (uint64_t)batch.len);
 }
 
 /* The record `r` once its writer holds a block for `home`; a block that it held for another home was logged at `position`. */
@@ -3331,7 +3568,8 @@ static inline void positions__strip__forget(struct slice_mut_u8 newest, uint64_t
     }
 }
 
-/* Moves the start: the batch, the header in the log copy, the strip, and the newest positions. */
+/* Moves the start: the batch, the header in the log copy, the strip, and the newest positions, with those of the list of rights
+   carried over. */
 static inline void trimming__moves__move_start(struct slice_mut_u8 log, struct slice_mut_u8 state, struct slice_mut_u8 newest,
         struct slice_mut_u8 batch, struct model__State st, uint64_t start)
 {
@@ -3339,6 +3577,7 @@ static inline void trimming__moves__move_start(struct slice_mut_u8 log, struct s
     areas__header__put_header(log, 0u, start, st.groups, st.homes);
     trimming__moves__move_strip(state, st, start);
     positions__strip__forget(newest, 7u * start, st.homes);
+    strip__listed__carry_listed(state, (struct slice_u8){newest.ptr, newest.len}, st.homes);
 }
 
 /* Moves the log's start up as far as no open or committed transaction lies across it, and writes the new header and a fence if it
@@ -3379,6 +3618,209 @@ static inline struct answers__Reply kagutin__kagutin_trim(struct slice_mut_u8 lo
         struct slice_mut_u8 state, struct slice_mut_u8 newest, struct slice_mut_u8 batch)
 {
     return trimming__trim(log, area, state, newest, batch);
+}
+
+/* A sum with the number of entries that the word of a tag counts, if it closes a transaction. */
+static inline uint64_t usage__entries__word_entries(uint64_t word, uint64_t position, uint64_t base, uint64_t homes, uint64_t sum)
+{
+    struct model__Tag t7;
+    uint64_t t8;
+
+    t7 = codec__tags__read_tag(word, position, base, homes);
+    if (t7.tag == 0u) {
+        t8 = sum;
+    } else if (t7.tag == 1u) {
+        t8 = sum;
+    } else {
+        t8 = sum + t7.u64_3;
+    }
+    return t8;
+}
+
+/* A sum with those of the first `m` tags of a group, which says nothing where it is not the valid group with number `n` and turn
+   `turn`. */
+static inline uint64_t usage__entries__group_entries(struct slice_u8 group, uint64_t groups, uint64_t homes, uint64_t start,
+        uint64_t n, uint64_t turn, uint64_t m, uint64_t sum)
+{
+    struct array_u64_7 t9, t16;
+    uint64_t t10, t11, t12, t13;
+    bool t14;
+
+    t14 = scan__groups__group_valid(group, groups, start, n);
+    if (!t14) {
+        return sum;
+    }
+    t16 = scan__groups__tag_words(group, turn);
+    t9 = t16;
+    t10 = 7u * start;
+    t11 = sum;
+    t12 = 7u * n;
+    t13 = 0u;
+    while (t13 < m) {
+        t11 = usage__entries__word_entries(t9.at[(size_t)t13], t12, t10, homes, t11);
+        t12 = t12 + 1u;
+        t13 = t13 + 1u;
+    }
+    return t11;
+}
+
+/* The entries that all closing entries below `end` count. */
+static inline uint64_t usage__entries__closed_entries(struct slice_u8 log, uint64_t groups, uint64_t homes, uint64_t start,
+        uint64_t end)
+{
+    uint64_t t6, t7, t8, t9, t11, t13;
+    struct scan__slots__RingSlot t10;
+
+    t6 = 7u * start;
+    if (end <= t6) {
+        return 0u;
+    }
+    t7 = 0u;
+    t8 = end - t6;
+    t9 = start;
+    t10 = (struct scan__slots__RingSlot){.slot = start % groups, .turn = (start / groups) % 2u};
+    while (0u < t8) {
+        t11 = 64u + (512u * t10.slot);
+        t13 = scan__commits__in_group(t8);
+        t7 = usage__entries__group_entries((struct slice_u8){log.ptr + (size_t)t11, (size_t)((t11 + 512u) - t11)}, groups, homes,
+                start, t9, t10.turn, t13, t7);
+        t10 = scan__slots__next_slot(t10, groups);
+        t9 = t9 + 1u;
+        t8 = t8 - t13;
+    }
+    return t7;
+}
+
+/* The entries of the transactions that are committed among the `n` positions of the log from its start on. */
+static inline uint64_t usage__entries__committed_entries(struct slice_u8 log, uint64_t groups, uint64_t homes, uint64_t start,
+        uint64_t n)
+{
+    struct scan__commits__Found t6;
+
+    t6 = scan__commits__walk(log, groups, homes, start, n);
+    return usage__entries__closed_entries(log, groups, homes, start, t6.end);
+}
+
+/* How many entries writer `w` has logged in an open transaction. */
+static inline uint64_t usage__writers__logged(struct slice_u8 state, uint64_t w)
+{
+    uint64_t t5;
+
+    t5 = 128u + (96u * w);
+    return strip__writers__count_for((struct model__Writer){.mode = load_8(state.ptr + (size_t)t5), .home = load_8(state.ptr
+            + (size_t)(t5 + 8u)), .first = load_8(state.ptr + (size_t)(t5 + 16u)), .count = load_8(state.ptr + (size_t)(t5
+            + 24u))});
+}
+
+/* How many entries the eight writers have logged in open transactions. */
+static inline uint64_t usage__writers__open_entries(struct slice_u8 state)
+{
+    uint64_t t2, t3, t5;
+
+    t2 = 0u;
+    t3 = 0u;
+    while (t3 < 8u) {
+        t5 = usage__writers__logged(state, t3);
+        t2 = t2 + t5;
+        t3 = t3 + 1u;
+    }
+    return t2;
+}
+
+/* The places that are live: entries of committed transactions in the log copy, and those that open transactions have logged. */
+static inline uint64_t usage__live_entries(struct slice_u8 log, struct slice_u8 area, struct slice_u8 state,
+        struct model__State st)
+{
+    uint64_t t6, t7;
+    (void)area;
+
+    t6 = usage__entries__committed_entries(log, st.groups, st.homes, st.start, ((7u * st.next) + st.filled) - (7u * st.start));
+    t7 = usage__writers__open_entries(state);
+    return t6 + t7;
+}
+
+/* What is left of some places, none if there are fewer. */
+static inline uint64_t usage__rest(uint64_t places, uint64_t used)
+{
+    if (places < used) {
+        return 0u;
+    }
+    return places - used;
+}
+
+/* The holder of the writers up to `w`, where `h` is that of those before it. */
+static inline struct model__Holder usage__writers__lower(struct slice_u8 state, uint64_t w, struct model__Holder h)
+{
+    struct model__Writer t4;
+    uint64_t t10;
+
+    t10 = 128u + (96u * w);
+    t4 = (struct model__Writer){.mode = load_8(state.ptr + (size_t)t10), .home = load_8(state.ptr + (size_t)(t10 + 8u)),
+            .first = load_8(state.ptr + (size_t)(t10 + 16u)), .count = load_8(state.ptr + (size_t)(t10 + 24u))};
+    if (!(3u <= t4.mode)) {
+        return h;
+    }
+    if (h.writer != 8u) {
+        if (h.first <= t4.first) {
+            return h;
+        }
+    }
+    return (struct model__Holder){.writer = w, .first = t4.first};
+}
+
+/* The writer whose logged entries begin lowest, with the position where they do; 8 and 0 if no writer has any. */
+static inline struct model__Holder usage__writers__holder(struct slice_u8 state)
+{
+    struct model__Holder t2;
+    uint64_t t3;
+
+    t2 = (struct model__Holder){.writer = 8u, .first = 0u};
+    t3 = 0u;
+    while (t3 < 8u) {
+        t2 = usage__writers__lower(state, t3, t2);
+        t3 = t3 + 1u;
+    }
+    return t2;
+}
+
+/* What a done call tells. */
+static inline struct model__Usage usage__told(struct slice_u8 log, struct slice_u8 area, struct slice_u8 state)
+{
+    struct model__State t4;
+    uint64_t t5, t6, t7, t8, t13, t14;
+    struct model__Holder t9;
+
+    t13 = load_8(state.ptr);
+    t14 = load_8(state.ptr + 8u);
+    t4 = (struct model__State){.groups = t13, .homes = t14, .start = load_8(state.ptr + 16u), .next = load_8(state.ptr + 24u),
+            .filled = load_8(state.ptr + 32u), .settled = load_8(state.ptr + 40u), .fenced = load_8(state.ptr + 48u),
+            .durable = load_8(state.ptr + 56u), .last = load_8(state.ptr + 64u), .round = load_8(state.ptr + 88u),
+            .cursor = load_8(state.ptr + 96u)};
+    t5 = usage__live_entries(log, area, state, t4);
+    t6 = (7u * (t4.start + t4.groups)) - ((7u * t4.next) + t4.filled);
+    t7 = usage__rest((7u * t4.groups) - t6, t5);
+    t8 = strip__promises__promised(state);
+    t9 = usage__writers__holder(state);
+    return (struct model__Usage){.code = 0u, .live = t5, .dead = t7, .free = t6, .promised = t8, .holder = t9.writer,
+            .first = t9.first};
+}
+
+/* Tells how many places of the log are live, dead, free and promised, and which open transaction lies lowest in it. */
+static inline struct model__Usage usage__usage(struct slice_u8 log, struct slice_u8 area, struct slice_u8 state)
+{
+    uint64_t t4;
+
+    t4 = answers__in_use(log, area, state);
+    if (t4 != 0u) {
+        return (struct model__Usage){.code = t4, .live = 0u, .dead = 0u, .free = 0u, .promised = 0u, .holder = 0u, .first = 0u};
+    }
+    return usage__told(log, area, state);
+}
+
+/* Tells how many places of the log are live, dead, free and promised, and which open transaction lies lowest in it. */
+static inline struct model__Usage kagutin__kagutin_usage(struct slice_u8 log, struct slice_u8 area, struct slice_u8 state)
+{
+    return usage__usage(log, area, state);
 }
 
 struct kagutin_reply kagutin_abort(const uint8_t *log, size_t log_size, const uint8_t *area, size_t area_size, uint8_t *state,
@@ -3512,4 +3954,14 @@ struct kagutin_reply kagutin_trim(uint8_t *log, size_t log_size, const uint8_t *
             batch_size});
 
     return (struct kagutin_reply){.code = r.code, .figure = r.figure, .size = r.size};
+}
+
+struct kagutin_usage kagutin_usage(const uint8_t *log, size_t log_size, const uint8_t *area, size_t area_size,
+        const uint8_t *state, size_t state_size)
+{
+    struct model__Usage r = kagutin__kagutin_usage((struct slice_u8){log, log_size}, (struct slice_u8){area, area_size},
+            (struct slice_u8){state, state_size});
+
+    return (struct kagutin_usage){.code = r.code, .live = r.live, .dead = r.dead, .free = r.free, .promised = r.promised,
+            .holder = r.holder, .first = r.first};
 }

@@ -8,7 +8,7 @@
 #include "kagutin.h"
 
 enum { GROUPS = 1024, HOMES = 65535, FREE = 12 /* the homes behind the list of rights */, STACK = 1 << 18, LIMIT = 32768, STEP_LIMIT = 47104 };
-enum { FORMAT, OPEN, BEGIN, STORE, COMMIT, FLUSH, CONFIRM, SETTLE, TRIM, READ, ABORT, RESERVE, BEGIN_ROUND, STEP_ROUND, EMPTY };
+enum { FORMAT, OPEN, BEGIN, STORE, COMMIT, FLUSH, CONFIRM, SETTLE, TRIM, READ, ABORT, RESERVE, BEGIN_ROUND, STEP_ROUND, USAGE, EMPTY };
 
 static uint8_t log_area[KAGUTIN_HEADER_SIZE + KAGUTIN_GROUP_SIZE * GROUPS], area[KAGUTIN_BLOCK_SIZE * HOMES];
 static uint8_t state[KAGUTIN_STATE_SIZE], newest[KAGUTIN_POSITION_SIZE * HOMES], block[KAGUTIN_BLOCK_SIZE], batch[5 << 20];
@@ -40,6 +40,7 @@ static void body(void)
     case RESERVE: reply = kagutin_reserve(AREAS, STATE, who, 1); break;
     case BEGIN_ROUND: reply = kagutin_begin_round(AREAS, STATE); break;
     case STEP_ROUND: reply = kagutin_step_round(AREAS, STATE, BATCH, 8); break;
+    case USAGE: reply.code = kagutin_usage(AREAS, STATE).code; break;
     default: break;
     }
 }
@@ -85,7 +86,7 @@ static uint64_t give_all(void)
 int main(void)
 {
     static const char *names[] = { "format", "open", "begin", "store", "commit", "flush", "confirm", "settle", "trim", "read",
-                                   "abort", "reserve", "begin_round", "step_round" };
+                                   "abort", "reserve", "begin_round", "step_round", "usage" };
     int k, over = 0;
     unsigned i;
 
@@ -111,6 +112,7 @@ int main(void)
     call(FLUSH);
     call(CONFIRM);
     call(READ);
+    call(USAGE);
     if (call(BEGIN_ROUND))
         return 2;
     while (call(STEP_ROUND) == KAGUTIN_DONE && reply.size % KAGUTIN_HW_SIZE == 0)

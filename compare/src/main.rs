@@ -169,6 +169,8 @@ fn run(options: &Options) -> Result<(), String> {
         "  {} stores with other bytes, {} reads by the writer, {} of them refused",
         pairs.stores, pairs.reads, pairs.refused
     );
+    let [done, refused] = pair.usages;
+    println!("usage: {done} done and {refused} refused, the same on both sides");
     println!("in all {} calls compared", pair.case);
     #[cfg(feature = "chains")]
     {

@@ -38,6 +38,7 @@ pub mod tears;
 mod unit_book;
 pub mod unit_player;
 pub mod units;
+pub mod usage;
 pub mod walk;
 pub mod world;
 

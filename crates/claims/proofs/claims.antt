@@ -29,6 +29,8 @@ pub mod UnitsHold
 pub mod LedgerLaws
 pub mod LedgerSteps
 pub mod PlacesHold
+pub mod UsageLaws
+pub mod UsageHolds
 pub mod OnceLaws
 pub mod FactLaws
 pub mod AsideHolds

@@ -1,9 +1,11 @@
 // The calls of the store as C sees them: each is the proved call of its crate under an exported name.
 use answers::Reply;
+use model::Usage;
 ghost use mathlib.Core.Path.{_≡_};
 ghost use mathlib.Core.List.{[]};
 ghost use Rattle.model.specs.Calls.{formatCall, openCall, beginCall, reserveCall, abortCall, storeCall, commitCall, flushCall, confirmCall, settleCall, trimCall, readCall, beginRoundCall, stepRoundCall};
 ghost use Rattle.model.specs.Chains.{fetchCall, reviseCall, transactCall};
+ghost use Rattle.model.specs.Usage.{usageCall};
 ghost use Rattle.answers.specs.Lent.{lentAll, leavesAll, lent, leaves};
 
 // Writes an empty store: every group unused, every home zeros, then the header.
@@ -222,4 +224,12 @@ pub extern "C" fn kagutin_transact(
     ensures { λ r. ⌜ leavesAll (r .code) (r .figure) (r .size) (now (log .exit)) (now (area .entry)) (now (state .exit)) (now (newest .exit)) (now (blocks .entry)) (now (batch .exit)) ≡ transactCall (lentAll (now (log .entry)) (now (area .entry)) (now (state .entry)) (now (newest .entry)) (now (blocks .entry)) (now (batch .entry)) writer home) ⌝ }
 {
     chains::transact(log, area, state, newest, blocks, batch, writer, home)
+}
+
+// Tells how many places of the log are live, dead, free and promised, and which open transaction lies lowest in it.
+#[no_mangle]
+pub extern "C" fn kagutin_usage(log: &[u8], area: &[u8], state: &[u8]) -> Usage
+    ensures { λ r. ⌜ r ≡ usageCall (lent (now (log .entry)) (now (area .entry)) (now (state .entry)) [] [] 0 0) ⌝ }
+{
+    usage::usage(log, area, state)
 }

@@ -17,6 +17,7 @@ pub mod History
 pub mod Demands
 pub mod Store
 pub mod Places
+pub mod Usage
 pub mod Trials
 pub mod Witnesses
 pub mod Reservations

@@ -1,5 +1,5 @@
--- A history with promised places (requests f and j), and tags of large stations (request d): what the calls answer, and which places are live, dead and
--- free in the end. It meets answers 17 and 18.
+-- A history with promised places (requests f and j), and tags of large stations (request d): what the calls answer, which places are live, dead and
+-- free in the end, and what usage tells of them. It meets answers 17 and 18.
 use Prim.Native.Nat.{ℕ, _*_}
 use mathlib.Core.Bool.{Bool, not, _&&_}
 use mathlib.Core.List.{List, [], _∷_, _++_}
@@ -9,6 +9,7 @@ use Rattle.model.specs.Tag.{entryWord, closingWord, readTag, present, ho
 use Rattle.model.specs.History.{begin, reserve, abort, store, commit, flush, Event, World, emptyStore, step}
 use Rattle.model.specs.Store.{Store, newStore, follow}
 use Rattle.model.specs.Places.{Fate, live, dead, free, enterEvent, many}
+use Rattle.model.specs.Usage.{Usage, toldAt}
 use Rattle.model.specs.Trials.{room, fill}
 use Rattle.model.specs.Witnesses.{calls, reopen, plain, goesSo}
 
@@ -50,6 +51,17 @@ counts w s fs (e ∷ es) = counts (step w e) (follow s w e) (enterEvent s w e fs
 
 unfoldable pub countsSo : Bool
 countsSo = same (counts (emptyStore 4 8) (newStore 4 8) [] reserving) (4 ∷ 4 ∷ 20 ∷ [])
+
+-- what usage tells then: the same three, all free places promised to writer 0, and writer 1's transaction, which begins at the log's start
+unfoldable pub usageAfter : World → List Event → Usage
+usageAfter w [] = toldAt w
+usageAfter w (e ∷ es) = usageAfter (step w e) es
+
+unfoldable pub numbersOf : Usage → List ℕ
+numbersOf u = u .code ∷ u .live ∷ u .dead ∷ u .free ∷ u .promised ∷ u .holder ∷ u .first ∷ []
+
+unfoldable pub usageSo : Bool
+usageSo = same (numbersOf (usageAfter (emptyStore 4 8) reserving)) (0 ∷ 4 ∷ 4 ∷ 20 ∷ 20 ∷ 1 ∷ 28 ∷ [])
 
 -- tags with homes above 4,095, plain and closing, and one whose first entry would lie before the start
 unfoldable pub tagsSo : Bool

@@ -203,10 +203,10 @@ module _ (G D : ℕ) (z : Sizes G D) (w : World) (r : Running G D w) (s : Store)
   unfolding commitLogs lent
   commit-logs block batch v h l = rw (task-is v) (holds-task (r .b) (r .tr) _ _ _ _ (r .copies .tasks v l))
 
-  promised-is : promisedTo (s .promises) 8 ≡ promised (w .state) 8
+  pub promised-is : promisedTo (s .promises) 8 ≡ promised (w .state) 8
   promised-is = promised-same (s .promises) (w .state) 8 (a .promises (r .ready))
 
-  places-are : placesLeft s ≡ places st
+  pub places-are : placesLeft s ≡ places st
   unfolding placesLeft places
   places-are =
       ap (λ (x : ℕ). 7 * x - nextOf s) (ap (λ (x : ℕ). x + s .groups) (n .start) ∙ ap (λ (x : ℕ). st .start + x) (a .groups ∙ sym (o .groups-same)))

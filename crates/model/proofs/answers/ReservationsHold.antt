@@ -5,7 +5,8 @@ use Rattle.model.specs.Store as store
 use Rattle.model.specs.Store.{newStore, firstGroup, nextGroup, nextOf, storeMustLog, commitMustLog, lastAfter, fencedAfter, setFor, promisesAfter, numbered, inRound, afterReply, replyOf, follow}
 use Rattle.model.specs.Places as places
 use Rattle.model.specs.Places.{settleOne, settleAll, enter, enterCall, enterEvent, classOf, fateOn, classAt, sameClass}
-use Rattle.model.specs.Reservations.{promising, givingBack, closing, reserving, answeredSo, reservesSo, counts, countsSo, tagsSo}
+use Rattle.model.specs.Usage.{entriesIn, committedEntries, openEntries, noHolder, holdsLower, holderOf, usageOf, usageRefused, usageIf, usageCall}
+use Rattle.model.specs.Reservations.{promising, givingBack, closing, reserving, answeredSo, reservesSo, counts, countsSo, usageAfter, numbersOf, usageSo, tagsSo}
 use Rattle.model.proofs.answers.Computing.{all-definitions}
 
 pub reserves-so : reservesSo ≡ true
@@ -15,6 +16,10 @@ reserves-so = refl
 pub counts-so : countsSo ≡ true
 unfolding all-definitions promising givingBack closing reserving counts countsSo newStore firstGroup nextGroup nextOf storeMustLog commitMustLog lastAfter fencedAfter setFor promisesAfter numbered inRound store.afterDone afterReply replyOf follow settleOne settleAll enter enterCall enterEvent classOf fateOn classAt sameClass places.many
 counts-so = refl
+
+pub usage-so : usageSo ≡ true
+unfolding all-definitions promising givingBack closing reserving usageAfter numbersOf usageSo entriesIn committedEntries openEntries noHolder holdsLower holderOf usageOf usageRefused usageIf usageCall
+usage-so = refl
 
 pub tags-so : tagsSo ≡ true
 unfolding all-definitions tagsSo
