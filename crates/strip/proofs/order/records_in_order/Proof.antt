@@ -41,11 +41,13 @@ loop-less c = omega arith
 loop-again : tie.Need-loop-again Inv-loop μ-loop
 loop-again c =
     let r = c .before .before in
-    let l = r .before .before .loop in
-    (writers-turn _ _ (l .w) (l .inv .0)
-    (answered-yes
-    (record-held _ _ _ _ (c .before .writer-in-order .ensures ∙ ap (writerInOrder _) (r .writer .ensures)) (r .before .before .before .before .pre .3 (l .w) (omega arith)))
-    (c .if1 .left)), omega arith)
+    let l = r .before .before .loop in (
+      writers-turn _ _ (l .w) (l .inv .0)
+          (answered-yes
+          (record-held _ _ _ _ (c .before .writer-in-order .ensures ∙ ap (writerInOrder _) (r .writer .ensures)) (r .before .before .before .before .pre .3 (l .w) (omega arith)))
+          (c .if1 .left)),
+      omega arith,
+    )
 
 returns-2 : tie.Need-returns-2 Inv-loop μ-loop
 returns-2 c = let e : c .before .loop .w ≡ 8 = omega arith in rw e at (c .before .loop .inv .0)
