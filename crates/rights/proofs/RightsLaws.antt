@@ -3,14 +3,14 @@ use mathlib.Core.Path.{_≡_, refl, sym, ap, _∙_}
 use mathlib.Core.Bool.{Bool, true, false, cond, not, _&&_, _||_}
 use mathlib.Core.List.{List, [], _∷_, _++_}
 use mathlib.Core.Option.{none, some}
-use Prim.Native.Nat.{ℕ, zero, suc, _+_, _*_, _/_, _%_, _≤_, _<_}
+use Prim.Native.Nat.{ℕ, zero, suc, _+_, _-_, _*_, _/_, _%_, _^_, _≤_, _<_}
 use native.Mathlib.Omega.{arith}
 use borrow.Author.Tests.{eqb-true, eqb-false, le-leb, lt-leb}
 use lib.Dec.{eqb, leb, ltb}
 use lib.ListN.{length, length-append, replicate}
 use Rattle.model.specs.Bytes.{part, zeros, number, same}
-use Rattle.model.specs.Layout.{homesIn, blockAt, homeAt}
-use Rattle.model.specs.State.{stateOf, listedOf}
+use Rattle.model.specs.Layout.{groupsIn, homesIn, blockAt, homeAt}
+use Rattle.model.specs.State.{stateOf, listedOf, nextPosition}
 use Rattle.model.specs.declared.State.{State}
 use Rattle.model.specs.Newest.{keptFor}
 use Rattle.model.specs.Effects.{Given, groups, homes, tagsOf, liveTags, liveBase, blockOr, isThere}
@@ -23,7 +23,7 @@ use Rattle.model.proofs.strip.OrderLaws.{InOrder}
 use Rattle.answers.specs.Lent.{lent, lentAll}
 use Rattle.answers.proofs.AnswerLaws.{Usable}
 use Rattle.shown.specs.There.{thereBy, shownBy, Searchable}
-use Rattle.shown.proofs.ThereLaws.{searchable, shown-same}
+use Rattle.shown.proofs.ThereLaws.{searchable, shown-same, kept-past}
 use Rattle.rights.specs.Listed.{Listed, blockBy, blocksBy, opens}
 
 -- ---- ranges in a part
@@ -203,6 +203,22 @@ module _ (log area : List ℕ) (st : State) (kept : List ℕ) (from : ℕ) (x : 
       go : (z : Bool) → z ≡ (not (not z) || false)
       go true = refl
       go false = refl
+
+-- none is kept: no log has such a position
+pub none-kept : (log : List ℕ) (st : State) (home p : ℕ) → Searchable log st → p ≡ 2 ^ 64 - 1 → false ≡ thereBy log st home p
+none-kept log st home p s e = kept-past log st home p (nextPosition st) refl (omega (arith, s .within, s .low, s .most))
+
+-- the number of groups by the length of the log
+module _ (log : List ℕ) (st : State) (n : ℕ) (s : Searchable log st) (e : n ≡ groupsIn (length log)) where
+  groups-by : n ≡ st .groups
+  unfolding groupsIn
+  groups-by = omega (arith, s .long)
+
+  pub groups-fit : (length log ≡ 64 + 512 * n) × (0 < n)
+  groups-fit = (omega (arith, s .long, groups-by), omega (arith, s .least, groups-by))
+
+  pub shown-groups : (p : ℕ) (d : List ℕ) → d ≡ blockAt log n p → d ≡ blockAt log (st .groups) p
+  shown-groups p d q = q ∙ ap (λ (k : ℕ). blockAt log k p) groups-by
 
 -- D too small for a list
 pub open-small : (homes : ℕ) (list : List ℕ) (at home : ℕ) → homes < 12 → true ≡ opens homes list at home

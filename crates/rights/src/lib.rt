@@ -23,7 +23,7 @@ pub fn may_store(log: &[u8], area: &[u8], state: &[u8], st: State, writer: u64, 
     if of_list(home) {
         return writer == 0;
     }
-    open_to(log, area, st, state, 896, 32 * writer as usize, home)
+    open_to(log, area, state, state, 896, 32 * writer as usize, home)
 }
 
 // Whether a writer may read a home. The list is found by the newest positions.
@@ -42,5 +42,13 @@ pub fn may_read(
     if of_list(home) {
         return true;
     }
-    open_to(log, area, st, newest, 64, 32 * writer as usize + 16, home)
+    open_to(
+        log,
+        area,
+        state,
+        newest,
+        64,
+        32 * writer as usize + 16,
+        home,
+    )
 }

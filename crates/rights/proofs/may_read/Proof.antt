@@ -1,5 +1,6 @@
 -- `rights::may_read` meets its contract. Assumes nothing.
 use borrow.Author.Needs.{needs}
+use mathlib.Core.Path.{refl, _∙_}
 use Rattle.rights.proofs.RightsLaws.{listed-newest, read-listed, read-open}
 use native.Mathlib.Omega.{arith}
 use Rattle.rights.proofs.may_read.Statement.{statement}
@@ -18,10 +19,10 @@ add-open-to : tie.Need-add-open-to
 add-open-to c = search needs
 
 open-to-requires : tie.Need-open-to-requires
-open-to-requires c κs = (listed-newest _ _ _ _ (c .before .before .before .before .before .before .pre .0) (c .before .before .before .before .before .before .pre .1) _ (c .before .before .before .before .before .before .pre .3), omega (arith, c .before .before .before .before .before .before .pre .2), omega (arith, c .before .before .before .before .before .before .pre .2))
+open-to-requires c κs = (listed-newest _ _ _ _ (c .before .before .before .before .before .before .pre .0) refl _ (c .before .before .before .before .before .before .pre .3), c .before .before .before .before .before .before .pre .0 .state-length, omega (arith, c .before .before .before .before .before .before .pre .2), omega (arith, c .before .before .before .before .before .before .pre .2))
 
 returns-2 : tie.Need-returns-2
-returns-2 c = read-open _ _ _ _ (c .before .before .before .before .before .before .before .pre .0) (c .before .before .before .before .before .before .before .pre .1) _ _ _ _ _ (c .before .before .of-list .ensures) (c .before .if1 .left) (c .open-to .ensures)
+returns-2 c = read-open _ _ _ _ (c .before .before .before .before .before .before .before .pre .0) refl _ _ _ _ _ (c .before .before .of-list .ensures) (c .before .if1 .left) (c .open-to .ensures)
 
 pub may-read-spec : {M : Type 1} → statement M
 may-read-spec =

@@ -1,5 +1,6 @@
 -- `rights::may_store` meets its contract. Assumes nothing.
 use borrow.Author.Needs.{needs}
+use mathlib.Core.Path.{refl, _∙_}
 use Rattle.rights.proofs.RightsLaws.{listed-state, store-listed, store-open}
 use native.Mathlib.Omega.{arith}
 use Rattle.rights.proofs.may_store.Statement.{statement}
@@ -15,10 +16,10 @@ mul-open-to : tie.Need-mul-open-to
 mul-open-to c = search needs
 
 open-to-requires : tie.Need-open-to-requires
-open-to-requires c κs = (listed-state _ _ _ _ (c .before .before .before .before .before .pre .0) (c .before .before .before .before .before .pre .1), omega (arith, c .before .before .before .before .before .pre .2), omega (arith, c .before .before .before .before .before .pre .2))
+open-to-requires c κs = (listed-state _ _ _ _ (c .before .before .before .before .before .pre .0) refl, c .before .before .before .before .before .pre .0 .state-length, omega (arith, c .before .before .before .before .before .pre .2), omega (arith, c .before .before .before .before .before .pre .2))
 
 returns-2 : tie.Need-returns-2
-returns-2 c = store-open _ _ _ _ (c .before .before .before .before .before .before .pre .0) (c .before .before .before .before .before .before .pre .1) _ _ _ _ (c .before .before .of-list .ensures) (c .before .if1 .left) (c .open-to .ensures)
+returns-2 c = store-open _ _ _ _ (c .before .before .before .before .before .before .pre .0) refl _ _ _ _ (c .before .before .of-list .ensures) (c .before .if1 .left) (c .open-to .ensures)
 
 pub may-store-spec : {M : Type 1} → statement M
 may-store-spec =
