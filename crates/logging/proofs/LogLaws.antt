@@ -151,6 +151,7 @@ may-after l s s₁ b st w r m e =
       high = m .high;
       low = m .low;
       room = m .room;
+      homes = m .homes;
       filled = m .filled;
       batch = m .batch;
     }

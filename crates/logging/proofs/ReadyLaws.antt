@@ -44,6 +44,7 @@ may l a s b st v u e hv room fit =
       high = o .start-most;
       low = o .start-next;
       room = room′;
+      homes = omega (arith, o .homes-same, u .homes-most);
       filled = o .filled-most;
       batch = λ f. rw (eq-eqb (stateOf s .filled) 6 f) at fit′;
     } in
