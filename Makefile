@@ -29,7 +29,7 @@ INFLOW_ARCHIVE = target/staticlib/libinflow.a
 # The toolchain that this repository was checked with, as 'rt version' prints it.
 RATTLE = rattle-kit-5b-plain logic 097e4c862dff5811
 
-all: station inspect quickstart gauges inflow
+all: station inspect quickstart gauges inflow bands wear
 
 help:
 	@sed -n '/^#/!q; s/^# //p' Makefile
