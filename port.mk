@@ -11,7 +11,7 @@
 EXPORTS = kagutin
 DIST_C = dist/kagutin.c
 DIST_HEADERS = kagutin.h kagutin_chains.h
-DIST_RESULTS = answers::Reply=kagutin_reply model::Usage=kagutin_usage
+DIST_RESULTS = answers::Reply=kagutin_reply model::Usage=kagutin_places
 
 PORT_OUT = target/port
 GENERATE_WORDS = --rlib target/rlib --source crates $(EXPORTS:%=--export %) $(DIST_HEADERS:%=--header %) $(DIST_RESULTS:%=--result %)

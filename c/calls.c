@@ -191,7 +191,7 @@ void call_open(struct station *station)
 
 void call_usage(struct station *station)
 {
-    struct kagutin_usage *usage = &station->usage, book;
+    struct kagutin_places *usage = &station->usage, book;
 
     *usage = kagutin_usage(AREAS(station), STATE(station));
     if (usage->code != KAGUTIN_DONE)

@@ -70,7 +70,7 @@ void report_left(struct station *station, const struct report_cut *cut)
 
 void report_full(struct station *station, const char *call, unsigned writer)
 {
-    const struct kagutin_usage *usage = &station->usage;
+    const struct kagutin_places *usage = &station->usage;
     struct counters *counters = &station->counters;
 
     counters->full_live += (unsigned long)usage->live;
@@ -151,7 +151,7 @@ static void print_calls(const struct station *station)
 static void print_log(const struct station *station)
 {
     const struct counters *counters = &station->counters;
-    const struct kagutin_usage *usage = &station->usage;
+    const struct kagutin_places *usage = &station->usage;
     unsigned long most = 0, task;
 
     for (task = 1; task < KAGUTIN_WRITERS; task++)

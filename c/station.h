@@ -41,7 +41,7 @@ struct station {
     struct book book;
     struct task tasks[KAGUTIN_WRITERS];
     struct counters counters;
-    struct kagutin_usage usage; /* of the log when it was last counted */
+    struct kagutin_places usage; /* of the log when it was last counted */
     uint64_t seed, random;
     uint64_t abort_odds; /* one transaction in so many is given up */
     unsigned long cuts;

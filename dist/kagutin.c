@@ -3956,12 +3956,12 @@ struct kagutin_reply kagutin_trim(uint8_t *log, size_t log_size, const uint8_t *
     return (struct kagutin_reply){.code = r.code, .figure = r.figure, .size = r.size};
 }
 
-struct kagutin_usage kagutin_usage(const uint8_t *log, size_t log_size, const uint8_t *area, size_t area_size,
+struct kagutin_places kagutin_usage(const uint8_t *log, size_t log_size, const uint8_t *area, size_t area_size,
         const uint8_t *state, size_t state_size)
 {
     struct model__Usage r = kagutin__kagutin_usage((struct slice_u8){log, log_size}, (struct slice_u8){area, area_size},
             (struct slice_u8){state, state_size});
 
-    return (struct kagutin_usage){.code = r.code, .live = r.live, .dead = r.dead, .free = r.free, .promised = r.promised,
+    return (struct kagutin_places){.code = r.code, .live = r.live, .dead = r.dead, .free = r.free, .promised = r.promised,
             .holder = r.holder, .first = r.first};
 }

@@ -110,7 +110,7 @@ struct kagutin_reply {
 };
 
 /* What fills a log: its 7 x G places from the start to the end of group start + G - 1, each live, dead or free. */
-struct kagutin_usage {
+struct kagutin_places {
     uint64_t code;     /* one of enum kagutin_answer */
     uint64_t live;     /* entries of open transactions, and of committed ones that are not trimmed */
     uint64_t dead;     /* aborted, or passed over by a flush, and not trimmed */
@@ -342,7 +342,7 @@ struct kagutin_reply kagutin_read(
  * dead, settled or both up to the group in which the holder's first entry lies,
  * never beyond. Changes nothing. Answers 1, 2, with zeros in all other fields.
  */
-struct kagutin_usage kagutin_usage(
+struct kagutin_places kagutin_usage(
     const uint8_t *log, size_t log_size, const uint8_t *area, size_t area_size,
     const uint8_t *state, size_t state_size);
 

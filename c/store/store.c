@@ -360,7 +360,7 @@ struct kagutin_reply kgt_maintain(struct kagutin *store, uint64_t most)
 struct kagutin_reply kgt_usage(struct kagutin *store, struct kgt_places *places)
 {
     struct kagutin_reply reply;
-    struct kagutin_usage usage;
+    struct kagutin_places usage;
 
     if (!enter(store, &reply))
         return reply;
