@@ -1,5 +1,6 @@
 # What stands above the store: depth bands, pump hours, alarms. Included by c.mk.
 #
+# station       the simulated pump station, which keeps hours and alarms
 # bands         sets, shows and looks up the table of depth bands of an image
 # wear          the wear sheet of images: text, CSV or one HTML page
 # above-check   tests of these and of the calls on the store object
@@ -34,7 +35,7 @@ above-dist-check:
 	    || { echo "$$file is not what the proved program gives; make above-dist makes it again" >&2; exit 1; }; done
 	@echo "dist: $(ABOVE_DIST): what the proved program gives"
 
-C_ABOVE = bands wear above_check
+C_ABOVE = station bands wear above_check
 C_BANDS = bands bands_table copy store/units $(C_STORE)
 C_WEAR = wear_main wear_text wear_page copy store/units $(C_STORE)
 C_ABOVE_CHECK = above_check store/units $(C_STORE)
@@ -50,6 +51,7 @@ bands: $(C_OUT)/bands
 wear: $(C_OUT)/wear
 c-sanitize: $(C_ABOVE:%=$(C_OUT)/sanitize/%)
 
+$(eval $(call C_PROGRAM,station,$(C_STATION),$(ABOVE_LIBS) $(LIB)))
 $(eval $(call C_PROGRAM,bands,$(C_BANDS),$(ABOVE_LIBS) $(LIB)))
 $(eval $(call C_PROGRAM,wear,$(C_WEAR),$(ABOVE_LIBS) $(LIB)))
 $(eval $(call C_PROGRAM,above_check,$(C_ABOVE_CHECK),$(ABOVE_LIBS) $(LIB)))
