@@ -34,14 +34,7 @@ fn kept_entry(log: &[u8], state: &[u8], newest: &[u8], home: u64) -> u64
 }
 
 // The entry for a home that a writer sees: its newest own one, else that at the kept position.
-pub fn seen(
-    log: &[u8],
-    state: &[u8],
-    newest: &[u8],
-    st: State,
-    r: Writer,
-    home: u64,
-) -> u64
+pub fn seen(log: &[u8], state: &[u8], newest: &[u8], st: State, r: Writer, home: u64) -> u64
     requires { ⌜ Searchable (now log) st × (st ≡ stateOf (now state)) × (length (now state) ≡ 1024) × (length (now newest) ≡ 8 * st .homes) × (3 ≤ r .mode → (7 * st .start ≤ r .first) × (r .first < nextPosition st)) × (home < st .homes) ⌝ }
     ensures { λ x. ⌜ x ≡ codeOf (seenEntry (now (log .entry)) (now (newest .entry)) st r home) ⌝ }
 {

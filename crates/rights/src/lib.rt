@@ -35,7 +35,6 @@ pub fn may_read(
     area: &[u8],
     state: &[u8],
     newest: &[u8],
-   
     writer: u64,
     home: u64,
 ) -> bool
@@ -65,7 +64,6 @@ pub fn may_store_newest(
     area: &[u8],
     state: &[u8],
     newest: &[u8],
-   
     writer: u64,
     home: u64,
 ) -> bool

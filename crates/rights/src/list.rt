@@ -107,14 +107,7 @@ fn other_zero(
 }
 
 // Whether the whole list is all zeros, where block `own` is.
-fn no_list(
-    log: &[u8],
-    area: &[u8],
-    state: &[u8],
-    kept: &[u8],
-    from: usize,
-    own: usize,
-) -> bool
+fn no_list(log: &[u8], area: &[u8], state: &[u8], kept: &[u8], from: usize, own: usize) -> bool
     requires { ⌜ Listed (now log) (now area) (stateOf (now state)) (now kept) from × (length (now state) ≡ 1024) × (12 ≤ stateOf (now state) .homes) × (same (blockBy (now log) (now area) (stateOf (now state)) (now kept) from own) (zeros 64) ≡ true) ⌝ }
     ensures { λ r. ⌜ r ≡ same (blocksBy (now (log .entry)) (now (area .entry)) (stateOf (now (state .entry))) (now (kept .entry)) from 4) (zeros 256) ⌝ }
 {
