@@ -22,10 +22,9 @@ pub fn may_store_all(
     requires { ⌜ Usable (now log) (now area) (now state) × (length (now newest) ≡ 8 * homesIn (length (now area))) × (writer < 8) × (home + n ≤ homesIn (length (now area))) ⌝ }
     ensures { λ r. ⌜ r ≡ allOf (mayStore (homesIn (length (now (area .entry)))) (readList (lentAll (now (log .entry)) (now (area .entry)) (now (state .entry)) (now (newest .entry)) [] [] writer 0)) writer) home n ⌝ }
 {
-    let st = strip::state(state);
     let mut i: u64 = 0;
     while i < n {
-        if !rights::may_store_newest(log, area, state, newest, st, writer, home + i) {
+        if !rights::may_store_newest(log, area, state, newest, writer, home + i) {
             return false;
         }
         i += 1;
@@ -46,10 +45,9 @@ pub fn may_read_all(
     requires { ⌜ Usable (now log) (now area) (now state) × (length (now newest) ≡ 8 * homesIn (length (now area))) × (writer < 8) × (home + n ≤ homesIn (length (now area))) ⌝ }
     ensures { λ r. ⌜ r ≡ allOf (mayRead (homesIn (length (now (area .entry)))) (readList (lentAll (now (log .entry)) (now (area .entry)) (now (state .entry)) (now (newest .entry)) [] [] writer 0)) writer) home n ⌝ }
 {
-    let st = strip::state(state);
     let mut i: u64 = 0;
     while i < n {
-        if !rights::may_read(log, area, state, newest, st, writer, home + i) {
+        if !rights::may_read(log, area, state, newest, writer, home + i) {
             return false;
         }
         i += 1;

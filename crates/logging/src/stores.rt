@@ -90,8 +90,7 @@ fn store_verdict(
     if home >= areas::data_homes(area.len()) {
         return 5;
     }
-    let st = strip::state(state);
-    if !rights::may_store(log, area, state, st, writer, home) {
+    if !rights::may_store(log, area, state, writer, home) {
         return 19;
     }
     let r = strip::writer(state, writer as usize);
@@ -104,6 +103,7 @@ fn store_verdict(
     if r.home == home {
         return 0;
     }
+    let st = strip::state(state);
     may_log(state, st, writer as usize, batch.len())
 }
 

@@ -32,8 +32,7 @@ fn judge(
     if home >= areas::data_homes(area.len()) {
         return 5;
     }
-    let st = strip::state(state);
-    if !rights::may_read(log, area, state, newest, st, writer, home) {
+    if !rights::may_read(log, area, state, newest, writer, home) {
         return 20;
     }
     0
