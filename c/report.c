@@ -138,7 +138,7 @@ static void print_calls(const struct station *station)
     fputs("\nCalls\n", report);
     fprintf(report, "  %10lu done, %lu reads, %lu confirms and %lu trims among them\n", counters->calls, counters->reads,
             counters->confirms, counters->trims);
-    fprintf(report, "  %10lu starts and stops of pumps, %lu alarms raised or cleared, each a transaction of its own\n",
+    fprintf(report, "  %10lu starts and stops of pumps, %lu alarms raised or cleared, each a transaction\n",
             counters->pump_events, counters->alarm_events);
     fprintf(report, "  %10lu rounds of settling begun, in %lu steps between pump switchings\n", counters->rounds, counters->steps);
     fprintf(report, "  %10lu refused as they must be, with no lent byte changed; %lu because the log was full\n",
