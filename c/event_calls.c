@@ -51,7 +51,7 @@ bool call_event(struct station *station, unsigned writer, struct event *event)
         refusal_prepare(station);
     reply = call_event_bare(station, writer, event);
     if (full) {
-        call_refused_full(station, names[event->kind], reply, writer);
+        call_refused_full(station, of_pump ? "pump" : "alarm", reply, writer);
         return false;
     }
     if (reply.code == KAGUTIN_DONE && size)

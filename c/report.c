@@ -138,12 +138,12 @@ static void print_calls(const struct station *station)
     fputs("\nCalls\n", report);
     fprintf(report, "  %10lu done, %lu reads, %lu confirms and %lu trims among them\n", counters->calls, counters->reads,
             counters->confirms, counters->trims);
-    fprintf(report, "  %10lu starts and stops of pumps, %lu alarms raised or cleared, each a transaction of its own\n",
+    fprintf(report, "  %10lu starts and stops of pumps, %lu alarms raised or cleared, each a transaction\n",
             counters->pump_events, counters->alarm_events);
     fprintf(report, "  %10lu rounds of settling begun, in %lu steps between pump switchings\n", counters->rounds, counters->steps);
     fprintf(report, "  %10lu refused as they must be, with no lent byte changed; %lu because the log was full\n",
             counters->refusals, counters->full);
-    fprintf(report, "  %10lu stores and %lu reads of a home that the list of rights does not give the task: refused\n",
+    fprintf(report, "  %10lu stores and %lu reads of a home that the list of rights does not give: refused\n",
             counters->no_store, counters->no_read);
     fprintf(report, "  %10lu transactions aborted, %lu of them since the log stayed full\n", counters->aborts,
             counters->given_up);

@@ -122,6 +122,11 @@ assert not re.search(r'(src|href)=|url\(|@import|<script', text)
 assert '&quot;old&quot;' in text
 END
 fi
+gives 0 "a station's image" "$san/station" --cuts 40 --csv --file "$tmp/station.img"
+grep -q '^Panel: ' "$tmp/log"; report $? "its panel"
+sed 1d "$tmp/out" | cut -d, -f1-3,5- > "$tmp/sheet"
+gives 0 "its pumps by the wear sheet" "$san/wear" --csv --all --interval 50 --writer 7 "$tmp/station.img"
+sed 1d "$tmp/out" | cut -d, -f3-5,7,8 | sort | cmp - "$tmp/sheet" > "$tmp/log" 2>&1; report $? "the same starts, seconds and services"
 gives 0 "an image without events" "$out/above_check" --image "$tmp/new.img" 0 4
 gives 0 "a page of nothing" "$san/wear" --html "$tmp/none.html" --interval 1000000 "$tmp/new.img"
 gives 0 "a sheet of nothing" "$san/wear" "$tmp/new.img"
@@ -130,6 +135,9 @@ cp "$tmp/new.img" "$tmp/other.img"
 printf 'x' | dd of="$tmp/other.img" bs=1 seek=$((64 + 512 * 16 + 64 * 19 + 20)) conv=notrunc 2> /dev/null
 says "home 19 holds no record of pump 3" 3 "a pump's home with other bytes" "$san/wear" "$tmp/other.img" "$tmp/north.img"
 shows '^Wear sheet: 2 images'
+cp "$tmp/other.img" "$tmp/before.img"
+says "hold something else" 3 "the station on such an image" "$san/station" --file "$tmp/other.img"
+gives 0 "the image stays" cmp "$tmp/other.img" "$tmp/before.img"
 says "cannot be opened" 3 "a missing image among others" "$san/wear" "$tmp/missing.img" "$tmp/north.img"
 shows '^.*north.img  *[0-3]  '
 says "an image is expected" 2 "no image" "$san/wear"
