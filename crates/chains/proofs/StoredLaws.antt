@@ -139,6 +139,7 @@ module _ (g : Given) (n : ℕ) (c : Chain (g .log) (g .state) (g .block) (g .wri
             writer = c .writer;
             some = omega (arith, h .groups, c .some);
             few = omega (arith, h .groups, c .few);
+            homes = omega (arith, h .homes, c .known);
             log = omega (arith, h .log, h .groups, c .log);
             high = omega (arith, h .start, c .high);
             low = ⊎-elim (λ m. omega (arith, h .start, c .low)) (λ m. omega (arith, h .start, c .low)) (h .moved);

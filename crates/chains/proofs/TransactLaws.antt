@@ -44,6 +44,7 @@ chain-lent g k f =
       writer = k .writer;
       some = omega (arith, o .groups-same, u .groups-least);
       few = omega (arith, o .groups-same, u .groups-most);
+      known = omega (arith, o .homes-same, u .homes-most);
       log = omega (arith, o .groups-same, u .log-length);
       high = o .start-most;
       low = o .start-next;

@@ -18,6 +18,7 @@ pub record Chain (l s x : List ℕ) (w home n : ℕ) : Type 0 where
   pub writer : w < 8
   pub some : 4 ≤ stateOf s .groups
   pub few : stateOf s .groups ≤ 1024
+  pub known : stateOf s .homes ≤ 65535
   pub log : length l ≡ 64 + 512 * stateOf s .groups
   pub high : stateOf s .start ≤ 2 ^ 47
   pub low : stateOf s .start ≤ stateOf s .next
