@@ -120,4 +120,3 @@ link-ok start p st ts low high r l o = go (lastFrom none ts) refl (below-last lo
     go (some q) e b (inr k) =
         let f = last-is ts q e in
         rw (eq-eqb (st .last) 0 (k .0)) ((λ c. absurd (omega arith)), (λ c. inl refl))
-
