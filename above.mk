@@ -7,13 +7,10 @@
 # above-dist    makes dist/kagutin_UNIT.c again from the proved crates; above-dist-check fails if a byte of them differs
 # above-compare the calls against the second implementation: histories with cuts, damaged images, homes, strips and lengths
 
-# Each unit is one C file, dist/kagutin_UNIT.c, that calls the store's functions of dist/kagutin.c. Where dist/ has none of them the second
-# implementation stands in, so that programs and tests can be built.
+# Each unit is one C file, dist/kagutin_UNIT.c, that calls the store's functions of dist/kagutin.c.
 ABOVE = bands hours alarms
 ABOVE_DIST = $(ABOVE:%=dist/kagutin_%.c)
-ABOVE_STAND_IN = $(C_OUT)/libkagutin_above.a
-ABOVE_LIBS ?= $(if $(wildcard $(ABOVE_DIST)),$(ABOVE:%=$(C_OUT)/libkagutin_%.a),$(ABOVE_STAND_IN))
-ABOVE_SHIM = tests/above_shim/target/release/libabove_shim.a
+ABOVE_LIBS ?= $(ABOVE:%=$(C_OUT)/libkagutin_%.a)
 # Their crates, and the structs of their results.
 ABOVE_CRATES = band_calls hour_calls alarm_calls
 GENERATE_ABOVE = $(GENERATE_BESIDE) --import kagutin --header kagutin_chains.h --result answers::Reply=kagutin_reply
@@ -41,10 +38,6 @@ C_WEAR = wear_main wear_text wear_page copy store/units $(C_STORE)
 C_ABOVE_CHECK = above_check store/units $(C_STORE)
 C_ABOVE_PROGRAMS = $(C_ABOVE:%=$(C_OUT)/%) $(C_ABOVE:%=$(C_OUT)/sanitize/%)
 
-ifneq ($(filter $(ABOVE_STAND_IN),$(ABOVE_LIBS)),)
-$(C_ABOVE_PROGRAMS): C_LIBS += -lgcc_s -lpthread -ldl -lm
-endif
-
 .PHONY: bands wear above-check above-compare
 
 bands: $(C_OUT)/bands
@@ -67,14 +60,6 @@ $(ABOVE:%=$(C_OUT)/sanitize/libkagutin_%.a): $(C_OUT)/sanitize/lib%.a: dist/%.c 
 	$(CC) $(C_FLAGS) $(C_SANITIZE) -c $< -o $(C_OUT)/sanitize/$*.dist.o
 	rm -f $@
 	$(AR) rcs $@ $(C_OUT)/sanitize/$*.dist.o
-
-$(ABOVE_SHIM): $(wildcard tests/above_shim/src/*.rs second/src/*.rs)
-	cd tests/above_shim && cargo build --release --offline --quiet
-	@touch $@
-
-$(ABOVE_STAND_IN) $(ABOVE_STAND_IN:$(C_OUT)/%=$(C_OUT)/sanitize/%): $(ABOVE_SHIM)
-	@mkdir -p $(@D)
-	cp $< $@
 
 # The calls on the store object as an archive of their own. Installed, and gone again, where dist/ has the units.
 UNITS_LIB = $(C_OUT)/libkagutin_units.a
@@ -100,11 +85,9 @@ c-dist-above: $(ABOVE_HEADERS) c/store/units.c
 	install -m 644 $(ABOVE_HEADERS) $(DIST)
 	install -m 644 c/store/units.c $(DIST)/kagutin_units.c
 
-ifneq ($(wildcard $(ABOVE_DIST)),)
 install: install-above
 uninstall: uninstall-above
 c-dist: c-dist-above
-endif
 
 above-check: $(C_ABOVE_PROGRAMS)
 	CC="$(CC)" LIB="$(LIB)" sh tests/above-check.sh $(C_OUT)
@@ -113,8 +96,8 @@ c-check: above-check
 
 # Shared objects for the comparison: the store and the units in one, plain and with sanitizers.
 ABOVE_SOURCES = dist/kagutin.c $(ABOVE_DIST)
-ABOVE_PARTS = $(if $(wildcard $(ABOVE_DIST)),$(PORT_OUT)/above.so,$(ABOVE_SHIM:.a=.so))
-ABOVE_TIGHT = $(if $(wildcard $(ABOVE_DIST)),$(PORT_OUT)/above-sanitize.so)
+ABOVE_PARTS = $(PORT_OUT)/above.so
+ABOVE_TIGHT = $(PORT_OUT)/above-sanitize.so
 COMPARE_UNITS = compare/target/release/units
 
 $(PORT_OUT)/above.so: $(ABOVE_SOURCES) $(C_HEADERS)
@@ -125,11 +108,9 @@ $(PORT_OUT)/above-sanitize.so: $(ABOVE_SOURCES) $(C_HEADERS)
 	@mkdir -p $(@D)
 	gcc $(PORT_SHARED) $(C_SANITIZE) $(ABOVE_SOURCES) -o $@
 
-$(ABOVE_SHIM:.a=.so): $(ABOVE_SHIM)
-
 $(COMPARE_UNITS): $(COMPARE)
 
 above-compare: $(COMPARE_UNITS) $(ABOVE_PARTS) $(ABOVE_TIGHT)
 	$(COMPARE_UNITS) --seed $(SEED) --build $(ABOVE_PARTS)
-	$(if $(ABOVE_TIGHT),ASAN_OPTIONS=detect_leaks=0 LD_PRELOAD=$$(gcc -print-file-name=libasan.so) $(COMPARE_UNITS) --seed $(SEED) --tight \
-	    --histories 40 --damaged 2000 --build $(ABOVE_TIGHT) | tail -n 1)
+	ASAN_OPTIONS=detect_leaks=0 LD_PRELOAD=$$(gcc -print-file-name=libasan.so) $(COMPARE_UNITS) --seed $(SEED) --tight \
+	    --histories 40 --damaged 2000 --build $(ABOVE_TIGHT) | tail -n 1
