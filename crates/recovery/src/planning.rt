@@ -83,7 +83,7 @@ fn fence_size(found: u64, limit: u64) -> u64
 
 // Finds the bytes that a step of at most `limit` homes from the cursor on takes. If the batch has them, those homes are brought back into the data
 // copy, and their records stand at the batch's beginning.
-fn step(
+pub fn step(
     log: &[u8],
     area: &mut [u8],
     batch: &mut [u8],
@@ -148,26 +148,4 @@ fn step(
         done,
     );
     Made { size, next, more }
-}
-
-// The same, called in two places: the compiler then keeps `step`, with its tables, apart from a caller whose walk has tables too.
-pub fn step_from(
-    log: &[u8],
-    area: &mut [u8],
-    batch: &mut [u8],
-    groups: u64,
-    homes: u64,
-    start: u64,
-    end: u64,
-    cursor: u64,
-    limit: u64,
-) -> Made
-    requires { ⌜ Walkable (now log) groups start end × (homes ≤ 65535) × (length (now area) ≡ 64 * homes) ⌝ }
-    ensures { λ r. ⌜ StepMade (now (log .entry)) groups homes start end cursor limit (r .size) (r .next) (r .more) (now (area .entry)) (now (batch .entry))
-        (now (area .exit)) (now (batch .exit)) ⌝ }
-{
-    if cursor == 0 {
-        return step(log, area, batch, groups, homes, start, end, 0, limit);
-    }
-    step(log, area, batch, groups, homes, start, end, cursor, limit)
 }
