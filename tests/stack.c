@@ -1,5 +1,4 @@
-/* Deepest stack of each call in bytes, on a painted stack, at G 1,024 and D 65,535 with a full log. Status 1 above 32 KiB,
-   for a step of a round above 46 KiB: the archive's step calls the walk with its own tables on the stack. */
+/* Deepest stack of each call in bytes, on a painted stack, at G 1,024 and D 65,535 with a full log. Status 1 above 32 KiB. */
 #include <stdio.h>
 #include <stdlib.h>
 #include <string.h>
@@ -7,7 +6,7 @@
 
 #include "kagutin.h"
 
-enum { GROUPS = 1024, HOMES = 65535, FREE = 12 /* the homes behind the list of rights */, STACK = 1 << 18, LIMIT = 32768, STEP_LIMIT = 47104 };
+enum { GROUPS = 1024, HOMES = 65535, FREE = 12 /* the homes behind the list of rights */, STACK = 1 << 18, LIMIT = 32768 };
 enum { FORMAT, OPEN, BEGIN, STORE, COMMIT, FLUSH, CONFIRM, SETTLE, TRIM, READ, ABORT, RESERVE, BEGIN_ROUND, STEP_ROUND, USAGE, EMPTY };
 
 static uint8_t log_area[KAGUTIN_HEADER_SIZE + KAGUTIN_GROUP_SIZE * GROUPS], area[KAGUTIN_BLOCK_SIZE * HOMES];
@@ -123,7 +122,7 @@ int main(void)
     call(RESERVE);
     for (k = 0; k < EMPTY; k++) {
         printf("%-11s %zu\n", names[k], deepest[k]);
-        if (deepest[k] > (k == STEP_ROUND ? STEP_LIMIT : LIMIT))
+        if (deepest[k] > LIMIT)
             over = 1;
     }
     return over;

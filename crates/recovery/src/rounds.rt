@@ -1,5 +1,5 @@
 // Rounds: a settle in small steps. A round fixes the fenced position that it covers; each step brings some homes up to it, and the last one settles it.
-use super::planning::step_from;
+use super::planning::step;
 use answers::Reply;
 use model::State;
 ghost use mathlib.Core.Path.{_≡_};
@@ -63,7 +63,7 @@ pub fn step_round(
     }
     let n = st.round - 1 - 7 * st.start;
     let found = scan::walk(log, st.groups, st.homes, st.start, n);
-    let made = step_from(
+    let made = step(
         log,
         area,
         batch,
