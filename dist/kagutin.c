@@ -125,6 +125,12 @@ struct array_u16_64 {
     uint16_t at[64];
 };
 
+struct recovery__planning__Made {
+    uint64_t size;
+    uint64_t next;
+    bool more;
+};
+
 struct array_u16_1024 {
     uint16_t at[1024];
 };
@@ -136,12 +142,6 @@ struct array_u8_32 {
 struct replay__stepping__Reached {
     uint64_t home;
     uint64_t done;
-};
-
-struct recovery__planning__Made {
-    uint64_t size;
-    uint64_t next;
-    bool more;
 };
 
 struct model__Holder {
@@ -2968,28 +2968,49 @@ static inline uint64_t replay__restore__bring_back(struct slice_u8 log, struct s
 /* Returns how many bytes the records of the homes that the transactions of all closing entries below `end` touch take, and
    `more`. If the batch has them, those transactions are replayed into the data copy, and the homes' records stand at the batch's
    beginning. */
+static inline uint64_t recovery__planning__bring_all(struct slice_u8 log, struct slice_mut_u8 area, struct slice_mut_u8 batch,
+        struct slice_u16 last, struct slice_u16 heads, struct slice_u16 links, uint64_t groups, uint64_t homes, uint64_t start,
+        uint64_t end, uint64_t more)
+{
+    uint64_t t12, t13, t15;
+
+    t12 = replay__words__count(log, last, heads, links, groups, homes, start, end);
+    t13 = (68u * t12) + more;
+    t15 = (uint64_t)batch.len;
+    if (t15 < t13) {
+        return t13;
+    }
+    t15 = replay__restore__bring_back(log, area, batch, last, heads, links, groups, homes, start, end);
+    return t13;
+}
+
+/* Either of these, by tables of its own: all homes where `limit` is 0. It serves three calls, so it stays a function, and its
+   tables are not on the stack while they walk. */
+static inline struct recovery__planning__Made recovery__planning__bring_0(struct slice_u8 log, struct slice_mut_u8 area,
+        struct slice_mut_u8 batch, uint64_t groups, uint64_t homes, uint64_t start, uint64_t end, uint64_t cursor, uint64_t more)
+{
+    struct array_u16_7168 t11, t13;
+    struct array_u16_1024 t12;
+    uint64_t t14;
+
+    memset(&t11, 0, sizeof t11);
+    memset(&t12, 0, sizeof t12);
+    memset(&t13, 0, sizeof t13);
+    replay__gathering__gather(log, (struct slice_mut_u16){t11.at, 7168u}, (struct slice_mut_u16){t12.at, 1024u},
+            (struct slice_mut_u16){t13.at, 7168u}, groups, homes, start, end);
+    t14 = recovery__planning__bring_all(log, area, batch, (struct slice_u16){t11.at, 7168u}, (struct slice_u16){t12.at, 1024u},
+            (struct slice_u16){t13.at, 7168u}, groups, homes, start, end, more);
+    return (struct recovery__planning__Made){.size = t14, .next = cursor, .more = false};
+}
+
+/* Replay of all homes, for settle and open. */
 static inline uint64_t recovery__planning__bring_back(struct slice_u8 log, struct slice_mut_u8 area, struct slice_mut_u8 batch,
         uint64_t groups, uint64_t homes, uint64_t start, uint64_t end, uint64_t more)
 {
-    struct array_u16_7168 t9, t11;
-    struct array_u16_1024 t10;
-    uint64_t t12, t13, t28;
+    struct recovery__planning__Made t9;
 
-    memset(&t9, 0, sizeof t9);
-    memset(&t10, 0, sizeof t10);
-    memset(&t11, 0, sizeof t11);
-    replay__gathering__gather(log, (struct slice_mut_u16){t9.at, 7168u}, (struct slice_mut_u16){t10.at, 1024u},
-            (struct slice_mut_u16){t11.at, 7168u}, groups, homes, start, end);
-    t12 = replay__words__count(log, (struct slice_u16){t9.at, 7168u}, (struct slice_u16){t10.at, 1024u},
-            (struct slice_u16){t11.at, 7168u}, groups, homes, start, end);
-    t13 = (68u * t12) + more;
-    t28 = (uint64_t)batch.len;
-    if (t28 < t13) {
-        return t13;
-    }
-    t28 = replay__restore__bring_back(log, area, batch, (struct slice_u16){t9.at, 7168u}, (struct slice_u16){t10.at, 1024u},
-            (struct slice_u16){t11.at, 7168u}, groups, homes, start, end);
-    return t13;
+    t9 = recovery__planning__bring_0(log, area, batch, groups, homes, start, end, 0u, more);
+    return t9.size;
 }
 
 /* Writes a fence, the header with a new start, another fence, all groups as unused, and a last fence at an index of the batch. */
@@ -3537,42 +3558,54 @@ static inline uint64_t replay__stepping__bring_from(struct slice_u8 log, struct 
 
 /* Finds the bytes that a step of at most `limit` homes from the cursor on takes. If the batch has them, those homes are brought
    back into the data copy, and their records stand at the batch's beginning. */
-static inline struct recovery__planning__Made recovery__planning__step(struct slice_u8 log, struct slice_mut_u8 area,
-        struct slice_mut_u8 batch, uint64_t groups, uint64_t homes, uint64_t start, uint64_t end, uint64_t cursor, uint64_t limit)
+static inline struct recovery__planning__Made recovery__planning__bring_some(struct slice_u8 log, struct slice_mut_u8 area,
+        struct slice_mut_u8 batch, struct slice_u16 last, struct slice_u16 heads, struct slice_u16 links, uint64_t groups,
+        uint64_t homes, uint64_t start, uint64_t end, uint64_t cursor, uint64_t limit)
 {
-    struct array_u16_7168 t10, t12;
-    struct array_u16_1024 t11;
-    uint64_t t13, t14, t15, t17, t32;
+    uint64_t t13, t14, t15, t17, t19;
     bool t16;
 
-    memset(&t10, 0, sizeof t10);
-    memset(&t11, 0, sizeof t11);
-    memset(&t12, 0, sizeof t12);
-    replay__gathering__gather(log, (struct slice_mut_u16){t10.at, 7168u}, (struct slice_mut_u16){t11.at, 1024u},
-            (struct slice_mut_u16){t12.at, 7168u}, groups, homes, start, end);
-    t13 = replay__stepping__count_from(log, (struct slice_u16){t10.at, 7168u}, (struct slice_u16){t11.at, 1024u},
-            (struct slice_u16){t12.at, 7168u}, groups, homes, start, end, cursor, limit);
+    t13 = replay__stepping__count_from(log, last, heads, links, groups, homes, start, end, cursor, limit);
     t14 = recovery__planning__least(t13, limit);
-    t32 = recovery__planning__fence_size(t13, limit);
-    t15 = (68u * t14) + t32;
+    t19 = recovery__planning__fence_size(t13, limit);
+    t15 = (68u * t14) + t19;
     t16 = limit < t13;
     if ((uint64_t)batch.len < t15) {
         return (struct recovery__planning__Made){.size = t15, .next = cursor, .more = t16};
     }
-    t17 = replay__stepping__bring_from(log, area, batch, (struct slice_u16){t10.at, 7168u}, (struct slice_u16){t11.at, 1024u},
-            (struct slice_u16){t12.at, 7168u}, groups, homes, start, end, cursor, t14);
+    t17 = replay__stepping__bring_from(log, area, batch, last, heads, links, groups, homes, start, end, cursor, t14);
     return (struct recovery__planning__Made){.size = t15, .next = t17, .more = t16};
 }
 
-/* The same, called in two places: the compiler then keeps `step`, with its tables, apart from a caller whose walk has tables too.
-   */
-static inline struct recovery__planning__Made recovery__planning__step_from(struct slice_u8 log, struct slice_mut_u8 area,
+/* Either of these, by tables of its own: all homes where `limit` is 0. It serves three calls, so it stays a function, and its
+   tables are not on the stack while they walk. */
+static inline struct recovery__planning__Made recovery__planning__bring(struct slice_u8 log, struct slice_mut_u8 area,
+        struct slice_mut_u8 batch, uint64_t groups, uint64_t homes, uint64_t start, uint64_t end, uint64_t cursor, uint64_t limit,
+        uint64_t more)
+{
+    struct array_u16_7168 t11, t13;
+    struct array_u16_1024 t12;
+    uint64_t t14;
+
+    memset(&t11, 0, sizeof t11);
+    memset(&t12, 0, sizeof t12);
+    memset(&t13, 0, sizeof t13);
+    replay__gathering__gather(log, (struct slice_mut_u16){t11.at, 7168u}, (struct slice_mut_u16){t12.at, 1024u},
+            (struct slice_mut_u16){t13.at, 7168u}, groups, homes, start, end);
+    if (limit == 0u) {
+        t14 = recovery__planning__bring_all(log, area, batch, (struct slice_u16){t11.at, 7168u}, (struct slice_u16){t12.at,
+                1024u}, (struct slice_u16){t13.at, 7168u}, groups, homes, start, end, more);
+        return (struct recovery__planning__Made){.size = t14, .next = cursor, .more = false};
+    }
+    return recovery__planning__bring_some(log, area, batch, (struct slice_u16){t11.at, 7168u}, (struct slice_u16){t12.at, 1024u},
+            (struct slice_u16){t13.at, 7168u}, groups, homes, start, end, cursor, limit);
+}
+
+/* A step of at most `limit` homes from the cursor on. */
+static inline struct recovery__planning__Made recovery__planning__step(struct slice_u8 log, struct slice_mut_u8 area,
         struct slice_mut_u8 batch, uint64_t groups, uint64_t homes, uint64_t start, uint64_t end, uint64_t cursor, uint64_t limit)
 {
-    if (cursor == 0u) {
-        return recovery__planning__step(log, area, batch, groups, homes, start, end, 0u, limit);
-    }
-    return recovery__planning__step(log, area, batch, groups, homes, start, end, cursor, limit);
+    return recovery__planning__bring(log, area, batch, groups, homes, start, end, cursor, limit, 0u);
 }
 
 /* Moves the round on by the next `homes` homes, or all that remain: then it is over. */
@@ -3601,7 +3634,7 @@ static inline struct answers__Reply recovery__rounds__step_round(struct slice_u8
         return (struct answers__Reply){.code = 21u, .figure = 0u, .size = 0u};
     }
     t9 = scan__commits__walk(log, t7.groups, t7.homes, t7.start, (t7.round - 1u) - (7u * t7.start));
-    t10 = recovery__planning__step_from(log, area, batch, t7.groups, t7.homes, t7.start, t9.end, t7.cursor, homes);
+    t10 = recovery__planning__step(log, area, batch, t7.groups, t7.homes, t7.start, t9.end, t7.cursor, homes);
     t11 = t10.size;
     t25 = (uint64_t)batch.len;
     if (t25 < t11) {
