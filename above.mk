@@ -80,9 +80,9 @@ install-above: $(UNITS_LIB) $(ABOVE_LIBS) $(ABOVE_HEADERS)
 uninstall-above:
 	rm -f $(ABOVE_HEADERS:include/%=$(DESTDIR)$(PREFIX)/include/%) $(ABOVE_INSTALLED:%=$(DESTDIR)$(PREFIX)/lib/%)
 
-c-dist-above: $(ABOVE_HEADERS) c/store/units.c
+c-dist-above: $(ABOVE_HEADERS) $(ABOVE_DIST) c/store/units.c
 	install -d $(DIST)
-	install -m 644 $(ABOVE_HEADERS) $(DIST)
+	install -m 644 $(ABOVE_HEADERS) $(ABOVE_DIST) $(DIST)
 	install -m 644 c/store/units.c $(DIST)/kagutin_units.c
 
 install: install-above
