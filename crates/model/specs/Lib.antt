@@ -27,7 +27,6 @@ pub mod Kept
 pub mod Guarded
 pub mod Rounds
 pub mod RoundEnds
-pub mod Isolation
 pub mod Hidden
 pub mod Units
 pub mod Together

@@ -19,7 +19,7 @@ use Rattle.model.specs.History.{Service, settles, trims, reads, roundBegins, ro
 use Rattle.model.specs.Demands.{LiveThroughout}
 use Rattle.model.specs.Store.{Store, nextStart, toStep, numbered, inRound, roundOver, trimmedTo, afterService, listOf, Reply, told, replyService, reply, replyOf, afterReply, follow, AnswersThroughout}
 use Rattle.model.specs.Store as store
-use Rattle.model.specs.Isolation.{Each, both, more, StoreAlike, CallAlike, equal, stored, followed, Denied, DeniedThroughout, ToldSame, ToldSameThroughout}
+use Rattle.claims.specs.Isolation.{Each, both, more, StoreAlike, CallAlike, equal, stored, followed, Denied, DeniedThroughout, ToldSame, ToldSameThroughout}
 use Rattle.model.specs.Witnesses.{calls}
 use Rattle.model.proofs.strip.QuestionLaws.{ask-passed}
 use Rattle.model.proofs.trace.TraceLaws.{All}
