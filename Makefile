@@ -1,5 +1,5 @@
 # make            builds the library and the C programs from dist/, with a C compiler alone
-# make run        a pump station on the store: power cuts at random, each opening checked, a wear sheet at the end
+# make run        a pump station on the store: power cuts at random, each opening checked; alarm panel and wear sheet at the end
 # make test       runs every test and every proof; the prover's verdict is the last line
 # make dist       dist/kagutin.c again from the proved program; the gate fails where it differs
 # make compare    a long comparison of the library, built in many ways, with the second implementation, call by call
@@ -8,7 +8,7 @@
 # make bench      instructions and times of each call against the second implementation; other stores, if installed
 # make bench-docs tables of docs/PERFORMANCE.md and docs/ring-cost.svg from the last bench
 # make install    headers, libraries and pkg-config file, under DESTDIR and PREFIX; make uninstall takes them away
-# make inspect    the inspector, target/c/inspect; make station, quickstart, gauges and inflow the other programs
+# make inspect    the inspector, target/c/inspect; make station, quickstart, gauges, inflow, bands and wear the other programs
 # make c-check    tests of the C side alone; make c-kills KILLS=N kills a process at work N times
 # make clean      removes all that was built and proved
 # make help       this list
@@ -29,7 +29,7 @@ INFLOW_ARCHIVE = target/staticlib/libinflow.a
 # The toolchain that this repository was checked with, as 'rt version' prints it.
 RATTLE = rattle-kit-5b-plain logic 097e4c862dff5811
 
-all: station inspect quickstart gauges inflow
+all: station inspect quickstart gauges inflow bands wear
 
 help:
 	@sed -n '/^#/!q; s/^# //p' Makefile
@@ -85,6 +85,7 @@ test-library: bench/target/release/bench
 	$(MAKE) --no-print-directory dist-check
 	$(MAKE) --no-print-directory generator-check
 	$(MAKE) --no-print-directory port-check
+	$(MAKE) --no-print-directory above-compare
 	$(MAKE) --no-print-directory board-check RECORD_LIB=$(ARCHIVE)
 	bench/target/release/bench --seed $(SEED) --no-counts --out target/bench-test > /dev/null && echo "bench: the same answers on both sides"
 	$(MAKE) --no-print-directory c-check

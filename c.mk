@@ -26,7 +26,7 @@ C_OUT = target/c
 C_HEADERS = $(wildcard include/*.h c/*.h c/store/*.h)
 
 C_STORE = store/store store/usage store/rights store/batch store/memory store/file store/file_io store/fram
-C_STATION = station_main options power tasks wear rights calls refusals report station book rule driver driver_file $(C_STORE)
+C_STATION = station_main options power tasks wear rights calls event_calls refusals report station events book rule driver driver_file $(C_STORE)
 C_INSPECT = inspect inspect_image inspect_fate inspect_rights inspect_text inspect_json rule
 C_DRIVER_CHECK = driver_check driver driver_file $(C_STORE)
 C_QUICKSTART = quickstart $(C_STORE)
@@ -40,7 +40,7 @@ C_FRAM_CHECK = fram_check play $(C_STORE)
 C_GAUGES = gauges readings levels_plot
 C_GAUGES_COST = gauges_cost
 C_INFLOW = inflow
-C_PROGRAMS = station inspect quickstart driver_check store_check reserve_check round_check rights_check file_check kill_check fram_check gauges gauges_cost inflow
+C_PROGRAMS = inspect quickstart driver_check store_check reserve_check round_check rights_check file_check kill_check fram_check gauges gauges_cost inflow
 
 .PHONY: station inspect quickstart gauges inflow c-sanitize c-check c-kills c-dist install uninstall c-clean
 
@@ -76,7 +76,6 @@ $(C_OUT)/sanitize/$(1): $(2:%=$(C_OUT)/sanitize/%.o) $(3:$(C_OUT)/%=$(C_OUT)/san
 	$$(CC) $$(C_SANITIZE) $$^ $(if $(3),$$(C_LIBS)) -o $$@
 endef
 
-$(eval $(call C_PROGRAM,station,$(C_STATION),$(LIB)))
 $(eval $(call C_PROGRAM,inspect,$(C_INSPECT),))
 $(eval $(call C_PROGRAM,quickstart,$(C_QUICKSTART),$(LIB)))
 $(eval $(call C_PROGRAM,driver_check,$(C_DRIVER_CHECK),$(LIB)))
@@ -139,6 +138,7 @@ uninstall:
 	rm -f $(DESTDIR)$(PREFIX)/lib/libkagutin_store.a $(DESTDIR)$(PREFIX)/lib/pkgconfig/kagutin.pc
 
 include port.mk
+include above.mk
 
 c-clean:
 	rm -rf $(C_OUT)

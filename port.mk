@@ -10,8 +10,8 @@
 # Crates whose extern "C" functions are the library, the header that declares them, and the structs of their results.
 EXPORTS = kagutin
 DIST_C = dist/kagutin.c
-DIST_HEADERS = kagutin.h
-DIST_RESULTS = answers::Reply=kagutin_reply
+DIST_HEADERS = kagutin.h kagutin_chains.h
+DIST_RESULTS = answers::Reply=kagutin_reply model::Usage=kagutin_places
 
 PORT_OUT = target/port
 GENERATE_WORDS = --rlib target/rlib --source crates $(EXPORTS:%=--export %) $(DIST_HEADERS:%=--header %) $(DIST_RESULTS:%=--result %)
@@ -31,6 +31,7 @@ dist:
 	@rt check $(EXPORTS) $(BESIDE) > $(PORT_OUT)/proved.log 2>&1 || { cat $(PORT_OUT)/proved.log; exit 1; }
 	@$(GENERATE) --out $(DIST_C)
 	@$(foreach b,$(BESIDE),$(GENERATE_$(b)) --out dist/kagutin_$(b).c &&) true
+	@$(MAKE) --no-print-directory above-dist
 
 dist-check:
 	@rm -rf $(PORT_OUT)/again && mkdir -p $(PORT_OUT)/again
@@ -39,11 +40,13 @@ dist-check:
 	@for file in $(DIST_FILES); do cmp $(PORT_OUT)/again/$${file#dist/} $$file \
 	    || { echo "$$file is not what the proved program gives; make dist makes it again" >&2; exit 1; }; done
 	@echo "dist: $(DIST_FILES): what the proved program gives"
+	@$(MAKE) --no-print-directory above-dist-check
 
 # Tests of the generator itself.
 generator-check:
 	python3 tests/forms.py
 	python3 tests/generator.py $(GENERATE_WORDS)
+	python3 tests/imports.py
 
 # The libraries of the C programs.
 DIST_LIBS = kagutin $(BESIDE:%=kagutin_%)

@@ -330,7 +330,7 @@ static uint64_t entries_from(const struct book_entry *entries, size_t count, uin
     return count;
 }
 
-void book_usage(const struct book *book, struct kgt_places *usage)
+void book_usage(const struct book *book, struct kagutin_places *usage)
 {
     uint64_t from = KAGUTIN_GROUP_ENTRIES * book->start;
     size_t i;

@@ -118,7 +118,7 @@ uint64_t book_trim_start(const struct book *book);
 void book_trim(struct book *book);
 
 /* The log's places by what the calls made of them. */
-void book_usage(const struct book *book, struct kgt_places *usage);
+void book_usage(const struct book *book, struct kagutin_places *usage);
 
 /* The block that a read must give. */
 const uint8_t *book_read(const struct book *book, unsigned writer, size_t home);

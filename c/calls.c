@@ -4,18 +4,13 @@
 #include <stdlib.h>
 #include <string.h>
 
+#include "calls_inner.h"
 #include "refusals.h"
 #include "report.h"
 #include "rights.h"
 #include "rule.h"
 
-#define AREAS(s) (s)->driver.log, (s)->driver.log_size, (s)->driver.area, (s)->driver.area_size
-#define STATE(s) (s)->driver.state, sizeof (s)->driver.state
-#define NEWEST(s) (s)->driver.newest, (s)->driver.newest_size
-#define BATCH(s) (s)->driver.batch, (s)->driver.batch_size
-
-static void expect(struct station *station, const char *call, struct kagutin_reply reply,
-                   uint64_t figure, uint64_t size)
+void call_expect(struct station *station, const char *call, struct kagutin_reply reply, uint64_t figure, uint64_t size)
 {
     station->counters.calls++;
     if (reply.code != KAGUTIN_DONE)
@@ -29,14 +24,13 @@ static void expect(struct station *station, const char *call, struct kagutin_rep
                          (unsigned long long)reply.size, (unsigned long long)size);
 }
 
-static void submit(struct station *station, uint64_t size)
+void call_submit(struct station *station, uint64_t size)
 {
     if (!driver_submit(&station->driver, size))
         station_mismatch(station, "%s", driver_message(&station->driver));
 }
 
-/* Checks that a batch begins with a GW of the group that the book fills. */
-static void expect_group(struct station *station, const char *call, uint64_t group)
+void call_expect_group(struct station *station, const char *call, uint64_t group)
 {
     const struct driver *driver = &station->driver;
     struct kgt_record record;
@@ -172,7 +166,7 @@ void call_open(struct station *station)
         exit(EXIT_TROUBLE);
     }
     reply = kagutin_open(AREAS(station), STATE(station), NEWEST(station), BATCH(station));
-    expect(station, "open", reply, walk.commit_count, reply.size);
+    call_expect(station, "open", reply, walk.commit_count, reply.size);
     rule_free(&walk);
     at = expect_homes(station, "open", (size_t)reply.size);
     at = expect_fence(station, "open", at, (size_t)reply.size);
@@ -186,14 +180,16 @@ void call_open(struct station *station)
         book_start(&station->book, driver->groups, driver->homes, driver->area);
     expect_area(station, "open", station->book.kept);
     book_opened(&station->book, start);
-    submit(station, reply.size);
+    call_submit(station, reply.size);
 }
 
 void call_usage(struct station *station)
 {
-    struct kgt_places *usage = &station->usage, book;
+    struct kagutin_places *usage = &station->usage, book;
 
-    kgt_count(station->driver.log, station->driver.state, usage);
+    *usage = kagutin_usage(AREAS(station), STATE(station));
+    if (usage->code != KAGUTIN_DONE)
+        station_mismatch(station, "usage answered %llu", (unsigned long long)usage->code);
     book_usage(&station->book, &book);
     if (usage->promised != book.promised)
         station_mismatch(station, "%llu places are promised, by the book %llu", (unsigned long long)usage->promised,
@@ -208,8 +204,7 @@ void call_usage(struct station *station)
                          (unsigned long long)book.holder, (unsigned long long)book.first);
 }
 
-/* A call was refused since the log is full: says why it is. */
-static void refused_full(struct station *station, const char *call, struct kagutin_reply reply, unsigned writer)
+void call_refused_full(struct station *station, const char *call, struct kagutin_reply reply, unsigned writer)
 {
     refusal_check(station, call, reply, KAGUTIN_FULL);
     call_usage(station);
@@ -218,7 +213,7 @@ static void refused_full(struct station *station, const char *call, struct kagut
 
 void call_begin(struct station *station, unsigned writer)
 {
-    expect(station, "begin", kagutin_begin(AREAS(station), STATE(station), writer), 0, 0);
+    call_expect(station, "begin", kagutin_begin(AREAS(station), STATE(station), writer), 0, 0);
     book_begin(&station->book, writer, 0);
 }
 
@@ -234,7 +229,7 @@ bool call_reserve(struct station *station, unsigned writer, uint64_t places)
         refusal_check(station, "reserve", reply, KAGUTIN_NO_PLACES);
         return false;
     }
-    expect(station, "reserve", reply, 0, 0);
+    call_expect(station, "reserve", reply, 0, 0);
     book_begin(&station->book, writer, places);
     station->counters.reserves++;
     call_usage(station);
@@ -243,7 +238,7 @@ bool call_reserve(struct station *station, unsigned writer, uint64_t places)
 
 void call_abort(struct station *station, unsigned writer)
 {
-    expect(station, "abort", kagutin_abort(AREAS(station), STATE(station), writer), 0, 0);
+    call_expect(station, "abort", kagutin_abort(AREAS(station), STATE(station), writer), 0, 0);
     book_abort(&station->book, writer);
     station->counters.aborts++;
     call_usage(station);
@@ -267,14 +262,14 @@ bool call_store(struct station *station, unsigned writer, size_t home, const uin
         refusal_prepare(station);
     reply = kagutin_store(AREAS(station), STATE(station), block, KAGUTIN_BLOCK_SIZE, BATCH(station), writer, home);
     if (full) {
-        refused_full(station, "store", reply, writer);
+        call_refused_full(station, "store", reply, writer);
         return false;
     }
-    expect(station, "store", reply, 0, size);
+    call_expect(station, "store", reply, 0, size);
     if (size)
-        expect_group(station, "store", group);
+        call_expect_group(station, "store", group);
     book_store(&station->book, writer, home, block);
-    submit(station, reply.size);
+    call_submit(station, reply.size);
     return true;
 }
 
@@ -290,14 +285,14 @@ bool call_commit(struct station *station, unsigned writer)
         refusal_prepare(station);
     reply = kagutin_commit(AREAS(station), STATE(station), NEWEST(station), BATCH(station), writer);
     if (full) {
-        refused_full(station, "commit", reply, writer);
+        call_refused_full(station, "commit", reply, writer);
         return false;
     }
-    expect(station, "commit", reply, book_commit(&station->book, writer), size);
+    call_expect(station, "commit", reply, book_commit(&station->book, writer), size);
     if (size)
-        expect_group(station, "commit", group);
+        call_expect_group(station, "commit", group);
     station->counters.commits += logs;
-    submit(station, reply.size);
+    call_submit(station, reply.size);
     return true;
 }
 
@@ -314,13 +309,13 @@ bool call_flush(struct station *station)
         refusal_check(station, "flush", reply, KAGUTIN_PROMISED);
         return false;
     }
-    expect(station, "flush", reply, 0, part ? KAGUTIN_FLUSH_BATCH : KAGUTIN_FN_SIZE);
+    call_expect(station, "flush", reply, 0, part ? KAGUTIN_FLUSH_BATCH : KAGUTIN_FN_SIZE);
     if (part)
-        expect_group(station, "flush", group);
+        call_expect_group(station, "flush", group);
     if (memcmp(station->driver.batch + reply.size - 2, "FN", 2) != 0)
         station_mismatch(station, "flush wrote no fence");
     book_flush(&station->book);
-    submit(station, reply.size);
+    call_submit(station, reply.size);
     call_usage(station);
     return true;
 }
@@ -332,7 +327,7 @@ void call_confirm(struct station *station)
 
     if (!driver_run(&station->driver) || !driver_confirm(&station->driver, &reply))
         station_trouble(station);
-    expect(station, "confirm", reply, station->book.fenced, 0);
+    call_expect(station, "confirm", reply, station->book.fenced, 0);
     book_confirm(&station->book, reply.figure);
     station->counters.confirms++;
 }
@@ -346,18 +341,18 @@ void call_settle(struct station *station)
     if (station->book.in_round)
         call_step_round(station, station->driver.homes);
     reply = kagutin_settle(AREAS(station), STATE(station), BATCH(station));
-    expect(station, "settle", reply, 0, reply.size);
+    call_expect(station, "settle", reply, 0, reply.size);
     at = expect_homes(station, "settle", (size_t)reply.size);
     if (expect_fence(station, "settle", at, (size_t)reply.size) != reply.size)
         station_mismatch(station, "settle wrote more than homes and a fence");
     book_settle(&station->book);
     expect_area(station, "settle", station->book.home);
-    submit(station, reply.size);
+    call_submit(station, reply.size);
 }
 
 void call_begin_round(struct station *station)
 {
-    expect(station, "begin_round", kagutin_begin_round(AREAS(station), STATE(station)), 0, 0);
+    call_expect(station, "begin_round", kagutin_begin_round(AREAS(station), STATE(station)), 0, 0);
     book_begin_round(&station->book);
     station->counters.rounds++;
 }
@@ -368,7 +363,7 @@ void call_step_round(struct station *station, size_t homes)
     bool last = book_step_round(&station->book, homes);
     struct kagutin_reply reply = kagutin_step_round(AREAS(station), STATE(station), BATCH(station), homes);
 
-    expect(station, "step_round", reply, 0, KAGUTIN_HW_SIZE * now + (last ? KAGUTIN_FN_SIZE : 0));
+    call_expect(station, "step_round", reply, 0, KAGUTIN_HW_SIZE * now + (last ? KAGUTIN_FN_SIZE : 0));
     at = expect_homes(station, "step_round", (size_t)reply.size);
     if (last)
         at = expect_fence(station, "step_round", at, (size_t)reply.size);
@@ -378,7 +373,7 @@ void call_step_round(struct station *station, size_t homes)
     if (last && !book_is_ahead(&station->book))
         station_mismatch(station, "a round left other homes than a settle at its beginning");
     station->counters.steps++;
-    submit(station, reply.size);
+    call_submit(station, reply.size);
 }
 
 void call_trim(struct station *station)
@@ -395,12 +390,12 @@ void call_trim(struct station *station)
         station->worn_out = true;
         return;
     }
-    expect(station, "trim", reply, 0, moves ? KAGUTIN_TRIM_BATCH : 0);
+    call_expect(station, "trim", reply, 0, moves ? KAGUTIN_TRIM_BATCH : 0);
     if (moves && expect_header(station, "trim", 0, (size_t)reply.size) != start)
         station_mismatch(station, "trim did not move the start to %llu", (unsigned long long)start);
     book_trim(&station->book);
     station->counters.trims += moves;
-    submit(station, reply.size);
+    call_submit(station, reply.size);
     call_usage(station);
 }
 
@@ -416,7 +411,7 @@ bool call_read(struct station *station, unsigned writer, size_t home, uint8_t *b
         refusal_check(station, "read", reply, KAGUTIN_NO_READ);
         return false;
     }
-    expect(station, "read", reply, 0, 0);
+    call_expect(station, "read", reply, 0, 0);
     if (memcmp(block, book_read(&station->book, writer, home), KAGUTIN_BLOCK_SIZE) != 0)
         station_mismatch(station, "writer %u reads another block of home %lu than the book has", writer,
                          (unsigned long)home);

@@ -12,7 +12,7 @@ static const char usage[] =
     "  --seed N     repeats a run (default 1)\n"
     "  --cuts N     power cuts, 1 to 1000000 (default 300)\n"
     "  --groups N   groups of the log, 4 to 1024 (default 24)\n"
-    "  --homes N    home blocks, 24 to 65535 (default 48)\n"
+    "  --homes N    home blocks, 30 to 65535 (default 48)\n"
     "  --file PATH  image file, made if missing, else gone on with; synced (default: in memory)\n"
     "  --keep-cut   with --file: stops after the last cut, before the opening, so that the image can be\n"
     "               inspected\n"

@@ -4,10 +4,10 @@
 #include <stdlib.h>
 
 #include "calls.h"
+#include "event_calls.h"
 #include "refusals.h"
 #include "report.h"
 #include "tasks.h"
-#include "wear.h"
 
 void power_refuse_image(struct station *station, const char *why)
 {
@@ -66,6 +66,7 @@ static void power_cut(struct station *station, bool opening, struct report_cut *
         station_trouble(station);
     cut->persisted = choice.persisted;
     book_power_cut(&station->book, groups, &cut->book);
+    events_power_cut(&station->events, cut->book.run);
     tasks_power_cut(station);
     station->opened = false;
     station->counters.cuts++;
@@ -100,10 +101,11 @@ static void power_up(struct station *station, struct report_cut *cut)
                 report_left(station, cut);
             return;
         }
-        if (!cut && !wear_fits(station))
-            power_refuse_image(station, "its pumps' homes are no pumps' blocks");
-        wear_check(station);
+        if (!cut && !events_start(&station->events, station->driver.area))
+            power_refuse_image(station, "its homes of pumps and alarms hold something else");
+        call_check_events(station);
         if (!cut) {
+            station->second = events_latest(&station->events.kept);
             tasks_set_rights(station);
             return;
         }
@@ -141,6 +143,7 @@ static void work(struct station *station)
     uint64_t flushes = station_random(station, 2) ? 25 : 200; /* one in so many steps */
 
     station->abort_odds = station_random(station, 3) ? 10 : 2;
+    station->storm = station_random(station, 4) == 0;
     while (steps-- > 0 && !station_stops(station)) {
         tasks_step(station);
         if (station_random(station, flushes * calm) == 0)

@@ -11,6 +11,7 @@
 #define STATE(s) (s)->driver.state, sizeof (s)->driver.state
 #define NEWEST(s) (s)->driver.newest, (s)->driver.newest_size
 #define BATCH(s) (s)->driver.batch, (s)->driver.batch_size
+#define MEMORY(s) LOG(s), AREA(s), STATE(s), NEWEST(s), BATCH(s)
 
 enum { PARTS = 5 };
 
@@ -119,7 +120,7 @@ static void try_turns(struct station *s)
                   KAGUTIN_NO_PLACES);
     refusal_check(s, "abort", kagutin_abort(LOG(s), AREA(s), STATE(s), writer), KAGUTIN_NOT_OPEN);
     refusal_check(s, "commit", kagutin_commit(LOG(s), AREA(s), STATE(s), NEWEST(s), BATCH(s), writer), KAGUTIN_NOT_OPEN);
-    refusal_check(s, "store", kagutin_store(LOG(s), AREA(s), STATE(s), block, sizeof block, BATCH(s), writer, STATION_RUN(writer)),
+    refusal_check(s, "store", kagutin_store(LOG(s), AREA(s), STATE(s), block, sizeof block, BATCH(s), writer, STATION_OWN(writer)),
                   KAGUTIN_NOT_OPEN);
 }
 
@@ -159,6 +160,31 @@ static void try_rights(struct station *s)
                       KAGUTIN_NO_READ);
 }
 
+/* Events of pumps out of turn or too early, alarms that are open or not, and those of another task. */
+static void try_events(struct station *s)
+{
+    unsigned pump = (unsigned)station_random(s, KAGUTIN_PUMPS), alarm = (unsigned)station_random(s, EVENT_ALARMS);
+    const struct event_pump *sum = &s->events.newest.pumps[pump];
+    bool open = s->events.newest.alarms[alarm].alarm_class;
+    uint32_t early = (uint32_t)sum->last - 1;
+
+    refusal_check(s, "pump_start", kagutin_pump_start(MEMORY(s), RUN_HOURS, KAGUTIN_PUMPS, s->second), KAGUTIN_BAD_PUMP);
+    refusal_check(s, "pump_stop", kagutin_pump_stop(MEMORY(s), SERVICE, pump, s->second), KAGUTIN_NO_STORE);
+    refusal_check(s, "alarm_clear", kagutin_alarm_clear(MEMORY(s), RUN_HOURS, (uint16_t)alarm), KAGUTIN_NO_STORE);
+    if (sum->running)
+        refusal_check(s, "pump_start", kagutin_pump_start(MEMORY(s), RUN_HOURS, pump, s->second), KAGUTIN_WRONG_TURN);
+    else
+        refusal_check(s, "pump_stop", kagutin_pump_stop(MEMORY(s), RUN_HOURS, pump, s->second), KAGUTIN_WRONG_TURN);
+    if (sum->running && sum->last)
+        refusal_check(s, "pump_stop", kagutin_pump_stop(MEMORY(s), RUN_HOURS, pump, early), KAGUTIN_BAD_SECOND);
+    if (open)
+        refusal_check(s, "alarm_arrive", kagutin_alarm_arrive(MEMORY(s), ALARMS, (uint16_t)alarm, 1, s->second), KAGUTIN_BAD_ALARM);
+    else
+        refusal_check(s, "alarm_clear", kagutin_alarm_clear(MEMORY(s), ALARMS, (uint16_t)alarm), KAGUTIN_BAD_ALARM);
+    if (!open && events_open(&s->events.newest) == KAGUTIN_MAX_ALARMS)
+        refusal_check(s, "alarm_arrive", kagutin_alarm_arrive(MEMORY(s), ALARMS, (uint16_t)alarm, 1, s->second), KAGUTIN_ALARMS_FULL);
+}
+
 /* A state that is out of order, or belongs to other areas. */
 static void try_bad_state(struct station *s)
 {
@@ -174,7 +200,7 @@ static void try_bad_state(struct station *s)
 void refusal_try(struct station *station)
 {
     refusal_prepare(station);
-    switch (station_random(station, 6)) {
+    switch (station_random(station, 7)) {
     case 0:
         try_arguments(station);
         break;
@@ -189,6 +215,9 @@ void refusal_try(struct station *station)
         break;
     case 4:
         try_rights(station);
+        break;
+    case 5:
+        try_events(station);
         break;
     default:
         try_bad_state(station);

@@ -70,7 +70,7 @@ void report_left(struct station *station, const struct report_cut *cut)
 
 void report_full(struct station *station, const char *call, unsigned writer)
 {
-    const struct kgt_places *usage = &station->usage;
+    const struct kagutin_places *usage = &station->usage;
     struct counters *counters = &station->counters;
 
     counters->full_live += (unsigned long)usage->live;
@@ -138,10 +138,12 @@ static void print_calls(const struct station *station)
     fputs("\nCalls\n", report);
     fprintf(report, "  %10lu done, %lu reads, %lu confirms and %lu trims among them\n", counters->calls, counters->reads,
             counters->confirms, counters->trims);
+    fprintf(report, "  %10lu starts and stops of pumps, %lu alarms raised or cleared, each a transaction\n",
+            counters->pump_events, counters->alarm_events);
     fprintf(report, "  %10lu rounds of settling begun, in %lu steps between pump switchings\n", counters->rounds, counters->steps);
     fprintf(report, "  %10lu refused as they must be, with no lent byte changed; %lu because the log was full\n",
             counters->refusals, counters->full);
-    fprintf(report, "  %10lu stores and %lu reads of a home that the list of rights does not give the task: refused\n",
+    fprintf(report, "  %10lu stores and %lu reads of a home that the list of rights does not give: refused\n",
             counters->no_store, counters->no_read);
     fprintf(report, "  %10lu transactions aborted, %lu of them since the log stayed full\n", counters->aborts,
             counters->given_up);
@@ -151,7 +153,7 @@ static void print_calls(const struct station *station)
 static void print_log(const struct station *station)
 {
     const struct counters *counters = &station->counters;
-    const struct kgt_places *usage = &station->usage;
+    const struct kagutin_places *usage = &station->usage;
     unsigned long most = 0, task;
 
     for (task = 1; task < KAGUTIN_WRITERS; task++)

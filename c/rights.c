@@ -4,19 +4,24 @@
 
 enum { ALL = 65535 };
 
+/* To store and to read. */
+static void allow(struct kgt_rights *list, unsigned task, size_t first, size_t number)
+{
+    kgt_rights_allow_store(list, task, first, number);
+    kgt_rights_allow_read(list, task, first, number);
+}
+
 void rights_make(struct kgt_rights *list)
 {
     unsigned task;
 
     kgt_rights_clear(list);
     for (task = 0; task < KAGUTIN_WRITERS; task++) {
-        kgt_rights_allow_store(list, task, STATION_RUN(task), 1);
-        kgt_rights_allow_store(list, task, STATION_STARTS(task), 1);
-        kgt_rights_allow_store(list, task, STATION_NOTES, ALL - STATION_NOTES);
-        kgt_rights_allow_read(list, task, STATION_RUN(task), 1);
-        kgt_rights_allow_read(list, task, STATION_STARTS(task), 1);
-        kgt_rights_allow_read(list, task, STATION_NOTES, ALL - STATION_NOTES);
+        allow(list, task, STATION_OWN(task), 1);
+        allow(list, task, STATION_NOTES, ALL - STATION_NOTES);
     }
+    allow(list, RUN_HOURS, KAGUTIN_PUMP_HOME, KAGUTIN_PUMPS);
+    allow(list, ALARMS, KAGUTIN_ALARMS_HOME, KAGUTIN_ALARMS_HOMES);
     kgt_rights_allow_read(list, SERVICE, 0, ALL);
 }
 

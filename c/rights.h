@@ -5,10 +5,10 @@
 #include "kagutin_rights.h"
 #include "station.h"
 
-/* The task that writes the wear sheet: it may read every pump's homes. */
-enum { SERVICE = 7 };
+/* The tasks that make the events of pumps and of alarms; the one that shows both, which may read every home. */
+enum { RUN_HOURS = 2, ALARMS = 3, SERVICE = 7 };
 
-/* Every task may touch its pump's homes and the notes; the list. */
+/* The list: every task may touch its own home and the notes, and the homes of its events. */
 void rights_make(struct kgt_rights *list);
 
 /* Is that list committed? What does the one that is committed, or none, let a task do? */

@@ -19,6 +19,7 @@ void station_free(struct station *station)
 {
     driver_close(&station->driver);
     book_free(&station->book);
+    events_free(&station->events);
     free(station->before);
 }
 

@@ -1,7 +1,7 @@
 /*
  * The state of a station's run, which all its parts share. They build on each
  * other in this order, each including only what stands before it: station,
- * report, rights, refusals, calls, wear, tasks, power.
+ * report, rights, refusals, calls, event_calls, wear, tasks, power.
  */
 #ifndef STATION_H
 #define STATION_H
@@ -10,12 +10,12 @@
 
 #include "book.h"
 #include "driver.h"
+#include "events.h"
 
-/* The homes of a pump's run seconds and starts, and of the notes; docs/HOMES.md has the others. */
-#define STATION_RUN(pump) ((size_t)(pump))
-#define STATION_STARTS(pump) ((size_t)16 + (size_t)(pump))
+/* The homes of a task's own block, and of the notes; docs/HOMES.md has the others. */
+#define STATION_OWN(task) ((size_t)(task))
 #define STATION_NOTES 32
-#define STATION_MIN_HOMES (STATION_STARTS(KAGUTIN_WRITERS))
+#define STATION_MIN_HOMES (KAGUTIN_ALARMS_HOME + KAGUTIN_ALARMS_HOMES)
 
 enum exit_status { EXIT_FINE = 0, EXIT_MISMATCH = 1, EXIT_USAGE = 2, EXIT_TROUBLE = 3, EXIT_WORN_OUT = 4, EXIT_INTERRUPTED = 130 };
 
@@ -24,12 +24,12 @@ struct task {
     bool open, gives_up;
     size_t next, count;
     uint16_t plan[64];
-    uint64_t serial, seconds, starts; /* its pump's figures, if the plan has them */
 };
 
 struct counters {
     unsigned long calls, refusals, full, reserves, waits, reads, commits, aborts, given_up, confirms, trims, rounds, steps;
     unsigned long full_live, full_dead, holds[KAGUTIN_WRITERS]; /* places, and who held the log, when it was full */
+    unsigned long pump_events, alarm_events;
     unsigned long lists, no_store, no_read; /* lists committed, and what they forbid */
     unsigned long replayed, cuts, opening_cuts;
     unsigned long kept[KAGUTIN_WRITERS], lost[KAGUTIN_WRITERS], unissued[KAGUTIN_WRITERS]; /* commits by task */
@@ -39,11 +39,14 @@ struct counters {
 struct station {
     struct driver driver;
     struct book book;
+    struct events events;
     struct task tasks[KAGUTIN_WRITERS];
     struct counters counters;
-    struct kgt_places usage; /* of the log when it was last counted */
+    struct kagutin_places usage; /* of the log when it was last counted */
     uint64_t seed, random;
     uint64_t abort_odds; /* one transaction in so many is given up */
+    uint32_t second;     /* its clock, which goes on over cuts */
+    bool storm;          /* alarms come faster than they clear */
     unsigned long cuts;
     size_t groups, homes;
     const char *path;

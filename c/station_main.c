@@ -24,7 +24,7 @@ static void check_old_image(struct station *station)
     const struct driver *driver = &station->driver;
 
     if (driver->homes < STATION_MIN_HOMES)
-        power_refuse_image(station, "it has fewer than 24 homes");
+        power_refuse_image(station, "it has fewer than 30 homes");
     if ((station->groups && station->groups != driver->groups)
         || (station->homes && station->homes != driver->homes))
         power_refuse_image(station, "it has other numbers of groups and homes; leave --groups and --homes out");

@@ -1,17 +1,18 @@
 /*
- * The eight tasks. Task w looks after pump w: when the pump has run, its run
- * seconds (home w) and its starts (home 16 + w) go into one transaction. Homes
- * from 32 on are notes that all tasks write. The radio task reserves its places.
+ * The eight tasks. Task w has home w; homes from 32 on are notes that all tasks
+ * write, several blocks in one transaction. The run-hours task also switches
+ * the pumps in the hours book, the alarm task raises and clears alarms. The
+ * radio task reserves its places.
  */
 #include "tasks.h"
 
 #include <string.h>
 
 #include "calls.h"
+#include "event_calls.h"
 #include "rights.h"
-#include "wear.h"
 
-enum { RADIO = 4 };
+enum { RADIO = 4, STEP_SECONDS = 30 };
 
 /* Homes of the notes, with repetitions; the log's size bounds the long ones. */
 static void plan_notes(struct station *station, struct task *task)
@@ -29,23 +30,13 @@ static void plan_notes(struct station *station, struct task *task)
     }
 }
 
-static void plan_pump(struct station *station, struct task *task, unsigned writer)
+/* The task's own block, anywhere among the notes. */
+static void plan_own(struct station *station, struct task *task, unsigned writer)
 {
-    size_t i;
+    size_t at = (size_t)station_random(station, task->count + 1);
 
-    task->plan[task->count++] = (uint16_t)STATION_RUN(writer);
-    task->plan[task->count++] = (uint16_t)STATION_STARTS(writer);
-    for (i = task->count; i > 1; i--) { /* in any order among the notes */
-        size_t other = (size_t)station_random(station, i);
-        uint16_t home = task->plan[i - 1];
-
-        task->plan[i - 1] = task->plan[other];
-        task->plan[other] = home;
-    }
-    wear_read(station, writer, writer, &task->serial, &task->seconds, &task->starts);
-    task->serial++;
-    task->starts++;
-    task->seconds += 20 + station_random(station, 1800);
+    task->plan[task->count++] = task->plan[at];
+    task->plan[at] = (uint16_t)STATION_OWN(writer);
 }
 
 /* The log is full: free what can be freed. Open transactions may hold it. */
@@ -67,7 +58,7 @@ static void plan(struct station *station, struct task *task, unsigned writer)
         return; /* a transaction without a store */
     plan_notes(station, task);
     if (station_random(station, 4))
-        plan_pump(station, task, writer);
+        plan_own(station, task, writer);
 }
 
 /* The radio task must not fail half way: it reserves a place for each block of its plan, or waits. */
@@ -86,31 +77,50 @@ static void task_begin(struct station *station, struct task *task, unsigned writ
     station->counters.waits += !task->open;
 }
 
-static void fill_block(struct station *station, const struct task *task, unsigned writer, size_t home, uint8_t *block)
+/* A pump starts if it is idle, else it stops. */
+static struct event pump_event(struct station *station)
 {
-    uint8_t other[KAGUTIN_BLOCK_SIZE];
-    size_t i;
+    unsigned pump = (unsigned)station_random(station, KAGUTIN_PUMPS);
 
-    if (home == STATION_RUN(writer)) {
-        wear_blocks(writer, task->serial, task->seconds, task->starts, block, other);
-    } else if (home == STATION_STARTS(writer)) {
-        wear_blocks(writer, task->serial, task->seconds, task->starts, other, block);
-    } else {
-        for (i = 0; i < KAGUTIN_BLOCK_SIZE; i++)
-            block[i] = (uint8_t)station_random(station, 256);
-    }
+    return (struct event){station->events.newest.pumps[pump].running ? PUMP_STOPS : PUMP_STARTS, pump, 0, station->second, 0};
+}
+
+/* An alarm comes, in a storm more often than not, or the next open one from a place on clears. */
+static struct event alarm_event(struct station *station)
+{
+    const struct event_sums *sums = &station->events.newest;
+    unsigned open = events_open(sums), at = (unsigned)station_random(station, EVENT_ALARMS);
+    bool arrives = open == 0 || (open < KAGUTIN_MAX_ALARMS && station_random(station, 5) < (station->storm ? 4 : 2));
+
+    while ((sums->alarms[at].alarm_class == 0) != arrives)
+        at = (at + 1) % EVENT_ALARMS;
+    if (!arrives)
+        return (struct event){ALARM_CLEARS, at, 0, station->second, 0};
+    return (struct event){ALARM_ARRIVES, at, KAGUTIN_MIN_CLASS + (unsigned)station_random(station, KAGUTIN_MAX_CLASS),
+                          station->second, 0};
+}
+
+/* If the log stays full the task tries another event later. */
+static void task_event(struct station *station, unsigned writer)
+{
+    struct event event = writer == RUN_HOURS ? pump_event(station) : alarm_event(station);
+
+    if (call_event(station, writer, &event))
+        return;
+    make_room(station);
+    call_event(station, writer, &event);
 }
 
 /* Stores the next block of the plan, or ends the transaction; false if the log is full. */
 static bool task_advance(struct station *station, struct task *task, unsigned writer)
 {
     uint8_t block[KAGUTIN_BLOCK_SIZE];
+    size_t i;
 
     if (task->next < task->count) {
-        size_t home = task->plan[task->next];
-
-        fill_block(station, task, writer, home, block);
-        if (!call_store(station, writer, home, block))
+        for (i = 0; i < KAGUTIN_BLOCK_SIZE; i++)
+            block[i] = (uint8_t)station_random(station, 256);
+        if (!call_store(station, writer, task->plan[task->next], block))
             return false;
         task->next++;
         return true;
@@ -129,8 +139,14 @@ void tasks_step(struct station *station)
     struct task *task = &station->tasks[writer];
     uint8_t block[KAGUTIN_BLOCK_SIZE];
 
+    if (station->second < UINT32_MAX - STEP_SECONDS)
+        station->second += (uint32_t)station_random(station, STEP_SECONDS);
     if (station_random(station, 8) == 0)
         call_read(station, writer, (size_t)station_random(station, station->driver.homes), block);
+    if (!task->open && (writer == RUN_HOURS || writer == ALARMS) && station_random(station, 5)) {
+        task_event(station, writer);
+        return;
+    }
     if (!task->open) {
         task_begin(station, task, writer);
         return;

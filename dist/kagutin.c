@@ -2,7 +2,7 @@
  * Kagutin as one C99 file, made by port/generate.py from the proved program.
  * Do not edit: change the sources under crates/ and run `make dist`.
  *
- * Needs kagutin.h, memcpy and memset; no heap, no other library, no state
+ * Needs kagutin.h and kagutin_chains.h, memcpy and memset; no heap, no other library, no state
  * of its own. All that is not declared there is static. Where a compiler is
  * known, some helpers have a quicker form; -DKAGUTIN_PLAIN_C leaves them out.
  */
@@ -12,6 +12,7 @@
 #include <string.h>
 
 #include "kagutin.h"
+#include "kagutin_chains.h"
 
 #if defined(__GNUC__) && !defined(__clang__) && SIZE_MAX < UINT64_MAX
 /* Counts are 64 bits wide and proved to stay in memory; gcc warns of turns that they never reach. */
@@ -72,6 +73,10 @@ struct scan__slots__RingSlot {
     uint64_t turn;
 };
 
+struct array_u8_64 {
+    uint8_t at[64];
+};
+
 struct recovery__opening__Shape {
     uint64_t groups;
     uint64_t homes;
@@ -120,6 +125,12 @@ struct array_u16_64 {
     uint16_t at[64];
 };
 
+struct recovery__planning__Made {
+    uint64_t size;
+    uint64_t next;
+    bool more;
+};
+
 struct array_u16_1024 {
     uint16_t at[1024];
 };
@@ -128,19 +139,24 @@ struct array_u8_32 {
     uint8_t at[32];
 };
 
-struct array_u8_64 {
-    uint8_t at[64];
-};
-
 struct replay__stepping__Reached {
     uint64_t home;
     uint64_t done;
 };
 
-struct recovery__planning__Made {
-    uint64_t size;
-    uint64_t next;
-    bool more;
+struct model__Holder {
+    uint64_t writer;
+    uint64_t first;
+};
+
+struct model__Usage {
+    uint64_t code;
+    uint64_t live;
+    uint64_t dead;
+    uint64_t free;
+    uint64_t promised;
+    uint64_t holder;
+    uint64_t first;
 };
 
 #if defined(__GNUC__) && !defined(KAGUTIN_PLAIN_C)
@@ -398,18 +414,13 @@ static inline bool strip__order__numbers_in_order(struct model__State st)
     return strip__order__positions_in_order(st);
 }
 
-/* How many places are promised to the eight writers together. */
-static inline uint64_t strip__promises__promised(struct slice_u8 s)
+/* Whether nothing is promised to any writer: the eight promises are zero as two words. */
+static inline bool strip__promises__none_promised(struct slice_u8 s)
 {
-    uint64_t t2, t3;
-
-    t2 = 0u;
-    t3 = 0u;
-    while (t3 < 8u) {
-        t2 = t2 + load_2(s.ptr + (size_t)(72u + (2u * t3)));
-        t3 = t3 + 1u;
+    if (load_8(s.ptr + 72u) != 0u) {
+        return false;
     }
-    return t2;
+    return load_8(s.ptr + 80u) == 0u;
 }
 
 /* Whether a writer's record is in order in a strip with the numbers `st`. */
@@ -417,11 +428,11 @@ static inline bool strip__order__writer_in_order(struct model__State st, struct 
 {
     uint64_t t3;
 
-    if (3u < r.mode) {
-        return false;
-    }
     if (r.mode < 2u) {
         return true;
+    }
+    if (3u < r.mode) {
+        return false;
     }
     if (st.homes <= r.home) {
         return false;
@@ -443,6 +454,51 @@ static inline bool strip__order__writer_in_order(struct model__State st, struct 
         return false;
     }
     return true;
+}
+
+/* The same where nothing is promised: an idle writer is passed by its mode alone. */
+static inline bool strip__order__records_in_order(struct slice_u8 s, struct model__State st)
+{
+    uint64_t t3, t8;
+    bool t4;
+
+    t3 = 0u;
+    while (t3 != 8u) {
+        t8 = 128u + (96u * t3);
+        t4 = strip__order__writer_in_order(st, (struct model__Writer){.mode = load_8(s.ptr + (size_t)t8), .home = load_8(s.ptr
+                + (size_t)(t8 + 8u)), .first = load_8(s.ptr + (size_t)(t8 + 16u)), .count = load_8(s.ptr + (size_t)(t8 + 24u))});
+        if (!t4) {
+            return false;
+        }
+        t3 = t3 + 1u;
+    }
+    return true;
+}
+
+/* How many places are promised to the eight writers together, one after the other. */
+static inline uint64_t strip__promises__promised_each(struct slice_u8 s)
+{
+    uint64_t t2, t3;
+
+    t2 = 0u;
+    t3 = 0u;
+    while (t3 < 8u) {
+        t2 = t2 + load_2(s.ptr + (size_t)(72u + (2u * t3)));
+        t3 = t3 + 1u;
+    }
+    return t2;
+}
+
+/* How many places are promised to the eight writers together, mostly none. */
+static inline uint64_t strip__promises__promised(struct slice_u8 s)
+{
+    bool t2;
+
+    t2 = strip__promises__none_promised(s);
+    if (t2) {
+        return 0u;
+    }
+    return strip__promises__promised_each(s);
 }
 
 /* Whether the record of writer `w` is in order in the strip `s` with the numbers `st`, and nothing is promised to it while it is
@@ -487,12 +543,12 @@ static inline bool strip__order__writers_in_order(struct slice_u8 s, struct mode
 static inline bool strip__order__in_order(struct slice_u8 s, uint64_t groups, uint64_t homes)
 {
     struct model__State t4;
-    bool t5;
-    uint64_t t8, t10, t11;
+    bool t5, t7;
+    uint64_t t9, t11, t12;
 
-    t10 = load_8(s.ptr);
-    t11 = load_8(s.ptr + 8u);
-    t4 = (struct model__State){.groups = t10, .homes = t11, .start = load_8(s.ptr + 16u), .next = load_8(s.ptr + 24u),
+    t11 = load_8(s.ptr);
+    t12 = load_8(s.ptr + 8u);
+    t4 = (struct model__State){.groups = t11, .homes = t12, .start = load_8(s.ptr + 16u), .next = load_8(s.ptr + 24u),
             .filled = load_8(s.ptr + 32u), .settled = load_8(s.ptr + 40u), .fenced = load_8(s.ptr + 48u), .durable = load_8(s.ptr
             + 56u), .last = load_8(s.ptr + 64u), .round = load_8(s.ptr + 88u), .cursor = load_8(s.ptr + 96u)};
     if (t4.groups != groups) {
@@ -505,8 +561,12 @@ static inline bool strip__order__in_order(struct slice_u8 s, uint64_t groups, ui
     if (!t5) {
         return false;
     }
-    t8 = strip__promises__promised(s);
-    if (((7u * (t4.start + t4.groups)) - ((7u * t4.next) + t4.filled)) < t8) {
+    t7 = strip__promises__none_promised(s);
+    if (t7) {
+        return strip__order__records_in_order(s, t4);
+    }
+    t9 = strip__promises__promised(s);
+    if (((7u * (t4.start + t4.groups)) - ((7u * t4.next) + t4.filled)) < t9) {
         return false;
     }
     return strip__order__writers_in_order(s, t4);
@@ -1026,40 +1086,10 @@ static inline uint64_t scan__commits__in_group(uint64_t left)
     return t3;
 }
 
-/* Whether the two bytes of `mark` stand at index `at`. */
-static inline bool codec__marks__has_mark(struct slice_u8 s, uint64_t at, struct slice_u8 mark)
-{
-    if (s.ptr[(size_t)at] != mark.ptr[0u]) {
-        return false;
-    }
-    if (s.ptr[(size_t)(at + 1u)] != mark.ptr[1u]) {
-        return false;
-    }
-    return true;
-}
-
-/* Whether the mark of a group and the number `n` stand in the eight bytes from index `at` on: the number is that word without the
-   mark. The mark goes first, so that an unused group is passed quickly. */
-static inline bool codec__marks__has_group_head(struct slice_u8 s, uint64_t at, uint64_t n)
-{
-    struct array_u8_2 t4;
-    bool t5;
-
-    t4 = (struct array_u8_2){{80u, 71u}};
-    t5 = codec__marks__has_mark(s, at, (struct slice_u8){t4.at, 2u});
-    if (!t5) {
-        return false;
-    }
-    return (load_8(s.ptr + (size_t)at) / UINT64_C(0x10000)) == (n % UINT64_C(0x1000000000000));
-}
-
 /* Whether the 512 bytes of a ring slot are a valid group with number `n`, in a log of `groups` groups from number `start` on. */
 static inline bool scan__groups__group_valid(struct slice_u8 group, uint64_t groups, uint64_t start, uint64_t n)
 {
-    bool t5;
-
-    t5 = codec__marks__has_group_head(group, 0u, n);
-    if (!t5) {
+    if (!(load_8(group.ptr) == (((n % UINT64_C(0x1000000000000)) * UINT64_C(0x10000)) + 18256u))) {
         return false;
     }
     if (n < start) {
@@ -1086,14 +1116,70 @@ static inline uint64_t scan__groups__word_there(struct slice_u8 group, uint64_t 
     return load_8(group.ptr + (size_t)(8u + (8u * k)));
 }
 
-/* The distance back to its first entry that tag `k` of a group holds, used or not, if its data block has the turn of the group:
-   what belongs to a transaction has it, so it is compared first. */
-static inline uint64_t scan__groups__back_in(struct slice_u8 group, uint64_t turn, uint64_t k)
+/* The home in a word that is `plain`, that of an entry for home 0 which does not close its transaction, but for its home and
+   displaced bit; 2^16 for any other word. So an entry with a known distance back is read by one comparison. */
+static inline uint64_t codec__tags__plain_home(uint64_t word, uint64_t plain)
 {
-    uint64_t t4;
+    if (((word ^ plain) & UINT64_C(0xfc1fffffffffc003)) != 0u) {
+        return UINT64_C(0x10000);
+    }
+    return ((word >> 2u) & 4095u) | (((word >> 53u) & 15u) << 12u);
+}
 
-    t4 = scan__groups__word_there(group, turn, k);
-    return (t4 >> 14u) & 8191u;
+/* The same where `word` is the transaction's entry that does not close it, which is `plain` but for its home, or has another
+   distance back; returns whether it is one of these. */
+static inline bool positions__commits__keep_plain(struct slice_mut_u8 newest, uint64_t word, uint64_t plain, uint64_t position,
+        uint64_t homes)
+{
+    uint64_t t6;
+
+    t6 = codec__tags__plain_home(word, plain);
+    if (t6 < homes) {
+        store_8(newest.ptr + (size_t)(8u * t6), position);
+        return true;
+    }
+    return ((word ^ plain) & UINT64_C(0x7ffc000)) != 0u;
+}
+
+/* Keeps the transaction's entries of a valid group one after the other, as long as they are plain; returns how many tags it has
+   taken. */
+static inline uint64_t positions__commits__keep_seven(struct slice_u8 group, uint64_t homes, uint64_t n, uint64_t turn,
+        uint64_t first, struct slice_mut_u8 newest)
+{
+    uint64_t t7, t8, t9, t10;
+    bool t12;
+
+    t7 = 7u * n;
+    t8 = ((1u | (((uint64_t)0u & 4095u) << 2u)) | ((t7 - first) << 14u)) | (((uint64_t)0u >> 12u) << 53u);
+    t9 = 0u;
+    while (t9 < 7u) {
+        t10 = scan__groups__word_there(group, turn, t9);
+        t12 = positions__commits__keep_plain(newest, t10, t8, t7, homes);
+        if (!t12) {
+            return t9;
+        }
+        t7 = t7 + 1u;
+        t8 = t8 + 16384u;
+        t9 = t9 + 1u;
+    }
+    return t9;
+}
+
+/* Where the first `m` tags of a valid group are all to be taken, does so as far as they are plain; returns up to which tag
+   nothing is left to do. */
+static inline uint64_t positions__commits__keep_first(struct slice_u8 group, uint64_t homes, uint64_t n, uint64_t turn,
+        uint64_t m, uint64_t first, struct slice_mut_u8 newest)
+{
+    uint64_t t8;
+
+    t8 = scan__commits__skipped(7u * n, first);
+    if (t8 != 0u) {
+        return t8;
+    }
+    if (m != 7u) {
+        return 0u;
+    }
+    return positions__commits__keep_seven(group, homes, n, turn, first, newest);
 }
 
 /* What a word says at a position of a log that starts at position `base` and has `homes` homes. */
@@ -1132,35 +1218,37 @@ static inline struct model__Tag codec__tags__read_tag(uint64_t word, uint64_t po
     return (struct model__Tag){.tag = 2u, .u64_0 = t5, .u64_1 = t7, .u64_2 = (word >> 27u) & 8191u, .u64_3 = t8};
 }
 
-/* What tag `k` of a group says if its data block has the turn of the group. */
-static inline struct model__Tag scan__groups__tag_there(struct slice_u8 group, uint64_t turn, uint64_t k, uint64_t position,
-        uint64_t base, uint64_t homes)
+/* Keeps a position if `word`, that of its tag, is an entry of the transaction with first position `first`, whatever kind of
+   entry. Its distance back is compared before all else. */
+static inline void positions__commits__keep_word(struct slice_mut_u8 newest, uint64_t word, uint64_t position, uint64_t base,
+        uint64_t homes, uint64_t first)
 {
-    uint64_t t7;
+    struct model__Tag t12;
 
-    t7 = scan__groups__word_there(group, turn, k);
-    return codec__tags__read_tag(t7, position, base, homes);
-}
-
-/* Keeps a position if tag `k` of its group, whose turn is `turn`, is an entry of the transaction with first position `first`. Its
-   distance back is compared before all else. */
-static inline void positions__commits__keep_entry(struct slice_mut_u8 newest, struct slice_u8 group, uint64_t turn, uint64_t k,
-        uint64_t position, uint64_t base, uint64_t homes, uint64_t first)
-{
-    uint64_t t11;
-    struct model__Tag t14;
-
-    t11 = scan__groups__back_in(group, turn, k);
-    if (t11 != (position - first)) {
+    if (((word >> 14u) & 8191u) != (position - first)) {
         return;
     }
-    t14 = scan__groups__tag_there(group, turn, k, position, base, homes);
-    if (t14.tag == 0u) {
-    } else if (t14.tag == 1u) {
-        store_8(newest.ptr + (size_t)(8u * t14.u64_0), position);
+    t12 = codec__tags__read_tag(word, position, base, homes);
+    if (t12.tag == 0u) {
+    } else if (t12.tag == 1u) {
+        store_8(newest.ptr + (size_t)(8u * t12.u64_0), position);
     } else {
-        store_8(newest.ptr + (size_t)(8u * t14.u64_0), position);
+        store_8(newest.ptr + (size_t)(8u * t12.u64_0), position);
     }
+}
+
+/* The same for every word. */
+static inline void positions__commits__keep_entry(struct slice_mut_u8 newest, uint64_t word, uint64_t position, uint64_t base,
+        uint64_t homes, uint64_t first)
+{
+    bool t9;
+
+    t9 = positions__commits__keep_plain(newest, word, ((1u | (((uint64_t)0u & 4095u) << 2u)) | ((position - first) << 14u))
+            | (((uint64_t)0u >> 12u) << 53u), position, homes);
+    if (t9) {
+        return;
+    }
+    positions__commits__keep_word(newest, word, position, base, homes, first);
 }
 
 /* Keeps the transaction's entries among the first `m` of a group, which says nothing where it is not the valid group with number
@@ -1176,11 +1264,10 @@ static inline void positions__commits__keep_group(struct slice_u8 group, uint64_
         return;
     }
     t10 = 7u * start;
-    t11 = scan__commits__skipped(7u * n, first);
-    t12 = (7u * n) + t11;
+    t11 = positions__commits__keep_first(group, homes, n, turn, m, first, newest);
     while (t11 < m) {
-        positions__commits__keep_entry(newest, group, turn, t11, t12, t10, homes, first);
-        t12 = t12 + 1u;
+        t12 = scan__groups__word_there(group, turn, t11);
+        positions__commits__keep_entry(newest, t12, (7u * n) + t11, t10, homes, first);
         t11 = t11 + 1u;
     }
 }
@@ -1323,6 +1410,679 @@ static inline struct answers__Reply sessions__confirm(struct slice_u8 log, struc
 static inline struct answers__Reply kagutin__kagutin_confirm(struct slice_u8 log, struct slice_u8 area, struct slice_mut_u8 state)
 {
     return sessions__confirm(log, area, state);
+}
+
+/* Whether a strip of home blocks may have `len` bytes: one to seven whole blocks. */
+static inline bool chains__verdicts__blocks_right(uint64_t len)
+{
+    if ((len % 64u) != 0u) {
+        return false;
+    }
+    if (len < 64u) {
+        return false;
+    }
+    return len <= 448u;
+}
+
+/* Whether the `n` homes from `home` on are all below `homes`. */
+static inline bool chains__verdicts__homes_known(uint64_t homes, uint64_t home, uint64_t n)
+{
+    if (homes < home) {
+        return false;
+    }
+    return n <= (homes - home);
+}
+
+/* Questions 1, 2, 4 and 5, which each call on several homes puts first: 0 if none refuses it, else the number of the refusal. */
+static inline uint64_t chains__verdicts__homes_answer(struct slice_u8 log, struct slice_u8 area, struct slice_u8 state,
+        struct slice_u8 newest, struct slice_u8 blocks, uint64_t writer, uint64_t home)
+{
+    uint64_t t8;
+    bool t9;
+
+    t9 = chains__verdicts__blocks_right((uint64_t)blocks.len);
+    if (!t9) {
+        return 1u;
+    }
+    t8 = answers__in_use_newest(log, area, state, newest);
+    if (t8 != 0u) {
+        return t8;
+    }
+    if (8u <= writer) {
+        return 4u;
+    }
+    t9 = chains__verdicts__homes_known((uint64_t)area.len / 64u, home, (uint64_t)blocks.len / 64u);
+    if (!t9) {
+        return 5u;
+    }
+    return 0u;
+}
+
+/* Whether a home is one of the list's own. */
+static inline bool rights__ranges__of_list(uint64_t home)
+{
+    if (home < 8u) {
+        return false;
+    }
+    return home < 12u;
+}
+
+/* Whether no position is kept for any of the list's homes: the whole list lies in the data copy. */
+static inline bool rights__list__none_kept(struct slice_u8 kept, uint64_t from)
+{
+    if (load_8(kept.ptr + (size_t)from) != UINT64_C(0xffffffffffffffff)) {
+        return false;
+    }
+    if (load_8(kept.ptr + (size_t)(from + 8u)) != UINT64_C(0xffffffffffffffff)) {
+        return false;
+    }
+    if (load_8(kept.ptr + (size_t)(from + 16u)) != UINT64_C(0xffffffffffffffff)) {
+        return false;
+    }
+    return load_8(kept.ptr + (size_t)(from + 24u)) == UINT64_C(0xffffffffffffffff);
+}
+
+/* What tag `k` of a group says if its data block has the turn of the group. */
+static inline struct model__Tag scan__groups__tag_there(struct slice_u8 group, uint64_t turn, uint64_t k, uint64_t position,
+        uint64_t base, uint64_t homes)
+{
+    uint64_t t7;
+
+    t7 = scan__groups__word_there(group, turn, k);
+    return codec__tags__read_tag(t7, position, base, homes);
+}
+
+/* Whether an entry for a home stands at a position of the log: its group's number is in range. */
+static inline bool shown__entry_there(struct slice_u8 log, struct model__State st, uint64_t home, uint64_t position)
+{
+    uint64_t t5, t6, t8;
+    struct scan__slots__RingSlot t7;
+    struct slice_u8 t9;
+    struct model__Tag t19;
+    bool t20;
+
+    t5 = position / 7u;
+    t6 = position % 7u;
+    t7 = (struct scan__slots__RingSlot){.slot = t5 % st.groups, .turn = (t5 / st.groups) % 2u};
+    t8 = 64u + (512u * t7.slot);
+    t9 = (struct slice_u8){log.ptr + (size_t)t8, (size_t)((t8 + 512u) - t8)};
+    if (!(load_8(t9.ptr) == (((t5 % UINT64_C(0x1000000000000)) * UINT64_C(0x10000)) + 18256u))) {
+        return false;
+    }
+    t19 = scan__groups__tag_there(t9, t7.turn, t6, position, 7u * st.start, st.homes);
+    if (t19.tag == 0u) {
+        t20 = false;
+    } else if (t19.tag == 1u) {
+        t20 = t19.u64_0 == home;
+    } else {
+        t20 = t19.u64_0 == home;
+    }
+    return t20;
+}
+
+/* Whether an entry for a home is at the position kept for it, if that lies from the start of the log to below the next position.
+   */
+static inline bool shown__is_there(struct slice_u8 log, struct model__State st, uint64_t home, uint64_t position)
+{
+    if (position < (7u * st.start)) {
+        return false;
+    }
+    if (((7u * st.next) + st.filled) <= position) {
+        return false;
+    }
+    return shown__entry_there(log, st, home, position);
+}
+
+/* Where the block of that entry lies in the log, 0 where there is none. */
+static inline uint64_t shown__place_by(struct slice_u8 log, struct model__State st, uint64_t home, uint64_t position)
+{
+    struct scan__slots__RingSlot t6;
+    bool t7;
+    uint64_t t16;
+
+    t7 = shown__is_there(log, st, home, position);
+    if (!t7) {
+        return 0u;
+    }
+    t16 = position / 7u;
+    t6 = (struct scan__slots__RingSlot){.slot = t16 % st.groups, .turn = (t16 / st.groups) % 2u};
+    return (64u + (512u * t6.slot)) + (64u + (64u * (position % 7u)));
+}
+
+/* The same by the strip. Called by one name from everywhere, so that of its numbers only those that are compared are read. */
+static inline uint64_t shown__place(struct slice_u8 log, struct slice_u8 state, uint64_t home, uint64_t position)
+{
+    uint64_t t7, t8;
+
+    t7 = load_8(state.ptr);
+    t8 = load_8(state.ptr + 8u);
+    return shown__place_by(log, (struct model__State){.groups = t7, .homes = t8, .start = load_8(state.ptr + 16u),
+            .next = load_8(state.ptr + 24u), .filled = load_8(state.ptr + 32u), .settled = load_8(state.ptr + 40u),
+            .fenced = load_8(state.ptr + 48u), .durable = load_8(state.ptr + 56u), .last = load_8(state.ptr + 64u),
+            .round = load_8(state.ptr + 88u), .cursor = load_8(state.ptr + 96u)}, home, position);
+}
+
+/* Where the block of the list's home 8 + `i` lies in the log, 0 where the data copy has it. */
+static inline uint64_t rights__list__place(struct slice_u8 log, struct slice_u8 state, struct slice_u8 kept, uint64_t from,
+        uint64_t i)
+{
+    uint64_t t6;
+
+    t6 = load_8(kept.ptr + (size_t)(from + (8u * i)));
+    if (t6 == UINT64_C(0xffffffffffffffff)) {
+        return 0u;
+    }
+    return shown__place(log, state, 8u + i, t6);
+}
+
+/* Whether a home lies in the range at index `at`. */
+static inline bool rights__ranges__in_range(struct slice_u8 s, uint64_t at, uint64_t home)
+{
+    uint64_t t4;
+
+    t4 = load_2(s.ptr + (size_t)at);
+    if (home < t4) {
+        return false;
+    }
+    return home < (t4 + load_2(s.ptr + (size_t)(at + 2u)));
+}
+
+/* Whether a home lies in one of the four ranges from index `at` on. */
+static inline bool rights__ranges__in_ranges(struct slice_u8 s, uint64_t at, uint64_t home)
+{
+    bool t4, t5, t7;
+
+    t4 = rights__ranges__in_range(s, at, home);
+    if (t4) {
+        return true;
+    }
+    t5 = rights__ranges__in_range(s, at + 4u, home);
+    if (t5) {
+        return true;
+    }
+    t7 = rights__ranges__in_range(s, at + 8u, home);
+    if (t7) {
+        return true;
+    }
+    return rights__ranges__in_range(s, at + 12u, home);
+}
+
+/* Copies the block that the entry with its block at index `at` gives. */
+static inline void shown__show_at(struct slice_mut_u8 block, struct slice_u8 log, uint64_t at)
+{
+    uint64_t t9;
+
+    t9 = at - 64u;
+    codec__turns__copy_with_top_bit(block, 0u, log, at, (load_8(log.ptr + (size_t)((64u + ((t9 / 512u) * 512u))
+            + ((t9 % 512u) / 8u))) >> 57u) & 1u);
+}
+
+/* Whether a home lies in the last range of the block that the entry with its block at index `place` of the log gives: it ends
+   with the turn bit. */
+static inline bool rights__ranges__in_last(struct slice_u8 log, uint64_t place, uint64_t home)
+{
+    struct array_u8_64 t4;
+
+    memset(&t4, 0u, sizeof t4);
+    shown__show_at((struct slice_mut_u8){t4.at, 64u}, log, place);
+    return rights__ranges__in_range((struct slice_u8){t4.at, 64u}, 60u, home);
+}
+
+/* Whether a home lies in one of the four ranges from index `o` on of that block: all but a block's last range stand in the log as
+   they are. */
+static inline bool rights__ranges__in_entry(struct slice_u8 log, uint64_t place, uint64_t o, uint64_t home)
+{
+    bool t5, t7, t9;
+
+    t5 = rights__ranges__in_range(log, place + o, home);
+    if (t5) {
+        return true;
+    }
+    t7 = rights__ranges__in_range(log, place + (o + 4u), home);
+    if (t7) {
+        return true;
+    }
+    t9 = rights__ranges__in_range(log, place + (o + 8u), home);
+    if (t9) {
+        return true;
+    }
+    if (o < 48u) {
+        return rights__ranges__in_range(log, place + (o + 12u), home);
+    }
+    return rights__ranges__in_last(log, place, home);
+}
+
+/* Whether a home lies in one of the four ranges from byte `at` of the list on, whose block has the place `found`. */
+static inline bool rights__list__own_ranges(struct slice_u8 log, struct slice_u8 area, uint64_t found, uint64_t at, uint64_t home)
+{
+    if (found == 0u) {
+        return rights__ranges__in_ranges(area, (64u * (8u + (at / 64u))) + (at % 64u), home);
+    }
+    return rights__ranges__in_entry(log, found, at % 64u, home);
+}
+
+/* Whether block `i` of the list, which has the place `found`, is all zeros. */
+static inline bool rights__list__is_zero(struct slice_u8 log, struct slice_u8 area, uint64_t found, uint64_t i)
+{
+    struct array_u8_64 t5;
+    uint64_t t15, t16, t440, t861, t1285;
+    struct slice_u8 t860;
+
+    if (found == 0u) {
+        t15 = 64u * (8u + i);
+        t16 = load_8(area.ptr + (size_t)t15) | (load_8(area.ptr + (size_t)(t15 + 8u)) | (load_8(area.ptr + (size_t)(t15 + 16u))
+                | load_8(area.ptr + (size_t)(t15 + 24u))));
+        t440 = t15 + 32u;
+        return (t16 | (load_8(area.ptr + (size_t)t440) | (load_8(area.ptr + (size_t)(t440 + 8u)) | (load_8(area.ptr
+                + (size_t)(t440 + 16u)) | load_8(area.ptr + (size_t)(t440 + 24u)))))) == 0u;
+    }
+    memset(&t5, 0u, sizeof t5);
+    shown__show_at((struct slice_mut_u8){t5.at, 64u}, log, found);
+    t860 = (struct slice_u8){t5.at, 64u};
+    t861 = load_8(t860.ptr) | (load_8(t860.ptr + (size_t)((uint64_t)0u + 8u)) | (load_8(t860.ptr + (size_t)((uint64_t)0u + 16u))
+            | load_8(t860.ptr + (size_t)((uint64_t)0u + 24u))));
+    t1285 = (uint64_t)0u + 32u;
+    return (t861 | (load_8(t860.ptr + (size_t)t1285) | (load_8(t860.ptr + (size_t)(t1285 + 8u)) | (load_8(t860.ptr
+            + (size_t)(t1285 + 16u)) | load_8(t860.ptr + (size_t)(t1285 + 24u)))))) == 0u;
+}
+
+/* The same for block `i`, where block `own` is known to be all zeros. */
+static inline bool rights__list__other_zero(struct slice_u8 log, struct slice_u8 area, struct slice_u8 state,
+        struct slice_u8 kept, uint64_t from, uint64_t own, uint64_t i)
+{
+    uint64_t t8;
+
+    if (i == own) {
+        return true;
+    }
+    t8 = rights__list__place(log, state, kept, from, i);
+    return rights__list__is_zero(log, area, t8, i);
+}
+
+/* Whether the whole list is all zeros, where block `own` is. */
+static inline bool rights__list__no_list(struct slice_u8 log, struct slice_u8 area, struct slice_u8 state, struct slice_u8 kept,
+        uint64_t from, uint64_t own)
+{
+    uint64_t t7;
+    bool t8;
+
+    t7 = 0u;
+    while (t7 < 4u) {
+        t8 = rights__list__other_zero(log, area, state, kept, from, own, t7);
+        if (!t8) {
+            return false;
+        }
+        t7 = t7 + 1u;
+    }
+    return true;
+}
+
+/* Whether the ranges from byte `at` of the list on open a home, or there is no list, where a position is kept. The writer's own
+   block is asked first. */
+static inline bool rights__list__open_kept(struct slice_u8 log, struct slice_u8 area, struct slice_u8 state, struct slice_u8 kept,
+        uint64_t from, uint64_t at, uint64_t home)
+{
+    uint64_t t8;
+    bool t10, t11;
+
+    t8 = rights__list__place(log, state, kept, from, at / 64u);
+    t10 = rights__list__own_ranges(log, area, t8, at, home);
+    if (t10) {
+        return true;
+    }
+    t11 = rights__list__is_zero(log, area, t8, at / 64u);
+    if (!t11) {
+        return false;
+    }
+    return rights__list__no_list(log, area, state, kept, from, at / 64u);
+}
+
+/* Whether all four blocks of the list are zeros in the data copy. */
+static inline bool rights__list__none_in_copy(struct slice_u8 area)
+{
+    uint64_t t5, t429, t849, t1273, t1693, t2117, t2537, t2961;
+
+    t5 = load_8(area.ptr + 512u) | (load_8(area.ptr + (size_t)((uint64_t)512u + 8u)) | (load_8(area.ptr + (size_t)((uint64_t)512u
+            + 16u)) | load_8(area.ptr + (size_t)((uint64_t)512u + 24u))));
+    t429 = (uint64_t)512u + 32u;
+    if (!((t5 | (load_8(area.ptr + (size_t)t429) | (load_8(area.ptr + (size_t)(t429 + 8u)) | (load_8(area.ptr + (size_t)(t429
+            + 16u)) | load_8(area.ptr + (size_t)(t429 + 24u)))))) == 0u)) {
+        return false;
+    }
+    t849 = load_8(area.ptr + 576u) | (load_8(area.ptr + (size_t)((uint64_t)576u + 8u)) | (load_8(area.ptr
+            + (size_t)((uint64_t)576u + 16u)) | load_8(area.ptr + (size_t)((uint64_t)576u + 24u))));
+    t1273 = (uint64_t)576u + 32u;
+    if (!((t849 | (load_8(area.ptr + (size_t)t1273) | (load_8(area.ptr + (size_t)(t1273 + 8u)) | (load_8(area.ptr + (size_t)(t1273
+            + 16u)) | load_8(area.ptr + (size_t)(t1273 + 24u)))))) == 0u)) {
+        return false;
+    }
+    t1693 = load_8(area.ptr + 640u) | (load_8(area.ptr + (size_t)((uint64_t)640u + 8u)) | (load_8(area.ptr
+            + (size_t)((uint64_t)640u + 16u)) | load_8(area.ptr + (size_t)((uint64_t)640u + 24u))));
+    t2117 = (uint64_t)640u + 32u;
+    if (!((t1693 | (load_8(area.ptr + (size_t)t2117) | (load_8(area.ptr + (size_t)(t2117 + 8u)) | (load_8(area.ptr
+            + (size_t)(t2117 + 16u)) | load_8(area.ptr + (size_t)(t2117 + 24u)))))) == 0u)) {
+        return false;
+    }
+    t2537 = load_8(area.ptr + 704u) | (load_8(area.ptr + (size_t)((uint64_t)704u + 8u)) | (load_8(area.ptr
+            + (size_t)((uint64_t)704u + 16u)) | load_8(area.ptr + (size_t)((uint64_t)704u + 24u))));
+    t2961 = (uint64_t)704u + 32u;
+    return (t2537 | (load_8(area.ptr + (size_t)t2961) | (load_8(area.ptr + (size_t)(t2961 + 8u)) | (load_8(area.ptr
+            + (size_t)(t2961 + 16u)) | load_8(area.ptr + (size_t)(t2961 + 24u)))))) == 0u;
+}
+
+/* Whether the ranges from byte `at` of the list on open a home, or there is no list; D has room for one. */
+static inline bool rights__list__open_to(struct slice_u8 log, struct slice_u8 area, struct slice_u8 state, struct slice_u8 kept,
+        uint64_t from, uint64_t at, uint64_t home)
+{
+    bool t8, t10;
+
+    t8 = rights__list__none_kept(kept, from);
+    if (!t8) {
+        return rights__list__open_kept(log, area, state, kept, from, at, home);
+    }
+    t10 = rights__ranges__in_ranges(area, 512u + at, home);
+    if (t10) {
+        return true;
+    }
+    return rights__list__none_in_copy(area);
+}
+
+/* Whether a writer may read a home. The list is found by the newest positions. */
+static inline bool rights__may_read(struct slice_u8 log, struct slice_u8 area, struct slice_u8 state, struct slice_u8 newest,
+        uint64_t writer, uint64_t home)
+{
+    bool t7;
+
+    t7 = rights__ranges__of_list(home);
+    if (t7) {
+        return true;
+    }
+    if ((uint64_t)area.len < 768u) {
+        return true;
+    }
+    return rights__list__open_to(log, area, state, newest, 64u, (32u * writer) + 16u, home);
+}
+
+/* Whether a writer may read each of `n` homes from `home` on. */
+static inline bool chains__allowed__may_read_all(struct slice_u8 log, struct slice_u8 area, struct slice_u8 state,
+        struct slice_u8 newest, uint64_t writer, uint64_t home, uint64_t n)
+{
+    uint64_t t8;
+    bool t9;
+
+    t8 = 0u;
+    while (t8 < n) {
+        t9 = rights__may_read(log, area, state, newest, writer, home + t8);
+        if (!t9) {
+            return false;
+        }
+        t8 = t8 + 1u;
+    }
+    return true;
+}
+
+/* The answer of a fetch: 0, or the number of the question that refuses it. */
+static inline uint64_t chains__verdicts__fetch_verdict(struct slice_u8 log, struct slice_u8 area, struct slice_u8 state,
+        struct slice_u8 newest, struct slice_u8 blocks, uint64_t writer, uint64_t home)
+{
+    uint64_t t8;
+    bool t9;
+
+    t8 = chains__verdicts__homes_answer(log, area, state, newest, blocks, writer, home);
+    if (t8 != 0u) {
+        return t8;
+    }
+    t9 = chains__allowed__may_read_all(log, area, state, newest, writer, home, (uint64_t)blocks.len / 64u);
+    if (!t9) {
+        return 20u;
+    }
+    return 0u;
+}
+
+/* Whether a writer holds a block for a home. */
+static inline bool reading__blocks__holds_home(struct model__Writer r, uint64_t home)
+{
+    if (!(2u <= r.mode)) {
+        return false;
+    }
+    return r.home == home;
+}
+
+/* Writes the block that stands in `src` from index `from` on into `dst` from index `at` on. */
+static inline void areas__blocks__copy_block(struct slice_mut_u8 dst, uint64_t at, struct slice_u8 src, uint64_t from)
+{
+    codec__blocks__copy(dst, at, (struct slice_u8){src.ptr + (size_t)from, (size_t)((from + 64u) - from)});
+}
+
+/* Copies the block that a writer holds. */
+static inline void reading__blocks__show_held(struct slice_mut_u8 block, struct slice_u8 state, uint64_t w)
+{
+    areas__blocks__copy_block(block, 0u, state, (128u + (96u * w)) + 32u);
+}
+
+/* The distance back to its first entry that tag `k` of a group holds, used or not, if its data block has the turn of the group:
+   what belongs to a transaction has it, so it is compared first. */
+static inline uint64_t scan__groups__back_in(struct slice_u8 group, uint64_t turn, uint64_t k)
+{
+    uint64_t t4;
+
+    t4 = scan__groups__word_there(group, turn, k);
+    return (t4 >> 14u) & 8191u;
+}
+
+/* The newest entry once one for a home is seen at a position. */
+static inline uint64_t search__own__note(uint64_t written, uint64_t home, uint64_t position, uint64_t newest)
+{
+    if (written != home) {
+        return newest;
+    }
+    return position + 1u;
+}
+
+/* The same if tag `k` of a group with turn `turn` is an entry of the transaction with first position `first`. Its distance back
+   is compared before all else. */
+static inline uint64_t search__own__note_entry(struct slice_u8 group, uint64_t turn, uint64_t k, uint64_t position, uint64_t base,
+        uint64_t homes, uint64_t first, uint64_t home, uint64_t newest)
+{
+    uint64_t t12, t16;
+    struct model__Tag t15;
+
+    t12 = scan__groups__back_in(group, turn, k);
+    if (t12 != (position - first)) {
+        return newest;
+    }
+    t15 = scan__groups__tag_there(group, turn, k, position, base, homes);
+    if (t15.tag == 0u) {
+        t16 = newest;
+    } else if (t15.tag == 1u) {
+        t16 = search__own__note(t15.u64_0, home, position, newest);
+    } else {
+        t16 = search__own__note(t15.u64_0, home, position, newest);
+    }
+    return t16;
+}
+
+/* The same for the transaction's entries among the first `m` of a group, which says nothing where it is not the valid group with
+   number `n` and turn `turn`. */
+static inline uint64_t search__own__note_group(struct slice_u8 group, uint64_t groups, uint64_t homes, uint64_t start, uint64_t n,
+        uint64_t turn, uint64_t m, uint64_t first, uint64_t home, uint64_t newest)
+{
+    uint64_t t11, t12, t13, t14;
+    bool t15;
+
+    t15 = scan__groups__group_valid(group, groups, start, n);
+    if (!t15) {
+        return newest;
+    }
+    t11 = 7u * start;
+    t12 = newest;
+    t13 = scan__commits__skipped(7u * n, first);
+    t14 = (7u * n) + t13;
+    while (t13 < m) {
+        t12 = search__own__note_entry(group, turn, t13, t14, t11, homes, first, home, t12);
+        t14 = t14 + 1u;
+        t13 = t13 + 1u;
+    }
+    return t12;
+}
+
+/* The newest entry for a home, as its position + 1, 0 for none, of the open transaction with first position `first`, below
+   position `end`. */
+static inline uint64_t search__own__newest_own(struct slice_u8 log, uint64_t groups, uint64_t homes, uint64_t start,
+        uint64_t first, uint64_t end, uint64_t home)
+{
+    uint64_t t8, t9, t11, t12, t14;
+    struct scan__slots__RingSlot t10;
+
+    t8 = 0u;
+    t9 = first / 7u;
+    t10 = (struct scan__slots__RingSlot){.slot = t9 % groups, .turn = (t9 / groups) % 2u};
+    t11 = end - (7u * t9);
+    while (0u < t11) {
+        t12 = 64u + (512u * t10.slot);
+        t14 = scan__commits__in_group(t11);
+        t8 = search__own__note_group((struct slice_u8){log.ptr + (size_t)t12, (size_t)((t12 + 512u) - t12)}, groups, homes, start,
+                t9, t10.turn, t14, first, home, t8);
+        t10 = scan__slots__next_slot(t10, groups);
+        t9 = t9 + 1u;
+        t11 = t11 - t14;
+    }
+    return t8;
+}
+
+/* The newest entry for a home in a writer's open transaction. */
+static inline uint64_t reading__newest__own_entry(struct slice_u8 log, struct model__State st, struct model__Writer r,
+        uint64_t home)
+{
+    if (!(3u <= r.mode)) {
+        return 0u;
+    }
+    return search__own__newest_own(log, st.groups, st.homes, st.start, r.first, (7u * st.next) + st.filled, home);
+}
+
+/* The entry for a home at the position kept for it. */
+static inline uint64_t reading__newest__kept_entry(struct slice_u8 log, struct slice_u8 state, struct slice_u8 newest,
+        uint64_t home)
+{
+    uint64_t t5, t6;
+
+    t5 = load_8(newest.ptr + (size_t)(8u * home));
+    t6 = shown__place(log, state, home, t5);
+    if (t6 == 0u) {
+        return 0u;
+    }
+    return t5 + 1u;
+}
+
+/* The entry for a home that a writer sees: its newest own one, else that at the kept position. */
+static inline uint64_t reading__newest__seen(struct slice_u8 log, struct slice_u8 state, struct slice_u8 newest,
+        struct model__State st, struct model__Writer r, uint64_t home)
+{
+    uint64_t t7;
+
+    t7 = reading__newest__own_entry(log, st, r, home);
+    if (t7 != 0u) {
+        return t7;
+    }
+    return reading__newest__kept_entry(log, state, newest, home);
+}
+
+/* Reads a home into a block buffer. */
+static inline void areas__homes__get_home(struct slice_mut_u8 block, struct slice_u8 area, uint64_t home)
+{
+    areas__blocks__copy_block(block, 0u, area, 64u * home);
+}
+
+/* Writes the block that the entry at index `k` of the group in a ring slot gives, with the displaced bit back in its place, from
+   index `at` on. */
+static inline void areas__groups__copy_entry(struct slice_mut_u8 dst, uint64_t at, struct slice_u8 log, uint64_t slot, uint64_t k)
+{
+    uint64_t t6;
+
+    t6 = 64u + (512u * slot);
+    codec__turns__copy_with_top_bit(dst, at, log, t6 + (64u + (64u * k)), (load_8(log.ptr + (size_t)(t6 + (8u
+            + (8u * k)))) >> 57u) & 1u);
+}
+
+/* Copies the block that the entry at a position gives. */
+static inline void shown__show_entry(struct slice_mut_u8 block, struct slice_u8 log, uint64_t groups, uint64_t position)
+{
+    areas__groups__copy_entry(block, 0u, log, (position / 7u) % groups, position % 7u);
+}
+
+/* Copies the block of a home that a writer sees. */
+static inline void reading__blocks__show(struct slice_u8 log, struct slice_u8 area, struct slice_u8 state, struct slice_u8 newest,
+        struct slice_mut_u8 block, uint64_t writer, uint64_t home)
+{
+    struct model__State t8;
+    uint64_t t9, t11, t26, t27, t1160;
+    struct model__Writer t10;
+    bool t12;
+
+    t26 = load_8(state.ptr);
+    t27 = load_8(state.ptr + 8u);
+    t8 = (struct model__State){.groups = t26, .homes = t27, .start = load_8(state.ptr + 16u), .next = load_8(state.ptr + 24u),
+            .filled = load_8(state.ptr + 32u), .settled = load_8(state.ptr + 40u), .fenced = load_8(state.ptr + 48u),
+            .durable = load_8(state.ptr + 56u), .last = load_8(state.ptr + 64u), .round = load_8(state.ptr + 88u),
+            .cursor = load_8(state.ptr + 96u)};
+    t9 = writer;
+    t1160 = 128u + (96u * t9);
+    t10 = (struct model__Writer){.mode = load_8(state.ptr + (size_t)t1160), .home = load_8(state.ptr + (size_t)(t1160 + 8u)),
+            .first = load_8(state.ptr + (size_t)(t1160 + 16u)), .count = load_8(state.ptr + (size_t)(t1160 + 24u))};
+    t12 = reading__blocks__holds_home(t10, home);
+    if (t12) {
+        reading__blocks__show_held(block, state, t9);
+        return;
+    }
+    t11 = reading__newest__seen(log, state, newest, t8, t10, home);
+    if (t11 == 0u) {
+        areas__homes__get_home(block, area, home);
+        return;
+    }
+    shown__show_entry(block, log, t8.groups, t11 - 1u);
+}
+
+/* Copies the block of a home that a writer sees to the index `at`. */
+static inline void chains__fetches__show_at(struct slice_u8 log, struct slice_u8 area, struct slice_u8 state,
+        struct slice_u8 newest, struct slice_mut_u8 blocks, uint64_t at, uint64_t writer, uint64_t home)
+{
+    reading__blocks__show(log, area, state, newest, (struct slice_mut_u8){blocks.ptr + (size_t)at, (size_t)((at + 64u) - at)},
+            writer, home);
+}
+
+/* Copies the blocks that a writer sees of the homes from `home` on, one behind the other. */
+static inline void chains__fetches__show_all(struct slice_u8 log, struct slice_u8 area, struct slice_u8 state,
+        struct slice_u8 newest, struct slice_mut_u8 blocks, uint64_t writer, uint64_t home)
+{
+    uint64_t t8, t9;
+
+    t8 = (uint64_t)blocks.len / 64u;
+    t9 = 0u;
+    while (t9 < t8) {
+        chains__fetches__show_at(log, area, state, newest, blocks, 64u * t9, writer, home + t9);
+        t9 = t9 + 1u;
+    }
+}
+
+/* Reads the blocks of one to seven homes from `home` on, one behind the other, as a writer that may read them all sees them. */
+static inline struct answers__Reply chains__fetches__fetch(struct slice_u8 log, struct slice_u8 area, struct slice_u8 state,
+        struct slice_u8 newest, struct slice_mut_u8 blocks, uint64_t writer, uint64_t home)
+{
+    uint64_t t8;
+
+    t8 = chains__verdicts__fetch_verdict(log, area, state, newest, (struct slice_u8){blocks.ptr, blocks.len}, writer, home);
+    if (t8 != 0u) {
+        return (struct answers__Reply){.code = t8, .figure = 0u, .size = 0u};
+    }
+    chains__fetches__show_all(log, area, state, newest, blocks, writer, home);
+    return (struct answers__Reply){.code = 0u, .figure = 0u, .size = 0u};
+}
+
+/* Reads the blocks of one to seven homes from `home` on, one behind the other, as a writer that may read them all sees them. */
+static inline struct answers__Reply kagutin__kagutin_fetch(struct slice_u8 log, struct slice_u8 area, struct slice_u8 state,
+        struct slice_u8 newest, struct slice_mut_u8 blocks, uint64_t writer, uint64_t home)
+{
+    return chains__fetches__fetch(log, area, state, newest, blocks, writer, home);
 }
 
 /* Whether a flush leaves as many places as are promised. */
@@ -1677,6 +2437,18 @@ static inline struct recovery__opening__Shape recovery__opening__measure(struct 
     t3 = areas__lengths__log_groups((uint64_t)log.len);
     return (struct recovery__opening__Shape){.groups = t3, .homes = (uint64_t)area.len / 64u, .start = load_4(log.ptr + 2u)
             | (load_2(log.ptr + (size_t)((uint64_t)2u + 4u)) << 32u)};
+}
+
+/* Whether the two bytes of `mark` stand at index `at`. */
+static inline bool codec__marks__has_mark(struct slice_u8 s, uint64_t at, struct slice_u8 mark)
+{
+    if (s.ptr[(size_t)at] != mark.ptr[0u]) {
+        return false;
+    }
+    if (s.ptr[(size_t)(at + 1u)] != mark.ptr[1u]) {
+        return false;
+    }
+    return true;
 }
 
 /* Whether the mark of the log's header stands at index `at`. */
@@ -2104,17 +2876,6 @@ static inline uint64_t replay__words__count(struct slice_u8 log, struct slice_u1
     return t11;
 }
 
-/* Writes the block that the entry at index `k` of the group in a ring slot gives, with the displaced bit back in its place, from
-   index `at` on. */
-static inline void areas__groups__copy_entry(struct slice_mut_u8 dst, uint64_t at, struct slice_u8 log, uint64_t slot, uint64_t k)
-{
-    uint64_t t6;
-
-    t6 = 64u + (512u * slot);
-    codec__turns__copy_with_top_bit(dst, at, log, t6 + (64u + (64u * k)), (load_8(log.ptr + (size_t)(t6 + (8u
-            + (8u * k)))) >> 57u) & 1u);
-}
-
 /* Copies the block that the entry at an offset gives to a home. */
 static inline void replay__places__restore_block(struct slice_u8 log, struct slice_mut_u8 area, uint64_t groups, uint64_t start,
         uint64_t slot, uint64_t offset, uint64_t home)
@@ -2138,12 +2899,6 @@ static inline void replay__restore__restore_word(struct slice_u8 log, struct sli
         replay__places__restore_block(log, area, groups, start, slot, (uint64_t)table.ptr[(size_t)t10] - 1u, base + t10);
         t9 = t9 & (t9 - 1u);
     }
-}
-
-/* Writes the block that stands in `src` from index `from` on into `dst` from index `at` on. */
-static inline void areas__blocks__copy_block(struct slice_mut_u8 dst, uint64_t at, struct slice_u8 src, uint64_t from)
-{
-    codec__blocks__copy(dst, at, (struct slice_u8){src.ptr + (size_t)from, (size_t)((from + 64u) - from)});
 }
 
 /* Appends the write of the block that the data area holds in a home. */
@@ -2213,28 +2968,49 @@ static inline uint64_t replay__restore__bring_back(struct slice_u8 log, struct s
 /* Returns how many bytes the records of the homes that the transactions of all closing entries below `end` touch take, and
    `more`. If the batch has them, those transactions are replayed into the data copy, and the homes' records stand at the batch's
    beginning. */
+static inline uint64_t recovery__planning__bring_all(struct slice_u8 log, struct slice_mut_u8 area, struct slice_mut_u8 batch,
+        struct slice_u16 last, struct slice_u16 heads, struct slice_u16 links, uint64_t groups, uint64_t homes, uint64_t start,
+        uint64_t end, uint64_t more)
+{
+    uint64_t t12, t13, t15;
+
+    t12 = replay__words__count(log, last, heads, links, groups, homes, start, end);
+    t13 = (68u * t12) + more;
+    t15 = (uint64_t)batch.len;
+    if (t15 < t13) {
+        return t13;
+    }
+    t15 = replay__restore__bring_back(log, area, batch, last, heads, links, groups, homes, start, end);
+    return t13;
+}
+
+/* Either of these, by tables of its own: all homes where `limit` is 0. It serves three calls, so it stays a function, and its
+   tables are not on the stack while they walk. */
+static inline struct recovery__planning__Made recovery__planning__bring_0(struct slice_u8 log, struct slice_mut_u8 area,
+        struct slice_mut_u8 batch, uint64_t groups, uint64_t homes, uint64_t start, uint64_t end, uint64_t cursor, uint64_t more)
+{
+    struct array_u16_7168 t11, t13;
+    struct array_u16_1024 t12;
+    uint64_t t14;
+
+    memset(&t11, 0, sizeof t11);
+    memset(&t12, 0, sizeof t12);
+    memset(&t13, 0, sizeof t13);
+    replay__gathering__gather(log, (struct slice_mut_u16){t11.at, 7168u}, (struct slice_mut_u16){t12.at, 1024u},
+            (struct slice_mut_u16){t13.at, 7168u}, groups, homes, start, end);
+    t14 = recovery__planning__bring_all(log, area, batch, (struct slice_u16){t11.at, 7168u}, (struct slice_u16){t12.at, 1024u},
+            (struct slice_u16){t13.at, 7168u}, groups, homes, start, end, more);
+    return (struct recovery__planning__Made){.size = t14, .next = cursor, .more = false};
+}
+
+/* Replay of all homes, for settle and open. */
 static inline uint64_t recovery__planning__bring_back(struct slice_u8 log, struct slice_mut_u8 area, struct slice_mut_u8 batch,
         uint64_t groups, uint64_t homes, uint64_t start, uint64_t end, uint64_t more)
 {
-    struct array_u16_7168 t9, t11;
-    struct array_u16_1024 t10;
-    uint64_t t12, t13, t28;
+    struct recovery__planning__Made t9;
 
-    memset(&t9, 0, sizeof t9);
-    memset(&t10, 0, sizeof t10);
-    memset(&t11, 0, sizeof t11);
-    replay__gathering__gather(log, (struct slice_mut_u16){t9.at, 7168u}, (struct slice_mut_u16){t10.at, 1024u},
-            (struct slice_mut_u16){t11.at, 7168u}, groups, homes, start, end);
-    t12 = replay__words__count(log, (struct slice_u16){t9.at, 7168u}, (struct slice_u16){t10.at, 1024u},
-            (struct slice_u16){t11.at, 7168u}, groups, homes, start, end);
-    t13 = (68u * t12) + more;
-    t28 = (uint64_t)batch.len;
-    if (t28 < t13) {
-        return t13;
-    }
-    t28 = replay__restore__bring_back(log, area, batch, (struct slice_u16){t9.at, 7168u}, (struct slice_u16){t10.at, 1024u},
-            (struct slice_u16){t11.at, 7168u}, groups, homes, start, end);
-    return t13;
+    t9 = recovery__planning__bring_0(log, area, batch, groups, homes, start, end, 0u, more);
+    return t9.size;
 }
 
 /* Writes a fence, the header with a new start, another fence, all groups as unused, and a last fence at an index of the batch. */
@@ -2374,212 +3150,12 @@ static inline uint64_t answers__in_use_both(struct slice_u8 log, struct slice_u8
     return answers__in_use_block(log, area, state, block);
 }
 
-/* Whether a home is one of the list's own. */
-static inline bool rights__ranges__of_list(uint64_t home)
-{
-    if (home < 8u) {
-        return false;
-    }
-    return home < 12u;
-}
-
-/* Whether an entry for a home stands at a position below the next one. */
-static inline bool shown__entry_there(struct slice_u8 log, struct model__State st, uint64_t home, uint64_t position)
-{
-    uint64_t t5, t6, t8;
-    struct scan__slots__RingSlot t7;
-    struct slice_u8 t9;
-    bool t17, t20;
-    struct model__Tag t19;
-
-    t5 = position / 7u;
-    t6 = position % 7u;
-    t7 = (struct scan__slots__RingSlot){.slot = t5 % st.groups, .turn = (t5 / st.groups) % 2u};
-    t8 = 64u + (512u * t7.slot);
-    t9 = (struct slice_u8){log.ptr + (size_t)t8, (size_t)((t8 + 512u) - t8)};
-    t17 = scan__groups__group_valid(t9, st.groups, st.start, t5);
-    if (!t17) {
-        return false;
-    }
-    t19 = scan__groups__tag_there(t9, t7.turn, t6, position, 7u * st.start, st.homes);
-    if (t19.tag == 0u) {
-        t20 = false;
-    } else if (t19.tag == 1u) {
-        t20 = t19.u64_0 == home;
-    } else {
-        t20 = t19.u64_0 == home;
-    }
-    return t20;
-}
-
-/* Whether an entry for a home is at the position kept for it, if that lies from the start of the log to below the next position.
-   */
-static inline bool shown__is_there(struct slice_u8 log, struct model__State st, uint64_t home, uint64_t position)
-{
-    if (position < (7u * st.start)) {
-        return false;
-    }
-    if (((7u * st.next) + st.filled) <= position) {
-        return false;
-    }
-    return shown__entry_there(log, st, home, position);
-}
-
-/* Whether an entry for a home is at the position kept for it; the strip's numbers are read only where a position is kept. */
-static inline bool rights__list__found(struct slice_u8 log, struct slice_u8 state, uint64_t home, uint64_t position)
-{
-    uint64_t t8, t9;
-
-    if (position == UINT64_C(0xffffffffffffffff)) {
-        return false;
-    }
-    t8 = load_8(state.ptr);
-    t9 = load_8(state.ptr + 8u);
-    return shown__is_there(log, (struct model__State){.groups = t8, .homes = t9, .start = load_8(state.ptr + 16u),
-            .next = load_8(state.ptr + 24u), .filled = load_8(state.ptr + 32u), .settled = load_8(state.ptr + 40u),
-            .fenced = load_8(state.ptr + 48u), .durable = load_8(state.ptr + 56u), .last = load_8(state.ptr + 64u),
-            .round = load_8(state.ptr + 88u), .cursor = load_8(state.ptr + 96u)}, home, position);
-}
-
-/* Whether a home lies in the range at index `at`. */
-static inline bool rights__ranges__in_range(struct slice_u8 s, uint64_t at, uint64_t home)
-{
-    uint64_t t4;
-
-    t4 = load_2(s.ptr + (size_t)at);
-    if (home < t4) {
-        return false;
-    }
-    return home < (t4 + load_2(s.ptr + (size_t)(at + 2u)));
-}
-
-/* Whether a home lies in one of the four ranges from index `at` on. */
-static inline bool rights__ranges__in_ranges(struct slice_u8 s, uint64_t at, uint64_t home)
-{
-    bool t4, t5, t7;
-
-    t4 = rights__ranges__in_range(s, at, home);
-    if (t4) {
-        return true;
-    }
-    t5 = rights__ranges__in_range(s, at + 4u, home);
-    if (t5) {
-        return true;
-    }
-    t7 = rights__ranges__in_range(s, at + 8u, home);
-    if (t7) {
-        return true;
-    }
-    return rights__ranges__in_range(s, at + 12u, home);
-}
-
-/* Copies the block that the entry at a position gives. */
-static inline void shown__show_entry(struct slice_mut_u8 block, struct slice_u8 log, uint64_t groups, uint64_t position)
-{
-    areas__groups__copy_entry(block, 0u, log, (position / 7u) % groups, position % 7u);
-}
-
-/* Whether a home lies in one of the four ranges from byte `at` of the list on; they lie in one block. */
-static inline bool rights__list__own_ranges(struct slice_u8 log, struct slice_u8 area, struct slice_u8 state,
-        struct slice_u8 kept, uint64_t from, uint64_t at, uint64_t home)
-{
-    uint64_t t8, t9, t14;
-    struct array_u8_64 t10;
-    bool t13;
-    uint8_t *t22;
-
-    t8 = at / 64u;
-    t9 = load_8(kept.ptr + (size_t)(from + (8u * t8)));
-    t13 = rights__list__found(log, state, 8u + t8, t9);
-    if (!t13) {
-        return rights__ranges__in_ranges(area, (64u * (8u + t8)) + (at % 64u), home);
-    }
-    memset(&t10, 0u, sizeof t10);
-    t22 = t10.at;
-    t14 = areas__lengths__log_groups((uint64_t)log.len);
-    shown__show_entry((struct slice_mut_u8){t22, 64u}, log, t14, t9);
-    return rights__ranges__in_ranges((struct slice_u8){t10.at, 64u}, at % 64u, home);
-}
-
-/* Whether block `i` of the list is all zeros. */
-static inline bool rights__list__is_zero(struct slice_u8 log, struct slice_u8 area, struct slice_u8 state, struct slice_u8 kept,
-        uint64_t from, uint64_t i)
-{
-    uint64_t t7, t12;
-    struct array_u8_64 t8;
-    bool t11;
-    uint8_t *t18;
-
-    t7 = load_8(kept.ptr + (size_t)(from + (8u * i)));
-    t11 = rights__list__found(log, state, 8u + i, t7);
-    if (!t11) {
-        return codec__blocks__all_zero(area, 64u * (8u + i), 64u);
-    }
-    memset(&t8, 0u, sizeof t8);
-    t18 = t8.at;
-    t12 = areas__lengths__log_groups((uint64_t)log.len);
-    shown__show_entry((struct slice_mut_u8){t18, 64u}, log, t12, t7);
-    return codec__blocks__all_zero((struct slice_u8){t8.at, 64u}, 0u, 64u);
-}
-
-/* Whether the whole list is all zeros. */
-static inline bool rights__list__no_list(struct slice_u8 log, struct slice_u8 area, struct slice_u8 state, struct slice_u8 kept,
-        uint64_t from)
-{
-    bool t6;
-
-    t6 = rights__list__is_zero(log, area, state, kept, from, 0u);
-    if (!t6) {
-        return false;
-    }
-    t6 = rights__list__is_zero(log, area, state, kept, from, 1u);
-    if (!t6) {
-        return false;
-    }
-    t6 = rights__list__is_zero(log, area, state, kept, from, 2u);
-    if (!t6) {
-        return false;
-    }
-    return rights__list__is_zero(log, area, state, kept, from, 3u);
-}
-
-/* Whether the ranges from byte `at` of the list on open a home, or there is no list. The ranges are asked first: they are one
-   block. */
-static inline bool rights__list__open_to(struct slice_u8 log, struct slice_u8 area, struct slice_u8 state, struct slice_u8 kept,
-        uint64_t from, uint64_t at, uint64_t home)
-{
-    bool t10;
-
-    if ((uint64_t)area.len < 768u) {
-        return true;
-    }
-    t10 = rights__list__own_ranges(log, area, state, kept, from, at, home);
-    if (t10) {
-        return true;
-    }
-    return rights__list__no_list(log, area, state, kept, from);
-}
-
-/* Whether a writer may read a home. The list is found by the newest positions. */
-static inline bool rights__may_read(struct slice_u8 log, struct slice_u8 area, struct slice_u8 state, struct slice_u8 newest,
-        struct model__State st, uint64_t writer, uint64_t home)
-{
-    bool t8;
-    (void)st;
-
-    t8 = rights__ranges__of_list(home);
-    if (t8) {
-        return true;
-    }
-    return rights__list__open_to(log, area, state, newest, 64u, (32u * writer) + 16u, home);
-}
-
 /* The questions of a read: 0 if none refuses it, else the number of the refusal. */
 static inline uint64_t reading__judge(struct slice_u8 log, struct slice_u8 area, struct slice_u8 state, struct slice_u8 newest,
         struct slice_u8 block, uint64_t writer, uint64_t home)
 {
-    uint64_t t8, t17, t18;
-    bool t10;
+    uint64_t t8;
+    bool t9;
 
     t8 = answers__in_use_both(log, area, state, newest, block);
     if (t8 != 0u) {
@@ -2591,187 +3167,11 @@ static inline uint64_t reading__judge(struct slice_u8 log, struct slice_u8 area,
     if (((uint64_t)area.len / 64u) <= home) {
         return 5u;
     }
-    t17 = load_8(state.ptr);
-    t18 = load_8(state.ptr + 8u);
-    t10 = rights__may_read(log, area, state, newest, (struct model__State){.groups = t17, .homes = t18, .start = load_8(state.ptr
-            + 16u), .next = load_8(state.ptr + 24u), .filled = load_8(state.ptr + 32u), .settled = load_8(state.ptr + 40u),
-            .fenced = load_8(state.ptr + 48u), .durable = load_8(state.ptr + 56u), .last = load_8(state.ptr + 64u),
-            .round = load_8(state.ptr + 88u), .cursor = load_8(state.ptr + 96u)}, writer, home);
-    if (!t10) {
+    t9 = rights__may_read(log, area, state, newest, writer, home);
+    if (!t9) {
         return 20u;
     }
     return 0u;
-}
-
-/* Whether a writer holds a block for a home. */
-static inline bool reading__blocks__holds_home(struct model__Writer r, uint64_t home)
-{
-    if (!(2u <= r.mode)) {
-        return false;
-    }
-    return r.home == home;
-}
-
-/* Copies the block that a writer holds. */
-static inline void reading__blocks__show_held(struct slice_mut_u8 block, struct slice_u8 state, uint64_t w)
-{
-    areas__blocks__copy_block(block, 0u, state, (128u + (96u * w)) + 32u);
-}
-
-/* The newest entry once one for a home is seen at a position. */
-static inline uint64_t search__own__note(uint64_t written, uint64_t home, uint64_t position, uint64_t newest)
-{
-    if (written != home) {
-        return newest;
-    }
-    return position + 1u;
-}
-
-/* The same if tag `k` of a group with turn `turn` is an entry of the transaction with first position `first`. Its distance back
-   is compared before all else. */
-static inline uint64_t search__own__note_entry(struct slice_u8 group, uint64_t turn, uint64_t k, uint64_t position, uint64_t base,
-        uint64_t homes, uint64_t first, uint64_t home, uint64_t newest)
-{
-    uint64_t t12, t16;
-    struct model__Tag t15;
-
-    t12 = scan__groups__back_in(group, turn, k);
-    if (t12 != (position - first)) {
-        return newest;
-    }
-    t15 = scan__groups__tag_there(group, turn, k, position, base, homes);
-    if (t15.tag == 0u) {
-        t16 = newest;
-    } else if (t15.tag == 1u) {
-        t16 = search__own__note(t15.u64_0, home, position, newest);
-    } else {
-        t16 = search__own__note(t15.u64_0, home, position, newest);
-    }
-    return t16;
-}
-
-/* The same for the transaction's entries among the first `m` of a group, which says nothing where it is not the valid group with
-   number `n` and turn `turn`. */
-static inline uint64_t search__own__note_group(struct slice_u8 group, uint64_t groups, uint64_t homes, uint64_t start, uint64_t n,
-        uint64_t turn, uint64_t m, uint64_t first, uint64_t home, uint64_t newest)
-{
-    uint64_t t11, t12, t13, t14;
-    bool t15;
-
-    t15 = scan__groups__group_valid(group, groups, start, n);
-    if (!t15) {
-        return newest;
-    }
-    t11 = 7u * start;
-    t12 = newest;
-    t13 = scan__commits__skipped(7u * n, first);
-    t14 = (7u * n) + t13;
-    while (t13 < m) {
-        t12 = search__own__note_entry(group, turn, t13, t14, t11, homes, first, home, t12);
-        t14 = t14 + 1u;
-        t13 = t13 + 1u;
-    }
-    return t12;
-}
-
-/* The newest entry for a home, as its position + 1, 0 for none, of the open transaction with first position `first`, below
-   position `end`. */
-static inline uint64_t search__own__newest_own(struct slice_u8 log, uint64_t groups, uint64_t homes, uint64_t start,
-        uint64_t first, uint64_t end, uint64_t home)
-{
-    uint64_t t8, t9, t11, t12, t14;
-    struct scan__slots__RingSlot t10;
-
-    t8 = 0u;
-    t9 = first / 7u;
-    t10 = (struct scan__slots__RingSlot){.slot = t9 % groups, .turn = (t9 / groups) % 2u};
-    t11 = end - (7u * t9);
-    while (0u < t11) {
-        t12 = 64u + (512u * t10.slot);
-        t14 = scan__commits__in_group(t11);
-        t8 = search__own__note_group((struct slice_u8){log.ptr + (size_t)t12, (size_t)((t12 + 512u) - t12)}, groups, homes, start,
-                t9, t10.turn, t14, first, home, t8);
-        t10 = scan__slots__next_slot(t10, groups);
-        t9 = t9 + 1u;
-        t11 = t11 - t14;
-    }
-    return t8;
-}
-
-/* The newest entry for a home in a writer's open transaction. */
-static inline uint64_t reading__newest__own_entry(struct slice_u8 log, struct model__State st, struct model__Writer r,
-        uint64_t home)
-{
-    if (!(3u <= r.mode)) {
-        return 0u;
-    }
-    return search__own__newest_own(log, st.groups, st.homes, st.start, r.first, (7u * st.next) + st.filled, home);
-}
-
-/* The entry for a home at the position kept for it. */
-static inline uint64_t reading__newest__kept_entry(struct slice_u8 log, struct slice_u8 newest, struct model__State st,
-        uint64_t home)
-{
-    uint64_t t5;
-    bool t7;
-
-    t5 = load_8(newest.ptr + (size_t)(8u * home));
-    t7 = shown__is_there(log, st, home, t5);
-    if (!t7) {
-        return 0u;
-    }
-    return t5 + 1u;
-}
-
-/* The entry for a home that a writer sees: its newest own one, else that at the kept position. */
-static inline uint64_t reading__newest__seen(struct slice_u8 log, struct slice_u8 newest, struct model__State st,
-        struct model__Writer r, uint64_t home)
-{
-    uint64_t t6;
-
-    t6 = reading__newest__own_entry(log, st, r, home);
-    if (t6 != 0u) {
-        return t6;
-    }
-    return reading__newest__kept_entry(log, newest, st, home);
-}
-
-/* Reads a home into a block buffer. */
-static inline void areas__homes__get_home(struct slice_mut_u8 block, struct slice_u8 area, uint64_t home)
-{
-    areas__blocks__copy_block(block, 0u, area, 64u * home);
-}
-
-/* Copies the block of a home that a writer sees. */
-static inline void reading__blocks__show(struct slice_u8 log, struct slice_u8 area, struct slice_u8 state, struct slice_u8 newest,
-        struct slice_mut_u8 block, uint64_t writer, uint64_t home)
-{
-    struct model__State t8;
-    uint64_t t9, t11, t26, t27, t1160;
-    struct model__Writer t10;
-    bool t12;
-
-    t26 = load_8(state.ptr);
-    t27 = load_8(state.ptr + 8u);
-    t8 = (struct model__State){.groups = t26, .homes = t27, .start = load_8(state.ptr + 16u), .next = load_8(state.ptr + 24u),
-            .filled = load_8(state.ptr + 32u), .settled = load_8(state.ptr + 40u), .fenced = load_8(state.ptr + 48u),
-            .durable = load_8(state.ptr + 56u), .last = load_8(state.ptr + 64u), .round = load_8(state.ptr + 88u),
-            .cursor = load_8(state.ptr + 96u)};
-    t9 = writer;
-    t1160 = 128u + (96u * t9);
-    t10 = (struct model__Writer){.mode = load_8(state.ptr + (size_t)t1160), .home = load_8(state.ptr + (size_t)(t1160 + 8u)),
-            .first = load_8(state.ptr + (size_t)(t1160 + 16u)), .count = load_8(state.ptr + (size_t)(t1160 + 24u))};
-    t12 = reading__blocks__holds_home(t10, home);
-    if (t12) {
-        reading__blocks__show_held(block, state, t9);
-        return;
-    }
-    t11 = reading__newest__seen(log, newest, t8, t10, home);
-    if (t11 == 0u) {
-        areas__homes__get_home(block, area, home);
-        return;
-    }
-    shown__show_entry(block, log, t8.groups, t11 - 1u);
 }
 
 /* Reads the block of a home as a writer sees it: the held one, else its newest own entry, else that at the position kept for the
@@ -2864,6 +3264,84 @@ static inline struct answers__Reply kagutin__kagutin_reserve(struct slice_u8 log
         uint64_t writer, uint64_t n)
 {
     return sessions__reserve(log, area, state, writer, n);
+}
+
+/* Whether a writer may store to a home, for a call that is lent the newest positions: the list is found by those. */
+static inline bool rights__may_store_newest(struct slice_u8 log, struct slice_u8 area, struct slice_u8 state,
+        struct slice_u8 newest, uint64_t writer, uint64_t home)
+{
+    bool t7;
+
+    t7 = rights__ranges__of_list(home);
+    if (t7) {
+        return writer == 0u;
+    }
+    if ((uint64_t)area.len < 768u) {
+        return true;
+    }
+    return rights__list__open_to(log, area, state, newest, 64u, 32u * writer, home);
+}
+
+/* Whether a writer may store to each of `n` homes from `home` on. */
+static inline bool chains__allowed__may_store_all(struct slice_u8 log, struct slice_u8 area, struct slice_u8 state,
+        struct slice_u8 newest, uint64_t writer, uint64_t home, uint64_t n)
+{
+    uint64_t t8;
+    bool t9;
+
+    t8 = 0u;
+    while (t8 < n) {
+        t9 = rights__may_store_newest(log, area, state, newest, writer, home + t8);
+        if (!t9) {
+            return false;
+        }
+        t8 = t8 + 1u;
+    }
+    return true;
+}
+
+/* The answer of a revise: that of a fetch, which asks for the right to store too. */
+static inline uint64_t chains__verdicts__revise_verdict(struct slice_u8 log, struct slice_u8 area, struct slice_u8 state,
+        struct slice_u8 newest, struct slice_u8 blocks, uint64_t writer, uint64_t home)
+{
+    uint64_t t8, t9;
+    bool t10;
+
+    t8 = chains__verdicts__homes_answer(log, area, state, newest, blocks, writer, home);
+    if (t8 != 0u) {
+        return t8;
+    }
+    t9 = (uint64_t)blocks.len / 64u;
+    t10 = chains__allowed__may_store_all(log, area, state, newest, writer, home, t9);
+    if (!t10) {
+        return 19u;
+    }
+    t10 = chains__allowed__may_read_all(log, area, state, newest, writer, home, t9);
+    if (!t10) {
+        return 20u;
+    }
+    return 0u;
+}
+
+/* The same for a writer that is going to store what it makes of them: it may store to them all, too. */
+static inline struct answers__Reply chains__fetches__revise(struct slice_u8 log, struct slice_u8 area, struct slice_u8 state,
+        struct slice_u8 newest, struct slice_mut_u8 blocks, uint64_t writer, uint64_t home)
+{
+    uint64_t t8;
+
+    t8 = chains__verdicts__revise_verdict(log, area, state, newest, (struct slice_u8){blocks.ptr, blocks.len}, writer, home);
+    if (t8 != 0u) {
+        return (struct answers__Reply){.code = t8, .figure = 0u, .size = 0u};
+    }
+    chains__fetches__show_all(log, area, state, newest, blocks, writer, home);
+    return (struct answers__Reply){.code = 0u, .figure = 0u, .size = 0u};
+}
+
+/* The same for a writer that is going to store what it makes of the blocks: it may store to the homes, too. */
+static inline struct answers__Reply kagutin__kagutin_revise(struct slice_u8 log, struct slice_u8 area, struct slice_u8 state,
+        struct slice_u8 newest, struct slice_mut_u8 blocks, uint64_t writer, uint64_t home)
+{
+    return chains__fetches__revise(log, area, state, newest, blocks, writer, home);
 }
 
 /* Brings the data copy and the data area up to the fenced position. */
@@ -3080,31 +3558,54 @@ static inline uint64_t replay__stepping__bring_from(struct slice_u8 log, struct 
 
 /* Finds the bytes that a step of at most `limit` homes from the cursor on takes. If the batch has them, those homes are brought
    back into the data copy, and their records stand at the batch's beginning. */
-static inline struct recovery__planning__Made recovery__planning__step(struct slice_u8 log, struct slice_mut_u8 area,
-        struct slice_mut_u8 batch, uint64_t groups, uint64_t homes, uint64_t start, uint64_t end, uint64_t cursor, uint64_t limit)
+static inline struct recovery__planning__Made recovery__planning__bring_some(struct slice_u8 log, struct slice_mut_u8 area,
+        struct slice_mut_u8 batch, struct slice_u16 last, struct slice_u16 heads, struct slice_u16 links, uint64_t groups,
+        uint64_t homes, uint64_t start, uint64_t end, uint64_t cursor, uint64_t limit)
 {
-    struct array_u16_7168 t10, t12;
-    struct array_u16_1024 t11;
-    uint64_t t13, t14, t15, t17, t32;
+    uint64_t t13, t14, t15, t17, t19;
     bool t16;
 
-    memset(&t10, 0, sizeof t10);
-    memset(&t11, 0, sizeof t11);
-    memset(&t12, 0, sizeof t12);
-    replay__gathering__gather(log, (struct slice_mut_u16){t10.at, 7168u}, (struct slice_mut_u16){t11.at, 1024u},
-            (struct slice_mut_u16){t12.at, 7168u}, groups, homes, start, end);
-    t13 = replay__stepping__count_from(log, (struct slice_u16){t10.at, 7168u}, (struct slice_u16){t11.at, 1024u},
-            (struct slice_u16){t12.at, 7168u}, groups, homes, start, end, cursor, limit);
+    t13 = replay__stepping__count_from(log, last, heads, links, groups, homes, start, end, cursor, limit);
     t14 = recovery__planning__least(t13, limit);
-    t32 = recovery__planning__fence_size(t13, limit);
-    t15 = (68u * t14) + t32;
+    t19 = recovery__planning__fence_size(t13, limit);
+    t15 = (68u * t14) + t19;
     t16 = limit < t13;
     if ((uint64_t)batch.len < t15) {
         return (struct recovery__planning__Made){.size = t15, .next = cursor, .more = t16};
     }
-    t17 = replay__stepping__bring_from(log, area, batch, (struct slice_u16){t10.at, 7168u}, (struct slice_u16){t11.at, 1024u},
-            (struct slice_u16){t12.at, 7168u}, groups, homes, start, end, cursor, t14);
+    t17 = replay__stepping__bring_from(log, area, batch, last, heads, links, groups, homes, start, end, cursor, t14);
     return (struct recovery__planning__Made){.size = t15, .next = t17, .more = t16};
+}
+
+/* Either of these, by tables of its own: all homes where `limit` is 0. It serves three calls, so it stays a function, and its
+   tables are not on the stack while they walk. */
+static inline struct recovery__planning__Made recovery__planning__bring(struct slice_u8 log, struct slice_mut_u8 area,
+        struct slice_mut_u8 batch, uint64_t groups, uint64_t homes, uint64_t start, uint64_t end, uint64_t cursor, uint64_t limit,
+        uint64_t more)
+{
+    struct array_u16_7168 t11, t13;
+    struct array_u16_1024 t12;
+    uint64_t t14;
+
+    memset(&t11, 0, sizeof t11);
+    memset(&t12, 0, sizeof t12);
+    memset(&t13, 0, sizeof t13);
+    replay__gathering__gather(log, (struct slice_mut_u16){t11.at, 7168u}, (struct slice_mut_u16){t12.at, 1024u},
+            (struct slice_mut_u16){t13.at, 7168u}, groups, homes, start, end);
+    if (limit == 0u) {
+        t14 = recovery__planning__bring_all(log, area, batch, (struct slice_u16){t11.at, 7168u}, (struct slice_u16){t12.at,
+                1024u}, (struct slice_u16){t13.at, 7168u}, groups, homes, start, end, more);
+        return (struct recovery__planning__Made){.size = t14, .next = cursor, .more = false};
+    }
+    return recovery__planning__bring_some(log, area, batch, (struct slice_u16){t11.at, 7168u}, (struct slice_u16){t12.at, 1024u},
+            (struct slice_u16){t13.at, 7168u}, groups, homes, start, end, cursor, limit);
+}
+
+/* A step of at most `limit` homes from the cursor on. */
+static inline struct recovery__planning__Made recovery__planning__step(struct slice_u8 log, struct slice_mut_u8 area,
+        struct slice_mut_u8 batch, uint64_t groups, uint64_t homes, uint64_t start, uint64_t end, uint64_t cursor, uint64_t limit)
+{
+    return recovery__planning__bring(log, area, batch, groups, homes, start, end, cursor, limit, 0u);
 }
 
 /* Moves the round on by the next `homes` homes, or all that remain: then it is over. */
@@ -3159,15 +3660,17 @@ static inline struct answers__Reply kagutin__kagutin_step_round(struct slice_u8 
 }
 
 /* Whether a writer may store to a home. The list is found by the positions of its homes in the state strip. */
-static inline bool rights__may_store(struct slice_u8 log, struct slice_u8 area, struct slice_u8 state, struct model__State st,
-        uint64_t writer, uint64_t home)
+static inline bool rights__may_store(struct slice_u8 log, struct slice_u8 area, struct slice_u8 state, uint64_t writer,
+        uint64_t home)
 {
-    bool t7;
-    (void)st;
+    bool t6;
 
-    t7 = rights__ranges__of_list(home);
-    if (t7) {
+    t6 = rights__ranges__of_list(home);
+    if (t6) {
         return writer == 0u;
+    }
+    if ((uint64_t)area.len < 768u) {
+        return true;
     }
     return rights__list__open_to(log, area, state, state, 896u, 32u * writer, home);
 }
@@ -3176,9 +3679,8 @@ static inline bool rights__may_store(struct slice_u8 log, struct slice_u8 area, 
 static inline uint64_t logging__stores__store_verdict(struct slice_u8 log, struct slice_u8 area, struct slice_u8 state,
         struct slice_u8 block, struct slice_u8 batch, uint64_t writer, uint64_t home)
 {
-    uint64_t t8, t19, t20, t1153;
-    struct model__State t9;
-    struct model__Writer t10;
+    uint64_t t8, t19, t441, t442;
+    struct model__Writer t9;
     bool t11;
 
     t8 = answers__in_use_block(log, area, state, block);
@@ -3191,29 +3693,28 @@ static inline uint64_t logging__stores__store_verdict(struct slice_u8 log, struc
     if (((uint64_t)area.len / 64u) <= home) {
         return 5u;
     }
-    t19 = load_8(state.ptr);
-    t20 = load_8(state.ptr + 8u);
-    t9 = (struct model__State){.groups = t19, .homes = t20, .start = load_8(state.ptr + 16u), .next = load_8(state.ptr + 24u),
-            .filled = load_8(state.ptr + 32u), .settled = load_8(state.ptr + 40u), .fenced = load_8(state.ptr + 48u),
-            .durable = load_8(state.ptr + 56u), .last = load_8(state.ptr + 64u), .round = load_8(state.ptr + 88u),
-            .cursor = load_8(state.ptr + 96u)};
-    t11 = rights__may_store(log, area, state, t9, writer, home);
+    t11 = rights__may_store(log, area, state, writer, home);
     if (!t11) {
         return 19u;
     }
-    t1153 = 128u + (96u * writer);
-    t10 = (struct model__Writer){.mode = load_8(state.ptr + (size_t)t1153), .home = load_8(state.ptr + (size_t)(t1153 + 8u)),
-            .first = load_8(state.ptr + (size_t)(t1153 + 16u)), .count = load_8(state.ptr + (size_t)(t1153 + 24u))};
-    if (!(1u <= t10.mode)) {
+    t19 = 128u + (96u * writer);
+    t9 = (struct model__Writer){.mode = load_8(state.ptr + (size_t)t19), .home = load_8(state.ptr + (size_t)(t19 + 8u)),
+            .first = load_8(state.ptr + (size_t)(t19 + 16u)), .count = load_8(state.ptr + (size_t)(t19 + 24u))};
+    if (!(1u <= t9.mode)) {
         return 7u;
     }
-    if (!(2u <= t10.mode)) {
+    if (!(2u <= t9.mode)) {
         return 0u;
     }
-    if (t10.home == home) {
+    if (t9.home == home) {
         return 0u;
     }
-    return logging__entry__may_log(state, t9, writer, (uint64_t)batch.len);
+    t441 = load_8(state.ptr);
+    t442 = load_8(state.ptr + 8u);
+    return logging__entry__may_log(state, (struct model__State){.groups = t441, .homes = t442, .start = load_8(state.ptr + 16u),
+            .next = load_8(state.ptr + 24u), .filled = load_8(state.ptr + 32u), .settled = load_8(state.ptr + 40u),
+            .fenced = load_8(state.ptr + 48u), .durable = load_8(state.ptr + 56u), .last = load_8(state.ptr + 64u),
+            .round = load_8(state.ptr + 88u), .cursor = load_8(state.ptr + 96u)}, writer, (uint64_t)batch.len);
 }
 
 /* The record `r` once its writer holds a block for `home`; a block that it held for another home was logged at `position`. */
@@ -3364,6 +3865,151 @@ static inline struct answers__Reply kagutin__kagutin_store(struct slice_mut_u8 l
     return logging__stores__store(log, area, state, block, batch, writer, home);
 }
 
+/* Questions 8 and 10 of a call that logs `n` entries of an idle writer: 0 if the log has room for them, and the batch for the
+   group that they may fill. */
+static inline uint64_t chains__verdicts__may_log_all(struct slice_u8 state, struct model__State st, uint64_t n, uint64_t batch)
+{
+    bool t5;
+
+    t5 = strip__promises__may_promise(state, st, n);
+    if (!t5) {
+        return 8u;
+    }
+    if ((st.filled + n) < 7u) {
+        return 0u;
+    }
+    if (batch < 516u) {
+        return 9u;
+    }
+    return 0u;
+}
+
+/* The answer of a transact: 0, or the number of the question that refuses it. */
+static inline uint64_t chains__verdicts__transact_verdict(struct slice_u8 log, struct slice_u8 area, struct slice_u8 state,
+        struct slice_u8 newest, struct slice_u8 blocks, struct slice_u8 batch, uint64_t writer, uint64_t home)
+{
+    uint64_t t9, t10, t19, t440, t441;
+    bool t11;
+    struct model__Writer t16;
+
+    t9 = chains__verdicts__homes_answer(log, area, state, newest, blocks, writer, home);
+    if (t9 != 0u) {
+        return t9;
+    }
+    t10 = (uint64_t)blocks.len / 64u;
+    t11 = chains__allowed__may_store_all(log, area, state, newest, writer, home, t10);
+    if (!t11) {
+        return 19u;
+    }
+    t19 = 128u + (96u * writer);
+    t16 = (struct model__Writer){.mode = load_8(state.ptr + (size_t)t19), .home = load_8(state.ptr + (size_t)(t19 + 8u)),
+            .first = load_8(state.ptr + (size_t)(t19 + 16u)), .count = load_8(state.ptr + (size_t)(t19 + 24u))};
+    if (1u <= t16.mode) {
+        return 6u;
+    }
+    t440 = load_8(state.ptr);
+    t441 = load_8(state.ptr + 8u);
+    return chains__verdicts__may_log_all(state, (struct model__State){.groups = t440, .homes = t441, .start = load_8(state.ptr
+            + 16u), .next = load_8(state.ptr + 24u), .filled = load_8(state.ptr + 32u), .settled = load_8(state.ptr + 40u),
+            .fenced = load_8(state.ptr + 48u), .durable = load_8(state.ptr + 56u), .last = load_8(state.ptr + 64u),
+            .round = load_8(state.ptr + 88u), .cursor = load_8(state.ptr + 96u)}, t10, (uint64_t)batch.len);
+}
+
+/* Begins a transaction of the writer `w`, which holds the first of the lent blocks. */
+static inline void chains__steps__hold_first(struct slice_mut_u8 state, struct slice_u8 blocks, uint64_t w, uint64_t home)
+{
+    uint64_t t18;
+
+    writers__begin(state, w);
+    t18 = 128u + (96u * w);
+    logging__stores__store_first(state, (struct slice_u8){blocks.ptr, (size_t)((uint64_t)64u - 0u)},
+            (struct model__Writer){.mode = load_8(state.ptr + (size_t)t18), .home = load_8(state.ptr + (size_t)(t18 + 8u)),
+            .first = load_8(state.ptr + (size_t)(t18 + 16u)), .count = load_8(state.ptr + (size_t)(t18 + 24u))}, w, home);
+}
+
+/* Logs the block that the writer `w` holds and holds the next one, for another home. */
+static inline uint64_t chains__steps__store_next(struct slice_mut_u8 log, struct slice_mut_u8 state, struct slice_u8 block,
+        struct slice_mut_u8 batch, uint64_t w, uint64_t home)
+{
+    uint64_t t20, t21, t1154;
+
+    t20 = load_8(state.ptr);
+    t21 = load_8(state.ptr + 8u);
+    t1154 = 128u + (96u * w);
+    return logging__stores__store_other(log, state, block, batch, (struct model__State){.groups = t20, .homes = t21,
+            .start = load_8(state.ptr + 16u), .next = load_8(state.ptr + 24u), .filled = load_8(state.ptr + 32u),
+            .settled = load_8(state.ptr + 40u), .fenced = load_8(state.ptr + 48u), .durable = load_8(state.ptr + 56u),
+            .last = load_8(state.ptr + 64u), .round = load_8(state.ptr + 88u), .cursor = load_8(state.ptr + 96u)},
+            (struct model__Writer){.mode = load_8(state.ptr + (size_t)t1154), .home = load_8(state.ptr + (size_t)(t1154 + 8u)),
+            .first = load_8(state.ptr + (size_t)(t1154 + 16u)), .count = load_8(state.ptr + (size_t)(t1154 + 24u))}, w, home);
+}
+
+/* Stores the lent blocks but the first, which is held, by rising home. Returns how many bytes of the batch are written. */
+static inline uint64_t chains__steps__store_rest(struct slice_mut_u8 log, struct slice_mut_u8 state, struct slice_u8 blocks,
+        struct slice_mut_u8 batch, uint64_t w, uint64_t home)
+{
+    uint64_t t7, t8, t9, t10, t13;
+
+    t7 = (uint64_t)blocks.len / 64u;
+    t8 = 0u;
+    t9 = 1u;
+    while (t9 < t7) {
+        t10 = 64u * t9;
+        t13 = chains__steps__store_next(log, state, (struct slice_u8){blocks.ptr + (size_t)t10, (size_t)((t10 + 64u) - t10)},
+                batch, w, home + t9);
+        t8 = t8 + t13;
+        t9 = t9 + 1u;
+    }
+    return t8;
+}
+
+/* Begins a transaction of the writer `w` and stores the lent blocks in it by rising home. Returns how many bytes of the batch are
+   written. */
+static inline uint64_t chains__steps__store_all(struct slice_mut_u8 log, struct slice_mut_u8 state, struct slice_u8 blocks,
+        struct slice_mut_u8 batch, uint64_t w, uint64_t home)
+{
+    chains__steps__hold_first(state, blocks, w, home);
+    return chains__steps__store_rest(log, state, blocks, batch, w, home);
+}
+
+/* Commits one to seven blocks for the homes from `home` on, in one transaction of a writer that has none open and may store to
+   them all. The figure is the ticket. */
+static inline struct answers__Reply chains__transacts__transact(struct slice_mut_u8 log, struct slice_u8 area,
+        struct slice_mut_u8 state, struct slice_mut_u8 newest, struct slice_u8 blocks, struct slice_mut_u8 batch, uint64_t writer,
+        uint64_t home)
+{
+    uint64_t t9, t10, t11, t15, t46, t47, t1180;
+    struct model__State t12;
+
+    t9 = chains__verdicts__transact_verdict((struct slice_u8){log.ptr, log.len}, area, (struct slice_u8){state.ptr, state.len},
+            (struct slice_u8){newest.ptr, newest.len}, blocks, (struct slice_u8){batch.ptr, batch.len}, writer, home);
+    if (t9 != 0u) {
+        return (struct answers__Reply){.code = t9, .figure = 0u, .size = 0u};
+    }
+    t10 = writer;
+    t11 = chains__steps__store_all(log, state, blocks, batch, t10, home);
+    t46 = load_8(state.ptr);
+    t47 = load_8(state.ptr + 8u);
+    t12 = (struct model__State){.groups = t46, .homes = t47, .start = load_8(state.ptr + 16u), .next = load_8(state.ptr + 24u),
+            .filled = load_8(state.ptr + 32u), .settled = load_8(state.ptr + 40u), .fenced = load_8(state.ptr + 48u),
+            .durable = load_8(state.ptr + 56u), .last = load_8(state.ptr + 64u), .round = load_8(state.ptr + 88u),
+            .cursor = load_8(state.ptr + 96u)};
+    t1180 = 128u + (96u * t10);
+    t15 = logging__commits__commit_held(log, state, newest, batch, t12, (struct model__Writer){.mode = load_8(state.ptr
+            + (size_t)t1180), .home = load_8(state.ptr + (size_t)(t1180 + 8u)), .first = load_8(state.ptr + (size_t)(t1180
+            + 16u)), .count = load_8(state.ptr + (size_t)(t1180 + 24u))}, t10);
+    return (struct answers__Reply){.code = 0u, .figure = ((7u * t12.next) + t12.filled) + 1u, .size = t11 + t15};
+}
+
+/* Begins a transaction of an idle writer, stores one to seven blocks for the homes from `home` on and commits them. The figure is
+   the ticket. */
+static inline struct answers__Reply kagutin__kagutin_transact(struct slice_mut_u8 log, struct slice_u8 area,
+        struct slice_mut_u8 state, struct slice_mut_u8 newest, struct slice_u8 blocks, struct slice_mut_u8 batch, uint64_t writer,
+        uint64_t home)
+{
+    return chains__transacts__transact(log, area, state, newest, blocks, batch, writer, home);
+}
+
 /* A limit lowered to the group in which a writer's open transaction begins, if it has logged entries. */
 static inline uint64_t limits__writers__writer_limit(struct slice_u8 state, uint64_t w, uint64_t limit)
 {
@@ -3430,31 +4076,42 @@ static inline uint64_t limits__spans__word_limit(uint64_t word, uint64_t positio
     return t9;
 }
 
+/* The same for tag `k` of a group with turn `turn`. A tag that closes nothing is passed by its closing bit, whatever its data
+   block is. */
+static inline uint64_t limits__spans__tag_limit(struct slice_u8 group, uint64_t turn, uint64_t k, uint64_t position,
+        uint64_t base, uint64_t homes, uint64_t limit)
+{
+    uint64_t t8;
+
+    if ((load_8(group.ptr + (size_t)(8u + (8u * k))) & 2u) == 0u) {
+        return limit;
+    }
+    t8 = scan__groups__word_there(group, turn, k);
+    return limits__spans__word_limit(t8, position, base, homes, limit);
+}
+
 /* A limit lowered by the first `m` tags of a group, which says nothing where it is not the valid group with number `n` and turn
    `turn`. */
 static inline uint64_t limits__spans__group_limit(struct slice_u8 group, uint64_t groups, uint64_t homes, uint64_t start,
         uint64_t n, uint64_t turn, uint64_t m, uint64_t limit)
 {
-    struct array_u64_7 t9, t16;
-    uint64_t t10, t11, t12, t13;
-    bool t14;
+    uint64_t t9, t10, t11, t12;
+    bool t13;
 
-    t14 = scan__groups__group_valid(group, groups, start, n);
-    if (!t14) {
+    t13 = scan__groups__group_valid(group, groups, start, n);
+    if (!t13) {
         return limit;
     }
-    t16 = scan__groups__tag_words(group, turn);
-    t9 = t16;
-    t10 = 7u * start;
-    t11 = limit;
-    t12 = 7u * n;
-    t13 = 0u;
-    while (t13 < m) {
-        t11 = limits__spans__word_limit(t9.at[(size_t)t13], t12, t10, homes, t11);
+    t9 = 7u * start;
+    t10 = limit;
+    t11 = 7u * n;
+    t12 = 0u;
+    while (t12 < m) {
+        t10 = limits__spans__tag_limit(group, turn, t12, t11, t9, homes, t10);
+        t11 = t11 + 1u;
         t12 = t12 + 1u;
-        t13 = t13 + 1u;
     }
-    return t11;
+    return t10;
 }
 
 /* The highest start up to `limit` that no transaction of a closing entry below `end` lies across. */
@@ -3605,6 +4262,209 @@ static inline struct answers__Reply kagutin__kagutin_trim(struct slice_mut_u8 lo
     return trimming__trim(log, area, state, newest, batch);
 }
 
+/* A sum with the number of entries that the word of a tag counts, if it closes a transaction. */
+static inline uint64_t usage__entries__word_entries(uint64_t word, uint64_t position, uint64_t base, uint64_t homes, uint64_t sum)
+{
+    struct model__Tag t7;
+    uint64_t t8;
+
+    t7 = codec__tags__read_tag(word, position, base, homes);
+    if (t7.tag == 0u) {
+        t8 = sum;
+    } else if (t7.tag == 1u) {
+        t8 = sum;
+    } else {
+        t8 = sum + t7.u64_3;
+    }
+    return t8;
+}
+
+/* A sum with those of the first `m` tags of a group, which says nothing where it is not the valid group with number `n` and turn
+   `turn`. */
+static inline uint64_t usage__entries__group_entries(struct slice_u8 group, uint64_t groups, uint64_t homes, uint64_t start,
+        uint64_t n, uint64_t turn, uint64_t m, uint64_t sum)
+{
+    struct array_u64_7 t9, t16;
+    uint64_t t10, t11, t12, t13;
+    bool t14;
+
+    t14 = scan__groups__group_valid(group, groups, start, n);
+    if (!t14) {
+        return sum;
+    }
+    t16 = scan__groups__tag_words(group, turn);
+    t9 = t16;
+    t10 = 7u * start;
+    t11 = sum;
+    t12 = 7u * n;
+    t13 = 0u;
+    while (t13 < m) {
+        t11 = usage__entries__word_entries(t9.at[(size_t)t13], t12, t10, homes, t11);
+        t12 = t12 + 1u;
+        t13 = t13 + 1u;
+    }
+    return t11;
+}
+
+/* The entries that all closing entries below `end` count. */
+static inline uint64_t usage__entries__closed_entries(struct slice_u8 log, uint64_t groups, uint64_t homes, uint64_t start,
+        uint64_t end)
+{
+    uint64_t t6, t7, t8, t9, t11, t13;
+    struct scan__slots__RingSlot t10;
+
+    t6 = 7u * start;
+    if (end <= t6) {
+        return 0u;
+    }
+    t7 = 0u;
+    t8 = end - t6;
+    t9 = start;
+    t10 = (struct scan__slots__RingSlot){.slot = start % groups, .turn = (start / groups) % 2u};
+    while (0u < t8) {
+        t11 = 64u + (512u * t10.slot);
+        t13 = scan__commits__in_group(t8);
+        t7 = usage__entries__group_entries((struct slice_u8){log.ptr + (size_t)t11, (size_t)((t11 + 512u) - t11)}, groups, homes,
+                start, t9, t10.turn, t13, t7);
+        t10 = scan__slots__next_slot(t10, groups);
+        t9 = t9 + 1u;
+        t8 = t8 - t13;
+    }
+    return t7;
+}
+
+/* The entries of the transactions that are committed among the `n` positions of the log from its start on. */
+static inline uint64_t usage__entries__committed_entries(struct slice_u8 log, uint64_t groups, uint64_t homes, uint64_t start,
+        uint64_t n)
+{
+    struct scan__commits__Found t6;
+
+    t6 = scan__commits__walk(log, groups, homes, start, n);
+    return usage__entries__closed_entries(log, groups, homes, start, t6.end);
+}
+
+/* How many entries writer `w` has logged in an open transaction. */
+static inline uint64_t usage__writers__logged(struct slice_u8 state, uint64_t w)
+{
+    uint64_t t5;
+
+    t5 = 128u + (96u * w);
+    return strip__writers__count_for((struct model__Writer){.mode = load_8(state.ptr + (size_t)t5), .home = load_8(state.ptr
+            + (size_t)(t5 + 8u)), .first = load_8(state.ptr + (size_t)(t5 + 16u)), .count = load_8(state.ptr + (size_t)(t5
+            + 24u))});
+}
+
+/* How many entries the eight writers have logged in open transactions. */
+static inline uint64_t usage__writers__open_entries(struct slice_u8 state)
+{
+    uint64_t t2, t3, t5;
+
+    t2 = 0u;
+    t3 = 0u;
+    while (t3 < 8u) {
+        t5 = usage__writers__logged(state, t3);
+        t2 = t2 + t5;
+        t3 = t3 + 1u;
+    }
+    return t2;
+}
+
+/* The places that are live: entries of committed transactions in the log copy, and those that open transactions have logged. */
+static inline uint64_t usage__live_entries(struct slice_u8 log, struct slice_u8 area, struct slice_u8 state,
+        struct model__State st)
+{
+    uint64_t t6, t7;
+    (void)area;
+
+    t6 = usage__entries__committed_entries(log, st.groups, st.homes, st.start, ((7u * st.next) + st.filled) - (7u * st.start));
+    t7 = usage__writers__open_entries(state);
+    return t6 + t7;
+}
+
+/* What is left of some places, none if there are fewer. */
+static inline uint64_t usage__rest(uint64_t places, uint64_t used)
+{
+    if (places < used) {
+        return 0u;
+    }
+    return places - used;
+}
+
+/* The holder of the writers up to `w`, where `h` is that of those before it. */
+static inline struct model__Holder usage__writers__lower(struct slice_u8 state, uint64_t w, struct model__Holder h)
+{
+    struct model__Writer t4;
+    uint64_t t10;
+
+    t10 = 128u + (96u * w);
+    t4 = (struct model__Writer){.mode = load_8(state.ptr + (size_t)t10), .home = load_8(state.ptr + (size_t)(t10 + 8u)),
+            .first = load_8(state.ptr + (size_t)(t10 + 16u)), .count = load_8(state.ptr + (size_t)(t10 + 24u))};
+    if (!(3u <= t4.mode)) {
+        return h;
+    }
+    if (h.writer != 8u) {
+        if (h.first <= t4.first) {
+            return h;
+        }
+    }
+    return (struct model__Holder){.writer = w, .first = t4.first};
+}
+
+/* The writer whose logged entries begin lowest, with the position where they do; 8 and 0 if no writer has any. */
+static inline struct model__Holder usage__writers__holder(struct slice_u8 state)
+{
+    struct model__Holder t2;
+    uint64_t t3;
+
+    t2 = (struct model__Holder){.writer = 8u, .first = 0u};
+    t3 = 0u;
+    while (t3 < 8u) {
+        t2 = usage__writers__lower(state, t3, t2);
+        t3 = t3 + 1u;
+    }
+    return t2;
+}
+
+/* What a done call tells. */
+static inline struct model__Usage usage__told(struct slice_u8 log, struct slice_u8 area, struct slice_u8 state)
+{
+    struct model__State t4;
+    uint64_t t5, t6, t7, t8, t13, t14;
+    struct model__Holder t9;
+
+    t13 = load_8(state.ptr);
+    t14 = load_8(state.ptr + 8u);
+    t4 = (struct model__State){.groups = t13, .homes = t14, .start = load_8(state.ptr + 16u), .next = load_8(state.ptr + 24u),
+            .filled = load_8(state.ptr + 32u), .settled = load_8(state.ptr + 40u), .fenced = load_8(state.ptr + 48u),
+            .durable = load_8(state.ptr + 56u), .last = load_8(state.ptr + 64u), .round = load_8(state.ptr + 88u),
+            .cursor = load_8(state.ptr + 96u)};
+    t5 = usage__live_entries(log, area, state, t4);
+    t6 = (7u * (t4.start + t4.groups)) - ((7u * t4.next) + t4.filled);
+    t7 = usage__rest((7u * t4.groups) - t6, t5);
+    t8 = strip__promises__promised(state);
+    t9 = usage__writers__holder(state);
+    return (struct model__Usage){.code = 0u, .live = t5, .dead = t7, .free = t6, .promised = t8, .holder = t9.writer,
+            .first = t9.first};
+}
+
+/* Tells how many places of the log are live, dead, free and promised, and which open transaction lies lowest in it. */
+static inline struct model__Usage usage__usage(struct slice_u8 log, struct slice_u8 area, struct slice_u8 state)
+{
+    uint64_t t4;
+
+    t4 = answers__in_use(log, area, state);
+    if (t4 != 0u) {
+        return (struct model__Usage){.code = t4, .live = 0u, .dead = 0u, .free = 0u, .promised = 0u, .holder = 0u, .first = 0u};
+    }
+    return usage__told(log, area, state);
+}
+
+/* Tells how many places of the log are live, dead, free and promised, and which open transaction lies lowest in it. */
+static inline struct model__Usage kagutin__kagutin_usage(struct slice_u8 log, struct slice_u8 area, struct slice_u8 state)
+{
+    return usage__usage(log, area, state);
+}
+
 struct kagutin_reply kagutin_abort(const uint8_t *log, size_t log_size, const uint8_t *area, size_t area_size, uint8_t *state,
         size_t state_size, uint64_t writer)
 {
@@ -3647,6 +4507,17 @@ struct kagutin_reply kagutin_confirm(const uint8_t *log, size_t log_size, const 
 {
     struct answers__Reply r = kagutin__kagutin_confirm((struct slice_u8){log, log_size}, (struct slice_u8){area, area_size},
             (struct slice_mut_u8){state, state_size});
+
+    return (struct kagutin_reply){.code = r.code, .figure = r.figure, .size = r.size};
+}
+
+struct kagutin_reply kagutin_fetch(const uint8_t *log, size_t log_size, const uint8_t *area, size_t area_size,
+        const uint8_t *state, size_t state_size, const uint8_t *newest, size_t newest_size, uint8_t *blocks, size_t blocks_size,
+        uint64_t writer, uint64_t home)
+{
+    struct answers__Reply r = kagutin__kagutin_fetch((struct slice_u8){log, log_size}, (struct slice_u8){area, area_size},
+            (struct slice_u8){state, state_size}, (struct slice_u8){newest, newest_size}, (struct slice_mut_u8){blocks,
+            blocks_size}, writer, home);
 
     return (struct kagutin_reply){.code = r.code, .figure = r.figure, .size = r.size};
 }
@@ -3699,6 +4570,17 @@ struct kagutin_reply kagutin_reserve(const uint8_t *log, size_t log_size, const 
     return (struct kagutin_reply){.code = r.code, .figure = r.figure, .size = r.size};
 }
 
+struct kagutin_reply kagutin_revise(const uint8_t *log, size_t log_size, const uint8_t *area, size_t area_size,
+        const uint8_t *state, size_t state_size, const uint8_t *newest, size_t newest_size, uint8_t *blocks, size_t blocks_size,
+        uint64_t writer, uint64_t home)
+{
+    struct answers__Reply r = kagutin__kagutin_revise((struct slice_u8){log, log_size}, (struct slice_u8){area, area_size},
+            (struct slice_u8){state, state_size}, (struct slice_u8){newest, newest_size}, (struct slice_mut_u8){blocks,
+            blocks_size}, writer, home);
+
+    return (struct kagutin_reply){.code = r.code, .figure = r.figure, .size = r.size};
+}
+
 struct kagutin_reply kagutin_settle(const uint8_t *log, size_t log_size, uint8_t *area, size_t area_size, uint8_t *state,
         size_t state_size, uint8_t *batch, size_t batch_size)
 {
@@ -3728,6 +4610,17 @@ struct kagutin_reply kagutin_store(uint8_t *log, size_t log_size, const uint8_t 
     return (struct kagutin_reply){.code = r.code, .figure = r.figure, .size = r.size};
 }
 
+struct kagutin_reply kagutin_transact(uint8_t *log, size_t log_size, const uint8_t *area, size_t area_size, uint8_t *state,
+        size_t state_size, uint8_t *newest, size_t newest_size, const uint8_t *blocks, size_t blocks_size, uint8_t *batch,
+        size_t batch_size, uint64_t writer, uint64_t home)
+{
+    struct answers__Reply r = kagutin__kagutin_transact((struct slice_mut_u8){log, log_size}, (struct slice_u8){area, area_size},
+            (struct slice_mut_u8){state, state_size}, (struct slice_mut_u8){newest, newest_size}, (struct slice_u8){blocks,
+            blocks_size}, (struct slice_mut_u8){batch, batch_size}, writer, home);
+
+    return (struct kagutin_reply){.code = r.code, .figure = r.figure, .size = r.size};
+}
+
 struct kagutin_reply kagutin_trim(uint8_t *log, size_t log_size, const uint8_t *area, size_t area_size, uint8_t *state,
         size_t state_size, uint8_t *newest, size_t newest_size, uint8_t *batch, size_t batch_size)
 {
@@ -3736,4 +4629,14 @@ struct kagutin_reply kagutin_trim(uint8_t *log, size_t log_size, const uint8_t *
             batch_size});
 
     return (struct kagutin_reply){.code = r.code, .figure = r.figure, .size = r.size};
+}
+
+struct kagutin_places kagutin_usage(const uint8_t *log, size_t log_size, const uint8_t *area, size_t area_size,
+        const uint8_t *state, size_t state_size)
+{
+    struct model__Usage r = kagutin__kagutin_usage((struct slice_u8){log, log_size}, (struct slice_u8){area, area_size},
+            (struct slice_u8){state, state_size});
+
+    return (struct kagutin_places){.code = r.code, .live = r.live, .dead = r.dead, .free = r.free, .promised = r.promised,
+            .holder = r.holder, .first = r.first};
 }

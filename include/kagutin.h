@@ -109,6 +109,17 @@ struct kagutin_reply {
     uint64_t size;   /* bytes written to the front of the batch */
 };
 
+/* What fills a log: its 7 x G places from the start to the end of group start + G - 1, each live, dead or free. */
+struct kagutin_places {
+    uint64_t code;     /* one of enum kagutin_answer */
+    uint64_t live;     /* entries of open transactions, and of committed ones that are not trimmed */
+    uint64_t dead;     /* aborted, or passed over by a flush, and not trimmed */
+    uint64_t free;     /* from the next position on, promised ones included */
+    uint64_t promised; /* of the free ones: to writers that reserved them */
+    uint64_t holder;   /* writer whose open transaction begins first in the log; 8: none has entries there */
+    uint64_t first;    /* position of that transaction's first entry; 0 with holder 8 */
+};
+
 /* Length of the log area of G groups, and of the data area of D homes. */
 static inline size_t kagutin_log_size(size_t groups)
 {
@@ -325,6 +336,15 @@ struct kagutin_reply kagutin_read(
     const uint8_t *state, size_t state_size,
     const uint8_t *newest, size_t newest_size,
     uint8_t *block, size_t block_size, uint64_t writer, uint64_t home);
+
+/*
+ * Tells what fills the log. A held block has no place yet. Trims free what is
+ * dead, settled or both up to the group in which the holder's first entry lies,
+ * never beyond. Changes nothing. Answers 1, 2, with zeros in all other fields.
+ */
+struct kagutin_places kagutin_usage(
+    const uint8_t *log, size_t log_size, const uint8_t *area, size_t area_size,
+    const uint8_t *state, size_t state_size);
 
 #ifdef __cplusplus
 }

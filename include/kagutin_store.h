@@ -141,8 +141,8 @@ int kgt_run_fence(struct kgt_runner *runner);
 /* ---- what fills a log ---- */
 
 /*
- * The 7 x G places from the log's start to the end of group start + G - 1, each
- * live, dead or free. Dead places and those of committed transactions come free
+ * What kagutin_usage tells: the 7 x G places from the log's start to the end of
+ * group start + G - 1, each live, dead or free. Dead places and those of committed transactions come free
  * by sync and maintain, up to the group in which the holder's transaction begins.
  */
 struct kgt_places {
@@ -154,8 +154,7 @@ struct kgt_places {
     uint64_t first;    /* position of that transaction's first entry; 0 with holder 8 */
 };
 
-/* For programs that use the bare calls: the same of a store that is open; its holder alone. */
-void kgt_count(const uint8_t *log, const uint8_t *state, struct kgt_places *places);
+/* The holder alone, by the state of a store that is open. */
 uint64_t kgt_holder(const uint8_t *state, uint64_t *first);
 
 /* ---- the object ---- */
@@ -245,8 +244,8 @@ struct kagutin_reply kgt_maintain(struct kagutin *store, uint64_t most);
 
 /*
  * Tells what fills the log at this moment, and which writer holds it back. A
- * held block has no place yet. Writes nothing; takes a few steps for each
- * commit that is not trimmed. Answers 64, 65, 66, which leave places as they were.
+ * held block has no place yet. Writes nothing; looks at the tags of the log as a
+ * trim does. Answers 64, 65, 66, which leave places as they were.
  */
 struct kagutin_reply kgt_usage(struct kagutin *store, struct kgt_places *places);
 

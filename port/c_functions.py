@@ -286,3 +286,38 @@ class FunctionText(Values):
             source = f'i{u.width}' if (t.name, n) in signed_fields else ''
             parts.append(f'.{n} = {self.number_out(f"r.{n}", u, source)}')
         return struct, [f'{self.types.c(t)} r = {call};', '', f'return ({struct}){{{", ".join(parts)}}};']
+
+    def imported(self, f, export, results):
+        """A function of another C file, as this program calls it: the opposite of `exported`."""
+        args = []
+        for i in f.parameters():
+            t, n = f.types[i], f.names[i]
+            if isinstance(t, Slice):
+                args += [f'{n}.ptr', f'{n}.len']
+            elif isinstance(t, IntType) or t == BOOL:
+                c = self.exported_number(t, export.types[i - 1])
+                args.append(n if c == self.types.c(t) else f'({c}){n}')
+            else:
+                raise Stop(f'imported with a parameter of {t}')
+        signature = ', '.join(self.types.declare(t, n) for t, n in self.parameters(f)) or 'void'
+        self.line(0, 'static inline ' + self.types.declare(f.types[0], f'{c_name(f.name)}({signature})'))
+        self.out.append('{')
+        for line in self.imported_result(f, f'{export.name}({", ".join(args)})', results):
+            self.line(1 if line else 0, line)
+        self.out += ['}', '']
+
+    def imported_result(self, f, call, results):
+        """Lines of the function: a declared result is taken out of the header's struct, signed numbers as their bits."""
+        t = f.types[0]
+        if t == UNIT:
+            return [f'{call};']
+        if isinstance(t, IntType) or t == BOOL:
+            return [f'return ({self.types.c(t)}){call};']
+        if not isinstance(t, Named) or not self.types.is_struct(t) or t.name not in results:
+            raise Stop(f'imported with the result {getattr(t, "name", t)}, for which no struct of the header is named')
+        parts = []
+        for n, u in self.types.members(t):
+            if not isinstance(u, IntType) and u != BOOL:
+                raise Stop(f'imported with a field of {u}')
+            parts.append(f'.{n} = ({self.types.c(u)})r.{n}')
+        return [f'struct {results[t.name]} r = {call};', '', f'return ({self.types.c(t)}){{{", ".join(parts)}}};']

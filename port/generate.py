@@ -5,7 +5,8 @@
         --result answers::Reply=kagutin_reply --out dist/kagutin.c
 
 The functions of the exported crates that are marked `#[no_mangle] pub extern "C"` get external linkage under their own names; all
-that they reach becomes static. A form that is not known stops it with the function's name and the form, and nothing is written.
+that they reach becomes static, but for the marked functions of imported crates (--import), which are called as another C file
+has them. A form that is not known stops it with the function's name and the form, and nothing is written.
 """
 import argparse
 import os
@@ -16,7 +17,7 @@ import sources
 from c_functions import FunctionText
 from c_types import Types, c_name
 from fold import fold, simplify
-from forms import Call, Stop, statements
+from forms import Block, Call, Stop, statements
 from inline import inline
 from pointers import infer_pointers
 from reader import Program
@@ -26,7 +27,7 @@ HEAD = '''/*
  * Kagutin as one C99 file, made by port/generate.py from the proved program.
  * Do not edit: change the sources under crates/ and run `make dist`.
  *
- * Needs {headers}, memcpy and memset; no heap, no other library, no state
+ * Needs {headers}, memcpy and memset; no heap, no other library{but}, no state
  * of its own. All that is not declared there is static. Where a compiler is
  * known, some helpers have a quicker form; -DKAGUTIN_PLAIN_C leaves them out.
  */
@@ -47,6 +48,7 @@ HEAD = '''/*
 class Generator:
     def __init__(self, options):
         self.options, self.program, self.field_names = options, Program(options.rlib), {}
+        self.imported = {}                              # path -> what another C file has
         self.results = dict(pair.split('=') for pair in options.result)
 
     def reach(self, name, treat, state):
@@ -75,6 +77,8 @@ class Generator:
 
     def prepare(self, function):
         """The passes; without them (--no-passes) every temporary and call stays as the prover has it."""
+        if function.name in self.imported:
+            return
         infer_pointers(function)
         if not self.options.no_passes:
             for step in (simplify, fold, simplify, fold):
@@ -83,8 +87,17 @@ class Generator:
             for step in (fold, join_words, fold, join_words):
                 step(function)
 
+    def read_imports(self):
+        """A function that another C file has loses its body, so that it is neither copied nor put in place of its calls."""
+        for crate in self.options.imports:
+            self.read_crate(crate)
+            for export in sources.exports(self.options.source, crate):
+                self.imported[export.path] = export
+                self.program.function(export.path).body = (Block(()),)
+
     def text(self):
         exported = []
+        self.read_imports()
         for crate in self.options.export:
             self.read_crate(crate)
             found = sorted(sources.exports(self.options.source, crate), key=lambda export: export.name)
@@ -101,7 +114,10 @@ class Generator:
         def write(function):
             if names.setdefault(c_name(function.name), function.name) != function.name:
                 raise Stop(f'its C name is also that of {names[c_name(function.name)]}')
-            out.function(function)
+            if function.name in self.imported:
+                out.imported(function, self.imported[function.name], self.results)
+            else:
+                out.function(function)
         self.pass_over(exported, write)
         signed_fields = {field for crate in self.program.crates for field in sources.signed_fields(self.options.source, crate)}
         for export in exported:
@@ -119,7 +135,8 @@ class Generator:
 
     def head(self):
         includes = '\n'.join(f'#include "{header}"' for header in self.options.header)
-        return HEAD.format(headers=' and '.join(self.options.header), includes=includes) + '\n'
+        but = ' but that of ' + ' and '.join(self.options.imports) if self.options.imports else ''
+        return HEAD.format(headers=' and '.join(self.options.header), but=but, includes=includes) + '\n'
 
 
 def main():
@@ -127,6 +144,8 @@ def main():
     parser.add_argument('--rlib', required=True, help='folder of the proved crates')
     parser.add_argument('--source', required=True, help='folder of the crates, for exported names and comments')
     parser.add_argument('--export', required=True, action='append', help='crate whose extern "C" functions are exported; may be given again')
+    parser.add_argument('--import', default=[], action='append', dest='imports',
+                        help='crate whose extern "C" functions another C file has; may be given again')
     parser.add_argument('--header', required=True, action='append', help='header that declares them; may be given again')
     parser.add_argument('--result', default=[], action='append', help='declared type=struct of the header, for results')
     parser.add_argument('--no-passes', action='store_true', help='leave the passes out')

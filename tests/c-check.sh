@@ -104,7 +104,7 @@ fi
 for seed in 1 2 3 4; do
     gives 0 "station, seed $seed" "$san/station" --seed $seed --cuts 120
 done
-for shape in "4 24" "4 33" "5 40" "16 4096" "16 65535" "1024 24"; do
+for shape in "4 30" "4 33" "5 40" "16 4096" "16 65535" "1024 30"; do
     set -- $shape
     gives 0 "station, $1 groups, $2 homes" "$san/station" --seed 9 --cuts 40 --groups "$1" --homes "$2"
 done
@@ -112,7 +112,7 @@ gives 0 "station, largest" "$out/station" --seed 5 --cuts 3 --groups 1024 --home
 "$out/station" --seed 7 --cuts 30 > "$tmp/one"; "$out/station" --seed 7 --cuts 30 > "$tmp/two"
 cmp -s "$tmp/one" "$tmp/two"; report $? "station: a seed repeats a run"
 gives 0 "station, CSV" "$san/station" --cuts 20 --csv
-[ "$(wc -l < "$tmp/out")" -eq 9 ] && [ "$(head -n 1 "$tmp/out" | cut -d, -f1-4)" = pump,task,starts,run_seconds ]
+[ "$(wc -l < "$tmp/out")" -eq 9 ] && [ "$(head -n 1 "$tmp/out" | cut -d, -f1-3)" = pump,starts,run_seconds ]
 report $? "station, CSV: a heading and eight pumps"
 gives 0 "station --help" "$san/station" --help
 gives 0 "station -h" "$san/station" -h
@@ -126,6 +126,8 @@ grep -q '^ *[0-9]* live at the end, [0-9]* dead, [0-9]* free$' "$tmp/out"; repor
 grep -q '[1-9][0-9]* times the radio task had its places promised' "$tmp/out"; report $? "station: the radio task has places promised"
 grep -q '^ *[1-9][0-9]* stores and [1-9][0-9]* reads of a home that the list of rights does not give' "$tmp/out"
 report $? "station: tasks that try another's home are refused"
+grep -q '^ *[1-9][0-9]* starts and stops of pumps, [1-9][0-9]* alarms raised or cleared' "$tmp/out"; report $? "station: pumps switch, alarms come and clear"
+grep -q '^Panel: \(alarm [0-9]*, class [1-9], since [0-9]*:[0-5][0-9]:[0-5][0-9]\|no alarm open\)$' "$tmp/out"; report $? "station: a panel with the gravest alarm"
 grep -q '^ *[1-9][0-9]* rounds of settling begun, in [1-9][0-9]* steps' "$tmp/out"; report $? "station: settles in small steps"
 "$san/station" --cuts 1000000 --csv > "$tmp/out" 2> "$tmp/log" &
 sleep 1; kill -INT $!; wait $!; status=$?
@@ -138,7 +140,7 @@ says "from 0 to" 2 "station --seed -1" "$san/station" --seed -1
 says "from 1 to" 2 "station --cuts 0" "$san/station" --cuts 0
 says "from 4 to" 2 "station --groups 3" "$san/station" --groups 3
 says "from 4 to" 2 "station --groups 12x" "$san/station" --groups 12x
-says "from 24 to" 2 "station --homes 65536" "$san/station" --homes 65536
+says "from 30 to" 2 "station --homes 65536" "$san/station" --homes 65536
 says "goes with --file" 2 "station --keep-cut without a file" "$san/station" --keep-cut
 says "no image" 2 "inspect without an image" "$san/inspect"
 says "unknown option" 2 "inspect --frob" "$san/inspect" --frob x
@@ -152,14 +154,14 @@ image=$tmp/station.img
 gives 0 "station on a new file" "$san/station" --seed 3 --cuts 10 --groups 12 --homes 40 --file "$image"
 gives 0 "station goes on with it" "$san/station" --seed 4 --cuts 10 --file "$image"
 says "other numbers" 3 "station with another shape" "$san/station" --groups 4 --file "$image"
-gives 0 "station leaves a cut" "$san/station" --seed 13 --cuts 7 --file "$image" --keep-cut
+gives 0 "station leaves a cut" "$san/station" --seed 35 --cuts 7 --file "$image" --keep-cut
 grep -q 'kept .*came back' "$tmp/out" && grep -q 'in the image' "$tmp/out"
 report $? "and counts what is in it as not opened"
 gives 0 "inspect a sound image" "$san/inspect" "$image"
 grep -q '^commits ([1-9]' "$tmp/out"; report $? "inspect: finds commits"
 grep -q '^the walk stopped: ' "$tmp/out"; report $? "inspect: says why the walk stopped"
-grep -q '^  writer 3  stores to 3, 19, 32 to 65534; reads 3, 19, 32 to 65534$' "$tmp/out"; report $? "inspect: a writer's rights"
-grep -q '^  writer 7 .*; reads 7, 23, 32 to 65534, 0 to 65534$' "$tmp/out"; report $? "inspect: overlapping ranges"
+grep -q '^  writer 3  stores to 3, 32 to 65534, 24 to 29; reads 3, 32 to 65534, 24 to 29$' "$tmp/out"; report $? "inspect: a writer's rights"
+grep -q '^  writer 7 .*; reads 7, 32 to 65534, 0 to 65534$' "$tmp/out"; report $? "inspect: overlapping ranges"
 gives 0 "inspect --json" "$san/inspect" --json "$image"
 if command -v python3 > /dev/null; then
     quiet python3 -m json.tool "$tmp/out"; report $? "inspect: its JSON is JSON"
@@ -171,8 +173,8 @@ if command -v python3 > /dev/null; then
         and len(v["homes"]) == 40 and any(e.get("comes_back") for s in v["slots"] for e in s.get("entries", []))))' "$tmp/out" 2>> "$tmp/log"
     report $? "inspect: a name in UTF-8, every home, entries that come back"
     python3 -c 'import json,sys; r = json.load(open(sys.argv[1]))["rights"]
-sys.exit(not (r["list"] and len(r["writers"]) == 8 and r["writers"][2]["store"] == [{"first": 2, "number": 1}, {"first": 18, "number": 1},
-    {"first": 32, "number": 65503}] and r["writers"][7]["read"][3] == {"first": 0, "number": 65535}))' "$tmp/out" 2>> "$tmp/log"
+sys.exit(not (r["list"] and len(r["writers"]) == 8 and r["writers"][2]["store"] == [{"first": 2, "number": 1}, {"first": 32, "number": 65503},
+    {"first": 16, "number": 8}] and r["writers"][7]["read"][2] == {"first": 0, "number": 65535}))' "$tmp/out" 2>> "$tmp/log"
     report $? "inspect: the list of rights as JSON"
     python3 -c 'import json,sys; v = json.load(open(sys.argv[1])); p = v["places"]
 e = [x["comes_back"] for s in v["slots"] for x in s.get("entries", []) if x["kind"] != "nothing"]

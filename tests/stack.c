@@ -1,5 +1,4 @@
-/* Deepest stack of each call in bytes, on a painted stack, at G 1,024 and D 65,535 with a full log. Status 1 above 32 KiB,
-   for a step of a round above 46 KiB: the archive's step calls the walk with its own tables on the stack. */
+/* Deepest stack of each call in bytes, on a painted stack, at G 1,024 and D 65,535 with a full log. Status 1 above 32 KiB. */
 #include <stdio.h>
 #include <stdlib.h>
 #include <string.h>
@@ -7,8 +6,8 @@
 
 #include "kagutin.h"
 
-enum { GROUPS = 1024, HOMES = 65535, FREE = 12 /* the homes behind the list of rights */, STACK = 1 << 18, LIMIT = 32768, STEP_LIMIT = 47104 };
-enum { FORMAT, OPEN, BEGIN, STORE, COMMIT, FLUSH, CONFIRM, SETTLE, TRIM, READ, ABORT, RESERVE, BEGIN_ROUND, STEP_ROUND, EMPTY };
+enum { GROUPS = 1024, HOMES = 65535, FREE = 12 /* the homes behind the list of rights */, STACK = 1 << 18, LIMIT = 32768 };
+enum { FORMAT, OPEN, BEGIN, STORE, COMMIT, FLUSH, CONFIRM, SETTLE, TRIM, READ, ABORT, RESERVE, BEGIN_ROUND, STEP_ROUND, USAGE, EMPTY };
 
 static uint8_t log_area[KAGUTIN_HEADER_SIZE + KAGUTIN_GROUP_SIZE * GROUPS], area[KAGUTIN_BLOCK_SIZE * HOMES];
 static uint8_t state[KAGUTIN_STATE_SIZE], newest[KAGUTIN_POSITION_SIZE * HOMES], block[KAGUTIN_BLOCK_SIZE], batch[5 << 20];
@@ -40,6 +39,7 @@ static void body(void)
     case RESERVE: reply = kagutin_reserve(AREAS, STATE, who, 1); break;
     case BEGIN_ROUND: reply = kagutin_begin_round(AREAS, STATE); break;
     case STEP_ROUND: reply = kagutin_step_round(AREAS, STATE, BATCH, 8); break;
+    case USAGE: reply.code = kagutin_usage(AREAS, STATE).code; break;
     default: break;
     }
 }
@@ -85,7 +85,7 @@ static uint64_t give_all(void)
 int main(void)
 {
     static const char *names[] = { "format", "open", "begin", "store", "commit", "flush", "confirm", "settle", "trim", "read",
-                                   "abort", "reserve", "begin_round", "step_round" };
+                                   "abort", "reserve", "begin_round", "step_round", "usage" };
     int k, over = 0;
     unsigned i;
 
@@ -111,6 +111,7 @@ int main(void)
     call(FLUSH);
     call(CONFIRM);
     call(READ);
+    call(USAGE);
     if (call(BEGIN_ROUND))
         return 2;
     while (call(STEP_ROUND) == KAGUTIN_DONE && reply.size % KAGUTIN_HW_SIZE == 0)
@@ -121,7 +122,7 @@ int main(void)
     call(RESERVE);
     for (k = 0; k < EMPTY; k++) {
         printf("%-11s %zu\n", names[k], deepest[k]);
-        if (deepest[k] > (k == STEP_ROUND ? STEP_LIMIT : LIMIT))
+        if (deepest[k] > LIMIT)
             over = 1;
     }
     return over;

@@ -360,9 +360,18 @@ struct kagutin_reply kgt_maintain(struct kagutin *store, uint64_t most)
 struct kagutin_reply kgt_usage(struct kagutin *store, struct kgt_places *places)
 {
     struct kagutin_reply reply;
+    struct kagutin_places usage;
 
     if (!enter(store, &reply))
         return reply;
-    kgt_count(store->log, store->state, places);
-    return leave(store, answer(KAGUTIN_DONE, 0));
+    usage = kagutin_usage(AREAS(store), STATE(store));
+    if (usage.code == KAGUTIN_DONE) {
+        places->live = usage.live;
+        places->dead = usage.dead;
+        places->free = usage.free;
+        places->promised = usage.promised;
+        places->holder = usage.holder;
+        places->first = usage.first;
+    }
+    return leave(store, answer(usage.code, 0));
 }

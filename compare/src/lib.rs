@@ -3,5 +3,6 @@
 #![deny(warnings)]
 
 pub mod library;
-mod shared;
+pub mod shared;
 pub mod trap;
+pub mod unit_calls;

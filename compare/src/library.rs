@@ -2,6 +2,7 @@
 
 use crate::shared;
 use second::lent::{Kind, Lent};
+use second::usage::Usage;
 use second::Answer;
 use std::ffi::c_void;
 
@@ -34,23 +35,30 @@ macro_rules! declare {
     ($($name:ident: [$($slice:ident)*] [$($number:ident)*];)*) => {
         extern "C" {
             $(fn $name($($slice: *mut u8, _: usize,)* $($number: u64,)*) -> Reply;)*
+            fn kagutin_usage(log: *const u8, _: usize, area: *const u8, _: usize, state: *const u8, _: usize) -> Usage;
         }
 
         /// The calls of one build of the library.
         #[derive(Clone, Copy)]
         pub struct Calls {
             $($name: unsafe extern "C" fn($($slice: *mut u8, _: usize,)* $($number: u64,)*) -> Reply,)*
+            kagutin_usage: unsafe extern "C" fn(*const u8, usize, *const u8, usize, *const u8, usize) -> Usage,
         }
 
         /// The calls of the archive that this program is linked with.
-        pub const ARCHIVE: Calls = Calls { $($name,)* };
+        pub const ARCHIVE: Calls = Calls { $($name,)* kagutin_usage };
 
         impl Calls {
             /// The calls of a shared object, which is never unloaded.
             pub fn load(path: &str) -> Result<Calls, String> {
                 let object = shared::open(path)?;
                 // The object is a build of dist/kagutin.c, whose header declares these names with these types.
-                unsafe { Ok(Calls { $($name: std::mem::transmute::<*mut c_void, _>(shared::find(object, stringify!($name))?),)* }) }
+                unsafe {
+                    Ok(Calls {
+                        $($name: std::mem::transmute::<*mut c_void, _>(shared::find(object, stringify!($name))?),)*
+                        kagutin_usage: std::mem::transmute::<*mut c_void, _>(shared::find(object, "kagutin_usage")?),
+                    })
+                }
             }
         }
     };
@@ -99,6 +107,13 @@ impl Calls {
                 Kind::Read => (self.kagutin_read)(log, g, area, d, state, s, newest, p, block, k, writer, home),
             }
         }
+    }
+
+    /// What fills the log.
+    pub fn usage(&self, lent: &Lent) -> Usage {
+        let [(log, g), (area, d), (state, s)] = [&lent.log, &lent.data, &lent.state].map(|part| (part.as_ptr(), part.len()));
+        // Each pointer goes with the length of its slice; the call writes none of them.
+        unsafe { (self.kagutin_usage)(log, g, area, d, state, s) }
     }
 
     /// The call on the lent memory itself.

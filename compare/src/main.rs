@@ -4,7 +4,6 @@
 #![deny(warnings)]
 
 mod build;
-#[cfg(feature = "chains")]
 mod chains;
 mod damaged;
 mod demand;
@@ -169,8 +168,9 @@ fn run(options: &Options) -> Result<(), String> {
         "  {} stores with other bytes, {} reads by the writer, {} of them refused",
         pairs.stores, pairs.reads, pairs.refused
     );
+    let [done, refused] = pair.usages;
+    println!("usage: {done} done and {refused} refused, the same on both sides");
     println!("in all {} calls compared", pair.case);
-    #[cfg(feature = "chains")]
     {
         let played = chains::play(seed, calls / 10, options.guarded)?;
         println!("calls on several homes: {} done and {} refused, the same on both sides", played.done, played.refused);

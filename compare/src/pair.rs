@@ -6,6 +6,7 @@ use crate::library::Reply;
 use crate::trap;
 use second::layout::refuse;
 use second::lent::{Kind, Lent, Runner};
+use second::usage::usage;
 use second::Answer;
 use std::cell::RefCell;
 use std::rc::Rc;
@@ -25,6 +26,8 @@ pub struct Pair {
     pub case: u64,
     pub counts: Counts,
     pub sizes: Sizes,
+    /// Usages compared: done, refused.
+    pub usages: [u64; 2],
     /// While false, only the second implementation is called.
     pub comparing: bool,
     /// The first difference found.
@@ -39,6 +42,7 @@ impl Pair {
             case: 0,
             counts: Counts::default(),
             sizes: Sizes::default(),
+            usages: [0; 2],
             comparing: true,
             difference: None,
         }))
@@ -56,6 +60,7 @@ impl Pair {
         let replies: Vec<Reply> = self.builds.iter_mut().map(perform).collect();
         let answer = lent.run(kind, writer, home);
         self.counts[kind as usize][answer.code as usize] += 1;
+        self.compare_usage(lent);
         let row = GROUPS.iter().position(|groups| lent.log.len() == 64 + 512 * groups);
         let column = HOMES.iter().position(|homes| lent.data.len() == 64 * homes);
         self.sizes[row.unwrap_or(GROUPS.len())][column.unwrap_or(HOMES.len())] += 1;
@@ -73,6 +78,19 @@ impl Pair {
             break;
         }
         answer
+    }
+
+    /// What fills the log after the call, told by all.
+    fn compare_usage(&mut self, lent: &Lent) {
+        let want = usage(&lent.log, &lent.data, &lent.state);
+        self.usages[usize::from(want.code != 0)] += 1;
+        for build in &self.builds {
+            let got = build.calls.usage(lent);
+            if got != want {
+                let seed_case = format!("seed {}, after case {}", self.seed, self.case);
+                self.difference = Some(format!("usage ({seed_case}):\n  {} {got:?}\n  second {want:?}", build.name));
+            }
+        }
     }
 
     /// The first difference, if any, as an error.

@@ -149,7 +149,7 @@ fn check_room(state: &State, bytes: &[u8], batch: &[u8], writer: u64) -> Result<
 /// Logs the writer's pending block at the next position, with the turn bit in
 /// the block and the bit that it displaces in the tag; the seventh place
 /// submits the group. Gives the batch bytes written.
-fn append(
+pub(crate) fn append(
     log: &mut [u8],
     mut state: State,
     bytes: &mut [u8],
@@ -238,7 +238,7 @@ pub fn close(
 
 /// The position of each entry of the transaction from `first` to `closing`,
 /// the later ones over the earlier.
-fn keep_entries(log: &[u8], state: &State, first: u64, closing: u64, newest: &mut [u8]) {
+pub(crate) fn keep_entries(log: &[u8], state: &State, first: u64, closing: u64, newest: &mut [u8]) {
     let base = state.first_position();
     let view = View { log, shape: state.shape, start: state.start, end: (closing + 1 - base) as u32 };
     view.each_from((first - base) as u32, |offset, tag| {

@@ -6,6 +6,7 @@ use crate::literal;
 use crate::newest::{position, NONE};
 use crate::rights::has_room;
 use crate::state::{at, mode, pending_range, promise, State, Writer};
+use crate::usage::{usage, Usage};
 use crate::world::{Call, Odd, World};
 use std::collections::BTreeMap;
 
@@ -86,7 +87,7 @@ impl World {
     }
 
     /// The state's fields by the shadow and the book.
-    fn check_state(&self) -> Result<(), String> {
+    pub(crate) fn check_state(&self) -> Result<(), String> {
         let bytes = &self.lent.state;
         let state = State::load(&self.lent.log, &self.lent.data, bytes)
             .map_err(|code| format!("state not in order: {code}"))?;
@@ -105,7 +106,23 @@ impl World {
         };
         must(state == want, &format!("state {state:?}, expected {want:?}"))?;
         must(bytes[at::LISTED..at::LISTED_END] == self.listed(), "positions of the list in the state")?;
-        (0..8).try_for_each(|writer| self.check_writer(writer))
+        (0..8).try_for_each(|writer| self.check_writer(writer))?;
+        self.check_usage()
+    }
+
+    /// What fills the log, counted by the book.
+    fn check_usage(&self) -> Result<(), String> {
+        let untrimmed = &self.book.commits[self.untrimmed().max(self.brought)..];
+        let open = self.book.writers.iter().flatten().map(|open| open.logged.len());
+        let live = untrimmed.iter().map(Vec::len).chain(open).sum::<usize>() as u64;
+        let places = 7 * self.shape.groups;
+        let used = self.next_position() - 7 * self.shadow.start;
+        let firsts = (0..8).filter_map(|writer| self.shadow.first[writer as usize].map(|first| (first, writer)));
+        let (first, holder) = firsts.min().unwrap_or((0, 8));
+        let promised = (0..8).map(|writer| self.promise(writer)).sum();
+        let want = Usage { code: 0, live, dead: used - live, free: places - used, promised, holder, first };
+        let got = usage(&self.lent.log, &self.lent.data, &self.lent.state);
+        must(got == want, &format!("usage {got:?}, by the book {want:?}"))
     }
 
     /// The newest positions of the list's homes, none where D is too small for it.
@@ -138,7 +155,7 @@ impl World {
     }
 
     /// Demand 2 over the whole copies.
-    fn check_areas(&mut self) -> Result<(), String> {
+    pub(crate) fn check_areas(&mut self) -> Result<(), String> {
         must(self.lent.data == self.full.data, "data copy and submitted writes differ")?;
         if self.book.row.is_empty() {
             must(self.lent.log == self.full.log, "log copy and submitted writes differ")?;

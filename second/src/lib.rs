@@ -35,6 +35,10 @@ mod rounds;
 pub mod state;
 pub mod tag;
 pub mod tears;
+mod unit_book;
+pub mod unit_player;
+pub mod units;
+pub mod usage;
 pub mod walk;
 pub mod world;
 

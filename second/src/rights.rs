@@ -74,7 +74,7 @@ impl List {
 
 /// The list that counts: for each of its homes the block at the kept position,
 /// if an entry for the home is there, else the data copy's.
-fn find(view: &View, data: &[u8], kept: impl Fn(u64) -> u64) -> List {
+pub(crate) fn find(view: &View, data: &[u8], kept: impl Fn(u64) -> u64) -> List {
     let mut list = List::NONE;
     if !has_room(view.shape.homes) {
         return list;

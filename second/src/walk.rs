@@ -199,6 +199,20 @@ impl Newest {
     }
 }
 
+/// The entries of the committed transactions together.
+pub fn committed_entries(view: &View) -> u64 {
+    let mut entries = 0;
+    with_tallies(view.end, |tallies| {
+        let mut walk = Walk::default();
+        view.each(|offset, tag| {
+            if let Some(first) = walk.step(offset, tag, tallies) {
+                entries += u64::from(tallies[first as usize].count);
+            }
+        });
+    });
+    entries
+}
+
 /// The newest entry for a home of the transaction that began at `first`.
 pub fn newest_own(view: &View, home: u32, first: u32) -> Option<u32> {
     let mut newest = None;

@@ -8,6 +8,7 @@ use second::damage::{damage_group, damage_header, damage_listed, damage_newest, 
 use second::layout::Shape;
 use second::lent::{Kind, Lent};
 use second::rng::Rng;
+use second::usage::usage;
 
 fn compare(rng: &mut Rng, kind: Kind, lent: &Lent) -> (u32, u64) {
     let homes = lent.data.len() as u64 / 64;
@@ -42,6 +43,7 @@ fn rounds(seed: u64, count: u64, shape: impl Fn(&mut Rng) -> Shape) -> [u64; 22]
             damage_listed(&mut rng, &mut lent);
         }
         assert_eq!(in_order(&lent), model::in_order(&lent));
+        assert_eq!(usage(&lent.log, &lent.data, &lent.state), model::usage(&lent));
         if rng.chance(20) {
             lent.batch = vec![0xcc; rng.below(300) as usize];
         }

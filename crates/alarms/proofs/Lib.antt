@@ -8,3 +8,4 @@ pub mod HasLaws
 pub mod HistoryLaws
 pub mod BackLaws
 pub mod Promised
+pub mod StoredHolds

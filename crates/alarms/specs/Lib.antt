@@ -2,3 +2,4 @@ pub mod Alarm
 pub mod OpenAlarms
 pub mod Events
 pub mod Promises
+pub mod Stored

@@ -10,3 +10,4 @@ pub mod TableLaws
 pub mod MemberLaws
 pub mod Promised
 pub mod Examples
+pub mod StoredHolds

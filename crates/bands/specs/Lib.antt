@@ -3,3 +3,4 @@ pub mod Judge
 pub mod Packed
 pub mod Sweep
 pub mod Promises
+pub mod Stored

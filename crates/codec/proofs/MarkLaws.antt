@@ -2,8 +2,10 @@
 use mathlib.Core.Path.{_≡_, refl, sym, ap, _∙_}
 use mathlib.Core.Bool.{Bool, true, false, _&&_}
 use mathlib.Core.List.{List, [], _∷_}
-use Prim.Native.Nat.{ℕ, _+_, _*_, _/_, _≤_, _<_}
+use Prim.Native.Nat.{ℕ, _+_, _*_, _≤_, _<_}
+use native.Mathlib.Decide.{ℕ-discrete}
 use native.Mathlib.Omega.{arith}
+use borrow.Author.Tests.{eq-eqb, ne-eqb}
 use lib.Dec.{eqb}
 use lib.ListN.{length, set, getD}
 use Rattle.model.specs.Bytes.{part, puts, number, same}
@@ -39,15 +41,25 @@ module _ (s : List ℕ) (at : ℕ) (m : List ℕ) (h : at + 2 ≤ length s) wher
   pub mark-both : length m ≡ 2 → getD s at 0 ≡ getD m 0 0 → getD s (at + 1) 0 ≡ getD m 1 0 → same (part s at 2) m ≡ true
   mark-both l p q = rw (part-two s at h, p, q, ← two m l) (same-refl m)
 
--- a group's number in the word of mark and number
-module _ (s : List ℕ) (at n : ℕ) (h : at + 8 ≤ length s) where
-  pub head-other : same (part s at 2) groupMark ≡ false → false ≡ (same (part s at 2) groupMark && eqb (number 6 s (at + 2)) n)
-  head-other e = rw e
+-- mark and number as one word
+module _ (s : List ℕ) (at n : ℕ) (h : at + 8 ≤ length s) (byte : (i : ℕ) → getD s i 0 < 256) where
+  word-parts : number 8 s at ≡ getD s at 0 + 256 * getD s (at + 1) 0 + 65536 * number 6 s (at + 2)
+  word-parts = omega (arith, number-join 2 6 s at, number-join 1 1 s at, number-one s at, number-one s (at + 1))
 
-  number-above : ((i : ℕ) → getD s i 0 < 256) → number 8 s at / 65536 ≡ number 6 s (at + 2)
-  number-above byte =
-      omega (arith, number-join 2 6 s at, number-join 1 1 s at, number-one s at, number-one s (at + 1), byte at, byte (at + 1))
+  -- the word has another mark
+  other-mark : (getD s at 0 ≡ 0x50 → getD s (at + 1) 0 ≡ 0x47 → ⊥) → eqb (number 8 s at) (n * 65536 + 0x4750) ≡ false
+  other-mark o = ne-eqb (number 8 s at) (n * 65536 + 0x4750) (λ e. o (omega (arith, word-parts, byte at, byte (at + 1), e)) (omega (arith, word-parts, byte at, byte (at + 1), e)))
 
-  pub head-same : ((i : ℕ) → getD s i 0 < 256) → same (part s at 2) groupMark ≡ true
-      → eqb (number 8 s at / 65536) n ≡ (same (part s at 2) groupMark && eqb (number 6 s (at + 2)) n)
-  head-same byte e = rw (e, number-above byte)
+  pub head-word : eqb (number 8 s at) (n * 65536 + 0x4750) ≡ (same (part s at 2) groupMark && eqb (number 6 s (at + 2)) n)
+  head-word = first (ℕ-discrete (getD s at 0) 0x50) (ℕ-discrete (getD s (at + 1) 0) 0x47) (ℕ-discrete (number 6 s (at + 2)) n)
+    where
+      first : Dec (getD s at 0 ≡ 0x50) → Dec (getD s (at + 1) 0 ≡ 0x47) → Dec (number 6 s (at + 2) ≡ n)
+          → eqb (number 8 s at) (n * 65536 + 0x4750) ≡ (same (part s at 2) groupMark && eqb (number 6 s (at + 2)) n)
+      first (no a) b k = rw (mark-first s at groupMark (omega arith) a, other-mark (λ x y. a x))
+      first (yes a) (no b) k = rw (mark-second s at groupMark (omega arith) b, other-mark (λ x y. b y))
+      first (yes a) (yes b) (no k) =
+          rw (mark-both s at groupMark (omega arith) refl a b, ne-eqb (number 6 s (at + 2)) n k)
+          (ne-eqb (number 8 s at) (n * 65536 + 0x4750) (λ e. k (omega (arith, word-parts, a, b, e))))
+      first (yes a) (yes b) (yes k) =
+          rw (mark-both s at groupMark (omega arith) refl a b, eq-eqb (number 6 s (at + 2)) n k)
+          (eq-eqb (number 8 s at) (n * 65536 + 0x4750) (omega (arith, word-parts, a, b, k)))

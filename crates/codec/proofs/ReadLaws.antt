@@ -40,7 +40,7 @@ module _ (used closing above upper home back link count position base homes : �
   unfolding readFields says
   no-count e f = simp (ne-eqb closing 0 e, lt-leb 1 count (omega arith), says-nothing)
 
-  is-entry : used ≡ 1 → above ≡ 0 → home < homes → base + back ≤ position → closing ≡ 0 → upper ≡ 0
+  pub is-entry : used ≡ 1 → above ≡ 0 → home < homes → base + back ≤ position → closing ≡ 0 → upper ≡ 0
       → readFields used closing above upper home back link count position base homes ≡ Entry home (position - back)
   unfolding readFields says
   is-entry e f g h i j =
@@ -57,10 +57,10 @@ module _ (used closing above upper home back link count position base homes : �
       nonzero n z = omega arith
 
 -- a word's home by shifts and masks
-abbrev homeBits : ℕ → ℕ
+abbrev pub homeBits : ℕ → ℕ
 homeBits w = bitOr (bitAnd (w / 2 ^ 2) 0xfff) ((bitAnd (w / 2 ^ 53) 0xf * 2 ^ 12) % 2 ^ 64)
 
-home-bits : (w : ℕ) → homeField w ≡ homeBits w
+pub home-bits : (w : ℕ) → homeField w ≡ homeBits w
 unfolding field
 home-bits w =
     let low : bitAnd (w / 2 ^ 2) 0xfff ≡ w / 2 ^ 2 % 2 ^ 12 = and-mask (w / 2 ^ 2) 12 in

@@ -21,6 +21,8 @@ pub use numbers::put_number;
 pub use tags::commit_word;
 pub use tags::displaced;
 pub use tags::entry_word;
+pub use tags::other_back;
+pub use tags::plain_home;
 pub use tags::read_tag;
 pub use tags::tag_back;
 pub use tags::with_displaced;

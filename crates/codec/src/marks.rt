@@ -88,14 +88,10 @@ pub fn has_header_mark(s: &[u8], at: usize) -> bool
     has_mark(s, at, b"PT")
 }
 
-// Whether the mark of a group and the number `n` stand in the eight bytes from index `at` on: the number is that word without the
-// mark. The mark goes first, so that an unused group is passed quickly.
+// Whether the mark of a group and the number `n` stand in the eight bytes from index `at` on, compared as one word.
 pub fn has_group_head(s: &[u8], at: usize, n: u64) -> bool
     requires { ⌜ at + 8 ≤ length (now s) ⌝ }
     ensures { λ r. ⌜ r ≡ (same (part (now (s .entry)) at 2) groupMark && eqb (number 6 (now (s .entry)) (at + 2)) (n % 2 ^ 48)) ⌝ }
 {
-    if !has_mark(s, at, b"PG") {
-        return false;
-    }
-    number(s, at, 8) / 0x1_0000 == n % 0x1_0000_0000_0000
+    number(s, at, 8) == n % 0x1_0000_0000_0000 * 0x1_0000 + 0x4750
 }

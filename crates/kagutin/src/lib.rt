@@ -1,8 +1,11 @@
 // The calls of the store as C sees them: each is the proved call of its crate under an exported name.
 use answers::Reply;
+use model::Usage;
 ghost use mathlib.Core.Path.{_≡_};
 ghost use mathlib.Core.List.{[]};
 ghost use Rattle.model.specs.Calls.{formatCall, openCall, beginCall, reserveCall, abortCall, storeCall, commitCall, flushCall, confirmCall, settleCall, trimCall, readCall, beginRoundCall, stepRoundCall};
+ghost use Rattle.model.specs.Chains.{fetchCall, reviseCall, transactCall};
+ghost use Rattle.model.specs.Usage.{usageCall};
 ghost use Rattle.answers.specs.Lent.{lentAll, leavesAll, lent, leaves};
 
 // Writes an empty store: every group unused, every home zeros, then the header.
@@ -172,4 +175,61 @@ pub extern "C" fn kagutin_read(
     ensures { λ r. ⌜ leavesAll (r .code) (r .figure) (r .size) (now (log .entry)) (now (area .entry)) (now (state .entry)) (now (newest .entry)) (now (block .exit)) [] ≡ readCall (lentAll (now (log .entry)) (now (area .entry)) (now (state .entry)) (now (newest .entry)) (now (block .entry)) [] writer home) ⌝ }
 {
     reading::read(log, area, state, newest, block, writer, home)
+}
+
+// Reads the blocks of one to seven homes from `home` on, one behind the other, as a writer that may read them all sees them.
+#[no_mangle]
+pub extern "C" fn kagutin_fetch(
+    log: &[u8],
+    area: &[u8],
+    state: &[u8],
+    newest: &[u8],
+    blocks: &mut [u8],
+    writer: u64,
+    home: u64,
+) -> Reply
+    ensures { λ r. ⌜ leavesAll (r .code) (r .figure) (r .size) (now (log .entry)) (now (area .entry)) (now (state .entry)) (now (newest .entry)) (now (blocks .exit)) [] ≡ fetchCall (lentAll (now (log .entry)) (now (area .entry)) (now (state .entry)) (now (newest .entry)) (now (blocks .entry)) [] writer home) ⌝ }
+{
+    chains::fetch(log, area, state, newest, blocks, writer, home)
+}
+
+// The same for a writer that is going to store what it makes of the blocks: it may store to the homes, too.
+#[no_mangle]
+pub extern "C" fn kagutin_revise(
+    log: &[u8],
+    area: &[u8],
+    state: &[u8],
+    newest: &[u8],
+    blocks: &mut [u8],
+    writer: u64,
+    home: u64,
+) -> Reply
+    ensures { λ r. ⌜ leavesAll (r .code) (r .figure) (r .size) (now (log .entry)) (now (area .entry)) (now (state .entry)) (now (newest .entry)) (now (blocks .exit)) [] ≡ reviseCall (lentAll (now (log .entry)) (now (area .entry)) (now (state .entry)) (now (newest .entry)) (now (blocks .entry)) [] writer home) ⌝ }
+{
+    chains::revise(log, area, state, newest, blocks, writer, home)
+}
+
+// Begins a transaction of an idle writer, stores one to seven blocks for the homes from `home` on and commits them. The figure is the ticket.
+#[no_mangle]
+pub extern "C" fn kagutin_transact(
+    log: &mut [u8],
+    area: &[u8],
+    state: &mut [u8],
+    newest: &mut [u8],
+    blocks: &[u8],
+    batch: &mut [u8],
+    writer: u64,
+    home: u64,
+) -> Reply
+    ensures { λ r. ⌜ leavesAll (r .code) (r .figure) (r .size) (now (log .exit)) (now (area .entry)) (now (state .exit)) (now (newest .exit)) (now (blocks .entry)) (now (batch .exit)) ≡ transactCall (lentAll (now (log .entry)) (now (area .entry)) (now (state .entry)) (now (newest .entry)) (now (blocks .entry)) (now (batch .entry)) writer home) ⌝ }
+{
+    chains::transact(log, area, state, newest, blocks, batch, writer, home)
+}
+
+// Tells how many places of the log are live, dead, free and promised, and which open transaction lies lowest in it.
+#[no_mangle]
+pub extern "C" fn kagutin_usage(log: &[u8], area: &[u8], state: &[u8]) -> Usage
+    ensures { λ r. ⌜ r ≡ usageCall (lent (now (log .entry)) (now (area .entry)) (now (state .entry)) [] [] 0 0) ⌝ }
+{
+    usage::usage(log, area, state)
 }

@@ -4,7 +4,7 @@ ghost use mathlib.Core.Path.{_≡_};
 ghost use Prim.Native.Nat.{_+_, _-_, _*_, _^_, _≤_, _<_};
 ghost use lib.ListN.{length};
 ghost use Rattle.model.specs.Tag.{readTag};
-ghost use Rattle.model.specs.Layout.{turnOf, entryIn, entryAt};
+ghost use Rattle.model.specs.Layout.{turnOf, wordThere, entryIn, entryAt};
 ghost use Rattle.model.specs.Effects.{noneAcross};
 ghost use Rattle.model.proofs.rule.Closings.{closings};
 ghost use Rattle.limits.specs.Limits.{Highest, spanLimit, lowered};
@@ -24,6 +24,31 @@ fn word_limit(word: u64, position: u64, base: u64, homes: u64, limit: u64) -> u6
     }
 }
 
+// The same for tag `k` of a group with turn `turn`. A tag that closes nothing is passed by its closing bit, whatever its data block is.
+fn tag_limit(
+    group: &[u8],
+    turn: u64,
+    k: usize,
+    position: u64,
+    base: u64,
+    homes: u64,
+    limit: u64,
+) -> u64
+    requires { ⌜ (length (now group) ≡ 512) × (k < 7) ⌝ }
+    ensures { λ r. ⌜ r ≡ spanLimit (readTag (wordThere (now (group .entry)) turn k) position base homes) limit ⌝ }
+{
+    if codec::number(group, 8 + 8 * k, 8) & 2 == 0 {
+        return limit;
+    }
+    word_limit(
+        scan::word_there(group, turn, k),
+        position,
+        base,
+        homes,
+        limit,
+    )
+}
+
 // A limit lowered by the first `m` tags of a group, which says nothing where it is not the valid group with number `n` and turn `turn`.
 fn group_limit(
     group: &[u8],
@@ -41,13 +66,12 @@ fn group_limit(
     if !scan::group_valid(group, groups, start, n) {
         return limit;
     }
-    let words = scan::tag_words(group, turn);
     let base = 7 * start;
     let mut lowest = limit;
     let mut position = 7 * n;
     let mut k: usize = 0;
     while k < m {
-        lowest = word_limit(words[k], position, base, homes, lowest);
+        lowest = tag_limit(group, turn, k, position, base, homes, lowest);
         position += 1;
         k += 1;
     }

@@ -18,7 +18,6 @@ use Rattle.model.specs.Effects.{Given, newState, abortEffect, logClosing, tagsO
 use Rattle.model.specs.Questions.{ask, askNewest, writerKnown, writerOpen, roomFor, room, commitLogs, batchFits, commitAnswer}
 use Rattle.model.specs.Calls.{sizeOf, commitCall}
 use Rattle.model.proofs.bytes.ByteLaws.{puts-nil}
-use Rattle.model.proofs.steps.DoneLaws.{fits}
 use Rattle.model.proofs.strip.OrderLaws.{place-below}
 use Rattle.model.proofs.strip.QuestionLaws.{ask-yes, ask-no, room-true, CommitReady, commit-ready}
 use Rattle.answers.specs.Lent.{lentAll, leavesAll}
@@ -28,6 +27,7 @@ use Rattle.logging.specs.Logs.{MayLog, Fits, loggedClosing, keptBy, Comm
 use Rattle.logging.proofs.CallLaws.{newest-first, ends}
 use Rattle.logging.proofs.LogLaws.{logged-size}
 use Rattle.logging.proofs.ReadyLaws.{quiet, loud, may, fits-tag}
+use Rattle.model.proofs.strip.LoggingLaws.{fits}
 
 -- ---- its effect
 
@@ -35,7 +35,7 @@ effect-none : (g : Given) (r : Writer) → r ≡ writerOf (g .state) (g .writer)
 unfolding commitEffect
 effect-none g r e h = let k : holds (writerOf (g .state) (g .writer)) ≡ false = ap holds (sym e) ∙ h in rw k
 
-effect-held : (g : Given) (r : Writer) (st : State) → r ≡ writerOf (g .state) (g .writer) → st ≡ stateOf (g .state) → holds r ≡ true
+pub effect-held : (g : Given) (r : Writer) (st : State) → r ≡ writerOf (g .state) (g .writer) → st ≡ stateOf (g .state) → holds r ≡ true
     → commitEffect g ≡ commitHeld g r (nextPosition st)
 unfolding commitEffect
 effect-held g r st e es h =
@@ -55,7 +55,7 @@ logs-is : (g : Given) (r : Writer) (t : Bool) → r ≡ writerOf (g .state) (g .
 unfolding commitLogs
 logs-is g r t e h = ap holds (sym e) ∙ h
 
-carried : (n m : ℕ) (p q x y s : List ℕ) → s ≡ carryListed n p x → n ≡ m → p ≡ q → x ≡ y → s ≡ carryListed m q y
+pub carried : (n m : ℕ) (p q x y s : List ℕ) → s ≡ carryListed n p x → n ≡ m → p ≡ q → x ≡ y → s ≡ carryListed m q y
 carried n m p q x y s e f g h = e ∙ rw (f, g, h)
 
 -- ---- its answer

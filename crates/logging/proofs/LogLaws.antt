@@ -22,7 +22,6 @@ use Rattle.model.specs.Questions.{ask}
 use Rattle.model.proofs.bytes.ByteLaws.{puts-nil}
 use Rattle.model.proofs.strip.QuestionLaws.{ask-yes, ask-no}
 use Rattle.model.proofs.strip.BatchLaws.{length-GW, batch-one}
-use Rattle.model.proofs.invariant.LogStep.{length-entered}
 use Rattle.writers.specs.Held.{heldFor}
 use Rattle.writers.specs.Frame.{SameElsewhere}
 use Rattle.writers.proofs.HeldLaws.{held-first, held-other}
@@ -30,6 +29,7 @@ use Rattle.writers.proofs.FrameLaws.{elsewhere, setNext-writer, setFilled-write
 use Rattle.logging.specs.Logs.{MayLog, Fits, Wrote, loggedEntry, loggedClosing, HeldNext, StoredOther, Closed, Committed, keptBy}
 use Rattle.scan.specs.Members.{Stretch}
 use Rattle.logging.proofs.CallLaws.{length-slot}
+use Rattle.model.proofs.strip.LoggingLaws.{length-entered}
 
 -- ---- room in the log and in the batch
 
@@ -151,6 +151,7 @@ may-after l s s₁ b st w r m e =
       high = m .high;
       low = m .low;
       room = m .room;
+      homes = m .homes;
       filled = m .filled;
       batch = m .batch;
     }

@@ -14,10 +14,10 @@ use Rattle.model.specs.declared.Writer.{Writer}
 use Rattle.model.specs.State.{stateOf, nextPosition, writerOf, holds}
 use Rattle.model.specs.Questions.{ask}
 use Rattle.model.proofs.strip.OrderLaws.{InOrder, WriterInOrder}
-use Rattle.model.proofs.steps.HeldLogs.{bounds, link-small}
 use Rattle.model.proofs.strip.QuestionLaws.{ask-yes}
 use Rattle.answers.proofs.AnswerLaws.{Usable}
 use Rattle.logging.specs.Logs.{MayLog, Fits}
+use Rattle.model.proofs.strip.LoggingLaws.{bounds, link-small}
 
 -- questions 8 and 10 of a call that logs nothing, and of one that logs
 pub quiet : (logs has : Bool) (size len : ℕ) → logs ≡ false → size ≡ 0 → ask (not logs || has) 8 (ask (leb size len) 9 0) ≡ 0
@@ -44,6 +44,7 @@ may l a s b st v u e hv room fit =
       high = o .start-most;
       low = o .start-next;
       room = room′;
+      homes = omega (arith, o .homes-same, u .homes-most);
       filled = o .filled-most;
       batch = λ f. rw (eq-eqb (stateOf s .filled) 6 f) at fit′;
     } in

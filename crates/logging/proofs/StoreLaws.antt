@@ -17,7 +17,6 @@ use Rattle.model.specs.Effects.{Given, newState, logHeld, storeFirst, storeAgai
 use Rattle.model.specs.Questions.{ask, askBlock, writerKnown, homeKnown, writerOpen, roomFor, room, storeLogs, batchFits, storeAllowed, storeAnswer}
 use Rattle.model.specs.Calls.{sizeOf, storeCall}
 use Rattle.model.proofs.bytes.ByteLaws.{puts-nil}
-use Rattle.model.proofs.steps.DoneLaws.{fits}
 use Rattle.model.proofs.strip.OrderLaws.{place-below}
 use Rattle.model.proofs.strip.QuestionLaws.{ask-yes, ask-no, room-true, StoreReady, store-ready}
 use Rattle.answers.specs.Lent.{lent, leaves}
@@ -27,10 +26,11 @@ use Rattle.logging.specs.Logs.{MayLog, Fits, loggedEntry, StoredOther}
 use Rattle.logging.proofs.CallLaws.{block-first, ends}
 use Rattle.logging.proofs.LogLaws.{logged-size}
 use Rattle.logging.proofs.ReadyLaws.{quiet, loud, may, fits-tag}
+use Rattle.model.proofs.strip.LoggingLaws.{fits}
 
 -- ---- its effect
 
-effect-first : (g : Given) (r : Writer) → r ≡ writerOf (g .state) (g .writer) → holds r ≡ false → storeEffect g ≡ storeFirst g
+pub effect-first : (g : Given) (r : Writer) → r ≡ writerOf (g .state) (g .writer) → holds r ≡ false → storeEffect g ≡ storeFirst g
 unfolding storeEffect
 effect-first g r e h = let k : holds (writerOf (g .state) (g .writer)) ≡ false = ap holds (sym e) ∙ h in rw k
 
@@ -41,7 +41,7 @@ effect-again g r e h m =
     let q : eqb (writerOf (g .state) (g .writer) .home) (g .home) ≡ true = eq-eqb _ _ (ap (λ (x : Writer). x .home) (sym e) ∙ m) in
     rw (k, q)
 
-effect-other : (g : Given) (r : Writer) (st : State) → r ≡ writerOf (g .state) (g .writer) → st ≡ stateOf (g .state) → holds r ≡ true
+pub effect-other : (g : Given) (r : Writer) (st : State) → r ≡ writerOf (g .state) (g .writer) → st ≡ stateOf (g .state) → holds r ≡ true
     → r .home ≢ g .home → storeEffect g ≡ storeOther g r (nextPosition st)
 unfolding storeEffect
 effect-other g r st e es h m =

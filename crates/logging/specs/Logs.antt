@@ -22,6 +22,7 @@ pub record MayLog (l s b : List ℕ) (st : State) (w : ℕ) : Type 0 where
   pub writer : w < 8
   pub some : 4 ≤ st .groups
   pub few : st .groups ≤ 1024
+  pub homes : st .homes ≤ 65535
   pub log : length l ≡ 64 + 512 * st .groups
   pub high : st .start ≤ 2 ^ 47
   pub low : st .start ≤ st .next

@@ -7,7 +7,7 @@ use model::State;
 use model::Writer;
 ghost use mathlib.Core.Path.{_≡_};
 ghost use mathlib.Core.List.{[]};
-ghost use Prim.Native.Nat.{_+_, _*_, _<_};
+ghost use Prim.Native.Nat.{_+_, _*_, _≤_, _<_};
 ghost use lib.ListN.{length};
 ghost use Rattle.model.specs.State.{nextPosition, setWriter, setPromise, idle, firstFor};
 ghost use Rattle.model.specs.Effects.{commitEffect};
@@ -48,7 +48,7 @@ fn close_held(
 
 // Keeps the position of each entry of the transaction that was closed at the next position.
 fn keep_newest(log: &[u8], newest: &mut [u8], st: State, r: Writer)
-    requires { ⌜ Stretch (now log) (st .groups) (st .start) (firstFor r (nextPosition st)) (nextPosition st + 1) × (length (now newest) ≡ 8 * st .homes) ⌝ }
+    requires { ⌜ Stretch (now log) (st .groups) (st .start) (firstFor r (nextPosition st)) (nextPosition st + 1) × (st .homes ≤ 65535) × (length (now newest) ≡ 8 * st .homes) ⌝ }
     ensures { λ _. ⌜ now (newest .exit) ≡ keptBy (now (log .entry)) st r (now (newest .entry)) ⌝ }
 {
     let position = strip::next_position(st);
@@ -57,7 +57,7 @@ fn keep_newest(log: &[u8], newest: &mut [u8], st: State, r: Writer)
 }
 
 // The closing entry, with the places promised to the writer given back, the newest positions kept, and those of the list of rights carried over.
-fn commit_held(
+pub fn commit_held(
     log: &mut [u8],
     state: &mut [u8],
     newest: &mut [u8],

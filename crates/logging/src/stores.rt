@@ -18,7 +18,7 @@ ghost use Rattle.answers.specs.Lent.{lent, leaves};
 ghost use Rattle.logging.specs.Logs.{MayLog, Fits, HeldNext, StoredOther};
 
 // Holds the first block of a transaction.
-fn store_first(state: &mut [u8], block: &[u8], r: Writer, w: usize, home: u64)
+pub fn store_first(state: &mut [u8], block: &[u8], r: Writer, w: usize, home: u64)
     requires { ⌜ (length (now state) ≡ 1024) × (w < 8) × (length (now block) ≡ 64) × (holds r ≡ false) ⌝ }
     ensures { λ _. ⌜ now (state .exit) ≡ setHeld (setWriter (now (state .entry)) w (holding home)) w (now (block .entry)) ⌝ }
 {
@@ -49,7 +49,7 @@ fn hold_next(
 }
 
 // The same, and the entry uses up one of the places promised to the writer, if any is left.
-fn store_other(
+pub fn store_other(
     log: &mut [u8],
     state: &mut [u8],
     block: &[u8],
@@ -90,8 +90,7 @@ fn store_verdict(
     if home >= areas::data_homes(area.len()) {
         return 5;
     }
-    let st = strip::state(state);
-    if !rights::may_store(log, area, state, st, writer, home) {
+    if !rights::may_store(log, area, state, writer, home) {
         return 19;
     }
     let r = strip::writer(state, writer as usize);
@@ -104,6 +103,7 @@ fn store_verdict(
     if r.home == home {
         return 0;
     }
+    let st = strip::state(state);
     may_log(state, st, writer as usize, batch.len())
 }
 

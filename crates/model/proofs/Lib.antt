@@ -10,9 +10,3 @@ pub mod strip
 pub mod rule
 -- Which writes persist at a crash; what has been logged, as a ghost history; what the commit rule finds in what persisted: the longest prefix of its commits.
 pub mod trace
--- What holds at every moment of a history, of memory and of strip and copies, and how it carries over when the log grows, a fence passes or an opening comes.
-pub mod invariant
--- Each call and each crash keeps the invariant.
-pub mod steps
--- The claims: the refusals, demands 2 and 3, what every call answers, the newest positions, rounds, isolation, the facts stated in passing, and a history that meets the premises.
-pub mod claims

@@ -17,6 +17,7 @@ pub mod History
 pub mod Demands
 pub mod Store
 pub mod Places
+pub mod Usage
 pub mod Trials
 pub mod Witnesses
 pub mod Reservations
@@ -26,6 +27,7 @@ pub mod Kept
 pub mod Guarded
 pub mod Rounds
 pub mod RoundEnds
-pub mod Isolation
 pub mod Hidden
+pub mod Units
+pub mod Together
 pub mod Facts

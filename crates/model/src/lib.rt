@@ -39,3 +39,22 @@ pub struct Writer {
     pub first: u64,
     pub count: u64,
 }
+
+// What fills a log: its places that are live, dead and free, those of the free ones that are promised, and the writer whose logged entries begin
+// lowest, with the position where they do (8 and 0 if no writer has any). A refusal holds its number in `code` and else zeros.
+#[repr(C)]
+pub struct Usage {
+    pub code: u64,
+    pub live: u64,
+    pub dead: u64,
+    pub free: u64,
+    pub promised: u64,
+    pub holder: u64,
+    pub first: u64,
+}
+
+// The writer that holds a log back and the position from which on, 8 and 0 for none.
+pub struct Holder {
+    pub writer: u64,
+    pub first: u64,
+}

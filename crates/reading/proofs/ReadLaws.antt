@@ -3,7 +3,7 @@ use mathlib.Core.Path.{_≡_, refl, sym, ap, _∙_}
 use mathlib.Core.Bool.{Bool, true, false, cond, not}
 use mathlib.Core.List.{List}
 use mathlib.Core.Option.{Option, none, some}
-use Prim.Native.Nat.{ℕ, _+_, _-_, _*_, _^_, _≤_, _<_}
+use Prim.Native.Nat.{ℕ, _+_, _-_, _*_, _/_, _%_, _^_, _≤_, _<_}
 use native.Mathlib.Omega.{arith}
 use lib.Dec.{ltb, eqb}
 use lib.ListN.{length}
@@ -26,7 +26,7 @@ use Rattle.answers.proofs.NewestAnswers.{both-refuses, both-passes, both-zero, 
 use Rattle.answers.specs.Lent.{leavesAll}
 use Rattle.model.proofs.strip.QuestionLaws.{ask-yes, ask-no, ask-passed}
 use Rattle.scan.specs.Members.{Stretch}
-use Rattle.shown.specs.There.{tagsBy, thereBy, Searchable}
+use Rattle.shown.specs.There.{tagsBy, thereBy, placeOf, placeBy, Searchable}
 use Rattle.shown.proofs.ThereLaws.{there-same, there-below}
 use Rattle.search.specs.Codes.{codeOf}
 use Rattle.reading.specs.Newest.{ownEntry, keptEntry, seenEntry}
@@ -232,3 +232,22 @@ module _ (g : Given) where
   read-done x code figure size block e z h f s b =
       done-by g (readEffect g) (readAnswer g) code figure size (g .log) (g .area) (g .state) (g .newest) block (g .batch) (sym e ∙ z) h f s refl refl refl refl b
       (sym (puts-nil (g .batch) 0))
+
+-- ---- an entry, by the place of its block
+
+module _ (log : List ℕ) (st : State) (home p at : ℕ) (e : at ≡ placeBy log st home p) where
+  pub place-hole : at ≡ 0 → false ≡ thereBy log st home p
+  unfolding placeBy placeOf
+  place-hole z = go (thereBy log st home p) e
+    where
+      go : (b : Bool) → at ≡ cond b (64 + 512 * (p / 7 % st .groups) + (64 + 64 * (p % 7))) 0 → false ≡ b
+      go true f = absurd (omega arith)
+      go false f = refl
+
+  pub place-entry : (at ≡ 0 → ⊥) → true ≡ thereBy log st home p
+  unfolding placeBy
+  place-entry z = go (thereBy log st home p) e
+    where
+      go : (b : Bool) → at ≡ cond b (placeOf (st .groups) p) 0 → true ≡ b
+      go true f = refl
+      go false f = absurd (z f)

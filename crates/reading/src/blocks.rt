@@ -49,7 +49,7 @@ pub fn show(
         show_held(block, state, w);
         return;
     }
-    let entry = seen(log, newest, st, r, home);
+    let entry = seen(log, state, newest, st, r, home);
     if entry == 0 {
         areas::get_home(block, area, home as usize);
         return;

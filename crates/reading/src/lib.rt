@@ -3,7 +3,7 @@ mod blocks;
 mod newest;
 
 use answers::Reply;
-use blocks::show;
+pub use blocks::show;
 ghost use mathlib.Core.Path.{_≡_};
 ghost use mathlib.Core.List.{[]};
 ghost use Rattle.model.specs.Questions.{readAnswer};
@@ -32,8 +32,7 @@ fn judge(
     if home >= areas::data_homes(area.len()) {
         return 5;
     }
-    let st = strip::state(state);
-    if !rights::may_read(log, area, state, newest, st, writer, home) {
+    if !rights::may_read(log, area, state, newest, writer, home) {
         return 20;
     }
     0

@@ -1,6 +1,6 @@
 -- Laws of the list of rights: its blocks, its ranges in one block, and when it is none. Assumes nothing.
 use mathlib.Core.Path.{_≡_, refl, sym, ap, _∙_}
-use mathlib.Core.Bool.{Bool, true, false, cond, not, _&&_, _||_}
+use mathlib.Core.Bool.{Bool, true, false, cond, not, _&&_, _||_, and-false}
 use mathlib.Core.List.{List, [], _∷_, _++_}
 use mathlib.Core.Option.{none, some}
 use Prim.Native.Nat.{ℕ, zero, suc, _+_, _-_, _*_, _/_, _%_, _^_, _≤_, _<_}
@@ -9,7 +9,7 @@ use borrow.Author.Tests.{eqb-true, eqb-false, le-leb, lt-leb}
 use lib.Dec.{eqb, leb, ltb}
 use lib.ListN.{length, length-append, replicate}
 use Rattle.model.specs.Bytes.{part, zeros, number, same}
-use Rattle.model.specs.Layout.{groupsIn, homesIn, blockAt, homeAt}
+use Rattle.model.specs.Layout.{homesIn, blockAt, homeAt}
 use Rattle.model.specs.State.{stateOf, listedOf, nextPosition}
 use Rattle.model.specs.declared.State.{State}
 use Rattle.model.specs.Newest.{keptFor}
@@ -161,21 +161,35 @@ module _ (log area : List ℕ) (st : State) (kept : List ℕ) (from : ℕ) (x : 
       go true false c e = refl
       go false b c e = refl
 
-  module _ (a : Bool) (ea : a ≡ same (blockBy log area st kept from 0) (zeros 64)) where
-    pub zeros-first : a ≡ false → false ≡ same (blocksBy log area st kept from 4) (zeros 256)
-    zeros-first f = rw f at (four-zeros a _ _ _ ea refl refl refl)
+  zeros-some : (n i : ℕ) → n ≤ 4 → i < n → same (blockBy log area st kept from i) (zeros 64) ≡ false
+      → same (blocksBy log area st kept from n) (zeros (64 * n)) ≡ false
+  zeros-some zero i l h q = absurd (omega arith)
+  zeros-some (suc n) i l h q =
+      let z : 64 * suc n ≡ 64 * n + 64 = omega arith in
+      rw z (zero-more n (omega arith) ∙ go (eqb i n) refl (λ k. zeros-some n i (omega arith) k q))
+    where
+      go : (b : Bool) → eqb i n ≡ b → (i < n → same (blocksBy log area st kept from n) (zeros (64 * n)) ≡ false)
+          → (same (blocksBy log area st kept from n) (zeros (64 * n)) && same (blockBy log area st kept from n) (zeros 64)) ≡ false
+      go true t f =
+          let e : same (blockBy log area st kept from n) (zeros 64) ≡ false = rw (eqb-true i n t) at q in
+          simp (e, and-false)
+      go false t f = rw (f (omega (arith, eqb-false i n t)))
 
-    module _ (b : Bool) (eb : b ≡ same (blockBy log area st kept from 1) (zeros 64)) (ta : a ≡ true) where
-      pub zeros-second : b ≡ false → false ≡ same (blocksBy log area st kept from 4) (zeros 256)
-      zeros-second f = rw (ta, f) at (four-zeros a b _ _ ea eb refl refl)
+  -- the blocks one after the other
+  pub zeros-start : same (blocksBy log area st kept from 0) (zeros (64 * 0)) ≡ true
+  zeros-start = none-none
 
-      module _ (c : Bool) (ec : c ≡ same (blockBy log area st kept from 2) (zeros 64)) (tb : b ≡ true) where
-        pub zeros-third : c ≡ false → false ≡ same (blocksBy log area st kept from 4) (zeros 256)
-        zeros-third f = rw (ta, tb, f) at (four-zeros a b c _ ea eb ec refl)
+  pub zeros-next : (i : ℕ) (b : Bool) → i < 4 → same (blocksBy log area st kept from i) (zeros (64 * i)) ≡ true
+      → b ≡ same (blockBy log area st kept from i) (zeros 64) → b ≡ true
+      → same (blocksBy log area st kept from (i + 1)) (zeros (64 * (i + 1))) ≡ true
+  zeros-next i b h q e t =
+      let z : 64 * (i + 1) ≡ 64 * i + 64 = omega arith in
+      let k : i + 1 ≡ suc i = omega arith in
+      rw (z, k) (zero-more i h ∙ rw (q, ← e, t))
 
-        pub zeros-fourth : (e : Bool) → e ≡ same (blockBy log area st kept from 3) (zeros 64) → c ≡ true
-            → e ≡ same (blocksBy log area st kept from 4) (zeros 256)
-        zeros-fourth e ee tc = rw (ta, tb, tc) at (four-zeros a b c e ea eb ec ee)
+  pub zeros-stop : (i : ℕ) (b : Bool) → i < 4 → b ≡ same (blockBy log area st kept from i) (zeros 64) → b ≡ false
+      → false ≡ same (blocksBy log area st kept from 4) (zeros 256)
+  zeros-stop i b h e f = sym (zeros-some 4 i (omega arith) h (sym e ∙ f))
 
   -- ---- the answer in the order in which it is asked
 
@@ -204,26 +218,16 @@ module _ (log area : List ℕ) (st : State) (kept : List ℕ) (from : ℕ) (x : 
       go true = refl
       go false = refl
 
+  -- the writer's own block is not all zeros
+  pub open-listed : (at home : ℕ) (b z : Bool) → at < 256 → at % 64 + 16 ≤ 64
+      → b ≡ inRanges (blockBy log area st kept from (at / 64)) (at % 64) home 4 → b ≡ false
+      → z ≡ same (blockBy log area st kept from (at / 64)) (zeros 64) → z ≡ false
+      → false ≡ opens (st .homes) (blocksBy log area st kept from 4) at home
+  open-listed at home b z h k e t q f = open-none at home b false h k e t (zeros-stop (at / 64) z (omega arith) q f)
+
 -- none is kept: no log has such a position
 pub none-kept : (log : List ℕ) (st : State) (home p : ℕ) → Searchable log st → p ≡ 2 ^ 64 - 1 → false ≡ thereBy log st home p
 none-kept log st home p s e = kept-past log st home p (nextPosition st) refl (omega (arith, s .within, s .low, s .most))
-
--- the number of groups by the length of the log
-module _ (log : List ℕ) (st : State) (n : ℕ) (s : Searchable log st) (e : n ≡ groupsIn (length log)) where
-  groups-by : n ≡ st .groups
-  unfolding groupsIn
-  groups-by = omega (arith, s .long)
-
-  pub groups-fit : (length log ≡ 64 + 512 * n) × (0 < n)
-  groups-fit = (omega (arith, s .long, groups-by), omega (arith, s .least, groups-by))
-
-  pub shown-groups : (p : ℕ) (d : List ℕ) → d ≡ blockAt log n p → d ≡ blockAt log (st .groups) p
-  shown-groups p d q = q ∙ ap (λ (k : ℕ). blockAt log k p) groups-by
-
--- D too small for a list
-pub open-small : (homes : ℕ) (list : List ℕ) (at home : ℕ) → homes < 12 → true ≡ opens homes list at home
-unfolding opens isList
-open-small homes list at home h = rw (lt-leb 12 homes h)
 
 -- ---- a block that is shown
 
@@ -233,25 +237,35 @@ module _ (log area : List ℕ) (st : State) (kept : List ℕ) (from i p : ℕ) (
   unfolding blockBy shownBy homeAt
   block-home f = rw (← e, ← t, f)
 
-  pub block-entry : b ≡ true → blockBy log area st kept from i ≡ blockAt log (st .groups) p
-  unfolding blockBy shownBy
-  block-entry f = rw (← e, ← t, f)
+-- ---- the whole list in the data copy
 
-  -- zeros, and ranges, as they are tested in it
-  pub zero-home : (r : Bool) → b ≡ false → r ≡ same (part area (64 * (8 + i)) 64) (zeros 64) → r ≡ same (blockBy log area st kept from i) (zeros 64)
-  zero-home r f q = q ∙ rw (block-home f)
+module _ (log area : List ℕ) (st : State) (kept : List ℕ) (from : ℕ) (x : Listed log area st kept from) (d : 12 ≤ st .homes)
+    (n : (i : ℕ) → i < 4 → number 8 kept (from + 8 * i) ≡ 2 ^ 64 - 1) where
+  block-copy : (i : ℕ) → i < 4 → blockBy log area st kept from i ≡ part area (64 * (8 + i)) 64
+  block-copy i h = block-home log area st kept from i _ false refl (none-kept log st (8 + i) _ (x .search) (n i h)) refl
 
-  pub zero-entry : (r : Bool) (d : List ℕ) → b ≡ true → d ≡ blockAt log (st .groups) p → length d ≡ 64 → r ≡ same (part d 0 64) (zeros 64)
-      → r ≡ same (blockBy log area st kept from i) (zeros 64)
-  zero-entry r d f s l q = q ∙ rw (block-entry f, part-whole d 64 (omega arith), s)
+  copy-ranges : (at home : ℕ) (r : Bool) → at < 256 → at % 64 + 16 ≤ 64 → r ≡ inRanges area (512 + at) home 4
+      → r ≡ inRanges (blockBy log area st kept from (at / 64)) (at % 64) home 4
+  copy-ranges at home r h k q =
+      let e : 512 + at ≡ 64 * (8 + at / 64) + at % 64 = omega arith in
+      q ∙ ap (λ (a : ℕ). inRanges area a home 4) e ∙ ranges-part area (64 * (8 + at / 64)) (at % 64) home 4 (omega arith)
+      ∙ ap (λ (xs : List ℕ). inRanges xs (at % 64) home 4) (sym (block-copy (at / 64) (omega arith)))
 
-  pub ranges-home : (r : Bool) (o home : ℕ) → b ≡ false → o + 16 ≤ 64 → r ≡ inRanges area (64 * (8 + i) + o) home 4
-      → r ≡ inRanges (blockBy log area st kept from i) o home 4
-  ranges-home r o home f h q = q ∙ ranges-part area (64 * (8 + i)) o home 4 h ∙ rw (block-home f)
+  pub copy-open : (at home : ℕ) (r : Bool) → at < 256 → at % 64 + 16 ≤ 64 → r ≡ inRanges area (512 + at) home 4 → r ≡ true
+      → true ≡ opens (st .homes) (blocksBy log area st kept from 4) at home
+  copy-open at home r h k q t = open-ranges log area st kept from x d at home r h k (copy-ranges at home r h k q) t
 
-  pub ranges-entry : (r : Bool) (d : List ℕ) (o home : ℕ) → b ≡ true → d ≡ blockAt log (st .groups) p → r ≡ inRanges d o home 4
-      → r ≡ inRanges (blockBy log area st kept from i) o home 4
-  ranges-entry r d o home f s q = q ∙ rw (block-entry f, s)
+  copy-zero : (i : ℕ) → i < 4 → same (part area (64 * (8 + i)) 64) (zeros 64) ≡ same (blockBy log area st kept from i) (zeros 64)
+  copy-zero i h = ap (λ (xs : List ℕ). same xs (zeros 64)) (sym (block-copy i h))
+
+  pub copy-none : (at home : ℕ) (r z : Bool) → at < 256 → at % 64 + 16 ≤ 64 → r ≡ inRanges area (512 + at) home 4 → r ≡ false
+      → z
+      ≡ (same (part area 512 64) (zeros 64)
+      && (same (part area 576 64) (zeros 64) && (same (part area 640 64) (zeros 64) && same (part area 704 64) (zeros 64))))
+      → z ≡ opens (st .homes) (blocksBy log area st kept from 4) at home
+  copy-none at home r z h k q t e =
+      open-none log area st kept from x d at home r z h k (copy-ranges at home r h k q) t
+      (e ∙ four-zeros log area st kept from x d _ _ _ _ (copy-zero 0 (omega arith)) (copy-zero 1 (omega arith)) (copy-zero 2 (omega arith)) (copy-zero 3 (omega arith)))
 
 -- ---- by what a call is lent
 
@@ -295,6 +309,25 @@ module _ (log area state : List ℕ) (st : State) (u : Usable log area state) (e
   store-open writer home b r e t q =
       q ∙ rw (sym e ∙ t, list-same (lent log area state [] [] writer home) st es (u .order) state 896 (listedOf state) (λ i. refl) 4, homes-by)
 
+  small : length area < 768 → homesIn (length area) < 12
+  unfolding homesIn
+  small h = omega arith
+
+  pub store-small : (writer home : ℕ) (b : Bool) → b ≡ ofList home → b ≡ false → length area < 768
+      → true ≡ storeAllowed (lent log area state [] [] writer home)
+  unfolding storeAllowed mayStore isList
+  store-small writer home b e t h = rw (sym e ∙ t, lt-leb 12 (homesIn (length area)) (small h))
+
+  pub read-small : (newest : List ℕ) (writer home : ℕ) (b : Bool) → b ≡ ofList home → b ≡ false → length area < 768
+      → true ≡ readAllowed (lentAll log area state newest [] [] writer home)
+  unfolding readAllowed mayRead isList
+  read-small newest writer home b e t h = rw (sym e ∙ t, lt-leb 12 (homesIn (length area)) (small h))
+
+  pub newest-small : (newest : List ℕ) (writer home : ℕ) (b : Bool) → b ≡ ofList home → b ≡ false → length area < 768
+      → true ≡ mayStore (homesIn (length area)) (readList (lentAll log area state newest [] [] writer home)) writer home
+  unfolding mayStore isList
+  newest-small newest writer home b e t h = rw (sym e ∙ t, lt-leb 12 (homesIn (length area)) (small h))
+
   pub read-listed : (newest : List ℕ) (writer home : ℕ) (b : Bool) → b ≡ ofList home → b ≡ true
       → true ≡ readAllowed (lentAll log area state newest [] [] writer home)
   unfolding readAllowed mayRead
@@ -304,6 +337,26 @@ module _ (log area state : List ℕ) (st : State) (u : Usable log area state) (e
       → r ≡ opens (st .homes) (blocksBy log area st newest 64 4) (32 * writer + 16) home → r ≡ readAllowed (lentAll log area state newest [] [] writer home)
   unfolding readAllowed mayRead readList opens keptFor
   read-open newest writer home b r e t q =
+      q
+      ∙ rw (
+        sym e ∙ t,
+        list-same (lentAll log area state newest [] [] writer home) st es (u .order) newest 64 (λ i. keptFor newest (8 + i)) kept-at 4,
+        homes-by,
+      )
+    where
+      kept-at : (i : ℕ) → keptFor newest (8 + i) ≡ number 8 newest (64 + 8 * i)
+      kept-at i = let z : 8 * (8 + i) ≡ 64 + 8 * i = omega arith in rw z
+
+  pub newest-listed : (newest : List ℕ) (writer home : ℕ) (b : Bool) → b ≡ ofList home → b ≡ true
+      → eqb writer 0 ≡ mayStore (homesIn (length area)) (readList (lentAll log area state newest [] [] writer home)) writer home
+  unfolding mayStore
+  newest-listed newest writer home b e t = rw (sym e ∙ t)
+
+  pub newest-open : (newest : List ℕ) (writer home : ℕ) (b r : Bool) → b ≡ ofList home → b ≡ false
+      → r ≡ opens (st .homes) (blocksBy log area st newest 64 4) (32 * writer) home
+      → r ≡ mayStore (homesIn (length area)) (readList (lentAll log area state newest [] [] writer home)) writer home
+  unfolding mayStore readList opens keptFor
+  newest-open newest writer home b r e t q =
       q
       ∙ rw (
         sym e ∙ t,

@@ -1,13 +1,14 @@
 -- The list of rights over the numbers of the strip, block by block, with its homes' positions kept in a list of bytes from an index on.
 use mathlib.Core.Path.{_≡_}
-use mathlib.Core.Bool.{Bool, not, _||_}
+use mathlib.Core.Bool.{Bool, cond, not, _||_}
 use mathlib.Core.List.{List, [], _++_}
 use Prim.Native.Nat.{ℕ, zero, suc, _+_, _*_, _^_, _≤_, _<_}
+use lib.Dec.{eqb}
 use lib.ListN.{length}
-use Rattle.model.specs.Bytes.{number}
+use Rattle.model.specs.Bytes.{part, number}
 use Rattle.model.specs.Rights.{isList, inRanges}
 use Rattle.model.specs.declared.State.{State}
-use Rattle.shown.specs.There.{shownBy, Searchable}
+use Rattle.shown.specs.There.{shownBy, entryFrom, Searchable}
 
 -- block i of it, and the first n
 unfoldable pub blockBy : List ℕ → List ℕ → State → List ℕ → ℕ → ℕ → List ℕ
@@ -16,6 +17,10 @@ blockBy log area st kept from i = shownBy log area st (8 + i) (number 8 kept (fr
 unfoldable pub blocksBy : List ℕ → List ℕ → State → List ℕ → ℕ → ℕ → List ℕ
 blocksBy log area st kept from zero = []
 blocksBy log area st kept from (suc n) = blocksBy log area st kept from n ++ blockBy log area st kept from n
+
+-- block i, by its place in the log, 0 for the data copy
+unfoldable pub blockFrom : List ℕ → List ℕ → ℕ → ℕ → List ℕ
+blockFrom log area place i = cond (eqb place 0) (part area (64 * (8 + i)) 64) (entryFrom log place)
 
 -- no list, or a home lies in one of the four ranges from a byte on
 unfoldable pub opens : ℕ → List ℕ → ℕ → ℕ → Bool

@@ -1,27 +1,30 @@
 // Who may touch what: the questions 19 and 20, by the list of rights as it is committed.
 mod list;
 mod ranges;
+mod zeros;
 
 use list::open_to;
-use model::State;
 use ranges::of_list;
 ghost use mathlib.Core.Path.{_≡_};
 ghost use mathlib.Core.List.{[]};
 ghost use Prim.Native.Nat.{_*_, _<_};
 ghost use lib.ListN.{length};
 ghost use Rattle.model.specs.Layout.{homesIn};
-ghost use Rattle.model.specs.State.{stateOf};
+ghost use Rattle.model.specs.Rights.{mayStore, readList};
 ghost use Rattle.model.specs.Questions.{storeAllowed, readAllowed};
 ghost use Rattle.answers.specs.Lent.{lent, lentAll};
 ghost use Rattle.answers.proofs.AnswerLaws.{Usable};
 
 // Whether a writer may store to a home. The list is found by the positions of its homes in the state strip.
-pub fn may_store(log: &[u8], area: &[u8], state: &[u8], st: State, writer: u64, home: u64) -> bool
-    requires { ⌜ Usable (now log) (now area) (now state) × (st ≡ stateOf (now state)) × (writer < 8) ⌝ }
+pub fn may_store(log: &[u8], area: &[u8], state: &[u8], writer: u64, home: u64) -> bool
+    requires { ⌜ Usable (now log) (now area) (now state) × (writer < 8) ⌝ }
     ensures { λ r. ⌜ r ≡ storeAllowed (lent (now (log .entry)) (now (area .entry)) (now (state .entry)) [] [] writer home) ⌝ }
 {
     if of_list(home) {
         return writer == 0;
+    }
+    if area.len() < 768 {
+        return true;
     }
     open_to(log, area, state, state, 896, 32 * writer as usize, home)
 }
@@ -32,14 +35,16 @@ pub fn may_read(
     area: &[u8],
     state: &[u8],
     newest: &[u8],
-    st: State,
     writer: u64,
     home: u64,
 ) -> bool
-    requires { ⌜ Usable (now log) (now area) (now state) × (st ≡ stateOf (now state)) × (writer < 8) × (length (now newest) ≡ 8 * homesIn (length (now area))) ⌝ }
+    requires { ⌜ Usable (now log) (now area) (now state) × (writer < 8) × (length (now newest) ≡ 8 * homesIn (length (now area))) ⌝ }
     ensures { λ r. ⌜ r ≡ readAllowed (lentAll (now (log .entry)) (now (area .entry)) (now (state .entry)) (now (newest .entry)) [] [] writer home) ⌝ }
 {
     if of_list(home) {
+        return true;
+    }
+    if area.len() < 768 {
         return true;
     }
     open_to(
@@ -51,4 +56,25 @@ pub fn may_read(
         32 * writer as usize + 16,
         home,
     )
+}
+
+// Whether a writer may store to a home, for a call that is lent the newest positions: the list is found by those.
+pub fn may_store_newest(
+    log: &[u8],
+    area: &[u8],
+    state: &[u8],
+    newest: &[u8],
+    writer: u64,
+    home: u64,
+) -> bool
+    requires { ⌜ Usable (now log) (now area) (now state) × (writer < 8) × (length (now newest) ≡ 8 * homesIn (length (now area))) ⌝ }
+    ensures { λ r. ⌜ r ≡ mayStore (homesIn (length (now (area .entry)))) (readList (lentAll (now (log .entry)) (now (area .entry)) (now (state .entry)) (now (newest .entry)) [] [] writer home)) writer home ⌝ }
+{
+    if of_list(home) {
+        return writer == 0;
+    }
+    if area.len() < 768 {
+        return true;
+    }
+    open_to(log, area, state, newest, 64, 32 * writer as usize, home)
 }

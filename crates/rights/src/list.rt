@@ -1,30 +1,128 @@
 // The list of rights: 256 bytes in four homes, each found by the position kept for it in the slice `kept` from index `from` on.
+use crate::ranges::in_entry;
 use crate::ranges::in_ranges;
+use crate::zeros::zero_block;
 ghost use mathlib.Core.Path.{_≡_};
-ghost use Prim.Native.Nat.{_+_, _/_, _%_, _<_, _≤_};
+ghost use mathlib.Core.Bool.{true, _&&_, _||_};
+ghost use mathlib.Core.Logic.{_≢_};
+ghost use Prim.Native.Nat.{ℕ, _+_, _-_, _*_, _/_, _%_, _^_, _<_, _≤_};
 ghost use lib.ListN.{length};
-ghost use Rattle.model.specs.Bytes.{zeros, same};
+ghost use Rattle.model.specs.Bytes.{part, number, zeros, same};
 ghost use Rattle.model.specs.Rights.{inRanges};
 ghost use Rattle.model.specs.State.{stateOf};
-ghost use Rattle.shown.specs.There.{Searchable, thereBy};
-ghost use Rattle.rights.specs.Listed.{Listed, blockBy, blocksBy, opens};
+ghost use Rattle.shown.specs.There.{Searchable, placeBy};
+ghost use Rattle.rights.specs.Listed.{Listed, blockBy, blocksBy, blockFrom, opens};
 
 // What is kept for no position: all ones.
 const NO_POSITION: u64 = 0xffff_ffff_ffff_ffff;
 
-// Whether an entry for a home is at the position kept for it; the strip's numbers are read only where a position is kept.
-fn found(log: &[u8], state: &[u8], home: u64, position: u64) -> bool
-    requires { ⌜ Searchable (now log) (stateOf (now state)) × (length (now state) ≡ 1024) ⌝ }
-    ensures { λ r. ⌜ r ≡ thereBy (now (log .entry)) (stateOf (now (state .entry))) home position ⌝ }
+// Whether no position is kept for any of the list's homes: the whole list lies in the data copy.
+fn none_kept(kept: &[u8], from: usize) -> bool
+    requires { ⌜ (from + 32 ≤ length (now kept)) × (from < 2 ^ 32) ⌝ }
+    ensures { λ r. ⌜ (r ≡ true → (i : ℕ) → i < 4 → number 8 (now (kept .entry)) (from + 8 * i) ≡ 2 ^ 64 - 1) ⌝ }
 {
-    if position == NO_POSITION {
+    if codec::number(kept, from, 8) != NO_POSITION {
         return false;
     }
-    shown::is_there(log, strip::state(state), home, position)
+    if codec::number(kept, from + 8, 8) != NO_POSITION {
+        return false;
+    }
+    if codec::number(kept, from + 16, 8) != NO_POSITION {
+        return false;
+    }
+    codec::number(kept, from + 24, 8) == NO_POSITION
 }
 
-// Whether a home lies in one of the four ranges from byte `at` of the list on; they lie in one block.
-fn own_ranges(
+// Whether all four blocks of the list are zeros in the data copy.
+fn none_in_copy(area: &[u8]) -> bool
+    requires { ⌜ 768 ≤ length (now area) ⌝ }
+    ensures { λ r. ⌜ r ≡ (same (part (now (area .entry)) 512 64) (zeros 64) && (same (part (now (area .entry)) 576 64) (zeros 64) && (same (part (now (area .entry)) 640 64) (zeros 64) && same (part (now (area .entry)) 704 64) (zeros 64)))) ⌝ }
+{
+    if !zero_block(area, 512) {
+        return false;
+    }
+    if !zero_block(area, 576) {
+        return false;
+    }
+    if !zero_block(area, 640) {
+        return false;
+    }
+    zero_block(area, 704)
+}
+
+// Where the block of the list's home 8 + `i` lies in the log, 0 where the data copy has it.
+fn place(log: &[u8], state: &[u8], kept: &[u8], from: usize, i: usize) -> usize
+    requires { ⌜ Searchable (now log) (stateOf (now state)) × (length (now state) ≡ 1024) × (from + 32 ≤ length (now kept)) × (from < 2 ^ 32) × (i < 4) ⌝ }
+    ensures { λ r. ⌜ r ≡ placeBy (now (log .entry)) (stateOf (now (state .entry))) (8 + i) (number 8 (now (kept .entry)) (from + 8 * i)) ⌝ }
+{
+    let position = codec::number(kept, from + 8 * i, 8);
+    if position == NO_POSITION {
+        return 0;
+    }
+    shown::place(log, state, 8 + i as u64, position)
+}
+
+// Whether a home lies in one of the four ranges from byte `at` of the list on, whose block has the place `found`.
+fn own_ranges(log: &[u8], area: &[u8], found: usize, at: usize, home: u64) -> bool
+    requires { ⌜ (768 ≤ length (now area)) × (at < 256) × (at % 64 + 16 ≤ 64) × (found ≢ 0 → (128 ≤ found) × (found + 64 ≤ length (now log))) ⌝ }
+    ensures { λ r. ⌜ r ≡ inRanges (blockFrom (now (log .entry)) (now (area .entry)) found (at / 64)) (at % 64) home 4 ⌝ }
+{
+    if found == 0 {
+        return in_ranges(area, 64 * (8 + at / 64) + at % 64, home);
+    }
+    in_entry(log, found, at % 64, home)
+}
+
+// Whether block `i` of the list, which has the place `found`, is all zeros.
+fn is_zero(log: &[u8], area: &[u8], found: usize, i: usize) -> bool
+    requires { ⌜ (768 ≤ length (now area)) × (i < 4) × (found ≢ 0 → (128 ≤ found) × (found + 64 ≤ length (now log))) ⌝ }
+    ensures { λ r. ⌜ r ≡ same (blockFrom (now (log .entry)) (now (area .entry)) found i) (zeros 64) ⌝ }
+{
+    if found == 0 {
+        return zero_block(area, 64 * (8 + i));
+    }
+    let mut block = [0u8; 64];
+    shown::show_at(&mut block, log, found);
+    zero_block(&block, 0)
+}
+
+// The same for block `i`, where block `own` is known to be all zeros.
+fn other_zero(
+    log: &[u8],
+    area: &[u8],
+    state: &[u8],
+    kept: &[u8],
+    from: usize,
+    own: usize,
+    i: usize,
+) -> bool
+    requires { ⌜ Listed (now log) (now area) (stateOf (now state)) (now kept) from × (length (now state) ≡ 1024) × (12 ≤ stateOf (now state) .homes) × (i < 4) × (same (blockBy (now log) (now area) (stateOf (now state)) (now kept) from own) (zeros 64) ≡ true) ⌝ }
+    ensures { λ r. ⌜ r ≡ same (blockBy (now (log .entry)) (now (area .entry)) (stateOf (now (state .entry))) (now (kept .entry)) from i) (zeros 64) ⌝ }
+{
+    if i == own {
+        return true;
+    }
+    let found = place(log, state, kept, from, i);
+    is_zero(log, area, found, i)
+}
+
+// Whether the whole list is all zeros, where block `own` is.
+fn no_list(log: &[u8], area: &[u8], state: &[u8], kept: &[u8], from: usize, own: usize) -> bool
+    requires { ⌜ Listed (now log) (now area) (stateOf (now state)) (now kept) from × (length (now state) ≡ 1024) × (12 ≤ stateOf (now state) .homes) × (same (blockBy (now log) (now area) (stateOf (now state)) (now kept) from own) (zeros 64) ≡ true) ⌝ }
+    ensures { λ r. ⌜ r ≡ same (blocksBy (now (log .entry)) (now (area .entry)) (stateOf (now (state .entry))) (now (kept .entry)) from 4) (zeros 256) ⌝ }
+{
+    let mut i: usize = 0;
+    while i < 4 {
+        if !other_zero(log, area, state, kept, from, own, i) {
+            return false;
+        }
+        i += 1;
+    }
+    true
+}
+
+// Whether the ranges from byte `at` of the list on open a home, or there is no list, where a position is kept. The writer's own block is asked first.
+fn open_kept(
     log: &[u8],
     area: &[u8],
     state: &[u8],
@@ -34,50 +132,19 @@ fn own_ranges(
     home: u64,
 ) -> bool
     requires { ⌜ Listed (now log) (now area) (stateOf (now state)) (now kept) from × (length (now state) ≡ 1024) × (12 ≤ stateOf (now state) .homes) × (at < 256) × (at % 64 + 16 ≤ 64) ⌝ }
-    ensures { λ r. ⌜ r ≡ inRanges (blockBy (now (log .entry)) (now (area .entry)) (stateOf (now (state .entry))) (now (kept .entry)) from (at / 64)) (at % 64) home 4 ⌝ }
+    ensures { λ r. ⌜ r ≡ opens (stateOf (now (state .entry)) .homes) (blocksBy (now (log .entry)) (now (area .entry)) (stateOf (now (state .entry))) (now (kept .entry)) from 4) at home ⌝ }
 {
-    let i = at / 64;
-    let position = codec::number(kept, from + 8 * i, 8);
-    if !found(log, state, 8 + i as u64, position) {
-        return in_ranges(area, 64 * (8 + i) + at % 64, home);
+    let found = place(log, state, kept, from, at / 64);
+    if own_ranges(log, area, found, at, home) {
+        return true;
     }
-    let mut block = [0u8; 64];
-    shown::show_entry(&mut block, log, areas::log_groups(log.len()), position);
-    in_ranges(&block, at % 64, home)
-}
-
-// Whether block `i` of the list is all zeros.
-fn is_zero(log: &[u8], area: &[u8], state: &[u8], kept: &[u8], from: usize, i: usize) -> bool
-    requires { ⌜ Listed (now log) (now area) (stateOf (now state)) (now kept) from × (length (now state) ≡ 1024) × (12 ≤ stateOf (now state) .homes) × (i < 4) ⌝ }
-    ensures { λ r. ⌜ r ≡ same (blockBy (now (log .entry)) (now (area .entry)) (stateOf (now (state .entry))) (now (kept .entry)) from i) (zeros 64) ⌝ }
-{
-    let position = codec::number(kept, from + 8 * i, 8);
-    if !found(log, state, 8 + i as u64, position) {
-        return codec::all_zero(area, 64 * (8 + i), 64);
-    }
-    let mut block = [0u8; 64];
-    shown::show_entry(&mut block, log, areas::log_groups(log.len()), position);
-    codec::all_zero(&block, 0, 64)
-}
-
-// Whether the whole list is all zeros.
-fn no_list(log: &[u8], area: &[u8], state: &[u8], kept: &[u8], from: usize) -> bool
-    requires { ⌜ Listed (now log) (now area) (stateOf (now state)) (now kept) from × (length (now state) ≡ 1024) × (12 ≤ stateOf (now state) .homes) ⌝ }
-    ensures { λ r. ⌜ r ≡ same (blocksBy (now (log .entry)) (now (area .entry)) (stateOf (now (state .entry))) (now (kept .entry)) from 4) (zeros 256) ⌝ }
-{
-    if !is_zero(log, area, state, kept, from, 0) {
+    if !is_zero(log, area, found, at / 64) {
         return false;
     }
-    if !is_zero(log, area, state, kept, from, 1) {
-        return false;
-    }
-    if !is_zero(log, area, state, kept, from, 2) {
-        return false;
-    }
-    is_zero(log, area, state, kept, from, 3)
+    no_list(log, area, state, kept, from, at / 64)
 }
 
-// Whether the ranges from byte `at` of the list on open a home, or there is no list. The ranges are asked first: they are one block.
+// Whether the ranges from byte `at` of the list on open a home, or there is no list; D has room for one.
 pub fn open_to(
     log: &[u8],
     area: &[u8],
@@ -87,14 +154,14 @@ pub fn open_to(
     at: usize,
     home: u64,
 ) -> bool
-    requires { ⌜ Listed (now log) (now area) (stateOf (now state)) (now kept) from × (length (now state) ≡ 1024) × (at < 256) × (at % 64 + 16 ≤ 64) ⌝ }
+    requires { ⌜ Listed (now log) (now area) (stateOf (now state)) (now kept) from × (length (now state) ≡ 1024) × (12 ≤ stateOf (now state) .homes) × (at < 256) × (at % 64 + 16 ≤ 64) ⌝ }
     ensures { λ r. ⌜ r ≡ opens (stateOf (now (state .entry)) .homes) (blocksBy (now (log .entry)) (now (area .entry)) (stateOf (now (state .entry))) (now (kept .entry)) from 4) at home ⌝ }
 {
-    if area.len() < 768 {
+    if !none_kept(kept, from) {
+        return open_kept(log, area, state, kept, from, at, home);
+    }
+    if in_ranges(area, 512 + at, home) {
         return true;
     }
-    if own_ranges(log, area, state, kept, from, at, home) {
-        return true;
-    }
-    no_list(log, area, state, kept, from)
+    none_in_copy(area)
 }

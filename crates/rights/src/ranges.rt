@@ -3,6 +3,7 @@ ghost use mathlib.Core.Path.{_≡_};
 ghost use Prim.Native.Nat.{_+_, _≤_};
 ghost use lib.ListN.{length};
 ghost use Rattle.model.specs.Rights.{ofList, inRange, inRanges};
+ghost use Rattle.shown.specs.There.{entryFrom};
 
 // Whether a home is one of the list's own.
 pub fn of_list(home: u64) -> bool
@@ -41,4 +42,34 @@ pub fn in_ranges(s: &[u8], at: usize, home: u64) -> bool
         return true;
     }
     in_range(s, at + 12, home)
+}
+
+// Whether a home lies in the last range of the block that the entry with its block at index `place` of the log gives: it ends with the turn bit.
+fn in_last(log: &[u8], place: usize, home: u64) -> bool
+    requires { ⌜ (128 ≤ place) × (place + 64 ≤ length (now log)) ⌝ }
+    ensures { λ r. ⌜ r ≡ inRange (entryFrom (now (log .entry)) place) 60 home ⌝ }
+{
+    let mut block = [0u8; 64];
+    shown::show_at(&mut block, log, place);
+    in_range(&block, 60, home)
+}
+
+// Whether a home lies in one of the four ranges from index `o` on of that block: all but a block's last range stand in the log as they are.
+pub fn in_entry(log: &[u8], place: usize, o: usize, home: u64) -> bool
+    requires { ⌜ (128 ≤ place) × (place + 64 ≤ length (now log)) × (o + 16 ≤ 64) ⌝ }
+    ensures { λ r. ⌜ r ≡ inRanges (entryFrom (now (log .entry)) place) o home 4 ⌝ }
+{
+    if in_range(log, place + o, home) {
+        return true;
+    }
+    if in_range(log, place + (o + 4), home) {
+        return true;
+    }
+    if in_range(log, place + (o + 8), home) {
+        return true;
+    }
+    if o < 48 {
+        return in_range(log, place + (o + 12), home);
+    }
+    in_last(log, place, home)
 }

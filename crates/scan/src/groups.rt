@@ -15,7 +15,7 @@ pub fn tag_in(group: &[u8], k: usize, position: u64, base: u64, homes: u64) -> T
 }
 
 // The word of tag `k` of a group if its data block has the turn of the group, else that of no entry.
-fn word_there(group: &[u8], turn: u64, k: usize) -> u64
+pub fn word_there(group: &[u8], turn: u64, k: usize) -> u64
     requires { ⌜ (length (now group) ≡ 512) × (k < 7) ⌝ }
     ensures { λ r. ⌜ r ≡ wordThere (now (group .entry)) turn k ⌝ }
 {

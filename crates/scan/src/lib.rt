@@ -15,6 +15,7 @@ pub use groups::group_valid;
 pub use groups::tag_in;
 pub use groups::tag_there;
 pub use groups::tag_words;
+pub use groups::word_there;
 pub use slots::RingSlot;
 pub use slots::first_slot;
 pub use slots::next_slot;

@@ -3,28 +3,30 @@ use mathlib.Core.Path.{_≡_, refl, sym, ap, _∙_}
 use mathlib.Core.Bool.{Bool, true, false, cond, _&&_, and-false, false≢true}
 use mathlib.Core.List.{List}
 use mathlib.Core.Option.{Option, none, some}
-use Prim.Native.Nat.{ℕ, _+_, _-_, _*_, _/_, _%_, _≤_, _<_}
+use Prim.Native.Nat.{ℕ, _+_, _-_, _*_, _/_, _%_, _^_, _≤_, _<_}
+use native.Mathlib.Nat.{mod-lt}
 use native.Mathlib.Omega.{arith}
 use lib.Dec.{leb, ltb, eqb}
 use lib.ListN.{length, take, drop}
 use borrow.Author.Tests.{ltb-true, lt-ltb, le-ltb, leb-true, le-leb, lt-leb}
-use Rattle.model.specs.Bytes.{part, puts}
-use Rattle.model.specs.Layout.{groupAt, slotOf, indexOf, blockOf, blockAt, homeAt, turnOf, wordThere, groupValid, entryIn, entryAt}
-use Rattle.model.specs.Tag.{present, homeOf, readTag}
+use Rattle.model.specs.Bytes.{part, puts, number, same}
+use Rattle.model.specs.Layout.{groupAt, slotOf, indexOf, blockOf, blockAt, homeAt, turnOf, withTopBit, wordThere, groupMark, groupValid, entryIn, entryAt}
+use Rattle.model.specs.Tag.{present, homeOf, readTag, displaced}
 use Rattle.model.specs.State.{stateOf, nextPosition}
 use Rattle.model.specs.declared.State.{State}
 use Rattle.model.specs.declared.Tag.{Tag}
 use Rattle.model.specs.declared.Tag.the-variants.{Nothing, Entry, Closing}
 use Rattle.model.specs.Effects.{Given, groups, homes, tagsOf, liveTags, liveBase, blockOr, isThere}
 use Rattle.model.specs.Rights.{shownAt}
-use Rattle.model.proofs.bytes.ByteLaws.{puts-whole}
+use Rattle.model.proofs.bytes.ByteLaws.{puts-whole, length-puts, length-part}
 use Rattle.model.proofs.trace.ReplayLaws.{length-blockAt}
 use Rattle.model.proofs.strip.OrderLaws.{InOrder, next-within}
 use Rattle.answers.proofs.AnswerLaws.{Usable}
 use Rattle.scan.specs.declared.slots.RingSlot.{RingSlot}
 use Rattle.scan.specs.Slots.{Kept}
-use Rattle.scan.proofs.GroupLaws.{part-group}
-use Rattle.shown.specs.There.{tagsBy, thereBy, shownBy, Searchable}
+use Rattle.areas.proofs.GroupLaws.{entry-block}
+use Rattle.scan.proofs.GroupLaws.{part-group, valid-other, valid-range}
+use Rattle.shown.specs.There.{tagsBy, thereBy, shownBy, placeOf, placeBy, tagFrom, entryFrom, Searchable}
 
 -- ---- what a usable store gives the search
 
@@ -103,6 +105,62 @@ module _ (log : List ℕ) (st : State) (home p : ℕ) where
       second true false c d e = e
       second false b c d e = absurd (false≢true e)
 
+-- ---- the group's head: its number is in range
+
+pub head-valid : (group log : List ℕ) (st : State) (p : ℕ) (v : Bool) → Searchable log st → 7 * st .start ≤ p → p < nextPosition st
+    → v ≡ (same (part group 0 2) groupMark && eqb (number 6 group (0 + 2)) (p / 7 % 2 ^ 48)) → v ≡ groupValid group (st .groups) (st .start) (p / 7)
+head-valid group log st p true s h k e =
+    sym (lt-ltb (p / 7) (st .start + st .groups) (omega (arith, s .within)))
+    ∙ valid-range group (st .groups) (st .start) (p / 7) (omega (arith, s .low, s .most)) (sym e) (omega arith)
+head-valid group log st p false s h k e = valid-other group (st .groups) (st .start) (p / 7) (omega (arith, s .low, s .most)) (sym e)
+
+-- ---- the block's place
+
+entry-from : (log : List ℕ) (groups p at : ℕ) → at ≡ 64 + 512 * (p / 7 % groups) + (64 + 64 * (p % 7)) → entryFrom log at ≡ blockAt log groups p
+unfolding entryFrom tagFrom blockAt slotOf indexOf
+entry-from log groups p at e =
+    let t : 64 + (at - 64) / 512 * 512 + (at - 64) % 512 / 8 ≡ 64 + 512 * (p / 7 % groups) + (8 + 8 * (p % 7)) = omega arith in
+    rw (t, e) (entry-block log (p / 7 % groups) (p % 7) _ (omega arith) refl)
+
+module _ (log : List ℕ) (st : State) (home p : ℕ) (b : Bool) (e : b ≡ thereBy log st home p) where
+  pub place-none : b ≡ false → 0 ≡ placeBy log st home p
+  unfolding placeBy
+  place-none f = rw (← e, f)
+
+  pub place-some : b ≡ true → 64 + 512 * (p / 7 % st .groups) + (64 + 64 * (p % 7)) ≡ placeBy log st home p
+  unfolding placeBy placeOf
+  place-some f = rw (← e, f)
+
+-- what a place says of the block that is shown
+module _ (log area : List ℕ) (st : State) (home p at : ℕ) (e : at ≡ placeBy log st home p) where
+  pub shown-home : at ≡ 0 → shownBy log area st home p ≡ homeAt area home
+  unfolding placeBy placeOf shownBy
+  shown-home z = go (thereBy log st home p) e
+    where
+      go : (b : Bool) → at ≡ cond b (64 + 512 * (p / 7 % st .groups) + (64 + 64 * (p % 7))) 0
+          → cond b (blockAt log (st .groups) p) (homeAt area home) ≡ homeAt area home
+      go true f = absurd (omega arith)
+      go false f = refl
+
+  pub place-fits : Searchable log st → (at ≡ 0 → ⊥) → (128 ≤ at) × (at + 64 ≤ length log)
+  unfolding placeBy placeOf
+  place-fits s z = go (thereBy log st home p) e
+    where
+      go : (b : Bool) → at ≡ cond b (64 + 512 * (p / 7 % st .groups) + (64 + 64 * (p % 7))) 0 → (128 ≤ at) × (at + 64 ≤ length log)
+      go true f =
+          let l : p / 7 % st .groups < st .groups = mod-lt (p / 7) (omega (arith, s .least)) in
+          (omega arith, omega (arith, l, s .long))
+      go false f = absurd (z f)
+
+  pub shown-at : (at ≡ 0 → ⊥) → shownBy log area st home p ≡ entryFrom log at
+  unfolding placeBy placeOf shownBy
+  shown-at z = go (thereBy log st home p) e
+    where
+      go : (b : Bool) → at ≡ cond b (64 + 512 * (p / 7 % st .groups) + (64 + 64 * (p % 7))) 0
+          → cond b (blockAt log (st .groups) p) (homeAt area home) ≡ entryFrom log at
+      go true f = sym (entry-from log (st .groups) p at f)
+      go false f = absurd (z f)
+
 -- ---- the block
 
 pub entry-copied : (block log : List ℕ) (groups p : ℕ) → length block ≡ 64 → length log ≡ 64 + 512 * groups → 0 < groups
@@ -110,6 +168,12 @@ pub entry-copied : (block log : List ℕ) (groups p : ℕ) → length block ≡ 
 unfolding blockAt slotOf indexOf
 entry-copied block log groups p e l h =
     puts-whole block (blockOf (groupAt log (p / 7 % groups)) (p % 7)) (omega (arith, length-blockAt log groups p h l))
+
+pub entry-shown : (block log : List ℕ) (at bit : ℕ) → length block ≡ 64 → at + 64 ≤ length log → bit ≡ displaced (number 8 log (tagFrom at))
+    → puts block 0 (withTopBit (part log at 64) bit) ≡ entryFrom log at
+unfolding entryFrom withTopBit
+entry-shown block log at bit e l q =
+    rw q (puts-whole block _ (rw (length-puts, length-part log at 64 l) e))
 
 -- ---- the same by what a call is lent
 

@@ -2,11 +2,12 @@
 use mathlib.Core.Path.{_≡_}
 use mathlib.Core.Bool.{Bool, cond, _&&_}
 use mathlib.Core.List.{List}
-use Prim.Native.Nat.{ℕ, _+_, _*_, _^_, _≤_, _<_}
+use Prim.Native.Nat.{ℕ, _+_, _-_, _*_, _/_, _%_, _^_, _≤_, _<_}
 use lib.Dec.{eqb, leb, ltb}
 use lib.ListN.{length}
-use Rattle.model.specs.Tag.{present, homeOf}
-use Rattle.model.specs.Layout.{entryAt, blockAt, homeAt}
+use Rattle.model.specs.Bytes.{part, number}
+use Rattle.model.specs.Tag.{present, homeOf, displaced}
+use Rattle.model.specs.Layout.{entryAt, blockAt, homeAt, withTopBit}
 use Rattle.model.specs.State.{nextPosition}
 use Rattle.model.specs.declared.State.{State}
 use Rattle.model.specs.declared.Tag.{Tag}
@@ -23,6 +24,20 @@ thereBy log st home p =
 -- the block that the home shows
 unfoldable pub shownBy : List ℕ → List ℕ → State → ℕ → ℕ → List ℕ
 shownBy log area st home p = cond (thereBy log st home p) (blockAt log (st .groups) p) (homeAt area home)
+
+-- where the block of a position lies in the log, and that of the entry for a home at the position kept for it, 0 for none
+unfoldable pub placeOf : ℕ → ℕ → ℕ
+placeOf groups p = 64 + 512 * (p / 7 % groups) + (64 + 64 * (p % 7))
+
+unfoldable pub placeBy : List ℕ → State → ℕ → ℕ → ℕ
+placeBy log st home p = cond (thereBy log st home p) (placeOf (st .groups) p) 0
+
+-- where the tag of the block at an index lies, and the block that the two give
+unfoldable pub tagFrom : ℕ → ℕ
+tagFrom at = 64 + (at - 64) / 512 * 512 + (at - 64) % 512 / 8
+
+unfoldable pub entryFrom : List ℕ → ℕ → List ℕ
+entryFrom log at = withTopBit (part log at 64) (displaced (number 8 log (tagFrom at)))
 
 -- a log copy and the numbers of a strip in order
 pub record Searchable (log : List ℕ) (st : State) : Type 0 where

@@ -3,17 +3,18 @@ use model::State;
 use model::Tag;
 ghost use mathlib.Core.Path.{_≡_};
 ghost use mathlib.Core.Bool.{_&&_};
-ghost use Prim.Native.Nat.{_+_, _*_, _<_};
+ghost use Prim.Native.Nat.{_+_, _*_, _<_, _≤_};
 ghost use lib.Dec.{eqb};
 ghost use lib.ListN.{length};
-ghost use Rattle.model.specs.Tag.{present, homeOf};
+ghost use Rattle.model.specs.Tag.{present, homeOf, displaced};
+ghost use Rattle.model.specs.Bytes.{number};
 ghost use Rattle.model.specs.Layout.{blockAt};
-ghost use Rattle.model.specs.State.{nextPosition};
-ghost use Rattle.shown.specs.There.{Searchable, tagsBy, thereBy};
+ghost use Rattle.model.specs.State.{stateOf, nextPosition};
+ghost use Rattle.shown.specs.There.{Searchable, tagsBy, thereBy, placeBy, tagFrom, entryFrom};
 
-// Whether an entry for a home stands at a position below the next one.
+// Whether an entry for a home stands at a position of the log: its group's number is in range.
 fn entry_there(log: &[u8], st: State, home: u64, position: u64) -> bool
-    requires { ⌜ Searchable (now log) st × (position < nextPosition st) ⌝ }
+    requires { ⌜ Searchable (now log) st × (position < nextPosition st) × (7 * st .start ≤ position) ⌝ }
     ensures { λ r. ⌜ r ≡ (present (tagsBy (now (log .entry)) st position) && eqb (homeOf (tagsBy (now (log .entry)) st position)) home) ⌝ }
 {
     let number = position / 7;
@@ -21,7 +22,7 @@ fn entry_there(log: &[u8], st: State, home: u64, position: u64) -> bool
     let at = scan::first_slot(number, st.groups);
     let from = 64 + 512 * at.slot as usize;
     let group = &log[from..from + 512];
-    if !scan::group_valid(group, st.groups, st.start, number) {
+    if !codec::has_group_head(group, 0, number) {
         return false;
     }
     match scan::tag_there(group, at.turn, k, position, 7 * st.start, st.homes) {
@@ -32,7 +33,7 @@ fn entry_there(log: &[u8], st: State, home: u64, position: u64) -> bool
 }
 
 // Whether an entry for a home is at the position kept for it, if that lies from the start of the log to below the next position.
-pub fn is_there(log: &[u8], st: State, home: u64, position: u64) -> bool
+fn is_there(log: &[u8], st: State, home: u64, position: u64) -> bool
     requires { ⌜ Searchable (now log) st ⌝ }
     ensures { λ r. ⌜ r ≡ thereBy (now (log .entry)) st home position ⌝ }
 {
@@ -43,6 +44,45 @@ pub fn is_there(log: &[u8], st: State, home: u64, position: u64) -> bool
         return false;
     }
     entry_there(log, st, home, position)
+}
+
+// Where the block of that entry lies in the log, 0 where there is none.
+fn place_by(log: &[u8], st: State, home: u64, position: u64) -> usize
+    requires { ⌜ Searchable (now log) st ⌝ }
+    ensures { λ r. ⌜ r ≡ placeBy (now (log .entry)) st home position ⌝ }
+{
+    if !is_there(log, st, home, position) {
+        return 0;
+    }
+    let k = (position % 7) as usize;
+    let at = scan::first_slot(position / 7, st.groups);
+    64 + 512 * at.slot as usize + (64 + 64 * k)
+}
+
+// The same by the strip. Called by one name from everywhere, so that of its numbers only those that are compared are read.
+pub fn place(log: &[u8], state: &[u8], home: u64, position: u64) -> usize
+    requires { ⌜ Searchable (now log) (stateOf (now state)) × (length (now state) ≡ 1024) ⌝ }
+    ensures { λ r. ⌜ r ≡ placeBy (now (log .entry)) (stateOf (now (state .entry))) home position ⌝ }
+{
+    place_by(log, strip::state(state), home, position)
+}
+
+// The bit that the turn bit of the block at index `at` displaced.
+pub fn displaced_at(log: &[u8], at: usize) -> u64
+    requires { ⌜ (128 ≤ at) × (at + 64 ≤ length (now log)) ⌝ }
+    ensures { λ r. ⌜ (r ≡ displaced (number 8 (now (log .entry)) (tagFrom at))) × (r < 2) ⌝ }
+{
+    let from = at - 64;
+    codec::displaced(codec::number(log, 64 + from / 512 * 512 + from % 512 / 8, 8))
+}
+
+// Copies the block that the entry with its block at index `at` gives.
+pub fn show_at(block: &mut [u8], log: &[u8], at: usize)
+    requires { ⌜ (length (now block) ≡ 64) × (128 ≤ at) × (at + 64 ≤ length (now log)) ⌝ }
+    ensures { λ _. ⌜ now (block .exit) ≡ entryFrom (now (log .entry)) at ⌝ }
+{
+    let bit = displaced_at(log, at);
+    codec::copy_with_top_bit(block, 0, log, at, bit)
 }
 
 // Copies the block that the entry at a position gives.

@@ -1,6 +1,6 @@
 -- Question 2 test by test: one test that fails refuses the strip, and all that hold make it one in order. Assumes nothing.
 use mathlib.Core.Path.{_≡_, refl, sym, _∙_}
-use mathlib.Core.Bool.{Bool, true, false, not, _&&_, and-false}
+use mathlib.Core.Bool.{Bool, true, false, not, _&&_, and-false, and-true, or-true}
 use mathlib.Core.Logic.{_≢_}
 use mathlib.Core.List.{List}
 use Prim.Native.Nat.{ℕ, zero, suc, _+_, _*_, _≤_, _<_}
@@ -118,6 +118,11 @@ module _ (s : List ℕ) (st : State) (w : ℕ) where
   unfolding writerAtInOrder promiseInOrder
   idle-held h k b e = rw (← h, ← k, ← e)
 
+  -- nothing is promised
+  pub record-held : (b : Bool) → b ≡ writerInOrder st (writerOf s w) → promiseOf s w ≡ 0 → b ≡ writerAtInOrder s st w
+  unfolding writerAtInOrder promiseInOrder
+  record-held b e z = rw (z, or-true, and-true, ← e)
+
 module _ (s : List ℕ) (st : State) where
   pub writers-none : true ≡ writersInOrder s st 0
   unfolding writersInOrder
@@ -155,6 +160,10 @@ module _ (s : List ℕ) (st : State) (groups homes : ℕ) (e : st ≡ stateOf s)
   pub too-many : places st < promised s 8 → false ≡ inOrder s groups homes
   unfolding inOrder
   too-many h = rw (← e, lt-leb (promised s 8) (places st) h, and-false)
+
+  pub by-records : st .groups ≡ groups → st .homes ≡ homes → true ≡ numbersInOrder st → promised s 8 ≡ 0 → writersInOrder s st 8 ≡ inOrder s groups homes
+  unfolding inOrder
+  by-records g h k p = rw (← e, eq-eqb (st .groups) groups g, eq-eqb (st .homes) homes h, ← k, le-leb (promised s 8) (places st) (omega (arith, p)))
 
   pub by-writers : st .groups ≡ groups → st .homes ≡ homes → true ≡ numbersInOrder st → promised s 8 ≤ places st
       → writersInOrder s st 8 ≡ inOrder s groups homes

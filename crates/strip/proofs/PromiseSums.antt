@@ -10,8 +10,10 @@ use native.Mathlib.Omega.{arith}
 use lib.Dec.{leb, ltb, eqb}
 use borrow.Author.Tests.{le-leb, lt-leb, eq-eqb, ne-eqb}
 use Rattle.model.specs.declared.State.{State}
-use Rattle.model.specs.State.{stateOf, nextPosition, promiseOf, promised, places, freePlaces}
+use Rattle.model.specs.Bytes.{number}
+use Rattle.model.specs.State.{stateOf, nextPosition, promiseOffset, promiseOf, promised, places, freePlaces}
 use Rattle.model.specs.Questions.{roomFor, mayPromise, keepsPromises}
+use Rattle.codec.proofs.JoinLaws.{number-join}
 use Rattle.strip.specs.Order.{GroupsInOrder}
 
 -- the next position lies in the log, or at its end
@@ -38,6 +40,34 @@ sum-none s = refl
 pub sum-turn : (s : List ℕ) (w sum n : ℕ) → sum ≡ promised s w → n ≡ promiseOf s w → sum + n ≡ promised s (w + 1)
 unfolding promised
 sum-turn s w sum n e f = rw (add-one w, e, f)
+
+-- promises that are zero as two words
+module _ (s : List ℕ) where
+  quarters : (at : ℕ) → number 8 s at ≡ 0
+      → (number 2 s at ≡ 0) × (number 2 s (at + 2) ≡ 0) × (number 2 s (at + 4) ≡ 0) × (number 2 s (at + 6) ≡ 0)
+  quarters at e = (
+    omega (arith, e, number-join 2 6 s at),
+    omega (arith, e, number-join 2 6 s at, number-join 2 4 s (at + 2)),
+    omega (arith, e, number-join 4 4 s at, number-join 2 2 s (at + 4)),
+    omega (arith, e, number-join 6 2 s at),
+  )
+
+  pub both-zero : number 8 s 72 ≡ 0 → number 8 s 80 ≡ 0 → (w : ℕ) → w < 8 → promiseOf s w ≡ 0
+  unfolding promiseOf promiseOffset
+  both-zero e f zero h = quarters 72 e .0
+  both-zero e f (suc zero) h = quarters 72 e .1
+  both-zero e f (suc (suc zero)) h = quarters 72 e .2
+  both-zero e f (suc (suc (suc zero))) h = quarters 72 e .3
+  both-zero e f (suc (suc (suc (suc zero)))) h = quarters 80 f .0
+  both-zero e f (suc (suc (suc (suc (suc zero))))) h = quarters 80 f .1
+  both-zero e f (suc (suc (suc (suc (suc (suc zero)))))) h = quarters 80 f .2
+  both-zero e f (suc (suc (suc (suc (suc (suc (suc zero))))))) h = quarters 80 f .3
+  both-zero e f (suc (suc (suc (suc (suc (suc (suc (suc w)))))))) h = absurd (omega arith)
+
+  pub sum-zero : (n : ℕ) → ((w : ℕ) → w < n → promiseOf s w ≡ 0) → promised s n ≡ 0
+  unfolding promised
+  sum-zero zero h = refl
+  sum-zero (suc n) h = rw (sum-zero n (λ w l. h w (omega arith)), h n (omega arith))
 
 pub free-none : (s : List ℕ) (st : State) (all taken : ℕ) → st ≡ stateOf s → all ≡ places st → taken ≡ promised s 8 → all < taken → 0 ≡ freePlaces s
 unfolding freePlaces

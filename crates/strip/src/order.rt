@@ -1,6 +1,7 @@
 // Whether the state strip is in order (question 2).
 use crate::fields::next_position;
 use crate::fields::state;
+use crate::promises::none_promised;
 use crate::promises::places;
 use crate::promises::promise;
 use crate::promises::promised;
@@ -9,9 +10,9 @@ use crate::writers::writer;
 use model::State;
 use model::Writer;
 ghost use mathlib.Core.Path.{_≡_};
-ghost use Prim.Native.Nat.{_+_, _*_, _^_, _≤_, _<_};
+ghost use Prim.Native.Nat.{ℕ, _+_, _*_, _^_, _≤_, _<_};
 ghost use lib.ListN.{length};
-ghost use Rattle.model.specs.State.{numbersInOrder, writerInOrder, writerAtInOrder, writersInOrder, inOrder};
+ghost use Rattle.model.specs.State.{promiseOf, numbersInOrder, writerInOrder, writerAtInOrder, writersInOrder, inOrder};
 ghost use Rattle.strip.specs.Order.{GroupsInOrder, roundInOrder};
 
 // The highest group number that a log may start at.
@@ -95,11 +96,11 @@ pub fn writer_in_order(st: State, r: Writer) -> bool
     requires { ⌜ (7 * st .start < 2 ^ 64) × (7 * st .next + st .filled < 2 ^ 64) ⌝ }
     ensures { λ b. ⌜ b ≡ writerInOrder st r ⌝ }
 {
-    if 3 < r.mode {
-        return false;
-    }
     if r.mode < 2 {
         return true;
+    }
+    if 3 < r.mode {
+        return false;
     }
     if st.homes <= r.home {
         return false;
@@ -153,6 +154,21 @@ fn writers_in_order(s: &[u8], st: State) -> bool
     true
 }
 
+// The same where nothing is promised: an idle writer is passed by its mode alone.
+fn records_in_order(s: &[u8], st: State) -> bool
+    requires { ⌜ (length (now s) ≡ 1024) × (7 * st .start < 2 ^ 64) × (7 * st .next + st .filled < 2 ^ 64) × ((w : ℕ) → w < 8 → promiseOf (now s) w ≡ 0) ⌝ }
+    ensures { λ r. ⌜ r ≡ writersInOrder (now (s .entry)) st 8 ⌝ }
+{
+    let mut w: usize = 0;
+    while w != 8 {
+        if !writer_in_order(st, writer(s, w)) {
+            return false;
+        }
+        w += 1;
+    }
+    true
+}
+
 // Whether the strip is in order for a log of `groups` groups and `homes` homes.
 pub fn in_order(s: &[u8], groups: u64, homes: u64) -> bool
     requires { ⌜ (length (now s) ≡ 1024) × (groups ≤ 1024) × (homes ≤ 65535) ⌝ }
@@ -167,6 +183,9 @@ pub fn in_order(s: &[u8], groups: u64, homes: u64) -> bool
     }
     if !numbers_in_order(st) {
         return false;
+    }
+    if none_promised(s) {
+        return records_in_order(s, st);
     }
     if places(st) < promised(s) {
         return false;

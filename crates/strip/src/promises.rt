@@ -2,7 +2,8 @@
 use crate::fields::next_position;
 use model::State;
 ghost use mathlib.Core.Path.{_≡_};
-ghost use Prim.Native.Nat.{_^_, _<_};
+ghost use mathlib.Core.Bool.{true};
+ghost use Prim.Native.Nat.{ℕ, _^_, _<_};
 ghost use lib.ListN.{length};
 ghost use Rattle.model.specs.State.{stateOf, promiseOf, setPromise, promised, places, freePlaces, promiseLeft};
 ghost use Rattle.model.specs.Questions.{roomFor, mayPromise, keepsPromises};
@@ -36,8 +37,19 @@ pub fn set_promise(s: &mut [u8], w: usize, n: u64)
     codec::put_number(s, 72 + 2 * w, 2, n)
 }
 
-// How many places are promised to the eight writers together.
-pub fn promised(s: &[u8]) -> u64
+// Whether nothing is promised to any writer: the eight promises are zero as two words.
+pub fn none_promised(s: &[u8]) -> bool
+    requires { ⌜ length (now s) ≡ 1024 ⌝ }
+    ensures { λ b. ⌜ (b ≡ true → (w : ℕ) → w < 8 → promiseOf (now (s .entry)) w ≡ 0) ⌝ }
+{
+    if codec::number(s, 72, 8) != 0 {
+        return false;
+    }
+    codec::number(s, 80, 8) == 0
+}
+
+// How many places are promised to the eight writers together, one after the other.
+fn promised_each(s: &[u8]) -> u64
     requires { ⌜ length (now s) ≡ 1024 ⌝ }
     ensures { λ r. ⌜ r ≡ promised (now (s .entry)) 8 ⌝ }
 {
@@ -48,6 +60,17 @@ pub fn promised(s: &[u8]) -> u64
         w += 1;
     }
     sum
+}
+
+// How many places are promised to the eight writers together, mostly none.
+pub fn promised(s: &[u8]) -> u64
+    requires { ⌜ length (now s) ≡ 1024 ⌝ }
+    ensures { λ r. ⌜ r ≡ promised (now (s .entry)) 8 ⌝ }
+{
+    if none_promised(s) {
+        return 0;
+    }
+    promised_each(s)
 }
 
 // The places from the next position to the end of the last group that the log may have.

@@ -12,6 +12,7 @@ mod writers;
 use second::layout::{header, Shape};
 use second::lent::{Kind, Lent};
 use second::literal::{committed, good_header, present, replay, trim_start, Transaction};
+use second::usage::Usage;
 use second::Answer;
 use std::collections::BTreeMap;
 
@@ -53,6 +54,33 @@ fn promised(state: &[u8]) -> i128 {
 /// The places from the next position on.
 fn places(state: &[u8]) -> i128 {
     7 * (big(state, 16) + big(state, 0)) - (7 * big(state, 24) + big(state, 32))
+}
+
+/// What fills the log, by the literal rule.
+pub fn usage(lent: &Lent) -> Usage {
+    let refused = |code| Usage { code, ..Usage::default() };
+    if !lengths(Kind::Confirm, lent) {
+        return refused(1);
+    }
+    if !in_order(lent) {
+        return refused(2);
+    }
+    let s = &lent.state;
+    let (start, homes) = (number(s, 16), lent.data.len() as u64 / 64);
+    let next = 7 * number(s, 24) + number(s, 32);
+    let list = committed(&present(&lent.log, homes, start, Some(next)), start);
+    let mut live: u64 = list.iter().map(|transaction| transaction.entries.len() as u64).sum();
+    let (mut holder, mut first) = (8, 0);
+    for writer in (0..8).filter(|writer| number(s, 128 + 96 * writer) == 3) {
+        let (from, count) = (number(s, 144 + 96 * writer), number(s, 152 + 96 * writer));
+        live += count;
+        if holder == 8 || from < first {
+            (holder, first) = (writer as u64, from);
+        }
+    }
+    let free = places(s) as u64;
+    let dead = (next - 7 * start).saturating_sub(live);
+    Usage { code: 0, live, dead, free, promised: promised(s) as u64, holder, first }
 }
 
 /// Question 2, in signed numbers that cannot wrap.

@@ -23,17 +23,14 @@ data-homes-requires c κs = search needs
 returns-3 : tie.Need-returns-3
 returns-3 c = home-refused _ (both-only _ _ _ _ _ _ _ _ _ ∙ sym (c .before .before .before .before .in-use-both .ensures) ∙ c .before .before .before .if1 .left) (omega arith) (omega arith)
 
-state-requires : tie.Need-state-requires
-state-requires c κs = let u = both-usable _ (sym (c .before .before .before .before .in-use-both .ensures) ∙ c .before .before .before .if1 .left) in u .0 .state-length
-
 may-read-requires : tie.Need-may-read-requires
-may-read-requires c κs = let u = both-usable _ (sym (c .before .before .before .before .before .in-use-both .ensures) ∙ c .before .before .before .before .if1 .left) in (u .0, c .state .ensures, omega arith, u .2)
+may-read-requires c κs = let u = both-usable _ (sym (c .before .before .before .before .in-use-both .ensures) ∙ c .before .before .before .if1 .left) in (u .0, omega arith, u .2)
 
 returns-4 : tie.Need-returns-4
-returns-4 c = right-refused _ (both-only _ _ _ _ _ _ _ _ _ ∙ sym (c .before .before .before .before .before .before .before .in-use-both .ensures) ∙ c .before .before .before .before .before .before .if1 .left) (omega arith) (omega arith) _ (c .before .may-read .ensures ∙ sym (read-only _ _ _ _ _ _ _ _)) (c .if4 .taken)
+returns-4 c = right-refused _ (both-only _ _ _ _ _ _ _ _ _ ∙ sym (c .before .before .before .before .before .before .in-use-both .ensures) ∙ c .before .before .before .before .before .if1 .left) (omega arith) (omega arith) _ (c .before .may-read .ensures ∙ sym (read-only _ _ _ _ _ _ _ _)) (c .if4 .taken)
 
 returns-5 : tie.Need-returns-5
-returns-5 c = none-refused _ (both-only _ _ _ _ _ _ _ _ _ ∙ sym (c .before .before .before .before .before .before .before .in-use-both .ensures) ∙ c .before .before .before .before .before .before .if1 .left) (omega arith) (omega arith) _ (c .before .may-read .ensures ∙ sym (read-only _ _ _ _ _ _ _ _)) (c .if4 .left)
+returns-5 c = none-refused _ (both-only _ _ _ _ _ _ _ _ _ ∙ sym (c .before .before .before .before .before .before .in-use-both .ensures) ∙ c .before .before .before .before .before .if1 .left) (omega arith) (omega arith) _ (c .before .may-read .ensures ∙ sym (read-only _ _ _ _ _ _ _ _)) (c .if4 .left)
 
 pub judge-spec : {M : Type 1} → statement M
 judge-spec =
@@ -44,7 +41,6 @@ judge-spec =
     returns-2
     data-homes-requires
     returns-3
-    state-requires
     may-read-requires
     returns-4
     returns-5)

@@ -18,7 +18,7 @@ returns-2 : tie.Need-returns-2
 returns-2 c = kept-past _ _ _ _ _ (c .before .next-position .ensures) (omega (arith, c .if2 .taken))
 
 entry-there-requires : tie.Need-entry-there-requires
-entry-there-requires c κs = (c .before .before .before .before .before .pre, omega (arith, c .if2 .left, c .before .next-position .ensures))
+entry-there-requires c κs = (c .before .before .before .before .before .pre, omega (arith, c .if2 .left, c .before .next-position .ensures), omega (arith, c .before .before .if1 .left))
 
 returns-3 : tie.Need-returns-3
 returns-3 c = kept-within _ _ _ _ _ _ (c .before .before .next-position .ensures) (omega (arith, c .before .before .before .if1 .left)) (omega (arith, c .before .if2 .left)) (c .entry-there .ensures)

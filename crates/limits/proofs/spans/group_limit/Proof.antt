@@ -13,20 +13,17 @@ use Rattle.limits.proofs.spans.group_limit.Statement.{statement}
 use Rattle.limits.proofs.spans.group_limit.Tie as tie
 
 abbrev Inv-loop : tie.InvT-loop
-Inv-loop group groups homes start n turn m limit words base lowest₀ position₀ k₀ lowest position k =
+Inv-loop group groups homes start n turn m limit base lowest₀ position₀ k₀ lowest position k =
     (lowest ≡ lowered (entryIn group groups homes start) (7 * n) k limit) × (position ≡ 7 * n + k) × (k ≤ m)
 
 abbrev μ-loop : tie.MeasureT-loop
-μ-loop group groups homes start n turn m limit words base lowest₀ position₀ k₀ lowest position k = m - k
+μ-loop group groups homes start n turn m limit base lowest₀ position₀ k₀ lowest position k = m - k
 
 group-valid-requires : tie.Need-group-valid-requires Inv-loop μ-loop
 group-valid-requires c κs = omega arith
 
 returns : tie.Need-returns Inv-loop μ-loop
 returns c = group-hole _ span-quiet _ _ _ _ _ _ _ (sym (c .before .group-valid .ensures) ∙ not-true _ (c .if1 .taken)) (omega arith)
-
-tag-words-requires : tie.Need-tag-words-requires Inv-loop μ-loop
-tag-words-requires c κs = omega arith
 
 mul-base : tie.Need-mul-base Inv-loop μ-loop
 mul-base c = omega arith
@@ -38,14 +35,8 @@ loop-holds : tie.Need-loop-holds Inv-loop μ-loop
 unfolding over
 loop-holds c = (refl, omega arith, omega arith)
 
-mul-word-limit : tie.Need-mul-word-limit Inv-loop μ-loop
-mul-word-limit c = omega arith
-
-array-read-word-limit : tie.Need-array-read-word-limit Inv-loop μ-loop
-array-read-word-limit c = omega arith
-
-word-limit-requires : tie.Need-word-limit-requires Inv-loop μ-loop
-word-limit-requires c κs = tt
+tag-limit-requires : tie.Need-tag-limit-requires Inv-loop μ-loop
+tag-limit-requires c κs = (omega arith, omega arith)
 
 add-position : tie.Need-add-position Inv-loop μ-loop
 add-position c = omega arith
@@ -60,9 +51,9 @@ loop-again : tie.Need-loop-again Inv-loop μ-loop
 loop-again c =
     let l = c .before .before in
     let w = l .before in
-    let g : groupValid _ _ _ _ ≡ true = sym (w .before .before .group-valid .ensures) ∙ not-false _ (w .before .if1 .left) in (
-      group-turn (λ p. spanLimit) _ _ _ _ _ _ _ _ _ _ _ _ g (w .before .before .before .before .pre .4) (omega arith) (l .loop .inv .1) (w .tag-words .ensures (l .loop .k) (omega arith))
-          (c .word-limit .ensures) (l .loop .inv .0),
+    let g : groupValid _ _ _ _ ≡ true = sym (w .before .group-valid .ensures) ∙ not-false _ (w .if1 .left) in (
+      group-turn (λ p. spanLimit) _ _ _ _ _ _ _ _ _ _ _ _ g (w .before .before .before .pre .4) (omega arith) (l .loop .inv .1) refl
+          (c .tag-limit .ensures) (l .loop .inv .0),
       omega arith,
       omega arith,
     )
@@ -70,7 +61,7 @@ loop-again c =
 returns-2 : tie.Need-returns-2 Inv-loop μ-loop
 returns-2 c =
     let l = c .before .loop in
-    let e : l .k ≡ c .before .before .before .before .before .before .args .m = omega arith in
+    let e : l .k ≡ c .before .before .before .before .before .args .m = omega arith in
     rw (← e) (l .inv .0)
 
 pub group-limit-spec : {M : Type 1} → statement M
@@ -81,13 +72,10 @@ group-limit-spec =
     μ-loop
     group-valid-requires
     returns
-    tag-words-requires
     mul-base
     mul-position
     loop-holds
-    mul-word-limit
-    array-read-word-limit
-    word-limit-requires
+    tag-limit-requires
     add-position
     add-k
     loop-less

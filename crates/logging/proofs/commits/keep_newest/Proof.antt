@@ -15,7 +15,7 @@ first-for-requires c κs = search needs
 
 keep-entries-requires : tie.Need-keep-entries-requires
 keep-entries-requires c κs =
-    (stretch-at _ _ _ _ _ (c .before .before .next-position .ensures) (c .before .first-for .ensures) (c .before .before .before .before .before .pre .0), c .before .before .before .before .before .pre .1)
+    (stretch-at _ _ _ _ _ (c .before .before .next-position .ensures) (c .before .first-for .ensures) (c .before .before .before .before .before .pre .0), c .before .before .before .before .before .pre .1, c .before .before .before .before .before .pre .2)
 
 same-length : tie.Need-same-length
 same-length c = search needs

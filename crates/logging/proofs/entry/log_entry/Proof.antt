@@ -2,14 +2,13 @@
 use mathlib.Core.Path.{refl, ap, _∙_}
 use native.Mathlib.Omega.{arith}
 use lib.ListN.{length}
-use Rattle.model.proofs.steps.HeldLogs.{held-size}
-use Rattle.model.proofs.invariant.LogStep.{length-entered}
 use Rattle.areas.proofs.UnusedLaws.{turn-quotient}
 use Rattle.logging.proofs.CallLaws.{slot-fits}
 use Rattle.logging.proofs.LogLaws.{held-lent, kept, handed}
 use borrow.Author.Needs.{needs}
 use Rattle.logging.proofs.entry.log_entry.Statement.{statement}
 use Rattle.logging.proofs.entry.log_entry.Tie as tie
+use Rattle.model.proofs.strip.LoggingLaws.{held-size, length-entered}
 
 rem-slot : tie.Need-rem-slot
 rem-slot c = search needs

@@ -21,38 +21,38 @@ data-homes-requires c κs = search needs
 returns-3 : tie.Need-returns-3
 returns-3 c = let a = c .before .before .before .before .before .before .before .before .before .before .args in home-no _ _ _ _ _ (a .writer) (a .home) _ (c .before .before .before .before .in-use-block .ensures) (c .before .before .before .if1 .left) _ (omega arith) (c .before .data-homes .ensures) (omega arith)
 
-state-requires : tie.Need-state-requires
-state-requires c κs = let a = c .before .before .before .before .before .before .before .before .before .before .args in let u = lent-use (a .log .now) (a .area .now) (a .state .now) (a .block .now) (a .batch .now) (a .writer) (a .home) _ (c .before .before .before .before .in-use-block .ensures) (c .before .before .before .if1 .left) in u .state-length
-
 may-store-requires : tie.Need-may-store-requires
-may-store-requires c κs = let a = c .before .before .before .before .before .before .before .before .before .before .before .args in let u = lent-use (a .log .now) (a .area .now) (a .state .now) (a .block .now) (a .batch .now) (a .writer) (a .home) _ (c .before .before .before .before .before .in-use-block .ensures) (c .before .before .before .before .if1 .left) in (u, c .state .ensures, omega arith)
+may-store-requires c κs = let a = c .before .before .before .before .before .before .before .before .before .before .args in let u = lent-use (a .log .now) (a .area .now) (a .state .now) (a .block .now) (a .batch .now) (a .writer) (a .home) _ (c .before .before .before .before .in-use-block .ensures) (c .before .before .before .if1 .left) in (u, omega arith)
 
 returns-4 : tie.Need-returns-4
-returns-4 c = let a = c .before .before .before .before .before .before .before .before .before .before .before .before .before .args in right-no _ _ _ _ _ (a .writer) (a .home) _ (c .before .before .before .before .before .before .before .in-use-block .ensures) (c .before .before .before .before .before .before .if1 .left) _ _ (omega arith) (c .before .before .before .before .data-homes .ensures) (omega arith) (c .before .may-store .ensures) (c .if4 .taken)
+returns-4 c = let a = c .before .before .before .before .before .before .before .before .before .before .before .before .args in right-no _ _ _ _ _ (a .writer) (a .home) _ (c .before .before .before .before .before .before .in-use-block .ensures) (c .before .before .before .before .before .if1 .left) _ _ (omega arith) (c .before .before .before .data-homes .ensures) (omega arith) (c .before .may-store .ensures) (c .if4 .taken)
 
 writer-requires : tie.Need-writer-requires
-writer-requires c κs = let a = c .before .before .before .before .before .before .before .before .before .before .before .before .before .args in let u = lent-use (a .log .now) (a .area .now) (a .state .now) (a .block .now) (a .batch .now) (a .writer) (a .home) _ (c .before .before .before .before .before .before .before .in-use-block .ensures) (c .before .before .before .before .before .before .if1 .left) in (u .state-length, omega arith)
+writer-requires c κs = let a = c .before .before .before .before .before .before .before .before .before .before .before .before .args in let u = lent-use (a .log .now) (a .area .now) (a .state .now) (a .block .now) (a .batch .now) (a .writer) (a .home) _ (c .before .before .before .before .before .before .in-use-block .ensures) (c .before .before .before .before .before .if1 .left) in (u .state-length, omega arith)
 
 is-open-requires : tie.Need-is-open-requires
 is-open-requires c κs = search needs
 
 returns-5 : tie.Need-returns-5
-returns-5 c = let a = c .before .before .before .before .before .before .before .before .before .before .before .before .before .before .before .before .args in open-no _ _ _ _ _ (a .writer) (a .home) _ (c .before .before .before .before .before .before .before .before .before .before .in-use-block .ensures) (c .before .before .before .before .before .before .before .before .before .if1 .left) _ _ _ _ (omega arith) (c .before .before .before .before .before .before .before .data-homes .ensures) (omega arith) (c .before .before .before .before .may-store .ensures) (c .before .before .before .if4 .left) (c .before .before .writer .ensures) (c .before .is-open .ensures) (c .if5 .taken)
+returns-5 c = let a = c .before .before .before .before .before .before .before .before .before .before .before .before .before .before .before .args in open-no _ _ _ _ _ (a .writer) (a .home) _ (c .before .before .before .before .before .before .before .before .before .in-use-block .ensures) (c .before .before .before .before .before .before .before .before .if1 .left) _ _ _ _ (omega arith) (c .before .before .before .before .before .before .data-homes .ensures) (omega arith) (c .before .before .before .before .may-store .ensures) (c .before .before .before .if4 .left) (c .before .before .writer .ensures) (c .before .is-open .ensures) (c .if5 .taken)
 
 holds-requires : tie.Need-holds-requires
 holds-requires c κs = search needs
 
 returns-6 : tie.Need-returns-6
-returns-6 c = let a = c .before .before .before .before .before .before .before .before .before .before .before .before .before .before .before .before .before .before .args in first-yes _ _ _ _ _ (a .writer) (a .home) _ (c .before .before .before .before .before .before .before .before .before .before .before .before .in-use-block .ensures) (c .before .before .before .before .before .before .before .before .before .before .before .if1 .left) _ _ _ _ (omega arith) (c .before .before .before .before .before .before .before .before .before .data-homes .ensures) (omega arith) (c .before .before .before .before .before .before .may-store .ensures) (c .before .before .before .before .before .if4 .left) (c .before .before .before .before .writer .ensures) (c .before .before .before .is-open .ensures) _ (c .before .before .if5 .left) (c .before .holds .ensures) (c .if6 .taken)
+returns-6 c = let a = c .before .before .before .before .before .before .before .before .before .before .before .before .before .before .before .before .before .args in first-yes _ _ _ _ _ (a .writer) (a .home) _ (c .before .before .before .before .before .before .before .before .before .before .before .in-use-block .ensures) (c .before .before .before .before .before .before .before .before .before .before .if1 .left) _ _ _ _ (omega arith) (c .before .before .before .before .before .before .before .before .data-homes .ensures) (omega arith) (c .before .before .before .before .before .before .may-store .ensures) (c .before .before .before .before .before .if4 .left) (c .before .before .before .before .writer .ensures) (c .before .before .before .is-open .ensures) _ (c .before .before .if5 .left) (c .before .holds .ensures) (c .if6 .taken)
 
 returns-7 : tie.Need-returns-7
-returns-7 c = let a = c .before .before .before .before .before .before .before .before .before .before .before .before .before .before .before .before .before .before .before .before .args in again-yes _ _ _ _ _ (a .writer) (a .home) _ (c .before .before .before .before .before .before .before .before .before .before .before .before .before .before .in-use-block .ensures) (c .before .before .before .before .before .before .before .before .before .before .before .before .before .if1 .left) _ _ _ _ (omega arith) (c .before .before .before .before .before .before .before .before .before .before .before .data-homes .ensures) (omega arith) (c .before .before .before .before .before .before .before .before .may-store .ensures) (c .before .before .before .before .before .before .before .if4 .left) (c .before .before .before .before .before .before .writer .ensures) (c .before .before .before .before .before .is-open .ensures) _ (c .before .before .before .before .if5 .left) (c .before .before .before .holds .ensures) (c .before .before .if6 .left) (c .if7 .taken)
+returns-7 c = let a = c .before .before .before .before .before .before .before .before .before .before .before .before .before .before .before .before .before .before .before .args in again-yes _ _ _ _ _ (a .writer) (a .home) _ (c .before .before .before .before .before .before .before .before .before .before .before .before .before .in-use-block .ensures) (c .before .before .before .before .before .before .before .before .before .before .before .before .if1 .left) _ _ _ _ (omega arith) (c .before .before .before .before .before .before .before .before .before .before .data-homes .ensures) (omega arith) (c .before .before .before .before .before .before .before .before .may-store .ensures) (c .before .before .before .before .before .before .before .if4 .left) (c .before .before .before .before .before .before .writer .ensures) (c .before .before .before .before .before .is-open .ensures) _ (c .before .before .before .before .if5 .left) (c .before .before .before .holds .ensures) (c .before .before .if6 .left) (c .if7 .taken)
+
+state-requires : tie.Need-state-requires
+state-requires c κs = let a = c .before .before .before .before .before .before .before .before .before .before .before .before .before .before .before .before .before .before .before .args in let u = lent-use (a .log .now) (a .area .now) (a .state .now) (a .block .now) (a .batch .now) (a .writer) (a .home) _ (c .before .before .before .before .before .before .before .before .before .before .before .before .before .in-use-block .ensures) (c .before .before .before .before .before .before .before .before .before .before .before .before .if1 .left) in u .state-length
 
 may-log-requires : tie.Need-may-log-requires
-may-log-requires c κs = let a = c .before .before .before .before .before .before .before .before .before .before .before .before .before .before .before .before .before .before .before .before .args in let u = lent-use (a .log .now) (a .area .now) (a .state .now) (a .block .now) (a .batch .now) (a .writer) (a .home) _ (c .before .before .before .before .before .before .before .before .before .before .before .before .before .before .in-use-block .ensures) (c .before .before .before .before .before .before .before .before .before .before .before .before .before .if1 .left) in (u .state-length, omega (arith, c .before .before .before .before .before .before .before .before .before .before .before .before .if2 .left), usable-groups _ _ _ _ u (c .before .before .before .before .before .before .before .before .before .state .ensures), c .before .before .before .before .before .before .before .before .before .state .ensures)
+may-log-requires c κs = let a = c .before .before .before .before .before .before .before .before .before .before .before .before .before .before .before .before .before .before .before .before .args in let u = lent-use (a .log .now) (a .area .now) (a .state .now) (a .block .now) (a .batch .now) (a .writer) (a .home) _ (c .before .before .before .before .before .before .before .before .before .before .before .before .before .before .in-use-block .ensures) (c .before .before .before .before .before .before .before .before .before .before .before .before .before .if1 .left) in (u .state-length, omega (arith, c .before .before .before .before .before .before .before .before .before .before .before .before .if2 .left), usable-groups _ _ _ _ u (c .state .ensures), c .state .ensures)
 
 returns-8 : tie.Need-returns-8
-returns-8 c = let a = c .before .before .before .before .before .before .before .before .before .before .before .before .before .before .before .before .before .before .before .before .before .args in other-asks _ _ _ _ _ (a .writer) (a .home) _ (c .before .before .before .before .before .before .before .before .before .before .before .before .before .before .before .in-use-block .ensures) (c .before .before .before .before .before .before .before .before .before .before .before .before .before .before .if1 .left) _ _ _ _ (omega arith) (c .before .before .before .before .before .before .before .before .before .before .before .before .data-homes .ensures) (omega arith) (c .before .before .before .before .before .before .before .before .before .may-store .ensures) (c .before .before .before .before .before .before .before .before .if4 .left) (c .before .before .before .before .before .before .before .writer .ensures) (c .before .before .before .before .before .before .is-open .ensures) _ _ _ (c .before .before .before .before .before .if5 .left) (c .before .before .before .before .holds .ensures) (c .before .before .before .if6 .left) (c .before .if7 .left) (c .before .before .before .before .before .before .before .before .before .before .state .ensures) (c .may-log .ensures)
+returns-8 c = let a = c .before .before .before .before .before .before .before .before .before .before .before .before .before .before .before .before .before .before .before .before .before .args in other-asks _ _ _ _ _ (a .writer) (a .home) _ (c .before .before .before .before .before .before .before .before .before .before .before .before .before .before .before .in-use-block .ensures) (c .before .before .before .before .before .before .before .before .before .before .before .before .before .before .if1 .left) _ _ _ _ (omega arith) (c .before .before .before .before .before .before .before .before .before .before .before .before .data-homes .ensures) (omega arith) (c .before .before .before .before .before .before .before .before .before .before .may-store .ensures) (c .before .before .before .before .before .before .before .before .before .if4 .left) (c .before .before .before .before .before .before .before .before .writer .ensures) (c .before .before .before .before .before .before .before .is-open .ensures) _ _ _ (c .before .before .before .before .before .before .if5 .left) (c .before .before .before .before .before .holds .ensures) (c .before .before .before .before .if6 .left) (c .before .before .if7 .left) (c .before .state .ensures) (c .may-log .ensures)
 
 pub store-verdict-spec : {M : Type 1} → statement M
 store-verdict-spec =
@@ -63,7 +63,6 @@ store-verdict-spec =
     returns-2
     data-homes-requires
     returns-3
-    state-requires
     may-store-requires
     returns-4
     writer-requires
@@ -72,5 +71,6 @@ store-verdict-spec =
     holds-requires
     returns-6
     returns-7
+    state-requires
     may-log-requires
     returns-8)

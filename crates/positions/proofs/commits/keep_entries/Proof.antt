@@ -72,9 +72,11 @@ keep-group-requires c κs =
       simp (length-take, length-drop) (omega arith),
       omega arith,
       omega arith,
+      omega arith,
       omega (arith, n, t .loop-test .taken, l .inv .1),
       l .inv .2 .turn,
       omega (arith, m),
+      omega arith,
       omega (arith, n, m, l .inv .4, t .loop-test .taken),
       omega (arith, l .inv .5),
     )

@@ -1,83 +1,48 @@
--- `positions::keep_entry` meets its contract, case by case of the tag. Assumes nothing.
+-- `positions::keep_entry` meets its contract. Assumes nothing.
 use borrow.Author.Needs.{needs}
 use native.Mathlib.Omega.{arith}
-use Rattle.positions.proofs.KeepLaws.{kept-other, kept-nothing, kept-entry, kept-closing, entry-low, closing-low}
+use Rattle.positions.proofs.KeepLaws.{kept-after}
 use Rattle.positions.proofs.commits.keep_entry.Statement.{statement}
 use Rattle.positions.proofs.commits.keep_entry.Tie as tie
 
-back-in-requires : tie.Need-back-in-requires
-back-in-requires c κs = search needs
+sub-entry-word : tie.Need-sub-entry-word
+sub-entry-word c = search needs
 
-sub-if1 : tie.Need-sub-if1
-sub-if1 c = search needs
+entry-word-requires : tie.Need-entry-word-requires
+entry-word-requires c κs = search needs
 
-returns : tie.Need-returns
-returns c = kept-other _ _ _ _ _ _ _ (c .before .back-in .ensures) (c .if1 .taken)
-
-tag-there-requires : tie.Need-tag-there-requires
-tag-there-requires c κs = search needs
-
-enum-told : tie.Need-enum-told
-enum-told c = search needs
-
-enum-known-home : tie.Need-enum-known-home
-enum-known-home c = search needs
-
-keep-requires : tie.Need-keep-requires
-keep-requires c κs =
-    let r = c .before .before .before .before in
-    let l = entry-low _ _ _ _ _ (r .tag-there .ensures) _ _ (c .before .before .home .given .1) in
-    omega (arith, l)
-
-enum-known-home-2 : tie.Need-enum-known-home-2
-enum-known-home-2 c = search needs
-
-keep-requires-2 : tie.Need-keep-requires-2
-keep-requires-2 c κs =
-    let r = c .before .before .before .before in
-    let l = closing-low _ _ _ _ _ (r .tag-there .ensures) _ _ _ _ (c .before .before .home2 .given .1) in
-    omega (arith, l)
-
-returns-2 : tie.Need-returns-2
-returns-2 c =
-    let r = c .before .before in
-    kept-nothing _ _ _ _ _ _ _ (r .before .before .back-in .ensures) (r .before .if1 .left) (omega arith) _ (r .tag-there .ensures) (c .enum-told .given .1)
+keep-plain-requires : tie.Need-keep-plain-requires
+keep-plain-requires c κs = search needs
 
 same-length : tie.Need-same-length
 same-length c = search needs
 
-returns-3 : tie.Need-returns-3
-returns-3 c =
-    let h = c .before .before .before .before .before in
-    let r = h .before .before in
-    kept-entry _ _ _ _ _ _ _ (r .before .before .back-in .ensures) (r .before .if1 .left) (omega arith) _ (r .tag-there .ensures) _ _ _ (h .home .given .1)
-    (c .before .before .keep .ensures)
+returns : tie.Need-returns
+returns c =
+    let k = c .before .before .before in
+    k .keep-plain .ensures .1 (c .if1 .taken) _ _
+    (record { word = k .before .before .entry-word .ensures; start = omega arith; from = omega arith; near = omega arith })
+
+keep-word-requires : tie.Need-keep-word-requires
+keep-word-requires c κs = search needs
 
 same-length-2 : tie.Need-same-length-2
 same-length-2 c = search needs
 
-returns-4 : tie.Need-returns-4
-returns-4 c =
-    let h = c .before .before .before .before .before in
-    let r = h .before .before in
-    kept-closing _ _ _ _ _ _ _ (r .before .before .back-in .ensures) (r .before .if1 .left) (omega arith) _ (r .tag-there .ensures) _ _ _ _ _ (h .home2 .given .1)
-    (c .before .before .keep2 .ensures)
+returns-2 : tie.Need-returns-2
+returns-2 c =
+    let i = c .before .before .before .before in
+    kept-after _ _ _ _ _ _ (c .before .before .keep-word .ensures) (i .before .before .before .keep-plain .ensures .0 (i .if1 .left))
 
 pub keep-entry-spec : {M : Type 1} → statement M
 keep-entry-spec =
     tie.close
     (tie.spec
-    back-in-requires
-    sub-if1
-    returns
-    tag-there-requires
-    enum-told
-    enum-known-home
-    keep-requires
-    enum-known-home-2
-    keep-requires-2
-    returns-2
+    sub-entry-word
+    entry-word-requires
+    keep-plain-requires
     same-length
-    returns-3
+    returns
+    keep-word-requires
     same-length-2
-    returns-4)
+    returns-2)

@@ -1,28 +1,29 @@
 -- `positions::keep_group` meets its contract. The loop's invariant: the first `k` tags are taken. Assumes nothing.
 use mathlib.Core.Path.{_≡_, refl, sym, _∙_}
 use mathlib.Core.Bool.{true}
-use Prim.Native.Nat.{_+_, _-_, _*_, _≤_}
+use mathlib.Core.List.{List}
+use Prim.Native.Nat.{ℕ, _+_, _-_, _*_, _≤_}
 use native.Mathlib.Omega.{arith}
 use lib.ListN.{length}
 use borrow.Author.Tests.{not-true, not-false}
 use Rattle.model.specs.Layout.{groupValid, entryIn}
 use Rattle.scan.specs.Members.{taking}
 use Rattle.scan.proofs.PassLaws.{group-hole, group-turn}
-use Rattle.scan.proofs.MemberPass.{taking-quiet, over-before}
+use Rattle.scan.proofs.MemberPass.{taking-quiet}
 use Rattle.positions.specs.Keeping.{keepAt, keptOver}
 use Rattle.positions.proofs.commits.keep_group.Statement.{statement}
 use Rattle.positions.proofs.commits.keep_group.Tie as tie
 
 abbrev Inv-loop : tie.InvT-loop
-Inv-loop group groups homes start n turn m first newest₀ base k₀ position₀ newest k position =
-    (newest ≡ keptOver (entryIn group groups homes start) first (7 * n) k newest₀)
-    × (position ≡ 7 * n + k)
+Inv-loop group groups homes start n turn m first newest₀ base k₀ newest k =
+    ((before : List ℕ) → newest₀ ≡ keptOver (entryIn group groups homes start) first (7 * n) k₀ before
+    → newest ≡ keptOver (entryIn group groups homes start) first (7 * n) k before)
     × (k ≤ m)
-    × (first ≤ position)
+    × (first ≤ 7 * n + k)
     × (length newest ≡ 8 * homes)
 
 abbrev μ-loop : tie.MeasureT-loop
-μ-loop group groups homes start n turn m first newest₀ base k₀ position₀ newest k position = m - k
+μ-loop group groups homes start n turn m first newest₀ base k₀ newest k = m - k
 
 group-valid-requires : tie.Need-group-valid-requires Inv-loop μ-loop
 group-valid-requires c κs = omega arith
@@ -34,33 +35,25 @@ returns c =
 mul-base : tie.Need-mul-base Inv-loop μ-loop
 mul-base c = omega arith
 
-mul-skipped : tie.Need-mul-skipped Inv-loop μ-loop
-mul-skipped c = omega arith
-
-skipped-requires : tie.Need-skipped-requires Inv-loop μ-loop
-skipped-requires c κs = tt
-
-mul-position : tie.Need-mul-position Inv-loop μ-loop
-mul-position c = omega arith
-
-add-position : tie.Need-add-position Inv-loop μ-loop
-add-position c = omega arith
+keep-first-requires : tie.Need-keep-first-requires Inv-loop μ-loop
+keep-first-requires c κs = (omega arith, omega arith, omega arith, omega arith, omega arith, omega arith, omega arith)
 
 loop-holds : tie.Need-loop-holds Inv-loop μ-loop
 loop-holds c =
-    let e = c .skipped .ensures in (
-      over-before _ keepAt _ _ _ _ (omega (arith, e)),
-      omega arith,
-      omega (arith, e),
-      omega (arith, e),
-      omega arith,
-    )
+    let f = c .before .before .keep-first in
+    (λ before e. e, f .ensures .0, f .ensures .1, omega (arith, f .kept))
+
+word-there-requires : tie.Need-word-there-requires Inv-loop μ-loop
+word-there-requires c κs = (omega arith, omega arith)
+
+mul-keep-entry : tie.Need-mul-keep-entry Inv-loop μ-loop
+mul-keep-entry c = omega arith
+
+add-keep-entry : tie.Need-add-keep-entry Inv-loop μ-loop
+add-keep-entry c = omega arith
 
 keep-entry-requires : tie.Need-keep-entry-requires Inv-loop μ-loop
-keep-entry-requires c κs = (omega arith, omega arith, omega arith, omega arith)
-
-add-position-2 : tie.Need-add-position-2 Inv-loop μ-loop
-add-position-2 c = omega arith
+keep-entry-requires c κs = (omega arith, omega arith, omega arith, omega arith, omega arith)
 
 add-k : tie.Need-add-k Inv-loop μ-loop
 add-k c = omega arith
@@ -71,25 +64,34 @@ loop-less c = omega arith
 loop-again : tie.Need-loop-again Inv-loop μ-loop
 loop-again c =
     let t = c .before .before in
-    let l = t .before .before .before in
-    let w = l .before .before in
+    let l = t .before .before .before .before in
+    let w = l .before .before .before .before .before in
     let g : groupValid _ _ _ _ ≡ true = sym (w .before .group-valid .ensures) ∙ not-false _ (w .if1 .left) in (
-      group-turn (taking _ keepAt) _ _ _ _ _ _ _ _ _ _ _ _ g (w .before .before .before .before .pre .4) (omega arith) (l .loop .inv .1) refl
-          (t .keep-entry .ensures) (l .loop .inv .0),
+      λ before e.
+          group-turn (taking _ keepAt) _ _ _ _ _ _ _ _ _ _ _ _ g (w .before .before .before .before .pre .5) (omega arith) refl
+          (t .before .before .word-there .ensures) (t .keep-entry .ensures) (l .loop .inv .0 before e),
       omega arith,
       omega arith,
-      omega arith,
-      omega (arith, t .keep-entry .kept, l .loop .inv .4),
+      omega (arith, t .keep-entry .kept, l .loop .inv .3),
     )
 
 same-length : tie.Need-same-length Inv-loop μ-loop
-same-length c = omega (arith, c .before .loop .inv .4)
+same-length c = omega (arith, c .before .loop .inv .3)
 
 returns-2 : tie.Need-returns-2 Inv-loop μ-loop
 returns-2 c =
     let l = c .before .loop in
-    let e : l .k ≡ c .before .before .before .before .before .before .before .args .m = omega arith in
-    rw (← e) (l .inv .0)
+    let f = c .before .before .before .before in
+    let w = f .before .before in
+    let e : l .k ≡ w .before .before .before .before .args .m = omega arith in
+    rw (← e)
+    (l .inv .0 _
+    (f .keep-first .ensures .2 _ _
+    (record {
+      valid = sym (w .before .group-valid .ensures) ∙ not-false _ (w .if1 .left);
+      fits = w .before .before .before .before .pre .5;
+      from = omega arith;
+    })))
 
 pub keep-group-spec : {M : Type 1} → statement M
 keep-group-spec =
@@ -100,13 +102,12 @@ keep-group-spec =
     group-valid-requires
     returns
     mul-base
-    mul-skipped
-    skipped-requires
-    mul-position
-    add-position
+    keep-first-requires
     loop-holds
+    word-there-requires
+    mul-keep-entry
+    add-keep-entry
     keep-entry-requires
-    add-position-2
     add-k
     loop-less
     loop-again

@@ -29,6 +29,8 @@ returns c =
 seen-requires : tie.Need-seen-requires
 seen-requires c κs = (
   searchable _ _ _ _ (c .before .before .before .before .before .before .before .before .before .pre .0) (c .before .before .before .state .ensures),
+  c .before .before .before .state .ensures,
+  c .before .before .before .before .before .before .before .before .before .pre .0 .state-length,
   newest-fits _ _ _ _ _ (c .before .before .before .before .before .before .before .before .before .pre .0) (c .before .before .before .state .ensures) (c .before .before .before .before .before .before .before .before .before .pre .2),
   own-first _ _ _ _ _ _ (c .before .before .before .before .before .before .before .before .before .pre .0) (c .before .before .before .state .ensures) (c .before .before .writer .ensures) (c .before .before .before .before .before .before .before .before .before .pre .3),
   home-known _ _ _ _ _ (c .before .before .before .before .before .before .before .before .before .pre .0) (c .before .before .before .state .ensures) (c .before .before .before .before .before .before .before .before .before .pre .4),

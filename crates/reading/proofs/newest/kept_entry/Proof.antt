@@ -1,25 +1,25 @@
 -- `reading::kept_entry` meets its contract. Assumes nothing.
 use borrow.Author.Needs.{needs}
-use Rattle.reading.proofs.ReadLaws.{kept-none, kept-some, kept-low}
-use borrow.Author.Tests.{not-true, not-false}
+use Rattle.reading.proofs.ReadLaws.{kept-none, kept-some, kept-low, place-hole, place-entry}
+use mathlib.Core.Path.{refl}
 use native.Mathlib.Omega.{arith}
 use Rattle.reading.proofs.newest.kept_entry.Statement.{statement}
 use Rattle.reading.proofs.newest.kept_entry.Tie as tie
 
 kept-requires : tie.Need-kept-requires
-kept-requires c κs = omega (arith, c .before .before .pre .1, c .before .before .pre .2)
+kept-requires c κs = omega (arith, c .before .before .before .pre .2, c .before .before .before .pre .3)
 
-is-there-requires : tie.Need-is-there-requires
-is-there-requires c κs = search needs
+place-requires : tie.Need-place-requires
+place-requires c κs = search needs
 
 returns : tie.Need-returns
-returns c = kept-none _ _ _ _ _ _ (c .before .before .kept .ensures) (c .before .is-there .ensures) (not-true _ (c .if1 .taken))
+returns c = kept-none _ _ _ _ _ _ (c .before .before .kept .ensures) (place-hole _ _ _ _ _ (c .before .place .ensures) (c .if1 .taken)) refl
 
 add-result : tie.Need-add-result
-add-result c = omega (arith, kept-low _ _ _ _ _ _ (c .before .before .kept .ensures) (c .before .is-there .ensures) (c .before .before .before .before .before .pre .0) (not-false _ (c .if1 .left)))
+add-result c = omega (arith, kept-low _ _ _ _ _ _ (c .before .before .kept .ensures) (place-entry _ _ _ _ _ (c .before .place .ensures) (c .if1 .left)) (c .before .before .before .before .before .before .pre .0) refl)
 
 returns-2 : tie.Need-returns-2
-returns-2 c = kept-some _ _ _ _ _ _ (c .before .before .kept .ensures) (c .before .is-there .ensures) (not-false _ (c .if1 .left))
+returns-2 c = kept-some _ _ _ _ _ _ (c .before .before .kept .ensures) (place-entry _ _ _ _ _ (c .before .place .ensures) (c .if1 .left)) refl
 
 pub kept-entry-spec : {M : Type 1} → statement M
-kept-entry-spec = tie.close (tie.spec kept-requires is-there-requires returns add-result returns-2)
+kept-entry-spec = tie.close (tie.spec kept-requires place-requires returns add-result returns-2)

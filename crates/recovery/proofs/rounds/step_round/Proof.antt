@@ -69,7 +69,7 @@ step-requires : tie.Need-step-requires
 step-requires c κs =
     let n = numbers _ _ _ _ _ (c .before .before .before .before .before .before .before .before .before .before .before .in-use .ensures) (c .before .before .before .before .before .before .before .before .before .before .if1 .left) (c .before .before .before .before .before .before .before .before .state .ensures) in
     let s = round-searchable _ _ _ _ n in
-    (end-within _ _ _ _ _ _ s (c .before .before .walk .ensures .0), n .homes-most, n .area-length)
+    (end-within _ _ _ _ _ _ s (c .before .before .walk .ensures .0), n .homes-most, n .area-length, omega (arith, c .before .before .before .before .before .if3 .left))
 
 refused-requires-4 : tie.Need-refused-requires-4
 refused-requires-4 c κs = search needs

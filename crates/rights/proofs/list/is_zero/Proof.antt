@@ -1,72 +1,47 @@
 -- `rights::is_zero` meets its contract. Assumes nothing.
 use borrow.Author.Needs.{needs}
-use Rattle.rights.proofs.RightsLaws.{zero-home, zero-entry, groups-fit, shown-groups}
-use borrow.Author.Tests.{not-true, not-false}
 use native.Mathlib.Omega.{arith}
+use Rattle.rights.proofs.PlaceLaws.{zero-home, zero-entry}
 use Rattle.rights.proofs.list.is_zero.Statement.{statement}
 use Rattle.rights.proofs.list.is_zero.Tie as tie
 
-mul-number : tie.Need-mul-number
-mul-number c = search needs
+add-zero-block : tie.Need-add-zero-block
+add-zero-block c = search needs
 
-add-number : tie.Need-add-number
-add-number c = search needs
+mul-zero-block : tie.Need-mul-zero-block
+mul-zero-block c = search needs
 
-number-requires : tie.Need-number-requires
-number-requires c κs = let s = c .before .before .before .before .pre .0 in omega (arith, s .holds (c .before .before .before .before .pre .2))
-
-add-found : tie.Need-add-found
-add-found c = search needs
-
-found-requires : tie.Need-found-requires
-found-requires c κs = search needs
-
-add-all-zero : tie.Need-add-all-zero
-add-all-zero c = search needs
-
-mul-all-zero : tie.Need-mul-all-zero
-mul-all-zero c = search needs
-
-all-zero-requires : tie.Need-all-zero-requires
-all-zero-requires c κs = search needs
+zero-block-requires : tie.Need-zero-block-requires
+zero-block-requires c κs = search needs
 
 returns : tie.Need-returns
-returns c = zero-home _ _ _ _ _ _ _ _ (c .before .before .before .number .ensures .0) (c .before .before .found .ensures) _ (not-true _ (c .before .if1 .taken)) (c .all-zero .ensures)
+returns c = zero-home _ _ _ _ _ (c .before .if1 .taken) (c .zero-block .ensures)
 
-slice-aggregate-show-entry : tie.Need-slice-aggregate-show-entry
-slice-aggregate-show-entry c = search needs
+slice-aggregate-show-at : tie.Need-slice-aggregate-show-at
+slice-aggregate-show-at c = search needs
 
-log-groups-requires : tie.Need-log-groups-requires
-log-groups-requires c κs = search needs
+show-at-requires : tie.Need-show-at-requires
+show-at-requires c κs = let k = c .before .before .before .before .pre .2 (c .before .if1 .left) in (omega arith, k .0, k .1)
 
-show-entry-requires : tie.Need-show-entry-requires
-show-entry-requires c κs = let k = groups-fit _ _ _ (c .before .before .before .before .before .before .before .before .before .pre .0 .search) (c .log-groups .ensures) in (omega arith, k .0, k .1)
+slice-aggregate-zero-block : tie.Need-slice-aggregate-zero-block
+slice-aggregate-zero-block c = search needs
 
-slice-aggregate-all-zero : tie.Need-slice-aggregate-all-zero
-slice-aggregate-all-zero c = search needs
-
-all-zero-requires-2 : tie.Need-all-zero-requires-2
-all-zero-requires-2 c κs = search needs
+zero-block-requires-2 : tie.Need-zero-block-requires-2
+zero-block-requires-2 c κs = search needs
 
 returns-2 : tie.Need-returns-2
-returns-2 c = zero-entry _ _ _ _ _ _ _ _ (c .before .before .before .before .before .before .before .before .number .ensures .0) (c .before .before .before .before .before .before .before .found .ensures) _ _ (not-false _ (c .before .before .before .before .before .before .if1 .left)) (shown-groups _ _ _ (c .before .before .before .before .before .before .before .before .before .before .before .before .before .pre .0 .search) (c .before .before .before .before .log-groups .ensures) _ _ (c .before .before .before .show-entry .ensures)) (omega arith) (c .all-zero2 .ensures)
+returns-2 c = zero-entry _ _ _ _ _ _ (c .before .before .before .before .before .if1 .left) (c .before .before .before .show-at .ensures) (omega arith) (c .zero-block2 .ensures)
 
 pub is-zero-spec : {M : Type 1} → statement M
 is-zero-spec =
     tie.close
     (tie.spec
-    mul-number
-    add-number
-    number-requires
-    add-found
-    found-requires
-    add-all-zero
-    mul-all-zero
-    all-zero-requires
+    add-zero-block
+    mul-zero-block
+    zero-block-requires
     returns
-    slice-aggregate-show-entry
-    log-groups-requires
-    show-entry-requires
-    slice-aggregate-all-zero
-    all-zero-requires-2
+    slice-aggregate-show-at
+    show-at-requires
+    slice-aggregate-zero-block
+    zero-block-requires-2
     returns-2)

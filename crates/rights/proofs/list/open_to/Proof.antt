@@ -1,25 +1,44 @@
 -- `rights::open_to` meets its contract. Assumes nothing.
 use borrow.Author.Needs.{needs}
-use Rattle.rights.proofs.RightsLaws.{open-small, open-ranges, open-none}
 use native.Mathlib.Omega.{arith}
+use borrow.Author.Tests.{not-true, not-false}
+use Rattle.rights.proofs.RightsLaws.{copy-open, copy-none}
 use Rattle.rights.proofs.list.open_to.Statement.{statement}
 use Rattle.rights.proofs.list.open_to.Tie as tie
 
-returns : tie.Need-returns
-returns c = open-small _ _ _ _ (omega (arith, c .before .before .before .before .before .pre .0 .long, c .if1 .taken))
+none-kept-requires : tie.Need-none-kept-requires
+none-kept-requires c κs = let p = c .before .before .before .before .pre in (p .0 .holds (p .2), p .0 .low)
 
-own-ranges-requires : tie.Need-own-ranges-requires
-own-ranges-requires c κs = search needs
+open-kept-requires : tie.Need-open-kept-requires
+open-kept-requires c κs = c .before .before .before .before .before .before .pre
+
+returns : tie.Need-returns
+returns c = c .open-kept .ensures
+
+add-in-ranges : tie.Need-add-in-ranges
+add-in-ranges c = search needs
+
+in-ranges-requires : tie.Need-in-ranges-requires
+in-ranges-requires c κs = let p = c .before .before .before .before .before .before .pre in omega (arith, p .0 .long, p .2, p .3, p .4)
 
 returns-2 : tie.Need-returns-2
-returns-2 c = open-ranges _ _ _ _ _ (c .before .before .before .before .before .before .before .pre .0) (omega (arith, c .before .before .before .before .before .before .before .pre .0 .long, c .before .before .if1 .left)) _ _ _ (c .before .before .before .before .before .before .before .pre .2) (c .before .before .before .before .before .before .before .pre .3) (c .before .own-ranges .ensures) (c .if2 .taken)
+returns-2 c = let p = c .before .before .before .before .before .before .before .before .pre in copy-open _ _ _ _ _ (p .0) (p .2) (c .before .before .before .none-kept .ensures (not-false _ (c .before .before .if1 .left))) _ _ _ (p .3) (p .4) (c .before .in-ranges .ensures) (c .if2 .taken)
 
-no-list-requires : tie.Need-no-list-requires
-no-list-requires c κs = search needs
+none-in-copy-requires : tie.Need-none-in-copy-requires
+none-in-copy-requires c κs = let p = c .before .before .before .before .before .before .before .before .pre in omega (arith, p .0 .long, p .2)
 
 returns-3 : tie.Need-returns-3
-returns-3 c = open-none _ _ _ _ _ (c .before .before .before .before .before .before .before .before .pre .0) (omega (arith, c .before .before .before .before .before .before .before .before .pre .0 .long, c .before .before .before .if1 .left)) _ _ _ _ (c .before .before .before .before .before .before .before .before .pre .2) (c .before .before .before .before .before .before .before .before .pre .3) (c .before .before .own-ranges .ensures) (c .before .if2 .left) (c .no-list .ensures)
+returns-3 c = let p = c .before .before .before .before .before .before .before .before .before .pre in copy-none _ _ _ _ _ (p .0) (p .2) (c .before .before .before .before .none-kept .ensures (not-false _ (c .before .before .before .if1 .left))) _ _ _ _ (p .3) (p .4) (c .before .before .in-ranges .ensures) (c .before .if2 .left) (c .none-in-copy .ensures)
 
 pub open-to-spec : {M : Type 1} → statement M
 open-to-spec =
-    tie.close (tie.spec returns own-ranges-requires returns-2 no-list-requires returns-3)
+    tie.close
+    (tie.spec
+    none-kept-requires
+    open-kept-requires
+    returns
+    add-in-ranges
+    in-ranges-requires
+    returns-2
+    none-in-copy-requires
+    returns-3)

@@ -8,10 +8,10 @@ use Rattle.strip.proofs.order.writer_in_order.Statement.{statement}
 use Rattle.strip.proofs.order.writer_in_order.Tie as tie
 
 returns : tie.Need-returns
-returns c = writer-refused _ _ (λ o. omega arith)
+returns c = sym (order-writer _ _ (record { mode = omega arith; home = λ k. omega arith; logged = λ k. omega arith }))
 
 returns-2 : tie.Need-returns-2
-returns-2 c = sym (order-writer _ _ (record { mode = omega arith; home = λ k. omega arith; logged = λ k. omega arith }))
+returns-2 c = writer-refused _ _ (λ o. omega arith)
 
 returns-3 : tie.Need-returns-3
 returns-3 c = writer-refused _ _ (λ o. let f = o .home (omega arith) in omega arith)

@@ -1,0 +1,20 @@
+/* A store opened on a copy of an image: the file is read, and never written. */
+#ifndef COPY_H
+#define COPY_H
+
+#include "kagutin_store.h"
+
+struct copy {
+    struct kagutin store;
+    size_t groups, homes;
+    uint8_t *image;  /* as it was read */
+    uint8_t *memory; /* lent to the store */
+    char message[320];
+};
+
+/* Reads the image and opens a store on the copy; false leaves a message. */
+bool copy_open(struct copy *copy, const char *path);
+
+void copy_close(struct copy *copy);
+
+#endif

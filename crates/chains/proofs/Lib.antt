@@ -1,0 +1,6 @@
+pub mod AllowedLaws
+pub mod FetchLaws
+pub mod StepLaws
+pub mod StoredLaws
+pub mod TransactLaws
+pub mod VerdictLaws

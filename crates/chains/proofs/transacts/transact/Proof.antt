@@ -1,0 +1,81 @@
+-- `chains::transact` meets its contract. Assumes nothing.
+use native.Mathlib.Omega.{arith}
+use Rattle.chains.proofs.TransactLaws.{transact-refused, chain-is, room-is, held, stored-size, transact-done}
+use borrow.Author.Needs.{needs}
+use Rattle.chains.proofs.transacts.transact.Statement.{statement}
+use Rattle.chains.proofs.transacts.transact.Tie as tie
+
+transact-verdict-requires : tie.Need-transact-verdict-requires
+transact-verdict-requires c κs = search needs
+
+refused-requires : tie.Need-refused-requires
+refused-requires c κs = search needs
+
+same-length : tie.Need-same-length
+same-length c = search needs
+
+same-length-2 : tie.Need-same-length-2
+same-length-2 c = search needs
+
+same-length-3 : tie.Need-same-length-3
+same-length-3 c = search needs
+
+same-length-4 : tie.Need-same-length-4
+same-length-4 c = search needs
+
+returns : tie.Need-returns
+returns c =
+    transact-refused _ _ _ _ _ _ _ _ _ (c .before .before .transact-verdict .ensures) _ _ _ (c .before .if1 .taken) (c .refused .ensures)
+
+store-all-requires : tie.Need-store-all-requires
+store-all-requires c κs =
+    (chain-is _ _ _ _ _ _ _ _ _ (c .before .before .before .before .transact-verdict .ensures) (c .before .before .before .if1 .left), room-is _ _ _ _ _ _ _ _ _ (c .before .before .before .before .transact-verdict .ensures) (c .before .before .before .if1 .left))
+
+state-requires : tie.Need-state-requires
+state-requires c κs =
+    let k = chain-is _ _ _ _ _ _ _ _ _ (c .before .before .before .before .before .before .before .before .before .before .before .before .transact-verdict .ensures) (c .before .before .before .before .before .before .before .before .before .before .before .if1 .left) in omega (arith, k .strip, c .before .before .before .before .before .before .before .store-all .kept)
+
+writer-requires : tie.Need-writer-requires
+writer-requires c κs =
+    let k = chain-is _ _ _ _ _ _ _ _ _ (c .before .before .before .before .before .before .before .before .before .before .before .before .before .before .transact-verdict .ensures) (c .before .before .before .before .before .before .before .before .before .before .before .before .before .if1 .left) in (omega (arith, k .strip, c .before .before .before .before .before .before .before .before .before .store-all .kept), k .writer)
+
+next-position-requires : tie.Need-next-position-requires
+next-position-requires c κs =
+    let k = held _ _ _ _ _ _ _ _ _ (c .before .before .before .before .before .before .before .before .before .before .before .before .before .before .before .transact-verdict .ensures) (c .before .before .before .before .before .before .before .before .before .before .before .before .before .before .if1 .left) _ _ _ _ _ _ (c .before .before .before .before .before .before .before .before .before .before .store-all .ensures) (c .before .before .state2 .ensures) (c .writer .ensures) in
+    let m = k .0 in
+    omega (arith, m .high, m .room, m .few, m .filled)
+
+add-ticket : tie.Need-add-ticket
+add-ticket c =
+    let k = held _ _ _ _ _ _ _ _ _ (c .before .before .before .before .before .before .before .before .before .before .before .before .before .before .before .before .transact-verdict .ensures) (c .before .before .before .before .before .before .before .before .before .before .before .before .before .before .before .if1 .left) _ _ _ _ _ _ (c .before .before .before .before .before .before .before .before .before .before .before .store-all .ensures) (c .before .before .before .state2 .ensures) (c .before .writer .ensures) in
+    omega (arith, k .1 .high, c .next-position .ensures)
+
+commit-held-requires : tie.Need-commit-held-requires
+commit-held-requires c κs =
+    held _ _ _ _ _ _ _ _ _ (c .before .before .before .before .before .before .before .before .before .before .before .before .before .before .before .before .before .before .before .before .transact-verdict .ensures) (c .before .before .before .before .before .before .before .before .before .before .before .before .before .before .before .before .before .before .before .if1 .left) _ _ _ _ _ _ (c .before .before .before .before .before .before .before .before .before .before .before .before .before .before .before .store-all .ensures) (c .before .before .before .before .before .before .before .state2 .ensures) (c .before .before .before .before .before .writer .ensures)
+
+add-done : tie.Need-add-done
+add-done c =
+    omega (arith, stored-size _ _ _ _ _ _ _ _ _ (c .before .before .before .before .before .before .before .before .before .before .before .before .before .before .before .before .before .before .before .before .before .before .before .before .before .before .before .before .before .transact-verdict .ensures) (c .before .before .before .before .before .before .before .before .before .before .before .before .before .before .before .before .before .before .before .before .before .before .before .before .before .before .before .before .if1 .left) _ _ _ _ _ _ (c .before .before .before .before .before .before .before .before .before .before .before .before .before .before .before .before .before .before .before .before .before .before .before .before .store-all .ensures) (c .before .before .before .before .before .before .before .before .before .before .before .before .before .before .before .before .state2 .ensures) (c .before .before .before .before .before .before .before .before .before .before .before .before .before .before .writer .ensures) _ _ _ _ _ (c .before .before .before .before .before .before .before .before .commit-held .ensures))
+
+done-requires : tie.Need-done-requires
+done-requires c κs = search needs
+
+same-length-5 : tie.Need-same-length-5
+same-length-5 c = search needs
+
+same-length-6 : tie.Need-same-length-6
+same-length-6 c = search needs
+
+same-length-7 : tie.Need-same-length-7
+same-length-7 c = search needs
+
+same-length-8 : tie.Need-same-length-8
+same-length-8 c = search needs
+
+returns-2 : tie.Need-returns-2
+returns-2 c =
+    transact-done _ _ _ _ _ _ _ _ _ (c .before .before .before .before .before .before .before .before .before .before .before .before .before .before .before .before .before .before .before .before .before .before .before .before .before .before .before .before .before .before .transact-verdict .ensures) (c .before .before .before .before .before .before .before .before .before .before .before .before .before .before .before .before .before .before .before .before .before .before .before .before .before .before .before .before .before .if1 .left) _ _ _ _ _ _ (c .before .before .before .before .before .before .before .before .before .before .before .before .before .before .before .before .before .before .before .before .before .before .before .before .before .store-all .ensures) (c .before .before .before .before .before .before .before .before .before .before .before .before .before .before .before .before .before .state2 .ensures) (c .before .before .before .before .before .before .before .before .before .before .before .before .before .before .before .writer .ensures) _ _ _ _ _ _ _ _ _ (c .before .before .before .before .before .before .before .before .before .before .before .before .before .before .next-position .ensures) (c .before .before .before .before .before .before .before .before .before .commit-held .ensures) (c .done .ensures)
+
+pub transact-spec : {M : Type 1} → statement M
+transact-spec = tie.close (tie.spec transact-verdict-requires refused-requires same-length same-length-2 same-length-3 same-length-4 returns store-all-requires state-requires writer-requires next-position-requires add-ticket commit-held-requires add-done done-requires same-length-5 same-length-6 same-length-7 same-length-8 returns-2)

@@ -1,0 +1,1 @@
+// Demands 2 and 3 and the claims of the requests, over the definitions of the crate `model`: theorems only.

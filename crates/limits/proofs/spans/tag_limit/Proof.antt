@@ -1,0 +1,32 @@
+-- `limits::tag_limit` meets its contract. Assumes nothing.
+use mathlib.Core.Path.{sym, ap, _∙_}
+use Prim.Native.Nat.{ℕ}
+use lib.Bits.{bitAnd}
+use borrow.Author.Needs.{needs}
+use Rattle.limits.proofs.OpenLaws.{open-quiet, span-read}
+use Rattle.limits.proofs.spans.tag_limit.Statement.{statement}
+use Rattle.limits.proofs.spans.tag_limit.Tie as tie
+
+mul-number : tie.Need-mul-number
+mul-number c = search needs
+
+add-number : tie.Need-add-number
+add-number c = search needs
+
+number-requires : tie.Need-number-requires
+number-requires c κs = search needs
+
+returns : tie.Need-returns
+returns c = open-quiet _ _ _ _ _ _ _ (ap (λ (x : ℕ). bitAnd x 2) (sym (c .before .number .ensures .0)) ∙ c .if1 .taken)
+
+word-there-requires : tie.Need-word-there-requires
+word-there-requires c κs = search needs
+
+word-limit-requires : tie.Need-word-limit-requires
+word-limit-requires c κs = search needs
+
+returns-2 : tie.Need-returns-2
+returns-2 c = span-read _ _ _ _ _ _ _ (c .word-limit .ensures) (c .before .word-there .ensures)
+
+pub tag-limit-spec : {M : Type 1} → statement M
+tag-limit-spec = tie.close (tie.spec mul-number add-number number-requires returns word-there-requires word-limit-requires returns-2)

@@ -1,0 +1,57 @@
+-- What logging needs of strip and log copy: where a transaction's first position and count stand, how long a link, a held block and the log are, and
+-- when a batch is long enough.
+use mathlib.Core.Path.{_≡_, refl, _∙_}
+use mathlib.Core.Logic.{_⊎_, inl, inr}
+use mathlib.Core.Bool.{Bool, true, false, cond}
+use mathlib.Core.List.{List}
+use Prim.Native.Nat.{ℕ, _+_, _*_, _^_, _≤_, _<_}
+use native.Mathlib.Omega.{arith}
+use lib.ListN.{length}
+use lib.Dec.{eqb, leb}
+use borrow.Author.Tests.{leb-true, eq-eqb, ne-eqb}
+use Rattle.model.specs.Layout.{putBlank}
+use Rattle.model.specs.State.{State, Writer, nextPosition, heldOf, hasLogged, firstFor, countFor}
+use Rattle.model.specs.Effects.{Given, linkFrom, entered}
+use Rattle.model.specs.Questions.{batchFits}
+use Rattle.model.proofs.bytes.ByteLaws.{length-part}
+use Rattle.model.proofs.bytes.LayoutLaws.{length-putBlank, length-putEntry}
+use Rattle.model.proofs.strip.OrderLaws.{WriterInOrder}
+
+-- where a transaction's first position and count stand
+pub record Bounds (st : State) (r : Writer) (p : ℕ) : Type 0 where
+  pub low : 7 * st .start ≤ firstFor r p
+  pub upto : firstFor r p ≤ p
+  pub many : firstFor r p + countFor r ≤ p
+
+pub bounds : (st : State) (r : Writer) → WriterInOrder st r → 7 * st .start ≤ nextPosition st → Bounds st r (nextPosition st)
+unfolding firstFor countFor hasLogged
+bounds st r o s = go (leb 3 (r .mode)) refl
+  where
+    p : ℕ
+    p = nextPosition st
+
+    go : (t : Bool) → leb 3 (r .mode) ≡ t → Bounds st r p
+    go true e = let k = o .logged (leb-true 3 (r .mode) e) in record { low = rw e (k .0); upto = rw e (omega arith); many = rw e (k .3) }
+    go false e = record { low = rw e s; upto = rw e (omega arith); many = rw e (omega arith) }
+
+pub held-size : (s : List ℕ) (v : ℕ) → length s ≡ 1024 → v < 8 → length (heldOf s v) ≡ 64
+unfolding heldOf
+held-size s v h l = length-part s _ 64 (unfold Rattle.model.specs.State.writerOffset in omega arith)
+
+pub link-small : (G : ℕ) (st : State) → G ≤ 1024 → nextPosition st < 7 * (st .start + G)
+    → (st .last ≡ 0) ⊎ ((7 * st .start < st .last) × (st .last ≤ nextPosition st)) → linkFrom (nextPosition st) st < 2 ^ 13
+unfolding linkFrom
+link-small G st g l (inl h) = rw (eq-eqb (st .last) 0 h) (omega arith)
+link-small G st g l (inr h) = rw (ne-eqb (st .last) 0 (λ z. omega arith)) (omega arith)
+
+pub length-entered : (st : State) (slot : ℕ) (log : List ℕ) (word : ℕ) (block : List ℕ) → length (entered st slot log word block) ≡ length log
+unfolding entered
+length-entered st slot log word block = length-putEntry _ slot _ (st .filled) word block ∙ go (eqb (st .filled) 0)
+  where
+    go : (t : Bool) → length (cond t (putBlank log (st .groups) slot (st .next)) log) ≡ length log
+    go true = length-putBlank log (st .groups) slot (st .next)
+    go false = refl
+
+pub fits : (g : Given) (size : ℕ) → batchFits g size ≡ true → size ≤ length (g .batch)
+unfolding batchFits
+fits g size h = leb-true size (length (g .batch)) h

@@ -1,0 +1,69 @@
+-- Histories with calls on several homes (G 4, D 8, positions from 28 on): what they answer and read, what a crash leaves of a unit of two homes, 3 and
+-- 4, and of its labels; and what they answer under a list of rights.
+use Prim.Native.Nat.{ℕ, zero, suc}
+use mathlib.Core.Bool.{Bool, false}
+use mathlib.Core.List.{List, [], _∷_, _++_}
+use lib.ListN.{length, getD}
+use Rattle.model.specs.Bytes.{zeros}
+use Rattle.model.specs.Calls.{Outcome}
+use Rattle.model.specs.History.{opening, begin, reserve, abort, store, flush, Event, call, crash, World, ends}
+use Rattle.model.specs.Trials.{room, lane, fill, positions, fresh}
+use Rattle.model.specs.Units.{Act, plain, transacts, fetches, revises, transactEnds, fetchEnds, reviseEnds, act, acted, labelsFrom, lastUnit}
+
+unfoldable pub numberAt : World → Event → ℕ
+numberAt w (call c) = ends w c .code
+numberAt w (crash passed chosen) = 0
+
+unfoldable pub numberOf : World → Act → ℕ
+numberOf w (plain e) = numberAt w e
+numberOf w (transacts writer home blocks batch) = transactEnds w writer home blocks batch .code
+numberOf w (fetches writer home blocks) = fetchEnds w writer home blocks .code
+numberOf w (revises writer home blocks) = reviseEnds w writer home blocks .code
+
+-- the numbers that acts answer, one after the other
+unfoldable pub answeredBy : World → List Act → List ℕ
+answeredBy w [] = []
+answeredBy w (a ∷ more) = numberOf w a ∷ answeredBy (act w a) more
+
+unfoldable pub two : ℕ → ℕ → List ℕ
+two a b = fill a ++ fill b
+
+-- the first byte of each of two blocks
+unfoldable pub firsts : List ℕ → List ℕ
+firsts blocks = getD blocks 0 0 ∷ getD blocks 64 0 ∷ []
+
+-- what a writer fetches of the unit, what the labels say of it, and their number
+unfoldable pub seen : World → ℕ → List Act → List ℕ
+seen w writer acts =
+    firsts (fetchEnds (acted w acts) writer 3 (zeros 128) .block)
+    ++ (firsts (lastUnit 3 (zeros 128) (labelsFrom w [] acts)) ++ (length (labelsFrom w [] acts) ∷ []))
+
+-- every refusal in its turn: 5, 1 (a strip that ends inside a block, eight blocks), 4, 6, 8 with one place free, 9
+unfoldable pub together : List Act
+together =
+    transacts 0 3 (two 1 2) room ∷ transacts 1 7 (two 1 2) room ∷ transacts 1 6 (fill 9) [] ∷ plain (call (begin 2)) ∷ transacts 2 3 (two 5 6) room
+    ∷ transacts 0 3 (zeros 100) room ∷ transacts 0 3 (zeros 512) room ∷ transacts 9 3 (two 5 6) room ∷ plain (call (reserve 3 24))
+    ∷ transacts 0 3 (two 5 6) room ∷ transacts 0 6 (fill 7) room ∷ plain (call (abort 3)) ∷ transacts 0 3 (two 5 6) room ∷ transacts 0 0 (two 7 7) [] ∷ []
+
+-- reads: of another writer, of one with an open transaction, of too many homes, of too few bytes; a revise
+unfoldable pub looks : List Act
+looks =
+    fetches 1 3 (zeros 128) ∷ fetches 2 3 (zeros 128) ∷ fetches 1 7 (zeros 128) ∷ fetches 1 3 (zeros 65) ∷ fetches 8 3 (zeros 128) ∷ revises 2 3 (zeros 128) ∷ []
+
+unfoldable pub again : Act
+again = plain (call (opening (zeros 1024) positions lane))
+
+-- the first transact is flushed, the next is not: a crash loses it, and its label
+unfoldable pub flushedOnce : List Act
+flushedOnce = transacts 0 3 (two 1 2) room ∷ plain (call (flush room)) ∷ transacts 1 3 (two 5 6) room ∷ []
+
+unfoldable pub cut : ℕ → List Act
+cut passed = plain (crash passed (λ i. false)) ∷ again ∷ []
+
+-- Under the list of specs/Guarded: writer 1, whose transaction is open, may store to home 3 and read homes 3 and 6, writer 0 store to homes 0 to 2, and
+-- writer 2 nothing. One home without the right refuses all.
+unfoldable pub withRights : List Act
+withRights =
+    fetches 1 3 (zeros 64) ∷ fetches 1 3 (zeros 128) ∷ fetches 1 6 (zeros 64) ∷ revises 1 3 (zeros 64) ∷ revises 1 6 (zeros 64) ∷ revises 1 3 (zeros 128)
+    ∷ transacts 1 3 (fill 1) room ∷ transacts 1 3 (two 1 2) room ∷ transacts 2 3 (fill 1) room ∷ transacts 0 1 (two 1 2) room ∷ transacts 0 2 (two 1 2) room
+    ∷ fetches 2 8 (zeros 256) ∷ transacts 1 11 (fill 1) room ∷ []

@@ -1,0 +1,29 @@
+// A block of 64 bytes tested for zeros, eight words in a row.
+ghost use mathlib.Core.Path.{_≡_};
+ghost use mathlib.Core.Bool.{_&&_};
+ghost use Prim.Native.Nat.{_+_, _≤_};
+ghost use lib.Dec.{eqb};
+ghost use lib.ListN.{length};
+ghost use Rattle.model.specs.Bytes.{part, number, zeros, same};
+
+// The bits that are set in one of the four words from index `at` on.
+fn or_words(s: &[u8], at: usize) -> u64
+    requires { ⌜ at + 32 ≤ length (now s) ⌝ }
+    ensures { λ r. ⌜ eqb r 0 ≡ (eqb (number 8 (now (s .entry)) at) 0 && (eqb (number 8 (now (s .entry)) (at + 8)) 0 && (eqb (number 8 (now (s .entry)) (at + 16)) 0 && eqb (number 8 (now (s .entry)) (at + 24)) 0))) ⌝ }
+{
+    let a = codec::number(s, at, 8);
+    let b = codec::number(s, at + 8, 8);
+    let c = codec::number(s, at + 16, 8);
+    let d = codec::number(s, at + 24, 8);
+    a | (b | (c | d))
+}
+
+// Whether the block from index `at` on is all zeros.
+pub fn zero_block(s: &[u8], at: usize) -> bool
+    requires { ⌜ at + 64 ≤ length (now s) ⌝ }
+    ensures { λ r. ⌜ r ≡ same (part (now (s .entry)) at 64) (zeros 64) ⌝ }
+{
+    let front = or_words(s, at);
+    let back = or_words(s, at + 32);
+    front | back == 0
+}

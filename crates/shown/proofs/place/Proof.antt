@@ -1,0 +1,17 @@
+-- `shown::place` meets its contract. Assumes nothing.
+use borrow.Author.Needs.{needs}
+use mathlib.Core.Path.{_∙_}
+use Rattle.shown.proofs.place.Statement.{statement}
+use Rattle.shown.proofs.place.Tie as tie
+
+state-requires : tie.Need-state-requires
+state-requires c κs = search needs
+
+place-by-requires : tie.Need-place-by-requires
+place-by-requires c κs = rw (c .state .ensures) (c .before .before .before .pre .0)
+
+returns : tie.Need-returns
+returns c = c .place-by .ensures ∙ rw (c .before .state .ensures)
+
+pub place-spec : {M : Type 1} → statement M
+place-spec = tie.close (tie.spec state-requires place-by-requires returns)

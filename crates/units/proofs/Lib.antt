@@ -1,0 +1,4 @@
+pub mod UnitLaws
+pub mod ShownLaws
+pub mod MomentLaws
+pub mod MomentShown

@@ -1,0 +1,21 @@
+-- `usage::committed_entries` meets its contract. Assumes nothing.
+use native.Mathlib.Omega.{arith}
+use Rattle.usage.proofs.SumLaws.{walkable, committed-sum}
+use borrow.Author.Needs.{needs}
+use Rattle.usage.proofs.entries.committed_entries.Statement.{statement}
+use Rattle.usage.proofs.entries.committed_entries.Tie as tie
+
+walk-requires : tie.Need-walk-requires
+walk-requires c κs = search needs
+
+closed-entries-requires : tie.Need-closed-entries-requires
+closed-entries-requires c κs = walkable _ _ _ _ _ _ (c .before .before .pre) (c .walk .ensures .0)
+
+returns : tie.Need-returns
+returns c =
+    let w = c .before .walk .ensures .0 in
+    let k = walkable _ _ _ _ _ _ (c .before .before .before .pre) w in
+    (committed-sum _ _ _ _ _ w (c .closed-entries .ensures .0), omega (arith, c .closed-entries .ensures .1, k .within, k .most))
+
+pub committed-entries-spec : {M : Type 1} → statement M
+committed-entries-spec = tie.close (tie.spec walk-requires closed-entries-requires returns)
