@@ -7,7 +7,7 @@ use Prim.Native.Nat.{ℕ, _*_}
 use borrow.Author.Tests.{ne-eqb, not-true, not-false}
 use Rattle.model.specs.Bytes.{zeros}
 use Rattle.answers.specs.Lent.{lentAll}
-use Rattle.model.specs.Chains.{fetchCall}
+use Rattle.acts.specs.Chains.{fetchCall}
 use Rattle.units.specs.Unit.{Lent, Left, leaves, judged, fetched, event}
 use Rattle.units.proofs.UnitLaws.{refusal, readAs, fetching}
 use Rattle.alarms.specs.Alarm.{classKnown}

@@ -7,7 +7,7 @@ use mathlib.Core.List.{List}
 use mathlib.Core.Option.{Option}
 use lib.ListN.{length}
 use Rattle.model.specs.History.{World}
-use Rattle.model.specs.Units.{fetchEnds}
+use Rattle.acts.specs.Units.{fetchEnds}
 use Rattle.events.specs.Folded.{noted, Recorded, AlwaysRecorded}
 use Rattle.alarms.specs.OpenAlarms.{gravest, told, keptOf}
 use Rattle.alarms.specs.Events.{Event, applied}

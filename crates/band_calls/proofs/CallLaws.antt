@@ -7,7 +7,7 @@ use borrow.Author.Tests.{ne-eqb, lt-ltb, le-ltb}
 use lib.ListN.{length}
 use Rattle.model.specs.Bytes.{zeros}
 use Rattle.answers.specs.Lent.{lentAll, leavesAll}
-use Rattle.model.specs.Chains.{fetchCall, transactCall}
+use Rattle.acts.specs.Chains.{fetchCall, transactCall}
 use Rattle.units.specs.Unit.{Lent, Left, leaves, fetched}
 use Rattle.units.proofs.UnitLaws.{refusal, transaction, readAs, fetching}
 use Rattle.bands.specs.Judge.{verdict, depths, judgement}

@@ -14,7 +14,7 @@ use Rattle.model.specs.Effects.{Given, tagsOf, liveTags, liveBase, isThere, blo
 use Rattle.model.specs.Rights.{forHome, shownAt, listBy, readList, mayStore, mayRead}
 use Rattle.model.specs.Questions.{readAllowed}
 use Rattle.answers.specs.Lent.{lentAll}
-use Rattle.model.specs.Chains.{allOf}
+use Rattle.acts.specs.Chains.{allOf}
 
 -- ---- all of some homes
 

@@ -23,7 +23,7 @@ use Rattle.answers.specs.Lent.{lentAll, leavesAll}
 use Rattle.answers.proofs.AnswerLaws.{Usable, refused-by, done-by}
 use Rattle.reading.specs.Shown.{readBlock}
 use Rattle.model.specs.Rights.{forHome}
-use Rattle.model.specs.Chains.{blocksLent, blocksRead, fetchEffect, askHomes, allOf, mayStoreAll, mayReadAll, fetchAnswer, reviseAnswer, fetchCall, reviseCall}
+use Rattle.acts.specs.Chains.{blocksLent, blocksRead, fetchEffect, askHomes, allOf, mayStoreAll, mayReadAll, fetchAnswer, reviseAnswer, fetchCall, reviseCall}
 use Rattle.chains.proofs.AllowedLaws.{block-same, read-list-same, storeTest, readTest}
 use Rattle.chains.proofs.VerdictLaws.{HomesLent, homes-refuse, homes-pass, homes-first, homes-lent}
 

@@ -16,7 +16,7 @@ use Rattle.model.proofs.bytes.ByteLaws.{length-part, length-puts}
 use Rattle.model.proofs.strip.WriterLaws.{writer-setWriter, fits-begun}
 use Rattle.answers.specs.Lent.{lentAll}
 use Rattle.logging.specs.Logs.{MayLog, Fits, StoredOther}
-use Rattle.model.specs.Chains.{storedFirst}
+use Rattle.acts.specs.Chains.{storedFirst}
 use Rattle.chains.specs.Steps.{Chain, BatchRoom, Stored, Reached, Under}
 use Rattle.chains.proofs.StoredLaws.{may-log, stored, stored-reached, stored-first}
 

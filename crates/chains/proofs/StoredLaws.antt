@@ -23,7 +23,7 @@ use Rattle.claims.proofs.steps.LogRuns.{Advance, Kept-writers, advance-position
 use Rattle.logging.specs.Logs.{MayLog, Fits, StoredOther, loggedEntry}
 use Rattle.logging.proofs.LogLaws.{logged-size}
 use Rattle.logging.proofs.StoreLaws.{effect-first, effect-other}
-use Rattle.model.specs.Chains.{lentOn, andThen, storedFirst}
+use Rattle.acts.specs.Chains.{lentOn, andThen, storedFirst}
 use Rattle.chains.specs.Steps.{Chain, BatchRoom, Moved, Stored, Reached}
 use Rattle.model.proofs.strip.LoggingLaws.{length-entered, link-small}
 

@@ -24,7 +24,7 @@ use Rattle.answers.specs.Lent.{lentAll, leavesAll}
 use Rattle.answers.proofs.AnswerLaws.{Usable, refused-by, done-by}
 use Rattle.logging.specs.Logs.{MayLog, Fits, loggedClosing, keptBy, Committed}
 use Rattle.logging.proofs.CommitLaws.{effect-held, carried}
-use Rattle.model.specs.Chains.{blocksLent, blocksRight, homesKnown, lentOn, andThen, storedFirst, transactEffect, askHomes, allOf, mayStoreAll, roomForAll, transactAnswer, transactCall}
+use Rattle.acts.specs.Chains.{blocksLent, blocksRight, homesKnown, lentOn, andThen, storedFirst, transactEffect, askHomes, allOf, mayStoreAll, roomForAll, transactAnswer, transactCall}
 use Rattle.chains.specs.Steps.{Chain, BatchRoom, Moved, Stored, Reached}
 use Rattle.chains.proofs.AllowedLaws.{read-list-same, storeTest}
 use Rattle.chains.proofs.StoredLaws.{sizes-more, may-log, moves, moved-more, bytes-more, stored}

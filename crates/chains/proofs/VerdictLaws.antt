@@ -16,7 +16,7 @@ use Rattle.model.proofs.strip.QuestionLaws.{ask-yes, ask-no, ask-passed, and-tr
 use Rattle.answers.specs.Lent.{lentAll}
 use Rattle.answers.proofs.AnswerLaws.{Usable}
 use Rattle.answers.proofs.NewestAnswers.{newest-refuses, newest-passes, newest-usable, newest-only}
-use Rattle.model.specs.Chains.{blocksLent, blocksRight, homesKnown, askHomes}
+use Rattle.acts.specs.Chains.{blocksLent, blocksRight, homesKnown, askHomes}
 
 -- ---- tests
 

@@ -10,7 +10,7 @@ use Rattle.model.specs.Batch.{Record, batchBytes}
 use Rattle.model.specs.declared.State.{State}
 use Rattle.model.specs.State.{stateOf, nextPosition, writerOf, holds, firstFor, countFor}
 use Rattle.model.specs.Effects.{Given, Effect}
-use Rattle.model.specs.Chains.{storedFirst}
+use Rattle.acts.specs.Chains.{storedFirst}
 
 -- the log copy, the strip and the lent blocks of a transact of n blocks that questions 1, 2, 4, 5 and 8 let through
 pub record Chain (l s x : List ℕ) (w home n : ℕ) : Type 0 where

@@ -7,7 +7,7 @@ ghost use Rattle.model.specs.Layout.{homesIn};
 ghost use Rattle.answers.specs.Lent.{lentAll};
 ghost use Rattle.answers.proofs.AnswerLaws.{Usable};
 ghost use Rattle.model.specs.Rights.{mayStore, mayRead, readList};
-ghost use Rattle.model.specs.Chains.{allOf};
+ghost use Rattle.acts.specs.Chains.{allOf};
 
 // Whether a writer may store to each of `n` homes from `home` on.
 pub fn may_store_all(

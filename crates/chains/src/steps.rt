@@ -10,7 +10,7 @@ ghost use Rattle.model.specs.State.{stateOf, nextPosition, writerOf, setWriter,
 ghost use Rattle.model.specs.Effects.{Given};
 ghost use Rattle.answers.specs.Lent.{lentAll};
 ghost use Rattle.logging.specs.Logs.{MayLog, Fits, StoredOther};
-ghost use Rattle.model.specs.Chains.{storedFirst};
+ghost use Rattle.acts.specs.Chains.{storedFirst};
 ghost use Rattle.chains.specs.Steps.{Chain, BatchRoom, Reached, Under};
 
 // Begins a transaction of the writer `w`, which holds the first of the lent blocks.

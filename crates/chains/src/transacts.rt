@@ -4,7 +4,7 @@ use crate::verdicts::transact_verdict;
 use answers::Reply;
 ghost use mathlib.Core.Path.{_≡_};
 ghost use Rattle.answers.specs.Lent.{lentAll, leavesAll};
-ghost use Rattle.model.specs.Chains.{transactCall};
+ghost use Rattle.acts.specs.Chains.{transactCall};
 
 // Commits one to seven blocks for the homes from `home` on, in one transaction of a writer that has none open and may store to them all. The figure is
 // the ticket.

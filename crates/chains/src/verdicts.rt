@@ -13,7 +13,7 @@ ghost use Rattle.model.specs.Questions.{ask};
 ghost use Rattle.model.specs.Calls.{sizeOf};
 ghost use Rattle.answers.specs.Lent.{lentAll};
 ghost use Rattle.strip.specs.Order.{GroupsInOrder};
-ghost use Rattle.model.specs.Chains.{askHomes, fetchAnswer, reviseAnswer, transactAnswer, transactEffect};
+ghost use Rattle.acts.specs.Chains.{askHomes, fetchAnswer, reviseAnswer, transactAnswer, transactEffect};
 
 // Whether a strip of home blocks may have `len` bytes: one to seven whole blocks.
 fn blocks_right(len: usize) -> bool

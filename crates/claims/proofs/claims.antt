@@ -47,4 +47,5 @@ pub mod AlikeReplies
 pub mod AlikeFollows
 pub mod AlikeHistories
 pub mod IsolationHolds
+pub mod HiddenHolds
 pub mod HiddenThere

@@ -11,7 +11,7 @@ use lib.ListN.{length}
 use Rattle.model.specs.Rights.{mayRead}
 use Rattle.model.specs.Book.{Entry, Commit, Held, Task, idle, opened}
 use Rattle.model.specs.History.{Call, store, read, Event, call, World, Formatting, afterFormat, ends, step, after, AllAllowed}
-use Rattle.model.specs.Store.{Store, newStore, listOf, replyOf, follow}
+use Rattle.ledger.specs.Store.{Store, newStore, listOf, replyOf, follow}
 use Rattle.model.specs.Witnesses.{calls}
 
 -- two lists of one length, element by element

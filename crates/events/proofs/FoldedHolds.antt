@@ -12,13 +12,13 @@ use lib.Seq.{take-at, take-length}
 use borrow.Author.Tests.{eqb-true, eqb-false, eq-eqb, ne-eqb}
 use Rattle.model.specs.Bytes.{part, zeros}
 use Rattle.model.specs.Calls.{sizeOf}
-use Rattle.model.specs.Chains.{blocksLent, transactEffect, transactAnswer, transactCall}
+use Rattle.acts.specs.Chains.{blocksLent, transactEffect, transactAnswer, transactCall}
 use Rattle.model.specs.Effects.{Given}
 use Rattle.model.specs.History.{World, unopened, afterFormat, lent}
-use Rattle.model.specs.Store.{newStore}
-use Rattle.model.specs.Units.{Act, plain, transacts, fetches, revises, transactEnds, act, acted, ActAllowed, relabel, Label, other, unit, labelOf, lastUnit, Spared, UnitKept}
+use Rattle.ledger.specs.Store.{newStore}
+use Rattle.acts.specs.Units.{Act, plain, transacts, fetches, revises, transactEnds, act, acted, ActAllowed, relabel, Label, other, unit, labelOf, lastUnit, Spared, UnitKept}
 use Rattle.model.proofs.bytes.ByteLaws.{length-zeros}
-use Rattle.model.proofs.strip.ChainLaws.{transact-ready}
+use Rattle.acts.proofs.ChainLaws.{transact-ready}
 use Rattle.claims.proofs.steps.DoneLaws.{outcome-code}
 use Rattle.claims.proofs.claims.Reached.{begins}
 use Rattle.claims.proofs.claims.UnitBooks.{fit-length}

@@ -11,7 +11,7 @@ use Rattle.model.specs.Bytes.{part, zeros}
 use Rattle.model.specs.Calls.{Outcome}
 use Rattle.model.specs.Book.{homesAfter}
 use Rattle.model.specs.History.{World, Formatting, afterFormat}
-use Rattle.model.specs.Units.{Act, plain, transacts, fetches, revises, transactEnds, fetchEnds, reviseEnds, acted, ActAllowed, relabel, Apart, SparedByEvent}
+use Rattle.acts.specs.Units.{Act, plain, transacts, fetches, revises, transactEnds, fetchEnds, reviseEnds, acted, ActAllowed, relabel, Apart, SparedByEvent}
 use Rattle.events.specs.Offered.{heldAfter, Accepted}
 
 -- an act of the history, an event that a writer offers to the unit, with its batch buffer, or one that is done whatever the blocks hold and reads

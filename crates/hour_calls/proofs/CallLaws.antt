@@ -7,7 +7,7 @@ use native.Mathlib.Omega.{arith}
 use borrow.Author.Tests.{ne-eqb, le-leb, lt-leb}
 use Rattle.model.specs.Bytes.{zeros}
 use Rattle.answers.specs.Lent.{lentAll}
-use Rattle.model.specs.Chains.{fetchCall}
+use Rattle.acts.specs.Chains.{fetchCall}
 use Rattle.units.specs.Unit.{Lent, Left, leaves, judged, fetched, event}
 use Rattle.units.proofs.UnitLaws.{refusal, readAs, fetching}
 use Rattle.hours.specs.Pump.{pumpOf}

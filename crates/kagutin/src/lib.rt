@@ -4,8 +4,8 @@ use model::Usage;
 ghost use mathlib.Core.Path.{_≡_};
 ghost use mathlib.Core.List.{[]};
 ghost use Rattle.model.specs.Calls.{formatCall, openCall, beginCall, reserveCall, abortCall, storeCall, commitCall, flushCall, confirmCall, settleCall, trimCall, readCall, beginRoundCall, stepRoundCall};
-ghost use Rattle.model.specs.Chains.{fetchCall, reviseCall, transactCall};
-ghost use Rattle.model.specs.Usage.{usageCall};
+ghost use Rattle.acts.specs.Chains.{fetchCall, reviseCall, transactCall};
+ghost use Rattle.ledger.specs.Usage.{usageCall};
 ghost use Rattle.answers.specs.Lent.{lentAll, leavesAll, lent, leaves};
 
 // Writes an empty store: every group unused, every home zeros, then the header.

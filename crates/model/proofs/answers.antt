@@ -8,6 +8,4 @@ pub mod ReservationsHold
 pub mod TearsHold
 pub mod PositionsHold
 pub mod GuardedHolds
-pub mod TogetherHolds
 pub mod RoundsGo
-pub mod HiddenHolds

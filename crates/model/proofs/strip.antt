@@ -7,6 +7,5 @@ pub mod ListedLaws
 pub mod RightLaws
 pub mod OrderLaws
 pub mod QuestionLaws
-pub mod ChainLaws
 pub mod NewestLaws
 pub mod LoggingLaws

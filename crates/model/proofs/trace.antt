@@ -9,7 +9,6 @@ pub mod Trace
 pub mod WalkLaws
 pub mod TraceLaws
 pub mod WholeLaws
-pub mod PlaceCounts
 pub mod LinkLaws
 pub mod CountLaws
 pub mod ReplayLaws

@@ -4,9 +4,9 @@ use mathlib.Core.Bool.{false}
 use mathlib.Core.List.{List, [], _∷_, _++_}
 use Rattle.model.specs.Bytes.{zeros, bytes}
 use Rattle.model.specs.State.{listHome, listedOf}
-use Rattle.model.specs.Newest.{keptFor}
+use Rattle.model.specs.Newest.{noPosition, keptFor}
 use Rattle.model.specs.History.{Call, opening, begin, store, commit, flush, settle, trim, read, Event, call, crash, World, emptyStore, ends, step}
-use Rattle.model.specs.Trials.{room, lane, fill, goes}
+use Rattle.model.specs.Trials.{room, lane, fill, goes, Trial}
 
 -- numbers of 16 bits; two ranges of a writer's four, each first home and number of homes
 unfoldable pub sixteens : List ℕ → List ℕ
@@ -80,11 +80,24 @@ openedAgain w = step (step (goes w (begin 0 ∷ store 0 8 firstList room ∷ com
 unfoldable pub underFirst : List Call
 underFirst = writes 1 3 ∷ writes 1 4 ∷ reads 1 3 ∷ reads 1 4 ∷ reads 1 6 ∷ []
 
-unfoldable pub afterwards : List ℕ
-afterwards = let w : World = replaced in let v : World = trimmed w in seen w underNext ++ (seen v underNext ++ seen (openedAgain v) underFirst)
+unfoldable pub laidDown : World
+laidDown = trimmed replaced
 
 -- D 11 is too small for a list: homes 8 to 10 are writer 0's alone to store to, and all else is open
 unfoldable pub tooSmall : List ℕ
 tooSmall =
     numbers (step (emptyStore 4 11) (call (opening (zeros 1024) (zeros 88) lane)))
     (begin 0 ∷ store 0 8 firstList room ∷ commit 0 room ∷ begin 1 ∷ writes 1 4 ∷ writes 1 7 ∷ writes 1 8 ∷ writes 1 10 ∷ writes 1 11 ∷ reads 2 3 ∷ reads 1 10 ∷ [])
+
+-- what is kept of the list, and what every call answers
+unfoldable pub moments : List Trial
+moments =
+    record { yields = numbers unguarded beforeList; paper = 0 ∷ 0 ∷ 19 ∷ 19 ∷ 7 ∷ 0 ∷ 0 ∷ 0 ∷ 0 ∷ 0 ∷ 0 ∷ 0 ∷ 0 ∷ [] }
+    ∷ record {
+      yields = seen guarded underList;
+      paper = 28 ∷ 28 ∷ 20 ∷ 0 ∷ 19 ∷ 19 ∷ 19 ∷ 0 ∷ 20 ∷ 0 ∷ 0 ∷ 20 ∷ 20 ∷ 19 ∷ 0 ∷ 19 ∷ 0 ∷ 0 ∷ [];
+    }
+    ∷ record { yields = seen replaced underNext; paper = 33 ∷ 33 ∷ 7 ∷ 19 ∷ 0 ∷ 20 ∷ 20 ∷ 19 ∷ 7 ∷ [] }
+    ∷ record { yields = seen laidDown underNext; paper = noPosition ∷ noPosition ∷ 7 ∷ 19 ∷ 0 ∷ 20 ∷ 20 ∷ 19 ∷ 7 ∷ [] }
+    ∷ record { yields = seen (openedAgain laidDown) underFirst; paper = noPosition ∷ noPosition ∷ 7 ∷ 19 ∷ 0 ∷ 20 ∷ 0 ∷ [] }
+    ∷ record { yields = tooSmall; paper = 0 ∷ 0 ∷ 0 ∷ 0 ∷ 0 ∷ 0 ∷ 19 ∷ 19 ∷ 5 ∷ 0 ∷ 0 ∷ [] } ∷ []

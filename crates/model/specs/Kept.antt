@@ -13,7 +13,7 @@ use Rattle.model.specs.Effects.{Given, newestCommitted, ownElse, shown, 
 use Rattle.model.specs.Calls.{commitCall, trimCall, readCall}
 use Rattle.model.specs.Book.{homesAfter}
 use Rattle.model.specs.History.{begin, store, commit, flush, settle, trim, World, Event, crash, lent, step, Always}
-use Rattle.model.specs.Trials.{room, fill, goes, fresh, readOf}
+use Rattle.model.specs.Trials.{room, fill, goes, fresh, readOf, Trial}
 use Rattle.model.specs.Witnesses.{reopen}
 
 pub record Kept (w : World) : Type 0 where
@@ -82,3 +82,14 @@ overDamage =
 -- "question 1 covers its length": what commit, trim and read answer with another length
 unfoldable pub wrongLength : List ℕ
 wrongLength = let g : Given = lentOther fresh (zeros 63) 0 in commitCall g .code ∷ trimCall g .code ∷ readCall g .code ∷ []
+
+-- what is kept and read at each moment, over damage and with another length; of writer 3's own blocks the newest
+unfoldable pub moments : List Trial
+moments =
+    record { yields = seenOf firstCommits listed; paper = 29 ∷ 67 ∷ noPosition ∷ 0 ∷ noPosition ∷ 0 ∷ noPosition ∷ 0 ∷ [] }
+    ∷ record { yields = seenOf bothCommit listed; paper = 28 ∷ 65 ∷ 30 ∷ 66 ∷ noPosition ∷ 0 ∷ noPosition ∷ 0 ∷ [] }
+    ∷ record { yields = seenOf nextGroup listed; paper = 28 ∷ 65 ∷ 30 ∷ 66 ∷ 37 ∷ 72 ∷ 36 ∷ 71 ∷ [] }
+    ∷ record { yields = readOf nextGroup 3 6 ∷ readOf nextGroup 3 0 ∷ []; paper = 73 ∷ 74 ∷ [] }
+    ∷ record { yields = seenOf firstTrimmed listed; paper = noPosition ∷ 65 ∷ noPosition ∷ 66 ∷ 37 ∷ 72 ∷ 36 ∷ 71 ∷ [] }
+    ∷ record { yields = seenOf openedAgain listed; paper = noPosition ∷ 65 ∷ noPosition ∷ 66 ∷ noPosition ∷ 72 ∷ noPosition ∷ 71 ∷ [] }
+    ∷ record { yields = overDamage; paper = 0 ∷ 65 ∷ 0 ∷ 0 ∷ 70 ∷ 73 ∷ [] } ∷ record { yields = wrongLength; paper = 1 ∷ 1 ∷ 1 ∷ [] } ∷ []

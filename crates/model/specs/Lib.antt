@@ -9,15 +9,11 @@ pub mod Effects
 pub mod Rights
 pub mod Questions
 pub mod Calls
-pub mod Chains
 pub mod Refusals
 pub mod Crash
 pub mod Book
 pub mod History
 pub mod Demands
-pub mod Store
-pub mod Places
-pub mod Usage
 pub mod Trials
 pub mod Witnesses
 pub mod Reservations
@@ -25,9 +21,5 @@ pub mod Tears
 pub mod Promises
 pub mod Kept
 pub mod Guarded
-pub mod Rounds
-pub mod RoundEnds
-pub mod Hidden
-pub mod Units
-pub mod Together
+pub mod TwoRounds
 pub mod Facts

@@ -2,11 +2,11 @@
 -- blanking included". A crash chooses pieces by number; a group write has eight, its metadata first. Bytes from 128 on have the bit that a turn bit
 -- displaces.
 use Prim.Native.Nat.{ℕ, _%_}
-use mathlib.Core.Bool.{Bool, false}
+use mathlib.Core.Bool.{Bool, false, _&&_}
 use mathlib.Core.List.{List, [], _∷_, _++_}
 use lib.Dec.{eqb, leb, ltb}
 use Rattle.model.specs.Bytes.{zeros}
-use Rattle.model.specs.History.{opening, begin, store, commit, flush, settle, trim, Event, call, crash, emptyStore}
+use Rattle.model.specs.History.{opening, begin, store, commit, flush, settle, trim, Event, call, crash, World, emptyStore, after}
 use Rattle.model.specs.Trials.{room, lane, fill}
 use Rattle.model.specs.Witnesses.{calls, alone, goesSo}
 
@@ -29,12 +29,17 @@ unfoldable pub givesBoth : ℕ → List ℕ
 givesBoth ticket = 0 ∷ 0 ∷ 0 ∷ givesAlone ticket
 
 -- A group over blanking. Two commits; of the second one's group the pieces that a choice has.
-unfoldable pub tearing : (ℕ → Bool) → List Event
-tearing chosen = reopen ∷ (alone 0 200 ++ (both 255 30 ++ (crash 4 chosen ∷ reopen ∷ [])))
+unfoldable pub twoCommits : List Event
+twoCommits = reopen ∷ (alone 0 200 ++ both 255 30)
+
+unfoldable pub commitsTwo : Bool
+commitsTwo = goesSo (emptyStore 4 4) twoCommits (opens 0 2136 ++ (givesAlone 29 ++ givesBoth 37)) 2 (0 ∷ 0 ∷ 0 ∷ 0 ∷ [])
+
+unfoldable pub committed : World
+committed = after (emptyStore 4 4) twoCommits
 
 unfoldable pub tearsTo : (ℕ → Bool) → ℕ → ℕ → List ℕ → Bool
-tearsTo chosen back bytes homes =
-    goesSo (emptyStore 4 4) (tearing chosen) (opens 0 2136 ++ (givesAlone 29 ++ (givesBoth 37 ++ opens back bytes))) back homes
+tearsTo chosen back bytes homes = goesSo committed (crash 4 chosen ∷ reopen ∷ []) (opens back bytes) back homes
 
 -- metadata and a data block, the other not; the data, the metadata not: the commit before it comes back
 unfoldable pub metadataWithoutBlock : Bool
@@ -53,31 +58,38 @@ wrapping =
     reopen
     ∷ (alone 0 200 ++ (alone 1 30 ++ (alone 0 201 ++ (calls (settle room ∷ trim room ∷ []) ++ alone 2 140))))
 
-unfoldable pub wrapsSo : List ℕ
-wrapsSo = opens 0 2136 ++ (givesAlone 29 ++ (givesAlone 36 ++ (givesAlone 43 ++ (0 ∷ 0 ∷ 138 ∷ 0 ∷ 0 ∷ 68 ∷ givesAlone 50))))
+unfoldable pub wrapsSo : Bool
+wrapsSo =
+    goesSo (emptyStore 4 4) wrapping
+    (opens 0 2136 ++ (givesAlone 29 ++ (givesAlone 36 ++ (givesAlone 43 ++ (0 ∷ 0 ∷ 138 ∷ 0 ∷ 0 ∷ 68 ∷ givesAlone 50)))))
+    4 (201 ∷ 30 ∷ 0 ∷ 0 ∷ [])
+
+unfoldable pub wrapped : World
+wrapped = after (emptyStore 4 4) wrapping
 
 -- A group over an older one of the same era: group 8 over group 4. In the next era, which starts at group 11, group 12 is torn, in a slot whose turn is
 -- another than the start's.
 unfoldable pub reusing : List Event
 reusing =
-    wrapping ++ (both 255 131 ++ (crash 9 (λ i. ltb i 2) ∷ reopen ∷ (alone 3 250 ++ (both 99 98 ++ (crash 4 (λ i. ltb i 2) ∷ reopen ∷ [])))))
+    both 255 131 ++ (crash 9 (λ i. ltb i 2) ∷ reopen ∷ (alone 3 250 ++ (both 99 98 ++ (crash 4 (λ i. ltb i 2) ∷ reopen ∷ []))))
 
 unfoldable pub reusesSo : Bool
 reusesSo =
-    goesSo (emptyStore 4 4) reusing (wrapsSo ++ (givesBoth 58 ++ (opens 1 2204 ++ (givesAlone 78 ++ (givesBoth 86 ++ opens 1 2204)))))
-    5 (201 ∷ 30 ∷ 140 ∷ 250 ∷ [])
+    goesSo wrapped reusing (givesBoth 58 ++ (opens 1 2204 ++ (givesAlone 78 ++ (givesBoth 86 ++ opens 1 2204)))) 5 (201 ∷ 30 ∷ 140 ∷ 250 ∷ [])
 
 -- An opening cut before its head landed, so that nothing of the next stretches can have; one cut with its head landed and every third block of the
 -- blanking; one that is done. Every commit is there, and the era after works: one commit stays, a torn one does not.
 unfoldable pub cutting : List Event
 cutting =
-    wrapping
-    ++ (alone 0 255 ++ (alone 1 131 ++ (crash 11 (λ i. false) ∷ reopen ∷ crash 1 (λ i. leb 9 i) ∷ reopen ∷ crash 2 (λ i. eqb (i % 3) 0) ∷ reopen
-    ∷ (alone 3 250 ++ (both 99 98 ++ (crash 4 (λ i. ltb i 2) ∷ reopen ∷ []))))))
+    alone 0 255
+    ++ (alone 1 131 ++ (crash 11 (λ i. false) ∷ reopen ∷ crash 1 (λ i. leb 9 i) ∷ reopen ∷ crash 2 (λ i. eqb (i % 3) 0) ∷ reopen
+    ∷ (alone 3 250 ++ (both 99 98 ++ (crash 4 (λ i. ltb i 2) ∷ reopen ∷ [])))))
 
 unfoldable pub cutsSo : Bool
 cutsSo =
-    goesSo (emptyStore 4 4) cutting
-    (wrapsSo
-    ++ (givesAlone 57 ++ (givesAlone 64 ++ (opens 3 2340 ++ (opens 3 2340 ++ (opens 0 2136 ++ (givesAlone 106 ++ (givesBoth 114 ++ opens 1 2204))))))))
+    goesSo wrapped cutting
+    (givesAlone 57 ++ (givesAlone 64 ++ (opens 3 2340 ++ (opens 3 2340 ++ (opens 0 2136 ++ (givesAlone 106 ++ (givesBoth 114 ++ opens 1 2204)))))))
     7 (255 ∷ 131 ∷ 140 ∷ 250 ∷ [])
+
+unfoldable pub tearsSo : Bool
+tearsSo = commitsTwo && metadataWithoutBlock && blocksWithoutMetadata && entriesLanded && wrapsSo && reusesSo && cutsSo

@@ -101,6 +101,9 @@ stores =
     begin 0 ∷ store 0 0 (fill 7) room ∷ store 0 1 (fill 7) room ∷ store 0 2 (fill 7) room ∷ store 0 3 (fill 7) room ∷ store 0 4 (fill 7) room
     ∷ store 0 5 (fill 7) room ∷ store 0 6 (fill 7) room ∷ store 0 7 (fill 7) room ∷ []
 
+unfoldable pub stored : World
+stored = goes fresh stores
+
 -- writer 1 commits home 5, and the log is flushed
 unfoldable pub commits : List Call
 commits = begin 1 ∷ store 1 5 (fill 9) room ∷ commit 1 room ∷ flush room ∷ []
@@ -111,11 +114,11 @@ firstLost w = step w (crash 3 (λ i. not (ltb i 8)))
 
 -- 4. "Writer 0 stores homes 0 to 7, aborts; writer 1 commits home 5; flush; group 0 lost: one comes back."
 unfoldable pub trial4 : List ℕ
-trial4 = reopened (firstLost (goes fresh (stores ++ (abort 0 ∷ commits))))
+trial4 = reopened (firstLost (goes stored (abort 0 ∷ commits)))
 
 -- 5. "As 4, but writer 0 commits before writer 1: none comes back."
 unfoldable pub trial5 : List ℕ
-trial5 = reopened (firstLost (goes fresh (stores ++ (commit 0 room ∷ commits))))
+trial5 = reopened (firstLost (goes stored (commit 0 room ∷ commits)))
 
 -- writer 0 stores homes 0 and 1 in turn, 2 × n times
 unfoldable pub inTurn : ℕ → List Call

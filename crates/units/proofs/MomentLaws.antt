@@ -11,7 +11,7 @@ use Rattle.model.specs.Bytes.{zeros}
 use Rattle.model.specs.Batch.{readBatch, readRecords}
 use Rattle.model.specs.Calls.{Outcome}
 use Rattle.model.specs.History.{World, lent}
-use Rattle.model.specs.Units.{Act, revises, transacts, transactEnds, reviseEnds, act, acted, leftBy as left-in}
+use Rattle.acts.specs.Units.{Act, revises, transacts, transactEnds, reviseEnds, act, acted, leftBy as left-in}
 use Rattle.claims.proofs.claims.ActsHold.{revise-stays}
 use Rattle.events.specs.Folded.{offers, sets, first, readFor, verdict, storing, actsOf, answered, stepped}
 use Rattle.units.specs.Unit.{Lent, Left, Judged, judged, untouched, leftBy, revised, transacted, stored, afterReading, event}

@@ -11,7 +11,7 @@ use native.Mathlib.Omega.{arith}
 use borrow.Author.Tests.{eqb-true}
 use Rattle.model.specs.Bytes.{part, zeros}
 use Rattle.model.specs.History.{World, lent}
-use Rattle.model.specs.Units.{fetchEnds, reviseEnds}
+use Rattle.acts.specs.Units.{fetchEnds, reviseEnds}
 use Rattle.model.proofs.bytes.ByteLaws.{length-zeros}
 use Rattle.events.specs.Offered.{heldAfter}
 use Rattle.events.specs.Folded.{noted, readFor, Folded, Recorded}

@@ -7,7 +7,7 @@ use borrow.Author.Tests.{ne-eqb}
 use Rattle.model.specs.Bytes.{zeros}
 use Rattle.model.specs.Calls.{Outcome}
 use Rattle.answers.specs.Lent.{lentAll, leavesAll}
-use Rattle.model.specs.Chains.{fetchCall, reviseCall, transactCall}
+use Rattle.acts.specs.Chains.{fetchCall, reviseCall, transactCall}
 use Rattle.units.specs.Unit.{Lent, Left, leaves, untouched, leftBy, fetched, revised, transacted, Judged, judged, stored, afterReading, event}
 
 -- what a call that reads is given: its answer and the blocks, all else as it was

@@ -10,7 +10,7 @@ use lib.ListN.{length}
 use Rattle.model.specs.Tag.{readTag}
 use Rattle.model.specs.Layout.{entryAt}
 use Rattle.model.specs.Commit.{members, complete, linked, Span, Walk, started, judged, visit, walk, committed, entries, eachEntries, transactions}
-use Rattle.model.specs.Usage.{entriesIn}
+use Rattle.ledger.specs.Usage.{entriesIn}
 use Rattle.model.specs.declared.Tag.{Tag}
 use Rattle.model.specs.declared.Tag.the-variants.{Nothing, Entry, Closing}
 use Rattle.model.proofs.bytes.TagLaws.{field-lt, closing-fields}

@@ -16,7 +16,7 @@ use Rattle.model.specs.Effects.{Given, groups, homes, tagsOf, liveTags, liveBas
 use Rattle.model.specs.Questions.{askState}
 use Rattle.model.specs.declared.Usage.{Usage}
 use Rattle.model.specs.declared.Holder.{Holder}
-use Rattle.model.specs.Usage.{noHolder, holdsLower, holderOf, entriesIn, committedEntries, openEntries, usageOf, usageRefused, usageIf, usageCall}
+use Rattle.ledger.specs.Usage.{noHolder, holdsLower, holderOf, entriesIn, committedEntries, openEntries, usageOf, usageRefused, usageIf, usageCall}
 use Rattle.model.specs.declared.State.{State}
 use Rattle.model.specs.declared.Writer.{Writer}
 use Rattle.model.proofs.strip.OrderLaws.{InOrder, next-within}

@@ -6,7 +6,7 @@ ghost use lib.ListN.{length};
 ghost use Rattle.model.specs.Tag.{readTag};
 ghost use Rattle.model.specs.Layout.{turnOf, entryIn, entryAt};
 ghost use Rattle.model.specs.Commit.{transactions};
-ghost use Rattle.model.specs.Usage.{entriesIn};
+ghost use Rattle.ledger.specs.Usage.{entriesIn};
 ghost use Rattle.scan.specs.Walk.{Walkable};
 ghost use Rattle.usage.specs.Sums.{addCount, summed};
 

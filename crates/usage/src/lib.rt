@@ -11,7 +11,7 @@ ghost use mathlib.Core.Path.{_≡_};
 ghost use mathlib.Core.List.{[]};
 ghost use Prim.Native.Nat.{_+_, _-_, _^_, _<_};
 ghost use Rattle.model.specs.State.{stateOf};
-ghost use Rattle.model.specs.Usage.{committedEntries, openEntries, usageOf, usageRefused, usageCall};
+ghost use Rattle.ledger.specs.Usage.{committedEntries, openEntries, usageOf, usageRefused, usageCall};
 ghost use Rattle.answers.specs.Lent.{lent};
 ghost use Rattle.answers.proofs.AnswerLaws.{Usable};
 

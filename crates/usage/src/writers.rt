@@ -5,7 +5,7 @@ ghost use mathlib.Core.Bool.{cond};
 ghost use Prim.Native.Nat.{_*_, _≤_, _<_};
 ghost use lib.ListN.{length};
 ghost use Rattle.model.specs.State.{writerOf, countFor};
-ghost use Rattle.model.specs.Usage.{openEntries, holdsLower, holderOf};
+ghost use Rattle.ledger.specs.Usage.{openEntries, holdsLower, holderOf};
 ghost use Rattle.usage.specs.Sums.{CountsFit};
 
 // How many entries writer `w` has logged in an open transaction.

@@ -6,7 +6,7 @@ use lib.Dec.{eqb, leb}
 use lib.ListN.{length, getD}
 use Rattle.model.specs.Book.{Book}
 use Rattle.model.specs.History.{Change, begins, reserves, aborts, stores, commits, flushes, Service, settles, trims, reads, roundBegins, roundSteps, Call, opening, confirm, change, service, isOpening}
-use Rattle.model.specs.Store.{Store, nextGroup, nextStart, toStep, storeMustLog, lastAfter, fencedAfter, setFor, promisesAfter, numbered, inRound, roundOver, trimmedTo, afterService, afterDone, Reply, afterReply}
+use Rattle.ledger.specs.Store.{Store, nextGroup, nextStart, toStep, storeMustLog, lastAfter, fencedAfter, setFor, promisesAfter, numbered, inRound, roundOver, trimmedTo, afterService, afterDone, Reply, afterReply}
 use Rattle.claims.specs.Isolation.{StoreAlike, CallAlike, equal, stored}
 use Rattle.claims.proofs.claims.AlikeBook.{BookAlike, feed-alike, flush-alike}
 use Rattle.claims.proofs.claims.AlikeReplies.{first-alike, group-alike, start-alike, step-alike, store-logs-alike}

@@ -17,8 +17,8 @@ use Rattle.model.specs.Book.{Commit, Book, reads as readBy}
 use Rattle.model.specs.Book as book
 use Rattle.model.specs.History.{Service, settles, trims, reads, roundBegins, roundSteps, Call, opening, confirm, change, service, read, Event, call, crash, World, lent, ends, serviceEnds, isOpening, afterDone, afterRefused, afterCall, afterCrash, rowFates, feed, step, after, AllAllowed}
 use Rattle.model.specs.Demands.{LiveThroughout}
-use Rattle.model.specs.Store.{Store, nextStart, toStep, numbered, inRound, roundOver, trimmedTo, afterService, listOf, Reply, told, replyService, reply, replyOf, afterReply, follow, AnswersThroughout}
-use Rattle.model.specs.Store as store
+use Rattle.ledger.specs.Store.{Store, nextStart, toStep, numbered, inRound, roundOver, trimmedTo, afterService, listOf, Reply, told, replyService, reply, replyOf, afterReply, follow, AnswersThroughout}
+use Rattle.ledger.specs.Store as store
 use Rattle.claims.specs.Isolation.{Each, both, more, StoreAlike, CallAlike, equal, stored, followed, Denied, DeniedThroughout, ToldSame, ToldSameThroughout}
 use Rattle.model.specs.Witnesses.{calls}
 use Rattle.model.proofs.strip.QuestionLaws.{ask-passed}

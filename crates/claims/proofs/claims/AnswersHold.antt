@@ -5,7 +5,7 @@ use mathlib.Core.Logic.{inl, inr}
 use mathlib.Core.Bool.{true, false, not, false≢true}
 use mathlib.Core.List.{List, [], _∷_}
 use Rattle.model.specs.History.{Call, opening, confirm, change, service, Event, call, crash, World, emptyStore, ends, isOpening, step, Allowed, AllAllowed}
-use Rattle.model.specs.Store.{Store, newStore, replyOf, reply, follow, foundInMemory, AnswersAt, AnswersThroughout, Answers}
+use Rattle.ledger.specs.Store.{Store, newStore, replyOf, reply, follow, foundInMemory, AnswersAt, AnswersThroughout, Answers}
 use Rattle.model.specs.Kept.{Kept}
 use Rattle.claims.proofs.invariant.Invariant.{Sizes, Closed, Invariant}
 use Rattle.claims.proofs.steps.FormatRuns.{sizes, after-format}

@@ -17,7 +17,7 @@ use Rattle.model.specs.Questions.{ask, batchFits, inRound, beginRoundAnswer, st
 use Rattle.model.specs.Calls.{sizeOf, beginRoundCall, stepRoundCall}
 use Rattle.model.specs.Demands.{closedBelow, untrimmed, eachContents}
 use Rattle.model.specs.History.{Change, begins, reserves, aborts, stores, commits, flushes, Service, settles, roundBegins, roundSteps, trims, reads, Call, opening, confirm, change, service, World, lent, ends, changeEnds, serviceEnds, isOpening}
-use Rattle.model.specs.Store.{Store, anyWrote, toStep, askBatch, replyOf, replyChange, replyService, reply}
+use Rattle.ledger.specs.Store.{Store, anyWrote, toStep, askBatch, replyOf, replyChange, replyService, reply}
 use Rattle.model.proofs.strip.BatchLaws.{batch-append, batch-one, length-FN}
 use Rattle.model.proofs.trace.WalkLaws.{closingBelow}
 use Rattle.claims.proofs.invariant.Invariant.{Sizes, Running}

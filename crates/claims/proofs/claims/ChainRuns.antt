@@ -14,17 +14,17 @@ use Rattle.model.specs.Effects.{Given, Effect, homes, newState, tagsOf, liveBas
 use Rattle.model.specs.Rights.{mayStore, readList}
 use Rattle.model.specs.Questions.{ask, areasRight, stateRight, stripInOrder, writerKnown, writerOpen, mayPromise, askState, beginAnswer, reserveAnswer, storeAnswer, commitAnswer}
 use Rattle.model.specs.Calls.{Outcome, done, outcome, sizeOf, beginCall, reserveCall, storeCall, commitCall}
-use Rattle.model.specs.Chains.{blocksLent, lentOn, andThen, storedFirst, transactEffect, mayStoreAll, transactAnswer, transactCall}
+use Rattle.acts.specs.Chains.{blocksLent, lentOn, andThen, storedFirst, transactEffect, mayStoreAll, transactAnswer, transactCall}
 use Rattle.model.specs.Book.{Book}
 use Rattle.model.specs.Book as book
 use Rattle.model.specs.History.{Call, begin, reserve, store, commit, Event, call, World, lent, ends, changeEnds, feed, feedChange, isOpening, isConfirm, step, after as played, Allowed, AllAllowed}
-use Rattle.model.specs.Store.{Store, listOf, afterReply, replyOf, follow}
-use Rattle.model.specs.Store as abstract
-use Rattle.model.specs.Units.{transacts, transactEnds, feedStores, feedTransact, leftBy, act, roomy, storesFrom, chain}
+use Rattle.ledger.specs.Store.{Store, listOf, afterReply, replyOf, follow}
+use Rattle.ledger.specs.Store as abstract
+use Rattle.acts.specs.Units.{transacts, transactEnds, feedStores, feedTransact, leftBy, act, roomy, storesFrom, chain}
 use Rattle.model.proofs.bytes.ByteLaws.{length-part}
 use Rattle.model.proofs.strip.BatchLaws.{AllFormed, formed-append}
 use Rattle.model.proofs.strip.QuestionLaws.{ask-yes}
-use Rattle.model.proofs.strip.ChainLaws.{each-of, TransactReady, transact-ready, store-fits, commit-fits}
+use Rattle.acts.proofs.ChainLaws.{each-of, TransactReady, transact-ready, store-fits, commit-fits}
 use Rattle.claims.proofs.steps.DoneLaws.{outcome-code, outcome-done, records-read, after, step-done}
 use Rattle.claims.proofs.steps.FormedLaws.{store-formed, commit-formed}
 use Rattle.claims.proofs.claims.Reached.{Reached, after-append, allowed-append, goes-on, call-code, kept-then, same-book, same-homes}

@@ -16,16 +16,16 @@ use Rattle.model.specs.Effects.{Given, homes, newestOwn, blockOr, ownElse, isTh
 use Rattle.model.specs.Rights.{forHome, readList, mayRead}
 use Rattle.model.specs.Questions.{areasRight, stateRight, newestRight, blockRight, stripInOrder, writerKnown, homeKnown, readAllowed, askBoth, readAnswer}
 use Rattle.model.specs.Calls.{done, outcome, readCall}
-use Rattle.model.specs.Chains.{blocksLent, blocksRead, fetchEffect, mayReadAll, fetchAnswer, reviseAnswer, fetchCall, reviseCall}
+use Rattle.acts.specs.Chains.{blocksLent, blocksRead, fetchEffect, mayReadAll, fetchAnswer, reviseAnswer, fetchCall, reviseCall}
 use Rattle.model.specs.Book.{reads as readBy}
 use Rattle.model.specs.Demands.{Live}
 use Rattle.model.specs.History.{read, World, afterFormat, lent, ends, serviceEnds}
-use Rattle.model.specs.Store.{newStore}
-use Rattle.model.specs.Units.{fetchEnds, reviseEnds, acted, readsFrom, ReadTogether, ActsRead}
+use Rattle.ledger.specs.Store.{newStore}
+use Rattle.acts.specs.Units.{fetchEnds, reviseEnds, acted, readsFrom, ReadTogether, ActsRead}
 use Rattle.model.proofs.bytes.ByteLaws.{length-zeros}
 use Rattle.model.proofs.strip.QuestionLaws.{ask-yes}
 use Rattle.model.proofs.strip.RightLaws.{list-by}
-use Rattle.model.proofs.strip.ChainLaws.{HomesReady, each-of, fetch-ready, revise-ready}
+use Rattle.acts.proofs.ChainLaws.{HomesReady, each-of, fetch-ready, revise-ready}
 use Rattle.claims.proofs.steps.DoneLaws.{outcome-code, outcome-done}
 use Rattle.claims.proofs.claims.Reached.{begins, live-then}
 use Rattle.claims.proofs.claims.ListRights.{shown-at}

@@ -6,7 +6,7 @@ use mathlib.Core.Logic.{inl, inr}
 use mathlib.Core.Bool.{true, false≢true}
 use mathlib.Core.List.{List, [], _∷_, _++_}
 use Rattle.model.specs.History.{Event, World, unopened, Formatting, afterFormat, emptyStore, step, after, AllAllowed}
-use Rattle.model.specs.Store.{newStore}
+use Rattle.ledger.specs.Store.{newStore}
 use Rattle.claims.specs.Isolation.{followed, Isolation}
 use Rattle.model.specs.Witnesses.{calls}
 use Rattle.model.proofs.trace.TraceLaws.{All}

@@ -19,8 +19,8 @@ use Rattle.model.specs.Questions.{writerKnown, commitAnswer, commitLogs, room, 
 use Rattle.model.specs.Calls.{Outcome, done, sizeOf, commitCall, trimCall}
 use Rattle.model.specs.Book.{Task, commitTask, withTask, withCommits}
 use Rattle.model.specs.Book as book
-use Rattle.model.specs.Store.{Store, newStore, numbered, afterService, follow, toStep, inRound, roundOver}
-use Rattle.model.specs.Store as store
+use Rattle.ledger.specs.Store.{Store, newStore, numbered, afterService, follow, toStep, inRound, roundOver}
+use Rattle.ledger.specs.Store as store
 use Rattle.model.specs.History.{Change, begins, reserves, aborts, stores, commits, flushes, Service, settles, roundBegins, roundSteps, trims, reads, Call, opening, confirm, change, service, commit, trim, Event, call, crash, World, emptyStore, unopened, lent, loaded, ends, changeEnds, serviceEnds, feed, feedChange, isOpening, afterDone, afterCrash, step, Allowed}
 use Rattle.model.proofs.bytes.LayoutLaws.{homes-in}
 use Rattle.model.proofs.strip.NewestLaws.{Keepable, kept-else, kept-entries, kept-forget, kept-nothing}

@@ -10,8 +10,8 @@ use lib.Dec.{eqb, leb}
 use lib.ListN.{length, replicate}
 use borrow.Author.Tests.{eqb-true, eqb-false, eq-eqb, ne-eqb, le-leb, lt-leb}
 use Rattle.model.specs.Book.{Kept, row, persisted, Entry, Commit, Task, idle, opened, Book, owedBy, owedAll}
-use Rattle.model.specs.Store.{Store, nextOf, firstGroup}
-use Rattle.model.specs.Places.{Fate, held, kept, aborted, passed, settleOne, settleAll, Class, live, dead, free, classOf, fateOn, classAt, sameClass, many, liesAt, anyAt, taskAt, commitAt, isHeld, isKept}
+use Rattle.ledger.specs.Store.{Store, nextOf, firstGroup}
+use Rattle.ledger.specs.Places.{Fate, held, kept, aborted, passed, settleOne, settleAll, Class, live, dead, free, classOf, fateOn, classAt, sameClass, many, liesAt, anyAt, taskAt, commitAt, isHeld, isKept}
 use Rattle.claims.proofs.invariant.Invariant.{OldEntries, OldCommits}
 
 -- ---- the ledger by position

@@ -9,8 +9,8 @@ use lib.Dec.{eqb, leb}
 use lib.ListN.{length, replicate}
 use borrow.Author.Tests.{eqb-true, eqb-false, eq-eqb, ne-eqb}
 use Rattle.model.specs.Book.{Kept, row, persisted, Entry, Commit, Held, Task, idle, opened, Book, setTask, withTask, begin, abort, entryOf, submit, grown, filledUp, hold, storeTask, store, addCommit, commitTask, commit, flush, owedBy, owedAll, withCommits}
-use Rattle.model.specs.Store.{isIdle, storeMustLog, commitMustLog}
-use Rattle.model.specs.Places.{Fate, held, kept, aborted, passed, settleOne, settleAll, fateOn, liesAt, anyAt, taskAt, commitAt, isHeld, isKept}
+use Rattle.ledger.specs.Store.{isIdle, storeMustLog, commitMustLog}
+use Rattle.ledger.specs.Places.{Fate, held, kept, aborted, passed, settleOne, settleAll, fateOn, liesAt, anyAt, taskAt, commitAt, isHeld, isKept}
 use Rattle.claims.proofs.claims.LedgerLaws.{fate-past, length-settle, fate-settle, length-passed, fate-passed, push-held, push-kept, held-other, held-own, kept-aborted, kept-kept, any-append, commits-append, owed-at, owed-all-at, old-at}
 use Rattle.claims.proofs.invariant.Invariant.{OldCommits}
 

@@ -18,7 +18,7 @@ use Rattle.model.specs.Questions.{newestRight}
 use Rattle.model.specs.Book.{homesAfter}
 use Rattle.model.specs.History.{World, lent}
 use Rattle.model.specs.Kept.{Kept}
-use Rattle.model.specs.Store.{Store, listOf}
+use Rattle.ledger.specs.Store.{Store, listOf}
 use Rattle.model.proofs.strip.RightLaws.{shown-by, list-part, no-list-store}
 
 -- ---- blocks one behind the other

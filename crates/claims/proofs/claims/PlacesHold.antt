@@ -20,9 +20,9 @@ use Rattle.model.specs.Book.{Kept, row, persisted, Entry, Held, Task, idle, ope
 use Rattle.model.specs.Book as book
 use Rattle.model.specs.Demands.{free as mayBe, keptBefore, someBefore, openBefore, anyOpenBefore, anyAcross}
 use Rattle.model.specs.History.{Change, begins, reserves, aborts, stores, commits, flushes, Service, settles, trims, reads, Call, opening, confirm, change, service, flush, settle, trim, Event, call, crash, World, unopened, emptyStore, lent, ends, changeEnds, feed, feedChange, isOpening, afterDone, afterCall, afterCrash, step, Allowed, AllAllowed}
-use Rattle.model.specs.Store.{Store, newStore, firstGroup, nextGroup, nextOf, placesLeft, promisedTo, mayFlush, isIdle, storeMustLog, commitMustLog, manyHomes, toSettle, mayStart, nextStart, Reply, told, askBatch, replyChange, replyService, reply, replyOf, numbered, inRound, fencedAfter, trimmedTo, afterService, afterReply, follow}
-use Rattle.model.specs.Store as store
-use Rattle.model.specs.Places.{Fate, Class, live, dead, free, many, liesAt, anyAt, taskAt, enter, enterCall, enterEvent, Accounted, AllIdle, Drained, Drains, drained, HeldBack, Told, AccountedThroughout, PlacesAccounted}
+use Rattle.ledger.specs.Store.{Store, newStore, firstGroup, nextGroup, nextOf, placesLeft, promisedTo, mayFlush, isIdle, storeMustLog, commitMustLog, manyHomes, toSettle, mayStart, nextStart, Reply, told, askBatch, replyChange, replyService, reply, replyOf, numbered, inRound, fencedAfter, trimmedTo, afterService, afterReply, follow}
+use Rattle.ledger.specs.Store as store
+use Rattle.ledger.specs.Places.{Fate, Class, live, dead, free, many, liesAt, anyAt, taskAt, enter, enterCall, enterEvent, Accounted, AllIdle, Drained, Drains, drained, HeldBack, Told, AccountedThroughout, PlacesAccounted}
 use Rattle.model.proofs.strip.QuestionLaws.{ask-passed, and-true, store-ready}
 use Rattle.model.proofs.strip.OrderLaws.{InOrder}
 use Rattle.model.proofs.trace.Trace.{Ev, hist, closerOf, Apart}

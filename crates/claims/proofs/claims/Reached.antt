@@ -10,8 +10,8 @@ use borrow.Author.Tests.{ne-eqb}
 use Rattle.model.specs.Demands.{Live, LiveThroughout}
 use Rattle.model.specs.Kept.{Kept, KeptThroughout}
 use Rattle.model.specs.History.{Service, settles, roundBegins, roundSteps, trims, reads, Call, opening, confirm, change, service, Event, call, crash, World, unopened, Formatting, afterFormat, ends, feed, isOpening, afterCall, afterDone, afterRefused, afterCrash, step, after, Allowed, AllAllowed}
-use Rattle.model.specs.Store.{Store, newStore, Reply, nextStart, toStep, numbered, inRound, roundOver, trimmedTo, afterService, afterReply, reply, replyOf, follow, AnswersAt, AnswersThroughout}
-use Rattle.model.specs.Store as store
+use Rattle.ledger.specs.Store.{Store, newStore, Reply, nextStart, toStep, numbered, inRound, roundOver, trimmedTo, afterService, afterReply, reply, replyOf, follow, AnswersAt, AnswersThroughout}
+use Rattle.ledger.specs.Store as store
 use Rattle.claims.proofs.claims.KeptHolds.{newest-kept}
 use Rattle.claims.proofs.claims.AnswersHold.{answers-hold}
 use Rattle.claims.proofs.claims.DemandTwo.{demand2}

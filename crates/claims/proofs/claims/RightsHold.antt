@@ -12,7 +12,7 @@ use Rattle.model.specs.Rights.{forHome, shownAt, listBy, storeList, readList, m
 use Rattle.model.specs.Questions.{storeAllowed, readAllowed}
 use Rattle.model.specs.Book.{Book, homesAfter}
 use Rattle.model.specs.History.{Change, begins, reserves, aborts, stores, commits, flushes, Service, settles, roundBegins, roundSteps, trims, reads, Call, opening, confirm, change, service, World, lent}
-use Rattle.model.specs.Store.{Store, listOf}
+use Rattle.ledger.specs.Store.{Store, listOf}
 use Rattle.model.specs.Kept.{Kept}
 use Rattle.model.proofs.strip.RightLaws.{shown-by, list-by, list-part, no-list-store, no-list-read}
 use Rattle.claims.proofs.invariant.Invariant.{Sizes, Running}

@@ -18,8 +18,8 @@ use Rattle.model.specs.Book.{Book, homesAfter}
 use Rattle.model.specs.Demands.{closedBelow, LiveThroughout}
 use Rattle.model.specs.History.{Service, settles, roundBegins, roundSteps, trims, reads, Call, opening, confirm, change, service, settle, beginRound, stepRound, Event, call, World, Formatting, afterFormat, lent, ends, feed, isOpening, afterDone, afterRefused, afterCall, step, after, AllAllowed}
 use Rattle.model.specs.Witnesses.{calls}
-use Rattle.model.specs.Rounds.{homesLeft, homesLeftBy, Moved, Ended, mayCome, RaisesAt, StaysAt, RoundsThroughout}
-use Rattle.model.specs.RoundEnds.{isStep, AllCome, stepped, UnderWay, RoundGoes, RoundsEnd}
+use Rattle.ledger.specs.Rounds.{homesLeft, homesLeftBy, Moved, Ended, mayCome, RaisesAt, StaysAt, RoundsThroughout}
+use Rattle.ledger.specs.RoundEnds.{isStep, AllCome, stepped, UnderWay, RoundGoes, RoundsEnd}
 use Rattle.claims.proofs.steps.RefusalLaws.{step-refused}
 use Rattle.claims.proofs.claims.DemandTwo.{demand2}
 use Rattle.claims.proofs.claims.RoundsHold.{rounds-kept}

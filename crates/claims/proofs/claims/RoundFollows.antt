@@ -13,7 +13,7 @@ use Rattle.model.specs.Effects.{Given, Effect, newState, roundMoved, beginRound
 use Rattle.model.specs.Questions.{beginRoundAnswer, stepRoundAnswer}
 use Rattle.model.specs.Calls.{Outcome, done, outcome, sizeOf, beginRoundCall, stepRoundCall}
 use Rattle.model.specs.History.{roundBegins, roundSteps, service, World, lent, ends, serviceEnds}
-use Rattle.model.specs.Store.{Store, nextGroup, toStep, numbered, inRound, roundOver, afterService}
+use Rattle.ledger.specs.Store.{Store, nextGroup, toStep, numbered, inRound, roundOver, afterService}
 use Rattle.model.proofs.strip.StateLaws.{withRound, withCursor}
 use Rattle.model.proofs.strip.PromiseLaws.{promise-setRound, promise-setCursor}
 use Rattle.model.proofs.strip.QuestionLaws.{begin-round-ready, step-round-ready}

@@ -14,9 +14,9 @@ use Rattle.model.specs.Book.{Book, Task, idle, opened, commitTask, withTask, ho
 use Rattle.model.specs.Demands.{closedBelow}
 use Rattle.model.specs.Book as book
 use Rattle.model.specs.History.{Change, begins, reserves, aborts, stores, commits, flushes, Service, settles, roundBegins, roundSteps, trims, reads, Call, opening, confirm, change, service, call, World, ends, afterCall, afterDone, step, feed, feedChange, isOpening}
-use Rattle.model.specs.Store.{Store, Reply, told, reply, replyOf, replyChange, commitMustLog, nextOf, toStep, nextStart, numbered, trimmedTo, afterService, afterReply, follow}
-use Rattle.model.specs.Store as store
-use Rattle.model.specs.Rounds.{homesLeft, mayCome, TicketAbove}
+use Rattle.ledger.specs.Store.{Store, Reply, told, reply, replyOf, replyChange, commitMustLog, nextOf, toStep, nextStart, numbered, trimmedTo, afterService, afterReply, follow}
+use Rattle.ledger.specs.Store as store
+use Rattle.ledger.specs.Rounds.{homesLeft, mayCome, TicketAbove}
 use Rattle.claims.proofs.invariant.Invariant.{Sizes, Running}
 use Rattle.claims.proofs.steps.RoundRuns.{remaining-are}
 use Rattle.claims.proofs.claims.StoreAnswers.{Numbers, Agrees, position-is}

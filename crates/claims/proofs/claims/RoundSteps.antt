@@ -14,8 +14,8 @@ use Rattle.model.specs.Book.{Commit, Book, Task, idle, opened, commitTask, stor
 use Rattle.model.specs.Book as book
 use Rattle.model.specs.Demands.{untrimmed, closedBelow, heldEntries}
 use Rattle.model.specs.History.{Change, begins, reserves, aborts, stores, commits, flushes, Service, settles, roundBegins, roundSteps, trims, reads, Call, opening, confirm, change, service, feed, feedChange}
-use Rattle.model.specs.Store.{Store, wrote, anyWrote, toStep, nextStart, numbered, trimmedTo, afterService, afterDone}
-use Rattle.model.specs.Rounds.{mayCome, TicketAbove, StepsShrink}
+use Rattle.ledger.specs.Store.{Store, wrote, anyWrote, toStep, nextStart, numbered, trimmedTo, afterService, afterDone}
+use Rattle.ledger.specs.Rounds.{mayCome, TicketAbove, StepsShrink}
 use Rattle.claims.proofs.steps.TrimLaws.{largest-from}
 use Rattle.claims.proofs.invariant.GrowLaws.{closed-snoc}
 use Rattle.claims.proofs.steps.HeldLogs.{filled-commits}

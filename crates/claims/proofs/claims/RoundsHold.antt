@@ -18,8 +18,8 @@ use Rattle.model.specs.Calls.{Outcome, done, outcome, sizeOf, settleCall, begin
 use Rattle.model.specs.Book.{homesAfter}
 use Rattle.model.specs.Demands.{closedBelow, SettledHomes}
 use Rattle.model.specs.History.{Service, settles, roundBegins, roundSteps, trims, reads, Call, opening, confirm, change, service, settle, beginRound, stepRound, Event, call, crash, World, emptyStore, lent, loaded, ends, serviceEnds, isOpening, afterCall, afterDone, step, Allowed, AllAllowed}
-use Rattle.model.specs.Rounds.{homesLeft, homesLeftBy, Moved, Ended, ServiceRaises, Raises, RaisesAt, mayCome, StaysAt, RoundsThroughout, RoundsKept}
-use Rattle.model.specs.Store.{Store, newStore, follow}
+use Rattle.ledger.specs.Rounds.{homesLeft, homesLeftBy, Moved, Ended, ServiceRaises, Raises, RaisesAt, mayCome, StaysAt, RoundsThroughout, RoundsKept}
+use Rattle.ledger.specs.Store.{Store, newStore, follow}
 use Rattle.model.proofs.strip.OrderLaws.{state-fresh}
 use Rattle.model.proofs.strip.StateLaws.{withCursor}
 use Rattle.model.proofs.strip.QuestionLaws.{settle-ready, begin-round-ready, step-round-ready}

@@ -24,7 +24,7 @@ use Rattle.model.specs.Calls.{Outcome, outcome, sizeOf, openCall, beginCall, re
 use Rattle.model.specs.Book.{Held, Task, idle, opened, Book, homesAfter}
 use Rattle.model.specs.History.{Change, begins, reserves, aborts, stores, commits, flushes, Service, settles, trims, reads, Call, opening, confirm, change, service, World, lent, loaded, ends, changeEnds, serviceEnds, isOpening}
 use Rattle.model.specs.Demands.{eachContents, untrimmed, closedBelow, free, firstGroup as groupOfRow, Trimmed}
-use Rattle.model.specs.Store.{Store, firstGroup, nextGroup, nextOf, placesLeft, promisedTo, freeLeft, hasRoom, mayFlush, entryBytes, isIdle, storeMustLog, commitMustLog, anyWrote, manyHomes, toSettle, mayStart, nextStart, listOf, Reply, told, askBatch, replyChange, replyService, reply, replyOf, foundInMemory}
+use Rattle.ledger.specs.Store.{Store, firstGroup, nextGroup, nextOf, placesLeft, promisedTo, freeLeft, hasRoom, mayFlush, entryBytes, isIdle, storeMustLog, commitMustLog, anyWrote, manyHomes, toSettle, mayStart, nextStart, listOf, Reply, told, askBatch, replyChange, replyService, reply, replyOf, foundInMemory}
 use Rattle.model.proofs.bytes.LayoutLaws.{groups-in, homes-in, log-length-right, data-length-right, length-groupAt, group-fits, length-header}
 use Rattle.model.proofs.strip.BatchLaws.{length-GW, length-KW, length-FN, batch-append, batch-one}
 use Rattle.model.proofs.strip.OrderLaws.{InOrder, order-in}

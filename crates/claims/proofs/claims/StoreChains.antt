@@ -12,9 +12,9 @@ use Rattle.model.specs.Rights.{mayStore}
 use Rattle.model.specs.Book.{Task, Book, withTask, filledUp, submit, grown, storeTask}
 use Rattle.model.specs.Book as book
 use Rattle.model.specs.History.{commits, begin, reserve, store, commit, feed, feedChange}
-use Rattle.model.specs.Store.{Store, firstGroup, nextGroup, nextOf, placesLeft, promisedTo, freeLeft, hasRoom, entryBytes, isIdle, storeMustLog, commitMustLog, listOf, told, askBatch, replyChange, reply, setFor, promisesAfter, numbered}
-use Rattle.model.specs.Store as abstract
-use Rattle.model.specs.Units.{roomy, feedStores}
+use Rattle.ledger.specs.Store.{Store, firstGroup, nextGroup, nextOf, placesLeft, promisedTo, freeLeft, hasRoom, entryBytes, isIdle, storeMustLog, commitMustLog, listOf, told, askBatch, replyChange, reply, setFor, promisesAfter, numbered}
+use Rattle.ledger.specs.Store as abstract
+use Rattle.acts.specs.Units.{roomy, feedStores}
 use Rattle.model.proofs.bytes.ByteLaws.{length-zeros}
 use Rattle.model.proofs.strip.QuestionLaws.{ask-yes, ask-passed, and-true}
 use Rattle.claims.proofs.claims.TransactBooks.{Chained, chained-store, chained}

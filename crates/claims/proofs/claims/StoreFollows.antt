@@ -21,8 +21,8 @@ use Rattle.model.specs.Book.{Book, homesAfter, run}
 use Rattle.model.specs.Book as book
 use Rattle.model.specs.Demands.{untrimmed}
 use Rattle.model.specs.History.{Change, begins, reserves, aborts, stores, commits, flushes, Service, settles, trims, reads, Call, opening, confirm, change, service, Event, call, crash, World, unopened, emptyStore, lent, loaded, ends, changeEnds, serviceEnds, feed, isOpening, afterDone, afterCall, afterCrash, step, Allowed, rowFates, roundBegins, roundSteps}
-use Rattle.model.specs.Store.{Store, newStore, firstGroup, nextGroup, nextOf, nextStart, replyOf, storeMustLog, lastAfter, fencedAfter, setFor, promisesAfter, numbered, trimmedTo, afterService, afterReply, follow, foundInMemory, inRound, roundOver, toStep}
-use Rattle.model.specs.Store as store
+use Rattle.ledger.specs.Store.{Store, newStore, firstGroup, nextGroup, nextOf, nextStart, replyOf, storeMustLog, lastAfter, fencedAfter, setFor, promisesAfter, numbered, trimmedTo, afterService, afterReply, follow, foundInMemory, inRound, roundOver, toStep}
+use Rattle.ledger.specs.Store as store
 use Rattle.model.proofs.bytes.LayoutLaws.{groups-in, homes-in}
 use Rattle.model.proofs.strip.StateLaws.{withStart, withFenced, withSettled, withLast, withDurable, withNext, withFilled, length-setNext, length-setFilled, state-setNext, state-setFilled, state-setFenced, state-setDurable, state-setLast, length-setLast}
 use Rattle.model.proofs.strip.WriterLaws.{length-setWriter, length-setHeld, state-setWriter, state-setHeld}

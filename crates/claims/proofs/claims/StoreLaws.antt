@@ -18,7 +18,7 @@ use Rattle.model.specs.Questions.{ask}
 use Rattle.model.specs.Calls.{Outcome, refused, done, sizeOf, outcome}
 use Rattle.model.specs.Book.{Held}
 use Rattle.model.specs.Demands.{contents, eachContents}
-use Rattle.model.specs.Store.{Reply, told, replyOf, wrote, anyWrote}
+use Rattle.ledger.specs.Store.{Reply, told, replyOf, wrote, anyWrote}
 use Rattle.model.proofs.bytes.ByteLaws.{length-part}
 use Rattle.model.proofs.bytes.EmptyLaws.{length-unusedGroup}
 use Rattle.model.proofs.strip.BatchLaws.{length-GW, length-HW, length-KW, length-FN, batch-append, batch-one}

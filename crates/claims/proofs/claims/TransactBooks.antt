@@ -12,7 +12,7 @@ use Rattle.model.specs.Bytes.{part}
 use Rattle.model.specs.Book.{Entry, Commit, Held, Task, idle, opened, Book, withTask, entryOf, submit, grown, filledUp, hold, storeTask, addCommit, commitTask}
 use Rattle.model.specs.Book as book
 use Rattle.model.specs.Demands.{heldEntries}
-use Rattle.model.specs.Units.{feedStores, feedTransact}
+use Rattle.acts.specs.Units.{feedStores, feedTransact}
 use Rattle.claims.proofs.steps.WriterSteps.{task-here, task-other}
 use Rattle.claims.proofs.steps.HeldLogs.{filled-commits}
 use Rattle.claims.proofs.claims.UnitBooks.{spread, held-append}

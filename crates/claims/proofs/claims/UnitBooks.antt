@@ -13,7 +13,7 @@ use Rattle.model.specs.Bytes.{part, puts}
 use Rattle.model.specs.Layout.{putHome}
 use Rattle.model.specs.Book.{Entry, Commit, Held, writeEntries, writeCommits}
 use Rattle.model.specs.Demands.{heldEntries}
-use Rattle.model.specs.Units.{Label, other, unit, lastUnit, Apart}
+use Rattle.acts.specs.Units.{Label, other, unit, lastUnit, Apart}
 use Rattle.model.proofs.bytes.ByteLaws.{puts-append, puts-nil}
 use Rattle.model.proofs.bytes.LayoutLaws.{part-apart, part-written, length-putHome}
 

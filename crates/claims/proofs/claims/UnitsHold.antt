@@ -16,8 +16,8 @@ use Rattle.model.specs.Book.{Entry, Commit, Held, Task, idle, opened, Book, hom
 use Rattle.model.specs.Demands.{heldEntries}
 use Rattle.model.specs.Calls.{Outcome}
 use Rattle.model.specs.History.{Call, Event, call, crash, World, unopened, afterFormat, ends, afterDone, afterRefused, afterCall, afterCrash, step}
-use Rattle.model.specs.Store.{newStore}
-use Rattle.model.specs.Units.{Act, plain, transacts, fetches, revises, leftBy, act, acted, readsFrom, ReadTogether, Label, lastUnit, labels, labelsFrom, Apart, UnitKept, UnitsKept}
+use Rattle.ledger.specs.Store.{newStore}
+use Rattle.acts.specs.Units.{Act, plain, transacts, fetches, revises, leftBy, act, acted, readsFrom, ReadTogether, Label, lastUnit, labels, labelsFrom, Apart, UnitKept, UnitsKept}
 use Rattle.model.proofs.bytes.ByteLaws.{length-zeros, length-part, part-within}
 use Rattle.claims.proofs.claims.UnitBooks.{commits-length, Outside, Fit, fit-length, fit-take, labels-say}
 use Rattle.claims.proofs.claims.UnitSteps.{HeldOutside, TaskOutside, Labelled, acts-labelled, empty-labelled}

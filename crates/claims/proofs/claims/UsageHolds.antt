@@ -17,14 +17,14 @@ use Rattle.model.specs.Effects.{Given, groups, liveTags, liveBase}
 use Rattle.model.specs.Questions.{askState}
 use Rattle.model.specs.Book.{Commit, Task, idle, opened, Book}
 use Rattle.model.specs.History.{Event, World, emptyStore, unopened, lent, step, AllAllowed}
-use Rattle.model.specs.Store.{Store, newStore, firstGroup, placesLeft, promisedTo, follow}
-use Rattle.model.specs.Places.{Fate, live, dead, free, many, anyAt, taskAt, commitAt, enterEvent, Accounted, HeldBack, Told, AccountedThroughout}
-use Rattle.model.specs.Usage.{entriesIn, committedEntries, openEntries, holderOf, usageOf, usageIf, usageCall, Usages, UsageThroughout, UsageTold}
+use Rattle.ledger.specs.Store.{Store, newStore, firstGroup, placesLeft, promisedTo, follow}
+use Rattle.ledger.specs.Places.{Fate, live, dead, free, many, anyAt, taskAt, commitAt, enterEvent, Accounted, HeldBack, Told, AccountedThroughout}
+use Rattle.ledger.specs.Usage.{entriesIn, committedEntries, openEntries, holderOf, usageOf, usageIf, usageCall, Usages, UsageThroughout, UsageTold}
 use Rattle.model.specs.declared.Usage.{Usage}
 use Rattle.model.specs.declared.Holder.{Holder}
 use Rattle.model.proofs.trace.Trace.{Ev, hist, oldestOf}
 use Rattle.model.proofs.trace.TraceLaws.{All, Falling, Long, open-falling, done-falling, done-long}
-use Rattle.model.proofs.trace.PlaceCounts.{oneIf, one-false, times, timesIn, tally, Once, once, tally-same, tally-both, tally-none, tally-all, tally-closing, falling-from}
+use Rattle.ledger.proofs.PlaceCounts.{oneIf, one-false, times, timesIn, tally, Once, once, tally-same, tally-both, tally-none, tally-all, tally-closing, falling-from}
 use Rattle.claims.proofs.invariant.Invariant.{Sizes, entriesFor, TaskOk, Running, Invariant}
 use Rattle.claims.proofs.invariant.LiveLog.{tagsIn, baseOf, endOf, keptIn, live-room, live-from, lent-groups, lent-tags, live-transactions}
 use Rattle.claims.proofs.steps.Beginning.{format-closed}

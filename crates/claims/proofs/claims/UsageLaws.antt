@@ -16,14 +16,14 @@ use Rattle.model.specs.Questions.{writerKnown, storeAnswer}
 use Rattle.model.specs.Calls.{sizeOf, storeCall}
 use Rattle.model.specs.Book.{Entry, Commit, Task}
 use Rattle.model.specs.History.{Change, begins, reserves, aborts, stores, commits, flushes, Call, opening, confirm, change, service, Event, call, crash, World, lent, ends, changeEnds}
-use Rattle.model.specs.Store.{Store, firstGroup, nextOf, storeMustLog, commitMustLog}
-use Rattle.model.specs.Places.{Fate, held, kept, aborted, passed, settleOne, settleAll, enter, enterCall, enterEvent, Class, live, dead, free, classOf, fateOn, classAt, sameClass, many, liesAt, anyAt, taskAt, commitAt, isHeld, isKept, Accounted}
-use Rattle.model.specs.Usage.{noHolder, holdsLower, holderOf}
+use Rattle.ledger.specs.Store.{Store, firstGroup, nextOf, storeMustLog, commitMustLog}
+use Rattle.ledger.specs.Places.{Fate, held, kept, aborted, passed, settleOne, settleAll, enter, enterCall, enterEvent, Class, live, dead, free, classOf, fateOn, classAt, sameClass, many, liesAt, anyAt, taskAt, commitAt, isHeld, isKept, Accounted}
+use Rattle.ledger.specs.Usage.{noHolder, holdsLower, holderOf}
 use Rattle.model.specs.declared.Holder.{Holder}
 use Rattle.model.proofs.strip.QuestionLaws.{store-ready}
 use Rattle.model.proofs.trace.Trace.{Ev, firstOf, oldestOf}
 use Rattle.model.proofs.trace.TraceLaws.{All, Falling, Long, firstOf-inside}
-use Rattle.model.proofs.trace.PlaceCounts.{oneIf, one-true, one-false, times, timesIn, tally}
+use Rattle.ledger.proofs.PlaceCounts.{oneIf, one-true, one-false, times, timesIn, tally}
 use Rattle.claims.proofs.invariant.Invariant.{entryFor, entriesFor, Matches}
 use Rattle.claims.proofs.steps.DoneLaws.{outcome-code}
 use Rattle.claims.proofs.claims.LedgerLaws.{fate-past, any-append}

@@ -19,7 +19,7 @@ use Rattle.model.specs.Effects.{restore, replayed}
 use Rattle.model.specs.Crash.{Memory}
 use Rattle.model.specs.Book.{Commit, fateAt, run, writeCommits, homesAfter}
 use Rattle.model.specs.Demands.{eachContents, untrimmed, closedBelow}
-use Rattle.model.specs.Store.{foundInMemory}
+use Rattle.ledger.specs.Store.{foundInMemory}
 use Rattle.model.proofs.bytes.ByteLaws.{length-zeros}
 use Rattle.model.proofs.trace.Trace.{Ev, hist, tagAt, homeOn, blockOn, firstIn, surviving, closerOf, oldestOf, closingFrom, allLanded, whole, Apart}
 use Rattle.model.proofs.trace.TraceLaws.{All, all-map, Falling, falling-inside, Names, Named, tagAt-beyond, tagAt-back, tagAt-home, done-falling, done-rising, done-named, surviving-nothing}

@@ -17,7 +17,7 @@ use Rattle.model.specs.Questions.{ask, areasRight, stateRight, headerFits, star
 use Rattle.model.specs.Book.{homesAfter, writeCommits, empty}
 use Rattle.model.specs.History.{World, unopened, emptyStore, loaded}
 use Rattle.model.specs.Demands.{eachContents}
-use Rattle.model.specs.Store.{foundInMemory}
+use Rattle.ledger.specs.Store.{foundInMemory}
 use Rattle.model.specs.declared.Tag.the-variants.{Nothing}
 use Rattle.model.proofs.bytes.ByteLaws.{length-zeros}
 use Rattle.model.proofs.bytes.EmptyLaws.{unused-mark, length-emptyLog, emptyLog-start, emptyLog-right, emptyLog-group}

@@ -1,7 +1,7 @@
--- The two rounds of specs/Rounds go as listed, by computation.
+-- The two rounds of specs/TwoRounds go as listed, by computation.
 use mathlib.Core.Path.{_≡_, refl}
 use mathlib.Core.Bool.{Bool, true}
-use Rattle.model.specs.Rounds.{firstRound, between, secondRound, rounds, roundAnswers, roundsGo}
+use Rattle.model.specs.TwoRounds.{firstRound, between, secondRound, rounds, roundAnswers, roundsGo}
 use Rattle.model.proofs.answers.Computing.{all-definitions}
 
 pub rounds-go : roundsGo ≡ true

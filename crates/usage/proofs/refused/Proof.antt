@@ -1,6 +1,6 @@
 -- `usage::refused` meets its contract. Assumes nothing.
 use mathlib.Core.Path.{refl}
-use Rattle.model.specs.Usage.{usageRefused}
+use Rattle.ledger.specs.Usage.{usageRefused}
 use Rattle.usage.proofs.refused.Statement.{statement}
 use Rattle.usage.proofs.refused.Tie as tie
 

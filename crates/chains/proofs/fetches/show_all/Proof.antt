@@ -6,7 +6,7 @@ use native.Mathlib.Omega.{arith}
 use lib.ListN.{length}
 use Rattle.model.specs.Bytes.{puts}
 use Rattle.answers.specs.Lent.{lentAll}
-use Rattle.model.specs.Chains.{blocksRead}
+use Rattle.acts.specs.Chains.{blocksRead}
 use Rattle.chains.proofs.FetchLaws.{read-none, read-more, read-all}
 use Rattle.chains.proofs.fetches.show_all.Statement.{statement}
 use Rattle.chains.proofs.fetches.show_all.Tie as tie

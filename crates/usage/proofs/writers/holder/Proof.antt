@@ -2,7 +2,7 @@
 use mathlib.Core.Path.{_≡_}
 use Prim.Native.Nat.{_-_, _≤_}
 use native.Mathlib.Omega.{arith}
-use Rattle.model.specs.Usage.{holderOf}
+use Rattle.ledger.specs.Usage.{holderOf}
 use Rattle.usage.proofs.UsageLaws.{holder-none, holder-more}
 use Rattle.usage.proofs.writers.holder.Statement.{statement}
 use Rattle.usage.proofs.writers.holder.Tie as tie

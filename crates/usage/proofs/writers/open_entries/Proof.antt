@@ -2,7 +2,7 @@
 use mathlib.Core.Path.{_≡_}
 use Prim.Native.Nat.{_-_, _*_, _≤_}
 use native.Mathlib.Omega.{arith}
-use Rattle.model.specs.Usage.{openEntries}
+use Rattle.ledger.specs.Usage.{openEntries}
 use Rattle.usage.proofs.UsageLaws.{open-none, open-more}
 use Rattle.usage.proofs.writers.open_entries.Statement.{statement}
 use Rattle.usage.proofs.writers.open_entries.Tie as tie

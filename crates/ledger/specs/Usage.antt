@@ -7,15 +7,17 @@ use mathlib.Core.Bool.{Bool, true, false, cond, _&&_, _||_}
 use mathlib.Core.List.{List, [], _∷_}
 use lib.Dec.{eqb, ltb}
 use lib.ListN.{length}
 use Rattle.model.specs.Commit.{transactions}
-use Rattle.model.specs.State.{State, stateOf, nextPosition, places, promised, Writer, writerOf, hasLogged, countFor}
+use Rattle.model.specs.declared.State.{State}
+use Rattle.model.specs.declared.Writer.{Writer}
+use Rattle.model.specs.State.{stateOf, nextPosition, places, promised, writerOf, hasLogged, countFor}
 use Rattle.model.specs.Effects.{Given, groups, liveTags, liveBase}
 use Rattle.model.specs.Questions.{askState}
 use Rattle.model.specs.History.{Event, World, Formatting, afterFormat, lent, step, AllAllowed}
-use Rattle.model.specs.Store.{Store, newStore, firstGroup, nextStart, promisedTo, follow}
-use Rattle.model.specs.Places.{Fate, live, dead, free, many, taskAt, enterEvent}
+use Rattle.ledger.specs.Store.{Store, newStore, firstGroup, nextStart, promisedTo, follow}
+use Rattle.ledger.specs.Places.{Fate, live, dead, free, many, taskAt, enterEvent}
 pub use Rattle.model.specs.declared.Usage.{Usage}
 pub use Rattle.model.specs.declared.Holder.{Holder}
 
 -- the entries of some transactions together
 unfoldable pub entriesIn : List (List ℕ) → ℕ

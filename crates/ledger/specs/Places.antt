@@ -7,11 +7,11 @@ use mathlib.Core.Bool.{Bool, true, false, cond, _&&_, _||_}
 use mathlib.Core.List.{List, [], _∷_, _++_}
 use lib.Dec.{eqb, leb, ltb}
 use lib.ListN.{length, replicate}
 use Rattle.model.specs.Layout.{maxStart}
 use Rattle.model.specs.Book as book
 use Rattle.model.specs.Book.{Kept, row, persisted, Entry, Commit, Task, idle, opened, Book}
 use Rattle.model.specs.History.{Change, begins, reserves, aborts, stores, commits, flushes, Service, Call, opening, confirm, change, service, flush, settle, trim, Event, call, crash, World, Formatting, afterFormat, ends, step, AllAllowed}
-use Rattle.model.specs.Store.{Store, newStore, firstGroup, nextGroup, nextOf, placesLeft, manyHomes, toSettle, nextStart, storeMustLog, commitMustLog, reply, replyOf, follow}
+use Rattle.ledger.specs.Store.{Store, newStore, firstGroup, nextGroup, nextOf, placesLeft, manyHomes, toSettle, nextStart, storeMustLog, commitMustLog, reply, replyOf, follow}
 
 -- What has become of a place that the log has used: an entry of a writer's open transaction, of a committed one, of an aborted one; or a flush
 -- passed it over.

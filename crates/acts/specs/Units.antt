@@ -7,13 +7,13 @@ use mathlib.Core.Bool.{true, cond}
 use mathlib.Core.List.{List, [], _∷_, _++_}
 use lib.Dec.{eqb}
 use lib.ListN.{length, take}
 use Rattle.model.specs.Bytes.{part, zeros}
 use Rattle.model.specs.Batch.{readBatch}
 use Rattle.model.specs.Calls.{Outcome}
-use Rattle.model.specs.Chains.{fetchCall, reviseCall, transactCall}
+use Rattle.acts.specs.Chains.{fetchCall, reviseCall, transactCall}
 use Rattle.model.specs.Book as book
 use Rattle.model.specs.Book.{Book, homesAfter, reads as readBy}
 use Rattle.model.specs.History.{Change, begins, reserves, aborts, stores, commits, flushes, Call, opening, confirm, change, service, begin, store, commit, Event, call, crash, World, Formatting, afterFormat, lent, step, after, Allowed, AllAllowed}
 
 -- Acts
 

@@ -2,13 +2,13 @@
 use mathlib.Core.Path.{_≡_, refl}
 use mathlib.Core.Bool.{Bool, true}
 use mathlib.Core.List.{[], _∷_, _++_}
 use Rattle.model.specs.Bytes.{same}
 use Rattle.model.specs.Trials.{fresh}
 use Rattle.model.specs.Guarded.{guarded}
-use Rattle.model.specs.Chains.{blocksLent, lentOn, andThen, storedFirst, transactEffect, blocksRead, fetchEffect, blocksRight, homesKnown, allOf, mayStoreAll, mayReadAll, roomForAll, askHomes, fetchAnswer, reviseAnswer, transactAnswer, fetchCall, reviseCall, transactCall}
-use Rattle.model.specs.Units.{transactEnds, fetchEnds, reviseEnds, feedStores, feedTransact, leftBy, act, acted, relabel, labelOf, labelsFrom, lastUnit}
-use Rattle.model.specs.Together.{numberAt, numberOf, answeredBy, two, firsts, seen, together, looks, again, flushedOnce, cut, withRights}
+use Rattle.acts.specs.Chains.{blocksLent, lentOn, andThen, storedFirst, transactEffect, blocksRead, fetchEffect, blocksRight, homesKnown, allOf, mayStoreAll, mayReadAll, roomForAll, askHomes, fetchAnswer, reviseAnswer, transactAnswer, fetchCall, reviseCall, transactCall}
+use Rattle.acts.specs.Units.{transactEnds, fetchEnds, reviseEnds, feedStores, feedTransact, leftBy, act, acted, relabel, labelOf, labelsFrom, lastUnit}
+use Rattle.acts.specs.Together.{numberAt, numberOf, answeredBy, two, firsts, seen, together, looks, again, flushedOnce, cut, withRights}
 use Rattle.model.proofs.answers.Computing.{all-definitions}
 
 unfoldable together-definitions : Bool
 unfolding all-definitions blocksLent lentOn andThen storedFirst transactEffect blocksRead fetchEffect blocksRight homesKnown allOf mayStoreAll mayReadAll roomForAll askHomes fetchAnswer reviseAnswer transactAnswer fetchCall reviseCall transactCall transactEnds fetchEnds reviseEnds feedStores feedTransact leftBy act acted relabel labelOf labelsFrom lastUnit numberAt numberOf answeredBy two firsts seen together looks again flushedOnce cut withRights

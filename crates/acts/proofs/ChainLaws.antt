@@ -6,11 +6,11 @@ use native.Mathlib.Omega.{arith}
 use lib.Dec.{eqb, leb}
 use lib.ListN.{length}
 use borrow.Author.Tests.{leb-true, eqb-true, eqb-false}
 use Rattle.model.specs.State.{freePlaces}
 use Rattle.model.specs.Effects.{Given, homes}
 use Rattle.model.specs.Questions.{areasRight, stateRight, newestRight, blockRight, stripInOrder, writerKnown, homeKnown, storeAllowed, writerOpen, storeLogs, commitLogs, room, batchFits, askBlock, askNewest, storeAnswer, commitAnswer}
-use Rattle.model.specs.Chains.{blocksLent, blocksRight, homesKnown, allOf, mayStoreAll, mayReadAll, roomForAll, askHomes, fetchAnswer, reviseAnswer, transactAnswer}
+use Rattle.acts.specs.Chains.{blocksLent, blocksRight, homesKnown, allOf, mayStoreAll, mayReadAll, roomForAll, askHomes, fetchAnswer, reviseAnswer, transactAnswer}
 use Rattle.model.proofs.strip.QuestionLaws.{ask-passed, and-true}
 
 -- what every call on several homes has been lent when it is done
 pub record HomesReady (g : Given) : Type 0 where

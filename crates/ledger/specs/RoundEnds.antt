@@ -7,11 +7,11 @@ use mathlib.Core.Bool.{Bool, true, false, cond, _&&_, _||_}
 use mathlib.Core.List.{List, [], _∷_, _++_}
 use lib.Dec.{eqb}
 use lib.ListN.{length}
 use Rattle.model.specs.Layout.{homeAt}
 use Rattle.model.specs.State.{stateOf}
 use Rattle.model.specs.History.{Service, settles, roundBegins, roundSteps, trims, reads, Call, opening, confirm, change, service, settle, beginRound, stepRound, Event, call, World, Formatting, afterFormat, ends, step, after, AllAllowed}
 use Rattle.model.specs.Witnesses.{calls}
-use Rattle.model.specs.Rounds.{homesLeft, mayCome}
+use Rattle.ledger.specs.Rounds.{homesLeft, mayCome}
 
 -- a step of k homes
 unfoldable pub isStep : ℕ → Call → Bool

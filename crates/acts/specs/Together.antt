@@ -4,11 +4,11 @@ use Prim.Native.Nat.{ℕ, zero, suc}
 use mathlib.Core.Bool.{Bool, false}
 use mathlib.Core.List.{List, [], _∷_, _++_}
 use lib.ListN.{length, getD}
 use Rattle.model.specs.Bytes.{zeros}
 use Rattle.model.specs.Calls.{Outcome}
 use Rattle.model.specs.History.{opening, begin, reserve, abort, store, flush, Event, call, crash, World, ends}
 use Rattle.model.specs.Trials.{room, lane, fill, positions, fresh}
-use Rattle.model.specs.Units.{Act, plain, transacts, fetches, revises, transactEnds, fetchEnds, reviseEnds, act, acted, labelsFrom, lastUnit}
+use Rattle.acts.specs.Units.{Act, plain, transacts, fetches, revises, transactEnds, fetchEnds, reviseEnds, act, acted, labelsFrom, lastUnit}
 
 unfoldable pub numberAt : World → Event → ℕ
 numberAt w (call c) = ends w c .code
