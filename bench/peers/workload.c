@@ -425,8 +425,7 @@ static void measure(const struct store *store, const struct plan *plan, const ch
 
 static int known(const struct plan *plan)
 {
-    return plan->what && (plan->together == 1 || plan->together == TOGETHER || is(plan, "reads") || is(plan, "recovery")
-                          || is(plan, "counted"));
+    return plan->what && (plan->together || is(plan, "reads") || is(plan, "recovery") || is(plan, "counted"));
 }
 
 int measure_stores(int argc, char **argv, const struct store *stores, size_t count)
@@ -436,7 +435,7 @@ int measure_stores(int argc, char **argv, const struct store *stores, size_t cou
 
     if (argc == 6) {
         plan.what = argv[2];
-        plan.together = strtoul(argv[2], NULL, 10);
+        plan.together = is(&plan, "1") ? 1 : is(&plan, "8") ? TOGETHER : 0;
         plan.size = strtoul(argv[3], NULL, 10);
         plan.round = strtoul(argv[4], NULL, 10);
         plan.runs = strtoul(argv[5], NULL, 10);
