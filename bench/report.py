@@ -62,8 +62,21 @@ def peer_table(rows):
 
 
 def read_table(rows):
-    head = ["store", "median ns", "best ns", "best ÷ Kagutin's best"]
-    lines = [[row["store"], number(row["median_ns"]), number(row["best_ns"]), f"{float(row['ratio_of_best']):.2f}"] for row in rows]
+    head = ["store", "median ns", "best ns", "best ÷ Kagutin's best", "instructions"]
+    lines = []
+    for row in rows:
+        cells = [number(row["median_ns"]), number(row["best_ns"]), f"{float(row['ratio_of_best']):.2f}", number(row["instructions"])]
+        lines.append([row["store"]] + cells)
+    return table(head, lines)
+
+
+def recovery_table(rows):
+    head = ["store", "median µs", "best µs", "bytes written", "best ÷ Kagutin's best"]
+    lines = []
+    for row in rows:
+        micros = [number(float(row[name]) / 1000) for name in ("median_ns", "best_ns")]
+        written = number(row["bytes"]) if row["bytes"] not in ("", "n/a") else "–"
+        lines.append([row["store"]] + micros + [written, f"{float(row['ratio_of_best']):.2f}"])
     return table(head, lines)
 
 
@@ -74,14 +87,16 @@ def main():
     rows = rows_of(bench)
     tables = {
         "calls": call_table([row for row in rows if row["table"] == "calls"]),
+        "durable": call_table([row for row in rows if row["table"] == "durable"]),
         "worst": call_table([row for row in rows if row["table"] == "worst"]),
         "size": size_table([row for row in rows if row["table"] == "size"]),
     }
     if os.path.exists(peers):
         stores = rows_of(peers)
-        tables["single"] = peer_table([row for row in stores if row["together"] == "1"])
-        tables["eight"] = peer_table([row for row in stores if row["together"] == "8"])
-        tables["reads"] = read_table([row for row in stores if row["together"] == "0"])
+        tables["single"] = peer_table([row for row in stores if row["what"] == "1"])
+        tables["eight"] = peer_table([row for row in stores if row["what"] == "8"])
+        tables["reads"] = read_table([row for row in stores if row["what"] == "reads"])
+        tables["recovery"] = recovery_table([row for row in stores if row["what"] == "recovery"])
     with open(document) as file:
         text = file.read()
     for name, body in tables.items():

@@ -2,9 +2,10 @@
 """Compares the definitions with the second implementation, call by call.
 
 The second implementation prints cases on random and damaged input: what a call is lent, what it answers and leaves. For each case a statement is
-written down that the definition leaves the same answer, figure, batch length, strip, newest positions, copies, block and batch buffer, and the prover computes it.
+written down that the definition leaves the same answer, figure, batch length, strip, newest positions, copies, block and batch buffer, or of the call usage that
+it tells the same numbers, and the prover computes it.
 
-usage: definitions.py SEED COUNT      (COUNT cases; one in five is of a call on several homes)
+usage: definitions.py SEED COUNT      (COUNT cases; one in five is of a call on several homes, one in ten of usage)
 """
 import collections
 import json
@@ -28,6 +29,7 @@ use Rattle.model.specs.Bytes.{same}
 use Rattle.model.specs.Effects.{Given}
 use Rattle.model.specs.Calls.{Outcome, formatCall, openCall, beginCall, reserveCall, abortCall, storeCall, commitCall, flushCall, confirmCall, settleCall, beginRoundCall, stepRoundCall, trimCall, readCall}
 use Rattle.model.specs.Chains.{SEVERAL}
+use Rattle.model.specs.Usage.{Usage, USAGES}
 use Rattle.model.proofs.Computing.{all-definitions}
 
 data Run : Type 0 where
@@ -40,6 +42,9 @@ spread (r b n ∷ rs) = replicate n b ++ spread rs
 agrees : Outcome → ℕ → ℕ → ℕ → List Run → List Run → List Run → List Run → List Run → List Run → Bool
 agrees o c f n s p l a b t = eqb (o .code) c && eqb (o .figure) f && eqb (o .size) n && same (o .state) (spread s) && same (o .newest) (spread p) && same (o .log) (spread l) && same (o .area) (spread a) && same (o .block) (spread b) && same (o .batch) (spread t)
 
+tells : Usage → ℕ → ℕ → ℕ → ℕ → ℕ → ℕ → ℕ → Bool
+tells u c l d f p h w = eqb (u .code) c && eqb (u .live) l && eqb (u .dead) d && eqb (u .free) f && eqb (u .promised) p && eqb (u .holder) h && eqb (u .first) w
+
 gives : List Run → List Run → List Run → List Run → List Run → List Run → ℕ → ℕ → Given
 gives s p l a b t w h = record { state = spread s; newest = spread p; log = spread l; area = spread a; block = spread b; batch = spread t; writer = w; home = h }
 """
@@ -49,12 +54,23 @@ gives s p l a b t w h = record { state = spread s; newest = spread p; log = spre
 SEVERAL = """blocksLent lentOn andThen storedFirst transactEffect blocksRead fetchEffect blocksRight homesKnown allOf mayStoreAll mayReadAll
 roomForAll askHomes fetchAnswer reviseAnswer transactAnswer fetchCall reviseCall transactCall""".split()
 
+# Those of the call usage.
+USAGES = "entriesIn committedEntries openEntries noHolder holdsLower holderOf usageOf usageRefused usageIf usageCall".split()
+
 
 def runs(pairs):
     return "(" + "".join(f"r {byte} {count} ∷ " for byte, count in pairs) + "[])"
 
 
+def told(number, case):
+    lent = " ".join(runs(case[k]) for k in ("state", "newest", "log", "data", "block", "batch"))
+    numbers = " ".join(str(n) for n in [case["code"]] + case["told"])
+    return f"\ncase{number} : tells (usageCall (gives {lent} 0 0)) {numbers} ≡ true\nunfolding all-definitions spread tells gives {' '.join(USAGES)}\ncase{number} = refl\n"
+
+
 def statement(number, case):
+    if case["call"] == "usage":
+        return told(number, case)
     lent = " ".join(runs(case[k]) for k in ("state", "newest", "log", "data", "block", "batch"))
     left = " ".join(runs(case[k]) for k in ("state2", "newest2", "log2", "data2", "block2", "batch2"))
     name = {"begin_round": "beginRound", "step_round": "stepRound"}.get(case["call"], case["call"])
@@ -68,11 +84,12 @@ def statement(number, case):
 
 def main():
     seed, count = sys.argv[1:3]
-    several = int(count) // 5
-    words = [VECTORS, "--seed", seed, "--count", str(int(count) - several), "--several", str(several)]
+    several, usages = int(count) // 5, int(count) // 10
+    words = [VECTORS, "--seed", seed, "--count", str(int(count) - several - usages), "--several", str(several), "--usages", str(usages)]
     printed = subprocess.run(words, capture_output=True, text=True, check=True).stdout
     cases = [json.loads(line) for line in printed.splitlines()]
-    text = HEAD.replace("SEVERAL", ", ".join(SEVERAL)) + "".join(statement(n, case) for n, case in enumerate(cases))
+    head = HEAD.replace("SEVERAL", ", ".join(SEVERAL)).replace("USAGES", ", ".join(USAGES))
+    text = head + "".join(statement(n, case) for n, case in enumerate(cases))
     with tempfile.TemporaryDirectory() as folder:
         model = pathlib.Path(folder) / "crates/model"
         for part in ("src", "specs"):

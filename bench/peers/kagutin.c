@@ -36,7 +36,7 @@ static unsigned place_of(unsigned home)
 static uint8_t log_area[KAGUTIN_HEADER_SIZE + KAGUTIN_GROUP_SIZE * GROUPS], area[KAGUTIN_BLOCK_SIZE * ALL_HOMES];
 static uint8_t state[KAGUTIN_STATE_SIZE], newest[KAGUTIN_POSITION_SIZE * ALL_HOMES], *batch, *image;
 static size_t batch_size;
-static uint64_t written;
+static uint64_t written, trim_at; /* groups in use that make room */
 static enum driver driver;
 
 #define AREAS log_area, sizeof log_area, area, sizeof area
@@ -193,18 +193,28 @@ static uint64_t groups_in_use(void)
     return next - start;
 }
 
+static void make_room(void)
+{
+    done("settle", kagutin_settle(AREAS, STATE, BATCH));
+    done("trim", kagutin_trim(AREAS, STATE, NEWEST, BATCH));
+    if (groups_in_use() != 0)
+        fail("kagutin: trim left groups in use");
+}
+
 /* Makes durable what is committed, and room once the ring is 3/4 full. */
 static void make_durable(uint64_t ticket)
 {
     done("flush", kagutin_flush(AREAS, STATE, BATCH));
     if (done("confirm", kagutin_confirm(AREAS, STATE)) < ticket)
         fail("kagutin: a flushed commit was not confirmed");
-    if (groups_in_use() < TRIM_AT)
-        return;
-    done("settle", kagutin_settle(AREAS, STATE, BATCH));
-    done("trim", kagutin_trim(AREAS, STATE, NEWEST, BATCH));
-    if (groups_in_use() != 0)
-        fail("kagutin: trim left groups in use");
+    if (groups_in_use() >= trim_at)
+        make_room();
+}
+
+static void keep_log(void)
+{
+    make_room();
+    trim_at = GROUPS + 1;
 }
 
 static void store_block(unsigned writer, const struct write *write)
@@ -237,6 +247,18 @@ static void commit_together(const struct write *writes, size_t count)
     for (writer = 0; writer < TOGETHER; writer++)
         ticket = done("commit", kagutin_commit(AREAS, STATE, NEWEST, BATCH, writer));
     make_durable(ticket);
+}
+
+/* The groups that were filled are written; nothing of them is committed. */
+static void cut_short(const struct write *writes, size_t count, void (*cut)(void))
+{
+    size_t i;
+
+    done("begin", kagutin_begin(AREAS, STATE, 0));
+    for (i = 0; i < count; i++)
+        store_block(0, &writes[i]);
+    cut();
+    done("abort", kagutin_abort(AREAS, STATE, 0));
 }
 
 static void read_home(unsigned home, uint8_t *block)
@@ -282,6 +304,7 @@ static void open_image(const char *folder)
 static void create_with(enum driver chosen, const char *folder)
 {
     driver = chosen;
+    trim_at = TRIM_AT;
     map_image(folder);
     done("format", kagutin_format(AREAS, BATCH));
     load_and_open();
@@ -311,9 +334,12 @@ static uint64_t bytes(void)
 int main(int argc, char **argv)
 {
     static const struct store stores[] = {
-        {"kagutin", 6144, create_plain, open_image, unmap_image, commit, commit_together, read_home, bytes},
-        {"kagutin-ordered", 6144, create_ordered, open_image, unmap_image, commit, commit_together, read_home, bytes},
-        {"kagutin-msync", 6144, create_msync, open_image, unmap_image, commit, commit_together, read_home, bytes},
+        {"kagutin", 6144, create_plain, open_image, unmap_image, commit, commit_together, read_home, bytes, keep_log,
+         cut_short},
+        {"kagutin-ordered", 6144, create_ordered, open_image, unmap_image, commit, commit_together, read_home, bytes,
+         keep_log, cut_short},
+        {"kagutin-msync", 6144, create_msync, open_image, unmap_image, commit, commit_together, read_home, bytes,
+         keep_log, cut_short},
     };
 
     choose_flush();

@@ -46,7 +46,7 @@ static void close_environment(void)
     mdb_env_close(environment);
 }
 
-static void commit(const struct write *writes, size_t count)
+static MDB_txn *begin_with(const struct write *writes, size_t count)
 {
     MDB_txn *transaction;
     size_t i;
@@ -58,7 +58,21 @@ static void commit(const struct write *writes, size_t count)
 
         done("mdb_put", mdb_put(transaction, table, &key, &value, 0));
     }
-    done("mdb_txn_commit", mdb_txn_commit(transaction));
+    return transaction;
+}
+
+static void commit(const struct write *writes, size_t count)
+{
+    done("mdb_txn_commit", mdb_txn_commit(begin_with(writes, count)));
+}
+
+/* Its pages, if they are in the file at all, are free ones. */
+static void cut_short(const struct write *writes, size_t count, void (*cut)(void))
+{
+    MDB_txn *transaction = begin_with(writes, count);
+
+    cut();
+    mdb_txn_abort(transaction);
 }
 
 static void read_home(unsigned home, uint8_t *block)
@@ -78,8 +92,9 @@ int main(int argc, char **argv)
 {
     static const struct store stores[] = {
         {"lmdb", 2048, create_plain, open_environment, close_environment, commit, NULL, read_home,
-         bytes_by_write_calls},
-        {"lmdb-writemap", 2048, create_writemap, open_environment, close_environment, commit, NULL, read_home, NULL},
+         bytes_by_write_calls, NULL, cut_short},
+        {"lmdb-writemap", 2048, create_writemap, open_environment, close_environment, commit, NULL, read_home, NULL,
+         NULL, cut_short},
     };
 
     return measure_stores(argc, argv, stores, sizeof stores / sizeof *stores);

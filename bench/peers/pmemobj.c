@@ -4,6 +4,7 @@
  * environment makes the library flush cache lines; without it, a file that is
  * no persistent memory is synced by msync.
  */
+#include <errno.h>
 #include <libpmemobj.h>
 #include <stdio.h>
 #include <stdlib.h>
@@ -64,19 +65,37 @@ static void close_pool(void)
     pmemobj_close(pool);
 }
 
+/* Within a transaction: each old block goes to the undo log first. */
+static void write_blocks(const struct write *writes, size_t count)
+{
+    size_t i;
+
+    for (i = 0; i < count; i++) {
+        uint8_t *home = array + (size_t)writes[i].home * BLOCK_SIZE;
+
+        pmemobj_tx_add_range_direct(home, BLOCK_SIZE);
+        memcpy(home, writes[i].block, BLOCK_SIZE);
+    }
+}
+
 static void commit(const struct write *writes, size_t count)
 {
     TX_BEGIN(pool) {
-        size_t i;
-
-        for (i = 0; i < count; i++) {
-            uint8_t *home = array + (size_t)writes[i].home * BLOCK_SIZE;
-
-            pmemobj_tx_add_range_direct(home, BLOCK_SIZE);
-            memcpy(home, writes[i].block, BLOCK_SIZE);
-        }
+        write_blocks(writes, count);
     } TX_ONABORT {
         fail("pmemobj: transaction aborted: %s", pmemobj_errormsg());
+    } TX_END
+}
+
+/* The new blocks are in place and the old ones in the undo log. */
+static void cut_short(const struct write *writes, size_t count, void (*cut)(void))
+{
+    TX_BEGIN(pool) {
+        write_blocks(writes, count);
+        cut();
+        pmemobj_tx_abort(ECANCELED);
+    } TX_ONCOMMIT {
+        fail("pmemobj: the transaction was not undone");
     } TX_END
 }
 
@@ -88,7 +107,8 @@ static void read_home(unsigned home, uint8_t *block)
 int main(int argc, char **argv)
 {
     const char *force = getenv("PMEM_IS_PMEM_FORCE");
-    struct store store = {"pmemobj", 2048, create_pool, open_pool, close_pool, commit, NULL, read_home, BYTES};
+    struct store store = {"pmemobj", 2048, create_pool, open_pool, close_pool, commit, NULL, read_home, BYTES, NULL,
+                          cut_short};
 
     if (!force || strcmp(force, "1") != 0)
         store.name = "pmemobj-msync";

@@ -1,8 +1,9 @@
 #!/bin/sh
 # Kagutin, PMDK's libpmemobj, LMDB and SQLite doing the same transactions of
-# blocks on a memory file system. Prints a table, writes target/bench/peers.tsv
-# and, run by run, peers-runs.tsv; if it fails there is neither. A peer that is
-# not installed is skipped; packages.sh installs them.
+# blocks on a memory file system, the same reads, and an opening after the same
+# power cut. Prints a table, writes target/bench/peers.tsv and, run by run,
+# peers-runs.tsv; if it fails there is neither. A peer that is not installed is
+# skipped; packages.sh installs them. Without valgrind no instructions are counted.
 #
 #   LIB     the library, target/staticlib/libkagutin.a by default
 #   FOLDER  a folder on a memory file system, /dev/shm by default
@@ -30,7 +31,7 @@ build()
     program=$1
     shift
     # shellcheck disable=SC2086 # one word for each flag
-    "$CC" $flags "$here/workload.c" "$@" -o "$out/$program"
+    "$CC" $flags "$here/workload.c" "$here/files.c" "$@" -o "$out/$program"
 }
 
 # available PEER HEADER LIBRARIES..: can a program with them be linked?
@@ -63,25 +64,23 @@ build_all()
     fi
 }
 
-# measure PROGRAM FORCE TOGETHER BLOCKS ROUND RUNS: its lines
-measure()
+# libpmemobj reads at its start whether to flush cache lines (1) or to call msync (0).
+force_of()
 {
-    program=$1 force=$2
-    shift 2
-    work=$(mktemp -d "$FOLDER/peers.XXXXXX")
-    PMEM_IS_PMEM_FORCE=$force "$out/$program" "$work" "$@" || give_up "$program failed"
-    rm -rf "$work"
+    case $1 in
+    *-msync) echo 0 ;;
+    *) echo 1 ;;
+    esac
 }
 
-# libpmemobj reads at its start whether to flush cache lines (1) or to call msync (0).
+# measure_one NAME WHAT BLOCKS ROUND RUNS: its program's lines
 measure_one()
 {
     name=$1
     shift
-    case $name in
-    *-msync) measure "${name%-msync}" 0 "$@" ;;
-    *) measure "$name" 1 "$@" ;;
-    esac
+    work=$(mktemp -d "$FOLDER/peers.XXXXXX")
+    PMEM_IS_PMEM_FORCE=$(force_of "$name") "$out/${name%-msync}" "$work" "$@" || give_up "$name failed"
+    rm -rf "$work"
 }
 
 # measure_all ROUND RUNS PROGRAMS..: the stores take turns, so that a busy machine slows all of them
@@ -90,7 +89,10 @@ measure_all()
     round=$1 runs=$2
     shift 2
     for store in "$@"; do
-        measure_one "$store" 0 4 "$round" "$runs"
+        measure_one "$store" reads 4 "$round" "$runs"
+    done
+    for store in "$@"; do
+        measure_one "$store" recovery 4 "$round" $((3 * runs))
     done
     for together in 1 8; do
         for blocks in 1 4 16; do
@@ -99,6 +101,22 @@ measure_all()
             done
         done
     done
+}
+
+# count_reads NAME: the instructions of one read, for each store of its program. Without ERMS, memcpy is loops of wide moves
+# and no "rep movsb", whose bytes would each count.
+count_reads()
+{
+    work=$(mktemp -d "$FOLDER/peers.XXXXXX")
+    GLIBC_TUNABLES=glibc.cpu.hwcaps=-ERMS PMEM_IS_PMEM_FORCE=$(force_of "$1") valgrind --tool=callgrind --collect-atstart=no \
+        --toggle-collect=read_home --dump-after='counted_reads*' --callgrind-out-file="$out/callgrind" --log-file="$out/callgrind.log" \
+        "$out/${1%-msync}" "$work" counted 4 0 1 > "$out/counted" || give_up "$1 failed under valgrind"
+    rm -rf "$work"
+    place=0
+    while read -r store reads; do
+        place=$((place + 1))
+        awk -v store="$store" -v reads="$reads" '/^totals:/ { printf "%s\t%.1f\n", store, $2 / reads }' "$out/callgrind.$place"
+    done < "$out/counted"
 }
 
 # The one that kagutin.c chooses.
@@ -122,8 +140,16 @@ out=$(mktemp -d "$results/peers.XXXXXX") # of this run alone
 
 build_all
 : > "$out/counts.tsv"
+: > "$out/instructions.tsv"
 : > "$out/runs.tsv"
 [ -n "${programs##*pmemobj*}" ] || measure_all 0 1 pmemobj-count pmemobj-count-msync > "$out/counts.tsv"
+if command -v valgrind > /dev/null; then
+    for name in $programs; do
+        count_reads "$name" >> "$out/instructions.tsv"
+    done
+else
+    echo "peers: no valgrind here, so the instructions of a read are not counted"
+fi
 n=0
 while [ "$n" -lt "$ROUNDS" ]; do
     # shellcheck disable=SC2086 # one word for each program
@@ -131,7 +157,8 @@ while [ "$n" -lt "$ROUNDS" ]; do
     n=$((n + 1))
 done
 
-awk -v counts="$out/counts.tsv" -v tsv="$out/peers.tsv" -f "$here/table.awk" "$out/counts.tsv" "$out/runs.tsv"
+awk -v counts="$out/counts.tsv" -v instructions="$out/instructions.tsv" -v tsv="$out/peers.tsv" -f "$here/table.awk" \
+    "$out/counts.tsv" "$out/instructions.tsv" "$out/runs.tsv"
 mv "$out/peers.tsv" "$results/peers.tsv"
 mv "$out/runs.tsv" "$results/peers-runs.tsv"
 cat "$here/notes.txt"

@@ -9,7 +9,7 @@
 #include "workload.h"
 
 static sqlite3 *database;
-static sqlite3_stmt *begin_statement, *commit_statement, *insert, *update, *query;
+static sqlite3_stmt *begin_statement, *commit_statement, *rollback_statement, *insert, *update, *query;
 static const char *journal;
 
 static void expect(const char *what, int code, int wanted)
@@ -56,6 +56,7 @@ static void open_database(const char *folder)
     execute("CREATE TABLE IF NOT EXISTS homes (home INTEGER PRIMARY KEY, block BLOB NOT NULL)");
     begin_statement = prepare("BEGIN IMMEDIATE");
     commit_statement = prepare("COMMIT");
+    rollback_statement = prepare("ROLLBACK");
     insert = prepare("INSERT INTO homes (block, home) VALUES (?1, ?2)");
     update = prepare("UPDATE homes SET block = ?1 WHERE home = ?2");
     query = prepare("SELECT block FROM homes WHERE home = ?1");
@@ -77,6 +78,7 @@ static void close_database(void)
 {
     sqlite3_finalize(begin_statement);
     sqlite3_finalize(commit_statement);
+    sqlite3_finalize(rollback_statement);
     sqlite3_finalize(insert);
     sqlite3_finalize(update);
     sqlite3_finalize(query);
@@ -97,7 +99,7 @@ static void write_with(sqlite3_stmt *statement, const struct write *write)
 }
 
 /* A home without a row yet, as in the preload, gets one. */
-static void commit(const struct write *writes, size_t count)
+static void begin_with(const struct write *writes, size_t count)
 {
     size_t i;
 
@@ -107,7 +109,27 @@ static void commit(const struct write *writes, size_t count)
         if (sqlite3_changes(database) == 0)
             write_with(insert, &writes[i]);
     }
+}
+
+static void commit(const struct write *writes, size_t count)
+{
+    begin_with(writes, count);
     step(commit_statement);
+}
+
+static void keep_wal(void)
+{
+    execute("PRAGMA wal_checkpoint(TRUNCATE)");
+    execute("PRAGMA wal_autocheckpoint=0");
+}
+
+/* With a small cache, changed pages go to the log, or to the database when the old ones are in the journal. */
+static void cut_short(const struct write *writes, size_t count, void (*cut)(void))
+{
+    execute("PRAGMA cache_size=4");
+    begin_with(writes, count);
+    cut();
+    step(rollback_statement);
 }
 
 static void read_home(unsigned home, uint8_t *block)
@@ -123,9 +145,10 @@ static void read_home(unsigned home, uint8_t *block)
 int main(int argc, char **argv)
 {
     static const struct store stores[] = {
-        {"sqlite-wal", 2000, create_wal, open_database, close_database, commit, NULL, read_home, bytes_by_write_calls},
+        {"sqlite-wal", 2000, create_wal, open_database, close_database, commit, NULL, read_home, bytes_by_write_calls,
+         keep_wal, cut_short},
         {"sqlite-rollback", 256, create_rollback, open_database, close_database, commit, NULL, read_home,
-         bytes_by_write_calls},
+         bytes_by_write_calls, NULL, cut_short},
     };
 
     return measure_stores(argc, argv, stores, sizeof stores / sizeof *stores);

@@ -1,13 +1,19 @@
 # Makes one table, with ratios, of the lines that the programs print, and
-# writes the same to the file tsv. The file counts has the bytes of libpmemobj.
+# writes the same to the file tsv. The file counts has the bytes of libpmemobj,
+# the file instructions what a read takes.
 BEGIN {
     FS = "\t"
     OFS = "\t"
-    format = "  %-16s %-5s %10s %10s %10s %10s %10s %8s %10s %10s\n"
+    format = "  %-16s %-5s %10s %10s %10s %10s %10s %8s %10s %10s%s\n"
 }
 
 FILENAME == counts {
     counted[$2, $3, $4] = $8
+    next
+}
+
+FILENAME == instructions {
+    read_takes[$1] = $2
     next
 }
 
@@ -28,8 +34,8 @@ FILENAME == counts {
 }
 
 END {
-    print "together", "blocks", "store", "sync", "median_ns", "mean_ns", "best_ns", "clock_ns", "slow_ns", "bytes", "ratio", \
-        "ratio_of_best", "ratio_same_sync" > tsv
+    print "what", "blocks", "store", "sync", "median_ns", "mean_ns", "best_ns", "clock_ns", "slow_ns", "bytes", "ratio", \
+        "ratio_of_best", "ratio_same_sync", "instructions" > tsv
     for (p = 1; p <= place_count; p++)
         print_place(places[p])
 }
@@ -94,21 +100,32 @@ function mean_bytes(key)
 function print_place(place,    names, count, i, f)
 {
     split(place, f, "\t")
-    if (f[1] == 0)
+    if (f[1] == "reads")
         printf "\nreads of random homes, ns per read\n"
+    else if (f[1] == "recovery")
+        printf "\nopened again after a power cut with a full log, and one home read, ns per opening\n"
     else
         printf "\n%s, %s %s per commit\n", f[1] == 1 ? "each commit durable by itself" : f[1] " commits durable together", \
         f[2], f[2] == 1 ? "block" : "blocks"
     printf format, "store", "sync", "median ns", "mean ns", "best ns", "slow call", "bytes", "ratio", "best ratio", \
-        "same sync"
+        "same sync", f[1] == "reads" ? sprintf(" %12s", "instructions") : ""
     count = split(stores[place], names, " ")
     for (i = 1; i <= count; i++)
         print_store(names[i], place)
 }
 
-function print_store(store, place,    key, sync, m, a, b, ratios)
+# Of a read; of anything else they would leave out what the kernel does.
+function instructions_of(store, place)
+{
+    if (place !~ /^reads/ || !(store in read_takes))
+        return ""
+    return whole(read_takes[store])
+}
+
+function print_store(store, place,    key, sync, m, a, b, ratios, takes)
 {
     key = store SUBSEP place
+    takes = instructions_of(store, place)
     sync = sync_of(store)
     m = whole(median(times[key]))
     a = whole(mean(times[key]))
@@ -116,7 +133,8 @@ function print_store(store, place,    key, sync, m, a, b, ratios)
     ratios[1] = ratio(store, "kagutin", place)
     ratios[2] = sprintf("%.2f", best(times[key]) / best(times["kagutin", place]))
     ratios[3] = ratio(store, sync == "lines" ? "kagutin" : "kagutin-msync", place)
-    printf format, store, sync, m, a, b, slow[key], mean_bytes(key), ratios[1], ratios[2], ratios[3]
+    printf format, store, sync, m, a, b, slow[key] + 0 ? slow[key] : "-", mean_bytes(key), ratios[1], ratios[2], ratios[3], \
+        takes == "" ? "" : sprintf(" %12s", takes)
     print place, store, sync, m, a, b, whole(median(clocks[key])), slow[key], mean_bytes(key), ratios[1], ratios[2], \
-        ratios[3] > tsv
+        ratios[3], takes > tsv
 }

@@ -1,4 +1,4 @@
-/* The workload: random transactions, clock, medians, check at the end. */
+/* The workload: random transactions, clock, power cuts, check at the end. */
 #include "workload.h"
 
 #include <errno.h>
@@ -9,10 +9,25 @@
 #include <sys/stat.h>
 #include <time.h>
 
-enum { MOST_RUNS = 99, BLOCKS = 4096, PRELOAD = 16, MOST_SIZE = 64, LARGE = 16, FILL = 1024, READS = 1 << 18 };
+#include "files.h"
 
-/* What is measured: runs of commits transactions of size blocks. */
+enum {
+    MOST_RUNS = 99,
+    BLOCKS = 4096,
+    PRELOAD = 16,
+    MOST_SIZE = 64,
+    LARGE = 16,
+    FILL = 1024, /* commits before reads */
+    READS = 1 << 18,
+    COUNTED = 4096,
+    LOGGED = 1632, /* commits before a power cut: of 4 blocks, eight together, they take 1,020 groups */
+    UNCOMMITTED = 16, /* writes of the transaction that it cuts short */
+    PATH_SIZE = 4096
+};
+
+/* What is measured: runs of commits transactions of size blocks; together is 0 where it is no commits. */
 struct plan {
+    const char *what;
     size_t together, size, round, runs, commits;
 };
 
@@ -206,9 +221,9 @@ static void print_runs(const struct store *store, const struct plan *plan, const
     size_t i;
 
     for (i = 0; i < plan->runs; i++) {
-        printf("%lu\t%s\t%lu\t%lu\t%.1f\t%.1f\t%lu\t", (unsigned long)plan->round, store->name,
-               (unsigned long)plan->together, (unsigned long)plan->size, (double)times[i].processor / commits,
-               (double)times[i].clock / commits, (unsigned long)slow);
+        printf("%lu\t%s\t%s\t%lu\t%.1f\t%.1f\t%lu\t", (unsigned long)plan->round, store->name, plan->what,
+               (unsigned long)plan->size, (double)times[i].processor / commits, (double)times[i].clock / commits,
+               (unsigned long)slow);
         if (store->bytes)
             printf("%.1f\n", (double)bytes / (commits * (double)plan->runs));
         else
@@ -239,6 +254,22 @@ static void measure_runs(const struct store *store, const struct plan *plan)
     free(writes);
 }
 
+/* ---- reads ---- */
+
+/* Commits, made eight together, that a log still holds in part or in whole. */
+static void fill(const struct store *store, const struct plan *plan, size_t commits)
+{
+    struct plan filling = *plan;
+    struct write *writes = allocate(commits * plan->size, sizeof *writes);
+
+    filling.together = TOGETHER;
+    filling.commits = commits;
+    make_writes(writes, &filling, 0);
+    run(store, &filling, writes);
+    note_writes(writes, commits * plan->size);
+    free(writes);
+}
+
 static struct time run_reads(const struct store *store, size_t reads)
 {
     uint8_t block[BLOCK_SIZE];
@@ -254,21 +285,13 @@ static struct time run_reads(const struct store *store, size_t reads)
     return time;
 }
 
-/* Reads of random homes, after commits that a log still holds in part. A line has ns per read in place of ns per commit. */
 static void measure_reads(const struct store *store, const struct plan *plan)
 {
-    struct plan fill = *plan, reads = *plan;
+    struct plan reads = *plan;
     struct time times[MOST_RUNS];
-    struct write *writes;
     size_t i;
 
-    fill.together = TOGETHER;
-    fill.commits = FILL;
-    writes = allocate(fill.commits * fill.size, sizeof *writes);
-    make_writes(writes, &fill, 0);
-    run(store, &fill, writes);
-    note_writes(writes, fill.commits * fill.size);
-    free(writes);
+    fill(store, plan, FILL);
     reads.commits = READS;
     run_reads(store, READS);
     for (i = 0; i < plan->runs; i++)
@@ -276,23 +299,133 @@ static void measure_reads(const struct store *store, const struct plan *plan)
     print_runs(store, &reads, times, 0, 0);
 }
 
+/* Kept a function of its own, so that callgrind knows its end. */
+__attribute__((noinline)) static void counted_reads(const struct store *store)
+{
+    uint8_t block[BLOCK_SIZE];
+    size_t i;
+
+    for (i = 0; i < COUNTED; i++) {
+        unsigned home = (unsigned)(random_number() % HOMES);
+
+        store->read(home, block);
+        if (memcmp(block, expected[home], BLOCK_SIZE) != 0)
+            fail("%s: home %u reads another block than the last one committed", store->name, home);
+    }
+}
+
+static void count_reads(const struct store *store, const struct plan *plan)
+{
+    fill(store, plan, FILL);
+    counted_reads(store);
+    store->close();
+    printf("%s\t%d\n", store->name, (int)COUNTED);
+}
+
+/* ---- power cuts ---- */
+
+static char live_folder[PATH_SIZE], cut_folder[PATH_SIZE], opened_folder[PATH_SIZE];
+
+/* A memory file system shows at once what is written to a file or through a mapping. */
+static void cut_power(void)
+{
+    copy_folder(live_folder, cut_folder);
+}
+
+/* A full log, and a transaction that is not committed when power fails. */
+static void leave_cut_short(const struct store *store, const struct plan *plan)
+{
+    struct plan uncommitted = *plan;
+    struct write writes[UNCOMMITTED];
+
+    if (store->keep_log)
+        store->keep_log();
+    fill(store, plan, LOGGED);
+    uncommitted.commits = 1;
+    uncommitted.size = UNCOMMITTED;
+    make_writes(writes, &uncommitted, 1);
+    store->cut_short(writes, UNCOMMITTED, cut_power);
+    store->close();
+}
+
+/* Opens a copy of what the power cut left, and reads one home. */
+static struct time run_opening(const struct store *store, uint64_t *bytes)
+{
+    uint8_t block[BLOCK_SIZE];
+    struct time time;
+    uint64_t before;
+
+    copy_folder(cut_folder, opened_folder);
+    before = store->bytes ? store->bytes() : 0;
+    time.clock = read_clock(CLOCK_MONOTONIC);
+    time.processor = read_clock(CLOCK_PROCESS_CPUTIME_ID);
+    store->open(opened_folder);
+    store->read((unsigned)(random_number() % HOMES), block);
+    time.processor = read_clock(CLOCK_PROCESS_CPUTIME_ID) - time.processor;
+    time.clock = read_clock(CLOCK_MONOTONIC) - time.clock;
+    *bytes += store->bytes ? store->bytes() - before : 0;
+    check(store);
+    store->close();
+    remove_folder(opened_folder);
+    return time;
+}
+
+static void measure_recovery(const struct store *store, const struct plan *plan, const char *folder)
+{
+    struct plan opening = *plan;
+    struct time times[MOST_RUNS];
+    uint64_t bytes = 0;
+    size_t i;
+
+    snprintf(live_folder, PATH_SIZE, "%s", folder);
+    snprintf(cut_folder, PATH_SIZE, "%s-cut", folder);
+    snprintf(opened_folder, PATH_SIZE, "%s-opened", folder);
+    leave_cut_short(store, plan);
+    run_opening(store, &bytes);
+    bytes = 0;
+    for (i = 0; i < plan->runs; i++)
+        times[i] = run_opening(store, &bytes);
+    opening.commits = 1;
+    print_runs(store, &opening, times, 0, bytes);
+    remove_folder(cut_folder);
+}
+
+/* ---- all of it ---- */
+
+static int is(const struct plan *plan, const char *what)
+{
+    return strcmp(plan->what, what) == 0;
+}
+
 static void measure(const struct store *store, const struct plan *plan, const char *parent)
 {
-    char folder[4096];
+    char folder[PATH_SIZE / 2];
 
-    snprintf(folder, sizeof folder, "%s/%s", parent, store->name);
-    if (mkdir(folder, 0700) != 0)
+    if (snprintf(folder, sizeof folder, "%s/%s", parent, store->name) >= (int)sizeof folder || mkdir(folder, 0700) != 0)
         fail("%s: %s", folder, strerror(errno));
     store->create(folder);
     preload(store);
-    if (plan->together)
-        measure_runs(store, plan);
-    else
+    if (is(plan, "recovery")) {
+        measure_recovery(store, plan, folder);
+        return;
+    }
+    if (is(plan, "counted")) {
+        count_reads(store, plan);
+        return;
+    }
+    if (is(plan, "reads"))
         measure_reads(store, plan);
+    else
+        measure_runs(store, plan);
     store->close();
     store->open(folder);
     check(store);
     store->close();
+}
+
+static int known(const struct plan *plan)
+{
+    return plan->what && (plan->together || is(plan, "reads") || is(plan, "recovery") || is(plan, "counted"));
 }
 
 int measure_stores(int argc, char **argv, const struct store *stores, size_t count)
@@ -301,15 +434,15 @@ int measure_stores(int argc, char **argv, const struct store *stores, size_t cou
     size_t i;
 
     if (argc == 6) {
-        plan.together = strtoul(argv[2], NULL, 10);
+        plan.what = argv[2];
+        plan.together = is(&plan, "1") ? 1 : is(&plan, "8") ? TOGETHER : 0;
         plan.size = strtoul(argv[3], NULL, 10);
         plan.round = strtoul(argv[4], NULL, 10);
         plan.runs = strtoul(argv[5], NULL, 10);
     }
-    if ((plan.together > 1 && plan.together != TOGETHER) || plan.size < 1 || plan.size > MOST_SIZE || plan.runs < 1
-        || plan.runs > MOST_RUNS)
-        fail("usage: %s FOLDER TOGETHER BLOCKS ROUND RUNS; TOGETHER 0 (reads), 1 or %d, BLOCKS up to %d, RUNS up to %d", argv[0],
-             TOGETHER, MOST_SIZE, MOST_RUNS);
+    if (!known(&plan) || plan.size < 1 || plan.size > MOST_SIZE || plan.runs < 1 || plan.runs > MOST_RUNS)
+        fail("usage: %s FOLDER WHAT BLOCKS ROUND RUNS; WHAT 1, %d, reads, recovery or counted, BLOCKS up to %d, "
+             "RUNS up to %d", argv[0], TOGETHER, MOST_SIZE, MOST_RUNS);
     make_blocks();
     for (i = 0; i < count; i++) {
         plan.commits = plan.size < LARGE ? stores[i].commits : stores[i].commits / 4 / TOGETHER * TOGETHER;

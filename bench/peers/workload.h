@@ -43,15 +43,29 @@ struct store {
 
     /* Bytes written to the medium so far. Null: they cannot be counted. */
     uint64_t (*bytes)(void);
+
+    /* Empties the log; from here on it keeps every commit. Null: there is none to keep. */
+    void (*keep_log)(void);
+
+    /* Makes the writes in a transaction, calls cut before any of it is committed, and undoes it. */
+    void (*cut_short)(const struct write *writes, size_t count, void (*cut)(void));
 };
 
 /*
- * Measures stores by the program's arguments, FOLDER TOGETHER BLOCKS ROUND RUNS:
- * where to put them, how many commits become durable together (1 or 8; 0: reads
- * of random homes are timed, after some commits), blocks per transaction, a number that chooses the homes, timed runs. Prints a line
- * for each run, fields parted by tabs: round, store, together, blocks, ns per
- * commit of processor time, ns per commit by the clock; then, the same for all
- * runs, ns by the clock that one call in a thousand exceeds, bytes per commit.
+ * Measures stores by the program's arguments, FOLDER WHAT BLOCKS ROUND RUNS:
+ * where to put them, what is timed, blocks per transaction, a number that
+ * chooses the homes, timed runs. WHAT is
+ *
+ *   1, 8      commits, of which so many become durable together
+ *   reads     reads of random homes, after some commits
+ *   recovery  opening the store after a power cut, and the first read
+ *   counted   reads again, for callgrind, which is to count inside read_home
+ *             and to dump after counted_reads
+ *
+ * Prints a line for each run, fields parted by tabs: round, store, what, blocks,
+ * ns per commit (read, opening) of processor time, ns by the clock; then, the
+ * same for all runs, ns by the clock that one call in a thousand exceeds, bytes
+ * per commit (opening). Of counted reads: the store, and how many there were.
  */
 int measure_stores(int argc, char **argv, const struct store *stores, size_t count);
 

@@ -1,6 +1,6 @@
 //! All that is measured, in order.
 
-use crate::rings::{filled, half_settled, shared_first};
+use crate::rings::{filled, half_settled, held_back, shared_first};
 use crate::script::{reads, single, step, Recorder, Script, Step};
 use crate::steady;
 use second::lent::{Kind, Lent};
@@ -9,6 +9,7 @@ use second::lent::{Kind, Lent};
 #[derive(Clone, Copy, PartialEq, Eq, Debug)]
 pub enum Table {
     Calls,
+    Durable,
     Worst,
     Size,
     Use,
@@ -17,7 +18,7 @@ pub enum Table {
 impl Table {
     /// Times are taken for the tables that show them.
     pub fn is_timed(self) -> bool {
-        matches!(self, Table::Calls | Table::Worst)
+        matches!(self, Table::Calls | Table::Durable | Table::Worst)
     }
 }
 
@@ -42,24 +43,29 @@ const HOMES: u64 = 4096;
 const BLOCKS: u64 = 4;
 /// How often the ring fills in a steady state.
 const FILLINGS: u64 = 2;
+/// Commits that a flush makes durable in a steady state, where not each has its own.
+const COMMITS_PER_FLUSH: u64 = 8;
 
 pub type Visit<'a> = &'a mut dyn FnMut(Case);
 
 /// Visits each case.
 pub fn each(seed: u64, visit: Visit) {
-    steady_states(seed, visit);
+    for blocks in [1, 4, 16] {
+        visit(steady_state(seed, Table::Calls, "", blocks, COMMITS_PER_FLUSH));
+    }
+    for blocks in [1, 4, 16] {
+        visit(steady_state(seed, Table::Durable, ", flush after each", blocks, 1));
+    }
     whole_rings(seed, visit);
     worst_logs(seed, visit);
     sizes(seed, visit);
     uses(seed, visit);
 }
 
-fn steady_states(seed: u64, visit: Visit) {
-    for blocks in [1, 4, 16] {
-        let name = format!("steady, {blocks} block{}", if blocks == 1 { "" } else { "s" });
-        let scripts = vec![steady::script(seed, GROUPS, HOMES, blocks, FILLINGS)];
-        visit(Case { table: Table::Calls, name, groups: GROUPS, used: 0, scripts });
-    }
+fn steady_state(seed: u64, table: Table, detail: &str, blocks: u64, commits_per_flush: u64) -> Case {
+    let name = format!("steady, {blocks} block{}{detail}", if blocks == 1 { "" } else { "s" });
+    let scripts = vec![steady::script(seed, GROUPS, HOMES, blocks, commits_per_flush, FILLINGS)];
+    Case { table, name, groups: GROUPS, used: 0, scripts }
 }
 
 fn whole_rings(seed: u64, visit: Visit) {
@@ -96,9 +102,15 @@ fn worst_logs(seed: u64, visit: Visit) {
         let (table, name) = (Table::Worst, name.to_string());
         visit(Case { table, name, groups: GROUPS, used: GROUPS, scripts: four(seed, &lent, 8) });
     }
-    let scripts = vec![single(Kind::Trim, &half_settled(seed, GROUPS, HOMES, BLOCKS))];
-    let (table, name) = (Table::Worst, "half settled".to_string());
-    visit(Case { table, name, groups: GROUPS, used: GROUPS, scripts });
+    let trims = [
+        ("half settled", half_settled(seed, GROUPS, HOMES, BLOCKS)),
+        ("open since group 0", held_back(seed, GROUPS, HOMES, 0, BLOCKS)),
+        ("open since group 1", held_back(seed, GROUPS, HOMES, 1, BLOCKS)),
+    ];
+    for (name, lent) in trims {
+        let (table, name, scripts) = (Table::Worst, name.to_string(), vec![single(Kind::Trim, &lent)]);
+        visit(Case { table, name, groups: GROUPS, used: GROUPS, scripts });
+    }
 }
 
 /// The smallest and larger rings, with one group in use and full.

@@ -12,7 +12,7 @@ use second::tag::closing_tag;
 /// store one block each in turn, transactions have at most `blocks` blocks.
 pub fn filled(seed: u64, groups: u64, homes: u64, used: u64, blocks: u64) -> Lent {
     let mut recorder = Recorder::opened(seed, groups, homes);
-    fill(&mut recorder, used, blocks);
+    fill(&mut recorder, PLACES * used, WRITERS, blocks);
     assert_eq!(recorder.groups_used(), used);
     recorder.lent
 }
@@ -21,29 +21,47 @@ pub fn filled(seed: u64, groups: u64, homes: u64, used: u64, blocks: u64) -> Len
 /// whether a transaction of the later half began in the earlier one.
 pub fn half_settled(seed: u64, groups: u64, homes: u64, blocks: u64) -> Lent {
     let mut recorder = Recorder::opened(seed, groups, homes);
-    fill(&mut recorder, groups / 2, blocks);
+    fill(&mut recorder, PLACES * (groups / 2), WRITERS, blocks);
     recorder.call(Kind::Settle, 0, 0);
     recorder.call(Kind::Confirm, 0, 0);
-    fill(&mut recorder, groups - groups / 2, blocks);
+    fill(&mut recorder, PLACES * (groups - groups / 2), WRITERS, blocks);
     assert_eq!(recorder.groups_used(), groups);
     recorder.lent
 }
 
-/// This many groups of entries, committed and fenced.
-fn fill(recorder: &mut Recorder, used: u64, blocks: u64) {
-    let mut left = PLACES * used;
+/// A full log, all settled, in which a transaction is open that logged an entry
+/// in this group, counted from the start: trim frees the groups before it only.
+pub fn held_back(seed: u64, groups: u64, homes: u64, group: u64, blocks: u64) -> Lent {
+    let mut recorder = Recorder::opened(seed, groups, homes);
+    fill(&mut recorder, PLACES * group, WRITERS, blocks);
+    let holder = WRITERS - 1;
+    recorder.call(Kind::Begin, holder, 0);
+    let first = recorder.random_home();
+    recorder.call(Kind::Store, holder, first);
+    let second = other_home(&mut recorder, first);
+    recorder.call(Kind::Store, holder, second);
+    fill(&mut recorder, PLACES * (groups - group) - 1, holder, blocks);
+    recorder.call(Kind::Settle, 0, 0);
+    recorder.call(Kind::Confirm, 0, 0);
+    assert_eq!(recorder.groups_used(), groups);
+    recorder.lent
+}
+
+/// This many entries of the first so many writers, committed and fenced.
+fn fill(recorder: &mut Recorder, entries: u64, writers: u64, blocks: u64) {
+    let mut left = entries;
     while left > 0 {
-        left -= round(recorder, left, blocks);
+        left -= round(recorder, left, writers, blocks);
     }
     recorder.call(Kind::Flush, 0, 0);
     recorder.call(Kind::Confirm, 0, 0);
 }
 
-/// One transaction of each writer, interleaved, with at most `most` entries in
-/// all. Gives how many entries there are.
-fn round(recorder: &mut Recorder, most: u64, blocks: u64) -> u64 {
+/// One transaction of each of these writers, interleaved, with at most `most`
+/// entries in all. Gives how many entries there are.
+fn round(recorder: &mut Recorder, most: u64, writers: u64, blocks: u64) -> u64 {
     let length = |writer: u64| most.saturating_sub(writer * blocks).min(blocks);
-    let writers = || (0..WRITERS).filter(|&writer| length(writer) > 0);
+    let writers = || (0..writers).filter(|&writer| length(writer) > 0);
     for writer in writers() {
         recorder.call(Kind::Begin, writer, 0);
     }

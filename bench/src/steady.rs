@@ -1,15 +1,14 @@
 //! A station in steady state: eight writers take steps in random order, with
 //! transactions of equal length, of which four in a hundred are aborted in
-//! place of their commit. After every eighth commit there is a flush and a
-//! confirm. When three quarters of the ring are in use, no transaction begins
-//! until the open ones have ended, for trim frees no group that one reaches
-//! across; then come flush, confirm, settle, confirm and trim.
+//! place of their commit. After every eighth commit, or after each, there is a
+//! flush and a confirm. When three quarters of the ring are in use, no
+//! transaction begins until the open ones have ended, for trim frees no group
+//! that one reaches across; then come flush, confirm, settle, confirm and trim.
 
 use crate::rings::other_home;
 use crate::script::{Recorder, Script};
 use second::lent::Kind;
 
-const COMMITS_PER_FLUSH: u64 = 8;
 const ABORTS_PER_HUNDRED: u64 = 4;
 
 #[derive(Clone, Copy)]
@@ -25,15 +24,16 @@ struct Station {
     tasks: [Task; 8],
     groups: u64,
     blocks: u64,
+    commits_per_flush: u64,
     commits: u64,
     trims: u64,
 }
 
 /// A script of `trims` fillings of the ring; one more goes before.
-pub fn script(seed: u64, groups: u64, homes: u64, blocks: u64, trims: u64) -> Script {
+pub fn script(seed: u64, groups: u64, homes: u64, blocks: u64, commits_per_flush: u64, trims: u64) -> Script {
     let recorder = Recorder::opened(seed, groups, homes);
     let tasks = [Task { open: false, left: 0, last_home: 0 }; 8];
-    let mut station = Station { recorder, tasks, groups, blocks, commits: 0, trims: 0 };
+    let mut station = Station { recorder, tasks, groups, blocks, commits_per_flush, commits: 0, trims: 0 };
     while station.trims < 1 {
         station.step();
     }
@@ -76,7 +76,7 @@ impl Station {
         }
         self.recorder.call(Kind::Commit, writer, 0);
         self.commits += 1;
-        if self.commits.is_multiple_of(COMMITS_PER_FLUSH) {
+        if self.commits.is_multiple_of(self.commits_per_flush) {
             self.recorder.call(Kind::Flush, 0, 0);
             self.recorder.call(Kind::Confirm, 0, 0);
         }

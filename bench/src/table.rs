@@ -123,6 +123,7 @@ per commit              all calls of the steady state, shared out among its comm
     );
     let parts = [
         calls(rows, Table::Calls, "Calls (G 1,024, D 4,096)"),
+        calls(rows, Table::Durable, "Each commit durable by itself (G 1,024, D 4,096)"),
         calls(rows, Table::Worst, "Worst logs (G 1,024, D 4,096, full)"),
         notes,
         sizes(rows),

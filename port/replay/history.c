@@ -37,8 +37,8 @@ static void reopen(void)
 
 static enum call any_call(void)
 {
-    static const uint8_t weights[CALLS] = { 0, 0, 6, 1, 18, 4, 2, 2, 1, 1, 3, 1, 3 };
-    uint32_t n = below(42);
+    static const uint8_t weights[CALLS] = { 0, 0, 6, 1, 18, 4, 2, 2, 1, 1, 3, 1, 3, 2, 2 };
+    uint32_t n = below(46);
     unsigned k = BEGIN;
 
     while (n >= weights[k])
@@ -74,6 +74,8 @@ static void step(size_t full_batch)
 
     if (call == STEP_ROUND)
         home = below(4);
+    if (call == RESERVE)
+        home = below(12);
     if (one_in(40))
         writer = one_in(2) ? KAGUTIN_WRITERS : (uint64_t)random32() << 32;
     if (one_in(40))

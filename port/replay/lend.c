@@ -6,7 +6,7 @@
 struct lent lent;
 
 const char *const call_names[CALLS] = { "format", "open", "begin", "abort", "store", "commit", "flush", "confirm", "settle", "trim",
-                                        "read", "begin_round", "step_round" };
+                                        "read", "begin_round", "step_round", "reserve", "usage" };
 
 void lend(size_t groups, size_t homes, size_t batch_size)
 {
@@ -32,6 +32,18 @@ void lend(size_t groups, size_t homes, size_t batch_size)
 #define BLOCK lent.block, lent.block_size
 #define BATCH lent.batch, lent.batch_size
 
+/* The numbers that usage tells, eight bytes each, the lowest byte first on every machine. */
+static struct kagutin_reply tell(struct kagutin_places told)
+{
+    const uint64_t numbers[] = { told.code, told.live, told.dead, told.free, told.promised, told.holder, told.first };
+    struct kagutin_reply reply = { told.code, 0, 0 };
+    size_t i;
+
+    for (i = 0; i < sizeof numbers; i++)
+        lent.block[i] = (uint8_t)(numbers[i / 8] >> 8 * (i % 8));
+    return reply;
+}
+
 struct kagutin_reply make_call(enum call call, uint64_t writer, uint64_t home)
 {
     switch (call) {
@@ -47,6 +59,8 @@ struct kagutin_reply make_call(enum call call, uint64_t writer, uint64_t home)
     case TRIM: return kagutin_trim(AREAS, STATE, NEWEST, BATCH);
     case BEGIN_ROUND: return kagutin_begin_round(AREAS, STATE);
     case STEP_ROUND: return kagutin_step_round(AREAS, STATE, BATCH, home);
+    case RESERVE: return kagutin_reserve(AREAS, STATE, writer, home);
+    case USAGE: return tell(kagutin_usage(AREAS, STATE));
     default: return kagutin_read(AREAS, STATE, NEWEST, BLOCK, writer, home);
     }
 }

@@ -4,7 +4,7 @@
 
 #include "kagutin.h"
 
-enum call { FORMAT, OPEN, BEGIN, ABORT, STORE, COMMIT, FLUSH, CONFIRM, SETTLE, TRIM, READ, BEGIN_ROUND, STEP_ROUND, CALLS };
+enum call { FORMAT, OPEN, BEGIN, ABORT, STORE, COMMIT, FLUSH, CONFIRM, SETTLE, TRIM, READ, BEGIN_ROUND, STEP_ROUND, RESERVE, USAGE, CALLS };
 
 /* Room for one group and one home above the largest store that is played: the trials lend these too. */
 enum {
@@ -30,7 +30,7 @@ extern const char *const call_names[CALLS];
 /* Lends copies of a store of this shape, with every byte set, and a batch buffer of this size. */
 void lend(size_t groups, size_t homes, size_t batch_size);
 
-/* The call alone; of a step `home` is the number of homes. */
+/* The call alone; of a step `home` is the number of homes, of a reserve that of places. What usage tells goes to the block. */
 struct kagutin_reply make_call(enum call call, uint64_t writer, uint64_t home);
 
 /* The call, observed. */

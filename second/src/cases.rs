@@ -11,6 +11,7 @@ use crate::player::{random_crash, step, Profile, Tally};
 use crate::rights::{has_room, LIST_HOME};
 use crate::rng::Rng;
 use crate::state::{at, Writer};
+use crate::usage::usage;
 use crate::world::World;
 use std::fmt::Write;
 
@@ -64,6 +65,23 @@ impl Cases {
         disagree(rng, &mut lent, shape, kind);
         let (writer, home) = arguments(rng, kind, shape, &lent);
         finish(rng, kind, shape, writer, home, lent)
+    }
+
+    /// A case of usage, as JSON: on what a call of another kind was lent.
+    pub fn usage(&mut self) -> String {
+        let case = loop {
+            let case = self.case();
+            if case.kind.takes_state() && case.kind != Kind::Open {
+                break case;
+            }
+        };
+        let lent = case.before;
+        let told = usage(&lent.log, &lent.data, &lent.state);
+        let mut text = String::from("{\"call\":\"usage\"");
+        parts(&mut text, &lent, "");
+        let numbers = [told.live, told.dead, told.free, told.promised, told.holder, told.first];
+        write!(text, ",\"code\":{},\"told\":{numbers:?}}}", told.code).unwrap();
+        text
     }
 
     /// Plays on; an opening is tried on a fresh image half the time.
