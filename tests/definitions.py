@@ -25,12 +25,13 @@ use mathlib.Core.List.{List, [], _∷_, _++_}
 use Prim.Native.Nat.{ℕ}
 use lib.Dec.{eqb}
 use lib.ListN.{replicate}
 use Rattle.model.specs.Bytes.{same}
 use Rattle.model.specs.Effects.{Given}
 use Rattle.model.specs.Calls.{Outcome, formatCall, openCall, beginCall, reserveCall, abortCall, storeCall, commitCall, flushCall, confirmCall, settleCall, beginRoundCall, stepRoundCall, trimCall, readCall}
-use Rattle.model.specs.Chains.{SEVERAL}
-use Rattle.model.specs.Usage.{Usage, USAGES}
+use Rattle.acts.specs.Chains.{SEVERAL}
+use Rattle.model.specs.declared.Usage.{Usage}
+use Rattle.ledger.specs.Usage.{USAGES}
 use Rattle.model.proofs.Computing.{all-definitions}
 
 data Run : Type 0 where
   r : ℕ → ℕ → Run
@@ -91,16 +92,21 @@ def main():
     head = HEAD.replace("SEVERAL", ", ".join(SEVERAL)).replace("USAGES", ", ".join(USAGES))
     text = head + "".join(statement(n, case) for n, case in enumerate(cases))
     with tempfile.TemporaryDirectory() as folder:
-        model = pathlib.Path(folder) / "crates/model"
-        for part in ("src", "specs"):
-            shutil.copytree(ROOT / "crates/model" / part, model / part)
-        proofs = model / "proofs"
+        crates = pathlib.Path(folder) / "crates"
+        for name in ("model", "ledger", "acts"):
+            for part in ("src", "specs"):
+                shutil.copytree(ROOT / "crates" / name / part, crates / name / part)
+        proofs = crates / "model/proofs"
         proofs.mkdir()
         shutil.copy(ROOT / "crates/model/proofs/answers/Computing.antt", proofs)
-        (proofs / "Lib.antt").write_text("pub mod Computing\npub mod Cases\n")
-        (proofs / "Cases.antt").write_text(text)
-        (pathlib.Path(folder) / "crates.txt").write_text("model:\n")
-        told = subprocess.run(["rt", "check", "model"], cwd=folder, capture_output=True, text=True)
+        (proofs / "Lib.antt").write_text("pub mod Computing\n")
+        for part in ("src", "proofs"):
+            (crates / "cases" / part).mkdir(parents=True)
+        (crates / "cases/src/lib.rt").write_text("// cases\n")
+        (crates / "cases/proofs/Lib.antt").write_text("pub mod Cases\n")
+        (crates / "cases/proofs/Cases.antt").write_text(text)
+        (pathlib.Path(folder) / "crates.txt").write_text("model:\nledger: model\nacts: model\ncases: ledger acts model\n")
+        told = subprocess.run(["rt", "check", "cases"], cwd=folder, capture_output=True, text=True)
     answers = collections.Counter(f"{case['call']} {case['code']}" for case in cases)
     if told.returncode != 0:
         print(told.stdout[-3000:], told.stderr[-3000:], sep="\n")
