@@ -187,6 +187,15 @@ static inline const char *kagutin_answer_text(uint64_t code)
     case KAGUTIN_NO_STORE: return "no right to store to this home";
     case KAGUTIN_NO_READ: return "no right to read this home";
     case KAGUTIN_WRONG_ROUND: return "a round of settling is under way, or none is";
+    /* what stands above the store: kagutin_bands.h, kagutin_hours.h, kagutin_alarms.h */
+    case 11: return "no table of depth bands, a bad row, or a depth above 9,999 mm";
+    case 12: return "a millimetre lies in no row";
+    case 13: return "a millimetre lies in two rows or more";
+    case 14: return "no such pump, or an interval of 0";
+    case 15: return "a start while the pump runs, or a stop while it does not";
+    case 16: return "a second before the pump's last event, or a number past 32 bits";
+    case 24: return "a class out of range, an alarm already open, or one that is not";
+    case 25: return "48 alarms are open";
     default: return "not an answer";
     }
 }
