@@ -2,11 +2,13 @@
 use mathlib.Core.Path.{_≡_, refl, ap, _∙_}
 use mathlib.Core.Bool.{Bool, true, false, _&&_}
 use mathlib.Core.List.{List, [], _∷_}
-use Prim.Native.Nat.{ℕ, zero, suc, _+_, _*_, _%_, _≤_, _<_}
+use Prim.Native.Nat.{ℕ, zero, suc, _+_, _*_, _%_, _^_, _≤_, _<_}
 use native.Mathlib.Omega.{arith}
 use borrow.Author.Tests.{eqb-true, leb-true, ltb-true, le-leb, lt-leb, lt-ltb, le-ltb, eq-eqb, ne-eqb}
+use lib.Bits.{bitOr, or-shifted-r}
 use lib.Dec.{leb, ltb, eqb}
 use lib.ListN.{length, getD, drop-of-length-le}
+use lib.Pow.{shl-exact}
 use lib.Seq.{drop-cons}
 use Rattle.bands.specs.Rows.{Row, band, row, rows}
 use Rattle.bands.specs.Judge.{depths, fit, allFit, sound}
@@ -24,6 +26,14 @@ both-right false b e = let z : _≡_ {A = ℕ} 0 1 = cc in absurd (omega arith)
 
 pub both : (a b : Bool) → a ≡ true → b ≡ true → (a && b) ≡ true
 both a b e f = rw (e, f)
+
+-- ---- two bytes as one number
+
+pub two-joined : (low high : ℕ) → low < 256 → high < 256 → (bitOr low ((high * 2 ^ 8) % 2 ^ 64) ≡ low + 256 * high) × (bitOr low ((high * 2 ^ 8) % 2 ^ 64) < 65536)
+two-joined low high l h =
+    let e : bitOr low ((high * 2 ^ 8) % 2 ^ 64) ≡ low + 256 * high =
+    ap (λ (x : ℕ). bitOr low x) (shl-exact 8 8 64 h (omega arith)) ∙ or-shifted-r high 8 low l ∙ omega arith in
+    (e, rw e (omega arith))
 
 -- ---- row by row
 

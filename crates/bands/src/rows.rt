@@ -21,7 +21,7 @@ pub fn two_bytes(s: &[u8], at: usize) -> u64
     requires { ⌜ at + 2 ≤ length (now s) ⌝ }
     ensures { λ r. ⌜ (r ≡ getD (now (s .entry)) at 0 + 256 * getD (now (s .entry)) (at + 1) 0) × (r < 65536) ⌝ }
 {
-    s[at] as u64 + 256 * (s[at + 1] as u64)
+    s[at] as u64 | (s[at + 1] as u64) << 8
 }
 
 // Whether the row at byte `at` is one that a table may have.
