@@ -1,8 +1,8 @@
 /*
  * Calls on units whose instructions callgrind counts: above_cost CASE makes a
- * store of 1,024 groups and 64 homes in memory and the one call; above_cost CASE
- * list commits a list of rights first. Without words it prints each case, the
- * function to count and the most instructions it may take.
+ * store of 1,024 groups and 64 homes in memory and ends with the call, above_cost
+ * CASE list commits a list of rights first. Without words it prints each case,
+ * the function whose last call counts and the most instructions it may take.
  */
 #include <stdio.h>
 #include <stdlib.h>
@@ -39,7 +39,7 @@ static void commit_list(void)
     done("the list", kagutin_transact(COPIES, list.bytes, sizeof list.bytes, batch, sizeof batch, 0, KGT_RIGHTS_HOME).code);
 }
 
-/* Row i of 32 is the order's i-th band of 312 mm, the last one to 9,999. */
+/* A band of 312 mm, the last of the 32 to 9,999. */
 static void put_row(uint8_t *row, unsigned band)
 {
     unsigned from = 312 * band, to = band == KAGUTIN_MAX_BANDS - 1 ? KAGUTIN_DEPTHS - 1 : from + 311;
@@ -51,7 +51,15 @@ static void put_row(uint8_t *row, unsigned band)
     row[4] = (uint8_t)(band % (KAGUTIN_MAX_BAND_PUMPS + 1));
 }
 
-enum order { RISING, FALLING, STRIDE };
+/* Swapped: rising but for the last two, so that only the last row tells it. */
+enum order { RISING, FALLING, SWAPPED };
+
+static unsigned band_of(enum order order, unsigned row)
+{
+    if (order == FALLING)
+        return KAGUTIN_MAX_BANDS - 1 - row;
+    return order == SWAPPED && row >= KAGUTIN_MAX_BANDS - 2 ? 2 * KAGUTIN_MAX_BANDS - 3 - row : row;
+}
 
 static void set_table(enum order order)
 {
@@ -59,24 +67,23 @@ static void set_table(enum order order)
     unsigned i;
 
     for (i = 0; i < KAGUTIN_MAX_BANDS; i++)
-        put_row(rows + KAGUTIN_BAND_SIZE * i, order == RISING ? i : order == FALLING ? KAGUTIN_MAX_BANDS - 1 - i : 13 * i % KAGUTIN_MAX_BANDS);
+        put_row(rows + KAGUTIN_BAND_SIZE * i, band_of(order, i));
     done("the table", kagutin_bands_set(COPIES, batch, sizeof batch, rows, sizeof rows, WRITER).code);
 }
 
-/* The depth whose row stands last. */
+/* Of a depth whose row stands last. */
 static void look_up(enum order order)
 {
-    static const uint64_t last[] = {9999, 0, 13 * 31 % KAGUTIN_MAX_BANDS * 312};
-
     set_table(order);
-    done("the lookup", kagutin_bands_look_up(COPIES, WRITER, last[order]).code);
+    done("the lookup", kagutin_bands_look_up(COPIES, WRITER, 312 * (uint64_t)band_of(order, KAGUTIN_MAX_BANDS - 1)).code);
 }
 
 static void rising(void) { look_up(RISING); }
 static void falling(void) { look_up(FALLING); }
-static void stride(void) { look_up(STRIDE); }
+static void swapped(void) { look_up(SWAPPED); }
 static void set_rising(void) { set_table(RISING); }
 static void set_falling(void) { set_table(FALLING); }
+static void set_swapped(void) { set_table(SWAPPED); }
 
 static void arrive(unsigned alarms)
 {
@@ -86,7 +93,7 @@ static void arrive(unsigned alarms)
         done("the arrival", kagutin_alarm_arrive(COPIES, batch, sizeof batch, WRITER, (uint16_t)i, 1 + i % 9, 1000 - i).code);
 }
 
-static void forty(void) { arrive(40); }
+static void arrivals(void) { arrive(41); }
 
 static void gravest(void)
 {
@@ -109,11 +116,12 @@ static const struct {
 } cases[] = {
     {"lookup-rising", "kagutin_bands_look_up", 2500, rising},
     {"lookup-falling", "kagutin_bands_look_up", 10000, falling},
-    {"lookup-stride", "kagutin_bands_look_up", 10000, stride},
+    {"lookup-swapped", "kagutin_bands_look_up", 10000, swapped},
     {"set-rising", "kagutin_bands_set", 20000, set_rising},
     {"set-falling", "kagutin_bands_set", 20000, set_falling},
+    {"set-swapped", "kagutin_bands_set", 20000, set_swapped},
     {"gravest", "kagutin_alarm_gravest", 800, gravest},
-    {"40-arrivals", "kagutin_alarm_arrive", 40 * 20000, forty},
+    {"arrival", "kagutin_alarm_arrive", 20000, arrivals},
     {"start", "kagutin_pump_start", 20000, start},
     {"hours", "kagutin_pump_hours", 20000, hours},
 };
