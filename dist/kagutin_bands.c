@@ -64,6 +64,31 @@ struct bands__judging__Verdict {
     uint64_t millimetre;
 };
 
+#if defined(__GNUC__) && !defined(KAGUTIN_PLAIN_C)
+#define QUICK_C 1
+#else
+#define QUICK_C 0
+#endif
+
+#if QUICK_C && defined(__BYTE_ORDER__) && defined(__ORDER_LITTLE_ENDIAN__) && __BYTE_ORDER__ == __ORDER_LITTLE_ENDIAN__ \
+    && (defined(__x86_64__) || defined(__i386__) || defined(__ARM_FEATURE_UNALIGNED))
+#define WHOLE_WORDS 1
+#else
+#define WHOLE_WORDS 0
+#endif
+
+/* The number that 2 bytes make, lowest byte first. */
+static inline uint64_t load_2(const uint8_t *p)
+{
+#if WHOLE_WORDS
+    uint16_t x;
+
+    memcpy(&x, p, 2);
+    return x;
+#else
+    return p[0] | (uint64_t)p[1] << 8;
+#endif
+}
 
 static inline struct answers__Reply kagutin__kagutin_fetch(struct slice_u8 log, struct slice_u8 area, struct slice_u8 state,
         struct slice_u8 newest, struct slice_mut_u8 blocks, uint64_t writer, uint64_t home)
@@ -74,20 +99,53 @@ static inline struct answers__Reply kagutin__kagutin_fetch(struct slice_u8 log, 
     return (struct answers__Reply){.code = (uint64_t)r.code, .figure = (uint64_t)r.figure, .size = (uint64_t)r.size};
 }
 
+/* Whether a strip holds 1 to 32 whole rows. */
+static inline bool bands__rows__sized(struct slice_u8 s)
+{
+    if ((uint64_t)s.len == 0u) {
+        return false;
+    }
+    if (((uint64_t)5u * 32u) < (uint64_t)s.len) {
+        return false;
+    }
+    return ((uint64_t)s.len % 5u) == 0u;
+}
+
 /* Whether the row at byte `at` is one that a table may have. */
 static inline bool bands__rows__fit(struct slice_u8 s, uint64_t at)
 {
-    uint64_t t3, t10;
+    uint64_t t3;
 
-    t10 = at + 2u;
-    t3 = (uint64_t)s.ptr[(size_t)t10] + (256u * (uint64_t)s.ptr[(size_t)(t10 + 1u)]);
-    if (t3 < ((uint64_t)s.ptr[(size_t)at] + (256u * (uint64_t)s.ptr[(size_t)(at + 1u)]))) {
+    t3 = load_2(s.ptr + (size_t)(at + 2u));
+    if (t3 < load_2(s.ptr + (size_t)at)) {
         return false;
     }
     if (10000u <= t3) {
         return false;
     }
     return s.ptr[(size_t)(at + 4u)] <= 4u;
+}
+
+/* Whether each row is one that a table may have and begins one past the row before it, from 0 to the greatest depth. */
+static inline bool bands__judging__tiled(struct slice_u8 s)
+{
+    uint64_t t2, t3;
+    bool t5;
+
+    t2 = 0u;
+    t3 = 0u;
+    while (t3 < (uint64_t)s.len) {
+        if (load_2(s.ptr + (size_t)t3) != t2) {
+            return false;
+        }
+        t5 = bands__rows__fit(s, t3);
+        if (!t5) {
+            return false;
+        }
+        t2 = load_2(s.ptr + (size_t)(t3 + 2u)) + 1u;
+        t3 = t3 + 5u;
+    }
+    return t2 == 10000u;
 }
 
 /* Whether all rows of a strip of whole rows are such. */
@@ -110,13 +168,10 @@ static inline bool bands__rows__all_fit(struct slice_u8 s)
 /* Whether a strip holds 1 to 32 whole rows that a table may have. */
 static inline bool bands__rows__sound(struct slice_u8 s)
 {
-    if ((uint64_t)s.len == 0u) {
-        return false;
-    }
-    if (((uint64_t)5u * 32u) < (uint64_t)s.len) {
-        return false;
-    }
-    if (((uint64_t)s.len % 5u) != 0u) {
+    bool t2;
+
+    t2 = bands__rows__sized(s);
+    if (!t2) {
         return false;
     }
     return bands__rows__all_fit(s);
@@ -125,59 +180,25 @@ static inline bool bands__rows__sound(struct slice_u8 s)
 /* The millimetres of all rows together. */
 static inline uint64_t bands__judging__width(struct slice_u8 s)
 {
-    uint64_t t2, t3, t11;
+    uint64_t t2, t3;
 
     t2 = 0u;
     t3 = 0u;
     while (t3 < (uint64_t)s.len) {
-        t11 = t3 + 2u;
-        t2 = t2 + ((((uint64_t)s.ptr[(size_t)t11] + (256u * (uint64_t)s.ptr[(size_t)(t11 + 1u)]))
-                + 1u) - ((uint64_t)s.ptr[(size_t)t3] + (256u * (uint64_t)s.ptr[(size_t)(t3 + 1u)])));
+        t2 = t2 + ((load_2(s.ptr + (size_t)(t3 + 2u)) + 1u) - load_2(s.ptr + (size_t)t3));
         t3 = t3 + 5u;
     }
     return t2;
 }
 
-/* Whether each row begins one past the row before it, the first at 0, and the last ends at the greatest depth. */
-static inline bool bands__judging__rising(struct slice_u8 s)
-{
-    uint64_t t2, t3, t17;
-
-    t2 = 0u;
-    t3 = 0u;
-    while (t3 < (uint64_t)s.len) {
-        if (((uint64_t)s.ptr[(size_t)t3] + (256u * (uint64_t)s.ptr[(size_t)(t3 + 1u)])) != t2) {
-            return false;
-        }
-        t17 = t3 + 2u;
-        t2 = ((uint64_t)s.ptr[(size_t)t17] + (256u * (uint64_t)s.ptr[(size_t)(t17 + 1u)])) + 1u;
-        t3 = t3 + 5u;
-    }
-    return t2 == 10000u;
-}
-
-/* Whether a millimetre lies in the row at byte `at`. */
-static inline bool bands__rows__holds(struct slice_u8 s, uint64_t at, uint64_t mm)
-{
-    uint64_t t17;
-
-    if (mm < ((uint64_t)s.ptr[(size_t)at] + (256u * (uint64_t)s.ptr[(size_t)(at + 1u)]))) {
-        return false;
-    }
-    t17 = at + 2u;
-    return mm <= ((uint64_t)s.ptr[(size_t)t17] + (256u * (uint64_t)s.ptr[(size_t)(t17 + 1u)]));
-}
-
-/* The byte at which the first row begins that a millimetre lies in; the strip's length if it lies in none. */
-static inline uint64_t bands__rows__holder(struct slice_u8 s, uint64_t mm)
+/* The byte at which the first row stands that begins at a millimetre; the strip's length if none does. */
+static inline uint64_t bands__rows__starter(struct slice_u8 s, uint64_t mm)
 {
     uint64_t t3;
-    bool t6;
 
     t3 = 0u;
     while (t3 < (uint64_t)s.len) {
-        t6 = bands__rows__holds(s, t3, mm);
-        if (t6) {
+        if (load_2(s.ptr + (size_t)t3) == mm) {
             return t3;
         }
         t3 = t3 + 5u;
@@ -185,51 +206,45 @@ static inline uint64_t bands__rows__holder(struct slice_u8 s, uint64_t mm)
     return t3;
 }
 
-/* The lowest millimetre in no row, from row to row; `DEPTHS` if there is none. */
-static inline uint64_t bands__judging__walk(struct slice_u8 s)
+/* Whether rows of as many millimetres as there are depths follow one another, in any order, from 0 to the greatest depth. */
+static inline bool bands__judging__chained(struct slice_u8 s)
 {
-    uint64_t t2, t3, t8;
+    uint64_t t2, t3;
 
     t2 = 0u;
     while (t2 < 10000u) {
-        t3 = bands__rows__holder(s, t2);
+        t3 = bands__rows__starter(s, t2);
         if ((uint64_t)s.len <= t3) {
-            return t2;
+            return false;
         }
-        t8 = t3 + 2u;
-        t2 = ((uint64_t)s.ptr[(size_t)t8] + (256u * (uint64_t)s.ptr[(size_t)(t8 + 1u)])) + 1u;
+        t2 = load_2(s.ptr + (size_t)(t3 + 2u)) + 1u;
     }
-    return 10000u;
-}
-
-/* The lowest millimetre in no row; `DEPTHS` if there is none. */
-static inline uint64_t bands__judging__uncovered(struct slice_u8 s)
-{
-    bool t2;
-
-    t2 = bands__judging__rising(s);
-    if (t2) {
-        return 10000u;
-    }
-    return bands__judging__walk(s);
+    return true;
 }
 
 /* Whether a strip of rows is accepted, with no refusal told. */
 static inline bool bands__judging__accepts(struct slice_u8 rows)
 {
-    bool t2;
-    uint64_t t4;
+    bool t2, t4;
+    uint64_t t5;
 
+    t2 = bands__rows__sized(rows);
+    if (!t2) {
+        return false;
+    }
+    t4 = bands__judging__tiled(rows);
+    if (t4) {
+        return true;
+    }
     t2 = bands__rows__sound(rows);
     if (!t2) {
         return false;
     }
-    t4 = bands__judging__width(rows);
-    if (t4 != 10000u) {
+    t5 = bands__judging__width(rows);
+    if (t5 != 10000u) {
         return false;
     }
-    t4 = bands__judging__uncovered(rows);
-    return t4 == 10000u;
+    return bands__judging__chained(rows);
 }
 
 /* The number of rows of the table that the blocks hold; 0 if that is no acceptable one. */
@@ -249,18 +264,42 @@ static inline uint64_t bands__packed__judge_packed(struct slice_u8 packed)
     return t2;
 }
 
+/* Whether a millimetre lies in the row at byte `at`. */
+static inline bool bands__rows__holds(struct slice_u8 s, uint64_t at, uint64_t mm)
+{
+    if (mm < load_2(s.ptr + (size_t)at)) {
+        return false;
+    }
+    return mm <= load_2(s.ptr + (size_t)(at + 2u));
+}
+
+/* The byte at which the first row begins that a millimetre lies in; the strip's length if it lies in none. */
+static inline uint64_t bands__rows__holder(struct slice_u8 s, uint64_t mm)
+{
+    uint64_t t3;
+    bool t6;
+
+    t3 = 0u;
+    while (t3 < (uint64_t)s.len) {
+        t6 = bands__rows__holds(s, t3, mm);
+        if (t6) {
+            return t3;
+        }
+        t3 = t3 + 5u;
+    }
+    return t3;
+}
+
 /* The first row that a millimetre lies in; zeros if it lies in none. */
 static inline struct bands__rows__Row bands__rows__find(struct slice_u8 s, uint64_t mm)
 {
-    uint64_t t3, t22;
+    uint64_t t3;
 
     t3 = bands__rows__holder(s, mm);
     if ((uint64_t)s.len <= t3) {
         return (struct bands__rows__Row){.from = 0u, .to = 0u, .pumps = 0u};
     }
-    t22 = t3 + 2u;
-    return (struct bands__rows__Row){.from = (uint64_t)s.ptr[(size_t)t3] + (256u * (uint64_t)s.ptr[(size_t)(t3 + 1u)]),
-            .to = (uint64_t)s.ptr[(size_t)t22] + (256u * (uint64_t)s.ptr[(size_t)(t22 + 1u)]),
+    return (struct bands__rows__Row){.from = load_2(s.ptr + (size_t)t3), .to = load_2(s.ptr + (size_t)(t3 + 2u)),
             .pumps = (uint64_t)s.ptr[(size_t)(t3 + 4u)]};
 }
 
@@ -298,6 +337,51 @@ static inline struct band_calls__Band band_calls__kagutin_bands_look_up(struct s
     return (struct band_calls__Band){.code = t9.code, .from = t9.from, .to = t9.to, .pumps = t9.pumps};
 }
 
+/* Whether each row begins one past the row before it, the first at 0, and the last ends at the greatest depth. */
+static inline bool bands__judging__rising(struct slice_u8 s)
+{
+    uint64_t t2, t3;
+
+    t2 = 0u;
+    t3 = 0u;
+    while (t3 < (uint64_t)s.len) {
+        if (load_2(s.ptr + (size_t)t3) != t2) {
+            return false;
+        }
+        t2 = load_2(s.ptr + (size_t)(t3 + 2u)) + 1u;
+        t3 = t3 + 5u;
+    }
+    return t2 == 10000u;
+}
+
+/* The lowest millimetre in no row, from row to row; `DEPTHS` if there is none. */
+static inline uint64_t bands__judging__walk(struct slice_u8 s)
+{
+    uint64_t t2, t3;
+
+    t2 = 0u;
+    while (t2 < 10000u) {
+        t3 = bands__rows__holder(s, t2);
+        if ((uint64_t)s.len <= t3) {
+            return t2;
+        }
+        t2 = load_2(s.ptr + (size_t)(t3 + 2u)) + 1u;
+    }
+    return 10000u;
+}
+
+/* The lowest millimetre in no row; `DEPTHS` if there is none. */
+static inline uint64_t bands__judging__uncovered(struct slice_u8 s)
+{
+    bool t2;
+
+    t2 = bands__judging__rising(s);
+    if (t2) {
+        return 10000u;
+    }
+    return bands__judging__walk(s);
+}
+
 /* The lowest millimetre in two rows; `DEPTHS` if there is none. */
 static inline uint64_t bands__judging__common(uint64_t from, uint64_t to, uint64_t other_from, uint64_t other_to)
 {
@@ -333,17 +417,14 @@ static inline uint64_t bands__judging__lesser(uint64_t a, uint64_t b)
 /* The lowest millimetre in the row at byte `at` and in a row behind it. */
 static inline uint64_t bands__judging__shared(struct slice_u8 s, uint64_t at)
 {
-    uint64_t t3, t4, t5, t6, t10, t23, t42;
+    uint64_t t3, t4, t5, t6, t10;
 
-    t3 = (uint64_t)s.ptr[(size_t)at] + (256u * (uint64_t)s.ptr[(size_t)(at + 1u)]);
-    t23 = at + 2u;
-    t4 = (uint64_t)s.ptr[(size_t)t23] + (256u * (uint64_t)s.ptr[(size_t)(t23 + 1u)]);
+    t3 = load_2(s.ptr + (size_t)at);
+    t4 = load_2(s.ptr + (size_t)(at + 2u));
     t5 = 10000u;
     t6 = at + 5u;
     while (t6 < (uint64_t)s.len) {
-        t42 = t6 + 2u;
-        t10 = bands__judging__common(t3, t4, (uint64_t)s.ptr[(size_t)t6] + (256u * (uint64_t)s.ptr[(size_t)(t6 + 1u)]),
-                (uint64_t)s.ptr[(size_t)t42] + (256u * (uint64_t)s.ptr[(size_t)(t42 + 1u)]));
+        t10 = bands__judging__common(t3, t4, load_2(s.ptr + (size_t)t6), load_2(s.ptr + (size_t)(t6 + 2u)));
         t5 = bands__judging__lesser(t5, t10);
         t6 = t6 + 5u;
     }

@@ -148,4 +148,20 @@ says "two sheets" 2 "--csv and --html" "$san/wear" --csv --html a x
 says "cannot be created" 3 "a page in a missing folder" "$san/wear" --html "$tmp/no/page.html" "$tmp/north.img"
 gives 0 "--help" "$san/wear" --help
 
+# --- cost: the last call of each case, with no list of rights and with one in the log ---
+if command -v valgrind > /dev/null; then
+    "$out/above_cost" > "$tmp/cases"
+    while read -r case function most; do
+        for list in '' list; do
+            valgrind --tool=callgrind --callgrind-out-file="$tmp/callgrind" --toggle-collect="$function" --zero-before="$function" \
+                "$out/above_cost" "$case" $list > "$tmp/out" 2> "$tmp/log"
+            cost=$(sed -n 's/.*Collected : //p' "$tmp/log")
+            [ "${cost:-0}" -gt 0 ] && [ "$cost" -le "$most" ]
+            report $? "cost, $case${list:+ with a list}: $cost instructions"
+        done
+    done < "$tmp/cases"
+else
+    echo "skipped cost: valgrind is not installed"
+fi
+
 count above-check

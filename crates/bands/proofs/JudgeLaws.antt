@@ -1,6 +1,6 @@
 -- The verdict, question by question. Assumes nothing.
 use mathlib.Core.Path.{_≡_, refl, sym, ap, _∙_}
-use mathlib.Core.Bool.{Bool, true, false}
+use mathlib.Core.Bool.{Bool, true, false, _&&_}
 use mathlib.Core.List.{List}
 use Prim.Native.Nat.{ℕ, _≤_, _<_}
 use native.Mathlib.Omega.{arith}
@@ -8,9 +8,9 @@ use borrow.Author.Tests.{leb-true, leb-false, ltb-true, ltb-false, lt-ltb, le-lt
 use lib.Dec.{eqb, leb, ltb}
 use lib.ListN.{length}
 use Rattle.bands.specs.Rows.{Row, rows, count}
-use Rattle.bands.specs.Judge.{Verdict, verdict, depths, sound, uncovered, doubled, overlaps, coverage, judgement}
-use Rattle.bands.specs.Sweep.{rising, width}
-use Rattle.bands.proofs.RowLaws.{sound-short, sound-fit}
+use Rattle.bands.specs.Judge.{Verdict, verdict, depths, allFit, sound, uncovered, doubled, overlaps, coverage, judgement}
+use Rattle.bands.specs.Sweep.{sized, rising, width}
+use Rattle.bands.proofs.RowLaws.{both-left, both-right, sound-short, sound-fit, sound-unsized, sound-rest}
 use Rattle.bands.proofs.LowestLaws.{uncovered-is, uncovered-passed, uncovered-high, doubled-is, doubled-passed}
 use Rattle.bands.proofs.SweepLaws.{rising-one}
 use Rattle.bands.proofs.WidthLaws.{width-single, single-width}
@@ -89,11 +89,24 @@ accepted-short strip h = sound-short strip (accepted-sound strip h)
 code-of : (strip : List ℕ) {code mm : ℕ} → judgement strip ≡ verdict code mm → judgement strip .code ≡ code
 code-of strip v = ap (λ (x : Verdict). x .code) v
 
-refuses : (strip : List ℕ) {code mm : ℕ} → judgement strip ≡ verdict code mm → (code ≡ 0 → ⊥) → false ≡ eqb (judgement strip .code) 0
+pub refuses : (strip : List ℕ) {code mm : ℕ} → judgement strip ≡ verdict code mm → (code ≡ 0 → ⊥) → false ≡ eqb (judgement strip .code) 0
 refuses strip v n = sym (ne-eqb (judgement strip .code) 0 (λ z. n (sym (code-of strip v) ∙ z)))
 
 pub accepts-unsound : (strip : List ℕ) → sound strip ≡ false → false ≡ eqb (judgement strip .code) 0
 accepts-unsound strip e = refuses strip (judged-unsound strip e) (λ z. omega arith)
+
+pub accepts-unsized : (strip : List ℕ) → sized strip ≡ false → false ≡ eqb (judgement strip .code) 0
+accepts-unsized strip e = accepts-unsound strip (sound-unsized strip e)
+
+-- rows that a table may have and that rise without a gap are accepted
+pub accepts-tiled : (strip : List ℕ) → sized strip ≡ true → (allFit (rows strip) && rising 0 (rows strip)) ≡ true → true ≡ eqb (judgement strip .code) 0
+accepts-tiled strip z t =
+    let f = both-left (allFit (rows strip)) _ t in
+    let r = both-right (allFit (rows strip)) _ t in
+    let e = sound-rest strip z ∙ f in
+    let u = rising-covered strip e r in
+    let d = doubled-is (rows strip) 10000 (omega arith) (λ mm h. omega (arith, rising-one mm 0 (rows strip) r f (omega arith) h)) (λ h. absurd (omega arith)) in
+    sym (eq-eqb (judgement strip .code) 0 (code-of strip (judged-sound strip e ∙ coverage-one (rows strip) (omega arith) (omega arith))))
 
 module _ (strip : List ℕ) (e : sound strip ≡ true) {sum : ℕ} (w : sum ≡ width (rows strip)) where
   pub accepts-wide : (sum ≡ 10000 → ⊥) → false ≡ eqb (judgement strip .code) 0

@@ -8,6 +8,7 @@ pub mod JudgeLaws
 pub mod PackLaws
 pub mod TableLaws
 pub mod MemberLaws
+pub mod ChainLaws
 pub mod Promised
 pub mod Examples
 pub mod StoredHolds

@@ -1,6 +1,6 @@
 -- One turn of each loop over a strip of rows, and its end. Assumes nothing.
 use mathlib.Core.Path.{_≡_, refl, sym, ap, _∙_}
-use mathlib.Core.Bool.{Bool, true, false}
+use mathlib.Core.Bool.{Bool, true, false, _&&_}
 use mathlib.Core.List.{List, _∷_}
 use Prim.Native.Nat.{ℕ, _+_, _-_, _*_, _%_, _≤_, _<_, min}
 use native.Mathlib.Omega.{arith}
@@ -10,7 +10,7 @@ use lib.ListN.{length, getD, List·getD-eq-default}
 use Rattle.bands.specs.Rows.{Row, band, row, rows, holds, count, place, lookup}
 use Rattle.bands.specs.Judge.{depths, fit, allFit, uncovered}
 use Rattle.bands.specs.Sweep.{rest, rowAt, rising, width, common, shared, twice}
-use Rattle.bands.proofs.RowLaws.{rest-row, rest-end, rest-all, numberAt, row-from, row-to, row-pumps, rows-whole, row-of, fit-order, fit-deep, fit-pumps, fit-ordered, all-first, all-rest}
+use Rattle.bands.proofs.RowLaws.{rest-row, rest-end, rest-all, numberAt, row-from, row-to, row-pumps, rows-whole, row-of, fit-order, fit-deep, fit-pumps, fit-ordered, all-first, all-rest, fits-over, fits-under, fits-ended}
 use Rattle.bands.proofs.CountLaws.{holds-below, holds-low, holds-test, place-holds, place-none}
 use Rattle.bands.proofs.LowestLaws.{uncovered-is}
 use Rattle.bands.proofs.WidthLaws.{width-nil, width-cons}
@@ -59,6 +59,30 @@ module _ (s : List ℕ) (at next : ℕ) where
   pub rising-ended : length s ≤ at → rising next (rest s at) ≡ eqb next 10000
   unfolding rising depths
   rising-ended h = rw (rest-end s at h)
+
+-- ---- rows that a table may have and that rise
+
+both-false : (a : Bool) → (a && false) ≡ false
+both-false true = refl
+both-false false = refl
+
+module _ (s : List ℕ) (at next : ℕ) where
+  module _ (h : at + 5 ≤ length s) {from : ℕ} (a : from ≡ numberAt s at) where
+    pub tiled-broken : (from ≡ next → ⊥) → (allFit (rest s at) && rising next (rest s at)) ≡ false
+    tiled-broken n = rw (rising-broken s at next h a n) (both-false (allFit (rest s at)))
+
+    pub tiled-over : {to : ℕ} → to ≡ numberAt s (at + 2) → from ≡ next → fit (rowAt s at) ≡ true
+        → (allFit (rest s at) && rising next (rest s at)) ≡ (allFit (rest s (at + 5)) && rising (to + 1) (rest s (at + 5)))
+    tiled-over b e f = rw (rising-over s at next h a b e, fits-over s at h f)
+
+  pub tiled-unfit : at + 5 ≤ length s → fit (rowAt s at) ≡ false → (allFit (rest s at) && rising next (rest s at)) ≡ false
+  tiled-unfit h f = rw (fits-under s at h f)
+
+  pub tiled-ended : length s ≤ at → (allFit (rest s at) && rising next (rest s at)) ≡ eqb next 10000
+  tiled-ended h = rw (fits-ended s at h, rising-ended s at next h)
+
+pub tiled-all : (s : List ℕ) → (allFit (rest s 0) && rising 0 (rest s 0)) ≡ (allFit (rows s) && rising 0 (rows s))
+tiled-all s = ap (λ rs. allFit rs && rising 0 rs) (rest-all s)
 
 -- ---- the row found
 

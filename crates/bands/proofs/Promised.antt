@@ -3,9 +3,9 @@ use mathlib.Core.Path.{_≡_, refl, sym, ap, _∙_}
 use mathlib.Core.Bool.{Bool, true, false}
 use mathlib.Core.List.{List, [], _∷_}
 use mathlib.Core.Option.{none, some}
-use Prim.Native.Nat.{ℕ, zero, suc, _-_, _*_, _/_, _≤_, _<_}
+use Prim.Native.Nat.{ℕ, zero, suc, _-_, _*_, _/_, _%_, _≤_, _<_}
 use native.Mathlib.Omega.{arith}
-use borrow.Author.Tests.{ltb-true, ltb-false, le-leb}
+use borrow.Author.Tests.{ltb-true, ltb-false, le-leb, eq-eqb}
 use lib.Dec.{ltb}
 use lib.ListN.{length, getD, replicate}
 use lib.Seq.{take-at}
@@ -13,7 +13,7 @@ use Rattle.bands.specs.Rows.{Row, rows, place, lookup}
 use Rattle.bands.specs.Judge.{Verdict, verdict, fit, allFit, sound, uncovered, doubled, coverage, judgement}
 use Rattle.bands.specs.Packed.{pack, held, acceptable, unpack, lookUp, found}
 use Rattle.bands.specs.Promises.{rowOf, InSome, InOne, Fit, Sound, Judged, accepted, unsound, gap, double, Told, Promise, Blank}
-use Rattle.bands.proofs.RowLaws.{rows-whole, fit-pumps, fit-ordered, fit-shallow, fit-few, all-nil, all-first, all-rest, all-cons, sound-some, sound-short, sound-whole, sound-fit, sound-rest}
+use Rattle.bands.proofs.RowLaws.{rows-whole, fit-pumps, fit-ordered, fit-shallow, fit-few, all-nil, all-first, all-rest, all-cons, sound-some, sound-short, sound-whole, sound-fit, sized-whole, sound-rest}
 use Rattle.bands.proofs.LowestLaws.{uncovered-is, uncovered-passed, uncovered-here, doubled-is, doubled-passed, doubled-here}
 use Rattle.bands.proofs.JudgeLaws.{coverage-gap, coverage-double, coverage-one, judged-unsound, judged-sound, accepted-sound, accepted-short}
 use Rattle.bands.proofs.PackLaws.{pack-length}
@@ -51,7 +51,8 @@ module _ (strip : List ℕ) where
   asked-sound : Sound strip → sound strip ≡ true
   asked-sound h =
       let w = rows-whole strip (h .whole) in
-      sound-rest strip (λ z. omega (arith, h .present)) (omega (arith, h .few)) (h .whole) ∙ each-all (rows strip) (h .each)
+      let z = sized-whole strip (λ z. omega (arith, h .present)) (omega (arith, h .few)) ∙ eq-eqb (length strip % 5) 0 (h .whole) in
+      sound-rest strip z ∙ each-all (rows strip) (h .each)
 
   -- ---- the answers
 

@@ -2,15 +2,17 @@
 use mathlib.Core.Path.{_≡_, refl, ap, _∙_}
 use mathlib.Core.Bool.{Bool, true, false, _&&_}
 use mathlib.Core.List.{List, [], _∷_}
-use Prim.Native.Nat.{ℕ, zero, suc, _+_, _*_, _%_, _≤_, _<_}
+use Prim.Native.Nat.{ℕ, zero, suc, _+_, _*_, _%_, _^_, _≤_, _<_}
 use native.Mathlib.Omega.{arith}
 use borrow.Author.Tests.{eqb-true, leb-true, ltb-true, le-leb, lt-leb, lt-ltb, le-ltb, eq-eqb, ne-eqb}
+use lib.Bits.{bitOr, or-shifted-r}
 use lib.Dec.{leb, ltb, eqb}
 use lib.ListN.{length, getD, drop-of-length-le}
+use lib.Pow.{shl-exact}
 use lib.Seq.{drop-cons}
 use Rattle.bands.specs.Rows.{Row, band, row, rows}
 use Rattle.bands.specs.Judge.{depths, fit, allFit, sound}
-use Rattle.bands.specs.Sweep.{rest, rowAt}
+use Rattle.bands.specs.Sweep.{sized, rest, rowAt}
 
 -- ---- both parts of a test
 
@@ -24,6 +26,14 @@ both-right false b e = let z : _≡_ {A = ℕ} 0 1 = cc in absurd (omega arith)
 
 pub both : (a b : Bool) → a ≡ true → b ≡ true → (a && b) ≡ true
 both a b e f = rw (e, f)
+
+-- ---- two bytes as one number
+
+pub two-joined : (low high : ℕ) → low < 256 → high < 256 → (bitOr low ((high * 2 ^ 8) % 2 ^ 64) ≡ low + 256 * high) × (bitOr low ((high * 2 ^ 8) % 2 ^ 64) < 65536)
+two-joined low high l h =
+    let e : bitOr low ((high * 2 ^ 8) % 2 ^ 64) ≡ low + 256 * high =
+    ap (λ (x : ℕ). bitOr low x) (shl-exact 8 8 64 h (omega arith)) ∙ or-shifted-r high 8 low l ∙ omega arith in
+    (e, rw e (omega arith))
 
 -- ---- row by row
 
@@ -145,6 +155,11 @@ pub all-rest : (r : Row) (rs : List Row) → allFit (r ∷ rs) ≡ true → allF
 unfolding allFit
 all-rest r rs e = both-right (fit r) (allFit rs) e
 
+pub all-at : (rs : List Row) (i : ℕ) → allFit rs ≡ true → i < length rs → fit (getD rs i (band 0 0 0)) ≡ true
+all-at [] i f h = absurd (omega arith)
+all-at (r ∷ rs) zero f h = all-first r rs f
+all-at (r ∷ rs) (suc i) f h = all-at rs i (all-rest r rs f) (omega arith)
+
 module _ (s : List ℕ) (at : ℕ) (h : at + 5 ≤ length s) where
   pub fits-over : fit (rowAt s at) ≡ true → allFit (rest s at) ≡ allFit (rest s (at + 5))
   fits-over e = rw (rest-row s at h) (all-cons (rowAt s at) (rest s (at + 5)) e)
@@ -157,23 +172,37 @@ fits-ended s at h = rw (rest-end s at h) all-nil
 
 -- ---- what is asked of a strip, one after the other
 
+parted : (a b c d : Bool) → (a && (b && (c && d))) ≡ ((a && (b && c)) && d)
+parted false b c d = refl
+parted true false c d = refl
+parted true true c d = refl
+
 module _ (s : List ℕ) where
-  pub sound-none : length s ≡ 0 → sound s ≡ false
-  unfolding sound
-  sound-none h = rw (lt-leb 1 (length s) (omega arith))
+  pub sized-none : length s ≡ 0 → sized s ≡ false
+  unfolding sized
+  sized-none h = rw (lt-leb 1 (length s) (omega arith))
 
-  pub sound-long : 160 < length s → sound s ≡ false
-  unfolding sound
-  sound-long h = rw (le-leb 1 (length s) (omega arith), lt-leb (length s) 160 h)
+  pub sized-long : 160 < length s → sized s ≡ false
+  unfolding sized
+  sized-long h = rw (le-leb 1 (length s) (omega arith), lt-leb (length s) 160 h)
 
-  module _ (a : (length s ≡ 0 → ⊥)) (b : length s ≤ 160) where
-    pub sound-parted : (length s % 5 ≡ 0 → ⊥) → sound s ≡ false
-    unfolding sound
-    sound-parted h = rw (le-leb 1 (length s) (omega arith), le-leb (length s) 160 b, ne-eqb (length s % 5) 0 h)
+  pub sized-whole : (length s ≡ 0 → ⊥) → length s ≤ 160 → sized s ≡ eqb (length s % 5) 0
+  unfolding sized
+  sized-whole a b = rw (le-leb 1 (length s) (omega arith), le-leb (length s) 160 b)
 
-    pub sound-rest : length s % 5 ≡ 0 → sound s ≡ allFit (rows s)
-    unfolding sound
-    sound-rest h = rw (le-leb 1 (length s) (omega arith), le-leb (length s) 160 b, eq-eqb (length s % 5) 0 h)
+  pub sized-rows : sized s ≡ true → length s % 5 ≡ 0
+  unfolding sized
+  sized-rows e = eqb-true (length s % 5) 0 (both-right (leb (length s) (5 * 32)) _ (both-right (leb 1 (length s)) _ e))
+
+  sound-sized : sound s ≡ (sized s && allFit (rows s))
+  unfolding sound sized
+  sound-sized = parted (leb 1 (length s)) (leb (length s) (5 * 32)) (eqb (length s % 5) 0) (allFit (rows s))
+
+  pub sound-unsized : sized s ≡ false → sound s ≡ false
+  sound-unsized e = sound-sized ∙ rw e
+
+  pub sound-rest : sized s ≡ true → sound s ≡ allFit (rows s)
+  sound-rest e = sound-sized ∙ rw e
 
   module _ (e : sound s ≡ true) where
     sound-tail : (leb (length s) (5 * 32) && (eqb (length s % 5) 0 && allFit (rows s))) ≡ true

@@ -1,11 +1,15 @@
--- What the judging code computes: rows that rise without a gap, their millimetres together, and the lowest that two rows share.
-use Prim.Native.Nat.{ℕ, _+_, _-_, min, max}
+-- What the judging code computes: the length of a strip, rows that rise without a gap, their millimetres together, and the lowest that two rows share.
+use Prim.Native.Nat.{ℕ, _+_, _-_, _*_, _%_, min, max}
 use mathlib.Core.Bool.{Bool, _&&_, cond}
 use mathlib.Core.List.{List, [], _∷_}
 use lib.Dec.{eqb, leb}
-use lib.ListN.{drop, getD}
+use lib.ListN.{length, drop, getD}
 use Rattle.bands.specs.Rows.{Row, row, rows}
 use Rattle.bands.specs.Judge.{depths}
+
+-- 1 to 32 whole rows
+unfoldable pub sized : List ℕ → Bool
+sized s = leb 1 (length s) && (leb (length s) (5 * 32) && eqb (length s % 5) 0)
 
 -- the rows of a strip from byte `at` on
 unfoldable pub rest : List ℕ → ℕ → List Row
@@ -19,6 +23,11 @@ rowAt s at = row (getD s at 0) (getD s (at + 1) 0) (getD s (at + 2) 0) (getD s (
 unfoldable pub rising : ℕ → List Row → Bool
 rising next [] = eqb next depths
 rising next (r ∷ rs) = eqb (r .from) next && rising (r .to + 1) rs
+
+-- the index of the first row that begins at a millimetre, or the number of rows
+unfoldable pub starting : ℕ → List Row → ℕ
+starting mm [] = 0
+starting mm (r ∷ rs) = cond (eqb (r .from) mm) 0 (1 + starting mm rs)
 
 -- the millimetres of all rows together
 unfoldable pub width : List Row → ℕ

@@ -1,17 +1,21 @@
 // A table's verdict. The lowest millimetre in no row is 0 or one past some row's end, so a walk from row to row finds it, and rows
 // that rise without a gap need no walk. Rows without a gap that have no more millimetres than there are depths share none; the
-// lowest that two share is the higher beginning of two that meet.
+// lowest that two share is the higher beginning of two that meet. Where only acceptance is asked, each row must have one that begins
+// right past its end.
 use crate::rows::DEPTHS;
+use crate::rows::fit;
 use crate::rows::holder;
+use crate::rows::sized;
 use crate::rows::sound;
+use crate::rows::starter;
 use crate::rows::two_bytes;
 ghost use mathlib.Core.Path.{_≡_};
 ghost use Prim.Native.Nat.{_+_, _%_, _<_, min};
-ghost use mathlib.Core.Bool.{true};
+ghost use mathlib.Core.Bool.{true, _&&_};
 ghost use lib.Dec.{eqb};
 ghost use lib.ListN.{length};
 ghost use Rattle.bands.specs.Rows.{rows};
-ghost use Rattle.bands.specs.Judge.{verdict, sound, uncovered, doubled, judgement};
+ghost use Rattle.bands.specs.Judge.{verdict, allFit, sound, uncovered, doubled, judgement};
 ghost use Rattle.bands.specs.Sweep.{rest, rowAt, rising, width, common, shared};
 
 // The answer, 0, 11, 12 or 13, and the millimetre that 12 and 13 tell.
@@ -160,15 +164,57 @@ pub fn judge(rows: &[u8]) -> Verdict
     }
 }
 
+// Whether each row is one that a table may have and begins one past the row before it, from 0 to the greatest depth.
+fn tiled(s: &[u8]) -> bool
+    requires { ⌜ length (now s) % 5 ≡ 0 ⌝ }
+    ensures { λ r. ⌜ r ≡ (allFit (rows (now (s .entry))) && rising 0 (rows (now (s .entry)))) ⌝ }
+{
+    let mut next: u64 = 0;
+    let mut at: usize = 0;
+    while at < s.len() {
+        if two_bytes(s, at) != next {
+            return false;
+        }
+        if !fit(s, at) {
+            return false;
+        }
+        next = two_bytes(s, at + 2) + 1;
+        at += 5;
+    }
+    next == DEPTHS
+}
+
+// Whether rows of as many millimetres as there are depths follow one another, in any order, from 0 to the greatest depth.
+fn chained(s: &[u8]) -> bool
+    requires { ⌜ (sound (now s) ≡ true) × (width (rows (now s)) ≡ 10000) ⌝ }
+    ensures { λ r. ⌜ r ≡ eqb (judgement (now (s .entry)) .code) 0 ⌝ }
+{
+    let mut next: u64 = 0;
+    while next < DEPTHS {
+        let at = starter(s, next);
+        if at >= s.len() {
+            return false;
+        }
+        next = two_bytes(s, at + 2) + 1;
+    }
+    true
+}
+
 // Whether a strip of rows is accepted, with no refusal told.
 pub fn accepts(rows: &[u8]) -> bool
     ensures { λ r. ⌜ r ≡ eqb (judgement (now (rows .entry)) .code) 0 ⌝ }
 {
+    if !sized(rows) {
+        return false;
+    }
+    if tiled(rows) {
+        return true;
+    }
     if !sound(rows) {
         return false;
     }
     if width(rows) != DEPTHS {
         return false;
     }
-    uncovered(rows) == DEPTHS
+    chained(rows)
 }

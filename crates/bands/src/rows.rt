@@ -4,7 +4,7 @@ ghost use Prim.Native.Nat.{_+_, _*_, _%_, _≤_, _<_};
 ghost use lib.ListN.{length, getD};
 ghost use Rattle.bands.specs.Rows.{band, rows, holds, place, lookup};
 ghost use Rattle.bands.specs.Judge.{fit, allFit, sound};
-ghost use Rattle.bands.specs.Sweep.{rowAt};
+ghost use Rattle.bands.specs.Sweep.{rowAt, sized, starting};
 
 // Depths are below this.
 pub const DEPTHS: u64 = 10000;
@@ -21,11 +21,11 @@ pub fn two_bytes(s: &[u8], at: usize) -> u64
     requires { ⌜ at + 2 ≤ length (now s) ⌝ }
     ensures { λ r. ⌜ (r ≡ getD (now (s .entry)) at 0 + 256 * getD (now (s .entry)) (at + 1) 0) × (r < 65536) ⌝ }
 {
-    s[at] as u64 + 256 * (s[at + 1] as u64)
+    s[at] as u64 | (s[at + 1] as u64) << 8
 }
 
 // Whether the row at byte `at` is one that a table may have.
-fn fit(s: &[u8], at: usize) -> bool
+pub fn fit(s: &[u8], at: usize) -> bool
     requires { ⌜ at + 5 ≤ length (now s) ⌝ }
     ensures { λ r. ⌜ r ≡ fit (rowAt (now (s .entry)) at) ⌝ }
 {
@@ -54,9 +54,9 @@ fn all_fit(s: &[u8]) -> bool
     true
 }
 
-// Whether a strip holds 1 to 32 whole rows that a table may have.
-pub fn sound(s: &[u8]) -> bool
-    ensures { λ r. ⌜ r ≡ sound (now (s .entry)) ⌝ }
+// Whether a strip holds 1 to 32 whole rows.
+pub fn sized(s: &[u8]) -> bool
+    ensures { λ r. ⌜ r ≡ sized (now (s .entry)) ⌝ }
 {
     if s.len() == 0 {
         return false;
@@ -64,7 +64,14 @@ pub fn sound(s: &[u8]) -> bool
     if s.len() > 5 * 32 {
         return false;
     }
-    if s.len() % 5 != 0 {
+    s.len() % 5 == 0
+}
+
+// Whether a strip holds 1 to 32 whole rows that a table may have.
+pub fn sound(s: &[u8]) -> bool
+    ensures { λ r. ⌜ r ≡ sound (now (s .entry)) ⌝ }
+{
+    if !sized(s) {
         return false;
     }
     all_fit(s)
@@ -89,6 +96,21 @@ pub fn holder(s: &[u8], mm: u64) -> usize
     let mut at: usize = 0;
     while at < s.len() {
         if holds(s, at, mm) {
+            return at;
+        }
+        at += 5;
+    }
+    at
+}
+
+// The byte at which the first row stands that begins at a millimetre; the strip's length if none does.
+pub fn starter(s: &[u8], mm: u64) -> usize
+    requires { ⌜ length (now s) % 5 ≡ 0 ⌝ }
+    ensures { λ r. ⌜ r ≡ 5 * starting mm (rows (now (s .entry))) ⌝ }
+{
+    let mut at: usize = 0;
+    while at < s.len() {
+        if two_bytes(s, at) == mm {
             return at;
         }
         at += 5;

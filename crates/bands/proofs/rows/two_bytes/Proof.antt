@@ -1,8 +1,9 @@
--- `bands::rows::two_bytes` meets its contract. Assumes nothing.
+-- `bands::rows::two_bytes` meets its contract: the second byte stands above the first. Assumes nothing.
 use Prim.Native.Nat.{_+_}
-use mathlib.Core.Path.{refl}
 use native.Mathlib.Omega.{arith}
 use borrow.Author.Needs.{needs}
+use lib.ListN.{getD}
+use Rattle.bands.proofs.RowLaws.{two-joined}
 use Rattle.bands.proofs.rows.two_bytes.Statement.{statement}
 use Rattle.bands.proofs.rows.two_bytes.Tie as tie
 
@@ -19,29 +20,15 @@ shared-slice-read-result-2 : tie.Need-shared-slice-read-result-2
 shared-slice-read-result-2 c = search needs
 
 cast-result-2 : tie.Need-cast-result-2
-cast-result-2 c = omega (arith, c .shared-slice-known2 .given (c .before .before .args .at + 1), c .before .shared-slice-known .given (c .before .before .args .at))
-
-mul-result : tie.Need-mul-result
-mul-result c = omega (arith, c .shared-slice-known2 .given (c .before .before .args .at + 1), c .before .shared-slice-known .given (c .before .before .args .at))
-
-add-result-2 : tie.Need-add-result-2
-add-result-2 c = omega (arith, c .shared-slice-known2 .given (c .before .before .args .at + 1), c .before .shared-slice-known .given (c .before .before .args .at))
+cast-result-2 c = omega (arith, c .shared-slice-known2 .given (c .before .before .args .at + 1))
 
 returns : tie.Need-returns
 returns c =
-    let a = c .before .shared-slice-known .given (c .before .before .args .at) in
-    let b = c .shared-slice-known2 .given (c .before .before .args .at + 1) in
-    (refl, omega arith)
+    let a = c .before .before .args in
+    two-joined (getD (a .s .now) (a .at) 0) (getD (a .s .now) (a .at + 1) 0) (omega (arith, c .before .shared-slice-known .given (a .at)))
+    (omega (arith, c .shared-slice-known2 .given (a .at + 1)))
 
 pub two-bytes-spec : {M : Type 1} → statement M
 two-bytes-spec =
     tie.close
-    (tie.spec
-    shared-slice-read-result
-    cast-result
-    add-result
-    shared-slice-read-result-2
-    cast-result-2
-    mul-result
-    add-result-2
-    returns)
+    (tie.spec shared-slice-read-result cast-result add-result shared-slice-read-result-2 cast-result-2 returns)
