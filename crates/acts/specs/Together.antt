@@ -1,13 +1,14 @@
 -- Histories with calls on several homes (G 4, D 8, positions from 28 on): what they answer and read, what a crash leaves of a unit of two homes, 3 and
 -- 4, and of its labels; and what they answer under a list of rights.
 use Prim.Native.Nat.{ℕ, zero, suc}
-use mathlib.Core.Bool.{Bool, false}
+use mathlib.Core.Bool.{Bool, true, false}
 use mathlib.Core.List.{List, [], _∷_, _++_}
 use lib.ListN.{length, getD}
 use Rattle.model.specs.Bytes.{zeros}
 use Rattle.model.specs.Calls.{Outcome}
 use Rattle.model.specs.History.{opening, begin, reserve, abort, store, flush, Event, call, crash, World, ends}
-use Rattle.model.specs.Trials.{room, lane, fill, positions, fresh}
+use Rattle.model.specs.Trials.{room, lane, fill, positions, fresh, Trial}
+use Rattle.model.specs.Guarded.{guarded}
 use Rattle.acts.specs.Units.{Act, plain, transacts, fetches, revises, transactEnds, fetchEnds, reviseEnds, act, acted, labelsFrom, lastUnit}
 
 unfoldable pub numberAt : World → Event → ℕ
@@ -60,6 +61,13 @@ flushedOnce = transacts 0 3 (two 1 2) room ∷ plain (call (flush room)) ∷ tra
 unfoldable pub cut : ℕ → List Act
 cut passed = plain (crash passed (λ i. false)) ∷ again ∷ []
 
+-- A transact over the end of a group: its first entry is the seventh of a group that persists, the other lies in one that does not. The crash leaves
+-- both homes as the transact before left them.
+unfoldable pub acrossGroups : List Act
+acrossGroups =
+    transacts 0 3 (two 1 2) room ∷ transacts 1 5 (zeros 192) room ∷ transacts 1 7 (fill 9) room ∷ transacts 0 3 (two 5 6) room
+    ∷ plain (crash 3 (λ i. true)) ∷ again ∷ []
+
 -- Under the list of specs/Guarded: writer 1, whose transaction is open, may store to home 3 and read homes 3 and 6, writer 0 store to homes 0 to 2, and
 -- writer 2 nothing. One home without the right refuses all.
 unfoldable pub withRights : List Act
@@ -67,3 +75,16 @@ withRights =
     fetches 1 3 (zeros 64) ∷ fetches 1 3 (zeros 128) ∷ fetches 1 6 (zeros 64) ∷ revises 1 3 (zeros 64) ∷ revises 1 6 (zeros 64) ∷ revises 1 3 (zeros 128)
     ∷ transacts 1 3 (fill 1) room ∷ transacts 1 3 (two 1 2) room ∷ transacts 2 3 (fill 1) room ∷ transacts 0 1 (two 1 2) room ∷ transacts 0 2 (two 1 2) room
     ∷ fetches 2 8 (zeros 256) ∷ transacts 1 11 (fill 1) room ∷ []
+
+-- what every act answers; what a crash leaves of a unit, with its last transact flushed, lost, and lost in part; what is answered under the list
+unfoldable pub moments : List Trial
+moments =
+    record {
+      yields = answeredBy fresh (together ++ looks);
+      paper = 0 ∷ 5 ∷ 0 ∷ 0 ∷ 6 ∷ 1 ∷ 1 ∷ 4 ∷ 0 ∷ 8 ∷ 0 ∷ 0 ∷ 0 ∷ 9 ∷ 0 ∷ 0 ∷ 5 ∷ 1 ∷ 4 ∷ 0 ∷ [];
+    }
+    ∷ record { yields = seen fresh 1 together; paper = 5 ∷ 6 ∷ 5 ∷ 6 ∷ 4 ∷ [] }
+    ∷ record { yields = seen fresh 1 (flushedOnce ++ cut 4); paper = 1 ∷ 2 ∷ 1 ∷ 2 ∷ 1 ∷ [] }
+    ∷ record { yields = seen fresh 1 (flushedOnce ++ cut 3); paper = 0 ∷ 0 ∷ 0 ∷ 0 ∷ 0 ∷ [] }
+    ∷ record { yields = seen fresh 1 acrossGroups; paper = 1 ∷ 2 ∷ 1 ∷ 2 ∷ 3 ∷ [] }
+    ∷ record { yields = answeredBy guarded withRights; paper = 0 ∷ 20 ∷ 0 ∷ 0 ∷ 19 ∷ 19 ∷ 6 ∷ 19 ∷ 19 ∷ 0 ∷ 19 ∷ 0 ∷ 19 ∷ [] } ∷ []
