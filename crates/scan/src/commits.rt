@@ -128,7 +128,13 @@ fn visit_closing(
         return progress;
     }
     let n = count_entry(counts, (index - back) as usize);
-    judge(progress, base, base + index, codec::tag_link(word), n == count)
+    judge(
+        progress,
+        base,
+        base + index,
+        codec::tag_link(word),
+        n == count,
+    )
 }
 
 // Takes what the word of a tag says at index `index` of the log.
