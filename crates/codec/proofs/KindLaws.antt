@@ -49,47 +49,41 @@ by-home v h =
     let e5 : v / 2 ^ 57 ≡ v / 2 ^ 57 % 2 ^ 7 = omega arith in
     omega arith
 
-module _ (w : ℕ) (fits : w < 2 ^ 64) where
-  plain-left : bitAnd w 0xfc1f_ffff_f800_0003 ≡ field w 0 1 + 2 * field w 1 1 + 2 ^ 27 * field w 27 26 + 2 ^ 58 * field w 58 6
-  plain-left =
-      let m : ℕ = 0xfc1f_ffff_f800_0003 in
+-- what a mask leaves of a word that takes its used and closing bits and its zero bits, of the latter all or those of both kinds alone
+module _ (w m : ℕ) (fits : w < 2 ^ 64) (used : m / 2 ^ 0 % 2 ^ 1 ≡ 2 ^ 1 - 1) (closing : m / 2 ^ 1 % 2 ^ 1 ≡ 2 ^ 1 - 1) (low : m / 2 ^ 2 % 2 ^ 25 ≡ 0)
+    (high : m / 2 ^ 53 % 2 ^ 5 ≡ 0) (above : m / 2 ^ 58 % 2 ^ 6 ≡ 2 ^ 6 - 1) where
+  kind-left : bitAnd w m ≡ field w 0 1 + 2 * field w 1 1 + 2 ^ 27 * field (bitAnd w m) 27 26 + 2 ^ 58 * field w 58 6
+  kind-left =
       omega (
         arith,
         by-kind (bitAnd w m) (omega (arith, and-le-l w m)),
-        and-field w m 0 1 refl,
-        and-field w m 1 1 refl,
-        cleared w m 2 25 refl,
-        and-field w m 27 26 refl,
-        cleared w m 53 5 refl,
-        and-field w m 58 6 refl,
+        and-field w m 0 1 used,
+        and-field w m 1 1 closing,
+        cleared w m 2 25 low,
+        cleared w m 53 5 high,
+        and-field w m 58 6 above,
       )
 
-  closing-left : bitAnd w 0xfc00_0000_0000_0003 ≡ field w 0 1 + 2 * field w 1 1 + 2 ^ 58 * field w 58 6
-  closing-left =
-      let m : ℕ = 0xfc00_0000_0000_0003 in
-      omega (
-        arith,
-        by-kind (bitAnd w m) (omega (arith, and-le-l w m)),
-        and-field w m 0 1 refl,
-        and-field w m 1 1 refl,
-        cleared w m 2 25 refl,
-        cleared w m 27 26 refl,
-        cleared w m 53 5 refl,
-        and-field w m 58 6 refl,
-      )
+  plain-left : m / 2 ^ 27 % 2 ^ 26 ≡ 2 ^ 26 - 1 → bitAnd w m ≡ field w 0 1 + 2 * field w 1 1 + 2 ^ 27 * field w 27 26 + 2 ^ 58 * field w 58 6
+  plain-left upper = omega (arith, kind-left, and-field w m 27 26 upper)
 
-  home-left : bitAnd w 0x1e0_0000_0000_3ffd ≡ field w 0 1 + 2 ^ 2 * field w 2 12 + 2 ^ 53 * field w 53 4
+  closing-left : m / 2 ^ 27 % 2 ^ 26 ≡ 0 → bitAnd w m ≡ field w 0 1 + 2 * field w 1 1 + 2 ^ 58 * field w 58 6
+  closing-left upper = omega (arith, kind-left, cleared w m 27 26 upper)
+
+-- and of one that takes its used bit and its home
+module _ (w m : ℕ) (fits : w < 2 ^ 64) (used : m / 2 ^ 0 % 2 ^ 1 ≡ 2 ^ 1 - 1) (closing : m / 2 ^ 1 % 2 ^ 1 ≡ 0) (low : m / 2 ^ 2 % 2 ^ 12 ≡ 2 ^ 12 - 1)
+    (between : m / 2 ^ 14 % 2 ^ 39 ≡ 0) (high : m / 2 ^ 53 % 2 ^ 4 ≡ 2 ^ 4 - 1) (above : m / 2 ^ 57 % 2 ^ 7 ≡ 0) where
+  home-left : bitAnd w m ≡ field w 0 1 + 2 ^ 2 * field w 2 12 + 2 ^ 53 * field w 53 4
   home-left =
-      let m : ℕ = 0x1e0_0000_0000_3ffd in
       omega (
         arith,
         by-home (bitAnd w m) (omega (arith, and-le-l w m)),
-        and-field w m 0 1 refl,
-        cleared w m 1 1 refl,
-        and-field w m 2 12 refl,
-        cleared w m 14 39 refl,
-        and-field w m 53 4 refl,
-        cleared w m 57 7 refl,
+        and-field w m 0 1 used,
+        cleared w m 1 1 closing,
+        and-field w m 2 12 low,
+        cleared w m 14 39 between,
+        and-field w m 53 4 high,
+        cleared w m 57 7 above,
       )
 
 -- ---- the tests
@@ -123,18 +117,26 @@ home-same v above low high homes h e f = go (decLt v above)
     go (yes l) = lt-ltb v above l ∙ sym (le-leb (low + 2 ^ 12 * high + 1) homes (omega arith))
     go (no l) = le-ltb v above (omega arith) ∙ sym (lt-leb (low + 2 ^ 12 * high + 1) homes (omega arith))
 
-module _ (w : ℕ) (fits : w < 2 ^ 64) where
-  pub plain-bits : eqb (bitAnd w 0xfc1f_ffff_f800_0003) 1
-      ≡ (eqb (field w 0 1) 1 && eqb (field w 58 6) 0 && eqb (field w 1 1) 0 && eqb (field w 27 26) 0)
-  plain-bits = plain-same _ (field w 0 1) (field w 1 1) (field w 27 26) (field w 58 6) (field-lt w 0 1) (field-lt w 1 1) (plain-left w fits)
+module _ (w m : ℕ) (fits : w < 2 ^ 64) (used : m / 2 ^ 0 % 2 ^ 1 ≡ 2 ^ 1 - 1) (closing : m / 2 ^ 1 % 2 ^ 1 ≡ 2 ^ 1 - 1) (low : m / 2 ^ 2 % 2 ^ 25 ≡ 0)
+    (high : m / 2 ^ 53 % 2 ^ 5 ≡ 0) (above : m / 2 ^ 58 % 2 ^ 6 ≡ 2 ^ 6 - 1) where
+  pub plain-bits : m / 2 ^ 27 % 2 ^ 26 ≡ 2 ^ 26 - 1
+      → eqb (bitAnd w m) 1 ≡ (eqb (field w 0 1) 1 && eqb (field w 58 6) 0 && eqb (field w 1 1) 0 && eqb (field w 27 26) 0)
+  plain-bits upper =
+      plain-same _ (field w 0 1) (field w 1 1) (field w 27 26) (field w 58 6) (field-lt w 0 1) (field-lt w 1 1)
+      (plain-left w m fits used closing low high above upper)
 
-  pub closing-bits : eqb (bitAnd w 0xfc00_0000_0000_0003) 3 ≡ (eqb (field w 0 1) 1 && eqb (field w 58 6) 0 && eqb (field w 1 1) 1)
-  closing-bits = closing-same _ (field w 0 1) (field w 1 1) (field w 58 6) (field-lt w 0 1) (field-lt w 1 1) (closing-left w fits)
+  pub closing-bits : m / 2 ^ 27 % 2 ^ 26 ≡ 0 → eqb (bitAnd w m) 3 ≡ (eqb (field w 0 1) 1 && eqb (field w 58 6) 0 && eqb (field w 1 1) 1)
+  closing-bits upper =
+      closing-same _ (field w 0 1) (field w 1 1) (field w 58 6) (field-lt w 0 1) (field-lt w 1 1)
+      (closing-left w m fits used closing low high above upper)
 
-  pub home-below : (above homes : ℕ) → above ≡ entryWord homes 0 → field w 0 1 ≡ 1 → ltb (bitAnd w 0x1e0_0000_0000_3ffd) above ≡ leb (homeField w + 1) homes
+module _ (w m : ℕ) (fits : w < 2 ^ 64) (used : m / 2 ^ 0 % 2 ^ 1 ≡ 2 ^ 1 - 1) (closing : m / 2 ^ 1 % 2 ^ 1 ≡ 0) (low : m / 2 ^ 2 % 2 ^ 12 ≡ 2 ^ 12 - 1)
+    (between : m / 2 ^ 14 % 2 ^ 39 ≡ 0) (high : m / 2 ^ 53 % 2 ^ 4 ≡ 2 ^ 4 - 1) (above : m / 2 ^ 57 % 2 ^ 7 ≡ 0) where
+  pub home-below : (next homes : ℕ) → next ≡ entryWord homes 0 → field w 0 1 ≡ 1 → ltb (bitAnd w m) next ≡ leb (homeField w + 1) homes
   unfolding entryWord tagWord
-  home-below above homes e u =
-      home-same _ above (field w 2 12) (field w 53 4) homes (field-lt w 2 12) (omega (arith, home-left w fits, u)) (e ∙ omega arith)
+  home-below next homes e u =
+      home-same _ next (field w 2 12) (field w 53 4) homes (field-lt w 2 12) (omega (arith, home-left w m fits used closing low between high above, u))
+      (e ∙ omega arith)
 
 -- ---- what each kind says
 
