@@ -83,19 +83,15 @@ struct recovery__opening__Shape {
     uint64_t start;
 };
 
-struct array_u64_7 {
-    uint64_t at[7];
+struct slice_mut_u16 {
+    uint16_t *ptr;
+    size_t len;
 };
 
 struct scan__commits__Progress {
     uint64_t end;
     uint64_t number;
     uint64_t failed;
-};
-
-struct slice_mut_u16 {
-    uint16_t *ptr;
-    size_t len;
 };
 
 struct scan__commits__Found {
@@ -105,6 +101,10 @@ struct scan__commits__Found {
 
 struct array_u16_7168 {
     uint16_t at[7168];
+};
+
+struct array_u64_7 {
+    uint64_t at[7];
 };
 
 struct slice_mut_u64 {
@@ -2530,20 +2530,24 @@ static inline uint64_t recovery__opening__may_open(struct slice_u8 log, struct s
     return 0u;
 }
 
-/* The words of a group's seven tags that are there, read in a row; `turn` is the group's. */
-static inline struct array_u64_7 scan__groups__tag_words(struct slice_u8 group, uint64_t turn)
+/* Takes the word of an entry that does not close its transaction, at index `index` of the log; `above` is the word of an entry
+   for the first home that there is not. */
+static inline struct scan__commits__Progress scan__commits__visit_plain(uint64_t word, uint64_t above, uint64_t base,
+        uint64_t index, struct slice_mut_u16 counts, struct scan__commits__Progress progress)
 {
-    struct array_u64_7 t3;
-    uint64_t t4, t6;
+    uint64_t t7, t20;
+    (void)base;
 
-    memset(&t3, 0, sizeof t3);
-    t4 = 0u;
-    while (t4 < 7u) {
-        t6 = scan__groups__word_there(group, turn, t4);
-        t3.at[(size_t)t4] = t6;
-        t4 = t4 + 1u;
+    if (!((word & UINT64_C(0x1e0000000003ffd)) < above)) {
+        return progress;
     }
-    return t3;
+    t7 = (word >> 14u) & 8191u;
+    if (index < t7) {
+        return progress;
+    }
+    t20 = index - t7;
+    counts.ptr[(size_t)t20] = (uint16_t)((uint32_t)counts.ptr[(size_t)t20] + 1u);
+    return progress;
 }
 
 /* Whether a closing entry at a position is linked, by its distance back, to the last one, which ends at `end`, or where there is
@@ -2583,57 +2587,70 @@ static inline struct scan__commits__Progress scan__commits__judge(struct scan__c
     return (struct scan__commits__Progress){.end = position + 1u, .number = t7 + 1u, .failed = 0u};
 }
 
-/* Takes what the word of a tag says at a position. */
-static inline struct scan__commits__Progress scan__commits__visit(uint64_t word, uint64_t position, uint64_t base, uint64_t homes,
-        struct slice_mut_u16 counts, struct scan__commits__Progress progress)
+/* The same for the word of a closing entry. */
+static inline struct scan__commits__Progress scan__commits__visit_closing(uint64_t word, uint64_t above, uint64_t base,
+        uint64_t index, struct slice_mut_u16 counts, struct scan__commits__Progress progress)
 {
-    struct model__Tag t12;
-    struct scan__commits__Progress t13;
-    uint64_t t25, t32;
-    uint16_t t33;
+    uint64_t t7, t8, t24;
+    uint16_t t25;
 
-    t12 = codec__tags__read_tag(word, position, base, homes);
-    if (t12.tag == 0u) {
-        t13 = progress;
-    } else if (t12.tag == 1u) {
-        t25 = t12.u64_1 - base;
-        counts.ptr[(size_t)t25] = (uint16_t)((uint32_t)counts.ptr[(size_t)t25] + 1u);
-        t13 = progress;
-    } else {
-        t32 = t12.u64_1 - base;
-        t33 = (uint16_t)((uint32_t)counts.ptr[(size_t)t32] + 1u);
-        counts.ptr[(size_t)t32] = t33;
-        t13 = scan__commits__judge(progress, base, position, t12.u64_2, (uint64_t)t33 == t12.u64_3);
+    if (!((word & UINT64_C(0x1e0000000003ffd)) < above)) {
+        return progress;
     }
-    return t13;
+    t7 = (word >> 14u) & 8191u;
+    if (index < t7) {
+        return progress;
+    }
+    t8 = (word >> 40u) & 8191u;
+    if (t8 == 0u) {
+        return progress;
+    }
+    t24 = index - t7;
+    t25 = (uint16_t)((uint32_t)counts.ptr[(size_t)t24] + 1u);
+    counts.ptr[(size_t)t24] = t25;
+    return scan__commits__judge(progress, base, base + index, (word >> 27u) & 8191u, (uint64_t)t25 == t8);
 }
 
-/* Takes the first `m` tags of a group, which says nothing where it is not the valid group with number `n` and turn `turn`. */
+/* Takes what the word of a tag says at index `index` of the log. */
+static inline struct scan__commits__Progress scan__commits__visit(uint64_t word, uint64_t above, uint64_t base, uint64_t index,
+        struct slice_mut_u16 counts, struct scan__commits__Progress progress)
+{
+    if ((word & UINT64_C(0xfc1ffffff8000003)) == 1u) {
+        return scan__commits__visit_plain(word, above, base, index, counts, progress);
+    }
+    if ((word & UINT64_C(0xfc00000000000003)) == 3u) {
+        return scan__commits__visit_closing(word, above, base, index, counts, progress);
+    }
+    return progress;
+}
+
+/* Takes the first `m` tags of a group, or those up to the first closing entry that fails. The group says nothing where it is not
+   the valid group with number `n` and turn `turn`. */
 static inline struct scan__commits__Progress scan__commits__visit_group(struct slice_u8 group, uint64_t groups, uint64_t homes,
         uint64_t start, uint64_t n, uint64_t turn, uint64_t m, struct slice_mut_u16 counts,
         struct scan__commits__Progress progress)
 {
-    struct array_u64_7 t10, t17;
-    uint64_t t11, t13, t14;
-    struct scan__commits__Progress t12;
-    bool t15;
+    uint64_t t10, t11, t12, t14, t19;
+    struct scan__commits__Progress t13;
+    (void)groups;
 
-    t15 = scan__groups__group_valid(group, groups, start, n);
-    if (!t15) {
+    if (!(load_8(group.ptr) == (((n % UINT64_C(0x1000000000000)) * UINT64_C(0x10000)) + 18256u))) {
         return progress;
     }
-    t17 = scan__groups__tag_words(group, turn);
-    t10 = t17;
+    t10 = ((1u | ((homes & 4095u) << 2u)) | ((uint64_t)0u << 14u)) | ((homes >> 12u) << 53u);
     t11 = 7u * start;
-    t12 = progress;
-    t13 = 7u * n;
+    t12 = (7u * n) - t11;
+    t13 = progress;
     t14 = 0u;
     while (t14 < m) {
-        t12 = scan__commits__visit(t10.at[(size_t)t14], t13, t11, homes, counts, t12);
-        t13 = t13 + 1u;
+        t19 = scan__groups__word_there(group, turn, t14);
+        t13 = scan__commits__visit(t19, t10, t11, t12 + t14, counts, t13);
+        if (t13.failed != 0u) {
+            return t13;
+        }
         t14 = t14 + 1u;
     }
-    return t12;
+    return t13;
 }
 
 /* Walks the `n` positions of the log from its start on, group by group, and finds where the committed transactions end and how
@@ -2664,6 +2681,22 @@ static inline struct scan__commits__Found scan__commits__walk(struct slice_u8 lo
         t10 = t10 - t13;
     }
     return (struct scan__commits__Found){.end = t7.end, .number = t7.number};
+}
+
+/* The words of a group's seven tags that are there, read in a row; `turn` is the group's. */
+static inline struct array_u64_7 scan__groups__tag_words(struct slice_u8 group, uint64_t turn)
+{
+    struct array_u64_7 t3;
+    uint64_t t4, t6;
+
+    memset(&t3, 0, sizeof t3);
+    t4 = 0u;
+    while (t4 < 7u) {
+        t6 = scan__groups__word_there(group, turn, t4);
+        t3.at[(size_t)t4] = t6;
+        t4 = t4 + 1u;
+    }
+    return t3;
 }
 
 /* Takes what the word of a tag says at a position. */

@@ -1,6 +1,7 @@
 pub mod BlockLaws
 pub mod CopyLaws
 pub mod JoinLaws
+pub mod KindLaws
 pub mod MarkLaws
 pub mod PlainLaws
 pub mod ReadLaws

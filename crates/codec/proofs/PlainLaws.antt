@@ -20,7 +20,7 @@ unfolding field
 xor-field a b k j = ap (λ (x : ℕ). x % 2 ^ j) (xor-shr a b k) ∙ xor-mod (a / 2 ^ k) (b / 2 ^ k) j
 
 -- a field that a mask leaves
-and-field : (d m k j : ℕ) → m / 2 ^ k % 2 ^ j ≡ 2 ^ j - 1 → field (bitAnd d m) k j ≡ field d k j
+pub and-field : (d m k j : ℕ) → m / 2 ^ k % 2 ^ j ≡ 2 ^ j - 1 → field (bitAnd d m) k j ≡ field d k j
 unfolding field
 and-field d m k j e =
     ap (λ (x : ℕ). x % 2 ^ j) (and-shr d m k) ∙ and-mod (d / 2 ^ k) (m / 2 ^ k) j ∙ ap (λ (x : ℕ). bitAnd (d / 2 ^ k % 2 ^ j) x) e

@@ -9,7 +9,7 @@ use Rattle.model.specs.Tag.{field, homeField, says, readFields, readTag}
 use Rattle.model.specs.declared.Tag.the-variants.{Nothing, Entry, Closing}
 use Rattle.codec.proofs.WordLaws.{field-or}
 
-says-nothing : (b : Bool) → says b Nothing ≡ Nothing
+pub says-nothing : (b : Bool) → says b Nothing ≡ Nothing
 unfolding says
 says-nothing true = refl
 says-nothing false = refl
@@ -24,11 +24,11 @@ module _ (used closing above upper home back link count position base homes : �
   unfolding readFields says
   bits-above e = simp (ne-eqb above 0 e, says-nothing)
 
-  no-home : homes ≤ home → readFields used closing above upper home back link count position base homes ≡ Nothing
+  pub no-home : homes ≤ home → readFields used closing above upper home back link count position base homes ≡ Nothing
   unfolding readFields says
   no-home e = simp (lt-leb (home + 1) homes (omega arith), says-nothing)
 
-  before-start : position < base + back → readFields used closing above upper home back link count position base homes ≡ Nothing
+  pub before-start : position < base + back → readFields used closing above upper home back link count position base homes ≡ Nothing
   unfolding readFields says
   before-start e = simp (lt-leb (base + back) position e, says-nothing)
 

@@ -1,5 +1,6 @@
 // Numbers, blocks, tags, turn bits and marks in slices of bytes, as model/specs defines them.
 mod blocks;
+mod kinds;
 mod marks;
 mod numbers;
 mod tags;
@@ -8,6 +9,11 @@ mod turns;
 pub use blocks::all_zero;
 pub use blocks::clear;
 pub use blocks::copy;
+pub use kinds::has_home;
+pub use kinds::is_closing;
+pub use kinds::is_plain;
+pub use kinds::tag_count;
+pub use kinds::tag_link;
 pub use marks::has_group_head;
 pub use marks::has_header_mark;
 pub use marks::put_fence_mark;

@@ -1,5 +1,6 @@
 -- The state of one pass over the log, and how each position changes it. Beside what the walk has found it counts the entries of each transaction,
 -- so that a closing entry is complete if the count at its first position, itself included, is its own.
+use mathlib.Core.Path.{_≡_}
 use Prim.Native.Nat.{ℕ, zero, suc, _+_, _-_, _≤_}
 use mathlib.Core.Bool.{Bool, true, false, _&&_}
 use mathlib.Core.List.{List}
@@ -62,3 +63,10 @@ pub record Within (base position : ℕ) (s : Scan) : Type 0 where
   pub each : (i : ℕ) → getD (s .counts) i 0 ≤ position - base
   pub number : s .progress .number ≤ position - base
   pub end : s .progress .end ≤ position
+
+-- a pass over the m positions from `position` on has come from one state to another: it has taken them all, or those up to a closing entry that fails
+pub record Stopped (tags : ℕ → Tag) (base position m : ℕ) (s t : Scan) : Type 0 where
+  pub taken : ℕ
+  pub most : taken ≤ m
+  pub same : t ≡ entered tags base position taken s
+  pub whole : t .progress .failed ≡ 0 → taken ≡ m

@@ -1,18 +1,18 @@
 // The walk over the log's groups that applies the commit rule.
-use super::groups::group_valid;
-use super::groups::tag_words;
+use super::groups::word_there;
 use super::slots::first_slot;
 use super::slots::next_slot;
-use model::Tag;
 ghost use mathlib.Core.Path.{_≡_};
-ghost use Prim.Native.Nat.{_+_, _-_, _*_, _^_, min, _<_, _≤_};
+ghost use mathlib.Core.Bool.{true, _&&_};
+ghost use Prim.Native.Nat.{ℕ, _+_, _-_, _*_, _^_, min, _<_, _≤_};
+ghost use lib.Dec.{eqb};
 ghost use lib.ListN.{length, getD};
-ghost use Rattle.model.specs.Tag.{readTag};
+ghost use Rattle.model.specs.Tag.{entryWord, field, readTag};
 ghost use Rattle.model.specs.Layout.{turnOf, entryIn, entryAt};
 ghost use Rattle.model.specs.Commit.{linked, committed};
 ghost use Rattle.model.proofs.rule.Closings.{endOf};
 ghost use Rattle.model.proofs.rule.ClosingLaws.{lastAt};
-ghost use Rattle.scan.specs.Scan.{counted, decided, enter, entered, Within};
+ghost use Rattle.scan.specs.Scan.{counted, decided, enter, Within, Stopped};
 
 // What the walk finds: one past the last committed closing entry, or 0 for none, and how many transactions are committed.
 pub struct Found {
@@ -80,32 +80,86 @@ pub fn judge(progress: Progress, base: u64, position: u64, link: u64, complete: 
     }
 }
 
-// Takes what the word of a tag says at a position.
-fn visit(
+// Takes the word of an entry that does not close its transaction, at index `index` of the log; `above` is the word of an entry for the first home that
+// there is not.
+fn visit_plain(
     word: u64,
-    position: u64,
+    above: u64,
     base: u64,
-    homes: u64,
+    index: u64,
     counts: &mut [u16],
     progress: Progress,
 ) -> Progress
-    requires { ⌜ (base ≤ position) × (position < base + 7168) × (base < 2 ^ 61) × (position < base + length (now counts)) × Within base position (record { counts = now counts; progress = progress }) ⌝ }
-    ensures { λ r. ⌜ record { counts = now (counts .exit); progress = r } ≡ enter base position (readTag word position base homes) (record { counts = now (counts .entry); progress = progress }) ⌝ }
+    requires { ⌜ (index < 7168) × (index < length (now counts)) × ((eqb (field word 0 1) 1 && eqb (field word 58 6) 0 && eqb (field word 1 1) 0 && eqb (field word 27 26) 0) ≡ true) × Within base (base + index) (record { counts = now counts; progress = progress }) ⌝ }
+    ensures { λ r. ⌜ ((homes : ℕ) → above ≡ entryWord homes 0 → record { counts = now (counts .exit); progress = r } ≡ enter base (base + index) (readTag word (base + index) base homes) (record { counts = now (counts .entry); progress = progress })) ⌝ }
 {
-    match codec::read_tag(word, position, base, homes) {
-        Tag::Nothing => progress,
-        Tag::Entry(_, first) => {
-            count_entry(counts, (first - base) as usize);
-            progress
-        }
-        Tag::Closing(_, first, link, count) => {
-            let n = count_entry(counts, (first - base) as usize);
-            judge(progress, base, position, link, n == count)
-        }
+    if !codec::has_home(word, above) {
+        return progress;
     }
+    let back = codec::tag_back(word);
+    if index < back {
+        return progress;
+    }
+    count_entry(counts, (index - back) as usize);
+    progress
 }
 
-// Takes the first `m` tags of a group, which says nothing where it is not the valid group with number `n` and turn `turn`.
+// The same for the word of a closing entry.
+fn visit_closing(
+    word: u64,
+    above: u64,
+    base: u64,
+    index: u64,
+    counts: &mut [u16],
+    progress: Progress,
+) -> Progress
+    requires { ⌜ (index < 7168) × (base < 2 ^ 61) × (index < length (now counts)) × ((eqb (field word 0 1) 1 && eqb (field word 58 6) 0 && eqb (field word 1 1) 1) ≡ true) × Within base (base + index) (record { counts = now counts; progress = progress }) ⌝ }
+    ensures { λ r. ⌜ ((homes : ℕ) → above ≡ entryWord homes 0 → record { counts = now (counts .exit); progress = r } ≡ enter base (base + index) (readTag word (base + index) base homes) (record { counts = now (counts .entry); progress = progress })) ⌝ }
+{
+    if !codec::has_home(word, above) {
+        return progress;
+    }
+    let back = codec::tag_back(word);
+    if index < back {
+        return progress;
+    }
+    let count = codec::tag_count(word);
+    if count == 0 {
+        return progress;
+    }
+    let n = count_entry(counts, (index - back) as usize);
+    judge(
+        progress,
+        base,
+        base + index,
+        codec::tag_link(word),
+        n == count,
+    )
+}
+
+// Takes what the word of a tag says at index `index` of the log.
+fn visit(
+    word: u64,
+    above: u64,
+    base: u64,
+    index: u64,
+    counts: &mut [u16],
+    progress: Progress,
+) -> Progress
+    requires { ⌜ (index < 7168) × (base < 2 ^ 61) × (index < length (now counts)) × Within base (base + index) (record { counts = now counts; progress = progress }) ⌝ }
+    ensures { λ r. ⌜ ((homes : ℕ) → above ≡ entryWord homes 0 → record { counts = now (counts .exit); progress = r } ≡ enter base (base + index) (readTag word (base + index) base homes) (record { counts = now (counts .entry); progress = progress })) ⌝ }
+{
+    if codec::is_plain(word) {
+        return visit_plain(word, above, base, index, counts, progress);
+    }
+    if codec::is_closing(word) {
+        return visit_closing(word, above, base, index, counts, progress);
+    }
+    progress
+}
+
+// Takes the first `m` tags of a group, or those up to the first closing entry that fails. The group says nothing where it is not the valid group with
+// number `n` and turn `turn`.
 fn visit_group(
     group: &[u8],
     groups: u64,
@@ -117,20 +171,29 @@ fn visit_group(
     counts: &mut [u16],
     progress: Progress,
 ) -> Progress
-    requires { ⌜ (length (now group) ≡ 512) × (groups ≤ 1024) × (start ≤ 2 ^ 47) × (start ≤ n) × (n < start + 1024) × (turn ≡ turnOf groups n) × (m ≤ 7) × (7 * n + m ≤ 7 * start + length (now counts)) × Within (7 * start) (7 * n) (record { counts = now counts; progress = progress }) ⌝ }
-    ensures { λ r. ⌜ record { counts = now (counts .exit); progress = r } ≡ entered (entryIn (now (group .entry)) groups homes start) (7 * start) (7 * n) m (record { counts = now (counts .entry); progress = progress }) ⌝ }
+    requires { ⌜ (length (now group) ≡ 512) × (groups ≤ 1024) × (homes ≤ 65535) × (start ≤ 2 ^ 47) × (start ≤ n) × (n < start + groups) × (turn ≡ turnOf groups n) × (m ≤ 7) × (7 * n + m ≤ 7 * start + length (now counts)) × (length (now counts) ≤ 7168) × Within (7 * start) (7 * n) (record { counts = now counts; progress = progress }) ⌝ }
+    ensures { λ r. ⌜ Stopped (entryIn (now (group .entry)) groups homes start) (7 * start) (7 * n) m (record { counts = now (counts .entry); progress = progress }) (record { counts = now (counts .exit); progress = r }) ⌝ }
 {
-    if !group_valid(group, groups, start, n) {
+    if !codec::has_group_head(group, 0, n) {
         return progress;
     }
-    let words = tag_words(group, turn);
+    let above = codec::entry_word(homes, 0);
     let base = 7 * start;
+    let index = 7 * n - base;
     let mut reached = progress;
-    let mut position = 7 * n;
     let mut k: usize = 0;
     while k < m {
-        reached = visit(words[k], position, base, homes, counts, reached);
-        position += 1;
+        reached = visit(
+            word_there(group, turn, k),
+            above,
+            base,
+            index + k as u64,
+            counts,
+            reached,
+        );
+        if reached.failed != 0 {
+            return reached;
+        }
         k += 1;
     }
     reached

@@ -73,11 +73,13 @@ visit-group-requires c κs =
       simp (length-take, length-drop) (omega arith),
       omega arith,
       omega arith,
+      omega arith,
       omega (arith, next l),
       omega (arith, next l),
       l .before .loop .inv .2 .turn,
       omega arith,
       omega (arith, next l, c .before .in-group .ensures, l .before .loop .inv .4),
+      omega (arith, l .before .loop .inv .4),
       small l,
     )
 
@@ -86,15 +88,16 @@ abbrev pass : tie.Start Inv-loop μ-loop → ℕ → Scan
 pass c j =
     entered (entryAt (c .args .log .now) (c .args .groups) (c .args .homes) (c .args .start)) (7 * c .args .start) (7 * c .args .start) j (fresh 7168)
 
--- it has taken the group
+-- it has taken the group, or what comes before a closing entry that fails, with that
 reached : (c : tie.After-visit-group Inv-loop μ-loop) (j : ℕ)
     → j ≡ c .before .before .before .before .before .before .before .before .args .n - c .before .before .before .before .before .loop .left
-    + c .before .before .in-group .result
+    + c .visit-group .ensures .taken
     → _≡_ {A = Scan} (record { counts = c .visit-group .last .1 .1 .1 .1 .1 .1 .1 .0; progress = c .visit-group .result })
     (pass (c .before .before .before .before .before .before .before .before) j)
 reached c j e =
     let l = c .before .before .before .before in
-    log-turn _ _ _ _ _ _ _ _ _ _ _ _ _ _ _ (omega arith) (next l) (l .before .loop .inv .2 .same) refl e (l .before .loop .inv .0) (c .visit-group .ensures)
+    log-turn _ _ _ _ _ _ _ _ _ _ _ _ _ _ _ (omega (arith, c .visit-group .ensures .most, c .before .before .in-group .ensures)) (next l)
+    (l .before .loop .inv .2 .same) refl e (l .before .loop .inv .0) (c .visit-group .ensures .same)
 
 result-requires : tie.Need-result-requires Inv-loop μ-loop
 result-requires c κs = tt
@@ -103,7 +106,8 @@ returns : tie.Need-returns Inv-loop μ-loop
 returns c =
     let v = c .before .before .before .before in
     let a = v .before .before .before .before .before .before .before .before .args in
-    let f = found-stopped _ _ _ (a .n) _ (omega arith) (placed _ _ _ _) _ (omega arith) (reached v _ refl) (c .before .if1 .taken) in
+    let f = found-stopped _ _ _ (a .n) _ (omega arith) (placed _ _ _ _) _ (omega (arith, v .visit-group .ensures .most, v .before .before .in-group .ensures)) (reached v _ refl)
+    (c .before .if1 .taken) in
     (c .result .ensures .0 ∙ f .0, c .result .ensures .1 ∙ f .1)
 
 next-slot-requires : tie.Need-next-slot-requires Inv-loop μ-loop
@@ -125,7 +129,7 @@ loop-again c =
     let v = c .before .before .before .before in
     let m = v .before .before in
     let l = m .before .before .before .loop in (
-      reached v _ (omega (arith, m .in-group .ensures, l .inv .1)),
+      reached v _ (omega (arith, m .in-group .ensures, l .inv .1, v .visit-group .ensures .whole (c .before .if1 .left))),
       omega (arith, l .inv .1),
       c .next-slot .ensures .1 _ (l .inv .2),
       λ h. omega (arith, next (m .before .before), m .in-group .ensures, l .inv .1),
