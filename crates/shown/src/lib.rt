@@ -1,6 +1,10 @@
 // What a home shows where a position is kept for it: the block of the entry there, if one for that home is, else that of the data copy.
+mod ring;
+mod tags;
+
 use model::State;
-use model::Tag;
+use ring::ring_place;
+use tags::is_entry_for;
 ghost use mathlib.Core.Path.{_≡_};
 ghost use mathlib.Core.Bool.{_&&_};
 ghost use Prim.Native.Nat.{_+_, _*_, _<_, _≤_};
@@ -14,27 +18,22 @@ ghost use Rattle.shown.specs.There.{Searchable, tagsBy, thereBy, placeBy
 
 // Whether an entry for a home stands at a position of the log: its group's number is in range.
 fn entry_there(log: &[u8], st: State, home: u64, position: u64) -> bool
-    requires { ⌜ Searchable (now log) st × (position < nextPosition st) × (7 * st .start ≤ position) ⌝ }
+    requires { ⌜ Searchable (now log) st × (position < nextPosition st) × (7 * st .start ≤ position) × (home < st .homes) ⌝ }
     ensures { λ r. ⌜ r ≡ (present (tagsBy (now (log .entry)) st position) && eqb (homeOf (tagsBy (now (log .entry)) st position)) home) ⌝ }
 {
-    let number = position / 7;
-    let k = (position % 7) as usize;
-    let at = scan::first_slot(number, st.groups);
+    let at = ring_place(st, position);
     let from = 64 + 512 * at.slot as usize;
     let group = &log[from..from + 512];
-    if !codec::has_group_head(group, 0, number) {
+    if !codec::has_group_head(group, 0, at.number) {
         return false;
     }
-    match scan::tag_there(group, at.turn, k, position, 7 * st.start, st.homes) {
-        Tag::Nothing => false,
-        Tag::Entry(written, _) => written == home,
-        Tag::Closing(written, _, _, _) => written == home,
-    }
+    let word = scan::word_there(group, at.turn, at.k as usize);
+    is_entry_for(word, home, position, 7 * st.start, st.homes)
 }
 
 // Whether an entry for a home is at the position kept for it, if that lies from the start of the log to below the next position.
 fn is_there(log: &[u8], st: State, home: u64, position: u64) -> bool
-    requires { ⌜ Searchable (now log) st ⌝ }
+    requires { ⌜ Searchable (now log) st × (home < st .homes) ⌝ }
     ensures { λ r. ⌜ r ≡ thereBy (now (log .entry)) st home position ⌝ }
 {
     if position < 7 * st.start {
@@ -48,20 +47,31 @@ fn is_there(log: &[u8], st: State, home: u64, position: u64) -> bool
 
 // Where the block of that entry lies in the log, 0 where there is none.
 fn place_by(log: &[u8], st: State, home: u64, position: u64) -> usize
-    requires { ⌜ Searchable (now log) st ⌝ }
+    requires { ⌜ Searchable (now log) st × (home < st .homes) ⌝ }
     ensures { λ r. ⌜ r ≡ placeBy (now (log .entry)) st home position ⌝ }
 {
     if !is_there(log, st, home, position) {
         return 0;
     }
-    let k = (position % 7) as usize;
-    let at = scan::first_slot(position / 7, st.groups);
-    64 + 512 * at.slot as usize + (64 + 64 * k)
+    let at = ring_place(st, position);
+    64 + 512 * at.slot as usize + (64 + 64 * at.k as usize)
 }
 
-// The same by the strip. Called by one name from everywhere, so that of its numbers only those that are compared are read.
+// The same by the strip.
 pub fn place(log: &[u8], state: &[u8], home: u64, position: u64) -> usize
     requires { ⌜ Searchable (now log) (stateOf (now state)) × (length (now state) ≡ 1024) ⌝ }
+    ensures { λ r. ⌜ r ≡ placeBy (now (log .entry)) (stateOf (now (state .entry))) home position ⌝ }
+{
+    let st = strip::state(state);
+    if st.homes <= home {
+        return 0;
+    }
+    place_by(log, st, home, position)
+}
+
+// The same for a home that the store has.
+pub fn place_known(log: &[u8], state: &[u8], home: u64, position: u64) -> usize
+    requires { ⌜ Searchable (now log) (stateOf (now state)) × (length (now state) ≡ 1024) × (home < stateOf (now state) .homes) ⌝ }
     ensures { λ r. ⌜ r ≡ placeBy (now (log .entry)) (stateOf (now (state .entry))) home position ⌝ }
 {
     place_by(log, strip::state(state), home, position)
