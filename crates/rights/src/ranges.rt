@@ -49,9 +49,12 @@ fn in_last(log: &[u8], place: usize, home: u64) -> bool
     requires { ⌜ (128 ≤ place) × (place + 64 ≤ length (now log)) ⌝ }
     ensures { λ r. ⌜ r ≡ inRange (entryFrom (now (log .entry)) place) 60 home ⌝ }
 {
-    let mut block = [0u8; 64];
-    shown::show_at(&mut block, log, place);
-    in_range(&block, 60, home)
+    let first = codec::number(log, place + 60, 2);
+    if home < first {
+        return false;
+    }
+    let bit = shown::displaced_at(log, place);
+    home < first + (codec::number(log, place + 62, 2) % 0x8000 + 0x8000 * bit)
 }
 
 // Whether a home lies in one of the four ranges from index `o` on of that block: all but a block's last range stand in the log as they are.
