@@ -70,23 +70,25 @@ module _ (log : List ℕ) (p bit : ℕ) (e : bit ≡ displaced (number 8 log (ta
         go (yes x) (no y) = rw (eq-eqb (w * 2 ^ 1 % 2 ^ 64) 0 x, ne-eqb bit 0 y) (ne-eqb (w % 2 ^ 63 + 2 ^ 63 * bit) 0 (λ z. y (omega arith)))
         go (no x) y = rw (ne-eqb (w * 2 ^ 1 % 2 ^ 64) 0 x) (ne-eqb (w % 2 ^ 63 + 2 ^ 63 * bit) 0 (λ z. x (omega (arith, doubled w h))))
 
-    pub zero-entry-words : (front a b c last : ℕ) → bit < 2 → last < 2 ^ 64
+    -- eight words of which the fourth is tested twice
+    entry-words : (front back : ℕ)
         → eqb front 0
         ≡ (eqb (number 8 log p) 0 && (eqb (number 8 log (p + 8)) 0 && (eqb (number 8 log (p + 16)) 0 && eqb (number 8 log (p + 24)) 0)))
-        → a ≡ number 8 log (p + 32) → b ≡ number 8 log (p + 40) → c ≡ number 8 log (p + 48) → last ≡ number 8 log (p + 56)
-        → eqb (bitOr front (bitOr a (bitOr b (bitOr c (bitOr (last * 2 ^ 1 % 2 ^ 64) bit))))) 0 ≡ same (entryFrom log p) (zeros 64)
-    zero-entry-words front a b c last s h f i j k l =
-        let z : p + 0 ≡ p = omega arith in
-        let x : List ℕ = entryFrom log p in
-        let w : eqb (number 8 x 56) 0 ≡ (eqb (last * 2 ^ 1 % 2 ^ 64) 0 && eqb bit 0) =
-        rw (last-word, ← l) (shifted-out last h s) in
-        or-none front _ ∙ rw (f, or-none a (bitOr b (bitOr c (bitOr (last * 2 ^ 1 % 2 ^ 64) bit))), or-none b (bitOr c (bitOr (last * 2 ^ 1 % 2 ^ 64) bit)), or-none c (bitOr (last * 2 ^ 1 % 2 ^ 64) bit), or-none (last * 2 ^ 1 % 2 ^ 64) bit, i, j, k, ← w)
-        (grouped (eqb (number 8 log p) 0) (eqb (number 8 log (p + 8)) 0) (eqb (number 8 log (p + 16)) 0) (eqb (number 8 log (p + 24)) 0)
-        (eqb (number 8 log (p + 32)) 0) (eqb (number 8 log (p + 40)) 0) (eqb (number 8 log (p + 48)) 0) (eqb (number 8 x 56) 0)
-        ∙ sym (all x refl))
+        → eqb back 0
+        ≡ (eqb (number 8 log (p + 24)) 0
+        && (eqb (number 8 log (p + 24 + 8)) 0 && (eqb (number 8 log (p + 24 + 16)) 0 && eqb (number 8 log (p + 24 + 24)) 0)))
+        → same (entryFrom log p) (zeros 64) ≡ (eqb (bitOr front back) 0 && eqb (number 8 (entryFrom log p) 56) 0)
+    entry-words front back f g =
+        let a : p + 24 + 8 ≡ p + 32 = omega arith in
+        let b : p + 24 + 16 ≡ p + 40 = omega arith in
+        let c : p + 24 + 24 ≡ p + 48 = omega arith in
+        all (entryFrom log p) refl
+        ∙ grouped (eqb (number 8 log p) 0) (eqb (number 8 log (p + 8)) 0) (eqb (number 8 log (p + 16)) 0) (eqb (number 8 log (p + 24)) 0)
+        (eqb (number 8 log (p + 32)) 0) (eqb (number 8 log (p + 40)) 0) (eqb (number 8 log (p + 48)) 0) (eqb (number 8 (entryFrom log p) 56) 0)
+        ∙ rw (or-none front back, f, g, a, b, c)
       where
         grouped : (a b c d e f g h : Bool)
-            → ((a && (b && (c && d))) && (e && (f && (g && h)))) ≡ (a && (b && (c && (d && (e && (f && (g && (h && true))))))))
+            → (a && (b && (c && (d && (e && (f && (g && (h && true)))))))) ≡ (((a && (b && (c && d))) && (d && (e && (f && g)))) && h)
         grouped false b c d e f g h = refl
         grouped true false c d e f g h = refl
         grouped true true false d e f g h = refl
@@ -120,3 +122,18 @@ module _ (log : List ℕ) (p bit : ℕ) (e : bit ≡ displaced (number 8 log (ta
               ← n 48 (omega arith),
             )
             (ap (λ (y : List ℕ). same y (zeros 64)) (sym (part-whole x 64 (omega arith))) ∙ eight-words x 0 (omega arith))
+
+    module _ (front back : ℕ)
+        (f : eqb front 0
+        ≡ (eqb (number 8 log p) 0 && (eqb (number 8 log (p + 8)) 0 && (eqb (number 8 log (p + 16)) 0 && eqb (number 8 log (p + 24)) 0))))
+        (g : eqb back 0
+        ≡ (eqb (number 8 log (p + 24)) 0
+        && (eqb (number 8 log (p + 24 + 8)) 0 && (eqb (number 8 log (p + 24 + 16)) 0 && eqb (number 8 log (p + 24 + 24)) 0)))) where
+      pub not-zero : (bitOr front back ≡ 0 → ⊥) → false ≡ same (entryFrom log p) (zeros 64)
+      not-zero n = sym (entry-words front back f g ∙ rw (ne-eqb (bitOr front back) 0 n))
+
+      pub zero-last : (last : ℕ) → bitOr front back ≡ 0 → bit < 2 → last < 2 ^ 64 → last ≡ number 8 log (p + 56)
+          → eqb (bitOr (last * 2 ^ 1 % 2 ^ 64) bit) 0 ≡ same (entryFrom log p) (zeros 64)
+      zero-last last z s h l =
+          let w : eqb (number 8 (entryFrom log p) 56) 0 ≡ (eqb (last * 2 ^ 1 % 2 ^ 64) 0 && eqb bit 0) = rw (last-word, ← l) (shifted-out last h s) in
+          or-none (last * 2 ^ 1 % 2 ^ 64) bit ∙ sym (entry-words front back f g ∙ rw (eq-eqb (bitOr front back) 0 z, w))

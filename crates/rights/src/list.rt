@@ -57,7 +57,7 @@ fn place(log: &[u8], state: &[u8], kept: &[u8], from: usize, i: usize) -> usize
     ensures { λ r. ⌜ r ≡ placeBy (now (log .entry)) (stateOf (now (state .entry))) (8 + i) (number 8 (now (kept .entry)) (from + 8 * i)) ⌝ }
 {
     let position = codec::number(kept, from + 8 * i, 8);
-    shown::place_known(log, state, 8 + i as u64, position)
+    shown::place(log, state, 8 + i as u64, position)
 }
 
 // Whether a home lies in one of the four ranges from byte `at` of the list on, whose block has the place `found`.

@@ -36,10 +36,11 @@ pub fn zero_entry(log: &[u8], place: usize) -> bool
     ensures { λ r. ⌜ r ≡ same (entryFrom (now (log .entry)) place) (zeros 64) ⌝ }
 {
     let front = or_words(log, place);
-    let a = codec::number(log, place + 32, 8);
-    let b = codec::number(log, place + 40, 8);
-    let c = codec::number(log, place + 48, 8);
+    let back = or_words(log, place + 24);
+    if front | back != 0 {
+        return false;
+    }
     let last = codec::number(log, place + 56, 8);
     let bit = shown::displaced_at(log, place);
-    front | (a | (b | (c | (last << 1 | bit)))) == 0
+    last << 1 | bit == 0
 }

@@ -51,11 +51,10 @@ searchable log area state st u e =
 -- ---- the entry at a position
 
 -- its ring place, counted from the log's start
-pub ring-placed : (groups start p after ahead : ℕ) (at : RingSlot) → after ≡ p - 7 * start → ahead ≡ after / 7 → 7 * start ≤ p
-    → Kept groups (start + ahead) at
-    → RingPlaced groups p (record { number = start + ahead; slot = at .slot; turn = at .turn; k = after - 7 * ahead })
-ring-placed groups start p after ahead at e f h q =
-    let n : start + ahead ≡ p / 7 = omega arith in
+pub ring-placed : (groups start after ahead : ℕ) (at : RingSlot) → ahead ≡ after / 7 → Kept groups (start + ahead) at
+    → RingPlaced groups (7 * start + after) (record { number = start + ahead; slot = at .slot; turn = at .turn; k = after - 7 * ahead })
+ring-placed groups start after ahead at f q =
+    let n : start + ahead ≡ (7 * start + after) / 7 = omega arith in
     record {
       number = n;
       same = q .same ∙ rw n;
@@ -84,20 +83,6 @@ module _ (log : List ℕ) (st : State) (p : ℕ) (at : RingPlace) (from : ℕ) (
   there-word r word home h w g =
       let t : tagsBy log st p ≡ readTag word p (7 * st .start) (st .homes) = there-tag ∙ rw (h, w) in
       g ∙ rw t
-
--- what a tag says of a home
-module _ (t : Tag) (home : ℕ) where
-  pub there-hole : t ≡ Nothing → false ≡ (present t && eqb (homeOf t) home)
-  unfolding present
-  there-hole e = rw e
-
-  pub there-entry : (h f : ℕ) → t ≡ Entry h f → eqb h home ≡ (present t && eqb (homeOf t) home)
-  unfolding present homeOf
-  there-entry h f e = rw e
-
-  pub there-closing : (h f l c : ℕ) → t ≡ Closing h f l c → eqb h home ≡ (present t && eqb (homeOf t) home)
-  unfolding present homeOf
-  there-closing h f l c e = rw e
 
 -- nothing is there for a home that the store does not have
 none-for : (w position base homes home : ℕ) → homes ≤ home
@@ -180,6 +165,25 @@ head-valid group log st p n v s h k i e = go v (e ∙ rw i)
     go false e = valid-other group (st .groups) (st .start) (p / 7) (omega (arith, s .low, s .most)) (sym e)
 
 -- ---- the block's place
+
+-- where a position is kept that does not lie in the log
+module _ (log : List ℕ) (st : State) (home p : ℕ) where
+  pub place-before : p < 7 * st .start → 0 ≡ placeBy log st home p
+  unfolding placeBy
+  place-before h = rw (← kept-before log st home p h)
+
+  pub place-past : (n : ℕ) → n ≡ nextPosition st → n ≤ p → 0 ≡ placeBy log st home p
+  unfolding placeBy
+  place-past n f h = rw (← kept-past log st home p n f h)
+
+  pub place-there : (n after : ℕ) (x : Bool) → n ≡ nextPosition st → after ≡ p - 7 * st .start → 7 * st .start ≤ p → p < n
+      → x ≡ (present (tagsBy log st (7 * st .start + after)) && eqb (homeOf (tagsBy log st (7 * st .start + after))) home) → x ≡ thereBy log st home p
+  place-there n after x f e h k q = let s : 7 * st .start + after ≡ p = omega arith in kept-within log st home p n x f h k (rw s at q)
+
+-- the place by the ring place
+pub ring-index : (groups start p after : ℕ) (at : RingPlace) → after ≡ p - 7 * start → 7 * start ≤ p → RingPlaced groups (7 * start + after) at
+    → 64 + 512 * at .slot + (64 + 64 * at .k) ≡ 64 + 512 * (p / 7 % groups) + (64 + 64 * (p % 7))
+ring-index groups start p after at e h q = let s : 7 * start + after ≡ p = omega arith in rw (q .same, q .index, s)
 
 entry-from : (log : List ℕ) (groups p at : ℕ) → at ≡ 64 + 512 * (p / 7 % groups) + (64 + 64 * (p % 7)) → entryFrom log at ≡ blockAt log groups p
 unfolding entryFrom tagFrom blockAt slotOf indexOf

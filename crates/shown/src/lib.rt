@@ -3,6 +3,7 @@ mod ring;
 mod tags;
 
 use model::State;
+use ring::RingPlace;
 use ring::ring_place;
 use tags::is_entry_for;
 ghost use mathlib.Core.Path.{_≡_};
@@ -14,50 +15,43 @@ ghost use Rattle.model.specs.Tag.{present, homeOf, displaced};
 ghost use Rattle.model.specs.Bytes.{number};
 ghost use Rattle.model.specs.Layout.{blockAt};
 ghost use Rattle.model.specs.State.{stateOf, nextPosition};
-ghost use Rattle.shown.specs.There.{Searchable, tagsBy, thereBy, placeBy, tagFrom, entryFrom};
+ghost use Rattle.shown.specs.There.{Searchable, RingPlaced, tagsBy, placeBy, tagFrom, entryFrom};
 
-// Whether an entry for a home stands at a position of the log: its group's number is in range.
-fn entry_there(log: &[u8], st: State, home: u64, position: u64) -> bool
-    requires { ⌜ Searchable (now log) st × (position < nextPosition st) × (7 * st .start ≤ position) × (home < st .homes) ⌝ }
-    ensures { λ r. ⌜ r ≡ (present (tagsBy (now (log .entry)) st position) && eqb (homeOf (tagsBy (now (log .entry)) st position)) home) ⌝ }
+// Whether an entry for a home stands `after` positions behind the log's start, which is at a place of the ring: its group's number is in range.
+fn entry_there(log: &[u8], st: State, home: u64, after: u64, at: RingPlace) -> bool
+    requires { ⌜ Searchable (now log) st × (7 * st .start + after < nextPosition st) × (home < st .homes) × RingPlaced (st .groups) (7 * st .start + after) at ⌝ }
+    ensures { λ r. ⌜ r ≡ (present (tagsBy (now (log .entry)) st (7 * st .start + after)) && eqb (homeOf (tagsBy (now (log .entry)) st (7 * st .start + after))) home) ⌝ }
 {
-    let at = ring_place(st, position);
     let from = 64 + 512 * at.slot as usize;
     let group = &log[from..from + 512];
     if !codec::has_group_head(group, 0, at.number) {
         return false;
     }
     let word = scan::word_there(group, at.turn, at.k as usize);
-    is_entry_for(word, home, position, 7 * st.start, st.homes)
+    is_entry_for(word, home, after)
 }
 
-// Whether an entry for a home is at the position kept for it, if that lies from the start of the log to below the next position.
-fn is_there(log: &[u8], st: State, home: u64, position: u64) -> bool
-    requires { ⌜ Searchable (now log) st × (home < st .homes) ⌝ }
-    ensures { λ r. ⌜ r ≡ thereBy (now (log .entry)) st home position ⌝ }
-{
-    if position < 7 * st.start {
-        return false;
-    }
-    if position >= strip::next_position(st) {
-        return false;
-    }
-    entry_there(log, st, home, position)
-}
-
-// Where the block of that entry lies in the log, 0 where there is none.
+// Where the block of the entry for a home lies in the log, if one is at the position kept for it; else 0.
 fn place_by(log: &[u8], st: State, home: u64, position: u64) -> usize
     requires { ⌜ Searchable (now log) st × (home < st .homes) ⌝ }
     ensures { λ r. ⌜ r ≡ placeBy (now (log .entry)) st home position ⌝ }
 {
-    if !is_there(log, st, home, position) {
+    let base = 7 * st.start;
+    if position < base {
         return 0;
     }
-    let at = ring_place(st, position);
+    if position >= strip::next_position(st) {
+        return 0;
+    }
+    let after = position - base;
+    let at = ring_place(st, after);
+    if !entry_there(log, st, home, after, at) {
+        return 0;
+    }
     64 + 512 * at.slot as usize + (64 + 64 * at.k as usize)
 }
 
-// The same by the strip.
+// The same by the strip. Called by one name from everywhere, so that of its numbers only those that are compared are read.
 pub fn place(log: &[u8], state: &[u8], home: u64, position: u64) -> usize
     requires { ⌜ Searchable (now log) (stateOf (now state)) × (length (now state) ≡ 1024) ⌝ }
     ensures { λ r. ⌜ r ≡ placeBy (now (log .entry)) (stateOf (now (state .entry))) home position ⌝ }
@@ -67,14 +61,6 @@ pub fn place(log: &[u8], state: &[u8], home: u64, position: u64) -> usize
         return 0;
     }
     place_by(log, st, home, position)
-}
-
-// The same for a home that the store has.
-pub fn place_known(log: &[u8], state: &[u8], home: u64, position: u64) -> usize
-    requires { ⌜ Searchable (now log) (stateOf (now state)) × (length (now state) ≡ 1024) × (home < stateOf (now state) .homes) ⌝ }
-    ensures { λ r. ⌜ r ≡ placeBy (now (log .entry)) (stateOf (now (state .entry))) home position ⌝ }
-{
-    place_by(log, strip::state(state), home, position)
 }
 
 // The bit that the turn bit of the block at index `at` displaced.

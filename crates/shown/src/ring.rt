@@ -20,12 +20,11 @@ fn sevenths(n: u64) -> u64
     (n * 9363) >> 16
 }
 
-// The ring place of a position that lies in the log, counted from its start.
-pub fn ring_place(st: State, position: u64) -> RingPlace
-    requires { ⌜ (7 * st .start ≤ position) × (position < 7 * (st .start + st .groups)) × (st .start ≤ 2 ^ 47) × (4 ≤ st .groups) × (st .groups ≤ 1024) ⌝ }
-    ensures { λ r. ⌜ RingPlaced (st .groups) position r ⌝ }
+// The ring place of the position that lies `after` positions behind the log's start.
+pub fn ring_place(st: State, after: u64) -> RingPlace
+    requires { ⌜ (after < 7 * st .groups) × (st .start ≤ 2 ^ 47) × (4 ≤ st .groups) × (st .groups ≤ 1024) ⌝ }
+    ensures { λ r. ⌜ RingPlaced (st .groups) (7 * st .start + after) r ⌝ }
 {
-    let after = position - 7 * st.start;
     let ahead = sevenths(after);
     let number = st.start + ahead;
     let at = scan::first_slot(number, st.groups);

@@ -2,14 +2,10 @@
 use native.Mathlib.Omega.{arith}
 use mathlib.Core.Path.{refl}
 use borrow.Author.Tests.{not-true, not-false}
-use lib.ListN.{length-take, length-drop}
 use Rattle.shown.proofs.ThereLaws.{there-none, there-word, head-valid}
 use borrow.Author.Needs.{needs}
 use Rattle.shown.proofs.entry_there.Statement.{statement}
 use Rattle.shown.proofs.entry_there.Tie as tie
-
-ring-place-requires : tie.Need-ring-place-requires
-ring-place-requires c κs = search needs
 
 mul-from : tie.Need-mul-from
 mul-from c = search needs
@@ -33,25 +29,21 @@ has-group-head-requires : tie.Need-has-group-head-requires
 has-group-head-requires c κs = search needs
 
 returns : tie.Need-returns
-returns c = let s = c .before .before .before .before .before in let q = c .before .before .before .ring-place .ensures in there-none _ (s .args .st) _ _ _ _ q refl (head-valid _ _ _ _ _ _ (s .pre .0) (s .pre .2) (s .pre .1) (q .number) (c .before .has-group-head .ensures)) _ (not-true _ (c .if1 .taken))
+returns c = let s = c .before .before .before .before in let q = s .pre .3 in there-none _ (s .args .st) _ _ _ _ q refl (head-valid _ _ _ _ _ _ (s .pre .0) (omega arith) (s .pre .1) (q .number) (c .before .has-group-head .ensures)) _ (not-true _ (c .if1 .taken))
 
 word-there-requires : tie.Need-word-there-requires
 word-there-requires c κs = search needs
-
-mul-is-entry-for : tie.Need-mul-is-entry-for
-mul-is-entry-for c = search needs
 
 is-entry-for-requires : tie.Need-is-entry-for-requires
 is-entry-for-requires c κs = search needs
 
 returns-2 : tie.Need-returns-2
-returns-2 c = let s = c .before .before .before .before .before .before .before .before in let q = c .before .before .before .before .before .before .ring-place .ensures in there-word _ (s .args .st) _ _ _ _ q refl (head-valid _ _ _ _ _ _ (s .pre .0) (s .pre .2) (s .pre .1) (q .number) (c .before .before .before .before .has-group-head .ensures)) _ _ _ (not-false _ (c .before .before .before .if1 .left)) (c .before .before .word-there .ensures) (c .is-entry-for .ensures)
+returns-2 c = let s = c .before .before .before .before .before .before in let q = s .pre .3 in there-word _ (s .args .st) _ _ _ _ q refl (head-valid _ _ _ _ _ _ (s .pre .0) (omega arith) (s .pre .1) (q .number) (c .before .before .before .has-group-head .ensures)) _ _ _ (not-false _ (c .before .before .if1 .left)) (c .before .word-there .ensures) (c .is-entry-for .ensures _ _ (s .pre .2))
 
 pub entry-there-spec : {M : Type 1} → statement M
 entry-there-spec =
     tie.close
     (tie.spec
-    ring-place-requires
     mul-from
     add-from
     add-group
@@ -61,6 +53,5 @@ entry-there-spec =
     has-group-head-requires
     returns
     word-there-requires
-    mul-is-entry-for
     is-entry-for-requires
     returns-2)

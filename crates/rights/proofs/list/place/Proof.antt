@@ -13,16 +13,16 @@ add-number c = search needs
 number-requires : tie.Need-number-requires
 number-requires c κs = search needs
 
-add-place-known : tie.Need-add-place-known
-add-place-known c = search needs
+add-place : tie.Need-add-place
+add-place c = search needs
 
-place-known-requires : tie.Need-place-known-requires
-place-known-requires c κs = search needs
+place-requires : tie.Need-place-requires
+place-requires c κs = search needs
 
 returns : tie.Need-returns
-returns c = c .place-known .ensures ∙ rw (c .before .number .ensures .0)
+returns c = c .place .ensures ∙ rw (c .before .number .ensures .0)
 
 pub place-spec : {M : Type 1} → statement M
 place-spec =
     tie.close
-    (tie.spec mul-number add-number number-requires add-place-known place-known-requires returns)
+    (tie.spec mul-number add-number number-requires add-place place-requires returns)
