@@ -15,16 +15,14 @@ pub fn of_list(home: u64) -> bool
     home < 12
 }
 
-// Whether a home lies in the range at index `at`.
+// Whether a home lies in the range at index `at`: a home before it wraps to a difference that no range has.
 fn in_range(s: &[u8], at: usize, home: u64) -> bool
     requires { ⌜ at + 4 ≤ length (now s) ⌝ }
     ensures { λ r. ⌜ r ≡ inRange (now (s .entry)) at home ⌝ }
 {
     let first = codec::number(s, at, 2);
-    if home < first {
-        return false;
-    }
-    home < first + codec::number(s, at + 2, 2)
+    let n = codec::number(s, at + 2, 2);
+    std::num::wrapping_sub_u64(home, first) < n
 }
 
 // Whether a home lies in one of the four ranges from index `at` on.
@@ -53,8 +51,12 @@ fn in_last(log: &[u8], place: usize, home: u64) -> bool
     if home < first {
         return false;
     }
+    let n = codec::number(log, place + 62, 2) % 0x8000;
+    if home < first + n {
+        return true;
+    }
     let bit = shown::displaced_at(log, place);
-    home < first + (codec::number(log, place + 62, 2) % 0x8000 + 0x8000 * bit)
+    home < first + (n + 0x8000 * bit)
 }
 
 // Whether a home lies in one of the four ranges from index `o` on of that block: all but a block's last range stand in the log as they are.

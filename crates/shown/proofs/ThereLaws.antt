@@ -18,7 +18,7 @@ use Rattle.model.specs.declared.Tag.{Tag}
 use Rattle.model.specs.declared.Tag.the-variants.{Nothing, Entry, Closing}
 use Rattle.model.specs.Effects.{Given, groups, homes, tagsOf, liveTags, liveBase, blockOr, isThere}
 use Rattle.model.specs.Rights.{shownAt}
-use Rattle.model.proofs.bytes.ByteLaws.{puts-whole, length-puts, length-part}
+use Rattle.model.proofs.bytes.ByteLaws.{puts-whole}
 use Rattle.model.proofs.bytes.TagLaws.{entry-known, closing-known}
 use Rattle.model.proofs.trace.ReplayLaws.{length-blockAt}
 use Rattle.model.proofs.strip.OrderLaws.{InOrder, next-within}
@@ -142,16 +142,6 @@ module _ (log : List ℕ) (st : State) (home p : ℕ) where
       second true false c d e = e
       second false b c d e = absurd (false≢true e)
 
-  pub there-from : thereBy log st home p ≡ true → 7 * st .start ≤ p
-  unfolding thereBy
-  there-from e =
-      leb-true (7 * st .start) p
-      (first (leb (7 * st .start) p) (ltb p (nextPosition st)) (present (tagsBy log st p)) (eqb (homeOf (tagsBy log st p)) home) e)
-    where
-      first : (a b c d : Bool) → (a && b && c && d) ≡ true → a ≡ true
-      first true b c d e = refl
-      first false b c d e = e
-
 -- ---- the group's head: its number is in range
 
 pub head-valid : (group log : List ℕ) (st : State) (p n : ℕ) (v : Bool) → Searchable log st → 7 * st .start ≤ p → p < nextPosition st → n ≡ p / 7
@@ -237,12 +227,6 @@ pub entry-copied : (block log : List ℕ) (groups p : ℕ) → length block ≡ 
 unfolding blockAt slotOf indexOf
 entry-copied block log groups p e l h =
     puts-whole block (blockOf (groupAt log (p / 7 % groups)) (p % 7)) (omega (arith, length-blockAt log groups p h l))
-
-pub entry-shown : (block log : List ℕ) (at bit : ℕ) → length block ≡ 64 → at + 64 ≤ length log → bit ≡ displaced (number 8 log (tagFrom at))
-    → puts block 0 (withTopBit (part log at 64) bit) ≡ entryFrom log at
-unfolding entryFrom withTopBit
-entry-shown block log at bit e l q =
-    rw q (puts-whole block _ (rw (length-puts, length-part log at 64 l) e))
 
 -- ---- the same by what a call is lent
 

@@ -15,7 +15,7 @@ ghost use Rattle.model.specs.Tag.{present, homeOf, displaced};
 ghost use Rattle.model.specs.Bytes.{number};
 ghost use Rattle.model.specs.Layout.{blockAt};
 ghost use Rattle.model.specs.State.{stateOf, nextPosition};
-ghost use Rattle.shown.specs.There.{Searchable, RingPlaced, tagsBy, placeBy, tagFrom, entryFrom};
+ghost use Rattle.shown.specs.There.{Searchable, RingPlaced, tagsBy, placeBy, tagFrom};
 
 // Whether an entry for a home stands `after` positions behind the log's start, which is at a place of the ring: its group's number is in range.
 fn entry_there(log: &[u8], st: State, home: u64, after: u64, at: RingPlace) -> bool
@@ -70,15 +70,6 @@ pub fn displaced_at(log: &[u8], at: usize) -> u64
 {
     let from = at - 64;
     codec::displaced(codec::number(log, 64 + from / 512 * 512 + from % 512 / 8, 8))
-}
-
-// Copies the block that the entry with its block at index `at` gives.
-pub fn show_at(block: &mut [u8], log: &[u8], at: usize)
-    requires { ⌜ (length (now block) ≡ 64) × (128 ≤ at) × (at + 64 ≤ length (now log)) ⌝ }
-    ensures { λ _. ⌜ now (block .exit) ≡ entryFrom (now (log .entry)) at ⌝ }
-{
-    let bit = displaced_at(log, at);
-    codec::copy_with_top_bit(block, 0, log, at, bit)
 }
 
 // Copies the block that the entry at a position gives.
