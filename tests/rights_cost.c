@@ -11,22 +11,22 @@
 
 enum { GROUPS = KAGUTIN_MAX_GROUPS, MOST_HOMES = 64, LIST = 8, LIST_HOMES = 4, WRITER = 1, OPEN_HOME = 20, CLOSED_HOME = 40 };
 
-/* Where the list's blocks lie: in the data copy, next to each other in the log, or each in a group and a transaction of its own. */
-enum where { COPY, NEXT, APART };
+/* Where the list's blocks lie: none is committed, in the data copy, next to each other in the log, each in a group and a transaction of its own. */
+enum where { NOWHERE, COPY, NEXT, APART };
 
 struct shape {
     const char *name;
     size_t homes;
     enum where where;
-    int range;      /* which of the writer's four ranges opens the home; -1: none does */
-    unsigned other; /* a writer whose range makes the list one; 8: none does */
-    unsigned before; /* entries before the list's */
-    uint64_t code[2];
+    int range;        /* which of the writer's four ranges opens the home; -1: none does */
+    unsigned other;   /* a writer whose range makes the list one; 8: none does */
+    unsigned before;  /* entries before the list's */
+    uint64_t code[2]; /* answers of store and read */
 };
 
 static const struct shape shapes[] = {
-    {"small", 8, NEXT, -1, 8, 0, {0, 0}},
-    {"none", 64, COPY, -1, 8, 0, {0, 0}},
+    {"small", 8, NOWHERE, -1, 8, 0, {0, 0}},
+    {"none", 64, NOWHERE, -1, 8, 0, {0, 0}},
     {"copy", 64, COPY, 0, 8, 0, {0, 0}},
     {"copy-refused", 64, COPY, -1, 7, 0, {KAGUTIN_NO_STORE, KAGUTIN_NO_READ}},
     {"log", 64, NEXT, 0, 8, 0, {0, 0}},
@@ -134,9 +134,9 @@ static int run(const struct shape *shape, bool reads)
     done(kagutin_format(AREAS, BATCH));
     done(kagutin_open(AREAS, STATE, NEWEST, BATCH));
     fill(shape);
-    if (homes > LIST && strcmp(shape->name, "none") != 0)
+    if (shape->where != NOWHERE)
         commit_list(shape);
-    if (shape->where == COPY && strcmp(shape->name, "none") != 0)
+    if (shape->where == COPY)
         into_copy();
     done(kagutin_begin(AREAS, STATE, WRITER));
     if (!reads && !refused)
