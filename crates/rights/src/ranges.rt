@@ -1,6 +1,6 @@
 // Homes and ranges of homes: first home and number of homes, 16 bits each.
 ghost use mathlib.Core.Path.{_≡_};
-ghost use Prim.Native.Nat.{_+_, _≤_};
+ghost use Prim.Native.Nat.{_+_, _%_, _^_, _≤_};
 ghost use lib.ListN.{length};
 ghost use Rattle.model.specs.Rights.{ofList, inRange, inRanges};
 ghost use Rattle.shown.specs.There.{entryFrom};
@@ -15,6 +15,16 @@ pub fn of_list(home: u64) -> bool
     home < 12
 }
 
+// A home less the first of a range, modulo 2^64.
+fn wrapped_difference(home: u64, first: u64) -> u64
+    ensures { λ r. ⌜ (r + first) % 2 ^ 64 ≡ home ⌝ }
+{
+    if first <= home {
+        return home - first;
+    }
+    home + (0xffff_ffff_ffff_ffff - first) + 1
+}
+
 // Whether a home lies in the range at index `at`: a home before it wraps to a difference that no range has.
 fn in_range(s: &[u8], at: usize, home: u64) -> bool
     requires { ⌜ at + 4 ≤ length (now s) ⌝ }
@@ -22,7 +32,7 @@ fn in_range(s: &[u8], at: usize, home: u64) -> bool
 {
     let first = codec::number(s, at, 2);
     let n = codec::number(s, at + 2, 2);
-    std::num::wrapping_sub_u64(home, first) < n
+    wrapped_difference(home, first) < n
 }
 
 // Whether a home lies in one of the four ranges from index `at` on.

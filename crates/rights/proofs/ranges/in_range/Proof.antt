@@ -14,16 +14,16 @@ add-number c = search needs
 number-requires-2 : tie.Need-number-requires-2
 number-requires-2 c κs = search needs
 
-wrapping-sub-u64-requires : tie.Need-wrapping-sub-u64-requires
-wrapping-sub-u64-requires c κs = search needs
+wrapped-difference-requires : tie.Need-wrapped-difference-requires
+wrapped-difference-requires c κs = search needs
 
 returns : tie.Need-returns
 returns c =
     let a = c .before .before .number .ensures in
     let b = c .before .number2 .ensures in
-    range-wrapped _ _ _ _ _ _ (a .0) (b .0) (a .1) (b .1) (omega arith) (c .wrapping-sub-u64 .ensures)
+    range-wrapped _ _ _ _ _ _ (a .0) (b .0) (a .1) (b .1) (omega arith) (c .wrapped-difference .ensures)
 
 pub in-range-spec : {M : Type 1} → statement M
 in-range-spec =
     tie.close
-    (tie.spec number-requires add-number number-requires-2 wrapping-sub-u64-requires returns)
+    (tie.spec number-requires add-number number-requires-2 wrapped-difference-requires returns)
