@@ -23,7 +23,7 @@ use Rattle.rights.proofs.RightsLaws.{none-kept, ranges-part}
 
 -- ---- words of zeros
 
-or-none : (a b : ℕ) → eqb (bitOr a b) 0 ≡ (eqb a 0 && eqb b 0)
+pub or-none : (a b : ℕ) → eqb (bitOr a b) 0 ≡ (eqb a 0 && eqb b 0)
 or-none a b = go (ℕ-discrete a 0) (ℕ-discrete b 0)
   where
     go : Dec (a ≡ 0) → Dec (b ≡ 0) → eqb (bitOr a b) 0 ≡ (eqb a 0 && eqb b 0)
@@ -46,7 +46,7 @@ word-step s at next n m e f l = go (ℕ-discrete (number 8 s at) 0)
         rw (eq-eqb (number 8 s at) 0 z, e) (sym (rw k at (word-turn 8 s at n (omega arith) l z)))
     go (no z) = rw (ne-eqb (number 8 s at) 0 z) (word-stop 8 s at n (omega arith) l z)
 
-eight-words : (s : List ℕ) (at : ℕ) → at + 64 ≤ length s
+pub eight-words : (s : List ℕ) (at : ℕ) → at + 64 ≤ length s
     → same (part s at 64) (zeros 64)
     ≡ (eqb (number 8 s at) 0
     && (eqb (number 8 s (at + 8)) 0
@@ -167,14 +167,10 @@ module _ (log area : List ℕ) (i at : ℕ) where
   pub zero-home : (r : Bool) → at ≡ 0 → r ≡ same (part area (64 * (8 + i)) 64) (zeros 64) → r ≡ same (blockFrom log area at i) (zeros 64)
   zero-home r z q = q ∙ rw (from-home z)
 
-  pub zero-entry : (r : Bool) (d : List ℕ) → (at ≡ 0 → ⊥) → d ≡ entryFrom log at → length d ≡ 64 → r ≡ same (part d 0 64) (zeros 64)
-      → r ≡ same (blockFrom log area at i) (zeros 64)
-  zero-entry r d z e l q = q ∙ rw (from-entry z, part-whole d 64 (omega arith), e)
+  pub zero-entry : (r : Bool) → (at ≡ 0 → ⊥) → r ≡ same (entryFrom log at) (zeros 64) → r ≡ same (blockFrom log area at i) (zeros 64)
+  zero-entry r z q = q ∙ rw (from-entry z)
 
 -- ---- where no position is kept
-
-pub none-place : (log : List ℕ) (st : State) (home p : ℕ) → Searchable log st → p ≡ 2 ^ 64 - 1 → 0 ≡ placeBy log st home p
-none-place log st home p s e = place-none log st home p false (none-kept log st home p s e) refl
 
 pub four-kept : (xs : List ℕ) (from m : ℕ) → number 8 xs from ≡ m → number 8 xs (from + 8) ≡ m → number 8 xs (from + 16) ≡ m
     → number 8 xs (from + 24) ≡ m → (i : ℕ) → i < 4 → number 8 xs (from + 8 * i) ≡ m

@@ -5,7 +5,7 @@ use mathlib.Core.List.{List, [], _∷_, _++_}
 use mathlib.Core.Option.{none, some}
 use Prim.Native.Nat.{ℕ, zero, suc, _+_, _-_, _*_, _/_, _%_, _^_, _≤_, _<_}
 use native.Mathlib.Omega.{arith}
-use borrow.Author.Tests.{eqb-true, eqb-false, le-leb, lt-leb}
+use borrow.Author.Tests.{eqb-true, eqb-false, le-leb, lt-leb, ltb-true, ltb-false, lt-ltb, le-ltb, leb-true, leb-false}
 use lib.Dec.{eqb, leb, ltb}
 use lib.ListN.{length, length-append, replicate}
 use Rattle.model.specs.Bytes.{part, zeros, number, same}
@@ -51,6 +51,35 @@ module _ (xs : List ℕ) (at home first : ℕ) (e : first ≡ number 2 xs at) wh
   pub range-within : (n : ℕ) → n ≡ number 2 xs (at + 2) → first ≤ home → ltb home (first + n) ≡ inRange xs at home
   unfolding inRange
   range-within n q h = rw (← e, ← q, le-leb first home h)
+
+-- the same by the difference, which wraps where the home lies before the range
+wrapped-above : (d first home : ℕ) → d < 2 ^ 64 → first < 256 ^ 2 → (d + first) % 2 ^ 64 ≡ home → first ≤ home → home ≡ d + first
+wrapped-above d first home l f e h = go ((d + first) / 2 ^ 64) refl
+  where
+    go : (q : ℕ) → (d + first) / 2 ^ 64 ≡ q → home ≡ d + first
+    go zero z = omega arith
+    go (suc q) z = absurd (omega arith)
+
+wrapped-below : (d first home n : ℕ) → first < 256 ^ 2 → n < 256 ^ 2 → (d + first) % 2 ^ 64 ≡ home → home < first → n ≤ d
+wrapped-below d first home n f g e h = go ((d + first) / 2 ^ 64) refl
+  where
+    go : (q : ℕ) → (d + first) / 2 ^ 64 ≡ q → n ≤ d
+    go zero z = absurd (omega arith)
+    go (suc q) z = omega arith
+
+pub range-wrapped : (xs : List ℕ) (at home first n d : ℕ) → first ≡ number 2 xs at → n ≡ number 2 xs (at + 2) → first < 256 ^ 2 → n < 256 ^ 2 → d < 2 ^ 64
+    → (d + first) % 2 ^ 64 ≡ home → ltb d n ≡ inRange xs at home
+range-wrapped xs at home first n d e q f g l w = go (leb first home) refl
+  where
+    same-side : first ≤ home → (b : Bool) → ltb d n ≡ b → ltb d n ≡ ltb home (first + n)
+    same-side h true t = t ∙ sym (lt-ltb home (first + n) (omega (arith, ltb-true d n t, wrapped-above d first home l f w h)))
+    same-side h false t = t ∙ sym (le-ltb home (first + n) (omega (arith, ltb-false d n t, wrapped-above d first home l f w h)))
+
+    go : (b : Bool) → leb first home ≡ b → ltb d n ≡ inRange xs at home
+    go true t = let h : first ≤ home = leb-true first home t in same-side h (ltb d n) refl ∙ range-within xs at home first e n q h
+    go false t =
+        let h : home < first = leb-false first home t in
+        le-ltb d n (wrapped-below d first home n f g w h) ∙ range-before xs at home first e h
 
 pub list-before : (home : ℕ) → home < 8 → false ≡ ofList home
 unfolding ofList

@@ -2,6 +2,7 @@
 use crate::ranges::in_entry;
 use crate::ranges::in_ranges;
 use crate::zeros::zero_block;
+use crate::zeros::zero_entry;
 ghost use mathlib.Core.Path.{_≡_};
 ghost use mathlib.Core.Bool.{true, _&&_, _||_};
 ghost use mathlib.Core.Logic.{_≢_};
@@ -52,13 +53,10 @@ fn none_in_copy(area: &[u8]) -> bool
 
 // Where the block of the list's home 8 + `i` lies in the log, 0 where the data copy has it.
 fn place(log: &[u8], state: &[u8], kept: &[u8], from: usize, i: usize) -> usize
-    requires { ⌜ Searchable (now log) (stateOf (now state)) × (length (now state) ≡ 1024) × (from + 32 ≤ length (now kept)) × (from < 2 ^ 32) × (i < 4) ⌝ }
+    requires { ⌜ Searchable (now log) (stateOf (now state)) × (length (now state) ≡ 1024) × (from + 32 ≤ length (now kept)) × (from < 2 ^ 32) × (i < 4) × (12 ≤ stateOf (now state) .homes) ⌝ }
     ensures { λ r. ⌜ r ≡ placeBy (now (log .entry)) (stateOf (now (state .entry))) (8 + i) (number 8 (now (kept .entry)) (from + 8 * i)) ⌝ }
 {
     let position = codec::number(kept, from + 8 * i, 8);
-    if position == NO_POSITION {
-        return 0;
-    }
     shown::place(log, state, 8 + i as u64, position)
 }
 
@@ -81,9 +79,7 @@ fn is_zero(log: &[u8], area: &[u8], found: usize, i: usize) -> bool
     if found == 0 {
         return zero_block(area, 64 * (8 + i));
     }
-    let mut block = [0u8; 64];
-    shown::show_at(&mut block, log, found);
-    zero_block(&block, 0)
+    zero_entry(log, found)
 }
 
 // The same for block `i`, where block `own` is known to be all zeros.

@@ -1,6 +1,6 @@
 // Homes and ranges of homes: first home and number of homes, 16 bits each.
 ghost use mathlib.Core.Path.{_≡_};
-ghost use Prim.Native.Nat.{_+_, _≤_};
+ghost use Prim.Native.Nat.{_+_, _%_, _^_, _≤_};
 ghost use lib.ListN.{length};
 ghost use Rattle.model.specs.Rights.{ofList, inRange, inRanges};
 ghost use Rattle.shown.specs.There.{entryFrom};
@@ -15,16 +15,24 @@ pub fn of_list(home: u64) -> bool
     home < 12
 }
 
-// Whether a home lies in the range at index `at`.
+// A home less the first of a range, modulo 2^64.
+fn wrapped_difference(home: u64, first: u64) -> u64
+    ensures { λ r. ⌜ (r + first) % 2 ^ 64 ≡ home ⌝ }
+{
+    if first <= home {
+        return home - first;
+    }
+    home + (0xffff_ffff_ffff_ffff - first) + 1
+}
+
+// Whether a home lies in the range at index `at`: a home before it wraps to a difference that no range has.
 fn in_range(s: &[u8], at: usize, home: u64) -> bool
     requires { ⌜ at + 4 ≤ length (now s) ⌝ }
     ensures { λ r. ⌜ r ≡ inRange (now (s .entry)) at home ⌝ }
 {
     let first = codec::number(s, at, 2);
-    if home < first {
-        return false;
-    }
-    home < first + codec::number(s, at + 2, 2)
+    let n = codec::number(s, at + 2, 2);
+    wrapped_difference(home, first) < n
 }
 
 // Whether a home lies in one of the four ranges from index `at` on.
@@ -49,9 +57,16 @@ fn in_last(log: &[u8], place: usize, home: u64) -> bool
     requires { ⌜ (128 ≤ place) × (place + 64 ≤ length (now log)) ⌝ }
     ensures { λ r. ⌜ r ≡ inRange (entryFrom (now (log .entry)) place) 60 home ⌝ }
 {
-    let mut block = [0u8; 64];
-    shown::show_at(&mut block, log, place);
-    in_range(&block, 60, home)
+    let first = codec::number(log, place + 60, 2);
+    if home < first {
+        return false;
+    }
+    let n = codec::number(log, place + 62, 2) % 0x8000;
+    if home < first + n {
+        return true;
+    }
+    let bit = shown::displaced_at(log, place);
+    home < first + (n + 0x8000 * bit)
 }
 
 // Whether a home lies in one of the four ranges from index `o` on of that block: all but a block's last range stand in the log as they are.

@@ -5,6 +5,7 @@ ghost use Prim.Native.Nat.{_+_, _≤_};
 ghost use lib.Dec.{eqb};
 ghost use lib.ListN.{length};
 ghost use Rattle.model.specs.Bytes.{part, number, zeros, same};
+ghost use Rattle.shown.specs.There.{entryFrom};
 
 // The bits that are set in one of the four words from index `at` on.
 fn or_words(s: &[u8], at: usize) -> u64
@@ -26,4 +27,20 @@ pub fn zero_block(s: &[u8], at: usize) -> bool
     let front = or_words(s, at);
     let back = or_words(s, at + 32);
     front | back == 0
+}
+
+// Whether the block that the entry with its block at index `place` of the log gives is all zeros: the turn bit is shifted out of its last word, and the
+// bit that it displaced counts instead.
+pub fn zero_entry(log: &[u8], place: usize) -> bool
+    requires { ⌜ (128 ≤ place) × (place + 64 ≤ length (now log)) ⌝ }
+    ensures { λ r. ⌜ r ≡ same (entryFrom (now (log .entry)) place) (zeros 64) ⌝ }
+{
+    let front = or_words(log, place);
+    let back = or_words(log, place + 24);
+    if front | back != 0 {
+        return false;
+    }
+    let last = codec::number(log, place + 56, 8);
+    let bit = shown::displaced_at(log, place);
+    last << 1 | bit == 0
 }

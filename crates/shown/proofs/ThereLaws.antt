@@ -8,7 +8,7 @@ use native.Mathlib.Nat.{mod-lt}
 use native.Mathlib.Omega.{arith}
 use lib.Dec.{leb, ltb, eqb}
 use lib.ListN.{length, take, drop}
-use borrow.Author.Tests.{ltb-true, lt-ltb, le-ltb, leb-true, le-leb, lt-leb}
+use borrow.Author.Tests.{ne-eqb, ltb-true, lt-ltb, le-ltb, leb-true, le-leb, lt-leb}
 use Rattle.model.specs.Bytes.{part, puts, number, same}
 use Rattle.model.specs.Layout.{groupAt, slotOf, indexOf, blockOf, blockAt, homeAt, turnOf, withTopBit, wordThere, groupMark, groupValid, entryIn, entryAt}
 use Rattle.model.specs.Tag.{present, homeOf, readTag, displaced}
@@ -18,7 +18,8 @@ use Rattle.model.specs.declared.Tag.{Tag}
 use Rattle.model.specs.declared.Tag.the-variants.{Nothing, Entry, Closing}
 use Rattle.model.specs.Effects.{Given, groups, homes, tagsOf, liveTags, liveBase, blockOr, isThere}
 use Rattle.model.specs.Rights.{shownAt}
-use Rattle.model.proofs.bytes.ByteLaws.{puts-whole, length-puts, length-part}
+use Rattle.model.proofs.bytes.ByteLaws.{puts-whole}
+use Rattle.model.proofs.bytes.TagLaws.{entry-known, closing-known}
 use Rattle.model.proofs.trace.ReplayLaws.{length-blockAt}
 use Rattle.model.proofs.strip.OrderLaws.{InOrder, next-within}
 use Rattle.answers.proofs.AnswerLaws.{Usable}
@@ -26,7 +27,8 @@ use Rattle.scan.specs.declared.slots.RingSlot.{RingSlot}
 use Rattle.scan.specs.Slots.{Kept}
 use Rattle.areas.proofs.GroupLaws.{entry-block}
 use Rattle.scan.proofs.GroupLaws.{part-group, valid-other, valid-range}
-use Rattle.shown.specs.There.{tagsBy, thereBy, shownBy, placeOf, placeBy, tagFrom, entryFrom, Searchable}
+use Rattle.shown.specs.declared.ring.RingPlace.{RingPlace}
+use Rattle.shown.specs.There.{tagsBy, thereBy, shownBy, placeOf, placeBy, tagFrom, entryFrom, Searchable, RingPlaced}
 
 -- ---- what a usable store gives the search
 
@@ -48,34 +50,69 @@ searchable log area state st u e =
 
 -- ---- the entry at a position
 
+-- its ring place, counted from the log's start
+pub ring-placed : (groups start after ahead : ℕ) (at : RingSlot) → ahead ≡ after / 7 → Kept groups (start + ahead) at
+    → RingPlaced groups (7 * start + after) (record { number = start + ahead; slot = at .slot; turn = at .turn; k = after - 7 * ahead })
+ring-placed groups start after ahead at f q =
+    let n : start + ahead ≡ (7 * start + after) / 7 = omega arith in
+    record {
+      number = n;
+      same = q .same ∙ rw n;
+      low = q .low;
+      turn = q .turn ∙ rw n;
+      bit = q .bit;
+      index = omega arith;
+    }
+
 -- what stands there, by the part of the log that is its group
-module _ (log : List ℕ) (st : State) (p : ℕ) (at : RingSlot) (from : ℕ) (v : Bool) (q : Kept (st .groups) (p / 7) at) (f : from ≡ 64 + 512 * at .slot)
+module _ (log : List ℕ) (st : State) (p : ℕ) (at : RingPlace) (from : ℕ) (v : Bool) (q : RingPlaced (st .groups) p at) (f : from ≡ 64 + 512 * at .slot)
     (e : v ≡ groupValid (take (from + 512 - from) (drop from log)) (st .groups) (st .start) (p / 7)) where
-  there-tag : tagsBy log st p ≡ cond v (readTag (wordThere (take (from + 512 - from) (drop from log)) (at .turn) (p % 7)) p (7 * st .start) (st .homes)) Nothing
+  there-tag : tagsBy log st p ≡ cond v (readTag (wordThere (take (from + 512 - from) (drop from log)) (at .turn) (at .k)) p (7 * st .start) (st .homes)) Nothing
   unfolding entryAt entryIn slotOf indexOf
   there-tag =
       let a : take (from + 512 - from) (drop from log) ≡ groupAt log (p / 7 % st .groups) = part-group log (at .slot) from f ∙ ap (groupAt log) (q .same) in
-      rw (e, a, q .turn)
+      rw (e, a, q .turn, q .index)
 
-  pub there-none : v ≡ false → tagsBy log st p ≡ Nothing
-  there-none h = there-tag ∙ rw h
-
-  pub there-some : (t : Tag) → v ≡ true → t ≡ readTag (wordThere (take (from + 512 - from) (drop from log)) (at .turn) (p % 7)) p (7 * st .start) (st .homes)
-      → tagsBy log st p ≡ t
-  there-some t h k = there-tag ∙ rw (h, k)
-
-module _ (t : Tag) (home : ℕ) where
-  pub there-hole : t ≡ Nothing → false ≡ (present t && eqb (homeOf t) home)
+  pub there-none : (home : ℕ) → v ≡ false → false ≡ (present (tagsBy log st p) && eqb (homeOf (tagsBy log st p)) home)
   unfolding present
-  there-hole e = rw e
+  there-none home h = let t : tagsBy log st p ≡ Nothing = there-tag ∙ rw h in rw t
 
-  pub there-entry : (h f : ℕ) → t ≡ Entry h f → eqb h home ≡ (present t && eqb (homeOf t) home)
-  unfolding present homeOf
-  there-entry h f e = rw e
+  pub there-word : (r : Bool) (word home : ℕ) → v ≡ true → word ≡ wordThere (take (from + 512 - from) (drop from log)) (at .turn) (at .k)
+      → r ≡ (present (readTag word p (7 * st .start) (st .homes)) && eqb (homeOf (readTag word p (7 * st .start) (st .homes))) home)
+      → r ≡ (present (tagsBy log st p) && eqb (homeOf (tagsBy log st p)) home)
+  there-word r word home h w g =
+      let t : tagsBy log st p ≡ readTag word p (7 * st .start) (st .homes) = there-tag ∙ rw (h, w) in
+      g ∙ rw t
 
-  pub there-closing : (h f l c : ℕ) → t ≡ Closing h f l c → eqb h home ≡ (present t && eqb (homeOf t) home)
-  unfolding present homeOf
-  there-closing h f l c e = rw e
+-- nothing is there for a home that the store does not have
+none-for : (w position base homes home : ℕ) → homes ≤ home
+    → (present (readTag w position base homes) && eqb (homeOf (readTag w position base homes)) home) ≡ false
+unfolding present homeOf
+none-for w position base homes home l = go (readTag w position base homes) refl
+  where
+    go : (t : Tag) → readTag w position base homes ≡ t → (present t && eqb (homeOf t) home) ≡ false
+    go Nothing e = refl
+    go (Entry h f) e = ne-eqb h home (λ q. omega (arith, entry-known w position base homes h f e .0))
+    go (Closing h f n c) e = ne-eqb h home (λ q. omega (arith, closing-known w position base homes h f n c e .0))
+
+pub other-home : (log : List ℕ) (st : State) (home p : ℕ) → st .homes ≤ home → thereBy log st home p ≡ false
+unfolding thereBy entryAt entryIn present
+other-home log st home p l =
+    go (groupValid (groupAt log (slotOf (st .groups) p)) (st .groups) (st .start) (p / 7)) (leb (7 * st .start) p) (ltb p (nextPosition st))
+  where
+    go : (v a b : Bool)
+        → (a && b
+        && present
+        (cond v (readTag (wordThere (groupAt log (slotOf (st .groups) p)) (turnOf (st .groups) (p / 7)) (indexOf p)) p (7 * st .start) (st .homes)) Nothing)
+        && eqb
+        (homeOf
+        (cond v (readTag (wordThere (groupAt log (slotOf (st .groups) p)) (turnOf (st .groups) (p / 7)) (indexOf p)) p (7 * st .start) (st .homes)) Nothing))
+        home)
+        ≡ false
+    go v false b = refl
+    go v true false = refl
+    go false true true = refl
+    go true true true = none-for _ p (7 * st .start) (st .homes) home l
 
 -- ---- the entry at the kept position
 
@@ -107,14 +144,36 @@ module _ (log : List ℕ) (st : State) (home p : ℕ) where
 
 -- ---- the group's head: its number is in range
 
-pub head-valid : (group log : List ℕ) (st : State) (p : ℕ) (v : Bool) → Searchable log st → 7 * st .start ≤ p → p < nextPosition st
-    → v ≡ (same (part group 0 2) groupMark && eqb (number 6 group (0 + 2)) (p / 7 % 2 ^ 48)) → v ≡ groupValid group (st .groups) (st .start) (p / 7)
-head-valid group log st p true s h k e =
-    sym (lt-ltb (p / 7) (st .start + st .groups) (omega (arith, s .within)))
-    ∙ valid-range group (st .groups) (st .start) (p / 7) (omega (arith, s .low, s .most)) (sym e) (omega arith)
-head-valid group log st p false s h k e = valid-other group (st .groups) (st .start) (p / 7) (omega (arith, s .low, s .most)) (sym e)
+pub head-valid : (group log : List ℕ) (st : State) (p n : ℕ) (v : Bool) → Searchable log st → 7 * st .start ≤ p → p < nextPosition st → n ≡ p / 7
+    → v ≡ (same (part group 0 2) groupMark && eqb (number 6 group (0 + 2)) (n % 2 ^ 48)) → v ≡ groupValid group (st .groups) (st .start) (p / 7)
+head-valid group log st p n v s h k i e = go v (e ∙ rw i)
+  where
+    go : (v : Bool) → v ≡ (same (part group 0 2) groupMark && eqb (number 6 group (0 + 2)) (p / 7 % 2 ^ 48)) → v ≡ groupValid group (st .groups) (st .start) (p / 7)
+    go true e =
+        sym (lt-ltb (p / 7) (st .start + st .groups) (omega (arith, s .within)))
+        ∙ valid-range group (st .groups) (st .start) (p / 7) (omega (arith, s .low, s .most)) (sym e) (omega arith)
+    go false e = valid-other group (st .groups) (st .start) (p / 7) (omega (arith, s .low, s .most)) (sym e)
 
 -- ---- the block's place
+
+-- where a position is kept that does not lie in the log
+module _ (log : List ℕ) (st : State) (home p : ℕ) where
+  pub place-before : p < 7 * st .start → 0 ≡ placeBy log st home p
+  unfolding placeBy
+  place-before h = rw (← kept-before log st home p h)
+
+  pub place-past : (n : ℕ) → n ≡ nextPosition st → n ≤ p → 0 ≡ placeBy log st home p
+  unfolding placeBy
+  place-past n f h = rw (← kept-past log st home p n f h)
+
+  pub place-there : (n after : ℕ) (x : Bool) → n ≡ nextPosition st → after ≡ p - 7 * st .start → 7 * st .start ≤ p → p < n
+      → x ≡ (present (tagsBy log st (7 * st .start + after)) && eqb (homeOf (tagsBy log st (7 * st .start + after))) home) → x ≡ thereBy log st home p
+  place-there n after x f e h k q = let s : 7 * st .start + after ≡ p = omega arith in kept-within log st home p n x f h k (rw s at q)
+
+-- the place by the ring place
+pub ring-index : (groups start p after : ℕ) (at : RingPlace) → after ≡ p - 7 * start → 7 * start ≤ p → RingPlaced groups (7 * start + after) at
+    → 64 + 512 * at .slot + (64 + 64 * at .k) ≡ 64 + 512 * (p / 7 % groups) + (64 + 64 * (p % 7))
+ring-index groups start p after at e h q = let s : 7 * start + after ≡ p = omega arith in rw (q .same, q .index, s)
 
 entry-from : (log : List ℕ) (groups p at : ℕ) → at ≡ 64 + 512 * (p / 7 % groups) + (64 + 64 * (p % 7)) → entryFrom log at ≡ blockAt log groups p
 unfolding entryFrom tagFrom blockAt slotOf indexOf
@@ -168,12 +227,6 @@ pub entry-copied : (block log : List ℕ) (groups p : ℕ) → length block ≡ 
 unfolding blockAt slotOf indexOf
 entry-copied block log groups p e l h =
     puts-whole block (blockOf (groupAt log (p / 7 % groups)) (p % 7)) (omega (arith, length-blockAt log groups p h l))
-
-pub entry-shown : (block log : List ℕ) (at bit : ℕ) → length block ≡ 64 → at + 64 ≤ length log → bit ≡ displaced (number 8 log (tagFrom at))
-    → puts block 0 (withTopBit (part log at 64) bit) ≡ entryFrom log at
-unfolding entryFrom withTopBit
-entry-shown block log at bit e l q =
-    rw q (puts-whole block _ (rw (length-puts, length-part log at 64 l) e))
 
 -- ---- the same by what a call is lent
 

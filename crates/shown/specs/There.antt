@@ -7,10 +7,11 @@ use lib.Dec.{eqb, leb, ltb}
 use lib.ListN.{length}
 use Rattle.model.specs.Bytes.{part, number}
 use Rattle.model.specs.Tag.{present, homeOf, displaced}
-use Rattle.model.specs.Layout.{entryAt, blockAt, homeAt, withTopBit}
+use Rattle.model.specs.Layout.{entryAt, blockAt, homeAt, withTopBit, turnOf}
 use Rattle.model.specs.State.{nextPosition}
 use Rattle.model.specs.declared.State.{State}
 use Rattle.model.specs.declared.Tag.{Tag}
+use Rattle.shown.specs.declared.ring.RingPlace.{RingPlace}
 
 -- what the log copy says at a position, in a store whose strip has the numbers `st`
 abbrev pub tagsBy : List ℕ → State → ℕ → Tag
@@ -49,3 +50,12 @@ pub record Searchable (log : List ℕ) (st : State) : Type 0 where
   pub next : 7 * st .next + st .filled ≡ nextPosition st
   pub first : 7 * st .start ≤ nextPosition st
   pub within : nextPosition st ≤ 7 * (st .start + st .groups)
+
+-- where a position lies in the ring
+pub record RingPlaced (groups p : ℕ) (at : RingPlace) : Type 0 where
+  pub number : at .number ≡ p / 7
+  pub same : at .slot ≡ p / 7 % groups
+  pub low : at .slot < groups
+  pub turn : at .turn ≡ turnOf groups (p / 7)
+  pub bit : at .turn < 2
+  pub index : at .k ≡ p % 7

@@ -1,6 +1,11 @@
 // What a home shows where a position is kept for it: the block of the entry there, if one for that home is, else that of the data copy.
+mod ring;
+mod tags;
+
 use model::State;
-use model::Tag;
+use ring::RingPlace;
+use ring::ring_place;
+use tags::is_entry_for;
 ghost use mathlib.Core.Path.{_≡_};
 ghost use mathlib.Core.Bool.{_&&_};
 ghost use Prim.Native.Nat.{_+_, _*_, _<_, _≤_};
@@ -10,53 +15,40 @@ ghost use Rattle.model.specs.Tag.{present, homeOf, displaced};
 ghost use Rattle.model.specs.Bytes.{number};
 ghost use Rattle.model.specs.Layout.{blockAt};
 ghost use Rattle.model.specs.State.{stateOf, nextPosition};
-ghost use Rattle.shown.specs.There.{Searchable, tagsBy, thereBy, placeBy, tagFrom, entryFrom};
+ghost use Rattle.shown.specs.There.{Searchable, RingPlaced, tagsBy, placeBy, tagFrom};
 
-// Whether an entry for a home stands at a position of the log: its group's number is in range.
-fn entry_there(log: &[u8], st: State, home: u64, position: u64) -> bool
-    requires { ⌜ Searchable (now log) st × (position < nextPosition st) × (7 * st .start ≤ position) ⌝ }
-    ensures { λ r. ⌜ r ≡ (present (tagsBy (now (log .entry)) st position) && eqb (homeOf (tagsBy (now (log .entry)) st position)) home) ⌝ }
+// Whether an entry for a home stands `after` positions behind the log's start, which is at a place of the ring: its group's number is in range.
+fn entry_there(log: &[u8], st: State, home: u64, after: u64, at: RingPlace) -> bool
+    requires { ⌜ Searchable (now log) st × (7 * st .start + after < nextPosition st) × (home < st .homes) × RingPlaced (st .groups) (7 * st .start + after) at ⌝ }
+    ensures { λ r. ⌜ r ≡ (present (tagsBy (now (log .entry)) st (7 * st .start + after)) && eqb (homeOf (tagsBy (now (log .entry)) st (7 * st .start + after))) home) ⌝ }
 {
-    let number = position / 7;
-    let k = (position % 7) as usize;
-    let at = scan::first_slot(number, st.groups);
     let from = 64 + 512 * at.slot as usize;
     let group = &log[from..from + 512];
-    if !codec::has_group_head(group, 0, number) {
+    if !codec::has_group_head(group, 0, at.number) {
         return false;
     }
-    match scan::tag_there(group, at.turn, k, position, 7 * st.start, st.homes) {
-        Tag::Nothing => false,
-        Tag::Entry(written, _) => written == home,
-        Tag::Closing(written, _, _, _) => written == home,
-    }
+    let word = scan::word_there(group, at.turn, at.k as usize);
+    is_entry_for(word, home, after)
 }
 
-// Whether an entry for a home is at the position kept for it, if that lies from the start of the log to below the next position.
-fn is_there(log: &[u8], st: State, home: u64, position: u64) -> bool
-    requires { ⌜ Searchable (now log) st ⌝ }
-    ensures { λ r. ⌜ r ≡ thereBy (now (log .entry)) st home position ⌝ }
-{
-    if position < 7 * st.start {
-        return false;
-    }
-    if position >= strip::next_position(st) {
-        return false;
-    }
-    entry_there(log, st, home, position)
-}
-
-// Where the block of that entry lies in the log, 0 where there is none.
+// Where the block of the entry for a home lies in the log, if one is at the position kept for it; else 0.
 fn place_by(log: &[u8], st: State, home: u64, position: u64) -> usize
-    requires { ⌜ Searchable (now log) st ⌝ }
+    requires { ⌜ Searchable (now log) st × (home < st .homes) ⌝ }
     ensures { λ r. ⌜ r ≡ placeBy (now (log .entry)) st home position ⌝ }
 {
-    if !is_there(log, st, home, position) {
+    let base = 7 * st.start;
+    if position < base {
         return 0;
     }
-    let k = (position % 7) as usize;
-    let at = scan::first_slot(position / 7, st.groups);
-    64 + 512 * at.slot as usize + (64 + 64 * k)
+    if position >= strip::next_position(st) {
+        return 0;
+    }
+    let after = position - base;
+    let at = ring_place(st, after);
+    if !entry_there(log, st, home, after, at) {
+        return 0;
+    }
+    64 + 512 * at.slot as usize + (64 + 64 * at.k as usize)
 }
 
 // The same by the strip. Called by one name from everywhere, so that of its numbers only those that are compared are read.
@@ -64,7 +56,11 @@ pub fn place(log: &[u8], state: &[u8], home: u64, position: u64) -> usize
     requires { ⌜ Searchable (now log) (stateOf (now state)) × (length (now state) ≡ 1024) ⌝ }
     ensures { λ r. ⌜ r ≡ placeBy (now (log .entry)) (stateOf (now (state .entry))) home position ⌝ }
 {
-    place_by(log, strip::state(state), home, position)
+    let st = strip::state(state);
+    if st.homes <= home {
+        return 0;
+    }
+    place_by(log, st, home, position)
 }
 
 // The bit that the turn bit of the block at index `at` displaced.
@@ -74,15 +70,6 @@ pub fn displaced_at(log: &[u8], at: usize) -> u64
 {
     let from = at - 64;
     codec::displaced(codec::number(log, 64 + from / 512 * 512 + from % 512 / 8, 8))
-}
-
-// Copies the block that the entry with its block at index `at` gives.
-pub fn show_at(block: &mut [u8], log: &[u8], at: usize)
-    requires { ⌜ (length (now block) ≡ 64) × (128 ≤ at) × (at + 64 ≤ length (now log)) ⌝ }
-    ensures { λ _. ⌜ now (block .exit) ≡ entryFrom (now (log .entry)) at ⌝ }
-{
-    let bit = displaced_at(log, at);
-    codec::copy_with_top_bit(block, 0, log, at, bit)
 }
 
 // Copies the block that the entry at a position gives.

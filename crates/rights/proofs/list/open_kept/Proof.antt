@@ -9,7 +9,7 @@ use Rattle.rights.proofs.list.open_kept.Statement.{statement}
 use Rattle.rights.proofs.list.open_kept.Tie as tie
 
 place-requires : tie.Need-place-requires
-place-requires c κs = let p = c .before .before .before .before .pre in (p .0 .search, p .1, p .0 .holds (p .2), p .0 .low, omega arith)
+place-requires c κs = let p = c .before .before .before .before .pre in (p .0 .search, p .1, p .0 .holds (p .2), p .0 .low, omega arith, p .2)
 
 own-ranges-requires : tie.Need-own-ranges-requires
 own-ranges-requires c κs = let p = c .before .before .before .before .before .pre in (omega (arith, p .0 .long, p .2), p .3, p .4, fits _ _ _ _ _ (c .place .ensures) (p .0 .search))

@@ -8,7 +8,7 @@ returns : tie.Need-returns
 returns c = own-zero _ _ _ _ _ _ _ (c .if1 .taken) (c .before .before .before .before .before .pre .4)
 
 place-requires : tie.Need-place-requires
-place-requires c κs = let p = c .before .before .before .before .before .pre in (p .0 .search, p .1, p .0 .holds (p .2), p .0 .low, p .3)
+place-requires c κs = let p = c .before .before .before .before .before .pre in (p .0 .search, p .1, p .0 .holds (p .2), p .0 .low, p .3, p .2)
 
 is-zero-requires : tie.Need-is-zero-requires
 is-zero-requires c κs = let p = c .before .before .before .before .before .before .pre in (omega (arith, p .0 .long, p .2), p .3, fits _ _ _ _ _ (c .place .ensures) (p .0 .search))

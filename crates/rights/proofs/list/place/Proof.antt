@@ -1,7 +1,6 @@
 -- `rights::place` meets its contract. Assumes nothing.
+use mathlib.Core.Path.{_∙_}
 use borrow.Author.Needs.{needs}
-use mathlib.Core.Path.{sym, _∙_}
-use Rattle.rights.proofs.PlaceLaws.{none-place}
 use Rattle.rights.proofs.list.place.Statement.{statement}
 use Rattle.rights.proofs.list.place.Tie as tie
 
@@ -14,19 +13,16 @@ add-number c = search needs
 number-requires : tie.Need-number-requires
 number-requires c κs = search needs
 
-returns : tie.Need-returns
-returns c = none-place _ _ _ _ (c .before .before .before .before .before .pre .0) (sym (c .before .number .ensures .0) ∙ c .if1 .taken)
-
 add-place : tie.Need-add-place
 add-place c = search needs
 
 place-requires : tie.Need-place-requires
 place-requires c κs = search needs
 
-returns-2 : tie.Need-returns-2
-returns-2 c = c .place .ensures ∙ rw (c .before .before .number .ensures .0)
+returns : tie.Need-returns
+returns c = c .place .ensures ∙ rw (c .before .number .ensures .0)
 
 pub place-spec : {M : Type 1} → statement M
 place-spec =
     tie.close
-    (tie.spec mul-number add-number number-requires returns add-place place-requires returns-2)
+    (tie.spec mul-number add-number number-requires add-place place-requires returns)
