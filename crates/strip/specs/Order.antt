@@ -1,9 +1,11 @@
 -- The first half of question 2 as plain facts: the group numbers and the places filled are in order, so no position passes 64 bits.
 use mathlib.Core.Path.{_≡_}
-use Prim.Native.Nat.{_+_, _^_, _≤_}
+use Prim.Native.Nat.{ℕ, _+_, _^_, _≤_, _<_}
 use mathlib.Core.Bool.{Bool, _&&_, _||_}
+use mathlib.Core.List.{List}
 use lib.Dec.{eqb, leb, ltb}
 use Rattle.model.specs.declared.State.{State}
+use Rattle.model.specs.State.{stateOf, promiseOf}
 
 pub record GroupsInOrder (st : State) : Type 0 where
   pub groups-most : st .groups ≤ 1024
@@ -16,3 +18,8 @@ pub record GroupsInOrder (st : State) : Type 0 where
 -- a round: none, or the fixed F from the settled position to F
 unfoldable pub roundInOrder : State → Bool
 roundInOrder s = eqb (s .round) 0 || ltb (s .settled) (s .round) && leb (s .round) (s .fenced + 1)
+
+-- nothing is promised and no round is under way
+pub record Quiet (s : List ℕ) : Type 0 where
+  pub none-promised : (w : ℕ) → w < 8 → promiseOf s w ≡ 0
+  pub no-round : stateOf s .round ≡ 0

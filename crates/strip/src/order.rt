@@ -9,18 +9,19 @@ use crate::writers::is_open;
 use crate::writers::writer;
 use model::State;
 use model::Writer;
+use std::num::wrapping_sub_u64;
 ghost use mathlib.Core.Path.{_≡_};
+ghost use mathlib.Core.Bool.{true};
 ghost use Prim.Native.Nat.{ℕ, _+_, _*_, _^_, _≤_, _<_};
 ghost use lib.ListN.{length};
 ghost use Rattle.model.specs.State.{promiseOf, numbersInOrder, writerInOrder, writerAtInOrder, writersInOrder, inOrder};
-ghost use Rattle.strip.specs.Order.{GroupsInOrder, roundInOrder};
+ghost use Rattle.strip.specs.Order.{GroupsInOrder, Quiet, roundInOrder};
 
 // The highest group number that a log may start at.
 const MAX_START: u64 = 0x8000_0000_0000;
 
 // Whether the position that a round has fixed lies from the settled to the fenced one, or there is no round.
 fn round_in_order(st: State) -> bool
-    requires { ⌜ st .fenced < 2 ^ 63 ⌝ }
     ensures { λ r. ⌜ r ≡ roundInOrder st ⌝ }
 {
     if st.round == 0 {
@@ -29,7 +30,34 @@ fn round_in_order(st: State) -> bool
     if st.round <= st.settled {
         return false;
     }
-    st.round <= st.fenced + 1
+    st.round - 1 <= st.fenced
+}
+
+// Whether the numbers of the strip are in order, where its group numbers, the places filled and the round are. What lies between two others is
+// compared once, by its distance from the lower one.
+fn bounds_in_order(st: State) -> bool
+    requires { ⌜ GroupsInOrder st × (roundInOrder st ≡ true) ⌝ }
+    ensures { λ r. ⌜ r ≡ numbersInOrder st ⌝ }
+{
+    let low = 7 * st.start;
+    let whole = 7 * (st.next - st.start);
+    let fenced = wrapping_sub_u64(st.fenced, low);
+    if whole < fenced {
+        return false;
+    }
+    if fenced < wrapping_sub_u64(st.settled, low) {
+        return false;
+    }
+    if st.fenced < st.durable {
+        return false;
+    }
+    if st.last == 0 {
+        return true;
+    }
+    if whole + st.filled <= wrapping_sub_u64(st.last, low + 1) {
+        return false;
+    }
+    true
 }
 
 // Whether the numbers of the strip are in order, where its group numbers and the places filled are.
@@ -37,32 +65,10 @@ fn positions_in_order(st: State) -> bool
     requires { ⌜ GroupsInOrder st ⌝ }
     ensures { λ r. ⌜ r ≡ numbersInOrder st ⌝ }
 {
-    let low = 7 * st.start;
-    if st.settled < low {
-        return false;
-    }
-    if st.fenced < st.settled {
-        return false;
-    }
-    if 7 * st.next < st.fenced {
-        return false;
-    }
-    if st.fenced < st.durable {
-        return false;
-    }
     if !round_in_order(st) {
         return false;
     }
-    if st.last == 0 {
-        return true;
-    }
-    if st.last <= low {
-        return false;
-    }
-    if next_position(st) < st.last {
-        return false;
-    }
-    true
+    bounds_in_order(st)
 }
 
 // Whether the numbers of the strip are in order.
@@ -154,14 +160,52 @@ fn writers_in_order(s: &[u8], st: State) -> bool
     true
 }
 
-// The same where nothing is promised: an idle writer is passed by its mode alone.
+// Whether the record of a writer that holds a block for a home below D and has logged entries is in order: the positions since its first one are
+// among those of the log, and hold its entries.
+fn logged_in_order(st: State, r: Writer) -> bool
+    requires { ⌜ GroupsInOrder st × (r .mode ≡ 3) × (r .home < st .homes) ⌝ }
+    ensures { λ b. ⌜ b ≡ writerInOrder st r ⌝ }
+{
+    let low = 7 * st.start;
+    let all = 7 * (st.next - st.start) + st.filled;
+    let since = wrapping_sub_u64(low + all, r.first);
+    if all < since {
+        return false;
+    }
+    if since <= wrapping_sub_u64(r.count, 1) {
+        return false;
+    }
+    true
+}
+
+// Whether a writer's record is in order in a strip whose group numbers and places filled are.
+fn record_in_order(st: State, r: Writer) -> bool
+    requires { ⌜ GroupsInOrder st ⌝ }
+    ensures { λ b. ⌜ b ≡ writerInOrder st r ⌝ }
+{
+    if r.mode < 2 {
+        return true;
+    }
+    if st.homes <= r.home {
+        return false;
+    }
+    if r.mode == 2 {
+        return true;
+    }
+    if r.mode != 3 {
+        return false;
+    }
+    logged_in_order(st, r)
+}
+
+// Whether the records of all eight writers are in order where nothing is promised: an idle writer is passed by its mode alone.
 fn records_in_order(s: &[u8], st: State) -> bool
-    requires { ⌜ (length (now s) ≡ 1024) × (7 * st .start < 2 ^ 64) × (7 * st .next + st .filled < 2 ^ 64) × ((w : ℕ) → w < 8 → promiseOf (now s) w ≡ 0) ⌝ }
+    requires { ⌜ (length (now s) ≡ 1024) × GroupsInOrder st × ((w : ℕ) → w < 8 → promiseOf (now s) w ≡ 0) ⌝ }
     ensures { λ r. ⌜ r ≡ writersInOrder (now (s .entry)) st 8 ⌝ }
 {
     let mut w: usize = 0;
     while w != 8 {
-        if !writer_in_order(st, writer(s, w)) {
+        if !record_in_order(st, writer(s, w)) {
             return false;
         }
         w += 1;
@@ -169,8 +213,8 @@ fn records_in_order(s: &[u8], st: State) -> bool
     true
 }
 
-// Whether the strip is in order for a log of `groups` groups and `homes` homes.
-pub fn in_order(s: &[u8], groups: u64, homes: u64) -> bool
+// Whether the strip is in order for a log of `groups` groups and `homes` homes, with promises, with a round under way, or with the log full.
+fn in_order_fully(s: &[u8], groups: u64, homes: u64) -> bool
     requires { ⌜ (length (now s) ≡ 1024) × (groups ≤ 1024) × (homes ≤ 65535) ⌝ }
     ensures { λ r. ⌜ r ≡ inOrder (now (s .entry)) groups homes ⌝ }
 {
@@ -191,4 +235,45 @@ pub fn in_order(s: &[u8], groups: u64, homes: u64) -> bool
         return false;
     }
     writers_in_order(s, st)
+}
+
+// Whether nothing is promised and no round is under way: three words in a row are zero.
+fn is_quiet(s: &[u8]) -> bool
+    requires { ⌜ length (now s) ≡ 1024 ⌝ }
+    ensures { λ b. ⌜ (b ≡ true → Quiet (now (s .entry))) ⌝ }
+{
+    let a = codec::number(s, 72, 8);
+    let b = codec::number(s, 80, 8);
+    let c = codec::number(s, 88, 8);
+    a | (b | c) == 0
+}
+
+// Whether the strip is in order for a log of `groups` groups and `homes` homes. Mostly nothing is promised, no round is under way and the log is not full.
+pub fn in_order(s: &[u8], groups: u64, homes: u64) -> bool
+    requires { ⌜ (length (now s) ≡ 1024) × (groups ≤ 1024) × (homes ≤ 65535) ⌝ }
+    ensures { λ r. ⌜ r ≡ inOrder (now (s .entry)) groups homes ⌝ }
+{
+    if !is_quiet(s) {
+        return in_order_fully(s, groups, homes);
+    }
+    let st = state(s);
+    if st.groups != groups {
+        return false;
+    }
+    if st.homes != homes {
+        return false;
+    }
+    if MAX_START < st.start {
+        return false;
+    }
+    if groups <= wrapping_sub_u64(st.next, st.start) {
+        return in_order_fully(s, groups, homes);
+    }
+    if 6 < st.filled {
+        return false;
+    }
+    if !bounds_in_order(st) {
+        return false;
+    }
+    records_in_order(s, st)
 }
