@@ -1,6 +1,6 @@
 -- Question 2 test by test: one test that fails refuses the strip, and all that hold make it one in order. Assumes nothing.
 use mathlib.Core.Path.{_≡_, refl, sym, _∙_}
-use mathlib.Core.Bool.{Bool, true, false, not, _&&_, and-false, and-true, or-true}
+use mathlib.Core.Bool.{Bool, true, false, not, false≢true, _&&_, and-false, and-true, or-true}
 use mathlib.Core.Logic.{_≢_}
 use mathlib.Core.List.{List}
 use Prim.Native.Nat.{ℕ, zero, suc, _+_, _-_, _*_, _^_, _%_, _≤_, _<_}
@@ -12,8 +12,9 @@ use Rattle.model.specs.declared.State.{State}
 use Rattle.model.specs.declared.Writer.{Writer}
 use lib.Dec.{leb}
 use Rattle.model.specs.State.{stateOf, writerOf, isOpen, promiseOf, promised, places, nextPosition, numbersInOrder, writerInOrder, promiseInOrder, writerAtInOrder, writersInOrder, inOrder}
+use Rattle.model.specs.Questions.{ask}
 use Rattle.model.proofs.strip.OrderLaws.{tests, WriterInOrder, writer-order}
-use Rattle.strip.specs.Order.{GroupsInOrder, roundInOrder}
+use Rattle.strip.specs.Order.{GroupsInOrder, Groups, roundInOrder}
 
 refuted : (b : Bool) → (b ≡ true → ⊥) → false ≡ b
 refuted true h = absurd (h refl)
@@ -85,19 +86,25 @@ module _ (st : State) where
         filled-none = λ k. f .0 .0 .0 .0 .0 .0 .1 (omega arith);
       }
 
-  -- the number of the next group is below the end, by its distance from the start
-  pub not-full : (groups d : ℕ) → st .groups ≡ groups → groups ≤ 1024 → st .start ≤ 2 ^ 47 → (d + st .start) % 2 ^ 64 ≡ st .next → d < groups
-      → st .filled ≤ 6 → GroupsInOrder st
-  not-full groups d e m s h l f =
-      let n = distance-short d (st .start) (st .next) h (omega arith) in
+  -- by the distance of the next group from the start
+  pub groups-held : (d : ℕ) → st .groups ≤ 1024 → st .start ≤ 2 ^ 47 → st .filled ≤ 6 → (d + st .start) % 2 ^ 64 ≡ st .next → d ≤ st .groups
+      → (d ≡ st .groups → st .filled ≡ 0) → GroupsInOrder st
+  groups-held d m s f e l n =
+      let k = distance-short d (st .start) (st .next) e (omega arith) in
       record {
-        groups-most = omega arith;
+        groups-most = m;
         start-most = s;
         start-next = omega arith;
         next-most = omega arith;
         filled-most = f;
-        filled-none = λ k. absurd (omega arith);
+        filled-none = λ h. n (omega arith);
       }
+
+  pub groups-yes : GroupsInOrder st → Groups true st (numbersInOrder st)
+  groups-yes g = record { yes = λ e. g; no = λ e. absurd (false≢true (sym e)) }
+
+  pub groups-no : false ≡ numbersInOrder st → Groups false st (numbersInOrder st)
+  groups-no h = record { yes = λ e. absurd (false≢true e); no = λ e. sym h }
 
   pub groups-refused : st .groups ≤ 1024 → (GroupsInOrder st → ⊥) → false ≡ numbersInOrder st
   groups-refused m h = refuted (numbersInOrder st) (λ e. h (groups-order m e))
@@ -208,3 +215,13 @@ module _ (s : List ℕ) (st : State) (groups homes : ℕ) (e : st ≡ stateOf s)
       → writersInOrder s st 8 ≡ inOrder s groups homes
   unfolding inOrder
   by-writers g h k p = rw (← e, eq-eqb (st .groups) groups g, eq-eqb (st .homes) homes h, ← k, le-leb (promised s 8) (places st) p)
+
+-- ---- the answer of a quick look
+
+pub told-yes : (b : Bool) → true ≡ b → 0 ≡ ask b 2 0
+unfolding ask
+told-yes b h = rw (← h)
+
+pub told-no : (b : Bool) → false ≡ b → 2 ≡ ask b 2 0
+unfolding ask
+told-no b h = rw (← h)

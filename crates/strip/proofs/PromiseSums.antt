@@ -8,14 +8,13 @@ use native.Mathlib.Decide.{decLt}
 use native.Mathlib.Numerals.{add-one}
 use native.Mathlib.Omega.{arith}
 use lib.Dec.{leb, ltb, eqb}
-use lib.Bits.{bitOr, or-add-and, and-le-l, and-le-r}
 use borrow.Author.Tests.{le-leb, lt-leb, eq-eqb, ne-eqb}
 use Rattle.model.specs.declared.State.{State}
 use Rattle.model.specs.Bytes.{number}
 use Rattle.model.specs.State.{stateOf, nextPosition, promiseOffset, promiseOf, promised, places, freePlaces}
 use Rattle.model.specs.Questions.{roomFor, mayPromise, keepsPromises}
 use Rattle.codec.proofs.JoinLaws.{number-join}
-use Rattle.strip.specs.Order.{GroupsInOrder, Quiet}
+use Rattle.strip.specs.Order.{GroupsInOrder}
 
 -- the next position lies in the log, or at its end
 pub position-most : (st : State) → GroupsInOrder st → nextPosition st ≤ 7 * (st .start + st .groups)
@@ -42,9 +41,6 @@ pub sum-turn : (s : List ℕ) (w sum n : ℕ) → sum ≡ promised s w → n ≡
 unfolding promised
 sum-turn s w sum n e f = rw (add-one w, e, f)
 
-or-none : (a b : ℕ) → bitOr a b ≡ 0 → (a ≡ 0) × (b ≡ 0)
-or-none a b z = omega (arith, or-add-and a b, and-le-l a b, and-le-r a b)
-
 -- promises that are zero as two words
 module _ (s : List ℕ) where
   quarters : (at : ℕ) → number 8 s at ≡ 0
@@ -67,14 +63,6 @@ module _ (s : List ℕ) where
   both-zero e f (suc (suc (suc (suc (suc (suc zero)))))) h = quarters 80 f .2
   both-zero e f (suc (suc (suc (suc (suc (suc (suc zero))))))) h = quarters 80 f .3
   both-zero e f (suc (suc (suc (suc (suc (suc (suc (suc w)))))))) h = absurd (omega arith)
-
-  -- and with them the word of the round
-  pub quiet-words : (a b c : ℕ) → a ≡ number 8 s 72 → b ≡ number 8 s 80 → c ≡ number 8 s 88 → bitOr a (bitOr b c) ≡ 0 → Quiet s
-  unfolding stateOf
-  quiet-words a b c e f g z =
-      let x = or-none a (bitOr b c) z in
-      let y = or-none b c (x .1) in
-      record { none-promised = both-zero (omega arith) (omega arith); no-round = omega arith }
 
   pub sum-zero : (n : ℕ) → ((w : ℕ) → w < n → promiseOf s w ≡ 0) → promised s n ≡ 0
   unfolding promised

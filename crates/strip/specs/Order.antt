@@ -1,11 +1,9 @@
 -- The first half of question 2 as plain facts: the group numbers and the places filled are in order, so no position passes 64 bits.
 use mathlib.Core.Path.{_≡_}
-use Prim.Native.Nat.{ℕ, _+_, _^_, _≤_, _<_}
-use mathlib.Core.Bool.{Bool, _&&_, _||_}
-use mathlib.Core.List.{List}
+use Prim.Native.Nat.{_+_, _^_, _≤_}
+use mathlib.Core.Bool.{Bool, true, false, _&&_, _||_}
 use lib.Dec.{eqb, leb, ltb}
 use Rattle.model.specs.declared.State.{State}
-use Rattle.model.specs.State.{stateOf, promiseOf}
 
 pub record GroupsInOrder (st : State) : Type 0 where
   pub groups-most : st .groups ≤ 1024
@@ -19,7 +17,7 @@ pub record GroupsInOrder (st : State) : Type 0 where
 unfoldable pub roundInOrder : State → Bool
 roundInOrder s = eqb (s .round) 0 || ltb (s .settled) (s .round) && leb (s .round) (s .fenced + 1)
 
--- nothing is promised and no round is under way
-pub record Quiet (s : List ℕ) : Type 0 where
-  pub none-promised : (w : ℕ) → w < 8 → promiseOf s w ≡ 0
-  pub no-round : stateOf s .round ≡ 0
+-- the answer to that half, where `all` is the whole question: a no answers it whole
+pub record Groups (b : Bool) (st : State) (all : Bool) : Type 0 where
+  pub yes : b ≡ true → GroupsInOrder st
+  pub no : b ≡ false → all ≡ false

@@ -3,6 +3,7 @@ mod fields;
 mod listed;
 mod order;
 mod promises;
+mod quick;
 mod writers;
 
 pub use fields::fresh;
@@ -28,6 +29,7 @@ pub use promises::promise_left;
 pub use promises::promised;
 pub use promises::room_for;
 pub use promises::set_promise;
+pub use quick::quick_answer;
 pub use writers::begun;
 pub use writers::count_for;
 pub use writers::first_for;

@@ -1,7 +1,6 @@
 // Whether the state strip is in order (question 2).
 use crate::fields::next_position;
 use crate::fields::state;
-use crate::promises::none_promised;
 use crate::promises::places;
 use crate::promises::promise;
 use crate::promises::promised;
@@ -12,10 +11,10 @@ use model::Writer;
 use std::num::wrapping_sub_u64;
 ghost use mathlib.Core.Path.{_≡_};
 ghost use mathlib.Core.Bool.{true};
-ghost use Prim.Native.Nat.{ℕ, _+_, _*_, _^_, _≤_, _<_};
+ghost use Prim.Native.Nat.{_+_, _*_, _^_, _≤_, _<_};
 ghost use lib.ListN.{length};
-ghost use Rattle.model.specs.State.{promiseOf, numbersInOrder, writerInOrder, writerAtInOrder, writersInOrder, inOrder};
-ghost use Rattle.strip.specs.Order.{GroupsInOrder, Quiet, roundInOrder};
+ghost use Rattle.model.specs.State.{numbersInOrder, writerInOrder, writerAtInOrder, writersInOrder, inOrder};
+ghost use Rattle.strip.specs.Order.{GroupsInOrder, Groups, roundInOrder};
 
 // The highest group number that a log may start at.
 const MAX_START: u64 = 0x8000_0000_0000;
@@ -35,7 +34,7 @@ fn round_in_order(st: State) -> bool
 
 // Whether the numbers of the strip are in order, where its group numbers, the places filled and the round are. What lies between two others is
 // compared once, by its distance from the lower one.
-fn bounds_in_order(st: State) -> bool
+pub fn bounds_in_order(st: State) -> bool
     requires { ⌜ GroupsInOrder st × (roundInOrder st ≡ true) ⌝ }
     ensures { λ r. ⌜ r ≡ numbersInOrder st ⌝ }
 {
@@ -71,28 +70,37 @@ fn positions_in_order(st: State) -> bool
     bounds_in_order(st)
 }
 
-// Whether the numbers of the strip are in order.
-pub fn numbers_in_order(st: State) -> bool
+// Whether the group numbers and the places filled are in order.
+pub fn groups_in_order(st: State) -> bool
     requires { ⌜ st .groups ≤ 1024 ⌝ }
-    ensures { λ r. ⌜ r ≡ numbersInOrder st ⌝ }
+    ensures { λ b. ⌜ Groups b st (numbersInOrder st) ⌝ }
 {
     if MAX_START < st.start {
-        return false;
-    }
-    if st.next < st.start {
-        return false;
-    }
-    let end = st.start + st.groups;
-    if end < st.next {
         return false;
     }
     if 6 < st.filled {
         return false;
     }
-    if st.next == end {
-        if st.filled != 0 {
-            return false;
-        }
+    let used = wrapping_sub_u64(st.next, st.start);
+    if used < st.groups {
+        return true;
+    }
+    if used != st.groups {
+        return false;
+    }
+    if st.filled != 0 {
+        return false;
+    }
+    true
+}
+
+// Whether the numbers of the strip are in order.
+pub fn numbers_in_order(st: State) -> bool
+    requires { ⌜ st .groups ≤ 1024 ⌝ }
+    ensures { λ r. ⌜ r ≡ numbersInOrder st ⌝ }
+{
+    if !groups_in_order(st) {
+        return false;
     }
     positions_in_order(st)
 }
@@ -160,61 +168,8 @@ fn writers_in_order(s: &[u8], st: State) -> bool
     true
 }
 
-// Whether the record of a writer that holds a block for a home below D and has logged entries is in order: the positions since its first one are
-// among those of the log, and hold its entries.
-fn logged_in_order(st: State, r: Writer) -> bool
-    requires { ⌜ GroupsInOrder st × (r .mode ≡ 3) × (r .home < st .homes) ⌝ }
-    ensures { λ b. ⌜ b ≡ writerInOrder st r ⌝ }
-{
-    let low = 7 * st.start;
-    let all = 7 * (st.next - st.start) + st.filled;
-    let since = wrapping_sub_u64(low + all, r.first);
-    if all < since {
-        return false;
-    }
-    if since <= wrapping_sub_u64(r.count, 1) {
-        return false;
-    }
-    true
-}
-
-// Whether a writer's record is in order in a strip whose group numbers and places filled are.
-fn record_in_order(st: State, r: Writer) -> bool
-    requires { ⌜ GroupsInOrder st ⌝ }
-    ensures { λ b. ⌜ b ≡ writerInOrder st r ⌝ }
-{
-    if r.mode < 2 {
-        return true;
-    }
-    if st.homes <= r.home {
-        return false;
-    }
-    if r.mode == 2 {
-        return true;
-    }
-    if r.mode != 3 {
-        return false;
-    }
-    logged_in_order(st, r)
-}
-
-// Whether the records of all eight writers are in order where nothing is promised: an idle writer is passed by its mode alone.
-fn records_in_order(s: &[u8], st: State) -> bool
-    requires { ⌜ (length (now s) ≡ 1024) × GroupsInOrder st × ((w : ℕ) → w < 8 → promiseOf (now s) w ≡ 0) ⌝ }
-    ensures { λ r. ⌜ r ≡ writersInOrder (now (s .entry)) st 8 ⌝ }
-{
-    let mut w: usize = 0;
-    while w != 8 {
-        if !record_in_order(st, writer(s, w)) {
-            return false;
-        }
-        w += 1;
-    }
-    true
-}
-
-// Whether the strip is in order for a log of `groups` groups and `homes` homes, with promises, with a round under way, or with the log full.
-fn in_order_fully(s: &[u8], groups: u64, homes: u64) -> bool
+// Whether the strip is in order for a log of `groups` groups and `homes` homes.
+pub fn in_order(s: &[u8], groups: u64, homes: u64) -> bool
     requires { ⌜ (length (now s) ≡ 1024) × (groups ≤ 1024) × (homes ≤ 65535) ⌝ }
     ensures { λ r. ⌜ r ≡ inOrder (now (s .entry)) groups homes ⌝ }
 {
@@ -228,52 +183,8 @@ fn in_order_fully(s: &[u8], groups: u64, homes: u64) -> bool
     if !numbers_in_order(st) {
         return false;
     }
-    if none_promised(s) {
-        return records_in_order(s, st);
-    }
     if places(st) < promised(s) {
         return false;
     }
     writers_in_order(s, st)
-}
-
-// Whether nothing is promised and no round is under way: three words in a row are zero.
-fn is_quiet(s: &[u8]) -> bool
-    requires { ⌜ length (now s) ≡ 1024 ⌝ }
-    ensures { λ b. ⌜ (b ≡ true → Quiet (now (s .entry))) ⌝ }
-{
-    let a = codec::number(s, 72, 8);
-    let b = codec::number(s, 80, 8);
-    let c = codec::number(s, 88, 8);
-    a | (b | c) == 0
-}
-
-// Whether the strip is in order for a log of `groups` groups and `homes` homes. Mostly nothing is promised, no round is under way and the log is not full.
-pub fn in_order(s: &[u8], groups: u64, homes: u64) -> bool
-    requires { ⌜ (length (now s) ≡ 1024) × (groups ≤ 1024) × (homes ≤ 65535) ⌝ }
-    ensures { λ r. ⌜ r ≡ inOrder (now (s .entry)) groups homes ⌝ }
-{
-    if !is_quiet(s) {
-        return in_order_fully(s, groups, homes);
-    }
-    let st = state(s);
-    if st.groups != groups {
-        return false;
-    }
-    if st.homes != homes {
-        return false;
-    }
-    if MAX_START < st.start {
-        return false;
-    }
-    if groups <= wrapping_sub_u64(st.next, st.start) {
-        return in_order_fully(s, groups, homes);
-    }
-    if 6 < st.filled {
-        return false;
-    }
-    if !bounds_in_order(st) {
-        return false;
-    }
-    records_in_order(s, st)
 }

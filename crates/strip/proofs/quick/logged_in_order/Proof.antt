@@ -5,8 +5,8 @@ use native.Mathlib.Omega.{arith}
 use Rattle.model.specs.State.{nextPosition}
 use Rattle.model.proofs.strip.OrderLaws.{order-writer}
 use Rattle.strip.proofs.OrderTests.{distance-short, distance-up, distance-down, writer-refused}
-use Rattle.strip.proofs.order.logged_in_order.Statement.{statement}
-use Rattle.strip.proofs.order.logged_in_order.Tie as tie
+use Rattle.strip.proofs.quick.logged_in_order.Statement.{statement}
+use Rattle.strip.proofs.quick.logged_in_order.Tie as tie
 
 mul-low : tie.Need-mul-low
 mul-low c = search needs

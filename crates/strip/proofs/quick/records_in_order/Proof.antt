@@ -5,8 +5,8 @@ use Prim.Native.Nat.{_-_, _≤_}
 use native.Mathlib.Omega.{arith}
 use Rattle.model.specs.State.{writerInOrder, writersInOrder}
 use Rattle.strip.proofs.OrderTests.{answered-no, answered-yes, record-held, writers-none, writers-turn, writers-stop}
-use Rattle.strip.proofs.order.records_in_order.Statement.{statement}
-use Rattle.strip.proofs.order.records_in_order.Tie as tie
+use Rattle.strip.proofs.quick.records_in_order.Statement.{statement}
+use Rattle.strip.proofs.quick.records_in_order.Tie as tie
 
 abbrev Inv-loop : tie.InvT-loop
 Inv-loop s st w₀ w = (true ≡ writersInOrder s st w) × (w ≤ 8)

@@ -4,8 +4,8 @@ use mathlib.Core.Path.{sym}
 use native.Mathlib.Omega.{arith}
 use Rattle.model.proofs.strip.OrderLaws.{order-writer}
 use Rattle.strip.proofs.OrderTests.{writer-refused, other-mode}
-use Rattle.strip.proofs.order.record_in_order.Statement.{statement}
-use Rattle.strip.proofs.order.record_in_order.Tie as tie
+use Rattle.strip.proofs.quick.record_in_order.Statement.{statement}
+use Rattle.strip.proofs.quick.record_in_order.Tie as tie
 
 returns : tie.Need-returns
 returns c = sym (order-writer _ _ (record { mode = omega arith; home = λ k. omega arith; logged = λ k. omega arith }))
