@@ -1,6 +1,6 @@
 -- Question 2 test by test: one test that fails refuses the strip, and all that hold make it one in order. Assumes nothing.
 use mathlib.Core.Path.{_≡_, refl, sym, _∙_}
-use mathlib.Core.Bool.{Bool, true, false, not, false≢true, _&&_, and-false, and-true, or-true}
+use mathlib.Core.Bool.{Bool, true, false, not, _&&_, and-false, and-true, or-true}
 use mathlib.Core.Logic.{_≢_}
 use mathlib.Core.List.{List}
 use Prim.Native.Nat.{ℕ, zero, suc, _+_, _-_, _*_, _^_, _%_, _≤_, _<_}
@@ -14,7 +14,7 @@ use lib.Dec.{leb}
 use Rattle.model.specs.State.{stateOf, writerOf, isOpen, promiseOf, promised, places, nextPosition, numbersInOrder, writerInOrder, promiseInOrder, writerAtInOrder, writersInOrder, inOrder}
 use Rattle.model.specs.Questions.{ask}
 use Rattle.model.proofs.strip.OrderLaws.{tests, WriterInOrder, writer-order}
-use Rattle.strip.specs.Order.{GroupsInOrder, Groups, roundInOrder}
+use Rattle.strip.specs.Order.{GroupsInOrder, roundInOrder}
 
 refuted : (b : Bool) → (b ≡ true → ⊥) → false ≡ b
 refuted true h = absurd (h refl)
@@ -87,24 +87,18 @@ module _ (st : State) where
       }
 
   -- by the distance of the next group from the start
-  pub groups-held : (d : ℕ) → st .groups ≤ 1024 → st .start ≤ 2 ^ 47 → st .filled ≤ 6 → (d + st .start) % 2 ^ 64 ≡ st .next → d ≤ st .groups
-      → (d ≡ st .groups → st .filled ≡ 0) → GroupsInOrder st
-  groups-held d m s f e l n =
-      let k = distance-short d (st .start) (st .next) e (omega arith) in
+  pub not-full : (groups d : ℕ) → st .groups ≡ groups → groups ≤ 1024 → st .start ≤ 2 ^ 47 → (d + st .start) % 2 ^ 64 ≡ st .next → d < groups
+      → st .filled ≤ 6 → GroupsInOrder st
+  not-full groups d e m s h l f =
+      let n = distance-short d (st .start) (st .next) h (omega arith) in
       record {
-        groups-most = m;
+        groups-most = omega arith;
         start-most = s;
         start-next = omega arith;
         next-most = omega arith;
         filled-most = f;
-        filled-none = λ h. n (omega arith);
+        filled-none = λ k. absurd (omega arith);
       }
-
-  pub groups-yes : GroupsInOrder st → Groups true st (numbersInOrder st)
-  groups-yes g = record { yes = λ e. g; no = λ e. absurd (false≢true (sym e)) }
-
-  pub groups-no : false ≡ numbersInOrder st → Groups false st (numbersInOrder st)
-  groups-no h = record { yes = λ e. absurd (false≢true e); no = λ e. sym h }
 
   pub groups-refused : st .groups ≤ 1024 → (GroupsInOrder st → ⊥) → false ≡ numbersInOrder st
   groups-refused m h = refuted (numbersInOrder st) (λ e. h (groups-order m e))

@@ -1,7 +1,7 @@
 -- The first half of question 2 as plain facts: the group numbers and the places filled are in order, so no position passes 64 bits.
 use mathlib.Core.Path.{_≡_}
 use Prim.Native.Nat.{_+_, _^_, _≤_}
-use mathlib.Core.Bool.{Bool, true, false, _&&_, _||_}
+use mathlib.Core.Bool.{Bool, _&&_, _||_}
 use lib.Dec.{eqb, leb, ltb}
 use Rattle.model.specs.declared.State.{State}
 
@@ -16,8 +16,3 @@ pub record GroupsInOrder (st : State) : Type 0 where
 -- a round: none, or the fixed F from the settled position to F
 unfoldable pub roundInOrder : State → Bool
 roundInOrder s = eqb (s .round) 0 || ltb (s .settled) (s .round) && leb (s .round) (s .fenced + 1)
-
--- the answer to that half, where `all` is the whole question: a no answers it whole
-pub record Groups (b : Bool) (st : State) (all : Bool) : Type 0 where
-  pub yes : b ≡ true → GroupsInOrder st
-  pub no : b ≡ false → all ≡ false

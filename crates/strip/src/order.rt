@@ -14,10 +14,10 @@ ghost use mathlib.Core.Bool.{true};
 ghost use Prim.Native.Nat.{_+_, _*_, _^_, _≤_, _<_};
 ghost use lib.ListN.{length};
 ghost use Rattle.model.specs.State.{numbersInOrder, writerInOrder, writerAtInOrder, writersInOrder, inOrder};
-ghost use Rattle.strip.specs.Order.{GroupsInOrder, Groups, roundInOrder};
+ghost use Rattle.strip.specs.Order.{GroupsInOrder, roundInOrder};
 
 // The highest group number that a log may start at.
-const MAX_START: u64 = 0x8000_0000_0000;
+pub const MAX_START: u64 = 0x8000_0000_0000;
 
 // Whether the position that a round has fixed lies from the settled to the fenced one, or there is no round.
 fn round_in_order(st: State) -> bool
@@ -70,37 +70,28 @@ fn positions_in_order(st: State) -> bool
     bounds_in_order(st)
 }
 
-// Whether the group numbers and the places filled are in order.
-pub fn groups_in_order(st: State) -> bool
-    requires { ⌜ st .groups ≤ 1024 ⌝ }
-    ensures { λ b. ⌜ Groups b st (numbersInOrder st) ⌝ }
-{
-    if MAX_START < st.start {
-        return false;
-    }
-    if 6 < st.filled {
-        return false;
-    }
-    let used = wrapping_sub_u64(st.next, st.start);
-    if used < st.groups {
-        return true;
-    }
-    if used != st.groups {
-        return false;
-    }
-    if st.filled != 0 {
-        return false;
-    }
-    true
-}
-
 // Whether the numbers of the strip are in order.
 pub fn numbers_in_order(st: State) -> bool
     requires { ⌜ st .groups ≤ 1024 ⌝ }
     ensures { λ r. ⌜ r ≡ numbersInOrder st ⌝ }
 {
-    if !groups_in_order(st) {
+    if MAX_START < st.start {
         return false;
+    }
+    if st.next < st.start {
+        return false;
+    }
+    let end = st.start + st.groups;
+    if end < st.next {
+        return false;
+    }
+    if 6 < st.filled {
+        return false;
+    }
+    if st.next == end {
+        if st.filled != 0 {
+            return false;
+        }
     }
     positions_in_order(st)
 }

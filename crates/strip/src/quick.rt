@@ -1,7 +1,7 @@
-// Question 2 of a strip as it mostly is: nothing is promised and no round is under way.
+// Question 2 of a strip as it mostly is: nothing is promised, no round is under way and the log is not full.
 use crate::fields::state;
+use crate::order::MAX_START;
 use crate::order::bounds_in_order;
-use crate::order::groups_in_order;
 use crate::promises::none_promised;
 use crate::writers::writer;
 use model::State;
@@ -68,7 +68,7 @@ fn records_in_order(s: &[u8], st: State) -> bool
     true
 }
 
-// Question 2 for a log of `groups` groups and `homes` homes: 0 if the strip is in order, 2 if it is not, and 1 where a promise or a round leaves that to `in_order`.
+// Question 2 for a log of `groups` groups and `homes` homes: 0 if the strip is in order, 2 if it is not, and 1 where a promise, a round or a full log leaves that to `in_order`.
 pub fn quick_answer(s: &[u8], groups: u64, homes: u64) -> u64
     requires { ⌜ (length (now s) ≡ 1024) × (groups ≤ 1024) × (homes ≤ 65535) ⌝ }
     ensures { λ r. ⌜ (r ≢ 1 → r ≡ ask (inOrder (now (s .entry)) groups homes) 2 0) ⌝ }
@@ -86,7 +86,13 @@ pub fn quick_answer(s: &[u8], groups: u64, homes: u64) -> u64
     if st.homes != homes {
         return 2;
     }
-    if !groups_in_order(st) {
+    if MAX_START < st.start {
+        return 2;
+    }
+    if groups <= wrapping_sub_u64(st.next, st.start) {
+        return 1;
+    }
+    if 6 < st.filled {
         return 2;
     }
     if !bounds_in_order(st) {
