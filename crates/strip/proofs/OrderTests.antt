@@ -14,7 +14,7 @@ use lib.Dec.{leb}
 use Rattle.model.specs.State.{stateOf, writerOf, isOpen, promiseOf, promised, places, nextPosition, numbersInOrder, writerInOrder, promiseInOrder, writerAtInOrder, writersInOrder, inOrder}
 use Rattle.model.specs.Questions.{ask}
 use Rattle.model.proofs.strip.OrderLaws.{tests, WriterInOrder, writer-order}
-use Rattle.strip.specs.Order.{GroupsInOrder, roundInOrder}
+use Rattle.strip.specs.Order.{GroupsInOrder, GroupsAnswer, roundInOrder}
 
 refuted : (b : Bool) → (b ≡ true → ⊥) → false ≡ b
 refuted true h = absurd (h refl)
@@ -219,3 +219,24 @@ told-yes b h = rw (← h)
 pub told-no : (b : Bool) → false ≡ b → 2 ≡ ask b 2 0
 unfolding ask
 told-no b h = rw (← h)
+
+module _ (st : State) (groups homes : ℕ) where
+  pub groups-left : GroupsAnswer 1 st groups homes
+  groups-left =
+      record {
+        refused = λ n m. absurd (m refl);
+        groups-same = λ z. absurd (omega arith);
+        homes-same = λ z. absurd (omega arith);
+        no-round = λ z. absurd (omega arith);
+        in-order = λ z. absurd (omega arith);
+      }
+
+  pub groups-no : ((s : List ℕ) → st ≡ stateOf s → false ≡ inOrder s groups homes) → GroupsAnswer 2 st groups homes
+  groups-no h =
+      record {
+        refused = λ n m s e. told-no (inOrder s groups homes) (h s e);
+        groups-same = λ z. absurd (omega arith);
+        homes-same = λ z. absurd (omega arith);
+        no-round = λ z. absurd (omega arith);
+        in-order = λ z. absurd (omega arith);
+      }

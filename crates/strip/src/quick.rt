@@ -13,7 +13,7 @@ ghost use Prim.Native.Nat.{ℕ, _≤_, _<_};
 ghost use lib.ListN.{length};
 ghost use Rattle.model.specs.State.{promiseOf, writerInOrder, writersInOrder, inOrder};
 ghost use Rattle.model.specs.Questions.{ask};
-ghost use Rattle.strip.specs.Order.{GroupsInOrder};
+ghost use Rattle.strip.specs.Order.{GroupsInOrder, GroupsAnswer};
 
 // Whether the record of a writer that holds a block for a home below D and has logged entries is in order: the positions since its first one are
 // among those of the log, and hold its entries.
@@ -68,15 +68,12 @@ fn records_in_order(s: &[u8], st: State) -> bool
     true
 }
 
-// Question 2 for a log of `groups` groups and `homes` homes: 0 if the strip is in order, 2 if it is not, and 1 where a promise, a round or a full log leaves that to `in_order`.
-pub fn quick_answer(s: &[u8], groups: u64, homes: u64) -> u64
-    requires { ⌜ (length (now s) ≡ 1024) × (groups ≤ 1024) × (homes ≤ 65535) ⌝ }
-    ensures { λ r. ⌜ (r ≢ 1 → r ≡ ask (inOrder (now (s .entry)) groups homes) 2 0) ⌝ }
+// What the numbers of groups and homes, the round and the places filled tell of question 2: 2 if they are not in order, 1 where a round or a full log leaves that
+// to `in_order`, else 0.
+fn groups_answer(st: State, groups: u64, homes: u64) -> u64
+    requires { ⌜ groups ≤ 1024 ⌝ }
+    ensures { λ r. ⌜ GroupsAnswer r st groups homes ⌝ }
 {
-    if !none_promised(s) {
-        return 1;
-    }
-    let st = state(s);
     if st.round != 0 {
         return 1;
     }
@@ -94,6 +91,23 @@ pub fn quick_answer(s: &[u8], groups: u64, homes: u64) -> u64
     }
     if 6 < st.filled {
         return 2;
+    }
+    0
+}
+
+// Question 2 for a log of `groups` groups and `homes` homes: 0 if the strip is in order, 2 if it is not, and 1 where a promise, a round or a full log
+// leaves that to `in_order`.
+pub fn quick_answer(s: &[u8], groups: u64, homes: u64) -> u64
+    requires { ⌜ (length (now s) ≡ 1024) × (groups ≤ 1024) × (homes ≤ 65535) ⌝ }
+    ensures { λ r. ⌜ (r ≢ 1 → r ≡ ask (inOrder (now (s .entry)) groups homes) 2 0) ⌝ }
+{
+    if !none_promised(s) {
+        return 1;
+    }
+    let st = state(s);
+    let first = groups_answer(st, groups, homes);
+    if first != 0 {
+        return first;
     }
     if !bounds_in_order(st) {
         return 2;
