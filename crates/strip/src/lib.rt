@@ -1,4 +1,5 @@
 // The state strip of 1,024 bytes as model/specs/State defines it: its numbers, its writers' records, held blocks and promises, the positions of the list of rights, and whether it is in order.
+mod distances;
 mod fields;
 mod listed;
 mod order;

@@ -1,4 +1,5 @@
 // Whether the state strip is in order (question 2).
+use crate::distances::distance;
 use crate::fields::next_position;
 use crate::fields::state;
 use crate::promises::places;
@@ -8,7 +9,6 @@ use crate::writers::is_open;
 use crate::writers::writer;
 use model::State;
 use model::Writer;
-use std::num::wrapping_sub_u64;
 ghost use mathlib.Core.Path.{_≡_};
 ghost use mathlib.Core.Bool.{true};
 ghost use Prim.Native.Nat.{_+_, _*_, _^_, _≤_, _<_};
@@ -40,11 +40,11 @@ pub fn bounds_in_order(st: State) -> bool
 {
     let low = 7 * st.start;
     let whole = 7 * (st.next - st.start);
-    let fenced = wrapping_sub_u64(st.fenced, low);
+    let fenced = distance(st.fenced, low);
     if whole < fenced {
         return false;
     }
-    if fenced < wrapping_sub_u64(st.settled, low) {
+    if fenced < distance(st.settled, low) {
         return false;
     }
     if st.fenced < st.durable {
@@ -53,7 +53,7 @@ pub fn bounds_in_order(st: State) -> bool
     if st.last == 0 {
         return true;
     }
-    if whole + st.filled <= wrapping_sub_u64(st.last, low + 1) {
+    if whole + st.filled <= distance(st.last, low + 1) {
         return false;
     }
     true

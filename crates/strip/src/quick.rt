@@ -1,4 +1,5 @@
 // Question 2 of a strip as it mostly is: nothing is promised, no round is under way and the log is not full.
+use crate::distances::distance;
 use crate::fields::state;
 use crate::order::MAX_START;
 use crate::order::bounds_in_order;
@@ -6,7 +7,6 @@ use crate::promises::none_promised;
 use crate::writers::writer;
 use model::State;
 use model::Writer;
-use std::num::wrapping_sub_u64;
 ghost use mathlib.Core.Path.{_≡_};
 ghost use mathlib.Core.Logic.{_≢_};
 ghost use Prim.Native.Nat.{ℕ, _≤_, _<_};
@@ -23,11 +23,11 @@ fn logged_in_order(st: State, r: Writer) -> bool
 {
     let low = 7 * st.start;
     let all = 7 * (st.next - st.start) + st.filled;
-    let since = wrapping_sub_u64(low + all, r.first);
+    let since = distance(low + all, r.first);
     if all < since {
         return false;
     }
-    if since <= wrapping_sub_u64(r.count, 1) {
+    if since <= distance(r.count, 1) {
         return false;
     }
     true
@@ -86,7 +86,7 @@ fn groups_answer(st: State, groups: u64, homes: u64) -> u64
     if MAX_START < st.start {
         return 2;
     }
-    if groups <= wrapping_sub_u64(st.next, st.start) {
+    if groups <= distance(st.next, st.start) {
         return 1;
     }
     if 6 < st.filled {

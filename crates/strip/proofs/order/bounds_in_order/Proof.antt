@@ -15,25 +15,25 @@ sub-whole c = search needs
 mul-whole : tie.Need-mul-whole
 mul-whole c = search needs
 
-wrapping-sub-u64-requires : tie.Need-wrapping-sub-u64-requires
-wrapping-sub-u64-requires c κs = search needs
+distance-requires : tie.Need-distance-requires
+distance-requires c κs = search needs
 
 returns : tie.Need-returns
 returns c =
     positions-refused _
     (λ p.
-    let e = distance-up _ _ _ (c .before .wrapping-sub-u64 .ensures) (omega arith) (omega arith) in
+    let e = distance-up _ _ _ (c .before .distance .ensures) (omega arith) (omega arith) in
     omega arith)
 
-wrapping-sub-u64-requires-2 : tie.Need-wrapping-sub-u64-requires-2
-wrapping-sub-u64-requires-2 c κs = search needs
+distance-requires-2 : tie.Need-distance-requires-2
+distance-requires-2 c κs = search needs
 
 returns-2 : tie.Need-returns-2
 returns-2 c =
     positions-refused _
     (λ p.
-    let e = distance-up _ _ _ (c .before .before .before .wrapping-sub-u64 .ensures) (omega arith) (omega arith) in
-    let f = distance-up _ _ _ (c .before .wrapping-sub-u642 .ensures) (omega arith) (omega arith) in
+    let e = distance-up _ _ _ (c .before .before .before .distance .ensures) (omega arith) (omega arith) in
+    let f = distance-up _ _ _ (c .before .distance2 .ensures) (omega arith) (omega arith) in
     omega arith)
 
 returns-3 : tie.Need-returns-3
@@ -45,8 +45,8 @@ returns-4 c =
     let c2 = c3 .before .before in
     let c1 = c2 .before .before in
     let g = c1 .before .before .before .before .pre in
-    let e = distance-short _ _ _ (c1 .before .wrapping-sub-u64 .ensures) (omega arith) in
-    let f = distance-short _ _ _ (c2 .before .wrapping-sub-u642 .ensures) (omega arith) in
+    let e = distance-short _ _ _ (c1 .before .distance .ensures) (omega arith) in
+    let f = distance-short _ _ _ (c2 .before .distance2 .ensures) (omega arith) in
     numbers-held _ (g .0)
     (record {
       start-settled = omega arith;
@@ -60,11 +60,11 @@ returns-4 c =
 add-if5 : tie.Need-add-if5
 add-if5 c = search needs
 
-add-wrapping-sub-u64 : tie.Need-add-wrapping-sub-u64
-add-wrapping-sub-u64 c = search needs
+add-distance : tie.Need-add-distance
+add-distance c = search needs
 
-wrapping-sub-u64-requires-3 : tie.Need-wrapping-sub-u64-requires-3
-wrapping-sub-u64-requires-3 c κs = search needs
+distance-requires-3 : tie.Need-distance-requires-3
+distance-requires-3 c κs = search needs
 
 returns-5 : tie.Need-returns-5
 unfolding nextPosition
@@ -72,7 +72,7 @@ returns-5 c =
     positions-refused _
     (λ p.
     let f = p .last-closing (c .before .before .before .if4 .left) in
-    let e = distance-up _ _ _ (c .before .wrapping-sub-u643 .ensures) (omega arith) (omega arith) in
+    let e = distance-up _ _ _ (c .before .distance3 .ensures) (omega arith) (omega arith) in
     omega arith)
 
 returns-6 : tie.Need-returns-6
@@ -82,9 +82,9 @@ returns-6 c =
     let c2 = c3 .before .before in
     let c1 = c2 .before .before in
     let g = c1 .before .before .before .before .pre in
-    let e = distance-short _ _ _ (c1 .before .wrapping-sub-u64 .ensures) (omega arith) in
-    let f = distance-short _ _ _ (c2 .before .wrapping-sub-u642 .ensures) (omega arith) in
-    let l = distance-short _ _ _ (c .before .wrapping-sub-u643 .ensures) (omega arith) in
+    let e = distance-short _ _ _ (c1 .before .distance .ensures) (omega arith) in
+    let f = distance-short _ _ _ (c2 .before .distance2 .ensures) (omega arith) in
+    let l = distance-short _ _ _ (c .before .distance3 .ensures) (omega arith) in
     numbers-held _ (g .0)
     (record {
       start-settled = omega arith;
@@ -102,14 +102,14 @@ bounds-in-order-spec =
     mul-low
     sub-whole
     mul-whole
-    wrapping-sub-u64-requires
+    distance-requires
     returns
-    wrapping-sub-u64-requires-2
+    distance-requires-2
     returns-2
     returns-3
     returns-4
     add-if5
-    add-wrapping-sub-u64
-    wrapping-sub-u64-requires-3
+    add-distance
+    distance-requires-3
     returns-5
     returns-6)

@@ -18,8 +18,8 @@ returns-3 c = groups-no _ _ _ (λ s e. other-homes s _ _ _ e (c .if3 .taken))
 returns-4 : tie.Need-returns-4
 returns-4 c = groups-no _ _ _ (λ s e. numbers-not s _ _ _ e (groups-refused _ (omega arith) (λ g. omega arith)))
 
-wrapping-sub-u64-requires : tie.Need-wrapping-sub-u64-requires
-wrapping-sub-u64-requires c κs = search needs
+distance-requires : tie.Need-distance-requires
+distance-requires c κs = search needs
 
 returns-5 : tie.Need-returns-5
 returns-5 c = groups-left _ _ _
@@ -39,7 +39,7 @@ returns-7 c =
       groups-same = λ z. c2 .if2 .left;
       homes-same = λ z. c3 .if3 .left;
       no-round = λ z. c1 .if1 .left;
-      in-order = λ z. not-full _ _ _ (c2 .if2 .left) (omega arith) (omega arith) (c5 .before .wrapping-sub-u64 .ensures) (omega arith) (omega arith);
+      in-order = λ z. not-full _ _ _ (c2 .if2 .left) (omega arith) (omega arith) (c5 .before .distance .ensures) (omega arith) (omega arith);
     }
 
 pub groups-answer-spec : {M : Type 1} → statement M
@@ -50,7 +50,7 @@ groups-answer-spec =
     returns-2
     returns-3
     returns-4
-    wrapping-sub-u64-requires
+    distance-requires
     returns-5
     returns-6
     returns-7)

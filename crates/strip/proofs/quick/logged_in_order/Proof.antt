@@ -20,11 +20,11 @@ mul-all c = search needs
 add-all : tie.Need-add-all
 add-all c = search needs
 
-add-wrapping-sub-u64 : tie.Need-add-wrapping-sub-u64
-add-wrapping-sub-u64 c = search needs
+add-distance : tie.Need-add-distance
+add-distance c = search needs
 
-wrapping-sub-u64-requires : tie.Need-wrapping-sub-u64-requires
-wrapping-sub-u64-requires c κs = search needs
+distance-requires : tie.Need-distance-requires
+distance-requires c κs = search needs
 
 returns : tie.Need-returns
 unfolding nextPosition
@@ -32,11 +32,11 @@ returns c =
     writer-refused _ _
     (λ o.
     let f = o .logged (omega arith) in
-    let e = distance-up _ _ _ (c .before .wrapping-sub-u64 .ensures) (omega arith) (omega arith) in
+    let e = distance-up _ _ _ (c .before .distance .ensures) (omega arith) (omega arith) in
     omega arith)
 
-wrapping-sub-u64-requires-2 : tie.Need-wrapping-sub-u64-requires-2
-wrapping-sub-u64-requires-2 c κs = search needs
+distance-requires-2 : tie.Need-distance-requires-2
+distance-requires-2 c κs = search needs
 
 returns-2 : tie.Need-returns-2
 unfolding nextPosition
@@ -44,15 +44,15 @@ returns-2 c =
     writer-refused _ _
     (λ o.
     let f = o .logged (omega arith) in
-    let e = distance-up _ _ _ (c .before .before .before .wrapping-sub-u64 .ensures) (omega arith) (omega arith) in
-    let k = distance-up _ _ _ (c .before .wrapping-sub-u642 .ensures) (omega arith) (omega arith) in
+    let e = distance-up _ _ _ (c .before .before .before .distance .ensures) (omega arith) (omega arith) in
+    let k = distance-up _ _ _ (c .before .distance2 .ensures) (omega arith) (omega arith) in
     omega arith)
 
 returns-3 : tie.Need-returns-3
 unfolding nextPosition
 returns-3 c =
-    let k = distance-short _ _ _ (c .before .wrapping-sub-u642 .ensures) (omega arith) in
-    let e = distance-down _ _ _ (c .before .before .before .wrapping-sub-u64 .ensures) (omega arith) (omega arith) in
+    let k = distance-short _ _ _ (c .before .distance2 .ensures) (omega arith) in
+    let e = distance-down _ _ _ (c .before .before .before .distance .ensures) (omega arith) (omega arith) in
     sym (order-writer _ _ (record { mode = omega arith; home = λ k. omega arith; logged = λ k. omega arith }))
 
 pub logged-in-order-spec : {M : Type 1} → statement M
@@ -63,9 +63,9 @@ logged-in-order-spec =
     sub-all
     mul-all
     add-all
-    add-wrapping-sub-u64
-    wrapping-sub-u64-requires
+    add-distance
+    distance-requires
     returns
-    wrapping-sub-u64-requires-2
+    distance-requires-2
     returns-2
     returns-3)
