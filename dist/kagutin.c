@@ -341,6 +341,172 @@ static inline bool answers__lengths_right(struct slice_u8 log, struct slice_u8 a
     return (uint64_t)state.len == 1024u;
 }
 
+/* Whether nothing is promised to any writer: the eight promises are zero as two words. */
+static inline bool strip__promises__none_promised(struct slice_u8 s)
+{
+    if (load_8(s.ptr + 72u) != 0u) {
+        return false;
+    }
+    return load_8(s.ptr + 80u) == 0u;
+}
+
+/* How far `x` lies above `low`, modulo 2^64: one test of it tells whether `x` lies between `low` and a number above it. */
+static inline uint64_t strip__distances__distance(uint64_t x, uint64_t low)
+{
+    uint64_t t4;
+
+    if (low <= x) {
+        t4 = x - low;
+    } else {
+        t4 = (x + (UINT64_C(0xffffffffffffffff) - low)) + 1u;
+    }
+    return t4;
+}
+
+/* What the numbers of groups and homes, the round and the places filled tell of question 2: 2 if they are not in order, 1 where a
+   round or a full log leaves that to `in_order`, else 0. */
+static inline uint64_t strip__quick__groups_answer(struct model__State st, uint64_t groups, uint64_t homes)
+{
+    uint64_t t5;
+
+    if (st.round != 0u) {
+        return 1u;
+    }
+    if (st.groups != groups) {
+        return 2u;
+    }
+    if (st.homes != homes) {
+        return 2u;
+    }
+    if (UINT64_C(0x800000000000) < st.start) {
+        return 2u;
+    }
+    t5 = strip__distances__distance(st.next, st.start);
+    if (groups <= t5) {
+        return 1u;
+    }
+    if (6u < st.filled) {
+        return 2u;
+    }
+    return 0u;
+}
+
+/* Whether the numbers of the strip are in order, where its group numbers, the places filled and the round are. What lies between
+   two others is compared once, by its distance from the lower one. */
+static inline bool strip__order__bounds_in_order(struct model__State st)
+{
+    uint64_t t2, t3, t4, t5, t7;
+
+    t2 = 7u * st.start;
+    t3 = 7u * (st.next - st.start);
+    t4 = strip__distances__distance(st.fenced, t2);
+    if (t3 < t4) {
+        return false;
+    }
+    t5 = strip__distances__distance(st.settled, t2);
+    if (t4 < t5) {
+        return false;
+    }
+    if (st.fenced < st.durable) {
+        return false;
+    }
+    if (st.last == 0u) {
+        return true;
+    }
+    t7 = strip__distances__distance(st.last, t2 + 1u);
+    if ((t3 + st.filled) <= t7) {
+        return false;
+    }
+    return true;
+}
+
+/* Whether the record of a writer that holds a block for a home below D and has logged entries is in order: the positions since
+   its first one are among those of the log, and hold its entries. */
+static inline bool strip__quick__logged_in_order(struct model__State st, struct model__Writer r)
+{
+    uint64_t t4, t5, t7;
+
+    t4 = (7u * (st.next - st.start)) + st.filled;
+    t5 = strip__distances__distance((7u * st.start) + t4, r.first);
+    if (t4 < t5) {
+        return false;
+    }
+    t7 = strip__distances__distance(r.count, 1u);
+    if (t5 <= t7) {
+        return false;
+    }
+    return true;
+}
+
+/* Whether a writer's record is in order in a strip whose group numbers and places filled are. */
+static inline bool strip__quick__record_in_order(struct model__State st, struct model__Writer r)
+{
+    if (r.mode < 2u) {
+        return true;
+    }
+    if (st.homes <= r.home) {
+        return false;
+    }
+    if (r.mode == 2u) {
+        return true;
+    }
+    if (r.mode != 3u) {
+        return false;
+    }
+    return strip__quick__logged_in_order(st, r);
+}
+
+/* Whether the records of all eight writers are in order where nothing is promised: an idle writer is passed by its mode alone. */
+static inline bool strip__quick__records_in_order(struct slice_u8 s, struct model__State st)
+{
+    uint64_t t3, t8;
+    bool t4;
+
+    t3 = 0u;
+    while (t3 != 8u) {
+        t8 = 128u + (96u * t3);
+        t4 = strip__quick__record_in_order(st, (struct model__Writer){.mode = load_8(s.ptr + (size_t)t8), .home = load_8(s.ptr
+                + (size_t)(t8 + 8u)), .first = load_8(s.ptr + (size_t)(t8 + 16u)), .count = load_8(s.ptr + (size_t)(t8 + 24u))});
+        if (!t4) {
+            return false;
+        }
+        t3 = t3 + 1u;
+    }
+    return true;
+}
+
+/* Question 2 for a log of `groups` groups and `homes` homes: 0 if the strip is in order, 2 if it is not, and 1 where a promise, a
+   round or a full log leaves that to `in_order`. */
+static inline uint64_t strip__quick__quick_answer(struct slice_u8 s, uint64_t groups, uint64_t homes)
+{
+    struct model__State t4;
+    uint64_t t5, t9, t10;
+    bool t6, t7;
+
+    t6 = strip__promises__none_promised(s);
+    if (!t6) {
+        return 1u;
+    }
+    t9 = load_8(s.ptr);
+    t10 = load_8(s.ptr + 8u);
+    t4 = (struct model__State){.groups = t9, .homes = t10, .start = load_8(s.ptr + 16u), .next = load_8(s.ptr + 24u),
+            .filled = load_8(s.ptr + 32u), .settled = load_8(s.ptr + 40u), .fenced = load_8(s.ptr + 48u), .durable = load_8(s.ptr
+            + 56u), .last = load_8(s.ptr + 64u), .round = load_8(s.ptr + 88u), .cursor = load_8(s.ptr + 96u)};
+    t5 = strip__quick__groups_answer(t4, groups, homes);
+    if (t5 != 0u) {
+        return t5;
+    }
+    t7 = strip__order__bounds_in_order(t4);
+    if (!t7) {
+        return 2u;
+    }
+    t7 = strip__quick__records_in_order(s, t4);
+    if (!t7) {
+        return 2u;
+    }
+    return 0u;
+}
+
 /* Whether the position that a round has fixed lies from the settled to the fenced one, or there is no round. */
 static inline bool strip__order__round_in_order(struct model__State st)
 {
@@ -350,42 +516,19 @@ static inline bool strip__order__round_in_order(struct model__State st)
     if (st.round <= st.settled) {
         return false;
     }
-    return st.round <= (st.fenced + 1u);
+    return (st.round - 1u) <= st.fenced;
 }
 
 /* Whether the numbers of the strip are in order, where its group numbers and the places filled are. */
 static inline bool strip__order__positions_in_order(struct model__State st)
 {
-    uint64_t t2;
-    bool t3;
+    bool t2;
 
-    t2 = 7u * st.start;
-    if (st.settled < t2) {
+    t2 = strip__order__round_in_order(st);
+    if (!t2) {
         return false;
     }
-    if (st.fenced < st.settled) {
-        return false;
-    }
-    if ((7u * st.next) < st.fenced) {
-        return false;
-    }
-    if (st.fenced < st.durable) {
-        return false;
-    }
-    t3 = strip__order__round_in_order(st);
-    if (!t3) {
-        return false;
-    }
-    if (st.last == 0u) {
-        return true;
-    }
-    if (st.last <= t2) {
-        return false;
-    }
-    if (((7u * st.next) + st.filled) < st.last) {
-        return false;
-    }
-    return true;
+    return strip__order__bounds_in_order(st);
 }
 
 /* Whether the numbers of the strip are in order. */
@@ -414,13 +557,30 @@ static inline bool strip__order__numbers_in_order(struct model__State st)
     return strip__order__positions_in_order(st);
 }
 
-/* Whether nothing is promised to any writer: the eight promises are zero as two words. */
-static inline bool strip__promises__none_promised(struct slice_u8 s)
+/* How many places are promised to the eight writers together, one after the other. */
+static inline uint64_t strip__promises__promised_each(struct slice_u8 s)
 {
-    if (load_8(s.ptr + 72u) != 0u) {
-        return false;
+    uint64_t t2, t3;
+
+    t2 = 0u;
+    t3 = 0u;
+    while (t3 < 8u) {
+        t2 = t2 + load_2(s.ptr + (size_t)(72u + (2u * t3)));
+        t3 = t3 + 1u;
     }
-    return load_8(s.ptr + 80u) == 0u;
+    return t2;
+}
+
+/* How many places are promised to the eight writers together, mostly none. */
+static inline uint64_t strip__promises__promised(struct slice_u8 s)
+{
+    bool t2;
+
+    t2 = strip__promises__none_promised(s);
+    if (t2) {
+        return 0u;
+    }
+    return strip__promises__promised_each(s);
 }
 
 /* Whether a writer's record is in order in a strip with the numbers `st`. */
@@ -454,51 +614,6 @@ static inline bool strip__order__writer_in_order(struct model__State st, struct 
         return false;
     }
     return true;
-}
-
-/* The same where nothing is promised: an idle writer is passed by its mode alone. */
-static inline bool strip__order__records_in_order(struct slice_u8 s, struct model__State st)
-{
-    uint64_t t3, t8;
-    bool t4;
-
-    t3 = 0u;
-    while (t3 != 8u) {
-        t8 = 128u + (96u * t3);
-        t4 = strip__order__writer_in_order(st, (struct model__Writer){.mode = load_8(s.ptr + (size_t)t8), .home = load_8(s.ptr
-                + (size_t)(t8 + 8u)), .first = load_8(s.ptr + (size_t)(t8 + 16u)), .count = load_8(s.ptr + (size_t)(t8 + 24u))});
-        if (!t4) {
-            return false;
-        }
-        t3 = t3 + 1u;
-    }
-    return true;
-}
-
-/* How many places are promised to the eight writers together, one after the other. */
-static inline uint64_t strip__promises__promised_each(struct slice_u8 s)
-{
-    uint64_t t2, t3;
-
-    t2 = 0u;
-    t3 = 0u;
-    while (t3 < 8u) {
-        t2 = t2 + load_2(s.ptr + (size_t)(72u + (2u * t3)));
-        t3 = t3 + 1u;
-    }
-    return t2;
-}
-
-/* How many places are promised to the eight writers together, mostly none. */
-static inline uint64_t strip__promises__promised(struct slice_u8 s)
-{
-    bool t2;
-
-    t2 = strip__promises__none_promised(s);
-    if (t2) {
-        return 0u;
-    }
-    return strip__promises__promised_each(s);
 }
 
 /* Whether the record of writer `w` is in order in the strip `s` with the numbers `st`, and nothing is promised to it while it is
@@ -543,12 +658,12 @@ static inline bool strip__order__writers_in_order(struct slice_u8 s, struct mode
 static inline bool strip__order__in_order(struct slice_u8 s, uint64_t groups, uint64_t homes)
 {
     struct model__State t4;
-    bool t5, t7;
-    uint64_t t9, t11, t12;
+    bool t5;
+    uint64_t t8, t10, t11;
 
-    t11 = load_8(s.ptr);
-    t12 = load_8(s.ptr + 8u);
-    t4 = (struct model__State){.groups = t11, .homes = t12, .start = load_8(s.ptr + 16u), .next = load_8(s.ptr + 24u),
+    t10 = load_8(s.ptr);
+    t11 = load_8(s.ptr + 8u);
+    t4 = (struct model__State){.groups = t10, .homes = t11, .start = load_8(s.ptr + 16u), .next = load_8(s.ptr + 24u),
             .filled = load_8(s.ptr + 32u), .settled = load_8(s.ptr + 40u), .fenced = load_8(s.ptr + 48u), .durable = load_8(s.ptr
             + 56u), .last = load_8(s.ptr + 64u), .round = load_8(s.ptr + 88u), .cursor = load_8(s.ptr + 96u)};
     if (t4.groups != groups) {
@@ -561,12 +676,8 @@ static inline bool strip__order__in_order(struct slice_u8 s, uint64_t groups, ui
     if (!t5) {
         return false;
     }
-    t7 = strip__promises__none_promised(s);
-    if (t7) {
-        return strip__order__records_in_order(s, t4);
-    }
-    t9 = strip__promises__promised(s);
-    if (((7u * (t4.start + t4.groups)) - ((7u * t4.next) + t4.filled)) < t9) {
+    t8 = strip__promises__promised(s);
+    if (((7u * (t4.start + t4.groups)) - ((7u * t4.next) + t4.filled)) < t8) {
         return false;
     }
     return strip__order__writers_in_order(s, t4);
@@ -575,16 +686,21 @@ static inline bool strip__order__in_order(struct slice_u8 s, uint64_t groups, ui
 /* Questions 1 and 2: 0 if the lengths are right and the strip is in order, else the number of the refusal. */
 static inline uint64_t answers__in_use(struct slice_u8 log, struct slice_u8 area, struct slice_u8 state)
 {
-    uint64_t t4;
-    bool t6;
+    uint64_t t4, t5, t6;
+    bool t7, t8;
 
-    t6 = answers__lengths_right(log, area, state);
-    if (!t6) {
+    t7 = answers__lengths_right(log, area, state);
+    if (!t7) {
         return 1u;
     }
     t4 = areas__lengths__log_groups((uint64_t)log.len);
-    t6 = strip__order__in_order(state, t4, (uint64_t)area.len / 64u);
-    if (!t6) {
+    t5 = (uint64_t)area.len / 64u;
+    t6 = strip__quick__quick_answer(state, t4, t5);
+    if (t6 != 1u) {
+        return t6;
+    }
+    t8 = strip__order__in_order(state, t4, t5);
+    if (!t8) {
         return 2u;
     }
     return 0u;
@@ -3155,18 +3271,23 @@ static inline struct answers__Reply kagutin__kagutin_open(struct slice_mut_u8 lo
 static inline uint64_t answers__in_use_block(struct slice_u8 log, struct slice_u8 area, struct slice_u8 state,
         struct slice_u8 block)
 {
-    uint64_t t5;
-    bool t7, t8;
+    uint64_t t5, t6, t7;
+    bool t8;
 
-    t7 = answers__lengths_right(log, area, state);
-    if (!t7) {
+    t8 = answers__lengths_right(log, area, state);
+    if (!t8) {
         return 1u;
     }
     if ((uint64_t)block.len != 64u) {
         return 1u;
     }
     t5 = areas__lengths__log_groups((uint64_t)log.len);
-    t8 = strip__order__in_order(state, t5, (uint64_t)area.len / 64u);
+    t6 = (uint64_t)area.len / 64u;
+    t7 = strip__quick__quick_answer(state, t5, t6);
+    if (t7 != 1u) {
+        return t7;
+    }
+    t8 = strip__order__in_order(state, t5, t6);
     if (!t8) {
         return 2u;
     }

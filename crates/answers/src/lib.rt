@@ -60,6 +60,10 @@ pub fn in_use(log: &[u8], area: &[u8], state: &[u8]) -> u64
     }
     let groups = areas::log_groups(log.len());
     let homes = areas::data_homes(area.len());
+    let quick = strip::quick_answer(state, groups, homes);
+    if quick != 1 {
+        return quick;
+    }
     if !strip::in_order(state, groups, homes) {
         return 2;
     }
@@ -78,6 +82,10 @@ pub fn in_use_block(log: &[u8], area: &[u8], state: &[u8], block: &[u8]) -> u64
     }
     let groups = areas::log_groups(log.len());
     let homes = areas::data_homes(area.len());
+    let quick = strip::quick_answer(state, groups, homes);
+    if quick != 1 {
+        return quick;
+    }
     if !strip::in_order(state, groups, homes) {
         return 2;
     }

@@ -3,7 +3,7 @@ use mathlib.Core.Path.{_≡_, refl, sym, _∙_}
 use mathlib.Core.Bool.{Bool, true, false, not, _&&_, and-false, and-true, or-true}
 use mathlib.Core.Logic.{_≢_}
 use mathlib.Core.List.{List}
-use Prim.Native.Nat.{ℕ, zero, suc, _+_, _*_, _≤_, _<_}
+use Prim.Native.Nat.{ℕ, zero, suc, _+_, _-_, _*_, _^_, _%_, _≤_, _<_}
 use native.Mathlib.Decide.{decLt}
 use native.Mathlib.Numerals.{add-one}
 use native.Mathlib.Omega.{arith}
@@ -12,8 +12,9 @@ use Rattle.model.specs.declared.State.{State}
 use Rattle.model.specs.declared.Writer.{Writer}
 use lib.Dec.{leb}
 use Rattle.model.specs.State.{stateOf, writerOf, isOpen, promiseOf, promised, places, nextPosition, numbersInOrder, writerInOrder, promiseInOrder, writerAtInOrder, writersInOrder, inOrder}
+use Rattle.model.specs.Questions.{ask}
 use Rattle.model.proofs.strip.OrderLaws.{tests, WriterInOrder, writer-order}
-use Rattle.strip.specs.Order.{GroupsInOrder, roundInOrder}
+use Rattle.strip.specs.Order.{GroupsInOrder, GroupsAnswer, roundInOrder}
 
 refuted : (b : Bool) → (b ≡ true → ⊥) → false ≡ b
 refuted true h = absurd (h refl)
@@ -25,6 +26,19 @@ answered-no {b} e h = sym (not-true b h) ∙ e
 
 pub answered-yes : {b x : Bool} → b ≡ x → not b ≡ false → true ≡ x
 answered-yes {b} e h = sym (not-false b h) ∙ e
+
+-- ---- distances modulo 2 ^ 64
+
+-- a distance that does not pass the end, and one upwards, are as they were taken
+pub distance-short : (d low x : ℕ) → (d + low) % 2 ^ 64 ≡ x → d + low < 2 ^ 64 → x ≡ d + low
+distance-short d low x e h = omega arith
+
+pub distance-up : (d low x : ℕ) → (d + low) % 2 ^ 64 ≡ x → d < 2 ^ 64 → low ≤ x → x ≡ d + low
+distance-up d low x e h l = omega arith
+
+-- one down from x, and no longer than x
+pub distance-down : (d y x : ℕ) → (d + y) % 2 ^ 64 ≡ x → y < 2 ^ 64 → d ≤ x → x ≡ d + y
+distance-down d y x e h l = omega arith
 
 -- ---- the numbers
 
@@ -50,9 +64,13 @@ module _ (st : State) where
   pub round-low : st .round ≢ 0 → st .round ≤ st .settled → false ≡ roundInOrder st
   round-low n l = refuted (roundInOrder st) (λ h. let f = round-facts st h n in omega arith)
 
-  pub round-last : st .round ≢ 0 → st .settled < st .round → leb (st .round) (st .fenced + 1) ≡ roundInOrder st
+  pub round-last : st .round ≢ 0 → st .settled < st .round → leb (st .round - 1) (st .fenced) ≡ roundInOrder st
   unfolding roundInOrder
-  round-last n l = rw (ne-eqb (st .round) 0 n, lt-ltb (st .settled) (st .round) l)
+  round-last n l = rw (ne-eqb (st .round) 0 n, lt-ltb (st .settled) (st .round) l) (go (decLt (st .fenced) (st .round - 1)))
+    where
+      go : Dec (st .fenced < st .round - 1) → leb (st .round - 1) (st .fenced) ≡ leb (st .round) (st .fenced + 1)
+      go (yes h) = lt-leb (st .round - 1) (st .fenced) h ∙ sym (lt-leb (st .round) (st .fenced + 1) (omega arith))
+      go (no h) = le-leb (st .round - 1) (st .fenced) (omega arith) ∙ sym (le-leb (st .round) (st .fenced + 1) (omega arith))
 
 module _ (st : State) where
   pub groups-order : st .groups ≤ 1024 → numbersInOrder st ≡ true → GroupsInOrder st
@@ -66,6 +84,20 @@ module _ (st : State) where
         next-most = omega arith;
         filled-most = omega arith;
         filled-none = λ k. f .0 .0 .0 .0 .0 .0 .1 (omega arith);
+      }
+
+  -- by the distance of the next group from the start
+  pub not-full : (groups d : ℕ) → st .groups ≡ groups → groups ≤ 1024 → st .start ≤ 2 ^ 47 → (d + st .start) % 2 ^ 64 ≡ st .next → d < groups
+      → st .filled ≤ 6 → GroupsInOrder st
+  not-full groups d e m s h l f =
+      let n = distance-short d (st .start) (st .next) h (omega arith) in
+      record {
+        groups-most = omega arith;
+        start-most = s;
+        start-next = omega arith;
+        next-most = omega arith;
+        filled-most = f;
+        filled-none = λ k. absurd (omega arith);
       }
 
   pub groups-refused : st .groups ≤ 1024 → (GroupsInOrder st → ⊥) → false ≡ numbersInOrder st
@@ -103,6 +135,14 @@ module _ (st : State) where
 
 pub writer-refused : (st : State) (r : Writer) → (WriterInOrder st r → ⊥) → false ≡ writerInOrder st r
 writer-refused st r h = refuted (writerInOrder st r) (λ e. h (writer-order st r e))
+
+-- a mode that is neither that of a writer that holds a block nor that of one that logs
+pub other-mode : (st : State) (r : Writer) → 2 ≤ r .mode → r .mode ≢ 2 → r .mode ≢ 3 → false ≡ writerInOrder st r
+other-mode st r l n m = writer-refused st r (λ o. go (o .mode) (decLt (r .mode) 3))
+  where
+    go : r .mode ≤ 3 → Dec (r .mode < 3) → ⊥
+    go k (yes h) = n (omega arith)
+    go k (no h) = m (omega arith)
 
 module _ (s : List ℕ) (st : State) (w : ℕ) where
   pub record-refused : false ≡ writerInOrder st (writerOf s w) → false ≡ writerAtInOrder s st w
@@ -169,3 +209,34 @@ module _ (s : List ℕ) (st : State) (groups homes : ℕ) (e : st ≡ stateOf s)
       → writersInOrder s st 8 ≡ inOrder s groups homes
   unfolding inOrder
   by-writers g h k p = rw (← e, eq-eqb (st .groups) groups g, eq-eqb (st .homes) homes h, ← k, le-leb (promised s 8) (places st) p)
+
+-- ---- the answer of a quick look
+
+pub told-yes : (b : Bool) → true ≡ b → 0 ≡ ask b 2 0
+unfolding ask
+told-yes b h = rw (← h)
+
+pub told-no : (b : Bool) → false ≡ b → 2 ≡ ask b 2 0
+unfolding ask
+told-no b h = rw (← h)
+
+module _ (st : State) (groups homes : ℕ) where
+  pub groups-left : GroupsAnswer 1 st groups homes
+  groups-left =
+      record {
+        refused = λ n m. absurd (m refl);
+        groups-same = λ z. absurd (omega arith);
+        homes-same = λ z. absurd (omega arith);
+        no-round = λ z. absurd (omega arith);
+        in-order = λ z. absurd (omega arith);
+      }
+
+  pub groups-no : ((s : List ℕ) → st ≡ stateOf s → false ≡ inOrder s groups homes) → GroupsAnswer 2 st groups homes
+  groups-no h =
+      record {
+        refused = λ n m s e. told-no (inOrder s groups homes) (h s e);
+        groups-same = λ z. absurd (omega arith);
+        homes-same = λ z. absurd (omega arith);
+        no-round = λ z. absurd (omega arith);
+        in-order = λ z. absurd (omega arith);
+      }

@@ -1,8 +1,10 @@
 // The state strip of 1,024 bytes as model/specs/State defines it: its numbers, its writers' records, held blocks and promises, the positions of the list of rights, and whether it is in order.
+mod distances;
 mod fields;
 mod listed;
 mod order;
 mod promises;
+mod quick;
 mod writers;
 
 pub use fields::fresh;
@@ -28,6 +30,7 @@ pub use promises::promise_left;
 pub use promises::promised;
 pub use promises::room_for;
 pub use promises::set_promise;
+pub use quick::quick_answer;
 pub use writers::begun;
 pub use writers::count_for;
 pub use writers::first_for;

@@ -1,7 +1,7 @@
 // Whether the state strip is in order (question 2).
+use crate::distances::distance;
 use crate::fields::next_position;
 use crate::fields::state;
-use crate::promises::none_promised;
 use crate::promises::places;
 use crate::promises::promise;
 use crate::promises::promised;
@@ -10,17 +10,17 @@ use crate::writers::writer;
 use model::State;
 use model::Writer;
 ghost use mathlib.Core.Path.{_≡_};
-ghost use Prim.Native.Nat.{ℕ, _+_, _*_, _^_, _≤_, _<_};
+ghost use mathlib.Core.Bool.{true};
+ghost use Prim.Native.Nat.{_+_, _*_, _^_, _≤_, _<_};
 ghost use lib.ListN.{length};
-ghost use Rattle.model.specs.State.{promiseOf, numbersInOrder, writerInOrder, writerAtInOrder, writersInOrder, inOrder};
+ghost use Rattle.model.specs.State.{numbersInOrder, writerInOrder, writerAtInOrder, writersInOrder, inOrder};
 ghost use Rattle.strip.specs.Order.{GroupsInOrder, roundInOrder};
 
 // The highest group number that a log may start at.
-const MAX_START: u64 = 0x8000_0000_0000;
+pub const MAX_START: u64 = 0x8000_0000_0000;
 
 // Whether the position that a round has fixed lies from the settled to the fenced one, or there is no round.
 fn round_in_order(st: State) -> bool
-    requires { ⌜ st .fenced < 2 ^ 63 ⌝ }
     ensures { λ r. ⌜ r ≡ roundInOrder st ⌝ }
 {
     if st.round == 0 {
@@ -29,7 +29,34 @@ fn round_in_order(st: State) -> bool
     if st.round <= st.settled {
         return false;
     }
-    st.round <= st.fenced + 1
+    st.round - 1 <= st.fenced
+}
+
+// Whether the numbers of the strip are in order, where its group numbers, the places filled and the round are. What lies between two others is
+// compared once, by its distance from the lower one.
+pub fn bounds_in_order(st: State) -> bool
+    requires { ⌜ GroupsInOrder st × (roundInOrder st ≡ true) ⌝ }
+    ensures { λ r. ⌜ r ≡ numbersInOrder st ⌝ }
+{
+    let low = 7 * st.start;
+    let whole = 7 * (st.next - st.start);
+    let fenced = distance(st.fenced, low);
+    if whole < fenced {
+        return false;
+    }
+    if fenced < distance(st.settled, low) {
+        return false;
+    }
+    if st.fenced < st.durable {
+        return false;
+    }
+    if st.last == 0 {
+        return true;
+    }
+    if whole + st.filled <= distance(st.last, low + 1) {
+        return false;
+    }
+    true
 }
 
 // Whether the numbers of the strip are in order, where its group numbers and the places filled are.
@@ -37,32 +64,10 @@ fn positions_in_order(st: State) -> bool
     requires { ⌜ GroupsInOrder st ⌝ }
     ensures { λ r. ⌜ r ≡ numbersInOrder st ⌝ }
 {
-    let low = 7 * st.start;
-    if st.settled < low {
-        return false;
-    }
-    if st.fenced < st.settled {
-        return false;
-    }
-    if 7 * st.next < st.fenced {
-        return false;
-    }
-    if st.fenced < st.durable {
-        return false;
-    }
     if !round_in_order(st) {
         return false;
     }
-    if st.last == 0 {
-        return true;
-    }
-    if st.last <= low {
-        return false;
-    }
-    if next_position(st) < st.last {
-        return false;
-    }
-    true
+    bounds_in_order(st)
 }
 
 // Whether the numbers of the strip are in order.
@@ -154,21 +159,6 @@ fn writers_in_order(s: &[u8], st: State) -> bool
     true
 }
 
-// The same where nothing is promised: an idle writer is passed by its mode alone.
-fn records_in_order(s: &[u8], st: State) -> bool
-    requires { ⌜ (length (now s) ≡ 1024) × (7 * st .start < 2 ^ 64) × (7 * st .next + st .filled < 2 ^ 64) × ((w : ℕ) → w < 8 → promiseOf (now s) w ≡ 0) ⌝ }
-    ensures { λ r. ⌜ r ≡ writersInOrder (now (s .entry)) st 8 ⌝ }
-{
-    let mut w: usize = 0;
-    while w != 8 {
-        if !writer_in_order(st, writer(s, w)) {
-            return false;
-        }
-        w += 1;
-    }
-    true
-}
-
 // Whether the strip is in order for a log of `groups` groups and `homes` homes.
 pub fn in_order(s: &[u8], groups: u64, homes: u64) -> bool
     requires { ⌜ (length (now s) ≡ 1024) × (groups ≤ 1024) × (homes ≤ 65535) ⌝ }
@@ -183,9 +173,6 @@ pub fn in_order(s: &[u8], groups: u64, homes: u64) -> bool
     }
     if !numbers_in_order(st) {
         return false;
-    }
-    if none_promised(s) {
-        return records_in_order(s, st);
     }
     if places(st) < promised(s) {
         return false;

@@ -1,7 +1,7 @@
 -- `answers::in_use` meets its contract: each return follows the tests that led to it. Assumes nothing.
 use native.Mathlib.Omega.{arith}
 use lib.ListN.{length}
-use Rattle.answers.proofs.LengthTests.{sizes, state-lengths-no, state-order-no, state-all}
+use Rattle.answers.proofs.LengthTests.{sizes, state-lengths-no, state-told, state-order-no, state-all}
 use borrow.Author.Needs.{needs}
 use Rattle.answers.proofs.in_use.Statement.{statement}
 use Rattle.answers.proofs.in_use.Tie as tie
@@ -18,8 +18,8 @@ log-groups-requires c κs = search needs
 data-homes-requires : tie.Need-data-homes-requires
 data-homes-requires c κs = search needs
 
-in-order-requires : tie.Need-in-order-requires
-in-order-requires c κs =
+quick-answer-requires : tie.Need-quick-answer-requires
+quick-answer-requires c κs =
     let a = c .before .before .before .before .before .before .before .args in
     let s = sizes (length (a .log .now)) (length (a .area .now)) (length (a .state .now)) _ (c .before .before .before .lengths-right .ensures) (c .before .before .if1 .left) in
     omega arith
@@ -27,18 +27,32 @@ in-order-requires c κs =
 returns-2 : tie.Need-returns-2
 returns-2 c =
     let k = c .before .before .before in
-    state-order-no _ _ _ _ _ _ (k .before .before .lengths-right .ensures) (k .before .if1 .left) (k .log-groups .ensures)
+    state-told _ _ _ _ _ (k .before .before .lengths-right .ensures) (k .before .if1 .left) (k .log-groups .ensures)
     (c .before .before .data-homes .ensures)
-    (c .before .in-order .ensures)
-    (c .if2 .taken)
+    (c .before .quick-answer .ensures (c .if2 .taken))
+
+in-order-requires : tie.Need-in-order-requires
+in-order-requires c κs =
+    let k = c .before .before in
+    let a = k .before .before .before .before .before .before .before .args in
+    let s = sizes (length (a .log .now)) (length (a .area .now)) (length (a .state .now)) _ (k .before .before .before .lengths-right .ensures) (k .before .before .if1 .left) in
+    (s .state-length, omega (arith, k .before .log-groups .ensures), omega (arith, k .data-homes .ensures))
 
 returns-3 : tie.Need-returns-3
 returns-3 c =
-    let k = c .before .before .before in
-    state-all _ _ _ _ _ _ (k .before .before .lengths-right .ensures) (k .before .if1 .left) (k .log-groups .ensures)
-    (c .before .before .data-homes .ensures)
+    let k = c .before .before .before .before .before in
+    state-order-no _ _ _ _ _ _ (k .before .before .lengths-right .ensures) (k .before .if1 .left) (k .log-groups .ensures)
+    (c .before .before .before .before .data-homes .ensures)
     (c .before .in-order .ensures)
-    (c .if2 .left)
+    (c .if3 .taken)
+
+returns-4 : tie.Need-returns-4
+returns-4 c =
+    let k = c .before .before .before .before .before in
+    state-all _ _ _ _ _ _ (k .before .before .lengths-right .ensures) (k .before .if1 .left) (k .log-groups .ensures)
+    (c .before .before .before .before .data-homes .ensures)
+    (c .before .in-order .ensures)
+    (c .if3 .left)
 
 pub in-use-spec : {M : Type 1} → statement M
 in-use-spec =
@@ -48,6 +62,8 @@ in-use-spec =
     returns
     log-groups-requires
     data-homes-requires
-    in-order-requires
+    quick-answer-requires
     returns-2
-    returns-3)
+    in-order-requires
+    returns-3
+    returns-4)

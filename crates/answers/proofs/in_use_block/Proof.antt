@@ -1,7 +1,7 @@
 -- `answers::in_use_block` meets its contract: each return follows the tests that led to it. Assumes nothing.
 use native.Mathlib.Omega.{arith}
 use lib.ListN.{length}
-use Rattle.answers.proofs.LengthTests.{sizes, block-lengths-no, block-length-no, block-order-no, block-all}
+use Rattle.answers.proofs.LengthTests.{sizes, block-lengths-no, block-length-no, block-told, block-order-no, block-all}
 use borrow.Author.Needs.{needs}
 use Rattle.answers.proofs.in_use_block.Statement.{statement}
 use Rattle.answers.proofs.in_use_block.Tie as tie
@@ -21,8 +21,8 @@ log-groups-requires c κs = search needs
 data-homes-requires : tie.Need-data-homes-requires
 data-homes-requires c κs = search needs
 
-in-order-requires : tie.Need-in-order-requires
-in-order-requires c κs =
+quick-answer-requires : tie.Need-quick-answer-requires
+quick-answer-requires c κs =
     let a = c .before .before .before .before .before .before .before .before .before .args in
     let s = sizes (length (a .log .now)) (length (a .area .now)) (length (a .state .now)) _ (c .before .before .before .before .lengths-right .ensures) (c .before .before .before .if1 .left) in
     omega arith
@@ -30,20 +30,35 @@ in-order-requires c κs =
 returns-3 : tie.Need-returns-3
 returns-3 c =
     let k = c .before .before .before in
-    block-order-no _ _ _ _ _ _ (k .before .before .before .lengths-right .ensures) (k .before .before .if1 .left) (k .before .if2 .left)
+    block-told _ _ _ _ _ (k .before .before .before .lengths-right .ensures) (k .before .before .if1 .left) (k .before .if2 .left)
     (k .log-groups .ensures)
     (c .before .before .data-homes .ensures)
-    (c .before .in-order .ensures)
-    (c .if3 .taken)
+    (c .before .quick-answer .ensures (c .if3 .taken))
+
+in-order-requires : tie.Need-in-order-requires
+in-order-requires c κs =
+    let k = c .before .before in
+    let a = k .before .before .before .before .before .before .before .before .before .args in
+    let s = sizes (length (a .log .now)) (length (a .area .now)) (length (a .state .now)) _ (k .before .before .before .before .lengths-right .ensures) (k .before .before .before .if1 .left) in
+    (s .state-length, omega (arith, k .before .log-groups .ensures), omega (arith, k .data-homes .ensures))
 
 returns-4 : tie.Need-returns-4
 returns-4 c =
-    let k = c .before .before .before in
+    let k = c .before .before .before .before .before in
+    block-order-no _ _ _ _ _ _ (k .before .before .before .lengths-right .ensures) (k .before .before .if1 .left) (k .before .if2 .left)
+    (k .log-groups .ensures)
+    (c .before .before .before .before .data-homes .ensures)
+    (c .before .in-order .ensures)
+    (c .if4 .taken)
+
+returns-5 : tie.Need-returns-5
+returns-5 c =
+    let k = c .before .before .before .before .before in
     block-all _ _ _ _ _ _ (k .before .before .before .lengths-right .ensures) (k .before .before .if1 .left) (k .before .if2 .left)
     (k .log-groups .ensures)
-    (c .before .before .data-homes .ensures)
+    (c .before .before .before .before .data-homes .ensures)
     (c .before .in-order .ensures)
-    (c .if3 .left)
+    (c .if4 .left)
 
 pub in-use-block-spec : {M : Type 1} → statement M
 in-use-block-spec =
@@ -54,6 +69,8 @@ in-use-block-spec =
     returns-2
     log-groups-requires
     data-homes-requires
-    in-order-requires
+    quick-answer-requires
     returns-3
-    returns-4)
+    in-order-requires
+    returns-4
+    returns-5)

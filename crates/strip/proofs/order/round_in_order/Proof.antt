@@ -11,11 +11,11 @@ returns c = round-none _ (c .if1 .taken)
 returns-2 : tie.Need-returns-2
 returns-2 c = round-low _ (c .before .before .if1 .left) (c .if2 .taken)
 
-add-result : tie.Need-add-result
-add-result c = search needs
+sub-result : tie.Need-sub-result
+sub-result c = search needs
 
 returns-3 : tie.Need-returns-3
 returns-3 c = round-last _ (c .before .before .before .before .if1 .left) (c .before .before .if2 .left)
 
 pub round-in-order-spec : {M : Type 1} → statement M
-round-in-order-spec = tie.close (tie.spec returns returns-2 add-result returns-3)
+round-in-order-spec = tie.close (tie.spec returns returns-2 sub-result returns-3)

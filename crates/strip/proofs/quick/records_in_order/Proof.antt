@@ -5,8 +5,8 @@ use Prim.Native.Nat.{_-_, _≤_}
 use native.Mathlib.Omega.{arith}
 use Rattle.model.specs.State.{writerInOrder, writersInOrder}
 use Rattle.strip.proofs.OrderTests.{answered-no, answered-yes, record-held, writers-none, writers-turn, writers-stop}
-use Rattle.strip.proofs.order.records_in_order.Statement.{statement}
-use Rattle.strip.proofs.order.records_in_order.Tie as tie
+use Rattle.strip.proofs.quick.records_in_order.Statement.{statement}
+use Rattle.strip.proofs.quick.records_in_order.Tie as tie
 
 abbrev Inv-loop : tie.InvT-loop
 Inv-loop s st w₀ w = (true ≡ writersInOrder s st w) × (w ≤ 8)
@@ -20,8 +20,8 @@ loop-holds c = (writers-none _ _, omega arith)
 writer-requires : tie.Need-writer-requires Inv-loop μ-loop
 writer-requires c κs = omega arith
 
-writer-in-order-requires : tie.Need-writer-in-order-requires Inv-loop μ-loop
-writer-in-order-requires c κs = omega arith
+record-in-order-requires : tie.Need-record-in-order-requires Inv-loop μ-loop
+record-in-order-requires c κs = c .before .before .before .before .pre .1
 
 returns : tie.Need-returns Inv-loop μ-loop
 returns c =
@@ -29,7 +29,7 @@ returns c =
     let l = r .before .before .loop in
     writers-stop _ _ (l .w) 8 (omega arith)
     (answered-no
-    (record-held _ _ _ _ (c .before .writer-in-order .ensures ∙ ap (writerInOrder _) (r .writer .ensures)) (r .before .before .before .before .pre .3 (l .w) (omega arith)))
+    (record-held _ _ _ _ (c .before .record-in-order .ensures ∙ ap (writerInOrder _) (r .writer .ensures)) (r .before .before .before .before .pre .2 (l .w) (omega arith)))
     (c .if1 .taken))
 
 add-w : tie.Need-add-w Inv-loop μ-loop
@@ -44,7 +44,7 @@ loop-again c =
     let l = r .before .before .loop in (
       writers-turn _ _ (l .w) (l .inv .0)
           (answered-yes
-          (record-held _ _ _ _ (c .before .writer-in-order .ensures ∙ ap (writerInOrder _) (r .writer .ensures)) (r .before .before .before .before .pre .3 (l .w) (omega arith)))
+          (record-held _ _ _ _ (c .before .record-in-order .ensures ∙ ap (writerInOrder _) (r .writer .ensures)) (r .before .before .before .before .pre .2 (l .w) (omega arith)))
           (c .if1 .left)),
       omega arith,
     )
@@ -60,7 +60,7 @@ records-in-order-spec =
     μ-loop
     loop-holds
     writer-requires
-    writer-in-order-requires
+    record-in-order-requires
     returns
     add-w
     loop-less

@@ -1,0 +1,30 @@
+-- `strip::record_in_order` meets its contract: each return follows the tests that led to it. Assumes nothing.
+use borrow.Author.Needs.{needs}
+use mathlib.Core.Path.{sym}
+use native.Mathlib.Omega.{arith}
+use Rattle.model.proofs.strip.OrderLaws.{order-writer}
+use Rattle.strip.proofs.OrderTests.{writer-refused, other-mode}
+use Rattle.strip.proofs.quick.record_in_order.Statement.{statement}
+use Rattle.strip.proofs.quick.record_in_order.Tie as tie
+
+returns : tie.Need-returns
+returns c = sym (order-writer _ _ (record { mode = omega arith; home = λ k. omega arith; logged = λ k. omega arith }))
+
+returns-2 : tie.Need-returns-2
+returns-2 c = writer-refused _ _ (λ o. let f = o .home (omega arith) in omega arith)
+
+returns-3 : tie.Need-returns-3
+returns-3 c = sym (order-writer _ _ (record { mode = omega arith; home = λ k. omega arith; logged = λ k. omega arith }))
+
+returns-4 : tie.Need-returns-4
+returns-4 c = other-mode _ _ (omega arith) (c .before .before .if3 .left) (c .if4 .taken)
+
+logged-in-order-requires : tie.Need-logged-in-order-requires
+logged-in-order-requires c κs = search needs
+
+returns-5 : tie.Need-returns-5
+returns-5 c = search needs
+
+pub record-in-order-spec : {M : Type 1} → statement M
+record-in-order-spec =
+    tie.close (tie.spec returns returns-2 returns-3 returns-4 logged-in-order-requires returns-5)
