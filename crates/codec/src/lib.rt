@@ -2,6 +2,7 @@
 mod blocks;
 mod marks;
 mod numbers;
+mod plain;
 mod tags;
 mod turns;
 
@@ -18,11 +19,12 @@ pub use marks::put_header_write_mark;
 pub use marks::put_home_write_mark;
 pub use numbers::number;
 pub use numbers::put_number;
+pub use plain::is_plain;
+pub use plain::other_back;
+pub use plain::plain_home;
 pub use tags::commit_word;
 pub use tags::displaced;
 pub use tags::entry_word;
-pub use tags::other_back;
-pub use tags::plain_home;
 pub use tags::read_tag;
 pub use tags::tag_back;
 pub use tags::with_displaced;
