@@ -10,7 +10,7 @@ ghost use Rattle.positions.specs.Keeping.{keptOver, ValidFor};
 
 // Keeps the transaction's entries of a valid group one after the other, as long as they are plain; returns how many tags it has taken.
 fn keep_seven(group: &[u8], homes: u64, n: u64, turn: u64, first: u64, newest: &mut [u8]) -> usize
-    requires { ⌜ (length (now group) ≡ 512) × (length (now newest) ≡ 8 * homes) × (homes ≤ 65535) × (n < 2 ^ 60) × (first ≤ 7 * n) × (7 * n + 7 ≤ first + 7168) ⌝ }
+    requires { ⌜ (length (now group) ≡ 512) × (length (now newest) ≡ 8 * homes) × (homes ≤ 65535) × (n < 2 ^ 60) × (first ≤ 7 * n) × (7 * n + 7 ≤ first + 7168) × (turn < 2) ⌝ }
     ensures { λ r. ⌜ (r ≤ 7) × ((groups start : ℕ) → ValidFor (now (group .entry)) groups start n turn first → now (newest .exit) ≡ keptOver (entryIn (now (group .entry)) groups homes start) first (7 * n) r (now (newest .entry))) ⌝ }
 {
     let mut position = 7 * n;
@@ -27,8 +27,7 @@ fn keep_seven(group: &[u8], homes: u64, n: u64, turn: u64, first: u64, newest: &
     k
 }
 
-// The same for a group of the log's range, none where it is not the valid group with number `n`. Its head is asked once, and there is a loop for each
-// turn, in which the turn bit is a test of the byte's sign.
+// The same for a group of the log's range, none where it is not the valid group with number `n`: its head is asked once.
 pub fn keep_whole(
     group: &[u8],
     groups: u64,
@@ -45,10 +44,7 @@ pub fn keep_whole(
     if !codec::has_group_head(group, 0, n) {
         return 0;
     }
-    if turn == 0 {
-        return keep_seven(group, homes, n, 0, first, newest);
-    }
-    keep_seven(group, homes, n, 1, first, newest)
+    keep_seven(group, homes, n, turn, first, newest)
 }
 
 // Keeps the transaction's entries from tag `done` of a group to below tag `m`, where those before are taken. The group says nothing where it is not the
@@ -65,7 +61,7 @@ pub fn keep_between(
     first: u64,
     newest: &mut [u8],
 )
-    requires { ⌜ (length (now group) ≡ 512) × (groups ≤ 1024) × (homes ≤ 65535) × (start ≤ 2 ^ 47) × (n < start + 1024) × (turn ≡ turnOf groups n) × (done ≤ m) × (m ≤ 7) × (7 * start ≤ first) × (first ≤ 7 * n + done) × (length (now newest) ≡ 8 * homes) ⌝ }
+    requires { ⌜ (length (now group) ≡ 512) × (groups ≤ 1024) × (homes ≤ 65535) × (start ≤ 2 ^ 47) × (n < start + 1024) × (turn ≡ turnOf groups n) × (done ≤ m) × (m ≤ 7) × (7 * start ≤ first) × (first ≤ 7 * n + done) × (length (now newest) ≡ 8 * homes) × (turn < 2) ⌝ }
     ensures { λ _. ⌜ ((before : List ℕ) → now (newest .entry) ≡ keptOver (entryIn (now (group .entry)) groups homes start) first (7 * n) done before → now (newest .exit) ≡ keptOver (entryIn (now (group .entry)) groups homes start) first (7 * n) m before) ⌝ }
 {
     if !scan::group_valid(group, groups, start, n) {

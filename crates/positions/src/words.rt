@@ -3,10 +3,12 @@ use crate::strip::keep;
 use model::Tag;
 ghost use mathlib.Core.Path.{_≡_};
 ghost use mathlib.Core.Bool.{true, false};
+ghost use mathlib.Core.Logic.{_≢_};
 ghost use Prim.Native.Nat.{ℕ, _+_, _*_, _≤_, _<_};
 ghost use lib.ListN.{length};
+ghost use Rattle.model.specs.Bytes.{part};
 ghost use Rattle.model.specs.Tag.{readTag};
-ghost use Rattle.model.specs.Layout.{wordThere};
+ghost use Rattle.model.specs.Layout.{topBit, wordThere};
 ghost use Rattle.scan.specs.Members.{taking};
 ghost use Rattle.positions.specs.Keeping.{keepAt, PlainFor};
 
@@ -26,6 +28,14 @@ fn keep_word(newest: &mut [u8], word: u64, position: u64, base: u64, homes: u64,
     }
 }
 
+// Whether the block from index `at` on has another top bit than `turn`, by the sign of its last byte.
+fn other_turn(s: &[u8], at: usize, turn: u64) -> bool
+    requires { ⌜ (at + 64 ≤ length (now s)) × (turn < 2) ⌝ }
+    ensures { λ r. ⌜ (r ≡ true → topBit (part (now (s .entry)) at 64) ≢ turn) × (r ≡ false → topBit (part (now (s .entry)) at 64) ≡ turn) ⌝ }
+{
+    (s[at + 63] ^ 128 * turn as u8) >= 128
+}
+
 // The same for tag `k` of a group, where it is the transaction's entry that does not close it, which is `plain` but for its home, or has another distance
 // back; returns whether it is one of these. Only an entry of the transaction has its block's turn bit looked at.
 pub fn keep_plain(
@@ -37,7 +47,7 @@ pub fn keep_plain(
     homes: u64,
     newest: &mut [u8],
 ) -> bool
-    requires { ⌜ (length (now group) ≡ 512) × (k < 7) × (length (now newest) ≡ 8 * homes) × (homes ≤ 65535) ⌝ }
+    requires { ⌜ (length (now group) ≡ 512) × (k < 7) × (length (now newest) ≡ 8 * homes) × (homes ≤ 65535) × (turn < 2) ⌝ }
     ensures { λ r. ⌜ (r ≡ false → now (newest .exit) ≡ now (newest .entry)) ⌝ }
     ensures { λ r. ⌜ (r ≡ true → (first base : ℕ) → PlainFor plain first base position → now (newest .exit) ≡ taking first keepAt position (readTag (wordThere (now (group .entry)) turn k) position base homes) (now (newest .entry))) ⌝ }
 {
@@ -45,7 +55,7 @@ pub fn keep_plain(
     if !codec::is_plain(word, plain) {
         return codec::other_back(word, plain);
     }
-    if codec::top_bit(group, 64 + 64 * k) != turn {
+    if other_turn(group, 64 + 64 * k, turn) {
         return true;
     }
     let home = codec::plain_home(word, plain);
@@ -67,7 +77,7 @@ pub fn keep_entry(
     first: u64,
     newest: &mut [u8],
 )
-    requires { ⌜ (length (now group) ≡ 512) × (k < 7) × (length (now newest) ≡ 8 * homes) × (homes ≤ 65535) × (base ≤ first) × (first ≤ position) × (position < first + 7168) ⌝ }
+    requires { ⌜ (length (now group) ≡ 512) × (k < 7) × (length (now newest) ≡ 8 * homes) × (homes ≤ 65535) × (base ≤ first) × (first ≤ position) × (position < first + 7168) × (turn < 2) ⌝ }
     ensures { λ _. ⌜ now (newest .exit) ≡ taking first keepAt position (readTag (wordThere (now (group .entry)) turn k) position base homes) (now (newest .entry)) ⌝ }
 {
     let plain = codec::entry_word(0, position - first);

@@ -45,7 +45,8 @@ add-keep-entry : tie.Need-add-keep-entry Inv-loop μ-loop
 add-keep-entry c = omega arith
 
 keep-entry-requires : tie.Need-keep-entry-requires Inv-loop μ-loop
-keep-entry-requires c κs = (omega arith, omega arith, omega arith, omega arith, omega arith, omega arith, omega arith)
+keep-entry-requires c κs =
+    (omega arith, omega arith, omega arith, omega arith, omega arith, omega arith, omega arith, omega arith)
 
 add-k : tie.Need-add-k Inv-loop μ-loop
 add-k c = omega arith

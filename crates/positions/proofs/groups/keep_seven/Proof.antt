@@ -41,7 +41,7 @@ loop-holds : tie.Need-loop-holds Inv-loop μ-loop
 loop-holds c = (λ groups start v. over-before _ keepAt _ _ _ _ (omega arith), omega arith, omega arith, c .entry-word .ensures, omega arith)
 
 keep-plain-requires : tie.Need-keep-plain-requires Inv-loop μ-loop
-keep-plain-requires c κs = (omega arith, omega arith, omega arith, omega arith)
+keep-plain-requires c κs = (omega arith, omega arith, omega arith, omega arith, omega arith)
 
 same-length : tie.Need-same-length Inv-loop μ-loop
 same-length c = let p = c .before .before .before in omega (arith, p .keep-plain .kept, p .before .before .before .loop .inv .4)

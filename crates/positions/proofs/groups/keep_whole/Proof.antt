@@ -24,31 +24,12 @@ same-length c = search needs
 returns-2 : tie.Need-returns-2
 returns-2 c =
     let k = c .before .before .keep-seven in
-    let i = c .before .before .before .before .before in (
+    let i = c .before .before .before .before in (
       k .ensures .0,
       k .ensures .1 _ _
           (record {
             valid = head-valid _ _ _ _ _ (omega arith) (omega arith) (omega arith) (omega arith) (i .before .has-group-head .ensures) (not-false _ (i .if1 .left));
-            fits = omega arith;
-            from = omega arith;
-          }),
-    )
-
-keep-seven-requires-2 : tie.Need-keep-seven-requires-2
-keep-seven-requires-2 c κs = search needs
-
-same-length-2 : tie.Need-same-length-2
-same-length-2 c = search needs
-
-returns-3 : tie.Need-returns-3
-returns-3 c =
-    let k = c .before .before .keep-seven2 in
-    let i = c .before .before .before .before .before in (
-      k .ensures .0,
-      k .ensures .1 _ _
-          (record {
-            valid = head-valid _ _ _ _ _ (omega arith) (omega arith) (omega arith) (omega arith) (i .before .has-group-head .ensures) (not-false _ (i .if1 .left));
-            fits = omega arith;
+            fits = i .before .before .before .before .pre .5;
             from = omega arith;
           }),
     )
@@ -61,7 +42,4 @@ keep-whole-spec =
     returns
     keep-seven-requires
     same-length
-    returns-2
-    keep-seven-requires-2
-    same-length-2
-    returns-3)
+    returns-2)

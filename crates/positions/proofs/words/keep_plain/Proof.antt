@@ -28,20 +28,20 @@ returns c =
     let w = c .before .before .before in
     (λ t. refl, λ t first base f. plain-passed _ _ _ _ _ _ _ _ _ _ (w .number .ensures .0) f (c .other-back .ensures t))
 
-mul-top-bit : tie.Need-mul-top-bit
-mul-top-bit c = search needs
+mul-other-turn : tie.Need-mul-other-turn
+mul-other-turn c = search needs
 
-add-top-bit : tie.Need-add-top-bit
-add-top-bit c = search needs
+add-other-turn : tie.Need-add-other-turn
+add-other-turn c = search needs
 
-top-bit-requires : tie.Need-top-bit-requires
-top-bit-requires c κs = search needs
+other-turn-requires : tie.Need-other-turn-requires
+other-turn-requires c κs = search needs
 
 returns-2 : tie.Need-returns-2
 returns-2 c =
     let w = c .before .before .before .before in (
       λ t. absurd (false≢true (sym t)),
-      λ t first base f. turn-passed _ _ _ _ _ _ _ _ _ _ (w .number .ensures .0) f _ (c .before .top-bit .ensures .0) (c .if2 .taken),
+      λ t first base f. turn-passed _ _ _ _ _ _ _ _ _ _ (w .number .ensures .0) f _ refl (c .before .other-turn .ensures .0 (c .if2 .taken)),
     )
 
 plain-home-requires : tie.Need-plain-home-requires
@@ -64,7 +64,7 @@ returns-4 c =
     let w = i .before .before in (
       λ t. absurd (false≢true (sym t)),
       λ t first base f.
-          plain-kept _ _ _ _ _ _ _ _ _ _ (w .number .ensures .0) f _ _ _ (b .top-bit .ensures .0) (h .before .before .if2 .left) (omega arith) (omega arith)
+          plain-kept _ _ _ _ _ _ _ _ _ _ (w .number .ensures .0) f _ _ _ refl (b .other-turn .ensures .1 (h .before .before .if2 .left)) (omega arith) (omega arith)
           (i .before .is-plain .ensures (not-false _ (i .if1 .left))) (h .before .plain-home .ensures) (c .before .before .keep .ensures),
     )
 
@@ -78,9 +78,9 @@ keep-plain-spec =
     is-plain-requires
     other-back-requires
     returns
-    mul-top-bit
-    add-top-bit
-    top-bit-requires
+    mul-other-turn
+    add-other-turn
+    other-turn-requires
     returns-2
     plain-home-requires
     returns-3
