@@ -4,11 +4,9 @@ use mathlib.Core.Logic.{_≢_}
 use Prim.Native.Nat.{ℕ, _+_, _-_, _*_, _/_, _%_, _^_, _≤_, _<_}
 use native.Mathlib.Nat.{mod-mod}
 use native.Mathlib.Omega.{arith}
-use lib.Bits.{bitAnd, bitXor, xor-self, xor-add-and, and-le-l, and-le-r, and-mask, and-high, and-shr, and-mod, xor-shr, xor-mod}
-use Rattle.model.specs.Tag.{tagWord, entryWord, field, homeField, readTag}
-use Rattle.model.specs.declared.Tag.the-variants.{Entry}
+use lib.Bits.{bitAnd, bitXor, xor-self, xor-zero-r, xor-block, xor-add-and, and-le-l, and-le-r, and-mask, and-high, and-shr, and-mod, xor-shr, xor-mod}
+use Rattle.model.specs.Tag.{tagWord, entryWord, withDisplaced, displaced, field, homeField}
 use Rattle.model.proofs.bytes.TagLaws.{field-of}
-use Rattle.codec.proofs.ReadLaws.{is-entry, homeBits, home-bits}
 
 -- ---- fields of two words
 
@@ -31,6 +29,35 @@ alike : (a b m k j : ℕ) → bitAnd (bitXor a b) m ≡ 0 → m / 2 ^ k % 2 ^ j 
 alike a b m k j e f z =
     xor-none (field a k j) (field b k j)
     (sym (xor-field a b k j) ∙ sym (and-field (bitXor a b) m k j f) ∙ ap (λ (x : ℕ). field x k j) e ∙ z)
+
+-- a word by its fields
+chain : (w q1 q2 q14 q27 q53 q57 q58 a0 a1 a2 a14 a27 a53 a57 : ℕ) → w ≡ a0 + 2 * q1 → q1 ≡ a1 + 2 * q2 → q2 ≡ a2 + 2 ^ 12 * q14 → q14 ≡ a14 + 2 ^ 13 * q27
+    → q27 ≡ a27 + 2 ^ 26 * q53 → q53 ≡ a53 + 2 ^ 4 * q57 → q57 ≡ a57 + 2 * q58
+    → w ≡ a0 + 2 * a1 + 2 ^ 2 * a2 + 2 ^ 14 * a14 + 2 ^ 27 * a27 + 2 ^ 53 * a53 + 2 ^ 57 * a57 + 2 ^ 58 * q58
+chain w q1 q2 q14 q27 q53 q57 q58 a0 a1 a2 a14 a27 a53 a57 e0 e1 e2 e14 e27 e53 e57 = omega arith
+
+parts : (w : ℕ) → w < 2 ^ 64
+    → w
+    ≡ w / 2 ^ 0 % 2 ^ 1 + 2 * (w / 2 ^ 1 % 2 ^ 1) + 2 ^ 2 * (w / 2 ^ 2 % 2 ^ 12) + 2 ^ 14 * (w / 2 ^ 14 % 2 ^ 13) + 2 ^ 27 * (w / 2 ^ 27 % 2 ^ 26)
+    + 2 ^ 53 * (w / 2 ^ 53 % 2 ^ 4)
+    + 2 ^ 57 * (w / 2 ^ 57 % 2 ^ 1)
+    + 2 ^ 58 * (w / 2 ^ 58 % 2 ^ 6)
+parts w h =
+    let top : w / 2 ^ 58 % 2 ^ 6 ≡ w / 2 ^ 58 = omega arith in
+    rw top
+    (chain w (w / 2 ^ 1) (w / 2 ^ 2) (w / 2 ^ 14) (w / 2 ^ 27) (w / 2 ^ 53) (w / 2 ^ 57) (w / 2 ^ 58) (w / 2 ^ 0 % 2 ^ 1) (w / 2 ^ 1 % 2 ^ 1)
+    (w / 2 ^ 2 % 2 ^ 12)
+    (w / 2 ^ 14 % 2 ^ 13)
+    (w / 2 ^ 27 % 2 ^ 26)
+    (w / 2 ^ 53 % 2 ^ 4)
+    (w / 2 ^ 57 % 2 ^ 1)
+    (omega arith)
+    (omega arith)
+    (omega arith)
+    (omega arith)
+    (omega arith)
+    (omega arith)
+    (omega arith))
 
 -- ---- the word of an entry for home 0
 
@@ -60,20 +87,17 @@ module _ (plain back : ℕ) (e : plain ≡ entryWord 0 back) (h : back < 2 ^ 13)
 
   module _ (word : ℕ) where
     -- one that differs in home and displaced bit alone
-    pub plain-entry : bitAnd (bitXor word plain) apartFromHome ≡ 0 → (position base homes : ℕ) → base + back ≤ position → homeBits word < homes
-        → readTag word position base homes ≡ Entry (homeBits word) (position - back)
-    unfolding readTag field
-    plain-entry s position base homes l k =
-        let b : field word 14 13 ≡ back = alike word plain apartFromHome 14 13 s refl refl ∙ plain-back in
-        is-entry (field word 0 1) (field word 1 1) (field word 58 6) (field word 27 26) (homeField word) (field word 14 13) (field word 27 13)
-        (field word 40 13) position base homes
-        (alike word plain apartFromHome 0 1 s refl refl ∙ plain-used)
-        (alike word plain apartFromHome 58 6 s refl refl ∙ plain-above)
-        (omega (arith, home-bits word, k))
-        (omega (arith, b, l))
-        (alike word plain apartFromHome 1 1 s refl refl ∙ plain-open)
-        (alike word plain apartFromHome 27 26 s refl refl ∙ plain-upper)
-        ∙ rw (home-bits word, b)
+    pub plain-shape : word < 2 ^ 64 → bitAnd (bitXor word plain) apartFromHome ≡ 0 → word ≡ withDisplaced (entryWord (homeField word) back) (displaced word)
+    unfolding field displaced withDisplaced entryWord tagWord
+    plain-shape w s =
+        let used : word / 2 ^ 0 % 2 ^ 1 ≡ 1 = alike word plain apartFromHome 0 1 s refl refl ∙ plain-used in
+        let closing : word / 2 ^ 1 % 2 ^ 1 ≡ 0 = alike word plain apartFromHome 1 1 s refl refl ∙ plain-open in
+        let b : word / 2 ^ 14 % 2 ^ 13 ≡ back = alike word plain apartFromHome 14 13 s refl refl ∙ plain-back in
+        let upper : word / 2 ^ 27 % 2 ^ 26 ≡ 0 = alike word plain apartFromHome 27 26 s refl refl ∙ plain-upper in
+        let above : word / 2 ^ 58 % 2 ^ 6 ≡ 0 = alike word plain apartFromHome 58 6 s refl refl ∙ plain-above in
+        let low : homeField word % 2 ^ 12 ≡ word / 2 ^ 2 % 2 ^ 12 = omega arith in
+        let high : homeField word / 2 ^ 12 ≡ word / 2 ^ 53 % 2 ^ 4 = omega arith in
+        parts word w ∙ omega arith
 
     -- one with the same distance back
     pub back-same : field word 14 13 ≡ back → bitAnd (bitXor word plain) 0x7ff_c000 ≡ 0
@@ -81,3 +105,39 @@ module _ (plain back : ℕ) (e : plain ≡ entryWord 0 back) (h : back < 2 ^ 13)
     back-same s =
         and-high (bitXor word plain) 13 14
         ∙ ap (λ (x : ℕ). x * 2 ^ 14) (xor-field word plain 14 13 ∙ ap (λ (x : ℕ). bitXor x (field plain 14 13)) (s ∙ sym plain-back) ∙ xor-self (field plain 14 13))
+
+-- ---- the bits in which the word of an entry for another home differs
+
+below-16 : (x home above : ℕ) → x ≡ home + 2 ^ 16 * above → home < 2 ^ 16 → x % 2 ^ 16 ≡ home
+below-16 x home above e h = omega arith
+
+module _ (word plain home back bit : ℕ) (h : home < 2 ^ 16) (m : back < 2 ^ 13) (e : plain ≡ entryWord 0 back)
+    (f : word ≡ withDisplaced (entryWord home back) bit) where
+  apart-low : bitXor (4 * (home % 2 ^ 12) + 1) 1 ≡ 4 * (home % 2 ^ 12)
+  apart-low =
+      let q : 4 * (home % 2 ^ 12) + 1 ≡ (home % 2 ^ 12) * 2 ^ 2 + 1 = omega arith in
+      rw q (xor-block 2 (home % 2 ^ 12) 0 1 1 (omega arith) (omega arith) ∙ omega (arith, xor-zero-r (home % 2 ^ 12), xor-self 1))
+
+  apart-middle : bitXor (back * 2 ^ 14 + (4 * (home % 2 ^ 12) + 1)) (back * 2 ^ 14 + 1) ≡ 4 * (home % 2 ^ 12)
+  apart-middle =
+      xor-block 14 back back (4 * (home % 2 ^ 12) + 1) 1 (omega arith) (omega arith) ∙ omega (arith, xor-self back, apart-low)
+
+  pub apart-home : bitXor word plain ≡ 4 * (home % 2 ^ 12) + 2 ^ 53 * (home / 2 ^ 12) + 2 ^ 57 * bit
+  unfolding withDisplaced entryWord tagWord
+  apart-home =
+      let high : ℕ = 2 ^ 26 * (home / 2 ^ 12) + 2 ^ 30 * bit in
+      let w : word ≡ high * 2 ^ 27 + (back * 2 ^ 14 + (4 * (home % 2 ^ 12) + 1)) = omega (arith, f) in
+      let p : plain ≡ 0 * 2 ^ 27 + (back * 2 ^ 14 + 1) = omega (arith, e) in
+      rw (w, p)
+      (xor-block 27 high 0 (back * 2 ^ 14 + (4 * (home % 2 ^ 12) + 1)) (back * 2 ^ 14 + 1) (omega arith) (omega arith)
+      ∙ omega (arith, xor-zero-r high, apart-middle))
+
+  -- shifted to their places and added
+  pub apart-sum : bit < 2 → (bitXor word plain / 2 ^ 2 + bitXor word plain / 2 ^ 41) % 2 ^ 16 ≡ home
+  apart-sum b =
+      let low : ℕ = home % 2 ^ 12 in
+      let high : ℕ = home / 2 ^ 12 in
+      let s : bitXor word plain / 2 ^ 2 ≡ low + 2 ^ 51 * high + 2 ^ 55 * bit = omega (arith, apart-home) in
+      let t : bitXor word plain / 2 ^ 41 ≡ 2 ^ 12 * high + 2 ^ 16 * bit = omega (arith, apart-home) in
+      let u : bitXor word plain / 2 ^ 2 + bitXor word plain / 2 ^ 41 ≡ home + 2 ^ 16 * (2 ^ 35 * high + 2 ^ 39 * bit + bit) = omega arith in
+      below-16 _ home (2 ^ 35 * high + 2 ^ 39 * bit + bit) u h

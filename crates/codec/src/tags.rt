@@ -2,11 +2,8 @@
 // 53 to 56 the home's high four bits, 57 the bit that the block's turn bit displaced.
 use model::Tag;
 ghost use mathlib.Core.Path.{_≡_};
-ghost use mathlib.Core.Bool.{true};
-ghost use mathlib.Core.Logic.{_≢_};
-ghost use Prim.Native.Nat.{ℕ, _+_, _-_, _^_, _<_, _≤_};
+ghost use Prim.Native.Nat.{_^_, _<_};
 ghost use Rattle.model.specs.Tag.{entryWord, closingWord, withDisplaced, displaced, readTag, field};
-ghost use Rattle.model.specs.declared.Tag.the-variants.{Entry};
 
 // The word of an entry that does not close its transaction.
 pub fn entry_word(home: u64, back: u64) -> u64
@@ -44,24 +41,6 @@ pub fn tag_back(word: u64) -> u64
     ensures { λ r. ⌜ r ≡ field word 14 13 ⌝ }
 {
     (word >> 14) & 0x1fff
-}
-
-// The home in a word that is `plain`, that of an entry for home 0 which does not close its transaction, but for its home and displaced bit; 2^16 for any
-// other word. So an entry with a known distance back is read by one comparison.
-pub fn plain_home(word: u64, plain: u64) -> u64
-    ensures { λ r. ⌜ ((back position base homes : ℕ) → plain ≡ entryWord 0 back → back < 2 ^ 13 → base + back ≤ position → homes ≤ 2 ^ 16 → r < homes → readTag word position base homes ≡ Entry r (position - back)) ⌝ }
-{
-    if (word ^ plain) & 0xfc1f_ffff_ffff_c003 != 0 {
-        return 0x1_0000;
-    }
-    (word >> 2) & 0xfff | ((word >> 53) & 0xf) << 12
-}
-
-// Whether a word holds another distance back than `plain`, that of an entry for home 0.
-pub fn other_back(word: u64, plain: u64) -> bool
-    ensures { λ r. ⌜ (r ≡ true → (back : ℕ) → plain ≡ entryWord 0 back → back < 2 ^ 13 → field word 14 13 ≢ back) ⌝ }
-{
-    (word ^ plain) & 0x7ff_c000 != 0
 }
 
 // What a word says at a position of a log that starts at position `base` and has `homes` homes.

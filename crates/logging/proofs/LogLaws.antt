@@ -138,6 +138,13 @@ record-first s l word w r =
     rw (same .held w, same .numbers) (submitted-record (eqb (stateOf s .filled) 6) s (stateOf s) _ _ w r)
 
 -- the entry may still be logged
+-- of the numbers that stand in the strip
+pub may-read : (l s b : List ℕ) (st : State) (w : ℕ) → st ≡ stateOf s → MayLog l s b (stateOf s) w → MayLog l s b st w
+may-read l s b st w e m = rw e m
+
+pub may-own : (l s b : List ℕ) (st : State) (w : ℕ) → MayLog l s b st w → MayLog l s b (stateOf s) w
+may-own l s b st w m = rw (← m .state) m
+
 pub may-after : (l s s₁ b : List ℕ) (st : State) (w : ℕ) (r : Writer) → MayLog l s b st w → s₁ ≡ setWriter s w r → MayLog l s₁ b st w
 may-after l s s₁ b st w r m e =
     let same : SameElsewhere w s (setWriter s w r) = elsewhere s w r in

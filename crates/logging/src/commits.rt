@@ -40,7 +40,7 @@ fn close_held(
 {
     let position = strip::next_position(st);
     let word = closing_word(st, r, position);
-    let size = log_entry(log, state, batch, st, word, w);
+    let size = log_entry(log, state, batch, word, w);
     strip::set_last(state, position + 1);
     writers::abort(state, w);
     size
@@ -101,7 +101,7 @@ fn commit_verdict(
     if !strip::holds(r) {
         return 0;
     }
-    may_log(state, strip::state(state), writer as usize, batch.len())
+    may_log(state, writer as usize, batch.len())
 }
 
 // Commits a writer's open transaction: its held block is logged as the closing entry, whose position + 1 is the ticket, and for each home that it

@@ -14,10 +14,11 @@ ghost use Rattle.strip.specs.Order.{GroupsInOrder};
 ghost use Rattle.logging.specs.Logs.{MayLog, Fits, Wrote};
 
 // Questions 8 and 10 of a call that logs an entry of writer `w`: 0 if the log has room for it, and the batch for the group that it may fill.
-pub fn may_log(state: &[u8], st: State, w: usize, batch: usize) -> u64
-    requires { ⌜ (length (now state) ≡ 1024) × (w < 8) × GroupsInOrder st × (st ≡ stateOf (now state)) ⌝ }
-    ensures { λ r. ⌜ r ≡ ask (roomFor (now (state .entry)) w) 8 (ask (leb (cond (eqb (st .filled) 6) 516 0) batch) 9 0) ⌝ }
+pub fn may_log(state: &[u8], w: usize, batch: usize) -> u64
+    requires { ⌜ (length (now state) ≡ 1024) × (w < 8) × GroupsInOrder (stateOf (now state)) ⌝ }
+    ensures { λ r. ⌜ r ≡ ask (roomFor (now (state .entry)) w) 8 (ask (leb (cond (eqb (stateOf (now (state .entry)) .filled) 6) 516 0) batch) 9 0) ⌝ }
 {
+    let st = strip::state(state);
     if !strip::room_for(state, st, w) {
         return 8;
     }
@@ -31,17 +32,11 @@ pub fn may_log(state: &[u8], st: State, w: usize, batch: usize) -> u64
 }
 
 // Logs the held block of writer `w` with the tag `word` at the next position; the seventh place of a group hands it on.
-pub fn log_entry(
-    log: &mut [u8],
-    state: &mut [u8],
-    batch: &mut [u8],
-    st: State,
-    word: u64,
-    w: usize,
-) -> u64
-    requires { ⌜ MayLog (now log) (now state) (now batch) st w × (word < 2 ^ 57) ⌝ }
+pub fn log_entry(log: &mut [u8], state: &mut [u8], batch: &mut [u8], word: u64, w: usize) -> u64
+    requires { ⌜ MayLog (now log) (now state) (now batch) (stateOf (now state)) w × (word < 2 ^ 57) ⌝ }
     ensures { λ r. ⌜ Wrote r (now (state .exit)) (now (log .exit)) (now (batch .exit)) (now (batch .entry)) (logged (now (state .entry)) (now (log .entry)) word (heldOf (now (state .entry)) w)) ⌝ }
 {
+    let st = strip::state(state);
     let slot = (st.next % st.groups) as usize;
     let turn = st.next / st.groups % 2;
     let held = 128 + 96 * w + 32;

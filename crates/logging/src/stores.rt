@@ -43,8 +43,8 @@ fn hold_next(
     let position = strip::next_position(st);
     let word = store_word(st, r, position);
     writers::hold(state, w, r, home, position);
-    let size = log_entry(log, state, batch, st, word, w);
-    strip::set_held(state, w, block);
+    let size = log_entry(log, state, batch, word, w);
+    strip::set_held(state, w, &block[0..64]);
     size
 }
 
@@ -103,8 +103,7 @@ fn store_verdict(
     if r.home == home {
         return 0;
     }
-    let st = strip::state(state);
-    may_log(state, st, writer as usize, batch.len())
+    may_log(state, writer as usize, batch.len())
 }
 
 // Holds a block for a home in a writer's open transaction; a block held for another home is logged first.

@@ -1,6 +1,8 @@
 // The newest positions: a strip with, for each home, the position of its newest committed entry, in eight bytes, or all ones for none.
 mod commits;
+mod groups;
 mod strip;
+mod words;
 
 pub use commits::keep_entries;
 pub use strip::forget;

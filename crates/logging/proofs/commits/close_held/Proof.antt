@@ -1,5 +1,5 @@
 -- `logging::close_held` meets its contract. Assumes nothing.
-use Rattle.logging.proofs.LogLaws.{committed, at-position}
+use Rattle.logging.proofs.LogLaws.{may-own, committed, at-position}
 use borrow.Author.Needs.{needs}
 use Rattle.logging.proofs.commits.close_held.Statement.{statement}
 use Rattle.logging.proofs.commits.close_held.Tie as tie
@@ -11,7 +11,9 @@ closing-word-requires : tie.Need-closing-word-requires
 closing-word-requires c κs = at-position _ _ _ _ (c .next-position .ensures) (c .before .before .before .before .pre .1)
 
 log-entry-requires : tie.Need-log-entry-requires
-log-entry-requires c κs = search needs
+log-entry-requires c κs =
+    let w = c .before .before .before in
+    (may-own _ _ _ _ _ (w .before .before .before .before .before .pre .0), w .closing-word .ensures .1)
 
 add-set-last : tie.Need-add-set-last
 add-set-last c = search needs

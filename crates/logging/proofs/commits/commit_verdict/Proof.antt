@@ -1,4 +1,5 @@
 -- `logging::commit_verdict` meets its contract. Assumes nothing.
+use mathlib.Core.Path.{refl}
 use native.Mathlib.Omega.{arith}
 use Rattle.answers.proofs.AnswerLaws.{usable-groups}
 use Rattle.logging.proofs.CommitLaws.{refuses, lent-use, writer-no, open-no, none-yes, held-asks}
@@ -56,27 +57,18 @@ returns-4 c =
     none-yes _ _ _ _ _ (c1 .args .writer) _ (c2 .in-use-newest .ensures) (c3 .if1 .left) _ _ (omega arith) (c4 .writer .ensures)
     (c5 .is-open .ensures) _ (c6 .if3 .left) (c7 .holds .ensures) (c .if4 .taken)
 
-state-requires : tie.Need-state-requires
-state-requires c κs =
+may-log-requires : tie.Need-may-log-requires
+may-log-requires c κs =
     let c3 = c .before .before .before .before .before .before in
     let c2 = c3 .before in
     let c1 = c2 .before .before .before .before .before .before in
     let a = c1 .args in
-    lent-use (a .log .now) (a .area .now) (a .state .now) (a .newest .now) (a .batch .now) (a .writer) _ (c2 .in-use-newest .ensures) (c3 .if1 .left) .state-length
-
-may-log-requires : tie.Need-may-log-requires
-may-log-requires c κs =
-    let c3 = c .before .before .before .before .before .before .before in
-    let c2 = c3 .before in
-    let c1 = c2 .before .before .before .before .before .before in
-    let a = c1 .args in
     let u = lent-use (a .log .now) (a .area .now) (a .state .now) (a .newest .now) (a .batch .now) (a .writer) _ (c2 .in-use-newest .ensures) (c3 .if1 .left) in
-    (u .state-length, omega (arith, c .before .before .before .before .before .before .if2 .left), usable-groups _ _ _ _ u (c .state .ensures), c .state .ensures)
+    (u .state-length, omega (arith, c .before .before .before .before .before .if2 .left), usable-groups _ _ _ _ u refl)
 
 returns-5 : tie.Need-returns-5
 returns-5 c =
-    let c9 = c .before in
-    let c8 = c9 .before in
+    let c8 = c .before in
     let c7 = c8 .before in
     let c6 = c7 .before in
     let c5 = c6 .before in
@@ -85,7 +77,7 @@ returns-5 c =
     let c2 = c3 .before in
     let c1 = c2 .before .before .before .before .before .before in
     held-asks _ _ _ _ _ (c1 .args .writer) _ (c2 .in-use-newest .ensures) (c3 .if1 .left) _ _ (omega arith) (c4 .writer .ensures)
-    (c5 .is-open .ensures) _ _ _ (c6 .if3 .left) (c7 .holds .ensures) (c8 .if4 .left) (c9 .state .ensures) (c .may-log .ensures)
+    (c5 .is-open .ensures) _ _ _ (c6 .if3 .left) (c7 .holds .ensures) (c8 .if4 .left) refl (c .may-log .ensures)
 
 pub commit-verdict-spec : {M : Type 1} → statement M
 commit-verdict-spec =
@@ -99,6 +91,5 @@ commit-verdict-spec =
     returns-3
     holds-requires
     returns-4
-    state-requires
     may-log-requires
     returns-5)

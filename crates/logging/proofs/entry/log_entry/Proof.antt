@@ -4,17 +4,28 @@ use native.Mathlib.Omega.{arith}
 use lib.ListN.{length}
 use Rattle.areas.proofs.UnusedLaws.{turn-quotient}
 use Rattle.logging.proofs.CallLaws.{slot-fits}
-use Rattle.logging.proofs.LogLaws.{held-lent, kept, handed}
+use Rattle.logging.proofs.LogLaws.{may-read, held-lent, kept, handed}
 use borrow.Author.Needs.{needs}
 use Rattle.logging.proofs.entry.log_entry.Statement.{statement}
 use Rattle.logging.proofs.entry.log_entry.Tie as tie
 use Rattle.model.proofs.strip.LoggingLaws.{held-size, length-entered}
 
+state-requires : tie.Need-state-requires
+state-requires c κs = search needs
+
 rem-slot : tie.Need-rem-slot
-rem-slot c = search needs
+rem-slot c =
+    let r = c .before in
+    let i = r .before .before .before .before .before in
+    let m = may-read _ _ _ _ _ (r .state .ensures) (i .pre .0) in
+    omega (arith, m .some)
 
 div-turn : tie.Need-div-turn
-div-turn c = search needs
+div-turn c =
+    let r = c .before .before in
+    let i = r .before .before .before .before .before in
+    let m = may-read _ _ _ _ _ (r .state .ensures) (i .pre .0) in
+    omega (arith, m .some)
 
 mul-held : tie.Need-mul-held
 mul-held c = search needs
@@ -39,17 +50,27 @@ part-enter-end c = search needs
 
 enter-requires : tie.Need-enter-requires
 enter-requires c κs =
-    let c1 = c .before .before .before .before .before .before .before .before in
-    let m = c1 .pre .0 in
-    let a = c1 .args in
-    let f = slot-fits (a .st .next) (a .st .groups) (length (a .log .now)) (omega (arith, m .some)) (omega (arith, m .log)) in
-    (f, turn-quotient (a .st .groups) (a .st .next), omega arith, omega (arith, m .filled), c1 .pre .1, ap length (held-lent (a .state .now) (a .w) _ refl) ∙ held-size (a .state .now) (a .w) (m .strip) (m .writer))
+    let r = c .before .before .before .before .before in
+    let i = r .before .before .before .before .before in
+    let m = may-read _ _ _ _ _ (r .state .ensures) (i .pre .0) in
+    let a = i .args in
+    let st = r .state .result in
+    let f = slot-fits (st .next) (st .groups) (length (a .log .now)) (omega (arith, m .some)) (omega (arith, m .log)) in
+    (f, turn-quotient (st .groups) (st .next), omega (arith, m .room, m .high, m .few), omega (arith, m .filled), i .pre .1, ap length (held-lent (a .state .now) (a .w) _ refl) ∙ held-size (a .state .now) (a .w) (m .strip) (m .writer))
 
 add-set-filled : tie.Need-add-set-filled
-add-set-filled c = search needs
+add-set-filled c =
+    let r = c .before .before .before .before .before .before .before .before .before .before .before .before in
+    let i = r .before .before .before .before .before in
+    let m = may-read _ _ _ _ _ (r .state .ensures) (i .pre .0) in
+    omega (arith, m .filled)
 
 set-filled-requires : tie.Need-set-filled-requires
-set-filled-requires c κs = search needs
+set-filled-requires c κs =
+    let r = c .before .before .before .before .before .before .before .before .before .before .before .before in
+    let i = r .before .before .before .before .before in
+    let m = may-read _ _ _ _ _ (r .state .ensures) (i .pre .0) in
+    omega (arith, m .strip)
 
 same-length : tie.Need-same-length
 same-length c = search needs
@@ -59,37 +80,43 @@ same-length-2 c = search needs
 
 returns : tie.Need-returns
 returns c =
-    let c4 = c .before .before in
-    let c3 = c4 .before .before .before in
-    let c2 = c3 .before .before .before .before in
-    let c1 = c2 .before .before .before .before .before .before .before .before .before in
-    kept _ _ _ _ _ (c1 .pre .0) _ _ (held-lent _ _ _ refl) _ _ (c3 .if1 .taken) (c2 .enter .ensures) (c4 .set-filled .ensures)
+    let r = c .before .before .before .before .before .before .before .before .before .before .before .before .before .before .before in
+    let i = r .before .before .before .before .before in
+    let m = may-read _ _ _ _ _ (r .state .ensures) (i .pre .0) in
+    kept _ _ _ _ _ m _ _ (held-lent _ _ _ refl) _ _ (c .before .before .before .before .before .if1 .taken) (c .before .before .before .before .before .before .before .before .before .enter .ensures) (c .before .before .set-filled .ensures)
 
 add-set-next : tie.Need-add-set-next
-add-set-next c = search needs
+add-set-next c =
+    let r = c .before .before .before .before .before .before .before .before .before .before .before .before in
+    let i = r .before .before .before .before .before in
+    let m = may-read _ _ _ _ _ (r .state .ensures) (i .pre .0) in
+    omega (arith, m .room, m .high, m .few)
 
 set-next-requires : tie.Need-set-next-requires
-set-next-requires c κs = search needs
+set-next-requires c κs =
+    let r = c .before .before .before .before .before .before .before .before .before .before .before .before in
+    let i = r .before .before .before .before .before in
+    let m = may-read _ _ _ _ _ (r .state .ensures) (i .pre .0) in
+    omega (arith, m .strip)
 
 set-filled-requires-2 : tie.Need-set-filled-requires-2
 set-filled-requires-2 c κs =
-    let c4 = c .before .before .before in
-    let c3 = c4 .before .before .before in
-    let c2 = c3 .before .before .before .before in
-    let c1 = c2 .before .before .before .before .before .before .before .before .before in
-    omega (arith, c4 .set-next .kept, c1 .pre .0 .strip)
+    let r = c .before .before .before .before .before .before .before .before .before .before .before .before .before .before .before .before in
+    let i = r .before .before .before .before .before in
+    let m = may-read _ _ _ _ _ (r .state .ensures) (i .pre .0) in
+    omega (arith, c .before .before .before .set-next .kept, m .strip)
 
 group-write-requires : tie.Need-group-write-requires
 group-write-requires c κs =
-    let c3 = c .before .before .before .before .before .before .before .before .before .before .before in
-    let c2 = c3 .before .before .before .before in
-    let c1 = c2 .before .before .before .before .before .before .before .before .before in
-    let m = c1 .pre .0 in
-    let a = c1 .args in
-    let f = slot-fits (a .st .next) (a .st .groups) (length (a .log .now)) (omega (arith, m .some)) (omega (arith, m .log)) in
-    let g = m .batch (omega (arith, c3 .if1 .left)) in
-    let e = ap length (c2 .enter .ensures) ∙ length-entered _ _ _ _ _ in
-    (omega arith, omega arith)
+    let r = c .before .before .before .before .before .before .before .before .before .before .before .before .before .before .before .before .before .before .before .before .before in
+    let i = r .before .before .before .before .before in
+    let m = may-read _ _ _ _ _ (r .state .ensures) (i .pre .0) in
+    let a = i .args in
+    let st = r .state .result in
+    let f = slot-fits (st .next) (st .groups) (length (a .log .now)) (omega (arith, m .some)) (omega (arith, m .log)) in
+    let g = m .batch (omega (arith, c .before .before .before .before .before .before .before .before .before .before .before .if1 .left)) in
+    let e = ap length (c .before .before .before .before .before .before .before .before .before .before .before .before .before .before .before .enter .ensures) ∙ length-entered _ _ _ _ _ in
+    (omega (arith, g), omega (arith, e, f))
 
 same-length-3 : tie.Need-same-length-3
 same-length-3 c = search needs
@@ -102,19 +129,17 @@ same-length-5 c = search needs
 
 returns-2 : tie.Need-returns-2
 returns-2 c =
-    let c6 = c .before .before in
-    let c5 = c6 .before .before .before .before .before in
-    let c4 = c5 .before .before .before .before in
-    let c3 = c4 .before .before .before in
-    let c2 = c3 .before .before .before .before in
-    let c1 = c2 .before .before .before .before .before .before .before .before .before in
-    handed _ _ _ _ _ (c1 .pre .0) _ _ (held-lent _ _ _ refl) _ _ _ _ _ (omega (arith, c3 .if1 .left)) (c2 .enter .ensures)
-    (c4 .set-next .ensures) (c5 .set-filled2 .ensures) (c6 .group-write .ensures .0) (c6 .group-write .ensures .1)
+    let r = c .before .before .before .before .before .before .before .before .before .before .before .before .before .before .before .before .before .before .before .before .before .before .before .before in
+    let i = r .before .before .before .before .before in
+    let m = may-read _ _ _ _ _ (r .state .ensures) (i .pre .0) in
+    handed _ _ _ _ _ m _ _ (held-lent _ _ _ refl) _ _ _ _ _ (omega (arith, c .before .before .before .before .before .before .before .before .before .before .before .before .before .before .if1 .left)) (c .before .before .before .before .before .before .before .before .before .before .before .before .before .before .before .before .before .before .enter .ensures)
+    (c .before .before .before .before .before .before .before .before .before .before .before .set-next .ensures) (c .before .before .before .before .before .before .before .set-filled2 .ensures) (c .before .before .group-write .ensures .0) (c .before .before .group-write .ensures .1)
 
 pub log-entry-spec : {M : Type 1} → statement M
 log-entry-spec =
     tie.close
     (tie.spec
+    state-requires
     rem-slot
     div-turn
     mul-held

@@ -1,4 +1,5 @@
 -- `logging::store_verdict` meets its contract. Assumes nothing.
+use mathlib.Core.Path.{refl}
 use borrow.Author.Needs.{needs}
 use Rattle.logging.proofs.StoreLaws.{refuses, lent-use, writer-no, home-no, right-no, open-no, first-yes, again-yes, other-asks}
 use Rattle.answers.proofs.AnswerLaws.{usable-groups}
@@ -45,14 +46,11 @@ returns-6 c = let a = c .before .before .before .before .before .before .before 
 returns-7 : tie.Need-returns-7
 returns-7 c = let a = c .before .before .before .before .before .before .before .before .before .before .before .before .before .before .before .before .before .before .before .args in again-yes _ _ _ _ _ (a .writer) (a .home) _ (c .before .before .before .before .before .before .before .before .before .before .before .before .before .in-use-block .ensures) (c .before .before .before .before .before .before .before .before .before .before .before .before .if1 .left) _ _ _ _ (omega arith) (c .before .before .before .before .before .before .before .before .before .before .data-homes .ensures) (omega arith) (c .before .before .before .before .before .before .before .before .may-store .ensures) (c .before .before .before .before .before .before .before .if4 .left) (c .before .before .before .before .before .before .writer .ensures) (c .before .before .before .before .before .is-open .ensures) _ (c .before .before .before .before .if5 .left) (c .before .before .before .holds .ensures) (c .before .before .if6 .left) (c .if7 .taken)
 
-state-requires : tie.Need-state-requires
-state-requires c κs = let a = c .before .before .before .before .before .before .before .before .before .before .before .before .before .before .before .before .before .before .before .args in let u = lent-use (a .log .now) (a .area .now) (a .state .now) (a .block .now) (a .batch .now) (a .writer) (a .home) _ (c .before .before .before .before .before .before .before .before .before .before .before .before .before .in-use-block .ensures) (c .before .before .before .before .before .before .before .before .before .before .before .before .if1 .left) in u .state-length
-
 may-log-requires : tie.Need-may-log-requires
-may-log-requires c κs = let a = c .before .before .before .before .before .before .before .before .before .before .before .before .before .before .before .before .before .before .before .before .args in let u = lent-use (a .log .now) (a .area .now) (a .state .now) (a .block .now) (a .batch .now) (a .writer) (a .home) _ (c .before .before .before .before .before .before .before .before .before .before .before .before .before .before .in-use-block .ensures) (c .before .before .before .before .before .before .before .before .before .before .before .before .before .if1 .left) in (u .state-length, omega (arith, c .before .before .before .before .before .before .before .before .before .before .before .before .if2 .left), usable-groups _ _ _ _ u (c .state .ensures), c .state .ensures)
+may-log-requires c κs = let a = c .before .before .before .before .before .before .before .before .before .before .before .before .before .before .before .before .before .before .before .args in let u = lent-use (a .log .now) (a .area .now) (a .state .now) (a .block .now) (a .batch .now) (a .writer) (a .home) _ (c .before .before .before .before .before .before .before .before .before .before .before .before .before .in-use-block .ensures) (c .before .before .before .before .before .before .before .before .before .before .before .before .if1 .left) in (u .state-length, omega (arith, c .before .before .before .before .before .before .before .before .before .before .before .if2 .left), usable-groups _ _ _ _ u refl)
 
 returns-8 : tie.Need-returns-8
-returns-8 c = let a = c .before .before .before .before .before .before .before .before .before .before .before .before .before .before .before .before .before .before .before .before .before .args in other-asks _ _ _ _ _ (a .writer) (a .home) _ (c .before .before .before .before .before .before .before .before .before .before .before .before .before .before .before .in-use-block .ensures) (c .before .before .before .before .before .before .before .before .before .before .before .before .before .before .if1 .left) _ _ _ _ (omega arith) (c .before .before .before .before .before .before .before .before .before .before .before .before .data-homes .ensures) (omega arith) (c .before .before .before .before .before .before .before .before .before .before .may-store .ensures) (c .before .before .before .before .before .before .before .before .before .if4 .left) (c .before .before .before .before .before .before .before .before .writer .ensures) (c .before .before .before .before .before .before .before .is-open .ensures) _ _ _ (c .before .before .before .before .before .before .if5 .left) (c .before .before .before .before .before .holds .ensures) (c .before .before .before .before .if6 .left) (c .before .before .if7 .left) (c .before .state .ensures) (c .may-log .ensures)
+returns-8 c = let a = c .before .before .before .before .before .before .before .before .before .before .before .before .before .before .before .before .before .before .before .before .args in other-asks _ _ _ _ _ (a .writer) (a .home) _ (c .before .before .before .before .before .before .before .before .before .before .before .before .before .before .in-use-block .ensures) (c .before .before .before .before .before .before .before .before .before .before .before .before .before .if1 .left) _ _ _ _ (omega arith) (c .before .before .before .before .before .before .before .before .before .before .before .data-homes .ensures) (omega arith) (c .before .before .before .before .before .before .before .before .before .may-store .ensures) (c .before .before .before .before .before .before .before .before .if4 .left) (c .before .before .before .before .before .before .before .writer .ensures) (c .before .before .before .before .before .before .is-open .ensures) _ _ _ (c .before .before .before .before .before .if5 .left) (c .before .before .before .before .holds .ensures) (c .before .before .before .if6 .left) (c .before .if7 .left) refl (c .may-log .ensures)
 
 pub store-verdict-spec : {M : Type 1} → statement M
 store-verdict-spec =
@@ -71,6 +69,5 @@ store-verdict-spec =
     holds-requires
     returns-6
     returns-7
-    state-requires
     may-log-requires
     returns-8)

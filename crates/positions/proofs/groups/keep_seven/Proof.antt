@@ -14,8 +14,8 @@ use Rattle.scan.proofs.PassLaws.{group-turn}
 use Rattle.scan.proofs.MemberPass.{over-before}
 use Rattle.positions.specs.Keeping.{keepAt, keptOver, ValidFor}
 use Rattle.positions.proofs.KeepLaws.{plain-next}
-use Rattle.positions.proofs.commits.keep_seven.Statement.{statement}
-use Rattle.positions.proofs.commits.keep_seven.Tie as tie
+use Rattle.positions.proofs.groups.keep_seven.Statement.{statement}
+use Rattle.positions.proofs.groups.keep_seven.Tie as tie
 
 abbrev Inv-loop : tie.InvT-loop
 Inv-loop group homes n turn first newest₀ position₀ plain₀ k₀ newest position plain k =
@@ -40,19 +40,16 @@ entry-word-requires c κs = (omega arith, omega arith)
 loop-holds : tie.Need-loop-holds Inv-loop μ-loop
 loop-holds c = (λ groups start v. over-before _ keepAt _ _ _ _ (omega arith), omega arith, omega arith, c .entry-word .ensures, omega arith)
 
-word-there-requires : tie.Need-word-there-requires Inv-loop μ-loop
-word-there-requires c κs = (omega arith, omega arith)
-
 keep-plain-requires : tie.Need-keep-plain-requires Inv-loop μ-loop
-keep-plain-requires c κs = (omega arith, omega arith)
+keep-plain-requires c κs = (omega arith, omega arith, omega arith, omega arith, omega arith)
 
 same-length : tie.Need-same-length Inv-loop μ-loop
-same-length c = let p = c .before .before .before in omega (arith, p .keep-plain .kept, p .before .before .before .before .loop .inv .4)
+same-length c = let p = c .before .before .before in omega (arith, p .keep-plain .kept, p .before .before .before .loop .inv .4)
 
 returns : tie.Need-returns Inv-loop μ-loop
 returns c =
     let p = c .before .before .before in
-    let l = p .before .before .before .before .loop in
+    let l = p .before .before .before .loop in
     (l .inv .2, λ groups start v. p .keep-plain .ensures .0 (not-true _ (c .if1 .taken)) ∙ l .inv .0 groups start v)
 
 add-position : tie.Need-add-position Inv-loop μ-loop
@@ -60,8 +57,8 @@ add-position c = omega arith
 
 add-plain : tie.Need-add-plain Inv-loop μ-loop
 add-plain c =
-    let l = c .before .before .before .before .before .before .before .loop in
-    omega (arith, l .inv .3, l .inv .1, entry-fits 0 (l .position - c .before .before .before .before .before .before .before .before .before .before .before .args .first) (omega arith) (omega arith))
+    let l = c .before .before .before .before .before .before .loop in
+    omega (arith, l .inv .3, l .inv .1, entry-fits 0 (l .position - c .before .before .before .before .before .before .before .before .before .before .args .first) (omega arith) (omega arith))
 
 add-k : tie.Need-add-k Inv-loop μ-loop
 add-k c = omega arith
@@ -72,11 +69,11 @@ loop-less c = omega arith
 loop-again : tie.Need-loop-again Inv-loop μ-loop
 loop-again c =
     let p = c .before .before .before in
-    let l = p .before .before .before .before .loop in
-    let e : l .position + 1 - p .before .before .before .before .before .before .before .before .args .first
-    ≡ l .position - p .before .before .before .before .before .before .before .before .args .first + 1 = omega arith in (
+    let l = p .before .before .before .loop in
+    let e : l .position + 1 - p .before .before .before .before .before .before .before .args .first
+    ≡ l .position - p .before .before .before .before .before .before .before .args .first + 1 = omega arith in (
       λ groups start v.
-          group-turn (taking _ keepAt) _ _ _ _ _ _ _ _ _ _ _ _ (v .valid) (v .fits) (omega arith) (l .inv .1) (p .before .before .word-there .ensures)
+          group-turn (taking _ keepAt) _ _ _ _ _ _ _ _ _ _ _ _ (v .valid) (v .fits) (omega arith) (l .inv .1) refl
           (p .keep-plain .ensures .1 (not-false _ (c .if1 .left)) _ _
           (record { word = l .inv .3; start = v .from; from = omega arith; near = omega arith }))
           (l .inv .0 groups start v),
@@ -102,7 +99,6 @@ keep-seven-spec =
     sub-entry-word
     entry-word-requires
     loop-holds
-    word-there-requires
     keep-plain-requires
     same-length
     returns

@@ -2,8 +2,8 @@
 use borrow.Author.Needs.{needs}
 use native.Mathlib.Omega.{arith}
 use Rattle.positions.proofs.KeepLaws.{kept-other, kept-nothing, kept-entry, kept-closing, entry-low, closing-low}
-use Rattle.positions.proofs.commits.keep_word.Statement.{statement}
-use Rattle.positions.proofs.commits.keep_word.Tie as tie
+use Rattle.positions.proofs.words.keep_word.Statement.{statement}
+use Rattle.positions.proofs.words.keep_word.Tie as tie
 
 tag-back-requires : tie.Need-tag-back-requires
 tag-back-requires c κs = search needs

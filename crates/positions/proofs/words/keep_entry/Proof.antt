@@ -2,8 +2,8 @@
 use borrow.Author.Needs.{needs}
 use native.Mathlib.Omega.{arith}
 use Rattle.positions.proofs.KeepLaws.{kept-after}
-use Rattle.positions.proofs.commits.keep_entry.Statement.{statement}
-use Rattle.positions.proofs.commits.keep_entry.Tie as tie
+use Rattle.positions.proofs.words.keep_entry.Statement.{statement}
+use Rattle.positions.proofs.words.keep_entry.Tie as tie
 
 sub-entry-word : tie.Need-sub-entry-word
 sub-entry-word c = search needs
@@ -23,6 +23,9 @@ returns c =
     k .keep-plain .ensures .1 (c .if1 .taken) _ _
     (record { word = k .before .before .entry-word .ensures; start = omega arith; from = omega arith; near = omega arith })
 
+word-there-requires : tie.Need-word-there-requires
+word-there-requires c κs = search needs
+
 keep-word-requires : tie.Need-keep-word-requires
 keep-word-requires c κs = search needs
 
@@ -31,8 +34,9 @@ same-length-2 c = search needs
 
 returns-2 : tie.Need-returns-2
 returns-2 c =
-    let i = c .before .before .before .before in
-    kept-after _ _ _ _ _ _ (c .before .before .keep-word .ensures) (i .before .before .before .keep-plain .ensures .0 (i .if1 .left))
+    let w = c .before .before .before .before in
+    let i = w .before in
+    kept-after _ _ _ _ _ _ (rw (← w .word-there .ensures) (c .before .before .keep-word .ensures)) (i .before .before .before .keep-plain .ensures .0 (i .if1 .left))
 
 pub keep-entry-spec : {M : Type 1} → statement M
 keep-entry-spec =
@@ -43,6 +47,7 @@ keep-entry-spec =
     keep-plain-requires
     same-length
     returns
+    word-there-requires
     keep-word-requires
     same-length-2
     returns-2)

@@ -3,8 +3,8 @@ use mathlib.Core.Path.{sym, _∙_}
 use borrow.Author.Tests.{not-true, eq-eqb}
 use mathlib.Core.Bool.{false≢true}
 use Rattle.codec.proofs.PlainLaws.{back-same}
-use Rattle.codec.proofs.tags.other_back.Statement.{statement}
-use Rattle.codec.proofs.tags.other_back.Tie as tie
+use Rattle.codec.proofs.plain.other_back.Statement.{statement}
+use Rattle.codec.proofs.plain.other_back.Tie as tie
 
 returns : tie.Need-returns
 returns c t back e h s = false≢true (sym (not-true _ t) ∙ eq-eqb _ 0 (back-same _ back e h _ s))
