@@ -12,8 +12,9 @@ ghost use Rattle.replay.specs.Chains.{Chained};
 ghost use Rattle.recovery.specs.Plans.{Brought, StepMade};
 
 // Returns how many bytes the records of the homes that the transactions of all closing entries below `end` touch take, and `more`. If the batch has
-// them, those transactions are replayed into the data copy, and the homes' records stand at the batch's beginning.
-fn bring_all(
+// them, those transactions are replayed into the data copy, and the homes' records stand at the batch's beginning; else nothing is changed, so the
+// homes are counted first.
+fn bring_counted(
     log: &[u8],
     area: &mut [u8],
     batch: &mut [u8],
@@ -50,6 +51,56 @@ fn bring_all(
         end,
     );
     size
+}
+
+// The same without the count where the batch has room for all homes.
+fn bring_all(
+    log: &[u8],
+    area: &mut [u8],
+    batch: &mut [u8],
+    last: &[u16],
+    heads: &[u16],
+    links: &[u16],
+    groups: u64,
+    homes: u64,
+    start: u64,
+    end: u64,
+    more: u64,
+) -> u64
+    requires { ⌜ Walkable (now log) groups start end × (homes ≤ 65535) × (length (now area) ≡ 64 * homes) × (more ≤ 600000)
+        × Chained (now log) groups homes start end (now last) (now heads) (now links) ⌝ }
+    ensures { λ r. ⌜ r
+        ≡ 68 * length (touched (entryAt (now (log .entry)) groups homes start) (closedBelow (now (log .entry)) groups homes start end) homes) + more ⌝ }
+    ensures { λ r. ⌜ Brought (now (log .entry)) groups homes start end r (now (area .entry)) (now (batch .entry)) (now (area .exit)) (now (batch .exit)) ⌝ }
+{
+    if (batch.len() as u64) < 68 * homes + more {
+        return bring_counted(
+            log,
+            area,
+            batch,
+            last,
+            heads,
+            links,
+            groups,
+            homes,
+            start,
+            end,
+            more,
+        );
+    }
+    let size = replay::bring_back(
+        log,
+        area,
+        batch,
+        last,
+        heads,
+        links,
+        groups,
+        homes,
+        start,
+        end,
+    );
+    size as u64 + more
 }
 
 // A step of a round: the bytes that its records take, the home after the last one done, and whether homes are left.
