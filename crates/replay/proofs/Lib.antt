@@ -4,3 +4,4 @@ pub mod NewestLaws
 pub mod PlaceLaws
 pub mod RestoreLaws
 pub mod StepLaws
+pub mod WalkLaws
