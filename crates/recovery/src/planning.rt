@@ -53,7 +53,7 @@ fn bring_counted(
     size
 }
 
-// The same without the count where the batch has room for all homes.
+// The same without the count where the batch has room for all homes, or for as many as there can be entries.
 fn bring_all(
     log: &[u8],
     area: &mut [u8],
@@ -73,7 +73,7 @@ fn bring_all(
         ≡ 68 * length (touched (entryAt (now (log .entry)) groups homes start) (closedBelow (now (log .entry)) groups homes start end) homes) + more ⌝ }
     ensures { λ r. ⌜ Brought (now (log .entry)) groups homes start end r (now (area .entry)) (now (batch .entry)) (now (area .exit)) (now (batch .exit)) ⌝ }
 {
-    if (batch.len() as u64) < 68 * homes + more {
+    if (batch.len() as u64) < 68 * least(homes, 7 * groups) + more {
         return bring_counted(
             log,
             area,

@@ -1,17 +1,21 @@
--- `recovery::bring_all` meets its contract: no more homes are touched than there are. Assumes nothing.
+-- `recovery::bring_all` meets its contract: no more homes are touched than there are, and no more than there can be entries. Assumes nothing.
 use native.Mathlib.Omega.{arith}
 use borrow.Author.Needs.{needs}
-use Rattle.model.specs.Layout.{entryAt}
-use Rattle.scan.specs.Walk.{closedBelow}
-use Rattle.recovery.proofs.PlanLaws.{touched-most}
+use Rattle.recovery.proofs.TouchedLaws.{touched-least}
 use Rattle.recovery.proofs.planning.bring_all.Statement.{statement}
 use Rattle.recovery.proofs.planning.bring_all.Tie as tie
 
+mul-least : tie.Need-mul-least
+mul-least c = omega arith
+
+least-requires : tie.Need-least-requires
+least-requires c κs = tt
+
 mul-if1 : tie.Need-mul-if1
-mul-if1 c = search needs
+mul-if1 c = omega (arith, c .least .ensures .0)
 
 add-if1 : tie.Need-add-if1
-add-if1 c = search needs
+add-if1 c = omega (arith, c .least .ensures .0)
 
 bring-counted-requires : tie.Need-bring-counted-requires
 bring-counted-requires c κs = search needs
@@ -27,32 +31,17 @@ returns c = search needs
 
 bring-back-requires : tie.Need-bring-back-requires
 bring-back-requires c κs =
-    let p = c .before .before .before .before .before .before .before .before .before .pre in
-    let a = c .before .before .before .before .before .before .before .before .before .args in
-    record {
-      walkable = p .0;
-      few = p .1;
-      area-length = p .2;
-      chained = p .4;
-      batch-length =
-          omega (
-            arith,
-            c .before .before .if1 .left,
-            touched-most (entryAt (a .log .now) (a .groups) (a .homes) (a .start)) (closedBelow (a .log .now) (a .groups) (a .homes) (a .start) (a .end)) (a .homes),
-          );
-    }
+    let p = c .before .before .before .before .before .before .before .before .before .before .pre in
+    let a = c .before .before .before .before .before .before .before .before .before .before .args in
+    let m = touched-least (a .log .now) (a .groups) (a .homes) (a .start) (a .end) (c .before .before .before .least .result) (p .0) (c .before .before .before .least .ensures .2) in
+    record { walkable = p .0; few = p .1; area-length = p .2; chained = p .4; batch-length = omega (arith, c .before .before .if1 .left, m) }
 
 add-result : tie.Need-add-result
 add-result c =
-    let a = c .before .before .before .before .before .before .before .before .before .before .before .before .before .before .args in
-    let p = c .before .before .before .before .before .before .before .before .before .before .before .before .before .before .pre in
-    omega (
-      arith,
-      c .before .before .before .before .bring-back .ensures .0,
-      touched-most (entryAt (a .log .now) (a .groups) (a .homes) (a .start)) (closedBelow (a .log .now) (a .groups) (a .homes) (a .start) (a .end)) (a .homes),
-      p .1,
-      p .3,
-    )
+    let p = c .before .before .before .before .before .before .before .before .before .before .before .before .before .before .before .pre in
+    let a = c .before .before .before .before .before .before .before .before .before .before .before .before .before .before .before .args in
+    let m = touched-least (a .log .now) (a .groups) (a .homes) (a .start) (a .end) (c .before .before .before .before .before .before .before .before .least .result) (p .0) (c .before .before .before .before .before .before .before .before .least .ensures .2) in
+    omega (arith, c .before .before .before .before .bring-back .ensures .0, m, c .before .before .before .before .before .before .before .before .least .ensures .0, p .1, p .3)
 
 same-length-3 : tie.Need-same-length-3
 same-length-3 c = search needs
@@ -62,8 +51,9 @@ same-length-4 c = search needs
 
 returns-2 : tie.Need-returns-2
 returns-2 c =
-    let a = c .before .before .before .before .before .before .before .before .before .before .before .before .before .before .args in
-    let m = touched-most (entryAt (a .log .now) (a .groups) (a .homes) (a .start)) (closedBelow (a .log .now) (a .groups) (a .homes) (a .start) (a .end)) (a .homes) in (
+    let p = c .before .before .before .before .before .before .before .before .before .before .before .before .before .before .before .pre in
+    let a = c .before .before .before .before .before .before .before .before .before .before .before .before .before .before .before .args in
+    let m = touched-least (a .log .now) (a .groups) (a .homes) (a .start) (a .end) (c .before .before .before .before .before .before .before .before .least .result) (p .0) (c .before .before .before .before .before .before .before .before .least .ensures .2) in (
       omega (arith, c .before .before .before .before .bring-back .ensures .0),
       record {
         copied = λ h. c .before .before .before .before .bring-back .ensures .1 .0;
@@ -77,6 +67,8 @@ pub bring-all-spec : {M : Type 1} → statement M
 bring-all-spec =
     tie.close
     (tie.spec
+    mul-least
+    least-requires
     mul-if1
     add-if1
     bring-counted-requires
