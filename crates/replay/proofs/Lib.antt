@@ -5,3 +5,4 @@ pub mod PlaceLaws
 pub mod RestoreLaws
 pub mod StepLaws
 pub mod WalkLaws
+pub mod WalkSteps

@@ -1,5 +1,5 @@
 -- `replay::closer_in` meets its contract. Assumes nothing.
-use Rattle.replay.proofs.WalkLaws.{closer-counts, closer-closed}
+use Rattle.replay.proofs.WalkSteps.{closer-counts, closer-closed}
 use Rattle.replay.proofs.walking.closer_in.Statement.{statement}
 use Rattle.replay.proofs.walking.closer_in.Tie as tie
 

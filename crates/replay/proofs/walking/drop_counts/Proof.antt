@@ -3,7 +3,7 @@ use mathlib.Core.Path.{_≡_, refl, _∙_}
 use Prim.Native.Nat.{_-_, _≤_}
 use native.Mathlib.Omega.{arith}
 use lib.ListN.{length, length-set}
-use Rattle.replay.proofs.WalkLaws.{Dropped, drop-more, drop-all}
+use Rattle.replay.proofs.WalkSteps.{Dropped, drop-more, drop-all}
 use Rattle.replay.proofs.walking.drop_counts.Statement.{statement}
 use Rattle.replay.proofs.walking.drop_counts.Tie as tie
 

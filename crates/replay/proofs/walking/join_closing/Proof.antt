@@ -1,6 +1,6 @@
 -- `replay::join_closing` meets its contract. Assumes nothing.
 use mathlib.Core.Path.{refl}
-use Rattle.replay.proofs.WalkLaws.{closing-strayed, closing-failed, closing-joined}
+use Rattle.replay.proofs.WalkSteps.{closing-strayed, closing-failed, closing-joined}
 use borrow.Author.Needs.{needs}
 use Rattle.replay.proofs.walking.join_closing.Statement.{statement}
 use Rattle.replay.proofs.walking.join_closing.Tie as tie

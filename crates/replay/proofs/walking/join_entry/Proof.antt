@@ -1,5 +1,5 @@
 -- `replay::join_entry` meets its contract. Assumes nothing.
-use Rattle.replay.proofs.WalkLaws.{entry-strayed, entry-joined}
+use Rattle.replay.proofs.WalkSteps.{entry-strayed, entry-joined}
 use borrow.Author.Needs.{needs}
 use Rattle.replay.proofs.walking.join_entry.Statement.{statement}
 use Rattle.replay.proofs.walking.join_entry.Tie as tie

@@ -9,7 +9,7 @@ use Rattle.scan.specs.Scan.{over}
 use Rattle.scan.specs.Slots.{Kept}
 use Rattle.scan.proofs.PassLaws.{log-turn}
 use Rattle.replay.specs.Walks.{Walk, begun, join}
-use Rattle.replay.proofs.WalkLaws.{Small, small-reached, small-begun, none-joined}
+use Rattle.replay.proofs.WalkSteps.{Small, small-reached, small-begun, none-joined}
 use Rattle.replay.proofs.walking.pass.Statement.{statement}
 use Rattle.replay.proofs.walking.pass.Tie as tie
 

@@ -4,7 +4,7 @@ use mathlib.Core.Path.{refl}
 use native.Mathlib.Omega.{arith}
 use Rattle.scan.proofs.VisitLaws as read
 use Rattle.replay.proofs.ChainLaws.{entry-bounds, closing-bounds}
-use Rattle.replay.proofs.WalkLaws.{join-held, join-nothing, join-entry, join-closing}
+use Rattle.replay.proofs.WalkSteps.{join-held, join-nothing, join-entry, join-closing}
 use borrow.Author.Needs.{needs}
 use Rattle.replay.proofs.walking.visit.Statement.{statement}
 use Rattle.replay.proofs.walking.visit.Tie as tie

@@ -10,7 +10,7 @@ use Rattle.model.specs.Layout.{groupValid, entryIn}
 use Rattle.scan.specs.Scan.{over}
 use Rattle.scan.proofs.PassLaws.{group-hole, group-turn}
 use Rattle.replay.specs.Walks.{Walk, join}
-use Rattle.replay.proofs.WalkLaws.{Small, small-reached, join-quiet}
+use Rattle.replay.proofs.WalkSteps.{Small, small-reached, join-quiet}
 use Rattle.replay.proofs.walking.visit_group.Statement.{statement}
 use Rattle.replay.proofs.walking.visit_group.Tie as tie
 
