@@ -2755,6 +2755,19 @@ static inline struct scan__commits__Progress replay__walking__walk(struct slice_
     return t9;
 }
 
+/* The lesser of two numbers. */
+static inline uint64_t recovery__planning__least(uint64_t a, uint64_t b)
+{
+    uint64_t t4;
+
+    if (a < b) {
+        t4 = a;
+    } else {
+        t4 = b;
+    }
+    return t4;
+}
+
 /* The ring slot that lies `n` slots after `slot`. */
 static inline uint64_t replay__places__slot_after(uint64_t slot, uint64_t n, uint64_t groups)
 {
@@ -3002,14 +3015,15 @@ static inline uint64_t recovery__planning__bring_counted(struct slice_u8 log, st
     return t13;
 }
 
-/* The same without the count where the batch has room for all homes. */
+/* The same without the count where the batch has room for all homes, or for as many as there can be entries. */
 static inline uint64_t recovery__planning__bring_all(struct slice_u8 log, struct slice_mut_u8 area, struct slice_mut_u8 batch,
         struct slice_u16 last, struct slice_u16 heads, struct slice_u16 links, uint64_t groups, uint64_t homes, uint64_t start,
         uint64_t end, uint64_t more)
 {
-    uint64_t t12;
+    uint64_t t12, t15;
 
-    if ((uint64_t)batch.len < ((68u * homes) + more)) {
+    t15 = recovery__planning__least(homes, 7u * groups);
+    if ((uint64_t)batch.len < ((68u * t15) + more)) {
         return recovery__planning__bring_counted(log, area, batch, last, heads, links, groups, homes, start, end, more);
     }
     t12 = replay__restore__bring_back(log, area, batch, last, heads, links, groups, homes, start, end);
@@ -3091,19 +3105,6 @@ static inline uint64_t replay__stepping__count_from(struct slice_u8 log, struct 
         t13 = t14;
     }
     return t12;
-}
-
-/* The lesser of two numbers. */
-static inline uint64_t recovery__planning__least(uint64_t a, uint64_t b)
-{
-    uint64_t t4;
-
-    if (a < b) {
-        t4 = a;
-    } else {
-        t4 = b;
-    }
-    return t4;
 }
 
 /* The bytes of the last step's fence, if the homes found are within the limit. */
