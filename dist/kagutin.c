@@ -83,9 +83,8 @@ struct recovery__opening__Shape {
     uint64_t start;
 };
 
-struct slice_mut_u16 {
-    uint16_t *ptr;
-    size_t len;
+struct array_u64_7 {
+    uint64_t at[7];
 };
 
 struct scan__commits__Progress {
@@ -94,17 +93,9 @@ struct scan__commits__Progress {
     uint64_t failed;
 };
 
-struct scan__commits__Found {
-    uint64_t end;
-    uint64_t number;
-};
-
-struct array_u16_7168 {
-    uint16_t at[7168];
-};
-
-struct array_u64_7 {
-    uint64_t at[7];
+struct slice_mut_u16 {
+    uint16_t *ptr;
+    size_t len;
 };
 
 struct slice_mut_u64 {
@@ -125,23 +116,41 @@ struct array_u16_64 {
     uint16_t at[64];
 };
 
+struct replay__stepping__Reached {
+    uint64_t home;
+    uint64_t done;
+};
+
 struct recovery__planning__Made {
     uint64_t size;
     uint64_t next;
     bool more;
 };
 
+struct recovery__planning__Replay {
+    uint64_t end;
+    uint64_t number;
+    uint64_t size;
+    uint64_t next;
+    bool more;
+    bool found;
+};
+
+struct array_u16_7168 {
+    uint16_t at[7168];
+};
+
 struct array_u16_1024 {
     uint16_t at[1024];
 };
 
-struct array_u8_32 {
-    uint8_t at[32];
+struct scan__commits__Found {
+    uint64_t end;
+    uint64_t number;
 };
 
-struct replay__stepping__Reached {
-    uint64_t home;
-    uint64_t done;
+struct array_u8_32 {
+    uint8_t at[32];
 };
 
 struct model__Holder {
@@ -341,172 +350,6 @@ static inline bool answers__lengths_right(struct slice_u8 log, struct slice_u8 a
     return (uint64_t)state.len == 1024u;
 }
 
-/* Whether nothing is promised to any writer: the eight promises are zero as two words. */
-static inline bool strip__promises__none_promised(struct slice_u8 s)
-{
-    if (load_8(s.ptr + 72u) != 0u) {
-        return false;
-    }
-    return load_8(s.ptr + 80u) == 0u;
-}
-
-/* How far `x` lies above `low`, modulo 2^64: one test of it tells whether `x` lies between `low` and a number above it. */
-static inline uint64_t strip__distances__distance(uint64_t x, uint64_t low)
-{
-    uint64_t t4;
-
-    if (low <= x) {
-        t4 = x - low;
-    } else {
-        t4 = (x + (UINT64_C(0xffffffffffffffff) - low)) + 1u;
-    }
-    return t4;
-}
-
-/* What the numbers of groups and homes, the round and the places filled tell of question 2: 2 if they are not in order, 1 where a
-   round or a full log leaves that to `in_order`, else 0. */
-static inline uint64_t strip__quick__groups_answer(struct model__State st, uint64_t groups, uint64_t homes)
-{
-    uint64_t t5;
-
-    if (st.round != 0u) {
-        return 1u;
-    }
-    if (st.groups != groups) {
-        return 2u;
-    }
-    if (st.homes != homes) {
-        return 2u;
-    }
-    if (UINT64_C(0x800000000000) < st.start) {
-        return 2u;
-    }
-    t5 = strip__distances__distance(st.next, st.start);
-    if (groups <= t5) {
-        return 1u;
-    }
-    if (6u < st.filled) {
-        return 2u;
-    }
-    return 0u;
-}
-
-/* Whether the numbers of the strip are in order, where its group numbers, the places filled and the round are. What lies between
-   two others is compared once, by its distance from the lower one. */
-static inline bool strip__order__bounds_in_order(struct model__State st)
-{
-    uint64_t t2, t3, t4, t5, t7;
-
-    t2 = 7u * st.start;
-    t3 = 7u * (st.next - st.start);
-    t4 = strip__distances__distance(st.fenced, t2);
-    if (t3 < t4) {
-        return false;
-    }
-    t5 = strip__distances__distance(st.settled, t2);
-    if (t4 < t5) {
-        return false;
-    }
-    if (st.fenced < st.durable) {
-        return false;
-    }
-    if (st.last == 0u) {
-        return true;
-    }
-    t7 = strip__distances__distance(st.last, t2 + 1u);
-    if ((t3 + st.filled) <= t7) {
-        return false;
-    }
-    return true;
-}
-
-/* Whether the record of a writer that holds a block for a home below D and has logged entries is in order: the positions since
-   its first one are among those of the log, and hold its entries. */
-static inline bool strip__quick__logged_in_order(struct model__State st, struct model__Writer r)
-{
-    uint64_t t4, t5, t7;
-
-    t4 = (7u * (st.next - st.start)) + st.filled;
-    t5 = strip__distances__distance((7u * st.start) + t4, r.first);
-    if (t4 < t5) {
-        return false;
-    }
-    t7 = strip__distances__distance(r.count, 1u);
-    if (t5 <= t7) {
-        return false;
-    }
-    return true;
-}
-
-/* Whether a writer's record is in order in a strip whose group numbers and places filled are. */
-static inline bool strip__quick__record_in_order(struct model__State st, struct model__Writer r)
-{
-    if (r.mode < 2u) {
-        return true;
-    }
-    if (st.homes <= r.home) {
-        return false;
-    }
-    if (r.mode == 2u) {
-        return true;
-    }
-    if (r.mode != 3u) {
-        return false;
-    }
-    return strip__quick__logged_in_order(st, r);
-}
-
-/* Whether the records of all eight writers are in order where nothing is promised: an idle writer is passed by its mode alone. */
-static inline bool strip__quick__records_in_order(struct slice_u8 s, struct model__State st)
-{
-    uint64_t t3, t8;
-    bool t4;
-
-    t3 = 0u;
-    while (t3 != 8u) {
-        t8 = 128u + (96u * t3);
-        t4 = strip__quick__record_in_order(st, (struct model__Writer){.mode = load_8(s.ptr + (size_t)t8), .home = load_8(s.ptr
-                + (size_t)(t8 + 8u)), .first = load_8(s.ptr + (size_t)(t8 + 16u)), .count = load_8(s.ptr + (size_t)(t8 + 24u))});
-        if (!t4) {
-            return false;
-        }
-        t3 = t3 + 1u;
-    }
-    return true;
-}
-
-/* Question 2 for a log of `groups` groups and `homes` homes: 0 if the strip is in order, 2 if it is not, and 1 where a promise, a
-   round or a full log leaves that to `in_order`. */
-static inline uint64_t strip__quick__quick_answer(struct slice_u8 s, uint64_t groups, uint64_t homes)
-{
-    struct model__State t4;
-    uint64_t t5, t9, t10;
-    bool t6, t7;
-
-    t6 = strip__promises__none_promised(s);
-    if (!t6) {
-        return 1u;
-    }
-    t9 = load_8(s.ptr);
-    t10 = load_8(s.ptr + 8u);
-    t4 = (struct model__State){.groups = t9, .homes = t10, .start = load_8(s.ptr + 16u), .next = load_8(s.ptr + 24u),
-            .filled = load_8(s.ptr + 32u), .settled = load_8(s.ptr + 40u), .fenced = load_8(s.ptr + 48u), .durable = load_8(s.ptr
-            + 56u), .last = load_8(s.ptr + 64u), .round = load_8(s.ptr + 88u), .cursor = load_8(s.ptr + 96u)};
-    t5 = strip__quick__groups_answer(t4, groups, homes);
-    if (t5 != 0u) {
-        return t5;
-    }
-    t7 = strip__order__bounds_in_order(t4);
-    if (!t7) {
-        return 2u;
-    }
-    t7 = strip__quick__records_in_order(s, t4);
-    if (!t7) {
-        return 2u;
-    }
-    return 0u;
-}
-
 /* Whether the position that a round has fixed lies from the settled to the fenced one, or there is no round. */
 static inline bool strip__order__round_in_order(struct model__State st)
 {
@@ -516,19 +359,42 @@ static inline bool strip__order__round_in_order(struct model__State st)
     if (st.round <= st.settled) {
         return false;
     }
-    return (st.round - 1u) <= st.fenced;
+    return st.round <= (st.fenced + 1u);
 }
 
 /* Whether the numbers of the strip are in order, where its group numbers and the places filled are. */
 static inline bool strip__order__positions_in_order(struct model__State st)
 {
-    bool t2;
+    uint64_t t2;
+    bool t3;
 
-    t2 = strip__order__round_in_order(st);
-    if (!t2) {
+    t2 = 7u * st.start;
+    if (st.settled < t2) {
         return false;
     }
-    return strip__order__bounds_in_order(st);
+    if (st.fenced < st.settled) {
+        return false;
+    }
+    if ((7u * st.next) < st.fenced) {
+        return false;
+    }
+    if (st.fenced < st.durable) {
+        return false;
+    }
+    t3 = strip__order__round_in_order(st);
+    if (!t3) {
+        return false;
+    }
+    if (st.last == 0u) {
+        return true;
+    }
+    if (st.last <= t2) {
+        return false;
+    }
+    if (((7u * st.next) + st.filled) < st.last) {
+        return false;
+    }
+    return true;
 }
 
 /* Whether the numbers of the strip are in order. */
@@ -557,30 +423,13 @@ static inline bool strip__order__numbers_in_order(struct model__State st)
     return strip__order__positions_in_order(st);
 }
 
-/* How many places are promised to the eight writers together, one after the other. */
-static inline uint64_t strip__promises__promised_each(struct slice_u8 s)
+/* Whether nothing is promised to any writer: the eight promises are zero as two words. */
+static inline bool strip__promises__none_promised(struct slice_u8 s)
 {
-    uint64_t t2, t3;
-
-    t2 = 0u;
-    t3 = 0u;
-    while (t3 < 8u) {
-        t2 = t2 + load_2(s.ptr + (size_t)(72u + (2u * t3)));
-        t3 = t3 + 1u;
+    if (load_8(s.ptr + 72u) != 0u) {
+        return false;
     }
-    return t2;
-}
-
-/* How many places are promised to the eight writers together, mostly none. */
-static inline uint64_t strip__promises__promised(struct slice_u8 s)
-{
-    bool t2;
-
-    t2 = strip__promises__none_promised(s);
-    if (t2) {
-        return 0u;
-    }
-    return strip__promises__promised_each(s);
+    return load_8(s.ptr + 80u) == 0u;
 }
 
 /* Whether a writer's record is in order in a strip with the numbers `st`. */
@@ -614,6 +463,51 @@ static inline bool strip__order__writer_in_order(struct model__State st, struct 
         return false;
     }
     return true;
+}
+
+/* The same where nothing is promised: an idle writer is passed by its mode alone. */
+static inline bool strip__order__records_in_order(struct slice_u8 s, struct model__State st)
+{
+    uint64_t t3, t8;
+    bool t4;
+
+    t3 = 0u;
+    while (t3 != 8u) {
+        t8 = 128u + (96u * t3);
+        t4 = strip__order__writer_in_order(st, (struct model__Writer){.mode = load_8(s.ptr + (size_t)t8), .home = load_8(s.ptr
+                + (size_t)(t8 + 8u)), .first = load_8(s.ptr + (size_t)(t8 + 16u)), .count = load_8(s.ptr + (size_t)(t8 + 24u))});
+        if (!t4) {
+            return false;
+        }
+        t3 = t3 + 1u;
+    }
+    return true;
+}
+
+/* How many places are promised to the eight writers together, one after the other. */
+static inline uint64_t strip__promises__promised_each(struct slice_u8 s)
+{
+    uint64_t t2, t3;
+
+    t2 = 0u;
+    t3 = 0u;
+    while (t3 < 8u) {
+        t2 = t2 + load_2(s.ptr + (size_t)(72u + (2u * t3)));
+        t3 = t3 + 1u;
+    }
+    return t2;
+}
+
+/* How many places are promised to the eight writers together, mostly none. */
+static inline uint64_t strip__promises__promised(struct slice_u8 s)
+{
+    bool t2;
+
+    t2 = strip__promises__none_promised(s);
+    if (t2) {
+        return 0u;
+    }
+    return strip__promises__promised_each(s);
 }
 
 /* Whether the record of writer `w` is in order in the strip `s` with the numbers `st`, and nothing is promised to it while it is
@@ -658,12 +552,12 @@ static inline bool strip__order__writers_in_order(struct slice_u8 s, struct mode
 static inline bool strip__order__in_order(struct slice_u8 s, uint64_t groups, uint64_t homes)
 {
     struct model__State t4;
-    bool t5;
-    uint64_t t8, t10, t11;
+    bool t5, t7;
+    uint64_t t9, t11, t12;
 
-    t10 = load_8(s.ptr);
-    t11 = load_8(s.ptr + 8u);
-    t4 = (struct model__State){.groups = t10, .homes = t11, .start = load_8(s.ptr + 16u), .next = load_8(s.ptr + 24u),
+    t11 = load_8(s.ptr);
+    t12 = load_8(s.ptr + 8u);
+    t4 = (struct model__State){.groups = t11, .homes = t12, .start = load_8(s.ptr + 16u), .next = load_8(s.ptr + 24u),
             .filled = load_8(s.ptr + 32u), .settled = load_8(s.ptr + 40u), .fenced = load_8(s.ptr + 48u), .durable = load_8(s.ptr
             + 56u), .last = load_8(s.ptr + 64u), .round = load_8(s.ptr + 88u), .cursor = load_8(s.ptr + 96u)};
     if (t4.groups != groups) {
@@ -676,8 +570,12 @@ static inline bool strip__order__in_order(struct slice_u8 s, uint64_t groups, ui
     if (!t5) {
         return false;
     }
-    t8 = strip__promises__promised(s);
-    if (((7u * (t4.start + t4.groups)) - ((7u * t4.next) + t4.filled)) < t8) {
+    t7 = strip__promises__none_promised(s);
+    if (t7) {
+        return strip__order__records_in_order(s, t4);
+    }
+    t9 = strip__promises__promised(s);
+    if (((7u * (t4.start + t4.groups)) - ((7u * t4.next) + t4.filled)) < t9) {
         return false;
     }
     return strip__order__writers_in_order(s, t4);
@@ -686,21 +584,16 @@ static inline bool strip__order__in_order(struct slice_u8 s, uint64_t groups, ui
 /* Questions 1 and 2: 0 if the lengths are right and the strip is in order, else the number of the refusal. */
 static inline uint64_t answers__in_use(struct slice_u8 log, struct slice_u8 area, struct slice_u8 state)
 {
-    uint64_t t4, t5, t6;
-    bool t7, t8;
+    uint64_t t4;
+    bool t6;
 
-    t7 = answers__lengths_right(log, area, state);
-    if (!t7) {
+    t6 = answers__lengths_right(log, area, state);
+    if (!t6) {
         return 1u;
     }
     t4 = areas__lengths__log_groups((uint64_t)log.len);
-    t5 = (uint64_t)area.len / 64u;
-    t6 = strip__quick__quick_answer(state, t4, t5);
-    if (t6 != 1u) {
-        return t6;
-    }
-    t8 = strip__order__in_order(state, t4, t5);
-    if (!t8) {
+    t6 = strip__order__in_order(state, t4, (uint64_t)area.len / 64u);
+    if (!t6) {
         return 2u;
     }
     return 0u;
@@ -2646,23 +2539,37 @@ static inline uint64_t recovery__opening__may_open(struct slice_u8 log, struct s
     return 0u;
 }
 
-/* Takes the word of an entry that does not close its transaction, at index `index` of the log; `above` is the word of an entry
-   for the first home that there is not. */
-static inline struct scan__commits__Progress scan__commits__visit_plain(uint64_t word, uint64_t above, uint64_t base,
-        uint64_t index, struct slice_mut_u16 counts, struct scan__commits__Progress progress)
+/* The words of a group's seven tags that are there, read in a row; `turn` is the group's. */
+static inline struct array_u64_7 scan__groups__tag_words(struct slice_u8 group, uint64_t turn)
 {
-    uint64_t t7, t20;
-    (void)base;
+    struct array_u64_7 t3;
+    uint64_t t4, t6;
 
-    if (!((word & UINT64_C(0x1e0000000003ffd)) < above)) {
-        return progress;
+    memset(&t3, 0, sizeof t3);
+    t4 = 0u;
+    while (t4 < 7u) {
+        t6 = scan__groups__word_there(group, turn, t4);
+        t3.at[(size_t)t4] = t6;
+        t4 = t4 + 1u;
     }
-    t7 = (word >> 14u) & 8191u;
-    if (index < t7) {
-        return progress;
+    return t3;
+}
+
+/* Takes the entry at an offset, whose transaction's first entry is at the offset `first`. */
+static inline struct scan__commits__Progress replay__walking__join_entry(struct slice_mut_u16 cells, struct slice_mut_u16 heads,
+        struct slice_mut_u16 links, uint64_t home, uint64_t first, uint64_t offset, struct scan__commits__Progress progress)
+{
+    uint16_t t8;
+    uint64_t t22;
+
+    t8 = cells.ptr[(size_t)first];
+    if (32768u <= t8) {
+        return (struct scan__commits__Progress){.end = progress.end, .number = progress.number, .failed = 2u};
     }
-    t20 = index - t7;
-    counts.ptr[(size_t)t20] = (uint16_t)((uint32_t)counts.ptr[(size_t)t20] + 1u);
+    cells.ptr[(size_t)first] = (uint16_t)((uint32_t)t8 + 1u);
+    t22 = home / 64u;
+    links.ptr[(size_t)offset] = heads.ptr[(size_t)t22];
+    heads.ptr[(size_t)t22] = (uint16_t)(offset + 1u);
     return progress;
 }
 
@@ -2703,187 +2610,162 @@ static inline struct scan__commits__Progress scan__commits__judge(struct scan__c
     return (struct scan__commits__Progress){.end = position + 1u, .number = t7 + 1u, .failed = 0u};
 }
 
-/* The same for the word of a closing entry. */
-static inline struct scan__commits__Progress scan__commits__visit_closing(uint64_t word, uint64_t above, uint64_t base,
-        uint64_t index, struct slice_mut_u16 counts, struct scan__commits__Progress progress)
+/* Takes the closing entry at a position: if it is committed, its transaction's cell holds it from now on. */
+static inline struct scan__commits__Progress replay__walking__join_closing(struct slice_mut_u16 cells, struct slice_mut_u16 heads,
+        struct slice_mut_u16 links, uint64_t base, uint64_t position, uint64_t home, uint64_t first, uint64_t link,
+        uint64_t count, struct scan__commits__Progress progress)
 {
-    uint64_t t7, t8, t24;
-    uint16_t t25;
+    uint16_t t11;
+    struct scan__commits__Progress t12;
+    uint64_t t13, t30;
 
-    if (!((word & UINT64_C(0x1e0000000003ffd)) < above)) {
-        return progress;
+    t11 = cells.ptr[(size_t)first];
+    if (32768u <= t11) {
+        return (struct scan__commits__Progress){.end = progress.end, .number = progress.number, .failed = 2u};
     }
-    t7 = (word >> 14u) & 8191u;
-    if (index < t7) {
-        return progress;
+    t12 = scan__commits__judge(progress, base, position, link, ((uint64_t)t11 + 1u) == count);
+    if (t12.failed != 0u) {
+        return t12;
     }
-    t8 = (word >> 40u) & 8191u;
-    if (t8 == 0u) {
-        return progress;
-    }
-    t24 = index - t7;
-    t25 = (uint16_t)((uint32_t)counts.ptr[(size_t)t24] + 1u);
-    counts.ptr[(size_t)t24] = t25;
-    return scan__commits__judge(progress, base, base + index, (word >> 27u) & 8191u, (uint64_t)t25 == t8);
+    t13 = position - base;
+    cells.ptr[(size_t)first] = (uint16_t)((uint32_t)32768u + (uint16_t)(t13 + 1u));
+    t30 = home / 64u;
+    links.ptr[(size_t)t13] = heads.ptr[(size_t)t30];
+    heads.ptr[(size_t)t30] = (uint16_t)(t13 + 1u);
+    return t12;
 }
 
-/* Takes what the word of a tag says at index `index` of the log. */
-static inline struct scan__commits__Progress scan__commits__visit(uint64_t word, uint64_t above, uint64_t base, uint64_t index,
-        struct slice_mut_u16 counts, struct scan__commits__Progress progress)
-{
-    if ((word & UINT64_C(0xfc1ffffff8000003)) == 1u) {
-        return scan__commits__visit_plain(word, above, base, index, counts, progress);
-    }
-    if ((word & UINT64_C(0xfc00000000000003)) == 3u) {
-        return scan__commits__visit_closing(word, above, base, index, counts, progress);
-    }
-    return progress;
-}
-
-/* Takes the first `m` tags of a group, or those up to the first closing entry that fails. The group says nothing where it is not
-   the valid group with number `n` and turn `turn`. */
-static inline struct scan__commits__Progress scan__commits__visit_group(struct slice_u8 group, uint64_t groups, uint64_t homes,
-        uint64_t start, uint64_t n, uint64_t turn, uint64_t m, struct slice_mut_u16 counts,
+/* Takes what the word of a tag says at a position, unless the walk has stopped. */
+static inline struct scan__commits__Progress replay__walking__visit(uint64_t word, uint64_t position, uint64_t base,
+        uint64_t homes, struct slice_mut_u16 cells, struct slice_mut_u16 heads, struct slice_mut_u16 links,
         struct scan__commits__Progress progress)
 {
-    uint64_t t10, t11, t12, t14, t19;
-    struct scan__commits__Progress t13;
-    (void)groups;
+    struct model__Tag t16;
+    struct scan__commits__Progress t17;
 
-    if (!(load_8(group.ptr) == (((n % UINT64_C(0x1000000000000)) * UINT64_C(0x10000)) + 18256u))) {
+    if (progress.failed != 0u) {
         return progress;
     }
-    t10 = ((1u | ((homes & 4095u) << 2u)) | ((uint64_t)0u << 14u)) | ((homes >> 12u) << 53u);
-    t11 = 7u * start;
-    t12 = (7u * n) - t11;
-    t13 = progress;
-    t14 = 0u;
-    while (t14 < m) {
-        t19 = scan__groups__word_there(group, turn, t14);
-        t13 = scan__commits__visit(t19, t10, t11, t12 + t14, counts, t13);
-        if (t13.failed != 0u) {
-            return t13;
-        }
-        t14 = t14 + 1u;
+    t16 = codec__tags__read_tag(word, position, base, homes);
+    if (t16.tag == 0u) {
+        t17 = progress;
+    } else if (t16.tag == 1u) {
+        t17 = replay__walking__join_entry(cells, heads, links, t16.u64_0, t16.u64_1 - base, position - base, progress);
+    } else {
+        t17 = replay__walking__join_closing(cells, heads, links, base, position, t16.u64_0, t16.u64_1 - base, t16.u64_2,
+                t16.u64_3, progress);
     }
-    return t13;
+    return t17;
 }
 
-/* Walks the `n` positions of the log from its start on, group by group, and finds where the committed transactions end and how
-   many they are. */
-static inline struct scan__commits__Found scan__commits__walk(struct slice_u8 log, uint64_t groups, uint64_t homes,
-        uint64_t start, uint64_t n)
+/* Takes the first `m` tags of a group, which says nothing where it is not the valid group with number `n` and turn `turn`. */
+static inline struct scan__commits__Progress replay__walking__visit_group(struct slice_u8 group, uint64_t groups, uint64_t homes,
+        uint64_t start, uint64_t n, uint64_t turn, uint64_t m, struct slice_mut_u16 cells, struct slice_mut_u16 heads,
+        struct slice_mut_u16 links, struct scan__commits__Progress progress)
 {
-    struct array_u16_7168 t6;
-    struct scan__commits__Progress t7;
-    struct scan__slots__RingSlot t8;
-    uint64_t t9, t10, t11, t13;
+    struct array_u64_7 t12, t19;
+    uint64_t t13, t15, t16;
+    struct scan__commits__Progress t14;
+    bool t17;
 
-    memset(&t6, 0, sizeof t6);
-    t7 = (struct scan__commits__Progress){.end = 0u, .number = 0u, .failed = 0u};
-    t8 = (struct scan__slots__RingSlot){.slot = start % groups, .turn = (start / groups) % 2u};
-    t9 = start;
-    t10 = n;
-    while (0u < t10) {
-        t11 = 64u + (512u * t8.slot);
-        t13 = scan__commits__in_group(t10);
-        t7 = scan__commits__visit_group((struct slice_u8){log.ptr + (size_t)t11, (size_t)((t11 + 512u) - t11)}, groups, homes,
-                start, t9, t8.turn, t13, (struct slice_mut_u16){t6.at, 7168u}, t7);
-        if (t7.failed != 0u) {
-            return (struct scan__commits__Found){.end = t7.end, .number = t7.number};
-        }
-        t8 = scan__slots__next_slot(t8, groups);
-        t9 = t9 + 1u;
-        t10 = t10 - t13;
+    t17 = scan__groups__group_valid(group, groups, start, n);
+    if (!t17) {
+        return progress;
     }
-    return (struct scan__commits__Found){.end = t7.end, .number = t7.number};
+    t19 = scan__groups__tag_words(group, turn);
+    t12 = t19;
+    t13 = 7u * start;
+    t14 = progress;
+    t15 = 7u * n;
+    t16 = 0u;
+    while (t16 < m) {
+        t14 = replay__walking__visit(t12.at[(size_t)t16], t15, t13, homes, cells, heads, links, t14);
+        t15 = t15 + 1u;
+        t16 = t16 + 1u;
+    }
+    return t14;
 }
 
-/* The words of a group's seven tags that are there, read in a row; `turn` is the group's. */
-static inline struct array_u64_7 scan__groups__tag_words(struct slice_u8 group, uint64_t turn)
+/* Takes the `n` positions of the log from its start on, group by group, until the walk stops. */
+static inline struct scan__commits__Progress replay__walking__pass(struct slice_u8 log, struct slice_mut_u16 cells,
+        struct slice_mut_u16 heads, struct slice_mut_u16 links, uint64_t groups, uint64_t homes, uint64_t start, uint64_t n)
 {
-    struct array_u64_7 t3;
-    uint64_t t4, t6;
+    struct scan__commits__Progress t9;
+    struct scan__slots__RingSlot t10;
+    uint64_t t11, t12, t13, t15;
 
-    memset(&t3, 0, sizeof t3);
-    t4 = 0u;
-    while (t4 < 7u) {
-        t6 = scan__groups__word_there(group, turn, t4);
-        t3.at[(size_t)t4] = t6;
-        t4 = t4 + 1u;
+    t9 = (struct scan__commits__Progress){.end = 0u, .number = 0u, .failed = 0u};
+    t10 = (struct scan__slots__RingSlot){.slot = start % groups, .turn = (start / groups) % 2u};
+    t11 = start;
+    t12 = n;
+    while (0u < t12) {
+        t13 = 64u + (512u * t10.slot);
+        t15 = scan__commits__in_group(t12);
+        t9 = replay__walking__visit_group((struct slice_u8){log.ptr + (size_t)t13, (size_t)((t13 + 512u) - t13)}, groups, homes,
+                start, t11, t10.turn, t15, cells, heads, links, t9);
+        if (t9.failed != 0u) {
+            return t9;
+        }
+        t10 = scan__slots__next_slot(t10, groups);
+        t11 = t11 + 1u;
+        t12 = t12 - t15;
+    }
+    return t9;
+}
+
+/* The closing entry that a cell holds, 0 for none. */
+static inline uint16_t replay__walking__closer_in(uint16_t cell)
+{
+    uint16_t t3;
+
+    if (cell < 32768u) {
+        t3 = 0u;
+    } else {
+        t3 = (uint16_t)((uint32_t)cell - 32768u);
     }
     return t3;
 }
 
-/* Takes what the word of a tag says at a position. */
-static inline void replay__gathering__visit(uint64_t word, uint64_t position, uint64_t base, uint64_t homes,
-        struct slice_mut_u16 last, struct slice_mut_u16 heads, struct slice_mut_u16 links)
+/* Leaves in the first `n` cells, where all others are 0, only the closing entries, and no counts. */
+static inline void replay__walking__drop_counts(struct slice_mut_u16 cells, uint64_t n)
 {
-    uint64_t t8, t33, t41;
-    struct model__Tag t13;
+    uint64_t t3;
+    uint16_t t5;
 
-    t8 = position - base;
-    t13 = codec__tags__read_tag(word, position, base, homes);
-    if (t13.tag == 0u) {
-    } else if (t13.tag == 1u) {
-        t33 = t13.u64_0 / 64u;
-        links.ptr[(size_t)t8] = heads.ptr[(size_t)t33];
-        heads.ptr[(size_t)t33] = (uint16_t)(t8 + 1u);
+    t3 = 0u;
+    while (t3 < n) {
+        t5 = replay__walking__closer_in(cells.ptr[(size_t)t3]);
+        cells.ptr[(size_t)t3] = t5;
+        t3 = t3 + 1u;
+    }
+}
+
+/* Walks the `n` positions of the log from its start on with empty tables, and finds where the committed transactions end and how
+   many they are, their closing entries and the chains. A log in which an entry comes after its transaction's closing one, as no
+   store writes it, stops the walk with the sign 2, and nothing is found. */
+static inline struct scan__commits__Progress replay__walking__walk(struct slice_u8 log, struct slice_mut_u16 last,
+        struct slice_mut_u16 heads, struct slice_mut_u16 links, uint64_t groups, uint64_t homes, uint64_t start, uint64_t n)
+{
+    struct scan__commits__Progress t9;
+
+    t9 = replay__walking__pass(log, last, heads, links, groups, homes, start, n);
+    if (t9.failed != 2u) {
+        replay__walking__drop_counts(last, n);
+    }
+    return t9;
+}
+
+/* The lesser of two numbers. */
+static inline uint64_t recovery__planning__least(uint64_t a, uint64_t b)
+{
+    uint64_t t4;
+
+    if (a < b) {
+        t4 = a;
     } else {
-        last.ptr[(size_t)(t13.u64_1 - base)] = (uint16_t)(t8 + 1u);
-        t41 = t13.u64_0 / 64u;
-        links.ptr[(size_t)t8] = heads.ptr[(size_t)t41];
-        heads.ptr[(size_t)t41] = (uint16_t)(t8 + 1u);
+        t4 = b;
     }
-}
-
-/* Takes the first `m` tags of a group, which says nothing where it is not the valid group with number `n` and turn `turn`. */
-static inline void replay__gathering__visit_group(struct slice_u8 group, uint64_t groups, uint64_t homes, uint64_t start,
-        uint64_t n, uint64_t turn, uint64_t m, struct slice_mut_u16 last, struct slice_mut_u16 heads, struct slice_mut_u16 links)
-{
-    struct array_u64_7 t11, t17;
-    uint64_t t12, t13, t14;
-    bool t15;
-
-    t15 = scan__groups__group_valid(group, groups, start, n);
-    if (!t15) {
-        return;
-    }
-    t17 = scan__groups__tag_words(group, turn);
-    t11 = t17;
-    t12 = 7u * start;
-    t13 = 7u * n;
-    t14 = 0u;
-    while (t14 < m) {
-        replay__gathering__visit(t11.at[(size_t)t14], t13, t12, homes, last, heads, links);
-        t13 = t13 + 1u;
-        t14 = t14 + 1u;
-    }
-}
-
-/* Finds in empty tables the last closing entries and the chains of all entries below `end`. */
-static inline void replay__gathering__gather(struct slice_u8 log, struct slice_mut_u16 last, struct slice_mut_u16 heads,
-        struct slice_mut_u16 links, uint64_t groups, uint64_t homes, uint64_t start, uint64_t end)
-{
-    uint64_t t9, t10, t11, t13, t15;
-    struct scan__slots__RingSlot t12;
-
-    t9 = 7u * start;
-    if (end <= t9) {
-        return;
-    }
-    t10 = end - t9;
-    t11 = start;
-    t12 = (struct scan__slots__RingSlot){.slot = start % groups, .turn = (start / groups) % 2u};
-    while (0u < t10) {
-        t13 = 64u + (512u * t12.slot);
-        t15 = scan__commits__in_group(t10);
-        replay__gathering__visit_group((struct slice_u8){log.ptr + (size_t)t13, (size_t)((t13 + 512u) - t13)}, groups, homes,
-                start, t11, t12.turn, t15, last, heads, links);
-        t12 = scan__slots__next_slot(t12, groups);
-        t11 = t11 + 1u;
-        t10 = t10 - t15;
-    }
+    return t4;
 }
 
 /* The ring slot that lies `n` slots after `slot`. */
@@ -3116,8 +2998,8 @@ static inline uint64_t replay__restore__bring_back(struct slice_u8 log, struct s
 
 /* Returns how many bytes the records of the homes that the transactions of all closing entries below `end` touch take, and
    `more`. If the batch has them, those transactions are replayed into the data copy, and the homes' records stand at the batch's
-   beginning. */
-static inline uint64_t recovery__planning__bring_all(struct slice_u8 log, struct slice_mut_u8 area, struct slice_mut_u8 batch,
+   beginning; else nothing is changed, so the homes are counted first. */
+static inline uint64_t recovery__planning__bring_counted(struct slice_u8 log, struct slice_mut_u8 area, struct slice_mut_u8 batch,
         struct slice_u16 last, struct slice_u16 heads, struct slice_u16 links, uint64_t groups, uint64_t homes, uint64_t start,
         uint64_t end, uint64_t more)
 {
@@ -3133,33 +3015,432 @@ static inline uint64_t recovery__planning__bring_all(struct slice_u8 log, struct
     return t13;
 }
 
-/* Either of these, by tables of its own: all homes where `limit` is 0. It serves three calls, so it stays a function, and its
-   tables are not on the stack while they walk. */
-static inline struct recovery__planning__Made recovery__planning__bring_0(struct slice_u8 log, struct slice_mut_u8 area,
-        struct slice_mut_u8 batch, uint64_t groups, uint64_t homes, uint64_t start, uint64_t end, uint64_t cursor, uint64_t more)
+/* The same without the count where the batch has room for all homes, or for as many as there can be entries. */
+static inline uint64_t recovery__planning__bring_all(struct slice_u8 log, struct slice_mut_u8 area, struct slice_mut_u8 batch,
+        struct slice_u16 last, struct slice_u16 heads, struct slice_u16 links, uint64_t groups, uint64_t homes, uint64_t start,
+        uint64_t end, uint64_t more)
+{
+    uint64_t t12, t15;
+
+    t15 = recovery__planning__least(homes, 7u * groups);
+    if ((uint64_t)batch.len < ((68u * t15) + more)) {
+        return recovery__planning__bring_counted(log, area, batch, last, heads, links, groups, homes, start, end, more);
+    }
+    t12 = replay__restore__bring_back(log, area, batch, last, heads, links, groups, homes, start, end);
+    return t12 + more;
+}
+
+/* The end of the homes of the word that a home is in, or of all homes. */
+static inline uint64_t replay__stepping__word_end(uint64_t home, uint64_t homes)
+{
+    uint64_t t3, t7;
+
+    t3 = (64u * (home / 64u)) + 64u;
+    if (t3 < homes) {
+        t7 = t3;
+    } else {
+        t7 = homes;
+    }
+    return t7;
+}
+
+/* 1 if a code of the table says that its home has a newest entry, 0 if not. */
+static inline uint64_t replay__stepping__one_if(uint16_t code)
+{
+    uint64_t t3;
+
+    if (code == 0u) {
+        t3 = 0u;
+    } else {
+        t3 = 1u;
+    }
+    return t3;
+}
+
+/* How many of the homes from `from` to below `upto`, all of word `w`, are touched. */
+static inline uint64_t replay__stepping__count_part(struct slice_u8 log, struct slice_u16 last, struct slice_u16 heads,
+        struct slice_u16 links, uint64_t w, uint64_t from, uint64_t upto, uint64_t groups, uint64_t homes, uint64_t start,
+        uint64_t end, uint64_t slot)
+{
+    struct array_u16_64 t13;
+    uint64_t t14, t15, t16, t21, t25;
+
+    if (heads.ptr[(size_t)w] == 0u) {
+        return 0u;
+    }
+    memset(&t13, 0, sizeof t13);
+    t21 = replay__words__newest_in(log, last, heads, links, (struct slice_mut_u16){t13.at, 64u}, w, groups, homes, start, end,
+            slot);
+    t21 = w;
+    t14 = 64u * t21;
+    t15 = 0u;
+    t16 = from;
+    while (t16 < upto) {
+        t25 = replay__stepping__one_if(t13.at[(size_t)(t16 - t14)]);
+        t15 = t15 + t25;
+        t16 = t16 + 1u;
+    }
+    return t15;
+}
+
+/* How many homes from the cursor on the transactions of all closing entries below `end` touch, if they are at most `limit`; else
+   more than that. */
+static inline uint64_t replay__stepping__count_from(struct slice_u8 log, struct slice_u16 last, struct slice_u16 heads,
+        struct slice_u16 links, uint64_t groups, uint64_t homes, uint64_t start, uint64_t end, uint64_t cursor, uint64_t limit)
+{
+    uint64_t t11, t12, t13, t14, t17;
+    struct scan__slots__RingSlot t15;
+
+    t15 = (struct scan__slots__RingSlot){.slot = start % groups, .turn = (start / groups) % 2u};
+    t11 = t15.slot;
+    t12 = 0u;
+    t13 = cursor;
+    while (t13 < homes) {
+        if (limit < t12) {
+            return t12;
+        }
+        t14 = replay__stepping__word_end(t13, homes);
+        t17 = replay__stepping__count_part(log, last, heads, links, t13 / 64u, t13, t14, groups, homes, start, end, t11);
+        t12 = t12 + t17;
+        t13 = t14;
+    }
+    return t12;
+}
+
+/* The bytes of the last step's fence, if the homes found are within the limit. */
+static inline uint64_t recovery__planning__fence_size(uint64_t found, uint64_t limit)
+{
+    uint64_t t4;
+
+    if (limit < found) {
+        t4 = 0u;
+    } else {
+        t4 = 2u;
+    }
+    return t4;
+}
+
+/* Brings a home back whose newest entry is said by a code of the table, and writes its record as the one after `done` others;
+   returns how many it then are. A code of 0 leaves all as it is. */
+static inline uint64_t replay__stepping__bring_home(struct slice_u8 log, struct slice_mut_u8 area, struct slice_mut_u8 batch,
+        uint16_t code, uint64_t groups, uint64_t start, uint64_t slot, uint64_t home, uint64_t done)
+{
+    if (code == 0u) {
+        return done;
+    }
+    replay__places__restore_block(log, area, groups, start, slot, (uint64_t)code - 1u, home);
+    (void)batch__records__home_write(batch, 68u * done, home, (struct slice_u8){area.ptr, area.len});
+    return done + 1u;
+}
+
+/* Brings the touched homes from `from` to below `upto` back, all of word `w`, until `limit` are done in all. */
+static inline struct replay__stepping__Reached replay__stepping__bring_part(struct slice_u8 log, struct slice_mut_u8 area,
+        struct slice_mut_u8 batch, struct slice_u16 last, struct slice_u16 heads, struct slice_u16 links, uint64_t w,
+        uint64_t from, uint64_t upto, uint64_t groups, uint64_t homes, uint64_t start, uint64_t end, uint64_t slot, uint64_t done,
+        uint64_t limit)
+{
+    struct array_u16_64 t17;
+    uint64_t t18, t19, t20, t26;
+
+    if (heads.ptr[(size_t)w] == 0u) {
+        return (struct replay__stepping__Reached){.home = upto, .done = done};
+    }
+    memset(&t17, 0, sizeof t17);
+    t26 = replay__words__newest_in(log, last, heads, links, (struct slice_mut_u16){t17.at, 64u}, w, groups, homes, start, end,
+            slot);
+    t26 = w;
+    t18 = 64u * t26;
+    t19 = done;
+    t20 = from;
+    while (t20 < upto) {
+        if (t19 == limit) {
+            return (struct replay__stepping__Reached){.home = t20, .done = t19};
+        }
+        t19 = replay__stepping__bring_home(log, area, batch, t17.at[(size_t)(t20 - t18)], groups, start, slot, t20, t19);
+        t20 = t20 + 1u;
+    }
+    return (struct replay__stepping__Reached){.home = t20, .done = t19};
+}
+
+/* Brings the first `limit` touched homes from the cursor on back into the data copy, and writes their records at the batch's
+   beginning; returns the home after the last of them, if there is one. */
+static inline uint64_t replay__stepping__bring_from(struct slice_u8 log, struct slice_mut_u8 area, struct slice_mut_u8 batch,
+        struct slice_u16 last, struct slice_u16 heads, struct slice_u16 links, uint64_t groups, uint64_t homes, uint64_t start,
+        uint64_t end, uint64_t cursor, uint64_t limit)
+{
+    uint64_t t13, t14, t15, t16;
+    struct replay__stepping__Reached t17;
+    struct scan__slots__RingSlot t18;
+
+    t18 = (struct scan__slots__RingSlot){.slot = start % groups, .turn = (start / groups) % 2u};
+    t13 = t18.slot;
+    t14 = 0u;
+    t15 = cursor;
+    while (t15 < homes) {
+        if (t14 == limit) {
+            return t15;
+        }
+        t16 = replay__stepping__word_end(t15, homes);
+        t17 = replay__stepping__bring_part(log, area, batch, last, heads, links, t15 / 64u, t15, t16, groups, homes, start, end,
+                t13, t14, limit);
+        t14 = t17.done;
+        t15 = t17.home;
+    }
+    return t15;
+}
+
+/* Finds the bytes that a step of at most `limit` homes from the cursor on takes. If the batch has them, those homes are brought
+   back into the data copy, and their records stand at the batch's beginning. */
+static inline struct recovery__planning__Made recovery__planning__bring_some(struct slice_u8 log, struct slice_mut_u8 area,
+        struct slice_mut_u8 batch, struct slice_u16 last, struct slice_u16 heads, struct slice_u16 links, uint64_t groups,
+        uint64_t homes, uint64_t start, uint64_t end, uint64_t cursor, uint64_t limit)
+{
+    uint64_t t13, t14, t15, t17, t19;
+    bool t16;
+
+    t13 = replay__stepping__count_from(log, last, heads, links, groups, homes, start, end, cursor, limit);
+    t14 = recovery__planning__least(t13, limit);
+    t19 = recovery__planning__fence_size(t13, limit);
+    t15 = (68u * t14) + t19;
+    t16 = limit < t13;
+    if ((uint64_t)batch.len < t15) {
+        return (struct recovery__planning__Made){.size = t15, .next = cursor, .more = t16};
+    }
+    t17 = replay__stepping__bring_from(log, area, batch, last, heads, links, groups, homes, start, end, cursor, t14);
+    return (struct recovery__planning__Made){.size = t15, .next = t17, .more = t16};
+}
+
+/* Either of these: all homes where `limit` is 0. */
+static inline struct recovery__planning__Made recovery__planning__bring(struct slice_u8 log, struct slice_mut_u8 area,
+        struct slice_mut_u8 batch, struct slice_u16 last, struct slice_u16 heads, struct slice_u16 links, uint64_t groups,
+        uint64_t homes, uint64_t start, uint64_t end, uint64_t cursor, uint64_t limit, uint64_t more)
+{
+    uint64_t t14;
+
+    if (limit == 0u) {
+        t14 = recovery__planning__bring_all(log, area, batch, last, heads, links, groups, homes, start, end, more);
+        return (struct recovery__planning__Made){.size = t14, .next = cursor, .more = false};
+    }
+    return recovery__planning__bring_some(log, area, batch, last, heads, links, groups, homes, start, end, cursor, limit);
+}
+
+/* The same by tables of its own, where one pass over the `n` positions from the start on finds what is committed and chains it.
+   This and the next serve several calls each, so they stay functions, and the stack has the tables of one of them. */
+static inline struct recovery__planning__Replay recovery__planning__bring_once(struct slice_u8 log, struct slice_mut_u8 area,
+        struct slice_mut_u8 batch, uint64_t groups, uint64_t homes, uint64_t start, uint64_t n, uint64_t cursor, uint64_t limit,
+        uint64_t more)
 {
     struct array_u16_7168 t11, t13;
     struct array_u16_1024 t12;
-    uint64_t t14;
+    struct scan__commits__Progress t14;
+    uint64_t t15;
+    struct recovery__planning__Made t16;
+
+    memset(&t11, 0, sizeof t11);
+    memset(&t12, 0, sizeof t12);
+    memset(&t13, 0, sizeof t13);
+    t14 = replay__walking__walk(log, (struct slice_mut_u16){t11.at, 7168u}, (struct slice_mut_u16){t12.at, 1024u},
+            (struct slice_mut_u16){t13.at, 7168u}, groups, homes, start, n);
+    if (t14.failed == 2u) {
+        return (struct recovery__planning__Replay){.end = 0u, .number = 0u, .size = 0u, .next = 0u, .more = false,
+                .found = false};
+    }
+    t15 = t14.end;
+    t16 = recovery__planning__bring(log, area, batch, (struct slice_u16){t11.at, 7168u}, (struct slice_u16){t12.at, 1024u},
+            (struct slice_u16){t13.at, 7168u}, groups, homes, start, t15, cursor, limit, more);
+    return (struct recovery__planning__Replay){.end = t15, .number = t14.number, .size = t16.size, .next = t16.next,
+            .more = t16.more, .found = true};
+}
+
+/* Takes what the word of a tag says at a position. */
+static inline struct scan__commits__Progress scan__commits__visit(uint64_t word, uint64_t position, uint64_t base, uint64_t homes,
+        struct slice_mut_u16 counts, struct scan__commits__Progress progress)
+{
+    struct model__Tag t12;
+    struct scan__commits__Progress t13;
+    uint64_t t25, t32;
+    uint16_t t33;
+
+    t12 = codec__tags__read_tag(word, position, base, homes);
+    if (t12.tag == 0u) {
+        t13 = progress;
+    } else if (t12.tag == 1u) {
+        t25 = t12.u64_1 - base;
+        counts.ptr[(size_t)t25] = (uint16_t)((uint32_t)counts.ptr[(size_t)t25] + 1u);
+        t13 = progress;
+    } else {
+        t32 = t12.u64_1 - base;
+        t33 = (uint16_t)((uint32_t)counts.ptr[(size_t)t32] + 1u);
+        counts.ptr[(size_t)t32] = t33;
+        t13 = scan__commits__judge(progress, base, position, t12.u64_2, (uint64_t)t33 == t12.u64_3);
+    }
+    return t13;
+}
+
+/* Takes the first `m` tags of a group, which says nothing where it is not the valid group with number `n` and turn `turn`. */
+static inline struct scan__commits__Progress scan__commits__visit_group(struct slice_u8 group, uint64_t groups, uint64_t homes,
+        uint64_t start, uint64_t n, uint64_t turn, uint64_t m, struct slice_mut_u16 counts,
+        struct scan__commits__Progress progress)
+{
+    struct array_u64_7 t10, t17;
+    uint64_t t11, t13, t14;
+    struct scan__commits__Progress t12;
+    bool t15;
+
+    t15 = scan__groups__group_valid(group, groups, start, n);
+    if (!t15) {
+        return progress;
+    }
+    t17 = scan__groups__tag_words(group, turn);
+    t10 = t17;
+    t11 = 7u * start;
+    t12 = progress;
+    t13 = 7u * n;
+    t14 = 0u;
+    while (t14 < m) {
+        t12 = scan__commits__visit(t10.at[(size_t)t14], t13, t11, homes, counts, t12);
+        t13 = t13 + 1u;
+        t14 = t14 + 1u;
+    }
+    return t12;
+}
+
+/* Walks the `n` positions of the log from its start on, group by group, and finds where the committed transactions end and how
+   many they are. */
+static inline struct scan__commits__Found scan__commits__walk(struct slice_u8 log, uint64_t groups, uint64_t homes,
+        uint64_t start, uint64_t n)
+{
+    struct array_u16_7168 t6;
+    struct scan__commits__Progress t7;
+    struct scan__slots__RingSlot t8;
+    uint64_t t9, t10, t11, t13;
+
+    memset(&t6, 0, sizeof t6);
+    t7 = (struct scan__commits__Progress){.end = 0u, .number = 0u, .failed = 0u};
+    t8 = (struct scan__slots__RingSlot){.slot = start % groups, .turn = (start / groups) % 2u};
+    t9 = start;
+    t10 = n;
+    while (0u < t10) {
+        t11 = 64u + (512u * t8.slot);
+        t13 = scan__commits__in_group(t10);
+        t7 = scan__commits__visit_group((struct slice_u8){log.ptr + (size_t)t11, (size_t)((t11 + 512u) - t11)}, groups, homes,
+                start, t9, t8.turn, t13, (struct slice_mut_u16){t6.at, 7168u}, t7);
+        if (t7.failed != 0u) {
+            return (struct scan__commits__Found){.end = t7.end, .number = t7.number};
+        }
+        t8 = scan__slots__next_slot(t8, groups);
+        t9 = t9 + 1u;
+        t10 = t10 - t13;
+    }
+    return (struct scan__commits__Found){.end = t7.end, .number = t7.number};
+}
+
+/* Takes what the word of a tag says at a position. */
+static inline void replay__gathering__visit(uint64_t word, uint64_t position, uint64_t base, uint64_t homes,
+        struct slice_mut_u16 last, struct slice_mut_u16 heads, struct slice_mut_u16 links)
+{
+    uint64_t t8, t33, t41;
+    struct model__Tag t13;
+
+    t8 = position - base;
+    t13 = codec__tags__read_tag(word, position, base, homes);
+    if (t13.tag == 0u) {
+    } else if (t13.tag == 1u) {
+        t33 = t13.u64_0 / 64u;
+        links.ptr[(size_t)t8] = heads.ptr[(size_t)t33];
+        heads.ptr[(size_t)t33] = (uint16_t)(t8 + 1u);
+    } else {
+        last.ptr[(size_t)(t13.u64_1 - base)] = (uint16_t)(t8 + 1u);
+        t41 = t13.u64_0 / 64u;
+        links.ptr[(size_t)t8] = heads.ptr[(size_t)t41];
+        heads.ptr[(size_t)t41] = (uint16_t)(t8 + 1u);
+    }
+}
+
+/* Takes the first `m` tags of a group, which says nothing where it is not the valid group with number `n` and turn `turn`. */
+static inline void replay__gathering__visit_group(struct slice_u8 group, uint64_t groups, uint64_t homes, uint64_t start,
+        uint64_t n, uint64_t turn, uint64_t m, struct slice_mut_u16 last, struct slice_mut_u16 heads, struct slice_mut_u16 links)
+{
+    struct array_u64_7 t11, t17;
+    uint64_t t12, t13, t14;
+    bool t15;
+
+    t15 = scan__groups__group_valid(group, groups, start, n);
+    if (!t15) {
+        return;
+    }
+    t17 = scan__groups__tag_words(group, turn);
+    t11 = t17;
+    t12 = 7u * start;
+    t13 = 7u * n;
+    t14 = 0u;
+    while (t14 < m) {
+        replay__gathering__visit(t11.at[(size_t)t14], t13, t12, homes, last, heads, links);
+        t13 = t13 + 1u;
+        t14 = t14 + 1u;
+    }
+}
+
+/* Finds in empty tables the last closing entries and the chains of all entries below `end`. */
+static inline void replay__gathering__gather(struct slice_u8 log, struct slice_mut_u16 last, struct slice_mut_u16 heads,
+        struct slice_mut_u16 links, uint64_t groups, uint64_t homes, uint64_t start, uint64_t end)
+{
+    uint64_t t9, t10, t11, t13, t15;
+    struct scan__slots__RingSlot t12;
+
+    t9 = 7u * start;
+    if (end <= t9) {
+        return;
+    }
+    t10 = end - t9;
+    t11 = start;
+    t12 = (struct scan__slots__RingSlot){.slot = start % groups, .turn = (start / groups) % 2u};
+    while (0u < t10) {
+        t13 = 64u + (512u * t12.slot);
+        t15 = scan__commits__in_group(t10);
+        replay__gathering__visit_group((struct slice_u8){log.ptr + (size_t)t13, (size_t)((t13 + 512u) - t13)}, groups, homes,
+                start, t11, t12.turn, t15, last, heads, links);
+        t12 = scan__slots__next_slot(t12, groups);
+        t11 = t11 + 1u;
+        t10 = t10 - t15;
+    }
+}
+
+/* The same for a log that one pass does not do for, where it is known that the committed transactions end at `end`. */
+static inline struct recovery__planning__Made recovery__planning__bring_again(struct slice_u8 log, struct slice_mut_u8 area,
+        struct slice_mut_u8 batch, uint64_t groups, uint64_t homes, uint64_t start, uint64_t end, uint64_t cursor, uint64_t limit,
+        uint64_t more)
+{
+    struct array_u16_7168 t11, t13;
+    struct array_u16_1024 t12;
 
     memset(&t11, 0, sizeof t11);
     memset(&t12, 0, sizeof t12);
     memset(&t13, 0, sizeof t13);
     replay__gathering__gather(log, (struct slice_mut_u16){t11.at, 7168u}, (struct slice_mut_u16){t12.at, 1024u},
             (struct slice_mut_u16){t13.at, 7168u}, groups, homes, start, end);
-    t14 = recovery__planning__bring_all(log, area, batch, (struct slice_u16){t11.at, 7168u}, (struct slice_u16){t12.at, 1024u},
-            (struct slice_u16){t13.at, 7168u}, groups, homes, start, end, more);
-    return (struct recovery__planning__Made){.size = t14, .next = cursor, .more = false};
+    return recovery__planning__bring(log, area, batch, (struct slice_u16){t11.at, 7168u}, (struct slice_u16){t12.at, 1024u},
+            (struct slice_u16){t13.at, 7168u}, groups, homes, start, end, cursor, limit, more);
 }
 
-/* Replay of all homes, for settle and open. */
-static inline uint64_t recovery__planning__bring_back(struct slice_u8 log, struct slice_mut_u8 area, struct slice_mut_u8 batch,
-        uint64_t groups, uint64_t homes, uint64_t start, uint64_t end, uint64_t more)
+/* Replay of all homes, for settle and open, by the committed transactions among the `n` positions from the start on. */
+static inline struct recovery__planning__Replay recovery__planning__bring_back(struct slice_u8 log, struct slice_mut_u8 area,
+        struct slice_mut_u8 batch, uint64_t groups, uint64_t homes, uint64_t start, uint64_t n, uint64_t more)
 {
-    struct recovery__planning__Made t9;
+    struct recovery__planning__Replay t9;
+    struct scan__commits__Found t10;
+    uint64_t t11;
+    struct recovery__planning__Made t12;
 
-    t9 = recovery__planning__bring_0(log, area, batch, groups, homes, start, end, 0u, more);
-    return t9.size;
+    t9 = recovery__planning__bring_once(log, area, batch, groups, homes, start, n, 0u, 0u, more);
+    if (t9.found) {
+        return t9;
+    }
+    t10 = scan__commits__walk(log, groups, homes, start, n);
+    t11 = t10.end;
+    t12 = recovery__planning__bring_again(log, area, batch, groups, homes, start, t11, 0u, 0u, more);
+    return (struct recovery__planning__Replay){.end = t11, .number = t10.number, .size = t12.size, .next = t12.next,
+            .more = t12.more, .found = true};
 }
 
 /* Writes a fence, the header with a new start, another fence, all groups as unused, and a last fence at an index of the batch. */
@@ -3236,9 +3517,9 @@ static inline void recovery__opening__open_copies(struct slice_mut_u8 log, struc
 static inline struct answers__Reply recovery__opening__reopen(struct slice_mut_u8 log, struct slice_mut_u8 area,
         struct slice_mut_u8 state, struct slice_mut_u8 newest, struct slice_mut_u8 batch)
 {
-    uint64_t t6, t8, t9, t10, t13, t14;
+    uint64_t t6, t8, t9, t10, t11, t13;
     struct recovery__opening__Shape t7;
-    struct scan__commits__Found t11;
+    struct recovery__planning__Replay t12;
 
     t6 = recovery__opening__may_open((struct slice_u8){log.ptr, log.len}, (struct slice_u8){area.ptr, area.len},
             (struct slice_u8){state.ptr, state.len}, (struct slice_u8){newest.ptr, newest.len});
@@ -3249,15 +3530,15 @@ static inline struct answers__Reply recovery__opening__reopen(struct slice_mut_u
     t8 = t7.groups;
     t9 = t7.homes;
     t10 = t7.start;
-    t11 = scan__commits__walk((struct slice_u8){log.ptr, log.len}, t8, t9, t10, 7u * t8);
-    t13 = 72u + (516u * t8);
-    t14 = recovery__planning__bring_back((struct slice_u8){log.ptr, log.len}, area, batch, t8, t9, t10, t11.end, t13);
-    if ((uint64_t)batch.len < t14) {
+    t11 = 72u + (516u * t8);
+    t12 = recovery__planning__bring_back((struct slice_u8){log.ptr, log.len}, area, batch, t8, t9, t10, 7u * t8, t11);
+    t13 = t12.size;
+    if ((uint64_t)batch.len < t13) {
         return (struct answers__Reply){.code = 9u, .figure = 0u, .size = 0u};
     }
-    recovery__opening__open_records(batch, t14 - t13, t10 + t8, t8, t9);
+    recovery__opening__open_records(batch, t13 - t11, t10 + t8, t8, t9);
     recovery__opening__open_copies(log, state, newest, t8, t9, t10 + t8);
-    return (struct answers__Reply){.code = 0u, .figure = t11.number, .size = t14};
+    return (struct answers__Reply){.code = 0u, .figure = t12.number, .size = t13};
 }
 
 /* Brings back what a power cut left: replays the committed transactions into the data copy and starts the log anew. */
@@ -3271,23 +3552,18 @@ static inline struct answers__Reply kagutin__kagutin_open(struct slice_mut_u8 lo
 static inline uint64_t answers__in_use_block(struct slice_u8 log, struct slice_u8 area, struct slice_u8 state,
         struct slice_u8 block)
 {
-    uint64_t t5, t6, t7;
-    bool t8;
+    uint64_t t5;
+    bool t7, t8;
 
-    t8 = answers__lengths_right(log, area, state);
-    if (!t8) {
+    t7 = answers__lengths_right(log, area, state);
+    if (!t7) {
         return 1u;
     }
     if ((uint64_t)block.len != 64u) {
         return 1u;
     }
     t5 = areas__lengths__log_groups((uint64_t)log.len);
-    t6 = (uint64_t)area.len / 64u;
-    t7 = strip__quick__quick_answer(state, t5, t6);
-    if (t7 != 1u) {
-        return t7;
-    }
-    t8 = strip__order__in_order(state, t5, t6);
+    t8 = strip__order__in_order(state, t5, (uint64_t)area.len / 64u);
     if (!t8) {
         return 2u;
     }
@@ -3502,33 +3778,33 @@ static inline struct answers__Reply kagutin__kagutin_revise(struct slice_u8 log,
 static inline struct answers__Reply recovery__settling__settle(struct slice_u8 log, struct slice_mut_u8 area,
         struct slice_mut_u8 state, struct slice_mut_u8 batch)
 {
-    uint64_t t5, t10, t23, t33, t34;
+    uint64_t t5, t8, t22, t32, t33;
     struct model__State t6;
-    struct scan__commits__Found t8;
+    struct recovery__planning__Replay t17;
 
     t5 = answers__in_use(log, (struct slice_u8){area.ptr, area.len}, (struct slice_u8){state.ptr, state.len});
     if (t5 != 0u) {
         return (struct answers__Reply){.code = t5, .figure = 0u, .size = 0u};
     }
-    t33 = load_8(state.ptr);
-    t34 = load_8(state.ptr + 8u);
-    t6 = (struct model__State){.groups = t33, .homes = t34, .start = load_8(state.ptr + 16u), .next = load_8(state.ptr + 24u),
+    t32 = load_8(state.ptr);
+    t33 = load_8(state.ptr + 8u);
+    t6 = (struct model__State){.groups = t32, .homes = t33, .start = load_8(state.ptr + 16u), .next = load_8(state.ptr + 24u),
             .filled = load_8(state.ptr + 32u), .settled = load_8(state.ptr + 40u), .fenced = load_8(state.ptr + 48u),
             .durable = load_8(state.ptr + 56u), .last = load_8(state.ptr + 64u), .round = load_8(state.ptr + 88u),
             .cursor = load_8(state.ptr + 96u)};
     if (t6.round != 0u) {
         return (struct answers__Reply){.code = 21u, .figure = 0u, .size = 0u};
     }
-    t8 = scan__commits__walk(log, t6.groups, t6.homes, t6.start, t6.fenced - (7u * t6.start));
-    t10 = recovery__planning__bring_back(log, area, batch, t6.groups, t6.homes, t6.start, t8.end, 2u);
-    t23 = (uint64_t)batch.len;
-    if (t23 < t10) {
+    t17 = recovery__planning__bring_back(log, area, batch, t6.groups, t6.homes, t6.start, t6.fenced - (7u * t6.start), 2u);
+    t8 = t17.size;
+    t22 = (uint64_t)batch.len;
+    if (t22 < t8) {
         return (struct answers__Reply){.code = 9u, .figure = 0u, .size = 0u};
     }
-    t23 = batch__records__fence(batch, t10 - 2u);
+    t22 = batch__records__fence(batch, t8 - 2u);
     store_8(state.ptr + 40u, t6.fenced);
     store_8(state.ptr + 48u, 7u * t6.next);
-    return (struct answers__Reply){.code = 0u, .figure = 0u, .size = t10};
+    return (struct answers__Reply){.code = 0u, .figure = 0u, .size = t8};
 }
 
 /* Writes the homes of the commits below the fenced position, and a fence. */
@@ -3538,246 +3814,41 @@ static inline struct answers__Reply kagutin__kagutin_settle(struct slice_u8 log,
     return recovery__settling__settle(log, area, state, batch);
 }
 
-/* The end of the homes of the word that a home is in, or of all homes. */
-static inline uint64_t replay__stepping__word_end(uint64_t home, uint64_t homes)
+/* A step of at most `limit` homes from the cursor on, by the same. */
+static inline struct recovery__planning__Replay recovery__planning__step(struct slice_u8 log, struct slice_mut_u8 area,
+        struct slice_mut_u8 batch, uint64_t groups, uint64_t homes, uint64_t start, uint64_t n, uint64_t cursor, uint64_t limit)
 {
-    uint64_t t3, t7;
+    struct recovery__planning__Replay t10;
+    struct scan__commits__Found t11;
+    uint64_t t12;
+    struct recovery__planning__Made t13;
 
-    t3 = (64u * (home / 64u)) + 64u;
-    if (t3 < homes) {
-        t7 = t3;
-    } else {
-        t7 = homes;
+    t10 = recovery__planning__bring_once(log, area, batch, groups, homes, start, n, cursor, limit, 0u);
+    if (t10.found) {
+        return t10;
     }
-    return t7;
-}
-
-/* 1 if a code of the table says that its home has a newest entry, 0 if not. */
-static inline uint64_t replay__stepping__one_if(uint16_t code)
-{
-    uint64_t t3;
-
-    if (code == 0u) {
-        t3 = 0u;
-    } else {
-        t3 = 1u;
-    }
-    return t3;
-}
-
-/* How many of the homes from `from` to below `upto`, all of word `w`, are touched. */
-static inline uint64_t replay__stepping__count_part(struct slice_u8 log, struct slice_u16 last, struct slice_u16 heads,
-        struct slice_u16 links, uint64_t w, uint64_t from, uint64_t upto, uint64_t groups, uint64_t homes, uint64_t start,
-        uint64_t end, uint64_t slot)
-{
-    struct array_u16_64 t13;
-    uint64_t t14, t15, t16, t21, t25;
-
-    if (heads.ptr[(size_t)w] == 0u) {
-        return 0u;
-    }
-    memset(&t13, 0, sizeof t13);
-    t21 = replay__words__newest_in(log, last, heads, links, (struct slice_mut_u16){t13.at, 64u}, w, groups, homes, start, end,
-            slot);
-    t21 = w;
-    t14 = 64u * t21;
-    t15 = 0u;
-    t16 = from;
-    while (t16 < upto) {
-        t25 = replay__stepping__one_if(t13.at[(size_t)(t16 - t14)]);
-        t15 = t15 + t25;
-        t16 = t16 + 1u;
-    }
-    return t15;
-}
-
-/* How many homes from the cursor on the transactions of all closing entries below `end` touch, if they are at most `limit`; else
-   more than that. */
-static inline uint64_t replay__stepping__count_from(struct slice_u8 log, struct slice_u16 last, struct slice_u16 heads,
-        struct slice_u16 links, uint64_t groups, uint64_t homes, uint64_t start, uint64_t end, uint64_t cursor, uint64_t limit)
-{
-    uint64_t t11, t12, t13, t14, t17;
-    struct scan__slots__RingSlot t15;
-
-    t15 = (struct scan__slots__RingSlot){.slot = start % groups, .turn = (start / groups) % 2u};
-    t11 = t15.slot;
-    t12 = 0u;
-    t13 = cursor;
-    while (t13 < homes) {
-        if (limit < t12) {
-            return t12;
-        }
-        t14 = replay__stepping__word_end(t13, homes);
-        t17 = replay__stepping__count_part(log, last, heads, links, t13 / 64u, t13, t14, groups, homes, start, end, t11);
-        t12 = t12 + t17;
-        t13 = t14;
-    }
-    return t12;
-}
-
-/* The lesser of two numbers. */
-static inline uint64_t recovery__planning__least(uint64_t a, uint64_t b)
-{
-    uint64_t t4;
-
-    if (a < b) {
-        t4 = a;
-    } else {
-        t4 = b;
-    }
-    return t4;
-}
-
-/* The bytes of the last step's fence, if the homes found are within the limit. */
-static inline uint64_t recovery__planning__fence_size(uint64_t found, uint64_t limit)
-{
-    uint64_t t4;
-
-    if (limit < found) {
-        t4 = 0u;
-    } else {
-        t4 = 2u;
-    }
-    return t4;
-}
-
-/* Brings a home back whose newest entry is said by a code of the table, and writes its record as the one after `done` others;
-   returns how many it then are. A code of 0 leaves all as it is. */
-static inline uint64_t replay__stepping__bring_home(struct slice_u8 log, struct slice_mut_u8 area, struct slice_mut_u8 batch,
-        uint16_t code, uint64_t groups, uint64_t start, uint64_t slot, uint64_t home, uint64_t done)
-{
-    if (code == 0u) {
-        return done;
-    }
-    replay__places__restore_block(log, area, groups, start, slot, (uint64_t)code - 1u, home);
-    (void)batch__records__home_write(batch, 68u * done, home, (struct slice_u8){area.ptr, area.len});
-    return done + 1u;
-}
-
-/* Brings the touched homes from `from` to below `upto` back, all of word `w`, until `limit` are done in all. */
-static inline struct replay__stepping__Reached replay__stepping__bring_part(struct slice_u8 log, struct slice_mut_u8 area,
-        struct slice_mut_u8 batch, struct slice_u16 last, struct slice_u16 heads, struct slice_u16 links, uint64_t w,
-        uint64_t from, uint64_t upto, uint64_t groups, uint64_t homes, uint64_t start, uint64_t end, uint64_t slot, uint64_t done,
-        uint64_t limit)
-{
-    struct array_u16_64 t17;
-    uint64_t t18, t19, t20, t26;
-
-    if (heads.ptr[(size_t)w] == 0u) {
-        return (struct replay__stepping__Reached){.home = upto, .done = done};
-    }
-    memset(&t17, 0, sizeof t17);
-    t26 = replay__words__newest_in(log, last, heads, links, (struct slice_mut_u16){t17.at, 64u}, w, groups, homes, start, end,
-            slot);
-    t26 = w;
-    t18 = 64u * t26;
-    t19 = done;
-    t20 = from;
-    while (t20 < upto) {
-        if (t19 == limit) {
-            return (struct replay__stepping__Reached){.home = t20, .done = t19};
-        }
-        t19 = replay__stepping__bring_home(log, area, batch, t17.at[(size_t)(t20 - t18)], groups, start, slot, t20, t19);
-        t20 = t20 + 1u;
-    }
-    return (struct replay__stepping__Reached){.home = t20, .done = t19};
-}
-
-/* Brings the first `limit` touched homes from the cursor on back into the data copy, and writes their records at the batch's
-   beginning; returns the home after the last of them, if there is one. */
-static inline uint64_t replay__stepping__bring_from(struct slice_u8 log, struct slice_mut_u8 area, struct slice_mut_u8 batch,
-        struct slice_u16 last, struct slice_u16 heads, struct slice_u16 links, uint64_t groups, uint64_t homes, uint64_t start,
-        uint64_t end, uint64_t cursor, uint64_t limit)
-{
-    uint64_t t13, t14, t15, t16;
-    struct replay__stepping__Reached t17;
-    struct scan__slots__RingSlot t18;
-
-    t18 = (struct scan__slots__RingSlot){.slot = start % groups, .turn = (start / groups) % 2u};
-    t13 = t18.slot;
-    t14 = 0u;
-    t15 = cursor;
-    while (t15 < homes) {
-        if (t14 == limit) {
-            return t15;
-        }
-        t16 = replay__stepping__word_end(t15, homes);
-        t17 = replay__stepping__bring_part(log, area, batch, last, heads, links, t15 / 64u, t15, t16, groups, homes, start, end,
-                t13, t14, limit);
-        t14 = t17.done;
-        t15 = t17.home;
-    }
-    return t15;
-}
-
-/* Finds the bytes that a step of at most `limit` homes from the cursor on takes. If the batch has them, those homes are brought
-   back into the data copy, and their records stand at the batch's beginning. */
-static inline struct recovery__planning__Made recovery__planning__bring_some(struct slice_u8 log, struct slice_mut_u8 area,
-        struct slice_mut_u8 batch, struct slice_u16 last, struct slice_u16 heads, struct slice_u16 links, uint64_t groups,
-        uint64_t homes, uint64_t start, uint64_t end, uint64_t cursor, uint64_t limit)
-{
-    uint64_t t13, t14, t15, t17, t19;
-    bool t16;
-
-    t13 = replay__stepping__count_from(log, last, heads, links, groups, homes, start, end, cursor, limit);
-    t14 = recovery__planning__least(t13, limit);
-    t19 = recovery__planning__fence_size(t13, limit);
-    t15 = (68u * t14) + t19;
-    t16 = limit < t13;
-    if ((uint64_t)batch.len < t15) {
-        return (struct recovery__planning__Made){.size = t15, .next = cursor, .more = t16};
-    }
-    t17 = replay__stepping__bring_from(log, area, batch, last, heads, links, groups, homes, start, end, cursor, t14);
-    return (struct recovery__planning__Made){.size = t15, .next = t17, .more = t16};
-}
-
-/* Either of these, by tables of its own: all homes where `limit` is 0. It serves three calls, so it stays a function, and its
-   tables are not on the stack while they walk. */
-static inline struct recovery__planning__Made recovery__planning__bring(struct slice_u8 log, struct slice_mut_u8 area,
-        struct slice_mut_u8 batch, uint64_t groups, uint64_t homes, uint64_t start, uint64_t end, uint64_t cursor, uint64_t limit,
-        uint64_t more)
-{
-    struct array_u16_7168 t11, t13;
-    struct array_u16_1024 t12;
-    uint64_t t14;
-
-    memset(&t11, 0, sizeof t11);
-    memset(&t12, 0, sizeof t12);
-    memset(&t13, 0, sizeof t13);
-    replay__gathering__gather(log, (struct slice_mut_u16){t11.at, 7168u}, (struct slice_mut_u16){t12.at, 1024u},
-            (struct slice_mut_u16){t13.at, 7168u}, groups, homes, start, end);
-    if (limit == 0u) {
-        t14 = recovery__planning__bring_all(log, area, batch, (struct slice_u16){t11.at, 7168u}, (struct slice_u16){t12.at,
-                1024u}, (struct slice_u16){t13.at, 7168u}, groups, homes, start, end, more);
-        return (struct recovery__planning__Made){.size = t14, .next = cursor, .more = false};
-    }
-    return recovery__planning__bring_some(log, area, batch, (struct slice_u16){t11.at, 7168u}, (struct slice_u16){t12.at, 1024u},
-            (struct slice_u16){t13.at, 7168u}, groups, homes, start, end, cursor, limit);
-}
-
-/* A step of at most `limit` homes from the cursor on. */
-static inline struct recovery__planning__Made recovery__planning__step(struct slice_u8 log, struct slice_mut_u8 area,
-        struct slice_mut_u8 batch, uint64_t groups, uint64_t homes, uint64_t start, uint64_t end, uint64_t cursor, uint64_t limit)
-{
-    return recovery__planning__bring(log, area, batch, groups, homes, start, end, cursor, limit, 0u);
+    t11 = scan__commits__walk(log, groups, homes, start, n);
+    t12 = t11.end;
+    t13 = recovery__planning__bring_again(log, area, batch, groups, homes, start, t12, cursor, limit, 0u);
+    return (struct recovery__planning__Replay){.end = t12, .number = t11.number, .size = t13.size, .next = t13.next,
+            .more = t13.more, .found = true};
 }
 
 /* Moves the round on by the next `homes` homes, or all that remain: then it is over. */
 static inline struct answers__Reply recovery__rounds__step_round(struct slice_u8 log, struct slice_mut_u8 area,
         struct slice_mut_u8 state, struct slice_mut_u8 batch, uint64_t homes)
 {
-    uint64_t t6, t11, t25, t38, t39;
+    uint64_t t6, t10, t24, t37, t38;
     struct model__State t7;
-    struct scan__commits__Found t9;
-    struct recovery__planning__Made t10;
+    struct recovery__planning__Replay t9;
 
     t6 = answers__in_use(log, (struct slice_u8){area.ptr, area.len}, (struct slice_u8){state.ptr, state.len});
     if (t6 != 0u) {
         return (struct answers__Reply){.code = t6, .figure = 0u, .size = 0u};
     }
-    t38 = load_8(state.ptr);
-    t39 = load_8(state.ptr + 8u);
-    t7 = (struct model__State){.groups = t38, .homes = t39, .start = load_8(state.ptr + 16u), .next = load_8(state.ptr + 24u),
+    t37 = load_8(state.ptr);
+    t38 = load_8(state.ptr + 8u);
+    t7 = (struct model__State){.groups = t37, .homes = t38, .start = load_8(state.ptr + 16u), .next = load_8(state.ptr + 24u),
             .filled = load_8(state.ptr + 32u), .settled = load_8(state.ptr + 40u), .fenced = load_8(state.ptr + 48u),
             .durable = load_8(state.ptr + 56u), .last = load_8(state.ptr + 64u), .round = load_8(state.ptr + 88u),
             .cursor = load_8(state.ptr + 96u)};
@@ -3787,23 +3858,23 @@ static inline struct answers__Reply recovery__rounds__step_round(struct slice_u8
     if (homes == 0u) {
         return (struct answers__Reply){.code = 21u, .figure = 0u, .size = 0u};
     }
-    t9 = scan__commits__walk(log, t7.groups, t7.homes, t7.start, (t7.round - 1u) - (7u * t7.start));
-    t10 = recovery__planning__step(log, area, batch, t7.groups, t7.homes, t7.start, t9.end, t7.cursor, homes);
-    t11 = t10.size;
-    t25 = (uint64_t)batch.len;
-    if (t25 < t11) {
+    t9 = recovery__planning__step(log, area, batch, t7.groups, t7.homes, t7.start, (t7.round - 1u) - (7u * t7.start), t7.cursor,
+            homes);
+    t10 = t9.size;
+    t24 = (uint64_t)batch.len;
+    if (t24 < t10) {
         return (struct answers__Reply){.code = 9u, .figure = 0u, .size = 0u};
     }
-    if (t10.more) {
-        store_8(state.ptr + 96u, t10.next);
-        return (struct answers__Reply){.code = 0u, .figure = 0u, .size = t11};
+    if (t9.more) {
+        store_8(state.ptr + 96u, t9.next);
+        return (struct answers__Reply){.code = 0u, .figure = 0u, .size = t10};
     }
-    t25 = batch__records__fence(batch, t11 - 2u);
+    t24 = batch__records__fence(batch, t10 - 2u);
     store_8(state.ptr + 40u, t7.round - 1u);
     store_8(state.ptr + 48u, 7u * t7.next);
     store_8(state.ptr + 88u, 0u);
     store_8(state.ptr + 96u, 0u);
-    return (struct answers__Reply){.code = 0u, .figure = 0u, .size = t11};
+    return (struct answers__Reply){.code = 0u, .figure = 0u, .size = t10};
 }
 
 /* Writes the next `homes` homes of the round under way; with the last of them a fence, and the round is over. */

@@ -4,3 +4,4 @@ pub mod PlanLaws
 pub mod RoundLaws
 pub mod StepPlans
 pub mod SettleLaws
+pub mod TouchedLaws

@@ -2,6 +2,7 @@
 -- what follows them. Assumes nothing.
 use mathlib.Core.Path.{_≡_, refl, sym, ap, _∙_}
 use mathlib.Core.Logic.{_⊎_, inl, inr}
+use mathlib.Core.Bool.{Bool}
 use mathlib.Core.List.{List, [], _∷_, _++_}
 use Prim.Native.Nat.{ℕ, suc, _+_, _-_, _*_, _≤_, _<_}
 use native.Mathlib.Omega.{arith}
@@ -22,7 +23,7 @@ use Rattle.homes.specs.Within.{Within}
 use Rattle.homes.proofs.HomeLaws.{length-writes, within-marked}
 use Rattle.scan.specs.Walk.{Walkable, closedBelow}
 use Rattle.replay.proofs.RestoreLaws.{touches-below}
-use Rattle.recovery.specs.Plans.{Searchable, Planned}
+use Rattle.recovery.specs.Plans.{Searchable, Planned, Brought, StepMade}
 
 -- ---- what is planned
 
@@ -73,6 +74,16 @@ planned log groups homes start n end number count s e u c =
 pub touched-most : (tags : ℕ → Tag) (ts : List (List ℕ)) (homes : ℕ) → length (touched tags ts homes) ≤ homes
 unfolding touched
 touched-most tags ts homes = length-marked (λ h. found (newest tags h ts)) homes
+
+-- a data copy and a batch that a first pass has left as they were
+pub brought-from : (log : List ℕ) (groups homes start end size : ℕ) (area batch a b other last : List ℕ) → other ≡ area → last ≡ batch
+    → Brought log groups homes start end size other last a b → Brought log groups homes start end size area batch a b
+brought-from log groups homes start end size area batch a b other last e f r = rw (← e, ← f) r
+
+pub made-from : (log : List ℕ) (groups homes start end cursor limit size next : ℕ) (more : Bool) (area batch a b other last : List ℕ) → other ≡ area
+    → last ≡ batch → StepMade log groups homes start end cursor limit size next more other last a b
+    → StepMade log groups homes start end cursor limit size next more area batch a b
+made-from log groups homes start end cursor limit size next more area batch a b other last e f r = rw (← e, ← f) r
 
 -- ---- the records of the homes
 

@@ -7,7 +7,8 @@ use lib.Dec.{leb, ltb}
 use lib.ListN.{length, getD, take}
 use Rattle.model.specs.Bytes.{puts}
 use Rattle.model.specs.Layout.{entryAt}
-use Rattle.model.specs.Commit.{transactions}
+use Rattle.model.specs.Commit.{committed, transactions}
+use Rattle.model.proofs.rule.Closings.{endOf}
 use Rattle.model.specs.Batch.{batchBytes}
 use Rattle.model.specs.Effects.{touched, replayed, homeWrites, touchedFrom, restoredHomes}
 use Rattle.scan.specs.Walk.{Walkable, closedBelow}
@@ -20,6 +21,11 @@ pub record Searchable (log : List ℕ) (groups homes start n : ℕ) : Type 0 whe
   pub homes-most : homes ≤ 65535
   pub low : start ≤ 2 ^ 47
   pub within : n ≤ 7 * groups
+
+-- where the committed transactions among n positions end, and how many they are
+pub record Committed (log : List ℕ) (groups homes start n end number : ℕ) : Type 0 where
+  pub ends : end ≡ endOf (committed (entryAt log groups homes start) (7 * start) n)
+  pub numbered : number ≡ length (committed (entryAt log groups homes start) (7 * start) n)
 
 -- the committed transactions among n positions: where they end, how many they are, and how many homes they touch
 pub record Planned (log : List ℕ) (groups homes start n end number count : ℕ) : Type 0 where

@@ -111,14 +111,13 @@ pub fn reopen(
     let groups = shape.groups;
     let homes = shape.homes;
     let start = shape.start;
-    let found = scan::walk(log, groups, homes, start, 7 * groups);
-    let end = found.end;
     let more = 72 + 516 * groups;
-    let size = bring_back(log, area, batch, groups, homes, start, end, more);
+    let replay = bring_back(log, area, batch, groups, homes, start, 7 * groups, more);
+    let size = replay.size;
     if (batch.len() as u64) < size {
         return answers::refused(9);
     }
     open_records(batch, (size - more) as usize, start + groups, groups, homes);
     open_copies(log, state, newest, groups, homes, start + groups);
-    answers::done(found.number, size)
+    answers::done(replay.number, size)
 }

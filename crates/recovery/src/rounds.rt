@@ -62,7 +62,6 @@ pub fn step_round(
         return answers::refused(21);
     }
     let n = st.round - 1 - 7 * st.start;
-    let found = scan::walk(log, st.groups, st.homes, st.start, n);
     let made = step(
         log,
         area,
@@ -70,7 +69,7 @@ pub fn step_round(
         st.groups,
         st.homes,
         st.start,
-        found.end,
+        n,
         st.cursor,
         homes,
     );

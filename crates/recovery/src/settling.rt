@@ -33,9 +33,7 @@ pub fn settle(log: &[u8], area: &mut [u8], state: &mut [u8], batch: &mut [u8]) -
         return answers::refused(21);
     }
     let n = st.fenced - 7 * st.start;
-    let found = scan::walk(log, st.groups, st.homes, st.start, n);
-    let end = found.end;
-    let size = bring_back(log, area, batch, st.groups, st.homes, st.start, end, 2);
+    let size = bring_back(log, area, batch, st.groups, st.homes, st.start, n, 2).size;
     if (batch.len() as u64) < size {
         return answers::refused(9);
     }

@@ -225,22 +225,31 @@ module _ (tags : ℕ → Tag) (base : ℕ) (at : Placed tags base) (home : House
 room-same : (g s : Chains) → g ≡ s → Room s → Room g
 room-same g s e r = rw e r
 
+holds-same : (tags : ℕ → Tag) (base n : ℕ) (g s : Chains) → g ≡ s → Holds tags base n s → Holds tags base n g
+holds-same tags base n g s e h = rw e h
+
 -- the whole pass
-pub chained-all : (log : List ℕ) (groups homes start end n : ℕ) (last heads links : List ℕ) → homes ≤ maxHomes → n ≡ end - 7 * start → n ≤ maxEntries
+pub chained-all : (log : List ℕ) (groups homes start end n : ℕ) (last heads links : List ℕ) → homes ≤ maxHomes → n ≡ end - 7 * start → n ≤ 7 * groups → n ≤ maxEntries
     → _≡_ {A = Chains} (record { last = last; heads = heads; links = links }) (over (note (7 * start)) (entryAt log groups homes start) (7 * start) n fresh)
     → Chained log groups homes start end last heads links
-chained-all log groups homes start end n last heads links few d l e =
+chained-all log groups homes start end n last heads links few d i l e =
     let k = holds-over (entryAt log groups homes start) (7 * start) (placed log groups homes start) (housed log groups homes start few) n l in
     let r = room-same (record { last = last; heads = heads; links = links }) _ e (k .0) in
+    let h = holds-same (entryAt log groups homes start) (7 * start) n (record { last = last; heads = heads; links = links }) _ e (k .1) in
     record {
       room = record { few = few; lasts = r .lasts; words = r .words; each = r .each };
-      holds = rw (← d, e) (k .1);
+      reach = n;
+      covers = omega arith;
+      inside = i;
+      closing = rw (← d) (h .closing);
+      head = h .head;
+      link = h .link;
     }
 
 pub chained-none : (log : List ℕ) (groups homes start end : ℕ) (last heads links : List ℕ) → homes ≤ maxHomes → end ≤ 7 * start
     → last ≡ replicate maxEntries 0 → heads ≡ replicate maxWords 0 → links ≡ replicate maxEntries 0 → Chained log groups homes start end last heads links
 chained-none log groups homes start end last heads links few h a b c =
-    chained-all log groups homes start end 0 last heads links few (omega arith) (omega arith) (unfold over fresh in rw (a, b, c))
+    chained-all log groups homes start end 0 last heads links few (omega arith) (omega arith) (omega arith) (unfold over fresh in rw (a, b, c))
 
 -- the pass begins with empty tables
 pub none-over : (tags : ℕ → Tag) (base m : ℕ) (last heads links : List ℕ) → m ≡ 0 → last ≡ replicate maxEntries 0 → heads ≡ replicate maxWords 0

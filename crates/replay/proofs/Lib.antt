@@ -4,3 +4,5 @@ pub mod NewestLaws
 pub mod PlaceLaws
 pub mod RestoreLaws
 pub mod StepLaws
+pub mod WalkLaws
+pub mod WalkSteps

@@ -183,12 +183,12 @@ same-home h w k l e = go (ℕ-discrete (h % 64) k)
     go (yes z) = eq-eqb (h % 64) k z ∙ sym (eq-eqb h (64 * w + k) (omega (arith, eqb-true (h / 64) w e)))
     go (no z) = ne-eqb (h % 64) k z ∙ sym (ne-eqb h (64 * w + k) (λ y. z (omega arith)))
 
--- the homes' parts of the state hold the best entries from an offset on
-pub record Agrees (tags : ℕ → Tag) (base N w code : ℕ) (g : Word) : Type 0 where
+-- the homes' parts of the state hold the best entries from an offset on, among the first B, by the closing entries of the first N
+pub record Agrees (tags : ℕ → Tag) (base N B w code : ℕ) (g : Word) : Type 0 where
   pub room : Room g
-  pub home : (k : ℕ) → k < 64 → HoldsAt g k (best (closer tags base N) tags base (64 * w + k) code (N - code))
+  pub home : (k : ℕ) → k < 64 → HoldsAt g k (best (closer tags base N) tags base (64 * w + k) code (B - code))
 
-module _ (tags : ℕ → Tag) (base N w : ℕ) (last : List ℕ) (at : Placed tags base)
+module _ (tags : ℕ → Tag) (base N B w : ℕ) (last : List ℕ) (at : Placed tags base)
     (closing : (f : ℕ) → base ≤ f → f < base + maxEntries → getD last (f - base) 0 ≡ closer tags base N f) where
   agrees-take : (i m : ℕ) (g : Word) → i < maxEntries → Room g
       → ((k : ℕ) → k < 64 → HoldsAt g k (best (closer tags base N) tags base (64 * w + k) (suc i) m)) → (t : Tag) → tags (base + i) ≡ t → inWord w t ≡ true
@@ -213,25 +213,25 @@ module _ (tags : ℕ → Tag) (base N w : ℕ) (last : List ℕ) (at : Placed ta
       )
 
   -- the next entry of the chain, and then the one before it
-  pub agrees-next : (i : ℕ) (g d : Word) → i < N → N ≤ maxEntries → top tags base w (suc i) ≡ suc i → Agrees tags base N w (suc i) g
-      → d ≡ take last base i (tags (base + i)) g → Agrees tags base N w (top tags base w i) d
+  pub agrees-next : (i : ℕ) (g d : Word) → i < B → B ≤ maxEntries → top tags base w (suc i) ≡ suc i → Agrees tags base N B w (suc i) g
+      → d ≡ take last base i (tags (base + i)) g → Agrees tags base N B w (top tags base w i) d
   agrees-next i g d l s z k e =
-      let a = agrees-take i (N - suc i) g (omega arith) (k .room) (k .home) (tags (base + i)) refl (top-in tags base w i z) in
-      let b : suc (N - suc i) ≡ N - i = omega arith in
+      let a = agrees-take i (B - suc i) g (omega arith) (k .room) (k .home) (tags (base + i)) refl (top-in tags base w i z) in
+      let b : suc (B - suc i) ≡ B - i = omega arith in
       record {
         room = rw e (a .0);
-        home = λ j m. rw (best-skip (closer tags base N) tags base w N i (omega arith) j m, e) (rw b at (a .1 j m));
+        home = λ j m. rw (best-skip (closer tags base N) tags base w B i (omega arith) j m, e) (rw b at (a .1 j m));
       }
 
 -- nothing is taken yet
-pub agrees-start : (tags : ℕ → Tag) (base N w : ℕ) (g : Word) → g ≡ unseen → Agrees tags base N w (top tags base w N) g
+pub agrees-start : (tags : ℕ → Tag) (base N B w : ℕ) (g : Word) → g ≡ unseen → Agrees tags base N B w (top tags base w B) g
 unfolding unseen
-agrees-start tags base N w g e =
-    let b : N - N ≡ 0 = omega arith in
+agrees-start tags base N B w g e =
+    let b : B - B ≡ 0 = omega arith in
     rw e
     (record {
       room = record { closing = length-replicate {A = ℕ} 64 0; each = length-replicate {A = ℕ} 64 0; words = length-replicate {A = ℕ} 1 0 };
-      home = λ k m. rw (best-skip (closer tags base N) tags base w N N (omega arith) k m, b) (unfold best nothing in record {
+      home = λ k m. rw (best-skip (closer tags base N) tags base w B B (omega arith) k m, b) (unfold best nothing in record {
         closer = getD-zeros 64 k;
         entry = getD-zeros 64 k;
         there = marks-none 1 k;
@@ -251,28 +251,28 @@ present-in w (Entry h f) e = refl
 present-in w (Closing h f link count) e = refl
 
 -- the chain's end
-pub newest-all : (log : List ℕ) (groups homes start end w : ℕ) (closers table map : List ℕ)
-    → Agrees (entryAt log groups homes start) (7 * start) (end - 7 * start) w 0 (record { closers = closers; table = table; map = map })
+pub newest-all : (log : List ℕ) (groups homes start end B w : ℕ) (closers table map : List ℕ) → end - 7 * start ≤ B → B ≤ 7 * groups
+    → Agrees (entryAt log groups homes start) (7 * start) (end - 7 * start) B w 0 (record { closers = closers; table = table; map = map })
     → Newest log groups homes start end w table (getD map 0 0)
-newest-all log groups homes start end w closers table map a =
+newest-all log groups homes start end B w closers table map covers inside a =
+    let z : B - 0 ≡ B = omega arith in
     record {
       each = a .room .each;
-      entry = λ k l. (let z : end - 7 * start - 0 ≡ end - 7 * start = omega arith in rw z at (a .home k l .entry) ∙ says k .entry);
+      entry = λ k l. rw z at (a .home k l .entry) ∙ says k .entry;
       most = λ k l.
-          (let z : end - 7 * start - 0 ≡ end - 7 * start = omega arith in
           omega (
             arith,
             rw z at (a .home k l .entry),
-            best-most (closer (entryAt log groups homes start) (7 * start) (end - 7 * start)) (entryAt log groups homes start) (7 * start) w (64 * w + k) 0 (end - 7 * start),
-          ));
-      there = λ k l. (let z : end - 7 * start - 0 ≡ end - 7 * start = omega arith in sym (bits k l) ∙ rw z at (a .home k l .there) ∙ says k .there);
+            best-most (closer (entryAt log groups homes start) (7 * start) (end - 7 * start)) (entryAt log groups homes start) (7 * start) w (64 * w + k) 0 B,
+          );
+      there = λ k l. sym (bits k l) ∙ rw z at (a .home k l .there) ∙ says k .there;
     }
   where
     says : (k : ℕ)
         → Says (entryAt log groups homes start) (7 * start) (64 * w + k)
-        (best (closer (entryAt log groups homes start) (7 * start) (end - 7 * start)) (entryAt log groups homes start) (7 * start) (64 * w + k) 0 (end - 7 * start))
+        (best (closer (entryAt log groups homes start) (7 * start) (end - 7 * start)) (entryAt log groups homes start) (7 * start) (64 * w + k) 0 B)
         (newest (entryAt log groups homes start) (64 * w + k) (closedBelow log groups homes start end))
-    says k = best-newest (entryAt log groups homes start) (7 * start) (64 * w + k) (placed log groups homes start) (end - 7 * start) (end - 7 * start) (omega arith)
+    says k = best-newest (entryAt log groups homes start) (7 * start) (64 * w + k) (placed log groups homes start) B (end - 7 * start) covers
 
     bits : (k : ℕ) → k < 64 → marks map k ≡ bit (getD map 0 0) k
     bits k l = let z : 64 * 0 + k ≡ k = omega arith in rw z at (marks-in map 0 k l)

@@ -329,9 +329,10 @@ module _ (log : List ℕ) (groups homes start end : ℕ) (w : Walkable log group
       → wordHomes (touches log groups homes start end) i ≡ []
   unfolding unseen
   empty-word last heads links c i l z =
-      let t : top tags (7 * start) i (end - 7 * start) ≡ 0 = sym (c .holds .head i l) ∙ z in
-      let a = rw t at (agrees-start tags (7 * start) (end - 7 * start) i unseen refl) in
-      let n : Newest log groups homes start end i (replicate 64 0) 0 = newest-all log groups homes start end i (replicate 64 0) (replicate 64 0) (replicate 1 0) a in
+      let t : top tags (7 * start) i (c .reach) ≡ 0 = sym (c .head i l) ∙ z in
+      let a = rw t at (agrees-start tags (7 * start) (end - 7 * start) (c .reach) i unseen refl) in
+      let n : Newest log groups homes start end i (replicate 64 0) 0 =
+      newest-all log groups homes start end (c .reach) i (replicate 64 0) (replicate 64 0) (replicate 1 0) (c .covers) (c .inside) a in
       sym (word-bits i (replicate 64 0) 0 n) ∙ rw (no-bits, raised-nil)
 
   -- nothing to bring back

@@ -178,7 +178,7 @@ module _ (log : List ℕ) (groups homes start end : ℕ) (w : Walkable log group
             (t, omega (arith, z, y, s .2))
 
     pub code-most : code ≤ 7 * groups
-    code-most = omega (arith, n .most (h - 64 * i) (omega arith), w .within)
+    code-most = n .most (h - 64 * i) (omega arith)
 
     pub code-one : cond (eqb code 0) 0 1 ≡ length (cond (f h) (h ∷ []) [])
     code-one = go (eqb code 0) refl

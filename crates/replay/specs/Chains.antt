@@ -67,7 +67,14 @@ pub record Holds (tags : ℕ → Tag) (base n : ℕ) (g : Chains) : Type 0 where
   pub head : (w : ℕ) → w < maxWords → getD (g .heads) w 0 ≡ top tags base w n
   pub link : (i : ℕ) → i < n → (w : ℕ) → inWord w (tags (base + i)) ≡ true → getD (g .links) i 0 ≡ top tags base w i
 
--- the tables hold the last closing entries and the chains of all entries below `end`
+-- the tables hold the last closing entries below `end`, and the chains of all entries below a bound that is not before it
 pub record Chained (log : List ℕ) (groups homes start end : ℕ) (last heads links : List ℕ) : Type 0 where
   pub room : Roomy homes last heads links
-  pub holds : Holds (entryAt log groups homes start) (7 * start) (end - 7 * start) (record { last = last; heads = heads; links = links })
+  pub reach : ℕ
+  pub covers : end - 7 * start ≤ reach
+  pub inside : reach ≤ 7 * groups
+  pub closing : (f : ℕ) → 7 * start ≤ f → f < 7 * start + maxEntries
+      → getD last (f - 7 * start) 0 ≡ closer (entryAt log groups homes start) (7 * start) (end - 7 * start) f
+  pub head : (w : ℕ) → w < maxWords → getD heads w 0 ≡ top (entryAt log groups homes start) (7 * start) w reach
+  pub link : (i : ℕ) → i < reach → (w : ℕ) → inWord w (entryAt log groups homes start (7 * start + i)) ≡ true
+      → getD links i 0 ≡ top (entryAt log groups homes start) (7 * start) w i

@@ -3,3 +3,4 @@ pub mod Chains
 pub mod Words
 pub mod Restore
 pub mod Steps
+pub mod Walks

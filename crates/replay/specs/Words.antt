@@ -59,5 +59,5 @@ pub record Newest (log : List ℕ) (groups homes start end w : ℕ) (table : Lis
   pub each : length table ≡ 64
   pub entry : (k : ℕ) → k < 64
       → getD table k 0 ≡ offsetCode (7 * start) (newest (entryAt log groups homes start) (64 * w + k) (closedBelow log groups homes start end))
-  pub most : (k : ℕ) → k < 64 → getD table k 0 ≤ end - 7 * start
+  pub most : (k : ℕ) → k < 64 → getD table k 0 ≤ 7 * groups
   pub there : (k : ℕ) → k < 64 → bit bits k ≡ touches log groups homes start end (64 * w + k)

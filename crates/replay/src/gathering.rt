@@ -10,7 +10,7 @@ ghost use Rattle.scan.specs.Walk.{Walkable};
 ghost use Rattle.replay.specs.Chains.{note, Roomy, Chained};
 
 // Puts the entry at an offset first into the chain of a word of homes.
-fn chain(heads: &mut [u16], links: &mut [u16], word: usize, offset: usize)
+pub fn chain(heads: &mut [u16], links: &mut [u16], word: usize, offset: usize)
     requires { ⌜ (word < length (now heads)) × (offset < length (now links)) × (offset < 7168) ⌝ }
     ensures { λ _. ⌜ now (heads .exit) ≡ set (now (heads .entry)) word (offset + 1) ⌝ }
     ensures { λ _. ⌜ now (links .exit) ≡ set (now (links .entry)) offset (getD (now (heads .entry)) word 0) ⌝ }

@@ -4,10 +4,12 @@ mod gathering;
 mod places;
 mod restore;
 mod stepping;
+mod walking;
 mod words;
 
 pub use gathering::gather;
 pub use restore::bring_back;
 pub use stepping::bring_from;
 pub use stepping::count_from;
+pub use walking::walk;
 pub use words::count;

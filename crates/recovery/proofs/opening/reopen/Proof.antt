@@ -1,7 +1,7 @@
 -- `recovery::reopen` meets its contract. Assumes nothing.
 use mathlib.Core.Path.{refl, _∙_}
 use native.Mathlib.Omega.{arith}
-use Rattle.recovery.proofs.PlanLaws.{end-within, planned}
+use Rattle.recovery.proofs.PlanLaws.{planned}
 use Rattle.recovery.proofs.OpenLaws.{openable, open-searchable, area-homes, newest-homes, open-refused, open-short, open-done}
 use borrow.Author.Needs.{needs}
 use Rattle.recovery.proofs.opening.reopen.Statement.{statement}
@@ -31,29 +31,20 @@ returns c = open-refused _ _ _ _ _ _ _ _ _ (c .before .before .may-open .ensures
 measure-requires : tie.Need-measure-requires
 measure-requires c κs = omega (arith, (openable _ _ _ _ _ (c .before .before .before .may-open .ensures) (c .before .before .if1 .left)))
 
-mul-walk : tie.Need-mul-walk
-mul-walk c =
-    omega (arith, (openable _ _ _ _ _ (c .before .before .before .before .before .may-open .ensures) (c .before .before .before .before .if1 .left)), c .before .measure .ensures .0)
-
-walk-requires : tie.Need-walk-requires
-walk-requires c κs =
-    omega (arith, (openable _ _ _ _ _ (c .before .before .before .before .before .may-open .ensures) (c .before .before .before .before .if1 .left)), c .before .measure .ensures)
-
 mul-more : tie.Need-mul-more
-mul-more c =
-    let m = c .before .before in
-    omega (arith, openable _ _ _ _ _ (m .before .before .before .before .may-open .ensures) (m .before .before .before .if1 .left), m .measure .ensures .0)
+mul-more c = omega (arith, openable _ _ _ _ _ (c .before .before .before .before .may-open .ensures) (c .before .before .before .if1 .left), c .measure .ensures .0)
 
 add-more : tie.Need-add-more
-add-more c =
-    let m = c .before .before in
-    omega (arith, openable _ _ _ _ _ (m .before .before .before .before .may-open .ensures) (m .before .before .before .if1 .left), m .measure .ensures .0)
+add-more c = omega (arith, openable _ _ _ _ _ (c .before .before .before .before .may-open .ensures) (c .before .before .before .if1 .left), c .measure .ensures .0)
+
+mul-bring-back : tie.Need-mul-bring-back
+mul-bring-back c = omega (arith, openable _ _ _ _ _ (c .before .before .before .before .before .before .before .may-open .ensures) (c .before .before .before .before .before .before .if1 .left), c .before .before .before .measure .ensures .0)
 
 bring-back-requires : tie.Need-bring-back-requires
 bring-back-requires c κs =
-    let o = (openable _ _ _ _ _ (c .before .before .before .before .before .before .before .before .before .may-open .ensures) (c .before .before .before .before .before .before .before .before .if1 .left)) in
-    let s = open-searchable _ _ _ _ _ _ _ o (c .before .before .before .before .before .measure .ensures) in
-    (end-within _ _ _ _ _ _ s (c .before .before .before .walk .ensures .0), s .homes-most, area-homes _ _ _ _ _ o (c .before .before .before .before .before .measure .ensures .1), omega arith)
+    let o = openable _ _ _ _ _ (c .before .before .before .before .before .before .before .may-open .ensures) (c .before .before .before .before .before .before .if1 .left) in
+    let s = open-searchable _ _ _ _ _ _ _ o (c .before .before .before .measure .ensures) in
+    (s, area-homes _ _ _ _ _ o (c .before .before .before .measure .ensures .1), omega (arith, s .most))
 
 refused-requires-2 : tie.Need-refused-requires-2
 refused-requires-2 c κs = search needs
@@ -75,32 +66,32 @@ same-length-9 c = search needs
 
 returns-2 : tie.Need-returns-2
 returns-2 c =
-    let s = open-searchable _ _ _ _ _ _ _ (openable _ _ _ _ _ (c .before .before .before .before .before .before .before .before .before .before .before .before .before .before .before .before .may-open .ensures) (c .before .before .before .before .before .before .before .before .before .before .before .before .before .before .before .if1 .left)) (c .before .before .before .before .before .before .before .before .before .before .before .before .measure .ensures) in
+    let s = open-searchable _ _ _ _ _ _ _ (openable _ _ _ _ _ (c .before .before .before .before .before .before .before .before .before .before .before .before .before .before .may-open .ensures) (c .before .before .before .before .before .before .before .before .before .before .before .before .before .if1 .left)) (c .before .before .before .before .before .before .before .before .before .before .measure .ensures) in
     let b = c .before .before .before .before .before .before .bring-back in
-    let p = planned _ _ _ _ _ _ _ _ s (c .before .before .before .before .before .before .before .before .before .before .walk .ensures .0) (c .before .before .before .before .before .before .before .before .before .before .walk .ensures .1) refl in
-    open-short _ _ _ _ _ _ _ _ _ _ _ _ (c .before .before .before .before .before .before .before .before .before .before .before .before .before .before .before .before .may-open .ensures) (c .before .before .before .before .before .before .before .before .before .before .before .before .before .before .before .if1 .left) (c .before .before .before .before .before .before .before .before .before .before .before .before .measure .ensures) p _ _ _ _ _
-    (omega (arith, c .before .if2 .taken, b .ensures .0, b .kept)) (c .refused2 .ensures) (b .ensures .1 .same-area (omega (arith, c .before .if2 .taken, b .kept)))
-    (b .ensures .1 .same-batch (omega (arith, c .before .if2 .taken, b .kept)))
+    let p = planned _ _ _ _ _ _ _ _ s (b .ensures .0 .ends) (b .ensures .0 .numbered) refl in
+    open-short _ _ _ _ _ _ _ _ _ _ _ _ (c .before .before .before .before .before .before .before .before .before .before .before .before .before .before .may-open .ensures) (c .before .before .before .before .before .before .before .before .before .before .before .before .before .if1 .left) (c .before .before .before .before .before .before .before .before .before .before .measure .ensures) p _ _ _ _ _
+    (omega (arith, c .before .if2 .taken, b .ensures .1 .0, b .kept)) (c .refused2 .ensures) (b .ensures .1 .1 .same-area (omega (arith, c .before .if2 .taken, b .kept)))
+    (b .ensures .1 .1 .same-batch (omega (arith, c .before .if2 .taken, b .kept)))
 
 sub-open-records : tie.Need-sub-open-records
-sub-open-records c = omega (arith, c .before .before .before .before .before .before .bring-back .ensures .0)
+sub-open-records c = omega (arith, c .before .before .before .before .before .before .bring-back .ensures .1 .0)
 
 add-open-records : tie.Need-add-open-records
 add-open-records c =
-    omega (arith, (openable _ _ _ _ _ (c .before .before .before .before .before .before .before .before .before .before .before .before .before .before .before .before .may-open .ensures) (c .before .before .before .before .before .before .before .before .before .before .before .before .before .before .before .if1 .left)), c .before .before .before .before .before .before .before .before .before .before .before .before .measure .ensures)
+    omega (arith, (openable _ _ _ _ _ (c .before .before .before .before .before .before .before .before .before .before .before .before .before .before .may-open .ensures) (c .before .before .before .before .before .before .before .before .before .before .before .before .before .if1 .left)), c .before .before .before .before .before .before .before .before .before .before .measure .ensures)
 
 open-records-requires : tie.Need-open-records-requires
 open-records-requires c κs =
-    (omega (arith, c .before .if2 .left, c .before .before .before .before .before .before .bring-back .ensures .0), omega (arith, openable _ _ _ _ _ (c .before .before .before .before .before .before .before .before .before .before .before .before .before .before .before .before .may-open .ensures) (c .before .before .before .before .before .before .before .before .before .before .before .before .before .before .before .if1 .left), c .before .before .before .before .before .before .before .before .before .before .before .before .measure .ensures .0))
+    (omega (arith, c .before .if2 .left, c .before .before .before .before .before .before .bring-back .ensures .1 .0), omega (arith, openable _ _ _ _ _ (c .before .before .before .before .before .before .before .before .before .before .before .before .before .before .may-open .ensures) (c .before .before .before .before .before .before .before .before .before .before .before .before .before .if1 .left), c .before .before .before .before .before .before .before .before .before .before .measure .ensures .0))
 
 add-open-copies : tie.Need-add-open-copies
 add-open-copies c =
-    omega (arith, (openable _ _ _ _ _ (c .before .before .before .before .before .before .before .before .before .before .before .before .before .before .before .before .before .before .before .before .before .before .may-open .ensures) (c .before .before .before .before .before .before .before .before .before .before .before .before .before .before .before .before .before .before .before .before .before .if1 .left)), c .before .before .before .before .before .before .before .before .before .before .before .before .before .before .before .before .before .before .measure .ensures)
+    omega (arith, (openable _ _ _ _ _ (c .before .before .before .before .before .before .before .before .before .before .before .before .before .before .before .before .before .before .before .before .may-open .ensures) (c .before .before .before .before .before .before .before .before .before .before .before .before .before .before .before .before .before .before .before .if1 .left)), c .before .before .before .before .before .before .before .before .before .before .before .before .before .before .before .before .measure .ensures)
 
 open-copies-requires : tie.Need-open-copies-requires
 open-copies-requires c κs =
-    let o = (openable _ _ _ _ _ (c .before .before .before .before .before .before .before .before .before .before .before .before .before .before .before .before .before .before .before .before .before .before .may-open .ensures) (c .before .before .before .before .before .before .before .before .before .before .before .before .before .before .before .before .before .before .before .before .before .if1 .left)) in
-    omega (arith, o, newest-homes _ _ _ _ _ o (c .before .before .before .before .before .before .before .before .before .before .before .before .before .before .before .before .before .before .measure .ensures .1), c .before .before .before .before .before .before .before .before .before .before .before .before .before .before .before .before .before .before .measure .ensures .0, c .before .before .before .before .before .before .before .before .before .before .before .before .before .before .before .before .before .before .measure .ensures .2)
+    let o = (openable _ _ _ _ _ (c .before .before .before .before .before .before .before .before .before .before .before .before .before .before .before .before .before .before .before .before .may-open .ensures) (c .before .before .before .before .before .before .before .before .before .before .before .before .before .before .before .before .before .before .before .if1 .left)) in
+    omega (arith, o, newest-homes _ _ _ _ _ o (c .before .before .before .before .before .before .before .before .before .before .before .before .before .before .before .before .measure .ensures .1), c .before .before .before .before .before .before .before .before .before .before .before .before .before .before .before .before .measure .ensures .0, c .before .before .before .before .before .before .before .before .before .before .before .before .before .before .before .before .measure .ensures .2)
 
 done-requires : tie.Need-done-requires
 done-requires c κs = search needs
@@ -122,15 +113,15 @@ same-length-14 c = search needs
 
 returns-3 : tie.Need-returns-3
 returns-3 c =
-    let s = open-searchable _ _ _ _ _ _ _ (openable _ _ _ _ _ (c .before .before .before .before .before .before .before .before .before .before .before .before .before .before .before .before .before .before .before .before .before .before .before .before .before .before .before .before .before .before .may-open .ensures) (c .before .before .before .before .before .before .before .before .before .before .before .before .before .before .before .before .before .before .before .before .before .before .before .before .before .before .before .before .before .if1 .left)) (c .before .before .before .before .before .before .before .before .before .before .before .before .before .before .before .before .before .before .before .before .before .before .before .before .before .before .measure .ensures) in
+    let s = open-searchable _ _ _ _ _ _ _ (openable _ _ _ _ _ (c .before .before .before .before .before .before .before .before .before .before .before .before .before .before .before .before .before .before .before .before .before .before .before .before .before .before .before .before .may-open .ensures) (c .before .before .before .before .before .before .before .before .before .before .before .before .before .before .before .before .before .before .before .before .before .before .before .before .before .before .before .if1 .left)) (c .before .before .before .before .before .before .before .before .before .before .before .before .before .before .before .before .before .before .before .before .before .before .before .before .measure .ensures) in
     let b = c .before .before .before .before .before .before .before .before .before .before .before .before .before .before .before .before .before .before .before .before .bring-back in
     let d = c .done .ensures in
-    let p = planned _ _ _ _ _ _ _ _ s (c .before .before .before .before .before .before .before .before .before .before .before .before .before .before .before .before .before .before .before .before .before .before .before .before .walk .ensures .0) (c .before .before .before .before .before .before .before .before .before .before .before .before .before .before .before .before .before .before .before .before .before .before .before .before .walk .ensures .1) refl in
+    let p = planned _ _ _ _ _ _ _ _ s (b .ensures .0 .ends) (b .ensures .0 .numbered) refl in
     let k = c .before .before .before .before .before .before .before .open-copies .ensures in
-    open-done _ _ _ _ _ _ _ _ _ _ _ _ (c .before .before .before .before .before .before .before .before .before .before .before .before .before .before .before .before .before .before .before .before .before .before .before .before .before .before .before .before .before .before .may-open .ensures) (c .before .before .before .before .before .before .before .before .before .before .before .before .before .before .before .before .before .before .before .before .before .before .before .before .before .before .before .before .before .if1 .left) (c .before .before .before .before .before .before .before .before .before .before .before .before .before .before .before .before .before .before .before .before .before .before .before .before .before .before .measure .ensures) p _ _ _ _ _ _ _ _ _ _
-    (omega (arith, c .before .before .before .before .before .before .before .before .before .before .before .before .before .before .before .if2 .left, b .ensures .0, b .kept)) (d .0, d .1, d .2 ∙ b .ensures .0)
-    (b .ensures .1 .copied (omega (arith, c .before .before .before .before .before .before .before .before .before .before .before .before .before .before .before .if2 .left, b .kept))) (b .ensures .1 .written (omega (arith, c .before .before .before .before .before .before .before .before .before .before .before .before .before .before .before .if2 .left, b .kept)))
-    (c .before .before .before .before .before .before .before .before .before .before .before .before .before .open-records .ensures) (omega (arith, b .ensures .0)) (k .0) (k .1) (k .2)
+    open-done _ _ _ _ _ _ _ _ _ _ _ _ (c .before .before .before .before .before .before .before .before .before .before .before .before .before .before .before .before .before .before .before .before .before .before .before .before .before .before .before .before .may-open .ensures) (c .before .before .before .before .before .before .before .before .before .before .before .before .before .before .before .before .before .before .before .before .before .before .before .before .before .before .before .if1 .left) (c .before .before .before .before .before .before .before .before .before .before .before .before .before .before .before .before .before .before .before .before .before .before .before .before .measure .ensures) p _ _ _ _ _ _ _ _ _ _
+    (omega (arith, c .before .before .before .before .before .before .before .before .before .before .before .before .before .before .before .if2 .left, b .ensures .1 .0, b .kept)) (d .0, d .1, d .2 ∙ b .ensures .1 .0)
+    (b .ensures .1 .1 .copied (omega (arith, c .before .before .before .before .before .before .before .before .before .before .before .before .before .before .before .if2 .left, b .kept))) (b .ensures .1 .1 .written (omega (arith, c .before .before .before .before .before .before .before .before .before .before .before .before .before .before .before .if2 .left, b .kept)))
+    (c .before .before .before .before .before .before .before .before .before .before .before .before .before .open-records .ensures) (omega (arith, b .ensures .1 .0)) (k .0) (k .1) (k .2)
 
 pub reopen-spec : {M : Type 1} → statement M
 reopen-spec =
@@ -144,10 +135,9 @@ reopen-spec =
     same-length-4
     returns
     measure-requires
-    mul-walk
-    walk-requires
     mul-more
     add-more
+    mul-bring-back
     bring-back-requires
     refused-requires-2
     same-length-5

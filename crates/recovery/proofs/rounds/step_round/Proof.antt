@@ -3,7 +3,7 @@ use mathlib.Core.Path.{refl, sym, ap, _∙_}
 use mathlib.Core.Bool.{true, false}
 use Prim.Native.Nat.{_≤_}
 use native.Mathlib.Omega.{arith}
-use Rattle.recovery.proofs.PlanLaws.{end-within, below-end}
+use Rattle.recovery.proofs.PlanLaws.{below-end}
 use Rattle.recovery.proofs.RoundLaws.{ended-two, step-refused, step-none, step-zero, step-short, step-moved, step-ended}
 use Rattle.recovery.proofs.SettleLaws.{state-length, numbers, round-searchable}
 use borrow.Author.Needs.{needs}
@@ -62,14 +62,10 @@ mul-n c = omega (arith, numbers _ _ _ _ _ (c .before .before .before .before .be
 sub-n-2 : tie.Need-sub-n-2
 sub-n-2 c = let n = numbers _ _ _ _ _ (c .before .before .before .before .before .before .before .before .in-use .ensures) (c .before .before .before .before .before .before .before .if1 .left) (c .before .before .before .before .before .state .ensures) in omega (arith, n .start-round (c .before .before .before .if2 .left))
 
-walk-requires : tie.Need-walk-requires
-walk-requires c κs = let n = numbers _ _ _ _ _ (c .before .before .before .before .before .before .before .before .in-use .ensures) (c .before .before .before .before .before .before .before .if1 .left) (c .before .before .before .before .before .state .ensures) in omega (arith, n)
-
 step-requires : tie.Need-step-requires
 step-requires c κs =
-    let n = numbers _ _ _ _ _ (c .before .before .before .before .before .before .before .before .before .before .before .in-use .ensures) (c .before .before .before .before .before .before .before .before .before .before .if1 .left) (c .before .before .before .before .before .before .before .before .state .ensures) in
-    let s = round-searchable _ _ _ _ n in
-    (end-within _ _ _ _ _ _ s (c .before .before .walk .ensures .0), n .homes-most, n .area-length, omega (arith, c .before .before .before .before .before .if3 .left))
+    let n = numbers _ _ _ _ _ (c .before .before .before .before .before .before .before .before .before .before .in-use .ensures) (c .before .before .before .before .before .before .before .before .before .if1 .left) (c .before .before .before .before .before .before .before .state .ensures) in
+    (round-searchable _ _ _ _ n, n .area-length, omega (arith, c .before .before .before .before .if3 .left))
 
 refused-requires-4 : tie.Need-refused-requires-4
 refused-requires-4 c κs = search needs
@@ -85,12 +81,12 @@ same-length-9 c = search needs
 
 returns-4 : tie.Need-returns-4
 returns-4 c =
-    let b = below-end _ _ _ _ _ _ (c .before .before .before .before .before .before .before .before .before .walk .ensures .0) in
-    step-short _ _ _ _ _ _ _ (c .before .before .before .before .before .before .before .before .before .before .before .before .before .before .before .before .before .before .in-use .ensures) (c .before .before .before .before .before .before .before .before .before .before .before .before .before .before .before .before .before .if1 .left) (c .before .before .before .before .before .before .before .before .before .before .before .before .before .before .before .state .ensures) _ _ _ _ _ _ (c .before .before .before .before .before .before .before .before .before .before .before .before .before .if2 .left) (c .before .before .before .before .before .before .before .before .before .before .before .before .if3 .left) b (c .before .before .before .before .before .before .step .ensures)
+    let b = below-end _ _ _ _ _ _ (c .before .before .before .before .before .before .step .ensures .0 .ends) in
+    step-short _ _ _ _ _ _ _ (c .before .before .before .before .before .before .before .before .before .before .before .before .before .before .before .before .before .in-use .ensures) (c .before .before .before .before .before .before .before .before .before .before .before .before .before .before .before .before .if1 .left) (c .before .before .before .before .before .before .before .before .before .before .before .before .before .before .state .ensures) _ _ _ _ _ _ (c .before .before .before .before .before .before .before .before .before .before .before .before .if2 .left) (c .before .before .before .before .before .before .before .before .before .before .before .if3 .left) b (c .before .before .before .before .before .before .step .ensures .1)
     _ _ _ _ _ (omega (arith, c .before .if4 .taken, c .before .before .before .before .before .before .step .kept)) (c .refused4 .ensures) refl refl
 
 set-cursor-requires : tie.Need-set-cursor-requires
-set-cursor-requires c κs = omega (arith, state-length _ _ _ _ (c .before .before .before .before .before .before .before .before .before .before .before .before .before .before .before .before .before .before .before .in-use .ensures) (c .before .before .before .before .before .before .before .before .before .before .before .before .before .before .before .before .before .before .if1 .left))
+set-cursor-requires c κs = omega (arith, state-length _ _ _ _ (c .before .before .before .before .before .before .before .before .before .before .before .before .before .before .before .before .before .before .in-use .ensures) (c .before .before .before .before .before .before .before .before .before .before .before .before .before .before .before .before .before .if1 .left))
 
 done-requires : tie.Need-done-requires
 done-requires c κs = search needs
@@ -106,23 +102,23 @@ same-length-12 c = search needs
 
 returns-5 : tie.Need-returns-5
 returns-5 c =
-    let b = below-end _ _ _ _ _ _ (c .before .before .before .before .before .before .before .before .before .before .before .before .before .before .walk .ensures .0) in
-    step-moved _ _ _ _ _ _ _ (c .before .before .before .before .before .before .before .before .before .before .before .before .before .before .before .before .before .before .before .before .before .before .before .in-use .ensures) (c .before .before .before .before .before .before .before .before .before .before .before .before .before .before .before .before .before .before .before .before .before .before .if1 .left) (c .before .before .before .before .before .before .before .before .before .before .before .before .before .before .before .before .before .before .before .before .state .ensures) _ _ _ _ _ _ (c .before .before .before .before .before .before .before .before .before .before .before .before .before .before .before .before .before .before .if2 .left) (c .before .before .before .before .before .before .before .before .before .before .before .before .before .before .before .before .before .if3 .left) b (c .before .before .before .before .before .before .before .before .before .before .before .step .ensures)
+    let b = below-end _ _ _ _ _ _ (c .before .before .before .before .before .before .before .before .before .before .before .step .ensures .0 .ends) in
+    step-moved _ _ _ _ _ _ _ (c .before .before .before .before .before .before .before .before .before .before .before .before .before .before .before .before .before .before .before .before .before .before .in-use .ensures) (c .before .before .before .before .before .before .before .before .before .before .before .before .before .before .before .before .before .before .before .before .before .if1 .left) (c .before .before .before .before .before .before .before .before .before .before .before .before .before .before .before .before .before .before .before .state .ensures) _ _ _ _ _ _ (c .before .before .before .before .before .before .before .before .before .before .before .before .before .before .before .before .before .if2 .left) (c .before .before .before .before .before .before .before .before .before .before .before .before .before .before .before .before .if3 .left) b (c .before .before .before .before .before .before .before .before .before .before .before .step .ensures .1)
     _ _ _ _ _ _ (omega (arith, c .before .before .before .before .before .before .if4 .left, c .before .before .before .before .before .before .before .before .before .before .before .step .kept)) (c .before .before .before .before .before .if5 .taken) (c .done .ensures) refl (c .before .before .before .set-cursor .ensures) refl
 
 sub-fence : tie.Need-sub-fence
 sub-fence c = omega (arith, two c)
   where
     two : (c : tie.After-fence-arg) → 2 ≤ c .before .before .before .before .before .before .before .step .result .size
-    two c = ended-two _ _ _ _ _ _ _ _ _ _ _ _ _ _ (c .before .before .before .before .before .before .before .step .ensures) (c .before .if5 .left)
+    two c = ended-two _ _ _ _ _ _ _ _ _ _ _ _ _ _ (c .before .before .before .before .before .before .before .step .ensures .1) (c .before .if5 .left)
 
 fence-requires : tie.Need-fence-requires
-fence-requires c κs = omega (arith, c .before .before .if4 .left, ended-two _ _ _ _ _ _ _ _ _ _ _ _ _ _ (c .before .before .before .before .before .before .before .step .ensures) (c .before .if5 .left), c .before .before .before .before .before .before .before .step .kept)
+fence-requires c κs = omega (arith, c .before .before .if4 .left, ended-two _ _ _ _ _ _ _ _ _ _ _ _ _ _ (c .before .before .before .before .before .before .before .step .ensures .1) (c .before .if5 .left), c .before .before .before .before .before .before .before .step .kept)
 
 end-round-requires : tie.Need-end-round-requires
 end-round-requires c κs =
-    let n = numbers _ _ _ _ _ (c .before .before .before .before .before .before .before .before .before .before .before .before .before .before .before .before .before .before .before .before .before .before .before .in-use .ensures) (c .before .before .before .before .before .before .before .before .before .before .before .before .before .before .before .before .before .before .before .before .before .before .if1 .left) (c .before .before .before .before .before .before .before .before .before .before .before .before .before .before .before .before .before .before .before .before .state .ensures) in
-    (n .state-length, omega (arith, n), omega (arith, c .before .before .before .before .before .before .before .before .before .before .before .before .before .before .before .before .before .before .if2 .left))
+    let n = numbers _ _ _ _ _ (c .before .before .before .before .before .before .before .before .before .before .before .before .before .before .before .before .before .before .before .before .before .before .in-use .ensures) (c .before .before .before .before .before .before .before .before .before .before .before .before .before .before .before .before .before .before .before .before .before .if1 .left) (c .before .before .before .before .before .before .before .before .before .before .before .before .before .before .before .before .before .before .before .state .ensures) in
+    (n .state-length, omega (arith, n), omega (arith, c .before .before .before .before .before .before .before .before .before .before .before .before .before .before .before .before .before .if2 .left))
 
 done-requires-2 : tie.Need-done-requires-2
 done-requires-2 c κs = search needs
@@ -138,10 +134,10 @@ same-length-15 c = search needs
 
 returns-6 : tie.Need-returns-6
 returns-6 c =
-    let b = below-end _ _ _ _ _ _ (c .before .before .before .before .before .before .before .before .before .before .before .before .before .before .before .before .before .before .walk .ensures .0) in
-    step-ended _ _ _ _ _ _ _ (c .before .before .before .before .before .before .before .before .before .before .before .before .before .before .before .before .before .before .before .before .before .before .before .before .before .before .before .in-use .ensures) (c .before .before .before .before .before .before .before .before .before .before .before .before .before .before .before .before .before .before .before .before .before .before .before .before .before .before .if1 .left) (c .before .before .before .before .before .before .before .before .before .before .before .before .before .before .before .before .before .before .before .before .before .before .before .before .state .ensures) _ _ _ _ _ _ (c .before .before .before .before .before .before .before .before .before .before .before .before .before .before .before .before .before .before .before .before .before .before .if2 .left) (c .before .before .before .before .before .before .before .before .before .before .before .before .before .before .before .before .before .before .before .before .before .if3 .left) b (c .before .before .before .before .before .before .before .before .before .before .before .before .before .before .before .step .ensures)
+    let b = below-end _ _ _ _ _ _ (c .before .before .before .before .before .before .before .before .before .before .before .before .before .before .before .step .ensures .0 .ends) in
+    step-ended _ _ _ _ _ _ _ (c .before .before .before .before .before .before .before .before .before .before .before .before .before .before .before .before .before .before .before .before .before .before .before .before .before .before .in-use .ensures) (c .before .before .before .before .before .before .before .before .before .before .before .before .before .before .before .before .before .before .before .before .before .before .before .before .before .if1 .left) (c .before .before .before .before .before .before .before .before .before .before .before .before .before .before .before .before .before .before .before .before .before .before .before .state .ensures) _ _ _ _ _ _ (c .before .before .before .before .before .before .before .before .before .before .before .before .before .before .before .before .before .before .before .before .before .if2 .left) (c .before .before .before .before .before .before .before .before .before .before .before .before .before .before .before .before .before .before .before .before .if3 .left) b (c .before .before .before .before .before .before .before .before .before .before .before .before .before .before .before .step .ensures .1)
     _ _ _ _ _ _ _ (omega (arith, c .before .before .before .before .before .before .before .before .before .before .if4 .left, c .before .before .before .before .before .before .before .before .before .before .before .before .before .before .before .step .kept)) (c .before .before .before .before .before .before .before .before .before .if5 .left) (c .done2 .ensures) refl (c .before .before .before .end-round .ensures) (c .before .before .before .before .before .before .before .fence .ensures .1)
-    (omega (arith, ended-two _ _ _ _ _ _ _ _ _ _ _ _ _ _ (c .before .before .before .before .before .before .before .before .before .before .before .before .before .before .before .step .ensures) (c .before .before .before .before .before .before .before .before .before .if5 .left)))
+    (omega (arith, ended-two _ _ _ _ _ _ _ _ _ _ _ _ _ _ (c .before .before .before .before .before .before .before .before .before .before .before .before .before .before .before .step .ensures .1) (c .before .before .before .before .before .before .before .before .before .if5 .left)))
 
 pub step-round-spec : {M : Type 1} → statement M
 step-round-spec =
@@ -164,7 +160,6 @@ step-round-spec =
     sub-n
     mul-n
     sub-n-2
-    walk-requires
     step-requires
     refused-requires-4
     same-length-7

@@ -1,7 +1,7 @@
 -- `recovery::settle` meets its contract: a refusal leaves all as it was, and what is done is what the definition says. Assumes nothing.
 use mathlib.Core.Path.{refl, _∙_}
 use native.Mathlib.Omega.{arith}
-use Rattle.recovery.proofs.PlanLaws.{end-within, planned}
+use Rattle.recovery.proofs.PlanLaws.{planned}
 use Rattle.recovery.proofs.SettleLaws.{state-length, numbers, settle-searchable, settle-refused, settle-busy, settle-short, settle-done}
 use borrow.Author.Needs.{needs}
 use Rattle.recovery.proofs.settling.settle.Statement.{statement}
@@ -43,14 +43,10 @@ mul-n c = omega (arith, numbers _ _ _ _ _ (c .before .before .before .before .be
 sub-n : tie.Need-sub-n
 sub-n c = omega (arith, numbers _ _ _ _ _ (c .before .before .before .before .before .before .before .in-use .ensures) (c .before .before .before .before .before .before .if1 .left) (c .before .before .before .before .state .ensures))
 
-walk-requires : tie.Need-walk-requires
-walk-requires c κs = let n = numbers _ _ _ _ _ (c .before .before .before .before .before .before .before .in-use .ensures) (c .before .before .before .before .before .before .if1 .left) (c .before .before .before .before .state .ensures) in omega (arith, n)
-
 bring-back-requires : tie.Need-bring-back-requires
 bring-back-requires c κs =
-    let n = numbers _ _ _ _ _ (c .before .before .before .before .before .before .before .before .before .before .in-use .ensures) (c .before .before .before .before .before .before .before .before .before .if1 .left) (c .before .before .before .before .before .before .before .state .ensures) in
-    let s = settle-searchable _ _ _ _ n in
-    (end-within _ _ _ _ _ _ s (c .before .before .walk .ensures .0), n .homes-most, n .area-length, omega arith)
+    let n = numbers _ _ _ _ _ (c .before .before .before .before .before .before .before .before .before .in-use .ensures) (c .before .before .before .before .before .before .before .before .if1 .left) (c .before .before .before .before .before .before .state .ensures) in
+    (settle-searchable _ _ _ _ n, n .area-length, omega arith)
 
 refused-requires-3 : tie.Need-refused-requires-3
 refused-requires-3 c κs = search needs
@@ -66,22 +62,22 @@ same-length-7 c = search needs
 
 returns-3 : tie.Need-returns-3
 returns-3 c =
-    let n = numbers _ _ _ _ _ (c .before .before .before .before .before .before .before .before .before .before .before .before .before .before .before .before .before .in-use .ensures) (c .before .before .before .before .before .before .before .before .before .before .before .before .before .before .before .before .if1 .left) (c .before .before .before .before .before .before .before .before .before .before .before .before .before .before .state .ensures) in
+    let n = numbers _ _ _ _ _ (c .before .before .before .before .before .before .before .before .before .before .before .before .before .before .before .before .in-use .ensures) (c .before .before .before .before .before .before .before .before .before .before .before .before .before .before .before .if1 .left) (c .before .before .before .before .before .before .before .before .before .before .before .before .before .state .ensures) in
     let s = settle-searchable _ _ _ _ n in
     let b = c .before .before .before .before .before .before .bring-back in
-    let p = planned _ _ _ _ _ _ _ _ s (c .before .before .before .before .before .before .before .before .before .walk .ensures .0) (c .before .before .before .before .before .before .before .before .before .walk .ensures .1) refl in
-    settle-short _ _ _ _ _ _ _ _ _ (c .before .before .before .before .before .before .before .before .before .before .before .before .before .before .before .before .before .in-use .ensures) (c .before .before .before .before .before .before .before .before .before .before .before .before .before .before .before .before .if1 .left) (c .before .before .before .before .before .before .before .before .before .before .before .before .before .before .state .ensures) (c .before .before .before .before .before .before .before .before .before .before .before .before .if2 .left) p _ _ _ _ _
-    (omega (arith, c .before .if3 .taken, b .ensures .0, b .kept)) (c .refused3 .ensures) (b .ensures .1 .same-area (omega (arith, c .before .if3 .taken, b .kept)))
-    (b .ensures .1 .same-batch (omega (arith, c .before .if3 .taken, b .kept)))
+    let p = planned _ _ _ _ _ _ _ _ s (b .ensures .0 .ends) (b .ensures .0 .numbered) refl in
+    settle-short _ _ _ _ _ _ _ _ _ (c .before .before .before .before .before .before .before .before .before .before .before .before .before .before .before .before .in-use .ensures) (c .before .before .before .before .before .before .before .before .before .before .before .before .before .before .before .if1 .left) (c .before .before .before .before .before .before .before .before .before .before .before .before .before .state .ensures) (c .before .before .before .before .before .before .before .before .before .before .before .if2 .left) p _ _ _ _ _
+    (omega (arith, c .before .if3 .taken, b .ensures .1 .0, b .kept)) (c .refused3 .ensures) (b .ensures .1 .1 .same-area (omega (arith, c .before .if3 .taken, b .kept)))
+    (b .ensures .1 .1 .same-batch (omega (arith, c .before .if3 .taken, b .kept)))
 
 sub-fence : tie.Need-sub-fence
-sub-fence c = omega (arith, c .before .before .before .before .before .before .bring-back .ensures .0)
+sub-fence c = omega (arith, c .before .before .before .before .before .before .bring-back .ensures .1 .0)
 
 fence-requires : tie.Need-fence-requires
-fence-requires c κs = omega (arith, c .before .if3 .left, c .before .before .before .before .before .before .bring-back .ensures .0)
+fence-requires c κs = omega (arith, c .before .if3 .left, c .before .before .before .before .before .before .bring-back .ensures .1 .0)
 
 settle-state-requires : tie.Need-settle-state-requires
-settle-state-requires c κs = omega (arith, numbers _ _ _ _ _ (c .before .before .before .before .before .before .before .before .before .before .before .before .before .before .before .before .before .before .before .before .before .in-use .ensures) (c .before .before .before .before .before .before .before .before .before .before .before .before .before .before .before .before .before .before .before .before .if1 .left) (c .before .before .before .before .before .before .before .before .before .before .before .before .before .before .before .before .before .before .state .ensures))
+settle-state-requires c κs = omega (arith, numbers _ _ _ _ _ (c .before .before .before .before .before .before .before .before .before .before .before .before .before .before .before .before .before .before .before .before .in-use .ensures) (c .before .before .before .before .before .before .before .before .before .before .before .before .before .before .before .before .before .before .before .if1 .left) (c .before .before .before .before .before .before .before .before .before .before .before .before .before .before .before .before .before .state .ensures))
 
 done-requires : tie.Need-done-requires
 done-requires c κs = search needs
@@ -97,14 +93,14 @@ same-length-10 c = search needs
 
 returns-4 : tie.Need-returns-4
 returns-4 c =
-    let n = numbers _ _ _ _ _ (c .before .before .before .before .before .before .before .before .before .before .before .before .before .before .before .before .before .before .before .before .before .before .before .before .before .in-use .ensures) (c .before .before .before .before .before .before .before .before .before .before .before .before .before .before .before .before .before .before .before .before .before .before .before .before .if1 .left) (c .before .before .before .before .before .before .before .before .before .before .before .before .before .before .before .before .before .before .before .before .before .before .state .ensures) in
+    let n = numbers _ _ _ _ _ (c .before .before .before .before .before .before .before .before .before .before .before .before .before .before .before .before .before .before .before .before .before .before .before .before .in-use .ensures) (c .before .before .before .before .before .before .before .before .before .before .before .before .before .before .before .before .before .before .before .before .before .before .before .if1 .left) (c .before .before .before .before .before .before .before .before .before .before .before .before .before .before .before .before .before .before .before .before .before .state .ensures) in
     let s = settle-searchable _ _ _ _ n in
     let b = c .before .before .before .before .before .before .before .before .before .before .before .before .before .before .bring-back in
     let d = c .done .ensures in
-    let p = planned _ _ _ _ _ _ _ _ s (c .before .before .before .before .before .before .before .before .before .before .before .before .before .before .before .before .before .walk .ensures .0) (c .before .before .before .before .before .before .before .before .before .before .before .before .before .before .before .before .before .walk .ensures .1) refl in
-    settle-done _ _ _ _ _ _ _ _ _ (c .before .before .before .before .before .before .before .before .before .before .before .before .before .before .before .before .before .before .before .before .before .before .before .before .before .in-use .ensures) (c .before .before .before .before .before .before .before .before .before .before .before .before .before .before .before .before .before .before .before .before .before .before .before .before .if1 .left) (c .before .before .before .before .before .before .before .before .before .before .before .before .before .before .before .before .before .before .before .before .before .before .state .ensures) (c .before .before .before .before .before .before .before .before .before .before .before .before .before .before .before .before .before .before .before .before .if2 .left) p _ _ _ _ _ _ _ _
-    (omega (arith, c .before .before .before .before .before .before .before .before .before .if3 .left, b .ensures .0, b .kept)) (d .0, d .1, d .2 ∙ b .ensures .0) (b .ensures .1 .copied (omega (arith, c .before .before .before .before .before .before .before .before .before .if3 .left, b .kept)))
-    (b .ensures .1 .written (omega (arith, c .before .before .before .before .before .before .before .before .before .if3 .left, b .kept))) (c .before .before .before .before .before .before .before .fence .ensures .1) (omega (arith, b .ensures .0)) (c .before .before .before .settle-state .ensures)
+    let p = planned _ _ _ _ _ _ _ _ s (b .ensures .0 .ends) (b .ensures .0 .numbered) refl in
+    settle-done _ _ _ _ _ _ _ _ _ (c .before .before .before .before .before .before .before .before .before .before .before .before .before .before .before .before .before .before .before .before .before .before .before .before .in-use .ensures) (c .before .before .before .before .before .before .before .before .before .before .before .before .before .before .before .before .before .before .before .before .before .before .before .if1 .left) (c .before .before .before .before .before .before .before .before .before .before .before .before .before .before .before .before .before .before .before .before .before .state .ensures) (c .before .before .before .before .before .before .before .before .before .before .before .before .before .before .before .before .before .before .before .if2 .left) p _ _ _ _ _ _ _ _
+    (omega (arith, c .before .before .before .before .before .before .before .before .before .if3 .left, b .ensures .1 .0, b .kept)) (d .0, d .1, d .2 ∙ b .ensures .1 .0) (b .ensures .1 .1 .copied (omega (arith, c .before .before .before .before .before .before .before .before .before .if3 .left, b .kept)))
+    (b .ensures .1 .1 .written (omega (arith, c .before .before .before .before .before .before .before .before .before .if3 .left, b .kept))) (c .before .before .before .before .before .before .before .fence .ensures .1) (omega (arith, b .ensures .1 .0)) (c .before .before .before .settle-state .ensures)
 
 pub settle-spec : {M : Type 1} → statement M
 settle-spec =
@@ -122,7 +118,6 @@ settle-spec =
     returns-2
     mul-n
     sub-n
-    walk-requires
     bring-back-requires
     refused-requires-3
     same-length-5

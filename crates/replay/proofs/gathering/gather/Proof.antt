@@ -133,7 +133,7 @@ returns-2 c =
     let l = c .before .loop in
     let a = c .before .before .before .before .before .before .before .before .args in
     let p = c .before .before .before .before .before .before .before .before .pre in
-    chained-all _ _ _ _ _ (a .end - 7 * a .start - l .left) _ _ _ (p .1) (omega arith) (omega (arith, p .0 .most, p .0 .within)) (l .inv .0)
+    chained-all _ _ _ _ _ (a .end - 7 * a .start - l .left) _ _ _ (p .1) (omega arith) (omega (arith, p .0 .within)) (omega (arith, p .0 .most, p .0 .within)) (l .inv .0)
 
 pub gather-spec : {M : Type 1} → statement M
 gather-spec =

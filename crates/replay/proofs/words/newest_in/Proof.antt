@@ -7,7 +7,7 @@ use lib.ListN.{length, getD}
 use Rattle.model.specs.Layout.{entryAt}
 use Rattle.model.specs.declared.Tag.{Tag}
 use Rattle.scan.proofs.ScanLaws.{placed}
-use Rattle.replay.specs.Chains.{top}
+use Rattle.replay.specs.Chains.{top, Chained}
 use Rattle.replay.specs.Words.{unseen}
 use Rattle.replay.proofs.ChainLaws.{top-most, top-again, top-in}
 use Rattle.replay.proofs.NewestLaws.{Agrees, agrees-start, agrees-next, present-in, newest-all}
@@ -16,9 +16,12 @@ use Rattle.replay.proofs.words.newest_in.Tie as tie
 
 abbrev Inv-loop : tie.InvT-loop
 Inv-loop log last heads links table₀ w groups homes start end slot closers₀ map₀ code₀ table closers map code =
-    Agrees (entryAt log groups homes start) (7 * start) (end - 7 * start) w code (record { closers = closers; table = table; map = map })
+    (
+    (ch : Chained log groups homes start end last heads links)
+    → Agrees (entryAt log groups homes start) (7 * start) (end - 7 * start) (ch .reach) w code (record { closers = closers; table = table; map = map })
+    × (code ≤ ch .reach)
+    )
     × (top (entryAt log groups homes start) (7 * start) w code ≡ code)
-    × (code ≤ end - 7 * start)
 
 abbrev μ-loop : tie.MeasureT-loop
 μ-loop log last heads links table₀ w groups homes start end slot closers₀ map₀ code₀ table closers map code = code
@@ -36,25 +39,27 @@ loop-holds c =
     let a = c .before .before .before .before .before .before .args in
     let tags = entryAt (a .log .now) (a .groups) (a .homes) (a .start) in
     let N = a .end - 7 * a .start in
-    let e = p .1 .holds .head (a .w) (p .2) in
-    rw e (agrees-start tags (7 * a .start) N (a .w) _ (rw (p .4)), top-again tags (7 * a .start) (a .w) N, top-most tags (7 * a .start) (a .w) N)
+    let e = p .1 .head (a .w) (p .2) in (
+      λ ch. rw (ch .head (a .w) (p .2)) (agrees-start tags (7 * a .start) N (ch .reach) (a .w) _ (rw (p .4)), top-most tags (7 * a .start) (a .w) (ch .reach)),
+      rw e (top-again tags (7 * a .start) (a .w) (p .1 .reach)),
+    )
 
 -- the next entry of the chain: its offset, and that it is for the word
 offset-below : (c : tie.In-loop Inv-loop μ-loop)
-    → (suc (c .before .loop .code - 1) ≡ c .before .loop .code) × (c .before .loop .code - 1 < c .before .before .before .before .before .before .before .before .args .end - 7 * c .before .before .before .before .before .before .before .before .args .start)
-offset-below c = (omega (arith, c .loop-test .taken), omega (arith, c .loop-test .taken, c .before .loop .inv .2))
+    → (suc (c .before .loop .code - 1) ≡ c .before .loop .code) × (c .before .loop .code - 1 < c .before .before .before .before .before .before .before .before .pre .1 .reach)
+offset-below c = (omega (arith, c .loop-test .taken), omega (arith, c .loop-test .taken, c .before .loop .inv .0 (c .before .before .before .before .before .before .before .before .pre .1) .1))
 
 cast-offset : tie.Need-cast-offset Inv-loop μ-loop
-cast-offset c = omega (arith, c .before .before .before .before .before .before .before .before .pre .0 .within, c .before .before .before .before .before .before .before .before .pre .0 .most, c .before .loop .inv .2)
+cast-offset c = omega (arith, c .before .before .before .before .before .before .before .before .pre .1 .inside, c .before .before .before .before .before .before .before .before .pre .0 .most, c .before .loop .inv .0 (c .before .before .before .before .before .before .before .before .pre .1) .1)
 
 sub-offset : tie.Need-sub-offset Inv-loop μ-loop
 sub-offset c = omega (arith, c .loop-test .taken)
 
 slice-aggregate-take-at : tie.Need-slice-aggregate-take-at Inv-loop μ-loop
-slice-aggregate-take-at c = sym (c .before .before .loop .inv .0 .room .closing)
+slice-aggregate-take-at c = sym (c .before .before .loop .inv .0 (c .before .before .before .before .before .before .before .before .before .pre .1) .0 .room .closing)
 
 slice-aggregate-take-at-2 : tie.Need-slice-aggregate-take-at-2 Inv-loop μ-loop
-slice-aggregate-take-at-2 c = sym (c .before .before .before .before .loop .inv .0 .room .words)
+slice-aggregate-take-at-2 c = sym (c .before .before .before .before .loop .inv .0 (c .before .before .before .before .before .before .before .before .before .before .before .pre .1) .0 .room .words)
 
 take-at-requires : tie.Need-take-at-requires Inv-loop μ-loop
 take-at-requires c κs =
@@ -67,18 +72,18 @@ take-at-requires c κs =
       p .0 .most,
       p .0 .some,
       p .0 .low,
-      omega (arith, o .1, p .0 .within),
+      omega (arith, o .1, p .1 .inside),
       p .3,
       present-in (a .w) _ (top-in (entryAt (a .log .now) (a .groups) (a .homes) (a .start)) (7 * a .start) (a .w) (l .code - 1) (rw (o .0) (l .inv .1))),
       p .1 .room .lasts,
-      l .inv .0 .room,
+      l .inv .0 (p .1) .0 .room,
     )
 
 mul-code-2 : tie.Need-mul-code-2 Inv-loop μ-loop
-mul-code-2 c = omega (arith, offset-below (c .before .before .before .before .before .before .before .before) .1, c .before .before .before .before .before .before .before .before .before .before .before .before .before .before .before .before .pre .0 .within, c .before .before .before .before .before .before .before .before .before .before .before .before .before .before .before .before .pre .0 .most, c .before .before .before .before .before .before .before .before .before .before .before .before .before .before .before .before .pre .1 .room .each)
+mul-code-2 c = omega (arith, offset-below (c .before .before .before .before .before .before .before .before) .1, c .before .before .before .before .before .before .before .before .before .before .before .before .before .before .before .before .pre .1 .inside, c .before .before .before .before .before .before .before .before .before .before .before .before .before .before .before .before .pre .0 .most, c .before .before .before .before .before .before .before .before .before .before .before .before .before .before .before .before .pre .1 .room .each)
 
 shared-slice-read-code-2 : tie.Need-shared-slice-read-code-2 Inv-loop μ-loop
-shared-slice-read-code-2 c = omega (arith, offset-below (c .before .before .before .before .before .before .before .before .before) .1, c .before .before .before .before .before .before .before .before .before .before .before .before .before .before .before .before .before .pre .0 .within, c .before .before .before .before .before .before .before .before .before .before .before .before .before .before .before .before .before .pre .0 .most, c .before .before .before .before .before .before .before .before .before .before .before .before .before .before .before .before .before .pre .1 .room .each)
+shared-slice-read-code-2 c = omega (arith, offset-below (c .before .before .before .before .before .before .before .before .before) .1, c .before .before .before .before .before .before .before .before .before .before .before .before .before .before .before .before .before .pre .1 .inside, c .before .before .before .before .before .before .before .before .before .before .before .before .before .before .before .before .before .pre .0 .most, c .before .before .before .before .before .before .before .before .before .before .before .before .before .before .before .before .before .pre .1 .room .each)
 
 -- what the chain's link says
 module _ (c : tie.After-shared-slice-known6 Inv-loop μ-loop) where
@@ -90,7 +95,7 @@ module _ (c : tie.After-shared-slice-known6 Inv-loop μ-loop) where
 
   link-top : getD (c .before .before .before .before .before .before .before .before .before .before .before .before .before .before .before .before .before .args .links .now) (c .before .before .before .before .before .before .before .before .before .before .loop .code - 1) 0 ≡ top tags (7 * c .before .before .before .before .before .before .before .before .before .before .before .before .before .before .before .before .before .args .start) (c .before .before .before .before .before .before .before .before .before .before .before .before .before .before .before .before .before .args .w) (c .before .before .before .before .before .before .before .before .before .before .loop .code - 1)
   link-top =
-      c .before .before .before .before .before .before .before .before .before .before .before .before .before .before .before .before .before .pre .1 .holds .link (c .before .before .before .before .before .before .before .before .before .before .loop .code - 1) (offset-below (c .before .before .before .before .before .before .before .before .before) .1) (c .before .before .before .before .before .before .before .before .before .before .before .before .before .before .before .before .before .args .w)
+      c .before .before .before .before .before .before .before .before .before .before .before .before .before .before .before .before .before .pre .1 .link (c .before .before .before .before .before .before .before .before .before .before .loop .code - 1) (offset-below (c .before .before .before .before .before .before .before .before .before) .1) (c .before .before .before .before .before .before .before .before .before .before .before .before .before .before .before .before .before .args .w)
       (top-in tags (7 * c .before .before .before .before .before .before .before .before .before .before .before .before .before .before .before .before .before .args .start) (c .before .before .before .before .before .before .before .before .before .before .before .before .before .before .before .before .before .args .w) (c .before .before .before .before .before .before .before .before .before .before .loop .code - 1) code-top)
 
 loop-less : tie.Need-loop-less Inv-loop μ-loop
@@ -103,23 +108,26 @@ loop-again c =
     let l = c .before .before .before .before .before .before .before .before .before .before .loop in
     let o = offset-below (c .before .before .before .before .before .before .before .before .before) in
     rw (link-top c) (
-      agrees-next (tags c) (7 * a .start) (a .end - 7 * a .start) (a .w) (a .last .now) (placed _ _ _ _) (p .1 .holds .closing) (l .code - 1) _ _ (o .1)
-          (omega (arith, p .0 .within, p .0 .most)) (code-top c) (rw (o .0) (l .inv .0)) (c .before .before .before .before .before .take-at .ensures),
+      λ ch. (
+        agrees-next (tags c) (7 * a .start) (a .end - 7 * a .start) (ch .reach) (a .w) (a .last .now) (placed _ _ _ _) (ch .closing) (l .code - 1) _ _
+            (omega (arith, o .0, l .inv .0 ch .1)) (omega (arith, ch .inside, p .0 .most)) (code-top c) (rw (o .0) (l .inv .0 ch .0)) (c .before .before .before .before .before .take-at .ensures),
+        omega (arith, top-most (tags c) (7 * a .start) (a .w) (l .code - 1), o .0, l .inv .0 ch .1),
+      ),
       top-again (tags c) (7 * a .start) (a .w) (l .code - 1),
-      omega (arith, top-most (tags c) (7 * a .start) (a .w) (l .code - 1), o .1),
     )
 
 array-read-result : tie.Need-array-read-result Inv-loop μ-loop
-array-read-result c = omega (arith, c .before .loop .inv .0 .room .words)
+array-read-result c = omega (arith, c .before .loop .inv .0 (c .before .before .before .before .before .before .before .before .pre .1) .0 .room .words)
 
 same-length : tie.Need-same-length Inv-loop μ-loop
-same-length c = omega (arith, c .before .loop .inv .0 .room .each, ap length (c .before .before .before .before .before .before .before .before .pre .4))
+same-length c = omega (arith, c .before .loop .inv .0 (c .before .before .before .before .before .before .before .before .pre .1) .0 .room .each, ap length (c .before .before .before .before .before .before .before .before .pre .4))
 
 returns : tie.Need-returns Inv-loop μ-loop
 returns c =
     let l = c .before .loop in
     let e : l .code ≡ 0 = omega (arith, c .loop-test .left) in
-    newest-all _ _ _ _ _ _ _ _ _ (rw e at (l .inv .0))
+    let p = c .before .before .before .before .before .before .before .before .pre .1 in
+    newest-all _ _ _ _ _ _ _ _ _ _ (p .covers) (p .inside) (rw e at (l .inv .0 p .0))
 
 pub newest-in-spec : {M : Type 1} → statement M
 newest-in-spec =
