@@ -87,9 +87,9 @@ module _ (st : State) where
       }
 
   -- by the distance of the next group from the start
-  pub not-full : (groups d : ℕ) → st .groups ≡ groups → groups ≤ 1024 → st .start ≤ 2 ^ 47 → (d + st .start) % 2 ^ 64 ≡ st .next → d < groups
-      → st .filled ≤ 6 → GroupsInOrder st
-  not-full groups d e m s h l f =
+  pub not-over : (groups d : ℕ) → st .groups ≡ groups → groups ≤ 1024 → st .start ≤ 2 ^ 47 → (d + st .start) % 2 ^ 64 ≡ st .next → d ≤ groups
+      → st .filled ≤ 6 → 7 * d + st .filled ≤ 7 * groups → GroupsInOrder st
+  not-over groups d e m s h l f k =
       let n = distance-short d (st .start) (st .next) h (omega arith) in
       record {
         groups-most = omega arith;
@@ -97,8 +97,20 @@ module _ (st : State) where
         start-next = omega arith;
         next-most = omega arith;
         filled-most = f;
-        filled-none = λ k. absurd (omega arith);
+        filled-none = λ z. omega arith;
       }
+
+  pub groups-over : (groups d : ℕ) → st .groups ≡ groups → (d + st .start) % 2 ^ 64 ≡ st .next → d < 2 ^ 64 → groups < d → GroupsInOrder st → ⊥
+  groups-over groups d e h b l g = let n = distance-up d (st .start) (st .next) h b (g .start-next) in omega (arith, g .next-most)
+
+  pub places-over : (groups d : ℕ) → st .groups ≡ groups → (d + st .start) % 2 ^ 64 ≡ st .next → d < 2 ^ 64 → 7 * groups < 7 * d + st .filled
+      → GroupsInOrder st → ⊥
+  places-over groups d e h b l g =
+      go (distance-up d (st .start) (st .next) h b (g .start-next)) (decLt (st .next) (st .start + st .groups))
+    where
+      go : st .next ≡ d + st .start → Dec (st .next < st .start + st .groups) → ⊥
+      go n (yes k) = omega (arith, g .filled-most)
+      go n (no k) = let z = g .filled-none (omega (arith, g .next-most)) in omega arith
 
   pub groups-refused : st .groups ≤ 1024 → (GroupsInOrder st → ⊥) → false ≡ numbersInOrder st
   groups-refused m h = refuted (numbersInOrder st) (λ e. h (groups-order m e))

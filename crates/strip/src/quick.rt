@@ -1,4 +1,4 @@
-// Question 2 of a strip as it mostly is: nothing is promised, no round is under way and the log is not full.
+// Question 2 of a strip as it mostly is: nothing is promised and no round is under way.
 use crate::distances::distance;
 use crate::fields::state;
 use crate::order::MAX_START;
@@ -68,8 +68,8 @@ fn records_in_order(s: &[u8], st: State) -> bool
     true
 }
 
-// What the numbers of groups and homes, the round and the places filled tell of question 2: 2 if they are not in order, 1 where a round or a full log leaves that
-// to `in_order`, else 0.
+// What the numbers of groups and homes, the round and the places filled tell of question 2: 2 if they are not in order, 1 where a round leaves that to
+// `in_order`, else 0.
 fn groups_answer(st: State, groups: u64, homes: u64) -> u64
     requires { ⌜ groups ≤ 1024 ⌝ }
     ensures { λ r. ⌜ GroupsAnswer r st groups homes ⌝ }
@@ -86,17 +86,21 @@ fn groups_answer(st: State, groups: u64, homes: u64) -> u64
     if MAX_START < st.start {
         return 2;
     }
-    if groups <= distance(st.next, st.start) {
-        return 1;
+    let used = distance(st.next, st.start);
+    if groups < used {
+        return 2;
     }
     if 6 < st.filled {
+        return 2;
+    }
+    if 7 * groups < 7 * used + st.filled {
         return 2;
     }
     0
 }
 
-// Question 2 for a log of `groups` groups and `homes` homes: 0 if the strip is in order, 2 if it is not, and 1 where a promise, a round or a full log
-// leaves that to `in_order`.
+// Question 2 for a log of `groups` groups and `homes` homes: 0 if the strip is in order, 2 if it is not, and 1 where a promise or a round leaves that to
+// `in_order`.
 pub fn quick_answer(s: &[u8], groups: u64, homes: u64) -> u64
     requires { ⌜ (length (now s) ≡ 1024) × (groups ≤ 1024) × (homes ≤ 65535) ⌝ }
     ensures { λ r. ⌜ (r ≢ 1 → r ≡ ask (inOrder (now (s .entry)) groups homes) 2 0) ⌝ }

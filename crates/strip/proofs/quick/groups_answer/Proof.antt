@@ -2,7 +2,7 @@
 use mathlib.Core.Path.{refl}
 use native.Mathlib.Omega.{arith}
 use borrow.Author.Needs.{needs}
-use Rattle.strip.proofs.OrderTests.{groups-refused, not-full, other-groups, other-homes, numbers-not, groups-left, groups-no}
+use Rattle.strip.proofs.OrderTests.{groups-refused, not-over, groups-over, places-over, other-groups, other-homes, numbers-not, groups-left, groups-no}
 use Rattle.strip.proofs.quick.groups_answer.Statement.{statement}
 use Rattle.strip.proofs.quick.groups_answer.Tie as tie
 
@@ -22,14 +22,35 @@ distance-requires : tie.Need-distance-requires
 distance-requires c κs = search needs
 
 returns-5 : tie.Need-returns-5
-returns-5 c = groups-left _ _ _
+returns-5 c =
+    groups-no _ _ _
+    (λ s e.
+    numbers-not s _ _ _ e
+    (groups-refused _ (omega arith)
+    (λ g. groups-over _ _ _ (c .before .before .before .before .before .before .if2 .left) (c .before .distance .ensures) (omega arith) (c .if5 .taken) g)))
 
 returns-6 : tie.Need-returns-6
 returns-6 c = groups-no _ _ _ (λ s e. numbers-not s _ _ _ e (groups-refused _ (omega arith) (λ g. omega arith)))
 
+mul-if7 : tie.Need-mul-if7
+mul-if7 c = search needs
+
+mul-if7-2 : tie.Need-mul-if7-2
+mul-if7-2 c = search needs
+
+add-if7 : tie.Need-add-if7
+add-if7 c = search needs
+
 returns-7 : tie.Need-returns-7
 returns-7 c =
-    let c5 = c .before .before in
+    let c5 = c .before .before .before .before in
+    let c2 = c5 .before .before .before .before .before .before in
+    groups-no _ _ _
+    (λ s e. numbers-not s _ _ _ e (groups-refused _ (omega arith) (λ g. places-over _ _ _ (c2 .if2 .left) (c5 .before .distance .ensures) (omega arith) (c .if7 .taken) g)))
+
+returns-8 : tie.Need-returns-8
+returns-8 c =
+    let c5 = c .before .before .before .before in
     let c4 = c5 .before .before in
     let c3 = c4 .before .before in
     let c2 = c3 .before .before in
@@ -39,7 +60,7 @@ returns-7 c =
       groups-same = λ z. c2 .if2 .left;
       homes-same = λ z. c3 .if3 .left;
       no-round = λ z. c1 .if1 .left;
-      in-order = λ z. not-full _ _ _ (c2 .if2 .left) (omega arith) (omega arith) (c5 .before .distance .ensures) (omega arith) (omega arith);
+      in-order = λ z. not-over _ _ _ (c2 .if2 .left) (omega arith) (omega arith) (c5 .before .distance .ensures) (omega arith) (omega arith) (omega arith);
     }
 
 pub groups-answer-spec : {M : Type 1} → statement M
@@ -53,4 +74,8 @@ groups-answer-spec =
     distance-requires
     returns-5
     returns-6
-    returns-7)
+    mul-if7
+    mul-if7-2
+    add-if7
+    returns-7
+    returns-8)
