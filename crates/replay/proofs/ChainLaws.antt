@@ -2,7 +2,7 @@
 use mathlib.Core.Path.{_≡_, refl, sym, ap, _∙_}
 use mathlib.Core.Bool.{Bool, true, false, cond}
 use mathlib.Core.List.{List}
-use Prim.Native.Nat.{ℕ, zero, suc, _+_, _-_, _*_, _/_, _≤_, _<_}
+use Prim.Native.Nat.{ℕ, zero, suc, _+_, _-_, _*_, _/_, _^_, _≤_, _<_}
 use native.Mathlib.Decide.{ℕ-discrete}
 use native.Mathlib.Omega.{arith}
 use borrow.Author.Tests.{eq-eqb, ne-eqb, eqb-true}
@@ -10,7 +10,7 @@ use lib.Dec.{eqb}
 use lib.ListN.{getD, set, replicate, length-set, length-replicate}
 use lib.Seq.{getD-set-same, getD-set-other}
 use Rattle.model.specs.Tag.{belongs, homeOf, readTag}
-use Rattle.model.proofs.bytes.TagLaws.{entry-known, closing-known}
+use Rattle.model.proofs.bytes.TagLaws.{field-lt, entry-known, closing-known, closing-fields}
 use Rattle.model.specs.Layout.{entryAt}
 use Rattle.model.specs.declared.Tag.{Tag}
 use Rattle.model.specs.declared.Tag.the-variants.{Nothing, Entry, Closing}
@@ -92,6 +92,10 @@ module _ (word position base homes : ℕ) (t : Tag) (e : t ≡ readTag word posi
 
   pub closing-bounds : (h f link count : ℕ) → t ≡ Closing h f link count → (h < homes) × (base ≤ f) × (f ≤ position)
   closing-bounds h f link count d = let r = closing-known word position base homes h f link count (sym e ∙ d) in (r .0, r .1, r .2)
+
+  pub link-bound : (h f link count : ℕ) → t ≡ Closing h f link count → link < 2 ^ 13
+  link-bound h f link count d =
+      let q = closing-fields word position base homes h f link count (sym e ∙ d) in omega (arith, q .2, field-lt word 27 13)
 
 -- a tag t, which says r, is taken into the pass
 module _ (base position : ℕ) (g : Chains) (r t : Tag) (e : t ≡ r) where

@@ -2,8 +2,7 @@
 -- first position lies between the start and its own. Assumes nothing.
 use mathlib.Core.Path.{refl}
 use native.Mathlib.Omega.{arith}
-use Rattle.scan.proofs.VisitLaws as read
-use Rattle.replay.proofs.ChainLaws.{entry-bounds, closing-bounds}
+use Rattle.replay.proofs.ChainLaws.{entry-bounds, closing-bounds, link-bound}
 use Rattle.replay.proofs.WalkSteps.{join-held, join-nothing, join-entry, join-closing}
 use borrow.Author.Needs.{needs}
 use Rattle.replay.proofs.walking.visit.Statement.{statement}
@@ -47,11 +46,11 @@ join-closing-requires : tie.Need-join-closing-requires
 join-closing-requires c κs =
     let p = c .before .before .before .before .before .before .before .before .before .before .before .before .pre in
     let b = closing-bounds _ _ _ _ _ (c .before .before .before .before .before .before .read-tag .ensures) _ _ _ _ (c .before .before .before .before .home2 .given .1) in
-    let d = read.closing-bounds _ _ _ _ _ (c .before .before .before .before .before .before .read-tag .ensures) _ _ _ _ (c .before .before .before .before .home2 .given .1) in (
+    let d = link-bound _ _ _ _ _ (c .before .before .before .before .before .before .read-tag .ensures) _ _ _ _ (c .before .before .before .before .home2 .given .1) in (
       p .0,
       p .1,
       p .2,
-      d .2,
+      d,
       p .3,
       p .4,
       omega (arith, b),
