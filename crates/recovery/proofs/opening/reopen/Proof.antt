@@ -44,7 +44,7 @@ bring-back-requires : tie.Need-bring-back-requires
 bring-back-requires c κs =
     let o = openable _ _ _ _ _ (c .before .before .before .before .before .before .before .may-open .ensures) (c .before .before .before .before .before .before .if1 .left) in
     let s = open-searchable _ _ _ _ _ _ _ o (c .before .before .before .measure .ensures) in
-    (s, area-homes _ _ _ _ _ o (c .before .before .before .measure .ensures .1), omega (arith, s .most))
+    (record { long = s .long; least = s .least; most = s .most; homes-most = s .homes-most; low = s .low; within = omega arith }, area-homes _ _ _ _ _ o (c .before .before .before .measure .ensures .1), omega (arith, s .most))
 
 refused-requires-2 : tie.Need-refused-requires-2
 refused-requires-2 c κs = search needs
