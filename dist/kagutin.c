@@ -73,8 +73,17 @@ struct scan__slots__RingSlot {
     uint64_t turn;
 };
 
-struct array_u8_64 {
-    uint8_t at[64];
+struct positions__commits__Pass {
+    uint64_t number;
+    struct scan__slots__RingSlot at;
+    uint64_t done;
+};
+
+struct shown__ring__RingPlace {
+    uint64_t number;
+    uint64_t slot;
+    uint64_t turn;
+    uint64_t k;
 };
 
 struct recovery__opening__Shape {
@@ -350,6 +359,175 @@ static inline bool answers__lengths_right(struct slice_u8 log, struct slice_u8 a
     return (uint64_t)state.len == 1024u;
 }
 
+/* Whether nothing is promised to any writer: the eight promises are zero as two words. */
+static inline bool strip__promises__none_promised(struct slice_u8 s)
+{
+    if (load_8(s.ptr + 72u) != 0u) {
+        return false;
+    }
+    return load_8(s.ptr + 80u) == 0u;
+}
+
+/* How far `x` lies above `low`, modulo 2^64: one test of it tells whether `x` lies between `low` and a number above it. */
+static inline uint64_t strip__distances__distance(uint64_t x, uint64_t low)
+{
+    uint64_t t4;
+
+    if (low <= x) {
+        t4 = x - low;
+    } else {
+        t4 = (x + (UINT64_C(0xffffffffffffffff) - low)) + 1u;
+    }
+    return t4;
+}
+
+/* What the numbers of groups and homes, the round and the places filled tell of question 2: 2 if they are not in order, 1 where a
+   round leaves that to `in_order`, else 0. */
+static inline uint64_t strip__quick__groups_answer(struct model__State st, uint64_t groups, uint64_t homes)
+{
+    uint64_t t4;
+
+    if (st.round != 0u) {
+        return 1u;
+    }
+    if (st.groups != groups) {
+        return 2u;
+    }
+    if (st.homes != homes) {
+        return 2u;
+    }
+    if (UINT64_C(0x800000000000) < st.start) {
+        return 2u;
+    }
+    t4 = strip__distances__distance(st.next, st.start);
+    if (groups < t4) {
+        return 2u;
+    }
+    if (6u < st.filled) {
+        return 2u;
+    }
+    if ((7u * groups) < ((7u * t4) + st.filled)) {
+        return 2u;
+    }
+    return 0u;
+}
+
+/* Whether the numbers of the strip are in order, where its group numbers, the places filled and the round are. What lies between
+   two others is compared once, by its distance from the lower one. */
+static inline bool strip__order__bounds_in_order(struct model__State st)
+{
+    uint64_t t2, t3, t4, t5, t7;
+
+    t2 = 7u * st.start;
+    t3 = 7u * (st.next - st.start);
+    t4 = strip__distances__distance(st.fenced, t2);
+    if (t3 < t4) {
+        return false;
+    }
+    t5 = strip__distances__distance(st.settled, t2);
+    if (t4 < t5) {
+        return false;
+    }
+    if (st.fenced < st.durable) {
+        return false;
+    }
+    if (st.last == 0u) {
+        return true;
+    }
+    t7 = strip__distances__distance(st.last, t2 + 1u);
+    if ((t3 + st.filled) <= t7) {
+        return false;
+    }
+    return true;
+}
+
+/* Whether the record of a writer that holds a block for a home below D and has logged entries is in order: the positions since
+   its first one are among those of the log, and hold its entries. */
+static inline bool strip__quick__logged_in_order(struct model__State st, struct model__Writer r)
+{
+    uint64_t t4, t5, t7;
+
+    t4 = (7u * (st.next - st.start)) + st.filled;
+    t5 = strip__distances__distance((7u * st.start) + t4, r.first);
+    if (t4 < t5) {
+        return false;
+    }
+    t7 = strip__distances__distance(r.count, 1u);
+    if (t5 <= t7) {
+        return false;
+    }
+    return true;
+}
+
+/* Whether a writer's record is in order in a strip whose group numbers and places filled are. */
+static inline bool strip__quick__record_in_order(struct model__State st, struct model__Writer r)
+{
+    if (r.mode < 2u) {
+        return true;
+    }
+    if (st.homes <= r.home) {
+        return false;
+    }
+    if (r.mode == 2u) {
+        return true;
+    }
+    if (r.mode != 3u) {
+        return false;
+    }
+    return strip__quick__logged_in_order(st, r);
+}
+
+/* Whether the records of all eight writers are in order where nothing is promised: an idle writer is passed by its mode alone. */
+static inline bool strip__quick__records_in_order(struct slice_u8 s, struct model__State st)
+{
+    uint64_t t3, t8;
+    bool t4;
+
+    t3 = 0u;
+    while (t3 != 8u) {
+        t8 = 128u + (96u * t3);
+        t4 = strip__quick__record_in_order(st, (struct model__Writer){.mode = load_8(s.ptr + (size_t)t8), .home = load_8(s.ptr
+                + (size_t)(t8 + 8u)), .first = load_8(s.ptr + (size_t)(t8 + 16u)), .count = load_8(s.ptr + (size_t)(t8 + 24u))});
+        if (!t4) {
+            return false;
+        }
+        t3 = t3 + 1u;
+    }
+    return true;
+}
+
+/* Question 2 for a log of `groups` groups and `homes` homes: 0 if the strip is in order, 2 if it is not, and 1 where a promise or
+   a round leaves that to `in_order`. */
+static inline uint64_t strip__quick__quick_answer(struct slice_u8 s, uint64_t groups, uint64_t homes)
+{
+    struct model__State t4;
+    uint64_t t5, t9, t10;
+    bool t6, t7;
+
+    t6 = strip__promises__none_promised(s);
+    if (!t6) {
+        return 1u;
+    }
+    t9 = load_8(s.ptr);
+    t10 = load_8(s.ptr + 8u);
+    t4 = (struct model__State){.groups = t9, .homes = t10, .start = load_8(s.ptr + 16u), .next = load_8(s.ptr + 24u),
+            .filled = load_8(s.ptr + 32u), .settled = load_8(s.ptr + 40u), .fenced = load_8(s.ptr + 48u), .durable = load_8(s.ptr
+            + 56u), .last = load_8(s.ptr + 64u), .round = load_8(s.ptr + 88u), .cursor = load_8(s.ptr + 96u)};
+    t5 = strip__quick__groups_answer(t4, groups, homes);
+    if (t5 != 0u) {
+        return t5;
+    }
+    t7 = strip__order__bounds_in_order(t4);
+    if (!t7) {
+        return 2u;
+    }
+    t7 = strip__quick__records_in_order(s, t4);
+    if (!t7) {
+        return 2u;
+    }
+    return 0u;
+}
+
 /* Whether the position that a round has fixed lies from the settled to the fenced one, or there is no round. */
 static inline bool strip__order__round_in_order(struct model__State st)
 {
@@ -359,42 +537,19 @@ static inline bool strip__order__round_in_order(struct model__State st)
     if (st.round <= st.settled) {
         return false;
     }
-    return st.round <= (st.fenced + 1u);
+    return (st.round - 1u) <= st.fenced;
 }
 
 /* Whether the numbers of the strip are in order, where its group numbers and the places filled are. */
 static inline bool strip__order__positions_in_order(struct model__State st)
 {
-    uint64_t t2;
-    bool t3;
+    bool t2;
 
-    t2 = 7u * st.start;
-    if (st.settled < t2) {
+    t2 = strip__order__round_in_order(st);
+    if (!t2) {
         return false;
     }
-    if (st.fenced < st.settled) {
-        return false;
-    }
-    if ((7u * st.next) < st.fenced) {
-        return false;
-    }
-    if (st.fenced < st.durable) {
-        return false;
-    }
-    t3 = strip__order__round_in_order(st);
-    if (!t3) {
-        return false;
-    }
-    if (st.last == 0u) {
-        return true;
-    }
-    if (st.last <= t2) {
-        return false;
-    }
-    if (((7u * st.next) + st.filled) < st.last) {
-        return false;
-    }
-    return true;
+    return strip__order__bounds_in_order(st);
 }
 
 /* Whether the numbers of the strip are in order. */
@@ -423,13 +578,30 @@ static inline bool strip__order__numbers_in_order(struct model__State st)
     return strip__order__positions_in_order(st);
 }
 
-/* Whether nothing is promised to any writer: the eight promises are zero as two words. */
-static inline bool strip__promises__none_promised(struct slice_u8 s)
+/* How many places are promised to the eight writers together, one after the other. */
+static inline uint64_t strip__promises__promised_each(struct slice_u8 s)
 {
-    if (load_8(s.ptr + 72u) != 0u) {
-        return false;
+    uint64_t t2, t3;
+
+    t2 = 0u;
+    t3 = 0u;
+    while (t3 < 8u) {
+        t2 = t2 + load_2(s.ptr + (size_t)(72u + (2u * t3)));
+        t3 = t3 + 1u;
     }
-    return load_8(s.ptr + 80u) == 0u;
+    return t2;
+}
+
+/* How many places are promised to the eight writers together, mostly none. */
+static inline uint64_t strip__promises__promised(struct slice_u8 s)
+{
+    bool t2;
+
+    t2 = strip__promises__none_promised(s);
+    if (t2) {
+        return 0u;
+    }
+    return strip__promises__promised_each(s);
 }
 
 /* Whether a writer's record is in order in a strip with the numbers `st`. */
@@ -463,51 +635,6 @@ static inline bool strip__order__writer_in_order(struct model__State st, struct 
         return false;
     }
     return true;
-}
-
-/* The same where nothing is promised: an idle writer is passed by its mode alone. */
-static inline bool strip__order__records_in_order(struct slice_u8 s, struct model__State st)
-{
-    uint64_t t3, t8;
-    bool t4;
-
-    t3 = 0u;
-    while (t3 != 8u) {
-        t8 = 128u + (96u * t3);
-        t4 = strip__order__writer_in_order(st, (struct model__Writer){.mode = load_8(s.ptr + (size_t)t8), .home = load_8(s.ptr
-                + (size_t)(t8 + 8u)), .first = load_8(s.ptr + (size_t)(t8 + 16u)), .count = load_8(s.ptr + (size_t)(t8 + 24u))});
-        if (!t4) {
-            return false;
-        }
-        t3 = t3 + 1u;
-    }
-    return true;
-}
-
-/* How many places are promised to the eight writers together, one after the other. */
-static inline uint64_t strip__promises__promised_each(struct slice_u8 s)
-{
-    uint64_t t2, t3;
-
-    t2 = 0u;
-    t3 = 0u;
-    while (t3 < 8u) {
-        t2 = t2 + load_2(s.ptr + (size_t)(72u + (2u * t3)));
-        t3 = t3 + 1u;
-    }
-    return t2;
-}
-
-/* How many places are promised to the eight writers together, mostly none. */
-static inline uint64_t strip__promises__promised(struct slice_u8 s)
-{
-    bool t2;
-
-    t2 = strip__promises__none_promised(s);
-    if (t2) {
-        return 0u;
-    }
-    return strip__promises__promised_each(s);
 }
 
 /* Whether the record of writer `w` is in order in the strip `s` with the numbers `st`, and nothing is promised to it while it is
@@ -552,12 +679,12 @@ static inline bool strip__order__writers_in_order(struct slice_u8 s, struct mode
 static inline bool strip__order__in_order(struct slice_u8 s, uint64_t groups, uint64_t homes)
 {
     struct model__State t4;
-    bool t5, t7;
-    uint64_t t9, t11, t12;
+    bool t5;
+    uint64_t t8, t10, t11;
 
-    t11 = load_8(s.ptr);
-    t12 = load_8(s.ptr + 8u);
-    t4 = (struct model__State){.groups = t11, .homes = t12, .start = load_8(s.ptr + 16u), .next = load_8(s.ptr + 24u),
+    t10 = load_8(s.ptr);
+    t11 = load_8(s.ptr + 8u);
+    t4 = (struct model__State){.groups = t10, .homes = t11, .start = load_8(s.ptr + 16u), .next = load_8(s.ptr + 24u),
             .filled = load_8(s.ptr + 32u), .settled = load_8(s.ptr + 40u), .fenced = load_8(s.ptr + 48u), .durable = load_8(s.ptr
             + 56u), .last = load_8(s.ptr + 64u), .round = load_8(s.ptr + 88u), .cursor = load_8(s.ptr + 96u)};
     if (t4.groups != groups) {
@@ -570,12 +697,8 @@ static inline bool strip__order__in_order(struct slice_u8 s, uint64_t groups, ui
     if (!t5) {
         return false;
     }
-    t7 = strip__promises__none_promised(s);
-    if (t7) {
-        return strip__order__records_in_order(s, t4);
-    }
-    t9 = strip__promises__promised(s);
-    if (((7u * (t4.start + t4.groups)) - ((7u * t4.next) + t4.filled)) < t9) {
+    t8 = strip__promises__promised(s);
+    if (((7u * (t4.start + t4.groups)) - ((7u * t4.next) + t4.filled)) < t8) {
         return false;
     }
     return strip__order__writers_in_order(s, t4);
@@ -584,16 +707,21 @@ static inline bool strip__order__in_order(struct slice_u8 s, uint64_t groups, ui
 /* Questions 1 and 2: 0 if the lengths are right and the strip is in order, else the number of the refusal. */
 static inline uint64_t answers__in_use(struct slice_u8 log, struct slice_u8 area, struct slice_u8 state)
 {
-    uint64_t t4;
-    bool t6;
+    uint64_t t4, t5, t6;
+    bool t7, t8;
 
-    t6 = answers__lengths_right(log, area, state);
-    if (!t6) {
+    t7 = answers__lengths_right(log, area, state);
+    if (!t7) {
         return 1u;
     }
     t4 = areas__lengths__log_groups((uint64_t)log.len);
-    t6 = strip__order__in_order(state, t4, (uint64_t)area.len / 64u);
-    if (!t6) {
+    t5 = (uint64_t)area.len / 64u;
+    t6 = strip__quick__quick_answer(state, t4, t5);
+    if (t6 != 1u) {
+        return t6;
+    }
+    t8 = strip__order__in_order(state, t4, t5);
+    if (!t8) {
         return 2u;
     }
     return 0u;
@@ -807,15 +935,23 @@ static inline bool strip__promises__room_for(struct slice_u8 s, struct model__St
 
 /* Questions 8 and 10 of a call that logs an entry of writer `w`: 0 if the log has room for it, and the batch for the group that
    it may fill. */
-static inline uint64_t logging__entry__may_log(struct slice_u8 state, struct model__State st, uint64_t w, uint64_t batch)
+static inline uint64_t logging__entry__may_log(struct slice_u8 state, uint64_t w, uint64_t batch)
 {
+    struct model__State t4;
     bool t5;
+    uint64_t t8, t9;
 
-    t5 = strip__promises__room_for(state, st, w);
+    t8 = load_8(state.ptr);
+    t9 = load_8(state.ptr + 8u);
+    t4 = (struct model__State){.groups = t8, .homes = t9, .start = load_8(state.ptr + 16u), .next = load_8(state.ptr + 24u),
+            .filled = load_8(state.ptr + 32u), .settled = load_8(state.ptr + 40u), .fenced = load_8(state.ptr + 48u),
+            .durable = load_8(state.ptr + 56u), .last = load_8(state.ptr + 64u), .round = load_8(state.ptr + 88u),
+            .cursor = load_8(state.ptr + 96u)};
+    t5 = strip__promises__room_for(state, t4, w);
     if (!t5) {
         return 8u;
     }
-    if (st.filled != 6u) {
+    if (t4.filled != 6u) {
         return 0u;
     }
     if (batch < 516u) {
@@ -828,7 +964,7 @@ static inline uint64_t logging__entry__may_log(struct slice_u8 state, struct mod
 static inline uint64_t logging__commits__commit_verdict(struct slice_u8 log, struct slice_u8 area, struct slice_u8 state,
         struct slice_u8 newest, struct slice_u8 batch, uint64_t writer)
 {
-    uint64_t t7, t15, t437, t438;
+    uint64_t t7, t14;
     struct model__Writer t8;
 
     t7 = answers__in_use_newest(log, area, state, newest);
@@ -838,21 +974,16 @@ static inline uint64_t logging__commits__commit_verdict(struct slice_u8 log, str
     if (8u <= writer) {
         return 4u;
     }
-    t15 = 128u + (96u * writer);
-    t8 = (struct model__Writer){.mode = load_8(state.ptr + (size_t)t15), .home = load_8(state.ptr + (size_t)(t15 + 8u)),
-            .first = load_8(state.ptr + (size_t)(t15 + 16u)), .count = load_8(state.ptr + (size_t)(t15 + 24u))};
+    t14 = 128u + (96u * writer);
+    t8 = (struct model__Writer){.mode = load_8(state.ptr + (size_t)t14), .home = load_8(state.ptr + (size_t)(t14 + 8u)),
+            .first = load_8(state.ptr + (size_t)(t14 + 16u)), .count = load_8(state.ptr + (size_t)(t14 + 24u))};
     if (!(1u <= t8.mode)) {
         return 7u;
     }
     if (!(2u <= t8.mode)) {
         return 0u;
     }
-    t437 = load_8(state.ptr);
-    t438 = load_8(state.ptr + 8u);
-    return logging__entry__may_log(state, (struct model__State){.groups = t437, .homes = t438, .start = load_8(state.ptr + 16u),
-            .next = load_8(state.ptr + 24u), .filled = load_8(state.ptr + 32u), .settled = load_8(state.ptr + 40u),
-            .fenced = load_8(state.ptr + 48u), .durable = load_8(state.ptr + 56u), .last = load_8(state.ptr + 64u),
-            .round = load_8(state.ptr + 88u), .cursor = load_8(state.ptr + 96u)}, writer, (uint64_t)batch.len);
+    return logging__entry__may_log(state, writer, (uint64_t)batch.len);
 }
 
 /* Ends the transaction of a writer that holds nothing, and gives back the places promised to it. */
@@ -1050,22 +1181,29 @@ static inline uint64_t batch__records__group_write(struct slice_mut_u8 batch, ui
 
 /* Logs the held block of writer `w` with the tag `word` at the next position; the seventh place of a group hands it on. */
 static inline uint64_t logging__entry__log_entry(struct slice_mut_u8 log, struct slice_mut_u8 state, struct slice_mut_u8 batch,
-        struct model__State st, uint64_t word, uint64_t w)
+        uint64_t word, uint64_t w)
 {
-    uint64_t t7, t9, t11;
+    struct model__State t6;
+    uint64_t t7, t9, t13, t35, t36;
 
-    t7 = st.next % st.groups;
+    t35 = load_8(state.ptr);
+    t36 = load_8(state.ptr + 8u);
+    t6 = (struct model__State){.groups = t35, .homes = t36, .start = load_8(state.ptr + 16u), .next = load_8(state.ptr + 24u),
+            .filled = load_8(state.ptr + 32u), .settled = load_8(state.ptr + 40u), .fenced = load_8(state.ptr + 48u),
+            .durable = load_8(state.ptr + 56u), .last = load_8(state.ptr + 64u), .round = load_8(state.ptr + 88u),
+            .cursor = load_8(state.ptr + 96u)};
+    t7 = t6.next % t6.groups;
     t9 = (128u + (96u * w)) + 32u;
-    areas__groups__enter(log, t7, (st.next / st.groups) % 2u, st, word, (struct slice_u8){state.ptr + (size_t)t9, (size_t)((t9
+    areas__groups__enter(log, t7, (t6.next / t6.groups) % 2u, t6, word, (struct slice_u8){state.ptr + (size_t)t9, (size_t)((t9
             + 64u) - t9)});
-    if (st.filled != 6u) {
-        store_8(state.ptr + 32u, st.filled + 1u);
+    if (t6.filled != 6u) {
+        store_8(state.ptr + 32u, t6.filled + 1u);
         return 0u;
     }
-    store_8(state.ptr + 24u, st.next + 1u);
+    store_8(state.ptr + 24u, t6.next + 1u);
     store_8(state.ptr + 32u, 0u);
-    t11 = batch__records__group_write(batch, 0u, t7, (struct slice_u8){log.ptr, log.len});
-    return t11;
+    t13 = batch__records__group_write(batch, 0u, t7, (struct slice_u8){log.ptr, log.len});
+    return t13;
 }
 
 /* Logs the held block as the closing entry and ends the transaction. */
@@ -1076,23 +1214,10 @@ static inline uint64_t logging__commits__close_held(struct slice_mut_u8 log, str
 
     t7 = (7u * st.next) + st.filled;
     t8 = logging__entry__closing_word(st, r, t7);
-    t9 = logging__entry__log_entry(log, state, batch, st, t8, w);
+    t9 = logging__entry__log_entry(log, state, batch, t8, w);
     store_8(state.ptr + 64u, t7 + 1u);
     writers__abort(state, w);
     return t9;
-}
-
-/* How many of the `left` positions the next group has. */
-static inline uint64_t scan__commits__in_group(uint64_t left)
-{
-    uint64_t t3;
-
-    if (left < 7u) {
-        t3 = left;
-    } else {
-        t3 = 7u;
-    }
-    return t3;
 }
 
 /* Whether the 512 bytes of a ring slot are a valid group with number `n`, in a log of `groups` groups from number `start` on. */
@@ -1107,13 +1232,28 @@ static inline bool scan__groups__group_valid(struct slice_u8 group, uint64_t gro
     return n < (start + groups);
 }
 
-/* How many positions from `position` on lie before another. */
-static inline uint64_t scan__commits__skipped(uint64_t position, uint64_t first)
+/* The same for tag `k` of a group, where it is the transaction's entry that does not close it, which is `plain` but for its home,
+   or has another distance back; returns whether it is one of these. Only an entry of the transaction has its block's turn bit
+   looked at. */
+static inline bool positions__words__keep_plain(struct slice_u8 group, uint64_t turn, uint64_t k, uint64_t plain,
+        uint64_t position, uint64_t homes, struct slice_mut_u8 newest)
 {
-    if (first < position) {
-        return 0u;
+    uint64_t t8, t9, t136;
+
+    t8 = load_8(group.ptr + (size_t)(8u + (8u * k)));
+    if (!(((t8 ^ plain) & UINT64_C(0xfc1fffffffffc003)) == 0u)) {
+        return ((t8 ^ plain) & UINT64_C(0x7ffc000)) != 0u;
     }
-    return first - position;
+    if (128u <= (uint8_t)((uint32_t)group.ptr[(size_t)((64u + (64u * k)) + 63u)] ^ (uint8_t)((uint32_t)128u * (uint8_t)turn))) {
+        return true;
+    }
+    t136 = t8 ^ plain;
+    t9 = ((t136 >> 2u) + (t136 >> 41u)) % UINT64_C(0x10000);
+    if (homes <= t9) {
+        return false;
+    }
+    store_8(newest.ptr + (size_t)(8u * t9), position);
+    return true;
 }
 
 /* The word of tag `k` of a group if its data block has the turn of the group, else that of no entry. */
@@ -1123,72 +1263,6 @@ static inline uint64_t scan__groups__word_there(struct slice_u8 group, uint64_t 
         return 0u;
     }
     return load_8(group.ptr + (size_t)(8u + (8u * k)));
-}
-
-/* The home in a word that is `plain`, that of an entry for home 0 which does not close its transaction, but for its home and
-   displaced bit; 2^16 for any other word. So an entry with a known distance back is read by one comparison. */
-static inline uint64_t codec__tags__plain_home(uint64_t word, uint64_t plain)
-{
-    if (((word ^ plain) & UINT64_C(0xfc1fffffffffc003)) != 0u) {
-        return UINT64_C(0x10000);
-    }
-    return ((word >> 2u) & 4095u) | (((word >> 53u) & 15u) << 12u);
-}
-
-/* The same where `word` is the transaction's entry that does not close it, which is `plain` but for its home, or has another
-   distance back; returns whether it is one of these. */
-static inline bool positions__commits__keep_plain(struct slice_mut_u8 newest, uint64_t word, uint64_t plain, uint64_t position,
-        uint64_t homes)
-{
-    uint64_t t6;
-
-    t6 = codec__tags__plain_home(word, plain);
-    if (t6 < homes) {
-        store_8(newest.ptr + (size_t)(8u * t6), position);
-        return true;
-    }
-    return ((word ^ plain) & UINT64_C(0x7ffc000)) != 0u;
-}
-
-/* Keeps the transaction's entries of a valid group one after the other, as long as they are plain; returns how many tags it has
-   taken. */
-static inline uint64_t positions__commits__keep_seven(struct slice_u8 group, uint64_t homes, uint64_t n, uint64_t turn,
-        uint64_t first, struct slice_mut_u8 newest)
-{
-    uint64_t t7, t8, t9, t10;
-    bool t12;
-
-    t7 = 7u * n;
-    t8 = ((1u | (((uint64_t)0u & 4095u) << 2u)) | ((t7 - first) << 14u)) | (((uint64_t)0u >> 12u) << 53u);
-    t9 = 0u;
-    while (t9 < 7u) {
-        t10 = scan__groups__word_there(group, turn, t9);
-        t12 = positions__commits__keep_plain(newest, t10, t8, t7, homes);
-        if (!t12) {
-            return t9;
-        }
-        t7 = t7 + 1u;
-        t8 = t8 + 16384u;
-        t9 = t9 + 1u;
-    }
-    return t9;
-}
-
-/* Where the first `m` tags of a valid group are all to be taken, does so as far as they are plain; returns up to which tag
-   nothing is left to do. */
-static inline uint64_t positions__commits__keep_first(struct slice_u8 group, uint64_t homes, uint64_t n, uint64_t turn,
-        uint64_t m, uint64_t first, struct slice_mut_u8 newest)
-{
-    uint64_t t8;
-
-    t8 = scan__commits__skipped(7u * n, first);
-    if (t8 != 0u) {
-        return t8;
-    }
-    if (m != 7u) {
-        return 0u;
-    }
-    return positions__commits__keep_seven(group, homes, n, turn, first, newest);
 }
 
 /* What a word says at a position of a log that starts at position `base` and has `homes` homes. */
@@ -1229,7 +1303,7 @@ static inline struct model__Tag codec__tags__read_tag(uint64_t word, uint64_t po
 
 /* Keeps a position if `word`, that of its tag, is an entry of the transaction with first position `first`, whatever kind of
    entry. Its distance back is compared before all else. */
-static inline void positions__commits__keep_word(struct slice_mut_u8 newest, uint64_t word, uint64_t position, uint64_t base,
+static inline void positions__words__keep_word(struct slice_mut_u8 newest, uint64_t word, uint64_t position, uint64_t base,
         uint64_t homes, uint64_t first)
 {
     struct model__Tag t12;
@@ -1246,39 +1320,53 @@ static inline void positions__commits__keep_word(struct slice_mut_u8 newest, uin
     }
 }
 
-/* The same for every word. */
-static inline void positions__commits__keep_entry(struct slice_mut_u8 newest, uint64_t word, uint64_t position, uint64_t base,
-        uint64_t homes, uint64_t first)
+/* The same for every tag. */
+static inline void positions__words__keep_entry(struct slice_u8 group, uint64_t turn, uint64_t k, uint64_t position,
+        uint64_t base, uint64_t homes, uint64_t first, struct slice_mut_u8 newest)
 {
-    bool t9;
+    uint64_t t10;
+    bool t12;
 
-    t9 = positions__commits__keep_plain(newest, word, ((1u | (((uint64_t)0u & 4095u) << 2u)) | ((position - first) << 14u))
-            | (((uint64_t)0u >> 12u) << 53u), position, homes);
-    if (t9) {
+    t12 = positions__words__keep_plain(group, turn, k, ((1u | (((uint64_t)0u & 4095u) << 2u)) | ((position - first) << 14u))
+            | (((uint64_t)0u >> 12u) << 53u), position, homes, newest);
+    if (t12) {
         return;
     }
-    positions__commits__keep_word(newest, word, position, base, homes, first);
+    t10 = scan__groups__word_there(group, turn, k);
+    positions__words__keep_word(newest, t10, position, base, homes, first);
 }
 
-/* Keeps the transaction's entries among the first `m` of a group, which says nothing where it is not the valid group with number
-   `n` and turn `turn`. */
-static inline void positions__commits__keep_group(struct slice_u8 group, uint64_t groups, uint64_t homes, uint64_t start,
-        uint64_t n, uint64_t turn, uint64_t m, uint64_t first, struct slice_mut_u8 newest)
+/* Keeps the transaction's entries from tag `done` of a group to below tag `m`, where those before are taken. The group says
+   nothing where it is not the valid group with number `n` and turn `turn`. */
+static inline void positions__groups__keep_between(struct slice_u8 group, uint64_t groups, uint64_t homes, uint64_t start,
+        uint64_t n, uint64_t turn, uint64_t done, uint64_t m, uint64_t first, struct slice_mut_u8 newest)
 {
-    uint64_t t10, t11, t12;
+    uint64_t t11, t12;
     bool t13;
 
     t13 = scan__groups__group_valid(group, groups, start, n);
     if (!t13) {
         return;
     }
-    t10 = 7u * start;
-    t11 = positions__commits__keep_first(group, homes, n, turn, m, first, newest);
-    while (t11 < m) {
-        t12 = scan__groups__word_there(group, turn, t11);
-        positions__commits__keep_entry(newest, t12, (7u * n) + t11, t10, homes, first);
-        t11 = t11 + 1u;
+    t11 = 7u * start;
+    t12 = done;
+    while (t12 < m) {
+        positions__words__keep_entry(group, turn, t12, (7u * n) + t12, t11, homes, first, newest);
+        t12 = t12 + 1u;
     }
+}
+
+/* Keeps the transaction's entries of the pass's group that are left below its tag `m`. */
+static inline void positions__commits__keep_rest(struct slice_u8 log, uint64_t groups, uint64_t homes, uint64_t start,
+        uint64_t first, struct positions__commits__Pass pass, uint64_t m, struct slice_mut_u8 newest)
+{
+    struct scan__slots__RingSlot t9;
+    uint64_t t10;
+
+    t9 = pass.at;
+    t10 = 64u + (512u * t9.slot);
+    positions__groups__keep_between((struct slice_u8){log.ptr + (size_t)t10, (size_t)((t10 + 512u) - t10)}, groups, homes, start,
+            pass.number, t9.turn, pass.done, m, first, newest);
 }
 
 /* Those of the group after: the turn changes where the slots begin again. */
@@ -1293,26 +1381,89 @@ static inline struct scan__slots__RingSlot scan__slots__next_slot(struct scan__s
     return (struct scan__slots__RingSlot){.slot = t3, .turn = at.turn};
 }
 
+/* Keeps the transaction's entries of a valid group one after the other, as long as they are plain; returns how many tags it has
+   taken. */
+static inline uint64_t positions__groups__keep_seven(struct slice_u8 group, uint64_t homes, uint64_t n, uint64_t turn,
+        uint64_t first, struct slice_mut_u8 newest)
+{
+    uint64_t t7, t8, t9;
+    bool t11;
+
+    t7 = 7u * n;
+    t8 = ((1u | (((uint64_t)0u & 4095u) << 2u)) | ((t7 - first) << 14u)) | (((uint64_t)0u >> 12u) << 53u);
+    t9 = 0u;
+    while (t9 < 7u) {
+        t11 = positions__words__keep_plain(group, turn, t9, t8, t7, homes, newest);
+        if (!t11) {
+            return t9;
+        }
+        t7 = t7 + 1u;
+        t8 = t8 + 16384u;
+        t9 = t9 + 1u;
+    }
+    return t9;
+}
+
+/* The same for a group of the log's range, none where it is not the valid group with number `n`: its head is asked once. */
+static inline uint64_t positions__groups__keep_whole(struct slice_u8 group, uint64_t groups, uint64_t homes, uint64_t start,
+        uint64_t n, uint64_t turn, uint64_t first, struct slice_mut_u8 newest)
+{
+    (void)groups;
+    (void)start;
+
+    if (!(load_8(group.ptr) == (((n % UINT64_C(0x1000000000000)) * UINT64_C(0x10000)) + 18256u))) {
+        return 0u;
+    }
+    return positions__groups__keep_seven(group, homes, n, turn, first, newest);
+}
+
+/* Keeps the transaction's entries of the groups from number `from` on that lie whole below position `end`, as long as their tags
+   are plain. */
+static inline struct positions__commits__Pass positions__commits__keep_groups(struct slice_u8 log, uint64_t groups,
+        uint64_t homes, uint64_t start, uint64_t first, uint64_t end, uint64_t from, struct scan__slots__RingSlot ring,
+        struct slice_mut_u8 newest)
+{
+    uint64_t t10, t12, t14;
+    struct scan__slots__RingSlot t11;
+
+    t10 = from;
+    t11 = ring;
+    while (((7u * t10) + 7u) <= end) {
+        t12 = 64u + (512u * t11.slot);
+        t14 = positions__groups__keep_whole((struct slice_u8){log.ptr + (size_t)t12, (size_t)((t12 + 512u) - t12)}, groups, homes,
+                start, t10, t11.turn, first, newest);
+        if (t14 != 7u) {
+            return (struct positions__commits__Pass){.number = t10, .at = t11, .done = t14};
+        }
+        t11 = scan__slots__next_slot(t11, groups);
+        t10 = t10 + 1u;
+    }
+    return (struct positions__commits__Pass){.number = t10, .at = t11, .done = 0u};
+}
+
 /* Keeps the position of each entry of the transaction from position `first` to the closing one, so that the later position wins.
    */
 static inline void positions__commits__keep_entries(struct slice_u8 log, uint64_t groups, uint64_t homes, uint64_t start,
         uint64_t first, uint64_t closing, struct slice_mut_u8 newest)
 {
-    uint64_t t8, t10, t11, t13;
-    struct scan__slots__RingSlot t9;
+    uint64_t t8, t10, t13;
+    struct positions__commits__Pass t11;
+    struct scan__slots__RingSlot t12;
 
     t8 = first / 7u;
-    t9 = (struct scan__slots__RingSlot){.slot = t8 % groups, .turn = (t8 / groups) % 2u};
-    t10 = (closing + 1u) - (7u * t8);
-    while (0u < t10) {
-        t11 = 64u + (512u * t9.slot);
-        t13 = scan__commits__in_group(t10);
-        positions__commits__keep_group((struct slice_u8){log.ptr + (size_t)t11, (size_t)((t11 + 512u) - t11)}, groups, homes,
-                start, t8, t9.turn, t13, first, newest);
-        t9 = scan__slots__next_slot(t9, groups);
-        t8 = t8 + 1u;
-        t10 = t10 - t13;
+    t10 = closing + 1u;
+    t11 = (struct positions__commits__Pass){.number = t8, .at = (struct scan__slots__RingSlot){.slot = t8 % groups,
+            .turn = (t8 / groups) % 2u}, .done = first - (7u * t8)};
+    while (((7u * t11.number) + 7u) <= t10) {
+        positions__commits__keep_rest(log, groups, homes, start, first, t11, 7u, newest);
+        t12 = scan__slots__next_slot(t11.at, groups);
+        t11 = positions__commits__keep_groups(log, groups, homes, start, first, t10, t11.number + 1u, t12, newest);
     }
+    t13 = t10 - (7u * t11.number);
+    if (t13 == 0u) {
+        return;
+    }
+    positions__commits__keep_rest(log, groups, homes, start, first, t11, t13, newest);
 }
 
 /* Keeps the position of each entry of the transaction that was closed at the next position. */
@@ -1491,109 +1642,129 @@ static inline bool rights__list__none_kept(struct slice_u8 kept, uint64_t from)
     return load_8(kept.ptr + (size_t)(from + 24u)) == UINT64_C(0xffffffffffffffff);
 }
 
-/* What tag `k` of a group says if its data block has the turn of the group. */
-static inline struct model__Tag scan__groups__tag_there(struct slice_u8 group, uint64_t turn, uint64_t k, uint64_t position,
-        uint64_t base, uint64_t homes)
+/* Whether a word says `after` positions behind the log's start that an entry for a home is there, test by test of its fields. */
+static inline bool shown__tags__fields_for(uint64_t word, uint64_t home, uint64_t after)
 {
-    uint64_t t7;
+    uint64_t t4, t5, t6, t7;
 
-    t7 = scan__groups__word_there(group, turn, k);
-    return codec__tags__read_tag(t7, position, base, homes);
-}
-
-/* Whether an entry for a home stands at a position of the log: its group's number is in range. */
-static inline bool shown__entry_there(struct slice_u8 log, struct model__State st, uint64_t home, uint64_t position)
-{
-    uint64_t t5, t6, t8;
-    struct scan__slots__RingSlot t7;
-    struct slice_u8 t9;
-    struct model__Tag t19;
-    bool t20;
-
-    t5 = position / 7u;
-    t6 = position % 7u;
-    t7 = (struct scan__slots__RingSlot){.slot = t5 % st.groups, .turn = (t5 / st.groups) % 2u};
-    t8 = 64u + (512u * t7.slot);
-    t9 = (struct slice_u8){log.ptr + (size_t)t8, (size_t)((t8 + 512u) - t8)};
-    if (!(load_8(t9.ptr) == (((t5 % UINT64_C(0x1000000000000)) * UINT64_C(0x10000)) + 18256u))) {
+    if (after < ((word >> 14u) % 8192u)) {
         return false;
     }
-    t19 = scan__groups__tag_there(t9, t7.turn, t6, position, 7u * st.start, st.homes);
-    if (t19.tag == 0u) {
-        t20 = false;
-    } else if (t19.tag == 1u) {
-        t20 = t19.u64_0 == home;
-    } else {
-        t20 = t19.u64_0 == home;
+    t4 = word >> 53u;
+    t5 = home >> 12u;
+    if (t4 != t5) {
+        if (t4 != (t5 + 16u)) {
+            return false;
+        }
     }
-    return t20;
+    t6 = word % 16384u;
+    t7 = (4u * (home % 4096u)) + 1u;
+    if (t6 == t7) {
+        return ((word >> 27u) % UINT64_C(0x4000000)) == 0u;
+    }
+    if (t6 != (t7 + 2u)) {
+        return false;
+    }
+    return 0u < ((word >> 40u) % 8192u);
 }
 
-/* Whether an entry for a home is at the position kept for it, if that lies from the start of the log to below the next position.
-   */
-static inline bool shown__is_there(struct slice_u8 log, struct model__State st, uint64_t home, uint64_t position)
+/* The same. The word of an entry that does not close its transaction and displaced no bit has nothing above the distance back:
+   that and its low bits are all that is compared. */
+static inline bool shown__tags__is_entry_for(uint64_t word, uint64_t home, uint64_t after)
 {
-    if (position < (7u * st.start)) {
-        return false;
+    if ((word >> 14u) <= after) {
+        return (word % 16384u) == ((4u * home) + 1u);
     }
-    if (((7u * st.next) + st.filled) <= position) {
-        return false;
-    }
-    return shown__entry_there(log, st, home, position);
+    return shown__tags__fields_for(word, home, after);
 }
 
-/* Where the block of that entry lies in the log, 0 where there is none. */
+/* Whether an entry for a home stands `after` positions behind the log's start, which is at a place of the ring: its group's
+   number is in range. */
+static inline bool shown__entry_there(struct slice_u8 log, struct model__State st, uint64_t home, uint64_t after,
+        struct shown__ring__RingPlace at)
+{
+    uint64_t t6, t8;
+    struct slice_u8 t7;
+    (void)st;
+
+    t6 = 64u + (512u * at.slot);
+    t7 = (struct slice_u8){log.ptr + (size_t)t6, (size_t)((t6 + 512u) - t6)};
+    if (!(load_8(t7.ptr) == (((at.number % UINT64_C(0x1000000000000)) * UINT64_C(0x10000)) + 18256u))) {
+        return false;
+    }
+    t8 = scan__groups__word_there(t7, at.turn, at.k);
+    return shown__tags__is_entry_for(t8, home, after);
+}
+
+/* Where the block of the entry for a home lies in the log, if one is at the position kept for it; else 0. */
 static inline uint64_t shown__place_by(struct slice_u8 log, struct model__State st, uint64_t home, uint64_t position)
 {
-    struct scan__slots__RingSlot t6;
-    bool t7;
-    uint64_t t16;
+    uint64_t t5, t6, t20, t21;
+    struct shown__ring__RingPlace t7;
+    bool t8;
+    struct scan__slots__RingSlot t22;
 
-    t7 = shown__is_there(log, st, home, position);
-    if (!t7) {
+    t5 = 7u * st.start;
+    if (position < t5) {
         return 0u;
     }
-    t16 = position / 7u;
-    t6 = (struct scan__slots__RingSlot){.slot = t16 % st.groups, .turn = (t16 / st.groups) % 2u};
-    return (64u + (512u * t6.slot)) + (64u + (64u * (position % 7u)));
+    if (((7u * st.next) + st.filled) <= position) {
+        return 0u;
+    }
+    t6 = position - t5;
+    t20 = (t6 * 9363u) >> 16u;
+    t21 = st.start + t20;
+    t22 = (struct scan__slots__RingSlot){.slot = t21 % st.groups, .turn = (t21 / st.groups) % 2u};
+    t7 = (struct shown__ring__RingPlace){.number = t21, .slot = t22.slot, .turn = t22.turn, .k = t6 - (7u * t20)};
+    t8 = shown__entry_there(log, st, home, t6, t7);
+    if (!t8) {
+        return 0u;
+    }
+    return (64u + (512u * t7.slot)) + (64u + (64u * t7.k));
 }
 
 /* The same by the strip. Called by one name from everywhere, so that of its numbers only those that are compared are read. */
 static inline uint64_t shown__place(struct slice_u8 log, struct slice_u8 state, uint64_t home, uint64_t position)
 {
-    uint64_t t7, t8;
+    struct model__State t5;
+    uint64_t t8, t9;
 
-    t7 = load_8(state.ptr);
-    t8 = load_8(state.ptr + 8u);
-    return shown__place_by(log, (struct model__State){.groups = t7, .homes = t8, .start = load_8(state.ptr + 16u),
-            .next = load_8(state.ptr + 24u), .filled = load_8(state.ptr + 32u), .settled = load_8(state.ptr + 40u),
-            .fenced = load_8(state.ptr + 48u), .durable = load_8(state.ptr + 56u), .last = load_8(state.ptr + 64u),
-            .round = load_8(state.ptr + 88u), .cursor = load_8(state.ptr + 96u)}, home, position);
+    t8 = load_8(state.ptr);
+    t9 = load_8(state.ptr + 8u);
+    t5 = (struct model__State){.groups = t8, .homes = t9, .start = load_8(state.ptr + 16u), .next = load_8(state.ptr + 24u),
+            .filled = load_8(state.ptr + 32u), .settled = load_8(state.ptr + 40u), .fenced = load_8(state.ptr + 48u),
+            .durable = load_8(state.ptr + 56u), .last = load_8(state.ptr + 64u), .round = load_8(state.ptr + 88u),
+            .cursor = load_8(state.ptr + 96u)};
+    if (t5.homes <= home) {
+        return 0u;
+    }
+    return shown__place_by(log, t5, home, position);
 }
 
 /* Where the block of the list's home 8 + `i` lies in the log, 0 where the data copy has it. */
 static inline uint64_t rights__list__place(struct slice_u8 log, struct slice_u8 state, struct slice_u8 kept, uint64_t from,
         uint64_t i)
 {
-    uint64_t t6;
-
-    t6 = load_8(kept.ptr + (size_t)(from + (8u * i)));
-    if (t6 == UINT64_C(0xffffffffffffffff)) {
-        return 0u;
-    }
-    return shown__place(log, state, 8u + i, t6);
+    return shown__place(log, state, 8u + i, load_8(kept.ptr + (size_t)(from + (8u * i))));
 }
 
-/* Whether a home lies in the range at index `at`. */
+/* A home less the first of a range, modulo 2^64. */
+static inline uint64_t rights__ranges__wrapped_difference(uint64_t home, uint64_t first)
+{
+    if (first <= home) {
+        return home - first;
+    }
+    return (home + (UINT64_C(0xffffffffffffffff) - first)) + 1u;
+}
+
+/* Whether a home lies in the range at index `at`: a home before it wraps to a difference that no range has. */
 static inline bool rights__ranges__in_range(struct slice_u8 s, uint64_t at, uint64_t home)
 {
-    uint64_t t4;
+    uint64_t t5, t7;
 
-    t4 = load_2(s.ptr + (size_t)at);
-    if (home < t4) {
-        return false;
-    }
-    return home < (t4 + load_2(s.ptr + (size_t)(at + 2u)));
+    t5 = load_2(s.ptr + (size_t)(at + 2u));
+    t7 = rights__ranges__wrapped_difference(home, load_2(s.ptr + (size_t)at));
+    return t7 < t5;
 }
 
 /* Whether a home lies in one of the four ranges from index `at` on. */
@@ -1616,25 +1787,23 @@ static inline bool rights__ranges__in_ranges(struct slice_u8 s, uint64_t at, uin
     return rights__ranges__in_range(s, at + 12u, home);
 }
 
-/* Copies the block that the entry with its block at index `at` gives. */
-static inline void shown__show_at(struct slice_mut_u8 block, struct slice_u8 log, uint64_t at)
-{
-    uint64_t t9;
-
-    t9 = at - 64u;
-    codec__turns__copy_with_top_bit(block, 0u, log, at, (load_8(log.ptr + (size_t)((64u + ((t9 / 512u) * 512u))
-            + ((t9 % 512u) / 8u))) >> 57u) & 1u);
-}
-
 /* Whether a home lies in the last range of the block that the entry with its block at index `place` of the log gives: it ends
    with the turn bit. */
 static inline bool rights__ranges__in_last(struct slice_u8 log, uint64_t place, uint64_t home)
 {
-    struct array_u8_64 t4;
+    uint64_t t4, t5, t219;
 
-    memset(&t4, 0u, sizeof t4);
-    shown__show_at((struct slice_mut_u8){t4.at, 64u}, log, place);
-    return rights__ranges__in_range((struct slice_u8){t4.at, 64u}, 60u, home);
+    t4 = load_2(log.ptr + (size_t)(place + 60u));
+    if (home < t4) {
+        return false;
+    }
+    t5 = load_2(log.ptr + (size_t)(place + 62u)) % 32768u;
+    if (home < (t4 + t5)) {
+        return true;
+    }
+    t219 = place - 64u;
+    return home < (t4 + (t5 + (32768u * ((load_8(log.ptr + (size_t)((64u + ((t219 / 512u) * 512u))
+            + ((t219 % 512u) / 8u))) >> 57u) & 1u))));
 }
 
 /* Whether a home lies in one of the four ranges from index `o` on of that block: all but a block's last range stand in the log as
@@ -1670,29 +1839,38 @@ static inline bool rights__list__own_ranges(struct slice_u8 log, struct slice_u8
     return rights__ranges__in_entry(log, found, at % 64u, home);
 }
 
+/* Whether the block that the entry with its block at index `place` of the log gives is all zeros: the turn bit is shifted out of
+   its last word, and the bit that it displaced counts instead. */
+static inline bool rights__zeros__zero_entry(struct slice_u8 log, uint64_t place)
+{
+    uint64_t t3, t431, t954;
+
+    t3 = load_8(log.ptr + (size_t)place) | (load_8(log.ptr + (size_t)(place + 8u)) | (load_8(log.ptr + (size_t)(place + 16u))
+            | load_8(log.ptr + (size_t)(place + 24u))));
+    t431 = place + 24u;
+    if ((t3 | (load_8(log.ptr + (size_t)t431) | (load_8(log.ptr + (size_t)(t431 + 8u)) | (load_8(log.ptr + (size_t)(t431 + 16u))
+            | load_8(log.ptr + (size_t)(t431 + 24u)))))) != 0u) {
+        return false;
+    }
+    t954 = place - 64u;
+    return ((load_8(log.ptr + (size_t)(place + 56u)) << 1u) | ((load_8(log.ptr + (size_t)((64u + ((t954 / 512u) * 512u))
+            + ((t954 % 512u) / 8u))) >> 57u) & 1u)) == 0u;
+}
+
 /* Whether block `i` of the list, which has the place `found`, is all zeros. */
 static inline bool rights__list__is_zero(struct slice_u8 log, struct slice_u8 area, uint64_t found, uint64_t i)
 {
-    struct array_u8_64 t5;
-    uint64_t t15, t16, t440, t861, t1285;
-    struct slice_u8 t860;
+    uint64_t t9, t10, t434;
 
     if (found == 0u) {
-        t15 = 64u * (8u + i);
-        t16 = load_8(area.ptr + (size_t)t15) | (load_8(area.ptr + (size_t)(t15 + 8u)) | (load_8(area.ptr + (size_t)(t15 + 16u))
-                | load_8(area.ptr + (size_t)(t15 + 24u))));
-        t440 = t15 + 32u;
-        return (t16 | (load_8(area.ptr + (size_t)t440) | (load_8(area.ptr + (size_t)(t440 + 8u)) | (load_8(area.ptr
-                + (size_t)(t440 + 16u)) | load_8(area.ptr + (size_t)(t440 + 24u)))))) == 0u;
+        t9 = 64u * (8u + i);
+        t10 = load_8(area.ptr + (size_t)t9) | (load_8(area.ptr + (size_t)(t9 + 8u)) | (load_8(area.ptr + (size_t)(t9 + 16u))
+                | load_8(area.ptr + (size_t)(t9 + 24u))));
+        t434 = t9 + 32u;
+        return (t10 | (load_8(area.ptr + (size_t)t434) | (load_8(area.ptr + (size_t)(t434 + 8u)) | (load_8(area.ptr
+                + (size_t)(t434 + 16u)) | load_8(area.ptr + (size_t)(t434 + 24u)))))) == 0u;
     }
-    memset(&t5, 0u, sizeof t5);
-    shown__show_at((struct slice_mut_u8){t5.at, 64u}, log, found);
-    t860 = (struct slice_u8){t5.at, 64u};
-    t861 = load_8(t860.ptr) | (load_8(t860.ptr + (size_t)((uint64_t)0u + 8u)) | (load_8(t860.ptr + (size_t)((uint64_t)0u + 16u))
-            | load_8(t860.ptr + (size_t)((uint64_t)0u + 24u))));
-    t1285 = (uint64_t)0u + 32u;
-    return (t861 | (load_8(t860.ptr + (size_t)t1285) | (load_8(t860.ptr + (size_t)(t1285 + 8u)) | (load_8(t860.ptr
-            + (size_t)(t1285 + 16u)) | load_8(t860.ptr + (size_t)(t1285 + 24u)))))) == 0u;
+    return rights__zeros__zero_entry(log, found);
 }
 
 /* The same for block `i`, where block `own` is known to be all zeros. */
@@ -1869,6 +2047,28 @@ static inline void reading__blocks__show_held(struct slice_mut_u8 block, struct 
     areas__blocks__copy_block(block, 0u, state, (128u + (96u * w)) + 32u);
 }
 
+/* How many of the `left` positions the next group has. */
+static inline uint64_t scan__commits__in_group(uint64_t left)
+{
+    uint64_t t3;
+
+    if (left < 7u) {
+        t3 = left;
+    } else {
+        t3 = 7u;
+    }
+    return t3;
+}
+
+/* How many positions from `position` on lie before another. */
+static inline uint64_t scan__commits__skipped(uint64_t position, uint64_t first)
+{
+    if (first < position) {
+        return 0u;
+    }
+    return first - position;
+}
+
 /* The distance back to its first entry that tag `k` of a group holds, used or not, if its data block has the turn of the group:
    what belongs to a transaction has it, so it is compared first. */
 static inline uint64_t scan__groups__back_in(struct slice_u8 group, uint64_t turn, uint64_t k)
@@ -1877,6 +2077,16 @@ static inline uint64_t scan__groups__back_in(struct slice_u8 group, uint64_t tur
 
     t4 = scan__groups__word_there(group, turn, k);
     return (t4 >> 14u) & 8191u;
+}
+
+/* What tag `k` of a group says if its data block has the turn of the group. */
+static inline struct model__Tag scan__groups__tag_there(struct slice_u8 group, uint64_t turn, uint64_t k, uint64_t position,
+        uint64_t base, uint64_t homes)
+{
+    uint64_t t7;
+
+    t7 = scan__groups__word_there(group, turn, k);
+    return codec__tags__read_tag(t7, position, base, homes);
 }
 
 /* The newest entry once one for a home is seen at a position. */
@@ -3252,57 +3462,90 @@ static inline struct recovery__planning__Replay recovery__planning__bring_once(s
             .more = t16.more, .found = true};
 }
 
-/* Takes what the word of a tag says at a position. */
-static inline struct scan__commits__Progress scan__commits__visit(uint64_t word, uint64_t position, uint64_t base, uint64_t homes,
-        struct slice_mut_u16 counts, struct scan__commits__Progress progress)
+/* Takes the word of an entry that does not close its transaction, at index `index` of the log; `above` is the word of an entry
+   for the first home that there is not. */
+static inline struct scan__commits__Progress scan__commits__visit_plain(uint64_t word, uint64_t above, uint64_t base,
+        uint64_t index, struct slice_mut_u16 counts, struct scan__commits__Progress progress)
 {
-    struct model__Tag t12;
-    struct scan__commits__Progress t13;
-    uint64_t t25, t32;
-    uint16_t t33;
+    uint64_t t7, t20;
+    (void)base;
 
-    t12 = codec__tags__read_tag(word, position, base, homes);
-    if (t12.tag == 0u) {
-        t13 = progress;
-    } else if (t12.tag == 1u) {
-        t25 = t12.u64_1 - base;
-        counts.ptr[(size_t)t25] = (uint16_t)((uint32_t)counts.ptr[(size_t)t25] + 1u);
-        t13 = progress;
-    } else {
-        t32 = t12.u64_1 - base;
-        t33 = (uint16_t)((uint32_t)counts.ptr[(size_t)t32] + 1u);
-        counts.ptr[(size_t)t32] = t33;
-        t13 = scan__commits__judge(progress, base, position, t12.u64_2, (uint64_t)t33 == t12.u64_3);
+    if (!((word & UINT64_C(0x1e0000000003ffd)) < above)) {
+        return progress;
     }
-    return t13;
+    t7 = (word >> 14u) & 8191u;
+    if (index < t7) {
+        return progress;
+    }
+    t20 = index - t7;
+    counts.ptr[(size_t)t20] = (uint16_t)((uint32_t)counts.ptr[(size_t)t20] + 1u);
+    return progress;
 }
 
-/* Takes the first `m` tags of a group, which says nothing where it is not the valid group with number `n` and turn `turn`. */
+/* The same for the word of a closing entry. */
+static inline struct scan__commits__Progress scan__commits__visit_closing(uint64_t word, uint64_t above, uint64_t base,
+        uint64_t index, struct slice_mut_u16 counts, struct scan__commits__Progress progress)
+{
+    uint64_t t7, t8, t24;
+    uint16_t t25;
+
+    if (!((word & UINT64_C(0x1e0000000003ffd)) < above)) {
+        return progress;
+    }
+    t7 = (word >> 14u) & 8191u;
+    if (index < t7) {
+        return progress;
+    }
+    t8 = (word >> 40u) & 8191u;
+    if (t8 == 0u) {
+        return progress;
+    }
+    t24 = index - t7;
+    t25 = (uint16_t)((uint32_t)counts.ptr[(size_t)t24] + 1u);
+    counts.ptr[(size_t)t24] = t25;
+    return scan__commits__judge(progress, base, base + index, (word >> 27u) & 8191u, (uint64_t)t25 == t8);
+}
+
+/* Takes what the word of a tag says at index `index` of the log. */
+static inline struct scan__commits__Progress scan__commits__visit(uint64_t word, uint64_t above, uint64_t base, uint64_t index,
+        struct slice_mut_u16 counts, struct scan__commits__Progress progress)
+{
+    if ((word & UINT64_C(0xfc1ffffff8000003)) == 1u) {
+        return scan__commits__visit_plain(word, above, base, index, counts, progress);
+    }
+    if ((word & UINT64_C(0xfc00000000000003)) == 3u) {
+        return scan__commits__visit_closing(word, above, base, index, counts, progress);
+    }
+    return progress;
+}
+
+/* Takes the first `m` tags of a group, or those up to the first closing entry that fails. The group says nothing where it is not
+   the valid group with number `n` and turn `turn`. */
 static inline struct scan__commits__Progress scan__commits__visit_group(struct slice_u8 group, uint64_t groups, uint64_t homes,
         uint64_t start, uint64_t n, uint64_t turn, uint64_t m, struct slice_mut_u16 counts,
         struct scan__commits__Progress progress)
 {
-    struct array_u64_7 t10, t17;
-    uint64_t t11, t13, t14;
-    struct scan__commits__Progress t12;
-    bool t15;
+    uint64_t t10, t11, t12, t14, t19;
+    struct scan__commits__Progress t13;
+    (void)groups;
 
-    t15 = scan__groups__group_valid(group, groups, start, n);
-    if (!t15) {
+    if (!(load_8(group.ptr) == (((n % UINT64_C(0x1000000000000)) * UINT64_C(0x10000)) + 18256u))) {
         return progress;
     }
-    t17 = scan__groups__tag_words(group, turn);
-    t10 = t17;
+    t10 = ((1u | ((homes & 4095u) << 2u)) | ((uint64_t)0u << 14u)) | ((homes >> 12u) << 53u);
     t11 = 7u * start;
-    t12 = progress;
-    t13 = 7u * n;
+    t12 = (7u * n) - t11;
+    t13 = progress;
     t14 = 0u;
     while (t14 < m) {
-        t12 = scan__commits__visit(t10.at[(size_t)t14], t13, t11, homes, counts, t12);
-        t13 = t13 + 1u;
+        t19 = scan__groups__word_there(group, turn, t14);
+        t13 = scan__commits__visit(t19, t10, t11, t12 + t14, counts, t13);
+        if (t13.failed != 0u) {
+            return t13;
+        }
         t14 = t14 + 1u;
     }
-    return t12;
+    return t13;
 }
 
 /* Walks the `n` positions of the log from its start on, group by group, and finds where the committed transactions end and how
@@ -3552,18 +3795,23 @@ static inline struct answers__Reply kagutin__kagutin_open(struct slice_mut_u8 lo
 static inline uint64_t answers__in_use_block(struct slice_u8 log, struct slice_u8 area, struct slice_u8 state,
         struct slice_u8 block)
 {
-    uint64_t t5;
-    bool t7, t8;
+    uint64_t t5, t6, t7;
+    bool t8;
 
-    t7 = answers__lengths_right(log, area, state);
-    if (!t7) {
+    t8 = answers__lengths_right(log, area, state);
+    if (!t8) {
         return 1u;
     }
     if ((uint64_t)block.len != 64u) {
         return 1u;
     }
     t5 = areas__lengths__log_groups((uint64_t)log.len);
-    t8 = strip__order__in_order(state, t5, (uint64_t)area.len / 64u);
+    t6 = (uint64_t)area.len / 64u;
+    t7 = strip__quick__quick_answer(state, t5, t6);
+    if (t7 != 1u) {
+        return t7;
+    }
+    t8 = strip__order__in_order(state, t5, t6);
     if (!t8) {
         return 2u;
     }
@@ -3904,9 +4152,9 @@ static inline bool rights__may_store(struct slice_u8 log, struct slice_u8 area, 
 static inline uint64_t logging__stores__store_verdict(struct slice_u8 log, struct slice_u8 area, struct slice_u8 state,
         struct slice_u8 block, struct slice_u8 batch, uint64_t writer, uint64_t home)
 {
-    uint64_t t8, t19, t441, t442;
+    uint64_t t8, t18;
     struct model__Writer t9;
-    bool t11;
+    bool t10;
 
     t8 = answers__in_use_block(log, area, state, block);
     if (t8 != 0u) {
@@ -3918,13 +4166,13 @@ static inline uint64_t logging__stores__store_verdict(struct slice_u8 log, struc
     if (((uint64_t)area.len / 64u) <= home) {
         return 5u;
     }
-    t11 = rights__may_store(log, area, state, writer, home);
-    if (!t11) {
+    t10 = rights__may_store(log, area, state, writer, home);
+    if (!t10) {
         return 19u;
     }
-    t19 = 128u + (96u * writer);
-    t9 = (struct model__Writer){.mode = load_8(state.ptr + (size_t)t19), .home = load_8(state.ptr + (size_t)(t19 + 8u)),
-            .first = load_8(state.ptr + (size_t)(t19 + 16u)), .count = load_8(state.ptr + (size_t)(t19 + 24u))};
+    t18 = 128u + (96u * writer);
+    t9 = (struct model__Writer){.mode = load_8(state.ptr + (size_t)t18), .home = load_8(state.ptr + (size_t)(t18 + 8u)),
+            .first = load_8(state.ptr + (size_t)(t18 + 16u)), .count = load_8(state.ptr + (size_t)(t18 + 24u))};
     if (!(1u <= t9.mode)) {
         return 7u;
     }
@@ -3934,12 +4182,7 @@ static inline uint64_t logging__stores__store_verdict(struct slice_u8 log, struc
     if (t9.home == home) {
         return 0u;
     }
-    t441 = load_8(state.ptr);
-    t442 = load_8(state.ptr + 8u);
-    return logging__entry__may_log(state, (struct model__State){.groups = t441, .homes = t442, .start = load_8(state.ptr + 16u),
-            .next = load_8(state.ptr + 24u), .filled = load_8(state.ptr + 32u), .settled = load_8(state.ptr + 40u),
-            .fenced = load_8(state.ptr + 48u), .durable = load_8(state.ptr + 56u), .last = load_8(state.ptr + 64u),
-            .round = load_8(state.ptr + 88u), .cursor = load_8(state.ptr + 96u)}, writer, (uint64_t)batch.len);
+    return logging__entry__may_log(state, writer, (uint64_t)batch.len);
 }
 
 /* The record `r` once its writer holds a block for `home`; a block that it held for another home was logged at `position`. */
@@ -4033,8 +4276,8 @@ static inline uint64_t logging__stores__hold_next(struct slice_mut_u8 log, struc
     t9 = (7u * st.next) + st.filled;
     t10 = logging__entry__store_word(st, r, t9);
     writers__hold(state, w, r, home, t9);
-    t11 = logging__entry__log_entry(log, state, batch, st, t10, w);
-    strip__writers__set_held(state, w, block);
+    t11 = logging__entry__log_entry(log, state, batch, t10, w);
+    strip__writers__set_held(state, w, (struct slice_u8){block.ptr, (size_t)((uint64_t)64u - 0u)});
     return t11;
 }
 
