@@ -1,9 +1,10 @@
 // The highest start that no transaction of the closing entries below a position lies across: one pass over the log's groups, from the last down.
 use model::Tag;
 ghost use mathlib.Core.Path.{_≡_};
-ghost use Prim.Native.Nat.{_+_, _-_, _*_, _^_, _≤_, _<_};
+ghost use mathlib.Core.Bool.{true};
+ghost use Prim.Native.Nat.{_+_, _-_, _*_, _/_, _^_, _≤_, _<_};
 ghost use lib.ListN.{length};
-ghost use Rattle.model.specs.Tag.{readTag};
+ghost use Rattle.model.specs.Tag.{field, readTag};
 ghost use Rattle.model.specs.Layout.{turnOf, wordThere, entryIn, entryAt};
 ghost use Rattle.model.specs.Effects.{noneAcross};
 ghost use Rattle.model.proofs.rule.Closings.{closings};
@@ -24,7 +25,22 @@ fn word_limit(word: u64, position: u64, base: u64, homes: u64, limit: u64) -> u6
     }
 }
 
-// The same for tag `k` of a group with turn `turn`. A tag that closes nothing is passed by its closing bit, whatever its data block is.
+// Whether the word of a tag, if it closes a transaction at a position, closes one that begins in group `limit` or after.
+fn begins_after(word: u64, position: u64, limit: u64) -> bool
+    ensures { λ r. ⌜ (r ≡ true → limit ≤ (position - field word 14 13) / 7) ⌝ }
+{
+    let back = codec::tag_back(word);
+    if position < back {
+        return false;
+    }
+    if (position - back) / 7 < limit {
+        return false;
+    }
+    true
+}
+
+// The same for tag `k` of a group with turn `turn`. A tag that closes nothing, or a transaction that begins at the limit or after it, is passed whatever
+// its data block is.
 fn tag_limit(
     group: &[u8],
     turn: u64,
@@ -37,7 +53,11 @@ fn tag_limit(
     requires { ⌜ (length (now group) ≡ 512) × (k < 7) ⌝ }
     ensures { λ r. ⌜ r ≡ spanLimit (readTag (wordThere (now (group .entry)) turn k) position base homes) limit ⌝ }
 {
-    if codec::number(group, 8 + 8 * k, 8) & 2 == 0 {
+    let word = codec::number(group, 8 + 8 * k, 8);
+    if word & 2 == 0 {
+        return limit;
+    }
+    if begins_after(word, position, limit) {
         return limit;
     }
     word_limit(
