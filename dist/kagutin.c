@@ -4521,6 +4521,21 @@ static inline struct scan__slots__RingSlot scan__slots__previous_slot(struct sca
     return (struct scan__slots__RingSlot){.slot = t3 - 1u, .turn = t4};
 }
 
+/* Whether the word of a tag, if it closes a transaction at a position, closes one that begins in group `limit` or after. */
+static inline bool limits__spans__begins_after(uint64_t word, uint64_t position, uint64_t limit)
+{
+    uint64_t t4;
+
+    t4 = (word >> 14u) & 8191u;
+    if (position < t4) {
+        return false;
+    }
+    if (((position - t4) / 7u) < limit) {
+        return false;
+    }
+    return true;
+}
+
 /* A limit lowered to the group in which the transaction begins that the word of a tag closes, if it closes one. */
 static inline uint64_t limits__spans__word_limit(uint64_t word, uint64_t position, uint64_t base, uint64_t homes, uint64_t limit)
 {
@@ -4544,18 +4559,24 @@ static inline uint64_t limits__spans__word_limit(uint64_t word, uint64_t positio
     return t9;
 }
 
-/* The same for tag `k` of a group with turn `turn`. A tag that closes nothing is passed by its closing bit, whatever its data
-   block is. */
+/* The same for tag `k` of a group with turn `turn`. A tag that closes nothing, or a transaction that begins at the limit or after
+   it, is passed whatever its data block is. */
 static inline uint64_t limits__spans__tag_limit(struct slice_u8 group, uint64_t turn, uint64_t k, uint64_t position,
         uint64_t base, uint64_t homes, uint64_t limit)
 {
-    uint64_t t8;
+    uint64_t t8, t11;
+    bool t13;
 
-    if ((load_8(group.ptr + (size_t)(8u + (8u * k))) & 2u) == 0u) {
+    t8 = load_8(group.ptr + (size_t)(8u + (8u * k)));
+    if ((t8 & 2u) == 0u) {
         return limit;
     }
-    t8 = scan__groups__word_there(group, turn, k);
-    return limits__spans__word_limit(t8, position, base, homes, limit);
+    t13 = limits__spans__begins_after(t8, position, limit);
+    if (t13) {
+        return limit;
+    }
+    t11 = scan__groups__word_there(group, turn, k);
+    return limits__spans__word_limit(t11, position, base, homes, limit);
 }
 
 /* A limit lowered by the first `m` tags of a group, which says nothing where it is not the valid group with number `n` and turn
