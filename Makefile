@@ -24,7 +24,7 @@ ARCHIVE = target/staticlib/libkagutin.a
 GAUGES_ARCHIVE = target/staticlib/libgauges.a
 INFLOW_ARCHIVE = target/staticlib/libinflow.a
 
-.PHONY: all help run test test-library compare play bench bench-docs second library clean
+.PHONY: all help run test test-library test-compared test-c compare play bench bench-docs second library clean
 
 # The toolchain that this repository was checked with, as 'rt version' prints it.
 RATTLE = rattle-kit-5b-plain logic 097e4c862dff5811
@@ -81,13 +81,22 @@ test: second
 	$(MAKE) --no-print-directory test-library && \
 	tail -n 1 "$$verdict"
 
+# The comparisons and the tests of the C side need nothing of each other: two at a time, and what they say when both are done.
 test-library: bench/target/release/bench
+	@mkdir -p target/test && echo "test: comparisons and the C side, some minutes; target/test has what they say meanwhile"
+	@$(MAKE) --no-print-directory test-compared > target/test/compared.log 2>&1 & compared=$$!; \
+	failed=0; $(MAKE) --no-print-directory test-c > target/test/c.log 2>&1 || failed=1; \
+	wait $$compared || failed=1; cat target/test/compared.log target/test/c.log; exit $$failed
+
+test-compared:
 	$(MAKE) --no-print-directory dist-check
 	$(MAKE) --no-print-directory generator-check
 	$(MAKE) --no-print-directory port-check
 	$(MAKE) --no-print-directory above-compare
 	$(MAKE) --no-print-directory board-check RECORD_LIB=$(ARCHIVE)
 	bench/target/release/bench --seed $(SEED) --no-counts --out target/bench-test > /dev/null && echo "bench: the same answers on both sides"
+
+test-c:
 	$(MAKE) --no-print-directory c-check
 	$(MAKE) --no-print-directory c-check LIB=$(ARCHIVE) GAUGES_LIB=$(GAUGES_ARCHIVE) INFLOW_LIB=$(INFLOW_ARCHIVE) C_OUT=target/c-archive
 
