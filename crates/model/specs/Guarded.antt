@@ -5,7 +5,8 @@ use mathlib.Core.List.{List, [], _∷_, _++_}
 use Rattle.model.specs.Bytes.{zeros, bytes}
 use Rattle.model.specs.State.{listHome, listedOf}
 use Rattle.model.specs.Newest.{noPosition, keptFor}
-use Rattle.model.specs.History.{Call, opening, begin, store, commit, flush, settle, trim, read, Event, call, crash, World, emptyStore, ends, step}
+use Rattle.model.specs.Calls.{Outcome}
+use Rattle.model.specs.History.{Call, opening, begin, store, commit, flush, settle, trim, read, Event, call, crash, World, emptyStore, ends, afterCall, step}
 use Rattle.model.specs.Trials.{room, lane, fill, goes, Trial}
 
 -- numbers of 16 bits; two ranges of a writer's four, each first home and number of homes
@@ -25,10 +26,17 @@ firstList = ranges 0 3 65530 10 ++ (ranges 0 3 0 0 ++ (ranges 3 1 65535 10 ++ ra
 unfoldable pub nextList : List ℕ
 nextList = ranges 0 3 0 0 ++ (ranges 0 3 0 0 ++ (ranges 4 1 0 0 ++ ranges 4 1 0 0))
 
--- the numbers that calls answer, one after the other
-unfoldable pub numbers : World → List Call → List ℕ
-numbers w [] = []
-numbers w (c ∷ cs) = ends w c .code ∷ numbers (step w (call c)) cs
+-- the numbers that calls answer, one after the other, and the world after them
+pub record Run : Type 0 where
+  pub numbers : List ℕ
+  pub world : World
+
+unfoldable pub runs : World → List Call → Run
+runs w [] = record { numbers = []; world = w }
+runs w (c ∷ cs) =
+    let o : Outcome = ends w c in
+    let r : Run = runs (afterCall w c o (o .code)) cs in
+    record { numbers = o .code ∷ r .numbers; world = r .world }
 
 unfoldable pub reads : ℕ → ℕ → Call
 reads writer home = read writer home (zeros 64)
@@ -37,8 +45,8 @@ unfoldable pub writes : ℕ → ℕ → Call
 writes writer home = store writer home (fill 9) room
 
 -- what the state strip and the newest positions have for the list's first home, and the numbers
-unfoldable pub seen : World → List Call → List ℕ
-seen w cs = listedOf (w .state) 0 ∷ keptFor (w .newest) listHome ∷ numbers w cs
+unfoldable pub seen : World → List ℕ → List ℕ
+seen w numbers = listedOf (w .state) 0 ∷ keptFor (w .newest) listHome ∷ numbers
 
 -- a new format (G 4, D 13) opened: positions from 28 on
 unfoldable pub reopening : Event
@@ -54,8 +62,11 @@ beforeList =
     begin 1 ∷ writes 1 5 ∷ writes 1 8 ∷ writes 2 11 ∷ writes 2 3 ∷ reads 2 3 ∷ begin 0 ∷ store 0 8 firstList room ∷ reads 0 4 ∷ store 0 9 (zeros 64) room ∷ reads 0 4
     ∷ writes 1 5 ∷ commit 0 room ∷ []
 
+unfoldable pub begun : Run
+begun = runs unguarded beforeList
+
 unfoldable pub guarded : World
-guarded = goes unguarded beforeList
+guarded = begun .world
 
 -- under the list: a block that writer 1 held before, its homes, homes that are not its own, and a writer that has none
 unfoldable pub underList : List Call
@@ -63,8 +74,11 @@ underList =
     reads 1 5 ∷ writes 1 3 ∷ writes 1 4 ∷ writes 1 6 ∷ writes 2 3 ∷ reads 1 3 ∷ reads 1 4 ∷ reads 1 6 ∷ reads 1 9 ∷ reads 2 3 ∷ reads 0 4 ∷ writes 0 3 ∷ begin 0
     ∷ writes 0 3 ∷ writes 0 2 ∷ commit 1 room ∷ []
 
+unfoldable pub denying : Run
+denying = runs guarded underList
+
 unfoldable pub replaced : World
-replaced = goes (goes guarded underList) (store 0 8 nextList room ∷ commit 0 room ∷ [])
+replaced = goes (denying .world) (store 0 8 nextList room ∷ commit 0 room ∷ [])
 
 -- under the next one; the transactions of both writers are closed, so that 7 is what a store meets that it has the right to
 unfoldable pub underNext : List Call
@@ -83,21 +97,25 @@ underFirst = writes 1 3 ∷ writes 1 4 ∷ reads 1 3 ∷ reads 1 4 ∷ reads 1 6
 unfoldable pub laidDown : World
 laidDown = trimmed replaced
 
+unfoldable pub reopened : World
+reopened = openedAgain laidDown
+
 -- D 11 is too small for a list: homes 8 to 10 are writer 0's alone to store to, and all else is open
 unfoldable pub tooSmall : List ℕ
 tooSmall =
-    numbers (step (emptyStore 4 11) (call (opening (zeros 1024) (zeros 88) lane)))
+    runs (step (emptyStore 4 11) (call (opening (zeros 1024) (zeros 88) lane)))
     (begin 0 ∷ store 0 8 firstList room ∷ commit 0 room ∷ begin 1 ∷ writes 1 4 ∷ writes 1 7 ∷ writes 1 8 ∷ writes 1 10 ∷ writes 1 11 ∷ reads 2 3 ∷ reads 1 10 ∷ [])
+    .numbers
 
 -- what is kept of the list, and what every call answers
 unfoldable pub moments : List Trial
 moments =
-    record { yields = numbers unguarded beforeList; paper = 0 ∷ 0 ∷ 19 ∷ 19 ∷ 7 ∷ 0 ∷ 0 ∷ 0 ∷ 0 ∷ 0 ∷ 0 ∷ 0 ∷ 0 ∷ [] }
+    record { yields = begun .numbers; paper = 0 ∷ 0 ∷ 19 ∷ 19 ∷ 7 ∷ 0 ∷ 0 ∷ 0 ∷ 0 ∷ 0 ∷ 0 ∷ 0 ∷ 0 ∷ [] }
     ∷ record {
-      yields = seen guarded underList;
+      yields = seen guarded (denying .numbers);
       paper = 28 ∷ 28 ∷ 20 ∷ 0 ∷ 19 ∷ 19 ∷ 19 ∷ 0 ∷ 20 ∷ 0 ∷ 0 ∷ 20 ∷ 20 ∷ 19 ∷ 0 ∷ 19 ∷ 0 ∷ 0 ∷ [];
     }
-    ∷ record { yields = seen replaced underNext; paper = 33 ∷ 33 ∷ 7 ∷ 19 ∷ 0 ∷ 20 ∷ 20 ∷ 19 ∷ 7 ∷ [] }
-    ∷ record { yields = seen laidDown underNext; paper = noPosition ∷ noPosition ∷ 7 ∷ 19 ∷ 0 ∷ 20 ∷ 20 ∷ 19 ∷ 7 ∷ [] }
-    ∷ record { yields = seen (openedAgain laidDown) underFirst; paper = noPosition ∷ noPosition ∷ 7 ∷ 19 ∷ 0 ∷ 20 ∷ 0 ∷ [] }
+    ∷ record { yields = seen replaced (runs replaced underNext .numbers); paper = 33 ∷ 33 ∷ 7 ∷ 19 ∷ 0 ∷ 20 ∷ 20 ∷ 19 ∷ 7 ∷ [] }
+    ∷ record { yields = seen laidDown (runs laidDown underNext .numbers); paper = noPosition ∷ noPosition ∷ 7 ∷ 19 ∷ 0 ∷ 20 ∷ 20 ∷ 19 ∷ 7 ∷ [] }
+    ∷ record { yields = seen reopened (runs reopened underFirst .numbers); paper = noPosition ∷ noPosition ∷ 7 ∷ 19 ∷ 0 ∷ 20 ∷ 0 ∷ [] }
     ∷ record { yields = tooSmall; paper = 0 ∷ 0 ∷ 0 ∷ 0 ∷ 0 ∷ 0 ∷ 19 ∷ 19 ∷ 5 ∷ 0 ∷ 0 ∷ [] } ∷ []

@@ -11,7 +11,7 @@ use Rattle.model.specs.Layout.{header, emptyLog, groupAt, groupTag, grou
 use Rattle.model.specs.State.{State, stateOf, nextPosition}
 use Rattle.model.specs.Effects.{Given}
 use Rattle.model.specs.Calls.{Outcome, formatCall, openCall}
-use Rattle.model.specs.History.{Call, opening, begin, abort, store, commit, flush, confirm, settle, trim, read, Event, call, crash, World, emptyStore, ends, step}
+use Rattle.model.specs.History.{Call, opening, begin, abort, store, commit, flush, confirm, settle, trim, read, Event, call, crash, World, emptyStore, ends, afterCall, step}
 
 -- a batch buffer that suffices, a longer one for openings, and a block of one byte
 unfoldable pub room : List ℕ
@@ -27,7 +27,7 @@ fill b = replicate 64 b
 unfoldable pub positions : List ℕ
 positions = zeros 64
 
--- the world after some calls, and the number, figure and batch length that each of them answers
+-- the world after some calls; the number, figure and batch length that a call answers
 unfoldable pub goes : World → List Call → World
 goes w [] = w
 goes w (c ∷ cs) = goes (step w (call c)) cs
@@ -35,9 +35,13 @@ goes w (c ∷ cs) = goes (step w (call c)) cs
 unfoldable pub answerOf : Outcome → List ℕ
 answerOf o = o .code ∷ o .figure ∷ o .size ∷ []
 
+-- the answers of some calls, and after them something of the world that they leave
+unfoldable pub answersThen : World → List Call → (World → List ℕ) → List ℕ
+answersThen w [] last = last w
+answersThen w (c ∷ cs) last = let o : Outcome = ends w c in answerOf o ++ answersThen (afterCall w c o (o .code)) cs last
+
 unfoldable pub answers : World → List Call → List ℕ
-answers w [] = []
-answers w (c ∷ cs) = answerOf (ends w c) ++ answers (step w (call c)) cs
+answers w cs = answersThen w cs (λ v. [])
 
 -- just after opening a new format: start 4, position 28
 unfoldable pub fresh : World
@@ -125,11 +129,6 @@ unfoldable pub inTurn : ℕ → List Call
 inTurn zero = []
 inTurn (suc n) = store 0 0 (fill 3) room ∷ store 0 1 (fill 4) room ∷ inTurn n
 
--- the answers of some calls, and after them something of the world that they leave
-unfoldable pub answersThen : World → List Call → (World → List ℕ) → List ℕ
-answersThen w [] last = last w
-answersThen w (c ∷ cs) last = answerOf (ends w c) ++ answersThen (step w (call c)) cs last
-
 -- after 28 stores: the 29th, which hands the last group on, the 30th, one for the held home, which is taken, and a commit; then the rest
 unfoldable pub fullAndFreed : List Call
 fullAndFreed =
@@ -144,8 +143,7 @@ trial6and7 =
 -- 8. "Commit with no store: ticket 0, no entry."
 unfoldable pub trial8 : List ℕ
 trial8 =
-    let calls : List Call = begin 0 ∷ commit 0 room ∷ [] in
-    answers fresh calls ++ (nextOf (goes fresh calls) ∷ [])
+    answersThen fresh (begin 0 ∷ commit 0 room ∷ []) (λ w. nextOf w ∷ [])
 
 -- 9. "Writer 0 stores homes 1, 2 and stays open; flush, settle, trim: start stays, trim gives 0 bytes."
 unfoldable pub trial9 : List ℕ

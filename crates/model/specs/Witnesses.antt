@@ -10,7 +10,7 @@ use Rattle.model.specs.Batch.{readBatch}
 use Rattle.model.specs.Effects.{Given}
 use Rattle.model.specs.Calls.{Outcome, formatCall, openCall}
 use Rattle.model.specs.Crash.{Memory, fences, persist}
-use Rattle.model.specs.History.{Call, opening, begin, abort, store, commit, flush, confirm, settle, trim, read, Event, call, crash, World, unopened, emptyStore, loaded, ends, isOpening, step}
+use Rattle.model.specs.History.{Call, opening, begin, abort, store, commit, flush, confirm, settle, trim, read, Event, call, crash, World, unopened, emptyStore, loaded, ends, isOpening, afterCall, step}
 use Rattle.model.specs.Trials.{room, lane, fill, answerOf, positions}
 
 -- A format over a store in use, with copies of the same: a header that opens, bytes of 255 elsewhere.
@@ -122,17 +122,21 @@ unfoldable pub filledWith : List ℕ → List ℕ
 filledWith [] = []
 filledWith (b ∷ bs) = fill b ++ filledWith bs
 
--- whether a history meets the premises, each call answers the number, figure and batch length that are listed, and at the end an opening is done, the
--- book has so many commits and the data copy so many bytes a home
+-- whether a history meets the premises, each call answers the number, figure and batch length that are listed, and the world at its end is as asked. A
+-- call's outcome is named, so that it is computed once.
+unfoldable pub goesTo : World → List Event → List ℕ → (World → Bool) → Bool
+goesTo w [] answers asked = same answers [] && asked w
+goesTo w (call c ∷ es) answers asked =
+    let o : Outcome = ends w c in
+    allowed w (call c) && same (answerOf o) (take 3 answers) && goesTo (afterCall w c o (o .code)) es (drop 3 answers) asked
+goesTo w (crash passed chosen ∷ es) answers asked = allowed w (crash passed chosen) && goesTo (step w (crash passed chosen)) es answers asked
+
+-- an opening is done, the book has so many commits and the data copy so many bytes a home
 unfoldable pub endsSo : World → ℕ → List ℕ → Bool
 endsSo w commits homes = w .ready && eqb (length (w .book .commits)) commits && same (w .area) (filledWith homes)
 
 unfoldable pub goesSo : World → List Event → List ℕ → ℕ → List ℕ → Bool
-goesSo w [] answers commits homes = same answers [] && endsSo w commits homes
-goesSo w (call c ∷ es) answers commits homes =
-    allowed w (call c) && same (answerOf (ends w c)) (take 3 answers) && goesSo (step w (call c)) es (drop 3 answers) commits homes
-goesSo w (crash passed chosen ∷ es) answers commits homes =
-    allowed w (crash passed chosen) && goesSo (step w (crash passed chosen)) es answers commits homes
+goesSo w es answers commits homes = goesTo w es answers (λ v. endsSo v commits homes)
 
 -- six commits survive; of the lost one nothing stays
 unfoldable pub goesAsListed : Bool

@@ -13,9 +13,9 @@ use Rattle.model.specs.Calls.{formatCall}
 use Rattle.model.specs.Crash.{fences}
 use Rattle.model.specs.Demands.{AllHold, LiveThroughout}
 use Rattle.model.specs.Kept.{KeptThroughout}
-use Rattle.model.specs.History.{Call, Event, call, crash, World, Formatting, afterFormat, emptyStore, ends, isOpening, step, Allowed, AllAllowed}
+use Rattle.model.specs.History.{Call, Event, call, crash, World, Formatting, afterFormat, emptyStore, ends, isOpening, afterCall, step, Allowed, AllAllowed}
 use Rattle.model.specs.Trials.{answerOf}
-use Rattle.model.specs.Witnesses.{usedBefore, usedCopies, alike, allowed, history, answered, goesSo, goesAsListed}
+use Rattle.model.specs.Witnesses.{usedBefore, usedCopies, alike, allowed, history, answered, goesTo, goesSo, goesAsListed}
 use Rattle.model.proofs.strip.QuestionLaws.{and-true}
 use Rattle.model.proofs.bytes.ByteLaws.{length-puts}
 use Rattle.model.proofs.bytes.LayoutLaws.{three}
@@ -41,17 +41,16 @@ allowed-true w (crash passed chosen) h =
     (leb-true (w .passed) passed (k .0), leb-true passed (fences (w .pending)) (k .1))
 
 -- a history that goes as listed meets the premises
-goes-allowed : (w : World) (es : List Event) (answers : List ℕ) (commits : ℕ) (homes : List ℕ) → goesSo w es answers commits homes ≡ true
-    → AllAllowed w es
-unfolding goesSo
-goes-allowed w [] answers commits homes h = tt
-goes-allowed w (call c ∷ es) answers commits homes h =
-    let on : Bool = goesSo (step w (call c)) es (drop 3 answers) commits homes in
-    let k = three (allowed w (call c)) (same (answerOf (ends w c)) (take 3 answers)) on h in
-    (allowed-true w (call c) (k .0), goes-allowed (step w (call c)) es (drop 3 answers) commits homes (k .2))
-goes-allowed w (crash passed chosen ∷ es) answers commits homes h =
-    let k = and-true (allowed w (crash passed chosen)) (goesSo (step w (crash passed chosen)) es answers commits homes) h in
-    (allowed-true w (crash passed chosen) (k .0), goes-allowed (step w (crash passed chosen)) es answers commits homes (k .1))
+goes-allowed : (w : World) (es : List Event) (answers : List ℕ) (asked : World → Bool) → goesTo w es answers asked ≡ true → AllAllowed w es
+unfolding goesTo step
+goes-allowed w [] answers asked h = tt
+goes-allowed w (call c ∷ es) answers asked h =
+    let next : World = afterCall w c (ends w c) (ends w c .code) in
+    let k = three (allowed w (call c)) (same (answerOf (ends w c)) (take 3 answers)) (goesTo next es (drop 3 answers) asked) h in
+    (allowed-true w (call c) (k .0), goes-allowed next es (drop 3 answers) asked (k .2))
+goes-allowed w (crash passed chosen ∷ es) answers asked h =
+    let k = and-true (allowed w (crash passed chosen)) (goesTo (step w (crash passed chosen)) es answers asked) h in
+    (allowed-true w (crash passed chosen) (k .0), goes-allowed (step w (crash passed chosen)) es answers asked (k .1))
 
 -- a format that is done, of sizes 4 and 8
 format-done : formatCall usedCopies .code ≡ 0
@@ -77,8 +76,8 @@ format =
 
 -- the premises are met after that format, so the demands say something of the history
 met : AllAllowed (afterFormat format) history
-unfolding goesAsListed
-met = rw (after-format format) (goes-allowed (emptyStore 4 8) history answered 6 (10 ∷ 11 ∷ 12 ∷ 9 ∷ 20 ∷ 9 ∷ 9 ∷ 0 ∷ []) goes-as-listed)
+unfolding goesAsListed goesSo
+met = rw (after-format format) (goes-allowed (emptyStore 4 8) history answered _ goes-as-listed)
 
 pub all-hold-there : AllHold (afterFormat format) history
 all-hold-there = demand3 4 8 format history met
