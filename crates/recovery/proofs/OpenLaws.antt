@@ -27,8 +27,8 @@ use Rattle.answers.specs.Lent.{lentAll, leavesAll}
 use Rattle.answers.proofs.AnswerLaws.{refused-by, done-by}
 use Rattle.recovery.specs.Opens.{askOpen, emptied}
 use Rattle.answers.proofs.NewestAnswers.{newest-length, newest-other, right-length}
-use Rattle.recovery.specs.Plans.{Searchable, Planned}
-use Rattle.recovery.proofs.PlanLaws.{plan-size, plan-area, plan-batch}
+use Rattle.planning.specs.Plans.{Searchable, Planned}
+use Rattle.planning.proofs.PlanLaws.{plan-size, plan-area, plan-batch}
 
 -- ---- the questions
 

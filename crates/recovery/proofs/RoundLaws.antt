@@ -28,7 +28,7 @@ use Rattle.homes.proofs.HomeLaws.{length-writes, within-append}
 use Rattle.scan.specs.Walk.{closedBelow}
 use Rattle.answers.specs.Lent.{lent, leaves}
 use Rattle.answers.proofs.AnswerLaws.{Usable, state-usable, state-only, state-refuses, state-passes, refused-by, done-by, strip-by}
-use Rattle.recovery.specs.Plans.{remaining, StepMade}
+use Rattle.planning.specs.Plans.{remaining, StepMade}
 
 -- ---- whether a round is under way
 

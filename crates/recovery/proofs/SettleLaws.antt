@@ -21,8 +21,8 @@ use Rattle.model.proofs.strip.OrderLaws.{InOrder}
 use Rattle.scan.specs.Walk.{closedBelow}
 use Rattle.answers.specs.Lent.{lent, leaves}
 use Rattle.answers.proofs.AnswerLaws.{Usable, state-usable, state-only, state-refuses, state-passes, refused-by, done-by}
-use Rattle.recovery.specs.Plans.{Searchable, Planned}
-use Rattle.recovery.proofs.PlanLaws.{plan-size, plan-area, plan-batch}
+use Rattle.planning.specs.Plans.{Searchable, Planned}
+use Rattle.planning.proofs.PlanLaws.{plan-size, plan-area, plan-batch}
 use Rattle.recovery.proofs.RoundLaws.{round-out, round-in}
 
 -- ---- the numbers of a strip in order

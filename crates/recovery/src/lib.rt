@@ -1,7 +1,6 @@
 // The calls that bring a store up: format, settle, at once or in a round's steps, and open, each equal to its definition in model/specs/Calls.
 mod formatting;
 mod opening;
-mod planning;
 mod rounds;
 mod settling;
 

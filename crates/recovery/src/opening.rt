@@ -1,5 +1,4 @@
 // Open: the committed transactions of the log come back, and the log is then empty from a new start on.
-use super::planning::bring_back;
 use answers::Reply;
 ghost use mathlib.Core.Path.{_≡_};
 ghost use mathlib.Core.List.{[]};
@@ -112,7 +111,7 @@ pub fn reopen(
     let homes = shape.homes;
     let start = shape.start;
     let more = 72 + 516 * groups;
-    let replay = bring_back(log, area, batch, groups, homes, start, 7 * groups, more);
+    let replay = planning::bring_back(log, area, batch, groups, homes, start, 7 * groups, more);
     let size = replay.size;
     if (batch.len() as u64) < size {
         return answers::refused(9);

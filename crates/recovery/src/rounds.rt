@@ -1,5 +1,4 @@
 // Rounds: a settle in small steps. A round fixes the fenced position that it covers; each step brings some homes up to it, and the last one settles it.
-use super::planning::step;
 use answers::Reply;
 use model::State;
 ghost use mathlib.Core.Path.{_≡_};
@@ -62,7 +61,7 @@ pub fn step_round(
         return answers::refused(21);
     }
     let n = st.round - 1 - 7 * st.start;
-    let made = step(
+    let made = planning::step(
         log,
         area,
         batch,

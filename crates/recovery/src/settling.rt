@@ -1,5 +1,4 @@
 // Settle: the committed transactions below the fenced position go into the data copy and the data area.
-use super::planning::bring_back;
 use answers::Reply;
 use model::State;
 ghost use mathlib.Core.Path.{_≡_};
@@ -33,7 +32,7 @@ pub fn settle(log: &[u8], area: &mut [u8], state: &mut [u8], batch: &mut [u8]) -
         return answers::refused(21);
     }
     let n = st.fenced - 7 * st.start;
-    let size = bring_back(log, area, batch, st.groups, st.homes, st.start, n, 2).size;
+    let size = planning::bring_back(log, area, batch, st.groups, st.homes, st.start, n, 2).size;
     if (batch.len() as u64) < size {
         return answers::refused(9);
     }

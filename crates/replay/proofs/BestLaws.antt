@@ -15,7 +15,9 @@ use Rattle.model.specs.declared.Tag.the-variants.{Nothing, Entry, Closing}
 use Rattle.model.proofs.rule.Closings.{spanAt, closings}
 use Rattle.model.proofs.rule.MemberLaws.{entries-at, each-append, newest-if, newest-append, orElse-none, orElse-assoc}
 use Rattle.scan.proofs.ScanLaws.{Placed}
-use Rattle.replay.specs.Best.{closes, closer, from, Best, nothing, better, taken, best, offsetCode}
+use Rattle.gathering.specs.Closers.{closes, closer}
+use Rattle.gathering.proofs.CloserLaws.{closer-most, closer-same, closer-now}
+use Rattle.replay.specs.Best.{from, Best, nothing, better, taken, best, offsetCode}
 
 -- ---- closing entries from an offset on
 
@@ -33,57 +35,6 @@ from-most i m = go (decLt i m)
     go : Dec (i < m) → from i m ≤ m
     go (yes h) = rw (from-here i m h) (omega arith)
     go (no h) = rw (from-past i m (omega arith)) (omega arith)
-
-pub from-same : (i m : ℕ) → (m ≡ suc i → ⊥) → from (suc i) m ≡ from i m
-from-same i m n = go (decLt i m)
-  where
-    go : Dec (i < m) → from (suc i) m ≡ from i m
-    go (yes h) = rw (from-here i m h, from-here (suc i) m (omega arith))
-    go (no h) = rw (from-past i m (omega arith), from-past (suc i) m (omega arith))
-
--- ---- the last closing entry of a transaction
-
-module _ (tags : ℕ → Tag) (base f : ℕ) where
-  pub closer-most : (n : ℕ) → closer tags base n f ≤ n
-  unfolding closer
-  closer-most zero = omega arith
-  closer-most (suc n) = go (closes f (tags (base + n))) (closer-most n)
-    where
-      go : (b : Bool) → closer tags base n f ≤ n → cond b (n + 1) (closer tags base n f) ≤ suc n
-      go true h = omega arith
-      go false h = omega arith
-
-  -- none comes after it
-  pub closer-least : (n i : ℕ) → i < n → closes f (tags (base + i)) ≡ true → i < closer tags base n f
-  unfolding closer
-  closer-least zero i h e = absurd (omega arith)
-  closer-least (suc n) i h e = go (closes f (tags (base + n))) refl (λ l. closer-least n i l e)
-    where
-      go : (b : Bool) → closes f (tags (base + n)) ≡ b → (i < n → i < closer tags base n f) → i < cond b (n + 1) (closer tags base n f)
-      go true q k = omega arith
-      go false q k = k (omega (arith, differ))
-        where
-          differ : i ≡ n → ⊥
-          differ z = let y : _≡_ {A = ℕ} 0 1 = cc (ap (λ (x : ℕ). closes f (tags (base + x))) z) in absurd (omega arith)
-
-  -- it is one
-  pub closer-closes : (n i : ℕ) → closer tags base n f ≡ suc i → closes f (tags (base + i)) ≡ true
-  unfolding closer
-  closer-closes zero i e = absurd (omega arith)
-  closer-closes (suc n) i e = go (closes f (tags (base + n))) refl e (closer-closes n i)
-    where
-      go : (b : Bool) → closes f (tags (base + n)) ≡ b → cond b (n + 1) (closer tags base n f) ≡ suc i
-          → (closer tags base n f ≡ suc i → closes f (tags (base + i)) ≡ true) → closes f (tags (base + i)) ≡ true
-      go true q h k = let z : i ≡ n = omega arith in rw z q
-      go false q h k = k h
-
-  pub closer-same : (n : ℕ) → closes f (tags (base + n)) ≡ false → closer tags base (suc n) f ≡ closer tags base n f
-  unfolding closer
-  closer-same n e = rw e
-
-  pub closer-now : (n : ℕ) → closes f (tags (base + n)) ≡ true → closer tags base (suc n) f ≡ n + 1
-  unfolding closer
-  closer-now n e = rw e
 
 -- ---- the best entry
 

@@ -18,12 +18,13 @@ use Rattle.model.specs.declared.Tag.the-variants.{Nothing, Entry, Closing}
 use Rattle.bitmap.specs.Marks.{bit, marks, withMark}
 use Rattle.bitmap.proofs.MapLaws.{marks-in, marks-none, mark-each, length-mark}
 use Rattle.scan.proofs.ScanLaws.{Placed, placed}
-use Rattle.replay.specs.Best.{closer, from, Best, nothing, better, taken, best}
+use Rattle.gathering.specs.Closers.{closer}
+use Rattle.replay.specs.Best.{from, Best, nothing, better, taken, best}
 use Rattle.scan.specs.Walk.{closedBelow}
 use Rattle.replay.proofs.BestLaws.{from-here, from-past, Says, best-newest}
-use Rattle.replay.specs.Chains.{maxEntries, inWord, top}
+use Rattle.gathering.specs.Chains.{maxEntries, inWord, top}
 use Rattle.replay.specs.Words.{Word, unseen, Sized, offered, takenIn, take, Newest}
-use Rattle.replay.proofs.ChainLaws.{top-here, top-same, top-zero, top-in}
+use Rattle.gathering.proofs.ChainLaws.{top-here, top-same, top-zero, top-in}
 
 -- ---- between two entries of a chain
 

@@ -31,7 +31,7 @@ use Rattle.homes.specs.Within.{Within}
 use Rattle.homes.proofs.HomeLaws.{bytes-append, bytes-nil, length-writes, within-right, within-marked}
 use Rattle.scan.specs.Walk.{Walkable, closedBelow}
 use Rattle.replay.specs.Best.{offsetCode}
-use Rattle.replay.specs.Chains.{maxHomes, maxWords, top, Chained}
+use Rattle.gathering.specs.Chains.{maxHomes, maxWords, top, Chained}
 use Rattle.replay.specs.Words.{unseen, Newest, touches, wordHomes}
 use Rattle.replay.specs.Restore.{restored, placeOf, newestAt, Ready}
 use Rattle.replay.proofs.NewestLaws.{agrees-start, newest-all}

@@ -8,7 +8,7 @@ use Rattle.model.specs.Layout.{entryAt, blockAt, putHome}
 use Rattle.model.specs.Commit.{newest}
 use Rattle.model.specs.Effects.{touched}
 use Rattle.scan.specs.Walk.{Walkable, closedBelow}
-use Rattle.replay.specs.Chains.{maxHomes, Chained}
+use Rattle.gathering.specs.Chains.{maxHomes, Chained}
 
 -- each of some homes gets the block at its position
 unfoldable pub restored : List ℕ → ℕ → (ℕ → ℕ) → List ℕ → List ℕ → List ℕ

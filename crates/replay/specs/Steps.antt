@@ -9,7 +9,7 @@ use Rattle.model.specs.Batch.{batchBytes}
 use Rattle.model.specs.Effects.{marked, homeWrites}
 use Rattle.bitmap.specs.Marks.{raised}
 use Rattle.scan.specs.Walk.{Walkable}
-use Rattle.replay.specs.Chains.{Chained}
+use Rattle.gathering.specs.Chains.{Chained}
 use Rattle.replay.specs.Words.{touches}
 use Rattle.replay.specs.Restore.{restored, newestAt}
 

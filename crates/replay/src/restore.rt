@@ -10,7 +10,7 @@ ghost use Rattle.model.specs.Batch.{batchBytes};
 ghost use Rattle.model.specs.Effects.{touched, replayed, homeWrites};
 ghost use Rattle.bitmap.specs.Marks.{bitsOf, raised};
 ghost use Rattle.scan.specs.Walk.{Walkable, closedBelow};
-ghost use Rattle.replay.specs.Chains.{Chained};
+ghost use Rattle.gathering.specs.Chains.{Chained};
 ghost use Rattle.replay.specs.Words.{touches, wordHomes};
 ghost use Rattle.replay.specs.Restore.{restored, newestAt, Ready, Replayable};
 

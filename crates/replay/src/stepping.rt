@@ -12,7 +12,7 @@ ghost use Rattle.model.specs.Layout.{blockAt, homeAt, putHome};
 ghost use Rattle.model.specs.Batch.{HW, recordBytes, batchBytes};
 ghost use Rattle.model.specs.Effects.{marked, homeWrites};
 ghost use Rattle.scan.specs.Walk.{Walkable};
-ghost use Rattle.replay.specs.Chains.{Chained};
+ghost use Rattle.gathering.specs.Chains.{Chained};
 ghost use Rattle.replay.specs.Words.{touches};
 ghost use Rattle.replay.specs.Restore.{restored, newestAt};
 ghost use Rattle.replay.specs.Steps.{span, Part, Stepped};

@@ -9,7 +9,7 @@ ghost use Rattle.model.specs.Tag.{present};
 ghost use Rattle.model.specs.Layout.{entryAt};
 ghost use Rattle.model.specs.Effects.{touched};
 ghost use Rattle.scan.specs.Walk.{Walkable, closedBelow};
-ghost use Rattle.replay.specs.Chains.{Chained};
+ghost use Rattle.gathering.specs.Chains.{Chained};
 ghost use Rattle.replay.specs.Words.{offered, takenIn, take, Sized, Newest, touches, wordHomes};
 
 // Takes an entry as the newest of its home, the one with index `k` in its word, if its transaction closes later than that of the newest so far.

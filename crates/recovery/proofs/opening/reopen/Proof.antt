@@ -1,7 +1,7 @@
 -- `recovery::reopen` meets its contract. Assumes nothing.
 use mathlib.Core.Path.{refl, _∙_}
 use native.Mathlib.Omega.{arith}
-use Rattle.recovery.proofs.PlanLaws.{planned}
+use Rattle.planning.proofs.PlanLaws.{planned}
 use Rattle.recovery.proofs.OpenLaws.{openable, open-searchable, area-homes, newest-homes, open-refused, open-short, open-done}
 use borrow.Author.Needs.{needs}
 use Rattle.recovery.proofs.opening.reopen.Statement.{statement}

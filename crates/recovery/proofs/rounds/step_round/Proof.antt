@@ -3,7 +3,7 @@ use mathlib.Core.Path.{refl, sym, ap, _∙_}
 use mathlib.Core.Bool.{true, false}
 use Prim.Native.Nat.{_≤_}
 use native.Mathlib.Omega.{arith}
-use Rattle.recovery.proofs.PlanLaws.{below-end}
+use Rattle.planning.proofs.PlanLaws.{below-end}
 use Rattle.recovery.proofs.RoundLaws.{ended-two, step-refused, step-none, step-zero, step-short, step-moved, step-ended}
 use Rattle.recovery.proofs.SettleLaws.{state-length, numbers, round-searchable}
 use borrow.Author.Needs.{needs}

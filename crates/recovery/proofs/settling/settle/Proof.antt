@@ -1,7 +1,7 @@
 -- `recovery::settle` meets its contract: a refusal leaves all as it was, and what is done is what the definition says. Assumes nothing.
 use mathlib.Core.Path.{refl, _∙_}
 use native.Mathlib.Omega.{arith}
-use Rattle.recovery.proofs.PlanLaws.{planned}
+use Rattle.planning.proofs.PlanLaws.{planned}
 use Rattle.recovery.proofs.SettleLaws.{state-length, numbers, settle-searchable, settle-refused, settle-busy, settle-short, settle-done}
 use borrow.Author.Needs.{needs}
 use Rattle.recovery.proofs.settling.settle.Statement.{statement}

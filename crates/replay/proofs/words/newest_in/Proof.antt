@@ -7,9 +7,9 @@ use lib.ListN.{length, getD}
 use Rattle.model.specs.Layout.{entryAt}
 use Rattle.model.specs.declared.Tag.{Tag}
 use Rattle.scan.proofs.ScanLaws.{placed}
-use Rattle.replay.specs.Chains.{top, Chained}
+use Rattle.gathering.specs.Chains.{top, Chained}
 use Rattle.replay.specs.Words.{unseen}
-use Rattle.replay.proofs.ChainLaws.{top-most, top-again, top-in}
+use Rattle.gathering.proofs.ChainLaws.{top-most, top-again, top-in}
 use Rattle.replay.proofs.NewestLaws.{Agrees, agrees-start, agrees-next, present-in, newest-all}
 use Rattle.replay.proofs.words.newest_in.Statement.{statement}
 use Rattle.replay.proofs.words.newest_in.Tie as tie

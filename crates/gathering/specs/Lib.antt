@@ -1,0 +1,3 @@
+pub mod Closers
+pub mod Chains
+pub mod Walks
