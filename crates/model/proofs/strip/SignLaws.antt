@@ -7,15 +7,15 @@ use mathlib.Core.Option.{none, some}
 use Prim.Native.Nat.{ℕ, _+_, _*_, _^_, _≤_, _<_}
 use native.Mathlib.Omega.{arith}
 use lib.Dec.{eqb, leb}
-use lib.ListN.{length}
+use lib.ListN.{length, replicate, length-replicate}
 use borrow.Author.Tests.{le-leb, lt-leb, leb-true, eqb-true}
-use Rattle.model.specs.Bytes.{part, number, zeros, same}
+use Rattle.model.specs.Bytes.{part, number, value, zeros, same}
 use Rattle.model.specs.Layout.{homeAt}
-use Rattle.model.specs.State.{stateOf, writerOffset, writerOf, heldOf, promiseOffset, promiseOf, listHome, listedOf, setListed, listSign, setListSign}
+use Rattle.model.specs.State.{stateOf, setGroups, setHomes, setStart, setNext, setSettled, setFenced, setDurable, freshNumbers, freshState, writerOffset, writerOf, heldOf, promiseOffset, promiseOf, listHome, listedOf, setListed, listSign, setListSign}
 use Rattle.model.specs.Newest.{keptFor, carryListed}
 use Rattle.model.specs.Given.{Given, homes, tagsOf, liveBase, liveTags, blockOr, isThere}
 use Rattle.model.specs.Rights.{forHome, shownAt, listBy, readList, inRanges, isList, mayStore, mayRead, listMoved, signFor, signIf, keepList, signedList, storeRight, readRight, Faithful}
-use Rattle.model.proofs.bytes.ByteLaws.{length-putNumber, length-part, part-put-below, number-same-part, number-put-below, number-part, number-above, same-eq}
+use Rattle.model.proofs.bytes.ByteLaws.{length-putNumber, length-part, part-put-below, number-same-part, number-put-below, number-put-above, number-part, number-above, same-eq}
 use Rattle.model.proofs.strip.StateLaws.{state-agree, writer-agree, number-back}
 use Rattle.model.proofs.strip.RightLaws.{list-by}
 use Rattle.model.proofs.strip.ListedLaws.{length-carry, state-carry, writer-carry, held-carry, promise-carry, listed-carry}
@@ -109,13 +109,13 @@ module _ (g : Given) where
 -- ---- the sign after it
 
 -- the four positions leave it
-pub sign-carry : (homes : ℕ) (newest s : List ℕ) → length newest ≡ 8 * homes → listSign (carryListed homes newest s) ≡ listSign s
+pub sign-carry : (d : ℕ) (newest s : List ℕ) → length newest ≡ 8 * d → listSign (carryListed d newest s) ≡ listSign s
 unfolding carryListed listSign setListed
-sign-carry homes newest s n = go (leb (listHome + 4) homes) refl
+sign-carry d newest s n = go (leb (listHome + 4) d) refl
   where
-    go : (d : Bool) → leb (listHome + 4) homes ≡ d → listSign (cond d (setListed s (part newest (8 * listHome) 32)) s) ≡ listSign s
+    go : (b : Bool) → leb (listHome + 4) d ≡ b → listSign (cond b (setListed s (part newest (8 * listHome) 32)) s) ≡ listSign s
     go true e =
-        let l : length (part newest (8 * listHome) 32) ≡ 32 = length-part newest (8 * listHome) 32 (omega (arith, leb-true (listHome + 4) homes e)) in
+        let l : length (part newest (8 * listHome) 32) ≡ 32 = length-part newest (8 * listHome) 32 (omega (arith, leb-true (listHome + 4) d e)) in
         number-above 8 s 896 (part newest (8 * listHome) 32) 928 (omega arith)
     go false e = refl
 
@@ -150,6 +150,16 @@ module _ (g : Given) where
       not-false true e = refl
       not-false false e = absurd (false≢true (sym e))
 
+-- a strip that an opening leaves has none
+pub sign-fresh : (groups n start : ℕ) → listSign (freshState groups n start) ≡ 0
+unfolding freshState freshNumbers listSign setListed setGroups setHomes setStart setNext setSettled setFenced setDurable
+sign-fresh groups n start =
+    let l : length {A = ℕ} (replicate 32 255) ≡ 32 = length-replicate {A = ℕ} 32 255 in
+    number-above 8 _ 896 (replicate 32 255) 928 (omega arith)
+    ∙ number-put-above 8 8 _ 56 _ 928 (omega arith) ∙ number-put-above 8 8 _ 48 _ 928 (omega arith) ∙ number-put-above 8 8 _ 40 _ 928 (omega arith)
+    ∙ number-put-above 8 8 _ 24 _ 928 (omega arith) ∙ number-put-above 8 8 _ 16 _ 928 (omega arith) ∙ number-put-above 8 8 _ 8 _ 928 (omega arith)
+    ∙ number-put-above 8 8 _ 0 _ 928 (omega arith) ∙ (unfold number zeros part value in refl)
+
 -- ---- the list by a strip with the same numbers
 
 module _ (s t newest log area : List ℕ) (e : stateOf s ≡ stateOf t) where
@@ -179,6 +189,10 @@ sign-faithful list = go (same list (zeros 256)) refl
     go : (d : Bool) → same list (zeros 256) ≡ d → Faithful (cond d 1 2) list
     go true e = record { empty = λ h. e; given = λ h. absurd (omega (arith, h)) }
     go false e = record { empty = λ h. absurd (omega (arith, h)); given = λ h. e }
+
+-- one that says nothing
+pub sign-none : (sign : ℕ) (list : List ℕ) → sign ≡ 0 → Faithful sign list
+sign-none sign list e = record { empty = λ h. absurd (omega (arith, e, h)); given = λ h. absurd (omega (arith, e, h)) }
 
 module _ (sign : ℕ) (list : List ℕ) (f : Faithful sign list) (homes writer home : ℕ) where
   list-agrees : signedList sign homes list ≡ isList homes list
