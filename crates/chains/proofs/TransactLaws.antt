@@ -22,8 +22,9 @@ use Rattle.model.proofs.bytes.ByteLaws.{length-puts}
 use Rattle.model.proofs.strip.QuestionLaws.{ask-yes, ask-no, ask-passed}
 use Rattle.answers.specs.Lent.{lentAll, leavesAll}
 use Rattle.answers.proofs.AnswerLaws.{Usable, refused-by, done-by}
-use Rattle.logging.specs.Logs.{MayLog, Fits, loggedClosing, keptBy, Committed}
-use Rattle.logging.proofs.CommitLaws.{effect-held, carried}
+use Rattle.logging.specs.Logs.{MayLog, Fits}
+use Rattle.commits.specs.Closings.{loggedClosing, keptBy, Committed}
+use Rattle.commits.proofs.CommitLaws.{effect-held, carried}
 use Rattle.acts.specs.Chains.{blocksLent, blocksRight, homesKnown, lentOn, andThen, storedFirst, transactEffect, askHomes, allOf, mayStoreAll, roomForAll, transactAnswer, transactCall}
 use Rattle.chains.specs.Steps.{Chain, BatchRoom, Moved, Stored, Reached}
 use Rattle.chains.proofs.AllowedLaws.{read-list-same, storeTest}

@@ -88,7 +88,7 @@ pub extern "C" fn kagutin_commit(
 ) -> Reply
     ensures { λ r. ⌜ leavesAll (r .code) (r .figure) (r .size) (now (log .exit)) (now (area .entry)) (now (state .exit)) (now (newest .exit)) [] (now (batch .exit)) ≡ commitCall (lentAll (now (log .entry)) (now (area .entry)) (now (state .entry)) (now (newest .entry)) [] (now (batch .entry)) writer 0) ⌝ }
 {
-    logging::commit(log, area, state, newest, batch, writer)
+    commits::commit(log, area, state, newest, batch, writer)
 }
 
 // Submits the group that is being filled, and a fence.

@@ -1,5 +1,4 @@
 pub mod CallLaws
-pub mod CommitLaws
 pub mod FlushLaws
 pub mod LogLaws
 pub mod ReadyLaws

@@ -9,14 +9,12 @@ use lib.Dec.{eqb, leb}
 use lib.ListN.{length, take, drop}
 use borrow.Author.Tests.{le-leb, lt-leb, leb-false, not-true, not-false, eq-eqb, ne-eqb}
 use Rattle.model.specs.Bytes.{part, puts}
-use Rattle.model.specs.Layout.{groupAt, entryAt}
-use Rattle.model.specs.Commit.{entries}
-use Rattle.model.specs.Newest.{carryListed, keepEntries}
+use Rattle.model.specs.Layout.{groupAt}
 use Rattle.model.specs.Batch.{GW, recordBytes, batchBytes}
 use Rattle.model.specs.declared.State.{State}
 use Rattle.model.specs.declared.Writer.{Writer}
-use Rattle.model.specs.State.{stateOf, setNext, setFilled, setLast, nextPosition, writerOffset, setWriter, heldOf, setHeld, setPromise, promiseLeft, idle, holding, logging, holds, hasLogged, firstFor, countFor}
-use Rattle.model.specs.Tag.{entryWord, closingWord}
+use Rattle.model.specs.State.{stateOf, setNext, setFilled, nextPosition, writerOffset, setWriter, heldOf, setHeld, setPromise, promiseLeft, holding, logging, holds, hasLogged, firstFor, countFor}
+use Rattle.model.specs.Tag.{entryWord}
 use Rattle.model.specs.Effects.{entered, submitted, logged, linkFrom}
 use Rattle.model.specs.Questions.{ask}
 use Rattle.model.proofs.bytes.ByteLaws.{puts-nil}
@@ -26,8 +24,7 @@ use Rattle.writers.specs.Held.{heldFor}
 use Rattle.writers.specs.Frame.{SameElsewhere}
 use Rattle.writers.proofs.HeldLaws.{held-first, held-other}
 use Rattle.writers.proofs.FrameLaws.{elsewhere, setNext-writer, setFilled-writer}
-use Rattle.logging.specs.Logs.{MayLog, Fits, Wrote, loggedEntry, loggedClosing, HeldNext, StoredOther, Closed, Committed, keptBy}
-use Rattle.scan.specs.Members.{Stretch}
+use Rattle.logging.specs.Logs.{MayLog, Fits, Wrote, loggedEntry, HeldNext, StoredOther}
 use Rattle.logging.proofs.CallLaws.{length-slot}
 use Rattle.model.proofs.strip.LoggingLaws.{length-entered}
 
@@ -163,7 +160,7 @@ may-after l s s₁ b st w r m e =
       batch = m .batch;
     }
 
--- ---- a store and a commit that log
+-- ---- a store that logs
 
 module _ (l s b : List ℕ) (st : State) (r : Writer) (w : ℕ) where
   pub stored : (x : List ℕ) (home p word n : ℕ) (s₁ s₂ s′ l′ b′ : List ℕ) → p ≡ nextPosition st → word ≡ entryWord (r .home) (p - firstFor r p)
@@ -177,54 +174,10 @@ module _ (l s b : List ℕ) (st : State) (r : Writer) (w : ℕ) where
       let k = rw (e, record-first s l word w (logging home (firstFor r (nextPosition st)) (countFor r + 1)), q) at h in
       record { size = k .size; state = hs ∙ rw (k .state); log = k .log; batch = k .batch }
 
-  pub committed : (p word n : ℕ) (s₁ s₂ s′ l′ b′ : List ℕ) → p ≡ nextPosition st
-      → word ≡ closingWord (r .home) (p - firstFor r p) (linkFrom p st) (countFor r + 1) → Wrote n s₁ l′ b′ b (logged s l word (heldOf s w))
-      → s₂ ≡ setLast s₁ (p + 1) → s′ ≡ setWriter s₂ w idle → Closed n s′ l′ b′ s l b st r w
-  unfolding loggedClosing
-  committed p word n s₁ s₂ s′ l′ b′ ep ew h h₂ hs =
-      let q : word ≡ closingWord (r .home) (nextPosition st - firstFor r (nextPosition st)) (linkFrom (nextPosition st) st) (countFor r + 1) = ew ∙ rw ep in
-      let k = rw q at h in
-      record { size = k .size; state = hs ∙ rw (h₂, k .state, ep); log = k .log; batch = k .batch }
-
   -- and the promise
   pub stored-used : (x : List ℕ) (home n k : ℕ) (s₁ s′ l′ b′ : List ℕ) → k ≡ promiseLeft s w → HeldNext n s₁ l′ b′ s l b x st r w home
       → s′ ≡ setPromise s₁ w k → StoredOther n s′ l′ b′ s l b x st r w home
   stored-used x home n k s₁ s′ l′ b′ ek h e = record { size = h .size; state = e ∙ rw (h .state, ek); log = h .log; batch = h .batch }
-
-  -- and the newest positions, with those of the list
-  pub committed-back : (n : ℕ) (s₁ s₂ s′ l′ b′ p p′ : List ℕ) → Closed n s₁ l′ b′ s l b st r w → s₂ ≡ setPromise s₁ w 0 → p′ ≡ keptBy l′ st r p
-      → s′ ≡ carryListed (st .homes) p′ s₂ → Committed n s′ p′ l′ b′ s p l b st r w
-  committed-back n s₁ s₂ s′ l′ b′ p p′ h e k q =
-      record { size = h .size; state = q ∙ rw (e, h .state); newest = k; log = h .log; batch = h .batch }
-
-  -- the stretch of the log from the transaction's first position to the closing one
-  pub stretch : (l′ : List ℕ) → MayLog l s b st w → Fits st r (nextPosition st) → length l′ ≡ length l
-      → Stretch l′ (st .groups) (st .start) (firstFor r (nextPosition st)) (nextPosition st + 1)
-  stretch l′ m f e =
-      let q : nextPosition st ≡ 7 * st .next + st .filled = unfold nextPosition in refl in
-      record {
-        long = e ∙ m .log;
-        some = omega (arith, m .some);
-        most = m .few;
-        low = m .high;
-        from = f .from;
-        upto = omega (arith, f .upto);
-        within = omega (arith, q, m .room, m .filled);
-      }
-
--- the newest positions, from what the pass was handed
-module _ (log : List ℕ) (st : State) (r : Writer) (f p : ℕ) (ep : p ≡ nextPosition st) (ef : f ≡ firstFor r p) where
-  pub stretch-at : Stretch log (st .groups) (st .start) (firstFor r (nextPosition st)) (nextPosition st + 1) → Stretch log (st .groups) (st .start) f (p + 1)
-  stretch-at h = rw (ef, ep) h
-
-  pub kept-by : (newest after : List ℕ)
-      → after
-      ≡ keepEntries (entryAt log (st .groups) (st .homes) (st .start))
-      (entries (entryAt log (st .groups) (st .homes) (st .start)) (7 * st .start) (record { first = f; closing = p }))
-      newest
-      → after ≡ keptBy log st r newest
-  unfolding keptBy
-  kept-by newest after e = e ∙ rw (ef, ep)
 
 -- a store that logs nothing
 pub none-logged : (r : Writer) → holds r ≡ false → countFor r + 1 < 2 ^ 64

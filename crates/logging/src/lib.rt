@@ -1,11 +1,11 @@
-// The calls that fill the log: store, commit and flush.
-mod commits;
+// The calls that fill the log, store and flush, and the entry that commit logs too.
 mod entry;
 mod flushes;
 mod stores;
 
-pub use commits::commit;
-pub use commits::commit_held;
+pub use entry::closing_word;
+pub use entry::log_entry;
+pub use entry::may_log;
 pub use flushes::flush;
 pub use stores::store;
 pub use stores::store_first;

@@ -49,7 +49,7 @@ fn call(
             return store(log, area, state, batch, w, home, fill);
         }
         Line::Commit(w) => {
-            return logging::commit(log, area, state, newest, batch, w);
+            return commits::commit(log, area, state, newest, batch, w);
         }
         Line::Flush => {
             return logging::flush(log, area, state, batch);

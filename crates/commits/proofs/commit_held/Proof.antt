@@ -1,9 +1,9 @@
--- `logging::commit_held` meets its contract. Assumes nothing.
+-- `commits::commit_held` meets its contract. Assumes nothing.
 use borrow.Author.Needs.{needs}
-use Rattle.logging.proofs.LogLaws.{stretch, committed-back}
+use Rattle.commits.proofs.ClosingLaws.{stretch, committed-back}
 use native.Mathlib.Omega.{arith}
-use Rattle.logging.proofs.commits.commit_held.Statement.{statement}
-use Rattle.logging.proofs.commits.commit_held.Tie as tie
+use Rattle.commits.proofs.commit_held.Statement.{statement}
+use Rattle.commits.proofs.commit_held.Tie as tie
 
 close-held-requires : tie.Need-close-held-requires
 close-held-requires c κs = search needs

@@ -1,8 +1,8 @@
--- `logging::commit_none` meets its contract. Assumes nothing.
+-- `commits::commit_none` meets its contract. Assumes nothing.
 use mathlib.Core.Path.{_∙_}
 use borrow.Author.Needs.{needs}
-use Rattle.logging.proofs.commits.commit_none.Statement.{statement}
-use Rattle.logging.proofs.commits.commit_none.Tie as tie
+use Rattle.commits.proofs.commit_none.Statement.{statement}
+use Rattle.commits.proofs.commit_none.Tie as tie
 
 abort-requires : tie.Need-abort-requires
 abort-requires c κs = search needs

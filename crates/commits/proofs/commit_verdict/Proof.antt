@@ -1,11 +1,11 @@
--- `logging::commit_verdict` meets its contract. Assumes nothing.
+-- `commits::commit_verdict` meets its contract. Assumes nothing.
 use mathlib.Core.Path.{refl}
 use native.Mathlib.Omega.{arith}
 use Rattle.answers.proofs.AnswerLaws.{usable-groups}
-use Rattle.logging.proofs.CommitLaws.{refuses, lent-use, writer-no, open-no, none-yes, held-asks}
+use Rattle.commits.proofs.CommitLaws.{refuses, lent-use, writer-no, open-no, none-yes, held-asks}
 use borrow.Author.Needs.{needs}
-use Rattle.logging.proofs.commits.commit_verdict.Statement.{statement}
-use Rattle.logging.proofs.commits.commit_verdict.Tie as tie
+use Rattle.commits.proofs.commit_verdict.Statement.{statement}
+use Rattle.commits.proofs.commit_verdict.Tie as tie
 
 in-use-newest-requires : tie.Need-in-use-newest-requires
 in-use-newest-requires c κs = search needs

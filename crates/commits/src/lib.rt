@@ -1,8 +1,8 @@
 // Commit: the held block is logged as the closing entry.
-use crate::entry::closing_word;
-use crate::entry::log_entry;
-use crate::entry::may_log;
 use answers::Reply;
+use logging::closing_word;
+use logging::log_entry;
+use logging::may_log;
 use model::State;
 use model::Writer;
 ghost use mathlib.Core.Path.{_≡_};
@@ -15,7 +15,8 @@ ghost use Rattle.model.specs.Questions.{commitAnswer};
 ghost use Rattle.model.specs.Calls.{sizeOf, commitCall};
 ghost use Rattle.answers.specs.Lent.{lentAll, leavesAll};
 ghost use Rattle.scan.specs.Members.{Stretch};
-ghost use Rattle.logging.specs.Logs.{MayLog, Fits, Closed, Committed, keptBy};
+ghost use Rattle.logging.specs.Logs.{MayLog, Fits};
+ghost use Rattle.commits.specs.Closings.{Closed, Committed, keptBy};
 
 // Ends the transaction of a writer that holds nothing, and gives back the places promised to it.
 fn commit_none(state: &mut [u8], w: usize)

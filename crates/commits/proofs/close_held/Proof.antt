@@ -1,8 +1,9 @@
--- `logging::close_held` meets its contract. Assumes nothing.
-use Rattle.logging.proofs.LogLaws.{may-own, committed, at-position}
+-- `commits::close_held` meets its contract. Assumes nothing.
+use Rattle.logging.proofs.LogLaws.{may-own, at-position}
+use Rattle.commits.proofs.ClosingLaws.{committed}
 use borrow.Author.Needs.{needs}
-use Rattle.logging.proofs.commits.close_held.Statement.{statement}
-use Rattle.logging.proofs.commits.close_held.Tie as tie
+use Rattle.commits.proofs.close_held.Statement.{statement}
+use Rattle.commits.proofs.close_held.Tie as tie
 
 next-position-requires : tie.Need-next-position-requires
 next-position-requires c κs = search needs

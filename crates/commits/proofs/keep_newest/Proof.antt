@@ -1,10 +1,10 @@
--- `logging::keep_newest` meets its contract. Assumes nothing.
+-- `commits::keep_newest` meets its contract. Assumes nothing.
 use borrow.Author.Needs.{needs}
 use native.Mathlib.Omega.{arith}
 use Rattle.model.specs.State.{nextPosition}
-use Rattle.logging.proofs.LogLaws.{stretch-at, kept-by}
-use Rattle.logging.proofs.commits.keep_newest.Statement.{statement}
-use Rattle.logging.proofs.commits.keep_newest.Tie as tie
+use Rattle.commits.proofs.ClosingLaws.{stretch-at, kept-by}
+use Rattle.commits.proofs.keep_newest.Statement.{statement}
+use Rattle.commits.proofs.keep_newest.Tie as tie
 
 next-position-requires : tie.Need-next-position-requires
 unfolding nextPosition

@@ -1,9 +1,9 @@
--- `logging::commit` meets its contract. Assumes nothing.
+-- `commits::commit` meets its contract. Assumes nothing.
 use native.Mathlib.Omega.{arith}
-use Rattle.logging.proofs.CommitLaws.{ends-refused, known, ends-none, held, ends-held}
+use Rattle.commits.proofs.CommitLaws.{ends-refused, known, ends-none, held, ends-held}
 use borrow.Author.Needs.{needs}
-use Rattle.logging.proofs.commits.commit.Statement.{statement}
-use Rattle.logging.proofs.commits.commit.Tie as tie
+use Rattle.commits.proofs.commit.Statement.{statement}
+use Rattle.commits.proofs.commit.Tie as tie
 
 commit-verdict-requires : tie.Need-commit-verdict-requires
 commit-verdict-requires c κs = search needs

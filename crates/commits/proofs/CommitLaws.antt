@@ -23,10 +23,11 @@ use Rattle.model.proofs.strip.QuestionLaws.{ask-yes, ask-no, room-true, CommitR
 use Rattle.answers.specs.Lent.{lentAll, leavesAll}
 use Rattle.answers.proofs.AnswerLaws.{Usable, refused-by}
 use Rattle.answers.proofs.NewestAnswers.{newest-usable, newest-refuses, newest-passes, newest-only}
-use Rattle.logging.specs.Logs.{MayLog, Fits, loggedClosing, keptBy, Committed}
+use Rattle.logging.specs.Logs.{MayLog, Fits}
+use Rattle.commits.specs.Closings.{loggedClosing, keptBy, Committed}
 use Rattle.logging.proofs.CallLaws.{newest-first, ends}
 use Rattle.logging.proofs.LogLaws.{logged-size}
 use Rattle.logging.proofs.ReadyLaws.{quiet, loud, may, fits-tag}
 use Rattle.model.proofs.strip.LoggingLaws.{fits}
 
 -- ---- its effect
