@@ -8,7 +8,7 @@ use mathlib.Core.Bool.{Bool, true, false, cond, not, _&&_, _||_}
 use mathlib.Core.List.{List, [], _++_}
 use mathlib.Core.Option.{Option, none, some}
 use lib.Dec.{eqb, leb, ltb}
-use Rattle.model.specs.Bytes.{part, zeros, number, same}
+use Rattle.model.specs.Bytes.{zeros, number, same}
 use Rattle.model.specs.Layout.{homeAt}
 use Rattle.model.specs.State.{listHome, listedOf, listSign, setListSign}
 use Rattle.model.specs.Newest.{keptFor, carryListed}
@@ -49,9 +49,14 @@ readList g = listBy g (λ i. keptFor (g .newest) (listHome + i)) 4
 
 -- Commit keeps the four positions in the state strip, and where they have changed the sign of the list as it is then.
 
--- a commit has left what is given here, but for the state strip's part of the list: whether the newest positions have others for its homes
+-- whether the state strip has, for the first n homes of the list, what the newest positions have
+unfoldable pub sameListed : Given → ℕ → Bool
+sameListed g zero = true
+sameListed g (suc n) = sameListed g n && eqb (listedOf (g .state) n) (keptFor (g .newest) (listHome + n))
+
+-- given what a commit has left, but for the state strip's part of the list
 unfoldable pub listMoved : Given → Bool
-listMoved g = leb (listHome + 4) (homes g) && not (same (part (g .state) 896 32) (part (g .newest) (8 * listHome) 32))
+listMoved g = leb (listHome + 4) (homes g) && not (sameListed g 4)
 
 unfoldable pub signFor : List ℕ → ℕ
 signFor list = cond (same list (zeros 256)) 1 2

@@ -4,21 +4,29 @@ use mathlib.Core.Path.{_≡_, refl, sym, ap, _∙_}
 use mathlib.Core.Bool.{Bool, true, false, cond, not, _&&_, false≢true}
 use mathlib.Core.List.{List, []}
 use mathlib.Core.Option.{none, some}
-use Prim.Native.Nat.{ℕ, _+_, _*_, _^_, _≤_, _<_}
+use Prim.Native.Nat.{ℕ, zero, suc, _+_, _*_, _^_, _≤_, _<_}
 use native.Mathlib.Omega.{arith}
 use lib.Dec.{eqb, leb}
 use lib.ListN.{length, replicate, length-replicate}
-use borrow.Author.Tests.{le-leb, lt-leb, leb-true, eqb-true}
+use borrow.Author.Tests.{le-leb, lt-leb, leb-true, eqb-true, eqb-false}
 use Rattle.model.specs.Bytes.{part, number, value, zeros, same}
 use Rattle.model.specs.Layout.{homeAt}
 use Rattle.model.specs.State.{stateOf, setGroups, setHomes, setStart, setNext, setSettled, setFenced, setDurable, freshNumbers, freshState, writerOffset, writerOf, heldOf, promiseOffset, promiseOf, listHome, listedOf, setListed, listSign, setListSign}
 use Rattle.model.specs.Newest.{keptFor, carryListed}
 use Rattle.model.specs.Given.{Given, homes, tagsOf, liveBase, liveTags, blockOr, isThere}
-use Rattle.model.specs.Rights.{forHome, shownAt, listBy, readList, inRanges, isList, mayStore, mayRead, listMoved, signFor, signIf, keepList, signedList, storeRight, readRight, Faithful}
-use Rattle.model.proofs.bytes.ByteLaws.{length-putNumber, length-part, part-put-below, number-same-part, number-put-below, number-put-above, number-part, number-above, same-eq}
+use Rattle.model.specs.Rights.{forHome, shownAt, listBy, readList, inRanges, isList, mayStore, mayRead, listMoved, signFor, signIf, keepList, sameListed, signedList, storeRight, readRight, Faithful}
+use Rattle.model.proofs.bytes.ByteLaws.{length-putNumber, length-part, part-put-below, number-same-part, number-put-below, number-put-above, number-above}
 use Rattle.model.proofs.strip.StateLaws.{state-agree, writer-agree, number-back}
 use Rattle.model.proofs.strip.RightLaws.{list-by}
 use Rattle.model.proofs.strip.ListedLaws.{length-carry, state-carry, writer-carry, held-carry, promise-carry, listed-carry}
+
+and-left : (a b : Bool) → (a && b) ≡ true → a ≡ true
+and-left true b e = refl
+and-left false b e = e
+
+and-right : (a b : Bool) → (a && b) ≡ true → b ≡ true
+and-right true b e = e
+and-right false b e = absurd (false≢true e)
 
 pub sign-listed : (s : List ℕ) → listSign s ≡ listedOf s 4
 unfolding listSign listedOf
@@ -137,14 +145,19 @@ module _ (g : Given) where
   sign-moves e l =
       rw e (sign-setListSign _ (signFor (readList g)) (length-carry (homes g) (g .newest) (g .state) ∙ l) (sign-small (readList g)))
 
+  same-each : (n i : ℕ) → sameListed g n ≡ true → i < n → listedOf (g .state) i ≡ keptFor (g .newest) (listHome + i)
+  unfolding sameListed
+  same-each zero i e l = absurd (omega arith)
+  same-each (suc n) i e l = go (eqb i n) refl (λ k. same-each n i (and-left (sameListed g n) _ e) k)
+    where
+      go : (d : Bool) → eqb i n ≡ d → (i < n → listedOf (g .state) i ≡ keptFor (g .newest) (listHome + i)) → listedOf (g .state) i ≡ keptFor (g .newest) (listHome + i)
+      go true q f = rw (eqb-true i n q) (eqb-true _ _ (and-right (sameListed g n) _ e))
+      go false q f = f (omega (arith, eqb-false i n q))
+
   -- where no position has changed, the strip has those that the newest positions have
   pub none-moved : listHome + 4 ≤ homes g → listMoved g ≡ false → (i : ℕ) → i < 4 → listedOf (g .state) i ≡ keptFor (g .newest) (listHome + i)
-  unfolding listMoved listedOf keptFor
-  none-moved h e i k =
-      let q : part (g .state) 896 32 ≡ part (g .newest) (8 * listHome) 32 = same-eq _ _ (not-false _ (rw (le-leb (listHome + 4) (homes g) h) at e)) in
-      let a : 8 * listHome + 8 * i ≡ 8 * (listHome + i) = omega arith in
-      sym (number-part 8 (g .state) 896 32 (8 * i) (omega arith)) ∙ ap (λ (xs : List ℕ). number 8 xs (8 * i)) q
-      ∙ number-part 8 (g .newest) (8 * listHome) 32 (8 * i) (omega arith) ∙ rw a
+  unfolding listMoved
+  none-moved h e i k = same-each 4 i (not-false _ (rw (le-leb (listHome + 4) (homes g) h) at e)) k
     where
       not-false : (b : Bool) → not b ≡ false → b ≡ true
       not-false true e = refl
