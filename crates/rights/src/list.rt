@@ -10,9 +10,9 @@ ghost use Prim.Native.Nat.{ℕ, _+_, _-_, _*_, _/_, _%_, _^_, _<_, _≤_};
 ghost use lib.ListN.{length};
 ghost use Rattle.model.specs.Bytes.{part, number, zeros, same};
 ghost use Rattle.model.specs.Rights.{inRanges};
-ghost use Rattle.model.specs.State.{stateOf};
+ghost use Rattle.model.specs.State.{stateOf, listSign};
 ghost use Rattle.shown.specs.There.{Searchable, placeBy};
-ghost use Rattle.rights.specs.Listed.{Listed, blockBy, blocksBy, blockFrom, opens};
+ghost use Rattle.rights.specs.Listed.{Listed, blockBy, blocksBy, blockFrom, opens, opensBy};
 
 // What is kept for no position: all ones.
 const NO_POSITION: u64 = 0xffff_ffff_ffff_ffff;
@@ -140,8 +140,8 @@ fn open_kept(
     no_list(log, area, state, kept, from, at / 64)
 }
 
-// Whether the ranges from byte `at` of the list on open a home, or there is no list; D has room for one.
-pub fn open_to(
+// Whether the ranges from byte `at` of the list on open a home, or there is no list, by its blocks alone.
+fn open_unsigned(
     log: &[u8],
     area: &[u8],
     state: &[u8],
@@ -160,4 +160,57 @@ pub fn open_to(
         return true;
     }
     none_in_copy(area)
+}
+
+// Whether the ranges from byte `at` of the list on open a home.
+fn open_listed(
+    log: &[u8],
+    area: &[u8],
+    state: &[u8],
+    kept: &[u8],
+    from: usize,
+    at: usize,
+    home: u64,
+) -> bool
+    requires { ⌜ Listed (now log) (now area) (stateOf (now state)) (now kept) from × (length (now state) ≡ 1024) × (12 ≤ stateOf (now state) .homes) × (at < 256) × (at % 64 + 16 ≤ 64) ⌝ }
+    ensures { λ r. ⌜ r ≡ inRanges (blocksBy (now (log .entry)) (now (area .entry)) (stateOf (now (state .entry))) (now (kept .entry)) from 4) at home 4 ⌝ }
+{
+    let found = place(log, state, kept, from, at / 64);
+    own_ranges(log, area, found, at, home)
+}
+
+// Whether the ranges from byte `at` of the list on open a home, or there is no list; D has room for one. Where its sign says whether there is one, at
+// most the writer's own block is looked up.
+pub fn open_to(
+    log: &[u8],
+    area: &[u8],
+    state: &[u8],
+    kept: &[u8],
+    from: usize,
+    at: usize,
+    home: u64,
+) -> bool
+    requires { ⌜ Listed (now log) (now area) (stateOf (now state)) (now kept) from × (length (now state) ≡ 1024) × (12 ≤ stateOf (now state) .homes) × (at < 256) × (at % 64 + 16 ≤ 64) ⌝ }
+    ensures { λ r. ⌜ r ≡ opensBy (listSign (now (state .entry))) (stateOf (now (state .entry)) .homes) (blocksBy (now (log .entry)) (now (area .entry)) (stateOf (now (state .entry))) (now (kept .entry)) from 4) at home ⌝ }
+{
+    let sign = strip::list_sign(state);
+    if sign == 1 {
+        return true;
+    }
+    if sign == 2 {
+        return open_listed(log, area, state, kept, from, at, home);
+    }
+    open_unsigned(log, area, state, kept, from, at, home)
+}
+
+// Whether the whole list is all zeros, by the newest positions.
+pub fn all_zeros(log: &[u8], area: &[u8], state: &[u8], newest: &[u8]) -> bool
+    requires { ⌜ Listed (now log) (now area) (stateOf (now state)) (now newest) 64 × (length (now state) ≡ 1024) × (12 ≤ stateOf (now state) .homes) ⌝ }
+    ensures { λ r. ⌜ r ≡ same (blocksBy (now (log .entry)) (now (area .entry)) (stateOf (now (state .entry))) (now (newest .entry)) 64 4) (zeros 256) ⌝ }
+{
+    let found = place(log, state, newest, 64, 0);
+    if !is_zero(log, area, found, 0) {
+        return false;
+    }
+    no_list(log, area, state, newest, 64, 0)
 }

@@ -1,4 +1,4 @@
-// The state strip of 1,024 bytes as model/specs/State defines it: its numbers, its writers' records, held blocks and promises, the positions of the list of rights, and whether it is in order.
+// The state strip of 1,024 bytes as model/specs/State defines it: its numbers, its writers' records, held blocks and promises, the positions and the sign of the list of rights, and whether it is in order.
 mod distances;
 mod fields;
 mod listed;
@@ -20,6 +20,8 @@ pub use fields::set_settled;
 pub use fields::set_start;
 pub use fields::state;
 pub use listed::carry_listed;
+pub use listed::list_sign;
+pub use listed::set_list_sign;
 pub use order::in_order;
 pub use order::numbers_in_order;
 pub use order::writer_in_order;
