@@ -30,6 +30,6 @@ pub fn transact(
     let st = strip::state(state);
     let r = strip::writer(state, w);
     let ticket = strip::next_position(st) + 1;
-    let size = commits::commit_held(log, state, newest, batch, st, r, w);
+    let size = commits::commit_held(log, area, state, newest, batch, st, r, w);
     answers::done(ticket, stored + size)
 }

@@ -57,9 +57,11 @@ fn keep_newest(log: &[u8], newest: &mut [u8], st: State, r: Writer)
     positions::keep_entries(log, st.groups, st.homes, st.start, first, position, newest)
 }
 
-// The closing entry, with the places promised to the writer given back, the newest positions kept, and those of the list of rights carried over.
+// The closing entry, with the places promised to the writer given back, the newest positions kept, and with them the state strip's part of the list of
+// rights.
 pub fn commit_held(
     log: &mut [u8],
+    area: &[u8],
     state: &mut [u8],
     newest: &mut [u8],
     batch: &mut [u8],
@@ -67,13 +69,13 @@ pub fn commit_held(
     r: Writer,
     w: usize,
 ) -> u64
-    requires { ⌜ MayLog (now log) (now state) (now batch) st w × Fits st r (nextPosition st) × (length (now newest) ≡ 8 * st .homes) ⌝ }
-    ensures { λ x. ⌜ Committed x (now (state .exit)) (now (newest .exit)) (now (log .exit)) (now (batch .exit)) (now (state .entry)) (now (newest .entry)) (now (log .entry)) (now (batch .entry)) st r w ⌝ }
+    requires { ⌜ MayLog (now log) (now state) (now batch) st w × Fits st r (nextPosition st) × (length (now newest) ≡ 8 * st .homes) × (length (now area) ≡ 64 * st .homes) ⌝ }
+    ensures { λ x. ⌜ Committed x (now (state .exit)) (now (newest .exit)) (now (log .exit)) (now (batch .exit)) (now (state .entry)) (now (newest .entry)) (now (log .entry)) (now (batch .entry)) (now (area .entry)) st r w ⌝ }
 {
     let size = close_held(log, state, batch, st, r, w);
     strip::set_promise(state, w, 0);
     keep_newest(log, newest, st, r);
-    strip::carry_listed(state, newest, st.homes);
+    rights::keep_list(log, area, state, newest);
     size
 }
 
@@ -129,6 +131,6 @@ pub fn commit(
     }
     let st = strip::state(state);
     let ticket = strip::next_position(st) + 1;
-    let size = commit_held(log, state, newest, batch, st, r, w);
+    let size = commit_held(log, area, state, newest, batch, st, r, w);
     answers::done(ticket, size)
 }

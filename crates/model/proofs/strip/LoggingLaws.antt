@@ -15,7 +15,7 @@ use Rattle.model.specs.Effects.{Given, linkFrom, entered, submitted, log
 use Rattle.model.specs.Questions.{batchFits}
 use Rattle.model.proofs.bytes.ByteLaws.{length-part}
 use Rattle.model.proofs.bytes.LayoutLaws.{length-putBlank, length-putEntry}
-use Rattle.model.proofs.strip.StateLaws.{state-setNext, state-setFilled, length-setNext}
+use Rattle.model.proofs.strip.StateLaws.{state-setNext, state-setFilled, length-setNext, length-setFilled}
 use Rattle.model.proofs.strip.OrderLaws.{WriterInOrder}
 
 -- where a transaction's first position and count stand
@@ -89,3 +89,13 @@ logged-numbers s log word block h f n = go (eqb (stateOf s .filled) 6) refl
         let q = eqb-false (stateOf s .filled) 6 e in
         rw (state-setFilled s (stateOf s .filled + 1) h (omega arith))
         (record { groups = refl; homes = refl; start = refl; settled = refl; fenced = refl; durable = refl; last = refl; round = refl; cursor = refl; moved = inl (omega arith, refl, refl) })
+
+pub logged-length : (s log : List ℕ) (word : ℕ) (block : List ℕ) → length (logged s log word block .state) ≡ length s
+unfolding logged submitted
+logged-length s log word block = go (eqb (stateOf s .filled) 6)
+  where
+    go : (t : Bool)
+        → length (submitted t s (stateOf s) (stateOf s .next % stateOf s .groups) (entered (stateOf s) (stateOf s .next % stateOf s .groups) log word block) .state)
+        ≡ length s
+    go true = length-setFilled (setNext s (stateOf s .next + 1)) 0 ∙ length-setNext s (stateOf s .next + 1)
+    go false = length-setFilled s (stateOf s .filled + 1)
