@@ -1,15 +1,17 @@
 -- What the closing entry leaves, and the stretch of the log that a commit looks at. Assumes nothing.
 use mathlib.Core.Path.{_≡_, refl, sym, ap, _∙_, subst}
+use mathlib.Core.Bool.{Bool, true, false, not}
 use mathlib.Core.List.{List, []}
 use Prim.Native.Nat.{ℕ, _+_, _-_, _*_, _^_, _<_}
 use native.Mathlib.Omega.{arith}
 use lib.ListN.{length}
+use borrow.Author.Tests.{not-true}
 use Rattle.model.specs.Layout.{entryAt}
 use Rattle.model.specs.Commit.{entries}
 use Rattle.model.specs.Newest.{keepEntries}
 use Rattle.model.specs.declared.State.{State}
 use Rattle.model.specs.declared.Writer.{Writer}
-use Rattle.model.specs.State.{stateOf, setLast, nextPosition, setWriter, heldOf, setPromise, idle, firstFor, countFor}
+use Rattle.model.specs.State.{stateOf, setLast, nextPosition, writerOf, setWriter, heldOf, setPromise, idle, hasLogged, firstFor, countFor}
 use Rattle.model.specs.Tag.{closingWord}
 use Rattle.model.specs.Effects.{logged, linkFrom}
 use Rattle.model.specs.Rights.{keepList}
@@ -121,3 +123,40 @@ module _ (log : List ℕ) (st : State) (r : Writer) (f p : ℕ) (ep : p ≡ next
       → after ≡ keptBy log st r newest
   unfolding keptBy
   kept-by newest after e = e ∙ rw (ef, ep)
+
+-- where nothing was logged before, one position
+module _ (log : List ℕ) (st : State) (r : Writer) (t : Bool) (et : t ≡ hasLogged r) (n : not t ≡ true) where
+  unlogged : hasLogged r ≡ false
+  unlogged = sym et ∙ not-true t n
+
+  pub stretch-one : Stretch log (st .groups) (st .start) (firstFor r (nextPosition st)) (nextPosition st + 1)
+      → Stretch log (st .groups) (st .start) (7 * st .next + st .filled) (7 * st .next + st .filled + 1)
+  unfolding firstFor nextPosition
+  stretch-one h = rw unlogged at h
+
+  pub kept-one : (newest after : List ℕ)
+      → after
+      ≡ keepEntries (entryAt log (st .groups) (st .homes) (st .start))
+      (entries (entryAt log (st .groups) (st .homes) (st .start)) (7 * st .start) (record { first = 7 * st .next + st .filled; closing = 7 * st .next + st .filled }))
+      newest
+      → after ≡ keptBy log st r newest
+  unfolding keptBy firstFor nextPosition
+  kept-one newest after e = rw unlogged e
+
+-- by the numbers and the record that stand in the strip, there and back
+module _ (l s b p a : List ℕ) (st : State) (r : Writer) (w : ℕ) (es : st ≡ stateOf s) (er : r ≡ writerOf s w) where
+  pub closing-at : MayLog l s b (stateOf s) w × Fits (stateOf s) (writerOf s w) (nextPosition (stateOf s)) × (length p ≡ 8 * stateOf s .homes) × (length a ≡ 64 * stateOf s .homes)
+      → MayLog l s b st w × Fits st r (nextPosition st) × (length p ≡ 8 * st .homes) × (length a ≡ 64 * st .homes)
+  closing-at h = rw (es, er) h
+
+  pub closing-own : MayLog l s b st w × Fits st r (nextPosition st) × (length p ≡ 8 * st .homes) × (length a ≡ 64 * st .homes)
+      → MayLog l s b (stateOf s) w × Fits (stateOf s) (writerOf s w) (nextPosition (stateOf s)) × (length p ≡ 8 * stateOf s .homes) × (length a ≡ 64 * stateOf s .homes)
+  closing-own h = rw (es, er) at h
+
+  pub committed-at : (n : ℕ) (s′ p′ l′ b′ : List ℕ) → Committed n s′ p′ l′ b′ s p l b a st r w
+      → Committed n s′ p′ l′ b′ s p l b a (stateOf s) (writerOf s w) w
+  committed-at n s′ p′ l′ b′ d = rw (es, er) at d
+
+  pub committed-own : (n : ℕ) (s′ p′ l′ b′ : List ℕ) → Committed n s′ p′ l′ b′ s p l b a (stateOf s) (writerOf s w) w
+      → Committed n s′ p′ l′ b′ s p l b a st r w
+  committed-own n s′ p′ l′ b′ d = rw (es, er) d

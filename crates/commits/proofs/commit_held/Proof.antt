@@ -14,7 +14,7 @@ set-promise-requires c κs = search needs
 keep-newest-requires : tie.Need-keep-newest-requires
 keep-newest-requires c κs =
     let p = c .before .before .before .before .before .before .before .before .before .before .before .before .before .before .before .before .before .before .before .before .before .pre in
-    (stretch _ _ _ _ _ _ _ (p .0) (p .1) (omega (arith, c .before .before .before .before .before .before .before .before .before .before .before .before .close-held .kept)), p .0 .homes, p .2)
+    (stretch _ _ _ _ _ _ _ (p .0) (p .1) (omega (arith, c .before .before .before .before .before .before .before .before .before .before .before .before .close-held .kept)), p .0 .homes, p .2, p .0 .filled)
 
 keep-list-requires : tie.Need-keep-list-requires
 keep-list-requires c κs =

@@ -1,8 +1,8 @@
--- `chains::store_next` meets its contract. Assumes nothing.
-use Rattle.chains.proofs.StepLaws.{next-at, stored-at}
+-- `logging::store_next` meets its contract. Assumes nothing.
+use Rattle.logging.proofs.LogLaws.{next-at, stored-at}
 use borrow.Author.Needs.{needs}
-use Rattle.chains.proofs.steps.store_next.Statement.{statement}
-use Rattle.chains.proofs.steps.store_next.Tie as tie
+use Rattle.logging.proofs.stores.store_next.Statement.{statement}
+use Rattle.logging.proofs.stores.store_next.Tie as tie
 
 state-requires : tie.Need-state-requires
 state-requires c κs = search needs
