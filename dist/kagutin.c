@@ -961,7 +961,7 @@ static inline uint64_t logging__entry__may_log(struct slice_u8 state, uint64_t w
 }
 
 /* The answer of a commit: 0, or the number of the question that refuses it. */
-static inline uint64_t logging__commits__commit_verdict(struct slice_u8 log, struct slice_u8 area, struct slice_u8 state,
+static inline uint64_t commits__commit_verdict(struct slice_u8 log, struct slice_u8 area, struct slice_u8 state,
         struct slice_u8 newest, struct slice_u8 batch, uint64_t writer)
 {
     uint64_t t7, t14;
@@ -987,7 +987,7 @@ static inline uint64_t logging__commits__commit_verdict(struct slice_u8 log, str
 }
 
 /* Ends the transaction of a writer that holds nothing, and gives back the places promised to it. */
-static inline void logging__commits__commit_none(struct slice_mut_u8 state, uint64_t w)
+static inline void commits__commit_none(struct slice_mut_u8 state, uint64_t w)
 {
     writers__abort(state, w);
     store_2(state.ptr + (size_t)(72u + (2u * w)), 0u);
@@ -1207,7 +1207,7 @@ static inline uint64_t logging__entry__log_entry(struct slice_mut_u8 log, struct
 }
 
 /* Logs the held block as the closing entry and ends the transaction. */
-static inline uint64_t logging__commits__close_held(struct slice_mut_u8 log, struct slice_mut_u8 state, struct slice_mut_u8 batch,
+static inline uint64_t commits__close_held(struct slice_mut_u8 log, struct slice_mut_u8 state, struct slice_mut_u8 batch,
         struct model__State st, struct model__Writer r, uint64_t w)
 {
     uint64_t t7, t8, t9;
@@ -1467,7 +1467,7 @@ static inline void positions__commits__keep_entries(struct slice_u8 log, uint64_
 }
 
 /* Keeps the position of each entry of the transaction that was closed at the next position. */
-static inline void logging__commits__keep_newest(struct slice_u8 log, struct slice_mut_u8 newest, struct model__State st,
+static inline void commits__keep_newest(struct slice_u8 log, struct slice_mut_u8 newest, struct model__State st,
         struct model__Writer r)
 {
     uint64_t t5, t6;
@@ -1475,6 +1475,21 @@ static inline void logging__commits__keep_newest(struct slice_u8 log, struct sli
     t5 = (7u * st.next) + st.filled;
     t6 = strip__writers__first_for(r, t5);
     positions__commits__keep_entries(log, st.groups, st.homes, st.start, t6, t5, newest);
+}
+
+/* The same for all four. */
+static inline bool rights__keep__same_listed(struct slice_u8 state, struct slice_u8 newest)
+{
+    if (!(load_8(state.ptr + (size_t)(896u + ((uint64_t)8u * 0u))) == load_8(newest.ptr + (size_t)(64u + ((uint64_t)8u * 0u))))) {
+        return false;
+    }
+    if (!(load_8(state.ptr + (size_t)(896u + ((uint64_t)8u * 1u))) == load_8(newest.ptr + (size_t)(64u + ((uint64_t)8u * 1u))))) {
+        return false;
+    }
+    if (!(load_8(state.ptr + (size_t)(896u + ((uint64_t)8u * 2u))) == load_8(newest.ptr + (size_t)(64u + ((uint64_t)8u * 2u))))) {
+        return false;
+    }
+    return load_8(state.ptr + (size_t)(896u + ((uint64_t)8u * 3u))) == load_8(newest.ptr + (size_t)(64u + ((uint64_t)8u * 3u)));
 }
 
 /* Stores the four positions, and leaves the rest of the strip as it was. */
@@ -1490,156 +1505,6 @@ static inline void strip__listed__carry_listed(struct slice_mut_u8 s, struct sli
         return;
     }
     strip__listed__set_listed(s, (struct slice_u8){newest.ptr + 64u, (size_t)((uint64_t)96u - 64u)});
-}
-
-/* The closing entry, with the places promised to the writer given back, the newest positions kept, and those of the list of
-   rights carried over. */
-static inline uint64_t logging__commits__commit_held(struct slice_mut_u8 log, struct slice_mut_u8 state,
-        struct slice_mut_u8 newest, struct slice_mut_u8 batch, struct model__State st, struct model__Writer r, uint64_t w)
-{
-    uint64_t t8;
-
-    t8 = logging__commits__close_held(log, state, batch, st, r, w);
-    store_2(state.ptr + (size_t)(72u + (2u * w)), 0u);
-    logging__commits__keep_newest((struct slice_u8){log.ptr, log.len}, newest, st, r);
-    strip__listed__carry_listed(state, (struct slice_u8){newest.ptr, newest.len}, st.homes);
-    return t8;
-}
-
-/* Commits a writer's open transaction: its held block is logged as the closing entry, whose position + 1 is the ticket, and for
-   each home that it wrote the last entry's position is kept. */
-static inline struct answers__Reply logging__commits__commit(struct slice_mut_u8 log, struct slice_u8 area,
-        struct slice_mut_u8 state, struct slice_mut_u8 newest, struct slice_mut_u8 batch, uint64_t writer)
-{
-    uint64_t t7, t8, t12, t41, t463, t464;
-    struct model__Writer t9;
-    struct model__State t10;
-
-    t7 = logging__commits__commit_verdict((struct slice_u8){log.ptr, log.len}, area, (struct slice_u8){state.ptr, state.len},
-            (struct slice_u8){newest.ptr, newest.len}, (struct slice_u8){batch.ptr, batch.len}, writer);
-    if (t7 != 0u) {
-        return (struct answers__Reply){.code = t7, .figure = 0u, .size = 0u};
-    }
-    t8 = writer;
-    t41 = 128u + (96u * t8);
-    t9 = (struct model__Writer){.mode = load_8(state.ptr + (size_t)t41), .home = load_8(state.ptr + (size_t)(t41 + 8u)),
-            .first = load_8(state.ptr + (size_t)(t41 + 16u)), .count = load_8(state.ptr + (size_t)(t41 + 24u))};
-    if (!(2u <= t9.mode)) {
-        logging__commits__commit_none(state, t8);
-        return (struct answers__Reply){.code = 0u, .figure = 0u, .size = 0u};
-    }
-    t463 = load_8(state.ptr);
-    t464 = load_8(state.ptr + 8u);
-    t10 = (struct model__State){.groups = t463, .homes = t464, .start = load_8(state.ptr + 16u), .next = load_8(state.ptr + 24u),
-            .filled = load_8(state.ptr + 32u), .settled = load_8(state.ptr + 40u), .fenced = load_8(state.ptr + 48u),
-            .durable = load_8(state.ptr + 56u), .last = load_8(state.ptr + 64u), .round = load_8(state.ptr + 88u),
-            .cursor = load_8(state.ptr + 96u)};
-    t12 = logging__commits__commit_held(log, state, newest, batch, t10, t9, t8);
-    return (struct answers__Reply){.code = 0u, .figure = ((7u * t10.next) + t10.filled) + 1u, .size = t12};
-}
-
-/* Ends a writer's transaction: logs the held block as its closing entry, and returns the ticket. */
-static inline struct answers__Reply kagutin__kagutin_commit(struct slice_mut_u8 log, struct slice_u8 area,
-        struct slice_mut_u8 state, struct slice_mut_u8 newest, struct slice_mut_u8 batch, uint64_t writer)
-{
-    return logging__commits__commit(log, area, state, newest, batch, writer);
-}
-
-/* Makes the fenced position the durable mark, and returns it: all fences so far have passed. */
-static inline struct answers__Reply sessions__confirm(struct slice_u8 log, struct slice_u8 area, struct slice_mut_u8 state)
-{
-    uint64_t t4, t5, t17, t18;
-    struct model__State t9;
-
-    t4 = answers__in_use(log, area, (struct slice_u8){state.ptr, state.len});
-    if (t4 != 0u) {
-        return (struct answers__Reply){.code = t4, .figure = 0u, .size = 0u};
-    }
-    t17 = load_8(state.ptr);
-    t18 = load_8(state.ptr + 8u);
-    t9 = (struct model__State){.groups = t17, .homes = t18, .start = load_8(state.ptr + 16u), .next = load_8(state.ptr + 24u),
-            .filled = load_8(state.ptr + 32u), .settled = load_8(state.ptr + 40u), .fenced = load_8(state.ptr + 48u),
-            .durable = load_8(state.ptr + 56u), .last = load_8(state.ptr + 64u), .round = load_8(state.ptr + 88u),
-            .cursor = load_8(state.ptr + 96u)};
-    t5 = t9.fenced;
-    store_8(state.ptr + 56u, t5);
-    return (struct answers__Reply){.code = 0u, .figure = t5, .size = 0u};
-}
-
-/* Makes the fenced position the durable mark, and returns it. */
-static inline struct answers__Reply kagutin__kagutin_confirm(struct slice_u8 log, struct slice_u8 area, struct slice_mut_u8 state)
-{
-    return sessions__confirm(log, area, state);
-}
-
-/* Whether a strip of home blocks may have `len` bytes: one to seven whole blocks. */
-static inline bool chains__verdicts__blocks_right(uint64_t len)
-{
-    if ((len % 64u) != 0u) {
-        return false;
-    }
-    if (len < 64u) {
-        return false;
-    }
-    return len <= 448u;
-}
-
-/* Whether the `n` homes from `home` on are all below `homes`. */
-static inline bool chains__verdicts__homes_known(uint64_t homes, uint64_t home, uint64_t n)
-{
-    if (homes < home) {
-        return false;
-    }
-    return n <= (homes - home);
-}
-
-/* Questions 1, 2, 4 and 5, which each call on several homes puts first: 0 if none refuses it, else the number of the refusal. */
-static inline uint64_t chains__verdicts__homes_answer(struct slice_u8 log, struct slice_u8 area, struct slice_u8 state,
-        struct slice_u8 newest, struct slice_u8 blocks, uint64_t writer, uint64_t home)
-{
-    uint64_t t8;
-    bool t9;
-
-    t9 = chains__verdicts__blocks_right((uint64_t)blocks.len);
-    if (!t9) {
-        return 1u;
-    }
-    t8 = answers__in_use_newest(log, area, state, newest);
-    if (t8 != 0u) {
-        return t8;
-    }
-    if (8u <= writer) {
-        return 4u;
-    }
-    t9 = chains__verdicts__homes_known((uint64_t)area.len / 64u, home, (uint64_t)blocks.len / 64u);
-    if (!t9) {
-        return 5u;
-    }
-    return 0u;
-}
-
-/* Whether a home is one of the list's own. */
-static inline bool rights__ranges__of_list(uint64_t home)
-{
-    if (home < 8u) {
-        return false;
-    }
-    return home < 12u;
-}
-
-/* Whether no position is kept for any of the list's homes: the whole list lies in the data copy. */
-static inline bool rights__list__none_kept(struct slice_u8 kept, uint64_t from)
-{
-    if (load_8(kept.ptr + (size_t)from) != UINT64_C(0xffffffffffffffff)) {
-        return false;
-    }
-    if (load_8(kept.ptr + (size_t)(from + 8u)) != UINT64_C(0xffffffffffffffff)) {
-        return false;
-    }
-    if (load_8(kept.ptr + (size_t)(from + 16u)) != UINT64_C(0xffffffffffffffff)) {
-        return false;
-    }
-    return load_8(kept.ptr + (size_t)(from + 24u)) == UINT64_C(0xffffffffffffffff);
 }
 
 /* Whether a word says `after` positions behind the log's start that an entry for a home is there, test by test of its fields. */
@@ -1748,6 +1613,254 @@ static inline uint64_t rights__list__place(struct slice_u8 log, struct slice_u8 
     return shown__place(log, state, 8u + i, load_8(kept.ptr + (size_t)(from + (8u * i))));
 }
 
+/* Whether the block that the entry with its block at index `place` of the log gives is all zeros: the turn bit is shifted out of
+   its last word, and the bit that it displaced counts instead. */
+static inline bool rights__zeros__zero_entry(struct slice_u8 log, uint64_t place)
+{
+    uint64_t t3, t431, t954;
+
+    t3 = load_8(log.ptr + (size_t)place) | (load_8(log.ptr + (size_t)(place + 8u)) | (load_8(log.ptr + (size_t)(place + 16u))
+            | load_8(log.ptr + (size_t)(place + 24u))));
+    t431 = place + 24u;
+    if ((t3 | (load_8(log.ptr + (size_t)t431) | (load_8(log.ptr + (size_t)(t431 + 8u)) | (load_8(log.ptr + (size_t)(t431 + 16u))
+            | load_8(log.ptr + (size_t)(t431 + 24u)))))) != 0u) {
+        return false;
+    }
+    t954 = place - 64u;
+    return ((load_8(log.ptr + (size_t)(place + 56u)) << 1u) | ((load_8(log.ptr + (size_t)((64u + ((t954 / 512u) * 512u))
+            + ((t954 % 512u) / 8u))) >> 57u) & 1u)) == 0u;
+}
+
+/* Whether block `i` of the list, which has the place `found`, is all zeros. */
+static inline bool rights__list__is_zero(struct slice_u8 log, struct slice_u8 area, uint64_t found, uint64_t i)
+{
+    uint64_t t9, t10, t434;
+
+    if (found == 0u) {
+        t9 = 64u * (8u + i);
+        t10 = load_8(area.ptr + (size_t)t9) | (load_8(area.ptr + (size_t)(t9 + 8u)) | (load_8(area.ptr + (size_t)(t9 + 16u))
+                | load_8(area.ptr + (size_t)(t9 + 24u))));
+        t434 = t9 + 32u;
+        return (t10 | (load_8(area.ptr + (size_t)t434) | (load_8(area.ptr + (size_t)(t434 + 8u)) | (load_8(area.ptr
+                + (size_t)(t434 + 16u)) | load_8(area.ptr + (size_t)(t434 + 24u)))))) == 0u;
+    }
+    return rights__zeros__zero_entry(log, found);
+}
+
+/* The same for block `i`, where block `own` is known to be all zeros. */
+static inline bool rights__list__other_zero(struct slice_u8 log, struct slice_u8 area, struct slice_u8 state,
+        struct slice_u8 kept, uint64_t from, uint64_t own, uint64_t i)
+{
+    uint64_t t8;
+
+    if (i == own) {
+        return true;
+    }
+    t8 = rights__list__place(log, state, kept, from, i);
+    return rights__list__is_zero(log, area, t8, i);
+}
+
+/* Whether the whole list is all zeros, where block `own` is. */
+static inline bool rights__list__no_list(struct slice_u8 log, struct slice_u8 area, struct slice_u8 state, struct slice_u8 kept,
+        uint64_t from, uint64_t own)
+{
+    uint64_t t7;
+    bool t8;
+
+    t7 = 0u;
+    while (t7 < 4u) {
+        t8 = rights__list__other_zero(log, area, state, kept, from, own, t7);
+        if (!t8) {
+            return false;
+        }
+        t7 = t7 + 1u;
+    }
+    return true;
+}
+
+/* Whether the whole list is all zeros, by the newest positions. */
+static inline bool rights__list__all_zeros(struct slice_u8 log, struct slice_u8 area, struct slice_u8 state,
+        struct slice_u8 newest)
+{
+    uint64_t t5;
+    bool t6;
+
+    t5 = rights__list__place(log, state, newest, 64u, 0u);
+    t6 = rights__list__is_zero(log, area, t5, 0u);
+    if (!t6) {
+        return false;
+    }
+    return rights__list__no_list(log, area, state, newest, 64u, 0u);
+}
+
+/* Sets the sign of the list that the newest positions show. */
+static inline void rights__keep__sign_list(struct slice_u8 log, struct slice_u8 area, struct slice_mut_u8 state,
+        struct slice_u8 newest)
+{
+    bool t5;
+
+    t5 = rights__list__all_zeros(log, area, (struct slice_u8){state.ptr, state.len}, newest);
+    if (t5) {
+        store_8(state.ptr + 928u, 1u);
+        return;
+    }
+    store_8(state.ptr + 928u, 2u);
+}
+
+/* Keeps the list's part of the strip after a commit that has left log, strip and newest positions. */
+static inline void rights__keep__keep_list(struct slice_u8 log, struct slice_u8 area, struct slice_mut_u8 state,
+        struct slice_u8 newest)
+{
+    uint64_t t5;
+    bool t6;
+
+    t5 = (uint64_t)area.len / 64u;
+    if (t5 < 12u) {
+        return;
+    }
+    t6 = rights__keep__same_listed((struct slice_u8){state.ptr, state.len}, newest);
+    strip__listed__carry_listed(state, newest, t5);
+    if (t6) {
+        return;
+    }
+    rights__keep__sign_list(log, area, state, newest);
+}
+
+/* The closing entry, with the places promised to the writer given back, the newest positions kept, and with them the state
+   strip's part of the list of rights. */
+static inline uint64_t commits__commit_held(struct slice_mut_u8 log, struct slice_u8 area, struct slice_mut_u8 state,
+        struct slice_mut_u8 newest, struct slice_mut_u8 batch, struct model__State st, struct model__Writer r, uint64_t w)
+{
+    uint64_t t9;
+
+    t9 = commits__close_held(log, state, batch, st, r, w);
+    store_2(state.ptr + (size_t)(72u + (2u * w)), 0u);
+    commits__keep_newest((struct slice_u8){log.ptr, log.len}, newest, st, r);
+    rights__keep__keep_list((struct slice_u8){log.ptr, log.len}, area, state, (struct slice_u8){newest.ptr, newest.len});
+    return t9;
+}
+
+/* Commits a writer's open transaction: its held block is logged as the closing entry, whose position + 1 is the ticket, and for
+   each home that it wrote the last entry's position is kept. */
+static inline struct answers__Reply commits__commit(struct slice_mut_u8 log, struct slice_u8 area, struct slice_mut_u8 state,
+        struct slice_mut_u8 newest, struct slice_mut_u8 batch, uint64_t writer)
+{
+    uint64_t t7, t8, t12, t41, t463, t464;
+    struct model__Writer t9;
+    struct model__State t10;
+
+    t7 = commits__commit_verdict((struct slice_u8){log.ptr, log.len}, area, (struct slice_u8){state.ptr, state.len},
+            (struct slice_u8){newest.ptr, newest.len}, (struct slice_u8){batch.ptr, batch.len}, writer);
+    if (t7 != 0u) {
+        return (struct answers__Reply){.code = t7, .figure = 0u, .size = 0u};
+    }
+    t8 = writer;
+    t41 = 128u + (96u * t8);
+    t9 = (struct model__Writer){.mode = load_8(state.ptr + (size_t)t41), .home = load_8(state.ptr + (size_t)(t41 + 8u)),
+            .first = load_8(state.ptr + (size_t)(t41 + 16u)), .count = load_8(state.ptr + (size_t)(t41 + 24u))};
+    if (!(2u <= t9.mode)) {
+        commits__commit_none(state, t8);
+        return (struct answers__Reply){.code = 0u, .figure = 0u, .size = 0u};
+    }
+    t463 = load_8(state.ptr);
+    t464 = load_8(state.ptr + 8u);
+    t10 = (struct model__State){.groups = t463, .homes = t464, .start = load_8(state.ptr + 16u), .next = load_8(state.ptr + 24u),
+            .filled = load_8(state.ptr + 32u), .settled = load_8(state.ptr + 40u), .fenced = load_8(state.ptr + 48u),
+            .durable = load_8(state.ptr + 56u), .last = load_8(state.ptr + 64u), .round = load_8(state.ptr + 88u),
+            .cursor = load_8(state.ptr + 96u)};
+    t12 = commits__commit_held(log, area, state, newest, batch, t10, t9, t8);
+    return (struct answers__Reply){.code = 0u, .figure = ((7u * t10.next) + t10.filled) + 1u, .size = t12};
+}
+
+/* Ends a writer's transaction: logs the held block as its closing entry, and returns the ticket. */
+static inline struct answers__Reply kagutin__kagutin_commit(struct slice_mut_u8 log, struct slice_u8 area,
+        struct slice_mut_u8 state, struct slice_mut_u8 newest, struct slice_mut_u8 batch, uint64_t writer)
+{
+    return commits__commit(log, area, state, newest, batch, writer);
+}
+
+/* Makes the fenced position the durable mark, and returns it: all fences so far have passed. */
+static inline struct answers__Reply sessions__confirm(struct slice_u8 log, struct slice_u8 area, struct slice_mut_u8 state)
+{
+    uint64_t t4, t5, t17, t18;
+    struct model__State t9;
+
+    t4 = answers__in_use(log, area, (struct slice_u8){state.ptr, state.len});
+    if (t4 != 0u) {
+        return (struct answers__Reply){.code = t4, .figure = 0u, .size = 0u};
+    }
+    t17 = load_8(state.ptr);
+    t18 = load_8(state.ptr + 8u);
+    t9 = (struct model__State){.groups = t17, .homes = t18, .start = load_8(state.ptr + 16u), .next = load_8(state.ptr + 24u),
+            .filled = load_8(state.ptr + 32u), .settled = load_8(state.ptr + 40u), .fenced = load_8(state.ptr + 48u),
+            .durable = load_8(state.ptr + 56u), .last = load_8(state.ptr + 64u), .round = load_8(state.ptr + 88u),
+            .cursor = load_8(state.ptr + 96u)};
+    t5 = t9.fenced;
+    store_8(state.ptr + 56u, t5);
+    return (struct answers__Reply){.code = 0u, .figure = t5, .size = 0u};
+}
+
+/* Makes the fenced position the durable mark, and returns it. */
+static inline struct answers__Reply kagutin__kagutin_confirm(struct slice_u8 log, struct slice_u8 area, struct slice_mut_u8 state)
+{
+    return sessions__confirm(log, area, state);
+}
+
+/* Whether a strip of home blocks may have `len` bytes: one to seven whole blocks. */
+static inline bool chains__verdicts__blocks_right(uint64_t len)
+{
+    if ((len % 64u) != 0u) {
+        return false;
+    }
+    if (len < 64u) {
+        return false;
+    }
+    return len <= 448u;
+}
+
+/* Whether the `n` homes from `home` on are all below `homes`. */
+static inline bool chains__verdicts__homes_known(uint64_t homes, uint64_t home, uint64_t n)
+{
+    if (homes < home) {
+        return false;
+    }
+    return n <= (homes - home);
+}
+
+/* Questions 1, 2, 4 and 5, which each call on several homes puts first: 0 if none refuses it, else the number of the refusal. */
+static inline uint64_t chains__verdicts__homes_answer(struct slice_u8 log, struct slice_u8 area, struct slice_u8 state,
+        struct slice_u8 newest, struct slice_u8 blocks, uint64_t writer, uint64_t home)
+{
+    uint64_t t8;
+    bool t9;
+
+    t9 = chains__verdicts__blocks_right((uint64_t)blocks.len);
+    if (!t9) {
+        return 1u;
+    }
+    t8 = answers__in_use_newest(log, area, state, newest);
+    if (t8 != 0u) {
+        return t8;
+    }
+    if (8u <= writer) {
+        return 4u;
+    }
+    t9 = chains__verdicts__homes_known((uint64_t)area.len / 64u, home, (uint64_t)blocks.len / 64u);
+    if (!t9) {
+        return 5u;
+    }
+    return 0u;
+}
+
+/* Whether a home is one of the list's own. */
+static inline bool rights__ranges__of_list(uint64_t home)
+{
+    if (home < 8u) {
+        return false;
+    }
+    return home < 12u;
+}
+
 /* A home less the first of a range, modulo 2^64. */
 static inline uint64_t rights__ranges__wrapped_difference(uint64_t home, uint64_t first)
 {
@@ -1839,69 +1952,29 @@ static inline bool rights__list__own_ranges(struct slice_u8 log, struct slice_u8
     return rights__ranges__in_entry(log, found, at % 64u, home);
 }
 
-/* Whether the block that the entry with its block at index `place` of the log gives is all zeros: the turn bit is shifted out of
-   its last word, and the bit that it displaced counts instead. */
-static inline bool rights__zeros__zero_entry(struct slice_u8 log, uint64_t place)
-{
-    uint64_t t3, t431, t954;
-
-    t3 = load_8(log.ptr + (size_t)place) | (load_8(log.ptr + (size_t)(place + 8u)) | (load_8(log.ptr + (size_t)(place + 16u))
-            | load_8(log.ptr + (size_t)(place + 24u))));
-    t431 = place + 24u;
-    if ((t3 | (load_8(log.ptr + (size_t)t431) | (load_8(log.ptr + (size_t)(t431 + 8u)) | (load_8(log.ptr + (size_t)(t431 + 16u))
-            | load_8(log.ptr + (size_t)(t431 + 24u)))))) != 0u) {
-        return false;
-    }
-    t954 = place - 64u;
-    return ((load_8(log.ptr + (size_t)(place + 56u)) << 1u) | ((load_8(log.ptr + (size_t)((64u + ((t954 / 512u) * 512u))
-            + ((t954 % 512u) / 8u))) >> 57u) & 1u)) == 0u;
-}
-
-/* Whether block `i` of the list, which has the place `found`, is all zeros. */
-static inline bool rights__list__is_zero(struct slice_u8 log, struct slice_u8 area, uint64_t found, uint64_t i)
-{
-    uint64_t t9, t10, t434;
-
-    if (found == 0u) {
-        t9 = 64u * (8u + i);
-        t10 = load_8(area.ptr + (size_t)t9) | (load_8(area.ptr + (size_t)(t9 + 8u)) | (load_8(area.ptr + (size_t)(t9 + 16u))
-                | load_8(area.ptr + (size_t)(t9 + 24u))));
-        t434 = t9 + 32u;
-        return (t10 | (load_8(area.ptr + (size_t)t434) | (load_8(area.ptr + (size_t)(t434 + 8u)) | (load_8(area.ptr
-                + (size_t)(t434 + 16u)) | load_8(area.ptr + (size_t)(t434 + 24u)))))) == 0u;
-    }
-    return rights__zeros__zero_entry(log, found);
-}
-
-/* The same for block `i`, where block `own` is known to be all zeros. */
-static inline bool rights__list__other_zero(struct slice_u8 log, struct slice_u8 area, struct slice_u8 state,
-        struct slice_u8 kept, uint64_t from, uint64_t own, uint64_t i)
+/* Whether the ranges from byte `at` of the list on open a home. */
+static inline bool rights__list__open_listed(struct slice_u8 log, struct slice_u8 area, struct slice_u8 state,
+        struct slice_u8 kept, uint64_t from, uint64_t at, uint64_t home)
 {
     uint64_t t8;
 
-    if (i == own) {
-        return true;
-    }
-    t8 = rights__list__place(log, state, kept, from, i);
-    return rights__list__is_zero(log, area, t8, i);
+    t8 = rights__list__place(log, state, kept, from, at / 64u);
+    return rights__list__own_ranges(log, area, t8, at, home);
 }
 
-/* Whether the whole list is all zeros, where block `own` is. */
-static inline bool rights__list__no_list(struct slice_u8 log, struct slice_u8 area, struct slice_u8 state, struct slice_u8 kept,
-        uint64_t from, uint64_t own)
+/* Whether no position is kept for any of the list's homes: the whole list lies in the data copy. */
+static inline bool rights__list__none_kept(struct slice_u8 kept, uint64_t from)
 {
-    uint64_t t7;
-    bool t8;
-
-    t7 = 0u;
-    while (t7 < 4u) {
-        t8 = rights__list__other_zero(log, area, state, kept, from, own, t7);
-        if (!t8) {
-            return false;
-        }
-        t7 = t7 + 1u;
+    if (load_8(kept.ptr + (size_t)from) != UINT64_C(0xffffffffffffffff)) {
+        return false;
     }
-    return true;
+    if (load_8(kept.ptr + (size_t)(from + 8u)) != UINT64_C(0xffffffffffffffff)) {
+        return false;
+    }
+    if (load_8(kept.ptr + (size_t)(from + 16u)) != UINT64_C(0xffffffffffffffff)) {
+        return false;
+    }
+    return load_8(kept.ptr + (size_t)(from + 24u)) == UINT64_C(0xffffffffffffffff);
 }
 
 /* Whether the ranges from byte `at` of the list on open a home, or there is no list, where a position is kept. The writer's own
@@ -1957,9 +2030,9 @@ static inline bool rights__list__none_in_copy(struct slice_u8 area)
             + (size_t)(t2961 + 16u)) | load_8(area.ptr + (size_t)(t2961 + 24u)))))) == 0u;
 }
 
-/* Whether the ranges from byte `at` of the list on open a home, or there is no list; D has room for one. */
-static inline bool rights__list__open_to(struct slice_u8 log, struct slice_u8 area, struct slice_u8 state, struct slice_u8 kept,
-        uint64_t from, uint64_t at, uint64_t home)
+/* Whether the ranges from byte `at` of the list on open a home, or there is no list, by its blocks alone. */
+static inline bool rights__list__open_unsigned(struct slice_u8 log, struct slice_u8 area, struct slice_u8 state,
+        struct slice_u8 kept, uint64_t from, uint64_t at, uint64_t home)
 {
     bool t8, t10;
 
@@ -1972,6 +2045,23 @@ static inline bool rights__list__open_to(struct slice_u8 log, struct slice_u8 ar
         return true;
     }
     return rights__list__none_in_copy(area);
+}
+
+/* Whether the ranges from byte `at` of the list on open a home, or there is no list; D has room for one. Where its sign says
+   whether there is one, at most the writer's own block is looked up. */
+static inline bool rights__list__open_to(struct slice_u8 log, struct slice_u8 area, struct slice_u8 state, struct slice_u8 kept,
+        uint64_t from, uint64_t at, uint64_t home)
+{
+    uint64_t t8;
+
+    t8 = load_8(state.ptr + 928u);
+    if (t8 == 1u) {
+        return true;
+    }
+    if (t8 == 2u) {
+        return rights__list__open_listed(log, area, state, kept, from, at, home);
+    }
+    return rights__list__open_unsigned(log, area, state, kept, from, at, home);
 }
 
 /* Whether a writer may read a home. The list is found by the newest positions. */
@@ -4463,7 +4553,7 @@ static inline struct answers__Reply chains__transacts__transact(struct slice_mut
             .durable = load_8(state.ptr + 56u), .last = load_8(state.ptr + 64u), .round = load_8(state.ptr + 88u),
             .cursor = load_8(state.ptr + 96u)};
     t1180 = 128u + (96u * t10);
-    t15 = logging__commits__commit_held(log, state, newest, batch, t12, (struct model__Writer){.mode = load_8(state.ptr
+    t15 = commits__commit_held(log, area, state, newest, batch, t12, (struct model__Writer){.mode = load_8(state.ptr
             + (size_t)t1180), .home = load_8(state.ptr + (size_t)(t1180 + 8u)), .first = load_8(state.ptr + (size_t)(t1180
             + 16u)), .count = load_8(state.ptr + (size_t)(t1180 + 24u))}, t10);
     return (struct answers__Reply){.code = 0u, .figure = ((7u * t12.next) + t12.filled) + 1u, .size = t11 + t15};

@@ -260,15 +260,34 @@ module _ (log area : List ℕ) (st : State) (kept : List ℕ) (from : ℕ) (x : 
   unfolding opensBy signedList
   sign-open sign at home e = rw (e, le-leb 12 (st .homes) d)
 
-  pub sign-listed : (sign at home : ℕ) (r : Bool) → sign ≡ 2 → r ≡ inRanges (blocksBy log area st kept from 4) at home 4
-      → r ≡ opensBy sign (st .homes) (blocksBy log area st kept from 4) at home
+  -- the writer's own ranges open the home, or do not and there is a list
+  pub sign-ranges : (sign at home : ℕ) (b : Bool) → at < 256 → at % 64 + 16 ≤ 64
+      → b ≡ inRanges (blockBy log area st kept from (at / 64)) (at % 64) home 4 → b ≡ true
+      → true ≡ opensBy sign (st .homes) (blocksBy log area st kept from 4) at home
+  unfolding opensBy
+  sign-ranges sign at home b h k e t =
+      let q : inRanges (blocksBy log area st kept from 4) at home 4 ≡ true = ranges-own at home h k ∙ sym e ∙ t in
+      rw q (go (signedList sign (st .homes) (blocksBy log area st kept from 4)))
+    where
+      go : (a : Bool) → true ≡ (not a || true)
+      go true = refl
+      go false = refl
+
+  pub sign-closed : (sign at home : ℕ) (b : Bool) → at < 256 → at % 64 + 16 ≤ 64
+      → b ≡ inRanges (blockBy log area st kept from (at / 64)) (at % 64) home 4 → b ≡ false → sign ≡ 2
+      → false ≡ opensBy sign (st .homes) (blocksBy log area st kept from 4) at home
   unfolding opensBy signedList
-  sign-listed sign at home r e q = rw (e, le-leb 12 (st .homes) d) q
+  sign-closed sign at home b h k e f t =
+      let q : inRanges (blocksBy log area st kept from 4) at home 4 ≡ false = ranges-own at home h k ∙ sym e ∙ f in
+      rw (q, t, le-leb 12 (st .homes) d)
 
   pub sign-silent : (sign at home : ℕ) (r : Bool) → (sign ≡ 1 → ⊥) → (sign ≡ 2 → ⊥) → r ≡ opens (st .homes) (blocksBy log area st kept from 4) at home
       → r ≡ opensBy sign (st .homes) (blocksBy log area st kept from 4) at home
   unfolding opensBy opens signedList isList
   sign-silent sign at home r e f q = rw (ne-eqb sign 1 e, ne-eqb sign 2 f) q
+
+pub sign-is : (sign s homes : ℕ) (list : List ℕ) (at home : ℕ) (r : Bool) → sign ≡ s → r ≡ opensBy sign homes list at home → r ≡ opensBy s homes list at home
+sign-is sign s homes list at home r e q = q ∙ rw e
 
 -- none is kept: no log has such a position
 pub none-kept : (log : List ℕ) (st : State) (home p : ℕ) → Searchable log st → p ≡ 2 ^ 64 - 1 → false ≡ thereBy log st home p
