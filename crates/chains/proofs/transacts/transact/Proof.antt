@@ -61,7 +61,7 @@ done-requires : tie.Need-done-requires
 done-requires c κs = search needs
 
 same-length-5 : tie.Need-same-length-5
-same-length-5 c = omega (arith, c .before .before .before .before .before .before .before .before .before .commit-next .kept, c .before .before .before .before .before .before .before .before .before .before .before .before .before .before .before .before .before .before .before .before .before .before .before .before .before .store-all .kept)
+same-length-5 c = omega (arith, c .before .before .before .before .before .before .before .before .before .commit-next .kept, c .before .before .before .before .before .before .before .before .before .before .before .before .before .before .before .before .before .before .before .before .before .before .before .store-all .kept)
 
 same-length-6 : tie.Need-same-length-6
 same-length-6 c = search needs
