@@ -1,45 +1,57 @@
--- `scan::walk` meets its contract. The loop's invariant: the pass has taken the first `n - left` positions, and `at` is the ring slot of group
+-- `scan::walk_with` meets its contract. The loop's invariant: the pass has taken the first `n - left` positions, and `at` is the ring slot of group
 -- `number`, the next one. Assumes nothing.
 use mathlib.Core.Path.{_≡_, refl, sym, _∙_}
 use Prim.Native.Nat.{ℕ, _+_, _-_, _*_, _≤_, _<_}
 use native.Mathlib.Omega.{arith}
+use mathlib.Core.List.{List}
 use lib.ListN.{length, length-take, length-drop}
 use Rattle.model.specs.Bytes.{zeros}
 use Rattle.model.specs.Layout.{entryAt}
-use Rattle.scan.specs.Scan.{Scan, fresh, entered, Within}
+use Rattle.model.specs.declared.Tag.{Tag}
+use Rattle.scan.specs.Scan.{Scan, fresh, over, entered, Within}
 use Rattle.scan.specs.Slots.{Kept}
-use Rattle.scan.proofs.PassLaws.{over-start, log-turn}
+use Rattle.scan.proofs.PassLaws.{log-turn}
 use Rattle.scan.proofs.ScanLaws.{within-reached, fresh-within, found, found-stopped, placed}
-use Rattle.scan.proofs.commits.walk.Statement.{statement}
-use Rattle.scan.proofs.commits.walk.Tie as tie
+use Rattle.scan.proofs.commits.walk_with.Statement.{statement}
+use Rattle.scan.proofs.commits.walk_with.Tie as tie
+
+-- the pass begins with empty counters
+begins : (tags : ℕ → Tag) (base m : ℕ) (counts : List ℕ) → m ≡ 0 → counts ≡ zeros (length counts)
+    → _≡_ {A = Scan} (record { counts = counts; progress = record { end = 0; number = 0; failed = 0 } }) (entered tags base base m (fresh (length counts)))
+unfolding fresh over
+begins tags base m counts z e = rw z (whole counts (zeros (length counts)) e)
+  where
+    whole : (a b : List ℕ) → a ≡ b
+        → _≡_ {A = Scan} (record { counts = a; progress = record { end = 0; number = 0; failed = 0 } })
+        (record { counts = b; progress = record { end = 0; number = 0; failed = 0 } })
+    whole a b q = rw q
 
 abbrev Inv-loop : tie.InvT-loop
-Inv-loop log groups homes start n counts₀ progress₀ at₀ number₀ left₀ counts progress at number left =
+Inv-loop log counts₀ groups homes start n progress₀ at₀ number₀ left₀ counts progress at number left =
     (
     _≡_ {A = Scan} (record { counts = counts; progress = progress })
-    (entered (entryAt log groups homes start) (7 * start) (7 * start) (n - left) (fresh 7168))
+    (entered (entryAt log groups homes start) (7 * start) (7 * start) (n - left) (fresh (length counts₀)))
     )
     × (left ≤ n)
     × Kept groups number at
     × (0 < left → 7 * start + (n - left) ≡ 7 * number)
-    × (length counts ≡ 7168)
+    × (length counts ≡ length counts₀)
 
 abbrev μ-loop : tie.MeasureT-loop
-μ-loop log groups homes start n counts₀ progress₀ at₀ number₀ left₀ counts progress at number left = left
+μ-loop log counts₀ groups homes start n progress₀ at₀ number₀ left₀ counts progress at number left = left
 
 first-slot-requires : tie.Need-first-slot-requires Inv-loop μ-loop
 first-slot-requires c κs = omega arith
 
 loop-holds : tie.Need-loop-holds Inv-loop μ-loop
-unfolding fresh zeros
-loop-holds c = (over-start _ _ _ _ _, omega arith, c .first-slot .ensures, λ h. omega arith, refl)
+loop-holds c = (begins _ _ _ _ (omega arith) (c .before .before .before .pre .7), omega arith, c .first-slot .ensures, λ h. omega arith, refl)
 
 -- the next group's positions come next, and the numbers of the pass are small
 module _ (c : tie.In-loop Inv-loop μ-loop) where
-  next : 7 * c .before .before .before .before .args .start + (c .before .before .before .before .args .n - c .before .loop .left) ≡ 7 * c .before .loop .number
+  next : 7 * c .before .before .before .before .before .args .start + (c .before .before .before .before .before .args .n - c .before .loop .left) ≡ 7 * c .before .loop .number
   next = c .before .loop .inv .3 (c .loop-test .taken)
 
-  small : Within (7 * c .before .before .before .before .args .start) (7 * c .before .loop .number)
+  small : Within (7 * c .before .before .before .before .before .args .start) (7 * c .before .loop .number)
       (record { counts = c .before .loop .counts; progress = c .before .loop .progress })
   small = within-reached _ _ _ _ _ _ _ (omega arith) (sym next) (c .before .loop .inv .0) (fresh-within _ _)
 
@@ -64,9 +76,6 @@ part-group-end c = omega arith
 in-group-requires : tie.Need-in-group-requires Inv-loop μ-loop
 in-group-requires c κs = tt
 
-slice-aggregate-visit-group : tie.Need-slice-aggregate-visit-group Inv-loop μ-loop
-slice-aggregate-visit-group c = sym (c .before .before .before .before .loop .inv .4)
-
 visit-group-requires : tie.Need-visit-group-requires Inv-loop μ-loop
 visit-group-requires c κs =
     let l = c .before .before .before in (
@@ -79,34 +88,23 @@ visit-group-requires c κs =
       l .before .loop .inv .2 .turn,
       omega arith,
       omega (arith, next l, c .before .in-group .ensures, l .before .loop .inv .4),
-      omega (arith, l .before .loop .inv .4),
       small l,
     )
-
--- the pass over the first j positions of the log that was lent
-abbrev pass : tie.Start Inv-loop μ-loop → ℕ → Scan
-pass c j =
-    entered (entryAt (c .args .log .now) (c .args .groups) (c .args .homes) (c .args .start)) (7 * c .args .start) (7 * c .args .start) j (fresh 7168)
-
--- it has taken the group, or what comes before a closing entry that fails, with that
-reached : (c : tie.After-visit-group Inv-loop μ-loop) (j : ℕ)
-    → j ≡ c .before .before .before .before .before .before .before .before .args .n - c .before .before .before .before .before .loop .left
-    + c .visit-group .ensures .taken
-    → _≡_ {A = Scan} (record { counts = c .visit-group .last .1 .1 .1 .1 .1 .1 .1 .0; progress = c .visit-group .result })
-    (pass (c .before .before .before .before .before .before .before .before) j)
-reached c j e =
-    let l = c .before .before .before .before in
-    log-turn _ _ _ _ _ _ _ _ _ _ _ _ _ _ _ (omega (arith, c .visit-group .ensures .most, c .before .before .in-group .ensures)) (next l)
-    (l .before .loop .inv .2 .same) refl e (l .before .loop .inv .0) (c .visit-group .ensures .same)
 
 result-requires : tie.Need-result-requires Inv-loop μ-loop
 result-requires c κs = tt
 
+same-length : tie.Need-same-length Inv-loop μ-loop
+same-length c = omega (arith, c .before .before .before .before .before .visit-group .kept, c .before .before .before .before .before .before .before .before .before .before .loop .inv .4)
+
 returns : tie.Need-returns Inv-loop μ-loop
 returns c =
-    let v = c .before .before .before .before in
-    let a = v .before .before .before .before .before .before .before .before .args in
-    let f = found-stopped _ _ _ (a .n) _ (omega arith) (placed _ _ _ _) _ (omega (arith, v .visit-group .ensures .most, v .before .before .in-group .ensures)) (reached v _ refl)
+    let v = c .before .before .before .before .before in
+    let a = v .before .before .before .before .before .before .before .before .before .args in
+    let l = v .before .before .before .before in
+    let e = log-turn _ _ _ _ _ _ _ _ _ _ _ _ _ _ _ (omega (arith, v .visit-group .ensures .most, v .before .before .in-group .ensures)) (next l)
+    (l .before .loop .inv .2 .same) refl refl (l .before .loop .inv .0) (v .visit-group .ensures .same) in
+    let f = found-stopped _ _ _ (a .n) _ (omega arith) (placed _ _ _ _) _ (omega (arith, v .visit-group .ensures .most, v .before .before .in-group .ensures)) e
     (c .before .if1 .taken) in
     (c .result .ensures .0 ∙ f .0, c .result .ensures .1 ∙ f .1)
 
@@ -114,22 +112,23 @@ next-slot-requires : tie.Need-next-slot-requires Inv-loop μ-loop
 next-slot-requires c κs = omega arith
 
 add-number : tie.Need-add-number Inv-loop μ-loop
-add-number c = omega (arith, next (c .before .before .before .before .before .before .before .before))
+add-number c = omega (arith, next (c .before .before .before .before .before .before .before .before .before))
 
 sub-left : tie.Need-sub-left Inv-loop μ-loop
 sub-left c = omega arith
 
 loop-less : tie.Need-loop-less Inv-loop μ-loop
 loop-less c =
-    let m = c .before .before .before .before .before .before in
+    let m = c .before .before .before .before .before .before .before in
     omega (arith, m .in-group .ensures, m .before .before .loop-test .taken)
 
 loop-again : tie.Need-loop-again Inv-loop μ-loop
 loop-again c =
-    let v = c .before .before .before .before in
+    let v = c .before .before .before .before .before in
     let m = v .before .before in
     let l = m .before .before .before .loop in (
-      reached v _ (omega (arith, m .in-group .ensures, l .inv .1, v .visit-group .ensures .whole (c .before .if1 .left))),
+      log-turn _ _ _ _ _ _ _ _ _ _ _ _ _ _ _ (omega (arith, v .visit-group .ensures .most, m .in-group .ensures)) (next (m .before .before)) (l .inv .2 .same) refl
+          (omega (arith, m .in-group .ensures, l .inv .1, v .visit-group .ensures .whole (c .before .if1 .left))) (l .inv .0) (v .visit-group .ensures .same),
       omega (arith, l .inv .1),
       c .next-slot .ensures .1 _ (l .inv .2),
       λ h. omega (arith, next (m .before .before), m .in-group .ensures, l .inv .1),
@@ -139,16 +138,19 @@ loop-again c =
 result-requires-2 : tie.Need-result-requires-2 Inv-loop μ-loop
 result-requires-2 c κs = tt
 
+same-length-2 : tie.Need-same-length-2 Inv-loop μ-loop
+same-length-2 c = c .before .before .loop .inv .4
+
 returns-2 : tie.Need-returns-2 Inv-loop μ-loop
 returns-2 c =
     let l = c .before .before .loop in
-    let a = c .before .before .before .before .before .args in
+    let a = c .before .before .before .before .before .before .args in
     let e : a .n - l .left ≡ a .n = omega arith in
     let f = found _ _ _ _ _ (omega arith) (placed _ _ _ _) (rw e at (l .inv .0)) in
     (c .result2 .ensures .0 ∙ f .0, c .result2 .ensures .1 ∙ f .1)
 
-pub walk-spec : {M : Type 1} → statement M
-walk-spec =
+pub walk-with-spec : {M : Type 1} → statement M
+walk-with-spec =
     tie.close
     (tie.spec
     Inv-loop
@@ -162,9 +164,9 @@ walk-spec =
     part-group-start
     part-group-end
     in-group-requires
-    slice-aggregate-visit-group
     visit-group-requires
     result-requires
+    same-length
     returns
     next-slot-requires
     add-number
@@ -172,4 +174,5 @@ walk-spec =
     loop-less
     loop-again
     result-requires-2
+    same-length-2
     returns-2)
