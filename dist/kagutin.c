@@ -1687,19 +1687,19 @@ static inline bool rights__list__no_list(struct slice_u8 log, struct slice_u8 ar
     return true;
 }
 
-/* Whether the whole list is all zeros, by the newest positions. */
-static inline bool rights__list__all_zeros(struct slice_u8 log, struct slice_u8 area, struct slice_u8 state,
-        struct slice_u8 newest)
+/* Whether the whole list is all zeros. */
+static inline bool rights__list__all_zeros(struct slice_u8 log, struct slice_u8 area, struct slice_u8 state, struct slice_u8 kept,
+        uint64_t from)
 {
-    uint64_t t5;
-    bool t6;
+    uint64_t t6;
+    bool t7;
 
-    t5 = rights__list__place(log, state, newest, 64u, 0u);
-    t6 = rights__list__is_zero(log, area, t5, 0u);
-    if (!t6) {
+    t6 = rights__list__place(log, state, kept, from, 0u);
+    t7 = rights__list__is_zero(log, area, t6, 0u);
+    if (!t7) {
         return false;
     }
-    return rights__list__no_list(log, area, state, newest, 64u, 0u);
+    return rights__list__no_list(log, area, state, kept, from, 0u);
 }
 
 /* Sets the sign of the list that the newest positions show. */
@@ -1708,7 +1708,7 @@ static inline void rights__keep__sign_list(struct slice_u8 log, struct slice_u8 
 {
     bool t5;
 
-    t5 = rights__list__all_zeros(log, area, (struct slice_u8){state.ptr, state.len}, newest);
+    t5 = rights__list__all_zeros(log, area, (struct slice_u8){state.ptr, state.len}, newest, 64u);
     if (t5) {
         store_8(state.ptr + 928u, 1u);
         return;
@@ -1986,24 +1986,17 @@ static inline bool rights__list__none_kept(struct slice_u8 kept, uint64_t from)
     return load_8(kept.ptr + (size_t)(from + 24u)) == UINT64_C(0xffffffffffffffff);
 }
 
-/* Whether the ranges from byte `at` of the list on open a home, or there is no list, where a position is kept. The writer's own
-   block is asked first. */
+/* The same, or there is no list, by its blocks alone. The writer's own block is asked first. */
 static inline bool rights__list__open_kept(struct slice_u8 log, struct slice_u8 area, struct slice_u8 state, struct slice_u8 kept,
         uint64_t from, uint64_t at, uint64_t home)
 {
-    uint64_t t8;
-    bool t10, t11;
+    bool t8;
 
-    t8 = rights__list__place(log, state, kept, from, at / 64u);
-    t10 = rights__list__own_ranges(log, area, t8, at, home);
-    if (t10) {
+    t8 = rights__list__open_listed(log, area, state, kept, from, at, home);
+    if (t8) {
         return true;
     }
-    t11 = rights__list__is_zero(log, area, t8, at / 64u);
-    if (!t11) {
-        return false;
-    }
-    return rights__list__no_list(log, area, state, kept, from, at / 64u);
+    return rights__list__all_zeros(log, area, state, kept, from);
 }
 
 /* Whether all four blocks of the list are zeros in the data copy. */
@@ -2039,7 +2032,7 @@ static inline bool rights__list__none_in_copy(struct slice_u8 area)
             + (size_t)(t2961 + 16u)) | load_8(area.ptr + (size_t)(t2961 + 24u)))))) == 0u;
 }
 
-/* Whether the ranges from byte `at` of the list on open a home, or there is no list, by its blocks alone. */
+/* The same, where the data copy is looked at without the log if no position is kept. */
 static inline bool rights__list__open_unsigned(struct slice_u8 log, struct slice_u8 area, struct slice_u8 state,
         struct slice_u8 kept, uint64_t from, uint64_t at, uint64_t home)
 {
@@ -2064,11 +2057,11 @@ static inline bool rights__list__open_to(struct slice_u8 log, struct slice_u8 ar
     uint64_t t8;
 
     t8 = load_8(state.ptr + 928u);
-    if (t8 == 1u) {
-        return true;
-    }
     if (t8 == 2u) {
         return rights__list__open_listed(log, area, state, kept, from, at, home);
+    }
+    if (t8 == 1u) {
+        return true;
     }
     return rights__list__open_unsigned(log, area, state, kept, from, at, home);
 }

@@ -26,6 +26,25 @@ use Rattle.shown.specs.There.{thereBy, shownBy, Searchable}
 use Rattle.shown.proofs.ThereLaws.{searchable, shown-same, kept-past}
 use Rattle.rights.specs.Listed.{Listed, blockBy, blocksBy, opens, opensBy}
 
+-- ---- the answer by the ranges of the whole list
+
+pub open-inside : (homes : ℕ) (list : List ℕ) (at home : ℕ) (b : Bool) → b ≡ inRanges list at home 4 → b ≡ true → true ≡ opens homes list at home
+unfolding opens
+open-inside homes list at home b e t = rw (sym e ∙ t) (go (isList homes list))
+  where
+    go : (a : Bool) → true ≡ (not a || true)
+    go true = refl
+    go false = refl
+
+pub open-outside : (homes : ℕ) (list : List ℕ) (at home : ℕ) (b z : Bool) → 12 ≤ homes → b ≡ inRanges list at home 4 → b ≡ false
+    → z ≡ same list (zeros 256) → z ≡ opens homes list at home
+unfolding opens isList
+open-outside homes list at home b z d e t r = rw (sym e ∙ t, le-leb 12 homes d, ← r) (go z)
+  where
+    go : (z : Bool) → z ≡ (not (not z) || false)
+    go true = refl
+    go false = refl
+
 -- ---- ranges in a part
 
 range-part : (xs : List ℕ) (a o home : ℕ) → o + 4 ≤ 64 → inRange xs (a + o) home ≡ inRange (part xs a 64) o home
@@ -225,34 +244,13 @@ module _ (log area : List ℕ) (st : State) (kept : List ℕ) (from : ℕ) (x : 
   pub open-ranges : (at home : ℕ) (b : Bool) → at < 256 → at % 64 + 16 ≤ 64
       → b ≡ inRanges (blockBy log area st kept from (at / 64)) (at % 64) home 4 → b ≡ true
       → true ≡ opens (st .homes) (blocksBy log area st kept from 4) at home
-  unfolding opens
-  open-ranges at home b h k e t =
-      let q : inRanges (blocksBy log area st kept from 4) at home 4 ≡ true = ranges-own at home h k ∙ sym e ∙ t in
-      rw q (go (isList (st .homes) (blocksBy log area st kept from 4)))
-    where
-      go : (a : Bool) → true ≡ (not a || true)
-      go true = refl
-      go false = refl
+  open-ranges at home b h k e t = open-inside (st .homes) _ at home b (e ∙ sym (ranges-own at home h k)) t
 
   pub open-none : (at home : ℕ) (b z : Bool) → at < 256 → at % 64 + 16 ≤ 64
       → b ≡ inRanges (blockBy log area st kept from (at / 64)) (at % 64) home 4 → b ≡ false
       → z ≡ same (blocksBy log area st kept from 4) (zeros 256)
       → z ≡ opens (st .homes) (blocksBy log area st kept from 4) at home
-  unfolding opens isList
-  open-none at home b z h k e t r =
-      let q : inRanges (blocksBy log area st kept from 4) at home 4 ≡ false = ranges-own at home h k ∙ sym e ∙ t in
-      rw (q, le-leb 12 (st .homes) d, ← r) (go z)
-    where
-      go : (z : Bool) → z ≡ (not (not z) || false)
-      go true = refl
-      go false = refl
-
-  -- the writer's own block is not all zeros
-  pub open-listed : (at home : ℕ) (b z : Bool) → at < 256 → at % 64 + 16 ≤ 64
-      → b ≡ inRanges (blockBy log area st kept from (at / 64)) (at % 64) home 4 → b ≡ false
-      → z ≡ same (blockBy log area st kept from (at / 64)) (zeros 64) → z ≡ false
-      → false ≡ opens (st .homes) (blocksBy log area st kept from 4) at home
-  open-listed at home b z h k e t q f = open-none at home b false h k e t (zeros-stop (at / 64) z (omega arith) q f)
+  open-none at home b z h k e t r = open-outside (st .homes) _ at home b z d (e ∙ sym (ranges-own at home h k)) t r
 
   -- ---- and by the sign
 
@@ -260,34 +258,15 @@ module _ (log area : List ℕ) (st : State) (kept : List ℕ) (from : ℕ) (x : 
   unfolding opensBy signedList
   sign-open sign at home e = rw (e, le-leb 12 (st .homes) d)
 
-  -- the writer's own ranges open the home, or do not and there is a list
-  pub sign-ranges : (sign at home : ℕ) (b : Bool) → at < 256 → at % 64 + 16 ≤ 64
-      → b ≡ inRanges (blockBy log area st kept from (at / 64)) (at % 64) home 4 → b ≡ true
-      → true ≡ opensBy sign (st .homes) (blocksBy log area st kept from 4) at home
-  unfolding opensBy
-  sign-ranges sign at home b h k e t =
-      let q : inRanges (blocksBy log area st kept from 4) at home 4 ≡ true = ranges-own at home h k ∙ sym e ∙ t in
-      rw q (go (signedList sign (st .homes) (blocksBy log area st kept from 4)))
-    where
-      go : (a : Bool) → true ≡ (not a || true)
-      go true = refl
-      go false = refl
-
-  pub sign-closed : (sign at home : ℕ) (b : Bool) → at < 256 → at % 64 + 16 ≤ 64
-      → b ≡ inRanges (blockBy log area st kept from (at / 64)) (at % 64) home 4 → b ≡ false → sign ≡ 2
-      → false ≡ opensBy sign (st .homes) (blocksBy log area st kept from 4) at home
+  pub sign-listed : (sign at home : ℕ) (r : Bool) → sign ≡ 2 → r ≡ inRanges (blocksBy log area st kept from 4) at home 4
+      → r ≡ opensBy sign (st .homes) (blocksBy log area st kept from 4) at home
   unfolding opensBy signedList
-  sign-closed sign at home b h k e f t =
-      let q : inRanges (blocksBy log area st kept from 4) at home 4 ≡ false = ranges-own at home h k ∙ sym e ∙ f in
-      rw (q, t, le-leb 12 (st .homes) d)
+  sign-listed sign at home r e q = rw (e, le-leb 12 (st .homes) d) q
 
   pub sign-silent : (sign at home : ℕ) (r : Bool) → (sign ≡ 1 → ⊥) → (sign ≡ 2 → ⊥) → r ≡ opens (st .homes) (blocksBy log area st kept from 4) at home
       → r ≡ opensBy sign (st .homes) (blocksBy log area st kept from 4) at home
   unfolding opensBy opens signedList isList
   sign-silent sign at home r e f q = rw (ne-eqb sign 1 e, ne-eqb sign 2 f) q
-
-pub sign-is : (sign s homes : ℕ) (list : List ℕ) (at home : ℕ) (r : Bool) → sign ≡ s → r ≡ opensBy sign homes list at home → r ≡ opensBy s homes list at home
-sign-is sign s homes list at home r e q = q ∙ rw e
 
 -- none is kept: no log has such a position
 pub none-kept : (log : List ℕ) (st : State) (home p : ℕ) → Searchable log st → p ≡ 2 ^ 64 - 1 → false ≡ thereBy log st home p

@@ -41,7 +41,7 @@ fn sign_list(log: &[u8], area: &[u8], state: &mut [u8], newest: &[u8])
     requires { ⌜ Listed (now log) (now area) (stateOf (now state)) (now newest) 64 × (length (now state) ≡ 1024) × (12 ≤ stateOf (now state) .homes) ⌝ }
     ensures { λ _. ⌜ now (state .exit) ≡ setListSign (now (state .entry)) (signFor (blocksBy (now (log .entry)) (now (area .entry)) (stateOf (now (state .entry))) (now (newest .entry)) 64 4)) ⌝ }
 {
-    if all_zeros(log, area, state, newest) {
+    if all_zeros(log, area, state, newest, 64) {
         strip::set_list_sign(state, 1);
         return;
     }

@@ -117,8 +117,36 @@ fn no_list(log: &[u8], area: &[u8], state: &[u8], kept: &[u8], from: usize, own:
     true
 }
 
-// Whether the ranges from byte `at` of the list on open a home, or there is no list, by a sign that does not say that there is none. The writer's own block
-// is asked first, and no other where the sign says that there is a list.
+// Whether the whole list is all zeros.
+pub fn all_zeros(log: &[u8], area: &[u8], state: &[u8], kept: &[u8], from: usize) -> bool
+    requires { ⌜ Listed (now log) (now area) (stateOf (now state)) (now kept) from × (length (now state) ≡ 1024) × (12 ≤ stateOf (now state) .homes) ⌝ }
+    ensures { λ r. ⌜ r ≡ same (blocksBy (now (log .entry)) (now (area .entry)) (stateOf (now (state .entry))) (now (kept .entry)) from 4) (zeros 256) ⌝ }
+{
+    let found = place(log, state, kept, from, 0);
+    if !is_zero(log, area, found, 0) {
+        return false;
+    }
+    no_list(log, area, state, kept, from, 0)
+}
+
+// Whether the ranges from byte `at` of the list on open a home.
+fn open_listed(
+    log: &[u8],
+    area: &[u8],
+    state: &[u8],
+    kept: &[u8],
+    from: usize,
+    at: usize,
+    home: u64,
+) -> bool
+    requires { ⌜ Listed (now log) (now area) (stateOf (now state)) (now kept) from × (length (now state) ≡ 1024) × (12 ≤ stateOf (now state) .homes) × (at < 256) × (at % 64 + 16 ≤ 64) ⌝ }
+    ensures { λ r. ⌜ r ≡ inRanges (blocksBy (now (log .entry)) (now (area .entry)) (stateOf (now (state .entry))) (now (kept .entry)) from 4) at home 4 ⌝ }
+{
+    let found = place(log, state, kept, from, at / 64);
+    own_ranges(log, area, found, at, home)
+}
+
+// The same, or there is no list, by its blocks alone. The writer's own block is asked first.
 fn open_kept(
     log: &[u8],
     area: &[u8],
@@ -127,26 +155,18 @@ fn open_kept(
     from: usize,
     at: usize,
     home: u64,
-    sign: u64,
 ) -> bool
-    requires { ⌜ Listed (now log) (now area) (stateOf (now state)) (now kept) from × (length (now state) ≡ 1024) × (12 ≤ stateOf (now state) .homes) × (at < 256) × (at % 64 + 16 ≤ 64) × (sign ≢ 1) ⌝ }
-    ensures { λ r. ⌜ r ≡ opensBy sign (stateOf (now (state .entry)) .homes) (blocksBy (now (log .entry)) (now (area .entry)) (stateOf (now (state .entry))) (now (kept .entry)) from 4) at home ⌝ }
+    requires { ⌜ Listed (now log) (now area) (stateOf (now state)) (now kept) from × (length (now state) ≡ 1024) × (12 ≤ stateOf (now state) .homes) × (at < 256) × (at % 64 + 16 ≤ 64) ⌝ }
+    ensures { λ r. ⌜ r ≡ opens (stateOf (now (state .entry)) .homes) (blocksBy (now (log .entry)) (now (area .entry)) (stateOf (now (state .entry))) (now (kept .entry)) from 4) at home ⌝ }
 {
-    let found = place(log, state, kept, from, at / 64);
-    if own_ranges(log, area, found, at, home) {
+    if open_listed(log, area, state, kept, from, at, home) {
         return true;
     }
-    if sign == 2 {
-        return false;
-    }
-    if !is_zero(log, area, found, at / 64) {
-        return false;
-    }
-    no_list(log, area, state, kept, from, at / 64)
+    all_zeros(log, area, state, kept, from)
 }
 
-// The same where no position is kept: the whole list lies in the data copy.
-fn open_copy(
+// The same, where the data copy is looked at without the log if no position is kept.
+fn open_unsigned(
     log: &[u8],
     area: &[u8],
     state: &[u8],
@@ -155,24 +175,16 @@ fn open_copy(
     at: usize,
     home: u64,
 ) -> bool
-    requires { ⌜ Listed (now log) (now area) (stateOf (now state)) (now kept) from × (length (now state) ≡ 1024) × (12 ≤ stateOf (now state) .homes) × (at < 256) × (at % 64 + 16 ≤ 64) × ((i : ℕ) → i < 4 → number 8 (now kept) (from + 8 * i) ≡ 2 ^ 64 - 1) ⌝ }
+    requires { ⌜ Listed (now log) (now area) (stateOf (now state)) (now kept) from × (length (now state) ≡ 1024) × (12 ≤ stateOf (now state) .homes) × (at < 256) × (at % 64 + 16 ≤ 64) ⌝ }
     ensures { λ r. ⌜ r ≡ opens (stateOf (now (state .entry)) .homes) (blocksBy (now (log .entry)) (now (area .entry)) (stateOf (now (state .entry))) (now (kept .entry)) from 4) at home ⌝ }
 {
+    if !none_kept(kept, from) {
+        return open_kept(log, area, state, kept, from, at, home);
+    }
     if in_ranges(area, 512 + at, home) {
         return true;
     }
     none_in_copy(area)
-}
-
-// Whether the list is to be asked for in the data copy: the sign does not say that there is one, and no position is kept.
-fn in_copy(kept: &[u8], from: usize, sign: u64) -> bool
-    requires { ⌜ (from + 32 ≤ length (now kept)) × (from < 2 ^ 32) ⌝ }
-    ensures { λ r. ⌜ (r ≡ true → (sign ≢ 2) × ((i : ℕ) → i < 4 → number 8 (now (kept .entry)) (from + 8 * i) ≡ 2 ^ 64 - 1)) ⌝ }
-{
-    if sign == 2 {
-        return false;
-    }
-    none_kept(kept, from)
 }
 
 // Whether the ranges from byte `at` of the list on open a home, or there is no list; D has room for one. Where its sign says whether there is one, at
@@ -190,23 +202,11 @@ pub fn open_to(
     ensures { λ r. ⌜ r ≡ opensBy (listSign (now (state .entry))) (stateOf (now (state .entry)) .homes) (blocksBy (now (log .entry)) (now (area .entry)) (stateOf (now (state .entry))) (now (kept .entry)) from 4) at home ⌝ }
 {
     let sign = strip::list_sign(state);
+    if sign == 2 {
+        return open_listed(log, area, state, kept, from, at, home);
+    }
     if sign == 1 {
         return true;
     }
-    if in_copy(kept, from, sign) {
-        return open_copy(log, area, state, kept, from, at, home);
-    }
-    open_kept(log, area, state, kept, from, at, home, sign)
-}
-
-// Whether the whole list is all zeros, by the newest positions.
-pub fn all_zeros(log: &[u8], area: &[u8], state: &[u8], newest: &[u8]) -> bool
-    requires { ⌜ Listed (now log) (now area) (stateOf (now state)) (now newest) 64 × (length (now state) ≡ 1024) × (12 ≤ stateOf (now state) .homes) ⌝ }
-    ensures { λ r. ⌜ r ≡ same (blocksBy (now (log .entry)) (now (area .entry)) (stateOf (now (state .entry))) (now (newest .entry)) 64 4) (zeros 256) ⌝ }
-{
-    let found = place(log, state, newest, 64, 0);
-    if !is_zero(log, area, found, 0) {
-        return false;
-    }
-    no_list(log, area, state, newest, 64, 0)
+    open_unsigned(log, area, state, kept, from, at, home)
 }

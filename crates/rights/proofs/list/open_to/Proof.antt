@@ -1,39 +1,35 @@
 -- `rights::open_to` meets its contract. Assumes nothing.
 use borrow.Author.Needs.{needs}
-use mathlib.Core.Path.{sym, ap, _∙_}
-use Rattle.rights.proofs.RightsLaws.{sign-open, sign-silent, sign-is}
+use mathlib.Core.Path.{sym, _∙_}
+use Rattle.rights.proofs.RightsLaws.{sign-open, sign-listed, sign-silent}
 use Rattle.rights.proofs.list.open_to.Statement.{statement}
 use Rattle.rights.proofs.list.open_to.Tie as tie
 
 list-sign-requires : tie.Need-list-sign-requires
 list-sign-requires c κs = search needs
 
+open-listed-requires : tie.Need-open-listed-requires
+open-listed-requires c κs = search needs
+
 returns : tie.Need-returns
-returns c = let p = c .before .before .before .before .before .before .pre in sign-open _ _ _ _ _ (p .0) (p .2) _ _ _ (sym (c .before .list-sign .ensures) ∙ c .if1 .taken)
-
-in-copy-requires : tie.Need-in-copy-requires
-in-copy-requires c κs = let p = c .before .before .before .before .before .before .pre in (p .0 .holds (p .2), p .0 .low)
-
-open-copy-requires : tie.Need-open-copy-requires
-open-copy-requires c κs = let p = c .before .before .before .before .before .before .before .before .pre in (p .0, p .1, p .2, p .3, p .4, c .before .in-copy .ensures (c .if2 .taken) .1)
+returns c = let p = c .before .before .before .before .before .before .before .pre in sign-listed _ _ _ _ _ (p .0) (p .2) _ _ _ _ (sym (c .before .before .list-sign .ensures) ∙ c .before .if1 .taken) (c .open-listed .ensures)
 
 returns-2 : tie.Need-returns-2
-returns-2 c = let p = c .before .before .before .before .before .before .before .before .before .pre in sign-silent _ _ _ _ _ (p .0) (p .2) _ _ _ _ (λ e. c .before .before .before .if1 .left (c .before .before .before .before .list-sign .ensures ∙ e)) (λ e. c .before .before .in-copy .ensures (c .before .if2 .taken) .0 (c .before .before .before .before .list-sign .ensures ∙ e)) (c .open-copy .ensures)
+returns-2 c = let p = c .before .before .before .before .before .before .before .pre in sign-open _ _ _ _ _ (p .0) (p .2) _ _ _ (sym (c .before .before .list-sign .ensures) ∙ c .if2 .taken)
 
-open-kept-requires : tie.Need-open-kept-requires
-open-kept-requires c κs = let p = c .before .before .before .before .before .before .before .before .pre in (p .0, p .1, p .2, p .3, p .4, c .before .before .if1 .left)
+open-unsigned-requires : tie.Need-open-unsigned-requires
+open-unsigned-requires c κs = search needs
 
 returns-3 : tie.Need-returns-3
-returns-3 c = sign-is _ _ _ _ _ _ _ (c .before .before .before .before .list-sign .ensures) (c .open-kept .ensures)
+returns-3 c = let p = c .before .before .before .before .before .before .before .before .pre in sign-silent _ _ _ _ _ (p .0) (p .2) _ _ _ _ (λ e. c .before .if2 .left (c .before .before .before .list-sign .ensures ∙ e)) (λ e. c .before .before .if1 .left (c .before .before .before .list-sign .ensures ∙ e)) (c .open-unsigned .ensures)
 
 pub open-to-spec : {M : Type 1} → statement M
 open-to-spec =
     tie.close
     (tie.spec
     list-sign-requires
+    open-listed-requires
     returns
-    in-copy-requires
-    open-copy-requires
     returns-2
-    open-kept-requires
+    open-unsigned-requires
     returns-3)
