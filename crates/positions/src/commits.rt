@@ -157,8 +157,8 @@ pub fn keep_one(
         (entries (entryAt (now (log .entry)) groups homes start) (7 * start) (record { first = 7 * number + k; closing = 7 * number + k }))
         (now (newest .entry)) ⌝ }
 {
-    let at = scan::first_slot(number, groups);
-    let from = 64 + 512 * at.slot as usize;
+    let ring = scan::first_slot(number, groups);
+    let from = 64 + 512 * ring.slot as usize;
     let group = &log[from..from + 512];
-    keep_alone(group, groups, homes, start, number, at.turn, k, newest)
+    keep_alone(group, groups, homes, start, number, ring.turn, k, newest)
 }
