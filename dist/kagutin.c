@@ -56,6 +56,11 @@ struct answers__Reply {
     uint64_t size;
 };
 
+struct scan__slots__RingSlot {
+    uint64_t slot;
+    uint64_t turn;
+};
+
 struct array_u8_2 {
     uint8_t at[2];
 };
@@ -66,11 +71,6 @@ struct model__Tag {
     uint64_t u64_1;
     uint64_t u64_2;
     uint64_t u64_3;
-};
-
-struct scan__slots__RingSlot {
-    uint64_t slot;
-    uint64_t turn;
 };
 
 struct positions__commits__Pass {
@@ -359,15 +359,6 @@ static inline bool answers__lengths_right(struct slice_u8 log, struct slice_u8 a
     return (uint64_t)state.len == 1024u;
 }
 
-/* Whether nothing is promised to any writer: the eight promises are zero as two words. */
-static inline bool strip__promises__none_promised(struct slice_u8 s)
-{
-    if (load_8(s.ptr + 72u) != 0u) {
-        return false;
-    }
-    return load_8(s.ptr + 80u) == 0u;
-}
-
 /* How far `x` lies above `low`, modulo 2^64: one test of it tells whether `x` lies between `low` and a number above it. */
 static inline uint64_t strip__distances__distance(uint64_t x, uint64_t low)
 {
@@ -381,86 +372,87 @@ static inline uint64_t strip__distances__distance(uint64_t x, uint64_t low)
     return t4;
 }
 
-/* What the numbers of groups and homes, the round and the places filled tell of question 2: 2 if they are not in order, 1 where a
-   round leaves that to `in_order`, else 0. */
-static inline uint64_t strip__quick__groups_answer(struct model__State st, uint64_t groups, uint64_t homes)
+/* Whether the numbers of groups and homes are `groups` and `homes`, and the group numbers and the places filled are in order. */
+static inline bool strip__quick__groups_in_order(struct slice_u8 s, uint64_t groups, uint64_t homes)
 {
-    uint64_t t4;
+    uint64_t t4, t5, t6;
 
-    if (st.round != 0u) {
-        return 1u;
+    if (load_8(s.ptr) != groups) {
+        return false;
     }
-    if (st.groups != groups) {
-        return 2u;
+    if (load_8(s.ptr + 8u) != homes) {
+        return false;
     }
-    if (st.homes != homes) {
-        return 2u;
+    t4 = load_8(s.ptr + 16u);
+    if (UINT64_C(0x800000000000) < t4) {
+        return false;
     }
-    if (UINT64_C(0x800000000000) < st.start) {
-        return 2u;
+    t5 = strip__distances__distance(load_8(s.ptr + 24u), t4);
+    t6 = load_8(s.ptr + 32u);
+    if (t5 < groups) {
+        return t6 <= 6u;
     }
-    t4 = strip__distances__distance(st.next, st.start);
-    if (groups < t4) {
-        return 2u;
+    if (t5 != groups) {
+        return false;
     }
-    if (6u < st.filled) {
-        return 2u;
-    }
-    if ((7u * groups) < ((7u * t4) + st.filled)) {
-        return 2u;
-    }
-    return 0u;
+    return t6 == 0u;
 }
 
-/* Whether the numbers of the strip are in order, where its group numbers, the places filled and the round are. What lies between
-   two others is compared once, by its distance from the lower one. */
-static inline bool strip__order__bounds_in_order(struct model__State st)
+/* Whether the other numbers but the round are in order, where the log has `whole` positions from position `low` to the next
+   group, and `all` with those filled. What lies between two others is compared once, by its distance from the lower one. */
+static inline bool strip__quick__bounds_in_order(struct slice_u8 s, uint64_t low, uint64_t whole, uint64_t all)
 {
-    uint64_t t2, t3, t4, t5, t7;
+    uint64_t t5, t6, t7, t9, t10;
 
-    t2 = 7u * st.start;
-    t3 = 7u * (st.next - st.start);
-    t4 = strip__distances__distance(st.fenced, t2);
-    if (t3 < t4) {
+    t5 = load_8(s.ptr + 48u);
+    t6 = strip__distances__distance(t5, low);
+    if (whole < t6) {
         return false;
     }
-    t5 = strip__distances__distance(st.settled, t2);
-    if (t4 < t5) {
+    t9 = strip__distances__distance(load_8(s.ptr + 40u), low);
+    if (t6 < t9) {
         return false;
     }
-    if (st.fenced < st.durable) {
+    if (t5 < load_8(s.ptr + 56u)) {
         return false;
     }
-    if (st.last == 0u) {
+    t7 = load_8(s.ptr + 64u);
+    if (t7 == 0u) {
         return true;
     }
-    t7 = strip__distances__distance(st.last, t2 + 1u);
-    if ((t3 + st.filled) <= t7) {
+    t10 = strip__distances__distance(t7, low + 1u);
+    return t10 < all;
+}
+
+/* Whether nothing is promised to any writer: the eight promises are zero as two words. */
+static inline bool strip__promises__none_promised(struct slice_u8 s)
+{
+    if (load_8(s.ptr + 72u) != 0u) {
         return false;
     }
-    return true;
+    return load_8(s.ptr + 80u) == 0u;
 }
 
 /* Whether the record of a writer that holds a block for a home below D and has logged entries is in order: the positions since
    its first one are among those of the log, and hold its entries. */
-static inline bool strip__quick__logged_in_order(struct model__State st, struct model__Writer r)
+static inline bool strip__quick__logged_in_order(struct model__State st, uint64_t low, uint64_t all, struct model__Writer r)
 {
-    uint64_t t4, t5, t7;
+    uint64_t t5, t6;
+    (void)st;
 
-    t4 = (7u * (st.next - st.start)) + st.filled;
-    t5 = strip__distances__distance((7u * st.start) + t4, r.first);
-    if (t4 < t5) {
+    t5 = strip__distances__distance(low + all, r.first);
+    if (all < t5) {
         return false;
     }
-    t7 = strip__distances__distance(r.count, 1u);
-    if (t5 <= t7) {
+    t6 = strip__distances__distance(r.count, 1u);
+    if (t5 <= t6) {
         return false;
     }
     return true;
 }
 
 /* Whether a writer's record is in order in a strip whose group numbers and places filled are. */
-static inline bool strip__quick__record_in_order(struct model__State st, struct model__Writer r)
+static inline bool strip__quick__record_in_order(struct model__State st, uint64_t low, uint64_t all, struct model__Writer r)
 {
     if (r.mode < 2u) {
         return true;
@@ -474,55 +466,62 @@ static inline bool strip__quick__record_in_order(struct model__State st, struct 
     if (r.mode != 3u) {
         return false;
     }
-    return strip__quick__logged_in_order(st, r);
+    return strip__quick__logged_in_order(st, low, all, r);
 }
 
 /* Whether the records of all eight writers are in order where nothing is promised: an idle writer is passed by its mode alone. */
-static inline bool strip__quick__records_in_order(struct slice_u8 s, struct model__State st)
+static inline bool strip__quick__records_in_order(struct slice_u8 s, struct model__State st, uint64_t low, uint64_t all)
 {
-    uint64_t t3, t8;
-    bool t4;
+    uint64_t t5, t10;
+    bool t6;
 
-    t3 = 0u;
-    while (t3 != 8u) {
-        t8 = 128u + (96u * t3);
-        t4 = strip__quick__record_in_order(st, (struct model__Writer){.mode = load_8(s.ptr + (size_t)t8), .home = load_8(s.ptr
-                + (size_t)(t8 + 8u)), .first = load_8(s.ptr + (size_t)(t8 + 16u)), .count = load_8(s.ptr + (size_t)(t8 + 24u))});
-        if (!t4) {
+    t5 = 0u;
+    while (t5 != 8u) {
+        t10 = 128u + (96u * t5);
+        t6 = strip__quick__record_in_order(st, low, all, (struct model__Writer){.mode = load_8(s.ptr + (size_t)t10),
+                .home = load_8(s.ptr + (size_t)(t10 + 8u)), .first = load_8(s.ptr + (size_t)(t10 + 16u)), .count = load_8(s.ptr
+                + (size_t)(t10 + 24u))});
+        if (!t6) {
             return false;
         }
-        t3 = t3 + 1u;
+        t5 = t5 + 1u;
     }
     return true;
 }
 
 /* Question 2 for a log of `groups` groups and `homes` homes: 0 if the strip is in order, 2 if it is not, and 1 where a promise or
-   a round leaves that to `in_order`. */
+   a round leaves the rest to `rest_in_order`. */
 static inline uint64_t strip__quick__quick_answer(struct slice_u8 s, uint64_t groups, uint64_t homes)
 {
-    struct model__State t4;
-    uint64_t t5, t9, t10;
-    bool t6, t7;
+    uint64_t t4, t5, t6, t7, t426, t427;
+    bool t8;
 
-    t6 = strip__promises__none_promised(s);
-    if (!t6) {
-        return 1u;
-    }
-    t9 = load_8(s.ptr);
-    t10 = load_8(s.ptr + 8u);
-    t4 = (struct model__State){.groups = t9, .homes = t10, .start = load_8(s.ptr + 16u), .next = load_8(s.ptr + 24u),
-            .filled = load_8(s.ptr + 32u), .settled = load_8(s.ptr + 40u), .fenced = load_8(s.ptr + 48u), .durable = load_8(s.ptr
-            + 56u), .last = load_8(s.ptr + 64u), .round = load_8(s.ptr + 88u), .cursor = load_8(s.ptr + 96u)};
-    t5 = strip__quick__groups_answer(t4, groups, homes);
-    if (t5 != 0u) {
-        return t5;
-    }
-    t7 = strip__order__bounds_in_order(t4);
-    if (!t7) {
+    t8 = strip__quick__groups_in_order(s, groups, homes);
+    if (!t8) {
         return 2u;
     }
-    t7 = strip__quick__records_in_order(s, t4);
-    if (!t7) {
+    t4 = load_8(s.ptr + 16u);
+    t5 = 7u * t4;
+    t6 = 7u * (load_8(s.ptr + 24u) - t4);
+    t7 = t6 + load_8(s.ptr + 32u);
+    t8 = strip__quick__bounds_in_order(s, t5, t6, t7);
+    if (!t8) {
+        return 2u;
+    }
+    if (load_8(s.ptr + 88u) != 0u) {
+        return 1u;
+    }
+    t8 = strip__promises__none_promised(s);
+    if (!t8) {
+        return 1u;
+    }
+    t426 = load_8(s.ptr);
+    t427 = load_8(s.ptr + 8u);
+    t8 = strip__quick__records_in_order(s, (struct model__State){.groups = t426, .homes = t427, .start = load_8(s.ptr + 16u),
+            .next = load_8(s.ptr + 24u), .filled = load_8(s.ptr + 32u), .settled = load_8(s.ptr + 40u), .fenced = load_8(s.ptr
+            + 48u), .durable = load_8(s.ptr + 56u), .last = load_8(s.ptr + 64u), .round = load_8(s.ptr + 88u),
+            .cursor = load_8(s.ptr + 96u)}, t5, t7);
+    if (!t8) {
         return 2u;
     }
     return 0u;
@@ -538,44 +537,6 @@ static inline bool strip__order__round_in_order(struct model__State st)
         return false;
     }
     return (st.round - 1u) <= st.fenced;
-}
-
-/* Whether the numbers of the strip are in order, where its group numbers and the places filled are. */
-static inline bool strip__order__positions_in_order(struct model__State st)
-{
-    bool t2;
-
-    t2 = strip__order__round_in_order(st);
-    if (!t2) {
-        return false;
-    }
-    return strip__order__bounds_in_order(st);
-}
-
-/* Whether the numbers of the strip are in order. */
-static inline bool strip__order__numbers_in_order(struct model__State st)
-{
-    uint64_t t2;
-
-    if (UINT64_C(0x800000000000) < st.start) {
-        return false;
-    }
-    if (st.next < st.start) {
-        return false;
-    }
-    t2 = st.start + st.groups;
-    if (t2 < st.next) {
-        return false;
-    }
-    if (6u < st.filled) {
-        return false;
-    }
-    if (st.next == t2) {
-        if (st.filled != 0u) {
-            return false;
-        }
-    }
-    return strip__order__positions_in_order(st);
 }
 
 /* How many places are promised to the eight writers together, one after the other. */
@@ -675,39 +636,33 @@ static inline bool strip__order__writers_in_order(struct slice_u8 s, struct mode
     return true;
 }
 
-/* Whether the strip is in order for a log of `groups` groups and `homes` homes. */
-static inline bool strip__order__in_order(struct slice_u8 s, uint64_t groups, uint64_t homes)
+/* The rest of question 2 where the numbers but the round are in order: the round, the promises and the writers. */
+static inline bool strip__order__rest_in_order(struct slice_u8 s)
 {
-    struct model__State t4;
-    bool t5;
-    uint64_t t8, t10, t11;
+    struct model__State t2;
+    bool t3;
+    uint64_t t6, t8, t9;
 
-    t10 = load_8(s.ptr);
-    t11 = load_8(s.ptr + 8u);
-    t4 = (struct model__State){.groups = t10, .homes = t11, .start = load_8(s.ptr + 16u), .next = load_8(s.ptr + 24u),
+    t8 = load_8(s.ptr);
+    t9 = load_8(s.ptr + 8u);
+    t2 = (struct model__State){.groups = t8, .homes = t9, .start = load_8(s.ptr + 16u), .next = load_8(s.ptr + 24u),
             .filled = load_8(s.ptr + 32u), .settled = load_8(s.ptr + 40u), .fenced = load_8(s.ptr + 48u), .durable = load_8(s.ptr
             + 56u), .last = load_8(s.ptr + 64u), .round = load_8(s.ptr + 88u), .cursor = load_8(s.ptr + 96u)};
-    if (t4.groups != groups) {
+    t3 = strip__order__round_in_order(t2);
+    if (!t3) {
         return false;
     }
-    if (t4.homes != homes) {
+    t6 = strip__promises__promised(s);
+    if (((7u * (t2.start + t2.groups)) - ((7u * t2.next) + t2.filled)) < t6) {
         return false;
     }
-    t5 = strip__order__numbers_in_order(t4);
-    if (!t5) {
-        return false;
-    }
-    t8 = strip__promises__promised(s);
-    if (((7u * (t4.start + t4.groups)) - ((7u * t4.next) + t4.filled)) < t8) {
-        return false;
-    }
-    return strip__order__writers_in_order(s, t4);
+    return strip__order__writers_in_order(s, t2);
 }
 
 /* Questions 1 and 2: 0 if the lengths are right and the strip is in order, else the number of the refusal. */
 static inline uint64_t answers__in_use(struct slice_u8 log, struct slice_u8 area, struct slice_u8 state)
 {
-    uint64_t t4, t5, t6;
+    uint64_t t4, t6;
     bool t7, t8;
 
     t7 = answers__lengths_right(log, area, state);
@@ -715,12 +670,11 @@ static inline uint64_t answers__in_use(struct slice_u8 log, struct slice_u8 area
         return 1u;
     }
     t4 = areas__lengths__log_groups((uint64_t)log.len);
-    t5 = (uint64_t)area.len / 64u;
-    t6 = strip__quick__quick_answer(state, t4, t5);
+    t6 = strip__quick__quick_answer(state, t4, (uint64_t)area.len / 64u);
     if (t6 != 1u) {
         return t6;
     }
-    t8 = strip__order__in_order(state, t4, t5);
+    t8 = strip__order__rest_in_order(state);
     if (!t8) {
         return 2u;
     }
@@ -924,13 +878,18 @@ static inline uint64_t answers__in_use_newest(struct slice_u8 log, struct slice_
 /* Whether an entry of writer `w` finds a place: one that is promised to it, or one that is promised to nobody. */
 static inline bool strip__promises__room_for(struct slice_u8 s, struct model__State st, uint64_t w)
 {
-    uint64_t t4;
+    bool t4;
+    uint64_t t6;
 
+    t4 = strip__promises__none_promised(s);
+    if (t4) {
+        return st.next < (st.start + st.groups);
+    }
     if (load_2(s.ptr + (size_t)(72u + (2u * w))) != 0u) {
         return true;
     }
-    t4 = strip__promises__promised(s);
-    return t4 < ((7u * (st.start + st.groups)) - ((7u * st.next) + st.filled));
+    t6 = strip__promises__promised_each(s);
+    return t6 < ((7u * (st.start + st.groups)) - ((7u * st.next) + st.filled));
 }
 
 /* Questions 8 and 10 of a call that logs an entry of writer `w`: 0 if the log has room for it, and the batch for the group that
@@ -961,7 +920,7 @@ static inline uint64_t logging__entry__may_log(struct slice_u8 state, uint64_t w
 }
 
 /* The answer of a commit: 0, or the number of the question that refuses it. */
-static inline uint64_t logging__commits__commit_verdict(struct slice_u8 log, struct slice_u8 area, struct slice_u8 state,
+static inline uint64_t commits__commit_verdict(struct slice_u8 log, struct slice_u8 area, struct slice_u8 state,
         struct slice_u8 newest, struct slice_u8 batch, uint64_t writer)
 {
     uint64_t t7, t14;
@@ -987,7 +946,7 @@ static inline uint64_t logging__commits__commit_verdict(struct slice_u8 log, str
 }
 
 /* Ends the transaction of a writer that holds nothing, and gives back the places promised to it. */
-static inline void logging__commits__commit_none(struct slice_mut_u8 state, uint64_t w)
+static inline void commits__commit_none(struct slice_mut_u8 state, uint64_t w)
 {
     writers__abort(state, w);
     store_2(state.ptr + (size_t)(72u + (2u * w)), 0u);
@@ -1038,6 +997,23 @@ static inline uint64_t logging__entry__closing_word(struct model__State st, stru
     t5 = logging__entry__link_from(position, st);
     t6 = strip__writers__count_for(r);
     return ((((3u | ((r.home & 4095u) << 2u)) | (t4 << 14u)) | (t5 << 27u)) | ((t6 + 1u) << 40u)) | ((r.home >> 12u) << 53u);
+}
+
+/* The same for any group, as the first of a pass: a small machine divides numbers of 64 bits by a library call, and few logs get
+   that far. */
+static inline struct scan__slots__RingSlot scan__slots__first_slot(uint64_t n, uint64_t groups)
+{
+    uint32_t t11, t12;
+
+    if (n <= UINT64_C(0xffffffff)) {
+        if (groups <= UINT64_C(0xffffffff)) {
+            t11 = (uint32_t)n;
+            t12 = (uint32_t)groups;
+            return (struct scan__slots__RingSlot){.slot = (uint64_t)(uint32_t)((uint32_t)t11 % t12),
+                    .turn = (uint64_t)(uint32_t)((uint32_t)(uint32_t)((uint32_t)t11 / t12) % 2u)};
+        }
+    }
+    return (struct scan__slots__RingSlot){.slot = n % groups, .turn = (n / groups) % 2u};
 }
 
 /* Writes the mark of a group at index `at`. */
@@ -1184,7 +1160,8 @@ static inline uint64_t logging__entry__log_entry(struct slice_mut_u8 log, struct
         uint64_t word, uint64_t w)
 {
     struct model__State t6;
-    uint64_t t7, t9, t13, t35, t36;
+    struct scan__slots__RingSlot t7;
+    uint64_t t8, t9, t12, t35, t36;
 
     t35 = load_8(state.ptr);
     t36 = load_8(state.ptr + 8u);
@@ -1192,22 +1169,22 @@ static inline uint64_t logging__entry__log_entry(struct slice_mut_u8 log, struct
             .filled = load_8(state.ptr + 32u), .settled = load_8(state.ptr + 40u), .fenced = load_8(state.ptr + 48u),
             .durable = load_8(state.ptr + 56u), .last = load_8(state.ptr + 64u), .round = load_8(state.ptr + 88u),
             .cursor = load_8(state.ptr + 96u)};
-    t7 = t6.next % t6.groups;
+    t7 = scan__slots__first_slot(t6.next, t6.groups);
+    t8 = t7.slot;
     t9 = (128u + (96u * w)) + 32u;
-    areas__groups__enter(log, t7, (t6.next / t6.groups) % 2u, t6, word, (struct slice_u8){state.ptr + (size_t)t9, (size_t)((t9
-            + 64u) - t9)});
+    areas__groups__enter(log, t8, t7.turn, t6, word, (struct slice_u8){state.ptr + (size_t)t9, (size_t)((t9 + 64u) - t9)});
     if (t6.filled != 6u) {
         store_8(state.ptr + 32u, t6.filled + 1u);
         return 0u;
     }
     store_8(state.ptr + 24u, t6.next + 1u);
     store_8(state.ptr + 32u, 0u);
-    t13 = batch__records__group_write(batch, 0u, t7, (struct slice_u8){log.ptr, log.len});
-    return t13;
+    t12 = batch__records__group_write(batch, 0u, t8, (struct slice_u8){log.ptr, log.len});
+    return t12;
 }
 
 /* Logs the held block as the closing entry and ends the transaction. */
-static inline uint64_t logging__commits__close_held(struct slice_mut_u8 log, struct slice_mut_u8 state, struct slice_mut_u8 batch,
+static inline uint64_t commits__close_held(struct slice_mut_u8 log, struct slice_mut_u8 state, struct slice_mut_u8 batch,
         struct model__State st, struct model__Writer r, uint64_t w)
 {
     uint64_t t7, t8, t9;
@@ -1230,30 +1207,6 @@ static inline bool scan__groups__group_valid(struct slice_u8 group, uint64_t gro
         return false;
     }
     return n < (start + groups);
-}
-
-/* The same for tag `k` of a group, where it is the transaction's entry that does not close it, which is `plain` but for its home,
-   or has another distance back; returns whether it is one of these. Only an entry of the transaction has its block's turn bit
-   looked at. */
-static inline bool positions__words__keep_plain(struct slice_u8 group, uint64_t turn, uint64_t k, uint64_t plain,
-        uint64_t position, uint64_t homes, struct slice_mut_u8 newest)
-{
-    uint64_t t8, t9, t136;
-
-    t8 = load_8(group.ptr + (size_t)(8u + (8u * k)));
-    if (!(((t8 ^ plain) & UINT64_C(0xfc1fffffffffc003)) == 0u)) {
-        return ((t8 ^ plain) & UINT64_C(0x7ffc000)) != 0u;
-    }
-    if (128u <= (uint8_t)((uint32_t)group.ptr[(size_t)((64u + (64u * k)) + 63u)] ^ (uint8_t)((uint32_t)128u * (uint8_t)turn))) {
-        return true;
-    }
-    t136 = t8 ^ plain;
-    t9 = ((t136 >> 2u) + (t136 >> 41u)) % UINT64_C(0x10000);
-    if (homes <= t9) {
-        return false;
-    }
-    store_8(newest.ptr + (size_t)(8u * t9), position);
-    return true;
 }
 
 /* The word of tag `k` of a group if its data block has the turn of the group, else that of no entry. */
@@ -1318,6 +1271,59 @@ static inline void positions__words__keep_word(struct slice_mut_u8 newest, uint6
     } else {
         store_8(newest.ptr + (size_t)(8u * t12.u64_0), position);
     }
+}
+
+/* The same for tag `k` alone, the only one of its transaction. */
+static inline void positions__groups__keep_alone(struct slice_u8 group, uint64_t groups, uint64_t homes, uint64_t start,
+        uint64_t n, uint64_t turn, uint64_t k, struct slice_mut_u8 newest)
+{
+    uint64_t t9, t10;
+    bool t11;
+
+    t11 = scan__groups__group_valid(group, groups, start, n);
+    if (!t11) {
+        return;
+    }
+    t9 = scan__groups__word_there(group, turn, k);
+    t10 = (7u * n) + k;
+    positions__words__keep_word(newest, t9, t10, 7u * start, homes, t10);
+}
+
+/* The same for a transaction of its closing entry alone, at index `k` of the group with number `number`. */
+static inline void positions__commits__keep_one(struct slice_u8 log, uint64_t groups, uint64_t homes, uint64_t start,
+        uint64_t number, uint64_t k, struct slice_mut_u8 newest)
+{
+    struct scan__slots__RingSlot t8;
+    uint64_t t9;
+
+    t8 = scan__slots__first_slot(number, groups);
+    t9 = 64u + (512u * t8.slot);
+    positions__groups__keep_alone((struct slice_u8){log.ptr + (size_t)t9, (size_t)((t9 + 512u) - t9)}, groups, homes, start,
+            number, t8.turn, k, newest);
+}
+
+/* The same for tag `k` of a group, where it is the transaction's entry that does not close it, which is `plain` but for its home,
+   or has another distance back; returns whether it is one of these. Only an entry of the transaction has its block's turn bit
+   looked at. */
+static inline bool positions__words__keep_plain(struct slice_u8 group, uint64_t turn, uint64_t k, uint64_t plain,
+        uint64_t position, uint64_t homes, struct slice_mut_u8 newest)
+{
+    uint64_t t8, t9, t136;
+
+    t8 = load_8(group.ptr + (size_t)(8u + (8u * k)));
+    if (!(((t8 ^ plain) & UINT64_C(0xfc1fffffffffc003)) == 0u)) {
+        return ((t8 ^ plain) & UINT64_C(0x7ffc000)) != 0u;
+    }
+    if (128u <= (uint8_t)((uint32_t)group.ptr[(size_t)((64u + (64u * k)) + 63u)] ^ (uint8_t)((uint32_t)128u * (uint8_t)turn))) {
+        return true;
+    }
+    t136 = t8 ^ plain;
+    t9 = ((t136 >> 2u) + (t136 >> 41u)) % UINT64_C(0x10000);
+    if (homes <= t9) {
+        return false;
+    }
+    store_8(newest.ptr + (size_t)(8u * t9), position);
+    return true;
 }
 
 /* The same for every tag. */
@@ -1447,13 +1453,13 @@ static inline void positions__commits__keep_entries(struct slice_u8 log, uint64_
         uint64_t first, uint64_t closing, struct slice_mut_u8 newest)
 {
     uint64_t t8, t10, t13;
+    struct scan__slots__RingSlot t9, t12;
     struct positions__commits__Pass t11;
-    struct scan__slots__RingSlot t12;
 
     t8 = first / 7u;
+    t9 = scan__slots__first_slot(t8, groups);
     t10 = closing + 1u;
-    t11 = (struct positions__commits__Pass){.number = t8, .at = (struct scan__slots__RingSlot){.slot = t8 % groups,
-            .turn = (t8 / groups) % 2u}, .done = first - (7u * t8)};
+    t11 = (struct positions__commits__Pass){.number = t8, .at = t9, .done = first - (7u * t8)};
     while (((7u * t11.number) + 7u) <= t10) {
         positions__commits__keep_rest(log, groups, homes, start, first, t11, 7u, newest);
         t12 = scan__slots__next_slot(t11.at, groups);
@@ -1466,12 +1472,17 @@ static inline void positions__commits__keep_entries(struct slice_u8 log, uint64_
     positions__commits__keep_rest(log, groups, homes, start, first, t11, t13, newest);
 }
 
-/* Keeps the position of each entry of the transaction that was closed at the next position. */
-static inline void logging__commits__keep_newest(struct slice_u8 log, struct slice_mut_u8 newest, struct model__State st,
+/* Keeps the position of each entry of the transaction that was closed at the next position; where nothing was logged before, that
+   is one position. */
+static inline void commits__keep_newest(struct slice_u8 log, struct slice_mut_u8 newest, struct model__State st,
         struct model__Writer r)
 {
     uint64_t t5, t6;
 
+    if (!(3u <= r.mode)) {
+        positions__commits__keep_one(log, st.groups, st.homes, st.start, st.next, st.filled, newest);
+        return;
+    }
     t5 = (7u * st.next) + st.filled;
     t6 = strip__writers__first_for(r, t5);
     positions__commits__keep_entries(log, st.groups, st.homes, st.start, t6, t5, newest);
@@ -1494,28 +1505,45 @@ static inline void strip__listed__carry_listed(struct slice_mut_u8 s, struct sli
 
 /* The closing entry, with the places promised to the writer given back, the newest positions kept, and those of the list of
    rights carried over. */
-static inline uint64_t logging__commits__commit_held(struct slice_mut_u8 log, struct slice_mut_u8 state,
-        struct slice_mut_u8 newest, struct slice_mut_u8 batch, struct model__State st, struct model__Writer r, uint64_t w)
+static inline uint64_t commits__commit_held(struct slice_mut_u8 log, struct slice_mut_u8 state, struct slice_mut_u8 newest,
+        struct slice_mut_u8 batch, struct model__State st, struct model__Writer r, uint64_t w)
 {
     uint64_t t8;
 
-    t8 = logging__commits__close_held(log, state, batch, st, r, w);
+    t8 = commits__close_held(log, state, batch, st, r, w);
     store_2(state.ptr + (size_t)(72u + (2u * w)), 0u);
-    logging__commits__keep_newest((struct slice_u8){log.ptr, log.len}, newest, st, r);
+    commits__keep_newest((struct slice_u8){log.ptr, log.len}, newest, st, r);
     strip__listed__carry_listed(state, (struct slice_u8){newest.ptr, newest.len}, st.homes);
     return t8;
 }
 
+/* The same by the numbers and the record that stand in the strip. */
+static inline uint64_t commits__commit_next(struct slice_mut_u8 log, struct slice_mut_u8 state, struct slice_mut_u8 newest,
+        struct slice_mut_u8 batch, uint64_t w)
+{
+    uint64_t t21, t22, t1155;
+
+    t21 = load_8(state.ptr);
+    t22 = load_8(state.ptr + 8u);
+    t1155 = 128u + (96u * w);
+    return commits__commit_held(log, state, newest, batch, (struct model__State){.groups = t21, .homes = t22,
+            .start = load_8(state.ptr + 16u), .next = load_8(state.ptr + 24u), .filled = load_8(state.ptr + 32u),
+            .settled = load_8(state.ptr + 40u), .fenced = load_8(state.ptr + 48u), .durable = load_8(state.ptr + 56u),
+            .last = load_8(state.ptr + 64u), .round = load_8(state.ptr + 88u), .cursor = load_8(state.ptr + 96u)},
+            (struct model__Writer){.mode = load_8(state.ptr + (size_t)t1155), .home = load_8(state.ptr + (size_t)(t1155 + 8u)),
+            .first = load_8(state.ptr + (size_t)(t1155 + 16u)), .count = load_8(state.ptr + (size_t)(t1155 + 24u))}, w);
+}
+
 /* Commits a writer's open transaction: its held block is logged as the closing entry, whose position + 1 is the ticket, and for
    each home that it wrote the last entry's position is kept. */
-static inline struct answers__Reply logging__commits__commit(struct slice_mut_u8 log, struct slice_u8 area,
-        struct slice_mut_u8 state, struct slice_mut_u8 newest, struct slice_mut_u8 batch, uint64_t writer)
+static inline struct answers__Reply commits__commit(struct slice_mut_u8 log, struct slice_u8 area, struct slice_mut_u8 state,
+        struct slice_mut_u8 newest, struct slice_mut_u8 batch, uint64_t writer)
 {
     uint64_t t7, t8, t12, t41, t463, t464;
     struct model__Writer t9;
     struct model__State t10;
 
-    t7 = logging__commits__commit_verdict((struct slice_u8){log.ptr, log.len}, area, (struct slice_u8){state.ptr, state.len},
+    t7 = commits__commit_verdict((struct slice_u8){log.ptr, log.len}, area, (struct slice_u8){state.ptr, state.len},
             (struct slice_u8){newest.ptr, newest.len}, (struct slice_u8){batch.ptr, batch.len}, writer);
     if (t7 != 0u) {
         return (struct answers__Reply){.code = t7, .figure = 0u, .size = 0u};
@@ -1525,7 +1553,7 @@ static inline struct answers__Reply logging__commits__commit(struct slice_mut_u8
     t9 = (struct model__Writer){.mode = load_8(state.ptr + (size_t)t41), .home = load_8(state.ptr + (size_t)(t41 + 8u)),
             .first = load_8(state.ptr + (size_t)(t41 + 16u)), .count = load_8(state.ptr + (size_t)(t41 + 24u))};
     if (!(2u <= t9.mode)) {
-        logging__commits__commit_none(state, t8);
+        commits__commit_none(state, t8);
         return (struct answers__Reply){.code = 0u, .figure = 0u, .size = 0u};
     }
     t463 = load_8(state.ptr);
@@ -1534,7 +1562,7 @@ static inline struct answers__Reply logging__commits__commit(struct slice_mut_u8
             .filled = load_8(state.ptr + 32u), .settled = load_8(state.ptr + 40u), .fenced = load_8(state.ptr + 48u),
             .durable = load_8(state.ptr + 56u), .last = load_8(state.ptr + 64u), .round = load_8(state.ptr + 88u),
             .cursor = load_8(state.ptr + 96u)};
-    t12 = logging__commits__commit_held(log, state, newest, batch, t10, t9, t8);
+    t12 = commits__commit_next(log, state, newest, batch, t8);
     return (struct answers__Reply){.code = 0u, .figure = ((7u * t10.next) + t10.filled) + 1u, .size = t12};
 }
 
@@ -1542,7 +1570,7 @@ static inline struct answers__Reply logging__commits__commit(struct slice_mut_u8
 static inline struct answers__Reply kagutin__kagutin_commit(struct slice_mut_u8 log, struct slice_u8 area,
         struct slice_mut_u8 state, struct slice_mut_u8 newest, struct slice_mut_u8 batch, uint64_t writer)
 {
-    return logging__commits__commit(log, area, state, newest, batch, writer);
+    return commits__commit(log, area, state, newest, batch, writer);
 }
 
 /* Makes the fenced position the durable mark, and returns it: all fences so far have passed. */
@@ -1642,6 +1670,18 @@ static inline bool rights__list__none_kept(struct slice_u8 kept, uint64_t from)
     return load_8(kept.ptr + (size_t)(from + 24u)) == UINT64_C(0xffffffffffffffff);
 }
 
+/* The ring place of the position that lies `after` positions behind the log's start. */
+static inline struct shown__ring__RingPlace shown__ring__ring_place(struct model__State st, uint64_t after)
+{
+    uint64_t t3, t4;
+    struct scan__slots__RingSlot t5;
+
+    t3 = (after * 9363u) >> 16u;
+    t4 = st.start + t3;
+    t5 = scan__slots__first_slot(t4, st.groups);
+    return (struct shown__ring__RingPlace){.number = t4, .slot = t5.slot, .turn = t5.turn, .k = after - (7u * t3)};
+}
+
 /* Whether a word says `after` positions behind the log's start that an entry for a home is there, test by test of its fields. */
 static inline bool shown__tags__fields_for(uint64_t word, uint64_t home, uint64_t after)
 {
@@ -1699,10 +1739,9 @@ static inline bool shown__entry_there(struct slice_u8 log, struct model__State s
 /* Where the block of the entry for a home lies in the log, if one is at the position kept for it; else 0. */
 static inline uint64_t shown__place_by(struct slice_u8 log, struct model__State st, uint64_t home, uint64_t position)
 {
-    uint64_t t5, t6, t20, t21;
+    uint64_t t5, t6;
     struct shown__ring__RingPlace t7;
     bool t8;
-    struct scan__slots__RingSlot t22;
 
     t5 = 7u * st.start;
     if (position < t5) {
@@ -1712,10 +1751,7 @@ static inline uint64_t shown__place_by(struct slice_u8 log, struct model__State 
         return 0u;
     }
     t6 = position - t5;
-    t20 = (t6 * 9363u) >> 16u;
-    t21 = st.start + t20;
-    t22 = (struct scan__slots__RingSlot){.slot = t21 % st.groups, .turn = (t21 / st.groups) % 2u};
-    t7 = (struct shown__ring__RingPlace){.number = t21, .slot = t22.slot, .turn = t22.turn, .k = t6 - (7u * t20)};
+    t7 = shown__ring__ring_place(st, t6);
     t8 = shown__entry_there(log, st, home, t6, t7);
     if (!t8) {
         return 0u;
@@ -2155,7 +2191,7 @@ static inline uint64_t search__own__newest_own(struct slice_u8 log, uint64_t gro
 
     t8 = 0u;
     t9 = first / 7u;
-    t10 = (struct scan__slots__RingSlot){.slot = t9 % groups, .turn = (t9 / groups) % 2u};
+    t10 = scan__slots__first_slot(t9, groups);
     t11 = end - (7u * t9);
     while (0u < t11) {
         t12 = 64u + (512u * t10.slot);
@@ -2385,8 +2421,10 @@ static inline void logging__flushes__flush_part(struct slice_u8 log, struct slic
         struct model__State st)
 {
     uint64_t t6, t7;
+    struct scan__slots__RingSlot t8;
 
-    t6 = batch__records__group_write(batch, 0u, st.next % st.groups, log);
+    t8 = scan__slots__first_slot(st.next, st.groups);
+    t6 = batch__records__group_write(batch, 0u, t8.slot, log);
     (void)batch__records__fence(batch, t6);
     t7 = st.next + 1u;
     store_8(state.ptr + 24u, t7);
@@ -2905,7 +2943,7 @@ static inline struct scan__commits__Progress replay__walking__pass(struct slice_
     uint64_t t11, t12, t13, t15;
 
     t9 = (struct scan__commits__Progress){.end = 0u, .number = 0u, .failed = 0u};
-    t10 = (struct scan__slots__RingSlot){.slot = start % groups, .turn = (start / groups) % 2u};
+    t10 = scan__slots__first_slot(start, groups);
     t11 = start;
     t12 = n;
     while (0u < t12) {
@@ -3104,7 +3142,7 @@ static inline uint64_t replay__words__count(struct slice_u8 log, struct slice_u1
     uint64_t t9, t10, t11, t12, t17;
     struct scan__slots__RingSlot t13;
 
-    t13 = (struct scan__slots__RingSlot){.slot = start % groups, .turn = (start / groups) % 2u};
+    t13 = scan__slots__first_slot(start, groups);
     t9 = t13.slot;
     t10 = (homes + 63u) / 64u;
     t11 = 0u;
@@ -3194,7 +3232,7 @@ static inline uint64_t replay__restore__bring_back(struct slice_u8 log, struct s
     uint64_t t11, t12, t13, t14;
     struct scan__slots__RingSlot t15;
 
-    t15 = (struct scan__slots__RingSlot){.slot = start % groups, .turn = (start / groups) % 2u};
+    t15 = scan__slots__first_slot(start, groups);
     t11 = t15.slot;
     t12 = (homes + 63u) / 64u;
     t13 = 0u;
@@ -3301,7 +3339,7 @@ static inline uint64_t replay__stepping__count_from(struct slice_u8 log, struct 
     uint64_t t11, t12, t13, t14, t17;
     struct scan__slots__RingSlot t15;
 
-    t15 = (struct scan__slots__RingSlot){.slot = start % groups, .turn = (start / groups) % 2u};
+    t15 = scan__slots__first_slot(start, groups);
     t11 = t15.slot;
     t12 = 0u;
     t13 = cursor;
@@ -3382,7 +3420,7 @@ static inline uint64_t replay__stepping__bring_from(struct slice_u8 log, struct 
     struct replay__stepping__Reached t17;
     struct scan__slots__RingSlot t18;
 
-    t18 = (struct scan__slots__RingSlot){.slot = start % groups, .turn = (start / groups) % 2u};
+    t18 = scan__slots__first_slot(start, groups);
     t13 = t18.slot;
     t14 = 0u;
     t15 = cursor;
@@ -3560,7 +3598,7 @@ static inline struct scan__commits__Found scan__commits__walk(struct slice_u8 lo
 
     memset(&t6, 0, sizeof t6);
     t7 = (struct scan__commits__Progress){.end = 0u, .number = 0u, .failed = 0u};
-    t8 = (struct scan__slots__RingSlot){.slot = start % groups, .turn = (start / groups) % 2u};
+    t8 = scan__slots__first_slot(start, groups);
     t9 = start;
     t10 = n;
     while (0u < t10) {
@@ -3637,7 +3675,7 @@ static inline void replay__gathering__gather(struct slice_u8 log, struct slice_m
     }
     t10 = end - t9;
     t11 = start;
-    t12 = (struct scan__slots__RingSlot){.slot = start % groups, .turn = (start / groups) % 2u};
+    t12 = scan__slots__first_slot(start, groups);
     while (0u < t10) {
         t13 = 64u + (512u * t12.slot);
         t15 = scan__commits__in_group(t10);
@@ -3795,7 +3833,7 @@ static inline struct answers__Reply kagutin__kagutin_open(struct slice_mut_u8 lo
 static inline uint64_t answers__in_use_block(struct slice_u8 log, struct slice_u8 area, struct slice_u8 state,
         struct slice_u8 block)
 {
-    uint64_t t5, t6, t7;
+    uint64_t t5, t7;
     bool t8;
 
     t8 = answers__lengths_right(log, area, state);
@@ -3806,12 +3844,11 @@ static inline uint64_t answers__in_use_block(struct slice_u8 log, struct slice_u
         return 1u;
     }
     t5 = areas__lengths__log_groups((uint64_t)log.len);
-    t6 = (uint64_t)area.len / 64u;
-    t7 = strip__quick__quick_answer(state, t5, t6);
+    t7 = strip__quick__quick_answer(state, t5, (uint64_t)area.len / 64u);
     if (t7 != 1u) {
         return t7;
     }
-    t8 = strip__order__in_order(state, t5, t6);
+    t8 = strip__order__rest_in_order(state);
     if (!t8) {
         return 2u;
     }
@@ -4293,11 +4330,28 @@ static inline uint64_t logging__stores__store_other(struct slice_mut_u8 log, str
     return t10;
 }
 
+/* The same by the numbers and the record that stand in the strip. */
+static inline uint64_t logging__stores__store_next(struct slice_mut_u8 log, struct slice_mut_u8 state, struct slice_u8 block,
+        struct slice_mut_u8 batch, uint64_t w, uint64_t home)
+{
+    uint64_t t20, t21, t1154;
+
+    t20 = load_8(state.ptr);
+    t21 = load_8(state.ptr + 8u);
+    t1154 = 128u + (96u * w);
+    return logging__stores__store_other(log, state, block, batch, (struct model__State){.groups = t20, .homes = t21,
+            .start = load_8(state.ptr + 16u), .next = load_8(state.ptr + 24u), .filled = load_8(state.ptr + 32u),
+            .settled = load_8(state.ptr + 40u), .fenced = load_8(state.ptr + 48u), .durable = load_8(state.ptr + 56u),
+            .last = load_8(state.ptr + 64u), .round = load_8(state.ptr + 88u), .cursor = load_8(state.ptr + 96u)},
+            (struct model__Writer){.mode = load_8(state.ptr + (size_t)t1154), .home = load_8(state.ptr + (size_t)(t1154 + 8u)),
+            .first = load_8(state.ptr + (size_t)(t1154 + 16u)), .count = load_8(state.ptr + (size_t)(t1154 + 24u))}, w, home);
+}
+
 /* Holds a block for a home in a writer's open transaction; a block held for another home is logged first. */
 static inline struct answers__Reply logging__stores__store(struct slice_mut_u8 log, struct slice_u8 area,
         struct slice_mut_u8 state, struct slice_u8 block, struct slice_mut_u8 batch, uint64_t writer, uint64_t home)
 {
-    uint64_t t8, t9, t12, t39, t462, t463;
+    uint64_t t8, t9, t11, t36;
     struct model__Writer t10;
 
     t8 = logging__stores__store_verdict((struct slice_u8){log.ptr, log.len}, area, (struct slice_u8){state.ptr, state.len}, block,
@@ -4306,9 +4360,9 @@ static inline struct answers__Reply logging__stores__store(struct slice_mut_u8 l
         return (struct answers__Reply){.code = t8, .figure = 0u, .size = 0u};
     }
     t9 = writer;
-    t39 = 128u + (96u * t9);
-    t10 = (struct model__Writer){.mode = load_8(state.ptr + (size_t)t39), .home = load_8(state.ptr + (size_t)(t39 + 8u)),
-            .first = load_8(state.ptr + (size_t)(t39 + 16u)), .count = load_8(state.ptr + (size_t)(t39 + 24u))};
+    t36 = 128u + (96u * t9);
+    t10 = (struct model__Writer){.mode = load_8(state.ptr + (size_t)t36), .home = load_8(state.ptr + (size_t)(t36 + 8u)),
+            .first = load_8(state.ptr + (size_t)(t36 + 16u)), .count = load_8(state.ptr + (size_t)(t36 + 24u))};
     if (!(2u <= t10.mode)) {
         logging__stores__store_first(state, block, t10, t9, home);
         return (struct answers__Reply){.code = 0u, .figure = 0u, .size = 0u};
@@ -4317,13 +4371,8 @@ static inline struct answers__Reply logging__stores__store(struct slice_mut_u8 l
         strip__writers__set_held(state, t9, block);
         return (struct answers__Reply){.code = 0u, .figure = 0u, .size = 0u};
     }
-    t462 = load_8(state.ptr);
-    t463 = load_8(state.ptr + 8u);
-    t12 = logging__stores__store_other(log, state, block, batch, (struct model__State){.groups = t462, .homes = t463,
-            .start = load_8(state.ptr + 16u), .next = load_8(state.ptr + 24u), .filled = load_8(state.ptr + 32u),
-            .settled = load_8(state.ptr + 40u), .fenced = load_8(state.ptr + 48u), .durable = load_8(state.ptr + 56u),
-            .last = load_8(state.ptr + 64u), .round = load_8(state.ptr + 88u), .cursor = load_8(state.ptr + 96u)}, t10, t9, home);
-    return (struct answers__Reply){.code = 0u, .figure = 0u, .size = t12};
+    t11 = logging__stores__store_next(log, state, block, batch, t9, home);
+    return (struct answers__Reply){.code = 0u, .figure = 0u, .size = t11};
 }
 
 /* Holds a block for a home in a writer's open transaction; a block held for another home is logged first. */
@@ -4395,23 +4444,6 @@ static inline void chains__steps__hold_first(struct slice_mut_u8 state, struct s
             .first = load_8(state.ptr + (size_t)(t18 + 16u)), .count = load_8(state.ptr + (size_t)(t18 + 24u))}, w, home);
 }
 
-/* Logs the block that the writer `w` holds and holds the next one, for another home. */
-static inline uint64_t chains__steps__store_next(struct slice_mut_u8 log, struct slice_mut_u8 state, struct slice_u8 block,
-        struct slice_mut_u8 batch, uint64_t w, uint64_t home)
-{
-    uint64_t t20, t21, t1154;
-
-    t20 = load_8(state.ptr);
-    t21 = load_8(state.ptr + 8u);
-    t1154 = 128u + (96u * w);
-    return logging__stores__store_other(log, state, block, batch, (struct model__State){.groups = t20, .homes = t21,
-            .start = load_8(state.ptr + 16u), .next = load_8(state.ptr + 24u), .filled = load_8(state.ptr + 32u),
-            .settled = load_8(state.ptr + 40u), .fenced = load_8(state.ptr + 48u), .durable = load_8(state.ptr + 56u),
-            .last = load_8(state.ptr + 64u), .round = load_8(state.ptr + 88u), .cursor = load_8(state.ptr + 96u)},
-            (struct model__Writer){.mode = load_8(state.ptr + (size_t)t1154), .home = load_8(state.ptr + (size_t)(t1154 + 8u)),
-            .first = load_8(state.ptr + (size_t)(t1154 + 16u)), .count = load_8(state.ptr + (size_t)(t1154 + 24u))}, w, home);
-}
-
 /* Stores the lent blocks but the first, which is held, by rising home. Returns how many bytes of the batch are written. */
 static inline uint64_t chains__steps__store_rest(struct slice_mut_u8 log, struct slice_mut_u8 state, struct slice_u8 blocks,
         struct slice_mut_u8 batch, uint64_t w, uint64_t home)
@@ -4423,7 +4455,7 @@ static inline uint64_t chains__steps__store_rest(struct slice_mut_u8 log, struct
     t9 = 1u;
     while (t9 < t7) {
         t10 = 64u * t9;
-        t13 = chains__steps__store_next(log, state, (struct slice_u8){blocks.ptr + (size_t)t10, (size_t)((t10 + 64u) - t10)},
+        t13 = logging__stores__store_next(log, state, (struct slice_u8){blocks.ptr + (size_t)t10, (size_t)((t10 + 64u) - t10)},
                 batch, w, home + t9);
         t8 = t8 + t13;
         t9 = t9 + 1u;
@@ -4446,7 +4478,7 @@ static inline struct answers__Reply chains__transacts__transact(struct slice_mut
         struct slice_mut_u8 state, struct slice_mut_u8 newest, struct slice_u8 blocks, struct slice_mut_u8 batch, uint64_t writer,
         uint64_t home)
 {
-    uint64_t t9, t10, t11, t15, t46, t47, t1180;
+    uint64_t t9, t10, t11, t14, t43, t44;
     struct model__State t12;
 
     t9 = chains__verdicts__transact_verdict((struct slice_u8){log.ptr, log.len}, area, (struct slice_u8){state.ptr, state.len},
@@ -4456,17 +4488,14 @@ static inline struct answers__Reply chains__transacts__transact(struct slice_mut
     }
     t10 = writer;
     t11 = chains__steps__store_all(log, state, blocks, batch, t10, home);
-    t46 = load_8(state.ptr);
-    t47 = load_8(state.ptr + 8u);
-    t12 = (struct model__State){.groups = t46, .homes = t47, .start = load_8(state.ptr + 16u), .next = load_8(state.ptr + 24u),
+    t43 = load_8(state.ptr);
+    t44 = load_8(state.ptr + 8u);
+    t12 = (struct model__State){.groups = t43, .homes = t44, .start = load_8(state.ptr + 16u), .next = load_8(state.ptr + 24u),
             .filled = load_8(state.ptr + 32u), .settled = load_8(state.ptr + 40u), .fenced = load_8(state.ptr + 48u),
             .durable = load_8(state.ptr + 56u), .last = load_8(state.ptr + 64u), .round = load_8(state.ptr + 88u),
             .cursor = load_8(state.ptr + 96u)};
-    t1180 = 128u + (96u * t10);
-    t15 = logging__commits__commit_held(log, state, newest, batch, t12, (struct model__Writer){.mode = load_8(state.ptr
-            + (size_t)t1180), .home = load_8(state.ptr + (size_t)(t1180 + 8u)), .first = load_8(state.ptr + (size_t)(t1180
-            + 16u)), .count = load_8(state.ptr + (size_t)(t1180 + 24u))}, t10);
-    return (struct answers__Reply){.code = 0u, .figure = ((7u * t12.next) + t12.filled) + 1u, .size = t11 + t15};
+    t14 = commits__commit_next(log, state, newest, batch, t10);
+    return (struct answers__Reply){.code = 0u, .figure = ((7u * t12.next) + t12.filled) + 1u, .size = t11 + t14};
 }
 
 /* Begins a transaction of an idle writer, stores one to seven blocks for the homes from `home` on and commits them. The figure is
@@ -4612,7 +4641,7 @@ static inline uint64_t limits__spans__closed_limit(struct slice_u8 log, uint64_t
 
     t7 = limit;
     t8 = (end + 6u) / 7u;
-    t9 = (struct scan__slots__RingSlot){.slot = t8 % groups, .turn = (t8 / groups) % 2u};
+    t9 = scan__slots__first_slot(t8, groups);
     while (t7 < t8) {
         t8 = t8 - 1u;
         t9 = scan__slots__previous_slot(t9, groups);
@@ -4809,7 +4838,7 @@ static inline uint64_t usage__entries__closed_entries(struct slice_u8 log, uint6
     t7 = 0u;
     t8 = end - t6;
     t9 = start;
-    t10 = (struct scan__slots__RingSlot){.slot = start % groups, .turn = (start / groups) % 2u};
+    t10 = scan__slots__first_slot(start, groups);
     while (0u < t8) {
         t11 = 64u + (512u * t10.slot);
         t13 = scan__commits__in_group(t8);
