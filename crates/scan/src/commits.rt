@@ -282,13 +282,43 @@ fn walk_small(log: &[u8], groups: u64, homes: u64, start: u64, n: u64) -> Found
     walk_with(log, &mut counts, groups, homes, start, n)
 }
 
-// The same for any log.
+// The same for any log. Its loop stands here too: a function that only lends the counters would be joined to its callers, and its counters to their stack.
 fn walk_large(log: &[u8], groups: u64, homes: u64, start: u64, n: u64) -> Found
     requires { ⌜ (length (now log) ≡ 64 + 512 * groups) × (4 ≤ groups) × (groups ≤ 1024) × (homes ≤ 65535) × (start ≤ 2 ^ 47) × (n ≤ 7 * groups) ⌝ }
     ensures { λ r. ⌜ (r .end ≡ endOf (committed (entryAt (now (log .entry)) groups homes start) (7 * start) n)) × (r .number ≡ length (committed (entryAt (now (log .entry)) groups homes start) (7 * start) n)) ⌝ }
 {
     let mut counts = [0u16; 7168];
-    walk_with(log, &mut counts, groups, homes, start, n)
+    let mut progress = Progress {
+        end: 0,
+        number: 0,
+        failed: 0,
+    };
+    let mut at = first_slot(start, groups);
+    let mut number = start;
+    let mut left = n;
+    while left > 0 {
+        let from = 64 + 512 * at.slot as usize;
+        let group = &log[from..from + 512];
+        let m = in_group(left);
+        progress = visit_group(
+            group,
+            groups,
+            homes,
+            start,
+            number,
+            at.turn,
+            m,
+            &mut counts,
+            progress,
+        );
+        if progress.failed != 0 {
+            return result(progress);
+        }
+        at = next_slot(at, groups);
+        number += 1;
+        left -= m as u64;
+    }
+    result(progress)
 }
 
 // The same with as many counters on the stack as the size of the log asks for.
