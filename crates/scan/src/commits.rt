@@ -293,11 +293,11 @@ fn walk_large(log: &[u8], groups: u64, homes: u64, start: u64, n: u64) -> Found
         number: 0,
         failed: 0,
     };
-    let mut at = first_slot(start, groups);
+    let mut ring = first_slot(start, groups);
     let mut number = start;
     let mut left = n;
     while left > 0 {
-        let from = 64 + 512 * at.slot as usize;
+        let from = 64 + 512 * ring.slot as usize;
         let group = &log[from..from + 512];
         let m = in_group(left);
         progress = visit_group(
@@ -306,7 +306,7 @@ fn walk_large(log: &[u8], groups: u64, homes: u64, start: u64, n: u64) -> Found
             homes,
             start,
             number,
-            at.turn,
+            ring.turn,
             m,
             &mut counts,
             progress,
@@ -314,7 +314,7 @@ fn walk_large(log: &[u8], groups: u64, homes: u64, start: u64, n: u64) -> Found
         if progress.failed != 0 {
             return result(progress);
         }
-        at = next_slot(at, groups);
+        ring = next_slot(ring, groups);
         number += 1;
         left -= m as u64;
     }
