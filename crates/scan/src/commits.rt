@@ -274,7 +274,7 @@ pub fn walk_with(
 }
 
 // The same with counters of its own, for a log of up to 64 groups.
-fn walk_small(log: &[u8], groups: u64, homes: u64, start: u64, n: u64) -> Found
+pub fn walk_small(log: &[u8], groups: u64, homes: u64, start: u64, n: u64) -> Found
     requires { ⌜ (length (now log) ≡ 64 + 512 * groups) × (4 ≤ groups) × (groups ≤ 64) × (homes ≤ 65535) × (start ≤ 2 ^ 47) × (n ≤ 7 * groups) ⌝ }
     ensures { λ r. ⌜ (r .end ≡ endOf (committed (entryAt (now (log .entry)) groups homes start) (7 * start) n)) × (r .number ≡ length (committed (entryAt (now (log .entry)) groups homes start) (7 * start) n)) ⌝ }
 {
@@ -282,8 +282,9 @@ fn walk_small(log: &[u8], groups: u64, homes: u64, start: u64, n: u64) -> Found
     walk_with(log, &mut counts, groups, homes, start, n)
 }
 
-// The same for any log. Its loop stands here too: a function that only lends the counters would be joined to its callers, and its counters to their stack.
-fn walk_large(log: &[u8], groups: u64, homes: u64, start: u64, n: u64) -> Found
+// The same for any log. It has the loop itself, and each caller chooses between the two: a function that is short, or called at one place, would become a part
+// of its callers, and its counters a part of their stack.
+pub fn walk_large(log: &[u8], groups: u64, homes: u64, start: u64, n: u64) -> Found
     requires { ⌜ (length (now log) ≡ 64 + 512 * groups) × (4 ≤ groups) × (groups ≤ 1024) × (homes ≤ 65535) × (start ≤ 2 ^ 47) × (n ≤ 7 * groups) ⌝ }
     ensures { λ r. ⌜ (r .end ≡ endOf (committed (entryAt (now (log .entry)) groups homes start) (7 * start) n)) × (r .number ≡ length (committed (entryAt (now (log .entry)) groups homes start) (7 * start) n)) ⌝ }
 {
@@ -319,15 +320,4 @@ fn walk_large(log: &[u8], groups: u64, homes: u64, start: u64, n: u64) -> Found
         left -= m as u64;
     }
     result(progress)
-}
-
-// The same with as many counters on the stack as the size of the log asks for.
-pub fn walk(log: &[u8], groups: u64, homes: u64, start: u64, n: u64) -> Found
-    requires { ⌜ (length (now log) ≡ 64 + 512 * groups) × (4 ≤ groups) × (groups ≤ 1024) × (homes ≤ 65535) × (start ≤ 2 ^ 47) × (n ≤ 7 * groups) ⌝ }
-    ensures { λ r. ⌜ (r .end ≡ endOf (committed (entryAt (now (log .entry)) groups homes start) (7 * start) n)) × (r .number ≡ length (committed (entryAt (now (log .entry)) groups homes start) (7 * start) n)) ⌝ }
-{
-    if groups <= 64 {
-        return walk_small(log, groups, homes, start, n);
-    }
-    walk_large(log, groups, homes, start, n)
 }
