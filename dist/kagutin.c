@@ -4694,34 +4694,14 @@ static APART struct scan__commits__Found scan__commits__walk_small(struct slice_
     return scan__commits__walk_with(log, (struct slice_mut_u16){t6.at, 448u}, groups, homes, start, n);
 }
 
-/* The same for any log. Its loop stands here too: a function that only lends the counters would be joined to its callers, and its
-   counters to their stack. */
+/* The same for any log. */
 static APART struct scan__commits__Found scan__commits__walk_large(struct slice_u8 log, uint64_t groups, uint64_t homes,
         uint64_t start, uint64_t n)
 {
     struct array_u16_7168 t6;
-    struct scan__commits__Progress t7;
-    struct scan__slots__RingSlot t8;
-    uint64_t t9, t10, t11, t13;
 
     memset(&t6, 0, sizeof t6);
-    t7 = (struct scan__commits__Progress){.end = 0u, .number = 0u, .failed = 0u};
-    t8 = scan__slots__first_slot(start, groups);
-    t9 = start;
-    t10 = n;
-    while (0u < t10) {
-        t11 = 64u + (512u * t8.slot);
-        t13 = scan__commits__in_group(t10);
-        t7 = scan__commits__visit_group((struct slice_u8){log.ptr + (size_t)t11, (size_t)((t11 + 512u) - t11)}, groups, homes,
-                start, t9, t8.turn, t13, (struct slice_mut_u16){t6.at, 7168u}, t7);
-        if (t7.failed != 0u) {
-            return (struct scan__commits__Found){.end = t7.end, .number = t7.number};
-        }
-        t8 = scan__slots__next_slot(t8, groups);
-        t9 = t9 + 1u;
-        t10 = t10 - t13;
-    }
-    return (struct scan__commits__Found){.end = t7.end, .number = t7.number};
+    return scan__commits__walk_with(log, (struct slice_mut_u16){t6.at, 7168u}, groups, homes, start, n);
 }
 
 /* The same with as many counters on the stack as the size of the log asks for. */

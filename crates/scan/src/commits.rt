@@ -274,7 +274,7 @@ pub fn walk_with(
 }
 
 // The same with counters of its own, for a log of up to 64 groups.
-pub fn walk_small(log: &[u8], groups: u64, homes: u64, start: u64, n: u64) -> Found
+fn walk_small(log: &[u8], groups: u64, homes: u64, start: u64, n: u64) -> Found
     requires { ⌜ (length (now log) ≡ 64 + 512 * groups) × (4 ≤ groups) × (groups ≤ 64) × (homes ≤ 65535) × (start ≤ 2 ^ 47) × (n ≤ 7 * groups) ⌝ }
     ensures { λ r. ⌜ (r .end ≡ endOf (committed (entryAt (now (log .entry)) groups homes start) (7 * start) n)) × (r .number ≡ length (committed (entryAt (now (log .entry)) groups homes start) (7 * start) n)) ⌝ }
 {
@@ -282,42 +282,22 @@ pub fn walk_small(log: &[u8], groups: u64, homes: u64, start: u64, n: u64) -> Fo
     walk_with(log, &mut counts, groups, homes, start, n)
 }
 
-// The same for any log. It has the loop itself, and each caller chooses between the two: a function that is short, or called at one place, would become a part
-// of its callers, and its counters a part of their stack.
-pub fn walk_large(log: &[u8], groups: u64, homes: u64, start: u64, n: u64) -> Found
+// The same for any log.
+fn walk_large(log: &[u8], groups: u64, homes: u64, start: u64, n: u64) -> Found
     requires { ⌜ (length (now log) ≡ 64 + 512 * groups) × (4 ≤ groups) × (groups ≤ 1024) × (homes ≤ 65535) × (start ≤ 2 ^ 47) × (n ≤ 7 * groups) ⌝ }
     ensures { λ r. ⌜ (r .end ≡ endOf (committed (entryAt (now (log .entry)) groups homes start) (7 * start) n)) × (r .number ≡ length (committed (entryAt (now (log .entry)) groups homes start) (7 * start) n)) ⌝ }
 {
     let mut counts = [0u16; 7168];
-    let mut progress = Progress {
-        end: 0,
-        number: 0,
-        failed: 0,
-    };
-    let mut ring = first_slot(start, groups);
-    let mut number = start;
-    let mut left = n;
-    while left > 0 {
-        let from = 64 + 512 * ring.slot as usize;
-        let group = &log[from..from + 512];
-        let m = in_group(left);
-        progress = visit_group(
-            group,
-            groups,
-            homes,
-            start,
-            number,
-            ring.turn,
-            m,
-            &mut counts,
-            progress,
-        );
-        if progress.failed != 0 {
-            return result(progress);
-        }
-        ring = next_slot(ring, groups);
-        number += 1;
-        left -= m as u64;
+    walk_with(log, &mut counts, groups, homes, start, n)
+}
+
+// The same with as many counters on the stack as the size of the log asks for.
+pub fn walk(log: &[u8], groups: u64, homes: u64, start: u64, n: u64) -> Found
+    requires { ⌜ (length (now log) ≡ 64 + 512 * groups) × (4 ≤ groups) × (groups ≤ 1024) × (homes ≤ 65535) × (start ≤ 2 ^ 47) × (n ≤ 7 * groups) ⌝ }
+    ensures { λ r. ⌜ (r .end ≡ endOf (committed (entryAt (now (log .entry)) groups homes start) (7 * start) n)) × (r .number ≡ length (committed (entryAt (now (log .entry)) groups homes start) (7 * start) n)) ⌝ }
+{
+    if groups <= 64 {
+        return walk_small(log, groups, homes, start, n);
     }
-    result(progress)
+    walk_large(log, groups, homes, start, n)
 }

@@ -1,28 +1,11 @@
 // The start that trim moves to.
 use model::State;
-use scan::Found;
 ghost use mathlib.Core.Path.{_≡_};
 ghost use mathlib.Core.List.{[]};
-ghost use Prim.Native.Nat.{_+_, _*_, _^_, _≤_};
-ghost use lib.ListN.{length};
-ghost use Rattle.model.specs.Layout.{entryAt};
-ghost use Rattle.model.specs.Commit.{committed};
-ghost use Rattle.model.proofs.rule.Closings.{endOf};
 ghost use Rattle.model.specs.State.{stateOf};
 ghost use Rattle.model.specs.Effects.{trimStart};
 ghost use Rattle.answers.specs.Lent.{lent};
 ghost use Rattle.answers.proofs.AnswerLaws.{Usable};
-
-// The walk with as many counters on the stack as the size of the log asks for.
-fn walk(log: &[u8], groups: u64, homes: u64, start: u64, n: u64) -> Found
-    requires { ⌜ (length (now log) ≡ 64 + 512 * groups) × (4 ≤ groups) × (groups ≤ 1024) × (homes ≤ 65535) × (start ≤ 2 ^ 47) × (n ≤ 7 * groups) ⌝ }
-    ensures { λ r. ⌜ (r .end ≡ endOf (committed (entryAt (now (log .entry)) groups homes start) (7 * start) n)) × (r .number ≡ length (committed (entryAt (now (log .entry)) groups homes start) (7 * start) n)) ⌝ }
-{
-    if groups <= 64 {
-        return scan::walk_small(log, groups, homes, start, n);
-    }
-    scan::walk_large(log, groups, homes, start, n)
-}
 
 // The highest start up to the settled position that no open or committed transaction lies across. The log is not looked at where open transactions
 // leave no start but its own, or where the highest that they leave lies past all entries.
@@ -39,6 +22,6 @@ pub fn new_start(log: &[u8], area: &[u8], state: &[u8], st: State) -> u64
         return limit;
     }
     let n = next - 7 * st.start;
-    let found = walk(log, st.groups, st.homes, st.start, n);
+    let found = scan::walk(log, st.groups, st.homes, st.start, n);
     limits::closed_limit(log, st.groups, st.homes, st.start, found.end, limit)
 }

@@ -1,13 +1,11 @@
 // The entries of the committed transactions: the walk finds where they end, and every closing entry below that counts its own.
 use model::Tag;
-use scan::Found;
 ghost use mathlib.Core.Path.{_≡_};
 ghost use Prim.Native.Nat.{_+_, _-_, _*_, _^_, _≤_, _<_};
 ghost use lib.ListN.{length};
 ghost use Rattle.model.specs.Tag.{readTag};
 ghost use Rattle.model.specs.Layout.{turnOf, entryIn, entryAt};
-ghost use Rattle.model.specs.Commit.{committed, transactions};
-ghost use Rattle.model.proofs.rule.Closings.{endOf};
+ghost use Rattle.model.specs.Commit.{transactions};
 ghost use Rattle.ledger.specs.Usage.{entriesIn};
 ghost use Rattle.scan.specs.Walk.{Walkable};
 ghost use Rattle.usage.specs.Sums.{addCount, summed};
@@ -79,22 +77,11 @@ fn closed_entries(log: &[u8], groups: u64, homes: u64, start: u64, end: u64) -> 
     sum
 }
 
-// The walk with as many counters on the stack as the size of the log asks for.
-fn walk(log: &[u8], groups: u64, homes: u64, start: u64, n: u64) -> Found
-    requires { ⌜ (length (now log) ≡ 64 + 512 * groups) × (4 ≤ groups) × (groups ≤ 1024) × (homes ≤ 65535) × (start ≤ 2 ^ 47) × (n ≤ 7 * groups) ⌝ }
-    ensures { λ r. ⌜ (r .end ≡ endOf (committed (entryAt (now (log .entry)) groups homes start) (7 * start) n)) × (r .number ≡ length (committed (entryAt (now (log .entry)) groups homes start) (7 * start) n)) ⌝ }
-{
-    if groups <= 64 {
-        return scan::walk_small(log, groups, homes, start, n);
-    }
-    scan::walk_large(log, groups, homes, start, n)
-}
-
 // The entries of the transactions that are committed among the `n` positions of the log from its start on.
 pub fn committed_entries(log: &[u8], groups: u64, homes: u64, start: u64, n: u64) -> u64
     requires { ⌜ (length (now log) ≡ 64 + 512 * groups) × (4 ≤ groups) × (groups ≤ 1024) × (homes ≤ 65535) × (start ≤ 2 ^ 47) × (n ≤ 7 * groups) ⌝ }
     ensures { λ r. ⌜ (r ≡ entriesIn (transactions (entryAt (now (log .entry)) groups homes start) (7 * start) n)) × (r ≤ 2 ^ 13 * 7168) ⌝ }
 {
-    let found = walk(log, groups, homes, start, n);
+    let found = scan::walk(log, groups, homes, start, n);
     closed_entries(log, groups, homes, start, found.end)
 }

@@ -1,174 +1,20 @@
--- `scan::walk_large` meets its contract. The loop's invariant: the pass has taken the first `n - left` positions, and `at` is the ring slot of group
--- `number`, the next one. Assumes nothing.
-use mathlib.Core.Path.{_≡_, refl, sym, _∙_}
-use Prim.Native.Nat.{ℕ, _+_, _-_, _*_, _≤_, _<_}
+-- `scan::walk_large` meets its contract. Assumes nothing.
 use native.Mathlib.Omega.{arith}
-use lib.ListN.{length, length-take, length-drop}
-use Rattle.model.specs.Bytes.{zeros}
-use Rattle.model.specs.Layout.{entryAt}
-use Rattle.scan.specs.Scan.{Scan, fresh, entered, Within}
-use Rattle.scan.specs.Slots.{Kept}
-use Rattle.scan.proofs.PassLaws.{over-start, log-turn}
-use Rattle.scan.proofs.ScanLaws.{within-reached, fresh-within, found, found-stopped, placed}
+use borrow.Author.Needs.{needs}
+use Rattle.scan.proofs.ScanLaws.{zeros-all, zeros-long}
 use Rattle.scan.proofs.commits.walk_large.Statement.{statement}
 use Rattle.scan.proofs.commits.walk_large.Tie as tie
 
-abbrev Inv-loop : tie.InvT-loop
-Inv-loop log groups homes start n counts₀ progress₀ at₀ number₀ left₀ counts progress at number left =
-    (
-    _≡_ {A = Scan} (record { counts = counts; progress = progress })
-    (entered (entryAt log groups homes start) (7 * start) (7 * start) (n - left) (fresh 7168))
-    )
-    × (left ≤ n)
-    × Kept groups number at
-    × (0 < left → 7 * start + (n - left) ≡ 7 * number)
-    × (length counts ≡ 7168)
+slice-aggregate-walk-with : tie.Need-slice-aggregate-walk-with
+slice-aggregate-walk-with c = search needs
 
-abbrev μ-loop : tie.MeasureT-loop
-μ-loop log groups homes start n counts₀ progress₀ at₀ number₀ left₀ counts progress at number left = left
+walk-with-requires : tie.Need-walk-with-requires
+walk-with-requires c κs =
+    let p = c .before .before .pre in
+    (p .0, p .1, omega arith, p .3, p .4, p .5, zeros-long _ 7168 (omega arith), zeros-all 7168)
 
-first-slot-requires : tie.Need-first-slot-requires Inv-loop μ-loop
-first-slot-requires c κs = omega arith
-
-loop-holds : tie.Need-loop-holds Inv-loop μ-loop
-unfolding fresh zeros
-loop-holds c = (over-start _ _ _ _ _, omega arith, c .first-slot .ensures, λ h. omega arith, refl)
-
--- the next group's positions come next, and the numbers of the pass are small
-module _ (c : tie.In-loop Inv-loop μ-loop) where
-  next : 7 * c .before .before .before .before .args .start + (c .before .before .before .before .args .n - c .before .loop .left) ≡ 7 * c .before .loop .number
-  next = c .before .loop .inv .3 (c .loop-test .taken)
-
-  small : Within (7 * c .before .before .before .before .args .start) (7 * c .before .loop .number)
-      (record { counts = c .before .loop .counts; progress = c .before .loop .progress })
-  small = within-reached _ _ _ _ _ _ _ (omega arith) (sym next) (c .before .loop .inv .0) (fresh-within _ _)
-
-mul-from : tie.Need-mul-from Inv-loop μ-loop
-mul-from c = omega arith
-
-add-from : tie.Need-add-from Inv-loop μ-loop
-add-from c = omega arith
-
-add-group : tie.Need-add-group Inv-loop μ-loop
-add-group c = omega arith
-
-sub-group : tie.Need-sub-group Inv-loop μ-loop
-sub-group c = omega arith
-
-part-group-start : tie.Need-part-group-start Inv-loop μ-loop
-part-group-start c = omega arith
-
-part-group-end : tie.Need-part-group-end Inv-loop μ-loop
-part-group-end c = omega arith
-
-in-group-requires : tie.Need-in-group-requires Inv-loop μ-loop
-in-group-requires c κs = tt
-
-slice-aggregate-visit-group : tie.Need-slice-aggregate-visit-group Inv-loop μ-loop
-slice-aggregate-visit-group c = sym (c .before .before .before .before .loop .inv .4)
-
-visit-group-requires : tie.Need-visit-group-requires Inv-loop μ-loop
-visit-group-requires c κs =
-    let l = c .before .before .before in (
-      simp (length-take, length-drop) (omega arith),
-      omega arith,
-      omega arith,
-      omega arith,
-      omega (arith, next l),
-      omega (arith, next l),
-      l .before .loop .inv .2 .turn,
-      omega arith,
-      omega (arith, next l, c .before .in-group .ensures, l .before .loop .inv .4),
-      small l,
-    )
-
--- the pass over the first j positions of the log that was lent
-abbrev pass : tie.Start Inv-loop μ-loop → ℕ → Scan
-pass c j =
-    entered (entryAt (c .args .log .now) (c .args .groups) (c .args .homes) (c .args .start)) (7 * c .args .start) (7 * c .args .start) j (fresh 7168)
-
--- it has taken the group, or what comes before a closing entry that fails, with that
-reached : (c : tie.After-visit-group Inv-loop μ-loop) (j : ℕ)
-    → j ≡ c .before .before .before .before .before .before .before .before .args .n - c .before .before .before .before .before .loop .left
-    + c .visit-group .ensures .taken
-    → _≡_ {A = Scan} (record { counts = c .visit-group .last .1 .1 .1 .1 .1 .1 .1 .0; progress = c .visit-group .result })
-    (pass (c .before .before .before .before .before .before .before .before) j)
-reached c j e =
-    let l = c .before .before .before .before in
-    log-turn _ _ _ _ _ _ _ _ _ _ _ _ _ _ _ (omega (arith, c .visit-group .ensures .most, c .before .before .in-group .ensures)) (next l)
-    (l .before .loop .inv .2 .same) refl e (l .before .loop .inv .0) (c .visit-group .ensures .same)
-
-result-requires : tie.Need-result-requires Inv-loop μ-loop
-result-requires c κs = tt
-
-returns : tie.Need-returns Inv-loop μ-loop
-returns c =
-    let v = c .before .before .before .before in
-    let a = v .before .before .before .before .before .before .before .before .args in
-    let f = found-stopped _ _ _ (a .n) _ (omega arith) (placed _ _ _ _) _ (omega (arith, v .visit-group .ensures .most, v .before .before .in-group .ensures)) (reached v _ refl)
-    (c .before .if1 .taken) in
-    (c .result .ensures .0 ∙ f .0, c .result .ensures .1 ∙ f .1)
-
-next-slot-requires : tie.Need-next-slot-requires Inv-loop μ-loop
-next-slot-requires c κs = omega arith
-
-add-number : tie.Need-add-number Inv-loop μ-loop
-add-number c = omega (arith, next (c .before .before .before .before .before .before .before .before))
-
-sub-left : tie.Need-sub-left Inv-loop μ-loop
-sub-left c = omega arith
-
-loop-less : tie.Need-loop-less Inv-loop μ-loop
-loop-less c =
-    let m = c .before .before .before .before .before .before in
-    omega (arith, m .in-group .ensures, m .before .before .loop-test .taken)
-
-loop-again : tie.Need-loop-again Inv-loop μ-loop
-loop-again c =
-    let v = c .before .before .before .before in
-    let m = v .before .before in
-    let l = m .before .before .before .loop in (
-      reached v _ (omega (arith, m .in-group .ensures, l .inv .1, v .visit-group .ensures .whole (c .before .if1 .left))),
-      omega (arith, l .inv .1),
-      c .next-slot .ensures .1 _ (l .inv .2),
-      λ h. omega (arith, next (m .before .before), m .in-group .ensures, l .inv .1),
-      omega (arith, v .visit-group .kept, l .inv .4),
-    )
-
-result-requires-2 : tie.Need-result-requires-2 Inv-loop μ-loop
-result-requires-2 c κs = tt
-
-returns-2 : tie.Need-returns-2 Inv-loop μ-loop
-returns-2 c =
-    let l = c .before .before .loop in
-    let a = c .before .before .before .before .before .args in
-    let e : a .n - l .left ≡ a .n = omega arith in
-    let f = found _ _ _ _ _ (omega arith) (placed _ _ _ _) (rw e at (l .inv .0)) in
-    (c .result2 .ensures .0 ∙ f .0, c .result2 .ensures .1 ∙ f .1)
+returns : tie.Need-returns
+returns c = search needs
 
 pub walk-large-spec : {M : Type 1} → statement M
-walk-large-spec =
-    tie.close
-    (tie.spec
-    Inv-loop
-    μ-loop
-    first-slot-requires
-    loop-holds
-    mul-from
-    add-from
-    add-group
-    sub-group
-    part-group-start
-    part-group-end
-    in-group-requires
-    slice-aggregate-visit-group
-    visit-group-requires
-    result-requires
-    returns
-    next-slot-requires
-    add-number
-    sub-left
-    loop-less
-    loop-again
-    result-requires-2
-    returns-2)
+walk-large-spec = tie.close (tie.spec slice-aggregate-walk-with walk-with-requires returns)
