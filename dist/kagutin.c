@@ -56,6 +56,11 @@ struct answers__Reply {
     uint64_t size;
 };
 
+struct scan__slots__RingSlot {
+    uint64_t slot;
+    uint64_t turn;
+};
+
 struct array_u8_2 {
     uint8_t at[2];
 };
@@ -66,11 +71,6 @@ struct model__Tag {
     uint64_t u64_1;
     uint64_t u64_2;
     uint64_t u64_3;
-};
-
-struct scan__slots__RingSlot {
-    uint64_t slot;
-    uint64_t turn;
 };
 
 struct positions__commits__Pass {
@@ -107,6 +107,11 @@ struct slice_mut_u16 {
     size_t len;
 };
 
+struct scan__commits__Found {
+    uint64_t end;
+    uint64_t number;
+};
+
 struct slice_mut_u64 {
     uint64_t *ptr;
     size_t len;
@@ -125,41 +130,39 @@ struct array_u16_64 {
     uint16_t at[64];
 };
 
-struct replay__stepping__Reached {
-    uint64_t home;
-    uint64_t done;
-};
-
-struct recovery__planning__Made {
-    uint64_t size;
-    uint64_t next;
-    bool more;
-};
-
-struct recovery__planning__Replay {
+struct planning__tables__Replay {
     uint64_t end;
     uint64_t number;
     uint64_t size;
     uint64_t next;
     bool more;
-    bool found;
 };
 
-struct array_u16_7168 {
-    uint16_t at[7168];
+struct array_u16_448 {
+    uint16_t at[448];
 };
 
 struct array_u16_1024 {
     uint16_t at[1024];
 };
 
-struct scan__commits__Found {
-    uint64_t end;
-    uint64_t number;
+struct array_u16_7168 {
+    uint16_t at[7168];
 };
 
 struct array_u8_32 {
     uint8_t at[32];
+};
+
+struct replay__stepping__Reached {
+    uint64_t home;
+    uint64_t done;
+};
+
+struct planning__steps__Made {
+    uint64_t size;
+    uint64_t next;
+    bool more;
 };
 
 struct model__Holder {
@@ -194,6 +197,12 @@ struct model__Usage {
 #define UNROLL _Pragma("GCC unroll 4")
 #else
 #define UNROLL
+#endif
+
+#if QUICK_C
+#define APART __attribute__((noinline))
+#else
+#define APART
 #endif
 
 /* The number that 2 bytes make, lowest byte first. */
@@ -359,15 +368,6 @@ static inline bool answers__lengths_right(struct slice_u8 log, struct slice_u8 a
     return (uint64_t)state.len == 1024u;
 }
 
-/* Whether nothing is promised to any writer: the eight promises are zero as two words. */
-static inline bool strip__promises__none_promised(struct slice_u8 s)
-{
-    if (load_8(s.ptr + 72u) != 0u) {
-        return false;
-    }
-    return load_8(s.ptr + 80u) == 0u;
-}
-
 /* How far `x` lies above `low`, modulo 2^64: one test of it tells whether `x` lies between `low` and a number above it. */
 static inline uint64_t strip__distances__distance(uint64_t x, uint64_t low)
 {
@@ -381,86 +381,87 @@ static inline uint64_t strip__distances__distance(uint64_t x, uint64_t low)
     return t4;
 }
 
-/* What the numbers of groups and homes, the round and the places filled tell of question 2: 2 if they are not in order, 1 where a
-   round leaves that to `in_order`, else 0. */
-static inline uint64_t strip__quick__groups_answer(struct model__State st, uint64_t groups, uint64_t homes)
+/* Whether the numbers of groups and homes are `groups` and `homes`, and the group numbers and the places filled are in order. */
+static inline bool strip__quick__groups_in_order(struct slice_u8 s, uint64_t groups, uint64_t homes)
 {
-    uint64_t t4;
+    uint64_t t4, t5, t6;
 
-    if (st.round != 0u) {
-        return 1u;
+    if (load_8(s.ptr) != groups) {
+        return false;
     }
-    if (st.groups != groups) {
-        return 2u;
+    if (load_8(s.ptr + 8u) != homes) {
+        return false;
     }
-    if (st.homes != homes) {
-        return 2u;
+    t4 = load_8(s.ptr + 16u);
+    if (UINT64_C(0x800000000000) < t4) {
+        return false;
     }
-    if (UINT64_C(0x800000000000) < st.start) {
-        return 2u;
+    t5 = strip__distances__distance(load_8(s.ptr + 24u), t4);
+    t6 = load_8(s.ptr + 32u);
+    if (t5 < groups) {
+        return t6 <= 6u;
     }
-    t4 = strip__distances__distance(st.next, st.start);
-    if (groups < t4) {
-        return 2u;
+    if (t5 != groups) {
+        return false;
     }
-    if (6u < st.filled) {
-        return 2u;
-    }
-    if ((7u * groups) < ((7u * t4) + st.filled)) {
-        return 2u;
-    }
-    return 0u;
+    return t6 == 0u;
 }
 
-/* Whether the numbers of the strip are in order, where its group numbers, the places filled and the round are. What lies between
-   two others is compared once, by its distance from the lower one. */
-static inline bool strip__order__bounds_in_order(struct model__State st)
+/* Whether the other numbers but the round are in order, where the log has `whole` positions from position `low` to the next
+   group, and `all` with those filled. What lies between two others is compared once, by its distance from the lower one. */
+static inline bool strip__quick__bounds_in_order(struct slice_u8 s, uint64_t low, uint64_t whole, uint64_t all)
 {
-    uint64_t t2, t3, t4, t5, t7;
+    uint64_t t5, t6, t7, t9, t10;
 
-    t2 = 7u * st.start;
-    t3 = 7u * (st.next - st.start);
-    t4 = strip__distances__distance(st.fenced, t2);
-    if (t3 < t4) {
+    t5 = load_8(s.ptr + 48u);
+    t6 = strip__distances__distance(t5, low);
+    if (whole < t6) {
         return false;
     }
-    t5 = strip__distances__distance(st.settled, t2);
-    if (t4 < t5) {
+    t9 = strip__distances__distance(load_8(s.ptr + 40u), low);
+    if (t6 < t9) {
         return false;
     }
-    if (st.fenced < st.durable) {
+    if (t5 < load_8(s.ptr + 56u)) {
         return false;
     }
-    if (st.last == 0u) {
+    t7 = load_8(s.ptr + 64u);
+    if (t7 == 0u) {
         return true;
     }
-    t7 = strip__distances__distance(st.last, t2 + 1u);
-    if ((t3 + st.filled) <= t7) {
+    t10 = strip__distances__distance(t7, low + 1u);
+    return t10 < all;
+}
+
+/* Whether nothing is promised to any writer: the eight promises are zero as two words. */
+static inline bool strip__promises__none_promised(struct slice_u8 s)
+{
+    if (load_8(s.ptr + 72u) != 0u) {
         return false;
     }
-    return true;
+    return load_8(s.ptr + 80u) == 0u;
 }
 
 /* Whether the record of a writer that holds a block for a home below D and has logged entries is in order: the positions since
    its first one are among those of the log, and hold its entries. */
-static inline bool strip__quick__logged_in_order(struct model__State st, struct model__Writer r)
+static inline bool strip__quick__logged_in_order(struct model__State st, uint64_t low, uint64_t all, struct model__Writer r)
 {
-    uint64_t t4, t5, t7;
+    uint64_t t5, t6;
+    (void)st;
 
-    t4 = (7u * (st.next - st.start)) + st.filled;
-    t5 = strip__distances__distance((7u * st.start) + t4, r.first);
-    if (t4 < t5) {
+    t5 = strip__distances__distance(low + all, r.first);
+    if (all < t5) {
         return false;
     }
-    t7 = strip__distances__distance(r.count, 1u);
-    if (t5 <= t7) {
+    t6 = strip__distances__distance(r.count, 1u);
+    if (t5 <= t6) {
         return false;
     }
     return true;
 }
 
 /* Whether a writer's record is in order in a strip whose group numbers and places filled are. */
-static inline bool strip__quick__record_in_order(struct model__State st, struct model__Writer r)
+static inline bool strip__quick__record_in_order(struct model__State st, uint64_t low, uint64_t all, struct model__Writer r)
 {
     if (r.mode < 2u) {
         return true;
@@ -474,55 +475,62 @@ static inline bool strip__quick__record_in_order(struct model__State st, struct 
     if (r.mode != 3u) {
         return false;
     }
-    return strip__quick__logged_in_order(st, r);
+    return strip__quick__logged_in_order(st, low, all, r);
 }
 
 /* Whether the records of all eight writers are in order where nothing is promised: an idle writer is passed by its mode alone. */
-static inline bool strip__quick__records_in_order(struct slice_u8 s, struct model__State st)
+static inline bool strip__quick__records_in_order(struct slice_u8 s, struct model__State st, uint64_t low, uint64_t all)
 {
-    uint64_t t3, t8;
-    bool t4;
+    uint64_t t5, t10;
+    bool t6;
 
-    t3 = 0u;
-    while (t3 != 8u) {
-        t8 = 128u + (96u * t3);
-        t4 = strip__quick__record_in_order(st, (struct model__Writer){.mode = load_8(s.ptr + (size_t)t8), .home = load_8(s.ptr
-                + (size_t)(t8 + 8u)), .first = load_8(s.ptr + (size_t)(t8 + 16u)), .count = load_8(s.ptr + (size_t)(t8 + 24u))});
-        if (!t4) {
+    t5 = 0u;
+    while (t5 != 8u) {
+        t10 = 128u + (96u * t5);
+        t6 = strip__quick__record_in_order(st, low, all, (struct model__Writer){.mode = load_8(s.ptr + (size_t)t10),
+                .home = load_8(s.ptr + (size_t)(t10 + 8u)), .first = load_8(s.ptr + (size_t)(t10 + 16u)), .count = load_8(s.ptr
+                + (size_t)(t10 + 24u))});
+        if (!t6) {
             return false;
         }
-        t3 = t3 + 1u;
+        t5 = t5 + 1u;
     }
     return true;
 }
 
 /* Question 2 for a log of `groups` groups and `homes` homes: 0 if the strip is in order, 2 if it is not, and 1 where a promise or
-   a round leaves that to `in_order`. */
+   a round leaves the rest to `rest_in_order`. */
 static inline uint64_t strip__quick__quick_answer(struct slice_u8 s, uint64_t groups, uint64_t homes)
 {
-    struct model__State t4;
-    uint64_t t5, t9, t10;
-    bool t6, t7;
+    uint64_t t4, t5, t6, t7, t426, t427;
+    bool t8;
 
-    t6 = strip__promises__none_promised(s);
-    if (!t6) {
-        return 1u;
-    }
-    t9 = load_8(s.ptr);
-    t10 = load_8(s.ptr + 8u);
-    t4 = (struct model__State){.groups = t9, .homes = t10, .start = load_8(s.ptr + 16u), .next = load_8(s.ptr + 24u),
-            .filled = load_8(s.ptr + 32u), .settled = load_8(s.ptr + 40u), .fenced = load_8(s.ptr + 48u), .durable = load_8(s.ptr
-            + 56u), .last = load_8(s.ptr + 64u), .round = load_8(s.ptr + 88u), .cursor = load_8(s.ptr + 96u)};
-    t5 = strip__quick__groups_answer(t4, groups, homes);
-    if (t5 != 0u) {
-        return t5;
-    }
-    t7 = strip__order__bounds_in_order(t4);
-    if (!t7) {
+    t8 = strip__quick__groups_in_order(s, groups, homes);
+    if (!t8) {
         return 2u;
     }
-    t7 = strip__quick__records_in_order(s, t4);
-    if (!t7) {
+    t4 = load_8(s.ptr + 16u);
+    t5 = 7u * t4;
+    t6 = 7u * (load_8(s.ptr + 24u) - t4);
+    t7 = t6 + load_8(s.ptr + 32u);
+    t8 = strip__quick__bounds_in_order(s, t5, t6, t7);
+    if (!t8) {
+        return 2u;
+    }
+    if (load_8(s.ptr + 88u) != 0u) {
+        return 1u;
+    }
+    t8 = strip__promises__none_promised(s);
+    if (!t8) {
+        return 1u;
+    }
+    t426 = load_8(s.ptr);
+    t427 = load_8(s.ptr + 8u);
+    t8 = strip__quick__records_in_order(s, (struct model__State){.groups = t426, .homes = t427, .start = load_8(s.ptr + 16u),
+            .next = load_8(s.ptr + 24u), .filled = load_8(s.ptr + 32u), .settled = load_8(s.ptr + 40u), .fenced = load_8(s.ptr
+            + 48u), .durable = load_8(s.ptr + 56u), .last = load_8(s.ptr + 64u), .round = load_8(s.ptr + 88u),
+            .cursor = load_8(s.ptr + 96u)}, t5, t7);
+    if (!t8) {
         return 2u;
     }
     return 0u;
@@ -538,44 +546,6 @@ static inline bool strip__order__round_in_order(struct model__State st)
         return false;
     }
     return (st.round - 1u) <= st.fenced;
-}
-
-/* Whether the numbers of the strip are in order, where its group numbers and the places filled are. */
-static inline bool strip__order__positions_in_order(struct model__State st)
-{
-    bool t2;
-
-    t2 = strip__order__round_in_order(st);
-    if (!t2) {
-        return false;
-    }
-    return strip__order__bounds_in_order(st);
-}
-
-/* Whether the numbers of the strip are in order. */
-static inline bool strip__order__numbers_in_order(struct model__State st)
-{
-    uint64_t t2;
-
-    if (UINT64_C(0x800000000000) < st.start) {
-        return false;
-    }
-    if (st.next < st.start) {
-        return false;
-    }
-    t2 = st.start + st.groups;
-    if (t2 < st.next) {
-        return false;
-    }
-    if (6u < st.filled) {
-        return false;
-    }
-    if (st.next == t2) {
-        if (st.filled != 0u) {
-            return false;
-        }
-    }
-    return strip__order__positions_in_order(st);
 }
 
 /* How many places are promised to the eight writers together, one after the other. */
@@ -675,39 +645,33 @@ static inline bool strip__order__writers_in_order(struct slice_u8 s, struct mode
     return true;
 }
 
-/* Whether the strip is in order for a log of `groups` groups and `homes` homes. */
-static inline bool strip__order__in_order(struct slice_u8 s, uint64_t groups, uint64_t homes)
+/* The rest of question 2 where the numbers but the round are in order: the round, the promises and the writers. */
+static inline bool strip__order__rest_in_order(struct slice_u8 s)
 {
-    struct model__State t4;
-    bool t5;
-    uint64_t t8, t10, t11;
+    struct model__State t2;
+    bool t3;
+    uint64_t t6, t8, t9;
 
-    t10 = load_8(s.ptr);
-    t11 = load_8(s.ptr + 8u);
-    t4 = (struct model__State){.groups = t10, .homes = t11, .start = load_8(s.ptr + 16u), .next = load_8(s.ptr + 24u),
+    t8 = load_8(s.ptr);
+    t9 = load_8(s.ptr + 8u);
+    t2 = (struct model__State){.groups = t8, .homes = t9, .start = load_8(s.ptr + 16u), .next = load_8(s.ptr + 24u),
             .filled = load_8(s.ptr + 32u), .settled = load_8(s.ptr + 40u), .fenced = load_8(s.ptr + 48u), .durable = load_8(s.ptr
             + 56u), .last = load_8(s.ptr + 64u), .round = load_8(s.ptr + 88u), .cursor = load_8(s.ptr + 96u)};
-    if (t4.groups != groups) {
+    t3 = strip__order__round_in_order(t2);
+    if (!t3) {
         return false;
     }
-    if (t4.homes != homes) {
+    t6 = strip__promises__promised(s);
+    if (((7u * (t2.start + t2.groups)) - ((7u * t2.next) + t2.filled)) < t6) {
         return false;
     }
-    t5 = strip__order__numbers_in_order(t4);
-    if (!t5) {
-        return false;
-    }
-    t8 = strip__promises__promised(s);
-    if (((7u * (t4.start + t4.groups)) - ((7u * t4.next) + t4.filled)) < t8) {
-        return false;
-    }
-    return strip__order__writers_in_order(s, t4);
+    return strip__order__writers_in_order(s, t2);
 }
 
 /* Questions 1 and 2: 0 if the lengths are right and the strip is in order, else the number of the refusal. */
 static inline uint64_t answers__in_use(struct slice_u8 log, struct slice_u8 area, struct slice_u8 state)
 {
-    uint64_t t4, t5, t6;
+    uint64_t t4, t6;
     bool t7, t8;
 
     t7 = answers__lengths_right(log, area, state);
@@ -715,12 +679,11 @@ static inline uint64_t answers__in_use(struct slice_u8 log, struct slice_u8 area
         return 1u;
     }
     t4 = areas__lengths__log_groups((uint64_t)log.len);
-    t5 = (uint64_t)area.len / 64u;
-    t6 = strip__quick__quick_answer(state, t4, t5);
+    t6 = strip__quick__quick_answer(state, t4, (uint64_t)area.len / 64u);
     if (t6 != 1u) {
         return t6;
     }
-    t8 = strip__order__in_order(state, t4, t5);
+    t8 = strip__order__rest_in_order(state);
     if (!t8) {
         return 2u;
     }
@@ -924,13 +887,18 @@ static inline uint64_t answers__in_use_newest(struct slice_u8 log, struct slice_
 /* Whether an entry of writer `w` finds a place: one that is promised to it, or one that is promised to nobody. */
 static inline bool strip__promises__room_for(struct slice_u8 s, struct model__State st, uint64_t w)
 {
-    uint64_t t4;
+    bool t4;
+    uint64_t t6;
 
+    t4 = strip__promises__none_promised(s);
+    if (t4) {
+        return st.next < (st.start + st.groups);
+    }
     if (load_2(s.ptr + (size_t)(72u + (2u * w))) != 0u) {
         return true;
     }
-    t4 = strip__promises__promised(s);
-    return t4 < ((7u * (st.start + st.groups)) - ((7u * st.next) + st.filled));
+    t6 = strip__promises__promised_each(s);
+    return t6 < ((7u * (st.start + st.groups)) - ((7u * st.next) + st.filled));
 }
 
 /* Questions 8 and 10 of a call that logs an entry of writer `w`: 0 if the log has room for it, and the batch for the group that
@@ -961,7 +929,7 @@ static inline uint64_t logging__entry__may_log(struct slice_u8 state, uint64_t w
 }
 
 /* The answer of a commit: 0, or the number of the question that refuses it. */
-static inline uint64_t logging__commits__commit_verdict(struct slice_u8 log, struct slice_u8 area, struct slice_u8 state,
+static inline uint64_t commits__commit_verdict(struct slice_u8 log, struct slice_u8 area, struct slice_u8 state,
         struct slice_u8 newest, struct slice_u8 batch, uint64_t writer)
 {
     uint64_t t7, t14;
@@ -987,7 +955,7 @@ static inline uint64_t logging__commits__commit_verdict(struct slice_u8 log, str
 }
 
 /* Ends the transaction of a writer that holds nothing, and gives back the places promised to it. */
-static inline void logging__commits__commit_none(struct slice_mut_u8 state, uint64_t w)
+static inline void commits__commit_none(struct slice_mut_u8 state, uint64_t w)
 {
     writers__abort(state, w);
     store_2(state.ptr + (size_t)(72u + (2u * w)), 0u);
@@ -1038,6 +1006,23 @@ static inline uint64_t logging__entry__closing_word(struct model__State st, stru
     t5 = logging__entry__link_from(position, st);
     t6 = strip__writers__count_for(r);
     return ((((3u | ((r.home & 4095u) << 2u)) | (t4 << 14u)) | (t5 << 27u)) | ((t6 + 1u) << 40u)) | ((r.home >> 12u) << 53u);
+}
+
+/* The same for any group, as the first of a pass: a small machine divides numbers of 64 bits by a library call, and few logs get
+   that far. */
+static inline struct scan__slots__RingSlot scan__slots__first_slot(uint64_t n, uint64_t groups)
+{
+    uint32_t t11, t12;
+
+    if (n <= UINT64_C(0xffffffff)) {
+        if (groups <= UINT64_C(0xffffffff)) {
+            t11 = (uint32_t)n;
+            t12 = (uint32_t)groups;
+            return (struct scan__slots__RingSlot){.slot = (uint64_t)(uint32_t)((uint32_t)t11 % t12),
+                    .turn = (uint64_t)(uint32_t)((uint32_t)(uint32_t)((uint32_t)t11 / t12) % 2u)};
+        }
+    }
+    return (struct scan__slots__RingSlot){.slot = n % groups, .turn = (n / groups) % 2u};
 }
 
 /* Writes the mark of a group at index `at`. */
@@ -1184,7 +1169,8 @@ static inline uint64_t logging__entry__log_entry(struct slice_mut_u8 log, struct
         uint64_t word, uint64_t w)
 {
     struct model__State t6;
-    uint64_t t7, t9, t13, t35, t36;
+    struct scan__slots__RingSlot t7;
+    uint64_t t8, t9, t12, t35, t36;
 
     t35 = load_8(state.ptr);
     t36 = load_8(state.ptr + 8u);
@@ -1192,22 +1178,22 @@ static inline uint64_t logging__entry__log_entry(struct slice_mut_u8 log, struct
             .filled = load_8(state.ptr + 32u), .settled = load_8(state.ptr + 40u), .fenced = load_8(state.ptr + 48u),
             .durable = load_8(state.ptr + 56u), .last = load_8(state.ptr + 64u), .round = load_8(state.ptr + 88u),
             .cursor = load_8(state.ptr + 96u)};
-    t7 = t6.next % t6.groups;
+    t7 = scan__slots__first_slot(t6.next, t6.groups);
+    t8 = t7.slot;
     t9 = (128u + (96u * w)) + 32u;
-    areas__groups__enter(log, t7, (t6.next / t6.groups) % 2u, t6, word, (struct slice_u8){state.ptr + (size_t)t9, (size_t)((t9
-            + 64u) - t9)});
+    areas__groups__enter(log, t8, t7.turn, t6, word, (struct slice_u8){state.ptr + (size_t)t9, (size_t)((t9 + 64u) - t9)});
     if (t6.filled != 6u) {
         store_8(state.ptr + 32u, t6.filled + 1u);
         return 0u;
     }
     store_8(state.ptr + 24u, t6.next + 1u);
     store_8(state.ptr + 32u, 0u);
-    t13 = batch__records__group_write(batch, 0u, t7, (struct slice_u8){log.ptr, log.len});
-    return t13;
+    t12 = batch__records__group_write(batch, 0u, t8, (struct slice_u8){log.ptr, log.len});
+    return t12;
 }
 
 /* Logs the held block as the closing entry and ends the transaction. */
-static inline uint64_t logging__commits__close_held(struct slice_mut_u8 log, struct slice_mut_u8 state, struct slice_mut_u8 batch,
+static inline uint64_t commits__close_held(struct slice_mut_u8 log, struct slice_mut_u8 state, struct slice_mut_u8 batch,
         struct model__State st, struct model__Writer r, uint64_t w)
 {
     uint64_t t7, t8, t9;
@@ -1230,30 +1216,6 @@ static inline bool scan__groups__group_valid(struct slice_u8 group, uint64_t gro
         return false;
     }
     return n < (start + groups);
-}
-
-/* The same for tag `k` of a group, where it is the transaction's entry that does not close it, which is `plain` but for its home,
-   or has another distance back; returns whether it is one of these. Only an entry of the transaction has its block's turn bit
-   looked at. */
-static inline bool positions__words__keep_plain(struct slice_u8 group, uint64_t turn, uint64_t k, uint64_t plain,
-        uint64_t position, uint64_t homes, struct slice_mut_u8 newest)
-{
-    uint64_t t8, t9, t136;
-
-    t8 = load_8(group.ptr + (size_t)(8u + (8u * k)));
-    if (!(((t8 ^ plain) & UINT64_C(0xfc1fffffffffc003)) == 0u)) {
-        return ((t8 ^ plain) & UINT64_C(0x7ffc000)) != 0u;
-    }
-    if (128u <= (uint8_t)((uint32_t)group.ptr[(size_t)((64u + (64u * k)) + 63u)] ^ (uint8_t)((uint32_t)128u * (uint8_t)turn))) {
-        return true;
-    }
-    t136 = t8 ^ plain;
-    t9 = ((t136 >> 2u) + (t136 >> 41u)) % UINT64_C(0x10000);
-    if (homes <= t9) {
-        return false;
-    }
-    store_8(newest.ptr + (size_t)(8u * t9), position);
-    return true;
 }
 
 /* The word of tag `k` of a group if its data block has the turn of the group, else that of no entry. */
@@ -1318,6 +1280,59 @@ static inline void positions__words__keep_word(struct slice_mut_u8 newest, uint6
     } else {
         store_8(newest.ptr + (size_t)(8u * t12.u64_0), position);
     }
+}
+
+/* The same for tag `k` alone, the only one of its transaction. */
+static inline void positions__groups__keep_alone(struct slice_u8 group, uint64_t groups, uint64_t homes, uint64_t start,
+        uint64_t n, uint64_t turn, uint64_t k, struct slice_mut_u8 newest)
+{
+    uint64_t t9, t10;
+    bool t11;
+
+    t11 = scan__groups__group_valid(group, groups, start, n);
+    if (!t11) {
+        return;
+    }
+    t9 = scan__groups__word_there(group, turn, k);
+    t10 = (7u * n) + k;
+    positions__words__keep_word(newest, t9, t10, 7u * start, homes, t10);
+}
+
+/* The same for a transaction of its closing entry alone, at index `k` of the group with number `number`. */
+static inline void positions__commits__keep_one(struct slice_u8 log, uint64_t groups, uint64_t homes, uint64_t start,
+        uint64_t number, uint64_t k, struct slice_mut_u8 newest)
+{
+    struct scan__slots__RingSlot t8;
+    uint64_t t9;
+
+    t8 = scan__slots__first_slot(number, groups);
+    t9 = 64u + (512u * t8.slot);
+    positions__groups__keep_alone((struct slice_u8){log.ptr + (size_t)t9, (size_t)((t9 + 512u) - t9)}, groups, homes, start,
+            number, t8.turn, k, newest);
+}
+
+/* The same for tag `k` of a group, where it is the transaction's entry that does not close it, which is `plain` but for its home,
+   or has another distance back; returns whether it is one of these. Only an entry of the transaction has its block's turn bit
+   looked at. */
+static inline bool positions__words__keep_plain(struct slice_u8 group, uint64_t turn, uint64_t k, uint64_t plain,
+        uint64_t position, uint64_t homes, struct slice_mut_u8 newest)
+{
+    uint64_t t8, t9, t136;
+
+    t8 = load_8(group.ptr + (size_t)(8u + (8u * k)));
+    if (!(((t8 ^ plain) & UINT64_C(0xfc1fffffffffc003)) == 0u)) {
+        return ((t8 ^ plain) & UINT64_C(0x7ffc000)) != 0u;
+    }
+    if (128u <= (uint8_t)((uint32_t)group.ptr[(size_t)((64u + (64u * k)) + 63u)] ^ (uint8_t)((uint32_t)128u * (uint8_t)turn))) {
+        return true;
+    }
+    t136 = t8 ^ plain;
+    t9 = ((t136 >> 2u) + (t136 >> 41u)) % UINT64_C(0x10000);
+    if (homes <= t9) {
+        return false;
+    }
+    store_8(newest.ptr + (size_t)(8u * t9), position);
+    return true;
 }
 
 /* The same for every tag. */
@@ -1447,13 +1462,13 @@ static inline void positions__commits__keep_entries(struct slice_u8 log, uint64_
         uint64_t first, uint64_t closing, struct slice_mut_u8 newest)
 {
     uint64_t t8, t10, t13;
+    struct scan__slots__RingSlot t9, t12;
     struct positions__commits__Pass t11;
-    struct scan__slots__RingSlot t12;
 
     t8 = first / 7u;
+    t9 = scan__slots__first_slot(t8, groups);
     t10 = closing + 1u;
-    t11 = (struct positions__commits__Pass){.number = t8, .at = (struct scan__slots__RingSlot){.slot = t8 % groups,
-            .turn = (t8 / groups) % 2u}, .done = first - (7u * t8)};
+    t11 = (struct positions__commits__Pass){.number = t8, .at = t9, .done = first - (7u * t8)};
     while (((7u * t11.number) + 7u) <= t10) {
         positions__commits__keep_rest(log, groups, homes, start, first, t11, 7u, newest);
         t12 = scan__slots__next_slot(t11.at, groups);
@@ -1466,15 +1481,35 @@ static inline void positions__commits__keep_entries(struct slice_u8 log, uint64_
     positions__commits__keep_rest(log, groups, homes, start, first, t11, t13, newest);
 }
 
-/* Keeps the position of each entry of the transaction that was closed at the next position. */
-static inline void logging__commits__keep_newest(struct slice_u8 log, struct slice_mut_u8 newest, struct model__State st,
+/* Keeps the position of each entry of the transaction that was closed at the next position; where nothing was logged before, that
+   is one position. */
+static inline void commits__keep_newest(struct slice_u8 log, struct slice_mut_u8 newest, struct model__State st,
         struct model__Writer r)
 {
     uint64_t t5, t6;
 
+    if (!(3u <= r.mode)) {
+        positions__commits__keep_one(log, st.groups, st.homes, st.start, st.next, st.filled, newest);
+        return;
+    }
     t5 = (7u * st.next) + st.filled;
     t6 = strip__writers__first_for(r, t5);
     positions__commits__keep_entries(log, st.groups, st.homes, st.start, t6, t5, newest);
+}
+
+/* The same for all four. */
+static inline bool rights__keep__same_listed(struct slice_u8 state, struct slice_u8 newest)
+{
+    if (!(load_8(state.ptr + (size_t)(896u + ((uint64_t)8u * 0u))) == load_8(newest.ptr + (size_t)(64u + ((uint64_t)8u * 0u))))) {
+        return false;
+    }
+    if (!(load_8(state.ptr + (size_t)(896u + ((uint64_t)8u * 1u))) == load_8(newest.ptr + (size_t)(64u + ((uint64_t)8u * 1u))))) {
+        return false;
+    }
+    if (!(load_8(state.ptr + (size_t)(896u + ((uint64_t)8u * 2u))) == load_8(newest.ptr + (size_t)(64u + ((uint64_t)8u * 2u))))) {
+        return false;
+    }
+    return load_8(state.ptr + (size_t)(896u + ((uint64_t)8u * 3u))) == load_8(newest.ptr + (size_t)(64u + ((uint64_t)8u * 3u)));
 }
 
 /* Stores the four positions, and leaves the rest of the strip as it was. */
@@ -1492,30 +1527,274 @@ static inline void strip__listed__carry_listed(struct slice_mut_u8 s, struct sli
     strip__listed__set_listed(s, (struct slice_u8){newest.ptr + 64u, (size_t)((uint64_t)96u - 64u)});
 }
 
-/* The closing entry, with the places promised to the writer given back, the newest positions kept, and those of the list of
-   rights carried over. */
-static inline uint64_t logging__commits__commit_held(struct slice_mut_u8 log, struct slice_mut_u8 state,
-        struct slice_mut_u8 newest, struct slice_mut_u8 batch, struct model__State st, struct model__Writer r, uint64_t w)
+/* The ring place of the position that lies `after` positions behind the log's start. */
+static inline struct shown__ring__RingPlace shown__ring__ring_place(struct model__State st, uint64_t after)
+{
+    uint64_t t3, t4;
+    struct scan__slots__RingSlot t5;
+
+    t3 = (after * 9363u) >> 16u;
+    t4 = st.start + t3;
+    t5 = scan__slots__first_slot(t4, st.groups);
+    return (struct shown__ring__RingPlace){.number = t4, .slot = t5.slot, .turn = t5.turn, .k = after - (7u * t3)};
+}
+
+/* Whether a word says `after` positions behind the log's start that an entry for a home is there, test by test of its fields. */
+static inline bool shown__tags__fields_for(uint64_t word, uint64_t home, uint64_t after)
+{
+    uint64_t t4, t5, t6, t7;
+
+    if (after < ((word >> 14u) % 8192u)) {
+        return false;
+    }
+    t4 = word >> 53u;
+    t5 = home >> 12u;
+    if (t4 != t5) {
+        if (t4 != (t5 + 16u)) {
+            return false;
+        }
+    }
+    t6 = word % 16384u;
+    t7 = (4u * (home % 4096u)) + 1u;
+    if (t6 == t7) {
+        return ((word >> 27u) % UINT64_C(0x4000000)) == 0u;
+    }
+    if (t6 != (t7 + 2u)) {
+        return false;
+    }
+    return 0u < ((word >> 40u) % 8192u);
+}
+
+/* The same. The word of an entry that does not close its transaction and displaced no bit has nothing above the distance back:
+   that and its low bits are all that is compared. */
+static inline bool shown__tags__is_entry_for(uint64_t word, uint64_t home, uint64_t after)
+{
+    if ((word >> 14u) <= after) {
+        return (word % 16384u) == ((4u * home) + 1u);
+    }
+    return shown__tags__fields_for(word, home, after);
+}
+
+/* Whether an entry for a home stands `after` positions behind the log's start, which is at a place of the ring: its group's
+   number is in range. */
+static inline bool shown__entry_there(struct slice_u8 log, struct model__State st, uint64_t home, uint64_t after,
+        struct shown__ring__RingPlace at)
+{
+    uint64_t t6, t8;
+    struct slice_u8 t7;
+    (void)st;
+
+    t6 = 64u + (512u * at.slot);
+    t7 = (struct slice_u8){log.ptr + (size_t)t6, (size_t)((t6 + 512u) - t6)};
+    if (!(load_8(t7.ptr) == (((at.number % UINT64_C(0x1000000000000)) * UINT64_C(0x10000)) + 18256u))) {
+        return false;
+    }
+    t8 = scan__groups__word_there(t7, at.turn, at.k);
+    return shown__tags__is_entry_for(t8, home, after);
+}
+
+/* Where the block of the entry for a home lies in the log, if one is at the position kept for it; else 0. */
+static inline uint64_t shown__place_by(struct slice_u8 log, struct model__State st, uint64_t home, uint64_t position)
+{
+    uint64_t t5, t6;
+    struct shown__ring__RingPlace t7;
+    bool t8;
+
+    t5 = 7u * st.start;
+    if (position < t5) {
+        return 0u;
+    }
+    if (((7u * st.next) + st.filled) <= position) {
+        return 0u;
+    }
+    t6 = position - t5;
+    t7 = shown__ring__ring_place(st, t6);
+    t8 = shown__entry_there(log, st, home, t6, t7);
+    if (!t8) {
+        return 0u;
+    }
+    return (64u + (512u * t7.slot)) + (64u + (64u * t7.k));
+}
+
+/* The same by the strip. Called by one name from everywhere, so that of its numbers only those that are compared are read. */
+static inline uint64_t shown__place(struct slice_u8 log, struct slice_u8 state, uint64_t home, uint64_t position)
+{
+    struct model__State t5;
+    uint64_t t8, t9;
+
+    t8 = load_8(state.ptr);
+    t9 = load_8(state.ptr + 8u);
+    t5 = (struct model__State){.groups = t8, .homes = t9, .start = load_8(state.ptr + 16u), .next = load_8(state.ptr + 24u),
+            .filled = load_8(state.ptr + 32u), .settled = load_8(state.ptr + 40u), .fenced = load_8(state.ptr + 48u),
+            .durable = load_8(state.ptr + 56u), .last = load_8(state.ptr + 64u), .round = load_8(state.ptr + 88u),
+            .cursor = load_8(state.ptr + 96u)};
+    if (t5.homes <= home) {
+        return 0u;
+    }
+    return shown__place_by(log, t5, home, position);
+}
+
+/* Where the block of the list's home 8 + `i` lies in the log, 0 where the data copy has it. */
+static inline uint64_t rights__list__place(struct slice_u8 log, struct slice_u8 state, struct slice_u8 kept, uint64_t from,
+        uint64_t i)
+{
+    return shown__place(log, state, 8u + i, load_8(kept.ptr + (size_t)(from + (8u * i))));
+}
+
+/* Whether the block that the entry with its block at index `place` of the log gives is all zeros: the turn bit is shifted out of
+   its last word, and the bit that it displaced counts instead. */
+static inline bool rights__zeros__zero_entry(struct slice_u8 log, uint64_t place)
+{
+    uint64_t t3, t431, t954;
+
+    t3 = load_8(log.ptr + (size_t)place) | (load_8(log.ptr + (size_t)(place + 8u)) | (load_8(log.ptr + (size_t)(place + 16u))
+            | load_8(log.ptr + (size_t)(place + 24u))));
+    t431 = place + 24u;
+    if ((t3 | (load_8(log.ptr + (size_t)t431) | (load_8(log.ptr + (size_t)(t431 + 8u)) | (load_8(log.ptr + (size_t)(t431 + 16u))
+            | load_8(log.ptr + (size_t)(t431 + 24u)))))) != 0u) {
+        return false;
+    }
+    t954 = place - 64u;
+    return ((load_8(log.ptr + (size_t)(place + 56u)) << 1u) | ((load_8(log.ptr + (size_t)((64u + ((t954 / 512u) * 512u))
+            + ((t954 % 512u) / 8u))) >> 57u) & 1u)) == 0u;
+}
+
+/* Whether block `i` of the list, which has the place `found`, is all zeros. */
+static inline bool rights__list__is_zero(struct slice_u8 log, struct slice_u8 area, uint64_t found, uint64_t i)
+{
+    uint64_t t9, t10, t434;
+
+    if (found == 0u) {
+        t9 = 64u * (8u + i);
+        t10 = load_8(area.ptr + (size_t)t9) | (load_8(area.ptr + (size_t)(t9 + 8u)) | (load_8(area.ptr + (size_t)(t9 + 16u))
+                | load_8(area.ptr + (size_t)(t9 + 24u))));
+        t434 = t9 + 32u;
+        return (t10 | (load_8(area.ptr + (size_t)t434) | (load_8(area.ptr + (size_t)(t434 + 8u)) | (load_8(area.ptr
+                + (size_t)(t434 + 16u)) | load_8(area.ptr + (size_t)(t434 + 24u)))))) == 0u;
+    }
+    return rights__zeros__zero_entry(log, found);
+}
+
+/* The same for block `i`, where block `own` is known to be all zeros. */
+static inline bool rights__list__other_zero(struct slice_u8 log, struct slice_u8 area, struct slice_u8 state,
+        struct slice_u8 kept, uint64_t from, uint64_t own, uint64_t i)
 {
     uint64_t t8;
 
-    t8 = logging__commits__close_held(log, state, batch, st, r, w);
+    if (i == own) {
+        return true;
+    }
+    t8 = rights__list__place(log, state, kept, from, i);
+    return rights__list__is_zero(log, area, t8, i);
+}
+
+/* Whether the whole list is all zeros, where block `own` is. */
+static inline bool rights__list__no_list(struct slice_u8 log, struct slice_u8 area, struct slice_u8 state, struct slice_u8 kept,
+        uint64_t from, uint64_t own)
+{
+    uint64_t t7;
+    bool t8;
+
+    t7 = 0u;
+    while (t7 < 4u) {
+        t8 = rights__list__other_zero(log, area, state, kept, from, own, t7);
+        if (!t8) {
+            return false;
+        }
+        t7 = t7 + 1u;
+    }
+    return true;
+}
+
+/* Whether the whole list is all zeros. */
+static inline bool rights__list__all_zeros(struct slice_u8 log, struct slice_u8 area, struct slice_u8 state, struct slice_u8 kept,
+        uint64_t from)
+{
+    uint64_t t6;
+    bool t7;
+
+    t6 = rights__list__place(log, state, kept, from, 0u);
+    t7 = rights__list__is_zero(log, area, t6, 0u);
+    if (!t7) {
+        return false;
+    }
+    return rights__list__no_list(log, area, state, kept, from, 0u);
+}
+
+/* Sets the sign of the list that the newest positions show. */
+static inline void rights__keep__sign_list(struct slice_u8 log, struct slice_u8 area, struct slice_mut_u8 state,
+        struct slice_u8 newest)
+{
+    bool t5;
+
+    t5 = rights__list__all_zeros(log, area, (struct slice_u8){state.ptr, state.len}, newest, 64u);
+    if (t5) {
+        store_8(state.ptr + 928u, 1u);
+        return;
+    }
+    store_8(state.ptr + 928u, 2u);
+}
+
+/* Keeps the list's part of the strip after a commit that has left log, strip and newest positions. */
+static inline void rights__keep__keep_list(struct slice_u8 log, struct slice_u8 area, struct slice_mut_u8 state,
+        struct slice_u8 newest)
+{
+    uint64_t t5;
+    bool t6;
+
+    t5 = (uint64_t)area.len / 64u;
+    if (t5 < 12u) {
+        return;
+    }
+    t6 = rights__keep__same_listed((struct slice_u8){state.ptr, state.len}, newest);
+    strip__listed__carry_listed(state, newest, t5);
+    if (t6) {
+        return;
+    }
+    rights__keep__sign_list(log, area, state, newest);
+}
+
+/* The closing entry, with the places promised to the writer given back, the newest positions kept, and with them the state
+   strip's part of the list of rights. */
+static inline uint64_t commits__commit_held(struct slice_mut_u8 log, struct slice_u8 area, struct slice_mut_u8 state,
+        struct slice_mut_u8 newest, struct slice_mut_u8 batch, struct model__State st, struct model__Writer r, uint64_t w)
+{
+    uint64_t t9;
+
+    t9 = commits__close_held(log, state, batch, st, r, w);
     store_2(state.ptr + (size_t)(72u + (2u * w)), 0u);
-    logging__commits__keep_newest((struct slice_u8){log.ptr, log.len}, newest, st, r);
-    strip__listed__carry_listed(state, (struct slice_u8){newest.ptr, newest.len}, st.homes);
-    return t8;
+    commits__keep_newest((struct slice_u8){log.ptr, log.len}, newest, st, r);
+    rights__keep__keep_list((struct slice_u8){log.ptr, log.len}, area, state, (struct slice_u8){newest.ptr, newest.len});
+    return t9;
+}
+
+/* The same by the numbers and the record that stand in the strip. */
+static inline uint64_t commits__commit_next(struct slice_mut_u8 log, struct slice_u8 area, struct slice_mut_u8 state,
+        struct slice_mut_u8 newest, struct slice_mut_u8 batch, uint64_t w)
+{
+    uint64_t t22, t23, t1156;
+
+    t22 = load_8(state.ptr);
+    t23 = load_8(state.ptr + 8u);
+    t1156 = 128u + (96u * w);
+    return commits__commit_held(log, area, state, newest, batch, (struct model__State){.groups = t22, .homes = t23,
+            .start = load_8(state.ptr + 16u), .next = load_8(state.ptr + 24u), .filled = load_8(state.ptr + 32u),
+            .settled = load_8(state.ptr + 40u), .fenced = load_8(state.ptr + 48u), .durable = load_8(state.ptr + 56u),
+            .last = load_8(state.ptr + 64u), .round = load_8(state.ptr + 88u), .cursor = load_8(state.ptr + 96u)},
+            (struct model__Writer){.mode = load_8(state.ptr + (size_t)t1156), .home = load_8(state.ptr + (size_t)(t1156 + 8u)),
+            .first = load_8(state.ptr + (size_t)(t1156 + 16u)), .count = load_8(state.ptr + (size_t)(t1156 + 24u))}, w);
 }
 
 /* Commits a writer's open transaction: its held block is logged as the closing entry, whose position + 1 is the ticket, and for
    each home that it wrote the last entry's position is kept. */
-static inline struct answers__Reply logging__commits__commit(struct slice_mut_u8 log, struct slice_u8 area,
-        struct slice_mut_u8 state, struct slice_mut_u8 newest, struct slice_mut_u8 batch, uint64_t writer)
+static inline struct answers__Reply commits__commit(struct slice_mut_u8 log, struct slice_u8 area, struct slice_mut_u8 state,
+        struct slice_mut_u8 newest, struct slice_mut_u8 batch, uint64_t writer)
 {
     uint64_t t7, t8, t12, t41, t463, t464;
     struct model__Writer t9;
     struct model__State t10;
 
-    t7 = logging__commits__commit_verdict((struct slice_u8){log.ptr, log.len}, area, (struct slice_u8){state.ptr, state.len},
+    t7 = commits__commit_verdict((struct slice_u8){log.ptr, log.len}, area, (struct slice_u8){state.ptr, state.len},
             (struct slice_u8){newest.ptr, newest.len}, (struct slice_u8){batch.ptr, batch.len}, writer);
     if (t7 != 0u) {
         return (struct answers__Reply){.code = t7, .figure = 0u, .size = 0u};
@@ -1525,7 +1804,7 @@ static inline struct answers__Reply logging__commits__commit(struct slice_mut_u8
     t9 = (struct model__Writer){.mode = load_8(state.ptr + (size_t)t41), .home = load_8(state.ptr + (size_t)(t41 + 8u)),
             .first = load_8(state.ptr + (size_t)(t41 + 16u)), .count = load_8(state.ptr + (size_t)(t41 + 24u))};
     if (!(2u <= t9.mode)) {
-        logging__commits__commit_none(state, t8);
+        commits__commit_none(state, t8);
         return (struct answers__Reply){.code = 0u, .figure = 0u, .size = 0u};
     }
     t463 = load_8(state.ptr);
@@ -1534,7 +1813,7 @@ static inline struct answers__Reply logging__commits__commit(struct slice_mut_u8
             .filled = load_8(state.ptr + 32u), .settled = load_8(state.ptr + 40u), .fenced = load_8(state.ptr + 48u),
             .durable = load_8(state.ptr + 56u), .last = load_8(state.ptr + 64u), .round = load_8(state.ptr + 88u),
             .cursor = load_8(state.ptr + 96u)};
-    t12 = logging__commits__commit_held(log, state, newest, batch, t10, t9, t8);
+    t12 = commits__commit_next(log, area, state, newest, batch, t8);
     return (struct answers__Reply){.code = 0u, .figure = ((7u * t10.next) + t10.filled) + 1u, .size = t12};
 }
 
@@ -1542,7 +1821,7 @@ static inline struct answers__Reply logging__commits__commit(struct slice_mut_u8
 static inline struct answers__Reply kagutin__kagutin_commit(struct slice_mut_u8 log, struct slice_u8 area,
         struct slice_mut_u8 state, struct slice_mut_u8 newest, struct slice_mut_u8 batch, uint64_t writer)
 {
-    return logging__commits__commit(log, area, state, newest, batch, writer);
+    return commits__commit(log, area, state, newest, batch, writer);
 }
 
 /* Makes the fenced position the durable mark, and returns it: all fences so far have passed. */
@@ -1625,127 +1904,6 @@ static inline bool rights__ranges__of_list(uint64_t home)
         return false;
     }
     return home < 12u;
-}
-
-/* Whether no position is kept for any of the list's homes: the whole list lies in the data copy. */
-static inline bool rights__list__none_kept(struct slice_u8 kept, uint64_t from)
-{
-    if (load_8(kept.ptr + (size_t)from) != UINT64_C(0xffffffffffffffff)) {
-        return false;
-    }
-    if (load_8(kept.ptr + (size_t)(from + 8u)) != UINT64_C(0xffffffffffffffff)) {
-        return false;
-    }
-    if (load_8(kept.ptr + (size_t)(from + 16u)) != UINT64_C(0xffffffffffffffff)) {
-        return false;
-    }
-    return load_8(kept.ptr + (size_t)(from + 24u)) == UINT64_C(0xffffffffffffffff);
-}
-
-/* Whether a word says `after` positions behind the log's start that an entry for a home is there, test by test of its fields. */
-static inline bool shown__tags__fields_for(uint64_t word, uint64_t home, uint64_t after)
-{
-    uint64_t t4, t5, t6, t7;
-
-    if (after < ((word >> 14u) % 8192u)) {
-        return false;
-    }
-    t4 = word >> 53u;
-    t5 = home >> 12u;
-    if (t4 != t5) {
-        if (t4 != (t5 + 16u)) {
-            return false;
-        }
-    }
-    t6 = word % 16384u;
-    t7 = (4u * (home % 4096u)) + 1u;
-    if (t6 == t7) {
-        return ((word >> 27u) % UINT64_C(0x4000000)) == 0u;
-    }
-    if (t6 != (t7 + 2u)) {
-        return false;
-    }
-    return 0u < ((word >> 40u) % 8192u);
-}
-
-/* The same. The word of an entry that does not close its transaction and displaced no bit has nothing above the distance back:
-   that and its low bits are all that is compared. */
-static inline bool shown__tags__is_entry_for(uint64_t word, uint64_t home, uint64_t after)
-{
-    if ((word >> 14u) <= after) {
-        return (word % 16384u) == ((4u * home) + 1u);
-    }
-    return shown__tags__fields_for(word, home, after);
-}
-
-/* Whether an entry for a home stands `after` positions behind the log's start, which is at a place of the ring: its group's
-   number is in range. */
-static inline bool shown__entry_there(struct slice_u8 log, struct model__State st, uint64_t home, uint64_t after,
-        struct shown__ring__RingPlace at)
-{
-    uint64_t t6, t8;
-    struct slice_u8 t7;
-    (void)st;
-
-    t6 = 64u + (512u * at.slot);
-    t7 = (struct slice_u8){log.ptr + (size_t)t6, (size_t)((t6 + 512u) - t6)};
-    if (!(load_8(t7.ptr) == (((at.number % UINT64_C(0x1000000000000)) * UINT64_C(0x10000)) + 18256u))) {
-        return false;
-    }
-    t8 = scan__groups__word_there(t7, at.turn, at.k);
-    return shown__tags__is_entry_for(t8, home, after);
-}
-
-/* Where the block of the entry for a home lies in the log, if one is at the position kept for it; else 0. */
-static inline uint64_t shown__place_by(struct slice_u8 log, struct model__State st, uint64_t home, uint64_t position)
-{
-    uint64_t t5, t6, t20, t21;
-    struct shown__ring__RingPlace t7;
-    bool t8;
-    struct scan__slots__RingSlot t22;
-
-    t5 = 7u * st.start;
-    if (position < t5) {
-        return 0u;
-    }
-    if (((7u * st.next) + st.filled) <= position) {
-        return 0u;
-    }
-    t6 = position - t5;
-    t20 = (t6 * 9363u) >> 16u;
-    t21 = st.start + t20;
-    t22 = (struct scan__slots__RingSlot){.slot = t21 % st.groups, .turn = (t21 / st.groups) % 2u};
-    t7 = (struct shown__ring__RingPlace){.number = t21, .slot = t22.slot, .turn = t22.turn, .k = t6 - (7u * t20)};
-    t8 = shown__entry_there(log, st, home, t6, t7);
-    if (!t8) {
-        return 0u;
-    }
-    return (64u + (512u * t7.slot)) + (64u + (64u * t7.k));
-}
-
-/* The same by the strip. Called by one name from everywhere, so that of its numbers only those that are compared are read. */
-static inline uint64_t shown__place(struct slice_u8 log, struct slice_u8 state, uint64_t home, uint64_t position)
-{
-    struct model__State t5;
-    uint64_t t8, t9;
-
-    t8 = load_8(state.ptr);
-    t9 = load_8(state.ptr + 8u);
-    t5 = (struct model__State){.groups = t8, .homes = t9, .start = load_8(state.ptr + 16u), .next = load_8(state.ptr + 24u),
-            .filled = load_8(state.ptr + 32u), .settled = load_8(state.ptr + 40u), .fenced = load_8(state.ptr + 48u),
-            .durable = load_8(state.ptr + 56u), .last = load_8(state.ptr + 64u), .round = load_8(state.ptr + 88u),
-            .cursor = load_8(state.ptr + 96u)};
-    if (t5.homes <= home) {
-        return 0u;
-    }
-    return shown__place_by(log, t5, home, position);
-}
-
-/* Where the block of the list's home 8 + `i` lies in the log, 0 where the data copy has it. */
-static inline uint64_t rights__list__place(struct slice_u8 log, struct slice_u8 state, struct slice_u8 kept, uint64_t from,
-        uint64_t i)
-{
-    return shown__place(log, state, 8u + i, load_8(kept.ptr + (size_t)(from + (8u * i))));
 }
 
 /* A home less the first of a range, modulo 2^64. */
@@ -1839,89 +1997,42 @@ static inline bool rights__list__own_ranges(struct slice_u8 log, struct slice_u8
     return rights__ranges__in_entry(log, found, at % 64u, home);
 }
 
-/* Whether the block that the entry with its block at index `place` of the log gives is all zeros: the turn bit is shifted out of
-   its last word, and the bit that it displaced counts instead. */
-static inline bool rights__zeros__zero_entry(struct slice_u8 log, uint64_t place)
-{
-    uint64_t t3, t431, t954;
-
-    t3 = load_8(log.ptr + (size_t)place) | (load_8(log.ptr + (size_t)(place + 8u)) | (load_8(log.ptr + (size_t)(place + 16u))
-            | load_8(log.ptr + (size_t)(place + 24u))));
-    t431 = place + 24u;
-    if ((t3 | (load_8(log.ptr + (size_t)t431) | (load_8(log.ptr + (size_t)(t431 + 8u)) | (load_8(log.ptr + (size_t)(t431 + 16u))
-            | load_8(log.ptr + (size_t)(t431 + 24u)))))) != 0u) {
-        return false;
-    }
-    t954 = place - 64u;
-    return ((load_8(log.ptr + (size_t)(place + 56u)) << 1u) | ((load_8(log.ptr + (size_t)((64u + ((t954 / 512u) * 512u))
-            + ((t954 % 512u) / 8u))) >> 57u) & 1u)) == 0u;
-}
-
-/* Whether block `i` of the list, which has the place `found`, is all zeros. */
-static inline bool rights__list__is_zero(struct slice_u8 log, struct slice_u8 area, uint64_t found, uint64_t i)
-{
-    uint64_t t9, t10, t434;
-
-    if (found == 0u) {
-        t9 = 64u * (8u + i);
-        t10 = load_8(area.ptr + (size_t)t9) | (load_8(area.ptr + (size_t)(t9 + 8u)) | (load_8(area.ptr + (size_t)(t9 + 16u))
-                | load_8(area.ptr + (size_t)(t9 + 24u))));
-        t434 = t9 + 32u;
-        return (t10 | (load_8(area.ptr + (size_t)t434) | (load_8(area.ptr + (size_t)(t434 + 8u)) | (load_8(area.ptr
-                + (size_t)(t434 + 16u)) | load_8(area.ptr + (size_t)(t434 + 24u)))))) == 0u;
-    }
-    return rights__zeros__zero_entry(log, found);
-}
-
-/* The same for block `i`, where block `own` is known to be all zeros. */
-static inline bool rights__list__other_zero(struct slice_u8 log, struct slice_u8 area, struct slice_u8 state,
-        struct slice_u8 kept, uint64_t from, uint64_t own, uint64_t i)
+/* Whether the ranges from byte `at` of the list on open a home. */
+static inline bool rights__list__open_listed(struct slice_u8 log, struct slice_u8 area, struct slice_u8 state,
+        struct slice_u8 kept, uint64_t from, uint64_t at, uint64_t home)
 {
     uint64_t t8;
 
-    if (i == own) {
-        return true;
-    }
-    t8 = rights__list__place(log, state, kept, from, i);
-    return rights__list__is_zero(log, area, t8, i);
+    t8 = rights__list__place(log, state, kept, from, at / 64u);
+    return rights__list__own_ranges(log, area, t8, at, home);
 }
 
-/* Whether the whole list is all zeros, where block `own` is. */
-static inline bool rights__list__no_list(struct slice_u8 log, struct slice_u8 area, struct slice_u8 state, struct slice_u8 kept,
-        uint64_t from, uint64_t own)
+/* Whether no position is kept for any of the list's homes: the whole list lies in the data copy. */
+static inline bool rights__list__none_kept(struct slice_u8 kept, uint64_t from)
 {
-    uint64_t t7;
-    bool t8;
-
-    t7 = 0u;
-    while (t7 < 4u) {
-        t8 = rights__list__other_zero(log, area, state, kept, from, own, t7);
-        if (!t8) {
-            return false;
-        }
-        t7 = t7 + 1u;
+    if (load_8(kept.ptr + (size_t)from) != UINT64_C(0xffffffffffffffff)) {
+        return false;
     }
-    return true;
+    if (load_8(kept.ptr + (size_t)(from + 8u)) != UINT64_C(0xffffffffffffffff)) {
+        return false;
+    }
+    if (load_8(kept.ptr + (size_t)(from + 16u)) != UINT64_C(0xffffffffffffffff)) {
+        return false;
+    }
+    return load_8(kept.ptr + (size_t)(from + 24u)) == UINT64_C(0xffffffffffffffff);
 }
 
-/* Whether the ranges from byte `at` of the list on open a home, or there is no list, where a position is kept. The writer's own
-   block is asked first. */
+/* The same, or there is no list, by its blocks alone. The writer's own block is asked first. */
 static inline bool rights__list__open_kept(struct slice_u8 log, struct slice_u8 area, struct slice_u8 state, struct slice_u8 kept,
         uint64_t from, uint64_t at, uint64_t home)
 {
-    uint64_t t8;
-    bool t10, t11;
+    bool t8;
 
-    t8 = rights__list__place(log, state, kept, from, at / 64u);
-    t10 = rights__list__own_ranges(log, area, t8, at, home);
-    if (t10) {
+    t8 = rights__list__open_listed(log, area, state, kept, from, at, home);
+    if (t8) {
         return true;
     }
-    t11 = rights__list__is_zero(log, area, t8, at / 64u);
-    if (!t11) {
-        return false;
-    }
-    return rights__list__no_list(log, area, state, kept, from, at / 64u);
+    return rights__list__all_zeros(log, area, state, kept, from);
 }
 
 /* Whether all four blocks of the list are zeros in the data copy. */
@@ -1957,9 +2068,9 @@ static inline bool rights__list__none_in_copy(struct slice_u8 area)
             + (size_t)(t2961 + 16u)) | load_8(area.ptr + (size_t)(t2961 + 24u)))))) == 0u;
 }
 
-/* Whether the ranges from byte `at` of the list on open a home, or there is no list; D has room for one. */
-static inline bool rights__list__open_to(struct slice_u8 log, struct slice_u8 area, struct slice_u8 state, struct slice_u8 kept,
-        uint64_t from, uint64_t at, uint64_t home)
+/* The same, where the data copy is looked at without the log if no position is kept. */
+static inline bool rights__list__open_unsigned(struct slice_u8 log, struct slice_u8 area, struct slice_u8 state,
+        struct slice_u8 kept, uint64_t from, uint64_t at, uint64_t home)
 {
     bool t8, t10;
 
@@ -1972,6 +2083,23 @@ static inline bool rights__list__open_to(struct slice_u8 log, struct slice_u8 ar
         return true;
     }
     return rights__list__none_in_copy(area);
+}
+
+/* Whether the ranges from byte `at` of the list on open a home, or there is no list; D has room for one. Where its sign says
+   whether there is one, at most the writer's own block is looked up. */
+static inline bool rights__list__open_to(struct slice_u8 log, struct slice_u8 area, struct slice_u8 state, struct slice_u8 kept,
+        uint64_t from, uint64_t at, uint64_t home)
+{
+    uint64_t t8;
+
+    t8 = load_8(state.ptr + 928u);
+    if (t8 == 2u) {
+        return rights__list__open_listed(log, area, state, kept, from, at, home);
+    }
+    if (t8 == 1u) {
+        return true;
+    }
+    return rights__list__open_unsigned(log, area, state, kept, from, at, home);
 }
 
 /* Whether a writer may read a home. The list is found by the newest positions. */
@@ -2155,7 +2283,7 @@ static inline uint64_t search__own__newest_own(struct slice_u8 log, uint64_t gro
 
     t8 = 0u;
     t9 = first / 7u;
-    t10 = (struct scan__slots__RingSlot){.slot = t9 % groups, .turn = (t9 / groups) % 2u};
+    t10 = scan__slots__first_slot(t9, groups);
     t11 = end - (7u * t9);
     while (0u < t11) {
         t12 = 64u + (512u * t10.slot);
@@ -2385,8 +2513,10 @@ static inline void logging__flushes__flush_part(struct slice_u8 log, struct slic
         struct model__State st)
 {
     uint64_t t6, t7;
+    struct scan__slots__RingSlot t8;
 
-    t6 = batch__records__group_write(batch, 0u, st.next % st.groups, log);
+    t8 = scan__slots__first_slot(st.next, st.groups);
+    t6 = batch__records__group_write(batch, 0u, t8.slot, log);
     (void)batch__records__fence(batch, t6);
     t7 = st.next + 1u;
     store_8(state.ptr + 24u, t7);
@@ -2766,8 +2896,9 @@ static inline struct array_u64_7 scan__groups__tag_words(struct slice_u8 group, 
 }
 
 /* Takes the entry at an offset, whose transaction's first entry is at the offset `first`. */
-static inline struct scan__commits__Progress replay__walking__join_entry(struct slice_mut_u16 cells, struct slice_mut_u16 heads,
-        struct slice_mut_u16 links, uint64_t home, uint64_t first, uint64_t offset, struct scan__commits__Progress progress)
+static inline struct scan__commits__Progress gathering__walking__join_entry(struct slice_mut_u16 cells,
+        struct slice_mut_u16 heads, struct slice_mut_u16 links, uint64_t home, uint64_t first, uint64_t offset,
+        struct scan__commits__Progress progress)
 {
     uint16_t t8;
     uint64_t t22;
@@ -2821,9 +2952,9 @@ static inline struct scan__commits__Progress scan__commits__judge(struct scan__c
 }
 
 /* Takes the closing entry at a position: if it is committed, its transaction's cell holds it from now on. */
-static inline struct scan__commits__Progress replay__walking__join_closing(struct slice_mut_u16 cells, struct slice_mut_u16 heads,
-        struct slice_mut_u16 links, uint64_t base, uint64_t position, uint64_t home, uint64_t first, uint64_t link,
-        uint64_t count, struct scan__commits__Progress progress)
+static inline struct scan__commits__Progress gathering__walking__join_closing(struct slice_mut_u16 cells,
+        struct slice_mut_u16 heads, struct slice_mut_u16 links, uint64_t base, uint64_t position, uint64_t home, uint64_t first,
+        uint64_t link, uint64_t count, struct scan__commits__Progress progress)
 {
     uint16_t t11;
     struct scan__commits__Progress t12;
@@ -2846,7 +2977,7 @@ static inline struct scan__commits__Progress replay__walking__join_closing(struc
 }
 
 /* Takes what the word of a tag says at a position, unless the walk has stopped. */
-static inline struct scan__commits__Progress replay__walking__visit(uint64_t word, uint64_t position, uint64_t base,
+static inline struct scan__commits__Progress gathering__walking__visit(uint64_t word, uint64_t position, uint64_t base,
         uint64_t homes, struct slice_mut_u16 cells, struct slice_mut_u16 heads, struct slice_mut_u16 links,
         struct scan__commits__Progress progress)
 {
@@ -2860,18 +2991,18 @@ static inline struct scan__commits__Progress replay__walking__visit(uint64_t wor
     if (t16.tag == 0u) {
         t17 = progress;
     } else if (t16.tag == 1u) {
-        t17 = replay__walking__join_entry(cells, heads, links, t16.u64_0, t16.u64_1 - base, position - base, progress);
+        t17 = gathering__walking__join_entry(cells, heads, links, t16.u64_0, t16.u64_1 - base, position - base, progress);
     } else {
-        t17 = replay__walking__join_closing(cells, heads, links, base, position, t16.u64_0, t16.u64_1 - base, t16.u64_2,
+        t17 = gathering__walking__join_closing(cells, heads, links, base, position, t16.u64_0, t16.u64_1 - base, t16.u64_2,
                 t16.u64_3, progress);
     }
     return t17;
 }
 
 /* Takes the first `m` tags of a group, which says nothing where it is not the valid group with number `n` and turn `turn`. */
-static inline struct scan__commits__Progress replay__walking__visit_group(struct slice_u8 group, uint64_t groups, uint64_t homes,
-        uint64_t start, uint64_t n, uint64_t turn, uint64_t m, struct slice_mut_u16 cells, struct slice_mut_u16 heads,
-        struct slice_mut_u16 links, struct scan__commits__Progress progress)
+static inline struct scan__commits__Progress gathering__walking__visit_group(struct slice_u8 group, uint64_t groups,
+        uint64_t homes, uint64_t start, uint64_t n, uint64_t turn, uint64_t m, struct slice_mut_u16 cells,
+        struct slice_mut_u16 heads, struct slice_mut_u16 links, struct scan__commits__Progress progress)
 {
     struct array_u64_7 t12, t19;
     uint64_t t13, t15, t16;
@@ -2889,7 +3020,7 @@ static inline struct scan__commits__Progress replay__walking__visit_group(struct
     t15 = 7u * n;
     t16 = 0u;
     while (t16 < m) {
-        t14 = replay__walking__visit(t12.at[(size_t)t16], t15, t13, homes, cells, heads, links, t14);
+        t14 = gathering__walking__visit(t12.at[(size_t)t16], t15, t13, homes, cells, heads, links, t14);
         t15 = t15 + 1u;
         t16 = t16 + 1u;
     }
@@ -2897,7 +3028,7 @@ static inline struct scan__commits__Progress replay__walking__visit_group(struct
 }
 
 /* Takes the `n` positions of the log from its start on, group by group, until the walk stops. */
-static inline struct scan__commits__Progress replay__walking__pass(struct slice_u8 log, struct slice_mut_u16 cells,
+static inline struct scan__commits__Progress gathering__walking__pass(struct slice_u8 log, struct slice_mut_u16 cells,
         struct slice_mut_u16 heads, struct slice_mut_u16 links, uint64_t groups, uint64_t homes, uint64_t start, uint64_t n)
 {
     struct scan__commits__Progress t9;
@@ -2905,14 +3036,14 @@ static inline struct scan__commits__Progress replay__walking__pass(struct slice_
     uint64_t t11, t12, t13, t15;
 
     t9 = (struct scan__commits__Progress){.end = 0u, .number = 0u, .failed = 0u};
-    t10 = (struct scan__slots__RingSlot){.slot = start % groups, .turn = (start / groups) % 2u};
+    t10 = scan__slots__first_slot(start, groups);
     t11 = start;
     t12 = n;
     while (0u < t12) {
         t13 = 64u + (512u * t10.slot);
         t15 = scan__commits__in_group(t12);
-        t9 = replay__walking__visit_group((struct slice_u8){log.ptr + (size_t)t13, (size_t)((t13 + 512u) - t13)}, groups, homes,
-                start, t11, t10.turn, t15, cells, heads, links, t9);
+        t9 = gathering__walking__visit_group((struct slice_u8){log.ptr + (size_t)t13, (size_t)((t13 + 512u) - t13)}, groups,
+                homes, start, t11, t10.turn, t15, cells, heads, links, t9);
         if (t9.failed != 0u) {
             return t9;
         }
@@ -2924,7 +3055,7 @@ static inline struct scan__commits__Progress replay__walking__pass(struct slice_
 }
 
 /* The closing entry that a cell holds, 0 for none. */
-static inline uint16_t replay__walking__closer_in(uint16_t cell)
+static inline uint16_t gathering__walking__closer_in(uint16_t cell)
 {
     uint16_t t3;
 
@@ -2937,14 +3068,14 @@ static inline uint16_t replay__walking__closer_in(uint16_t cell)
 }
 
 /* Leaves in the first `n` cells, where all others are 0, only the closing entries, and no counts. */
-static inline void replay__walking__drop_counts(struct slice_mut_u16 cells, uint64_t n)
+static inline void gathering__walking__drop_counts(struct slice_mut_u16 cells, uint64_t n)
 {
     uint64_t t3;
     uint16_t t5;
 
     t3 = 0u;
     while (t3 < n) {
-        t5 = replay__walking__closer_in(cells.ptr[(size_t)t3]);
+        t5 = gathering__walking__closer_in(cells.ptr[(size_t)t3]);
         cells.ptr[(size_t)t3] = t5;
         t3 = t3 + 1u;
     }
@@ -2952,21 +3083,236 @@ static inline void replay__walking__drop_counts(struct slice_mut_u16 cells, uint
 
 /* Walks the `n` positions of the log from its start on with empty tables, and finds where the committed transactions end and how
    many they are, their closing entries and the chains. A log in which an entry comes after its transaction's closing one, as no
-   store writes it, stops the walk with the sign 2, and nothing is found. */
-static inline struct scan__commits__Progress replay__walking__walk(struct slice_u8 log, struct slice_mut_u16 last,
+   store writes it, stops the walk with the sign 2, and nothing is found: it takes two passes. */
+static inline struct scan__commits__Progress gathering__walking__walk(struct slice_u8 log, struct slice_mut_u16 last,
         struct slice_mut_u16 heads, struct slice_mut_u16 links, uint64_t groups, uint64_t homes, uint64_t start, uint64_t n)
 {
     struct scan__commits__Progress t9;
 
-    t9 = replay__walking__pass(log, last, heads, links, groups, homes, start, n);
+    t9 = gathering__walking__pass(log, last, heads, links, groups, homes, start, n);
     if (t9.failed != 2u) {
-        replay__walking__drop_counts(last, n);
+        gathering__walking__drop_counts(last, n);
     }
     return t9;
 }
 
+/* Makes a table empty. */
+static inline void gathering__twice__clear(struct slice_mut_u16 table)
+{
+    uint64_t t2, t3;
+
+    t2 = 0u;
+    t3 = (uint64_t)table.len;
+    while (0u < t3) {
+        table.ptr[(size_t)t2] = 0u;
+        t2 = t2 + 1u;
+        t3 = t3 - 1u;
+    }
+}
+
+/* Takes the word of an entry that does not close its transaction, at index `index` of the log; `above` is the word of an entry
+   for the first home that there is not. */
+static inline struct scan__commits__Progress scan__commits__visit_plain(uint64_t word, uint64_t above, uint64_t base,
+        uint64_t index, struct slice_mut_u16 counts, struct scan__commits__Progress progress)
+{
+    uint64_t t7, t20;
+    (void)base;
+
+    if (!((word & UINT64_C(0x1e0000000003ffd)) < above)) {
+        return progress;
+    }
+    t7 = (word >> 14u) & 8191u;
+    if (index < t7) {
+        return progress;
+    }
+    t20 = index - t7;
+    counts.ptr[(size_t)t20] = (uint16_t)((uint32_t)counts.ptr[(size_t)t20] + 1u);
+    return progress;
+}
+
+/* The same for the word of a closing entry. */
+static inline struct scan__commits__Progress scan__commits__visit_closing(uint64_t word, uint64_t above, uint64_t base,
+        uint64_t index, struct slice_mut_u16 counts, struct scan__commits__Progress progress)
+{
+    uint64_t t7, t8, t24;
+    uint16_t t25;
+
+    if (!((word & UINT64_C(0x1e0000000003ffd)) < above)) {
+        return progress;
+    }
+    t7 = (word >> 14u) & 8191u;
+    if (index < t7) {
+        return progress;
+    }
+    t8 = (word >> 40u) & 8191u;
+    if (t8 == 0u) {
+        return progress;
+    }
+    t24 = index - t7;
+    t25 = (uint16_t)((uint32_t)counts.ptr[(size_t)t24] + 1u);
+    counts.ptr[(size_t)t24] = t25;
+    return scan__commits__judge(progress, base, base + index, (word >> 27u) & 8191u, (uint64_t)t25 == t8);
+}
+
+/* Takes what the word of a tag says at index `index` of the log. */
+static inline struct scan__commits__Progress scan__commits__visit(uint64_t word, uint64_t above, uint64_t base, uint64_t index,
+        struct slice_mut_u16 counts, struct scan__commits__Progress progress)
+{
+    if ((word & UINT64_C(0xfc1ffffff8000003)) == 1u) {
+        return scan__commits__visit_plain(word, above, base, index, counts, progress);
+    }
+    if ((word & UINT64_C(0xfc00000000000003)) == 3u) {
+        return scan__commits__visit_closing(word, above, base, index, counts, progress);
+    }
+    return progress;
+}
+
+/* Takes the first `m` tags of a group, or those up to the first closing entry that fails. The group says nothing where it is not
+   the valid group with number `n` and turn `turn`. */
+static inline struct scan__commits__Progress scan__commits__visit_group(struct slice_u8 group, uint64_t groups, uint64_t homes,
+        uint64_t start, uint64_t n, uint64_t turn, uint64_t m, struct slice_mut_u16 counts,
+        struct scan__commits__Progress progress)
+{
+    uint64_t t10, t11, t12, t14, t19;
+    struct scan__commits__Progress t13;
+    (void)groups;
+
+    if (!(load_8(group.ptr) == (((n % UINT64_C(0x1000000000000)) * UINT64_C(0x10000)) + 18256u))) {
+        return progress;
+    }
+    t10 = ((1u | ((homes & 4095u) << 2u)) | ((uint64_t)0u << 14u)) | ((homes >> 12u) << 53u);
+    t11 = 7u * start;
+    t12 = (7u * n) - t11;
+    t13 = progress;
+    t14 = 0u;
+    while (t14 < m) {
+        t19 = scan__groups__word_there(group, turn, t14);
+        t13 = scan__commits__visit(t19, t10, t11, t12 + t14, counts, t13);
+        if (t13.failed != 0u) {
+            return t13;
+        }
+        t14 = t14 + 1u;
+    }
+    return t13;
+}
+
+/* Walks the `n` positions of the log from its start on, group by group, with empty counters, and finds where the committed
+   transactions end and how many they are. */
+static inline struct scan__commits__Found scan__commits__walk_with(struct slice_u8 log, struct slice_mut_u16 counts,
+        uint64_t groups, uint64_t homes, uint64_t start, uint64_t n)
+{
+    struct scan__commits__Progress t7;
+    struct scan__slots__RingSlot t8;
+    uint64_t t9, t10, t11, t13;
+
+    t7 = (struct scan__commits__Progress){.end = 0u, .number = 0u, .failed = 0u};
+    t8 = scan__slots__first_slot(start, groups);
+    t9 = start;
+    t10 = n;
+    while (0u < t10) {
+        t11 = 64u + (512u * t8.slot);
+        t13 = scan__commits__in_group(t10);
+        t7 = scan__commits__visit_group((struct slice_u8){log.ptr + (size_t)t11, (size_t)((t11 + 512u) - t11)}, groups, homes,
+                start, t9, t8.turn, t13, counts, t7);
+        if (t7.failed != 0u) {
+            return (struct scan__commits__Found){.end = t7.end, .number = t7.number};
+        }
+        t8 = scan__slots__next_slot(t8, groups);
+        t9 = t9 + 1u;
+        t10 = t10 - t13;
+    }
+    return (struct scan__commits__Found){.end = t7.end, .number = t7.number};
+}
+
+/* Takes what the word of a tag says at a position. */
+static inline void gathering__gathering__visit(uint64_t word, uint64_t position, uint64_t base, uint64_t homes,
+        struct slice_mut_u16 last, struct slice_mut_u16 heads, struct slice_mut_u16 links)
+{
+    uint64_t t8, t33, t41;
+    struct model__Tag t13;
+
+    t8 = position - base;
+    t13 = codec__tags__read_tag(word, position, base, homes);
+    if (t13.tag == 0u) {
+    } else if (t13.tag == 1u) {
+        t33 = t13.u64_0 / 64u;
+        links.ptr[(size_t)t8] = heads.ptr[(size_t)t33];
+        heads.ptr[(size_t)t33] = (uint16_t)(t8 + 1u);
+    } else {
+        last.ptr[(size_t)(t13.u64_1 - base)] = (uint16_t)(t8 + 1u);
+        t41 = t13.u64_0 / 64u;
+        links.ptr[(size_t)t8] = heads.ptr[(size_t)t41];
+        heads.ptr[(size_t)t41] = (uint16_t)(t8 + 1u);
+    }
+}
+
+/* Takes the first `m` tags of a group, which says nothing where it is not the valid group with number `n` and turn `turn`. */
+static inline void gathering__gathering__visit_group(struct slice_u8 group, uint64_t groups, uint64_t homes, uint64_t start,
+        uint64_t n, uint64_t turn, uint64_t m, struct slice_mut_u16 last, struct slice_mut_u16 heads, struct slice_mut_u16 links)
+{
+    struct array_u64_7 t11, t17;
+    uint64_t t12, t13, t14;
+    bool t15;
+
+    t15 = scan__groups__group_valid(group, groups, start, n);
+    if (!t15) {
+        return;
+    }
+    t17 = scan__groups__tag_words(group, turn);
+    t11 = t17;
+    t12 = 7u * start;
+    t13 = 7u * n;
+    t14 = 0u;
+    while (t14 < m) {
+        gathering__gathering__visit(t11.at[(size_t)t14], t13, t12, homes, last, heads, links);
+        t13 = t13 + 1u;
+        t14 = t14 + 1u;
+    }
+}
+
+/* Finds in empty tables the last closing entries and the chains of all entries below `end`. */
+static inline void gathering__gathering__gather(struct slice_u8 log, struct slice_mut_u16 last, struct slice_mut_u16 heads,
+        struct slice_mut_u16 links, uint64_t groups, uint64_t homes, uint64_t start, uint64_t end)
+{
+    uint64_t t9, t10, t11, t13, t15;
+    struct scan__slots__RingSlot t12;
+
+    t9 = 7u * start;
+    if (end <= t9) {
+        return;
+    }
+    t10 = end - t9;
+    t11 = start;
+    t12 = scan__slots__first_slot(start, groups);
+    while (0u < t10) {
+        t13 = 64u + (512u * t12.slot);
+        t15 = scan__commits__in_group(t10);
+        gathering__gathering__visit_group((struct slice_u8){log.ptr + (size_t)t13, (size_t)((t13 + 512u) - t13)}, groups, homes,
+                start, t11, t12.turn, t15, last, heads, links);
+        t12 = scan__slots__next_slot(t12, groups);
+        t11 = t11 + 1u;
+        t10 = t10 - t15;
+    }
+}
+
+/* Walks the `n` positions of the log from its start on in two passes with tables that may hold anything; the first counts entries
+   in `last`. */
+static inline struct scan__commits__Progress gathering__twice__walk_twice(struct slice_u8 log, struct slice_mut_u16 last,
+        struct slice_mut_u16 heads, struct slice_mut_u16 links, uint64_t groups, uint64_t homes, uint64_t start, uint64_t n)
+{
+    struct scan__commits__Found t9;
+
+    gathering__twice__clear(last);
+    t9 = scan__commits__walk_with(log, last, groups, homes, start, n);
+    gathering__twice__clear(last);
+    gathering__twice__clear(heads);
+    gathering__twice__clear(links);
+    gathering__gathering__gather(log, last, heads, links, groups, homes, start, t9.end);
+    return (struct scan__commits__Progress){.end = t9.end, .number = t9.number, .failed = 0u};
+}
+
 /* The lesser of two numbers. */
-static inline uint64_t recovery__planning__least(uint64_t a, uint64_t b)
+static inline uint64_t planning__whole__least(uint64_t a, uint64_t b)
 {
     uint64_t t4;
 
@@ -3104,7 +3450,7 @@ static inline uint64_t replay__words__count(struct slice_u8 log, struct slice_u1
     uint64_t t9, t10, t11, t12, t17;
     struct scan__slots__RingSlot t13;
 
-    t13 = (struct scan__slots__RingSlot){.slot = start % groups, .turn = (start / groups) % 2u};
+    t13 = scan__slots__first_slot(start, groups);
     t9 = t13.slot;
     t10 = (homes + 63u) / 64u;
     t11 = 0u;
@@ -3194,7 +3540,7 @@ static inline uint64_t replay__restore__bring_back(struct slice_u8 log, struct s
     uint64_t t11, t12, t13, t14;
     struct scan__slots__RingSlot t15;
 
-    t15 = (struct scan__slots__RingSlot){.slot = start % groups, .turn = (start / groups) % 2u};
+    t15 = scan__slots__first_slot(start, groups);
     t11 = t15.slot;
     t12 = (homes + 63u) / 64u;
     t13 = 0u;
@@ -3208,482 +3554,85 @@ static inline uint64_t replay__restore__bring_back(struct slice_u8 log, struct s
 
 /* Returns how many bytes the records of the homes that the transactions of all closing entries below `end` touch take, and
    `more`. If the batch has them, those transactions are replayed into the data copy, and the homes' records stand at the batch's
-   beginning; else nothing is changed, so the homes are counted first. */
-static inline uint64_t recovery__planning__bring_counted(struct slice_u8 log, struct slice_mut_u8 area, struct slice_mut_u8 batch,
+   beginning; else nothing is changed. The homes are counted first only where the batch may have no room: not for all homes, nor
+   for as many as there can be entries. */
+static inline uint64_t planning__whole__bring_all(struct slice_u8 log, struct slice_mut_u8 area, struct slice_mut_u8 batch,
         struct slice_u16 last, struct slice_u16 heads, struct slice_u16 links, uint64_t groups, uint64_t homes, uint64_t start,
         uint64_t end, uint64_t more)
 {
-    uint64_t t12, t13, t15;
+    uint64_t t12, t13, t14, t16, t21;
 
-    t12 = replay__words__count(log, last, heads, links, groups, homes, start, end);
-    t13 = (68u * t12) + more;
-    t15 = (uint64_t)batch.len;
-    if (t15 < t13) {
-        return t13;
+    t12 = (uint64_t)batch.len;
+    t16 = planning__whole__least(homes, 7u * groups);
+    if (t12 < ((68u * t16) + more)) {
+        t21 = replay__words__count(log, last, heads, links, groups, homes, start, end);
+        t13 = (68u * t21) + more;
+        if (t12 < t13) {
+            return t13;
+        }
     }
-    t15 = replay__restore__bring_back(log, area, batch, last, heads, links, groups, homes, start, end);
-    return t13;
+    t14 = replay__restore__bring_back(log, area, batch, last, heads, links, groups, homes, start, end);
+    return t14 + more;
 }
 
-/* The same without the count where the batch has room for all homes, or for as many as there can be entries. */
-static inline uint64_t recovery__planning__bring_all(struct slice_u8 log, struct slice_mut_u8 area, struct slice_mut_u8 batch,
-        struct slice_u16 last, struct slice_u16 heads, struct slice_u16 links, uint64_t groups, uint64_t homes, uint64_t start,
-        uint64_t end, uint64_t more)
+/* Finds what is committed among the `n` positions from the start on, and brings it back: all homes where `limit` is 0, else at
+   most `limit` from the cursor on. For a log of up to 64 groups. */
+static APART struct planning__tables__Replay planning__tables__bring_small_0(struct slice_u8 log, struct slice_mut_u8 area,
+        struct slice_mut_u8 batch, uint64_t groups, uint64_t homes, uint64_t start, uint64_t n, uint64_t cursor, uint64_t more)
 {
-    uint64_t t12, t15;
+    struct array_u16_448 t11, t13;
+    struct array_u16_1024 t12;
+    struct scan__commits__Progress t14;
+    uint64_t t15, t16;
 
-    t15 = recovery__planning__least(homes, 7u * groups);
-    if ((uint64_t)batch.len < ((68u * t15) + more)) {
-        return recovery__planning__bring_counted(log, area, batch, last, heads, links, groups, homes, start, end, more);
-    }
-    t12 = replay__restore__bring_back(log, area, batch, last, heads, links, groups, homes, start, end);
-    return t12 + more;
-}
-
-/* The end of the homes of the word that a home is in, or of all homes. */
-static inline uint64_t replay__stepping__word_end(uint64_t home, uint64_t homes)
-{
-    uint64_t t3, t7;
-
-    t3 = (64u * (home / 64u)) + 64u;
-    if (t3 < homes) {
-        t7 = t3;
-    } else {
-        t7 = homes;
-    }
-    return t7;
-}
-
-/* 1 if a code of the table says that its home has a newest entry, 0 if not. */
-static inline uint64_t replay__stepping__one_if(uint16_t code)
-{
-    uint64_t t3;
-
-    if (code == 0u) {
-        t3 = 0u;
-    } else {
-        t3 = 1u;
-    }
-    return t3;
-}
-
-/* How many of the homes from `from` to below `upto`, all of word `w`, are touched. */
-static inline uint64_t replay__stepping__count_part(struct slice_u8 log, struct slice_u16 last, struct slice_u16 heads,
-        struct slice_u16 links, uint64_t w, uint64_t from, uint64_t upto, uint64_t groups, uint64_t homes, uint64_t start,
-        uint64_t end, uint64_t slot)
-{
-    struct array_u16_64 t13;
-    uint64_t t14, t15, t16, t21, t25;
-
-    if (heads.ptr[(size_t)w] == 0u) {
-        return 0u;
-    }
+    memset(&t11, 0, sizeof t11);
+    memset(&t12, 0, sizeof t12);
     memset(&t13, 0, sizeof t13);
-    t21 = replay__words__newest_in(log, last, heads, links, (struct slice_mut_u16){t13.at, 64u}, w, groups, homes, start, end,
-            slot);
-    t21 = w;
-    t14 = 64u * t21;
-    t15 = 0u;
-    t16 = from;
-    while (t16 < upto) {
-        t25 = replay__stepping__one_if(t13.at[(size_t)(t16 - t14)]);
-        t15 = t15 + t25;
-        t16 = t16 + 1u;
+    t14 = gathering__walking__walk(log, (struct slice_mut_u16){t11.at, 448u}, (struct slice_mut_u16){t12.at, 1024u},
+            (struct slice_mut_u16){t13.at, 448u}, groups, homes, start, n);
+    if (t14.failed == 2u) {
+        t14 = gathering__twice__walk_twice(log, (struct slice_mut_u16){t11.at, 448u}, (struct slice_mut_u16){t12.at, 1024u},
+                (struct slice_mut_u16){t13.at, 448u}, groups, homes, start, n);
     }
-    return t15;
+    t15 = t14.end;
+    t16 = planning__whole__bring_all(log, area, batch, (struct slice_u16){t11.at, 448u}, (struct slice_u16){t12.at, 1024u},
+            (struct slice_u16){t13.at, 448u}, groups, homes, start, t15, more);
+    return (struct planning__tables__Replay){.end = t15, .number = t14.number, .size = t16, .next = cursor, .more = false};
 }
 
-/* How many homes from the cursor on the transactions of all closing entries below `end` touch, if they are at most `limit`; else
-   more than that. */
-static inline uint64_t replay__stepping__count_from(struct slice_u8 log, struct slice_u16 last, struct slice_u16 heads,
-        struct slice_u16 links, uint64_t groups, uint64_t homes, uint64_t start, uint64_t end, uint64_t cursor, uint64_t limit)
-{
-    uint64_t t11, t12, t13, t14, t17;
-    struct scan__slots__RingSlot t15;
-
-    t15 = (struct scan__slots__RingSlot){.slot = start % groups, .turn = (start / groups) % 2u};
-    t11 = t15.slot;
-    t12 = 0u;
-    t13 = cursor;
-    while (t13 < homes) {
-        if (limit < t12) {
-            return t12;
-        }
-        t14 = replay__stepping__word_end(t13, homes);
-        t17 = replay__stepping__count_part(log, last, heads, links, t13 / 64u, t13, t14, groups, homes, start, end, t11);
-        t12 = t12 + t17;
-        t13 = t14;
-    }
-    return t12;
-}
-
-/* The bytes of the last step's fence, if the homes found are within the limit. */
-static inline uint64_t recovery__planning__fence_size(uint64_t found, uint64_t limit)
-{
-    uint64_t t4;
-
-    if (limit < found) {
-        t4 = 0u;
-    } else {
-        t4 = 2u;
-    }
-    return t4;
-}
-
-/* Brings a home back whose newest entry is said by a code of the table, and writes its record as the one after `done` others;
-   returns how many it then are. A code of 0 leaves all as it is. */
-static inline uint64_t replay__stepping__bring_home(struct slice_u8 log, struct slice_mut_u8 area, struct slice_mut_u8 batch,
-        uint16_t code, uint64_t groups, uint64_t start, uint64_t slot, uint64_t home, uint64_t done)
-{
-    if (code == 0u) {
-        return done;
-    }
-    replay__places__restore_block(log, area, groups, start, slot, (uint64_t)code - 1u, home);
-    (void)batch__records__home_write(batch, 68u * done, home, (struct slice_u8){area.ptr, area.len});
-    return done + 1u;
-}
-
-/* Brings the touched homes from `from` to below `upto` back, all of word `w`, until `limit` are done in all. */
-static inline struct replay__stepping__Reached replay__stepping__bring_part(struct slice_u8 log, struct slice_mut_u8 area,
-        struct slice_mut_u8 batch, struct slice_u16 last, struct slice_u16 heads, struct slice_u16 links, uint64_t w,
-        uint64_t from, uint64_t upto, uint64_t groups, uint64_t homes, uint64_t start, uint64_t end, uint64_t slot, uint64_t done,
-        uint64_t limit)
-{
-    struct array_u16_64 t17;
-    uint64_t t18, t19, t20, t26;
-
-    if (heads.ptr[(size_t)w] == 0u) {
-        return (struct replay__stepping__Reached){.home = upto, .done = done};
-    }
-    memset(&t17, 0, sizeof t17);
-    t26 = replay__words__newest_in(log, last, heads, links, (struct slice_mut_u16){t17.at, 64u}, w, groups, homes, start, end,
-            slot);
-    t26 = w;
-    t18 = 64u * t26;
-    t19 = done;
-    t20 = from;
-    while (t20 < upto) {
-        if (t19 == limit) {
-            return (struct replay__stepping__Reached){.home = t20, .done = t19};
-        }
-        t19 = replay__stepping__bring_home(log, area, batch, t17.at[(size_t)(t20 - t18)], groups, start, slot, t20, t19);
-        t20 = t20 + 1u;
-    }
-    return (struct replay__stepping__Reached){.home = t20, .done = t19};
-}
-
-/* Brings the first `limit` touched homes from the cursor on back into the data copy, and writes their records at the batch's
-   beginning; returns the home after the last of them, if there is one. */
-static inline uint64_t replay__stepping__bring_from(struct slice_u8 log, struct slice_mut_u8 area, struct slice_mut_u8 batch,
-        struct slice_u16 last, struct slice_u16 heads, struct slice_u16 links, uint64_t groups, uint64_t homes, uint64_t start,
-        uint64_t end, uint64_t cursor, uint64_t limit)
-{
-    uint64_t t13, t14, t15, t16;
-    struct replay__stepping__Reached t17;
-    struct scan__slots__RingSlot t18;
-
-    t18 = (struct scan__slots__RingSlot){.slot = start % groups, .turn = (start / groups) % 2u};
-    t13 = t18.slot;
-    t14 = 0u;
-    t15 = cursor;
-    while (t15 < homes) {
-        if (t14 == limit) {
-            return t15;
-        }
-        t16 = replay__stepping__word_end(t15, homes);
-        t17 = replay__stepping__bring_part(log, area, batch, last, heads, links, t15 / 64u, t15, t16, groups, homes, start, end,
-                t13, t14, limit);
-        t14 = t17.done;
-        t15 = t17.home;
-    }
-    return t15;
-}
-
-/* Finds the bytes that a step of at most `limit` homes from the cursor on takes. If the batch has them, those homes are brought
-   back into the data copy, and their records stand at the batch's beginning. */
-static inline struct recovery__planning__Made recovery__planning__bring_some(struct slice_u8 log, struct slice_mut_u8 area,
-        struct slice_mut_u8 batch, struct slice_u16 last, struct slice_u16 heads, struct slice_u16 links, uint64_t groups,
-        uint64_t homes, uint64_t start, uint64_t end, uint64_t cursor, uint64_t limit)
-{
-    uint64_t t13, t14, t15, t17, t19;
-    bool t16;
-
-    t13 = replay__stepping__count_from(log, last, heads, links, groups, homes, start, end, cursor, limit);
-    t14 = recovery__planning__least(t13, limit);
-    t19 = recovery__planning__fence_size(t13, limit);
-    t15 = (68u * t14) + t19;
-    t16 = limit < t13;
-    if ((uint64_t)batch.len < t15) {
-        return (struct recovery__planning__Made){.size = t15, .next = cursor, .more = t16};
-    }
-    t17 = replay__stepping__bring_from(log, area, batch, last, heads, links, groups, homes, start, end, cursor, t14);
-    return (struct recovery__planning__Made){.size = t15, .next = t17, .more = t16};
-}
-
-/* Either of these: all homes where `limit` is 0. */
-static inline struct recovery__planning__Made recovery__planning__bring(struct slice_u8 log, struct slice_mut_u8 area,
-        struct slice_mut_u8 batch, struct slice_u16 last, struct slice_u16 heads, struct slice_u16 links, uint64_t groups,
-        uint64_t homes, uint64_t start, uint64_t end, uint64_t cursor, uint64_t limit, uint64_t more)
-{
-    uint64_t t14;
-
-    if (limit == 0u) {
-        t14 = recovery__planning__bring_all(log, area, batch, last, heads, links, groups, homes, start, end, more);
-        return (struct recovery__planning__Made){.size = t14, .next = cursor, .more = false};
-    }
-    return recovery__planning__bring_some(log, area, batch, last, heads, links, groups, homes, start, end, cursor, limit);
-}
-
-/* The same by tables of its own, where one pass over the `n` positions from the start on finds what is committed and chains it.
-   This and the next serve several calls each, so they stay functions, and the stack has the tables of one of them. */
-static inline struct recovery__planning__Replay recovery__planning__bring_once(struct slice_u8 log, struct slice_mut_u8 area,
-        struct slice_mut_u8 batch, uint64_t groups, uint64_t homes, uint64_t start, uint64_t n, uint64_t cursor, uint64_t limit,
-        uint64_t more)
+/* The same for any log. Both serve two calls each, and so stay functions of their own: a small log never takes the large tables.
+   */
+static APART struct planning__tables__Replay planning__tables__bring_large_0(struct slice_u8 log, struct slice_mut_u8 area,
+        struct slice_mut_u8 batch, uint64_t groups, uint64_t homes, uint64_t start, uint64_t n, uint64_t cursor, uint64_t more)
 {
     struct array_u16_7168 t11, t13;
     struct array_u16_1024 t12;
     struct scan__commits__Progress t14;
-    uint64_t t15;
-    struct recovery__planning__Made t16;
+    uint64_t t15, t16;
 
     memset(&t11, 0, sizeof t11);
     memset(&t12, 0, sizeof t12);
     memset(&t13, 0, sizeof t13);
-    t14 = replay__walking__walk(log, (struct slice_mut_u16){t11.at, 7168u}, (struct slice_mut_u16){t12.at, 1024u},
+    t14 = gathering__walking__walk(log, (struct slice_mut_u16){t11.at, 7168u}, (struct slice_mut_u16){t12.at, 1024u},
             (struct slice_mut_u16){t13.at, 7168u}, groups, homes, start, n);
     if (t14.failed == 2u) {
-        return (struct recovery__planning__Replay){.end = 0u, .number = 0u, .size = 0u, .next = 0u, .more = false,
-                .found = false};
+        t14 = gathering__twice__walk_twice(log, (struct slice_mut_u16){t11.at, 7168u}, (struct slice_mut_u16){t12.at, 1024u},
+                (struct slice_mut_u16){t13.at, 7168u}, groups, homes, start, n);
     }
     t15 = t14.end;
-    t16 = recovery__planning__bring(log, area, batch, (struct slice_u16){t11.at, 7168u}, (struct slice_u16){t12.at, 1024u},
-            (struct slice_u16){t13.at, 7168u}, groups, homes, start, t15, cursor, limit, more);
-    return (struct recovery__planning__Replay){.end = t15, .number = t14.number, .size = t16.size, .next = t16.next,
-            .more = t16.more, .found = true};
-}
-
-/* Takes the word of an entry that does not close its transaction, at index `index` of the log; `above` is the word of an entry
-   for the first home that there is not. */
-static inline struct scan__commits__Progress scan__commits__visit_plain(uint64_t word, uint64_t above, uint64_t base,
-        uint64_t index, struct slice_mut_u16 counts, struct scan__commits__Progress progress)
-{
-    uint64_t t7, t20;
-    (void)base;
-
-    if (!((word & UINT64_C(0x1e0000000003ffd)) < above)) {
-        return progress;
-    }
-    t7 = (word >> 14u) & 8191u;
-    if (index < t7) {
-        return progress;
-    }
-    t20 = index - t7;
-    counts.ptr[(size_t)t20] = (uint16_t)((uint32_t)counts.ptr[(size_t)t20] + 1u);
-    return progress;
-}
-
-/* The same for the word of a closing entry. */
-static inline struct scan__commits__Progress scan__commits__visit_closing(uint64_t word, uint64_t above, uint64_t base,
-        uint64_t index, struct slice_mut_u16 counts, struct scan__commits__Progress progress)
-{
-    uint64_t t7, t8, t24;
-    uint16_t t25;
-
-    if (!((word & UINT64_C(0x1e0000000003ffd)) < above)) {
-        return progress;
-    }
-    t7 = (word >> 14u) & 8191u;
-    if (index < t7) {
-        return progress;
-    }
-    t8 = (word >> 40u) & 8191u;
-    if (t8 == 0u) {
-        return progress;
-    }
-    t24 = index - t7;
-    t25 = (uint16_t)((uint32_t)counts.ptr[(size_t)t24] + 1u);
-    counts.ptr[(size_t)t24] = t25;
-    return scan__commits__judge(progress, base, base + index, (word >> 27u) & 8191u, (uint64_t)t25 == t8);
-}
-
-/* Takes what the word of a tag says at index `index` of the log. */
-static inline struct scan__commits__Progress scan__commits__visit(uint64_t word, uint64_t above, uint64_t base, uint64_t index,
-        struct slice_mut_u16 counts, struct scan__commits__Progress progress)
-{
-    if ((word & UINT64_C(0xfc1ffffff8000003)) == 1u) {
-        return scan__commits__visit_plain(word, above, base, index, counts, progress);
-    }
-    if ((word & UINT64_C(0xfc00000000000003)) == 3u) {
-        return scan__commits__visit_closing(word, above, base, index, counts, progress);
-    }
-    return progress;
-}
-
-/* Takes the first `m` tags of a group, or those up to the first closing entry that fails. The group says nothing where it is not
-   the valid group with number `n` and turn `turn`. */
-static inline struct scan__commits__Progress scan__commits__visit_group(struct slice_u8 group, uint64_t groups, uint64_t homes,
-        uint64_t start, uint64_t n, uint64_t turn, uint64_t m, struct slice_mut_u16 counts,
-        struct scan__commits__Progress progress)
-{
-    uint64_t t10, t11, t12, t14, t19;
-    struct scan__commits__Progress t13;
-    (void)groups;
-
-    if (!(load_8(group.ptr) == (((n % UINT64_C(0x1000000000000)) * UINT64_C(0x10000)) + 18256u))) {
-        return progress;
-    }
-    t10 = ((1u | ((homes & 4095u) << 2u)) | ((uint64_t)0u << 14u)) | ((homes >> 12u) << 53u);
-    t11 = 7u * start;
-    t12 = (7u * n) - t11;
-    t13 = progress;
-    t14 = 0u;
-    while (t14 < m) {
-        t19 = scan__groups__word_there(group, turn, t14);
-        t13 = scan__commits__visit(t19, t10, t11, t12 + t14, counts, t13);
-        if (t13.failed != 0u) {
-            return t13;
-        }
-        t14 = t14 + 1u;
-    }
-    return t13;
-}
-
-/* Walks the `n` positions of the log from its start on, group by group, and finds where the committed transactions end and how
-   many they are. */
-static inline struct scan__commits__Found scan__commits__walk(struct slice_u8 log, uint64_t groups, uint64_t homes,
-        uint64_t start, uint64_t n)
-{
-    struct array_u16_7168 t6;
-    struct scan__commits__Progress t7;
-    struct scan__slots__RingSlot t8;
-    uint64_t t9, t10, t11, t13;
-
-    memset(&t6, 0, sizeof t6);
-    t7 = (struct scan__commits__Progress){.end = 0u, .number = 0u, .failed = 0u};
-    t8 = (struct scan__slots__RingSlot){.slot = start % groups, .turn = (start / groups) % 2u};
-    t9 = start;
-    t10 = n;
-    while (0u < t10) {
-        t11 = 64u + (512u * t8.slot);
-        t13 = scan__commits__in_group(t10);
-        t7 = scan__commits__visit_group((struct slice_u8){log.ptr + (size_t)t11, (size_t)((t11 + 512u) - t11)}, groups, homes,
-                start, t9, t8.turn, t13, (struct slice_mut_u16){t6.at, 7168u}, t7);
-        if (t7.failed != 0u) {
-            return (struct scan__commits__Found){.end = t7.end, .number = t7.number};
-        }
-        t8 = scan__slots__next_slot(t8, groups);
-        t9 = t9 + 1u;
-        t10 = t10 - t13;
-    }
-    return (struct scan__commits__Found){.end = t7.end, .number = t7.number};
-}
-
-/* Takes what the word of a tag says at a position. */
-static inline void replay__gathering__visit(uint64_t word, uint64_t position, uint64_t base, uint64_t homes,
-        struct slice_mut_u16 last, struct slice_mut_u16 heads, struct slice_mut_u16 links)
-{
-    uint64_t t8, t33, t41;
-    struct model__Tag t13;
-
-    t8 = position - base;
-    t13 = codec__tags__read_tag(word, position, base, homes);
-    if (t13.tag == 0u) {
-    } else if (t13.tag == 1u) {
-        t33 = t13.u64_0 / 64u;
-        links.ptr[(size_t)t8] = heads.ptr[(size_t)t33];
-        heads.ptr[(size_t)t33] = (uint16_t)(t8 + 1u);
-    } else {
-        last.ptr[(size_t)(t13.u64_1 - base)] = (uint16_t)(t8 + 1u);
-        t41 = t13.u64_0 / 64u;
-        links.ptr[(size_t)t8] = heads.ptr[(size_t)t41];
-        heads.ptr[(size_t)t41] = (uint16_t)(t8 + 1u);
-    }
-}
-
-/* Takes the first `m` tags of a group, which says nothing where it is not the valid group with number `n` and turn `turn`. */
-static inline void replay__gathering__visit_group(struct slice_u8 group, uint64_t groups, uint64_t homes, uint64_t start,
-        uint64_t n, uint64_t turn, uint64_t m, struct slice_mut_u16 last, struct slice_mut_u16 heads, struct slice_mut_u16 links)
-{
-    struct array_u64_7 t11, t17;
-    uint64_t t12, t13, t14;
-    bool t15;
-
-    t15 = scan__groups__group_valid(group, groups, start, n);
-    if (!t15) {
-        return;
-    }
-    t17 = scan__groups__tag_words(group, turn);
-    t11 = t17;
-    t12 = 7u * start;
-    t13 = 7u * n;
-    t14 = 0u;
-    while (t14 < m) {
-        replay__gathering__visit(t11.at[(size_t)t14], t13, t12, homes, last, heads, links);
-        t13 = t13 + 1u;
-        t14 = t14 + 1u;
-    }
-}
-
-/* Finds in empty tables the last closing entries and the chains of all entries below `end`. */
-static inline void replay__gathering__gather(struct slice_u8 log, struct slice_mut_u16 last, struct slice_mut_u16 heads,
-        struct slice_mut_u16 links, uint64_t groups, uint64_t homes, uint64_t start, uint64_t end)
-{
-    uint64_t t9, t10, t11, t13, t15;
-    struct scan__slots__RingSlot t12;
-
-    t9 = 7u * start;
-    if (end <= t9) {
-        return;
-    }
-    t10 = end - t9;
-    t11 = start;
-    t12 = (struct scan__slots__RingSlot){.slot = start % groups, .turn = (start / groups) % 2u};
-    while (0u < t10) {
-        t13 = 64u + (512u * t12.slot);
-        t15 = scan__commits__in_group(t10);
-        replay__gathering__visit_group((struct slice_u8){log.ptr + (size_t)t13, (size_t)((t13 + 512u) - t13)}, groups, homes,
-                start, t11, t12.turn, t15, last, heads, links);
-        t12 = scan__slots__next_slot(t12, groups);
-        t11 = t11 + 1u;
-        t10 = t10 - t15;
-    }
-}
-
-/* The same for a log that one pass does not do for, where it is known that the committed transactions end at `end`. */
-static inline struct recovery__planning__Made recovery__planning__bring_again(struct slice_u8 log, struct slice_mut_u8 area,
-        struct slice_mut_u8 batch, uint64_t groups, uint64_t homes, uint64_t start, uint64_t end, uint64_t cursor, uint64_t limit,
-        uint64_t more)
-{
-    struct array_u16_7168 t11, t13;
-    struct array_u16_1024 t12;
-
-    memset(&t11, 0, sizeof t11);
-    memset(&t12, 0, sizeof t12);
-    memset(&t13, 0, sizeof t13);
-    replay__gathering__gather(log, (struct slice_mut_u16){t11.at, 7168u}, (struct slice_mut_u16){t12.at, 1024u},
-            (struct slice_mut_u16){t13.at, 7168u}, groups, homes, start, end);
-    return recovery__planning__bring(log, area, batch, (struct slice_u16){t11.at, 7168u}, (struct slice_u16){t12.at, 1024u},
-            (struct slice_u16){t13.at, 7168u}, groups, homes, start, end, cursor, limit, more);
+    t16 = planning__whole__bring_all(log, area, batch, (struct slice_u16){t11.at, 7168u}, (struct slice_u16){t12.at, 1024u},
+            (struct slice_u16){t13.at, 7168u}, groups, homes, start, t15, more);
+    return (struct planning__tables__Replay){.end = t15, .number = t14.number, .size = t16, .next = cursor, .more = false};
 }
 
 /* Replay of all homes, for settle and open, by the committed transactions among the `n` positions from the start on. */
-static inline struct recovery__planning__Replay recovery__planning__bring_back(struct slice_u8 log, struct slice_mut_u8 area,
+static inline struct planning__tables__Replay planning__planning__bring_back(struct slice_u8 log, struct slice_mut_u8 area,
         struct slice_mut_u8 batch, uint64_t groups, uint64_t homes, uint64_t start, uint64_t n, uint64_t more)
 {
-    struct recovery__planning__Replay t9;
-    struct scan__commits__Found t10;
-    uint64_t t11;
-    struct recovery__planning__Made t12;
-
-    t9 = recovery__planning__bring_once(log, area, batch, groups, homes, start, n, 0u, 0u, more);
-    if (t9.found) {
-        return t9;
+    if (groups <= 64u) {
+        return planning__tables__bring_small_0(log, area, batch, groups, homes, start, n, 0u, more);
     }
-    t10 = scan__commits__walk(log, groups, homes, start, n);
-    t11 = t10.end;
-    t12 = recovery__planning__bring_again(log, area, batch, groups, homes, start, t11, 0u, 0u, more);
-    return (struct recovery__planning__Replay){.end = t11, .number = t10.number, .size = t12.size, .next = t12.next,
-            .more = t12.more, .found = true};
+    return planning__tables__bring_large_0(log, area, batch, groups, homes, start, n, 0u, more);
 }
 
 /* Writes a fence, the header with a new start, another fence, all groups as unused, and a last fence at an index of the batch. */
@@ -3762,7 +3711,7 @@ static inline struct answers__Reply recovery__opening__reopen(struct slice_mut_u
 {
     uint64_t t6, t8, t9, t10, t11, t13;
     struct recovery__opening__Shape t7;
-    struct recovery__planning__Replay t12;
+    struct planning__tables__Replay t12;
 
     t6 = recovery__opening__may_open((struct slice_u8){log.ptr, log.len}, (struct slice_u8){area.ptr, area.len},
             (struct slice_u8){state.ptr, state.len}, (struct slice_u8){newest.ptr, newest.len});
@@ -3774,7 +3723,7 @@ static inline struct answers__Reply recovery__opening__reopen(struct slice_mut_u
     t9 = t7.homes;
     t10 = t7.start;
     t11 = 72u + (516u * t8);
-    t12 = recovery__planning__bring_back((struct slice_u8){log.ptr, log.len}, area, batch, t8, t9, t10, 7u * t8, t11);
+    t12 = planning__planning__bring_back((struct slice_u8){log.ptr, log.len}, area, batch, t8, t9, t10, 7u * t8, t11);
     t13 = t12.size;
     if ((uint64_t)batch.len < t13) {
         return (struct answers__Reply){.code = 9u, .figure = 0u, .size = 0u};
@@ -3795,7 +3744,7 @@ static inline struct answers__Reply kagutin__kagutin_open(struct slice_mut_u8 lo
 static inline uint64_t answers__in_use_block(struct slice_u8 log, struct slice_u8 area, struct slice_u8 state,
         struct slice_u8 block)
 {
-    uint64_t t5, t6, t7;
+    uint64_t t5, t7;
     bool t8;
 
     t8 = answers__lengths_right(log, area, state);
@@ -3806,12 +3755,11 @@ static inline uint64_t answers__in_use_block(struct slice_u8 log, struct slice_u
         return 1u;
     }
     t5 = areas__lengths__log_groups((uint64_t)log.len);
-    t6 = (uint64_t)area.len / 64u;
-    t7 = strip__quick__quick_answer(state, t5, t6);
+    t7 = strip__quick__quick_answer(state, t5, (uint64_t)area.len / 64u);
     if (t7 != 1u) {
         return t7;
     }
-    t8 = strip__order__in_order(state, t5, t6);
+    t8 = strip__order__rest_in_order(state);
     if (!t8) {
         return 2u;
     }
@@ -4028,7 +3976,7 @@ static inline struct answers__Reply recovery__settling__settle(struct slice_u8 l
 {
     uint64_t t5, t8, t22, t32, t33;
     struct model__State t6;
-    struct recovery__planning__Replay t17;
+    struct planning__tables__Replay t17;
 
     t5 = answers__in_use(log, (struct slice_u8){area.ptr, area.len}, (struct slice_u8){state.ptr, state.len});
     if (t5 != 0u) {
@@ -4043,7 +3991,7 @@ static inline struct answers__Reply recovery__settling__settle(struct slice_u8 l
     if (t6.round != 0u) {
         return (struct answers__Reply){.code = 21u, .figure = 0u, .size = 0u};
     }
-    t17 = recovery__planning__bring_back(log, area, batch, t6.groups, t6.homes, t6.start, t6.fenced - (7u * t6.start), 2u);
+    t17 = planning__planning__bring_back(log, area, batch, t6.groups, t6.homes, t6.start, t6.fenced - (7u * t6.start), 2u);
     t8 = t17.size;
     t22 = (uint64_t)batch.len;
     if (t22 < t8) {
@@ -4062,24 +4010,260 @@ static inline struct answers__Reply kagutin__kagutin_settle(struct slice_u8 log,
     return recovery__settling__settle(log, area, state, batch);
 }
 
+/* The end of the homes of the word that a home is in, or of all homes. */
+static inline uint64_t replay__stepping__word_end(uint64_t home, uint64_t homes)
+{
+    uint64_t t3, t7;
+
+    t3 = (64u * (home / 64u)) + 64u;
+    if (t3 < homes) {
+        t7 = t3;
+    } else {
+        t7 = homes;
+    }
+    return t7;
+}
+
+/* 1 if a code of the table says that its home has a newest entry, 0 if not. */
+static inline uint64_t replay__stepping__one_if(uint16_t code)
+{
+    uint64_t t3;
+
+    if (code == 0u) {
+        t3 = 0u;
+    } else {
+        t3 = 1u;
+    }
+    return t3;
+}
+
+/* How many of the homes from `from` to below `upto`, all of word `w`, are touched. */
+static inline uint64_t replay__stepping__count_part(struct slice_u8 log, struct slice_u16 last, struct slice_u16 heads,
+        struct slice_u16 links, uint64_t w, uint64_t from, uint64_t upto, uint64_t groups, uint64_t homes, uint64_t start,
+        uint64_t end, uint64_t slot)
+{
+    struct array_u16_64 t13;
+    uint64_t t14, t15, t16, t21, t25;
+
+    if (heads.ptr[(size_t)w] == 0u) {
+        return 0u;
+    }
+    memset(&t13, 0, sizeof t13);
+    t21 = replay__words__newest_in(log, last, heads, links, (struct slice_mut_u16){t13.at, 64u}, w, groups, homes, start, end,
+            slot);
+    t21 = w;
+    t14 = 64u * t21;
+    t15 = 0u;
+    t16 = from;
+    while (t16 < upto) {
+        t25 = replay__stepping__one_if(t13.at[(size_t)(t16 - t14)]);
+        t15 = t15 + t25;
+        t16 = t16 + 1u;
+    }
+    return t15;
+}
+
+/* How many homes from the cursor on the transactions of all closing entries below `end` touch, if they are at most `limit`; else
+   more than that. */
+static inline uint64_t replay__stepping__count_from(struct slice_u8 log, struct slice_u16 last, struct slice_u16 heads,
+        struct slice_u16 links, uint64_t groups, uint64_t homes, uint64_t start, uint64_t end, uint64_t cursor, uint64_t limit)
+{
+    uint64_t t11, t12, t13, t14, t17;
+    struct scan__slots__RingSlot t15;
+
+    t15 = scan__slots__first_slot(start, groups);
+    t11 = t15.slot;
+    t12 = 0u;
+    t13 = cursor;
+    while (t13 < homes) {
+        if (limit < t12) {
+            return t12;
+        }
+        t14 = replay__stepping__word_end(t13, homes);
+        t17 = replay__stepping__count_part(log, last, heads, links, t13 / 64u, t13, t14, groups, homes, start, end, t11);
+        t12 = t12 + t17;
+        t13 = t14;
+    }
+    return t12;
+}
+
+/* The bytes of the last step's fence, if the homes found are within the limit. */
+static inline uint64_t planning__steps__fence_size(uint64_t found, uint64_t limit)
+{
+    uint64_t t4;
+
+    if (limit < found) {
+        t4 = 0u;
+    } else {
+        t4 = 2u;
+    }
+    return t4;
+}
+
+/* Brings a home back whose newest entry is said by a code of the table, and writes its record as the one after `done` others;
+   returns how many it then are. A code of 0 leaves all as it is. */
+static inline uint64_t replay__stepping__bring_home(struct slice_u8 log, struct slice_mut_u8 area, struct slice_mut_u8 batch,
+        uint16_t code, uint64_t groups, uint64_t start, uint64_t slot, uint64_t home, uint64_t done)
+{
+    if (code == 0u) {
+        return done;
+    }
+    replay__places__restore_block(log, area, groups, start, slot, (uint64_t)code - 1u, home);
+    (void)batch__records__home_write(batch, 68u * done, home, (struct slice_u8){area.ptr, area.len});
+    return done + 1u;
+}
+
+/* Brings the touched homes from `from` to below `upto` back, all of word `w`, until `limit` are done in all. */
+static inline struct replay__stepping__Reached replay__stepping__bring_part(struct slice_u8 log, struct slice_mut_u8 area,
+        struct slice_mut_u8 batch, struct slice_u16 last, struct slice_u16 heads, struct slice_u16 links, uint64_t w,
+        uint64_t from, uint64_t upto, uint64_t groups, uint64_t homes, uint64_t start, uint64_t end, uint64_t slot, uint64_t done,
+        uint64_t limit)
+{
+    struct array_u16_64 t17;
+    uint64_t t18, t19, t20, t26;
+
+    if (heads.ptr[(size_t)w] == 0u) {
+        return (struct replay__stepping__Reached){.home = upto, .done = done};
+    }
+    memset(&t17, 0, sizeof t17);
+    t26 = replay__words__newest_in(log, last, heads, links, (struct slice_mut_u16){t17.at, 64u}, w, groups, homes, start, end,
+            slot);
+    t26 = w;
+    t18 = 64u * t26;
+    t19 = done;
+    t20 = from;
+    while (t20 < upto) {
+        if (t19 == limit) {
+            return (struct replay__stepping__Reached){.home = t20, .done = t19};
+        }
+        t19 = replay__stepping__bring_home(log, area, batch, t17.at[(size_t)(t20 - t18)], groups, start, slot, t20, t19);
+        t20 = t20 + 1u;
+    }
+    return (struct replay__stepping__Reached){.home = t20, .done = t19};
+}
+
+/* Brings the first `limit` touched homes from the cursor on back into the data copy, and writes their records at the batch's
+   beginning; returns the home after the last of them, if there is one. */
+static inline uint64_t replay__stepping__bring_from(struct slice_u8 log, struct slice_mut_u8 area, struct slice_mut_u8 batch,
+        struct slice_u16 last, struct slice_u16 heads, struct slice_u16 links, uint64_t groups, uint64_t homes, uint64_t start,
+        uint64_t end, uint64_t cursor, uint64_t limit)
+{
+    uint64_t t13, t14, t15, t16;
+    struct replay__stepping__Reached t17;
+    struct scan__slots__RingSlot t18;
+
+    t18 = scan__slots__first_slot(start, groups);
+    t13 = t18.slot;
+    t14 = 0u;
+    t15 = cursor;
+    while (t15 < homes) {
+        if (t14 == limit) {
+            return t15;
+        }
+        t16 = replay__stepping__word_end(t15, homes);
+        t17 = replay__stepping__bring_part(log, area, batch, last, heads, links, t15 / 64u, t15, t16, groups, homes, start, end,
+                t13, t14, limit);
+        t14 = t17.done;
+        t15 = t17.home;
+    }
+    return t15;
+}
+
+/* Finds the bytes that a step of at most `limit` homes from the cursor on takes. If the batch has them, those homes are brought
+   back into the data copy, and their records stand at the batch's beginning. */
+static inline struct planning__steps__Made planning__steps__bring_some(struct slice_u8 log, struct slice_mut_u8 area,
+        struct slice_mut_u8 batch, struct slice_u16 last, struct slice_u16 heads, struct slice_u16 links, uint64_t groups,
+        uint64_t homes, uint64_t start, uint64_t end, uint64_t cursor, uint64_t limit)
+{
+    uint64_t t13, t14, t15, t17, t19;
+    bool t16;
+
+    t13 = replay__stepping__count_from(log, last, heads, links, groups, homes, start, end, cursor, limit);
+    t14 = planning__whole__least(t13, limit);
+    t19 = planning__steps__fence_size(t13, limit);
+    t15 = (68u * t14) + t19;
+    t16 = limit < t13;
+    if ((uint64_t)batch.len < t15) {
+        return (struct planning__steps__Made){.size = t15, .next = cursor, .more = t16};
+    }
+    t17 = replay__stepping__bring_from(log, area, batch, last, heads, links, groups, homes, start, end, cursor, t14);
+    return (struct planning__steps__Made){.size = t15, .next = t17, .more = t16};
+}
+
+/* Finds what is committed among the `n` positions from the start on, and brings it back: all homes where `limit` is 0, else at
+   most `limit` from the cursor on. For a log of up to 64 groups. */
+static APART struct planning__tables__Replay planning__tables__bring_small(struct slice_u8 log, struct slice_mut_u8 area,
+        struct slice_mut_u8 batch, uint64_t groups, uint64_t homes, uint64_t start, uint64_t n, uint64_t cursor, uint64_t limit,
+        uint64_t more)
+{
+    struct array_u16_448 t11, t13;
+    struct array_u16_1024 t12;
+    struct scan__commits__Progress t14;
+    uint64_t t15, t16;
+    struct planning__steps__Made t17;
+
+    memset(&t11, 0, sizeof t11);
+    memset(&t12, 0, sizeof t12);
+    memset(&t13, 0, sizeof t13);
+    t14 = gathering__walking__walk(log, (struct slice_mut_u16){t11.at, 448u}, (struct slice_mut_u16){t12.at, 1024u},
+            (struct slice_mut_u16){t13.at, 448u}, groups, homes, start, n);
+    if (t14.failed == 2u) {
+        t14 = gathering__twice__walk_twice(log, (struct slice_mut_u16){t11.at, 448u}, (struct slice_mut_u16){t12.at, 1024u},
+                (struct slice_mut_u16){t13.at, 448u}, groups, homes, start, n);
+    }
+    t15 = t14.end;
+    if (limit == 0u) {
+        t16 = planning__whole__bring_all(log, area, batch, (struct slice_u16){t11.at, 448u}, (struct slice_u16){t12.at, 1024u},
+                (struct slice_u16){t13.at, 448u}, groups, homes, start, t15, more);
+        return (struct planning__tables__Replay){.end = t15, .number = t14.number, .size = t16, .next = cursor, .more = false};
+    }
+    t17 = planning__steps__bring_some(log, area, batch, (struct slice_u16){t11.at, 448u}, (struct slice_u16){t12.at, 1024u},
+            (struct slice_u16){t13.at, 448u}, groups, homes, start, t15, cursor, limit);
+    return (struct planning__tables__Replay){.end = t15, .number = t14.number, .size = t17.size, .next = t17.next,
+            .more = t17.more};
+}
+
+/* The same for any log. Both serve two calls each, and so stay functions of their own: a small log never takes the large tables.
+   */
+static APART struct planning__tables__Replay planning__tables__bring_large(struct slice_u8 log, struct slice_mut_u8 area,
+        struct slice_mut_u8 batch, uint64_t groups, uint64_t homes, uint64_t start, uint64_t n, uint64_t cursor, uint64_t limit,
+        uint64_t more)
+{
+    struct array_u16_7168 t11, t13;
+    struct array_u16_1024 t12;
+    struct scan__commits__Progress t14;
+    uint64_t t15, t16;
+    struct planning__steps__Made t17;
+
+    memset(&t11, 0, sizeof t11);
+    memset(&t12, 0, sizeof t12);
+    memset(&t13, 0, sizeof t13);
+    t14 = gathering__walking__walk(log, (struct slice_mut_u16){t11.at, 7168u}, (struct slice_mut_u16){t12.at, 1024u},
+            (struct slice_mut_u16){t13.at, 7168u}, groups, homes, start, n);
+    if (t14.failed == 2u) {
+        t14 = gathering__twice__walk_twice(log, (struct slice_mut_u16){t11.at, 7168u}, (struct slice_mut_u16){t12.at, 1024u},
+                (struct slice_mut_u16){t13.at, 7168u}, groups, homes, start, n);
+    }
+    t15 = t14.end;
+    if (limit == 0u) {
+        t16 = planning__whole__bring_all(log, area, batch, (struct slice_u16){t11.at, 7168u}, (struct slice_u16){t12.at, 1024u},
+                (struct slice_u16){t13.at, 7168u}, groups, homes, start, t15, more);
+        return (struct planning__tables__Replay){.end = t15, .number = t14.number, .size = t16, .next = cursor, .more = false};
+    }
+    t17 = planning__steps__bring_some(log, area, batch, (struct slice_u16){t11.at, 7168u}, (struct slice_u16){t12.at, 1024u},
+            (struct slice_u16){t13.at, 7168u}, groups, homes, start, t15, cursor, limit);
+    return (struct planning__tables__Replay){.end = t15, .number = t14.number, .size = t17.size, .next = t17.next,
+            .more = t17.more};
+}
+
 /* A step of at most `limit` homes from the cursor on, by the same. */
-static inline struct recovery__planning__Replay recovery__planning__step(struct slice_u8 log, struct slice_mut_u8 area,
+static inline struct planning__tables__Replay planning__planning__step(struct slice_u8 log, struct slice_mut_u8 area,
         struct slice_mut_u8 batch, uint64_t groups, uint64_t homes, uint64_t start, uint64_t n, uint64_t cursor, uint64_t limit)
 {
-    struct recovery__planning__Replay t10;
-    struct scan__commits__Found t11;
-    uint64_t t12;
-    struct recovery__planning__Made t13;
-
-    t10 = recovery__planning__bring_once(log, area, batch, groups, homes, start, n, cursor, limit, 0u);
-    if (t10.found) {
-        return t10;
+    if (groups <= 64u) {
+        return planning__tables__bring_small(log, area, batch, groups, homes, start, n, cursor, limit, 0u);
     }
-    t11 = scan__commits__walk(log, groups, homes, start, n);
-    t12 = t11.end;
-    t13 = recovery__planning__bring_again(log, area, batch, groups, homes, start, t12, cursor, limit, 0u);
-    return (struct recovery__planning__Replay){.end = t12, .number = t11.number, .size = t13.size, .next = t13.next,
-            .more = t13.more, .found = true};
+    return planning__tables__bring_large(log, area, batch, groups, homes, start, n, cursor, limit, 0u);
 }
 
 /* Moves the round on by the next `homes` homes, or all that remain: then it is over. */
@@ -4088,7 +4272,7 @@ static inline struct answers__Reply recovery__rounds__step_round(struct slice_u8
 {
     uint64_t t6, t10, t24, t37, t38;
     struct model__State t7;
-    struct recovery__planning__Replay t9;
+    struct planning__tables__Replay t9;
 
     t6 = answers__in_use(log, (struct slice_u8){area.ptr, area.len}, (struct slice_u8){state.ptr, state.len});
     if (t6 != 0u) {
@@ -4106,7 +4290,7 @@ static inline struct answers__Reply recovery__rounds__step_round(struct slice_u8
     if (homes == 0u) {
         return (struct answers__Reply){.code = 21u, .figure = 0u, .size = 0u};
     }
-    t9 = recovery__planning__step(log, area, batch, t7.groups, t7.homes, t7.start, (t7.round - 1u) - (7u * t7.start), t7.cursor,
+    t9 = planning__planning__step(log, area, batch, t7.groups, t7.homes, t7.start, (t7.round - 1u) - (7u * t7.start), t7.cursor,
             homes);
     t10 = t9.size;
     t24 = (uint64_t)batch.len;
@@ -4293,11 +4477,28 @@ static inline uint64_t logging__stores__store_other(struct slice_mut_u8 log, str
     return t10;
 }
 
+/* The same by the numbers and the record that stand in the strip. */
+static inline uint64_t logging__stores__store_next(struct slice_mut_u8 log, struct slice_mut_u8 state, struct slice_u8 block,
+        struct slice_mut_u8 batch, uint64_t w, uint64_t home)
+{
+    uint64_t t20, t21, t1154;
+
+    t20 = load_8(state.ptr);
+    t21 = load_8(state.ptr + 8u);
+    t1154 = 128u + (96u * w);
+    return logging__stores__store_other(log, state, block, batch, (struct model__State){.groups = t20, .homes = t21,
+            .start = load_8(state.ptr + 16u), .next = load_8(state.ptr + 24u), .filled = load_8(state.ptr + 32u),
+            .settled = load_8(state.ptr + 40u), .fenced = load_8(state.ptr + 48u), .durable = load_8(state.ptr + 56u),
+            .last = load_8(state.ptr + 64u), .round = load_8(state.ptr + 88u), .cursor = load_8(state.ptr + 96u)},
+            (struct model__Writer){.mode = load_8(state.ptr + (size_t)t1154), .home = load_8(state.ptr + (size_t)(t1154 + 8u)),
+            .first = load_8(state.ptr + (size_t)(t1154 + 16u)), .count = load_8(state.ptr + (size_t)(t1154 + 24u))}, w, home);
+}
+
 /* Holds a block for a home in a writer's open transaction; a block held for another home is logged first. */
 static inline struct answers__Reply logging__stores__store(struct slice_mut_u8 log, struct slice_u8 area,
         struct slice_mut_u8 state, struct slice_u8 block, struct slice_mut_u8 batch, uint64_t writer, uint64_t home)
 {
-    uint64_t t8, t9, t12, t39, t462, t463;
+    uint64_t t8, t9, t11, t36;
     struct model__Writer t10;
 
     t8 = logging__stores__store_verdict((struct slice_u8){log.ptr, log.len}, area, (struct slice_u8){state.ptr, state.len}, block,
@@ -4306,9 +4507,9 @@ static inline struct answers__Reply logging__stores__store(struct slice_mut_u8 l
         return (struct answers__Reply){.code = t8, .figure = 0u, .size = 0u};
     }
     t9 = writer;
-    t39 = 128u + (96u * t9);
-    t10 = (struct model__Writer){.mode = load_8(state.ptr + (size_t)t39), .home = load_8(state.ptr + (size_t)(t39 + 8u)),
-            .first = load_8(state.ptr + (size_t)(t39 + 16u)), .count = load_8(state.ptr + (size_t)(t39 + 24u))};
+    t36 = 128u + (96u * t9);
+    t10 = (struct model__Writer){.mode = load_8(state.ptr + (size_t)t36), .home = load_8(state.ptr + (size_t)(t36 + 8u)),
+            .first = load_8(state.ptr + (size_t)(t36 + 16u)), .count = load_8(state.ptr + (size_t)(t36 + 24u))};
     if (!(2u <= t10.mode)) {
         logging__stores__store_first(state, block, t10, t9, home);
         return (struct answers__Reply){.code = 0u, .figure = 0u, .size = 0u};
@@ -4317,13 +4518,8 @@ static inline struct answers__Reply logging__stores__store(struct slice_mut_u8 l
         strip__writers__set_held(state, t9, block);
         return (struct answers__Reply){.code = 0u, .figure = 0u, .size = 0u};
     }
-    t462 = load_8(state.ptr);
-    t463 = load_8(state.ptr + 8u);
-    t12 = logging__stores__store_other(log, state, block, batch, (struct model__State){.groups = t462, .homes = t463,
-            .start = load_8(state.ptr + 16u), .next = load_8(state.ptr + 24u), .filled = load_8(state.ptr + 32u),
-            .settled = load_8(state.ptr + 40u), .fenced = load_8(state.ptr + 48u), .durable = load_8(state.ptr + 56u),
-            .last = load_8(state.ptr + 64u), .round = load_8(state.ptr + 88u), .cursor = load_8(state.ptr + 96u)}, t10, t9, home);
-    return (struct answers__Reply){.code = 0u, .figure = 0u, .size = t12};
+    t11 = logging__stores__store_next(log, state, block, batch, t9, home);
+    return (struct answers__Reply){.code = 0u, .figure = 0u, .size = t11};
 }
 
 /* Holds a block for a home in a writer's open transaction; a block held for another home is logged first. */
@@ -4395,23 +4591,6 @@ static inline void chains__steps__hold_first(struct slice_mut_u8 state, struct s
             .first = load_8(state.ptr + (size_t)(t18 + 16u)), .count = load_8(state.ptr + (size_t)(t18 + 24u))}, w, home);
 }
 
-/* Logs the block that the writer `w` holds and holds the next one, for another home. */
-static inline uint64_t chains__steps__store_next(struct slice_mut_u8 log, struct slice_mut_u8 state, struct slice_u8 block,
-        struct slice_mut_u8 batch, uint64_t w, uint64_t home)
-{
-    uint64_t t20, t21, t1154;
-
-    t20 = load_8(state.ptr);
-    t21 = load_8(state.ptr + 8u);
-    t1154 = 128u + (96u * w);
-    return logging__stores__store_other(log, state, block, batch, (struct model__State){.groups = t20, .homes = t21,
-            .start = load_8(state.ptr + 16u), .next = load_8(state.ptr + 24u), .filled = load_8(state.ptr + 32u),
-            .settled = load_8(state.ptr + 40u), .fenced = load_8(state.ptr + 48u), .durable = load_8(state.ptr + 56u),
-            .last = load_8(state.ptr + 64u), .round = load_8(state.ptr + 88u), .cursor = load_8(state.ptr + 96u)},
-            (struct model__Writer){.mode = load_8(state.ptr + (size_t)t1154), .home = load_8(state.ptr + (size_t)(t1154 + 8u)),
-            .first = load_8(state.ptr + (size_t)(t1154 + 16u)), .count = load_8(state.ptr + (size_t)(t1154 + 24u))}, w, home);
-}
-
 /* Stores the lent blocks but the first, which is held, by rising home. Returns how many bytes of the batch are written. */
 static inline uint64_t chains__steps__store_rest(struct slice_mut_u8 log, struct slice_mut_u8 state, struct slice_u8 blocks,
         struct slice_mut_u8 batch, uint64_t w, uint64_t home)
@@ -4423,7 +4602,7 @@ static inline uint64_t chains__steps__store_rest(struct slice_mut_u8 log, struct
     t9 = 1u;
     while (t9 < t7) {
         t10 = 64u * t9;
-        t13 = chains__steps__store_next(log, state, (struct slice_u8){blocks.ptr + (size_t)t10, (size_t)((t10 + 64u) - t10)},
+        t13 = logging__stores__store_next(log, state, (struct slice_u8){blocks.ptr + (size_t)t10, (size_t)((t10 + 64u) - t10)},
                 batch, w, home + t9);
         t8 = t8 + t13;
         t9 = t9 + 1u;
@@ -4446,7 +4625,7 @@ static inline struct answers__Reply chains__transacts__transact(struct slice_mut
         struct slice_mut_u8 state, struct slice_mut_u8 newest, struct slice_u8 blocks, struct slice_mut_u8 batch, uint64_t writer,
         uint64_t home)
 {
-    uint64_t t9, t10, t11, t15, t46, t47, t1180;
+    uint64_t t9, t10, t11, t14, t43, t44;
     struct model__State t12;
 
     t9 = chains__verdicts__transact_verdict((struct slice_u8){log.ptr, log.len}, area, (struct slice_u8){state.ptr, state.len},
@@ -4456,17 +4635,14 @@ static inline struct answers__Reply chains__transacts__transact(struct slice_mut
     }
     t10 = writer;
     t11 = chains__steps__store_all(log, state, blocks, batch, t10, home);
-    t46 = load_8(state.ptr);
-    t47 = load_8(state.ptr + 8u);
-    t12 = (struct model__State){.groups = t46, .homes = t47, .start = load_8(state.ptr + 16u), .next = load_8(state.ptr + 24u),
+    t43 = load_8(state.ptr);
+    t44 = load_8(state.ptr + 8u);
+    t12 = (struct model__State){.groups = t43, .homes = t44, .start = load_8(state.ptr + 16u), .next = load_8(state.ptr + 24u),
             .filled = load_8(state.ptr + 32u), .settled = load_8(state.ptr + 40u), .fenced = load_8(state.ptr + 48u),
             .durable = load_8(state.ptr + 56u), .last = load_8(state.ptr + 64u), .round = load_8(state.ptr + 88u),
             .cursor = load_8(state.ptr + 96u)};
-    t1180 = 128u + (96u * t10);
-    t15 = logging__commits__commit_held(log, state, newest, batch, t12, (struct model__Writer){.mode = load_8(state.ptr
-            + (size_t)t1180), .home = load_8(state.ptr + (size_t)(t1180 + 8u)), .first = load_8(state.ptr + (size_t)(t1180
-            + 16u)), .count = load_8(state.ptr + (size_t)(t1180 + 24u))}, t10);
-    return (struct answers__Reply){.code = 0u, .figure = ((7u * t12.next) + t12.filled) + 1u, .size = t11 + t15};
+    t14 = commits__commit_next(log, area, state, newest, batch, t10);
+    return (struct answers__Reply){.code = 0u, .figure = ((7u * t12.next) + t12.filled) + 1u, .size = t11 + t14};
 }
 
 /* Begins a transaction of an idle writer, stores one to seven blocks for the homes from `home` on and commits them. The figure is
@@ -4506,6 +4682,36 @@ static inline uint64_t limits__writers__open_limit(struct slice_u8 state, uint64
         t4 = t4 + 1u;
     }
     return t3;
+}
+
+/* The same with counters of its own, for a log of up to 64 groups. */
+static APART struct scan__commits__Found scan__commits__walk_small(struct slice_u8 log, uint64_t groups, uint64_t homes,
+        uint64_t start, uint64_t n)
+{
+    struct array_u16_448 t6;
+
+    memset(&t6, 0, sizeof t6);
+    return scan__commits__walk_with(log, (struct slice_mut_u16){t6.at, 448u}, groups, homes, start, n);
+}
+
+/* The same for any log. */
+static APART struct scan__commits__Found scan__commits__walk_large(struct slice_u8 log, uint64_t groups, uint64_t homes,
+        uint64_t start, uint64_t n)
+{
+    struct array_u16_7168 t6;
+
+    memset(&t6, 0, sizeof t6);
+    return scan__commits__walk_with(log, (struct slice_mut_u16){t6.at, 7168u}, groups, homes, start, n);
+}
+
+/* The same with as many counters on the stack as the size of the log asks for. */
+static inline struct scan__commits__Found scan__commits__walk(struct slice_u8 log, uint64_t groups, uint64_t homes,
+        uint64_t start, uint64_t n)
+{
+    if (groups <= 64u) {
+        return scan__commits__walk_small(log, groups, homes, start, n);
+    }
+    return scan__commits__walk_large(log, groups, homes, start, n);
 }
 
 /* Those of the group before. */
@@ -4612,7 +4818,7 @@ static inline uint64_t limits__spans__closed_limit(struct slice_u8 log, uint64_t
 
     t7 = limit;
     t8 = (end + 6u) / 7u;
-    t9 = (struct scan__slots__RingSlot){.slot = t8 % groups, .turn = (t8 / groups) % 2u};
+    t9 = scan__slots__first_slot(t8, groups);
     while (t7 < t8) {
         t8 = t8 - 1u;
         t9 = scan__slots__previous_slot(t9, groups);
@@ -4809,7 +5015,7 @@ static inline uint64_t usage__entries__closed_entries(struct slice_u8 log, uint6
     t7 = 0u;
     t8 = end - t6;
     t9 = start;
-    t10 = (struct scan__slots__RingSlot){.slot = start % groups, .turn = (start / groups) % 2u};
+    t10 = scan__slots__first_slot(start, groups);
     while (0u < t8) {
         t11 = 64u + (512u * t10.slot);
         t13 = scan__commits__in_group(t8);

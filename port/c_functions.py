@@ -9,6 +9,7 @@ from forms import (BOOL, U64, U8, UNIT, Array, Assign, Binary, Block, Call, Copy
                    Repeat, Return, Slice, Stop, Store, Switch, Unary, derefs)
 
 WIDTH = 130         # columns of a line
+LARGE = 512         # bytes of a table that is kept out of the frames of callers
 
 
 def is_copying(body):
@@ -205,7 +206,7 @@ class FunctionText(Values):
         return [(f.types[i], f.names[i]) for i in f.parameters() if f.types[i] != UNIT]
 
     def function(self, f):
-        """`inline` is a hint that most are short; the compiler weighs each."""
+        """`inline` is a hint that most are short; the compiler weighs each, but for those with large tables."""
         f.read, self.labels = read_locals(f), 0
         start = len(self.out)
         self.body(f, f.body, 1, [], True)
@@ -214,10 +215,16 @@ class FunctionText(Values):
         used = set(re.findall(r'\w+', ' '.join(code)))
         self.comment(f.comment)
         signature = ', '.join(self.types.declare(t, n) for t, n in self.parameters(f)) or 'void'
-        self.line(0, 'static inline ' + self.types.declare(f.types[0], f'{c_name(f.name)}({signature})'))
+        self.line(0, self.kind(f) + self.types.declare(f.types[0], f'{c_name(f.name)}({signature})'))
         self.out.append('{')
         self.declarations(f, used)
         self.out += code + ['}', '']
+
+    def kind(self, f):
+        if any(isinstance(t, Array) and isinstance(t.item, IntType) and t.count * t.item.width // 8 >= LARGE for t in f.types):
+            self.helpers.add('APART')
+            return 'static APART '
+        return 'static inline '
 
     def comment(self, text):
         if text:

@@ -26,6 +26,14 @@ UNROLL = '''#if QUICK_C && !defined(__clang__) && !defined(__OPTIMIZE_SIZE__) &&
 #endif
 '''
 
+# Keeps large tables out of their callers' frames, so that a call has on the stack only those that it uses.
+APART = '''#if QUICK_C
+#define APART __attribute__((noinline))
+#else
+#define APART
+#endif
+'''
+
 LOAD = '''/* The number that {size} bytes make, lowest byte first. */
 static inline uint64_t load_{size}(const uint8_t *p)
 {{
@@ -142,8 +150,9 @@ def texts(used):
     if used & {'trailing_zeros', 'leading_zeros'}:
         used = used | {'count_ones'}
     words = [(word, size) for word in ('load', 'store') for size in (2, 4, 8) if f'{word}_{size}' in used]
-    out = [QUICK] if words or used & {'UNROLL', 'trailing_zeros'} else []
+    out = [QUICK] if words or used & {'UNROLL', 'APART', 'trailing_zeros'} else []
     out += [ORDER] if words else []
     out += [UNROLL] if 'UNROLL' in used else []
+    out += [APART] if 'APART' in used else []
     out += [{'load': load, 'store': store}[word](size) for word, size in words]
     return '\n'.join(out + [text for name, text in {**COUNTS, **SIGNED}.items() if name in used])

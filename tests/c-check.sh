@@ -64,7 +64,8 @@ fi
 
 # --- stack of each call ---
 gives 0 "stack: built" "$cc" -std=c99 -D_GNU_SOURCE -Wall -Wextra -pedantic -O2 -Iinclude tests/stack.c "$lib" ${C_LIBS:-} -o "$tmp/stack"
-gives 0 "stack: every call within its bound" "$tmp/stack"
+case $lib in *staticlib*) walk=15360 ;; *) walk=6144 ;; esac
+gives 0 "stack: every call within its bound, small log and large" "$tmp/stack" $walk
 
 # --- no heap in the object; nm prints what it calls ---
 quiet sh -c "nm -u $out/store/store.o $out/store/usage.o $out/store/rights.o $out/store/batch.o $out/store/fram.o | grep -E 'alloc|free'"

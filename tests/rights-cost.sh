@@ -1,7 +1,8 @@
 #!/bin/sh
 # What questions 19 and 20 cost: rights-cost.sh FOLDER-OF-THE-PROGRAMS. For each case of rights_cost the instructions of a store and of a read, by
-# callgrind, and what they are more than with 8 homes, where no list can be.
+# callgrind, and what they are more than with 8 homes, where no list can be. Fails where that is above what request h allows.
 set -eu
+limit=150
 out=$1
 tmp=$(mktemp -d)
 trap 'rm -rf "$tmp"' EXIT
@@ -13,6 +14,7 @@ instructions() {
     sed -n 's/^totals: //p' "$tmp/callgrind"
 }
 
+over=
 small_store=$(instructions small store)
 small_read=$(instructions small read)
 printf '%-18s %6s %6s\n' case store read
@@ -20,4 +22,6 @@ for case in $("$out/rights_cost"); do
     store=$(instructions "$case" store)
     read=$(instructions "$case" read)
     printf '%-18s %6s %6s   %+d, %+d\n' "$case" "$store" "$read" $((store - small_store)) $((read - small_read))
+    [ $((store - small_store)) -le $limit ] && [ $((read - small_read)) -le $limit ] || over="$over $case"
 done
+[ -z "$over" ] || { echo "rights_cost: more than $limit:$over" >&2; exit 1; }

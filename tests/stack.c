@@ -1,25 +1,33 @@
-/* Deepest stack of each call in bytes, on a painted stack, at G 1,024 and D 65,535 with a full log. Status 1 above 32 KiB. */
+/*
+ * stack [WALK]: deepest stack of each call in bytes, on a painted stack, with a full log and with a damaged one that takes two passes: in a small log,
+ * whose calls stay below 6 KiB whatever the number of homes, and in the largest one, whose calls stay below 32 KiB. Status 1 above these. WALK is another
+ * bound of trim and usage in a small log: in the archive their counters are always those of the largest one.
+ */
 #include <stdio.h>
 #include <stdlib.h>
 #include <string.h>
 #include <ucontext.h>
 
 #include "kagutin.h"
+#include "kagutin_chains.h"
 
-enum { GROUPS = 1024, HOMES = 65535, FREE = 12 /* the homes behind the list of rights */, STACK = 1 << 18, LIMIT = 32768 };
-enum { FORMAT, OPEN, BEGIN, STORE, COMMIT, FLUSH, CONFIRM, SETTLE, TRIM, READ, ABORT, RESERVE, BEGIN_ROUND, STEP_ROUND, USAGE, EMPTY };
+enum { GROUPS = 1024, HOMES = 65535, FREE = 12 /* the homes behind the list of rights */, BLOCKS = 7, STACK = 1 << 18 };
+enum { FORMAT, OPEN, BEGIN, STORE, COMMIT, FLUSH, CONFIRM, SETTLE, TRIM, READ, ABORT, RESERVE, BEGIN_ROUND, STEP_ROUND, USAGE, FETCH, REVISE, TRANSACT,
+       EMPTY };
 
 static uint8_t log_area[KAGUTIN_HEADER_SIZE + KAGUTIN_GROUP_SIZE * GROUPS], area[KAGUTIN_BLOCK_SIZE * HOMES];
 static uint8_t state[KAGUTIN_STATE_SIZE], newest[KAGUTIN_POSITION_SIZE * HOMES], block[KAGUTIN_BLOCK_SIZE], batch[5 << 20];
+static uint8_t blocks[BLOCKS * KAGUTIN_BLOCK_SIZE];
 static unsigned char stack[STACK];
 static ucontext_t main_context, call_context;
 static int which;
+static size_t groups, homes;
 static uint64_t who, where;
 static struct kagutin_reply reply;
 
-#define AREAS log_area, sizeof log_area, area, sizeof area
+#define AREAS log_area, KAGUTIN_HEADER_SIZE + KAGUTIN_GROUP_SIZE * groups, area, KAGUTIN_BLOCK_SIZE * homes
 #define STATE state, sizeof state
-#define NEWEST newest, sizeof newest
+#define NEWEST newest, KAGUTIN_POSITION_SIZE * homes
 #define BATCH batch, sizeof batch
 
 static void body(void)
@@ -40,6 +48,9 @@ static void body(void)
     case BEGIN_ROUND: reply = kagutin_begin_round(AREAS, STATE); break;
     case STEP_ROUND: reply = kagutin_step_round(AREAS, STATE, BATCH, 8); break;
     case USAGE: reply.code = kagutin_usage(AREAS, STATE).code; break;
+    case FETCH: reply = kagutin_fetch(AREAS, STATE, NEWEST, blocks, sizeof blocks, who, where); break;
+    case REVISE: reply = kagutin_revise(AREAS, STATE, NEWEST, blocks, sizeof blocks, who, where); break;
+    case TRANSACT: reply = kagutin_transact(AREAS, STATE, NEWEST, blocks, sizeof blocks, BATCH, who, where); break;
     default: break;
     }
 }
@@ -66,64 +77,129 @@ static uint64_t call(int k)
     return reply.code;
 }
 
+/* Ends the program if a call that must be done is refused. */
+static void done(int k)
+{
+    if (call(k)) {
+        fprintf(stderr, "stack: call %d at G %zu and D %zu: %u\n", k, groups, homes, (unsigned)reply.code);
+        exit(2);
+    }
+}
+
 /* Writer 0 commits a list of rights under which every writer may touch all, by the last of its ranges. */
-static uint64_t give_all(void)
+static void give_all(void)
 {
     static const uint8_t all[4] = { 0, 0, 255, 255 };
-    uint64_t code;
     size_t at;
 
     for (at = 12; at < sizeof block; at += 16)
         memcpy(block + at, all, sizeof all);
     who = 0;
-    code = call(BEGIN);
-    for (where = FREE - 4; where < FREE && !code; where++)
-        code = call(STORE);
-    return code ? code : call(COMMIT);
+    done(BEGIN);
+    for (where = FREE - 4; where < FREE; where++)
+        done(STORE);
+    done(COMMIT);
 }
 
-int main(void)
+/* A new store whose log is full of commits of two entries each; on the way it settles, and trims with commits past what is settled. */
+static void fill(void)
 {
-    static const char *names[] = { "format", "open", "begin", "store", "commit", "flush", "confirm", "settle", "trim", "read",
-                                   "abort", "reserve", "begin_round", "step_round", "usage" };
-    int k, over = 0;
-    unsigned i;
+    size_t i;
 
-    call(EMPTY);
-    call(FORMAT);
-    call(OPEN);
-    if (give_all())
-        return 2;
-    for (i = 0; i < 7 * GROUPS; i++) { /* until the log is full */
+    done(FORMAT);
+    done(OPEN);
+    give_all();
+    for (i = 0; i < 7 * groups; i++) {
         who = i % KAGUTIN_WRITERS;
-        call(BEGIN);
-        where = FREE + (i * 7) % (HOMES - FREE - 1);
-        call(STORE);
+        done(BEGIN);
+        where = FREE + (i * 7) % (homes - FREE - BLOCKS);
+        done(STORE);
         where++;
         if (call(STORE) || call(COMMIT))
             break;
-        if (i == GROUPS && (call(FLUSH) || call(SETTLE)))
-            return 2;
-        if (i == GROUPS + 10 && call(TRIM)) /* with commits past what is settled, so that it walks the log */
-            return 2;
+        if (i == groups) {
+            done(FLUSH);
+            done(SETTLE);
+        }
+        if (i == groups + 10)
+            done(TRIM);
     }
     call(ABORT);
     call(FLUSH);
-    call(CONFIRM);
-    call(READ);
-    call(USAGE);
-    if (call(BEGIN_ROUND))
-        return 2;
+    done(CONFIRM);
+}
+
+/* Each entry that neither closes nor comes later than the first of its transaction goes to the transaction two positions before, in all groups but the
+   first half: in a log of commits of two entries it then comes after a closing entry of its own. */
+static void lead_astray(void)
+{
+    size_t n, k;
+    uint8_t *tag;
+
+    for (n = groups / 2; n < groups; n++)
+        for (k = 0; k < 7; k++) {
+            tag = log_area + KAGUTIN_HEADER_SIZE + KAGUTIN_GROUP_SIZE * n + 8 + 8 * k;
+            if ((tag[0] & 3) == 1 && !(tag[1] & 0xc0) && !tag[2] && !(tag[3] & 7))
+                tag[1] |= 0x80; /* two positions back: bits 14 to 26 of the tag */
+        }
+}
+
+/* Rounds, settle, trim, the call usage and the reads on a full log. */
+static void work(void)
+{
+    who = 1;
+    where = FREE;
+    done(READ);
+    done(FETCH);
+    done(REVISE);
+    done(USAGE);
+    done(BEGIN_ROUND);
     while (call(STEP_ROUND) == KAGUTIN_DONE && reply.size % KAGUTIN_HW_SIZE == 0)
         ;
-    call(SETTLE);
-    call(TRIM);
-    call(OPEN);
-    call(RESERVE);
+    done(SETTLE);
+    done(TRIM);
+}
+
+/* Prints what each call took in stores of this shape. */
+static int measure(size_t g, size_t d, size_t limit, size_t walk)
+{
+    static const char *names[] = { "format", "open", "begin", "store", "commit", "flush", "confirm", "settle", "trim", "read", "abort", "reserve",
+                                   "begin_round", "step_round", "usage", "fetch", "revise", "transact" };
+    size_t most;
+    int k, over = 0;
+
+    groups = g;
+    homes = d;
+    memset(deepest, 0, sizeof deepest);
+    fill();
+    work();
+    done(TRANSACT);
+    done(OPEN);
+    fill();
+    lead_astray();
+    work();
+    done(OPEN);
+    fill();
+    lead_astray();
+    done(SETTLE);
+    done(OPEN);
+    done(RESERVE);
+    printf("G %zu, D %zu:", g, d);
     for (k = 0; k < EMPTY; k++) {
-        printf("%-11s %zu\n", names[k], deepest[k]);
-        if (deepest[k] > LIMIT)
-            over = 1;
+        most = k == TRIM || k == USAGE ? walk : limit;
+        printf(" %s %zu%s", names[k], deepest[k], deepest[k] > most ? " (too much)" : "");
+        over |= deepest[k] > most;
     }
+    printf("\n");
+    return over;
+}
+
+int main(int argc, char **argv)
+{
+    size_t walk = argc > 1 ? (size_t)atoi(argv[1]) : 6144;
+    int over = measure(64, 4096, 6144, walk);
+
+    over |= measure(64, HOMES, 6144, walk);
+    over |= measure(GROUPS, HOMES, 32768, 32768);
     return over;
 }

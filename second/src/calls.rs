@@ -2,12 +2,12 @@
 //! abort, store, commit, flush, confirm, read.
 
 use crate::batch::{check_batch, Batch, FENCE_LEN, GROUP_WRITE_LEN};
-use crate::layout::{
+use crate::layout::{PLACES, 
     clear_group, group_head, home_range, put_word, refuse, set_top_bit, slot_range, top_bit, turn,
     Answer, Shape, BLOCK,
 };
 use crate::newest::{check_newest, keep, position};
-use crate::rights::{carry_listed, check_read, check_store};
+use crate::rights::{check_read, check_store, keep_list};
 use crate::state::{
     check_home, check_writer, mode, pending_range, promise, promised, set_promise, State, Writer,
 };
@@ -206,12 +206,13 @@ fn try_commit(
     if load_open(bytes, writer)?.holds() {
         check_room(&state, bytes, batch, writer)?;
     }
-    Ok(close(log, state, bytes, newest, batch, writer))
+    Ok(close(log, data, state, bytes, newest, batch, writer))
 }
 
 /// What a done commit does.
 pub fn close(
     log: &mut [u8],
+    data: &[u8],
     mut state: State,
     bytes: &mut [u8],
     newest: &mut [u8],
@@ -228,19 +229,25 @@ pub fn close(
         state.last_closing = position + 1;
         answer.figure = position + 1;
         answer.len = append(log, state, bytes, batch, writer, tag);
-        keep_entries(log, &state, first, position, newest);
-        carry_listed(state.shape.homes, newest, bytes);
+        let view = up_to(log, &state, position);
+        keep_entries(&view, first, newest);
+        keep_list(&view, data, newest, bytes);
     }
     Writer::IDLE.save(bytes, writer);
     set_promise(bytes, writer, 0);
     answer
 }
 
-/// The position of each entry of the transaction from `first` to `closing`,
-/// the later ones over the earlier.
-pub(crate) fn keep_entries(log: &[u8], state: &State, first: u64, closing: u64, newest: &mut [u8]) {
-    let base = state.first_position();
-    let view = View { log, shape: state.shape, start: state.start, end: (closing + 1 - base) as u32 };
+/// The log up to an entry that was logged at the next position.
+fn up_to<'a>(log: &'a [u8], state: &State, closing: u64) -> View<'a> {
+    let end = (closing + 1 - state.first_position()) as u32;
+    View { log, shape: state.shape, start: state.start, end }
+}
+
+/// The position of each entry of the transaction that begins at `first` and
+/// ends the view, the later ones over the earlier.
+fn keep_entries(view: &View, first: u64, newest: &mut [u8]) {
+    let base = PLACES * view.start;
     view.each_from((first - base) as u32, |offset, tag| {
         let (home, begun) = parts(tag);
         if base + u64::from(begun) == first {
@@ -310,7 +317,7 @@ fn try_read(
     check_writer(writer)?;
     check_home(state.shape, home)?;
     let view = View::live(log, &state);
-    check_read(&view, data, newest, writer, home)?;
+    check_read(&view, data, bytes, newest, writer, home)?;
     show(&view, data, bytes, newest, block, (writer, home));
     Ok(Answer::DONE)
 }

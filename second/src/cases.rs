@@ -4,7 +4,7 @@
 use crate::batch::GROUP_WRITE_LEN;
 use crate::chains::Chain;
 use crate::craft::{craft, random_chain};
-use crate::damage::{damage_group, damage_header, damage_lengths, damage_listed, damage_newest, damage_state};
+use crate::damage::{damage_group, damage_header, damage_lengths, damage_listed, damage_newest, damage_sign, damage_state};
 use crate::layout::{put_word, word, Answer, Shape, START_LIMIT};
 use crate::lent::{ample, Kind, Lent};
 use crate::player::{random_crash, step, Profile, Tally};
@@ -152,7 +152,7 @@ fn damage(rng: &mut Rng, lent: &mut Lent, shape: Shape, kind: Kind) {
     if kind == Kind::Open && rng.chance(80) {
         lent.state.fill(0xee);
     } else if rng.chance(15) {
-        let spare = rng.pick(&[104, 110, 127, 928, 1000, 1023]);
+        let spare = rng.pick(&[104, 110, 127, 936, 1000, 1023]);
         lent.state[spare] ^= 0x5a;
     }
 }
@@ -166,6 +166,9 @@ fn disagree(rng: &mut Rng, lent: &mut Lent, shape: Shape, kind: Kind) {
     let reads = kind == Kind::Read;
     if rng.chance(if reads && has_room(shape.homes) { 40 } else if reads { 60 } else { 20 }) {
         damage_newest(rng, lent);
+    }
+    if has_room(shape.homes) && rng.chance(30) {
+        damage_sign(rng, lent);
     }
 }
 

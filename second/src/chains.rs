@@ -6,7 +6,7 @@ use crate::batch::{check_batch, GROUP_WRITE_LEN};
 use crate::calls::{close, hold, show};
 use crate::layout::{refuse, Answer, Shape, BLOCK, PLACES};
 use crate::newest::check_newest;
-use crate::rights::{newest_list, List};
+use crate::rights::{newest_rights, Rights};
 use crate::state::{check_writer, mode, promised, State, Writer};
 use crate::walk::View;
 
@@ -66,12 +66,12 @@ impl Homes {
         self.first..self.first + self.number
     }
 
-    fn check_store(&self, list: &List) -> Result<(), u32> {
+    fn check_store(&self, list: &Rights) -> Result<(), u32> {
         let all = self.each().all(|home| list.may_store(self.writer, home));
         if all { Ok(()) } else { Err(refuse::STORE_RIGHT) }
     }
 
-    fn check_read(&self, list: &List) -> Result<(), u32> {
+    fn check_read(&self, list: &Rights) -> Result<(), u32> {
         let all = self.each().all(|home| list.may_read(self.writer, home));
         if all { Ok(()) } else { Err(refuse::READ_RIGHT) }
     }
@@ -113,7 +113,7 @@ fn try_fetch(
 ) -> Result<Answer, u32> {
     let (state, homes) = Homes::check(log, data, bytes, newest, blocks, who)?;
     let view = View::live(log, &state);
-    let list = newest_list(&view, data, newest);
+    let list = newest_rights(&view, data, bytes, newest);
     if stores {
         homes.check_store(&list)?;
     }
@@ -148,7 +148,7 @@ fn try_transact(
     who: (u64, u64),
 ) -> Result<Answer, u32> {
     let (state, homes) = Homes::check(log, data, bytes, newest, blocks, who)?;
-    homes.check_store(&newest_list(&View::live(log, &state), data, newest))?;
+    homes.check_store(&newest_rights(&View::live(log, &state), data, bytes, newest))?;
     if Writer::load(bytes, homes.writer).mode != mode::IDLE {
         return Err(refuse::NOT_IDLE);
     }
@@ -164,6 +164,6 @@ fn try_transact(
         len += hold(log, state, bytes, block, &mut batch[len..], homes.writer, home);
     }
     let state = State::read(state.shape, bytes);
-    let answer = close(log, state, bytes, newest, &mut batch[len..], homes.writer);
+    let answer = close(log, data, state, bytes, newest, &mut batch[len..], homes.writer);
     Ok(Answer { len: len + answer.len, ..answer })
 }

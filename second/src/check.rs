@@ -106,6 +106,7 @@ impl World {
         };
         must(state == want, &format!("state {state:?}, expected {want:?}"))?;
         must(bytes[at::LISTED..at::LISTED_END] == self.listed(), "positions of the list in the state")?;
+        must(self.sign_fits(word(bytes, at::SIGN)), "sign of the list in the state")?;
         (0..8).try_for_each(|writer| self.check_writer(writer))?;
         self.check_usage()
     }
@@ -132,6 +133,17 @@ impl World {
             listed.copy_from_slice(&self.lent.newest[64..96]);
         }
         listed
+    }
+
+    /// The sign is that of the list which the book has; none is set while no
+    /// position of the list is kept since the opening.
+    fn sign_fits(&self, sign: u64) -> bool {
+        match sign {
+            0 => self.listed() == [0xff; 32],
+            1 => has_room(self.shape.homes) && !self.list().is_there(),
+            2 => self.list().is_there(),
+            _ => false,
+        }
     }
 
     fn check_writer(&self, writer: u64) -> Result<(), String> {

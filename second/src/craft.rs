@@ -1,7 +1,7 @@
 //! Logs and states made up at random: in order by question 2, but such as no
 //! history leaves, to try the commit rule on damaged contents.
 
-use crate::damage::{damage_group, damage_lengths, damage_listed, damage_newest, damage_state};
+use crate::damage::{damage_group, damage_lengths, damage_listed, damage_newest, damage_sign, damage_state};
 use crate::layout::{
     group_head, header, put_word, set_top_bit, slot_range, turn, word, Shape, BLOCK, START_LIMIT,
 };
@@ -62,6 +62,7 @@ fn craft_kept(rng: &mut Rng, lent: &mut Lent, shape: Shape, tags: &[u64]) {
     if rng.chance(85) {
         carry_listed(shape.homes, &lent.newest, &mut lent.state);
     }
+    damage_sign(rng, lent);
 }
 
 fn craft_group(rng: &mut Rng, lent: &mut Lent, shape: Shape, number: u64, tags: &[u64]) {

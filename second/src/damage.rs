@@ -160,6 +160,15 @@ pub fn damage_listed(rng: &mut Rng, lent: &mut Lent) {
         let values = [rng.next(), word(&lent.state, other), any, any, base.wrapping_sub(1), next, next.wrapping_sub(1), NONE];
         put_word(&mut lent.state, index, rng.pick(&values));
     }
+    damage_sign(rng, lent);
+}
+
+/// A sign of the list that may be false of it, or none.
+pub fn damage_sign(rng: &mut Rng, lent: &mut Lent) {
+    if rng.chance(50) {
+        let any = rng.next();
+        put_word(&mut lent.state, at::SIGN, rng.pick(&[0, 1, 2, 3, 1 << 32 | 1, 1 << 32 | 2, any]));
+    }
 }
 
 /// A wrong length for one part.

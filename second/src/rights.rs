@@ -4,7 +4,7 @@
 //! may read, each first home and number of homes. A list is there if D is large
 //! enough for its homes and one byte is not 0.
 
-use crate::layout::{home_range, refuse, BLOCK, WRITERS};
+use crate::layout::{home_range, put_word, refuse, word, BLOCK, WRITERS};
 use crate::newest::{position, POSITION};
 use crate::state::at;
 use crate::walk::{kept_entry, View};
@@ -49,17 +49,17 @@ impl List {
         (0..RANGES).any(|index| self.range(from + RANGE * index).contains(&home))
     }
 
-    /// The list's own homes are for writer 0 to store to.
-    pub fn may_store(&self, writer: u64, home: u64) -> bool {
-        if of_list(home) {
-            return writer == 0;
-        }
-        !self.is_there() || self.lies_in(WRITER * writer as usize, home)
+    /// The rights that it gives by its own bytes.
+    pub fn rights(&self) -> Rights {
+        Rights { list: *self, there: self.is_there() }
     }
 
-    /// All may read the list's own homes.
+    pub fn may_store(&self, writer: u64, home: u64) -> bool {
+        self.rights().may_store(writer, home)
+    }
+
     pub fn may_read(&self, writer: u64, home: u64) -> bool {
-        of_list(home) || !self.is_there() || self.lies_in(WRITER * writer as usize + RANGES * RANGE, home)
+        self.rights().may_read(writer, home)
     }
 
     /// Gives a writer a range: the first four indices are to store, the others to read.
@@ -70,6 +70,37 @@ impl List {
         bytes[from..from + 2].copy_from_slice(&first.to_le_bytes());
         bytes[from + 2..from + 4].copy_from_slice(&number.to_le_bytes());
     }
+}
+
+/// A list, and whether one is there, which the sign in a state may say.
+pub struct Rights {
+    list: List,
+    there: bool,
+}
+
+impl Rights {
+    /// The list's own homes are for writer 0 to store to.
+    pub fn may_store(&self, writer: u64, home: u64) -> bool {
+        if of_list(home) {
+            return writer == 0;
+        }
+        !self.there || self.list.lies_in(WRITER * writer as usize, home)
+    }
+
+    /// All may read the list's own homes.
+    pub fn may_read(&self, writer: u64, home: u64) -> bool {
+        of_list(home) || !self.there || self.list.lies_in(WRITER * writer as usize + RANGES * RANGE, home)
+    }
+}
+
+/// A list that a call has found, with the sign of the state.
+fn signed(view: &View, state: &[u8], list: List) -> Rights {
+    let there = match word(state, at::SIGN) {
+        1 => false,
+        2 => true,
+        _ => list.is_there(),
+    };
+    Rights { list, there: there && has_room(view.shape.homes) }
 }
 
 /// The list that counts: for each of its homes the block at the kept position,
@@ -93,18 +124,23 @@ pub(crate) fn find(view: &View, data: &[u8], kept: impl Fn(u64) -> u64) -> List 
 pub fn check_store(view: &View, data: &[u8], state: &[u8], writer: u64, home: u64) -> Result<(), u32> {
     let listed = &state[at::LISTED..];
     let list = find(view, data, |home| position(listed, home - LIST_HOME));
-    if list.may_store(writer, home) { Ok(()) } else { Err(refuse::STORE_RIGHT) }
+    if signed(view, state, list).may_store(writer, home) { Ok(()) } else { Err(refuse::STORE_RIGHT) }
 }
 
 /// The list as a call finds it that is lent the newest positions.
-pub fn newest_list(view: &View, data: &[u8], newest: &[u8]) -> List {
+fn newest_list(view: &View, data: &[u8], newest: &[u8]) -> List {
     find(view, data, |home| position(newest, home))
 }
 
+/// The same with the sign of the state.
+pub fn newest_rights(view: &View, data: &[u8], state: &[u8], newest: &[u8]) -> Rights {
+    signed(view, state, newest_list(view, data, newest))
+}
+
 /// Question 20.
-pub fn check_read(view: &View, data: &[u8], newest: &[u8], writer: u64, home: u64) -> Result<(), u32> {
-    let list = newest_list(view, data, newest);
-    if list.may_read(writer, home) { Ok(()) } else { Err(refuse::READ_RIGHT) }
+pub fn check_read(view: &View, data: &[u8], state: &[u8], newest: &[u8], writer: u64, home: u64) -> Result<(), u32> {
+    let rights = newest_rights(view, data, state, newest);
+    if rights.may_read(writer, home) { Ok(()) } else { Err(refuse::READ_RIGHT) }
 }
 
 /// The list's newest positions into the state, where D is large enough for it.
@@ -112,5 +148,17 @@ pub fn carry_listed(homes: u64, newest: &[u8], state: &mut [u8]) {
     if has_room(homes) {
         let from = POSITION * LIST_HOME as usize;
         state[at::LISTED..at::LISTED_END].copy_from_slice(&newest[from..from + POSITION * LIST_HOMES as usize]);
+    }
+}
+
+/// What a commit keeps of the list in the state: its positions, and where one
+/// of them has changed the sign of the list as it is now.
+pub fn keep_list(view: &View, data: &[u8], newest: &[u8], state: &mut [u8]) {
+    let homes = view.shape.homes;
+    let before = state[at::LISTED..at::LISTED_END].to_vec();
+    carry_listed(homes, newest, state);
+    if has_room(homes) && state[at::LISTED..at::LISTED_END] != before[..] {
+        let list = newest_list(view, data, newest);
+        put_word(state, at::SIGN, if list.is_there() { 2 } else { 1 });
     }
 }

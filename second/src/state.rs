@@ -22,6 +22,8 @@ pub mod at {
     /// The newest positions of the list's four homes.
     pub const LISTED: usize = 896;
     pub const LISTED_END: usize = 928;
+    /// The list's sign: 1, no list is committed; 2, one is; else nothing is said.
+    pub const SIGN: usize = 928;
     pub const WRITER_SIZE: usize = 96;
     pub const MODE: usize = 0;
     pub const HELD_HOME: usize = 8;

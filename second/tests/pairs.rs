@@ -1,11 +1,12 @@
 //! Pairs of histories on the second implementation, and on wrong variants of
 //! it, each of which some pair must tell apart.
 
+use second::layout::put_word;
 use second::lent::{Kind, Lent, Runner};
 use second::newest::{keep, NONE};
 use second::pairs::{pair, Pairs};
 use second::rights::{List, LIST_HOME};
-use second::state::Writer;
+use second::state::{at, Writer};
 use second::Answer;
 
 fn play(count: u64, mut runner: Runner) -> (Pairs, Option<String>) {
@@ -36,10 +37,16 @@ fn reading_under(other: impl Fn(&mut Lent, u64, u64) -> Option<List> + 'static) 
             keep(&mut copy.newest, home, NONE);
             copy.data[64 * home as usize..64 * home as usize + 64].copy_from_slice(block);
         }
+        unsign(&mut copy);
         let answer = copy.run(kind, writer, home);
         lent.block = copy.block;
         answer
     })
+}
+
+/// The list's sign taken out, so that the list itself is asked.
+fn unsign(lent: &mut Lent) {
+    put_word(&mut lent.state, at::SIGN, 0);
 }
 
 /// The list as a read by this writer gives it, which every writer may.
@@ -115,6 +122,7 @@ fn leaks_are_told_apart() {
             let mut copy = lent.clone();
             copy.newest[64..96].fill(0xff);
             copy.data[512..768].fill(0);
+            unsign(&mut copy);
             copy.run(kind, writer, home);
             lent.block[0] = copy.block[0];
         }

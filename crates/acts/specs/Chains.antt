@@ -6,9 +6,9 @@ use mathlib.Core.List.{List, [], _++_}
 use lib.Dec.{eqb, leb}
 use lib.ListN.{length}
 use Rattle.model.specs.Bytes.{part}
-use Rattle.model.specs.State.{freePlaces}
+use Rattle.model.specs.State.{freePlaces, listSign}
 use Rattle.model.specs.Effects.{Given, homes, Effect, beginEffect, storeEffect, commitEffect, readEffect}
-use Rattle.model.specs.Rights.{forHome, mayStore, mayRead, readList}
+use Rattle.model.specs.Rights.{forHome, storeRight, readRight, readList}
 use Rattle.model.specs.Questions.{ask, areasRight, stateRight, newestRight, stripInOrder, writerKnown, writerOpen, batchFits}
 use Rattle.model.specs.Calls.{Outcome, outcome, sizeOf}
 
@@ -86,10 +86,10 @@ allOf test home zero = true
 allOf test home (suc n) = allOf test home n && test (home + n)
 
 unfoldable pub mayStoreAll : Given → Bool
-mayStoreAll g = allOf (mayStore (homes g) (readList g) (g .writer)) (g .home) (blocksLent g)
+mayStoreAll g = allOf (storeRight (listSign (g .state)) (homes g) (readList g) (g .writer)) (g .home) (blocksLent g)
 
 unfoldable pub mayReadAll : Given → Bool
-mayReadAll g = allOf (mayRead (homes g) (readList g) (g .writer)) (g .home) (blocksLent g)
+mayReadAll g = allOf (readRight (listSign (g .state)) (homes g) (readList g) (g .writer)) (g .home) (blocksLent g)
 
 -- 8: each block becomes an entry, and none of the places is promised, since the writer is idle
 unfoldable pub roomForAll : Given → Bool

@@ -64,7 +64,7 @@ pub fn in_use(log: &[u8], area: &[u8], state: &[u8]) -> u64
     if quick != 1 {
         return quick;
     }
-    if !strip::in_order(state, groups, homes) {
+    if !strip::rest_in_order(state) {
         return 2;
     }
     0
@@ -86,7 +86,7 @@ pub fn in_use_block(log: &[u8], area: &[u8], state: &[u8], block: &[u8]) -> u64
     if quick != 1 {
         return quick;
     }
-    if !strip::in_order(state, groups, homes) {
+    if !strip::rest_in_order(state) {
         return 2;
     }
     0

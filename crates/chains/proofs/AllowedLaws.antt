@@ -9,9 +9,9 @@ use native.Mathlib.Omega.{arith}
 use borrow.Author.Tests.{not-true, not-false}
 use lib.ListN.{length}
 use Rattle.model.specs.Layout.{homesIn}
-use Rattle.model.specs.State.{listHome}
+use Rattle.model.specs.State.{listHome, listSign}
 use Rattle.model.specs.Effects.{Given, tagsOf, liveTags, liveBase, isThere, blockOr}
-use Rattle.model.specs.Rights.{forHome, shownAt, listBy, readList, mayStore, mayRead}
+use Rattle.model.specs.Rights.{forHome, shownAt, listBy, readList, storeRight, readRight}
 use Rattle.model.specs.Questions.{readAllowed}
 use Rattle.answers.specs.Lent.{lentAll}
 use Rattle.acts.specs.Chains.{allOf}
@@ -68,12 +68,12 @@ read-list-same l a s p x b w h v i = list-same l a s p x b w h v i _ 4
 -- ---- the two questions, home by home
 
 abbrev pub storeTest : List ℕ → List ℕ → List ℕ → List ℕ → ℕ → ℕ → Bool
-storeTest l a s p w = mayStore (homesIn (length a)) (readList (lentAll l a s p [] [] w 0)) w
+storeTest l a s p w = storeRight (listSign s) (homesIn (length a)) (readList (lentAll l a s p [] [] w 0)) w
 
 abbrev pub readTest : List ℕ → List ℕ → List ℕ → List ℕ → ℕ → ℕ → Bool
-readTest l a s p w = mayRead (homesIn (length a)) (readList (lentAll l a s p [] [] w 0)) w
+readTest l a s p w = readRight (listSign s) (homesIn (length a)) (readList (lentAll l a s p [] [] w 0)) w
 
-pub store-test : (l a s p : List ℕ) (w home : ℕ) (r : Bool) → r ≡ mayStore (homesIn (length a)) (readList (lentAll l a s p [] [] w home)) w home
+pub store-test : (l a s p : List ℕ) (w home : ℕ) (r : Bool) → r ≡ storeRight (listSign s) (homesIn (length a)) (readList (lentAll l a s p [] [] w home)) w home
     → r ≡ storeTest l a s p w home
 store-test l a s p w home r e = e ∙ rw (read-list-same l a s p [] [] w home w 0)
 

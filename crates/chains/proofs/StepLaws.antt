@@ -37,16 +37,6 @@ begun-holds s s₁ w r h l e er = let k : r ≡ begun = er ∙ rw e (writer-setW
 
 -- ---- each further one
 
-pub next-at : (l s b x : List ℕ) (st : State) (r : Writer) (w home : ℕ) → st ≡ stateOf s → r ≡ writerOf s w
-    → MayLog l s b (stateOf s) w × Fits (stateOf s) (writerOf s w) (nextPosition (stateOf s)) × (length x ≡ 64) × (holds (writerOf s w) ≡ true)
-    × (writerOf s w .home ≢ home)
-    → MayLog l s b st w × Fits st r (nextPosition st) × (length x ≡ 64) × (holds r ≡ true) × (r .home ≢ home)
-next-at l s b x st r w home es er h = rw (es, er) h
-
-pub stored-at : (k : ℕ) (s′ l′ b′ s l b x : List ℕ) (st : State) (r : Writer) (w home : ℕ) → st ≡ stateOf s → r ≡ writerOf s w
-    → StoredOther k s′ l′ b′ s l b x st r w home → StoredOther k s′ l′ b′ s l b x (stateOf s) (writerOf s w) w home
-stored-at k s′ l′ b′ s l b x st r w home es er d = rw (es, er) at d
-
 module _ (g : Given) (x : List ℕ) (w home n m : ℕ) (s l b : List ℕ) where
   -- what the i-th store of the loop asks for
   pub under-requires : (i to : ℕ) → Under g x w home n i m s l b → 1 ≤ i → i < n → to ≡ 64 * i + 64

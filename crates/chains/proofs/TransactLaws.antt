@@ -24,7 +24,7 @@ use Rattle.answers.specs.Lent.{lentAll, leavesAll}
 use Rattle.answers.proofs.AnswerLaws.{Usable, refused-by, done-by}
 use Rattle.logging.specs.Logs.{MayLog, Fits}
 use Rattle.commits.specs.Closings.{loggedClosing, keptBy, Committed}
-use Rattle.commits.proofs.CommitLaws.{effect-held, carried}
+use Rattle.commits.proofs.CommitLaws.{effect-held, kept-list}
 use Rattle.acts.specs.Chains.{blocksLent, blocksRight, homesKnown, lentOn, andThen, storedFirst, transactEffect, askHomes, allOf, mayStoreAll, roomForAll, transactAnswer, transactCall}
 use Rattle.chains.specs.Steps.{Chain, BatchRoom, Moved, Stored, Reached}
 use Rattle.chains.proofs.AllowedLaws.{read-list-same, storeTest}
@@ -115,7 +115,7 @@ module _ (g : Given) (n : ℕ) (c : Chain (g .log) (g .state) (g .block) (g .wri
   -- how the call ends
   done-with : Usable (g .log) (g .area) (g .state) → (answer m k c′ figure size : ℕ) (b s′ p′ l′ b′ : List ℕ) → answer ≡ 0
       → m ≡ length (batchBytes (e .records)) → b ≡ puts (g .batch) 0 (batchBytes (e .records))
-      → Committed k s′ p′ l′ b′ (e .state) (g .newest) (e .log) b (stateOf (e .state)) r (g .writer)
+      → Committed k s′ p′ l′ b′ (e .state) (g .newest) (e .log) b (g .area) (stateOf (e .state)) r (g .writer)
       → (c′ ≡ 0) × (figure ≡ p + 1) × (size ≡ m + k)
       → leavesAll c′ figure size l′ (g .area) s′ p′ (g .block) b′ ≡ outcome g answer (andThen g e (commitHeld final r p))
   unfolding andThen lentOn commitHeld logClosing loggedClosing
@@ -123,7 +123,7 @@ module _ (g : Given) (n : ℕ) (c : Chain (g .log) (g .state) (g .block) (g .wri
       let kept : p′ ≡ keptCommit final (lo .log) (firstFor r p) p =
       d .newest ∙ kept-same (ap length (h .area)) u l′ ∙ ap (λ y. keptCommit final y (firstFor r p) p) (d .log) in
       done-by g (andThen g e (commitHeld final r p)) answer c′ figure size l′ (g .area) s′ p′ (g .block) b′ z (q .0) (q .1)
-      (q .2 ∙ rw (em, d .size) (sizes-more (e .records) (lo .records))) (d .log) (sym (h .area)) (carried _ _ _ _ _ _ _ (d .state) (homes-same (ap length (h .area)) u) kept refl) kept refl
+      (q .2 ∙ rw (em, d .size) (sizes-more (e .records) (lo .records))) (d .log) (sym (h .area)) (kept-list _ _ _ _ _ _ _ _ _ (d .state) (d .log) (sym (h .area)) refl kept) kept refl
       (bytes-more g n c e j h (omega arith) word (heldOf (e .state) (g .writer)) (g .batch) b b′ eb (d .batch))
 
 -- the whole call
@@ -151,20 +151,20 @@ module _ (g : Given) (c : Chain (g .log) (g .state) (g .block) (g .writer) (g .h
 
   -- what the commit asks for
   pub commit-requires : (m : ℕ) (s l b p : List ℕ) (st : State) (r : Writer) → BatchRoom (g .state) (g .batch) (length (g .block) / 64)
-      → length p ≡ 8 * stateOf (g .state) .homes
+      → length p ≡ 8 * stateOf (g .state) .homes → length (g .area) ≡ 64 * stateOf (g .state) .homes
       → Reached m s l b (g .batch) (storedFirst g (length (g .block) / 64)) → st ≡ stateOf s → r ≡ writerOf s (g .writer)
-      → MayLog l s b st (g .writer) × Fits st r (nextPosition st) × (length p ≡ 8 * st .homes)
-  commit-requires m s l b p st r room len q es er =
+      → MayLog l s b st (g .writer) × Fits st r (nextPosition st) × (length p ≡ 8 * st .homes) × (length (g .area) ≡ 64 * st .homes)
+  commit-requires m s l b p st r room len area q es er =
       let k = last-store n refl c in
       let h = k .1 .1 in
       let room′ : BatchRoom (g .state) b n =
       λ x. omega (arith, room x, ap length (q .batch), length-puts (g .batch) 0 (batchBytes (e .records))) in
       let y = may-log g n c e (k .0) h (omega (arith, k .1 .0)) b room′ in
-      rw (es, er, q .state, q .log) (y .0, y .1, omega (arith, len, h .homes))
+      rw (es, er, q .state, q .log) (y .0, y .1, omega (arith, len, h .homes), omega (arith, area, h .homes))
 
   pub sizes-few : (m k : ℕ) (s₁ l₁ b₁ s′ p′ l′ b′ : List ℕ) (st : State) (r : Writer)
       → Reached m s₁ l₁ b₁ (g .batch) (storedFirst g (length (g .block) / 64)) → st ≡ stateOf s₁ → r ≡ writerOf s₁ (g .writer)
-      → Committed k s′ p′ l′ b′ s₁ (g .newest) l₁ b₁ st r (g .writer) → m + k ≤ 516
+      → Committed k s′ p′ l′ b′ s₁ (g .newest) l₁ b₁ (g .area) st r (g .writer) → m + k ≤ 516
   sizes-few m k s₁ l₁ b₁ s′ p′ l′ b′ st r t es er d =
       let i = last-store n refl c in
       let d′ = rw (es, er, t .state, t .log) at d in
@@ -172,7 +172,7 @@ module _ (g : Given) (c : Chain (g .log) (g .state) (g .block) (g .writer) (g .h
 
   pub ends-done : Usable (g .log) (g .area) (g .state) → (answer m k q c′ figure size : ℕ) (s₁ l₁ b₁ s′ p′ l′ b′ : List ℕ) (st : State) (r : Writer)
       → answer ≡ 0 → Reached m s₁ l₁ b₁ (g .batch) (storedFirst g (length (g .block) / 64)) → st ≡ stateOf s₁ → r ≡ writerOf s₁ (g .writer)
-      → q ≡ nextPosition st → Committed k s′ p′ l′ b′ s₁ (g .newest) l₁ b₁ st r (g .writer) → (c′ ≡ 0) × (figure ≡ q + 1) × (size ≡ m + k)
+      → q ≡ nextPosition st → Committed k s′ p′ l′ b′ s₁ (g .newest) l₁ b₁ (g .area) st r (g .writer) → (c′ ≡ 0) × (figure ≡ q + 1) × (size ≡ m + k)
       → leavesAll c′ figure size l′ (g .area) s′ p′ (g .block) b′ ≡ outcome g answer (transactEffect g)
   ends-done u answer m k q c′ figure size s₁ l₁ b₁ s′ p′ l′ b′ st r z t es er eq d y =
       let i = last-store n refl c in
@@ -270,18 +270,18 @@ module _ (l a s p x b : List ℕ) (w h : ℕ) where
 
       module _ (m : ℕ) (s₁ l₁ b₁ : List ℕ) (st : State) (rec : Writer)
           (t : (a p : List ℕ) → Reached m s₁ l₁ b₁ b (storedFirst (lentAll l a s p x b w h) (length x / 64))) (es : st ≡ stateOf s₁) (er : rec ≡ writerOf s₁ w) where
-        pub held : MayLog l₁ s₁ b₁ st w × Fits st rec (nextPosition st) × (length p ≡ 8 * st .homes)
+        pub held : MayLog l₁ s₁ b₁ st w × Fits st rec (nextPosition st) × (length p ≡ 8 * st .homes) × (length a ≡ 64 * st .homes)
         held =
             let u = passed .0 .usable in
             commit-requires (lentAll l a s p x b w h) chain-is m s₁ l₁ b₁ p st rec room-is (passed .0 .newest ∙ ap (λ n. 8 * n) (sym (u .order .homes-same)))
-            (t a p) es er
+            (u .area-length ∙ ap (λ n. 64 * n) (sym (u .order .homes-same))) (t a p) es er
 
         -- its bytes are those of one group at most
-        pub stored-size : (k : ℕ) (s′ p′ l′ b′ : List ℕ) → Committed k s′ p′ l′ b′ s₁ p l₁ b₁ st rec w → m + k ≤ 516
+        pub stored-size : (k : ℕ) (s′ p′ l′ b′ : List ℕ) → Committed k s′ p′ l′ b′ s₁ p l₁ b₁ a st rec w → m + k ≤ 516
         stored-size k s′ p′ l′ b′ d =
             sizes-few (lentAll l a s p x b w h) chain-is m k s₁ l₁ b₁ s′ p′ l′ b′ st rec (t a p) es er d
 
-        pub transact-done : (k q c figure size : ℕ) (s′ p′ l′ b′ : List ℕ) → q ≡ nextPosition st → Committed k s′ p′ l′ b′ s₁ p l₁ b₁ st rec w
+        pub transact-done : (k q c figure size : ℕ) (s′ p′ l′ b′ : List ℕ) → q ≡ nextPosition st → Committed k s′ p′ l′ b′ s₁ p l₁ b₁ a st rec w
             → (c ≡ 0) × (figure ≡ q + 1) × (size ≡ m + k) → leavesAll c figure size l′ a s′ p′ x b′ ≡ transactCall (lentAll l a s p x b w h)
         unfolding transactCall
         transact-done k q c figure size s′ p′ l′ b′ eq d y =

@@ -6,7 +6,8 @@ ghost use lib.ListN.{length};
 ghost use Rattle.model.specs.Layout.{homesIn};
 ghost use Rattle.answers.specs.Lent.{lentAll};
 ghost use Rattle.answers.proofs.AnswerLaws.{Usable};
-ghost use Rattle.model.specs.Rights.{mayStore, mayRead, readList};
+ghost use Rattle.model.specs.State.{listSign};
+ghost use Rattle.model.specs.Rights.{storeRight, readRight, readList};
 ghost use Rattle.acts.specs.Chains.{allOf};
 
 // Whether a writer may store to each of `n` homes from `home` on.
@@ -20,7 +21,7 @@ pub fn may_store_all(
     n: u64,
 ) -> bool
     requires { ⌜ Usable (now log) (now area) (now state) × (length (now newest) ≡ 8 * homesIn (length (now area))) × (writer < 8) × (home + n ≤ homesIn (length (now area))) ⌝ }
-    ensures { λ r. ⌜ r ≡ allOf (mayStore (homesIn (length (now (area .entry)))) (readList (lentAll (now (log .entry)) (now (area .entry)) (now (state .entry)) (now (newest .entry)) [] [] writer 0)) writer) home n ⌝ }
+    ensures { λ r. ⌜ r ≡ allOf (storeRight (listSign (now (state .entry))) (homesIn (length (now (area .entry)))) (readList (lentAll (now (log .entry)) (now (area .entry)) (now (state .entry)) (now (newest .entry)) [] [] writer 0)) writer) home n ⌝ }
 {
     let mut i: u64 = 0;
     while i < n {
@@ -43,7 +44,7 @@ pub fn may_read_all(
     n: u64,
 ) -> bool
     requires { ⌜ Usable (now log) (now area) (now state) × (length (now newest) ≡ 8 * homesIn (length (now area))) × (writer < 8) × (home + n ≤ homesIn (length (now area))) ⌝ }
-    ensures { λ r. ⌜ r ≡ allOf (mayRead (homesIn (length (now (area .entry)))) (readList (lentAll (now (log .entry)) (now (area .entry)) (now (state .entry)) (now (newest .entry)) [] [] writer 0)) writer) home n ⌝ }
+    ensures { λ r. ⌜ r ≡ allOf (readRight (listSign (now (state .entry))) (homesIn (length (now (area .entry)))) (readList (lentAll (now (log .entry)) (now (area .entry)) (now (state .entry)) (now (newest .entry)) [] [] writer 0)) writer) home n ⌝ }
 {
     let mut i: u64 = 0;
     while i < n {

@@ -23,24 +23,6 @@ fn hold_first(state: &mut [u8], blocks: &[u8], w: usize, home: u64)
     logging::store_first(state, &blocks[0..64], r, w, home)
 }
 
-// Logs the block that the writer `w` holds and holds the next one, for another home.
-fn store_next(
-    log: &mut [u8],
-    state: &mut [u8],
-    block: &[u8],
-    batch: &mut [u8],
-    w: usize,
-    home: u64,
-) -> u64
-    requires { ⌜ MayLog (now log) (now state) (now batch) (stateOf (now state)) w × Fits (stateOf (now state)) (writerOf (now state) w) (nextPosition (stateOf (now state)))
-        × (length (now block) ≡ 64) × (holds (writerOf (now state) w) ≡ true) × (writerOf (now state) w .home ≢ home) ⌝ }
-    ensures { λ x. ⌜ StoredOther x (now (state .exit)) (now (log .exit)) (now (batch .exit)) (now (state .entry)) (now (log .entry)) (now (batch .entry)) (now (block .entry)) (stateOf (now (state .entry))) (writerOf (now (state .entry)) w) w home ⌝ }
-{
-    let st = strip::state(state);
-    let r = strip::writer(state, w);
-    logging::store_other(log, state, block, batch, st, r, w, home)
-}
-
 // Stores the lent blocks but the first, which is held, by rising home. Returns how many bytes of the batch are written.
 fn store_rest(
     log: &mut [u8],
@@ -59,7 +41,7 @@ fn store_rest(
     let mut i: usize = 1;
     while i < n {
         let at = 64 * i;
-        size += store_next(log, state, &blocks[at..at + 64], batch, w, home + i as u64);
+        size += logging::store_next(log, state, &blocks[at..at + 64], batch, w, home + i as u64);
         i += 1;
     }
     size

@@ -28,8 +28,7 @@ pub fn transact(
     let w = writer as usize;
     let stored = store_all(log, state, blocks, batch, w, home);
     let st = strip::state(state);
-    let r = strip::writer(state, w);
     let ticket = strip::next_position(st) + 1;
-    let size = commits::commit_held(log, state, newest, batch, st, r, w);
+    let size = commits::commit_next(log, area, state, newest, batch, w);
     answers::done(ticket, stored + size)
 }

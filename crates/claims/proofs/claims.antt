@@ -12,7 +12,10 @@ pub mod CallAnswers
 pub mod RoundFollows
 pub mod StoreFollows
 pub mod KeptSteps
+pub mod ListRights
 pub mod ListedSteps
+pub mod KeptShown
+pub mod SignSteps
 pub mod KeptHolds
 pub mod AnswersHold
 pub mod DemandTwo
@@ -20,7 +23,6 @@ pub mod Reached
 pub mod UnitBooks
 pub mod TransactBooks
 pub mod StoreChains
-pub mod ListRights
 pub mod ChainRuns
 pub mod ActsHold
 pub mod FetchReads

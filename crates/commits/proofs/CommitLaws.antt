@@ -13,7 +13,7 @@ use Rattle.model.specs.Batch.{batchBytes}
 use Rattle.model.specs.declared.State.{State}
 use Rattle.model.specs.declared.Writer.{Writer}
 use Rattle.model.specs.State.{stateOf, nextPosition, writerOf, setWriter, setPromise, idle, isOpen, holds, firstFor}
-use Rattle.model.specs.Newest.{carryListed}
+use Rattle.model.specs.Rights.{keepList}
 use Rattle.model.specs.Effects.{Given, newState, abortEffect, logClosing, tagsOf, liveBase, keptCommit, commitHeld, commitEffect}
 use Rattle.model.specs.Questions.{ask, askNewest, writerKnown, writerOpen, roomFor, room, commitLogs, batchFits, commitAnswer}
 use Rattle.model.specs.Calls.{sizeOf, commitCall}
@@ -56,8 +56,9 @@ logs-is : (g : Given) (r : Writer) (t : Bool) → r ≡ writerOf (g .state) (g .
 unfolding commitLogs
 logs-is g r t e h = ap holds (sym e) ∙ h
 
-pub carried : (n m : ℕ) (p q x y s : List ℕ) → s ≡ carryListed n p x → n ≡ m → p ≡ q → x ≡ y → s ≡ carryListed m q y
-carried n m p q x y s e f g h = e ∙ rw (f, g, h)
+pub kept-list : (l m a b x y p q s : List ℕ) → s ≡ keepList (lentAll l a x p [] [] 0 0) → l ≡ m → a ≡ b → x ≡ y → p ≡ q
+    → s ≡ keepList (lentAll m b y q [] [] 0 0)
+kept-list l m a b x y p q s e f g h k = e ∙ rw (f, g, h, k)
 
 -- ---- its answer
 
@@ -148,7 +149,7 @@ module _ (l a s ps b : List ℕ) (v : ℕ) where
           (effect-none (lentAll l a s ps [] b v 0) r er (sym et ∙ not-true t p)) (sym e ∙ z) (q .0) (q .1) (q .2) refl refl hs refl refl (sym (puts-nil b 0))
 
       pub held : (r : Writer) (t : Bool) (st : State) → r ≡ writerOf s v → t ≡ holds r → not t ≡ false → st ≡ stateOf s
-          → MayLog l s b st v × Fits st r (nextPosition st) × (length ps ≡ 8 * st .homes)
+          → MayLog l s b st v × Fits st r (nextPosition st) × (length ps ≡ 8 * st .homes) × (length a ≡ 64 * st .homes)
       unfolding room
       held r t st er et o es =
           let f : holds r ≡ true = sym et ∙ not-false t o in
@@ -161,7 +162,8 @@ module _ (l a s ps b : List ℕ) (v : ℕ) where
           ap sizeOf (effect-held (lentAll l a s ps [] b v 0) r (stateOf s) er refl f) ∙ size-held (lentAll l a s ps [] b v 0) r (stateOf s) refl g₁ g₂ in
           let i : cond (eqb (stateOf s .filled) 6) 516 0 ≤ length b = rw y at (fits (lentAll l a s ps [] b v 0) _ (ready .batch)) in
           let h : length ps ≡ 8 * stateOf s .homes = lentBoth .1 ∙ ap (λ n. 8 * n) (sym (u .order .homes-same)) in
-          (may l a s b st v u es (known .1) (rw es k) (rw es i), fits-tag l a s st r v u es er (known .1) f (rw es k), rw es h)
+          let d : length a ≡ 64 * stateOf s .homes = u .area-length ∙ ap (λ n. 64 * n) (sym (u .order .homes-same)) in
+          (may l a s b st v u es (known .1) (rw es k) (rw es i), fits-tag l a s st r v u es er (known .1) f (rw es k), rw es h, rw es d)
 
       -- the newest positions, over the numbers of the strip
       newest-same : (r : Writer) (st : State) (l′ : List ℕ) → st ≡ stateOf s
@@ -169,11 +171,8 @@ module _ (l a s ps b : List ℕ) (v : ℕ) where
       unfolding keptBy keptCommit tagsOf liveBase
       newest-same r st l′ es = rw (es, lentFor .order .groups-same, lentFor .order .homes-same)
 
-      homes-by : (st : State) → st ≡ stateOf s → st .homes ≡ homesIn (length a)
-      homes-by st es = ap (λ (x : State). x .homes) es ∙ lentFor .order .homes-same
-
       pub ends-held : (r : Writer) (t : Bool) (st : State) (n q : ℕ) (s′ p′ l′ b′ : List ℕ) (c figure size : ℕ) → r ≡ writerOf s v → t ≡ holds r
-          → not t ≡ false → st ≡ stateOf s → q ≡ nextPosition st → Committed n s′ p′ l′ b′ s ps l b st r v → (c ≡ 0) × (figure ≡ q + 1) × (size ≡ n)
+          → not t ≡ false → st ≡ stateOf s → q ≡ nextPosition st → Committed n s′ p′ l′ b′ s ps l b a st r v → (c ≡ 0) × (figure ≡ q + 1) × (size ≡ n)
           → leavesAll c figure size l′ a s′ p′ [] b′ ≡ commitCall (lentAll l a s ps [] b v 0)
       unfolding commitCall commitHeld logClosing loggedClosing
       ends-held r t st n q s′ p′ l′ b′ c figure size er et o es eq d y =
@@ -182,4 +181,4 @@ module _ (l a s ps b : List ℕ) (v : ℕ) where
           ends (lentAll l a s ps [] b v 0) (commitEffect (lentAll l a s ps [] b v 0)) (commitHeld (lentAll l a s ps [] b v 0) r (nextPosition st)) _ c figure size l′ a
           s′ p′ [] b′
           (effect-held (lentAll l a s ps [] b v 0) r st er es (sym et ∙ not-false t o)) (sym e ∙ z) (y .0) (y .1 ∙ rw eq) (y .2 ∙ d .size ∙ rw (← es))
-          (d .log ∙ rw (← es)) refl (carried _ _ _ _ _ _ _ (d .state) (homes-by st es) (k ∙ rw (← es)) (rw (← es))) (k ∙ rw (← es)) refl (d .batch ∙ rw (← es))
+          (d .log ∙ rw (← es)) refl (kept-list _ _ _ _ _ _ _ _ _ (d .state) (d .log ∙ rw (← es)) refl (rw (← es)) (k ∙ rw (← es))) (k ∙ rw (← es)) refl (d .batch ∙ rw (← es))

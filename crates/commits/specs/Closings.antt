@@ -1,7 +1,7 @@
 -- What a commit leaves in the slices of a call.
 use Prim.Native.Nat.{ℕ, _+_, _-_, _*_}
 use mathlib.Core.Path.{_≡_}
-use mathlib.Core.List.{List}
+use mathlib.Core.List.{List, []}
 use lib.ListN.{length}
 use Rattle.model.specs.Bytes.{puts}
 use Rattle.model.specs.Batch.{batchBytes}
@@ -11,9 +11,11 @@ use Rattle.model.specs.declared.Writer.{Writer}
 use Rattle.model.specs.Tag.{closingWord}
 use Rattle.model.specs.Layout.{entryAt}
 use Rattle.model.specs.Commit.{entries}
-use Rattle.model.specs.Newest.{carryListed, keepEntries}
+use Rattle.model.specs.Newest.{keepEntries}
+use Rattle.model.specs.Rights.{keepList}
 use Rattle.model.specs.Effects.{Logged, logged, linkFrom}
 use Rattle.model.specs.declared.Tag.{Tag}
+use Rattle.answers.specs.Lent.{lentAll}
 
 -- a held block logged as a closing entry
 unfoldable pub loggedClosing : List ℕ → List ℕ → State → Writer → ℕ → Logged
@@ -22,7 +24,7 @@ loggedClosing s log st r w =
     (closingWord (r .home) (nextPosition st - firstFor r (nextPosition st)) (linkFrom (nextPosition st) st) (countFor r + 1))
     (heldOf s w)
 
--- a commit that logs the held block: the closing entry, and with the promise given back, the newest positions kept and those of the list carried over
+-- a commit that logs the held block: the closing entry, and with the promise given back, the newest positions kept, and with them the list's part of the strip
 pub record Closed (n : ℕ) (s l b : List ℕ) (s₀ l₀ b₀ : List ℕ) (st : State) (r : Writer) (w : ℕ) : Type 0 where
   pub size : n ≡ length (batchBytes (loggedClosing s₀ l₀ st r w .records))
   pub state : s ≡ setWriter (setLast (loggedClosing s₀ l₀ st r w .state) (nextPosition st + 1)) w idle
@@ -35,10 +37,11 @@ keptBy log st r newest =
     let tags : ℕ → Tag = entryAt log (st .groups) (st .homes) (st .start) in
     keepEntries tags (entries tags (7 * st .start) (record { first = firstFor r (nextPosition st); closing = nextPosition st })) newest
 
-pub record Committed (n : ℕ) (s p l b : List ℕ) (s₀ p₀ l₀ b₀ : List ℕ) (st : State) (r : Writer) (w : ℕ) : Type 0 where
+pub record Committed (n : ℕ) (s p l b : List ℕ) (s₀ p₀ l₀ b₀ a : List ℕ) (st : State) (r : Writer) (w : ℕ) : Type 0 where
   pub size : n ≡ length (batchBytes (loggedClosing s₀ l₀ st r w .records))
   pub state : s
-      ≡ carryListed (st .homes) p (setPromise (setWriter (setLast (loggedClosing s₀ l₀ st r w .state) (nextPosition st + 1)) w idle) w 0)
+      ≡ keepList
+      (lentAll l a (setPromise (setWriter (setLast (loggedClosing s₀ l₀ st r w .state) (nextPosition st + 1)) w idle) w 0) p [] [] 0 0)
   pub newest : p ≡ keptBy l st r p₀
   pub log : l ≡ loggedClosing s₀ l₀ st r w .log
   pub batch : b ≡ puts b₀ 0 (batchBytes (loggedClosing s₀ l₀ st r w .records))

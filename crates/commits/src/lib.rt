@@ -9,7 +9,7 @@ ghost use mathlib.Core.Path.{_≡_};
 ghost use mathlib.Core.List.{[]};
 ghost use Prim.Native.Nat.{_+_, _*_, _≤_, _<_};
 ghost use lib.ListN.{length};
-ghost use Rattle.model.specs.State.{nextPosition, setWriter, setPromise, idle, firstFor};
+ghost use Rattle.model.specs.State.{stateOf, nextPosition, writerOf, setWriter, setPromise, idle, firstFor};
 ghost use Rattle.model.specs.Effects.{commitEffect};
 ghost use Rattle.model.specs.Questions.{commitAnswer};
 ghost use Rattle.model.specs.Calls.{sizeOf, commitCall};
@@ -47,19 +47,33 @@ fn close_held(
     size
 }
 
-// Keeps the position of each entry of the transaction that was closed at the next position.
+// Keeps the position of each entry of the transaction that was closed at the next position; where nothing was logged before, that is one position.
 fn keep_newest(log: &[u8], newest: &mut [u8], st: State, r: Writer)
-    requires { ⌜ Stretch (now log) (st .groups) (st .start) (firstFor r (nextPosition st)) (nextPosition st + 1) × (st .homes ≤ 65535) × (length (now newest) ≡ 8 * st .homes) ⌝ }
+    requires { ⌜ Stretch (now log) (st .groups) (st .start) (firstFor r (nextPosition st)) (nextPosition st + 1) × (st .homes ≤ 65535) × (length (now newest) ≡ 8 * st .homes) × (st .filled ≤ 6) ⌝ }
     ensures { λ _. ⌜ now (newest .exit) ≡ keptBy (now (log .entry)) st r (now (newest .entry)) ⌝ }
 {
+    if !strip::has_logged(r) {
+        positions::keep_one(
+            log,
+            st.groups,
+            st.homes,
+            st.start,
+            st.next,
+            st.filled as usize,
+            newest,
+        );
+        return;
+    }
     let position = strip::next_position(st);
     let first = strip::first_for(r, position);
     positions::keep_entries(log, st.groups, st.homes, st.start, first, position, newest)
 }
 
-// The closing entry, with the places promised to the writer given back, the newest positions kept, and those of the list of rights carried over.
-pub fn commit_held(
+// The closing entry, with the places promised to the writer given back, the newest positions kept, and with them the state strip's part of the list of
+// rights.
+fn commit_held(
     log: &mut [u8],
+    area: &[u8],
     state: &mut [u8],
     newest: &mut [u8],
     batch: &mut [u8],
@@ -67,14 +81,31 @@ pub fn commit_held(
     r: Writer,
     w: usize,
 ) -> u64
-    requires { ⌜ MayLog (now log) (now state) (now batch) st w × Fits st r (nextPosition st) × (length (now newest) ≡ 8 * st .homes) ⌝ }
-    ensures { λ x. ⌜ Committed x (now (state .exit)) (now (newest .exit)) (now (log .exit)) (now (batch .exit)) (now (state .entry)) (now (newest .entry)) (now (log .entry)) (now (batch .entry)) st r w ⌝ }
+    requires { ⌜ MayLog (now log) (now state) (now batch) st w × Fits st r (nextPosition st) × (length (now newest) ≡ 8 * st .homes) × (length (now area) ≡ 64 * st .homes) ⌝ }
+    ensures { λ x. ⌜ Committed x (now (state .exit)) (now (newest .exit)) (now (log .exit)) (now (batch .exit)) (now (state .entry)) (now (newest .entry)) (now (log .entry)) (now (batch .entry)) (now (area .entry)) st r w ⌝ }
 {
     let size = close_held(log, state, batch, st, r, w);
     strip::set_promise(state, w, 0);
     keep_newest(log, newest, st, r);
-    strip::carry_listed(state, newest, st.homes);
+    rights::keep_list(log, area, state, newest);
     size
+}
+
+// The same by the numbers and the record that stand in the strip.
+pub fn commit_next(
+    log: &mut [u8],
+    area: &[u8],
+    state: &mut [u8],
+    newest: &mut [u8],
+    batch: &mut [u8],
+    w: usize,
+) -> u64
+    requires { ⌜ MayLog (now log) (now state) (now batch) (stateOf (now state)) w × Fits (stateOf (now state)) (writerOf (now state) w) (nextPosition (stateOf (now state))) × (length (now newest) ≡ 8 * stateOf (now state) .homes) × (length (now area) ≡ 64 * stateOf (now state) .homes) ⌝ }
+    ensures { λ x. ⌜ Committed x (now (state .exit)) (now (newest .exit)) (now (log .exit)) (now (batch .exit)) (now (state .entry)) (now (newest .entry)) (now (log .entry)) (now (batch .entry)) (now (area .entry)) (stateOf (now (state .entry))) (writerOf (now (state .entry)) w) w ⌝ }
+{
+    let st = strip::state(state);
+    let r = strip::writer(state, w);
+    commit_held(log, area, state, newest, batch, st, r, w)
 }
 
 // The answer of a commit: 0, or the number of the question that refuses it.
@@ -129,6 +160,6 @@ pub fn commit(
     }
     let st = strip::state(state);
     let ticket = strip::next_position(st) + 1;
-    let size = commit_held(log, state, newest, batch, st, r, w);
+    let size = commit_next(log, area, state, newest, batch, w);
     answers::done(ticket, size)
 }

@@ -7,7 +7,7 @@ use native.Mathlib.Decide.{ℕ-discrete}
 use native.Mathlib.Omega.{arith}
 use borrow.Author.Tests.{eq-eqb, ne-eqb, eqb-true}
 use lib.Dec.{eqb}
-use lib.ListN.{getD, set, replicate, length-set, length-replicate}
+use lib.ListN.{length, getD, set, replicate, length-set, length-replicate}
 use lib.Seq.{getD-set-same, getD-set-other}
 use Rattle.model.specs.Tag.{belongs, homeOf, readTag}
 use Rattle.model.proofs.bytes.TagLaws.{field-lt, entry-known, closing-known, closing-fields}
@@ -19,7 +19,7 @@ use Rattle.scan.proofs.ScanLaws.{Placed, placed}
 use Rattle.gathering.specs.Closers.{closes, closer}
 use Rattle.gathering.proofs.CloserLaws.{closer-same, closer-now}
 use Rattle.model.proofs.trace.ReplayLaws.{known}
-use Rattle.gathering.specs.Chains.{maxEntries, maxWords, maxHomes, Chains, fresh, chained, note, Roomy, inWord, top, Holds, Chained}
+use Rattle.gathering.specs.Chains.{maxWords, maxHomes, Chains, fresh, chained, note, Roomy, Empty, inWord, top, Holds, Chained}
 
 -- ---- the last entry for a word
 
@@ -64,20 +64,20 @@ module _ (tags : ℕ → Tag) (base w : ℕ) where
 
 -- ---- what the pass holds
 
-abbrev pub Room : Chains → Type 0
-Room g = Roomy 0 (g .last) (g .heads) (g .links)
+abbrev pub Room : ℕ → Chains → Type 0
+Room size g = Roomy 0 size (g .last) (g .heads) (g .links)
 
-pub room-note : (base position : ℕ) (t : Tag) (g : Chains) → Room g → Room (note base position t g)
+pub room-note : (size base position : ℕ) (t : Tag) (g : Chains) → Room size g → Room size (note base position t g)
 unfolding note chained
-room-note base position Nothing g r = r
-room-note base position (Entry h f) g r =
+room-note size base position Nothing g r = r
+room-note size base position (Entry h f) g r =
     record {
       few = r .few;
       lasts = r .lasts;
       words = length-set (g .heads) (h / 64) (position - base + 1) ∙ r .words;
       each = length-set (g .links) (position - base) (getD (g .heads) (h / 64) 0) ∙ r .each;
     }
-room-note base position (Closing h f link count) g r =
+room-note size base position (Closing h f link count) g r =
     record {
       few = r .few;
       lasts = length-set (g .last) (f - base) (position - base + 1) ∙ r .lasts;
@@ -138,9 +138,9 @@ getD-zeros zero i = refl
 getD-zeros (suc n) zero = refl
 getD-zeros (suc n) (suc i) = getD-zeros n i
 
-module _ (tags : ℕ → Tag) (base : ℕ) (at : Placed tags base) (home : Housed tags) where
+module _ (size : ℕ) (tags : ℕ → Tag) (base : ℕ) (at : Placed tags base) (home : Housed tags) where
   -- an entry at offset n for home h goes into its word's chain
-  module _ (n h : ℕ) (l : n < maxEntries) (k : h < maxHomes) (words : (w : ℕ) → inWord w (tags (base + n)) ≡ eqb (h / 64) w) (g : Chains) (r : Room g)
+  module _ (n h : ℕ) (l : n < size) (k : h < maxHomes) (words : (w : ℕ) → inWord w (tags (base + n)) ≡ eqb (h / 64) w) (g : Chains) (r : Room size g)
       (heads : (w : ℕ) → w < maxWords → getD (g .heads) w 0 ≡ top tags base w n)
       (links : (i : ℕ) → i < n → (w : ℕ) → inWord w (tags (base + i)) ≡ true → getD (g .links) i 0 ≡ top tags base w i) where
     head-chained : (w : ℕ) → w < maxWords → getD (set (g .heads) (h / 64) (n + 1)) w 0 ≡ top tags base w (suc n)
@@ -164,8 +164,8 @@ module _ (tags : ℕ → Tag) (base : ℕ) (at : Placed tags base) (home : House
         go (no z) = getD-set-other (g .links) n i (getD (g .heads) (h / 64) 0) 0 z ∙ links i (omega arith) w e
 
   -- one position more
-  holds-note : (n : ℕ) (g : Chains) → n < maxEntries → Room g → Holds tags base n g → (t : Tag) → tags (base + n) ≡ t
-      → Holds tags base (suc n) (note base (base + n) t g)
+  holds-note : (n : ℕ) (g : Chains) → n < size → Room size g → Holds size tags base n g → (t : Tag) → tags (base + n) ≡ t
+      → Holds size tags base (suc n) (note base (base + n) t g)
   unfolding note chained closes inWord
   holds-note n g l r k Nothing e =
       record {
@@ -197,7 +197,7 @@ module _ (tags : ℕ → Tag) (base : ℕ) (at : Placed tags base) (home : House
         link = link-chained n h l o (λ w. rw e) g r (k .head) (k .link);
       })
     where
-      last : (j : ℕ) → base ≤ j → j < base + maxEntries → Dec (j ≡ f) → base ≤ f → f ≤ base + n
+      last : (j : ℕ) → base ≤ j → j < base + size → Dec (j ≡ f) → base ≤ f → f ≤ base + n
           → getD (set (g .last) (f - base) (n + 1)) (j - base) 0 ≡ closer tags base (suc n) j
       last j a b (yes z) c d =
           rw z (getD-set-same (g .last) (f - base) (n + 1) 0 (omega (arith, r .lasts)) ∙ sym (closer-now tags base f n (rw e (eq-eqb f f refl))))
@@ -205,43 +205,45 @@ module _ (tags : ℕ → Tag) (base : ℕ) (at : Placed tags base) (home : House
           getD-set-other (g .last) (f - base) (j - base) (n + 1) 0 (λ y. z (omega arith)) ∙ k .closing j a b
           ∙ sym (closer-same tags base j n (rw e (ne-eqb j f z)))
 
-  pub holds-over : (n : ℕ) → n ≤ maxEntries → Room (over (note base) tags base n fresh) × Holds tags base n (over (note base) tags base n fresh)
+  pub holds-over : (n : ℕ) → n ≤ size → Room size (over (note base) tags base n (fresh size)) × Holds size tags base n (over (note base) tags base n (fresh size))
   unfolding over
   holds-over zero l = unfold fresh top closer in (
     record {
       few = omega arith;
-      lasts = length-replicate {A = ℕ} maxEntries 0;
+      lasts = length-replicate {A = ℕ} size 0;
       words = length-replicate {A = ℕ} maxWords 0;
-      each = length-replicate {A = ℕ} maxEntries 0;
+      each = length-replicate {A = ℕ} size 0;
     },
     record {
-      closing = λ f a b. getD-zeros maxEntries (f - base);
+      closing = λ f a b. getD-zeros size (f - base);
       head = λ w m. getD-zeros maxWords w;
       link = λ i m. absurd (omega arith);
     },
   )
   holds-over (suc n) l =
       let k = holds-over n (omega arith) in (
-        room-note base (base + n) (tags (base + n)) (over (note base) tags base n fresh) (k .0),
-        holds-note n (over (note base) tags base n fresh) (omega arith) (k .0) (k .1) (tags (base + n)) refl,
+        room-note size base (base + n) (tags (base + n)) (over (note base) tags base n (fresh size)) (k .0),
+        holds-note n (over (note base) tags base n (fresh size)) (omega arith) (k .0) (k .1) (tags (base + n)) refl,
       )
 
-room-same : (g s : Chains) → g ≡ s → Room s → Room g
-room-same g s e r = rw e r
+room-same : (size : ℕ) (g s : Chains) → g ≡ s → Room size s → Room size g
+room-same size g s e r = rw e r
 
-holds-same : (tags : ℕ → Tag) (base n : ℕ) (g s : Chains) → g ≡ s → Holds tags base n s → Holds tags base n g
-holds-same tags base n g s e h = rw e h
+holds-same : (size : ℕ) (tags : ℕ → Tag) (base n : ℕ) (g s : Chains) → g ≡ s → Holds size tags base n s → Holds size tags base n g
+holds-same size tags base n g s e h = rw e h
 
 -- the whole pass
-pub chained-all : (log : List ℕ) (groups homes start end n : ℕ) (last heads links : List ℕ) → homes ≤ maxHomes → n ≡ end - 7 * start → n ≤ 7 * groups → n ≤ maxEntries
-    → _≡_ {A = Chains} (record { last = last; heads = heads; links = links }) (over (note (7 * start)) (entryAt log groups homes start) (7 * start) n fresh)
+pub chained-all : (log : List ℕ) (groups homes start end n : ℕ) (last heads links : List ℕ) → homes ≤ maxHomes → n ≡ end - 7 * start → n ≤ 7 * groups
+    → 7 * groups ≤ length last
+    → _≡_ {A = Chains} (record { last = last; heads = heads; links = links }) (over (note (7 * start)) (entryAt log groups homes start) (7 * start) n (fresh (length last)))
     → Chained log groups homes start end last heads links
-chained-all log groups homes start end n last heads links few d i l e =
-    let k = holds-over (entryAt log groups homes start) (7 * start) (placed log groups homes start) (housed log groups homes start few) n l in
-    let r = room-same (record { last = last; heads = heads; links = links }) _ e (k .0) in
-    let h = holds-same (entryAt log groups homes start) (7 * start) n (record { last = last; heads = heads; links = links }) _ e (k .1) in
+chained-all log groups homes start end n last heads links few d i long e =
+    let k = holds-over (length last) (entryAt log groups homes start) (7 * start) (placed log groups homes start) (housed log groups homes start few) n (omega arith) in
+    let r = room-same (length last) (record { last = last; heads = heads; links = links }) _ e (k .0) in
+    let h = holds-same (length last) (entryAt log groups homes start) (7 * start) n (record { last = last; heads = heads; links = links }) _ e (k .1) in
     record {
       room = record { few = few; lasts = r .lasts; words = r .words; each = r .each };
+      long = long;
       reach = n;
       covers = omega arith;
       inside = i;
@@ -250,13 +252,38 @@ chained-all log groups homes start end n last heads links few d i l e =
       link = h .link;
     }
 
-pub chained-none : (log : List ℕ) (groups homes start end : ℕ) (last heads links : List ℕ) → homes ≤ maxHomes → end ≤ 7 * start
-    → last ≡ replicate maxEntries 0 → heads ≡ replicate maxWords 0 → links ≡ replicate maxEntries 0 → Chained log groups homes start end last heads links
-chained-none log groups homes start end last heads links few h a b c =
-    chained-all log groups homes start end 0 last heads links few (omega arith) (omega arith) (omega arith) (unfold over fresh in rw (a, b, c))
+-- ---- empty tables
+
+module _ (groups : ℕ) (last heads links : List ℕ) where
+  pub emptied : last ≡ replicate (length last) 0 → heads ≡ replicate (length heads) 0 → links ≡ replicate (length links) 0 → 7 * groups ≤ length last
+      → length heads ≡ maxWords → length links ≡ length last → Empty groups last heads links
+  emptied x y z l u v = record { long = l; lasts = x; words = y ∙ ap (λ (m : ℕ). replicate m 0) u; each = z ∙ ap (λ (m : ℕ). replicate m 0) v }
+
+  module _ (e : Empty groups last heads links) where
+    pub empty-words : length heads ≡ maxWords
+    empty-words = ap length (e .words) ∙ length-replicate {A = ℕ} maxWords 0
+
+    pub empty-each : length links ≡ length last
+    empty-each = ap length (e .each) ∙ length-replicate {A = ℕ} (length last) 0
+
+-- tables that were made with `size` zeros
+pub empty-sized : (groups size : ℕ) → 7 * groups ≤ size → Empty groups (replicate size 0) (replicate maxWords 0) (replicate size 0)
+empty-sized groups size l =
+    let k : length {A = ℕ} (replicate size 0) ≡ size = length-replicate size 0 in
+    record { long = omega arith; lasts = rw k; words = refl; each = rw k }
 
 -- the pass begins with empty tables
-pub none-over : (tags : ℕ → Tag) (base m : ℕ) (last heads links : List ℕ) → m ≡ 0 → last ≡ replicate maxEntries 0 → heads ≡ replicate maxWords 0
-    → links ≡ replicate maxEntries 0 → _≡_ {A = Chains} (record { last = last; heads = heads; links = links }) (over (note base) tags base m fresh)
+pub none-over : (tags : ℕ → Tag) (base m groups : ℕ) (last heads links : List ℕ) → m ≡ 0 → Empty groups last heads links
+    → _≡_ {A = Chains} (record { last = last; heads = heads; links = links }) (over (note base) tags base m (fresh (length last)))
 unfolding over fresh
-none-over tags base m last heads links z a b c = rw (z, a, b, c)
+none-over tags base m groups last heads links z e =
+    rw z (whole last heads links (replicate (length last) 0) (replicate maxWords 0) (replicate (length last) 0) (e .lasts) (e .words) (e .each))
+  where
+    whole : (a b c x y z : List ℕ) → a ≡ x → b ≡ y → c ≡ z
+        → _≡_ {A = Chains} (record { last = a; heads = b; links = c }) (record { last = x; heads = y; links = z })
+    whole a b c x y z p q r = rw (p, q, r)
+
+pub chained-none : (log : List ℕ) (groups homes start end : ℕ) (last heads links : List ℕ) → homes ≤ maxHomes → end ≤ 7 * start
+    → Empty groups last heads links → Chained log groups homes start end last heads links
+chained-none log groups homes start end last heads links few h z =
+    chained-all log groups homes start end 0 last heads links few (omega arith) (omega arith) (z .long) (none-over _ _ _ _ _ _ _ refl z)

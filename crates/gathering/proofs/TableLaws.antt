@@ -15,7 +15,7 @@ use Rattle.model.proofs.rule.Closings.{spanAt, closings}
 use Rattle.scan.specs.Scan.{Scan, counted}
 use Rattle.scan.specs.declared.commits.Progress.{Progress}
 use Rattle.gathering.specs.Closers.{closes, closer}
-use Rattle.gathering.specs.Chains.{maxEntries, Chains, chained, Roomy}
+use Rattle.gathering.specs.Chains.{Chains, chained, Roomy}
 use Rattle.gathering.specs.Walks.{Walk, closedMark, cellOf, closerIn, stopped, joined}
 use Rattle.gathering.proofs.CloserLaws.{closer-same}
 
@@ -79,10 +79,10 @@ module _ (tags : ℕ → Tag) (base f : ℕ) where
 
 -- ---- what the tables hold
 
--- tables g after n positions, where s is the pass of the commit rule alone, and c that of the chains alone
-pub record Tables (n : ℕ) (s : Scan) (c : Chains) (g : Walk) : Type 0 where
-  pub room : Roomy 0 (g .cells) (g .heads) (g .links)
-  pub cell : (i : ℕ) → i < maxEntries → getD (g .cells) i 0 ≡ cellOf (getD (s .counts) i 0) (getD (c .last) i 0)
+-- tables g, for `size` positions, after n of them, where s is the pass of the commit rule alone, and c that of the chains alone
+pub record Tables (size n : ℕ) (s : Scan) (c : Chains) (g : Walk) : Type 0 where
+  pub room : Roomy 0 size (g .cells) (g .heads) (g .links)
+  pub cell : (i : ℕ) → i < size → getD (g .cells) i 0 ≡ cellOf (getD (s .counts) i 0) (getD (c .last) i 0)
   pub beyond : (i : ℕ) → n ≤ i → getD (g .cells) i 0 ≡ 0
   pub heads : g .heads ≡ c .heads
   pub links : g .links ≡ c .links
@@ -90,13 +90,13 @@ pub record Tables (n : ℕ) (s : Scan) (c : Chains) (g : Walk) : Type 0 where
   pub ends : g .progress .end ≡ s .progress .end
 
 -- an entry at offset n, for home h and the transaction whose first entry is at offset i, is taken
-pub tables-joined : (n h i cell : ℕ) (p : Progress) (s u : Scan) (c d : Chains) (g : Walk) → Tables n s c g → i ≤ n → n < maxEntries
+pub tables-joined : (size n h i cell : ℕ) (p : Progress) (s u : Scan) (c d : Chains) (g : Walk) → Tables size n s c g → i ≤ n → n < size
     → d .heads ≡ set (c .heads) (h / 64) (n + 1) → d .links ≡ set (c .links) n (getD (c .heads) (h / 64) 0)
     → cell ≡ cellOf (getD (u .counts) i 0) (getD (d .last) i 0)
     → ((j : ℕ) → (j ≡ i → ⊥) → (getD (u .counts) j 0 ≡ getD (s .counts) j 0) × (getD (d .last) j 0 ≡ getD (c .last) j 0))
-    → u .progress .failed ≡ 0 → p .end ≡ u .progress .end → Tables (suc n) u d (joined h n i cell p g)
+    → u .progress .failed ≡ 0 → p .end ≡ u .progress .end → Tables size (suc n) u d (joined h n i cell p g)
 unfolding joined
-tables-joined n h i cell p s u c d g t l m a b e o z q =
+tables-joined size n h i cell p s u c d g t l m a b e o z q =
     record {
       room =
           record {
@@ -113,13 +113,13 @@ tables-joined n h i cell p s u c d g t l m a b e o z q =
       ends = q;
     }
   where
-    one : (j : ℕ) → j < maxEntries → Dec (j ≡ i) → getD (set (g .cells) i cell) j 0 ≡ cellOf (getD (u .counts) j 0) (getD (d .last) j 0)
+    one : (j : ℕ) → j < size → Dec (j ≡ i) → getD (set (g .cells) i cell) j 0 ≡ cellOf (getD (u .counts) j 0) (getD (d .last) j 0)
     one j k (yes y) = rw y (getD-set-same (g .cells) i cell 0 (omega (arith, t .room .lasts)) ∙ e)
     one j k (no y) = getD-set-other (g .cells) i j cell 0 y ∙ t .cell j k ∙ rw (o j y .0, o j y .1)
 
-pub tables-stopped : (n : ℕ) (s : Scan) (c : Chains) (g : Walk) (p : Progress) → Tables n s c g → p .end ≡ g .progress .end → Tables n s c (stopped g p)
+pub tables-stopped : (size n : ℕ) (s : Scan) (c : Chains) (g : Walk) (p : Progress) → Tables size n s c g → p .end ≡ g .progress .end → Tables size n s c (stopped g p)
 unfolding stopped
-tables-stopped n s c g p t e =
+tables-stopped size n s c g p t e =
     record {
       room = t .room;
       cell = t .cell;
@@ -142,7 +142,7 @@ same-counted : (counts : List ℕ) (i : ℕ) → i < length counts → getD (cou
 unfolding counted
 same-counted counts i l = getD-set-same counts i (getD counts i 0 + 1) 0 l
 
-module _ (n h i : ℕ) (s : Scan) (c : Chains) (g : Walk) (t : Tables n s c g) (l : i ≤ n) (m : n < maxEntries) (unclosed : ltb (getD (g .cells) i 0) closedMark ≡ true) where
+module _ (size n h i : ℕ) (s : Scan) (c : Chains) (g : Walk) (t : Tables size n s c g) (l : i ≤ n) (m : n < size) (unclosed : ltb (getD (g .cells) i 0) closedMark ≡ true) where
   -- a transaction that is not closed: its cell counts
   pub cell-open : (getD (c .last) i 0 ≡ 0) × (getD (g .cells) i 0 ≡ getD (s .counts) i 0)
   cell-open =
@@ -150,22 +150,22 @@ module _ (n h i : ℕ) (s : Scan) (c : Chains) (g : Walk) (t : Tables n s c g) (
       let o = open-cell (getD (s .counts) i 0) (getD (c .last) i 0) (ap (λ (y : ℕ). ltb y closedMark) (sym x) ∙ unclosed) in
       (o .0, x ∙ o .1)
 
-  pub entry-tables : length (s .counts) ≡ maxEntries
-      → Tables (suc n) (record { counts = counted (s .counts) i; progress = s .progress }) (chained h n c)
+  pub entry-tables : length (s .counts) ≡ size
+      → Tables size (suc n) (record { counts = counted (s .counts) i; progress = s .progress }) (chained h n c)
       (joined h n i (getD (g .cells) i 0 + 1) (g .progress) g)
   unfolding chained
   entry-tables k =
-      tables-joined n h i (getD (g .cells) i 0 + 1) (g .progress) s (record { counts = counted (s .counts) i; progress = s .progress }) c
+      tables-joined size n h i (getD (g .cells) i 0 + 1) (g .progress) s (record { counts = counted (s .counts) i; progress = s .progress }) c
       (record { last = c .last; heads = set (c .heads) (h / 64) (n + 1); links = set (c .links) n (getD (c .heads) (h / 64) 0) }) g t l m refl refl
       (rw (same-counted (s .counts) i (omega arith), cell-open .0, cell-open .1) (sym (cell-count (getD (s .counts) i 0 + 1))))
       (λ j y. (other-counted (s .counts) i j y, refl)) (t .going) (t .ends)
 
-  pub closing-tables : (p : Progress) → p .failed ≡ 0 → length (c .last) ≡ maxEntries
-      → Tables (suc n) (record { counts = counted (s .counts) i; progress = p })
+  pub closing-tables : (p : Progress) → p .failed ≡ 0 → length (c .last) ≡ size
+      → Tables size (suc n) (record { counts = counted (s .counts) i; progress = p })
       (chained h n (record { last = set (c .last) i (n + 1); heads = c .heads; links = c .links })) (joined h n i (closedMark + (n + 1)) p g)
   unfolding chained
   closing-tables p z k =
-      tables-joined n h i (closedMark + (n + 1)) p s (record { counts = counted (s .counts) i; progress = p }) c
+      tables-joined size n h i (closedMark + (n + 1)) p s (record { counts = counted (s .counts) i; progress = p }) c
       (record { last = set (c .last) i (n + 1); heads = set (c .heads) (h / 64) (n + 1); links = set (c .links) n (getD (c .heads) (h / 64) 0) }) g t l m
       refl refl
       (rw (getD-set-same (c .last) i (n + 1) 0 (omega arith)) (sym (cell-closed (getD (counted (s .counts) i) i 0) (n + 1) (omega arith))))

@@ -28,23 +28,23 @@ use Rattle.gathering.proofs.TableLaws.{cell-count, closer-cell, closer-
 
 -- ---- the two passes and this one
 
-module _ (tags : ℕ → Tag) (base : ℕ) (at : Placed tags base) (home : Housed tags) where
+module _ (size : ℕ) (tags : ℕ → Tag) (base : ℕ) (at : Placed tags base) (home : Housed tags) where
   abbrev ruled : ℕ → Scan
-  ruled n = entered tags base base n (scanned.fresh maxEntries)
+  ruled n = entered tags base base n (scanned.fresh size)
 
   abbrev noted : ℕ → Chains
-  noted n = over (note base) tags base n fresh
+  noted n = over (note base) tags base n (fresh size)
 
   -- the pass goes on
   record Going (n : ℕ) (g : Walk) : Type 0 where
-    tables : Tables n (ruled n) (noted n) g
+    tables : Tables size n (ruled n) (noted n) g
     same : g .progress ≡ ruled n .progress
 
   -- a closing entry has failed
   record Failed (n : ℕ) (g : Walk) : Type 0 where
     reach : ℕ
     before : reach < n
-    tables : Tables reach (ruled reach) (noted reach) g
+    tables : Tables size reach (ruled reach) (noted reach) g
     same : g .progress ≡ ruled (suc reach) .progress
     one : g .progress .failed ≡ 1
 
@@ -53,7 +53,7 @@ module _ (tags : ℕ → Tag) (base : ℕ) (at : Placed tags base) (home : House
 
   few-counted : (n : ℕ) → n ≤ maxEntries → (i : ℕ) → getD (ruled n .counts) i 0 < closedMark
   few-counted n l i =
-      let k = within-reached tags base base n (base + n) (scanned.fresh maxEntries) (ruled n) (omega arith) refl refl (fresh-within maxEntries base) in
+      let k = within-reached tags base base n (base + n) (scanned.fresh size) (ruled n) (omega arith) refl refl (fresh-within size base) in
       omega (arith, k .each i)
 
   -- a judgement says 0 or 1
@@ -67,12 +67,12 @@ module _ (tags : ℕ → Tag) (base : ℕ) (at : Placed tags base) (home : House
       go false h = (refl, refl)
 
   -- one position more, while the pass goes on
-  module _ (n : ℕ) (g : Walk) (l : n < maxEntries) (k : Going n g) where
+  module _ (n : ℕ) (g : Walk) (l : n < size) (k : Going n g) where
     zero-failed : g .progress .failed ≡ 0
     zero-failed = ap (λ (p : Progress). p .failed) (k .same) ∙ k .tables .going
 
-    rooms : (length (ruled n .counts) ≡ maxEntries) × (length (noted n .last) ≡ maxEntries)
-    rooms = (agrees maxEntries tags base n (omega arith) at .room, holds-over tags base at home n (omega arith) .0 .lasts)
+    rooms : (length (ruled n .counts) ≡ size) × (length (noted n .last) ≡ size)
+    rooms = (agrees size tags base n (omega arith) at .room, holds-over size tags base at home n (omega arith) .0 .lasts)
 
     kept-nothing : tags (base + n) ≡ Nothing → Kept (suc n) g
     kept-nothing e =
@@ -115,7 +115,7 @@ module _ (tags : ℕ → Tag) (base : ℕ) (at : Placed tags base) (home : House
         go true q =
             let p = at .entry (base + n) h f e in
             rw d (inl (record {
-              tables = rw (a, b) (entry-tables n h (f - base) (ruled n) (noted n) g (k .tables) (omega (arith, p .1)) l q (rooms .0));
+              tables = rw (a, b) (entry-tables size n h (f - base) (ruled n) (noted n) g (k .tables) (omega (arith, p .1)) l q (rooms .0));
               same = rw a (unfold joined in k .same);
             }))
 
@@ -135,7 +135,7 @@ module _ (tags : ℕ → Tag) (base : ℕ) (at : Placed tags base) (home : House
         a : ltb (getD (g .cells) (f - base) 0) closedMark ≡ true → ruled (suc n) ≡ record { counts = counted (ruled n .counts) (f - base); progress = next }
         a q = unfold over enter in
             let p = at .closing (base + n) h f link count e in
-            let o = cell-open n h (f - base) (ruled n) (noted n) g (k .tables) (omega (arith, p .1)) l q in
+            let o = cell-open size n h (f - base) (ruled n) (noted n) g (k .tables) (omega (arith, p .1)) l q in
             rw (e, o .1, k .same)
 
         judged : (x : Bool) → eqb (next .failed) 0 ≡ x → ltb (getD (g .cells) (f - base) 0) closedMark ≡ true
@@ -145,7 +145,7 @@ module _ (tags : ℕ → Tag) (base : ℕ) (at : Placed tags base) (home : House
             inl (record {
               tables =
                   rw (a q, b)
-                  (closing-tables n h (f - base) (ruled n) (noted n) g (k .tables) (omega (arith, p .1)) l q next (eqb-true (next .failed) 0 z) (rooms .1));
+                  (closing-tables size n h (f - base) (ruled n) (noted n) g (k .tables) (omega (arith, p .1)) l q next (eqb-true (next .failed) 0 z) (rooms .1));
               same = rw (a q) (unfold joined in refl);
             })
         judged false z q =
@@ -153,7 +153,7 @@ module _ (tags : ℕ → Tag) (base : ℕ) (at : Placed tags base) (home : House
             inr (inl (record {
               reach = n;
               before = omega arith;
-              tables = tables-stopped n (ruled n) (noted n) g next (k .tables) (o .1);
+              tables = tables-stopped size n (ruled n) (noted n) g next (k .tables) (o .1);
               same = rw (a q) (stopped-progress g next);
               one = ap (λ (p : Progress). p .failed) (stopped-progress g next) ∙ o .0;
             }))
@@ -177,7 +177,7 @@ module _ (tags : ℕ → Tag) (base : ℕ) (at : Placed tags base) (home : House
   unfolding join
   join-stopped position t g h = rw (ne-eqb (g .progress .failed) 0 h)
 
-  kept-one : (n : ℕ) (g : Walk) → n < maxEntries → Kept n g → Kept (suc n) (join base (base + n) (tags (base + n)) g)
+  kept-one : (n : ℕ) (g : Walk) → n < size → Kept n g → Kept (suc n) (join base (base + n) (tags (base + n)) g)
   kept-one n g l (inl k) = kept-going n g l k
   kept-one n g l (inr (inl k)) =
       rw (join-stopped (base + n) (tags (base + n)) g (λ z. omega (arith, k .one))) (inr (inl (record {
@@ -189,7 +189,7 @@ module _ (tags : ℕ → Tag) (base : ℕ) (at : Placed tags base) (home : House
       })))
   kept-one n g l (inr (inr k)) = rw (join-stopped (base + n) (tags (base + n)) g (λ z. omega arith)) (inr (inr k))
 
-  kept-all : (n : ℕ) → n ≤ maxEntries → Kept n (over (join base) tags base n begun)
+  kept-all : (n : ℕ) → n ≤ size → Kept n (over (join base) tags base n (begun size))
   unfolding over
   kept-all zero l = inl (unfold begun fresh scanned.fresh in record {
     tables =
@@ -197,12 +197,12 @@ module _ (tags : ℕ → Tag) (base : ℕ) (at : Placed tags base) (home : House
           room =
               record {
                 few = omega arith;
-                lasts = length-replicate {A = ℕ} maxEntries 0;
+                lasts = length-replicate {A = ℕ} size 0;
                 words = length-replicate {A = ℕ} maxWords 0;
-                each = length-replicate {A = ℕ} maxEntries 0;
+                each = length-replicate {A = ℕ} size 0;
               };
-          cell = λ i m. getD-zeros maxEntries i ∙ sym (rw (byte-zeros maxEntries i, getD-zeros maxEntries i) (cell-count 0));
-          beyond = λ i m. getD-zeros maxEntries i;
+          cell = λ i m. getD-zeros size i ∙ sym (rw (byte-zeros size i, getD-zeros size i) (cell-count 0));
+          beyond = λ i m. getD-zeros size i;
           heads = refl;
           links = refl;
           going = refl;
@@ -210,25 +210,25 @@ module _ (tags : ℕ → Tag) (base : ℕ) (at : Placed tags base) (home : House
         };
     same = refl;
   })
-  kept-all (suc n) l = kept-one n (over (join base) tags base n begun) (omega arith) (kept-all n (omega arith))
+  kept-all (suc n) l = kept-one n (over (join base) tags base n (begun size)) (omega arith) (kept-all n (omega arith))
 
   -- the tables that the pass leaves, unless it was led astray
   record Reached (n j : ℕ) (g : Walk) : Type 0 where
     reach : ℕ
     most : reach ≤ j
-    tables : Tables reach (ruled reach) (noted reach) g
+    tables : Tables size reach (ruled reach) (noted reach) g
     end : g .progress .end ≡ endOf (committed tags base n)
     number : g .progress .number ≡ length (committed tags base n)
 
-  reached : (n j : ℕ) (g : Walk) → j ≤ n → n ≤ maxEntries → (g .progress .failed ≡ 0 → j ≡ n) → (g .progress .failed ≡ 2 → ⊥) → Kept j g → Reached n j g
+  reached : (n j : ℕ) (g : Walk) → j ≤ n → n ≤ size → (g .progress .failed ≡ 0 → j ≡ n) → (g .progress .failed ≡ 2 → ⊥) → Kept j g → Reached n j g
   reached n j g l m all h (inl k) =
       let z : j ≡ n = all (ap (λ (p : Progress). p .failed) (k .same) ∙ k .tables .going) in
-      let f = found maxEntries tags base n (ruled n) m at refl in
+      let f = found size tags base n (ruled n) m at refl in
       let e : g .progress ≡ ruled n .progress = k .same ∙ rw z in
       record { reach = j; most = omega arith; tables = k .tables; end = ap (λ (p : Progress). p .end) e ∙ f .0; number = ap (λ (p : Progress). p .number) e ∙ f .1 }
   reached n j g l m all h (inr (inl k)) =
       let o : ruled (suc (k .reach)) .progress .failed ≡ 1 = sym (ap (λ (p : Progress). p .failed) (k .same)) ∙ k .one in
-      let f = found-stopped maxEntries tags base n (ruled (suc (k .reach))) m at (suc (k .reach)) (omega (arith, k .before)) refl (λ z. omega (arith, o)) in
+      let f = found-stopped size tags base n (ruled (suc (k .reach))) m at (suc (k .reach)) (omega (arith, k .before)) refl (λ z. omega (arith, o)) in
       record {
         reach = k .reach;
         most = omega (arith, k .before);
@@ -239,9 +239,9 @@ module _ (tags : ℕ → Tag) (base : ℕ) (at : Placed tags base) (home : House
   reached n j g l m all h (inr (inr k)) = absurd (h k)
 
   -- the closing entries below the end are all that came below the reach
-  module _ (n : ℕ) (l : n ≤ maxEntries) (g : Walk) (t : Tables n (ruled n) (noted n) g) where
+  module _ (n : ℕ) (l : n ≤ size) (few : n ≤ maxEntries) (g : Walk) (t : Tables size n (ruled n) (noted n) g) where
     end-is : g .progress .end ≡ endOf (walk tags base n .spans)
-    end-is = t .ends ∙ agrees maxEntries tags base n l at .end
+    end-is = t .ends ∙ agrees size tags base n l at .end
 
     end-most : g .progress .end - base ≤ n
     end-most = go (walked tags base n .within)
@@ -254,54 +254,56 @@ module _ (tags : ℕ → Tag) (base : ℕ) (at : Placed tags base) (home : House
     closer-end : (f : ℕ) → closer tags base n f ≡ closer tags base (g .progress .end - base) f
     closer-end f =
         let w = walked tags base n in
-        let z : walk tags base n .going ≡ true = sym (agrees maxEntries tags base n l at .going) ∙ eq-eqb (ruled n .progress .failed) 0 (t .going) in
+        let z : walk tags base n .going ≡ true = sym (agrees size tags base n l at .going) ∙ eq-eqb (ruled n .progress .failed) 0 (t .going) in
         let q : closings tags base (g .progress .end - base) ≡ closings tags base n = rw end-is (sym (w .below) ∙ w .all z) in
         closer-still tags base f (g .progress .end - base) n end-most q
 
-    closer-told : (last : List ℕ) → ((i : ℕ) → getD last i 0 ≡ closerIn (getD (g .cells) i 0)) → (f : ℕ) → base ≤ f → f < base + maxEntries
+    closer-told : (last : List ℕ) → ((i : ℕ) → getD last i 0 ≡ closerIn (getD (g .cells) i 0)) → (f : ℕ) → base ≤ f → f < base + size
         → getD last (f - base) 0 ≡ closer tags base (g .progress .end - base) f
     closer-told last e f a b =
         e (f - base) ∙ ap closerIn (t .cell (f - base) (omega arith))
-        ∙ closer-cell (getD (ruled n .counts) (f - base) 0) (getD (noted n .last) (f - base) 0) (few-counted n l (f - base))
-        ∙ holds-over tags base at home n l .1 .closing f a b ∙ closer-end f
+        ∙ closer-cell (getD (ruled n .counts) (f - base) 0) (getD (noted n .last) (f - base) 0) (few-counted n few (f - base))
+        ∙ holds-over size tags base at home n l .1 .closing f a b ∙ closer-end f
 
 -- ---- the pass as a whole
 
-module _ (log : List ℕ) (groups homes start n : ℕ) (g : Walk) (few : homes ≤ maxHomes) (most : groups ≤ 1024) (within : n ≤ 7 * groups)
-    (passed : Passed log groups homes start n g) where
+module _ (log : List ℕ) (groups homes start n size : ℕ) (g : Walk) (few : homes ≤ maxHomes) (most : groups ≤ 1024) (within : n ≤ 7 * groups)
+    (long : 7 * groups ≤ size) (passed : Passed log groups homes start n size g) where
   abbrev tags : ℕ → Tag
   tags = entryAt log groups homes start
 
-  sound : Kept tags (7 * start) (placed log groups homes start) (housed log groups homes start few) (passed .taken) g
-  sound = rw (passed .is) (kept-all tags (7 * start) (placed log groups homes start) (housed log groups homes start few) (passed .taken) (omega (arith, passed .most)))
+  sound : Kept size tags (7 * start) (placed log groups homes start) (housed log groups homes start few) (passed .taken) g
+  sound = rw (passed .is) (kept-all size tags (7 * start) (placed log groups homes start) (housed log groups homes start few) (passed .taken) (omega (arith, passed .most)))
 
   told : (g .progress .failed ≡ 2 → ⊥)
-      → Reached tags (7 * start) (placed log groups homes start) (housed log groups homes start few) n (passed .taken) g
+      → Reached size tags (7 * start) (placed log groups homes start) (housed log groups homes start few) n (passed .taken) g
   told h =
-      reached tags (7 * start) (placed log groups homes start) (housed log groups homes start few) n (passed .taken) g (passed .most) (omega arith)
+      reached size tags (7 * start) (placed log groups homes start) (housed log groups homes start few) n (passed .taken) g (passed .most) (omega arith)
       (passed .all) h sound
 
   pub cells-beyond : (g .progress .failed ≡ 2 → ⊥) → (i : ℕ) → n ≤ i → getD (g .cells) i 0 ≡ 0
   cells-beyond h i l = let r = told h in r .tables .beyond i (omega (arith, r .most, passed .most))
 
   -- where the pass was not led astray, it has found what the commit rule says, and the closing entries of its cells and its chains are right
-  pub walk-found : (g .progress .failed ≡ 2 → ⊥) → (last : List ℕ) → length last ≡ maxEntries → ((i : ℕ) → getD last i 0 ≡ closerIn (getD (g .cells) i 0))
+  pub walk-found : (g .progress .failed ≡ 2 → ⊥) → (last : List ℕ) → ((i : ℕ) → getD last i 0 ≡ closerIn (getD (g .cells) i 0)) → length last ≡ size
       → (g .progress .end ≡ endOf (committed tags (7 * start) n)) × (g .progress .number ≡ length (committed tags (7 * start) n))
       × Chained log groups homes start (g .progress .end) last (g .heads) (g .links)
-  walk-found h last size e =
+  walk-found h last e sized =
       let r = told h in
       let at = placed log groups homes start in
       let in-homes = housed log groups homes start few in
-      let m : r .reach ≤ maxEntries = omega (arith, r .most, passed .most) in
-      let k = holds-over tags (7 * start) at in-homes (r .reach) m .1 in (
+      let m : r .reach ≤ size = omega (arith, r .most, passed .most) in
+      let few-reached : r .reach ≤ maxEntries = omega (arith, r .most, passed .most) in
+      let k = holds-over size tags (7 * start) at in-homes (r .reach) m .1 in (
         r .end,
         r .number,
         record {
-          room = record { few = few; lasts = size; words = r .tables .room .words; each = r .tables .room .each };
+          room = record { few = few; lasts = refl; words = r .tables .room .words; each = r .tables .room .each ∙ sym sized };
+          long = omega (arith, long, sized);
           reach = r .reach;
-          covers = end-most tags (7 * start) at in-homes (r .reach) m g (r .tables);
+          covers = end-most size tags (7 * start) at in-homes (r .reach) m few-reached g (r .tables);
           inside = omega (arith, r .most, passed .most);
-          closing = closer-told tags (7 * start) at in-homes (r .reach) m g (r .tables) last e;
+          closing = λ f a b. closer-told size tags (7 * start) at in-homes (r .reach) m few-reached g (r .tables) last e f a (omega (arith, b, sized));
           head = λ w l. ap (λ (x : List ℕ). getD x w 0) (r .tables .heads) ∙ k .head w l;
           link = λ i l w q. ap (λ (x : List ℕ). getD x i 0) (r .tables .links) ∙ k .link i l w q;
         },

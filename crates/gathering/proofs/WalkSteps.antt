@@ -16,7 +16,7 @@ use Rattle.model.specs.declared.Tag.the-variants.{Nothing, Entry, Closing}
 use Rattle.model.proofs.rule.ClosingLaws.{lastAt}
 use Rattle.scan.specs.Scan.{decided, taken, over}
 use Rattle.scan.specs.declared.commits.Progress.{Progress}
-use Rattle.gathering.specs.Chains.{maxEntries, maxWords}
+use Rattle.gathering.specs.Chains.{maxWords, Empty}
 use Rattle.gathering.specs.Walks.{Walk, closedMark, closerIn, begun, strayed, stopped, joined, joinEntry, joinJudged, joinClosing, joinTag, join}
 use Rattle.gathering.proofs.TableLaws.{stopped-progress}
 
@@ -85,9 +85,9 @@ pub small-reached : (tags : ℕ → Tag) (base position m here : ℕ) (g d : Wal
     → Small position (g .progress) → Small here (d .progress)
 small-reached tags base position m here g d e f k = rw (e, f) (small-over tags base position m g k)
 
-pub small-begun : (base : ℕ) → Small base (begun .progress)
+pub small-begun : (size base : ℕ) → Small base (begun size .progress)
 unfolding begun
-small-begun base = record { end = omega arith; number = omega arith }
+small-begun size base = record { end = omega arith; number = omega arith }
 
 pub join-quiet : (base p : ℕ) (g : Walk) → join base p Nothing g ≡ g
 unfolding join joinTag
@@ -153,12 +153,17 @@ module _ (base position h first link count : ℕ) (g : Walk) where
     closing-joined z heads links a b = rw (lt-ltb (getD (g .cells) first 0) closedMark l, ← e, eq-eqb (p .failed) 0 z, a, b)
 
 -- the pass begins with empty tables
-pub none-joined : (tags : ℕ → Tag) (base m : ℕ) (cells heads links : List ℕ) → m ≡ 0 → cells ≡ replicate maxEntries 0 → heads ≡ replicate maxWords 0
-    → links ≡ replicate maxEntries 0
+pub none-joined : (tags : ℕ → Tag) (base m groups : ℕ) (cells heads links : List ℕ) → m ≡ 0 → Empty groups cells heads links
     → _≡_ {A = Walk} (record { cells = cells; heads = heads; links = links; progress = record { end = 0; number = 0; failed = 0 } })
-    (over (join base) tags base m begun)
+    (over (join base) tags base m (begun (length cells)))
 unfolding over begun
-none-joined tags base m cells heads links z a b c = rw (z, a, b, c)
+none-joined tags base m groups cells heads links z e =
+    rw z (whole cells heads links (replicate (length cells) 0) (replicate maxWords 0) (replicate (length cells) 0) (e .lasts) (e .words) (e .each))
+  where
+    whole : (a b c x y z : List ℕ) → a ≡ x → b ≡ y → c ≡ z
+        → _≡_ {A = Walk} (record { cells = a; heads = b; links = c; progress = record { end = 0; number = 0; failed = 0 } })
+        (record { cells = x; heads = y; links = z; progress = record { end = 0; number = 0; failed = 0 } })
+    whole a b c x y z p q r = rw (p, q, r)
 
 -- ---- counts are dropped
 

@@ -28,8 +28,9 @@ pub record Chains : Type 0 where
   pub heads : List ℕ
   pub links : List ℕ
 
-unfoldable pub fresh : Chains
-fresh = record { last = replicate maxEntries 0; heads = replicate maxWords 0; links = replicate maxEntries 0 }
+-- empty tables for `size` positions
+unfoldable pub fresh : ℕ → Chains
+fresh size = record { last = replicate size 0; heads = replicate maxWords 0; links = replicate size 0 }
 
 -- the entry at an offset goes first into its word's chain
 unfoldable pub chained : ℕ → ℕ → Chains → Chains
@@ -43,12 +44,19 @@ note base position (Entry h f) g = chained h (position - base) g
 note base position (Closing h f link count) g =
     chained h (position - base) (record { last = set (g .last) (f - base) (position - base + 1); heads = g .heads; links = g .links })
 
--- what the pass needs room for
-pub record Roomy (homes : ℕ) (last heads links : List ℕ) : Type 0 where
+-- tables with room for `size` positions and all words of homes
+pub record Roomy (homes size : ℕ) (last heads links : List ℕ) : Type 0 where
   pub few : homes ≤ maxHomes
-  pub lasts : length last ≡ maxEntries
+  pub lasts : length last ≡ size
   pub words : length heads ≡ maxWords
-  pub each : length links ≡ maxEntries
+  pub each : length links ≡ size
+
+-- empty tables with room for the positions of a log
+pub record Empty (groups : ℕ) (last heads links : List ℕ) : Type 0 where
+  pub long : 7 * groups ≤ length last
+  pub lasts : last ≡ replicate (length last) 0
+  pub words : heads ≡ replicate maxWords 0
+  pub each : links ≡ replicate (length last) 0
 
 -- whether an entry is for a home of a word
 unfoldable pub inWord : ℕ → Tag → Bool
@@ -61,19 +69,20 @@ unfoldable pub top : (ℕ → Tag) → ℕ → ℕ → ℕ → ℕ
 top tags base w zero = 0
 top tags base w (suc n) = cond (inWord w (tags (base + n))) (n + 1) (top tags base w n)
 
--- what the pass holds once it has taken n positions
-pub record Holds (tags : ℕ → Tag) (base n : ℕ) (g : Chains) : Type 0 where
-  pub closing : (f : ℕ) → base ≤ f → f < base + maxEntries → getD (g .last) (f - base) 0 ≡ closer tags base n f
+-- what the pass holds in tables for `size` positions once it has taken n of them
+pub record Holds (size : ℕ) (tags : ℕ → Tag) (base n : ℕ) (g : Chains) : Type 0 where
+  pub closing : (f : ℕ) → base ≤ f → f < base + size → getD (g .last) (f - base) 0 ≡ closer tags base n f
   pub head : (w : ℕ) → w < maxWords → getD (g .heads) w 0 ≡ top tags base w n
   pub link : (i : ℕ) → i < n → (w : ℕ) → inWord w (tags (base + i)) ≡ true → getD (g .links) i 0 ≡ top tags base w i
 
 -- the tables hold the last closing entries below `end`, and the chains of all entries below a bound that is not before it
 pub record Chained (log : List ℕ) (groups homes start end : ℕ) (last heads links : List ℕ) : Type 0 where
-  pub room : Roomy homes last heads links
+  pub room : Roomy homes (length last) last heads links
+  pub long : 7 * groups ≤ length last
   pub reach : ℕ
   pub covers : end - 7 * start ≤ reach
   pub inside : reach ≤ 7 * groups
-  pub closing : (f : ℕ) → 7 * start ≤ f → f < 7 * start + maxEntries
+  pub closing : (f : ℕ) → 7 * start ≤ f → f < 7 * start + length last
       → getD last (f - 7 * start) 0 ≡ closer (entryAt log groups homes start) (7 * start) (end - 7 * start) f
   pub head : (w : ℕ) → w < maxWords → getD heads w 0 ≡ top (entryAt log groups homes start) (7 * start) w reach
   pub link : (i : ℕ) → i < reach → (w : ℕ) → inWord w (entryAt log groups homes start (7 * start + i)) ≡ true

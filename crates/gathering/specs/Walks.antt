@@ -11,7 +11,7 @@ use Rattle.model.specs.declared.Tag.{Tag}
 use Rattle.model.specs.declared.Tag.the-variants.{Nothing, Entry, Closing}
 use Rattle.scan.specs.Scan.{decided, over}
 use Rattle.scan.specs.declared.commits.Progress.{Progress}
-use Rattle.gathering.specs.Chains.{maxEntries, maxWords}
+use Rattle.gathering.specs.Chains.{maxWords}
 
 -- the cells, the chains, and how far the walk has come
 pub record Walk : Type 0 where
@@ -32,12 +32,13 @@ cellOf count last = cond (eqb last 0) count (closedMark + last)
 unfoldable pub closerIn : ℕ → ℕ
 closerIn cell = cond (ltb cell closedMark) 0 (cell - closedMark)
 
-unfoldable pub begun : Walk
-begun =
+-- empty tables for `size` positions
+unfoldable pub begun : ℕ → Walk
+begun size =
     record {
-      cells = replicate maxEntries 0;
+      cells = replicate size 0;
       heads = replicate maxWords 0;
-      links = replicate maxEntries 0;
+      links = replicate size 0;
       progress = record { end = 0; number = 0; failed = 0 };
     }
 
@@ -81,9 +82,9 @@ joinTag base position (Closing h f link count) g = joinClosing base position h (
 unfoldable pub join : ℕ → ℕ → Tag → Walk → Walk
 join base position t g = cond (eqb (g .progress .failed) 0) (joinTag base position t g) g
 
--- the pass over n positions from the start on, which ends early only where it has stopped
-pub record Passed (log : List ℕ) (groups homes start n : ℕ) (g : Walk) : Type 0 where
+-- the pass over n positions from the start on, in tables for `size`, which ends early only where it has stopped
+pub record Passed (log : List ℕ) (groups homes start n size : ℕ) (g : Walk) : Type 0 where
   pub taken : ℕ
   pub most : taken ≤ n
-  pub is : g ≡ over (join (7 * start)) (entryAt log groups homes start) (7 * start) taken begun
+  pub is : g ≡ over (join (7 * start)) (entryAt log groups homes start) (7 * start) taken (begun size)
   pub all : g .progress .failed ≡ 0 → taken ≡ n

@@ -2,12 +2,12 @@
 use model::Tag;
 ghost use mathlib.Core.Path.{_≡_};
 ghost use Prim.Native.Nat.{_+_, _-_, _*_, _^_, _≤_, _<_};
-ghost use lib.ListN.{length, getD, set, replicate};
+ghost use lib.ListN.{length, getD, set};
 ghost use Rattle.model.specs.Tag.{readTag};
 ghost use Rattle.model.specs.Layout.{turnOf, entryIn};
 ghost use Rattle.scan.specs.Scan.{over};
 ghost use Rattle.scan.specs.Walk.{Walkable};
-ghost use Rattle.gathering.specs.Chains.{note, Roomy, Chained};
+ghost use Rattle.gathering.specs.Chains.{note, Roomy, Empty, Chained};
 
 // Puts the entry at an offset first into the chain of a word of homes.
 pub fn chain(heads: &mut [u16], links: &mut [u16], word: usize, offset: usize)
@@ -29,7 +29,8 @@ fn visit(
     heads: &mut [u16],
     links: &mut [u16],
 )
-    requires { ⌜ (base ≤ position) × (position < base + 7168) × Roomy homes (now last) (now heads) (now links) ⌝ }
+    requires { ⌜ (base ≤ position) × (position < base + 7168) × (position < base + length (now last))
+        × Roomy homes (length (now last)) (now last) (now heads) (now links) ⌝ }
     ensures { λ _. ⌜ record { last = now (last .exit); heads = now (heads .exit); links = now (links .exit) }
         ≡ note base position (readTag word position base homes)
         (record { last = now (last .entry); heads = now (heads .entry); links = now (links .entry) }) ⌝ }
@@ -60,8 +61,8 @@ fn visit_group(
     heads: &mut [u16],
     links: &mut [u16],
 )
-    requires { ⌜ (length (now group) ≡ 512) × (groups ≤ 1024) × (start ≤ 2 ^ 47) × (start ≤ n) × (n < start + 1024) × (turn ≡ turnOf groups n) × (m ≤ 7)
-        × Roomy homes (now last) (now heads) (now links) ⌝ }
+    requires { ⌜ (length (now group) ≡ 512) × (groups ≤ 1024) × (start ≤ 2 ^ 47) × (start ≤ n) × (n < start + groups) × (turn ≡ turnOf groups n) × (m ≤ 7)
+        × (7 * groups ≤ length (now last)) × Roomy homes (length (now last)) (now last) (now heads) (now links) ⌝ }
     ensures { λ _. ⌜ record { last = now (last .exit); heads = now (heads .exit); links = now (links .exit) }
         ≡ over (note (7 * start)) (entryIn (now (group .entry)) groups homes start) (7 * n) m
         (record { last = now (last .entry); heads = now (heads .entry); links = now (links .entry) }) ⌝ }
@@ -91,8 +92,7 @@ pub fn gather(
     start: u64,
     end: u64,
 )
-    requires { ⌜ Walkable (now log) groups start end × (homes ≤ 65535)
-        × (now last ≡ replicate 7168 0) × (now heads ≡ replicate 1024 0) × (now links ≡ replicate 7168 0) ⌝ }
+    requires { ⌜ Walkable (now log) groups start end × (homes ≤ 65535) × Empty groups (now last) (now heads) (now links) ⌝ }
     ensures { λ _. ⌜ Chained (now (log .entry)) groups homes start end (now (last .exit)) (now (heads .exit)) (now (links .exit)) ⌝ }
 {
     let base = 7 * start;

@@ -5,13 +5,13 @@ use model::Tag;
 use scan::Progress;
 ghost use mathlib.Core.Path.{_≡_};
 ghost use Prim.Native.Nat.{ℕ, _+_, _-_, _*_, _^_, _≤_, _<_};
-ghost use lib.ListN.{length, getD, replicate};
+ghost use lib.ListN.{length, getD};
 ghost use Rattle.model.specs.Tag.{readTag};
 ghost use Rattle.model.specs.Layout.{turnOf, entryIn, entryAt};
 ghost use Rattle.model.specs.Commit.{committed};
 ghost use Rattle.model.proofs.rule.Closings.{endOf};
 ghost use Rattle.scan.specs.Scan.{over};
-ghost use Rattle.gathering.specs.Chains.{Roomy, Chained};
+ghost use Rattle.gathering.specs.Chains.{Roomy, Empty, Chained};
 ghost use Rattle.gathering.specs.Walks.{closerIn, strayed, joinEntry, joinClosing, join, Passed};
 
 // What the offset of a closing entry in a cell is added to.
@@ -38,7 +38,8 @@ fn join_entry(
     offset: usize,
     progress: Progress,
 ) -> Progress
-    requires { ⌜ (first < 7168) × (offset < 7168) × (home < 65536) × Roomy 0 (now cells) (now heads) (now links) ⌝ }
+    requires { ⌜ (first < length (now cells)) × (offset < length (now cells)) × (offset < 7168) × (home < 65536)
+        × Roomy 0 (length (now cells)) (now cells) (now heads) (now links) ⌝ }
     ensures { λ r. ⌜ record { cells = now (cells .exit); heads = now (heads .exit); links = now (links .exit); progress = r }
         ≡ joinEntry home offset first
         (record { cells = now (cells .entry); heads = now (heads .entry); links = now (links .entry); progress = progress }) ⌝ }
@@ -66,7 +67,8 @@ fn join_closing(
     progress: Progress,
 ) -> Progress
     requires { ⌜ (base ≤ position) × (position < base + 7168) × (position < 2 ^ 62) × (link < 2 ^ 13) × (progress .end ≤ position) × (progress .number ≤ position)
-        × (first < 7168) × (home < 65536) × Roomy 0 (now cells) (now heads) (now links) ⌝ }
+        × (position < base + length (now cells)) × (first < length (now cells)) × (home < 65536)
+        × Roomy 0 (length (now cells)) (now cells) (now heads) (now links) ⌝ }
     ensures { λ r. ⌜ record { cells = now (cells .exit); heads = now (heads .exit); links = now (links .exit); progress = r }
         ≡ joinClosing base position home first link count
         (record { cells = now (cells .entry); heads = now (heads .entry); links = now (links .entry); progress = progress }) ⌝ }
@@ -97,7 +99,7 @@ fn visit(
     progress: Progress,
 ) -> Progress
     requires { ⌜ (base ≤ position) × (position < base + 7168) × (position < 2 ^ 62) × (progress .end ≤ position) × (progress .number ≤ position)
-        × Roomy homes (now cells) (now heads) (now links) ⌝ }
+        × (position < base + length (now cells)) × Roomy homes (length (now cells)) (now cells) (now heads) (now links) ⌝ }
     ensures { λ r. ⌜ record { cells = now (cells .exit); heads = now (heads .exit); links = now (links .exit); progress = r }
         ≡ join base position (readTag word position base homes)
         (record { cells = now (cells .entry); heads = now (heads .entry); links = now (links .entry); progress = progress }) ⌝ }
@@ -145,8 +147,9 @@ fn visit_group(
     links: &mut [u16],
     progress: Progress,
 ) -> Progress
-    requires { ⌜ (length (now group) ≡ 512) × (groups ≤ 1024) × (start ≤ 2 ^ 47) × (start ≤ n) × (n < start + 1024) × (turn ≡ turnOf groups n) × (m ≤ 7)
-        × (progress .end ≤ 7 * n) × (progress .number ≤ 7 * n) × Roomy homes (now cells) (now heads) (now links) ⌝ }
+    requires { ⌜ (length (now group) ≡ 512) × (groups ≤ 1024) × (start ≤ 2 ^ 47) × (start ≤ n) × (n < start + groups) × (turn ≡ turnOf groups n) × (m ≤ 7)
+        × (progress .end ≤ 7 * n) × (progress .number ≤ 7 * n) × (7 * groups ≤ length (now cells))
+        × Roomy homes (length (now cells)) (now cells) (now heads) (now links) ⌝ }
     ensures { λ r. ⌜ record { cells = now (cells .exit); heads = now (heads .exit); links = now (links .exit); progress = r }
         ≡ over (join (7 * start)) (entryIn (now (group .entry)) groups homes start) (7 * n) m
         (record { cells = now (cells .entry); heads = now (heads .entry); links = now (links .entry); progress = progress }) ⌝ }
@@ -188,8 +191,8 @@ fn pass(
     n: u64,
 ) -> Progress
     requires { ⌜ (length (now log) ≡ 64 + 512 * groups) × (0 < groups) × (groups ≤ 1024) × (homes ≤ 65535) × (start ≤ 2 ^ 47) × (n ≤ 7 * groups)
-        × (now cells ≡ replicate 7168 0) × (now heads ≡ replicate 1024 0) × (now links ≡ replicate 7168 0) ⌝ }
-    ensures { λ r. ⌜ Passed (now (log .entry)) groups homes start n
+        × Empty groups (now cells) (now heads) (now links) ⌝ }
+    ensures { λ r. ⌜ Passed (now (log .entry)) groups homes start n (length (now (cells .entry)))
         (record { cells = now (cells .exit); heads = now (heads .exit); links = now (links .exit); progress = r }) ⌝ }
 {
     let mut progress = Progress {
@@ -248,7 +251,7 @@ fn drop_counts(cells: &mut [u16], n: usize)
 
 // Walks the `n` positions of the log from its start on with empty tables, and finds where the committed transactions end and how many they are, their
 // closing entries and the chains. A log in which an entry comes after its transaction's closing one, as no store writes it, stops the walk with the
-// sign 2, and nothing is found.
+// sign 2, and nothing is found: it takes two passes.
 pub fn walk(
     log: &[u8],
     last: &mut [u16],
@@ -259,8 +262,8 @@ pub fn walk(
     start: u64,
     n: u64,
 ) -> Progress
-    requires { ⌜ (length (now log) ≡ 64 + 512 * groups) × (0 < groups) × (groups ≤ 1024) × (homes ≤ 65535) × (start ≤ 2 ^ 47) × (n ≤ 7 * groups)
-        × (now last ≡ replicate 7168 0) × (now heads ≡ replicate 1024 0) × (now links ≡ replicate 7168 0) ⌝ }
+    requires { ⌜ (length (now log) ≡ 64 + 512 * groups) × (4 ≤ groups) × (groups ≤ 1024) × (homes ≤ 65535) × (start ≤ 2 ^ 47) × (n ≤ 7 * groups)
+        × Empty groups (now last) (now heads) (now links) ⌝ }
     ensures { λ r. ⌜ ((r .failed ≡ 2 → ⊥)
         → (r .end ≡ endOf (committed (entryAt (now (log .entry)) groups homes start) (7 * start) n))
         × (r .number ≡ length (committed (entryAt (now (log .entry)) groups homes start) (7 * start) n))

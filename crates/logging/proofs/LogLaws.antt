@@ -13,7 +13,7 @@ use Rattle.model.specs.Layout.{groupAt}
 use Rattle.model.specs.Batch.{GW, recordBytes, batchBytes}
 use Rattle.model.specs.declared.State.{State}
 use Rattle.model.specs.declared.Writer.{Writer}
-use Rattle.model.specs.State.{stateOf, setNext, setFilled, nextPosition, writerOffset, setWriter, heldOf, setHeld, setPromise, promiseLeft, holding, logging, holds, hasLogged, firstFor, countFor}
+use Rattle.model.specs.State.{stateOf, setNext, setFilled, nextPosition, writerOf, writerOffset, setWriter, heldOf, setHeld, setPromise, promiseLeft, holding, logging, holds, hasLogged, firstFor, countFor}
 use Rattle.model.specs.Tag.{entryWord}
 use Rattle.model.specs.Effects.{entered, submitted, logged, linkFrom}
 use Rattle.model.specs.Questions.{ask}
@@ -76,19 +76,22 @@ submitted-full : (s : List ℕ) (st : State) (slot : ℕ) (l : List ℕ)
 unfolding submitted
 submitted-full s st slot l = refl
 
-module _ (l s b : List ℕ) (st : State) (w : ℕ) (m : MayLog l s b st w) (word : ℕ) (x : List ℕ) (xh : x ≡ heldOf s w) where
-  pub kept : (s′ l′ : List ℕ) → st .filled ≢ 6 → l′ ≡ entered st (st .next % st .groups) l word x → s′ ≡ setFilled s (st .filled + 1)
+module _ (l s b : List ℕ) (st : State) (w : ℕ) (m : MayLog l s b st w) (word : ℕ) (x : List ℕ) (xh : x ≡ heldOf s w) (slot : ℕ)
+    (es : slot ≡ st .next % st .groups) where
+  pub kept : (s′ l′ : List ℕ) → st .filled ≢ 6 → l′ ≡ entered st slot l word x → s′ ≡ setFilled s (st .filled + 1)
       → Wrote 0 s′ l′ b b (logged s l word (heldOf s w))
   unfolding batchBytes
   kept s′ l′ f hl hs =
       rw (logged-as s l word (heldOf s w) st false (m .state) (ne-eqb (st .filled) 6 f), submitted-part)
-      (record { size = refl; state = hs; log = hl ∙ rw xh; batch = sym (puts-nil b 0) })
+      (record { size = refl; state = hs; log = hl ∙ rw (xh, es); batch = sym (puts-nil b 0) })
 
-  pub handed : (n : ℕ) (s₁ s′ l′ b′ : List ℕ) → st .filled ≡ 6 → l′ ≡ entered st (st .next % st .groups) l word x
+  pub handed : (n : ℕ) (s₁ s′ l′ b′ : List ℕ) → st .filled ≡ 6 → l′ ≡ entered st slot l word x
       → s₁ ≡ setNext s (st .next + 1) → s′ ≡ setFilled s₁ 0 → n ≡ 0 + 516
-      → b′ ≡ puts b 0 (recordBytes (GW (st .next % st .groups) (groupAt l′ (st .next % st .groups))))
+      → b′ ≡ puts b 0 (recordBytes (GW slot (groupAt l′ slot)))
       → Wrote n s′ l′ b′ b (logged s l word (heldOf s w))
-  handed n s₁ s′ l′ b′ f hl h₁ hs hn hb =
+  handed n s₁ s′ l′ b′ f hl′ h₁ hs hn hb′ =
+      let hl : l′ ≡ entered st (st .next % st .groups) l word x = hl′ ∙ rw es in
+      let hb : b′ ≡ puts b 0 (recordBytes (GW (st .next % st .groups) (groupAt l′ (st .next % st .groups)))) = hb′ ∙ rw es in
       let le : length l′ ≡ length l = ap length hl ∙ length-entered st (st .next % st .groups) l word x in
       let lg = length-slot l′ (st .next) (st .groups) (omega (arith, m .some)) (omega (arith, m .log)) in
       let e : l′ ≡ entered st (st .next % st .groups) l word (heldOf s w) = hl ∙ rw xh in
@@ -190,3 +193,25 @@ stored-first s s₁ s′ x r w home h h₁ hs = hs ∙ rw (h₁, held-first r ho
 
 pub at-position : (st : State) (r : Writer) (p q : ℕ) → p ≡ q → Fits st r q → Fits st r p
 at-position st r p q e f = rw e f
+
+-- ---- by the numbers and the record that stand in the strip, there and back
+
+pub next-at : (l s b x : List ℕ) (st : State) (r : Writer) (w home : ℕ) → st ≡ stateOf s → r ≡ writerOf s w
+    → MayLog l s b (stateOf s) w × Fits (stateOf s) (writerOf s w) (nextPosition (stateOf s)) × (length x ≡ 64) × (holds (writerOf s w) ≡ true)
+    × (writerOf s w .home ≢ home)
+    → MayLog l s b st w × Fits st r (nextPosition st) × (length x ≡ 64) × (holds r ≡ true) × (r .home ≢ home)
+next-at l s b x st r w home es er h = rw (es, er) h
+
+pub stored-at : (k : ℕ) (s′ l′ b′ s l b x : List ℕ) (st : State) (r : Writer) (w home : ℕ) → st ≡ stateOf s → r ≡ writerOf s w
+    → StoredOther k s′ l′ b′ s l b x st r w home → StoredOther k s′ l′ b′ s l b x (stateOf s) (writerOf s w) w home
+stored-at k s′ l′ b′ s l b x st r w home es er d = rw (es, er) at d
+
+pub next-own : (l s b x : List ℕ) (st : State) (r : Writer) (w home : ℕ) → st ≡ stateOf s → r ≡ writerOf s w
+    → MayLog l s b st w × Fits st r (nextPosition st) × (length x ≡ 64) × (holds r ≡ true) × (r .home ≢ home)
+    → MayLog l s b (stateOf s) w × Fits (stateOf s) (writerOf s w) (nextPosition (stateOf s)) × (length x ≡ 64) × (holds (writerOf s w) ≡ true)
+    × (writerOf s w .home ≢ home)
+next-own l s b x st r w home es er h = rw (es, er) at h
+
+pub stored-own : (k : ℕ) (s′ l′ b′ s l b x : List ℕ) (st : State) (r : Writer) (w home : ℕ) → st ≡ stateOf s → r ≡ writerOf s w
+    → StoredOther k s′ l′ b′ s l b x (stateOf s) (writerOf s w) w home → StoredOther k s′ l′ b′ s l b x st r w home
+stored-own k s′ l′ b′ s l b x st r w home es er d = rw (es, er) d

@@ -37,10 +37,10 @@ pub fn log_entry(log: &mut [u8], state: &mut [u8], batch: &mut [u8], word: u64, 
     ensures { λ r. ⌜ Wrote r (now (state .exit)) (now (log .exit)) (now (batch .exit)) (now (batch .entry)) (logged (now (state .entry)) (now (log .entry)) word (heldOf (now (state .entry)) w)) ⌝ }
 {
     let st = strip::state(state);
-    let slot = (st.next % st.groups) as usize;
-    let turn = st.next / st.groups % 2;
+    let at = scan::first_slot(st.next, st.groups);
+    let slot = at.slot as usize;
     let held = 128 + 96 * w + 32;
-    areas::enter(log, slot, turn, st, word, &state[held..held + 64]);
+    areas::enter(log, slot, at.turn, st, word, &state[held..held + 64]);
     if st.filled != 6 {
         strip::set_filled(state, st.filled + 1);
         return 0;

@@ -22,7 +22,7 @@ fn flush_part(log: &[u8], state: &mut [u8], batch: &mut [u8], st: State)
     ensures { λ _. ⌜ now (state .exit) ≡ setFenced (setFilled (setNext (now (state .entry)) (st .next + 1)) 0) (7 * (st .next + 1)) ⌝ }
     ensures { λ _. ⌜ now (batch .exit) ≡ puts (now (batch .entry)) 0 (batchBytes (GW (st .next % st .groups) (groupAt (now (log .entry)) (st .next % st .groups)) ∷ FN ∷ [])) ⌝ }
 {
-    let slot = (st.next % st.groups) as usize;
+    let slot = scan::first_slot(st.next, st.groups).slot as usize;
     let at = batch::group_write(batch, 0, slot, log);
     batch::fence(batch, at);
     let next = st.next + 1;

@@ -9,4 +9,4 @@ pub use entry::may_log;
 pub use flushes::flush;
 pub use stores::store;
 pub use stores::store_first;
-pub use stores::store_other;
+pub use stores::store_next;

@@ -10,7 +10,7 @@ ghost use mathlib.Core.Bool.{true, false};
 ghost use mathlib.Core.Logic.{_≢_};
 ghost use Prim.Native.Nat.{_<_};
 ghost use lib.ListN.{length};
-ghost use Rattle.model.specs.State.{nextPosition, setWriter, setHeld, holding, holds};
+ghost use Rattle.model.specs.State.{stateOf, nextPosition, writerOf, setWriter, setHeld, holding, holds};
 ghost use Rattle.model.specs.Effects.{storeEffect};
 ghost use Rattle.model.specs.Questions.{storeAnswer};
 ghost use Rattle.model.specs.Calls.{sizeOf, storeCall};
@@ -49,7 +49,7 @@ fn hold_next(
 }
 
 // The same, and the entry uses up one of the places promised to the writer, if any is left.
-pub fn store_other(
+fn store_other(
     log: &mut [u8],
     state: &mut [u8],
     block: &[u8],
@@ -66,6 +66,24 @@ pub fn store_other(
     let size = hold_next(log, state, block, batch, st, r, w, home);
     strip::set_promise(state, w, left);
     size
+}
+
+// The same by the numbers and the record that stand in the strip.
+pub fn store_next(
+    log: &mut [u8],
+    state: &mut [u8],
+    block: &[u8],
+    batch: &mut [u8],
+    w: usize,
+    home: u64,
+) -> u64
+    requires { ⌜ MayLog (now log) (now state) (now batch) (stateOf (now state)) w × Fits (stateOf (now state)) (writerOf (now state) w) (nextPosition (stateOf (now state)))
+        × (length (now block) ≡ 64) × (holds (writerOf (now state) w) ≡ true) × (writerOf (now state) w .home ≢ home) ⌝ }
+    ensures { λ x. ⌜ StoredOther x (now (state .exit)) (now (log .exit)) (now (batch .exit)) (now (state .entry)) (now (log .entry)) (now (batch .entry)) (now (block .entry)) (stateOf (now (state .entry))) (writerOf (now (state .entry)) w) w home ⌝ }
+{
+    let st = strip::state(state);
+    let r = strip::writer(state, w);
+    store_other(log, state, block, batch, st, r, w, home)
 }
 
 // The answer of a store: 0, or the number of the question that refuses it.
@@ -132,7 +150,6 @@ pub fn store(
         strip::set_held(state, w, block);
         return answers::done(0, 0);
     }
-    let st = strip::state(state);
-    let size = store_other(log, state, block, batch, st, r, w, home);
+    let size = store_next(log, state, block, batch, w, home);
     answers::done(0, size)
 }

@@ -4,6 +4,7 @@ pub mod StateLaws
 pub mod WriterLaws
 pub mod PromiseLaws
 pub mod ListedLaws
+pub mod SignLaws
 pub mod RightLaws
 pub mod OrderLaws
 pub mod QuestionLaws

@@ -12,25 +12,10 @@ use Rattle.model.specs.Commit.{Span, committed, transactions, replay, me
 use Rattle.model.specs.Batch.{Record, GW, HW, KW, FN}
 use Rattle.model.specs.State.{State, stateOf, setStart, setNext, setFilled, setSettled, setFenced, setDurable, setLast, nextPosition, Writer, writerOf, setWriter, heldOf, setHeld, setPromise, promiseLeft, idle, begun, holding, logging, isOpen, holds, hasLogged, holdsHome, firstFor, countFor, freshState, setRound, setCursor, fixedIn}
 use Rattle.model.specs.Newest.{keptFor, nothingKept, keepEntries, forget, carryListed}
+use Rattle.model.specs.Rights.{keepList}
 use Rattle.model.specs.declared.Tag.{Tag}
-
--- what a call is lent: state strip, newest positions, log copy, data copy, block and batch buffer, and its two numbers. What a call is not lent is
--- empty or 0.
-pub record Given : Type 0 where
-  pub state : List ℕ
-  pub newest : List ℕ
-  pub log : List ℕ
-  pub area : List ℕ
-  pub block : List ℕ
-  pub batch : List ℕ
-  pub writer : ℕ
-  pub home : ℕ
-
-abbrev pub groups : Given → ℕ
-groups g = groupsIn (length (g .log))
-
-abbrev pub homes : Given → ℕ
-homes g = homesIn (length (g .area))
+pub use Rattle.model.specs.Given.{Given, groups, homes}
+unfoldable pub use Rattle.model.specs.Given.{tagsOf, liveBase, liveTags, blockOr, isThere}
 
 -- what a done call leaves: its figure, the lent memory but the batch, and the records it writes
 pub record Effect : Type 0 where
@@ -215,13 +200,6 @@ logClosing g r position =
     (closingWord (r .home) (position - firstFor r position) (linkFrom position (stateOf (g .state))) (countFor r + 1))
     (heldOf (g .state) (g .writer))
 
--- what a log says at a position, and the position where it starts, by the strip's start
-unfoldable pub tagsOf : Given → List ℕ → ℕ → Tag
-tagsOf g log = entryAt log (groups g) (homes g) (stateOf (g .state) .start)
-
-unfoldable pub liveBase : Given → ℕ
-liveBase g = 7 * stateOf (g .state) .start
-
 -- the newest positions with those of the transaction that closes at a position of the log as logging has left it
 unfoldable pub keptCommit : Given → List ℕ → ℕ → ℕ → List ℕ
 keptCommit g log first position =
@@ -231,9 +209,12 @@ unfoldable pub commitHeld : Given → Writer → ℕ → Effect
 commitHeld g r position =
     let l : Logged = logClosing g r position in
     let newest : List ℕ = keptCommit g (l .log) (firstFor r position) position in
+    let s : List ℕ = setPromise (setWriter (setLast (l .state) (position + 1)) (g .writer) idle) (g .writer) 0 in
     record {
       figure = position + 1;
-      state = carryListed (homes g) newest (setPromise (setWriter (setLast (l .state) (position + 1)) (g .writer) idle) (g .writer) 0);
+      state =
+          keepList
+          (record { state = s; newest = newest; log = l .log; area = g .area; block = []; batch = []; writer = 0; home = 0 });
       newest = newest;
       log = l .log;
       area = g .area;
@@ -283,10 +264,6 @@ flushEffect g =
 
 unfoldable pub confirmEffect : Given → Effect
 confirmEffect g = newState g (setDurable (g .state) (stateOf (g .state) .fenced)) (stateOf (g .state) .fenced)
-
--- what the calls other than open see in the log copy: they take the start from the strip
-unfoldable pub liveTags : Given → ℕ → Tag
-liveTags g = tagsOf g (g .log)
 
 -- Settle: "looks only at committed transactions whose closing entry lies below F. HW, rising, of the newest value each home has among them, then
 -- FN; the data copy too. The settled position becomes the former F."
@@ -423,11 +400,6 @@ unfoldable pub newestCommitted : Given → Option ℕ
 newestCommitted g =
     newest (liveTags g) (g .home) (transactions (liveTags g) (liveBase g) (nextPosition (stateOf (g .state)) - liveBase g))
 
--- the block at a position, or another
-unfoldable pub blockOr : Given → Option ℕ → List ℕ → List ℕ
-blockOr g none other = other
-blockOr g (some p) other = blockAt (g .log) (groups g) p
-
 unfoldable pub current : Given → List ℕ
 current g = blockOr g (newestCommitted g) (homeAt (g .area) (g .home))
 
@@ -441,12 +413,6 @@ ownElse g other =
 -- the read of document 01; the claim that the newest positions change nothing names it
 unfoldable pub visible : Given → List ℕ
 visible g = ownElse g (current g)
-
--- "Over a strip that disagrees with the log, a read shows the block at the kept position if an entry for that home is there, else the data copy." Like
--- every call it looks only at positions from the start to below the next one.
-unfoldable pub isThere : Given → ℕ → Bool
-isThere g p =
-    leb (liveBase g) p && ltb p (nextPosition (stateOf (g .state))) && present (liveTags g p) && eqb (homeOf (liveTags g p)) (g .home)
 
 unfoldable pub keptPosition : Given → Option ℕ
 keptPosition g = let p : ℕ = keptFor (g .newest) (g .home) in cond (isThere g p) (some p) none

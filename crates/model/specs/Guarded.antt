@@ -1,9 +1,10 @@
--- Histories with a list of rights: who may store and read what, before it is committed, under it, under the next one, after a trim and after an opening.
+-- Histories with a list of rights: who may store and read what, before it is committed, under it, under the next one, after a trim and after an opening, and when it
+-- is withdrawn.
 use Prim.Native.Nat.{ℕ}
 use mathlib.Core.Bool.{false}
 use mathlib.Core.List.{List, [], _∷_, _++_}
 use Rattle.model.specs.Bytes.{zeros, bytes}
-use Rattle.model.specs.State.{listHome, listedOf}
+use Rattle.model.specs.State.{listHome, listedOf, listSign}
 use Rattle.model.specs.Newest.{noPosition, keptFor}
 use Rattle.model.specs.Calls.{Outcome}
 use Rattle.model.specs.History.{Call, opening, begin, store, commit, flush, settle, trim, read, Event, call, crash, World, emptyStore, ends, afterCall, step}
@@ -44,9 +45,9 @@ reads writer home = read writer home (zeros 64)
 unfoldable pub writes : ℕ → ℕ → Call
 writes writer home = store writer home (fill 9) room
 
--- what the state strip and the newest positions have for the list's first home, and the numbers
+-- what the state strip and the newest positions have for the list's first home, the list's sign, and the numbers
 unfoldable pub seen : World → List ℕ → List ℕ
-seen w numbers = listedOf (w .state) 0 ∷ keptFor (w .newest) listHome ∷ numbers
+seen w numbers = listedOf (w .state) 0 ∷ keptFor (w .newest) listHome ∷ listSign (w .state) ∷ numbers
 
 -- a new format (G 4, D 13) opened: positions from 28 on
 unfoldable pub reopening : Event
@@ -100,6 +101,19 @@ laidDown = trimmed replaced
 unfoldable pub reopened : World
 reopened = openedAgain laidDown
 
+-- the first list withdrawn by zeros, so that all is open again, and committed once more: the sign goes along
+unfoldable pub recommitted : World → List ℕ → World
+recommitted w list = goes w (begin 0 ∷ store 0 8 list room ∷ commit 0 room ∷ [])
+
+unfoldable pub withdrawn : World
+withdrawn = recommitted guarded (zeros 64)
+
+unfoldable pub again : World
+again = recommitted withdrawn firstList
+
+unfoldable pub ofOthers : List Call
+ofOthers = reads 1 4 ∷ writes 1 4 ∷ []
+
 -- D 11 is too small for a list: homes 8 to 10 are writer 0's alone to store to, and all else is open
 unfoldable pub tooSmall : List ℕ
 tooSmall =
@@ -113,9 +127,11 @@ moments =
     record { yields = begun .numbers; paper = 0 ∷ 0 ∷ 19 ∷ 19 ∷ 7 ∷ 0 ∷ 0 ∷ 0 ∷ 0 ∷ 0 ∷ 0 ∷ 0 ∷ 0 ∷ [] }
     ∷ record {
       yields = seen guarded (denying .numbers);
-      paper = 28 ∷ 28 ∷ 20 ∷ 0 ∷ 19 ∷ 19 ∷ 19 ∷ 0 ∷ 20 ∷ 0 ∷ 0 ∷ 20 ∷ 20 ∷ 19 ∷ 0 ∷ 19 ∷ 0 ∷ 0 ∷ [];
+      paper = 28 ∷ 28 ∷ 2 ∷ 20 ∷ 0 ∷ 19 ∷ 19 ∷ 19 ∷ 0 ∷ 20 ∷ 0 ∷ 0 ∷ 20 ∷ 20 ∷ 19 ∷ 0 ∷ 19 ∷ 0 ∷ 0 ∷ [];
     }
-    ∷ record { yields = seen replaced (runs replaced underNext .numbers); paper = 33 ∷ 33 ∷ 7 ∷ 19 ∷ 0 ∷ 20 ∷ 20 ∷ 19 ∷ 7 ∷ [] }
-    ∷ record { yields = seen laidDown (runs laidDown underNext .numbers); paper = noPosition ∷ noPosition ∷ 7 ∷ 19 ∷ 0 ∷ 20 ∷ 20 ∷ 19 ∷ 7 ∷ [] }
-    ∷ record { yields = seen reopened (runs reopened underFirst .numbers); paper = noPosition ∷ noPosition ∷ 7 ∷ 19 ∷ 0 ∷ 20 ∷ 0 ∷ [] }
+    ∷ record { yields = seen replaced (runs replaced underNext .numbers); paper = 33 ∷ 33 ∷ 2 ∷ 7 ∷ 19 ∷ 0 ∷ 20 ∷ 20 ∷ 19 ∷ 7 ∷ [] }
+    ∷ record { yields = seen laidDown (runs laidDown underNext .numbers); paper = noPosition ∷ noPosition ∷ 2 ∷ 7 ∷ 19 ∷ 0 ∷ 20 ∷ 20 ∷ 19 ∷ 7 ∷ [] }
+    ∷ record { yields = seen reopened (runs reopened underFirst .numbers); paper = noPosition ∷ noPosition ∷ 0 ∷ 7 ∷ 19 ∷ 0 ∷ 20 ∷ 0 ∷ [] }
+    ∷ record { yields = seen withdrawn (runs withdrawn ofOthers .numbers); paper = 30 ∷ 30 ∷ 1 ∷ 0 ∷ 0 ∷ [] }
+    ∷ record { yields = seen again (runs again ofOthers .numbers); paper = 31 ∷ 31 ∷ 2 ∷ 20 ∷ 19 ∷ [] }
     ∷ record { yields = tooSmall; paper = 0 ∷ 0 ∷ 0 ∷ 0 ∷ 0 ∷ 0 ∷ 19 ∷ 19 ∷ 5 ∷ 0 ∷ 0 ∷ [] } ∷ []

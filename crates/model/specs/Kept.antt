@@ -5,11 +5,12 @@ use mathlib.Core.Path.{_≡_}
 use mathlib.Core.Bool.{true, false}
 use mathlib.Core.List.{List, [], _∷_}
 use lib.ListN.{length, getD}
-use Rattle.model.specs.Bytes.{zeros}
+use Rattle.model.specs.Bytes.{part, zeros}
 use Rattle.model.specs.Layout.{homeAt}
-use Rattle.model.specs.State.{listHome, listedOf}
+use Rattle.model.specs.State.{listHome, listedOf, listSign}
 use Rattle.model.specs.Newest.{noPosition, keptAs, keptFor, keep}
 use Rattle.model.specs.Effects.{Given, newestCommitted, ownElse, shown, visible}
+use Rattle.model.specs.Rights.{Faithful}
 use Rattle.model.specs.Calls.{commitCall, trimCall, readCall}
 use Rattle.model.specs.Book.{homesAfter}
 use Rattle.model.specs.History.{begin, store, commit, flush, settle, trim, World, Event, crash, lent, step, Always}
@@ -24,6 +25,8 @@ pub record Kept (w : World) : Type 0 where
   pub blocks : (home : ℕ) → home < w .homes → shown (lent w [] [] 0 home) ≡ homeAt (homesAfter (w .homes) (w .book .commits)) home
   -- the state strip has the same positions for the list's four homes
   pub listed : listHome + 4 ≤ w .homes → (i : ℕ) → i < 4 → listedOf (w .state) i ≡ keptFor (w .newest) (listHome + i)
+  -- its sign says nothing false of the list as the book has it
+  pub sign : listHome + 4 ≤ w .homes → Faithful (listSign (w .state)) (part (homesAfter (w .homes) (w .book .commits)) (64 * listHome) 256)
   -- what a read shows is what it showed while it searched the log
   pub same : (writer home : ℕ) → home < w .homes → ownElse (lent w [] [] writer home) (shown (lent w [] [] writer home)) ≡ visible (lent w [] [] writer home)
 

@@ -5,8 +5,9 @@ pub mod Commit
 pub mod Batch
 pub mod State
 pub mod Newest
-pub mod Effects
+pub mod Given
 pub mod Rights
+pub mod Effects
 pub mod Questions
 pub mod Calls
 pub mod Refusals

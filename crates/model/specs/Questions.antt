@@ -7,9 +7,9 @@ use mathlib.Core.List.{List, []}
 use lib.Dec.{eqb, leb, ltb}
 use lib.ListN.{length}
 use Rattle.model.specs.Layout.{maxStart, logLengthRight, dataLengthRight, headerRight, headerStart}
-use Rattle.model.specs.State.{State, stateOf, stateBytes, underWay, inOrder, promiseOf, promised, places, freePlaces, Writer, writerOf, isOpen, holds, holdsHome}
+use Rattle.model.specs.State.{State, stateOf, stateBytes, underWay, inOrder, promiseOf, promised, places, freePlaces, listSign, Writer, writerOf, isOpen, holds, holdsHome}
 use Rattle.model.specs.Effects.{Given, groups, homes}
-use Rattle.model.specs.Rights.{mayStore, mayRead, storeList, readList}
+use Rattle.model.specs.Rights.{storeRight, readRight, storeList, readList}
 
 -- a question: if it is answered no, the call's answer is `number`; else the next question follows
 unfoldable pub ask : Bool → ℕ → ℕ → ℕ
@@ -48,10 +48,10 @@ homeKnown g = ltb (g .home) (homes g)
 
 -- "19 no right to store, 20 no right to read, both directly after 5, before any other"
 unfoldable pub storeAllowed : Given → Bool
-storeAllowed g = mayStore (homes g) (storeList g) (g .writer) (g .home)
+storeAllowed g = storeRight (listSign (g .state)) (homes g) (storeList g) (g .writer) (g .home)
 
 unfoldable pub readAllowed : Given → Bool
-readAllowed g = mayRead (homes g) (readList g) (g .writer) (g .home)
+readAllowed g = readRight (listSign (g .state)) (homes g) (readList g) (g .writer) (g .home)
 
 -- 6. "Begin: is the writer idle? No: 6." 7. "Store, commit, abort: is it open? No: 7."
 unfoldable pub writerOpen : Given → Bool

@@ -3,15 +3,16 @@
 -- ranges it may store to, then four it may read, each first home and number of homes, 16 bits; all zeros, or D too small for it, is no list. While no
 -- list is committed every other home is open to all."
 use Prim.Native.Nat.{ℕ, zero, suc, _+_, _*_}
+use mathlib.Core.Path.{_≡_}
 use mathlib.Core.Bool.{Bool, true, false, cond, not, _&&_, _||_}
 use mathlib.Core.List.{List, [], _++_}
 use mathlib.Core.Option.{Option, none, some}
 use lib.Dec.{eqb, leb, ltb}
 use Rattle.model.specs.Bytes.{zeros, number, same}
 use Rattle.model.specs.Layout.{homeAt}
-use Rattle.model.specs.State.{listHome, listedOf}
-use Rattle.model.specs.Newest.{keptFor}
-use Rattle.model.specs.Effects.{Given, isThere, blockOr}
+use Rattle.model.specs.State.{listHome, listedOf, listSign, setListSign}
+use Rattle.model.specs.Newest.{keptFor, carryListed}
+use Rattle.model.specs.Given.{Given, homes, isThere, blockOr}
 
 -- Which list counts: "A changed list counts from its commit; a call lent g's strip finds it by that." Each of the four homes shows its newest
 -- committed block, never a writer's own.
@@ -46,6 +47,26 @@ storeList g = listBy g (listedOf (g .state)) 4
 unfoldable pub readList : Given → List ℕ
 readList g = listBy g (λ i. keptFor (g .newest) (listHome + i)) 4
 
+-- Commit keeps the four positions in the state strip, and where they have changed the sign of the list as it is then.
+
+-- whether the state strip has, for the first n homes of the list, what the newest positions have
+unfoldable pub sameListed : Given → ℕ → Bool
+sameListed g zero = true
+sameListed g (suc n) = sameListed g n && eqb (listedOf (g .state) n) (keptFor (g .newest) (listHome + n))
+
+-- given what a commit has left, but for the state strip's part of the list
+unfoldable pub listMoved : Given → Bool
+listMoved g = leb (listHome + 4) (homes g) && not (sameListed g 4)
+
+unfoldable pub signFor : List ℕ → ℕ
+signFor list = cond (same list (zeros 256)) 1 2
+
+unfoldable pub signIf : Bool → List ℕ → List ℕ → List ℕ
+signIf moved list s = cond moved (setListSign s (signFor list)) s
+
+unfoldable pub keepList : Given → List ℕ
+keepList g = signIf (listMoved g) (readList g) (carryListed (homes g) (g .newest) (g .state))
+
 -- What it says
 
 -- the list's own homes
@@ -69,3 +90,22 @@ mayStore homes list writer home =
 
 unfoldable pub mayRead : ℕ → List ℕ → ℕ → ℕ → Bool
 mayRead homes list writer home = ofList home || (not (isList homes list) || inRanges list (32 * writer + 16) home 4)
+
+-- The same by the sign, where it says something: "a store and a read cost at most 150 instructions more than without rights, whatever the log holds".
+
+unfoldable pub signedList : ℕ → ℕ → List ℕ → Bool
+signedList sign homes list =
+    leb (listHome + 4) homes && cond (eqb sign 1) false (cond (eqb sign 2) true (not (same list (zeros 256))))
+
+unfoldable pub storeRight : ℕ → ℕ → List ℕ → ℕ → ℕ → Bool
+storeRight sign homes list writer home =
+    cond (ofList home) (eqb writer 0) (not (signedList sign homes list) || inRanges list (32 * writer) home 4)
+
+unfoldable pub readRight : ℕ → ℕ → List ℕ → ℕ → ℕ → Bool
+readRight sign homes list writer home =
+    ofList home || (not (signedList sign homes list) || inRanges list (32 * writer + 16) home 4)
+
+-- a sign that says nothing false of a list: then both agree
+pub record Faithful (sign : ℕ) (list : List ℕ) : Type 0 where
+  pub empty : sign ≡ 1 → same list (zeros 256) ≡ true
+  pub given : sign ≡ 2 → same list (zeros 256) ≡ false

@@ -118,6 +118,14 @@ listedOf s i = number 8 s (896 + 8 * i)
 unfoldable pub setListed : List ℕ → List ℕ → List ℕ
 setListed s positions = puts s 896 positions
 
+-- The list's sign, which commit sets, so that no question need look at all four blocks: 1, the list as committed is all zeros; 2, it is not; any other
+-- number says nothing.
+unfoldable pub listSign : List ℕ → ℕ
+listSign s = number 8 s 928
+
+unfoldable pub setListSign : List ℕ → ℕ → List ℕ
+setListSign s v = putNumber 8 s 928 v
+
 -- writers
 -- The struct `Writer` of the crate's source: a writer's record but for the held block.
 

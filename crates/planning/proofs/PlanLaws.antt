@@ -22,6 +22,9 @@ use Rattle.bitmap.proofs.MarkedLaws.{length-marked}
 use Rattle.homes.specs.Within.{Within}
 use Rattle.homes.proofs.HomeLaws.{length-writes, within-marked}
 use Rattle.scan.specs.Walk.{Walkable, closedBelow}
+use Rattle.scan.specs.declared.commits.Progress.{Progress}
+use Rattle.gathering.specs.Chains.{Chained}
+use Rattle.gathering.proofs.EndLaws.{end-walkable}
 use Rattle.replay.proofs.RestoreLaws.{touches-below}
 use Rattle.planning.specs.Plans.{Searchable, Planned, Brought, StepMade}
 
@@ -35,26 +38,24 @@ length-each tags base (s ∷ ss) = ap suc (length-each tags base ss)
 pub end-within : (log : List ℕ) (groups homes start n end : ℕ) → Searchable log groups homes start n
     → end ≡ endOf (committed (entryAt log groups homes start) (7 * start) n) → Walkable log groups start end
 end-within log groups homes start n end s e =
-    record {
-      long = s .long;
-      some = omega arith;
-      most = s .most;
-      low = s .low;
-      within = go (committed-within (entryAt log groups homes start) (7 * start) n);
-    }
-  where
-    go : (endOf (committed (entryAt log groups homes start) (7 * start) n) ≡ 0)
-        ⊎ ((7 * start < endOf (committed (entryAt log groups homes start) (7 * start) n))
-        × (endOf (committed (entryAt log groups homes start) (7 * start) n) ≤ 7 * start + n))
-        → end ≤ 7 * (start + groups)
-    go (inl z) = omega arith
-    go (inr z) = omega arith
+    end-walkable log groups homes start n end (s .long) (omega (arith, s .least)) (s .most) (s .low) (s .within) e
 
 pub below-end : (log : List ℕ) (groups homes start n end : ℕ) → end ≡ endOf (committed (entryAt log groups homes start) (7 * start) n)
     → closedBelow log groups homes start end ≡ transactions (entryAt log groups homes start) (7 * start) n
 unfolding transactions
 below-end log groups homes start n end e =
     rw e (ap (eachEntries (entryAt log groups homes start) (7 * start)) (sym (committed-closings (entryAt log groups homes start) (7 * start) n)))
+
+-- a walk has found what is committed, and its tables hold the chains
+abbrev pub Told : List ℕ → ℕ → ℕ → ℕ → ℕ → Progress → List ℕ → List ℕ → List ℕ → Type 0
+Told log groups homes start n found last heads links =
+    (found .end ≡ endOf (committed (entryAt log groups homes start) (7 * start) n))
+    × (found .number ≡ length (committed (entryAt log groups homes start) (7 * start) n))
+    × Chained log groups homes start (found .end) last heads links
+
+pub told-by : (log : List ℕ) (groups homes start n : ℕ) (found f : Progress) (last heads links a b d : List ℕ) → last ≡ a → heads ≡ b → links ≡ d → found ≡ f
+    → Told log groups homes start n f a b d → Told log groups homes start n found last heads links
+told-by log groups homes start n found f last heads links a b d x y z w t = rw (x, y, z, w) t
 
 pub planned : (log : List ℕ) (groups homes start n end number count : ℕ) → Searchable log groups homes start n
     → end ≡ endOf (committed (entryAt log groups homes start) (7 * start) n) → number ≡ length (committed (entryAt log groups homes start) (7 * start) n)
@@ -76,15 +77,6 @@ unfolding touched
 touched-most tags ts homes = length-marked (λ h. found (newest tags h ts)) homes
 
 -- a data copy and a batch that a first pass has left as they were
-pub brought-from : (log : List ℕ) (groups homes start end size : ℕ) (area batch a b other last : List ℕ) → other ≡ area → last ≡ batch
-    → Brought log groups homes start end size other last a b → Brought log groups homes start end size area batch a b
-brought-from log groups homes start end size area batch a b other last e f r = rw (← e, ← f) r
-
-pub made-from : (log : List ℕ) (groups homes start end cursor limit size next : ℕ) (more : Bool) (area batch a b other last : List ℕ) → other ≡ area
-    → last ≡ batch → StepMade log groups homes start end cursor limit size next more other last a b
-    → StepMade log groups homes start end cursor limit size next more area batch a b
-made-from log groups homes start end cursor limit size next more area batch a b other last e f r = rw (← e, ← f) r
-
 -- ---- the records of the homes
 
 module _ (log area : List ℕ) (groups homes start n end number count : ℕ) (p : Planned log groups homes start n end number count)

@@ -1,15 +1,17 @@
-// Replay for settle, open and a round's step: by one pass over the log where that does, else by two.
+// Replay for settle, open and a round's step, by tables of the size that the log asks for.
 use super::tables::Replay;
-use super::tables::bring_again;
-use super::tables::bring_once;
+use super::tables::bring_large;
+use super::tables::bring_small;
 ghost use mathlib.Core.Path.{_≡_};
-ghost use mathlib.Core.Bool.{true};
 ghost use Prim.Native.Nat.{_+_, _*_, _≤_};
 ghost use lib.ListN.{length};
 ghost use Rattle.model.specs.Layout.{entryAt};
 ghost use Rattle.model.specs.Effects.{touched};
 ghost use Rattle.scan.specs.Walk.{closedBelow};
 ghost use Rattle.planning.specs.Plans.{Searchable, Committed, Brought, StepMade};
+
+// The most groups of a log that does with the small tables.
+const SMALL: u64 = 64;
 
 // Replay of all homes, for settle and open, by the committed transactions among the `n` positions from the start on.
 pub fn bring_back(
@@ -28,21 +30,10 @@ pub fn bring_back(
         ≡ 68 * length (touched (entryAt (now (log .entry)) groups homes start) (closedBelow (now (log .entry)) groups homes start (r .end)) homes) + more ⌝ }
     ensures { λ r. ⌜ Brought (now (log .entry)) groups homes start (r .end) (r .size) (now (area .entry)) (now (batch .entry)) (now (area .exit)) (now (batch .exit)) ⌝ }
 {
-    let replay = bring_once(log, area, batch, groups, homes, start, n, 0, 0, more);
-    if replay.found {
-        return replay;
+    if groups <= SMALL {
+        return bring_small(log, area, batch, groups, homes, start, n, 0, 0, more);
     }
-    let found = scan::walk(log, groups, homes, start, n);
-    let end = found.end;
-    let made = bring_again(log, area, batch, groups, homes, start, end, 0, 0, more);
-    Replay {
-        end,
-        number: found.number,
-        size: made.size,
-        next: made.next,
-        more: made.more,
-        found: true,
-    }
+    bring_large(log, area, batch, groups, homes, start, n, 0, 0, more)
 }
 
 // A step of at most `limit` homes from the cursor on, by the same.
@@ -62,30 +53,8 @@ pub fn step(
     ensures { λ r. ⌜ StepMade (now (log .entry)) groups homes start (r .end) cursor limit (r .size) (r .next) (r .more) (now (area .entry)) (now (batch .entry))
         (now (area .exit)) (now (batch .exit)) ⌝ }
 {
-    let replay = bring_once(log, area, batch, groups, homes, start, n, cursor, limit, 0);
-    if replay.found {
-        return replay;
+    if groups <= SMALL {
+        return bring_small(log, area, batch, groups, homes, start, n, cursor, limit, 0);
     }
-    let found = scan::walk(log, groups, homes, start, n);
-    let end = found.end;
-    let made = bring_again(
-        log,
-        area,
-        batch,
-        groups,
-        homes,
-        start,
-        end,
-        cursor,
-        limit,
-        0,
-    );
-    Replay {
-        end,
-        number: found.number,
-        size: made.size,
-        next: made.next,
-        more: made.more,
-        found: true,
-    }
+    bring_large(log, area, batch, groups, homes, start, n, cursor, limit, 0)
 }

@@ -1,4 +1,5 @@
 // Commit keeps the position of each entry of its transaction: one pass over the log from the transaction's first position to its closing one.
+use crate::groups::keep_alone;
 use crate::groups::keep_between;
 use crate::groups::keep_whole;
 use scan::RingSlot;
@@ -138,4 +139,26 @@ pub fn keep_entries(
         left as usize,
         newest,
     )
+}
+
+// The same for a transaction of its closing entry alone, at index `k` of the group with number `number`.
+pub fn keep_one(
+    log: &[u8],
+    groups: u64,
+    homes: u64,
+    start: u64,
+    number: u64,
+    k: usize,
+    newest: &mut [u8],
+)
+    requires { ⌜ Stretch (now log) groups start (7 * number + k) (7 * number + k + 1) × (k < 7) × (homes ≤ 65535) × (length (now newest) ≡ 8 * homes) ⌝ }
+    ensures { λ _. ⌜ now (newest .exit)
+        ≡ keepEntries (entryAt (now (log .entry)) groups homes start)
+        (entries (entryAt (now (log .entry)) groups homes start) (7 * start) (record { first = 7 * number + k; closing = 7 * number + k }))
+        (now (newest .entry)) ⌝ }
+{
+    let ring = scan::first_slot(number, groups);
+    let from = 64 + 512 * ring.slot as usize;
+    let group = &log[from..from + 512];
+    keep_alone(group, groups, homes, start, number, ring.turn, k, newest)
 }

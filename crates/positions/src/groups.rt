@@ -1,6 +1,7 @@
 // Commit's pass over a group's tags: all seven where they are plain, or from one tag on to another.
 use crate::words::keep_entry;
 use crate::words::keep_plain;
+use crate::words::keep_word;
 ghost use mathlib.Core.Path.{_≡_};
 ghost use mathlib.Core.List.{List};
 ghost use Prim.Native.Nat.{ℕ, _+_, _*_, _^_, _≤_, _<_};
@@ -73,4 +74,26 @@ pub fn keep_between(
         keep_entry(group, turn, k, 7 * n + k as u64, base, homes, first, newest);
         k += 1;
     }
+}
+
+// The same for tag `k` alone, the only one of its transaction.
+pub fn keep_alone(
+    group: &[u8],
+    groups: u64,
+    homes: u64,
+    start: u64,
+    n: u64,
+    turn: u64,
+    k: usize,
+    newest: &mut [u8],
+)
+    requires { ⌜ (length (now group) ≡ 512) × (groups ≤ 1024) × (homes ≤ 65535) × (start ≤ 2 ^ 47) × (n < start + 1024) × (turn ≡ turnOf groups n) × (k < 7) × (length (now newest) ≡ 8 * homes) ⌝ }
+    ensures { λ _. ⌜ ((before : List ℕ) → now (newest .entry) ≡ keptOver (entryIn (now (group .entry)) groups homes start) (7 * n + k) (7 * n) k before → now (newest .exit) ≡ keptOver (entryIn (now (group .entry)) groups homes start) (7 * n + k) (7 * n) (k + 1) before) ⌝ }
+{
+    if !scan::group_valid(group, groups, start, n) {
+        return;
+    }
+    let word = scan::word_there(group, turn, k);
+    let position = 7 * n + k as u64;
+    keep_word(newest, word, position, 7 * start, homes, position)
 }

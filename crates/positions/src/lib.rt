@@ -5,6 +5,7 @@ mod strip;
 mod words;
 
 pub use commits::keep_entries;
+pub use commits::keep_one;
 pub use strip::forget;
 pub use strip::keep;
 pub use strip::keep_nothing;

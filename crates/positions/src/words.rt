@@ -14,7 +14,7 @@ ghost use Rattle.positions.specs.Keeping.{keepAt, PlainFor};
 
 // Keeps a position if `word`, that of its tag, is an entry of the transaction with first position `first`, whatever kind of entry. Its distance back is
 // compared before all else.
-fn keep_word(newest: &mut [u8], word: u64, position: u64, base: u64, homes: u64, first: u64)
+pub fn keep_word(newest: &mut [u8], word: u64, position: u64, base: u64, homes: u64, first: u64)
     requires { ⌜ (length (now newest) ≡ 8 * homes) × (first ≤ position) ⌝ }
     ensures { λ _. ⌜ now (newest .exit) ≡ taking first keepAt position (readTag word position base homes) (now (newest .entry)) ⌝ }
 {

@@ -141,7 +141,7 @@ module _ (g : Given) (st : State) (r : Writer) (es : st ≡ stateOf (g .state)) 
 
   kept-same : InOrder (g .state) (groups g) (homes g) → keptPosition g ≡ keptEntry (g .log) (g .newest) st (g .home)
   unfolding keptPosition keptEntry
-  kept-same o = rw (there-same g st es o (keptFor (g .newest) (g .home)))
+  kept-same o = rw (there-same g st es (o .groups-same) (o .homes-same) (keptFor (g .newest) (g .home)))
 
   pub shown-held : (b : Bool) (d : List ℕ) → b ≡ holdsHome r (g .home) → b ≡ true → d ≡ heldOf (g .state) (g .writer) → d ≡ readBlock g
   unfolding ownElse

@@ -8,7 +8,7 @@ use native.Mathlib.Decide.{ℕ-discrete}
 use native.Mathlib.Omega.{arith}
 use borrow.Author.Tests.{eq-eqb, ne-eqb, eqb-true, eqb-false, lt-ltb, le-ltb, ltb-true}
 use lib.Dec.{eqb, ltb}
-use lib.ListN.{getD, set, replicate, length-set, length-replicate}
+use lib.ListN.{length, getD, set, replicate, length-set, length-replicate}
 use lib.Seq.{getD-set-same, getD-set-other}
 use Rattle.model.specs.Tag.{present}
 use Rattle.model.specs.Layout.{entryAt}
@@ -22,7 +22,7 @@ use Rattle.gathering.specs.Closers.{closer}
 use Rattle.replay.specs.Best.{from, Best, nothing, better, taken, best}
 use Rattle.scan.specs.Walk.{closedBelow}
 use Rattle.replay.proofs.BestLaws.{from-here, from-past, Says, best-newest}
-use Rattle.gathering.specs.Chains.{maxEntries, inWord, top}
+use Rattle.gathering.specs.Chains.{inWord, top}
 use Rattle.replay.specs.Words.{Word, unseen, Sized, offered, takenIn, take, Newest}
 use Rattle.gathering.proofs.ChainLaws.{top-here, top-same, top-zero, top-in}
 
@@ -190,8 +190,8 @@ pub record Agrees (tags : ℕ → Tag) (base N B w code : ℕ) (g : Word) : Type
   pub home : (k : ℕ) → k < 64 → HoldsAt g k (best (closer tags base N) tags base (64 * w + k) code (B - code))
 
 module _ (tags : ℕ → Tag) (base N B w : ℕ) (last : List ℕ) (at : Placed tags base)
-    (closing : (f : ℕ) → base ≤ f → f < base + maxEntries → getD last (f - base) 0 ≡ closer tags base N f) where
-  agrees-take : (i m : ℕ) (g : Word) → i < maxEntries → Room g
+    (closing : (f : ℕ) → base ≤ f → f < base + length last → getD last (f - base) 0 ≡ closer tags base N f) where
+  agrees-take : (i m : ℕ) (g : Word) → i < length last → Room g
       → ((k : ℕ) → k < 64 → HoldsAt g k (best (closer tags base N) tags base (64 * w + k) (suc i) m)) → (t : Tag) → tags (base + i) ≡ t → inWord w t ≡ true
       → Room (take last base i t g) × ((k : ℕ) → k < 64 → HoldsAt (take last base i t g) k (best (closer tags base N) tags base (64 * w + k) i (suc m)))
   unfolding take takenIn best taken inWord
@@ -214,7 +214,7 @@ module _ (tags : ℕ → Tag) (base N B w : ℕ) (last : List ℕ) (at : Placed 
       )
 
   -- the next entry of the chain, and then the one before it
-  pub agrees-next : (i : ℕ) (g d : Word) → i < B → B ≤ maxEntries → top tags base w (suc i) ≡ suc i → Agrees tags base N B w (suc i) g
+  pub agrees-next : (i : ℕ) (g d : Word) → i < B → B ≤ length last → top tags base w (suc i) ≡ suc i → Agrees tags base N B w (suc i) g
       → d ≡ take last base i (tags (base + i)) g → Agrees tags base N B w (top tags base w i) d
   agrees-next i g d l s z k e =
       let a = agrees-take i (B - suc i) g (omega arith) (k .room) (k .home) (tags (base + i)) refl (top-in tags base w i z) in

@@ -1,5 +1,5 @@
-// Replay by chains: each word's chain of entries gives the newest committed entries of its homes. The tables serve 7,168 positions and 1,024 words,
-// whatever the number of homes.
+// Replay by chains: each word's chain of entries gives the newest committed entries of its homes. The tables go by the size of the log, whatever the
+// number of homes.
 mod places;
 mod restore;
 mod stepping;

@@ -66,7 +66,7 @@ fn take_at(
     offset: u64,
 )
     requires { ⌜ (length (now log) ≡ 64 + 512 * groups) × (groups ≤ 1024) × (0 < groups) × (start ≤ 2 ^ 47) × (offset < 7 * groups) × (slot ≡ start % groups)
-        × (present (entryAt (now log) groups homes start (7 * start + offset)) ≡ true) × (length (now last) ≡ 7168)
+        × (present (entryAt (now log) groups homes start (7 * start + offset)) ≡ true) × (7 * groups ≤ length (now last))
         × Sized (now closers) (now table) (now map) ⌝ }
     ensures { λ _. ⌜ record { closers = now (closers .exit); table = now (table .exit); map = now (map .exit) }
         ≡ take (now (last .entry)) (7 * start) offset (entryAt (now (log .entry)) groups homes start (7 * start + offset))

@@ -1,3 +1,4 @@
 pub mod EntryLaws
 pub mod PlaceLaws
 pub mod RightsLaws
+pub mod KeepLaws

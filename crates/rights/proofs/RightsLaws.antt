@@ -5,16 +5,16 @@ use mathlib.Core.List.{List, [], _∷_, _++_}
 use mathlib.Core.Option.{none, some}
 use Prim.Native.Nat.{ℕ, zero, suc, _+_, _-_, _*_, _/_, _%_, _^_, _≤_, _<_}
 use native.Mathlib.Omega.{arith}
-use borrow.Author.Tests.{eqb-true, eqb-false, le-leb, lt-leb, ltb-true, ltb-false, lt-ltb, le-ltb, leb-true, leb-false}
+use borrow.Author.Tests.{eqb-true, eqb-false, ne-eqb, le-leb, lt-leb, ltb-true, ltb-false, lt-ltb, le-ltb, leb-true, leb-false}
 use lib.Dec.{eqb, leb, ltb}
 use lib.ListN.{length, length-append, replicate}
 use Rattle.model.specs.Bytes.{part, zeros, number, same}
 use Rattle.model.specs.Layout.{homesIn, blockAt, homeAt}
-use Rattle.model.specs.State.{stateOf, listedOf, nextPosition}
+use Rattle.model.specs.State.{stateOf, listedOf, listSign, nextPosition}
 use Rattle.model.specs.declared.State.{State}
 use Rattle.model.specs.Newest.{keptFor}
 use Rattle.model.specs.Effects.{Given, groups, homes, tagsOf, liveTags, liveBase, blockOr, isThere}
-use Rattle.model.specs.Rights.{forHome, shownAt, listBy, storeList, readList, ofList, isList, inRange, inRanges, mayStore, mayRead}
+use Rattle.model.specs.Rights.{forHome, shownAt, listBy, storeList, readList, ofList, isList, inRange, inRanges, signedList, storeRight, readRight}
 use Rattle.model.specs.Questions.{storeAllowed, readAllowed}
 use Rattle.model.proofs.bytes.ByteLaws.{length-part, number-part, part-whole}
 use Rattle.model.proofs.bytes.LayoutLaws.{part-after, part-of-front}
@@ -24,7 +24,26 @@ use Rattle.answers.specs.Lent.{lent, lentAll}
 use Rattle.answers.proofs.AnswerLaws.{Usable}
 use Rattle.shown.specs.There.{thereBy, shownBy, Searchable}
 use Rattle.shown.proofs.ThereLaws.{searchable, shown-same, kept-past}
-use Rattle.rights.specs.Listed.{Listed, blockBy, blocksBy, opens}
+use Rattle.rights.specs.Listed.{Listed, blockBy, blocksBy, opens, opensBy}
+
+-- ---- the answer by the ranges of the whole list
+
+pub open-inside : (homes : ℕ) (list : List ℕ) (at home : ℕ) (b : Bool) → b ≡ inRanges list at home 4 → b ≡ true → true ≡ opens homes list at home
+unfolding opens
+open-inside homes list at home b e t = rw (sym e ∙ t) (go (isList homes list))
+  where
+    go : (a : Bool) → true ≡ (not a || true)
+    go true = refl
+    go false = refl
+
+pub open-outside : (homes : ℕ) (list : List ℕ) (at home : ℕ) (b z : Bool) → 12 ≤ homes → b ≡ inRanges list at home 4 → b ≡ false
+    → z ≡ same list (zeros 256) → z ≡ opens homes list at home
+unfolding opens isList
+open-outside homes list at home b z d e t r = rw (sym e ∙ t, le-leb 12 homes d, ← r) (go z)
+  where
+    go : (z : Bool) → z ≡ (not (not z) || false)
+    go true = refl
+    go false = refl
 
 -- ---- ranges in a part
 
@@ -160,7 +179,7 @@ module _ (log area : List ℕ) (st : State) (kept : List ℕ) (from : ℕ) (x : 
           sym (part-of-front (blocksBy log area st kept from n) (blockBy log area st kept from n) (64 * n) (64 * i) 64 (length-blocks n (omega arith)) (omega arith)) ∙ f k
 
   -- the four ranges of a writer lie in one block
-  ranges-own : (at home : ℕ) → at < 256 → at % 64 + 16 ≤ 64
+  pub ranges-own : (at home : ℕ) → at < 256 → at % 64 + 16 ≤ 64
       → inRanges (blocksBy log area st kept from 4) at home 4 ≡ inRanges (blockBy log area st kept from (at / 64)) (at % 64) home 4
   ranges-own at home h k =
       let e : at ≡ 64 * (at / 64) + at % 64 = omega arith in
@@ -225,34 +244,29 @@ module _ (log area : List ℕ) (st : State) (kept : List ℕ) (from : ℕ) (x : 
   pub open-ranges : (at home : ℕ) (b : Bool) → at < 256 → at % 64 + 16 ≤ 64
       → b ≡ inRanges (blockBy log area st kept from (at / 64)) (at % 64) home 4 → b ≡ true
       → true ≡ opens (st .homes) (blocksBy log area st kept from 4) at home
-  unfolding opens
-  open-ranges at home b h k e t =
-      let q : inRanges (blocksBy log area st kept from 4) at home 4 ≡ true = ranges-own at home h k ∙ sym e ∙ t in
-      rw q (go (isList (st .homes) (blocksBy log area st kept from 4)))
-    where
-      go : (a : Bool) → true ≡ (not a || true)
-      go true = refl
-      go false = refl
+  open-ranges at home b h k e t = open-inside (st .homes) _ at home b (e ∙ sym (ranges-own at home h k)) t
 
   pub open-none : (at home : ℕ) (b z : Bool) → at < 256 → at % 64 + 16 ≤ 64
       → b ≡ inRanges (blockBy log area st kept from (at / 64)) (at % 64) home 4 → b ≡ false
       → z ≡ same (blocksBy log area st kept from 4) (zeros 256)
       → z ≡ opens (st .homes) (blocksBy log area st kept from 4) at home
-  unfolding opens isList
-  open-none at home b z h k e t r =
-      let q : inRanges (blocksBy log area st kept from 4) at home 4 ≡ false = ranges-own at home h k ∙ sym e ∙ t in
-      rw (q, le-leb 12 (st .homes) d, ← r) (go z)
-    where
-      go : (z : Bool) → z ≡ (not (not z) || false)
-      go true = refl
-      go false = refl
+  open-none at home b z h k e t r = open-outside (st .homes) _ at home b z d (e ∙ sym (ranges-own at home h k)) t r
 
-  -- the writer's own block is not all zeros
-  pub open-listed : (at home : ℕ) (b z : Bool) → at < 256 → at % 64 + 16 ≤ 64
-      → b ≡ inRanges (blockBy log area st kept from (at / 64)) (at % 64) home 4 → b ≡ false
-      → z ≡ same (blockBy log area st kept from (at / 64)) (zeros 64) → z ≡ false
-      → false ≡ opens (st .homes) (blocksBy log area st kept from 4) at home
-  open-listed at home b z h k e t q f = open-none at home b false h k e t (zeros-stop (at / 64) z (omega arith) q f)
+  -- ---- and by the sign
+
+  pub sign-open : (sign at home : ℕ) → sign ≡ 1 → true ≡ opensBy sign (st .homes) (blocksBy log area st kept from 4) at home
+  unfolding opensBy signedList
+  sign-open sign at home e = rw (e, le-leb 12 (st .homes) d)
+
+  pub sign-listed : (sign at home : ℕ) (r : Bool) → sign ≡ 2 → r ≡ inRanges (blocksBy log area st kept from 4) at home 4
+      → r ≡ opensBy sign (st .homes) (blocksBy log area st kept from 4) at home
+  unfolding opensBy signedList
+  sign-listed sign at home r e q = rw (e, le-leb 12 (st .homes) d) q
+
+  pub sign-silent : (sign at home : ℕ) (r : Bool) → (sign ≡ 1 → ⊥) → (sign ≡ 2 → ⊥) → r ≡ opens (st .homes) (blocksBy log area st kept from 4) at home
+      → r ≡ opensBy sign (st .homes) (blocksBy log area st kept from 4) at home
+  unfolding opensBy opens signedList isList
+  sign-silent sign at home r e f q = rw (ne-eqb sign 1 e, ne-eqb sign 2 f) q
 
 -- none is kept: no log has such a position
 pub none-kept : (log : List ℕ) (st : State) (home p : ℕ) → Searchable log st → p ≡ 2 ^ 64 - 1 → false ≡ thereBy log st home p
@@ -298,12 +312,16 @@ module _ (log area : List ℕ) (st : State) (kept : List ℕ) (from : ℕ) (x : 
 
 -- ---- by what a call is lent
 
-module _ (g : Given) (st : State) (es : st ≡ stateOf (g .state)) (o : InOrder (g .state) (groups g) (homes g)) (kept : List ℕ) (from : ℕ) (by : ℕ → ℕ)
+module _ (g : Given) (st : State) (es : st ≡ stateOf (g .state)) (eg : stateOf (g .state) .groups ≡ groups g) (eh : stateOf (g .state) .homes ≡ homes g) (kept : List ℕ) (from : ℕ) (by : ℕ → ℕ)
     (q : (i : ℕ) → by i ≡ number 8 kept (from + 8 * i)) where
-  list-same : (n : ℕ) → listBy g by n ≡ blocksBy (g .log) (g .area) st kept from n
+  pub list-same : (n : ℕ) → listBy g by n ≡ blocksBy (g .log) (g .area) st kept from n
   unfolding listBy blocksBy blockBy forHome
   list-same zero = refl
-  list-same (suc n) = rw (list-same n, q n, shown-same (forHome g (8 + n)) st es o)
+  list-same (suc n) = rw (list-same n, q n, shown-same (forHome g (8 + n)) st es eg eh)
+
+pub kept-at : (newest : List ℕ) (i : ℕ) → keptFor newest (8 + i) ≡ number 8 newest (64 + 8 * i)
+unfolding keptFor
+kept-at newest i = let z : 8 * (8 + i) ≡ 64 + 8 * i = omega arith in rw z
 
 module _ (log area state : List ℕ) (st : State) (u : Usable log area state) (es : st ≡ stateOf state) where
   pub listed-state : Listed log area st state 896
@@ -329,14 +347,14 @@ module _ (log area state : List ℕ) (st : State) (u : Usable log area state) (e
   homes-by = ap (λ (s : State). s .homes) es ∙ u .order .homes-same
 
   pub store-listed : (writer home : ℕ) (b : Bool) → b ≡ ofList home → b ≡ true → eqb writer 0 ≡ storeAllowed (lent log area state [] [] writer home)
-  unfolding storeAllowed mayStore
+  unfolding storeAllowed storeRight
   store-listed writer home b e t = rw (sym e ∙ t)
 
   pub store-open : (writer home : ℕ) (b r : Bool) → b ≡ ofList home → b ≡ false
-      → r ≡ opens (st .homes) (blocksBy log area st state 896 4) (32 * writer) home → r ≡ storeAllowed (lent log area state [] [] writer home)
-  unfolding storeAllowed mayStore storeList opens listedOf
+      → r ≡ opensBy (listSign state) (st .homes) (blocksBy log area st state 896 4) (32 * writer) home → r ≡ storeAllowed (lent log area state [] [] writer home)
+  unfolding storeAllowed storeRight storeList opensBy listedOf
   store-open writer home b r e t q =
-      q ∙ rw (sym e ∙ t, list-same (lent log area state [] [] writer home) st es (u .order) state 896 (listedOf state) (λ i. refl) 4, homes-by)
+      q ∙ rw (sym e ∙ t, list-same (lent log area state [] [] writer home) st es (u .order .groups-same) (u .order .homes-same) state 896 (listedOf state) (λ i. refl) 4, homes-by)
 
   small : length area < 768 → homesIn (length area) < 12
   unfolding homesIn
@@ -344,57 +362,51 @@ module _ (log area state : List ℕ) (st : State) (u : Usable log area state) (e
 
   pub store-small : (writer home : ℕ) (b : Bool) → b ≡ ofList home → b ≡ false → length area < 768
       → true ≡ storeAllowed (lent log area state [] [] writer home)
-  unfolding storeAllowed mayStore isList
+  unfolding storeAllowed storeRight signedList
   store-small writer home b e t h = rw (sym e ∙ t, lt-leb 12 (homesIn (length area)) (small h))
 
   pub read-small : (newest : List ℕ) (writer home : ℕ) (b : Bool) → b ≡ ofList home → b ≡ false → length area < 768
       → true ≡ readAllowed (lentAll log area state newest [] [] writer home)
-  unfolding readAllowed mayRead isList
+  unfolding readAllowed readRight signedList
   read-small newest writer home b e t h = rw (sym e ∙ t, lt-leb 12 (homesIn (length area)) (small h))
 
   pub newest-small : (newest : List ℕ) (writer home : ℕ) (b : Bool) → b ≡ ofList home → b ≡ false → length area < 768
-      → true ≡ mayStore (homesIn (length area)) (readList (lentAll log area state newest [] [] writer home)) writer home
-  unfolding mayStore isList
+      → true ≡ storeRight (listSign state) (homesIn (length area)) (readList (lentAll log area state newest [] [] writer home)) writer home
+  unfolding storeRight signedList
   newest-small newest writer home b e t h = rw (sym e ∙ t, lt-leb 12 (homesIn (length area)) (small h))
 
   pub read-listed : (newest : List ℕ) (writer home : ℕ) (b : Bool) → b ≡ ofList home → b ≡ true
       → true ≡ readAllowed (lentAll log area state newest [] [] writer home)
-  unfolding readAllowed mayRead
+  unfolding readAllowed readRight
   read-listed newest writer home b e t = rw (sym e ∙ t)
 
   pub read-open : (newest : List ℕ) (writer home : ℕ) (b r : Bool) → b ≡ ofList home → b ≡ false
-      → r ≡ opens (st .homes) (blocksBy log area st newest 64 4) (32 * writer + 16) home → r ≡ readAllowed (lentAll log area state newest [] [] writer home)
-  unfolding readAllowed mayRead readList opens keptFor
+      → r ≡ opensBy (listSign state) (st .homes) (blocksBy log area st newest 64 4) (32 * writer + 16) home → r ≡ readAllowed (lentAll log area state newest [] [] writer home)
+  unfolding readAllowed readRight readList opensBy
   read-open newest writer home b r e t q =
       q
       ∙ rw (
         sym e ∙ t,
-        list-same (lentAll log area state newest [] [] writer home) st es (u .order) newest 64 (λ i. keptFor newest (8 + i)) kept-at 4,
+        list-same (lentAll log area state newest [] [] writer home) st es (u .order .groups-same) (u .order .homes-same) newest 64 (λ i. keptFor newest (8 + i)) (kept-at newest) 4,
         homes-by,
       )
-    where
-      kept-at : (i : ℕ) → keptFor newest (8 + i) ≡ number 8 newest (64 + 8 * i)
-      kept-at i = let z : 8 * (8 + i) ≡ 64 + 8 * i = omega arith in rw z
 
   pub newest-listed : (newest : List ℕ) (writer home : ℕ) (b : Bool) → b ≡ ofList home → b ≡ true
-      → eqb writer 0 ≡ mayStore (homesIn (length area)) (readList (lentAll log area state newest [] [] writer home)) writer home
-  unfolding mayStore
+      → eqb writer 0 ≡ storeRight (listSign state) (homesIn (length area)) (readList (lentAll log area state newest [] [] writer home)) writer home
+  unfolding storeRight
   newest-listed newest writer home b e t = rw (sym e ∙ t)
 
   pub newest-open : (newest : List ℕ) (writer home : ℕ) (b r : Bool) → b ≡ ofList home → b ≡ false
-      → r ≡ opens (st .homes) (blocksBy log area st newest 64 4) (32 * writer) home
-      → r ≡ mayStore (homesIn (length area)) (readList (lentAll log area state newest [] [] writer home)) writer home
-  unfolding mayStore readList opens keptFor
+      → r ≡ opensBy (listSign state) (st .homes) (blocksBy log area st newest 64 4) (32 * writer) home
+      → r ≡ storeRight (listSign state) (homesIn (length area)) (readList (lentAll log area state newest [] [] writer home)) writer home
+  unfolding storeRight readList opensBy
   newest-open newest writer home b r e t q =
       q
       ∙ rw (
         sym e ∙ t,
-        list-same (lentAll log area state newest [] [] writer home) st es (u .order) newest 64 (λ i. keptFor newest (8 + i)) kept-at 4,
+        list-same (lentAll log area state newest [] [] writer home) st es (u .order .groups-same) (u .order .homes-same) newest 64 (λ i. keptFor newest (8 + i)) (kept-at newest) 4,
         homes-by,
       )
-    where
-      kept-at : (i : ℕ) → keptFor newest (8 + i) ≡ number 8 newest (64 + 8 * i)
-      kept-at i = let z : 8 * (8 + i) ≡ 64 + 8 * i = omega arith in rw z
 
 -- ---- neither the block nor the batch is asked
 
@@ -418,10 +430,10 @@ module _ (log area state newest block batch : List ℕ) (writer home : ℕ) wher
 
   pub read-only : readAllowed (lentAll log area state newest block batch writer home) ≡ readAllowed (lentAll log area state newest [] [] writer home)
   unfolding readAllowed readList
-  read-only = ap (λ (xs : List ℕ). mayRead (homesIn (length area)) xs writer home) (list-only _ 4)
+  read-only = ap (λ (xs : List ℕ). readRight (listSign state) (homesIn (length area)) xs writer home) (list-only _ 4)
 
 pub store-only : (log area state block batch : List ℕ) (writer home : ℕ)
     → storeAllowed (lent log area state block batch writer home) ≡ storeAllowed (lent log area state [] [] writer home)
 unfolding storeAllowed storeList
 store-only log area state block batch writer home =
-    ap (λ (xs : List ℕ). mayStore (homesIn (length area)) xs writer home) (list-only log area state [] block batch writer home (listedOf state) 4)
+    ap (λ (xs : List ℕ). storeRight (listSign state) (homesIn (length area)) xs writer home) (list-only log area state [] block batch writer home (listedOf state) 4)

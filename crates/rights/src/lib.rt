@@ -1,8 +1,10 @@
 // Who may touch what: the questions 19 and 20, by the list of rights as it is committed.
+mod keep;
 mod list;
 mod ranges;
 mod zeros;
 
+pub use keep::keep_list;
 use list::open_to;
 use ranges::of_list;
 ghost use mathlib.Core.Path.{_≡_};
@@ -10,7 +12,8 @@ ghost use mathlib.Core.List.{[]};
 ghost use Prim.Native.Nat.{_*_, _<_};
 ghost use lib.ListN.{length};
 ghost use Rattle.model.specs.Layout.{homesIn};
-ghost use Rattle.model.specs.Rights.{mayStore, readList};
+ghost use Rattle.model.specs.State.{listSign};
+ghost use Rattle.model.specs.Rights.{storeRight, readList};
 ghost use Rattle.model.specs.Questions.{storeAllowed, readAllowed};
 ghost use Rattle.answers.specs.Lent.{lent, lentAll};
 ghost use Rattle.answers.proofs.AnswerLaws.{Usable};
@@ -68,7 +71,7 @@ pub fn may_store_newest(
     home: u64,
 ) -> bool
     requires { ⌜ Usable (now log) (now area) (now state) × (writer < 8) × (length (now newest) ≡ 8 * homesIn (length (now area))) ⌝ }
-    ensures { λ r. ⌜ r ≡ mayStore (homesIn (length (now (area .entry)))) (readList (lentAll (now (log .entry)) (now (area .entry)) (now (state .entry)) (now (newest .entry)) [] [] writer home)) writer home ⌝ }
+    ensures { λ r. ⌜ r ≡ storeRight (listSign (now (state .entry))) (homesIn (length (now (area .entry)))) (readList (lentAll (now (log .entry)) (now (area .entry)) (now (state .entry)) (now (newest .entry)) [] [] writer home)) writer home ⌝ }
 {
     if of_list(home) {
         return writer == 0;

@@ -10,9 +10,9 @@ ghost use Prim.Native.Nat.{ℕ, _+_, _-_, _*_, _/_, _%_, _^_, _<_, _≤_};
 ghost use lib.ListN.{length};
 ghost use Rattle.model.specs.Bytes.{part, number, zeros, same};
 ghost use Rattle.model.specs.Rights.{inRanges};
-ghost use Rattle.model.specs.State.{stateOf};
+ghost use Rattle.model.specs.State.{stateOf, listSign};
 ghost use Rattle.shown.specs.There.{Searchable, placeBy};
-ghost use Rattle.rights.specs.Listed.{Listed, blockBy, blocksBy, blockFrom, opens};
+ghost use Rattle.rights.specs.Listed.{Listed, blockBy, blocksBy, blockFrom, opens, opensBy};
 
 // What is kept for no position: all ones.
 const NO_POSITION: u64 = 0xffff_ffff_ffff_ffff;
@@ -117,7 +117,36 @@ fn no_list(log: &[u8], area: &[u8], state: &[u8], kept: &[u8], from: usize, own:
     true
 }
 
-// Whether the ranges from byte `at` of the list on open a home, or there is no list, where a position is kept. The writer's own block is asked first.
+// Whether the whole list is all zeros.
+pub fn all_zeros(log: &[u8], area: &[u8], state: &[u8], kept: &[u8], from: usize) -> bool
+    requires { ⌜ Listed (now log) (now area) (stateOf (now state)) (now kept) from × (length (now state) ≡ 1024) × (12 ≤ stateOf (now state) .homes) ⌝ }
+    ensures { λ r. ⌜ r ≡ same (blocksBy (now (log .entry)) (now (area .entry)) (stateOf (now (state .entry))) (now (kept .entry)) from 4) (zeros 256) ⌝ }
+{
+    let found = place(log, state, kept, from, 0);
+    if !is_zero(log, area, found, 0) {
+        return false;
+    }
+    no_list(log, area, state, kept, from, 0)
+}
+
+// Whether the ranges from byte `at` of the list on open a home.
+fn open_listed(
+    log: &[u8],
+    area: &[u8],
+    state: &[u8],
+    kept: &[u8],
+    from: usize,
+    at: usize,
+    home: u64,
+) -> bool
+    requires { ⌜ Listed (now log) (now area) (stateOf (now state)) (now kept) from × (length (now state) ≡ 1024) × (12 ≤ stateOf (now state) .homes) × (at < 256) × (at % 64 + 16 ≤ 64) ⌝ }
+    ensures { λ r. ⌜ r ≡ inRanges (blocksBy (now (log .entry)) (now (area .entry)) (stateOf (now (state .entry))) (now (kept .entry)) from 4) at home 4 ⌝ }
+{
+    let found = place(log, state, kept, from, at / 64);
+    own_ranges(log, area, found, at, home)
+}
+
+// The same, or there is no list, by its blocks alone. The writer's own block is asked first.
 fn open_kept(
     log: &[u8],
     area: &[u8],
@@ -130,18 +159,14 @@ fn open_kept(
     requires { ⌜ Listed (now log) (now area) (stateOf (now state)) (now kept) from × (length (now state) ≡ 1024) × (12 ≤ stateOf (now state) .homes) × (at < 256) × (at % 64 + 16 ≤ 64) ⌝ }
     ensures { λ r. ⌜ r ≡ opens (stateOf (now (state .entry)) .homes) (blocksBy (now (log .entry)) (now (area .entry)) (stateOf (now (state .entry))) (now (kept .entry)) from 4) at home ⌝ }
 {
-    let found = place(log, state, kept, from, at / 64);
-    if own_ranges(log, area, found, at, home) {
+    if open_listed(log, area, state, kept, from, at, home) {
         return true;
     }
-    if !is_zero(log, area, found, at / 64) {
-        return false;
-    }
-    no_list(log, area, state, kept, from, at / 64)
+    all_zeros(log, area, state, kept, from)
 }
 
-// Whether the ranges from byte `at` of the list on open a home, or there is no list; D has room for one.
-pub fn open_to(
+// The same, where the data copy is looked at without the log if no position is kept.
+fn open_unsigned(
     log: &[u8],
     area: &[u8],
     state: &[u8],
@@ -160,4 +185,28 @@ pub fn open_to(
         return true;
     }
     none_in_copy(area)
+}
+
+// Whether the ranges from byte `at` of the list on open a home, or there is no list; D has room for one. Where its sign says whether there is one, at
+// most the writer's own block is looked up.
+pub fn open_to(
+    log: &[u8],
+    area: &[u8],
+    state: &[u8],
+    kept: &[u8],
+    from: usize,
+    at: usize,
+    home: u64,
+) -> bool
+    requires { ⌜ Listed (now log) (now area) (stateOf (now state)) (now kept) from × (length (now state) ≡ 1024) × (12 ≤ stateOf (now state) .homes) × (at < 256) × (at % 64 + 16 ≤ 64) ⌝ }
+    ensures { λ r. ⌜ r ≡ opensBy (listSign (now (state .entry))) (stateOf (now (state .entry)) .homes) (blocksBy (now (log .entry)) (now (area .entry)) (stateOf (now (state .entry))) (now (kept .entry)) from 4) at home ⌝ }
+{
+    let sign = strip::list_sign(state);
+    if sign == 2 {
+        return open_listed(log, area, state, kept, from, at, home);
+    }
+    if sign == 1 {
+        return true;
+    }
+    open_unsigned(log, area, state, kept, from, at, home)
 }

@@ -9,8 +9,9 @@ use native.Mathlib.Numerals.{add-one}
 use native.Mathlib.Omega.{arith}
 use borrow.Author.Tests.{eq-eqb, ne-eqb}
 use lib.Dec.{eqb}
-use lib.ListN.{length, getD, set, length-set, length-append}
+use lib.ListN.{length, getD, set, replicate, length-set, length-append, length-replicate}
 use lib.Seq.{getD-set-same, getD-set-other, set-out}
+use Rattle.model.specs.Bytes.{zeros}
 use Rattle.model.specs.Tag.{belongs, readTag}
 use Rattle.model.specs.Layout.{groupAt, groupValid, turnOf, slotOf, indexOf, wordThere, entryIn, entryAt}
 use Rattle.model.specs.Commit.{members, complete, linked, Walk, judged, visit, walk, started, committed}
@@ -80,6 +81,14 @@ within-reached tags base position m reached s t h e f k = rw (e, f) (entered-wit
 pub fresh-within : (size base : ℕ) → Within base base (fresh size)
 unfolding fresh
 fresh-within size base = record { each = λ i. rw byte-zeros (omega arith); number = omega arith; end = omega arith }
+
+-- counters of a given size
+pub zeros-all : (size : ℕ) → _≡_ {A = List ℕ} (replicate size 0) (zeros (length {A = ℕ} (replicate size 0)))
+unfolding zeros
+zeros-all size = rw (length-replicate {A = ℕ} size 0)
+
+pub zeros-long : (n size : ℕ) → n ≤ size → n ≤ length {A = ℕ} (replicate size 0)
+zeros-long n size l = rw (length-replicate {A = ℕ} size 0) l
 
 -- what says nothing leaves the pass as it is
 pub enter-quiet : (base p : ℕ) (s : Scan) → enter base p Nothing s ≡ s

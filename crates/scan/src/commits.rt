@@ -7,6 +7,7 @@ ghost use mathlib.Core.Bool.{true, _&&_};
 ghost use Prim.Native.Nat.{ℕ, _+_, _-_, _*_, _^_, min, _<_, _≤_};
 ghost use lib.Dec.{eqb};
 ghost use lib.ListN.{length, getD};
+ghost use Rattle.model.specs.Bytes.{zeros};
 ghost use Rattle.model.specs.Tag.{entryWord, field, readTag};
 ghost use Rattle.model.specs.Layout.{turnOf, entryIn, entryAt};
 ghost use Rattle.model.specs.Commit.{linked, committed};
@@ -171,7 +172,7 @@ fn visit_group(
     counts: &mut [u16],
     progress: Progress,
 ) -> Progress
-    requires { ⌜ (length (now group) ≡ 512) × (groups ≤ 1024) × (homes ≤ 65535) × (start ≤ 2 ^ 47) × (start ≤ n) × (n < start + groups) × (turn ≡ turnOf groups n) × (m ≤ 7) × (7 * n + m ≤ 7 * start + length (now counts)) × (length (now counts) ≤ 7168) × Within (7 * start) (7 * n) (record { counts = now counts; progress = progress }) ⌝ }
+    requires { ⌜ (length (now group) ≡ 512) × (groups ≤ 1024) × (homes ≤ 65535) × (start ≤ 2 ^ 47) × (start ≤ n) × (n < start + groups) × (turn ≡ turnOf groups n) × (m ≤ 7) × (7 * n + m ≤ 7 * start + length (now counts)) × Within (7 * start) (7 * n) (record { counts = now counts; progress = progress }) ⌝ }
     ensures { λ r. ⌜ Stopped (entryIn (now (group .entry)) groups homes start) (7 * start) (7 * n) m (record { counts = now (counts .entry); progress = progress }) (record { counts = now (counts .exit); progress = r }) ⌝ }
 {
     if !codec::has_group_head(group, 0, n) {
@@ -226,12 +227,19 @@ fn result(progress: Progress) -> Found
     }
 }
 
-// Walks the `n` positions of the log from its start on, group by group, and finds where the committed transactions end and how many they are.
-pub fn walk(log: &[u8], groups: u64, homes: u64, start: u64, n: u64) -> Found
-    requires { ⌜ (length (now log) ≡ 64 + 512 * groups) × (4 ≤ groups) × (groups ≤ 1024) × (homes ≤ 65535) × (start ≤ 2 ^ 47) × (n ≤ 7 * groups) ⌝ }
+// Walks the `n` positions of the log from its start on, group by group, with empty counters, and finds where the committed transactions end and how many
+// they are.
+pub fn walk_with(
+    log: &[u8],
+    counts: &mut [u16],
+    groups: u64,
+    homes: u64,
+    start: u64,
+    n: u64,
+) -> Found
+    requires { ⌜ (length (now log) ≡ 64 + 512 * groups) × (4 ≤ groups) × (groups ≤ 1024) × (homes ≤ 65535) × (start ≤ 2 ^ 47) × (n ≤ 7 * groups) × (7 * groups ≤ length (now counts)) × (now counts ≡ zeros (length (now counts))) ⌝ }
     ensures { λ r. ⌜ (r .end ≡ endOf (committed (entryAt (now (log .entry)) groups homes start) (7 * start) n)) × (r .number ≡ length (committed (entryAt (now (log .entry)) groups homes start) (7 * start) n)) ⌝ }
 {
-    let mut counts = [0u16; 7168];
     let mut progress = Progress {
         end: 0,
         number: 0,
@@ -252,7 +260,7 @@ pub fn walk(log: &[u8], groups: u64, homes: u64, start: u64, n: u64) -> Found
             number,
             at.turn,
             m,
-            &mut counts,
+            counts,
             progress,
         );
         if progress.failed != 0 {
@@ -263,4 +271,33 @@ pub fn walk(log: &[u8], groups: u64, homes: u64, start: u64, n: u64) -> Found
         left -= m as u64;
     }
     result(progress)
+}
+
+// The same with counters of its own, for a log of up to 64 groups.
+fn walk_small(log: &[u8], groups: u64, homes: u64, start: u64, n: u64) -> Found
+    requires { ⌜ (length (now log) ≡ 64 + 512 * groups) × (4 ≤ groups) × (groups ≤ 64) × (homes ≤ 65535) × (start ≤ 2 ^ 47) × (n ≤ 7 * groups) ⌝ }
+    ensures { λ r. ⌜ (r .end ≡ endOf (committed (entryAt (now (log .entry)) groups homes start) (7 * start) n)) × (r .number ≡ length (committed (entryAt (now (log .entry)) groups homes start) (7 * start) n)) ⌝ }
+{
+    let mut counts = [0u16; 448];
+    walk_with(log, &mut counts, groups, homes, start, n)
+}
+
+// The same for any log.
+fn walk_large(log: &[u8], groups: u64, homes: u64, start: u64, n: u64) -> Found
+    requires { ⌜ (length (now log) ≡ 64 + 512 * groups) × (4 ≤ groups) × (groups ≤ 1024) × (homes ≤ 65535) × (start ≤ 2 ^ 47) × (n ≤ 7 * groups) ⌝ }
+    ensures { λ r. ⌜ (r .end ≡ endOf (committed (entryAt (now (log .entry)) groups homes start) (7 * start) n)) × (r .number ≡ length (committed (entryAt (now (log .entry)) groups homes start) (7 * start) n)) ⌝ }
+{
+    let mut counts = [0u16; 7168];
+    walk_with(log, &mut counts, groups, homes, start, n)
+}
+
+// The same with as many counters on the stack as the size of the log asks for.
+pub fn walk(log: &[u8], groups: u64, homes: u64, start: u64, n: u64) -> Found
+    requires { ⌜ (length (now log) ≡ 64 + 512 * groups) × (4 ≤ groups) × (groups ≤ 1024) × (homes ≤ 65535) × (start ≤ 2 ^ 47) × (n ≤ 7 * groups) ⌝ }
+    ensures { λ r. ⌜ (r .end ≡ endOf (committed (entryAt (now (log .entry)) groups homes start) (7 * start) n)) × (r .number ≡ length (committed (entryAt (now (log .entry)) groups homes start) (7 * start) n)) ⌝ }
+{
+    if groups <= 64 {
+        return walk_small(log, groups, homes, start, n);
+    }
+    walk_large(log, groups, homes, start, n)
 }

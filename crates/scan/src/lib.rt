@@ -10,6 +10,7 @@ pub use commits::in_group;
 pub use commits::judge;
 pub use commits::skipped;
 pub use commits::walk;
+pub use commits::walk_with;
 pub use groups::back_in;
 pub use groups::group_valid;
 pub use groups::tag_in;

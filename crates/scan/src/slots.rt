@@ -8,11 +8,27 @@ pub struct RingSlot {
     pub turn: u64,
 }
 
-// The ring slot and turn of the first group of a pass.
+// The ring slot and turn of a group, by a division of 32 bits.
+fn short_slot(n: u32, groups: u32) -> RingSlot
+    requires { ⌜ 0 < groups ⌝ }
+    ensures { λ r. ⌜ Kept groups n r ⌝ }
+{
+    RingSlot {
+        slot: (n % groups) as u64,
+        turn: (n / groups % 2) as u64,
+    }
+}
+
+// The same for any group, as the first of a pass: a small machine divides numbers of 64 bits by a library call, and few logs get that far.
 pub fn first_slot(n: u64, groups: u64) -> RingSlot
     requires { ⌜ 0 < groups ⌝ }
     ensures { λ r. ⌜ Kept groups n r ⌝ }
 {
+    if n <= 0xFFFF_FFFF {
+        if groups <= 0xFFFF_FFFF {
+            return short_slot(n as u32, groups as u32);
+        }
+    }
     RingSlot {
         slot: n % groups,
         turn: n / groups % 2,

@@ -230,10 +230,10 @@ entry-copied block log groups p e l h =
 
 -- ---- the same by what a call is lent
 
-module _ (g : Given) (st : State) (es : st ≡ stateOf (g .state)) (o : InOrder (g .state) (groups g) (homes g)) where
+module _ (g : Given) (st : State) (es : st ≡ stateOf (g .state)) (eg : stateOf (g .state) .groups ≡ groups g) (eh : stateOf (g .state) .homes ≡ homes g) where
   tags-same : (p : ℕ) → liveTags g p ≡ tagsBy (g .log) st p
   unfolding liveTags tagsOf
-  tags-same p = rw (es, o .groups-same, o .homes-same)
+  tags-same p = rw (es, eg, eh)
 
   pub there-same : (p : ℕ) → isThere g p ≡ thereBy (g .log) st (g .home) p
   unfolding isThere thereBy liveBase
@@ -242,7 +242,7 @@ module _ (g : Given) (st : State) (es : st ≡ stateOf (g .state)) (o : InOrder 
   pub shown-same : (p : ℕ) → shownAt g p ≡ shownBy (g .log) (g .area) st (g .home) p
   unfolding shownAt shownBy blockOr
   shown-same p =
-      let q : groups g ≡ st .groups = sym (o .groups-same) ∙ ap (λ (s : State). s .groups) (sym es) in
+      let q : groups g ≡ st .groups = sym eg ∙ ap (λ (s : State). s .groups) (sym es) in
       rw (there-same p) (go (thereBy (g .log) st (g .home) p) q)
     where
       go : (b : Bool) → groups g ≡ st .groups

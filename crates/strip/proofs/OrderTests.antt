@@ -1,20 +1,20 @@
 -- Question 2 test by test: one test that fails refuses the strip, and all that hold make it one in order. Assumes nothing.
-use mathlib.Core.Path.{_≡_, refl, sym, _∙_}
-use mathlib.Core.Bool.{Bool, true, false, not, _&&_, and-false, and-true, or-true}
+use mathlib.Core.Path.{_≡_, refl, sym, ap, _∙_}
+use mathlib.Core.Bool.{Bool, true, false, not, false≢true, _&&_, and-false, and-true, or-true}
 use mathlib.Core.Logic.{_≢_}
 use mathlib.Core.List.{List}
 use Prim.Native.Nat.{ℕ, zero, suc, _+_, _-_, _*_, _^_, _%_, _≤_, _<_}
 use native.Mathlib.Decide.{decLt}
 use native.Mathlib.Numerals.{add-one}
 use native.Mathlib.Omega.{arith}
-use borrow.Author.Tests.{lt-ltb, eq-eqb, ne-eqb, le-leb, lt-leb, not-true, not-false}
+use borrow.Author.Tests.{lt-ltb, eq-eqb, ne-eqb, eqb-true, eqb-false, le-leb, lt-leb, leb-true, leb-false, ltb-true, ltb-false, not-true, not-false}
 use Rattle.model.specs.declared.State.{State}
 use Rattle.model.specs.declared.Writer.{Writer}
-use lib.Dec.{leb}
+use lib.Dec.{eqb, leb, ltb}
 use Rattle.model.specs.State.{stateOf, writerOf, isOpen, promiseOf, promised, places, nextPosition, numbersInOrder, writerInOrder, promiseInOrder, writerAtInOrder, writersInOrder, inOrder}
 use Rattle.model.specs.Questions.{ask}
-use Rattle.model.proofs.strip.OrderLaws.{tests, WriterInOrder, writer-order}
-use Rattle.strip.specs.Order.{GroupsInOrder, GroupsAnswer, roundInOrder}
+use Rattle.model.proofs.strip.OrderLaws.{tests, WriterInOrder, writer-order, order-writer}
+use Rattle.strip.specs.Order.{GroupsInOrder, Agrees, Live, BoundsInOrder, roundInOrder}
 
 refuted : (b : Bool) → (b ≡ true → ⊥) → false ≡ b
 refuted true h = absurd (h refl)
@@ -41,15 +41,6 @@ pub distance-down : (d y x : ℕ) → (d + y) % 2 ^ 64 ≡ x → y < 2 ^ 64 → 
 distance-down d y x e h l = omega arith
 
 -- ---- the numbers
-
--- the second half of question 2 as plain facts
-pub record PositionsInOrder (st : State) : Type 0 where
-  pub start-settled : 7 * st .start ≤ st .settled
-  pub settled-fenced : st .settled ≤ st .fenced
-  pub fenced-next : st .fenced ≤ 7 * st .next
-  pub durable-fenced : st .durable ≤ st .fenced
-  pub last-closing : st .last ≢ 0 → (7 * st .start < st .last) × (st .last ≤ nextPosition st)
-  pub round : roundInOrder st ≡ true
 
 round-facts : (st : State) → roundInOrder st ≡ true → st .round ≢ 0 → (st .settled < st .round) × (st .round ≤ st .fenced + 1)
 unfolding roundInOrder
@@ -115,9 +106,9 @@ module _ (st : State) where
   pub groups-refused : st .groups ≤ 1024 → (GroupsInOrder st → ⊥) → false ≡ numbersInOrder st
   groups-refused m h = refuted (numbersInOrder st) (λ e. h (groups-order m e))
 
-  pub positions-refused : (PositionsInOrder st → ⊥) → false ≡ numbersInOrder st
+  pub bounds-refused : (BoundsInOrder st → ⊥) → false ≡ numbersInOrder st
   unfolding numbersInOrder
-  positions-refused h =
+  bounds-refused h =
       refuted (numbersInOrder st)
       (λ e.
       let f = simp tests at e in
@@ -128,20 +119,29 @@ module _ (st : State) where
         fenced-next = omega arith;
         durable-fenced = omega arith;
         last-closing = f .0 .1;
-        round = (unfold roundInOrder in simp tests (f .1));
       }))
 
-  pub numbers-held : GroupsInOrder st → PositionsInOrder st → true ≡ numbersInOrder st
+  pub round-refused : false ≡ roundInOrder st → false ≡ numbersInOrder st
   unfolding numbersInOrder
-  numbers-held g p =
+  round-refused h =
+      refuted (numbersInOrder st) (λ e. let f = simp tests at e in false≢true (h ∙ (unfold roundInOrder in simp tests (f .1))))
+
+  pub numbers-held : GroupsInOrder st → BoundsInOrder st → true ≡ roundInOrder st → true ≡ numbersInOrder st
+  unfolding numbersInOrder
+  numbers-held g p r =
       sym
       (simp tests (
         (
           (((((omega arith, λ k. g .filled-none (omega arith)), p .start-settled), p .settled-fenced), p .fenced-next), p .durable-fenced),
           p .last-closing,
         ),
-        round-facts st (p .round),
+        round-facts st (sym r),
       ))
+
+-- no position passes 64 bits
+pub positions-fit : (st x : State) → st ≡ x → GroupsInOrder x → (7 * st .start < 2 ^ 64) × (7 * st .next + st .filled < 2 ^ 64)
+positions-fit st x e g =
+    rw e (omega (arith, g .start-most), omega (arith, g .start-most, g .next-most, g .groups-most, g .filled-most))
 
 -- ---- a writer, and the writers one after the other
 
@@ -232,23 +232,185 @@ pub told-no : (b : Bool) → false ≡ b → 2 ≡ ask b 2 0
 unfolding ask
 told-no b h = rw (← h)
 
-module _ (st : State) (groups homes : ℕ) where
-  pub groups-left : GroupsAnswer 1 st groups homes
-  groups-left =
-      record {
-        refused = λ n m. absurd (m refl);
-        groups-same = λ z. absurd (omega arith);
-        homes-same = λ z. absurd (omega arith);
-        no-round = λ z. absurd (omega arith);
-        in-order = λ z. absurd (omega arith);
-      }
+-- ---- the first numbers, as they are read
 
-  pub groups-no : ((s : List ℕ) → st ≡ stateOf s → false ≡ inOrder s groups homes) → GroupsAnswer 2 st groups homes
-  groups-no h =
-      record {
-        refused = λ n m s e. told-no (inOrder s groups homes) (h s e);
-        groups-same = λ z. absurd (omega arith);
-        homes-same = λ z. absurd (omega arith);
-        no-round = λ z. absurd (omega arith);
-        in-order = λ z. absurd (omega arith);
-      }
+abbrev Tells : Bool → List ℕ → ℕ → ℕ → Type 0
+Tells r s groups homes = (r ≡ true → Agrees (stateOf s) groups homes) × (r ≡ false → false ≡ inOrder s groups homes)
+
+module _ (s : List ℕ) (groups homes : ℕ) where
+  pub tells-no : false ≡ inOrder s groups homes → Tells false s groups homes
+  tells-no h = (λ t. absurd (false≢true t), λ _. h)
+
+  pub tells-groups : (g : ℕ) → g ≡ stateOf s .groups → g ≢ groups → Tells false s groups homes
+  tells-groups g e n = tells-no (other-groups s _ _ _ refl (λ k. n (e ∙ k)))
+
+  pub tells-homes : (h : ℕ) → h ≡ stateOf s .homes → h ≢ homes → Tells false s groups homes
+  tells-homes h e n = tells-no (other-homes s _ _ _ refl (λ k. n (e ∙ k)))
+
+  module _ (g low : ℕ) (m : groups ≤ 1024) (eg : g ≡ stateOf s .groups) (sg : g ≡ groups) (el : low ≡ stateOf s .start) where
+    over : (GroupsInOrder (stateOf s) → ⊥) → false ≡ inOrder s groups homes
+    over h = numbers-not s _ _ _ refl (groups-refused (stateOf s) (omega arith) h)
+
+    pub tells-start : 2 ^ 47 < low → Tells false s groups homes
+    tells-start l = tells-no (over (λ o. omega (arith, o .start-most)))
+
+    module _ (h up used filled : ℕ) (eh : h ≡ stateOf s .homes) (sh : h ≡ homes) (most : low ≤ 2 ^ 47) (eu : up ≡ stateOf s .next)
+        (d : (used + low) % 2 ^ 64 ≡ up) (b : used < 2 ^ 64) (ef : filled ≡ stateOf s .filled) where
+      apart : (used + stateOf s .start) % 2 ^ 64 ≡ stateOf s .next
+      apart = rw (← el, ← eu) d
+
+      agrees : used ≤ groups → filled ≤ 6 → 7 * used + filled ≤ 7 * groups → Agrees (stateOf s) groups homes
+      agrees l f k =
+          record {
+            groups-same = sym eg ∙ sg;
+            homes-same = sym eh ∙ sh;
+            in-order = not-over (stateOf s) groups used (sym eg ∙ sg) m (omega arith) apart l (omega arith) (omega arith);
+          }
+
+      pub tells-part : used < groups → Tells (leb filled 6) s groups homes
+      tells-part l = (
+        λ t. let f = leb-true filled 6 t in agrees (omega arith) f (omega arith),
+        λ t. let f = leb-false filled 6 t in over (λ o. omega (arith, o .filled-most)),
+      )
+
+      pub tells-over : groups < used → Tells false s groups homes
+      tells-over l = tells-no (over (λ o. groups-over (stateOf s) groups used (sym eg ∙ sg) apart b l o))
+
+      pub tells-full : used ≡ groups → Tells (eqb filled 0) s groups homes
+      tells-full e = (
+        λ t. let f = eqb-true filled 0 t in agrees (omega arith) (omega arith) (omega arith),
+        λ t.
+            let f = eqb-false filled 0 t in
+            over (λ o. places-over (stateOf s) groups used (sym eg ∙ sg) apart b (omega arith) o),
+      )
+
+-- ---- the other numbers, as they are read
+
+abbrev Bounds : Bool → List ℕ → Type 0
+Bounds r s = (r ≡ true → BoundsInOrder (stateOf s)) × (r ≡ false → false ≡ numbersInOrder (stateOf s))
+
+pub live-by : (st : State) (first up f : ℕ) → GroupsInOrder st → first ≡ st .start → up ≡ st .next → f ≡ st .filled
+    → Live st (7 * first) (7 * (up - first) + f)
+live-by st first up f g es en ef = record { in-order = g; lowest = rw es; every = rw (es, en, ef) }
+
+module _ (s : List ℕ) (low whole all end far : ℕ) (l : Live (stateOf s) low all) (w : whole + stateOf s .filled ≡ all) (ee : end ≡ stateOf s .fenced)
+    (d : (far + low) % 2 ^ 64 ≡ end) (b : far < 2 ^ 64) where
+  bounds-no : (BoundsInOrder (stateOf s) → ⊥) → Bounds false s
+  bounds-no h = (λ t. absurd (false≢true t), λ _. bounds-refused (stateOf s) h)
+
+  small : (low ≤ 7 * 2 ^ 47) × (all ≤ 7168 + 6) × (whole ≤ 7168) × (low + whole ≡ 7 * stateOf s .next) × (low ≡ 7 * stateOf s .start)
+  small = let g = l .in-order in (
+    omega (arith, l .lowest, g .start-most),
+    omega (arith, l .every, g .next-most, g .groups-most, g .filled-most),
+    omega (arith, l .every, g .next-most, g .groups-most),
+    omega (arith, l .every, l .lowest, g .start-next),
+    l .lowest,
+  )
+
+  upwards : BoundsInOrder (stateOf s) → end ≡ far + low
+  upwards p = distance-up far low end d b (omega (arith, small .4, p .start-settled, p .settled-fenced))
+
+  pub bounds-fenced : whole < far → Bounds false s
+  bounds-fenced k = bounds-no (λ p. omega (arith, upwards p, p .fenced-next, small .3))
+
+  module _ (k : far ≤ whole) (x near : ℕ) (ex : x ≡ stateOf s .settled) (dx : (near + low) % 2 ^ 64 ≡ x) (bx : near < 2 ^ 64) where
+    pub bounds-settled : far < near → Bounds false s
+    bounds-settled o =
+        bounds-no
+        (λ p.
+        let n = distance-up near low x dx bx (omega (arith, small .4, p .start-settled)) in
+        omega (arith, upwards p, n, p .settled-fenced))
+
+    module _ (o : near ≤ far) (mark : ℕ) (em : mark ≡ stateOf s .durable) where
+      pub bounds-durable : end < mark → Bounds false s
+      bounds-durable q = bounds-no (λ p. omega (arith, p .durable-fenced))
+
+      bounds-yes : mark ≤ end → (stateOf s .last ≢ 0 → (7 * stateOf s .start < stateOf s .last) × (stateOf s .last ≤ nextPosition (stateOf s)))
+          → BoundsInOrder (stateOf s)
+      bounds-yes q c =
+          let e = distance-short far low end d (omega (arith, small .0, small .2)) in
+          let n = distance-short near low x dx (omega (arith, small .0, small .2)) in
+          record {
+            start-settled = omega (arith, n, small .4);
+            settled-fenced = omega (arith, n, e);
+            fenced-next = omega (arith, e, small .3);
+            durable-fenced = omega arith;
+            last-closing = c;
+          }
+
+      module _ (q : mark ≤ end) (y : ℕ) (ey : y ≡ stateOf s .last) where
+        pub bounds-none : y ≡ 0 → Bounds true s
+        bounds-none z = (λ _. bounds-yes q (λ n. absurd (n (sym ey ∙ z))), λ t. absurd (false≢true (sym t)))
+
+        pub bounds-last : (behind : ℕ) → y ≢ 0 → (behind + (low + 1)) % 2 ^ 64 ≡ y → behind < 2 ^ 64 → Bounds (ltb behind all) s
+        unfolding nextPosition
+        bounds-last behind n dy by = (
+          λ t.
+              let k = ltb-true behind all t in
+              let e = distance-short behind (low + 1) y dy (omega (arith, small .0, small .1)) in
+              bounds-yes q (λ _. (omega (arith, e, small .4), omega (arith, e, small .3, w))),
+          λ t.
+              let k = ltb-false behind all t in
+              bounds-refused (stateOf s)
+              (λ p.
+              let f = p .last-closing (λ z. n (ey ∙ z)) in
+              let e = distance-up behind (low + 1) y dy by (omega (arith, f .0, small .4)) in
+              omega (arith, e, f .1, small .3, w)),
+        )
+
+-- ---- the whole answer
+
+abbrev Answer : ℕ → List ℕ → ℕ → ℕ → Type 0
+Answer r s groups homes =
+    (r ≢ 1 → r ≡ ask (inOrder s groups homes) 2 0) × (r ≡ 1 → Agrees (stateOf s) groups homes × BoundsInOrder (stateOf s))
+
+module _ (s : List ℕ) (groups homes : ℕ) where
+  pub answer-no : false ≡ inOrder s groups homes → Answer 2 s groups homes
+  answer-no h = (λ _. told-no _ h, λ z. absurd (omega arith))
+
+  pub answer-yes : true ≡ inOrder s groups homes → Answer 0 s groups homes
+  answer-yes h = (λ _. told-yes _ h, λ z. absurd (omega arith))
+
+  pub answer-rest : Agrees (stateOf s) groups homes → BoundsInOrder (stateOf s) → Answer 1 s groups homes
+  answer-rest a b = (λ n. absurd (n refl), λ _. (a, b))
+
+  -- with no round and no promise the writers tell
+  pub quick-records : (x : ℕ) (st : State) → Agrees (stateOf s) groups homes → BoundsInOrder (stateOf s) → x ≡ stateOf s .round → x ≡ 0
+      → st ≡ stateOf s → promised s 8 ≡ 0 → writersInOrder s st 8 ≡ inOrder s groups homes
+  quick-records x st a b e z es p =
+      by-records s st groups homes es (ap (λ (y : State). y .groups) es ∙ a .groups-same) (ap (λ (y : State). y .homes) es ∙ a .homes-same)
+      (rw es (numbers-held (stateOf s) (a .in-order) b (round-none (stateOf s) (sym e ∙ z)))) p
+
+-- ---- the record of a writer that has logged entries
+
+module _ (st : State) (r : Writer) (low all since : ℕ) (l : Live st low all) (m : r .mode ≡ 3) (h : r .home < st .homes)
+    (d : (since + r .first) % 2 ^ 64 ≡ low + all) (b : since < 2 ^ 64) (f : r .first < 2 ^ 64) where
+  ahead : low + all ≡ nextPosition st
+  unfolding nextPosition
+  ahead = omega (arith, l .lowest, l .every, l .in-order .start-next)
+
+  pub logged-far : all < since → false ≡ writerInOrder st r
+  logged-far k =
+      writer-refused st r
+      (λ o.
+      let q = o .logged (omega arith) in
+      let e = distance-up since (r .first) (low + all) d b (omega (arith, ahead)) in
+      omega (arith, l .lowest, q))
+
+  pub logged-few : (less : ℕ) → (less + 1) % 2 ^ 64 ≡ r .count → less < 2 ^ 64 → since ≤ less → false ≡ writerInOrder st r
+  logged-few less c bl k =
+      writer-refused st r
+      (λ o.
+      let q = o .logged (omega arith) in
+      let e = distance-up since (r .first) (low + all) d b (omega (arith, ahead)) in
+      let n = distance-up less 1 (r .count) c bl (omega (arith, q)) in
+      omega (arith, ahead, q))
+
+  pub logged-held : (less : ℕ) → since ≤ all → (less + 1) % 2 ^ 64 ≡ r .count → less < since → true ≡ writerInOrder st r
+  logged-held less k c u =
+      let g = l .in-order in
+      let n = distance-short less 1 (r .count) c (omega (arith, l .every, g .next-most, g .groups-most, g .filled-most)) in
+      let e = distance-down since (r .first) (low + all) d f (omega arith) in
+      sym
+      (order-writer st r
+      (record { mode = omega arith; home = λ _. h; logged = λ _. (omega (arith, l .lowest), omega (arith, ahead), omega arith, omega (arith, ahead)) }))

@@ -8,7 +8,7 @@ use native.Mathlib.Decide.{decLt}
 use native.Mathlib.Numerals.{add-one}
 use native.Mathlib.Omega.{arith}
 use lib.Dec.{leb, ltb, eqb}
-use borrow.Author.Tests.{le-leb, lt-leb, eq-eqb, ne-eqb}
+use borrow.Author.Tests.{le-leb, lt-leb, lt-ltb, le-ltb, eq-eqb, ne-eqb}
 use Rattle.model.specs.declared.State.{State}
 use Rattle.model.specs.Bytes.{number}
 use Rattle.model.specs.State.{stateOf, nextPosition, promiseOffset, promiseOf, promised, places, freePlaces}
@@ -85,6 +85,21 @@ pub room-free : (s : List ℕ) (st : State) (w n taken all : ℕ) → st ≡ sta
     → ltb taken all ≡ roomFor s w
 unfolding roomFor
 room-free s st w n taken all e p z q f = rw (lt-leb 1 (promiseOf s w) (omega arith), ← e, ← q, ← f)
+
+pub room-clear : (s : List ℕ) (st : State) (w : ℕ) → st ≡ stateOf s → GroupsInOrder st → w < 8 → ((w : ℕ) → w < 8 → promiseOf s w ≡ 0)
+    → ltb (st .next) (st .start + st .groups) ≡ roomFor s w
+unfolding roomFor places nextPosition
+room-clear s st w e g h z =
+    rw (lt-leb 1 (promiseOf s w) (omega (arith, z w h)), sum-zero s 8 z, ← e) (go (decLt (st .next) (st .start + st .groups)))
+  where
+    go : Dec (st .next < st .start + st .groups)
+        → ltb (st .next) (st .start + st .groups) ≡ ltb 0 (7 * (st .start + st .groups) - (7 * st .next + st .filled))
+    go (yes l) =
+        lt-ltb (st .next) (st .start + st .groups) l
+        ∙ sym (lt-ltb 0 (7 * (st .start + st .groups) - (7 * st .next + st .filled)) (omega (arith, g .filled-most)))
+    go (no l) =
+        le-ltb (st .next) (st .start + st .groups) (omega arith)
+        ∙ sym (le-ltb 0 (7 * (st .start + st .groups) - (7 * st .next + st .filled)) (omega arith))
 
 pub may-none : (s : List ℕ) (n : ℕ) → n ≡ 0 → false ≡ mayPromise s n
 unfolding mayPromise

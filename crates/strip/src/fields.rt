@@ -38,6 +38,86 @@ pub fn state(s: &[u8]) -> State
     }
 }
 
+// The number of groups.
+pub fn number_of_groups(s: &[u8]) -> u64
+    requires { ⌜ length (now s) ≡ 1024 ⌝ }
+    ensures { λ r. ⌜ (r ≡ stateOf (now (s .entry)) .groups) × (r < 2 ^ 64) ⌝ }
+{
+    codec::number(s, 0, 8)
+}
+
+// The number of homes.
+pub fn number_of_homes(s: &[u8]) -> u64
+    requires { ⌜ length (now s) ≡ 1024 ⌝ }
+    ensures { λ r. ⌜ (r ≡ stateOf (now (s .entry)) .homes) × (r < 2 ^ 64) ⌝ }
+{
+    codec::number(s, 8, 8)
+}
+
+// The lowest live group number.
+pub fn start(s: &[u8]) -> u64
+    requires { ⌜ length (now s) ≡ 1024 ⌝ }
+    ensures { λ r. ⌜ (r ≡ stateOf (now (s .entry)) .start) × (r < 2 ^ 64) ⌝ }
+{
+    codec::number(s, 16, 8)
+}
+
+// The number of the next group.
+pub fn next(s: &[u8]) -> u64
+    requires { ⌜ length (now s) ≡ 1024 ⌝ }
+    ensures { λ r. ⌜ (r ≡ stateOf (now (s .entry)) .next) × (r < 2 ^ 64) ⌝ }
+{
+    codec::number(s, 24, 8)
+}
+
+// How many places of the next group are filled.
+pub fn filled(s: &[u8]) -> u64
+    requires { ⌜ length (now s) ≡ 1024 ⌝ }
+    ensures { λ r. ⌜ (r ≡ stateOf (now (s .entry)) .filled) × (r < 2 ^ 64) ⌝ }
+{
+    codec::number(s, 32, 8)
+}
+
+// The settled position.
+pub fn settled(s: &[u8]) -> u64
+    requires { ⌜ length (now s) ≡ 1024 ⌝ }
+    ensures { λ r. ⌜ (r ≡ stateOf (now (s .entry)) .settled) × (r < 2 ^ 64) ⌝ }
+{
+    codec::number(s, 40, 8)
+}
+
+// The fenced position.
+pub fn fenced(s: &[u8]) -> u64
+    requires { ⌜ length (now s) ≡ 1024 ⌝ }
+    ensures { λ r. ⌜ (r ≡ stateOf (now (s .entry)) .fenced) × (r < 2 ^ 64) ⌝ }
+{
+    codec::number(s, 48, 8)
+}
+
+// The durable mark.
+pub fn durable(s: &[u8]) -> u64
+    requires { ⌜ length (now s) ≡ 1024 ⌝ }
+    ensures { λ r. ⌜ (r ≡ stateOf (now (s .entry)) .durable) × (r < 2 ^ 64) ⌝ }
+{
+    codec::number(s, 56, 8)
+}
+
+// The last closing entry's position + 1, or 0 for none.
+pub fn last(s: &[u8]) -> u64
+    requires { ⌜ length (now s) ≡ 1024 ⌝ }
+    ensures { λ r. ⌜ (r ≡ stateOf (now (s .entry)) .last) × (r < 2 ^ 64) ⌝ }
+{
+    codec::number(s, 64, 8)
+}
+
+// The fenced position that the round under way has fixed + 1, or 0 for no round.
+pub fn round(s: &[u8]) -> u64
+    requires { ⌜ length (now s) ≡ 1024 ⌝ }
+    ensures { λ r. ⌜ (r ≡ stateOf (now (s .entry)) .round) × (r < 2 ^ 64) ⌝ }
+{
+    codec::number(s, 88, 8)
+}
+
 // Stores `v` as the number of groups, and leaves the rest of the strip as it was.
 fn set_groups(s: &mut [u8], v: u64)
     requires { ⌜ length (now s) ≡ 1024 ⌝ }

@@ -1,4 +1,4 @@
-// The state strip of 1,024 bytes as model/specs/State defines it: its numbers, its writers' records, held blocks and promises, the positions of the list of rights, and whether it is in order.
+// The state strip of 1,024 bytes as model/specs/State defines it: its numbers, its writers' records, held blocks and promises, the positions and the sign of the list of rights, and whether it is in order.
 mod distances;
 mod fields;
 mod listed;
@@ -20,9 +20,9 @@ pub use fields::set_settled;
 pub use fields::set_start;
 pub use fields::state;
 pub use listed::carry_listed;
-pub use order::in_order;
-pub use order::numbers_in_order;
-pub use order::writer_in_order;
+pub use listed::list_sign;
+pub use listed::set_list_sign;
+pub use order::rest_in_order;
 pub use promises::keeps_promises;
 pub use promises::may_promise;
 pub use promises::places;

@@ -1,8 +1,8 @@
-// The newest committed positions of the four homes of the list of rights, eight bytes each in the state strip.
+// The newest committed positions of the four homes of the list of rights, eight bytes each in the state strip, and behind them the list's sign.
 ghost use mathlib.Core.Path.{_≡_};
 ghost use Prim.Native.Nat.{_*_};
 ghost use lib.ListN.{length};
-ghost use Rattle.model.specs.State.{setListed};
+ghost use Rattle.model.specs.State.{setListed, listSign, setListSign};
 ghost use Rattle.model.specs.Newest.{carryListed};
 
 // Stores the four positions, and leaves the rest of the strip as it was.
@@ -22,4 +22,20 @@ pub fn carry_listed(s: &mut [u8], newest: &[u8], homes: u64)
         return;
     }
     set_listed(s, &newest[64..96]);
+}
+
+// The list's sign: 1, the list as committed is all zeros; 2, it is not; else nothing is said.
+pub fn list_sign(s: &[u8]) -> u64
+    requires { ⌜ length (now s) ≡ 1024 ⌝ }
+    ensures { λ r. ⌜ r ≡ listSign (now (s .entry)) ⌝ }
+{
+    codec::number(s, 928, 8)
+}
+
+// Stores the sign `v`, and leaves the rest of the strip as it was.
+pub fn set_list_sign(s: &mut [u8], v: u64)
+    requires { ⌜ length (now s) ≡ 1024 ⌝ }
+    ensures { λ _. ⌜ now (s .exit) ≡ setListSign (now (s .entry)) v ⌝ }
+{
+    codec::put_number(s, 928, 8, v)
 }

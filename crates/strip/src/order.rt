@@ -1,5 +1,4 @@
-// Whether the state strip is in order (question 2).
-use crate::distances::distance;
+// Question 2 of a strip with places promised or a round under way, where the other numbers are in order.
 use crate::fields::next_position;
 use crate::fields::state;
 use crate::promises::places;
@@ -10,14 +9,10 @@ use crate::writers::writer;
 use model::State;
 use model::Writer;
 ghost use mathlib.Core.Path.{_≡_};
-ghost use mathlib.Core.Bool.{true};
-ghost use Prim.Native.Nat.{_+_, _*_, _^_, _≤_, _<_};
+ghost use Prim.Native.Nat.{ℕ, _+_, _*_, _^_, _<_};
 ghost use lib.ListN.{length};
-ghost use Rattle.model.specs.State.{numbersInOrder, writerInOrder, writerAtInOrder, writersInOrder, inOrder};
-ghost use Rattle.strip.specs.Order.{GroupsInOrder, roundInOrder};
-
-// The highest group number that a log may start at.
-pub const MAX_START: u64 = 0x8000_0000_0000;
+ghost use Rattle.model.specs.State.{stateOf, writerInOrder, writerAtInOrder, writersInOrder, inOrder};
+ghost use Rattle.strip.specs.Order.{GroupsInOrder, Agrees, BoundsInOrder, roundInOrder};
 
 // Whether the position that a round has fixed lies from the settled to the fenced one, or there is no round.
 fn round_in_order(st: State) -> bool
@@ -32,72 +27,8 @@ fn round_in_order(st: State) -> bool
     st.round - 1 <= st.fenced
 }
 
-// Whether the numbers of the strip are in order, where its group numbers, the places filled and the round are. What lies between two others is
-// compared once, by its distance from the lower one.
-pub fn bounds_in_order(st: State) -> bool
-    requires { ⌜ GroupsInOrder st × (roundInOrder st ≡ true) ⌝ }
-    ensures { λ r. ⌜ r ≡ numbersInOrder st ⌝ }
-{
-    let low = 7 * st.start;
-    let whole = 7 * (st.next - st.start);
-    let fenced = distance(st.fenced, low);
-    if whole < fenced {
-        return false;
-    }
-    if fenced < distance(st.settled, low) {
-        return false;
-    }
-    if st.fenced < st.durable {
-        return false;
-    }
-    if st.last == 0 {
-        return true;
-    }
-    if whole + st.filled <= distance(st.last, low + 1) {
-        return false;
-    }
-    true
-}
-
-// Whether the numbers of the strip are in order, where its group numbers and the places filled are.
-fn positions_in_order(st: State) -> bool
-    requires { ⌜ GroupsInOrder st ⌝ }
-    ensures { λ r. ⌜ r ≡ numbersInOrder st ⌝ }
-{
-    if !round_in_order(st) {
-        return false;
-    }
-    bounds_in_order(st)
-}
-
-// Whether the numbers of the strip are in order.
-pub fn numbers_in_order(st: State) -> bool
-    requires { ⌜ st .groups ≤ 1024 ⌝ }
-    ensures { λ r. ⌜ r ≡ numbersInOrder st ⌝ }
-{
-    if MAX_START < st.start {
-        return false;
-    }
-    if st.next < st.start {
-        return false;
-    }
-    let end = st.start + st.groups;
-    if end < st.next {
-        return false;
-    }
-    if 6 < st.filled {
-        return false;
-    }
-    if st.next == end {
-        if st.filled != 0 {
-            return false;
-        }
-    }
-    positions_in_order(st)
-}
-
 // Whether a writer's record is in order in a strip with the numbers `st`.
-pub fn writer_in_order(st: State, r: Writer) -> bool
+fn writer_in_order(st: State, r: Writer) -> bool
     requires { ⌜ (7 * st .start < 2 ^ 64) × (7 * st .next + st .filled < 2 ^ 64) ⌝ }
     ensures { λ b. ⌜ b ≡ writerInOrder st r ⌝ }
 {
@@ -159,19 +90,13 @@ fn writers_in_order(s: &[u8], st: State) -> bool
     true
 }
 
-// Whether the strip is in order for a log of `groups` groups and `homes` homes.
-pub fn in_order(s: &[u8], groups: u64, homes: u64) -> bool
-    requires { ⌜ (length (now s) ≡ 1024) × (groups ≤ 1024) × (homes ≤ 65535) ⌝ }
-    ensures { λ r. ⌜ r ≡ inOrder (now (s .entry)) groups homes ⌝ }
+// The rest of question 2 where the numbers but the round are in order: the round, the promises and the writers.
+pub fn rest_in_order(s: &[u8]) -> bool
+    requires { ⌜ (length (now s) ≡ 1024) × GroupsInOrder (stateOf (now s)) × BoundsInOrder (stateOf (now s)) ⌝ }
+    ensures { λ r. ⌜ ((groups homes : ℕ) → Agrees (stateOf (now (s .entry))) groups homes → r ≡ inOrder (now (s .entry)) groups homes) ⌝ }
 {
     let st = state(s);
-    if st.groups != groups {
-        return false;
-    }
-    if st.homes != homes {
-        return false;
-    }
-    if !numbers_in_order(st) {
+    if !round_in_order(st) {
         return false;
     }
     if places(st) < promised(s) {

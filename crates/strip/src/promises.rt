@@ -99,10 +99,13 @@ pub fn room_for(s: &[u8], st: State, w: usize) -> bool
     requires { ⌜ (length (now s) ≡ 1024) × (w < 8) × GroupsInOrder st × (st ≡ stateOf (now s)) ⌝ }
     ensures { λ r. ⌜ r ≡ roomFor (now (s .entry)) w ⌝ }
 {
+    if none_promised(s) {
+        return st.next < st.start + st.groups;
+    }
     if promise(s, w) != 0 {
         return true;
     }
-    promised(s) < places(st)
+    promised_each(s) < places(st)
 }
 
 // Whether `n` places may be promised: at least one, and no more than are free.

@@ -1,28 +1,38 @@
-// Question 2 of a strip as it mostly is: nothing is promised and no round is under way.
+// Question 2 of a strip as it mostly is: nothing is promised and no round is under way. Each number is read where it is compared.
 use crate::distances::distance;
+use crate::fields::durable;
+use crate::fields::fenced;
+use crate::fields::filled;
+use crate::fields::last;
+use crate::fields::next;
+use crate::fields::number_of_groups;
+use crate::fields::number_of_homes;
+use crate::fields::round;
+use crate::fields::settled;
+use crate::fields::start;
 use crate::fields::state;
-use crate::order::MAX_START;
-use crate::order::bounds_in_order;
 use crate::promises::none_promised;
 use crate::writers::writer;
 use model::State;
 use model::Writer;
 ghost use mathlib.Core.Path.{_≡_};
+ghost use mathlib.Core.Bool.{true, false};
 ghost use mathlib.Core.Logic.{_≢_};
-ghost use Prim.Native.Nat.{ℕ, _≤_, _<_};
+ghost use Prim.Native.Nat.{ℕ, _+_, _≤_, _<_};
 ghost use lib.ListN.{length};
-ghost use Rattle.model.specs.State.{promiseOf, writerInOrder, writersInOrder, inOrder};
+ghost use Rattle.model.specs.State.{stateOf, promiseOf, numbersInOrder, writerInOrder, writersInOrder, inOrder};
 ghost use Rattle.model.specs.Questions.{ask};
-ghost use Rattle.strip.specs.Order.{GroupsInOrder, GroupsAnswer};
+ghost use Rattle.strip.specs.Order.{Agrees, BoundsInOrder, Live};
+
+// The highest group number that a log may start at.
+const MAX_START: u64 = 0x8000_0000_0000;
 
 // Whether the record of a writer that holds a block for a home below D and has logged entries is in order: the positions since its first one are
 // among those of the log, and hold its entries.
-fn logged_in_order(st: State, r: Writer) -> bool
-    requires { ⌜ GroupsInOrder st × (r .mode ≡ 3) × (r .home < st .homes) ⌝ }
+fn logged_in_order(st: State, low: u64, all: u64, r: Writer) -> bool
+    requires { ⌜ Live st low all × (r .mode ≡ 3) × (r .home < st .homes) ⌝ }
     ensures { λ b. ⌜ b ≡ writerInOrder st r ⌝ }
 {
-    let low = 7 * st.start;
-    let all = 7 * (st.next - st.start) + st.filled;
     let since = distance(low + all, r.first);
     if all < since {
         return false;
@@ -34,8 +44,8 @@ fn logged_in_order(st: State, r: Writer) -> bool
 }
 
 // Whether a writer's record is in order in a strip whose group numbers and places filled are.
-fn record_in_order(st: State, r: Writer) -> bool
-    requires { ⌜ GroupsInOrder st ⌝ }
+fn record_in_order(st: State, low: u64, all: u64, r: Writer) -> bool
+    requires { ⌜ Live st low all ⌝ }
     ensures { λ b. ⌜ b ≡ writerInOrder st r ⌝ }
 {
     if r.mode < 2 {
@@ -50,17 +60,17 @@ fn record_in_order(st: State, r: Writer) -> bool
     if r.mode != 3 {
         return false;
     }
-    logged_in_order(st, r)
+    logged_in_order(st, low, all, r)
 }
 
 // Whether the records of all eight writers are in order where nothing is promised: an idle writer is passed by its mode alone.
-fn records_in_order(s: &[u8], st: State) -> bool
-    requires { ⌜ (length (now s) ≡ 1024) × GroupsInOrder st × ((w : ℕ) → w < 8 → promiseOf (now s) w ≡ 0) ⌝ }
+fn records_in_order(s: &[u8], st: State, low: u64, all: u64) -> bool
+    requires { ⌜ (length (now s) ≡ 1024) × Live st low all × ((w : ℕ) → w < 8 → promiseOf (now s) w ≡ 0) ⌝ }
     ensures { λ r. ⌜ r ≡ writersInOrder (now (s .entry)) st 8 ⌝ }
 {
     let mut w: usize = 0;
     while w != 8 {
-        if !record_in_order(st, writer(s, w)) {
+        if !record_in_order(st, low, all, writer(s, w)) {
             return false;
         }
         w += 1;
@@ -68,55 +78,79 @@ fn records_in_order(s: &[u8], st: State) -> bool
     true
 }
 
-// What the numbers of groups and homes, the round and the places filled tell of question 2: 2 if they are not in order, 1 where a round leaves that to
-// `in_order`, else 0.
-fn groups_answer(st: State, groups: u64, homes: u64) -> u64
-    requires { ⌜ groups ≤ 1024 ⌝ }
-    ensures { λ r. ⌜ GroupsAnswer r st groups homes ⌝ }
+// Whether the numbers of groups and homes are `groups` and `homes`, and the group numbers and the places filled are in order.
+fn groups_in_order(s: &[u8], groups: u64, homes: u64) -> bool
+    requires { ⌜ (length (now s) ≡ 1024) × (groups ≤ 1024) ⌝ }
+    ensures { λ r. ⌜ (r ≡ true → Agrees (stateOf (now (s .entry))) groups homes) × (r ≡ false → false ≡ inOrder (now (s .entry)) groups homes) ⌝ }
 {
-    if st.round != 0 {
-        return 1;
+    if number_of_groups(s) != groups {
+        return false;
     }
-    if st.groups != groups {
-        return 2;
+    if number_of_homes(s) != homes {
+        return false;
     }
-    if st.homes != homes {
-        return 2;
+    let start = start(s);
+    if MAX_START < start {
+        return false;
     }
-    if MAX_START < st.start {
-        return 2;
+    let used = distance(next(s), start);
+    let filled = filled(s);
+    if used < groups {
+        return filled <= 6;
     }
-    let used = distance(st.next, st.start);
-    if groups < used {
-        return 2;
+    if used != groups {
+        return false;
     }
-    if 6 < st.filled {
-        return 2;
-    }
-    if 7 * groups < 7 * used + st.filled {
-        return 2;
-    }
-    0
+    filled == 0
 }
 
-// Question 2 for a log of `groups` groups and `homes` homes: 0 if the strip is in order, 2 if it is not, and 1 where a promise or a round leaves that to
-// `in_order`.
-pub fn quick_answer(s: &[u8], groups: u64, homes: u64) -> u64
-    requires { ⌜ (length (now s) ≡ 1024) × (groups ≤ 1024) × (homes ≤ 65535) ⌝ }
-    ensures { λ r. ⌜ (r ≢ 1 → r ≡ ask (inOrder (now (s .entry)) groups homes) 2 0) ⌝ }
+// Whether the other numbers but the round are in order, where the log has `whole` positions from position `low` to the next group, and `all` with those
+// filled. What lies between two others is compared once, by its distance from the lower one.
+fn bounds_in_order(s: &[u8], low: u64, whole: u64, all: u64) -> bool
+    requires { ⌜ (length (now s) ≡ 1024) × Live (stateOf (now s)) low all × (whole + stateOf (now s) .filled ≡ all) ⌝ }
+    ensures { λ r. ⌜ (r ≡ true → BoundsInOrder (stateOf (now (s .entry)))) × (r ≡ false → false ≡ numbersInOrder (stateOf (now (s .entry)))) ⌝ }
 {
+    let end = fenced(s);
+    let fenced = distance(end, low);
+    if whole < fenced {
+        return false;
+    }
+    if fenced < distance(settled(s), low) {
+        return false;
+    }
+    if end < durable(s) {
+        return false;
+    }
+    let last = last(s);
+    if last == 0 {
+        return true;
+    }
+    distance(last, low + 1) < all
+}
+
+// Question 2 for a log of `groups` groups and `homes` homes: 0 if the strip is in order, 2 if it is not, and 1 where a promise or a round leaves the
+// rest to `rest_in_order`.
+pub fn quick_answer(s: &[u8], groups: u64, homes: u64) -> u64
+    requires { ⌜ (length (now s) ≡ 1024) × (groups ≤ 1024) ⌝ }
+    ensures { λ r. ⌜ (r ≢ 1 → r ≡ ask (inOrder (now (s .entry)) groups homes) 2 0) × (r ≡ 1 → Agrees (stateOf (now (s .entry))) groups homes × BoundsInOrder (stateOf (now (s .entry)))) ⌝ }
+{
+    if !groups_in_order(s, groups, homes) {
+        return 2;
+    }
+    let start = start(s);
+    let low = 7 * start;
+    let whole = 7 * (next(s) - start);
+    let all = whole + filled(s);
+    if !bounds_in_order(s, low, whole, all) {
+        return 2;
+    }
+    if round(s) != 0 {
+        return 1;
+    }
     if !none_promised(s) {
         return 1;
     }
-    let st = state(s);
-    let first = groups_answer(st, groups, homes);
-    if first != 0 {
-        return first;
-    }
-    if !bounds_in_order(st) {
-        return 2;
-    }
-    if !records_in_order(s, st) {
+    if !records_in_order(s, state(s), low, all) {
         return 2;
     }
     0

@@ -327,7 +327,7 @@ fn keep(after: &mut Lent, start: u64, first: u64, closing: u64) {
             put(&mut after.newest, 8 * entry.home as usize, *position as u64);
         }
     }
-    rights::carry(after);
+    rights::carry_and_sign(after, start, closing);
 }
 
 fn read(before: &Lent, after: &mut Lent, writer: u64, home: u64) -> Outcome {

@@ -29,21 +29,22 @@ returns-2 c =
     let k = c .before .before .before in
     state-told _ _ _ _ _ (k .before .before .lengths-right .ensures) (k .before .if1 .left) (k .log-groups .ensures)
     (c .before .before .data-homes .ensures)
-    (c .before .quick-answer .ensures (c .if2 .taken))
+    (c .before .quick-answer .ensures .0 (c .if2 .taken))
 
-in-order-requires : tie.Need-in-order-requires
-in-order-requires c κs =
+rest-in-order-requires : tie.Need-rest-in-order-requires
+rest-in-order-requires c κs =
     let k = c .before .before in
     let a = k .before .before .before .before .before .before .before .args in
     let s = sizes (length (a .log .now)) (length (a .area .now)) (length (a .state .now)) _ (k .before .before .before .lengths-right .ensures) (k .before .before .if1 .left) in
-    (s .state-length, omega (arith, k .before .log-groups .ensures), omega (arith, k .data-homes .ensures))
+    let q = c .before .quick-answer .ensures .1 (c .if2 .left) in
+    (s .state-length, q .0 .in-order, q .1)
 
 returns-3 : tie.Need-returns-3
 returns-3 c =
     let k = c .before .before .before .before .before in
     state-order-no _ _ _ _ _ _ (k .before .before .lengths-right .ensures) (k .before .if1 .left) (k .log-groups .ensures)
     (c .before .before .before .before .data-homes .ensures)
-    (c .before .in-order .ensures)
+    (c .before .rest-in-order .ensures _ _ (c .before .before .before .quick-answer .ensures .1 (c .before .before .if2 .left) .0))
     (c .if3 .taken)
 
 returns-4 : tie.Need-returns-4
@@ -51,7 +52,7 @@ returns-4 c =
     let k = c .before .before .before .before .before in
     state-all _ _ _ _ _ _ (k .before .before .lengths-right .ensures) (k .before .if1 .left) (k .log-groups .ensures)
     (c .before .before .before .before .data-homes .ensures)
-    (c .before .in-order .ensures)
+    (c .before .rest-in-order .ensures _ _ (c .before .before .before .quick-answer .ensures .1 (c .before .before .if2 .left) .0))
     (c .if3 .left)
 
 pub in-use-spec : {M : Type 1} → statement M
@@ -64,6 +65,6 @@ in-use-spec =
     data-homes-requires
     quick-answer-requires
     returns-2
-    in-order-requires
+    rest-in-order-requires
     returns-3
     returns-4)

@@ -33,14 +33,15 @@ returns-3 c =
     block-told _ _ _ _ _ (k .before .before .before .lengths-right .ensures) (k .before .before .if1 .left) (k .before .if2 .left)
     (k .log-groups .ensures)
     (c .before .before .data-homes .ensures)
-    (c .before .quick-answer .ensures (c .if3 .taken))
+    (c .before .quick-answer .ensures .0 (c .if3 .taken))
 
-in-order-requires : tie.Need-in-order-requires
-in-order-requires c κs =
+rest-in-order-requires : tie.Need-rest-in-order-requires
+rest-in-order-requires c κs =
     let k = c .before .before in
     let a = k .before .before .before .before .before .before .before .before .before .args in
     let s = sizes (length (a .log .now)) (length (a .area .now)) (length (a .state .now)) _ (k .before .before .before .before .lengths-right .ensures) (k .before .before .before .if1 .left) in
-    (s .state-length, omega (arith, k .before .log-groups .ensures), omega (arith, k .data-homes .ensures))
+    let q = c .before .quick-answer .ensures .1 (c .if3 .left) in
+    (s .state-length, q .0 .in-order, q .1)
 
 returns-4 : tie.Need-returns-4
 returns-4 c =
@@ -48,7 +49,7 @@ returns-4 c =
     block-order-no _ _ _ _ _ _ (k .before .before .before .lengths-right .ensures) (k .before .before .if1 .left) (k .before .if2 .left)
     (k .log-groups .ensures)
     (c .before .before .before .before .data-homes .ensures)
-    (c .before .in-order .ensures)
+    (c .before .rest-in-order .ensures _ _ (c .before .before .before .quick-answer .ensures .1 (c .before .before .if3 .left) .0))
     (c .if4 .taken)
 
 returns-5 : tie.Need-returns-5
@@ -57,7 +58,7 @@ returns-5 c =
     block-all _ _ _ _ _ _ (k .before .before .before .lengths-right .ensures) (k .before .before .if1 .left) (k .before .if2 .left)
     (k .log-groups .ensures)
     (c .before .before .before .before .data-homes .ensures)
-    (c .before .in-order .ensures)
+    (c .before .rest-in-order .ensures _ _ (c .before .before .before .quick-answer .ensures .1 (c .before .before .if3 .left) .0))
     (c .if4 .left)
 
 pub in-use-block-spec : {M : Type 1} → statement M
@@ -71,6 +72,6 @@ in-use-block-spec =
     data-homes-requires
     quick-answer-requires
     returns-3
-    in-order-requires
+    rest-in-order-requires
     returns-4
     returns-5)

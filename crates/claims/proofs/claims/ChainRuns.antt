@@ -9,9 +9,9 @@ use lib.ListN.{length, take}
 use borrow.Author.Tests.{eq-eqb, le-leb, ltb-true}
 use Rattle.model.specs.Bytes.{part}
 use Rattle.model.specs.Batch.{batchBytes, readBatch}
-use Rattle.model.specs.State.{freePlaces}
+use Rattle.model.specs.State.{freePlaces, listSign}
 use Rattle.model.specs.Effects.{Given, Effect, homes, newState, tagsOf, liveBase, logHeld, logClosing, storeFirst, storeAgain, storeOther, keptCommit, commitHeld, abortEffect, beginEffect, reserveEffect, storeEffect, commitEffect}
-use Rattle.model.specs.Rights.{mayStore, readList}
+use Rattle.model.specs.Rights.{mayStore, storeRight, readList}
 use Rattle.model.specs.Questions.{ask, areasRight, stateRight, stripInOrder, writerKnown, writerOpen, mayPromise, askState, beginAnswer, reserveAnswer, storeAnswer, commitAnswer}
 use Rattle.model.specs.Calls.{Outcome, done, outcome, sizeOf, beginCall, reserveCall, storeCall, commitCall}
 use Rattle.acts.specs.Chains.{blocksLent, lentOn, andThen, storedFirst, transactEffect, mayStoreAll, transactAnswer, transactCall}
@@ -221,7 +221,7 @@ module _ (w : World) (s : Store) (r : Reached w s) (ready : w .ready ≡ true) (
   may-store k l =
       let kept = kept-then w s r ready in
       sym (rights-same w s blocks batch v h (h + k) (same-book w s r) (same-homes w s r) kept (t .lent .newest))
-      ∙ each-of (mayStore (homes g) (readList g) v) h n (unfold mayStoreAll blocksLent lent in t .allowed) k l
+      ∙ each-of (storeRight (listSign (w .state)) (homes g) (readList g) v) h n (unfold mayStoreAll blocksLent lent in t .allowed) k l
 
   home-below : (k : ℕ) → k < n → h + k < s .homes
   home-below k l =

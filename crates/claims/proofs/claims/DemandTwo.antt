@@ -14,7 +14,7 @@ use Rattle.claims.proofs.claims.LiveHolds.{live-holds}
 use Rattle.claims.proofs.claims.DemandThree.{keeps}
 use Rattle.claims.proofs.claims.YieldsAll.{Owing, owing-keeps, event-yields, format-owing}
 use Rattle.claims.proofs.claims.KeptSteps.{Kept-along, along-keeps, along-begins}
-use Rattle.claims.proofs.claims.KeptHolds.{shown-current}
+use Rattle.claims.proofs.claims.KeptShown.{shown-current}
 
 module _ (G D : ℕ) (z : Sizes G D) where
   live-ready : (w : World) → Invariant G D w → Kept-along G D w → w .ready ≡ true → Live w

@@ -9,11 +9,11 @@ use lib.ListN.{length}
 use borrow.Author.Tests.{eq-eqb, lt-ltb}
 use Rattle.model.specs.Bytes.{zeros}
 use Rattle.model.specs.Layout.{homesIn, homeAt}
-use Rattle.model.specs.State.{listHome, writerOf, heldOf, holdsHome}
+use Rattle.model.specs.State.{listHome, listSign, writerOf, heldOf, holdsHome}
 use Rattle.model.specs.declared.Writer.{Writer}
 use Rattle.model.specs.Newest.{keptFor}
 use Rattle.model.specs.Effects.{Given, homes, newestOwn, blockOr, ownElse, isThere, liveTags, liveBase, tagsOf, keptPosition, shown, readEffect}
-use Rattle.model.specs.Rights.{forHome, readList, mayRead}
+use Rattle.model.specs.Rights.{forHome, readList, readRight}
 use Rattle.model.specs.Questions.{areasRight, stateRight, newestRight, blockRight, stripInOrder, writerKnown, homeKnown, readAllowed, askBoth, readAnswer}
 use Rattle.model.specs.Calls.{done, outcome, readCall}
 use Rattle.acts.specs.Chains.{blocksLent, blocksRead, fetchEffect, mayReadAll, fetchAnswer, reviseAnswer, fetchCall, reviseCall}
@@ -109,11 +109,11 @@ module _ (w : World) (v h x : ℕ) (blocks : List ℕ) where
   unfolding homeKnown lent
   below l = lt-ltb x (homesIn (length (w .area))) l
 
-  allowed : mayRead (homes many) (readList many) v x ≡ true → readAllowed one ≡ true
+  allowed : readRight (listSign (w .state)) (homes many) (readList many) v x ≡ true → readAllowed one ≡ true
   unfolding readAllowed
   allowed m = rw (list-same w (zeros 64) blocks [] [] v v x h) (unfold lent in m)
 
-  read-passes : HomesReady many → mayRead (homes many) (readList many) v x ≡ true → x < homes many → readAnswer one ≡ 0
+  read-passes : HomesReady many → readRight (listSign (w .state)) (homes many) (readList many) v x ≡ true → x < homes many → readAnswer one ≡ 0
   unfolding readAnswer askBoth
   read-passes r m l =
       ask-yes (areasRight one && stateRight one && newestRight one && blockRight one) 1 _ (lengths r) ∙ ask-yes (stripInOrder one) 2 _ (in-order r)
@@ -130,7 +130,7 @@ module _ (w : World) (v h x : ℕ) (blocks : List ℕ) where
   unfolding ends serviceEnds readCall
   code-read e = outcome-code one (readAnswer one) (readEffect one) ∙ e
 
-  reads-so : Live w → HomesReady many → mayRead (homes many) (readList many) v x ≡ true → x < homes many
+  reads-so : Live w → HomesReady many → readRight (listSign (w .state)) (homes many) (readList many) v x ≡ true → x < homes many
       → readEffect (forHome many x) .block ≡ readBy (w .homes) (w .book) v x
   reads-so live r m l = let e = read-passes r m l in sym (block-read e) ∙ live .readable v x (zeros 64) (code-read e)
 
@@ -150,7 +150,7 @@ module _ (w : World) (live : Live w) (v h : ℕ) (blocks : List ℕ) where
   unfolding fetchEffect mayReadAll blocksLent lent
   fetch-block r m =
       read-each (length blocks / 64)
-      (λ i l. reads-so w v h (h + i) blocks live r (each-of (mayRead (homes g) (readList g) v) h (length blocks / 64) m i l) (let q = r .homes in omega arith))
+      (λ i l. reads-so w v h (h + i) blocks live r (each-of (readRight (listSign (w .state)) (homes g) (readList g) v) h (length blocks / 64) m i l) (let q = r .homes in omega arith))
 
   outcome-block : (a : ℕ) → outcome g a (fetchEffect g) .code ≡ 0 → outcome g a (fetchEffect g) .block ≡ fetchEffect g .block
   outcome-block a z = rw (outcome-done g a (fetchEffect g) (sym (outcome-code g a (fetchEffect g)) ∙ z)) (unfold done in refl)

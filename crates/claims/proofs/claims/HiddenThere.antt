@@ -5,9 +5,9 @@ use mathlib.Core.Bool.{Bool, true, false, not, _&&_, false≢true}
 use mathlib.Core.List.{List, [], _∷_, _++_}
 use borrow.Author.Tests.{eqb-true}
 use Rattle.model.specs.Bytes.{zeros}
-use Rattle.model.specs.State.{listedOf, setListed, freshNumbers}
+use Rattle.model.specs.State.{listedOf, setListed, listSign, setListSign, freshNumbers}
 use Rattle.model.specs.Newest.{carryListed}
-use Rattle.model.specs.Rights.{forHome, shownAt, listBy, storeList, readList, ofList, isList, inRange, inRanges, mayStore, mayRead}
+use Rattle.model.specs.Rights.{forHome, shownAt, listBy, storeList, readList, ofList, isList, inRange, inRanges, mayStore, mayRead, sameListed, listMoved, signFor, signIf, keepList, signedList, storeRight, readRight}
 use Rattle.model.specs.Questions.{storeAllowed, readAllowed}
 use Rattle.model.specs.Calls.{formatCall}
 use Rattle.model.specs.Trials.{fill}
@@ -139,7 +139,7 @@ abbrev started : World
 started = step (emptyStore 4 12) (call firstOpening)
 
 opening-done : started .ready ≡ true
-unfolding all-definitions listedOf setListed freshNumbers carryListed forHome shownAt listBy storeList readList ofList isList inRange inRanges mayStore mayRead storeAllowed readAllowed rangeOf firstWriters nextWriters firstOpening listing listedBefore bothAtWork
+unfolding all-definitions listedOf setListed freshNumbers carryListed listSign setListSign sameListed listMoved signFor signIf keepList signedList storeRight readRight forHome shownAt listBy storeList readList ofList isList inRange inRanges mayStore mayRead storeAllowed readAllowed rangeOf firstWriters nextWriters firstOpening listing listedBefore bothAtWork
 opening-done = refl
 
 listing-ready : (a : ℕ) → after (emptyStore 4 12) (calls (listedBefore a)) .ready ≡ true
@@ -168,7 +168,7 @@ work-alike =
     more equal (more equal (more equal (more equal (more (stored refl refl) (more equal (more equal (more equal (more equal (more equal (more equal (more equal (more equal both))))))))))))
 
 listing-answers : SameReplies started started (listing 1) (listing 101)
-unfolding all-definitions listedOf setListed freshNumbers carryListed forHome shownAt listBy storeList readList ofList isList inRange inRanges mayStore mayRead storeAllowed readAllowed rangeOf firstWriters nextWriters firstOpening listing listedBefore bothAtWork replyOf
+unfolding all-definitions listedOf setListed freshNumbers carryListed listSign setListSign sameListed listMoved signFor signIf keepList signedList storeRight readRight forHome shownAt listBy storeList readList ofList isList inRange inRanges mayStore mayRead storeAllowed readAllowed rangeOf firstWriters nextWriters firstOpening listing listedBefore bothAtWork replyOf
 listing-answers = (refl, (refl, (refl, (refl, (refl, (refl, tt))))))
 
 abbrev first : Store
@@ -182,7 +182,7 @@ stores-alike =
     listing-answers listing-alike (store-self fourth first)
 
 never-four : neverFour (followed (newStore 4 12) (emptyStore 4 12) (calls (listedBefore 1))) (after (emptyStore 4 12) (calls (listedBefore 1))) (calls (bothAtWork 2)) ≡ true
-unfolding all-definitions listedOf setListed freshNumbers carryListed forHome shownAt listBy storeList readList ofList isList inRange inRanges mayStore mayRead storeAllowed readAllowed rangeOf firstWriters nextWriters firstOpening listing listedBefore bothAtWork newStore firstGroup numbered inRound listOf lastAfter fencedAfter setFor promisesAfter storeMustLog replyOf afterReply follow followed calls afterService abstract-store.afterDone neverFour
+unfolding all-definitions listedOf setListed freshNumbers carryListed listSign setListSign sameListed listMoved signFor signIf keepList signedList storeRight readRight forHome shownAt listBy storeList readList ofList isList inRange inRanges mayStore mayRead storeAllowed readAllowed rangeOf firstWriters nextWriters firstOpening listing listedBefore bothAtWork newStore firstGroup numbered inRound listOf lastAfter fencedAfter setFor promisesAfter storeMustLog replyOf afterReply follow followed calls afterService abstract-store.afterDone neverFour
 never-four = refl
 
 -- ---- so writer 1 is told the same

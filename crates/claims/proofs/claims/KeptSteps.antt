@@ -147,7 +147,7 @@ module _ (G D : ℕ) (z : Sizes G D) (w : World) (r : Running G D w) (s : Store)
   -- ---- commit
 
   -- a writer that holds nothing has no block to commit
-  idle-commits : (v ticket : ℕ) → v < 8 → writerOf (w .state) v .mode < 2 → commitTask (w .book) v ticket (w .book .tasks v) .commits ≡ w .book .commits
+  pub idle-commits : (v ticket : ℕ) → v < 8 → writerOf (w .state) v .mode < 2 → commitTask (w .book) v ticket (w .book .tasks v) .commits ≡ w .book .commits
   idle-commits v ticket l m = go (w .book .tasks v) (r .copies .tasks v l)
     where
       go : (t : Task) → TaskOk (r .b) (r .tr) (writerOf (w .state) v) (heldOf (w .state) v) (hist (7 * r .b) (r .tr) .openOf v) t
@@ -161,17 +161,17 @@ module _ (G D : ℕ) (z : Sizes G D) (w : World) (r : Running G D w) (s : Store)
     abbrev g : Given
     g = lent w [] batch v 0
 
-    ready : CommitReady g (sizeOf (commitEffect g))
+    pub ready : CommitReady g (sizeOf (commitEffect g))
     unfolding ends changeEnds commitCall
     ready =
         commit-ready g (sizeOf (commitEffect g))
         (sym (outcome-code g (commitAnswer g (sizeOf (commitEffect g))) (commitEffect g)) ∙ h)
 
-    known : v < 8
+    pub known : v < 8
     unfolding writerKnown lent
     known = ltb-true v 8 (ready .writer)
 
-    ended : ends w (commit v batch) ≡ done g (commitEffect g)
+    pub ended : ends w (commit v batch) ≡ done g (commitEffect g)
     unfolding ends changeEnds commitCall
     ended = ends-done (commitCall g) g (commitAnswer g (sizeOf (commitEffect g))) (commitEffect g) refl h
 
@@ -183,12 +183,12 @@ module _ (G D : ℕ) (z : Sizes G D) (w : World) (r : Running G D w) (s : Store)
         (λ b c₀ x. unfold feed feedChange book.commit in
         ap (lastCommitted b c₀ x) (idle-commits v (ends w (commit v batch) .figure) known (leb-false 2 (writerOf (w .state) v .mode) (unfold holds in e))))
 
-    held-effect : holds (writerOf (w .state) v) ≡ true → commitEffect g ≡ commitHeld g (writerOf (w .state) v) (nextPosition (stateOf (w .state)))
+    pub held-effect : holds (writerOf (w .state) v) ≡ true → commitEffect g ≡ commitHeld g (writerOf (w .state) v) (nextPosition (stateOf (w .state)))
     unfolding commitEffect lent
     held-effect e = rw e
 
     -- the world after it, but for its records
-    abbrev y : World
+    abbrev pub y : World
     y = after w (commit v batch) (commitHeld (lent w [] batch v 0) (writerOf (w .state) v) (nextPosition (stateOf (w .state))))
 
     held-newest : stateOf (y .state) .start ≡ stateOf (w .state) .start
@@ -200,16 +200,22 @@ module _ (G D : ℕ) (z : Sizes G D) (w : World) (r : Running G D w) (s : Store)
         rw (e, ← lent-groups G D (r .b) (r .tr) w z (r .copies) [] batch v 0, ← lent-homes G D (r .b) (r .tr) w z (r .copies) [] batch v 0)
         (unfold commitHeld keptCommit tagsOf liveBase lent in refl)
 
-    held-placed : holds (writerOf (w .state) v) ≡ true → Placed G D (afterDone w (commit v batch) (ends w (commit v batch)))
-    held-placed e =
-        let m : 2 ≤ writerOf (w .state) v .mode = unfold holds in leb-true 2 (writerOf (w .state) v .mode) e in
-        let room-ok : Roomy (w .state) v = room-true (w .state) v (unfold room commitLogs lent in ready .roomy e) in
-        let k : Closing G D w r v y = commit-closes G D z w r v known m room-ok batch in
-        let q : Placed G D y = λ x l.
+    pub held-mode : holds (writerOf (w .state) v) ≡ true → 2 ≤ writerOf (w .state) v .mode
+    unfolding holds
+    held-mode e = leb-true 2 (writerOf (w .state) v .mode) e
+
+    pub held-roomy : holds (writerOf (w .state) v) ≡ true → Roomy (w .state) v
+    held-roomy e = room-true (w .state) v (unfold room commitLogs lent in ready .roomy e)
+
+    pub placed-then : holds (writerOf (w .state) v) ≡ true → Placed G D y
+    placed-then e x l =
+        let k : Closing G D w r v y = commit-closes G D z w r v known (held-mode e) (held-roomy e) batch in
         ap (λ (n : List ℕ). keptFor n x) (held-newest (k .start))
         ∙ closing-kept G D z w r v y k (w .newest) x (a .newest (r .ready)) (rw (r .since) (p x l))
-        ∙ ap (λ (b : ℕ). keptAs (lastCommitted b (baseOf y) x (y .book .commits))) (r .since) in
-        rw (ended, held-effect e) (after-placed G D w (commit v batch) g _ q)
+        ∙ ap (λ (b : ℕ). keptAs (lastCommitted b (baseOf y) x (y .book .commits))) (r .since)
+
+    held-placed : holds (writerOf (w .state) v) ≡ true → Placed G D (afterDone w (commit v batch) (ends w (commit v batch)))
+    held-placed e = rw (ended, held-effect e) (after-placed G D w (commit v batch) g _ (placed-then e))
 
     commit-placed : Placed G D (afterDone w (commit v batch) (ends w (commit v batch)))
     commit-placed = go (holds (writerOf (w .state) v)) refl

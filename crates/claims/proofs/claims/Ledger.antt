@@ -24,6 +24,7 @@ use Rattle.model.proofs.strip.PromiseLaws.{promise-setStart, promise-setNext, p
 use Rattle.model.proofs.strip.WriterLaws.{length-setWriter, length-setHeld}
 use Rattle.model.proofs.strip.StateLaws.{length-setLast}
 use Rattle.model.proofs.strip.ListedLaws.{promise-carry}
+use Rattle.model.proofs.strip.SignLaws.{promise-keepList}
 use Rattle.model.proofs.strip.OrderLaws.{InOrder, Promises, promise-fresh}
 use Rattle.model.proofs.strip.QuestionLaws.{begin-ready, reserve-ready, may-promise, abort-ready, StoreReady, store-ready, CommitReady, commit-ready}
 use Rattle.model.proofs.trace.Trace.{Ev}
@@ -275,8 +276,8 @@ module _ (G D : ℕ) (z : Sizes G D) (granted : ℕ → ℕ) (w : World) (r : Ru
         let t = holding-task (r .b) (r .tr) (writerOf s v) (heldOf s v) _ (tasks v) (leb-true 2 (writerOf s v .mode) f) (r .copies .tasks v lv₂) in
         rw (f, t .1)
         (agree-grant granted s _ _ v 0 idle (rw (filled-tasks (w .book)) a)
-        (promise-carry _ _ _ v lv₂ ∙ promise-setPromise _ v 0 (length-setWriter _ v idleWriter ∙ length-setLast _ _ ∙ logged-size _ _) lv₂ (omega arith)) refl
-        (λ x l d. promise-carry _ _ _ x l ∙ promise-setPromise-other _ v 0 x d ∙ promise-setWriter _ v idleWriter x l ∙ promise-setLast _ _ x ∙ logged-promise _ _ x))
+        (promise-keepList _ v lv₂ ∙ promise-setPromise _ v 0 (length-setWriter _ v idleWriter ∙ length-setLast _ _ ∙ logged-size _ _) lv₂ (omega arith)) refl
+        (λ x l d. promise-keepList _ x l ∙ promise-setPromise-other _ v 0 x d ∙ promise-setWriter _ v idleWriter x l ∙ promise-setLast _ _ x ∙ logged-promise _ _ x))
 
     commit-agrees : Agree (grantTo granted v 0) (commitEffect g₂ .state) (book.commit (w .book) v figure .tasks)
     commit-agrees = go (holds (writerOf s v)) refl

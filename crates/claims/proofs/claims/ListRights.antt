@@ -10,16 +10,17 @@ use lib.Seq.{take-add, drop-drop}
 use borrow.Author.Tests.{eqb-true}
 use Rattle.model.specs.Bytes.{part}
 use Rattle.model.specs.Layout.{homeAt}
-use Rattle.model.specs.State.{listHome}
+use Rattle.model.specs.State.{listHome, listSign}
 use Rattle.model.specs.Newest.{keptFor}
 use Rattle.model.specs.Effects.{homes, keptPosition, shown}
-use Rattle.model.specs.Rights.{forHome, shownAt, readList, mayStore}
+use Rattle.model.specs.Rights.{forHome, shownAt, readList, mayStore, storeRight, Faithful}
 use Rattle.model.specs.Questions.{newestRight}
 use Rattle.model.specs.Book.{homesAfter}
 use Rattle.model.specs.History.{World, lent}
 use Rattle.model.specs.Kept.{Kept}
 use Rattle.ledger.specs.Store.{Store, listOf}
-use Rattle.model.proofs.strip.RightLaws.{shown-by, list-part, no-list-store}
+use Rattle.model.proofs.strip.RightLaws.{shown-by, list-part}
+use Rattle.model.proofs.strip.SignLaws.{store-agrees, store-none}
 
 -- ---- blocks one behind the other
 
@@ -55,12 +56,13 @@ list-found w blocks batch v h k l =
     list-part (lent w blocks batch v h) (λ i. keptFor (w .newest) (listHome + i)) (homesAfter (w .homes) (w .book .commits)) 4
     (λ i m. shown-at w blocks batch v h (listHome + i) ∙ k .blocks (listHome + i) (omega arith))
 
-store-same : (homes : ℕ) (list list′ : List ℕ) (v x : ℕ) → (listHome + 4 ≤ homes → list ≡ list′) → mayStore homes list v x ≡ mayStore homes list′ v x
-store-same homes list list′ v x f = go (decLt homes (listHome + 4))
+store-same : (sign homes : ℕ) (list list′ : List ℕ) (v x : ℕ) → (listHome + 4 ≤ homes → list ≡ list′) → (listHome + 4 ≤ homes → Faithful sign list′)
+    → storeRight sign homes list v x ≡ mayStore homes list′ v x
+store-same sign homes list list′ v x f k = go (decLt homes (listHome + 4))
   where
-    go : Dec (homes < listHome + 4) → mayStore homes list v x ≡ mayStore homes list′ v x
-    go (yes l) = no-list-store homes list list′ v x l
-    go (no l) = ap (λ (ls : List ℕ). mayStore homes ls v x) (f (omega arith))
+    go : Dec (homes < listHome + 4) → storeRight sign homes list v x ≡ mayStore homes list′ v x
+    go (yes l) = store-none sign homes list list′ v x l
+    go (no l) = ap (λ (ls : List ℕ). storeRight sign homes ls v x) (f (omega arith)) ∙ store-agrees sign list′ (k (omega arith)) homes v x
 
 -- what is lent has the world's number of homes
 pub lent-homes : (w : World) (blocks batch : List ℕ) (v h : ℕ) → Kept w → newestRight (lent w blocks batch v h) ≡ true → homes (lent w blocks batch v h) ≡ w .homes
@@ -69,7 +71,7 @@ lent-homes w blocks batch v h k e = let q = eqb-true (length (w .newest)) _ e in
 
 pub rights-same : (w : World) (s : Store) (blocks batch : List ℕ) (v h x : ℕ) → s .book ≡ w .book → s .homes ≡ w .homes → Kept w
     → newestRight (lent w blocks batch v h) ≡ true
-    → mayStore (homes (lent w blocks batch v h)) (readList (lent w blocks batch v h)) v x ≡ mayStore (s .homes) (listOf s) v x
+    → storeRight (listSign (w .state)) (homes (lent w blocks batch v h)) (readList (lent w blocks batch v h)) v x ≡ mayStore (s .homes) (listOf s) v x
 unfolding listOf
 rights-same w s blocks batch v h x eb eh k e =
-    rw (lent-homes w blocks batch v h k e, eb, eh) (store-same (w .homes) _ _ v x (λ l. list-found w blocks batch v h k l))
+    rw (lent-homes w blocks batch v h k e, eb, eh) (store-same (listSign (w .state)) (w .homes) _ _ v x (λ l. list-found w blocks batch v h k l) (k .sign))

@@ -23,12 +23,13 @@ use Rattle.model.proofs.strip.WriterLaws.{length-setWriter}
 use Rattle.model.proofs.strip.PromiseLaws.{length-setPromise}
 use Rattle.model.proofs.strip.NewestLaws.{length-entries, length-forget, kept-nothing}
 use Rattle.model.proofs.strip.ListedLaws.{listed-setNext, listed-setFilled, listed-setSettled, listed-setFenced, listed-setDurable, listed-setRound, listed-setCursor, listed-setWriter, listed-setHeld, listed-setPromise, listed-ones, listed-carry}
+use Rattle.model.proofs.strip.SignLaws.{listed-keepList}
 use Rattle.model.proofs.strip.QuestionLaws.{begin-ready, reserve-ready, abort-ready, store-ready, commit-ready}
 use Rattle.claims.proofs.invariant.Invariant.{Sizes, Running, Closed, Invariant}
 use Rattle.claims.proofs.invariant.LiveLog.{lent-homes}
 use Rattle.claims.proofs.steps.DoneLaws.{outcome-code}
 use Rattle.claims.proofs.steps.LogRuns.{logged-writers}
-use Rattle.claims.proofs.steps.NewestSteps.{quiet-newest, settle-newest, begin-round-newest, step-round-newest, read-newest, confirm-newest, open-newest}
+use Rattle.claims.proofs.steps.NewestSteps.{Quiet, quiet-newest, settle-newest, begin-round-newest, step-round-newest, read-newest, confirm-newest, open-newest}
 use Rattle.claims.proofs.claims.Yields.{ends-done}
 use Rattle.claims.proofs.claims.YieldsAll.{step-by}
 
@@ -50,7 +51,7 @@ module _ (g : Given) (i : ℕ) (l : g .writer < 8) where
   submitted-listed true slot log = listed-setFilled _ _ i ∙ listed-setNext s _ i
   submitted-listed false slot log = listed-setFilled s _ i
 
-  logged-listed : (log : List ℕ) (word : ℕ) (block : List ℕ) → listedOf (logged (g .state) log word block .state) i ≡ listedOf (g .state) i
+  pub logged-listed : (log : List ℕ) (word : ℕ) (block : List ℕ) → listedOf (logged (g .state) log word block .state) i ≡ listedOf (g .state) i
   unfolding logged
   logged-listed log word block = submitted-listed _ _ _
 
@@ -62,7 +63,7 @@ module _ (g : Given) (i : ℕ) (l : g .writer < 8) where
   unfolding reserveEffect newState
   reserve-listed n = listed-setPromise _ v n i l ∙ listed-setWriter s v _ i l
 
-  abort-listed : listedOf (abortEffect g .state) i ≡ listedOf s i
+  pub abort-listed : listedOf (abortEffect g .state) i ≡ listedOf s i
   unfolding abortEffect newState
   abort-listed = listed-setPromise _ v 0 i l ∙ listed-setWriter s v _ i l
 
@@ -100,7 +101,7 @@ module _ (g : Given) (size : length (g .state) ≡ 1024) (n : length (g .newest)
   held-carries : (r : Writer) (p : ℕ) → Listed (homes g) (commitHeld g r p .state) (commitHeld g r p .newest)
   unfolding commitHeld logClosing
   held-carries r p m i k =
-      listed-carry (homes g) _ _ i m (unfold keptCommit in length-entries _ _ (g .newest) ∙ n)
+      listed-keepList _ i m (unfold keptCommit in length-entries _ _ (g .newest) ∙ n)
       (length-setPromise _ (g .writer) 0 ∙ length-setWriter _ (g .writer) idle ∙ length-setLast _ _ ∙ logged-writers (g .state) (g .log) _ _ size .size) k
 
   abort-newest : g .newest ≡ abortEffect g .newest
@@ -136,7 +137,7 @@ module _ (g : Given) (size : length (g .state) ≡ 1024) (n : length (g .newest)
 answer-zero : (o : Outcome) (g : Given) (a : ℕ) (e : Effect) → o ≡ outcome g a e → o .code ≡ 0 → a ≡ 0
 answer-zero o g a e q h = sym (outcome-code g a e) ∙ ap (λ (x : Outcome). x .code) (sym q) ∙ h
 
-state-done : (o : Outcome) (g : Given) (a : ℕ) (e : Effect) → o ≡ outcome g a e → o .code ≡ 0 → o .state ≡ e .state
+pub state-done : (o : Outcome) (g : Given) (a : ℕ) (e : Effect) → o ≡ outcome g a e → o .code ≡ 0 → o .state ≡ e .state
 state-done o g a e q h = ap (λ (x : Outcome). x .state) (ends-done o g a e q h) ∙ (unfold done in refl)
 
 newest-done : (o : Outcome) (g : Given) (a : ℕ) (e : Effect) → o ≡ outcome g a e → o .code ≡ 0 → o .newest ≡ e .newest
@@ -150,6 +151,73 @@ whole : (g : Given) → blockRight g ≡ true → length (g .block) ≡ 64
 unfolding blockRight
 whole g h = eqb-true (length (g .block)) 64 h
 
+-- ---- a call that leaves the positions, and what lies behind them in the strip
+
+abbrev pub Untrimmed : Service → Type 0
+Untrimmed (settles batch) = Unit {0}
+Untrimmed roundBegins = Unit {0}
+Untrimmed (roundSteps k batch) = Unit {0}
+Untrimmed (trims batch) = ⊥
+Untrimmed (reads v home block) = Unit {0}
+
+module _ (w : World) (i : ℕ) where
+  pub change-stays : (c : Change) → Quiet c → ends w (change c) .code ≡ 0 → listedOf (ends w (change c) .state) i ≡ listedOf (w .state) i
+  unfolding ends changeEnds beginCall reserveCall abortCall storeCall flushCall
+  change-stays (begins v) q h =
+      let g : Given = lent w [] [] v 0 in
+      let k = begin-ready g (answer-zero (beginCall g) g (beginAnswer g) (beginEffect g) refl h) in
+      ap (λ (x : List ℕ). listedOf x i) (state-done (beginCall g) g (beginAnswer g) (beginEffect g) refl h) ∙ begin-listed g i (known g (k .1))
+      ∙ (unfold lent in refl)
+  change-stays (reserves v places) q h =
+      let g : Given = lent w [] [] v 0 in
+      let k = reserve-ready g places (answer-zero (reserveCall g places) g (reserveAnswer g places) (reserveEffect g places) refl h) in
+      ap (λ (x : List ℕ). listedOf x i) (state-done (reserveCall g places) g (reserveAnswer g places) (reserveEffect g places) refl h)
+      ∙ reserve-listed g i (known g (k .1)) places ∙ (unfold lent in refl)
+  change-stays (aborts v) q h =
+      let g : Given = lent w [] [] v 0 in
+      let k = abort-ready g (answer-zero (abortCall g) g (abortAnswer g) (abortEffect g) refl h) in
+      ap (λ (x : List ℕ). listedOf x i) (state-done (abortCall g) g (abortAnswer g) (abortEffect g) refl h) ∙ abort-listed g i (known g (k .1))
+      ∙ (unfold lent in refl)
+  change-stays (stores v home block batch) q h =
+      let g : Given = lent w block batch v home in
+      let a : ℕ = storeAnswer g (sizeOf (storeEffect g)) in
+      let k = store-ready g (sizeOf (storeEffect g)) (answer-zero (storeCall g) g a (storeEffect g) refl h) in
+      ap (λ (x : List ℕ). listedOf x i) (state-done (storeCall g) g a (storeEffect g) refl h)
+      ∙ store-listed g i (known g (k .writer)) (whole g (k .block)) ∙ (unfold lent in refl)
+  change-stays (commits v batch) q h = absurd q
+  change-stays (flushes batch) q h =
+      let g : Given = lent w [] batch 0 0 in
+      let a : ℕ = flushAnswer g (sizeOf (flushEffect g)) in
+      ap (λ (x : List ℕ). listedOf x i) (state-done (flushCall g) g a (flushEffect g) refl h) ∙ flush-listed g i ∙ (unfold lent in refl)
+
+  pub service-stays : (c : Service) → Untrimmed c → ends w (service c) .code ≡ 0 → listedOf (ends w (service c) .state) i ≡ listedOf (w .state) i
+  unfolding ends serviceEnds settleCall beginRoundCall stepRoundCall readCall
+  service-stays (settles batch) q h =
+      let g : Given = lent w [] batch 0 0 in
+      ap (λ (x : List ℕ). listedOf x i) (state-done (settleCall g) g (settleAnswer g (sizeOf (settleEffect g))) (settleEffect g) refl h)
+      ∙ (unfold settleEffect lent in (listed-setFenced _ _ i ∙ listed-setSettled (w .state) _ i))
+  service-stays roundBegins q h =
+      let g : Given = lent w [] [] 0 0 in
+      ap (λ (x : List ℕ). listedOf x i) (state-done (beginRoundCall g) g (beginRoundAnswer g) (beginRoundEffect g) refl h)
+      ∙ (unfold beginRoundEffect newState lent in (listed-setCursor _ _ i ∙ listed-setRound (w .state) _ i))
+  service-stays (roundSteps k batch) q h =
+      let g : Given = lent w [] batch 0 0 in
+      ap (λ (x : List ℕ). listedOf x i) (state-done (stepRoundCall g k) g (stepRoundAnswer g k (sizeOf (stepRoundEffect g k))) (stepRoundEffect g k) refl h)
+      ∙ step-listed g k i ∙ (unfold lent in refl)
+  service-stays (trims batch) q h = absurd q
+  service-stays (reads v home block) q h =
+      let g : Given = lent w block [] v home in
+      ap (λ (x : List ℕ). listedOf x i) (state-done (readCall g) g (readAnswer g) (readEffect g) refl h) ∙ (unfold readEffect lent in refl)
+
+  pub confirm-stays : ends w confirm .code ≡ 0 → listedOf (ends w confirm .state) i ≡ listedOf (w .state) i
+  unfolding ends confirmCall
+  confirm-stays h =
+      let g : Given = lent w [] [] 0 0 in
+      ap (λ (x : List ℕ). listedOf x i) (state-done (confirmCall g) g (confirmAnswer g) (confirmEffect g) refl h)
+      ∙ (unfold confirmEffect newState lent in listed-setDurable (w .state) _ i)
+
+-- ---- every call of an era
+
 module _ (G D : ℕ) (z : Sizes G D) (w : World) (r : Running G D w) (n : length (w .newest) ≡ 8 * D) (p : Listed D (w .state) (w .newest)) where
   -- one that leaves both
   quiet-listed : (c : Call) → ends w c .newest ≡ w .newest → ((i : ℕ) → listedOf (ends w c .state) i ≡ listedOf (w .state) i)
@@ -159,33 +227,16 @@ module _ (G D : ℕ) (z : Sizes G D) (w : World) (r : Running G D w) (n : length
   homes-are : (block batch : List ℕ) (v h : ℕ) → homes (lent w block batch v h) ≡ D
   homes-are block batch v h = lent-homes G D (r .b) (r .tr) w z (r .copies) block batch v h
 
+  quiet-change : (c : Change) → Quiet c → ends w (change c) .code ≡ 0 → Listed D (ends w (change c) .state) (ends w (change c) .newest)
+  unfolding ends
+  quiet-change c q h = quiet-listed (change c) (quiet-newest w c q) (λ i. change-stays w i c q h)
+
   change-listed : (c : Change) → ends w (change c) .code ≡ 0 → Listed D (ends w (change c) .state) (ends w (change c) .newest)
-  unfolding ends changeEnds beginCall reserveCall abortCall storeCall commitCall flushCall
-  change-listed (begins v) h =
-      let g : Given = lent w [] [] v 0 in
-      let k = begin-ready g (answer-zero (beginCall g) g (beginAnswer g) (beginEffect g) refl h) in
-      quiet-listed (change (begins v)) (quiet-newest w (begins v) tt)
-      (λ i. ap (λ (x : List ℕ). listedOf x i) (state-done (beginCall g) g (beginAnswer g) (beginEffect g) refl h) ∙ begin-listed g i (known g (k .1))
-      ∙ (unfold lent in refl))
-  change-listed (reserves v places) h =
-      let g : Given = lent w [] [] v 0 in
-      let k = reserve-ready g places (answer-zero (reserveCall g places) g (reserveAnswer g places) (reserveEffect g places) refl h) in
-      quiet-listed (change (reserves v places)) (quiet-newest w (reserves v places) tt)
-      (λ i. ap (λ (x : List ℕ). listedOf x i) (state-done (reserveCall g places) g (reserveAnswer g places) (reserveEffect g places) refl h)
-      ∙ reserve-listed g i (known g (k .1)) places ∙ (unfold lent in refl))
-  change-listed (aborts v) h =
-      let g : Given = lent w [] [] v 0 in
-      let k = abort-ready g (answer-zero (abortCall g) g (abortAnswer g) (abortEffect g) refl h) in
-      quiet-listed (change (aborts v)) (quiet-newest w (aborts v) tt)
-      (λ i. ap (λ (x : List ℕ). listedOf x i) (state-done (abortCall g) g (abortAnswer g) (abortEffect g) refl h) ∙ abort-listed g i (known g (k .1))
-      ∙ (unfold lent in refl))
-  change-listed (stores v home block batch) h =
-      let g : Given = lent w block batch v home in
-      let a : ℕ = storeAnswer g (sizeOf (storeEffect g)) in
-      let k = store-ready g (sizeOf (storeEffect g)) (answer-zero (storeCall g) g a (storeEffect g) refl h) in
-      quiet-listed (change (stores v home block batch)) (quiet-newest w (stores v home block batch) tt)
-      (λ i. ap (λ (x : List ℕ). listedOf x i) (state-done (storeCall g) g a (storeEffect g) refl h)
-      ∙ store-listed g i (known g (k .writer)) (whole g (k .block)) ∙ (unfold lent in refl))
+  unfolding ends changeEnds commitCall
+  change-listed (begins v) h = quiet-change (begins v) tt h
+  change-listed (reserves v places) h = quiet-change (reserves v places) tt h
+  change-listed (aborts v) h = quiet-change (aborts v) tt h
+  change-listed (stores v home block batch) h = quiet-change (stores v home block batch) tt h
   change-listed (commits v batch) h =
       let g : Given = lent w [] batch v 0 in
       let a : ℕ = commitAnswer g (sizeOf (commitEffect g)) in
@@ -195,29 +246,14 @@ module _ (G D : ℕ) (z : Sizes G D) (w : World) (r : Running G D w) (n : length
       (subst (λ (x : ℕ). Listed x (commitEffect g .state) (commitEffect g .newest)) d
       (commit-carries g (unfold lent in r .copies .stateSize) (subst (λ (x : ℕ). length (g .newest) ≡ 8 * x) (sym d) (unfold lent in n)) (known g (k .writer))
       (subst (λ (x : ℕ). Listed x (g .state) (g .newest)) (sym d) (unfold lent in p))))
-  change-listed (flushes batch) h =
-      let g : Given = lent w [] batch 0 0 in
-      let a : ℕ = flushAnswer g (sizeOf (flushEffect g)) in
-      quiet-listed (change (flushes batch)) (quiet-newest w (flushes batch) tt)
-      (λ i. ap (λ (x : List ℕ). listedOf x i) (state-done (flushCall g) g a (flushEffect g) refl h) ∙ flush-listed g i ∙ (unfold lent in refl))
+  change-listed (flushes batch) h = quiet-change (flushes batch) tt h
 
   service-listed : (c : Service) → ends w (service c) .code ≡ 0 → Listed D (ends w (service c) .state) (ends w (service c) .newest)
-  unfolding ends serviceEnds settleCall beginRoundCall stepRoundCall trimCall readCall
-  service-listed (settles batch) h =
-      let g : Given = lent w [] batch 0 0 in
-      quiet-listed (service (settles batch)) (settle-newest w batch)
-      (λ i. ap (λ (x : List ℕ). listedOf x i) (state-done (settleCall g) g (settleAnswer g (sizeOf (settleEffect g))) (settleEffect g) refl h)
-      ∙ (unfold settleEffect lent in (listed-setFenced _ _ i ∙ listed-setSettled (w .state) _ i)))
-  service-listed roundBegins h =
-      let g : Given = lent w [] [] 0 0 in
-      quiet-listed (service roundBegins) (begin-round-newest w)
-      (λ i. ap (λ (x : List ℕ). listedOf x i) (state-done (beginRoundCall g) g (beginRoundAnswer g) (beginRoundEffect g) refl h)
-      ∙ (unfold beginRoundEffect newState lent in (listed-setCursor _ _ i ∙ listed-setRound (w .state) _ i)))
+  unfolding ends serviceEnds trimCall
+  service-listed (settles batch) h = quiet-listed (service (settles batch)) (settle-newest w batch) (λ i. service-stays w i (settles batch) tt h)
+  service-listed roundBegins h = quiet-listed (service roundBegins) (begin-round-newest w) (λ i. service-stays w i roundBegins tt h)
   service-listed (roundSteps k batch) h =
-      let g : Given = lent w [] batch 0 0 in
-      quiet-listed (service (roundSteps k batch)) (step-round-newest w k batch)
-      (λ i. ap (λ (x : List ℕ). listedOf x i) (state-done (stepRoundCall g k) g (stepRoundAnswer g k (sizeOf (stepRoundEffect g k))) (stepRoundEffect g k) refl h)
-      ∙ step-listed g k i ∙ (unfold lent in refl))
+      quiet-listed (service (roundSteps k batch)) (step-round-newest w k batch) (λ i. service-stays w i (roundSteps k batch) tt h)
   service-listed (trims batch) h =
       let g : Given = lent w [] batch 0 0 in
       let x : ℕ = trimStart g in
@@ -228,17 +264,10 @@ module _ (G D : ℕ) (z : Sizes G D) (w : World) (r : Running G D w) (n : length
       (trim-carries g (unfold lent in r .copies .stateSize) (subst (λ (y : ℕ). length (g .newest) ≡ 8 * y) (sym d) (unfold lent in n)) x
       (subst (λ (y : ℕ). Listed y (g .state) (g .newest)) (sym d) (unfold lent in p))))
   service-listed (reads v home block) h =
-      let g : Given = lent w block [] v home in
-      quiet-listed (service (reads v home block)) (read-newest w v home block)
-      (λ i. ap (λ (x : List ℕ). listedOf x i) (state-done (readCall g) g (readAnswer g) (readEffect g) refl h) ∙ (unfold readEffect lent in refl))
+      quiet-listed (service (reads v home block)) (read-newest w v home block) (λ i. service-stays w i (reads v home block) tt h)
 
   confirm-listed : ends w confirm .code ≡ 0 → Listed D (ends w confirm .state) (ends w confirm .newest)
-  unfolding ends confirmCall
-  confirm-listed h =
-      let g : Given = lent w [] [] 0 0 in
-      quiet-listed confirm (confirm-newest w)
-      (λ i. ap (λ (x : List ℕ). listedOf x i) (state-done (confirmCall g) g (confirmAnswer g) (confirmEffect g) refl h)
-      ∙ (unfold confirmEffect newState lent in listed-setDurable (w .state) _ i))
+  confirm-listed h = quiet-listed confirm (confirm-newest w) (λ i. confirm-stays w i h)
 
   done-listed : (c : Call) → isOpening c ≡ false → ends w c .code ≡ 0 → Listed D (ends w c .state) (ends w c .newest)
   unfolding isOpening

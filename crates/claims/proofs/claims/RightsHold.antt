@@ -5,16 +5,17 @@ use mathlib.Core.List.{List, []}
 use native.Mathlib.Decide.{decLt}
 use native.Mathlib.Omega.{arith}
 use Rattle.model.specs.Layout.{homeAt}
-use Rattle.model.specs.State.{listHome, listedOf}
+use Rattle.model.specs.State.{listHome, listedOf, listSign}
 use Rattle.model.specs.Newest.{keptFor}
 use Rattle.model.specs.Effects.{Given, homes, keptPosition, shown}
-use Rattle.model.specs.Rights.{forHome, shownAt, listBy, storeList, readList, mayStore, mayRead}
+use Rattle.model.specs.Rights.{forHome, shownAt, listBy, storeList, readList, mayStore, mayRead, storeRight, readRight, Faithful}
 use Rattle.model.specs.Questions.{storeAllowed, readAllowed}
 use Rattle.model.specs.Book.{Book, homesAfter}
 use Rattle.model.specs.History.{Change, begins, reserves, aborts, stores, commits, flushes, Service, settles, roundBegins, roundSteps, trims, reads, Call, opening, confirm, change, service, World, lent}
 use Rattle.ledger.specs.Store.{Store, listOf}
 use Rattle.model.specs.Kept.{Kept}
-use Rattle.model.proofs.strip.RightLaws.{shown-by, list-by, list-part, no-list-store, no-list-read}
+use Rattle.model.proofs.strip.RightLaws.{shown-by, list-by, list-part}
+use Rattle.model.proofs.strip.SignLaws.{store-agrees, read-agrees, store-none, read-none}
 use Rattle.claims.proofs.invariant.Invariant.{Sizes, Running}
 use Rattle.claims.proofs.invariant.LiveLog.{lent-homes}
 use Rattle.claims.proofs.claims.StoreAnswers.{Agrees}
@@ -76,21 +77,31 @@ module _ (G D : ℕ) (z : Sizes G D) (w : World) (r : Running G D w) (s : Store)
   homes-are : homes g ≡ s .homes
   homes-are = lent-homes G D (r .b) (r .tr) w z (r .copies) block batch v h ∙ sym (a .homes)
 
+  -- the sign says nothing false of the abstract store's list
+  sign-right : listHome + 4 ≤ D → Faithful (listSign (w .state)) (listOf s)
+  unfolding listOf
+  sign-right m =
+      rw (a .homes, a .book, ← r .copies .homes) (k .sign (subst (λ (n : ℕ). listHome + 4 ≤ n) (sym (r .copies .homes)) m))
+
   pub store-right : storeAllowed g ≡ mayStore (s .homes) (listOf s) v h
   unfolding storeAllowed
   store-right = rw homes-are (unfold lent in go (decLt (s .homes) (listHome + 4)))
     where
-      go : Dec (s .homes < listHome + 4) → mayStore (s .homes) (storeList g) v h ≡ mayStore (s .homes) (listOf s) v h
-      go (yes l) = no-list-store (s .homes) (storeList g) (listOf s) v h l
-      go (no l) = rw (store-list (omega (arith, l, a .homes)))
+      go : Dec (s .homes < listHome + 4) → storeRight (listSign (w .state)) (s .homes) (storeList g) v h ≡ mayStore (s .homes) (listOf s) v h
+      go (yes l) = store-none (listSign (w .state)) (s .homes) (storeList g) (listOf s) v h l
+      go (no l) =
+          let m : listHome + 4 ≤ D = omega (arith, l, a .homes) in
+          rw (store-list m) (store-agrees (listSign (w .state)) (listOf s) (sign-right m) (s .homes) v h)
 
   pub read-right : readAllowed g ≡ mayRead (s .homes) (listOf s) v h
   unfolding readAllowed
   read-right = rw homes-are (unfold lent in go (decLt (s .homes) (listHome + 4)))
     where
-      go : Dec (s .homes < listHome + 4) → mayRead (s .homes) (readList g) v h ≡ mayRead (s .homes) (listOf s) v h
-      go (yes l) = no-list-read (s .homes) (readList g) (listOf s) v h l
-      go (no l) = rw (read-list (omega (arith, l, a .homes)))
+      go : Dec (s .homes < listHome + 4) → readRight (listSign (w .state)) (s .homes) (readList g) v h ≡ mayRead (s .homes) (listOf s) v h
+      go (yes l) = read-none (listSign (w .state)) (s .homes) (readList g) (listOf s) v h l
+      go (no l) =
+          let m : listHome + 4 ≤ D = omega (arith, l, a .homes) in
+          rw (read-list m) (read-agrees (listSign (w .state)) (listOf s) (sign-right m) (s .homes) v h)
 
 module _ (G D : ℕ) (z : Sizes G D) (w : World) (r : Running G D w) (s : Store) (a : Agrees G D w s) (k : Kept w) where
   change-rights : (c : Change) → ChangeRights w s c

@@ -28,6 +28,7 @@ use Rattle.model.proofs.strip.StateLaws.{withStart, withFenced, withSettled, wi
 use Rattle.model.proofs.strip.WriterLaws.{length-setWriter, length-setHeld, state-setWriter, state-setHeld}
 use Rattle.model.proofs.strip.PromiseLaws.{promise-setStart, promise-setNext, promise-setFilled, promise-setSettled, promise-setFenced, promise-setDurable, promise-setLast, promise-setWriter, promise-setHeld, state-setPromise, promise-setPromise, promise-setPromise-other, promise-most}
 use Rattle.model.proofs.strip.ListedLaws.{state-carry, promise-carry}
+use Rattle.model.proofs.strip.SignLaws.{state-keepList, promise-keepList}
 use Rattle.model.proofs.strip.OrderLaws.{InOrder, state-fresh, promise-fresh}
 use Rattle.model.proofs.strip.NewestLaws.{length-nothing}
 use Rattle.model.proofs.strip.QuestionLaws.{reserve-ready, may-promise, abort-ready, store-ready, commit-ready, trim-ready, open-ready}
@@ -163,7 +164,7 @@ module _ (G D : ℕ) (z : Sizes G D) (w : World) (r : Running G D w) (s : Store)
       let ad = advanced word (heldOf (w .state) v) in
       let q : p ≡ 7 * st .next + st .filled = unfold nextPosition in refl in
       subst (λ (q : State). Numbers (numbered s (s .start) (s .settled) (s .fenced) (s .durable) (p + 1) ps b) q)
-      (sym (state-carry _ _ (setPromise (setWriter (setLast after (p + 1)) v idle) v 0) ∙ state-setPromise (setWriter (setLast after (p + 1)) v idle) v 0 wk ∙ state-setWriter (setLast after (p + 1)) v idle
+      (sym (state-keepList _ ∙ state-setPromise (setWriter (setLast after (p + 1)) v idle) v 0 wk ∙ state-setWriter (setLast after (p + 1)) v idle
       ∙ state-setLast after (p + 1) (logged-size word (heldOf (w .state) v)) (omega (arith, next-small, q, o .filled-most))))
       (numbers-as s ps b (s .start) (s .settled) (s .fenced) (s .durable) (p + 1) (withLast (stateOf after) (p + 1)) (n .start ∙ sym (ad .start))
       (n .settled ∙ sym (ad .settled)) (n .fenced ∙ sym (ad .fenced)) (n .durable ∙ sym (ad .durable)) refl (n .round ∙ sym (ad .round)) (n .cursor ∙ sym (ad .cursor)))
@@ -370,7 +371,7 @@ module _ (G D : ℕ) (z : Sizes G D) (w : World) (r : Running G D w) (s : Store)
       set-promise (setWriter (setLast after (p + 1)) v idle) v 0 x
       (length-setWriter (setLast after (p + 1)) v idle ∙ length-setLast after (p + 1) ∙ k .size) lv (omega arith) lx
       (λ y m. promise-setWriter (setLast after (p + 1)) v idle y m ∙ promise-setLast after (p + 1) y ∙ k .promise y)
-      ∙ sym (promise-carry _ _ (setPromise (setWriter (setLast after (p + 1)) v idle) v 0) x lx)
+      ∙ sym (promise-keepList _ x lx)
 
   commit-promises : (v : ℕ) (batch : List ℕ) (x : ℕ) → v < 8 → x < 8
       → setFor (s .promises) v 0 x ≡ promiseOf (commitEffect (lent w [] batch v 0) .state) x

@@ -32,23 +32,7 @@ use Rattle.claims.proofs.invariant.Invariant.{Sizes, Sound, SoundAt, Ho
 use Rattle.claims.proofs.invariant.SettledLaws.{settled-same, settled-most}
 use Rattle.claims.proofs.steps.WriterSteps.{each-writer}
 use Rattle.model.proofs.strip.LoggingLaws.{length-entered}
-
--- the numbers of the strip once an entry is logged
-pub record Advance (st st′ : State) (final : ℕ) : Type 0 where
-  pub groups : st′ .groups ≡ st .groups
-  pub homes : st′ .homes ≡ st .homes
-  pub start : st′ .start ≡ st .start
-  pub settled : st′ .settled ≡ st .settled
-  pub fenced : st′ .fenced ≡ st .fenced
-  pub durable : st′ .durable ≡ st .durable
-  pub last : st′ .last ≡ final
-  pub round : st′ .round ≡ st .round
-  pub cursor : st′ .cursor ≡ st .cursor
-  pub moved : ((st .filled < 6) × (st′ .next ≡ st .next) × (st′ .filled ≡ st .filled + 1)) ⊎ ((st .filled ≡ 6) × (st′ .next ≡ st .next + 1) × (st′ .filled ≡ 0))
-
-pub advance-position : (st st′ : State) (last : ℕ) → Advance st st′ last → nextPosition st′ ≡ nextPosition st + 1
-unfolding nextPosition
-advance-position st st′ last a = ⊎-elim (λ h. omega arith) (λ h. omega arith) (a .moved)
+pub use Rattle.model.proofs.strip.LoggingLaws.{Advance, advance-position, logged-numbers}
 
 -- a strip that logging left: the writers' records, blocks and promises as they were
 pub record Kept-writers (s t : List ℕ) : Type 0 where
@@ -74,22 +58,6 @@ logged-writers s log word block h = go (eqb (stateOf s .filled) 6)
       held = λ x. held-setFilled s (stateOf s .filled + 1) x;
       promise = λ x. promise-setFilled s (stateOf s .filled + 1) x;
     }
-
-pub logged-numbers : (s log : List ℕ) (word : ℕ) (block : List ℕ) → length s ≡ 1024 → stateOf s .filled ≤ 6 → stateOf s .next < 2 ^ 62
-    → Advance (stateOf s) (stateOf (logged s log word block .state)) (stateOf s .last)
-unfolding logged submitted
-logged-numbers s log word block h f n = go (eqb (stateOf s .filled) 6) refl
-  where
-    go : (t : Bool) → eqb (stateOf s .filled) 6 ≡ t
-        → Advance (stateOf s) (stateOf (submitted t s (stateOf s) (stateOf s .next % stateOf s .groups) (entered (stateOf s) (stateOf s .next % stateOf s .groups) log word block) .state)) (stateOf s .last)
-    go true e =
-        let q = eqb-true (stateOf s .filled) 6 e in
-        rw (state-setFilled (setNext s (stateOf s .next + 1)) 0 (length-setNext s (stateOf s .next + 1) ∙ h) (omega arith), state-setNext s (stateOf s .next + 1) h (omega arith))
-        (record { groups = refl; homes = refl; start = refl; settled = refl; fenced = refl; durable = refl; last = refl; round = refl; cursor = refl; moved = inr (q, refl, refl) })
-    go false e =
-        let q = eqb-false (stateOf s .filled) 6 e in
-        rw (state-setFilled s (stateOf s .filled + 1) h (omega arith))
-        (record { groups = refl; homes = refl; start = refl; settled = refl; fenced = refl; durable = refl; last = refl; round = refl; cursor = refl; moved = inl (omega arith, refl, refl) })
 
 pub logged-log : (s log : List ℕ) (word : ℕ) (block : List ℕ)
     → logged s log word block .log ≡ entered (stateOf s) (stateOf s .next % stateOf s .groups) log word block

@@ -147,7 +147,7 @@ owed-closed mark bound (c ∷ cs) = rw (owed-closed mark bound cs) (go (lib.Dec.
     go true = refl
     go false = refl
 
-owed-writes : (mark : ℕ) (cs : List Commit) (A : List ℕ) → writeCommits (owedBy mark cs) A ≡ writeCommits cs A
+pub owed-writes : (mark : ℕ) (cs : List Commit) (A : List ℕ) → writeCommits (owedBy mark cs) A ≡ writeCommits cs A
 unfolding owedBy writeCommits
 owed-writes mark [] A = refl
 owed-writes mark (c ∷ cs) A = owed-writes mark cs _

@@ -14,7 +14,7 @@ use Rattle.model.specs.Layout.{groupAt, headerStart}
 use Rattle.model.specs.State.{stateOf, setLast, nextPosition, writerOf, setWriter, heldOf, setHeld, promiseOf, setPromise, promiseLeft, promised, places, firstFor, countFor, logging, idle}
 use Rattle.model.specs.declared.State.{State}
 use Rattle.model.specs.declared.Writer.{Writer}
-use Rattle.model.specs.Newest.{carryListed}
+use Rattle.model.specs.Rights.{keepList}
 use Rattle.model.specs.Effects.{Given, Effect, homes, Logged, entered, logged, logHeld, storeOther, linkFrom, logClosing, commitHeld}
 use Rattle.model.specs.Batch.{Record, GW, FN}
 use Rattle.model.specs.Crash.{Memory}
@@ -24,12 +24,12 @@ use Rattle.model.specs.Demands.{closedBelow}
 use Rattle.model.specs.History.{Call, World, lent, feed, isConfirm, store, commit, feedChange}
 use Rattle.model.proofs.strip.StateLaws.{state-setLast, length-setLast, writer-setLast, held-setLast}
 use Rattle.model.proofs.strip.WriterLaws.{length-setWriter, length-setHeld, state-setWriter, writer-setWriter, writer-setWriter-other, held-setWriter, state-setHeld, writer-setHeld, held-setHeld, held-setHeld-other, fits-idle, fits-logging}
-use Rattle.model.proofs.strip.ListedLaws.{length-carry, state-carry, writer-carry, held-carry, promise-carry}
+use Rattle.model.proofs.strip.SignLaws.{length-keepList, state-keepList, writer-keepList, held-keepList, promise-keepList}
 use Rattle.model.proofs.strip.OrderLaws.{InOrder, WriterInOrder, Promises, place-below}
 use Rattle.model.proofs.strip.QuestionLaws.{Roomy}
 use Rattle.model.proofs.strip.PromiseLaws.{promise-setLast, promise-setWriter, promise-setHeld, length-setPromise, state-setPromise, writer-setPromise, held-setPromise, promise-setPromise, promise-setPromise-other, promise-most}
-use Rattle.model.proofs.trace.Trace.{Ev, Hist, mine, hist, firstOf, tagAt, tagOf, linkIn, closerOf, oldestOf, Apart, LinkOk, Linked}
-use Rattle.model.proofs.trace.TraceLaws.{tagAt-here, done-rising, all-map}
+use Rattle.model.proofs.trace.Trace.{Ev, Hist, mine, hist, firstOf, blockOn, tagAt, tagOf, linkIn, closerOf, oldestOf, Apart, LinkOk, Linked}
+use Rattle.model.proofs.trace.TraceLaws.{tagAt-here, blockOn-older, done-rising, all-map}
 use Rattle.model.proofs.trace.LinkLaws.{linked-more, linked-ext, lastFrom}
 use Rattle.claims.proofs.invariant.GrowLaws.{open-done, open-mine, close-done, close-mine, commits-open, commits-close, entries-here, mine-below, closed-snoc}
 use Rattle.claims.proofs.invariant.GrowImages.{apart-snoc, closers-older, image-open, image-close}
@@ -338,34 +338,41 @@ module _ (G D : ℕ) (z : Sizes G D) (w : World) (R : Running G D w) (v : ℕ) (
     size₄ : length s₄ ≡ 1024
     size₄ = length-setWriter s₂ v idle ∙ size₂
 
-    -- the positions of the list's homes are carried over
-    abbrev s₅ : List ℕ
-    s₅ = carryListed (homes (lent w [] batch v 0)) (y .newest) (setPromise s₄ v 0)
+    -- what is kept of the list of rights
+    abbrev pub left-by : Given
+    left-by =
+        record { state = setPromise (setWriter (setLast (lc .state) (P + 1)) v idle) v 0; newest = y .newest; log = y .log; area = y .area; block = []; batch = []; writer = 0; home = 0 }
 
-    c-state-is : y .state ≡ s₅
+    abbrev s₅ : List ℕ
+    s₅ = keepList left-by
+
+    pub c-state-is : y .state ≡ s₅
     unfolding commitHeld logClosing lent
     c-state-is = refl
 
+    pub left-size : length (left-by .state) ≡ 1024
+    left-size = length-setPromise s₄ v 0 ∙ size₄
+
     size₅ : length s₅ ≡ 1024
-    size₅ = length-carry _ _ (setPromise s₄ v 0) ∙ length-setPromise s₄ v 0 ∙ size₄
+    size₅ = length-keepList left-by ∙ length-setPromise s₄ v 0 ∙ size₄
 
     c-numbers : stateOf (y .state) ≡ stateOf s₂
-    c-numbers = rw c-state-is (state-carry _ _ (setPromise s₄ v 0) ∙ state-setPromise s₄ v 0 l ∙ state-setWriter s₂ v idle)
+    c-numbers = rw c-state-is (state-keepList left-by ∙ state-setPromise s₄ v 0 l ∙ state-setWriter s₂ v idle)
 
     c-writer : writerOf (y .state) v ≡ idle
-    c-writer = rw c-state-is (writer-carry _ _ (setPromise s₄ v 0) v l ∙ writer-setPromise s₄ v 0 v l ∙ writer-setWriter s₂ v idle size₂ l fits-idle)
+    c-writer = rw c-state-is (writer-keepList left-by v l ∙ writer-setPromise s₄ v 0 v l ∙ writer-setWriter s₂ v idle size₂ l fits-idle)
 
     c-writers : (x : ℕ) → x < 8 → (x ≡ v → ⊥) → writerOf (y .state) x ≡ writerOf (w .state) x
     c-writers x k n =
-        rw c-state-is (writer-carry _ _ (setPromise s₄ v 0) x k ∙ writer-setPromise s₄ v 0 x l ∙ writer-setWriter-other s₂ v idle x n ∙ writer-setLast (lc .state) (P + 1) x ∙ keeps _ .writer x)
+        rw c-state-is (writer-keepList left-by x k ∙ writer-setPromise s₄ v 0 x l ∙ writer-setWriter-other s₂ v idle x n ∙ writer-setLast (lc .state) (P + 1) x ∙ keeps _ .writer x)
 
     c-promises : (x : ℕ) → x < 8 → (x ≡ v → ⊥) → promiseOf (y .state) x ≡ promiseOf (w .state) x
     c-promises x m n =
         rw c-state-is
-        (promise-carry _ _ (setPromise s₄ v 0) x m ∙ promise-setPromise-other s₄ v 0 x n ∙ promise-setWriter s₂ v idle x m ∙ promise-setLast (lc .state) (P + 1) x ∙ keeps _ .promise x)
+        (promise-keepList left-by x m ∙ promise-setPromise-other s₄ v 0 x n ∙ promise-setWriter s₂ v idle x m ∙ promise-setLast (lc .state) (P + 1) x ∙ keeps _ .promise x)
 
     c-promise : promiseOf (y .state) v ≡ 0
-    c-promise = rw c-state-is (promise-carry _ _ (setPromise s₄ v 0) v l ∙ promise-setPromise s₄ v 0 size₄ l (omega arith))
+    c-promise = rw c-state-is (promise-keepList left-by v l ∙ promise-setPromise s₄ v 0 size₄ l (omega arith))
 
     c-adv : Advance st (stateOf (y .state)) (P + 1)
     c-adv =
@@ -434,7 +441,7 @@ module _ (G D : ℕ) (z : Sizes G D) (w : World) (R : Running G D w) (v : ℕ) (
     unfolding event commitHeld lent withTask addCommit
     c-copies =
         copies-logged G D b tr w y v e₁ book.idle (P + 1) z c l roomy refl refl (sound-event true lk lk-small) c-adv (rw c-state-is size₅) c-writers
-        (λ x k n. rw c-state-is (held-carry _ _ (setPromise s₄ v 0) x k ∙ held-setPromise s₄ v 0 x l ∙ held-setWriter s₂ v idle x ∙ held-setLast (lc .state) (P + 1) x ∙ keeps _ .held x))
+        (λ x k n. rw c-state-is (held-keepList left-by x k ∙ held-setPromise s₄ v 0 x l ∙ held-setWriter s₂ v idle x ∙ held-setLast (lc .state) (P + 1) x ∙ keeps _ .held x))
         (rw c-writer (order-idle _)) c-in-order (rw c-writer (inl ((unfold idle in refl), refl))) refl c-log refl
         (ap (λ (k : Book). k .tasks v) c-book ∙ task-here (addCommit (filledUp (w .book)) cm) v book.idle)
         (λ x n. ap (λ (k : Book). k .tasks x) c-book ∙ task-other (addCommit (filledUp (w .book)) cm) v x book.idle n ∙ ap (λ (f : ℕ → Task). f x) (filled-tasks (w .book)))
@@ -466,6 +473,11 @@ module _ (G D : ℕ) (z : Sizes G D) (w : World) (R : Running G D w) (v : ℕ) (
               (λ k fs hs ff i. rw c-commits (image-close G D b (w .memory .log) e₁ tr (R .old) (w .book .commits) k fs cm refl refl (sym (entry-is true lk)) (omega (arith, position)) ff (λ lt. omega (arith, low-first true lk)) i));
           confirmed = confirmed-more G b w y _ (R .confirmed) c-pending refl (omega (arith, c-adv .fenced)) (λ bound o. rw c-commits (owed-snoc bound (w .book .commits) cm refl o));
         }
+
+    -- the trace has what it had at the earlier positions
+    pub commit-older : (q : ℕ) → q < P → blockOn (7 * commit-held-runs .b) (commit-held-runs .tr) q ≡ blockOn (7 * b) tr q
+    unfolding commit-held-runs
+    commit-older q h = blockOn-older (7 * b) e₁ tr q (omega (arith, position))
 
     pub commit-closes : Closing G D w R v y
     commit-closes =

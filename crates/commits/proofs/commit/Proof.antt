@@ -1,5 +1,6 @@
 -- `commits::commit` meets its contract. Assumes nothing.
 use native.Mathlib.Omega.{arith}
+use Rattle.commits.proofs.ClosingLaws.{closing-own, committed-own}
 use Rattle.commits.proofs.CommitLaws.{ends-refused, known, ends-none, held, ends-held}
 use borrow.Author.Needs.{needs}
 use Rattle.commits.proofs.commit.Statement.{statement}
@@ -71,9 +72,10 @@ add-ticket c =
     let k = held _ _ _ _ _ _ _ (c .before .before .before .before .before .before .before .before .commit-verdict .ensures) (c .before .before .before .before .before .before .before .if1 .left) _ _ _ (c .before .before .before .before .before .writer .ensures) (c .before .before .before .before .holds .ensures) (c .before .before .before .if2 .left) (c .before .state2 .ensures) in
     omega (arith, k .1 .high, c .next-position .ensures)
 
-commit-held-requires : tie.Need-commit-held-requires
-commit-held-requires c κs =
-    held _ _ _ _ _ _ _ (c .before .before .before .before .before .before .before .before .before .before .before .before .commit-verdict .ensures) (c .before .before .before .before .before .before .before .before .before .before .before .if1 .left) _ _ _ (c .before .before .before .before .before .before .before .before .before .writer .ensures) (c .before .before .before .before .before .before .before .before .holds .ensures) (c .before .before .before .before .before .before .before .if2 .left) (c .before .before .before .before .before .state2 .ensures)
+commit-next-requires : tie.Need-commit-next-requires
+commit-next-requires c κs =
+    closing-own _ _ _ (c .before .before .before .before .before .before .before .before .before .before .before .before .before .before .before .before .before .before .before .before .before .before .args .newest .now) (c .before .before .before .before .before .before .before .before .before .before .before .before .before .before .before .before .before .before .before .before .before .before .args .area .now) _ _ _ (c .before .before .before .before .before .state2 .ensures) (c .before .before .before .before .before .before .before .before .before .writer .ensures)
+    (held _ _ _ _ _ _ _ (c .before .before .before .before .before .before .before .before .before .before .before .before .commit-verdict .ensures) (c .before .before .before .before .before .before .before .before .before .before .before .if1 .left) _ _ _ (c .before .before .before .before .before .before .before .before .before .writer .ensures) (c .before .before .before .before .before .before .before .before .holds .ensures) (c .before .before .before .before .before .before .before .if2 .left) (c .before .before .before .before .before .state2 .ensures))
 
 done-requires-2 : tie.Need-done-requires-2
 done-requires-2 c κs = search needs
@@ -93,7 +95,7 @@ same-length-12 c = search needs
 returns-3 : tie.Need-returns-3
 returns-3 c =
     ends-held _ _ _ _ _ _ _ (c .before .before .before .before .before .before .before .before .before .before .before .before .before .before .before .before .before .before .before .before .before .before .commit-verdict .ensures) (c .before .before .before .before .before .before .before .before .before .before .before .before .before .before .before .before .before .before .before .before .before .if1 .left) _ _ _ _ _ _ _ _ _ _ _ _ (c .before .before .before .before .before .before .before .before .before .before .before .before .before .before .before .before .before .before .before .writer .ensures) (c .before .before .before .before .before .before .before .before .before .before .before .before .before .before .before .before .before .before .holds .ensures) (c .before .before .before .before .before .before .before .before .before .before .before .before .before .before .before .before .before .if2 .left)
-    (c .before .before .before .before .before .before .before .before .before .before .before .before .before .before .before .state2 .ensures) (c .before .before .before .before .before .before .before .before .before .before .before .before .before .before .next-position .ensures) (c .before .before .before .before .before .before .before .before .before .commit-held .ensures) (c .done2 .ensures)
+    (c .before .before .before .before .before .before .before .before .before .before .before .before .before .before .before .state2 .ensures) (c .before .before .before .before .before .before .before .before .before .before .before .before .before .before .next-position .ensures) (committed-own _ _ _ _ _ _ _ _ (c .before .before .before .before .before .before .before .before .before .before .before .before .before .before .before .state2 .ensures) (c .before .before .before .before .before .before .before .before .before .before .before .before .before .before .before .before .before .before .before .writer .ensures) _ _ _ _ _ (c .before .before .before .before .before .before .before .before .before .commit-next .ensures)) (c .done2 .ensures)
 
 pub commit-spec : {M : Type 1} → statement M
 commit-spec =
@@ -118,7 +120,7 @@ commit-spec =
     state-requires
     next-position-requires
     add-ticket
-    commit-held-requires
+    commit-next-requires
     done-requires-2
     same-length-9
     same-length-10

@@ -2,9 +2,9 @@
 use mathlib.Core.Path.{_≡_, refl}
 use mathlib.Core.Bool.{true}
 use Rattle.model.specs.Trials.{allMatch}
-use Rattle.model.specs.Guarded.{laidDown, reopened, moments}
+use Rattle.model.specs.Guarded.{laidDown, reopened, again, moments}
 use Rattle.model.proofs.answers.Computing.{all-definitions}
 
 pub guarded-so : allMatch moments ≡ true
-unfolding all-definitions allMatch laidDown reopened moments
+unfolding all-definitions allMatch laidDown reopened again moments
 guarded-so = refl

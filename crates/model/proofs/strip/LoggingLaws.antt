@@ -1,20 +1,21 @@
 -- What logging needs of strip and log copy: where a transaction's first position and count stand, how long a link, a held block and the log are, and
--- when a batch is long enough.
+-- when a batch is long enough; and the numbers of the strip after it.
 use mathlib.Core.Path.{_≡_, refl, _∙_}
-use mathlib.Core.Logic.{_⊎_, inl, inr}
+use mathlib.Core.Logic.{_⊎_, inl, inr, ⊎-elim}
 use mathlib.Core.Bool.{Bool, true, false, cond}
 use mathlib.Core.List.{List}
-use Prim.Native.Nat.{ℕ, _+_, _*_, _^_, _≤_, _<_}
+use Prim.Native.Nat.{ℕ, _+_, _*_, _%_, _^_, _≤_, _<_}
 use native.Mathlib.Omega.{arith}
 use lib.ListN.{length}
 use lib.Dec.{eqb, leb}
-use borrow.Author.Tests.{leb-true, eq-eqb, ne-eqb}
+use borrow.Author.Tests.{leb-true, eqb-true, eqb-false, eq-eqb, ne-eqb}
 use Rattle.model.specs.Layout.{putBlank}
-use Rattle.model.specs.State.{State, Writer, nextPosition, heldOf, hasLogged, firstFor, countFor}
-use Rattle.model.specs.Effects.{Given, linkFrom, entered}
+use Rattle.model.specs.State.{State, Writer, stateOf, setNext, setFilled, nextPosition, heldOf, hasLogged, firstFor, countFor}
+use Rattle.model.specs.Effects.{Given, linkFrom, entered, submitted, logged}
 use Rattle.model.specs.Questions.{batchFits}
 use Rattle.model.proofs.bytes.ByteLaws.{length-part}
 use Rattle.model.proofs.bytes.LayoutLaws.{length-putBlank, length-putEntry}
+use Rattle.model.proofs.strip.StateLaws.{state-setNext, state-setFilled, length-setNext, length-setFilled}
 use Rattle.model.proofs.strip.OrderLaws.{WriterInOrder}
 
 -- where a transaction's first position and count stand
@@ -55,3 +56,46 @@ length-entered st slot log word block = length-putEntry _ slot _ (st .filled) wo
 pub fits : (g : Given) (size : ℕ) → batchFits g size ≡ true → size ≤ length (g .batch)
 unfolding batchFits
 fits g size h = leb-true size (length (g .batch)) h
+
+-- the numbers of the strip once an entry is logged
+pub record Advance (st st′ : State) (final : ℕ) : Type 0 where
+  pub groups : st′ .groups ≡ st .groups
+  pub homes : st′ .homes ≡ st .homes
+  pub start : st′ .start ≡ st .start
+  pub settled : st′ .settled ≡ st .settled
+  pub fenced : st′ .fenced ≡ st .fenced
+  pub durable : st′ .durable ≡ st .durable
+  pub last : st′ .last ≡ final
+  pub round : st′ .round ≡ st .round
+  pub cursor : st′ .cursor ≡ st .cursor
+  pub moved : ((st .filled < 6) × (st′ .next ≡ st .next) × (st′ .filled ≡ st .filled + 1)) ⊎ ((st .filled ≡ 6) × (st′ .next ≡ st .next + 1) × (st′ .filled ≡ 0))
+
+pub advance-position : (st st′ : State) (last : ℕ) → Advance st st′ last → nextPosition st′ ≡ nextPosition st + 1
+unfolding nextPosition
+advance-position st st′ last a = ⊎-elim (λ h. omega arith) (λ h. omega arith) (a .moved)
+
+pub logged-numbers : (s log : List ℕ) (word : ℕ) (block : List ℕ) → length s ≡ 1024 → stateOf s .filled ≤ 6 → stateOf s .next < 2 ^ 62
+    → Advance (stateOf s) (stateOf (logged s log word block .state)) (stateOf s .last)
+unfolding logged submitted
+logged-numbers s log word block h f n = go (eqb (stateOf s .filled) 6) refl
+  where
+    go : (t : Bool) → eqb (stateOf s .filled) 6 ≡ t
+        → Advance (stateOf s) (stateOf (submitted t s (stateOf s) (stateOf s .next % stateOf s .groups) (entered (stateOf s) (stateOf s .next % stateOf s .groups) log word block) .state)) (stateOf s .last)
+    go true e =
+        let q = eqb-true (stateOf s .filled) 6 e in
+        rw (state-setFilled (setNext s (stateOf s .next + 1)) 0 (length-setNext s (stateOf s .next + 1) ∙ h) (omega arith), state-setNext s (stateOf s .next + 1) h (omega arith))
+        (record { groups = refl; homes = refl; start = refl; settled = refl; fenced = refl; durable = refl; last = refl; round = refl; cursor = refl; moved = inr (q, refl, refl) })
+    go false e =
+        let q = eqb-false (stateOf s .filled) 6 e in
+        rw (state-setFilled s (stateOf s .filled + 1) h (omega arith))
+        (record { groups = refl; homes = refl; start = refl; settled = refl; fenced = refl; durable = refl; last = refl; round = refl; cursor = refl; moved = inl (omega arith, refl, refl) })
+
+pub logged-length : (s log : List ℕ) (word : ℕ) (block : List ℕ) → length (logged s log word block .state) ≡ length s
+unfolding logged submitted
+logged-length s log word block = go (eqb (stateOf s .filled) 6)
+  where
+    go : (t : Bool)
+        → length (submitted t s (stateOf s) (stateOf s .next % stateOf s .groups) (entered (stateOf s) (stateOf s .next % stateOf s .groups) log word block) .state)
+        ≡ length s
+    go true = length-setFilled (setNext s (stateOf s .next + 1)) 0 ∙ length-setNext s (stateOf s .next + 1)
+    go false = length-setFilled s (stateOf s .filled + 1)

@@ -7,12 +7,11 @@ use Prim.Native.Nat.{ℕ, zero, suc, _+_, _*_, _≤_, _<_}
 use native.Mathlib.Omega.{arith}
 use lib.ListN.{length, take, drop}
 use lib.Seq.{drop-drop, take-add}
-use borrow.Author.Tests.{lt-leb}
 use Rattle.model.specs.Bytes.{part}
 use Rattle.model.specs.Layout.{homeAt}
 use Rattle.model.specs.State.{listHome}
 use Rattle.model.specs.Effects.{Given, liveBase, liveTags, tagsOf, isThere, blockOr}
-use Rattle.model.specs.Rights.{forHome, shownAt, listBy, ofList, isList, mayStore, mayRead}
+use Rattle.model.specs.Rights.{forHome, shownAt, listBy}
 
 -- what a home shows at a position hangs on the state strip, the copies and the home alone
 pub shown-by : (g : Given) (newest block batch : List ℕ) (writer p : ℕ)
@@ -49,13 +48,3 @@ list-part g kept area (suc n) f =
     let e : 64 * suc n ≡ 64 * n + 64 = omega arith in
     let q : 64 * (listHome + n) ≡ 64 * listHome + 64 * n = omega arith in
     rw (list-part g kept area n (λ i l. f i (omega arith)), f n (omega arith), e, q) (sym (part-both area (64 * listHome) (64 * n) 64))
-
--- ---- where D is too small for a list, none counts
-
-pub no-list-store : (homes : ℕ) (a b : List ℕ) (writer home : ℕ) → homes < listHome + 4 → mayStore homes a writer home ≡ mayStore homes b writer home
-unfolding mayStore isList
-no-list-store homes a b writer home l = rw (lt-leb (listHome + 4) homes l)
-
-pub no-list-read : (homes : ℕ) (a b : List ℕ) (writer home : ℕ) → homes < listHome + 4 → mayRead homes a writer home ≡ mayRead homes b writer home
-unfolding mayRead isList
-no-list-read homes a b writer home l = rw (lt-leb (listHome + 4) homes l)

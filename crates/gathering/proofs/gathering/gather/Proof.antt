@@ -1,15 +1,15 @@
 -- `gathering::gather` meets its contract. The loop's invariant: the pass has taken all positions but `left`, and `at` is the ring slot of group
 -- `number`, the next one. Assumes nothing.
-use mathlib.Core.Path.{_≡_, refl, ap, _∙_}
+use mathlib.Core.Path.{_≡_, refl, sym, _∙_}
 use Prim.Native.Nat.{ℕ, _+_, _-_, _*_, _≤_, _<_}
 use native.Mathlib.Omega.{arith}
-use lib.ListN.{length, length-take, length-drop, length-replicate}
+use lib.ListN.{length, length-take, length-drop}
 use Rattle.model.specs.Layout.{entryAt}
 use Rattle.scan.specs.Scan.{over}
 use Rattle.scan.specs.Slots.{Kept}
 use Rattle.scan.proofs.PassLaws.{log-turn}
 use Rattle.gathering.specs.Chains.{Chains, fresh, note}
-use Rattle.gathering.proofs.ChainLaws.{chained-none, chained-all, none-over}
+use Rattle.gathering.proofs.ChainLaws.{empty-words, empty-each, chained-none, chained-all, none-over}
 use Rattle.gathering.proofs.gathering.gather.Statement.{statement}
 use Rattle.gathering.proofs.gathering.gather.Tie as tie
 
@@ -17,14 +17,14 @@ abbrev Inv-loop : tie.InvT-loop
 Inv-loop log last₀ heads₀ links₀ groups homes start end base left₀ number₀ at₀ last heads links left number at =
     (
     _≡_ {A = Chains} (record { last = last; heads = heads; links = links })
-    (over (note (7 * start)) (entryAt log groups homes start) (7 * start) (end - 7 * start - left) fresh)
+    (over (note (7 * start)) (entryAt log groups homes start) (7 * start) (end - 7 * start - left) (fresh (length last₀)))
     )
     × (left ≤ end - 7 * start)
     × Kept groups number at
     × (0 < left → 7 * start + (end - 7 * start - left) ≡ 7 * number)
-    × (length last ≡ 7168)
-    × (length heads ≡ 1024)
-    × (length links ≡ 7168)
+    × (length last ≡ length last₀)
+    × (length heads ≡ length heads₀)
+    × (length links ≡ length links₀)
 
 abbrev μ-loop : tie.MeasureT-loop
 μ-loop log last₀ heads₀ links₀ groups homes start end base left₀ number₀ at₀ last heads links left number at = left
@@ -33,7 +33,7 @@ mul-base : tie.Need-mul-base Inv-loop μ-loop
 mul-base c = omega arith
 
 returns : tie.Need-returns Inv-loop μ-loop
-returns c = let p = c .before .before .before .before .before .pre in chained-none _ _ _ _ _ _ _ _ (p .1) (c .if1 .taken) (p .2) (p .3) (p .4)
+returns c = let p = c .before .before .before .before .before .pre in chained-none _ _ _ _ _ _ _ _ (p .1) (c .if1 .taken) (p .2)
 
 sub-left : tie.Need-sub-left Inv-loop μ-loop
 sub-left c = omega arith
@@ -44,13 +44,13 @@ first-slot-requires c κs = omega (arith, c .before .before .before .before .bef
 loop-holds : tie.Need-loop-holds Inv-loop μ-loop
 loop-holds c =
     let p = c .before .before .before .before .before .before .pre in (
-      none-over _ _ _ _ _ _ (omega arith) (p .2) (p .3) (p .4),
+      none-over _ _ _ _ _ _ _ (omega arith) (p .2),
       omega arith,
       c .first-slot .ensures,
       λ h. omega arith,
-      ap length (p .2) ∙ length-replicate {A = ℕ} 7168 0,
-      ap length (p .3) ∙ length-replicate {A = ℕ} 1024 0,
-      ap length (p .4) ∙ length-replicate {A = ℕ} 7168 0,
+      refl,
+      refl,
+      refl,
     )
 
 -- the next group's positions come next
@@ -82,7 +82,9 @@ in-group-requires c κs = tt
 visit-group-requires : tie.Need-visit-group-requires Inv-loop μ-loop
 visit-group-requires c κs =
     let l = c .before .before .before .before .before in
-    let i = l .before .loop .inv in (
+    let i = l .before .loop .inv in
+    let p = c .before .before .before .before .before .before .before .before .before .before .before .before .before .pre in
+    let e = p .2 in (
       simp (length-take, length-drop) (omega arith),
       omega arith,
       omega arith,
@@ -90,7 +92,13 @@ visit-group-requires c κs =
       omega (arith, next l),
       i .2 .turn,
       omega (arith, c .before .before .before .in-group .ensures),
-      record { few = c .before .before .before .before .before .before .before .before .before .before .before .before .before .pre .1; lasts = i .4; words = i .5; each = i .6 },
+      omega (arith, i .4, e .long),
+      record {
+        few = p .1;
+        lasts = refl;
+        words = i .5 ∙ empty-words _ _ _ _ e;
+        each = i .6 ∙ empty-each _ _ _ _ e ∙ sym (i .4);
+      },
     )
 
 next-slot-requires : tie.Need-next-slot-requires Inv-loop μ-loop
@@ -120,20 +128,20 @@ loop-again c =
     )
 
 same-length : tie.Need-same-length Inv-loop μ-loop
-same-length c = omega (arith, c .before .loop .inv .4, ap length (c .before .before .before .before .before .before .before .before .pre .2) ∙ length-replicate {A = ℕ} 7168 0)
+same-length c = c .before .loop .inv .4
 
 same-length-2 : tie.Need-same-length-2 Inv-loop μ-loop
-same-length-2 c = omega (arith, c .before .loop .inv .5, ap length (c .before .before .before .before .before .before .before .before .pre .3) ∙ length-replicate {A = ℕ} 1024 0)
+same-length-2 c = c .before .loop .inv .5
 
 same-length-3 : tie.Need-same-length-3 Inv-loop μ-loop
-same-length-3 c = omega (arith, c .before .loop .inv .6, ap length (c .before .before .before .before .before .before .before .before .pre .4) ∙ length-replicate {A = ℕ} 7168 0)
+same-length-3 c = c .before .loop .inv .6
 
 returns-2 : tie.Need-returns-2 Inv-loop μ-loop
 returns-2 c =
     let l = c .before .loop in
     let a = c .before .before .before .before .before .before .before .before .args in
     let p = c .before .before .before .before .before .before .before .before .pre in
-    chained-all _ _ _ _ _ (a .end - 7 * a .start - l .left) _ _ _ (p .1) (omega arith) (omega (arith, p .0 .within)) (omega (arith, p .0 .most, p .0 .within)) (l .inv .0)
+    chained-all _ _ _ _ _ (a .end - 7 * a .start - l .left) _ _ _ (p .1) (omega arith) (omega (arith, p .0 .within)) (omega (arith, p .2 .long, l .inv .4)) (rw (l .inv .4) (l .inv .0))
 
 pub gather-spec : {M : Type 1} → statement M
 gather-spec =

@@ -21,7 +21,7 @@ enum-known-home c = search needs
 
 chain-requires : tie.Need-chain-requires
 chain-requires c κs =
-    let p = c .before .before .before .before .before .before .before .before .before .pre .2 in
+    let p = c .before .before .before .before .before .before .before .before .before .pre .3 in
     let b = entry-bounds _ _ _ _ _ (c .before .before .before .before .before .read-tag .ensures) _ _ (c .before .before .before .home .given .1) in
     (omega (arith, b, p .few, p .words), omega (arith, p .each), omega arith)
 
@@ -41,11 +41,11 @@ mul-last : tie.Need-mul-last
 mul-last c = omega (arith, closing-bounds _ _ _ _ _ (c .before .before .before .read-tag .ensures) _ _ _ _ (c .before .home2 .given .1))
 
 slice-write-last : tie.Need-slice-write-last
-slice-write-last c = omega (arith, closing-bounds _ _ _ _ _ (c .before .before .before .read-tag .ensures) _ _ _ _ (c .before .home2 .given .1), c .before .before .before .before .before .before .before .pre .2 .lasts)
+slice-write-last c = omega (arith, closing-bounds _ _ _ _ _ (c .before .before .before .read-tag .ensures) _ _ _ _ (c .before .home2 .given .1), c .before .before .before .before .before .before .before .pre .3 .lasts)
 
 chain-requires-2 : tie.Need-chain-requires-2
 chain-requires-2 c κs =
-    let p = c .before .before .before .before .before .before .before .before .before .pre .2 in
+    let p = c .before .before .before .before .before .before .before .before .before .pre .3 in
     let b = closing-bounds _ _ _ _ _ (c .before .before .before .before .before .read-tag .ensures) _ _ _ _ (c .before .before .before .home2 .given .1) in
     (omega (arith, b, p .few, p .words), omega (arith, p .each), omega arith)
 

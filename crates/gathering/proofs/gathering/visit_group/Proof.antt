@@ -56,10 +56,11 @@ array-read-visit c = omega arith
 visit-requires : tie.Need-visit-requires Inv-loop μ-loop
 visit-requires c κs =
     let i = c .before .before .before .before .loop .inv in
-    let p = c .before .before .before .before .before .before .before .before .before .before .before .before .pre .7 in (
+    let p = c .before .before .before .before .before .before .before .before .before .before .before .before .pre .8 in (
       omega arith,
       omega arith,
-      record { few = p .few; lasts = i .3 ∙ p .lasts; words = i .4 ∙ p .words; each = i .5 ∙ p .each },
+      omega (arith, i .3),
+      record { few = p .few; lasts = refl; words = i .4 ∙ p .words; each = i .5 ∙ p .each ∙ sym (i .3) },
     )
 
 add-position : tie.Need-add-position Inv-loop μ-loop

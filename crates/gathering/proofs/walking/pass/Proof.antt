@@ -1,14 +1,15 @@
 -- `gathering::pass` meets its contract. The loop's invariant: the pass has taken all positions but `left`, and `at` is the ring slot of group `number`,
 -- the next one. Assumes nothing.
-use mathlib.Core.Path.{_≡_, refl, sym, ap, _∙_}
+use mathlib.Core.Path.{_≡_, refl, sym, _∙_}
 use Prim.Native.Nat.{ℕ, _+_, _-_, _*_, _≤_, _<_}
 use native.Mathlib.Omega.{arith}
-use lib.ListN.{length, length-take, length-drop, length-replicate}
+use lib.ListN.{length, length-take, length-drop}
 use Rattle.model.specs.Layout.{entryAt}
 use Rattle.scan.specs.Scan.{over}
 use Rattle.scan.specs.Slots.{Kept}
 use Rattle.scan.proofs.PassLaws.{log-turn}
 use Rattle.gathering.specs.Walks.{Walk, begun, join}
+use Rattle.gathering.proofs.ChainLaws.{empty-words, empty-each}
 use Rattle.gathering.proofs.WalkSteps.{Small, small-reached, small-begun, none-joined}
 use Rattle.gathering.proofs.walking.pass.Statement.{statement}
 use Rattle.gathering.proofs.walking.pass.Tie as tie
@@ -17,14 +18,14 @@ abbrev Inv-loop : tie.InvT-loop
 Inv-loop log cells₀ heads₀ links₀ groups homes start n progress₀ at₀ number₀ left₀ cells heads links progress at number left =
     (
     _≡_ {A = Walk} (record { cells = cells; heads = heads; links = links; progress = progress })
-    (over (join (7 * start)) (entryAt log groups homes start) (7 * start) (n - left) begun)
+    (over (join (7 * start)) (entryAt log groups homes start) (7 * start) (n - left) (begun (length cells₀)))
     )
     × (left ≤ n)
     × Kept groups number at
     × (0 < left → 7 * start + (n - left) ≡ 7 * number)
-    × (length cells ≡ 7168)
-    × (length heads ≡ 1024)
-    × (length links ≡ 7168)
+    × (length cells ≡ length cells₀)
+    × (length heads ≡ length heads₀)
+    × (length links ≡ length links₀)
 
 abbrev μ-loop : tie.MeasureT-loop
 μ-loop log cells₀ heads₀ links₀ groups homes start n progress₀ at₀ number₀ left₀ cells heads links progress at number left =
@@ -36,13 +37,13 @@ first-slot-requires c κs = omega arith
 loop-holds : tie.Need-loop-holds Inv-loop μ-loop
 loop-holds c =
     let p = c .before .before .before .before .before .pre in (
-      none-joined _ _ _ _ _ _ (omega arith) (p .6) (p .7) (p .8),
+      none-joined _ _ _ _ _ _ _ (omega arith) (p .6),
       omega arith,
       c .first-slot .ensures,
       λ h. omega arith,
-      ap length (p .6) ∙ length-replicate {A = ℕ} 7168 0,
-      ap length (p .7) ∙ length-replicate {A = ℕ} 1024 0,
-      ap length (p .8) ∙ length-replicate {A = ℕ} 7168 0,
+      refl,
+      refl,
+      refl,
     )
 
 -- the next group's positions come next, and the numbers of the pass are small
@@ -51,7 +52,7 @@ module _ (c : tie.In-loop Inv-loop μ-loop) where
   next = c .before .loop .inv .3 (c .loop-test .taken)
 
   small : Small (7 * c .before .loop .number) (c .before .loop .progress)
-  small = small-reached _ _ _ _ _ _ _ (sym next) (c .before .loop .inv .0) (small-begun _)
+  small = small-reached _ _ _ _ _ _ _ (sym next) (c .before .loop .inv .0) (small-begun _ _)
 
 mul-from : tie.Need-mul-from Inv-loop μ-loop
 mul-from c = omega arith
@@ -77,7 +78,9 @@ in-group-requires c κs = tt
 visit-group-requires : tie.Need-visit-group-requires Inv-loop μ-loop
 visit-group-requires c κs =
     let l = c .before .before .before .before .before in
-    let i = c .before .before .before .before .before .before .loop .inv in (
+    let i = c .before .before .before .before .before .before .loop .inv in
+    let p = c .before .before .before .before .before .before .before .before .before .before .before .before .pre in
+    let e = p .6 in (
       simp (length-take, length-drop) (omega arith),
       omega arith,
       omega arith,
@@ -87,17 +90,23 @@ visit-group-requires c κs =
       omega (arith, c .before .before .before .in-group .ensures),
       small l .end,
       small l .number,
-      record { few = c .before .before .before .before .before .before .before .before .before .before .before .before .pre .3; lasts = i .4; words = i .5; each = i .6 },
+      omega (arith, i .4, e .long),
+      record {
+        few = p .3;
+        lasts = refl;
+        words = i .5 ∙ empty-words _ _ _ _ e;
+        each = i .6 ∙ empty-each _ _ _ _ e ∙ sym (i .4);
+      },
     )
 
 same-length : tie.Need-same-length Inv-loop μ-loop
-same-length c = omega (arith, c .before .before .before .before .before .before .before .before .visit-group .kept, c .before .before .before .before .before .before .before .before .before .before .before .before .before .before .before .loop .inv .4, ap length (c .before .before .before .before .before .before .before .before .before .before .before .before .before .before .before .before .before .before .before .before .before .pre .6) ∙ length-replicate {A = ℕ} 7168 0)
+same-length c = omega (arith, c .before .before .before .before .before .before .before .before .visit-group .kept, c .before .before .before .before .before .before .before .before .before .before .before .before .before .before .before .loop .inv .4)
 
 same-length-2 : tie.Need-same-length-2 Inv-loop μ-loop
-same-length-2 c = omega (arith, c .before .before .before .before .before .before .before .before .visit-group .kept, c .before .before .before .before .before .before .before .before .before .before .before .before .before .before .before .loop .inv .5, ap length (c .before .before .before .before .before .before .before .before .before .before .before .before .before .before .before .before .before .before .before .before .before .pre .7) ∙ length-replicate {A = ℕ} 1024 0)
+same-length-2 c = omega (arith, c .before .before .before .before .before .before .before .before .visit-group .kept, c .before .before .before .before .before .before .before .before .before .before .before .before .before .before .before .loop .inv .5)
 
 same-length-3 : tie.Need-same-length-3 Inv-loop μ-loop
-same-length-3 c = omega (arith, c .before .before .before .before .before .before .before .before .visit-group .kept, c .before .before .before .before .before .before .before .before .before .before .before .before .before .before .before .loop .inv .6, ap length (c .before .before .before .before .before .before .before .before .before .before .before .before .before .before .before .before .before .before .before .before .before .pre .8) ∙ length-replicate {A = ℕ} 7168 0)
+same-length-3 c = omega (arith, c .before .before .before .before .before .before .before .before .visit-group .kept, c .before .before .before .before .before .before .before .before .before .before .before .before .before .before .before .loop .inv .6)
 
 returns : tie.Need-returns Inv-loop μ-loop
 returns c =
@@ -140,13 +149,13 @@ loop-again c =
     )
 
 same-length-4 : tie.Need-same-length-4 Inv-loop μ-loop
-same-length-4 c = omega (arith, c .before .loop .inv .4, ap length (c .before .before .before .before .before .before .before .pre .6) ∙ length-replicate {A = ℕ} 7168 0)
+same-length-4 c = omega (arith, c .before .loop .inv .4)
 
 same-length-5 : tie.Need-same-length-5 Inv-loop μ-loop
-same-length-5 c = omega (arith, c .before .loop .inv .5, ap length (c .before .before .before .before .before .before .before .pre .7) ∙ length-replicate {A = ℕ} 1024 0)
+same-length-5 c = omega (arith, c .before .loop .inv .5)
 
 same-length-6 : tie.Need-same-length-6 Inv-loop μ-loop
-same-length-6 c = omega (arith, c .before .loop .inv .6, ap length (c .before .before .before .before .before .before .before .pre .8) ∙ length-replicate {A = ℕ} 7168 0)
+same-length-6 c = omega (arith, c .before .loop .inv .6)
 
 returns-2 : tie.Need-returns-2 Inv-loop μ-loop
 returns-2 c =

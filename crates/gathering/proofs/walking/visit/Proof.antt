@@ -28,9 +28,10 @@ sub-join-entry-2 c = search needs
 
 join-entry-requires : tie.Need-join-entry-requires
 join-entry-requires c κs =
-    let p = c .before .before .before .before .before .before .before .before .before .before .before .before .pre .5 in
+    let p = c .before .before .before .before .before .before .before .before .before .before .before .before .pre .6 in
     let b = entry-bounds _ _ _ _ _ (c .before .before .before .before .before .before .read-tag .ensures) _ _ (c .before .before .before .before .home .given .1) in (
       omega (arith, b),
+      omega arith,
       omega arith,
       omega (arith, b, p .few),
       record { few = omega arith; lasts = p .lasts; words = p .words; each = p .each },
@@ -53,9 +54,10 @@ join-closing-requires c κs =
       d,
       p .3,
       p .4,
+      p .5,
       omega (arith, b),
-      omega (arith, b, p .5 .few),
-      record { few = omega arith; lasts = p .5 .lasts; words = p .5 .words; each = p .5 .each },
+      omega (arith, b, p .6 .few),
+      record { few = omega arith; lasts = p .6 .lasts; words = p .6 .words; each = p .6 .each },
     )
 
 returns-2 : tie.Need-returns-2

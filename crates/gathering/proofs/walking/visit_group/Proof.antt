@@ -66,7 +66,8 @@ visit-requires c κs =
       omega arith,
       k .end,
       k .number,
-      record { few = p .9 .few; lasts = i .3 ∙ p .9 .lasts; words = i .4 ∙ p .9 .words; each = i .5 ∙ p .9 .each },
+      omega (arith, i .3),
+      record { few = p .10 .few; lasts = refl; words = i .4 ∙ p .10 .words; each = i .5 ∙ p .10 .each ∙ sym (i .3) },
     )
 
 add-position : tie.Need-add-position Inv-loop μ-loop

@@ -1,21 +1,19 @@
 -- `gathering::walk` meets its contract. Assumes nothing.
-use mathlib.Core.Path.{ap, _∙_}
-use Prim.Native.Nat.{ℕ}
 use native.Mathlib.Omega.{arith}
-use lib.ListN.{length, length-replicate}
 use Rattle.gathering.proofs.WalkLaws.{cells-beyond, walk-found}
 use borrow.Author.Needs.{needs}
 use Rattle.gathering.proofs.walking.walk.Statement.{statement}
 use Rattle.gathering.proofs.walking.walk.Tie as tie
 
 pass-requires : tie.Need-pass-requires
-pass-requires c κs = search needs
+pass-requires c κs = let p = c .before .before .before .before .before .before .before .pre in (p .0, omega arith, p .2, p .3, p .4, p .5, p .6)
 
 drop-counts-requires : tie.Need-drop-counts-requires
 drop-counts-requires c κs =
-    let p = c .before .before .before .before .before .before .before .before .before .before .before .before .before .before .before .before .before .pre in (
-      omega (arith, c .before .before .before .before .before .before .before .before .before .pass .kept, p .2, p .5, ap length (p .6) ∙ length-replicate {A = ℕ} 7168 0),
-      cells-beyond _ _ _ _ _ _ (p .3) (p .2) (p .5) (c .before .before .before .before .before .before .before .before .before .pass .ensures) (c .before .if1 .taken),
+    let p = c .before .before .before .before .before .before .before .before .before .before .before .before .before .before .before .before .before .pre in
+    let s = c .before .before .before .before .before .before .before .before .before .pass in (
+      omega (arith, s .kept, p .5, p .6 .long),
+      cells-beyond _ _ _ _ _ _ _ (p .3) (p .2) (p .5) (p .6 .long) (s .ensures) (c .before .if1 .taken),
     )
 
 same-length : tie.Need-same-length
@@ -30,8 +28,9 @@ same-length-3 c = search needs
 returns : tie.Need-returns
 returns c =
     let p = c .before .before .before .before .before .before .before .before .before .before .before .before .before .before .before .before .before .before .before .before .pre in
-    λ h. walk-found _ _ _ _ _ _ (p .3) (p .2) (p .5) (c .before .before .before .before .before .before .before .before .before .before .before .before .pass .ensures) h _
-    (omega (arith, c .before .before .drop-counts .kept, c .before .before .before .before .before .before .before .before .before .before .before .before .pass .kept, ap length (p .6) ∙ length-replicate {A = ℕ} 7168 0)) (c .before .before .drop-counts .ensures)
+    let s = c .before .before .before .before .before .before .before .before .before .before .before .before .pass in
+    λ h. walk-found _ _ _ _ _ _ _ (p .3) (p .2) (p .5) (p .6 .long) (s .ensures) h _ (c .before .before .drop-counts .ensures)
+    (omega (arith, c .before .before .drop-counts .kept, s .kept))
 
 same-length-4 : tie.Need-same-length-4
 same-length-4 c = search needs

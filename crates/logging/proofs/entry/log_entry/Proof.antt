@@ -2,7 +2,6 @@
 use mathlib.Core.Path.{refl, ap, _∙_}
 use native.Mathlib.Omega.{arith}
 use lib.ListN.{length}
-use Rattle.areas.proofs.UnusedLaws.{turn-quotient}
 use Rattle.logging.proofs.CallLaws.{slot-fits}
 use Rattle.logging.proofs.LogLaws.{may-read, held-lent, kept, handed}
 use borrow.Author.Needs.{needs}
@@ -13,18 +12,10 @@ use Rattle.model.proofs.strip.LoggingLaws.{held-size, length-entered}
 state-requires : tie.Need-state-requires
 state-requires c κs = search needs
 
-rem-slot : tie.Need-rem-slot
-rem-slot c =
-    let r = c .before in
-    let i = r .before .before .before .before .before in
-    let m = may-read _ _ _ _ _ (r .state .ensures) (i .pre .0) in
-    omega (arith, m .some)
-
-div-turn : tie.Need-div-turn
-div-turn c =
-    let r = c .before .before in
-    let i = r .before .before .before .before .before in
-    let m = may-read _ _ _ _ _ (r .state .ensures) (i .pre .0) in
+first-slot-requires : tie.Need-first-slot-requires
+first-slot-requires c κs =
+    let i = c .before .before .before .before .before in
+    let m = may-read _ _ _ _ _ (c .state .ensures) (i .pre .0) in
     omega (arith, m .some)
 
 mul-held : tie.Need-mul-held
@@ -50,24 +41,25 @@ part-enter-end c = search needs
 
 enter-requires : tie.Need-enter-requires
 enter-requires c κs =
-    let r = c .before .before .before .before .before in
+    let k = c .before .before .before .first-slot .ensures in
+    let r = c .before .before .before .before in
     let i = r .before .before .before .before .before in
     let m = may-read _ _ _ _ _ (r .state .ensures) (i .pre .0) in
     let a = i .args in
     let st = r .state .result in
     let f = slot-fits (st .next) (st .groups) (length (a .log .now)) (omega (arith, m .some)) (omega (arith, m .log)) in
-    (f, turn-quotient (st .groups) (st .next), omega (arith, m .room, m .high, m .few), omega (arith, m .filled), i .pre .1, ap length (held-lent (a .state .now) (a .w) _ refl) ∙ held-size (a .state .now) (a .w) (m .strip) (m .writer))
+    (omega (arith, f, k .same), k .turn, k .bit, omega (arith, m .filled), i .pre .1, ap length (held-lent (a .state .now) (a .w) _ refl) ∙ held-size (a .state .now) (a .w) (m .strip) (m .writer))
 
 add-set-filled : tie.Need-add-set-filled
 add-set-filled c =
-    let r = c .before .before .before .before .before .before .before .before .before .before .before .before in
+    let r = c .before .before .before .before .before .before .before .before .before .before .before in
     let i = r .before .before .before .before .before in
     let m = may-read _ _ _ _ _ (r .state .ensures) (i .pre .0) in
     omega (arith, m .filled)
 
 set-filled-requires : tie.Need-set-filled-requires
 set-filled-requires c κs =
-    let r = c .before .before .before .before .before .before .before .before .before .before .before .before in
+    let r = c .before .before .before .before .before .before .before .before .before .before .before in
     let i = r .before .before .before .before .before in
     let m = may-read _ _ _ _ _ (r .state .ensures) (i .pre .0) in
     omega (arith, m .strip)
@@ -80,35 +72,37 @@ same-length-2 c = search needs
 
 returns : tie.Need-returns
 returns c =
-    let r = c .before .before .before .before .before .before .before .before .before .before .before .before .before .before .before in
+    let k = c .before .before .before .before .before .before .before .before .before .before .before .before .before .first-slot .ensures in
+    let r = c .before .before .before .before .before .before .before .before .before .before .before .before .before .before in
     let i = r .before .before .before .before .before in
     let m = may-read _ _ _ _ _ (r .state .ensures) (i .pre .0) in
-    kept _ _ _ _ _ m _ _ (held-lent _ _ _ refl) _ _ (c .before .before .before .before .before .if1 .taken) (c .before .before .before .before .before .before .before .before .before .enter .ensures) (c .before .before .set-filled .ensures)
+    kept _ _ _ _ _ m _ _ (held-lent _ _ _ refl) _ (k .same) _ _ (c .before .before .before .before .before .if1 .taken) (c .before .before .before .before .before .before .before .before .before .enter .ensures) (c .before .before .set-filled .ensures)
 
 add-set-next : tie.Need-add-set-next
 add-set-next c =
-    let r = c .before .before .before .before .before .before .before .before .before .before .before .before in
+    let r = c .before .before .before .before .before .before .before .before .before .before .before in
     let i = r .before .before .before .before .before in
     let m = may-read _ _ _ _ _ (r .state .ensures) (i .pre .0) in
     omega (arith, m .room, m .high, m .few)
 
 set-next-requires : tie.Need-set-next-requires
 set-next-requires c κs =
-    let r = c .before .before .before .before .before .before .before .before .before .before .before .before in
+    let r = c .before .before .before .before .before .before .before .before .before .before .before in
     let i = r .before .before .before .before .before in
     let m = may-read _ _ _ _ _ (r .state .ensures) (i .pre .0) in
     omega (arith, m .strip)
 
 set-filled-requires-2 : tie.Need-set-filled-requires-2
 set-filled-requires-2 c κs =
-    let r = c .before .before .before .before .before .before .before .before .before .before .before .before .before .before .before .before in
+    let r = c .before .before .before .before .before .before .before .before .before .before .before .before .before .before .before in
     let i = r .before .before .before .before .before in
     let m = may-read _ _ _ _ _ (r .state .ensures) (i .pre .0) in
     omega (arith, c .before .before .before .set-next .kept, m .strip)
 
 group-write-requires : tie.Need-group-write-requires
 group-write-requires c κs =
-    let r = c .before .before .before .before .before .before .before .before .before .before .before .before .before .before .before .before .before .before .before .before .before in
+    let k = c .before .before .before .before .before .before .before .before .before .before .before .before .before .before .before .before .before .before .before .first-slot .ensures in
+    let r = c .before .before .before .before .before .before .before .before .before .before .before .before .before .before .before .before .before .before .before .before in
     let i = r .before .before .before .before .before in
     let m = may-read _ _ _ _ _ (r .state .ensures) (i .pre .0) in
     let a = i .args in
@@ -116,7 +110,7 @@ group-write-requires c κs =
     let f = slot-fits (st .next) (st .groups) (length (a .log .now)) (omega (arith, m .some)) (omega (arith, m .log)) in
     let g = m .batch (omega (arith, c .before .before .before .before .before .before .before .before .before .before .before .if1 .left)) in
     let e = ap length (c .before .before .before .before .before .before .before .before .before .before .before .before .before .before .before .enter .ensures) ∙ length-entered _ _ _ _ _ in
-    (omega (arith, g), omega (arith, e, f))
+    (omega (arith, g), omega (arith, e, f, k .same))
 
 same-length-3 : tie.Need-same-length-3
 same-length-3 c = search needs
@@ -129,10 +123,11 @@ same-length-5 c = search needs
 
 returns-2 : tie.Need-returns-2
 returns-2 c =
-    let r = c .before .before .before .before .before .before .before .before .before .before .before .before .before .before .before .before .before .before .before .before .before .before .before .before in
+    let k = c .before .before .before .before .before .before .before .before .before .before .before .before .before .before .before .before .before .before .before .before .before .before .first-slot .ensures in
+    let r = c .before .before .before .before .before .before .before .before .before .before .before .before .before .before .before .before .before .before .before .before .before .before .before in
     let i = r .before .before .before .before .before in
     let m = may-read _ _ _ _ _ (r .state .ensures) (i .pre .0) in
-    handed _ _ _ _ _ m _ _ (held-lent _ _ _ refl) _ _ _ _ _ (omega (arith, c .before .before .before .before .before .before .before .before .before .before .before .before .before .before .if1 .left)) (c .before .before .before .before .before .before .before .before .before .before .before .before .before .before .before .before .before .before .enter .ensures)
+    handed _ _ _ _ _ m _ _ (held-lent _ _ _ refl) _ (k .same) _ _ _ _ _ (omega (arith, c .before .before .before .before .before .before .before .before .before .before .before .before .before .before .if1 .left)) (c .before .before .before .before .before .before .before .before .before .before .before .before .before .before .before .before .before .before .enter .ensures)
     (c .before .before .before .before .before .before .before .before .before .before .before .set-next .ensures) (c .before .before .before .before .before .before .before .set-filled2 .ensures) (c .before .before .group-write .ensures .0) (c .before .before .group-write .ensures .1)
 
 pub log-entry-spec : {M : Type 1} → statement M
@@ -140,8 +135,7 @@ log-entry-spec =
     tie.close
     (tie.spec
     state-requires
-    rem-slot
-    div-turn
+    first-slot-requires
     mul-held
     add-held
     add-held-2

@@ -7,13 +7,14 @@ use borrow.Author.Needs.{needs}
 use Rattle.logging.proofs.flushes.flush_part.Statement.{statement}
 use Rattle.logging.proofs.flushes.flush_part.Tie as tie
 
-rem-slot : tie.Need-rem-slot
-rem-slot c = search needs
+first-slot-requires : tie.Need-first-slot-requires
+first-slot-requires c κs = search needs
 
 group-write-requires : tie.Need-group-write-requires
 group-write-requires c κs =
     let c1 = c .before .before .before .before .before in
-    let a = c1 .args in omega (arith, slot-fits (a .st .next) (a .st .groups) _ (c1 .pre .2) (c1 .pre .3))
+    let a = c1 .args in
+    omega (arith, slot-fits (a .st .next) (a .st .groups) _ (c1 .pre .2) (c1 .pre .3), c .before .first-slot .ensures .same)
 
 fence-requires : tie.Need-fence-requires
 fence-requires c κs = search needs
@@ -47,9 +48,10 @@ returns c =
     let c3 = c4 .before .before .before .before .before in
     let c2 = c3 .before .before .before .before in
     let c1 = c2 .before .before .before .before .before .before in
+    let e = c2 .before .before .first-slot .ensures .same in
     let p = c1 .pre in (
       c6 .set-fenced .ensures ∙ rw (c5 .set-filled .ensures, c4 .set-next .ensures),
-      part-written _ _ _ _ _ _ (length-slot _ _ _ (p .2) (p .3)) (c2 .group-write .ensures .1) (c2 .group-write .ensures .0)
+      part-written _ _ _ _ _ _ (length-slot _ _ _ (p .2) (p .3)) (c2 .group-write .ensures .1 ∙ rw e) (c2 .group-write .ensures .0)
           (c3 .fence .ensures .1),
     )
 
@@ -57,7 +59,7 @@ pub flush-part-spec : {M : Type 1} → statement M
 flush-part-spec =
     tie.close
     (tie.spec
-    rem-slot
+    first-slot-requires
     group-write-requires
     fence-requires
     add-next

@@ -1,4 +1,6 @@
 -- `logging::store` meets its contract. Assumes nothing.
+use mathlib.Core.Path.{refl}
+use Rattle.logging.proofs.LogLaws.{next-own, stored-own}
 use Rattle.logging.proofs.StoreLaws.{known, others, ends-refused, firsts, ends-first, ends-again, ends-other}
 use borrow.Author.Needs.{needs}
 use Rattle.logging.proofs.stores.store.Statement.{statement}
@@ -89,23 +91,17 @@ returns-3 c =
     ends-again _ _ _ _ _ _ _ _ (c1 .store-verdict .ensures) (c2 .if1 .left) _ _ _ _ _ _ (c3 .writer .ensures) (c4 .holds .ensures)
     (c5 .if2 .left) (c6 .if3 .taken) (c7 .set-held .ensures) (c .done2 .ensures)
 
-state-requires : tie.Need-state-requires
-state-requires c κs =
-    let c2 = c .before .before .before .before .before .before .before in
-    let c1 = c2 .before in
-    known _ _ _ _ _ _ _ _ (c1 .store-verdict .ensures) (c2 .if1 .left) .0
-
-store-other-requires : tie.Need-store-other-requires
-store-other-requires c κs =
-    let c7 = c .before .before .before in
-    let c6 = c7 .before .before in
+store-next-requires : tie.Need-store-next-requires
+store-next-requires c κs =
+    let c6 = c .before .before .before in
     let c5 = c6 .before .before in
     let c4 = c5 .before in
     let c3 = c4 .before in
     let c2 = c3 .before .before in
     let c1 = c2 .before in
-    others _ _ _ _ _ _ _ _ (c1 .store-verdict .ensures) (c2 .if1 .left) _ _ _ (c3 .writer .ensures) (c4 .holds .ensures)
-    (c5 .if2 .left) (c6 .if3 .left) (c7 .state3 .ensures)
+    next-own _ _ _ (c1 .before .before .before .before .before .before .before .before .before .args .block .now) _ _ _ _ refl (c3 .writer .ensures)
+    (others _ _ _ _ _ _ _ _ (c1 .store-verdict .ensures) (c2 .if1 .left) _ _ _ (c3 .writer .ensures) (c4 .holds .ensures)
+    (c5 .if2 .left) (c6 .if3 .left) refl)
 
 done-requires-3 : tie.Need-done-requires-3
 done-requires-3 c κs = search needs
@@ -122,15 +118,15 @@ same-length-12 c = search needs
 returns-4 : tie.Need-returns-4
 returns-4 c =
     let c8 = c .before .before .before .before .before .before .before in
-    let c7 = c8 .before .before .before .before in
-    let c6 = c7 .before .before in
+    let c6 = c8 .before .before .before .before in
     let c5 = c6 .before .before in
     let c4 = c5 .before in
     let c3 = c4 .before in
     let c2 = c3 .before .before in
     let c1 = c2 .before in
     ends-other _ _ _ _ _ _ _ _ (c1 .store-verdict .ensures) (c2 .if1 .left) _ _ _ _ _ _ _ _ _ _ (c3 .writer .ensures)
-    (c4 .holds .ensures) (c5 .if2 .left) (c6 .if3 .left) (c7 .state3 .ensures) (c8 .store-other .ensures) (c .done3 .ensures)
+    (c4 .holds .ensures) (c5 .if2 .left) (c6 .if3 .left) refl
+    (stored-own _ _ _ _ _ _ _ _ _ _ _ _ refl (c3 .writer .ensures) (c8 .store-next .ensures)) (c .done3 .ensures)
 
 pub store-spec : {M : Type 1} → statement M
 store-spec =
@@ -156,8 +152,7 @@ store-spec =
     same-length-8
     same-length-9
     returns-3
-    state-requires
-    store-other-requires
+    store-next-requires
     done-requires-3
     same-length-10
     same-length-11

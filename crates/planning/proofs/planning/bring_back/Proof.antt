@@ -1,13 +1,12 @@
 -- `planning::bring_back` meets its contract. Assumes nothing.
 use mathlib.Core.Path.{refl}
 use native.Mathlib.Omega.{arith}
-use Rattle.planning.proofs.PlanLaws.{end-within, brought-from}
 use borrow.Author.Needs.{needs}
 use Rattle.planning.proofs.planning.bring_back.Statement.{statement}
 use Rattle.planning.proofs.planning.bring_back.Tie as tie
 
-bring-once-requires : tie.Need-bring-once-requires
-bring-once-requires c κs = search needs
+bring-small-requires : tie.Need-bring-small-requires
+bring-small-requires c κs = let p = c .before .before .before .before .before .before .pre in (p .0, p .1, p .2, omega (arith, c .before .before .if1 .taken))
 
 same-length : tie.Need-same-length
 same-length c = search needs
@@ -16,15 +15,10 @@ same-length-2 : tie.Need-same-length-2
 same-length-2 c = search needs
 
 returns : tie.Need-returns
-returns c = let b = c .before .before .before .before .before .bring-once .ensures in let t = c .if1 .taken in let d = b .1 .0 t refl in (b .0 t, (d .0, d .1))
+returns c = let r = c .before .before .before .before .bring-small .ensures in let d = r .1 .0 refl in (r .0, (d .0, d .1))
 
-walk-requires : tie.Need-walk-requires
-walk-requires c κs = search needs
-
-bring-again-requires : tie.Need-bring-again-requires
-bring-again-requires c κs =
-    let p = c .before .before .before .before .before .before .before .before .before .before .before .before .before .before .pre in
-    (end-within _ _ _ _ _ _ (p .0) (c .before .before .walk .ensures .0), p .0 .homes-most, omega (arith, p .1, c .before .before .before .before .before .before .before .before .bring-once .kept), p .2)
+bring-large-requires : tie.Need-bring-large-requires
+bring-large-requires c κs = let p = c .before .before .before .before .before .before .pre in (p .0, p .1, p .2)
 
 same-length-3 : tie.Need-same-length-3
 same-length-3 c = search needs
@@ -33,22 +27,7 @@ same-length-4 : tie.Need-same-length-4
 same-length-4 c = search needs
 
 returns-2 : tie.Need-returns-2
-returns-2 c =
-    let w = c .before .before .before .before .before .before .before .walk .ensures in
-    let b = c .before .before .before .before .bring-again .ensures .0 refl in
-    let s = c .before .before .before .before .before .before .before .before .before .before .before .before .before .bring-once .ensures .1 .1 .1 (c .before .before .before .before .before .before .before .before .if1 .left) in
-    (record { ends = w .0; numbered = w .1 }, (b .0, brought-from _ _ _ _ _ _ _ _ _ _ _ _ (s .0) (s .1) (b .1)))
+returns-2 c = let r = c .before .before .before .before .bring-large .ensures in let d = r .1 .0 refl in (r .0, (d .0, d .1))
 
 pub bring-back-spec : {M : Type 1} → statement M
-bring-back-spec =
-    tie.close
-    (tie.spec
-    bring-once-requires
-    same-length
-    same-length-2
-    returns
-    walk-requires
-    bring-again-requires
-    same-length-3
-    same-length-4
-    returns-2)
+bring-back-spec = tie.close (tie.spec bring-small-requires same-length same-length-2 returns bring-large-requires same-length-3 same-length-4 returns-2)

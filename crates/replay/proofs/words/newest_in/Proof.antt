@@ -75,15 +75,15 @@ take-at-requires c κs =
       omega (arith, o .1, p .1 .inside),
       p .3,
       present-in (a .w) _ (top-in (entryAt (a .log .now) (a .groups) (a .homes) (a .start)) (7 * a .start) (a .w) (l .code - 1) (rw (o .0) (l .inv .1))),
-      p .1 .room .lasts,
+      p .1 .long,
       l .inv .0 (p .1) .0 .room,
     )
 
 mul-code-2 : tie.Need-mul-code-2 Inv-loop μ-loop
-mul-code-2 c = omega (arith, offset-below (c .before .before .before .before .before .before .before .before) .1, c .before .before .before .before .before .before .before .before .before .before .before .before .before .before .before .before .pre .1 .inside, c .before .before .before .before .before .before .before .before .before .before .before .before .before .before .before .before .pre .0 .most, c .before .before .before .before .before .before .before .before .before .before .before .before .before .before .before .before .pre .1 .room .each)
+mul-code-2 c = omega (arith, offset-below (c .before .before .before .before .before .before .before .before) .1, c .before .before .before .before .before .before .before .before .before .before .before .before .before .before .before .before .pre .1 .inside, c .before .before .before .before .before .before .before .before .before .before .before .before .before .before .before .before .pre .0 .most, c .before .before .before .before .before .before .before .before .before .before .before .before .before .before .before .before .pre .1 .long, c .before .before .before .before .before .before .before .before .before .before .before .before .before .before .before .before .pre .1 .room .each)
 
 shared-slice-read-code-2 : tie.Need-shared-slice-read-code-2 Inv-loop μ-loop
-shared-slice-read-code-2 c = omega (arith, offset-below (c .before .before .before .before .before .before .before .before .before) .1, c .before .before .before .before .before .before .before .before .before .before .before .before .before .before .before .before .before .pre .1 .inside, c .before .before .before .before .before .before .before .before .before .before .before .before .before .before .before .before .before .pre .0 .most, c .before .before .before .before .before .before .before .before .before .before .before .before .before .before .before .before .before .pre .1 .room .each)
+shared-slice-read-code-2 c = omega (arith, offset-below (c .before .before .before .before .before .before .before .before .before) .1, c .before .before .before .before .before .before .before .before .before .before .before .before .before .before .before .before .before .pre .1 .inside, c .before .before .before .before .before .before .before .before .before .before .before .before .before .before .before .before .before .pre .1 .long, c .before .before .before .before .before .before .before .before .before .before .before .before .before .before .before .before .before .pre .1 .room .each)
 
 -- what the chain's link says
 module _ (c : tie.After-shared-slice-known6 Inv-loop μ-loop) where
@@ -110,7 +110,7 @@ loop-again c =
     rw (link-top c) (
       λ ch. (
         agrees-next (tags c) (7 * a .start) (a .end - 7 * a .start) (ch .reach) (a .w) (a .last .now) (placed _ _ _ _) (ch .closing) (l .code - 1) _ _
-            (omega (arith, o .0, l .inv .0 ch .1)) (omega (arith, ch .inside, p .0 .most)) (code-top c) (rw (o .0) (l .inv .0 ch .0)) (c .before .before .before .before .before .take-at .ensures),
+            (omega (arith, o .0, l .inv .0 ch .1)) (omega (arith, ch .inside, ch .long)) (code-top c) (rw (o .0) (l .inv .0 ch .0)) (c .before .before .before .before .before .take-at .ensures),
         omega (arith, top-most (tags c) (7 * a .start) (a .w) (l .code - 1), o .0, l .inv .0 ch .1),
       ),
       top-again (tags c) (7 * a .start) (a .w) (l .code - 1),

@@ -1,44 +1,35 @@
 -- `rights::open_to` meets its contract. Assumes nothing.
 use borrow.Author.Needs.{needs}
-use native.Mathlib.Omega.{arith}
-use borrow.Author.Tests.{not-true, not-false}
-use Rattle.rights.proofs.RightsLaws.{copy-open, copy-none}
+use mathlib.Core.Path.{sym, _∙_}
+use Rattle.rights.proofs.RightsLaws.{sign-open, sign-listed, sign-silent}
 use Rattle.rights.proofs.list.open_to.Statement.{statement}
 use Rattle.rights.proofs.list.open_to.Tie as tie
 
-none-kept-requires : tie.Need-none-kept-requires
-none-kept-requires c κs = let p = c .before .before .before .before .pre in (p .0 .holds (p .2), p .0 .low)
+list-sign-requires : tie.Need-list-sign-requires
+list-sign-requires c κs = search needs
 
-open-kept-requires : tie.Need-open-kept-requires
-open-kept-requires c κs = c .before .before .before .before .before .before .pre
+open-listed-requires : tie.Need-open-listed-requires
+open-listed-requires c κs = search needs
 
 returns : tie.Need-returns
-returns c = c .open-kept .ensures
-
-add-in-ranges : tie.Need-add-in-ranges
-add-in-ranges c = search needs
-
-in-ranges-requires : tie.Need-in-ranges-requires
-in-ranges-requires c κs = let p = c .before .before .before .before .before .before .pre in omega (arith, p .0 .long, p .2, p .3, p .4)
+returns c = let p = c .before .before .before .before .before .before .before .pre in sign-listed _ _ _ _ _ (p .0) (p .2) _ _ _ _ (sym (c .before .before .list-sign .ensures) ∙ c .before .if1 .taken) (c .open-listed .ensures)
 
 returns-2 : tie.Need-returns-2
-returns-2 c = let p = c .before .before .before .before .before .before .before .before .pre in copy-open _ _ _ _ _ (p .0) (p .2) (c .before .before .before .none-kept .ensures (not-false _ (c .before .before .if1 .left))) _ _ _ (p .3) (p .4) (c .before .in-ranges .ensures) (c .if2 .taken)
+returns-2 c = let p = c .before .before .before .before .before .before .before .pre in sign-open _ _ _ _ _ (p .0) (p .2) _ _ _ (sym (c .before .before .list-sign .ensures) ∙ c .if2 .taken)
 
-none-in-copy-requires : tie.Need-none-in-copy-requires
-none-in-copy-requires c κs = let p = c .before .before .before .before .before .before .before .before .pre in omega (arith, p .0 .long, p .2)
+open-unsigned-requires : tie.Need-open-unsigned-requires
+open-unsigned-requires c κs = search needs
 
 returns-3 : tie.Need-returns-3
-returns-3 c = let p = c .before .before .before .before .before .before .before .before .before .pre in copy-none _ _ _ _ _ (p .0) (p .2) (c .before .before .before .before .none-kept .ensures (not-false _ (c .before .before .before .if1 .left))) _ _ _ _ (p .3) (p .4) (c .before .before .in-ranges .ensures) (c .before .if2 .left) (c .none-in-copy .ensures)
+returns-3 c = let p = c .before .before .before .before .before .before .before .before .pre in sign-silent _ _ _ _ _ (p .0) (p .2) _ _ _ _ (λ e. c .before .if2 .left (c .before .before .before .list-sign .ensures ∙ e)) (λ e. c .before .before .if1 .left (c .before .before .before .list-sign .ensures ∙ e)) (c .open-unsigned .ensures)
 
 pub open-to-spec : {M : Type 1} → statement M
 open-to-spec =
     tie.close
     (tie.spec
-    none-kept-requires
-    open-kept-requires
+    list-sign-requires
+    open-listed-requires
     returns
-    add-in-ranges
-    in-ranges-requires
     returns-2
-    none-in-copy-requires
+    open-unsigned-requires
     returns-3)

@@ -64,7 +64,7 @@ visit-requires : tie.Need-visit-requires Inv-loop μ-loop
 visit-requires c κs =
     let l = c .before .before .before in
     let p = l .before .before .before .before .before .before .pre in
-    (omega (arith, p), omega (arith, p), omega (arith, p, l .loop .inv .2), within-reached _ _ _ _ _ _ _ (omega (arith, p)) (omega (arith, p)) (l .loop .inv .0) (p .10))
+    (omega (arith, p), omega (arith, p), omega (arith, p, l .loop .inv .2), within-reached _ _ _ _ _ _ _ (omega (arith, p)) (omega (arith, p)) (l .loop .inv .0) (p .9))
 
 -- the group is valid, and the pass has taken one tag more
 module _ (c : tie.After-visit Inv-loop μ-loop) where

@@ -9,10 +9,10 @@ use Rattle.strip.proofs.quick.records_in_order.Statement.{statement}
 use Rattle.strip.proofs.quick.records_in_order.Tie as tie
 
 abbrev Inv-loop : tie.InvT-loop
-Inv-loop s st w₀ w = (true ≡ writersInOrder s st w) × (w ≤ 8)
+Inv-loop s st low all w₀ w = (true ≡ writersInOrder s st w) × (w ≤ 8)
 
 abbrev μ-loop : tie.MeasureT-loop
-μ-loop s st w₀ w = 8 - w
+μ-loop s st low all w₀ w = 8 - w
 
 loop-holds : tie.Need-loop-holds Inv-loop μ-loop
 loop-holds c = (writers-none _ _, omega arith)

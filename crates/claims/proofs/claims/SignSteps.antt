@@ -1,0 +1,235 @@
+-- The sign of the list of rights says nothing false of the list as the book has it: a commit that changes a position of the list's homes sets it by the
+-- list as it is then, one that changes none leaves the list, an opening leaves no sign, and no other call changes either. Assumes nothing.
+use Prim.Native.Nat.{ℕ, _+_, _*_, _≤_, _<_}
+use mathlib.Core.Path.{_≡_, refl, sym, ap, _∙_, subst}
+use mathlib.Core.Logic.{inl, inr}
+use mathlib.Core.Bool.{Bool, true, false, cond, not, false≢true}
+use mathlib.Core.List.{List, []}
+use native.Mathlib.Omega.{arith}
+use lib.Dec.{eqb, leb}
+use lib.ListN.{length, replicate, length-replicate}
+use borrow.Author.Tests.{leb-false}
+use Rattle.model.specs.Bytes.{part}
+use Rattle.model.specs.State.{stateOf, setStart, setLast, setFenced, setWriter, setPromise, nextPosition, writerOf, idle, holds, listHome, listedOf, listSign, freshNumbers, freshState}
+use Rattle.model.specs.Newest.{keptFor, forget}
+use Rattle.model.specs.Effects.{Given, Effect, homes, newState, openEffect, openStart, abortEffect, commitHeld, commitEffect, keptCommit, logClosing, trimStart, trimTo, trimEffect}
+use Rattle.model.specs.Rights.{readList, listMoved, signFor, keepList, Faithful}
+use Rattle.model.specs.Questions.{openAnswer, commitAnswer, trimAnswer}
+use Rattle.model.specs.Calls.{Outcome, done, sizeOf, openCall, commitCall, trimCall}
+use Rattle.model.specs.Book.{homesAfter, withTask, withCommits}
+use Rattle.model.specs.Book as book
+use Rattle.model.specs.History.{Change, begins, reserves, aborts, stores, commits, flushes, Service, settles, roundBegins, roundSteps, trims, reads, Call, opening, confirm, change, service, commit, trim, Event, call, crash, World, lent, loaded, ends, changeEnds, serviceEnds, feed, feedChange, isOpening, afterDone, afterCrash, step, Allowed}
+use Rattle.model.proofs.bytes.ByteLaws.{length-zeros, number-above}
+use Rattle.model.proofs.strip.StateLaws.{length-laws}
+use Rattle.model.proofs.strip.ListedLaws.{listed-setStart, listed-setFenced, listed-setLast, listed-setWriter, listed-setPromise}
+use Rattle.model.proofs.strip.NewestLaws.{length-entries, length-forget}
+use Rattle.model.proofs.strip.SignLaws.{sign-fresh, sign-listed, sign-carry, sign-stays, sign-moves, none-moved, list-numbers, sign-faithful, sign-none, state-keepList}
+use Rattle.claims.proofs.invariant.Invariant.{Sizes, Running, Closed, Invariant}
+use Rattle.claims.proofs.invariant.LiveLog.{lent-homes}
+use Rattle.claims.proofs.steps.DoneLaws.{after}
+use Rattle.claims.proofs.steps.NumberRuns.{owed-writes}
+use Rattle.claims.proofs.steps.NewestSteps.{Quiet, newest-length}
+use Rattle.claims.proofs.steps.StoreCommit.{left-by, c-state-is, left-size, commit-held-runs, commit-older}
+use Rattle.claims.proofs.claims.StoreAnswers.{Agrees}
+use Rattle.claims.proofs.claims.YieldsAll.{step-by, store-commits, flush-commits}
+use Rattle.claims.proofs.claims.KeptSteps.{Placed, Kept-along, idle-commits, ready, known, ended, held-effect, held-mode, held-roomy, placed-then}
+use Rattle.claims.proofs.claims.KeptShown.{list-shown, same-list}
+use Rattle.claims.proofs.claims.ListedSteps.{Listed, Untrimmed, change-stays, service-stays, confirm-stays, logged-listed, abort-listed, state-done}
+use Rattle.ledger.specs.Store.{Store}
+
+-- the list as the book has it
+abbrev listIn : ℕ → World → List ℕ
+listIn D w = part (homesAfter D (w .book .commits)) (64 * listHome) 256
+
+-- where there is room for a list
+abbrev pub Signed : ℕ → World → Type 0
+Signed D w = listHome + 4 ≤ D → Faithful (listSign (w .state)) (part (homesAfter D (w .book .commits)) (64 * listHome) 256)
+
+-- whatever records are read off the batch
+after-signed : (D : ℕ) (w : World) (c : Call) (g : Given) (e : Effect) → Signed D (after w c e) → Signed D (afterDone w c (done g e))
+unfolding afterDone done
+after-signed D w c g e q = q
+
+-- ---- trim
+
+trim-sign : (g : Given) (start : ℕ) → length (g .newest) ≡ 8 * homes g → listSign (trimEffect g start .state) ≡ listSign (g .state)
+unfolding trimEffect
+trim-sign g start n = go (eqb start (stateOf (g .state) .start))
+  where
+    go : (d : Bool) → listSign (cond d (newState g (g .state) 0) (trimTo g (stateOf (g .state)) start) .state) ≡ listSign (g .state)
+    go true = unfold newState in refl
+    go false = unfold trimTo in
+        (sign-carry (homes g) _ _ (length-forget (g .newest) (7 * start) (homes g) ∙ n) ∙ sign-listed _ ∙ listed-setLast _ _ 4 ∙ listed-setFenced _ _ 4 ∙ listed-setStart (g .state) start 4
+        ∙ sym (sign-listed (g .state)))
+
+-- ---- calls of an era
+
+module _ (G D : ℕ) (z : Sizes G D) (w : World) (r : Running G D w) (s : Store) (a : Agrees G D w s) (p : Placed G D w)
+    (listed : Listed D (w .state) (w .newest)) (signed : Signed D w) where
+  same-signed : (c : Call) → listSign (ends w c .state) ≡ listSign (w .state)
+      → homesAfter D (feed (w .book) c (ends w c .figure) .commits) ≡ homesAfter D (w .book .commits) → Signed D (afterDone w c (ends w c))
+  unfolding afterDone
+  same-signed c f e m = rw (f, e) (signed m)
+
+  -- one that leaves the positions and what lies behind them
+  quiet-signed : (c : Call) → listedOf (ends w c .state) 4 ≡ listedOf (w .state) 4
+      → homesAfter D (feed (w .book) c (ends w c .figure) .commits) ≡ homesAfter D (w .book .commits) → Signed D (afterDone w c (ends w c))
+  quiet-signed c f e = same-signed c (sign-listed (ends w c .state) ∙ f ∙ sym (sign-listed (w .state))) e
+
+  homes-are : (block batch : List ℕ) (v h : ℕ) → homes (lent w block batch v h) ≡ D
+  homes-are block batch v h = lent-homes G D (r .b) (r .tr) w z (r .copies) block batch v h
+
+  -- ---- commit
+
+  module _ (v : ℕ) (batch : List ℕ) (h : ends w (commit v batch) .code ≡ 0) where
+    abbrev g : Given
+    g = lent w [] batch v 0
+
+    lv : v < 8
+    lv = known G D z w r s a p v batch h
+
+    none-signed : holds (writerOf (w .state) v) ≡ false → Signed D (afterDone w (commit v batch) (ends w (commit v batch)))
+    none-signed e =
+        quiet-signed (commit v batch)
+        (ap (λ (o : Outcome). listedOf (o .state) 4) (ended G D z w r s a p v batch h)
+        ∙ (unfold done commitEffect lent in rw e (abort-listed (lent w [] batch v 0) 4 (unfold lent in lv))))
+        (unfold feed feedChange book.commit in
+        ap (homesAfter D) (idle-commits G D z w r s a p v (ends w (commit v batch) .figure) lv (leb-false 2 (writerOf (w .state) v .mode) (unfold holds in e))))
+
+    module _ (e : holds (writerOf (w .state) v) ≡ true) where
+      -- the world after it, but for its records, and the strip before the list's part of it is kept
+      abbrev y : World
+      y = after w (commit v batch) (commitHeld (lent w [] batch v 0) (writerOf (w .state) v) (nextPosition (stateOf (w .state))))
+
+      abbrev left : Given
+      left = left-by G D z w r v lv (held-mode G D z w r s a p v batch h e) (held-roomy G D z w r s a p v batch h e) batch
+
+      runs : Running G D y
+      runs = commit-held-runs G D z w r v lv (held-mode G D z w r s a p v batch h e) (held-roomy G D z w r s a p v batch h e) batch
+
+      placed : Placed G D y
+      placed = placed-then G D z w r s a p v batch h e
+
+      strip-is : y .state ≡ keepList left
+      strip-is = c-state-is G D z w r v lv (held-mode G D z w r s a p v batch h e) (held-roomy G D z w r s a p v batch h e) batch
+
+      strip-size : length (left .state) ≡ 1024
+      strip-size = left-size G D z w r v lv (held-mode G D z w r s a p v batch h e) (held-roomy G D z w r s a p v batch h e) batch
+
+      left-homes : homes left ≡ D
+      unfolding commitHeld lent
+      left-homes = homes-are [] batch v 0
+
+      newest-size : length (left .newest) ≡ 8 * homes left
+      unfolding commitHeld keptCommit lent
+      newest-size = rw left-homes (length-entries _ _ (w .newest) ∙ a .newest (r .ready))
+
+      -- logging leaves the positions and the sign
+      listed-left : (i : ℕ) → listedOf (left .state) i ≡ listedOf (w .state) i
+      listed-left i =
+          listed-setPromise _ v 0 i lv ∙ listed-setWriter _ v idle i lv ∙ listed-setLast _ _ i
+          ∙ (unfold lent in logged-listed (lent w [] batch v 0) i (unfold lent in lv) _ _ _)
+
+      -- a position has changed: the sign is that of the list as it is now
+      moved-signed : listMoved left ≡ true → Signed D y
+      moved-signed t m =
+          let q : readList left ≡ listIn D y =
+          list-numbers (left .state) (y .state) (y .newest) (y .log) (y .area) (sym (ap stateOf strip-is ∙ state-keepList left))
+          ∙ (unfold lent in list-shown G D z y runs placed m) in
+          subst (λ (n : ℕ). Faithful n (listIn D y)) (sym (ap listSign strip-is ∙ sign-moves left t strip-size ∙ ap signFor q)) (sign-faithful (listIn D y))
+
+      -- none has changed: the list is what it was
+      stayed-signed : listMoved left ≡ false → Signed D y
+      unfolding runs
+      stayed-signed t m =
+          let f : (i : ℕ) → i < 4 → keptFor (y .newest) (listHome + i) ≡ keptFor (w .newest) (listHome + i) =
+          λ i l. sym (none-moved left (subst (λ (n : ℕ). listHome + 4 ≤ n) (sym left-homes) m) t i l) ∙ listed-left i ∙ listed m i l in
+          let q : listIn D y ≡ listIn D w =
+          same-list G D z w r p y runs placed (unfold commitHeld lent in refl)
+          (commit-older G D z w r v lv (held-mode G D z w r s a p v batch h e) (held-roomy G D z w r s a p v batch h e) batch) m f in
+          let k : listSign (y .state) ≡ listSign (w .state) =
+          ap listSign strip-is ∙ sign-stays left t newest-size ∙ sign-listed (left .state) ∙ listed-left 4 ∙ sym (sign-listed (w .state)) in
+          rw (k, q) (signed m)
+
+      held-signed : Signed D y
+      held-signed = go (listMoved left) refl
+        where
+          go : (d : Bool) → listMoved left ≡ d → Signed D y
+          go true t = moved-signed t
+          go false t = stayed-signed t
+
+    commit-signed : Signed D (afterDone w (commit v batch) (ends w (commit v batch)))
+    commit-signed = go (holds (writerOf (w .state) v)) refl
+      where
+        go : (d : Bool) → holds (writerOf (w .state) v) ≡ d → Signed D (afterDone w (commit v batch) (ends w (commit v batch)))
+        go true e =
+            rw (ended G D z w r s a p v batch h, held-effect G D z w r s a p v batch h e)
+            (after-signed D w (commit v batch) (lent w [] batch v 0) _ (held-signed e))
+        go false e = none-signed e
+
+  -- ---- every call
+
+  change-signed : (c : Change) → ends w (change c) .code ≡ 0 → Signed D (afterDone w (change c) (ends w (change c)))
+  change-signed (begins v) h = quiet-signed (change (begins v)) (change-stays w 4 (begins v) tt h) (unfold feed feedChange book.begin withTask in refl)
+  change-signed (reserves v n) h = quiet-signed (change (reserves v n)) (change-stays w 4 (reserves v n) tt h) (unfold feed feedChange book.begin withTask in refl)
+  change-signed (aborts v) h = quiet-signed (change (aborts v)) (change-stays w 4 (aborts v) tt h) (unfold feed feedChange book.abort withTask in refl)
+  change-signed (stores v home block batch) h =
+      quiet-signed (change (stores v home block batch)) (change-stays w 4 (stores v home block batch) tt h)
+      (unfold feed feedChange book.store in ap (homesAfter D) (store-commits (w .book) v home block (w .book .tasks v)))
+  change-signed (commits v batch) h = commit-signed v batch h
+  change-signed (flushes batch) h =
+      quiet-signed (change (flushes batch)) (change-stays w 4 (flushes batch) tt h) (unfold feed feedChange in ap (homesAfter D) (flush-commits (w .book)))
+
+  trim-signed : (batch : List ℕ) → ends w (trim batch) .code ≡ 0 → Signed D (afterDone w (trim batch) (ends w (trim batch)))
+  trim-signed batch h =
+      let g : Given = lent w [] batch 0 0 in
+      let x : ℕ = trimStart g in
+      let n : length (g .newest) ≡ 8 * homes g = rw (homes-are [] batch 0 0) (unfold lent in a .newest (r .ready)) in
+      let e : ends w (trim batch) .state ≡ trimEffect g x .state =
+      unfold ends serviceEnds trimCall in state-done (trimCall g) g (trimAnswer g x (sizeOf (trimEffect g x))) (trimEffect g x) refl h in
+      same-signed (trim batch) (ap listSign e ∙ trim-sign g x n ∙ (unfold lent in refl)) (unfold feed in refl)
+
+  service-signed : (c : Service) → ends w (service c) .code ≡ 0 → Signed D (afterDone w (service c) (ends w (service c)))
+  service-signed (settles batch) h = quiet-signed (service (settles batch)) (service-stays w 4 (settles batch) tt h) (unfold feed in refl)
+  service-signed roundBegins h = quiet-signed (service roundBegins) (service-stays w 4 roundBegins tt h) (unfold feed in refl)
+  service-signed (roundSteps k batch) h = quiet-signed (service (roundSteps k batch)) (service-stays w 4 (roundSteps k batch) tt h) (unfold feed in refl)
+  service-signed (trims batch) h = trim-signed batch h
+  service-signed (reads v home block) h = quiet-signed (service (reads v home block)) (service-stays w 4 (reads v home block) tt h) (unfold feed in refl)
+
+  done-signed : (c : Call) → isOpening c ≡ false → ends w c .code ≡ 0 → Signed D (afterDone w c (ends w c))
+  unfolding isOpening
+  done-signed (opening state newest batch) e h = absurd (false≢true (sym e))
+  done-signed confirm e h =
+      quiet-signed confirm (confirm-stays w 4 h) (unfold feed withCommits homesAfter in owed-writes (ends w confirm .figure) (w .book .commits) _)
+  done-signed (change c) e h = change-signed c h
+  done-signed (service c) e h = service-signed c h
+
+-- ---- an opening leaves no sign
+
+opened-signed : (D : ℕ) (w : World) (state newest batch : List ℕ) → ends w (opening state newest batch) .code ≡ 0
+    → Signed D (afterDone w (opening state newest batch) (ends w (opening state newest batch)))
+unfolding afterDone
+opened-signed D w state newest batch h m =
+    let g : Given = loaded w state newest batch in
+    let e : ends w (opening state newest batch) .state ≡ openEffect g .state =
+    unfold ends openCall in state-done (openCall g) g (openAnswer g (openStart g) (sizeOf (openEffect g))) (openEffect g) refl h in
+    sign-none _ _ (ap listSign e ∙ (unfold openEffect in sign-fresh _ _ _))
+
+-- ---- every event
+
+module _ (G D : ℕ) (z : Sizes G D) where
+  opening-signed : (w : World) → (c : Call) → isOpening c ≡ true → ends w c .code ≡ 0 → Signed D (afterDone w c (ends w c))
+  unfolding isOpening
+  opening-signed w (opening state newest batch) e f = opened-signed D w state newest batch f
+  opening-signed w confirm e f = absurd (false≢true e)
+  opening-signed w (change c) e f = absurd (false≢true e)
+  opening-signed w (service c) e f = absurd (false≢true e)
+
+  pub signed-keeps : (w : World) → Invariant G D w → Kept-along G D w → (w .ready ≡ true → Listed D (w .state) (w .newest)) → (w .ready ≡ true → Signed D w)
+      → (e : Event) → Allowed w e → (step w e .ready ≡ true → Signed D (step w e))
+  signed-keeps w (inl c) k l p (call c₀) h =
+      step-by (λ u. u .ready ≡ true → Signed D u) w c₀ p (λ e q. opening-signed w c₀ (h ∙ ap not (c .ready)) e)
+  signed-keeps w (inr r) k l p (call c) h =
+      step-by (λ u. u .ready ≡ true → Signed D u) w c p
+      (λ e q. done-signed G D z w r (k .0) (k .1) (k .2 (r .ready)) (l (r .ready)) (p (r .ready)) c (h ∙ ap not (r .ready)) e)
+  signed-keeps w i k l p (crash passed chosen) h = λ q. absurd (false≢true (unfold step afterCrash in q))
