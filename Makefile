@@ -16,6 +16,9 @@
 SHELL = /bin/bash
 .SHELLFLAGS = -o pipefail -c
 
+# The prover keeps memory that it has freed: giving it back took a fifth of its processor time.
+export MIMALLOC_PURGE_DELAY = -1
+
 SEED ?= 1
 CUTS ?= 300
 HISTORIES ?= 400
