@@ -8,7 +8,7 @@ use borrow.Author.Tests.{le-leb, leb-true}
 use lib.Dec.{leb}
 use lib.ListN.{length, getD}
 use Rattle.model.specs.Bytes.{part, puts, zeros, bytes, value, number, putNumber}
-use Rattle.model.proofs.bytes.ByteLaws.{length-puts, length-zeros, length-bytes, length-putNumber, number-below, number-same, number-part}
+use Rattle.laws.proofs.bytes.ByteLaws.{length-puts, length-zeros, length-bytes, length-putNumber, number-below, number-same, number-part}
 use Rattle.alarms.specs.Alarm.{Alarm, alarm, alarmAt, alarmBytes, InRange}
 use Rattle.alarms.specs.OpenAlarms.{gravest, told, alarmsFrom, limited, openOf, alarmsOf, keptOf, listBytes, sealed, packed}
 use Rattle.alarms.specs.Promises.{AllInRange}

@@ -7,7 +7,7 @@ use native.Mathlib.Omega.{arith}
 use lib.ListN.{length, drop, getD, length-append}
 use lib.Seq.{take-add, drop-drop}
 use Rattle.model.specs.Bytes.{part, puts, number, putNumber}
-use Rattle.model.proofs.bytes.ByteLaws.{puts-append, length-bytes, length-putNumber, number-lt, number-below, number-above, number-same, number-put-below}
+use Rattle.laws.proofs.bytes.ByteLaws.{puts-append, length-bytes, length-putNumber, number-lt, number-below, number-above, number-same, number-put-below}
 use Rattle.codec.proofs.JoinLaws.{number-join}
 use Rattle.codec.proofs.CopyLaws.{read-bytes}
 use Rattle.alarms.specs.Alarm.{Alarm, alarm, alarmAt, alarmBytes, InRange}

@@ -6,7 +6,7 @@ use Prim.Native.Nat.{ℕ, zero, suc, _+_, _-_, _*_, _≤_, _<_}
 use native.Mathlib.Omega.{arith}
 use lib.ListN.{length, getD, length-append}
 use Rattle.model.specs.Bytes.{part, puts, zeros}
-use Rattle.model.proofs.bytes.ByteLaws.{puts-append, puts-whole, length-puts, length-zeros}
+use Rattle.laws.proofs.bytes.ByteLaws.{puts-append, puts-whole, length-puts, length-zeros}
 use Rattle.alarms.specs.Alarm.{Alarm, alarmBytes, InRange}
 use Rattle.alarms.specs.OpenAlarms.{gravest, told, alarmsFrom, listBytes, sealed, packed}
 use Rattle.alarms.specs.Promises.{AllInRange}

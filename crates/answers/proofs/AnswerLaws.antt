@@ -17,9 +17,9 @@ use Rattle.model.specs.Batch.{batchBytes}
 use Rattle.model.specs.Effects.{Given, Effect, newState}
 use Rattle.model.specs.Questions.{ask, areasRight, stateRight, blockRight, stripInOrder, askState, askBlock}
 use Rattle.model.specs.Calls.{Outcome, refused, done, sizeOf, outcome}
-use Rattle.model.proofs.bytes.ByteLaws.{puts-nil}
-use Rattle.model.proofs.strip.QuestionLaws.{ask-yes, ask-no, ask-passed, and-true}
-use Rattle.model.proofs.strip.OrderLaws.{tests, InOrder, in-order}
+use Rattle.laws.proofs.bytes.ByteLaws.{puts-nil}
+use Rattle.laws.proofs.strip.QuestionLaws.{ask-yes, ask-no, ask-passed, and-true}
+use Rattle.laws.proofs.strip.OrderLaws.{tests, InOrder, in-order}
 use Rattle.answers.specs.Lent.{lent, leavesAll}
 
 -- ---- the first two questions, and a third that stands for the rest

@@ -13,7 +13,7 @@ use Rattle.model.specs.State.{stateOf}
 use Rattle.model.specs.declared.State.{State}
 use Rattle.model.specs.Effects.{Given}
 use Rattle.model.specs.Questions.{ask, areasRight, stateRight, blockRight, newestRight, stripInOrder, askState, askBlock, askNewest, askBoth}
-use Rattle.model.proofs.strip.QuestionLaws.{ask-no}
+use Rattle.laws.proofs.strip.QuestionLaws.{ask-no}
 use Rattle.answers.specs.Lent.{lentAll, lent}
 use Rattle.answers.proofs.AnswerLaws.{Usable, state-refuses, state-passes, state-usable, block-refuses, block-passes, block-usable}
 

@@ -6,7 +6,7 @@ use native.Mathlib.Omega.{arith}
 use lib.ListN.{length, take, drop}
 use Rattle.model.specs.Bytes.{part, puts}
 use Rattle.model.specs.Layout.{homeAt}
-use Rattle.model.proofs.bytes.ByteLaws.{puts-whole, length-part, part-whole}
+use Rattle.laws.proofs.bytes.ByteLaws.{puts-whole, length-part, part-whole}
 
 pub part-copied : (d : List ℕ) (at : ℕ) (xs : List ℕ) (from : ℕ) → puts d at (take (from + 64 - from) (drop from xs)) ≡ puts d at (part xs from 64)
 unfolding part

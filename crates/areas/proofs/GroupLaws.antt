@@ -10,7 +10,7 @@ use Rattle.model.specs.Tag.{withDisplaced, displaced}
 use Rattle.model.specs.Layout.{groupMark, groupOffset, groupAt, tagOffset, groupTag, blockOffset, groupBlock, turnOf, topBit, withTopBit, turnBlocks, blankGroup, putBlank, putEntry, blockOf}
 use Rattle.model.specs.declared.State.{State}
 use Rattle.model.specs.Effects.{entered}
-use Rattle.model.proofs.bytes.ByteLaws.{puts-append, length-zeros, part-within, part-whole, number-part}
+use Rattle.laws.proofs.bytes.ByteLaws.{puts-append, length-zeros, part-within, part-whole, number-part}
 use Rattle.areas.proofs.PieceLaws.{number-then}
 
 pub blank-written : (log : List ℕ) (slot n turn groups : ℕ) → turn ≡ turnOf groups n

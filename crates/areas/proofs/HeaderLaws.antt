@@ -7,7 +7,7 @@ use native.Mathlib.Omega.{arith}
 use borrow.Author.Tests.{eq-eqb, ne-eqb}
 use Rattle.model.specs.Bytes.{part, puts, zeros, number, putNumber, same}
 use Rattle.model.specs.Layout.{headerMark, header, headerRight}
-use Rattle.model.proofs.bytes.ByteLaws.{puts-append}
+use Rattle.laws.proofs.bytes.ByteLaws.{puts-append}
 use Rattle.areas.proofs.PieceLaws.{number-then}
 
 pub header-written : (d : List ℕ) (at start groups homes : ℕ)

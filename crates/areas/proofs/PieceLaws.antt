@@ -3,7 +3,7 @@ use mathlib.Core.Path.{_≡_}
 use mathlib.Core.List.{List, _++_}
 use Prim.Native.Nat.{ℕ, _+_}
 use Rattle.model.specs.Bytes.{puts, bytes, putNumber}
-use Rattle.model.proofs.bytes.ByteLaws.{puts-append, length-bytes}
+use Rattle.laws.proofs.bytes.ByteLaws.{puts-append, length-bytes}
 
 pub number-then : (k : ℕ) (d : List ℕ) (at v : ℕ) (s : List ℕ) (n : ℕ) → n ≡ at + k → puts (putNumber k d at v) n s ≡ puts d at (bytes k v ++ s)
 unfolding putNumber

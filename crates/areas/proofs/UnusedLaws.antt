@@ -8,9 +8,9 @@ use native.Mathlib.Omega.{arith}
 use lib.ListN.{length, set, length-append}
 use Rattle.model.specs.Bytes.{puts, zeros}
 use Rattle.model.specs.Layout.{header, turnOf, turnBlocks, nextIn, unusedGroup, unusedSlots, emptyLog}
-use Rattle.model.proofs.bytes.ByteLaws.{puts-nil, puts-cons, puts-append, puts-whole, length-zeros}
-use Rattle.model.proofs.bytes.LayoutLaws.{length-header}
-use Rattle.model.proofs.bytes.EmptyLaws.{length-unusedSlots}
+use Rattle.laws.proofs.bytes.ByteLaws.{puts-nil, puts-cons, puts-append, puts-whole, length-zeros}
+use Rattle.laws.proofs.bytes.LayoutLaws.{length-header}
+use Rattle.laws.proofs.bytes.EmptyLaws.{length-unusedSlots}
 
 -- ---- a group's turn, by the quotient
 

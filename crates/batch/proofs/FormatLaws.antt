@@ -10,10 +10,10 @@ use Rattle.model.specs.Bytes.{puts, zeros}
 use Rattle.model.specs.Layout.{header, turnOf, turnBlocks, nextIn, unusedGroup}
 use Rattle.model.specs.Batch.{Record, GW, HW, KW, FN, recordBytes, batchBytes}
 use Rattle.model.specs.Effects.{blankWrites, zeroHomes, formatted}
-use Rattle.model.proofs.bytes.ByteLaws.{puts-nil, length-zeros}
-use Rattle.model.proofs.bytes.LayoutLaws.{length-header}
-use Rattle.model.proofs.bytes.EmptyLaws.{length-unusedGroup}
-use Rattle.model.proofs.strip.BatchLaws.{batch-one, length-GW, length-HW, length-KW, length-FN}
+use Rattle.laws.proofs.bytes.ByteLaws.{puts-nil, length-zeros}
+use Rattle.laws.proofs.bytes.LayoutLaws.{length-header}
+use Rattle.laws.proofs.bytes.EmptyLaws.{length-unusedGroup}
+use Rattle.laws.proofs.strip.BatchLaws.{batch-one, length-GW, length-HW, length-KW, length-FN}
 use Rattle.batch.proofs.RecordLaws.{length-joined, records-then, records-then-one, one-then-records}
 
 -- ---- a record for each number below n, each of `size` bytes

@@ -7,8 +7,8 @@ use lib.ListN.{length, take, drop, length-append}
 use Rattle.model.specs.Bytes.{part, puts, zeros, bytes, putNumber}
 use Rattle.model.specs.Layout.{groupOffset, groupAt, homeAt}
 use Rattle.model.specs.Batch.{Record, GW, HW, KW, groupWriteMark, homeWriteMark, headerWriteMark, recordBytes, batchBytes}
-use Rattle.model.proofs.bytes.ByteLaws.{puts-append}
-use Rattle.model.proofs.strip.BatchLaws.{batch-append, batch-one}
+use Rattle.laws.proofs.bytes.ByteLaws.{puts-append}
+use Rattle.laws.proofs.strip.BatchLaws.{batch-append, batch-one}
 use Rattle.areas.proofs.PieceLaws.{number-then}
 
 -- ---- one record

@@ -17,8 +17,8 @@ use Rattle.model.specs.State.{writerOf, heldOf, holdsHome}
 use Rattle.model.specs.Effects.{Given, blockOr, newestOwn, ownElse, keptPosition, shown, isThere, liveTags, liveBase, tagsOf, readEffect}
 use Rattle.model.specs.Questions.{ask}
 use Rattle.model.specs.Calls.{outcome}
-use Rattle.model.proofs.bytes.ByteLaws.{puts-nil, puts-sets, puts-append, puts-whole}
-use Rattle.model.proofs.strip.QuestionLaws.{ask-yes, ask-no}
+use Rattle.laws.proofs.bytes.ByteLaws.{puts-nil, puts-sets, puts-append, puts-whole}
+use Rattle.laws.proofs.strip.QuestionLaws.{ask-yes, ask-no}
 use Rattle.answers.specs.Lent.{lentAll, leavesAll}
 use Rattle.answers.proofs.AnswerLaws.{Usable, refused-by, done-by}
 use Rattle.reading.specs.Shown.{readBlock}

@@ -12,8 +12,8 @@ use Rattle.model.specs.declared.State.{State}
 use Rattle.model.specs.declared.Writer.{Writer}
 use Rattle.model.specs.State.{stateOf, nextPosition, writerOf, setWriter, setHeld, begun, holding, holds}
 use Rattle.model.specs.Effects.{Given}
-use Rattle.model.proofs.bytes.ByteLaws.{length-part, length-puts}
-use Rattle.model.proofs.strip.WriterLaws.{writer-setWriter, fits-begun}
+use Rattle.laws.proofs.bytes.ByteLaws.{length-part, length-puts}
+use Rattle.laws.proofs.strip.WriterLaws.{writer-setWriter, fits-begun}
 use Rattle.answers.specs.Lent.{lentAll}
 use Rattle.logging.specs.Logs.{MayLog, Fits, StoredOther}
 use Rattle.acts.specs.Chains.{storedFirst}

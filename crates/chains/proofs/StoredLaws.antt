@@ -15,17 +15,17 @@ use Rattle.model.specs.declared.Writer.{Writer}
 use Rattle.model.specs.State.{stateOf, nextPosition, writerOf, setWriter, heldOf, setHeld, setPromise, promiseLeft, begun, holding, logging, holds, hasLogged, firstFor, countFor}
 use Rattle.model.specs.Tag.{entryWord}
 use Rattle.model.specs.Effects.{Given, Effect, Logged, logged, newState, beginEffect, logHeld, storeFirst, storeOther, storeEffect, linkFrom}
-use Rattle.model.proofs.bytes.ByteLaws.{length-part, puts-nil}
-use Rattle.model.proofs.strip.BatchLaws.{batch-append}
-use Rattle.model.proofs.strip.WriterLaws.{length-setWriter, length-setHeld, state-setWriter, state-setHeld, writer-setWriter, writer-setHeld, fits-begun, fits-holding, fits-logging}
-use Rattle.model.proofs.strip.PromiseLaws.{length-setPromise, state-setPromise, writer-setPromise}
+use Rattle.laws.proofs.bytes.ByteLaws.{length-part, puts-nil}
+use Rattle.laws.proofs.strip.BatchLaws.{batch-append}
+use Rattle.laws.proofs.strip.WriterLaws.{length-setWriter, length-setHeld, state-setWriter, state-setHeld, writer-setWriter, writer-setHeld, fits-begun, fits-holding, fits-logging}
+use Rattle.laws.proofs.strip.PromiseLaws.{length-setPromise, state-setPromise, writer-setPromise}
 use Rattle.claims.proofs.steps.LogRuns.{Advance, Kept-writers, advance-position, logged-numbers, logged-writers, logged-log, logged-records}
 use Rattle.logging.specs.Logs.{MayLog, Fits, StoredOther, loggedEntry}
 use Rattle.logging.proofs.LogLaws.{logged-size}
 use Rattle.logging.proofs.StoreLaws.{effect-first, effect-other}
 use Rattle.acts.specs.Chains.{lentOn, andThen, storedFirst}
 use Rattle.chains.specs.Steps.{Chain, BatchRoom, Moved, Stored, Reached}
-use Rattle.model.proofs.strip.LoggingLaws.{length-entered, link-small}
+use Rattle.laws.proofs.strip.LoggingLaws.{length-entered, link-small}
 
 -- ---- an entry's records
 

@@ -18,8 +18,8 @@ use Rattle.model.specs.Tag.{closingWord}
 use Rattle.model.specs.Effects.{Given, Effect, Logged, logged, linkFrom, logClosing, tagsOf, liveBase, keptCommit, commitHeld, commitEffect}
 use Rattle.model.specs.Questions.{ask, areasRight, stateRight, newestRight, stripInOrder, writerKnown, writerOpen, batchFits}
 use Rattle.model.specs.Calls.{sizeOf, outcome}
-use Rattle.model.proofs.bytes.ByteLaws.{length-puts}
-use Rattle.model.proofs.strip.QuestionLaws.{ask-yes, ask-no, ask-passed}
+use Rattle.laws.proofs.bytes.ByteLaws.{length-puts}
+use Rattle.laws.proofs.strip.QuestionLaws.{ask-yes, ask-no, ask-passed}
 use Rattle.answers.specs.Lent.{lentAll, leavesAll}
 use Rattle.answers.proofs.AnswerLaws.{Usable, refused-by, done-by}
 use Rattle.logging.specs.Logs.{MayLog, Fits}

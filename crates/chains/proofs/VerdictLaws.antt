@@ -12,7 +12,7 @@ use Rattle.model.specs.Layout.{homesIn}
 use Rattle.model.specs.State.{freePlaces}
 use Rattle.model.specs.Effects.{Given}
 use Rattle.model.specs.Questions.{ask, areasRight, stateRight, newestRight, stripInOrder, writerKnown, askNewest, mayPromise}
-use Rattle.model.proofs.strip.QuestionLaws.{ask-yes, ask-no, ask-passed, and-true}
+use Rattle.laws.proofs.strip.QuestionLaws.{ask-yes, ask-no, ask-passed, and-true}
 use Rattle.answers.specs.Lent.{lentAll}
 use Rattle.answers.proofs.AnswerLaws.{Usable}
 use Rattle.answers.proofs.NewestAnswers.{newest-refuses, newest-passes, newest-usable, newest-only}

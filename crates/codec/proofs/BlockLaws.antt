@@ -10,7 +10,7 @@ use lib.Dec.{eqb}
 use lib.ListN.{length, getD}
 use lib.Seq.{drop-cons}
 use Rattle.model.specs.Bytes.{part, zeros, same, number}
-use Rattle.model.proofs.bytes.ByteLaws.{number-none, number-more}
+use Rattle.laws.proofs.bytes.ByteLaws.{number-none, number-more}
 
 -- a part by its first byte and the rest
 pub part-cons : (s : List ℕ) (i n : ℕ) → i < length s → part s i (suc n) ≡ getD s i 0 ∷ part s (i + 1) n

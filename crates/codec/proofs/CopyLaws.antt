@@ -7,7 +7,7 @@ use native.Mathlib.Omega.{arith}
 use lib.ListN.{length, getD, drop, take-append-drop}
 use lib.Seq.{drop-drop, take-add}
 use Rattle.model.specs.Bytes.{part, puts, bytes, number, putNumber}
-use Rattle.model.proofs.bytes.ByteLaws.{puts-append, length-part, number-more}
+use Rattle.laws.proofs.bytes.ByteLaws.{puts-append, length-part, number-more}
 use Rattle.codec.proofs.BlockLaws.{part-cons}
 
 -- the bytes of a number that was read

@@ -9,7 +9,7 @@ use lib.Bits.{bitOr}
 use lib.ListN.{getD, set}
 use lib.Pow.{pow-add}
 use Rattle.model.specs.Bytes.{bytes, number, putNumber}
-use Rattle.model.proofs.bytes.ByteLaws.{puts-nil, puts-cons, puts-append, length-bytes, number-none, number-more}
+use Rattle.laws.proofs.bytes.ByteLaws.{puts-nil, puts-cons, puts-append, length-bytes, number-none, number-more}
 use Rattle.codec.proofs.WordLaws.{field-or}
 
 bytes-bits : (n : ℕ) → 256 ^ n ≡ 2 ^ (8 * n)

@@ -10,7 +10,7 @@ use lib.Dec.{eqb, leb, ltb}
 use Rattle.model.specs.Tag.{tagWord, entryWord, field, homeField, says, readFields, readTag}
 use Rattle.model.specs.declared.Tag.{Tag}
 use Rattle.model.specs.declared.Tag.the-variants.{Nothing, Entry, Closing}
-use Rattle.model.proofs.bytes.TagLaws.{field-lt}
+use Rattle.laws.proofs.bytes.TagLaws.{field-lt}
 use Rattle.codec.proofs.PlainLaws.{and-field}
 use Rattle.codec.proofs.ReadLaws.{says-nothing, no-home, before-start}
 

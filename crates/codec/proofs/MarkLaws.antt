@@ -10,7 +10,7 @@ use lib.Dec.{eqb}
 use lib.ListN.{length, set, getD}
 use Rattle.model.specs.Bytes.{part, puts, number, same}
 use Rattle.model.specs.Layout.{groupMark}
-use Rattle.model.proofs.bytes.ByteLaws.{puts-cons, puts-nil, same-refl, same-ne}
+use Rattle.laws.proofs.bytes.ByteLaws.{puts-cons, puts-nil, same-refl, same-ne}
 use Rattle.codec.proofs.BlockLaws.{part-cons}
 use Rattle.codec.proofs.JoinLaws.{number-one, number-join}
 

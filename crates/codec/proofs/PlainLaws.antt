@@ -6,7 +6,7 @@ use native.Mathlib.Nat.{mod-mod}
 use native.Mathlib.Omega.{arith}
 use lib.Bits.{bitAnd, bitXor, xor-self, xor-zero-r, xor-block, xor-add-and, and-le-l, and-le-r, and-mask, and-high, and-shr, and-mod, xor-shr, xor-mod}
 use Rattle.model.specs.Tag.{tagWord, entryWord, withDisplaced, displaced, field, homeField}
-use Rattle.model.proofs.bytes.TagLaws.{field-of}
+use Rattle.laws.proofs.bytes.TagLaws.{field-of}
 
 -- ---- fields of two words
 

@@ -8,7 +8,7 @@ use lib.ListN.{length, getD, set, take, drop}
 use Rattle.model.specs.Bytes.{part, puts, number}
 use Rattle.model.specs.Tag.{field}
 use Rattle.model.specs.Layout.{topBit, withTopBit}
-use Rattle.model.proofs.bytes.ByteLaws.{puts-nil, puts-cons, length-part, number-part}
+use Rattle.laws.proofs.bytes.ByteLaws.{puts-nil, puts-cons, length-part, number-part}
 use Rattle.codec.proofs.JoinLaws.{number-one}
 
 -- what is written into what was written

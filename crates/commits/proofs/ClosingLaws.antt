@@ -15,10 +15,10 @@ use Rattle.model.specs.State.{stateOf, setLast, nextPosition, writerOf, setWrit
 use Rattle.model.specs.Tag.{closingWord}
 use Rattle.model.specs.Effects.{logged, linkFrom}
 use Rattle.model.specs.Rights.{keepList}
-use Rattle.model.proofs.strip.StateLaws.{withLast, state-setLast}
-use Rattle.model.proofs.strip.WriterLaws.{state-setWriter}
-use Rattle.model.proofs.strip.PromiseLaws.{state-setPromise}
-use Rattle.model.proofs.strip.LoggingLaws.{Advance, advance-position, logged-numbers, logged-length}
+use Rattle.laws.proofs.strip.StateLaws.{withLast, state-setLast}
+use Rattle.laws.proofs.strip.WriterLaws.{state-setWriter}
+use Rattle.laws.proofs.strip.PromiseLaws.{state-setPromise}
+use Rattle.laws.proofs.strip.LoggingLaws.{Advance, advance-position, logged-numbers, logged-length}
 use Rattle.answers.specs.Lent.{lentAll}
 use Rattle.rights.specs.Listed.{Left}
 use Rattle.scan.specs.Members.{Stretch}

@@ -17,9 +17,9 @@ use Rattle.model.specs.Rights.{keepList}
 use Rattle.model.specs.Effects.{Given, newState, abortEffect, logClosing, tagsOf, liveBase, keptCommit, commitHeld, commitEffect}
 use Rattle.model.specs.Questions.{ask, askNewest, writerKnown, writerOpen, roomFor, room, commitLogs, batchFits, commitAnswer}
 use Rattle.model.specs.Calls.{sizeOf, commitCall}
-use Rattle.model.proofs.bytes.ByteLaws.{puts-nil}
-use Rattle.model.proofs.strip.OrderLaws.{place-below}
-use Rattle.model.proofs.strip.QuestionLaws.{ask-yes, ask-no, room-true, CommitReady, commit-ready}
+use Rattle.laws.proofs.bytes.ByteLaws.{puts-nil}
+use Rattle.laws.proofs.strip.OrderLaws.{place-below}
+use Rattle.laws.proofs.strip.QuestionLaws.{ask-yes, ask-no, room-true, CommitReady, commit-ready}
 use Rattle.answers.specs.Lent.{lentAll, leavesAll}
 use Rattle.answers.proofs.AnswerLaws.{Usable, refused-by}
 use Rattle.answers.proofs.NewestAnswers.{newest-usable, newest-refuses, newest-passes, newest-only}
@@ -28,7 +28,7 @@ use Rattle.commits.specs.Closings.{loggedClosing, keptBy, Committed}
 use Rattle.logging.proofs.CallLaws.{newest-first, ends}
 use Rattle.logging.proofs.LogLaws.{logged-size}
 use Rattle.logging.proofs.ReadyLaws.{quiet, loud, may, fits-tag}
-use Rattle.model.proofs.strip.LoggingLaws.{fits}
+use Rattle.laws.proofs.strip.LoggingLaws.{fits}
 
 -- ---- its effect
 

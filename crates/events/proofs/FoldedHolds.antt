@@ -17,7 +17,7 @@ use Rattle.model.specs.Effects.{Given}
 use Rattle.model.specs.History.{World, unopened, afterFormat, lent}
 use Rattle.ledger.specs.Store.{newStore}
 use Rattle.acts.specs.Units.{Act, plain, transacts, fetches, revises, transactEnds, act, acted, ActAllowed, relabel, Label, other, unit, labelOf, lastUnit, Spared, UnitKept}
-use Rattle.model.proofs.bytes.ByteLaws.{length-zeros}
+use Rattle.laws.proofs.bytes.ByteLaws.{length-zeros}
 use Rattle.acts.proofs.ChainLaws.{transact-ready}
 use Rattle.claims.proofs.steps.DoneLaws.{outcome-code}
 use Rattle.claims.proofs.claims.Reached.{begins}

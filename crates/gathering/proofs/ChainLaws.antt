@@ -10,7 +10,7 @@ use lib.Dec.{eqb}
 use lib.ListN.{length, getD, set, replicate, length-set, length-replicate}
 use lib.Seq.{getD-set-same, getD-set-other}
 use Rattle.model.specs.Tag.{belongs, homeOf, readTag}
-use Rattle.model.proofs.bytes.TagLaws.{field-lt, entry-known, closing-known, closing-fields}
+use Rattle.laws.proofs.bytes.TagLaws.{field-lt, entry-known, closing-known, closing-fields}
 use Rattle.model.specs.Layout.{entryAt}
 use Rattle.model.specs.declared.Tag.{Tag}
 use Rattle.model.specs.declared.Tag.the-variants.{Nothing, Entry, Closing}
@@ -18,7 +18,7 @@ use Rattle.scan.specs.Scan.{over}
 use Rattle.scan.proofs.ScanLaws.{Placed, placed}
 use Rattle.gathering.specs.Closers.{closes, closer}
 use Rattle.gathering.proofs.CloserLaws.{closer-same, closer-now}
-use Rattle.model.proofs.trace.ReplayLaws.{known}
+use Rattle.laws.proofs.trace.ReplayLaws.{known}
 use Rattle.gathering.specs.Chains.{maxWords, maxHomes, Chains, fresh, chained, note, Roomy, Empty, inWord, top, Holds, Chained}
 
 -- ---- the last entry for a word

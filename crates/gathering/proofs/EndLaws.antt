@@ -7,8 +7,8 @@ use native.Mathlib.Omega.{arith}
 use lib.ListN.{length}
 use Rattle.model.specs.Layout.{entryAt}
 use Rattle.model.specs.Commit.{committed}
-use Rattle.model.proofs.rule.Closings.{endOf}
-use Rattle.model.proofs.rule.ClosingLaws.{committed-within}
+use Rattle.laws.proofs.rule.Closings.{endOf}
+use Rattle.laws.proofs.rule.ClosingLaws.{committed-within}
 use Rattle.scan.specs.Walk.{Walkable}
 
 pub end-walkable : (log : List ℕ) (groups homes start n end : ℕ) → length log ≡ 64 + 512 * groups → 0 < groups → groups ≤ 1024 → start ≤ 2 ^ 47

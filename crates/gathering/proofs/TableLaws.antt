@@ -11,7 +11,7 @@ use lib.ListN.{length, getD, set, replicate, length-set, length-append}
 use lib.Seq.{getD-set-same, getD-set-other}
 use Rattle.model.specs.declared.Tag.{Tag}
 use Rattle.model.specs.declared.Tag.the-variants.{Nothing, Entry, Closing}
-use Rattle.model.proofs.rule.Closings.{spanAt, closings}
+use Rattle.laws.proofs.rule.Closings.{spanAt, closings}
 use Rattle.scan.specs.Scan.{Scan, counted}
 use Rattle.scan.specs.declared.commits.Progress.{Progress}
 use Rattle.gathering.specs.Closers.{closes, closer}

@@ -13,9 +13,9 @@ use Rattle.model.specs.Layout.{entryAt}
 use Rattle.model.specs.Commit.{walk, committed, linked}
 use Rattle.model.specs.declared.Tag.{Tag}
 use Rattle.model.specs.declared.Tag.the-variants.{Nothing, Entry, Closing}
-use Rattle.model.proofs.rule.Closings.{closings, endOf}
-use Rattle.model.proofs.rule.ClosingLaws.{lastAt, walked}
-use Rattle.model.proofs.strip.OrderLaws.{byte-zeros}
+use Rattle.laws.proofs.rule.Closings.{closings, endOf}
+use Rattle.laws.proofs.rule.ClosingLaws.{lastAt, walked}
+use Rattle.laws.proofs.strip.OrderLaws.{byte-zeros}
 use Rattle.scan.specs.Scan.{Scan, counted, decided, taken, enter, entered, over}
 use Rattle.scan.specs.Scan as scanned
 use Rattle.scan.specs.declared.commits.Progress.{Progress}

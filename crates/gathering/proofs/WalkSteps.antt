@@ -13,7 +13,7 @@ use lib.Seq.{getD-set-same, getD-set-other}
 use Rattle.model.specs.Commit.{linked}
 use Rattle.model.specs.declared.Tag.{Tag}
 use Rattle.model.specs.declared.Tag.the-variants.{Nothing, Entry, Closing}
-use Rattle.model.proofs.rule.ClosingLaws.{lastAt}
+use Rattle.laws.proofs.rule.ClosingLaws.{lastAt}
 use Rattle.scan.specs.Scan.{decided, taken, over}
 use Rattle.scan.specs.declared.commits.Progress.{Progress}
 use Rattle.gathering.specs.Chains.{maxWords, Empty}

@@ -6,7 +6,7 @@ ghost use Prim.Native.Nat.{_+_, _*_, _^_, _≤_};
 ghost use lib.ListN.{length, replicate};
 ghost use Rattle.model.specs.Layout.{entryAt};
 ghost use Rattle.model.specs.Commit.{committed};
-ghost use Rattle.model.proofs.rule.Closings.{endOf};
+ghost use Rattle.laws.proofs.rule.Closings.{endOf};
 ghost use Rattle.gathering.specs.Chains.{Roomy, Chained};
 
 // Makes a table empty.

@@ -9,7 +9,7 @@ ghost use lib.ListN.{length, getD};
 ghost use Rattle.model.specs.Tag.{readTag};
 ghost use Rattle.model.specs.Layout.{turnOf, entryIn, entryAt};
 ghost use Rattle.model.specs.Commit.{committed};
-ghost use Rattle.model.proofs.rule.Closings.{endOf};
+ghost use Rattle.laws.proofs.rule.Closings.{endOf};
 ghost use Rattle.scan.specs.Scan.{over};
 ghost use Rattle.gathering.specs.Chains.{Roomy, Empty, Chained};
 ghost use Rattle.gathering.specs.Walks.{closerIn, strayed, joinEntry, joinClosing, join, Passed};

@@ -9,8 +9,8 @@ use Rattle.model.specs.Bytes.{puts}
 use Rattle.model.specs.Layout.{homeAt}
 use Rattle.model.specs.Batch.{Record, HW, recordBytes, batchBytes}
 use Rattle.model.specs.Effects.{marked, homeWrites}
-use Rattle.model.proofs.bytes.ByteLaws.{length-part, puts-append, puts-nil}
-use Rattle.model.proofs.strip.BatchLaws.{length-HW, batch-append}
+use Rattle.laws.proofs.bytes.ByteLaws.{length-part, puts-append, puts-nil}
+use Rattle.laws.proofs.strip.BatchLaws.{length-HW, batch-append}
 use Rattle.bitmap.specs.Marks.{bitsOf, raised}
 use Rattle.bitmap.proofs.MarkedLaws.{raised-nil, raised-cons}
 use Rattle.bitmap.proofs.WordLaws.{no-bits}

@@ -7,7 +7,7 @@ use native.Mathlib.Omega.{arith}
 use lib.Dec.{eqb}
 use lib.ListN.{length, getD}
 use Rattle.model.specs.Bytes.{puts, zeros, value, number, putNumber}
-use Rattle.model.proofs.bytes.ByteLaws.{puts-whole, length-zeros, length-putNumber, number-same, number-put-below, number-lt}
+use Rattle.laws.proofs.bytes.ByteLaws.{puts-whole, length-zeros, length-putNumber, number-same, number-put-below, number-lt}
 use Rattle.hours.specs.Pump.{Pump, unused, pumpOf, flag, blockOf, Fits}
 
 -- the block field by field

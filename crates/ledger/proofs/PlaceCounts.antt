@@ -11,8 +11,8 @@ use lib.Dec.{eqb, leb}
 use lib.ListN.{length}
 use borrow.Author.Tests.{eqb-true, eqb-false, eq-eqb, ne-eqb, leb-true, leb-false, le-leb, lt-leb}
 use Rattle.ledger.specs.Usage.{entriesIn}
-use Rattle.model.proofs.trace.Trace.{Ev, Hist, mine, setOpen, advance, hist, firstOf, closerOf, oldestOf, closingFrom, Apart}
-use Rattle.model.proofs.trace.TraceLaws.{All, Falling, falling-more, firstOf-inside, Long, open-falling, done-falling}
+use Rattle.laws.proofs.trace.Trace.{Ev, Hist, mine, setOpen, advance, hist, firstOf, closerOf, oldestOf, closingFrom, Apart}
+use Rattle.laws.proofs.trace.TraceLaws.{All, Falling, falling-more, firstOf-inside, Long, open-falling, done-falling}
 
 -- ---- how often a position is in a transaction, and in some transactions
 

@@ -8,7 +8,7 @@ use Rattle.model.specs.Tag.{readTag}
 use Rattle.model.specs.Layout.{groupValid, groupAt, turnOf, slotOf, indexOf, wordThere, entryIn, entryAt}
 use Rattle.model.specs.declared.Tag.{Tag}
 use Rattle.model.specs.declared.Tag.the-variants.{Nothing, Closing}
-use Rattle.model.proofs.bytes.TagLaws.{closing-known}
+use Rattle.laws.proofs.bytes.TagLaws.{closing-known}
 
 valid : (b : Bool) (t u : Tag) → cond b t Nothing ≡ u → (u ≡ Nothing → ⊥) → t ≡ u
 valid true t u e n = e

@@ -14,7 +14,7 @@ use Rattle.model.specs.Commit.{Span}
 use Rattle.model.specs.Effects.{noneAcross}
 use Rattle.model.specs.declared.Tag.{Tag}
 use Rattle.model.specs.declared.Tag.the-variants.{Nothing, Entry, Closing}
-use Rattle.model.proofs.rule.Closings.{spanAt, closings}
+use Rattle.laws.proofs.rule.Closings.{spanAt, closings}
 use Rattle.scan.specs.Scan.{over}
 use Rattle.scan.proofs.PassLaws.{log-turn}
 use Rattle.limits.specs.Limits.{Highest, spanLimit, lowered}

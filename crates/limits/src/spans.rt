@@ -7,7 +7,7 @@ ghost use lib.ListN.{length};
 ghost use Rattle.model.specs.Tag.{field, readTag};
 ghost use Rattle.model.specs.Layout.{turnOf, wordThere, entryIn, entryAt};
 ghost use Rattle.model.specs.Effects.{noneAcross};
-ghost use Rattle.model.proofs.rule.Closings.{closings};
+ghost use Rattle.laws.proofs.rule.Closings.{closings};
 ghost use Rattle.limits.specs.Limits.{Highest, spanLimit, lowered};
 ghost use Rattle.scan.specs.Walk.{Walkable};
 

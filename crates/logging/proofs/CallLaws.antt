@@ -14,7 +14,7 @@ use Rattle.model.specs.Batch.{Record, recordBytes, batchBytes}
 use Rattle.model.specs.Effects.{Given, Effect}
 use Rattle.model.specs.Questions.{ask, askState, askBlock, askNewest, areasRight, stateRight, blockRight, newestRight, stripInOrder}
 use Rattle.model.specs.Calls.{outcome}
-use Rattle.model.proofs.bytes.LayoutLaws.{length-groupAt}
+use Rattle.laws.proofs.bytes.LayoutLaws.{length-groupAt}
 use Rattle.answers.specs.Lent.{leavesAll}
 use Rattle.answers.proofs.AnswerLaws.{done-by}
 

@@ -16,9 +16,9 @@ use Rattle.model.specs.State.{stateOf, setNext, setFilled, setFenced}
 use Rattle.model.specs.Effects.{Given, flushEffect, flushNone, flushPart}
 use Rattle.model.specs.Questions.{ask, askState, keepsPromises, batchFits, flushAnswer}
 use Rattle.model.specs.Calls.{sizeOf, flushCall}
-use Rattle.model.proofs.bytes.ByteLaws.{puts-append}
-use Rattle.model.proofs.strip.QuestionLaws.{ask-yes, ask-no, ask-passed}
-use Rattle.model.proofs.strip.BatchLaws.{length-GW, length-FN, batch-one}
+use Rattle.laws.proofs.bytes.ByteLaws.{puts-append}
+use Rattle.laws.proofs.strip.QuestionLaws.{ask-yes, ask-no, ask-passed}
+use Rattle.laws.proofs.strip.BatchLaws.{length-GW, length-FN, batch-one}
 use Rattle.answers.specs.Lent.{lent, leaves}
 use Rattle.answers.proofs.AnswerLaws.{Usable, usable-groups, state-usable, state-refuses, state-passes, state-only, refused-by}
 use Rattle.strip.specs.Order.{GroupsInOrder}

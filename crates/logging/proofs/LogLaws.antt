@@ -17,16 +17,16 @@ use Rattle.model.specs.State.{stateOf, setNext, setFilled, nextPosition, writer
 use Rattle.model.specs.Tag.{entryWord}
 use Rattle.model.specs.Effects.{entered, submitted, logged, linkFrom}
 use Rattle.model.specs.Questions.{ask}
-use Rattle.model.proofs.bytes.ByteLaws.{puts-nil}
-use Rattle.model.proofs.strip.QuestionLaws.{ask-yes, ask-no}
-use Rattle.model.proofs.strip.BatchLaws.{length-GW, batch-one}
+use Rattle.laws.proofs.bytes.ByteLaws.{puts-nil}
+use Rattle.laws.proofs.strip.QuestionLaws.{ask-yes, ask-no}
+use Rattle.laws.proofs.strip.BatchLaws.{length-GW, batch-one}
 use Rattle.writers.specs.Held.{heldFor}
 use Rattle.writers.specs.Frame.{SameElsewhere}
 use Rattle.writers.proofs.HeldLaws.{held-first, held-other}
 use Rattle.writers.proofs.FrameLaws.{elsewhere, setNext-writer, setFilled-writer}
 use Rattle.logging.specs.Logs.{MayLog, Fits, Wrote, loggedEntry, HeldNext, StoredOther}
 use Rattle.logging.proofs.CallLaws.{length-slot}
-use Rattle.model.proofs.strip.LoggingLaws.{length-entered}
+use Rattle.laws.proofs.strip.LoggingLaws.{length-entered}
 
 -- ---- room in the log and in the batch
 

@@ -13,11 +13,11 @@ use Rattle.model.specs.declared.State.{State}
 use Rattle.model.specs.declared.Writer.{Writer}
 use Rattle.model.specs.State.{stateOf, nextPosition, writerOf, holds}
 use Rattle.model.specs.Questions.{ask}
-use Rattle.model.proofs.strip.OrderLaws.{InOrder, WriterInOrder}
-use Rattle.model.proofs.strip.QuestionLaws.{ask-yes}
+use Rattle.laws.proofs.strip.OrderLaws.{InOrder, WriterInOrder}
+use Rattle.laws.proofs.strip.QuestionLaws.{ask-yes}
 use Rattle.answers.proofs.AnswerLaws.{Usable}
 use Rattle.logging.specs.Logs.{MayLog, Fits}
-use Rattle.model.proofs.strip.LoggingLaws.{bounds, link-small}
+use Rattle.laws.proofs.strip.LoggingLaws.{bounds, link-small}
 
 -- questions 8 and 10 of a call that logs nothing, and of one that logs
 pub quiet : (logs has : Bool) (size len : ℕ) → logs ≡ false → size ≡ 0 → ask (not logs || has) 8 (ask (leb size len) 9 0) ≡ 0

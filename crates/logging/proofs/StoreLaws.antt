@@ -16,9 +16,9 @@ use Rattle.model.specs.State.{stateOf, nextPosition, writerOf, setWriter, setHe
 use Rattle.model.specs.Effects.{Given, newState, logHeld, storeFirst, storeAgain, storeOther, storeEffect}
 use Rattle.model.specs.Questions.{ask, askBlock, writerKnown, homeKnown, writerOpen, roomFor, room, storeLogs, batchFits, storeAllowed, storeAnswer}
 use Rattle.model.specs.Calls.{sizeOf, storeCall}
-use Rattle.model.proofs.bytes.ByteLaws.{puts-nil}
-use Rattle.model.proofs.strip.OrderLaws.{place-below}
-use Rattle.model.proofs.strip.QuestionLaws.{ask-yes, ask-no, room-true, StoreReady, store-ready}
+use Rattle.laws.proofs.bytes.ByteLaws.{puts-nil}
+use Rattle.laws.proofs.strip.OrderLaws.{place-below}
+use Rattle.laws.proofs.strip.QuestionLaws.{ask-yes, ask-no, room-true, StoreReady, store-ready}
 use Rattle.answers.specs.Lent.{lent, leaves}
 use Rattle.answers.proofs.AnswerLaws.{Usable, block-usable, block-refuses, block-passes, block-only, refused-by}
 use Rattle.rights.proofs.RightsLaws.{store-only}
@@ -26,7 +26,7 @@ use Rattle.logging.specs.Logs.{MayLog, Fits, loggedEntry, StoredOther}
 use Rattle.logging.proofs.CallLaws.{block-first, ends}
 use Rattle.logging.proofs.LogLaws.{logged-size}
 use Rattle.logging.proofs.ReadyLaws.{quiet, loud, may, fits-tag}
-use Rattle.model.proofs.strip.LoggingLaws.{fits}
+use Rattle.laws.proofs.strip.LoggingLaws.{fits}
 
 -- ---- its effect
 

@@ -13,11 +13,11 @@ use Rattle.model.specs.Commit.{Span, committed, eachEntries, transactions, newe
 use Rattle.model.specs.Batch.{Record, batchBytes}
 use Rattle.model.specs.Effects.{touched, replayed, homeWrites}
 use Rattle.model.specs.declared.Tag.{Tag}
-use Rattle.model.proofs.bytes.ByteLaws.{puts-append}
-use Rattle.model.proofs.strip.BatchLaws.{batch-append}
-use Rattle.model.proofs.rule.Closings.{endOf}
-use Rattle.model.proofs.rule.ClosingLaws.{committed-closings, committed-within}
-use Rattle.model.proofs.trace.ReplayLaws.{length-replayed}
+use Rattle.laws.proofs.bytes.ByteLaws.{puts-append}
+use Rattle.laws.proofs.strip.BatchLaws.{batch-append}
+use Rattle.laws.proofs.rule.Closings.{endOf}
+use Rattle.laws.proofs.rule.ClosingLaws.{committed-closings, committed-within}
+use Rattle.laws.proofs.trace.ReplayLaws.{length-replayed}
 use Rattle.bitmap.proofs.MarkedLaws.{length-marked}
 use Rattle.homes.specs.Within.{Within}
 use Rattle.homes.proofs.HomeLaws.{length-writes, within-marked}

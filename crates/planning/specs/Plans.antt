@@ -8,7 +8,7 @@ use lib.ListN.{length, getD, take}
 use Rattle.model.specs.Bytes.{puts}
 use Rattle.model.specs.Layout.{entryAt}
 use Rattle.model.specs.Commit.{committed, transactions}
-use Rattle.model.proofs.rule.Closings.{endOf}
+use Rattle.laws.proofs.rule.Closings.{endOf}
 use Rattle.model.specs.Batch.{batchBytes}
 use Rattle.model.specs.Effects.{touched, replayed, homeWrites, touchedFrom, restoredHomes}
 use Rattle.scan.specs.Walk.{Walkable, closedBelow}

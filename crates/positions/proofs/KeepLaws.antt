@@ -17,8 +17,8 @@ use Rattle.model.specs.Commit.{Span, entries, members, writeAll}
 use Rattle.model.specs.Newest.{keep, keepEntry, keepEntries}
 use Rattle.model.specs.declared.Tag.{Tag}
 use Rattle.model.specs.declared.Tag.the-variants.{Nothing, Entry, Closing}
-use Rattle.model.proofs.bytes.TagLaws.{field-lt, entry-fits, read-entry, read-zero, read-displaced, entry-known, closing-known, entry-fields, closing-fields}
-use Rattle.model.proofs.rule.MemberLaws.{entries-at}
+use Rattle.laws.proofs.bytes.TagLaws.{field-lt, entry-fits, read-entry, read-zero, read-displaced, entry-known, closing-known, entry-fields, closing-fields}
+use Rattle.laws.proofs.rule.MemberLaws.{entries-at}
 use Rattle.scan.specs.Members.{taking}
 use Rattle.scan.specs.Scan.{over}
 use Rattle.scan.proofs.GroupLaws.{word-other, word-fits, valid-range, part-group}

@@ -10,8 +10,8 @@ use lib.Dec.{ltb}
 use lib.ListN.{length, set, replicate, length-replicate}
 use Rattle.model.specs.Bytes.{puts, number, putNumber}
 use Rattle.model.specs.Newest.{noPosition, keptFor, keep, nothingKept, forget}
-use Rattle.model.proofs.bytes.ByteLaws.{puts-nil, puts-cons, puts-whole}
-use Rattle.model.proofs.strip.NewestLaws.{forget-above}
+use Rattle.laws.proofs.bytes.ByteLaws.{puts-nil, puts-cons, puts-whole}
+use Rattle.laws.proofs.strip.NewestLaws.{forget-above}
 
 -- ---- one home
 

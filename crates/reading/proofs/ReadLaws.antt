@@ -19,12 +19,12 @@ use Rattle.model.specs.Effects.{Given, groups, homes, tagsOf, liveTags, liveBas
 use Rattle.model.specs.Batch.{batchBytes}
 use Rattle.model.specs.Questions.{writerKnown, homeKnown, readAllowed, askBoth, readAnswer}
 use Rattle.model.specs.Calls.{readCall}
-use Rattle.model.proofs.bytes.ByteLaws.{puts-nil, puts-whole, length-part}
-use Rattle.model.proofs.strip.OrderLaws.{InOrder}
+use Rattle.laws.proofs.bytes.ByteLaws.{puts-nil, puts-whole, length-part}
+use Rattle.laws.proofs.strip.OrderLaws.{InOrder}
 use Rattle.answers.proofs.AnswerLaws.{Usable, refused-by, done-by}
 use Rattle.answers.proofs.NewestAnswers.{both-refuses, both-passes, both-zero, both-usable}
 use Rattle.answers.specs.Lent.{leavesAll}
-use Rattle.model.proofs.strip.QuestionLaws.{ask-yes, ask-no, ask-passed}
+use Rattle.laws.proofs.strip.QuestionLaws.{ask-yes, ask-no, ask-passed}
 use Rattle.scan.specs.Members.{Stretch}
 use Rattle.shown.specs.There.{tagsBy, thereBy, placeOf, placeBy, Searchable}
 use Rattle.shown.proofs.ThereLaws.{there-same, there-below}

@@ -13,9 +13,9 @@ use Rattle.model.specs.Batch.{batchBytes}
 use Rattle.model.specs.Effects.{Given, formatEffect, formatted}
 use Rattle.model.specs.Questions.{areasRight, batchFits, formatAnswer}
 use Rattle.model.specs.Calls.{sizeOf, formatCall}
-use Rattle.model.proofs.bytes.ByteLaws.{puts-whole, length-zeros}
-use Rattle.model.proofs.strip.QuestionLaws.{ask-yes, ask-no, ask-passed}
-use Rattle.model.proofs.strip.OrderLaws.{tests}
+use Rattle.laws.proofs.bytes.ByteLaws.{puts-whole, length-zeros}
+use Rattle.laws.proofs.strip.QuestionLaws.{ask-yes, ask-no, ask-passed}
+use Rattle.laws.proofs.strip.OrderLaws.{tests}
 use Rattle.batch.proofs.FormatLaws.{length-formatted}
 use Rattle.answers.specs.Lent.{lent, leaves}
 use Rattle.answers.proofs.AnswerLaws.{refused-by, done-by}

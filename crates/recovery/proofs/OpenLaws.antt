@@ -16,10 +16,10 @@ use Rattle.model.specs.State.{freshState}
 use Rattle.model.specs.Effects.{Given, blankWrites, touched, replayed, homeWrites, openTags, openStart, openEffect}
 use Rattle.model.specs.Questions.{ask, areasRight, stateRight, headerFits, startFits, batchFits, openAnswer, newestRight}
 use Rattle.model.specs.Calls.{sizeOf, openCall}
-use Rattle.model.proofs.bytes.LayoutLaws.{length-header}
-use Rattle.model.proofs.strip.BatchLaws.{batch-append, length-FN, length-KW}
-use Rattle.model.proofs.strip.QuestionLaws.{ask-yes, ask-no, ask-passed, and-true}
-use Rattle.model.proofs.strip.OrderLaws.{tests}
+use Rattle.laws.proofs.bytes.LayoutLaws.{length-header}
+use Rattle.laws.proofs.strip.BatchLaws.{batch-append, length-FN, length-KW}
+use Rattle.laws.proofs.strip.QuestionLaws.{ask-yes, ask-no, ask-passed, and-true}
+use Rattle.laws.proofs.strip.OrderLaws.{tests}
 use Rattle.batch.proofs.RecordLaws.{records-then-one, one-then-records}
 use Rattle.batch.proofs.FormatLaws.{length-groups}
 use Rattle.scan.specs.Walk.{closedBelow}

@@ -17,12 +17,12 @@ use Rattle.model.specs.State.{stateOf, setRound, setCursor, underWay, fixedIn}
 use Rattle.model.specs.Effects.{Given, marked, homeWrites, touchedFrom, restoredHomes, liveTags, liveBase, roundTransactions, roundHomes, roundEnded, roundMoved, stepHomes, beginRoundEffect, stepRoundEffect, tagsOf}
 use Rattle.model.specs.Questions.{ask, askState, batchFits, inRound, beginRoundAnswer, stepRoundAnswer}
 use Rattle.model.specs.Calls.{sizeOf, beginRoundCall, stepRoundCall}
-use Rattle.model.proofs.bytes.ByteLaws.{puts-append}
-use Rattle.model.proofs.strip.BatchLaws.{batch-one, batch-append, length-FN}
-use Rattle.model.proofs.strip.OrderLaws.{InOrder}
-use Rattle.model.proofs.strip.QuestionLaws.{ask-yes, ask-no}
-use Rattle.model.proofs.trace.ReplayLaws.{length-blockAt}
-use Rattle.model.proofs.trace.RestoreLaws.{length-restored}
+use Rattle.laws.proofs.bytes.ByteLaws.{puts-append}
+use Rattle.laws.proofs.strip.BatchLaws.{batch-one, batch-append, length-FN}
+use Rattle.laws.proofs.strip.OrderLaws.{InOrder}
+use Rattle.laws.proofs.strip.QuestionLaws.{ask-yes, ask-no}
+use Rattle.laws.proofs.trace.ReplayLaws.{length-blockAt}
+use Rattle.laws.proofs.trace.RestoreLaws.{length-restored}
 use Rattle.homes.specs.Within.{Within}
 use Rattle.homes.proofs.HomeLaws.{length-writes, within-append}
 use Rattle.scan.specs.Walk.{closedBelow}

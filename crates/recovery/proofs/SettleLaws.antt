@@ -15,9 +15,9 @@ use Rattle.model.specs.State.{stateOf, setSettled, setFenced}
 use Rattle.model.specs.Effects.{Given, touched, replayed, homeWrites, tagsOf, liveTags, liveBase, settleEffect}
 use Rattle.model.specs.Questions.{ask, askState, batchFits, settleAnswer, inRound}
 use Rattle.model.specs.Calls.{sizeOf, settleCall}
-use Rattle.model.proofs.strip.BatchLaws.{batch-one, length-FN}
-use Rattle.model.proofs.strip.QuestionLaws.{ask-yes, ask-no}
-use Rattle.model.proofs.strip.OrderLaws.{InOrder}
+use Rattle.laws.proofs.strip.BatchLaws.{batch-one, length-FN}
+use Rattle.laws.proofs.strip.QuestionLaws.{ask-yes, ask-no}
+use Rattle.laws.proofs.strip.OrderLaws.{InOrder}
 use Rattle.scan.specs.Walk.{closedBelow}
 use Rattle.answers.specs.Lent.{lent, leaves}
 use Rattle.answers.proofs.AnswerLaws.{Usable, state-usable, state-only, state-refuses, state-passes, refused-by, done-by}

@@ -12,8 +12,8 @@ use Rattle.model.specs.Tag.{belongs, homeOf}
 use Rattle.model.specs.Commit.{addIf, members, entries, eachEntries, newestIn, newest, orElse, found}
 use Rattle.model.specs.declared.Tag.{Tag}
 use Rattle.model.specs.declared.Tag.the-variants.{Nothing, Entry, Closing}
-use Rattle.model.proofs.rule.Closings.{spanAt, closings}
-use Rattle.model.proofs.rule.MemberLaws.{entries-at, each-append, newest-if, newest-append, orElse-none, orElse-assoc}
+use Rattle.laws.proofs.rule.Closings.{spanAt, closings}
+use Rattle.laws.proofs.rule.MemberLaws.{entries-at, each-append, newest-if, newest-append, orElse-none, orElse-assoc}
 use Rattle.scan.proofs.ScanLaws.{Placed}
 use Rattle.gathering.specs.Closers.{closes, closer}
 use Rattle.gathering.proofs.CloserLaws.{closer-most, closer-same, closer-now}

@@ -12,7 +12,7 @@ use Rattle.model.specs.Tag.{present, readTag}
 use Rattle.model.specs.Layout.{groupAt, groupTag, groupBlock, groupValid, turnOf, topBit, slotOf, indexOf, wordThere, entryIn, blockOf, entryAt, blockAt, putHome}
 use Rattle.model.specs.declared.Tag.{Tag}
 use Rattle.model.specs.declared.Tag.the-variants.{Nothing}
-use Rattle.model.proofs.bytes.TagLaws.{read-zero}
+use Rattle.laws.proofs.bytes.TagLaws.{read-zero}
 use Rattle.scan.proofs.GroupLaws.{part-group}
 
 -- ---- ring slots

@@ -18,12 +18,12 @@ use Rattle.model.specs.Commit.{Span, addIf, members, entries, eachEntries, newe
 use Rattle.model.specs.Batch.{batchBytes}
 use Rattle.model.specs.Effects.{marked, touched, replayed, homeWrites}
 use Rattle.model.specs.declared.Tag.{Tag}
-use Rattle.model.proofs.rule.Closings.{closings}
-use Rattle.model.proofs.bytes.ByteLaws.{puts-append, puts-nil}
-use Rattle.model.proofs.bytes.LayoutLaws.{length-putHome, home-same, home-other, area-ext}
-use Rattle.model.proofs.trace.TraceLaws.{All}
-use Rattle.model.proofs.trace.HomeLaws.{In, in-marked, marked-in}
-use Rattle.model.proofs.trace.ReplayLaws.{blockFor, Good, length-blockAt, length-replayed, replay-home, good-each}
+use Rattle.laws.proofs.rule.Closings.{closings}
+use Rattle.laws.proofs.bytes.ByteLaws.{puts-append, puts-nil}
+use Rattle.laws.proofs.bytes.LayoutLaws.{length-putHome, home-same, home-other, area-ext}
+use Rattle.laws.proofs.trace.TraceLaws.{All}
+use Rattle.laws.proofs.trace.HomeLaws.{In, in-marked, marked-in}
+use Rattle.laws.proofs.trace.ReplayLaws.{blockFor, Good, length-blockAt, length-replayed, replay-home, good-each}
 use Rattle.bitmap.specs.Marks.{bit, bitsOf, raised}
 use Rattle.bitmap.proofs.MarkedLaws.{raised-nil, raised-cons, length-raised, marked-zero, marked-same, marked-add, marked-up-to, length-marked-le}
 use Rattle.bitmap.proofs.WordLaws.{no-bits}

@@ -17,8 +17,8 @@ use Rattle.model.specs.Commit.{newest, found}
 use Rattle.model.specs.Batch.{HW, recordBytes, batchBytes}
 use Rattle.model.specs.Effects.{marked, homeWrites, touchedFrom, restoreHome, restoredHomes}
 use Rattle.model.specs.declared.Tag.{Tag}
-use Rattle.model.proofs.bytes.ByteLaws.{puts-append, puts-nil}
-use Rattle.model.proofs.trace.HomeLaws.{In, in-marked}
+use Rattle.laws.proofs.bytes.ByteLaws.{puts-append, puts-nil}
+use Rattle.laws.proofs.trace.HomeLaws.{In, in-marked}
 use Rattle.bitmap.specs.Marks.{raised}
 use Rattle.bitmap.proofs.MarkedLaws.{raised-nil, raised-cons, raised-append, length-raised, marked-zero, marked-same, marked-none, marked-add, marked-up-to, length-marked}
 use Rattle.homes.specs.Within.{Within}

@@ -12,8 +12,8 @@ use lib.ListN.{length, getD}
 use Rattle.model.specs.Bytes.{part, zeros, number, same}
 use Rattle.model.specs.Tag.{field, displaced}
 use Rattle.model.specs.Layout.{topBit, withTopBit}
-use Rattle.model.proofs.bytes.ByteLaws.{length-part, number-below, number-inside, number-lt, number-part, part-whole}
-use Rattle.model.proofs.bytes.TurnLaws.{byte-number, length-withTopBit}
+use Rattle.laws.proofs.bytes.ByteLaws.{length-part, number-below, number-inside, number-lt, number-part, part-whole}
+use Rattle.laws.proofs.bytes.TurnLaws.{byte-number, length-withTopBit}
 use Rattle.codec.proofs.JoinLaws.{number-join}
 use Rattle.shown.specs.There.{tagFrom, entryFrom}
 use Rattle.rights.proofs.PlaceLaws.{or-none, eight-words}

@@ -14,8 +14,8 @@ use Rattle.model.specs.declared.State.{State}
 use Rattle.model.specs.Newest.{keptFor, carryListed}
 use Rattle.model.specs.Effects.{Given, groups, homes}
 use Rattle.model.specs.Rights.{readList, sameListed, listMoved, signFor, signIf, keepList}
-use Rattle.model.proofs.bytes.LayoutLaws.{groups-in, homes-in}
-use Rattle.model.proofs.strip.ListedLaws.{length-carry, state-carry}
+use Rattle.laws.proofs.bytes.LayoutLaws.{groups-in, homes-in}
+use Rattle.laws.proofs.strip.ListedLaws.{length-carry, state-carry}
 use Rattle.answers.specs.Lent.{lentAll}
 use Rattle.rights.specs.Listed.{Listed, Left, blocksBy}
 use Rattle.rights.proofs.RightsLaws.{list-same, kept-at}

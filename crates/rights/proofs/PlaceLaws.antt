@@ -14,7 +14,7 @@ use Rattle.model.specs.Tag.{displaced}
 use Rattle.model.specs.Layout.{withTopBit, homeAt}
 use Rattle.model.specs.declared.State.{State}
 use Rattle.model.specs.Rights.{inRange, inRanges}
-use Rattle.model.proofs.bytes.ByteLaws.{number-below, number-part, part-whole}
+use Rattle.laws.proofs.bytes.ByteLaws.{number-below, number-part, part-whole}
 use Rattle.codec.proofs.BlockLaws.{word-turn, word-stop, test-end}
 use Rattle.shown.specs.There.{Searchable, placeBy, shownBy, tagFrom, entryFrom}
 use Rattle.shown.proofs.ThereLaws.{place-none, place-fits, shown-home, shown-at}

@@ -16,10 +16,10 @@ use Rattle.model.specs.Newest.{keptFor}
 use Rattle.model.specs.Effects.{Given, groups, homes, tagsOf, liveTags, liveBase, blockOr, isThere}
 use Rattle.model.specs.Rights.{forHome, shownAt, listBy, storeList, readList, ofList, isList, inRange, inRanges, signedList, storeRight, readRight}
 use Rattle.model.specs.Questions.{storeAllowed, readAllowed}
-use Rattle.model.proofs.bytes.ByteLaws.{length-part, number-part, part-whole}
-use Rattle.model.proofs.bytes.LayoutLaws.{part-after, part-of-front}
-use Rattle.model.proofs.trace.ReplayLaws.{length-blockAt}
-use Rattle.model.proofs.strip.OrderLaws.{InOrder}
+use Rattle.laws.proofs.bytes.ByteLaws.{length-part, number-part, part-whole}
+use Rattle.laws.proofs.bytes.LayoutLaws.{part-after, part-of-front}
+use Rattle.laws.proofs.trace.ReplayLaws.{length-blockAt}
+use Rattle.laws.proofs.strip.OrderLaws.{InOrder}
 use Rattle.answers.specs.Lent.{lent, lentAll}
 use Rattle.answers.proofs.AnswerLaws.{Usable}
 use Rattle.shown.specs.There.{thereBy, shownBy, Searchable}

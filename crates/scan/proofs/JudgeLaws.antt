@@ -7,7 +7,7 @@ use native.Mathlib.Omega.{arith}
 use borrow.Author.Tests.{eq-eqb, ne-eqb}
 use lib.Dec.{eqb, ltb}
 use Rattle.model.specs.Commit.{linked}
-use Rattle.model.proofs.rule.ClosingLaws.{lastAt}
+use Rattle.laws.proofs.rule.ClosingLaws.{lastAt}
 use Rattle.scan.specs.declared.commits.Progress.{Progress}
 use Rattle.scan.specs.Scan.{taken, decided}
 

@@ -11,7 +11,7 @@ use Rattle.model.specs.Tag.{readTag}
 use Rattle.model.specs.Layout.{groupAt, groupValid, turnOf, indexOf, wordThere, entryIn, entryAt}
 use Rattle.model.specs.declared.Tag.{Tag}
 use Rattle.model.specs.declared.Tag.the-variants.{Nothing}
-use Rattle.model.proofs.bytes.LayoutLaws.{position-group, position-rest, position-slot}
+use Rattle.laws.proofs.bytes.LayoutLaws.{position-group, position-rest, position-slot}
 use Rattle.scan.specs.Scan.{over}
 use Rattle.scan.proofs.GroupLaws.{part-group}
 

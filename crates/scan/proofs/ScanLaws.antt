@@ -17,11 +17,11 @@ use Rattle.model.specs.Layout.{groupAt, groupValid, turnOf, slotOf, indexOf, wo
 use Rattle.model.specs.Commit.{members, complete, linked, Walk, judged, visit, walk, started, committed}
 use Rattle.model.specs.declared.Tag.{Tag}
 use Rattle.model.specs.declared.Tag.the-variants.{Nothing, Entry, Closing}
-use Rattle.model.proofs.rule.Closings.{endOf}
-use Rattle.model.proofs.rule.ClosingLaws.{members-more, members-same, end-more, lastAt, walk-more, walked, committed-stopped}
-use Rattle.model.proofs.bytes.ByteLaws.{length-zeros}
-use Rattle.model.proofs.strip.OrderLaws.{byte-zeros}
-use Rattle.model.proofs.bytes.TagLaws.{entry-known, closing-known}
+use Rattle.laws.proofs.rule.Closings.{endOf}
+use Rattle.laws.proofs.rule.ClosingLaws.{members-more, members-same, end-more, lastAt, walk-more, walked, committed-stopped}
+use Rattle.laws.proofs.bytes.ByteLaws.{length-zeros}
+use Rattle.laws.proofs.strip.OrderLaws.{byte-zeros}
+use Rattle.laws.proofs.bytes.TagLaws.{entry-known, closing-known}
 use Rattle.scan.specs.declared.commits.Progress.{Progress}
 use Rattle.scan.specs.Scan.{Scan, fresh, counted, taken, decided, enter, over, entered, Within}
 

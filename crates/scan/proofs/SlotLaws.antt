@@ -5,7 +5,7 @@ use native.Mathlib.Decide.{ℕ-discrete}
 use native.Mathlib.Nat.{mod-self, mod-lt, mod-eq-of-lt, mod-add-mod, div-add-mod, div-eq-of-lt, mul-add-div, mul-suc}
 use native.Mathlib.Omega.{arith}
 use Rattle.model.specs.Layout.{turnOf}
-use Rattle.model.proofs.bytes.TurnLaws.{turnOf-lt}
+use Rattle.laws.proofs.bytes.TurnLaws.{turnOf-lt}
 use Rattle.scan.specs.declared.slots.RingSlot.{RingSlot}
 use Rattle.scan.specs.Slots.{Kept}
 

@@ -10,7 +10,7 @@ use lib.ListN.{getD}
 use Rattle.model.specs.Tag.{field, homeField, readTag}
 use Rattle.model.specs.declared.Tag.{Tag}
 use Rattle.model.specs.declared.Tag.the-variants.{Nothing, Entry, Closing}
-use Rattle.model.proofs.bytes.TagLaws.{field-lt}
+use Rattle.laws.proofs.bytes.TagLaws.{field-lt}
 use Rattle.codec.proofs.KindLaws.{neither-kind, no-such-home, begun-before, plain-said, closing-said, closing-empty}
 use Rattle.scan.specs.declared.commits.Progress.{Progress}
 use Rattle.scan.specs.Scan.{Scan, maxEntries, counted, decided, enter, Within}

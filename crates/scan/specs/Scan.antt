@@ -10,7 +10,7 @@ use Rattle.model.specs.Bytes.{zeros}
 use Rattle.model.specs.Commit.{linked}
 use Rattle.model.specs.declared.Tag.{Tag}
 use Rattle.model.specs.declared.Tag.the-variants.{Nothing, Entry, Closing}
-use Rattle.model.proofs.rule.ClosingLaws.{lastAt}
+use Rattle.laws.proofs.rule.ClosingLaws.{lastAt}
 use Rattle.scan.specs.declared.commits.Progress.{Progress}
 
 -- the state: `counts` holds at index i how many entries of the transaction with first position base + i have passed

@@ -5,7 +5,7 @@ use Prim.Native.Nat.{ℕ, _+_, _-_, _*_, _^_, _≤_, _<_}
 use lib.ListN.{length}
 use Rattle.model.specs.Layout.{entryAt}
 use Rattle.model.specs.Commit.{eachEntries}
-use Rattle.model.proofs.rule.Closings.{closings}
+use Rattle.laws.proofs.rule.Closings.{closings}
 
 -- a log copy with its number of groups and its start, where positions below `end` are looked at
 pub record Walkable (log : List ℕ) (groups start end : ℕ) : Type 0 where

@@ -11,8 +11,8 @@ ghost use Rattle.model.specs.Bytes.{zeros};
 ghost use Rattle.model.specs.Tag.{entryWord, field, readTag};
 ghost use Rattle.model.specs.Layout.{turnOf, entryIn, entryAt};
 ghost use Rattle.model.specs.Commit.{linked, committed};
-ghost use Rattle.model.proofs.rule.Closings.{endOf};
-ghost use Rattle.model.proofs.rule.ClosingLaws.{lastAt};
+ghost use Rattle.laws.proofs.rule.Closings.{endOf};
+ghost use Rattle.laws.proofs.rule.ClosingLaws.{lastAt};
 ghost use Rattle.scan.specs.Scan.{counted, decided, enter, Within, Stopped};
 
 // What the walk finds: one past the last committed closing entry, or 0 for none, and how many transactions are committed.

@@ -12,7 +12,7 @@ use Rattle.model.specs.Tag.{field, readTag, belongs, homeOf}
 use Rattle.model.specs.Commit.{members, writeAll, newestIn}
 use Rattle.model.specs.declared.Tag.{Tag}
 use Rattle.model.specs.declared.Tag.the-variants.{Nothing, Entry, Closing}
-use Rattle.model.proofs.bytes.TagLaws.{entry-fields, closing-fields}
+use Rattle.laws.proofs.bytes.TagLaws.{entry-fields, closing-fields}
 use Rattle.scan.specs.Members.{taking}
 use Rattle.scan.proofs.MemberPass.{taking-other, taking-entry, taking-closing, taking-back, over-members}
 use Rattle.search.specs.Codes.{codeOf}

@@ -18,10 +18,10 @@ use Rattle.model.specs.declared.Tag.{Tag}
 use Rattle.model.specs.declared.Tag.the-variants.{Nothing, Entry, Closing}
 use Rattle.model.specs.Effects.{Given, groups, homes, tagsOf, liveTags, liveBase, blockOr, isThere}
 use Rattle.model.specs.Rights.{shownAt}
-use Rattle.model.proofs.bytes.ByteLaws.{puts-whole}
-use Rattle.model.proofs.bytes.TagLaws.{entry-known, closing-known}
-use Rattle.model.proofs.trace.ReplayLaws.{length-blockAt}
-use Rattle.model.proofs.strip.OrderLaws.{InOrder, next-within}
+use Rattle.laws.proofs.bytes.ByteLaws.{puts-whole}
+use Rattle.laws.proofs.bytes.TagLaws.{entry-known, closing-known}
+use Rattle.laws.proofs.trace.ReplayLaws.{length-blockAt}
+use Rattle.laws.proofs.strip.OrderLaws.{InOrder, next-within}
 use Rattle.answers.proofs.AnswerLaws.{Usable}
 use Rattle.scan.specs.declared.slots.RingSlot.{RingSlot}
 use Rattle.scan.specs.Slots.{Kept}

@@ -17,13 +17,13 @@ use Rattle.model.specs.Effects.{Given, groups, homes, newState, tagsOf, liveTag
 use Rattle.model.specs.Questions.{startFits, batchFits, askNewest, trimAnswer}
 use Rattle.model.specs.Calls.{sizeOf, outcome, trimCall}
 use Rattle.model.specs.declared.State.{State}
-use Rattle.model.proofs.strip.BatchLaws.{length-KW, length-FN}
-use Rattle.model.proofs.bytes.ByteLaws.{puts-append}
-use Rattle.model.proofs.rule.Closings.{closings, endOf}
-use Rattle.model.proofs.rule.ClosingLaws.{committed-closings, committed-most}
-use Rattle.model.proofs.bytes.LayoutLaws.{length-header}
-use Rattle.model.proofs.strip.OrderLaws.{InOrder, next-within}
-use Rattle.model.proofs.strip.QuestionLaws.{ask-yes, ask-no}
+use Rattle.laws.proofs.strip.BatchLaws.{length-KW, length-FN}
+use Rattle.laws.proofs.bytes.ByteLaws.{puts-append}
+use Rattle.laws.proofs.rule.Closings.{closings, endOf}
+use Rattle.laws.proofs.rule.ClosingLaws.{committed-closings, committed-most}
+use Rattle.laws.proofs.bytes.LayoutLaws.{length-header}
+use Rattle.laws.proofs.strip.OrderLaws.{InOrder, next-within}
+use Rattle.laws.proofs.strip.QuestionLaws.{ask-yes, ask-no}
 use Rattle.answers.specs.Lent.{lentAll, leavesAll, lent}
 use Rattle.answers.proofs.AnswerLaws.{Usable, refused-by, done-by, strip-by}
 use Rattle.answers.proofs.NewestAnswers.{newest-refuses, newest-passes}

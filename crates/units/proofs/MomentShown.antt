@@ -12,7 +12,7 @@ use borrow.Author.Tests.{eqb-true}
 use Rattle.model.specs.Bytes.{part, zeros}
 use Rattle.model.specs.History.{World, lent}
 use Rattle.acts.specs.Units.{fetchEnds, reviseEnds}
-use Rattle.model.proofs.bytes.ByteLaws.{length-zeros}
+use Rattle.laws.proofs.bytes.ByteLaws.{length-zeros}
 use Rattle.events.specs.Offered.{heldAfter}
 use Rattle.events.specs.Folded.{noted, readFor, Folded, Recorded}
 use Rattle.units.specs.Unit.{Lent, Left, Judged, untouched, fetched, revised, transacted, stored, afterReading, event}

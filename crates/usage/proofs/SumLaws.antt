@@ -13,9 +13,9 @@ use Rattle.model.specs.Commit.{members, complete, linked, Span, Walk, started, 
 use Rattle.ledger.specs.Usage.{entriesIn}
 use Rattle.model.specs.declared.Tag.{Tag}
 use Rattle.model.specs.declared.Tag.the-variants.{Nothing, Entry, Closing}
-use Rattle.model.proofs.bytes.TagLaws.{field-lt, closing-fields}
-use Rattle.model.proofs.rule.Closings.{endOf}
-use Rattle.model.proofs.rule.ClosingLaws.{end-more, committed-most}
+use Rattle.laws.proofs.bytes.TagLaws.{field-lt, closing-fields}
+use Rattle.laws.proofs.rule.Closings.{endOf}
+use Rattle.laws.proofs.rule.ClosingLaws.{end-more, committed-most}
 use Rattle.scan.specs.Scan.{over}
 use Rattle.scan.specs.Walk.{Walkable}
 use Rattle.usage.specs.Sums.{addCount, summed}

@@ -19,7 +19,7 @@ use Rattle.model.specs.declared.Holder.{Holder}
 use Rattle.ledger.specs.Usage.{noHolder, holdsLower, holderOf, entriesIn, committedEntries, openEntries, usageOf, usageRefused, usageIf, usageCall}
 use Rattle.model.specs.declared.State.{State}
 use Rattle.model.specs.declared.Writer.{Writer}
-use Rattle.model.proofs.strip.OrderLaws.{InOrder, next-within}
+use Rattle.laws.proofs.strip.OrderLaws.{InOrder, next-within}
 use Rattle.answers.specs.Lent.{lent}
 use Rattle.answers.proofs.AnswerLaws.{Usable}
 use Rattle.usage.specs.Sums.{CountsFit}

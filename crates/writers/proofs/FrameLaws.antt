@@ -12,9 +12,9 @@ use Rattle.model.specs.Bytes.{puts, bytes, putNumber}
 use Rattle.model.specs.declared.State.{State}
 use Rattle.model.specs.declared.Writer.{Writer}
 use Rattle.model.specs.State.{stateOf, setNext, setFilled, writerOffset, writerOf, setWriter, heldOf}
-use Rattle.model.proofs.bytes.ByteLaws.{puts-nil, length-bytes}
-use Rattle.model.proofs.strip.StateLaws.{byte-agree}
-use Rattle.model.proofs.strip.WriterLaws.{length-setWriter, part-setWriter, state-setWriter, writer-setWriter-other, held-setWriter}
+use Rattle.laws.proofs.bytes.ByteLaws.{puts-nil, length-bytes}
+use Rattle.laws.proofs.strip.StateLaws.{byte-agree}
+use Rattle.laws.proofs.strip.WriterLaws.{length-setWriter, part-setWriter, state-setWriter, writer-setWriter-other, held-setWriter}
 use Rattle.writers.specs.Frame.{SameElsewhere}
 
 -- ---- the frame

@@ -12,8 +12,8 @@ use Rattle.model.specs.Layout.{homeAt}
 use Rattle.model.specs.Book.{Entry, Commit, Held, Task, opened, Book, setTask, withTask, begin, abort, entryOf, submit, grown, filledUp, hold, storeTask, store, addCommit, commitTask, commit, flush, owedBy, withCommits, writeEntries, writeCommits, homesAfter, newestEntry, heldOr, ownOr, reads}
 use Rattle.model.specs.History.{Change, begins, reserves, aborts, stores, commits, flushes, Call, opening, confirm, change, service, feed, feedChange, isOpening}
 use Rattle.claims.specs.Isolation.{Each, both, more, EntryAlike, CommitAlike, HeldAlike, TaskAlike, idles, empties, holds, CallAlike, equal, stored}
-use Rattle.model.proofs.bytes.ByteLaws.{length-zeros}
-use Rattle.model.proofs.trace.TraceLaws.{All}
+use Rattle.laws.proofs.bytes.ByteLaws.{length-zeros}
+use Rattle.laws.proofs.trace.TraceLaws.{All}
 use Rattle.claims.proofs.invariant.TouchLaws.{CommitFits, homeAt-entries}
 use Rattle.claims.proofs.invariant.BookReplay.{length-writeCommits}
 

@@ -21,8 +21,8 @@ use Rattle.ledger.specs.Store.{Store, nextStart, toStep, numbered, inRound, rou
 use Rattle.ledger.specs.Store as store
 use Rattle.claims.specs.Isolation.{Each, both, more, StoreAlike, CallAlike, equal, stored, followed, Denied, DeniedThroughout, ToldSame, ToldSameThroughout}
 use Rattle.model.specs.Witnesses.{calls}
-use Rattle.model.proofs.strip.QuestionLaws.{ask-passed}
-use Rattle.model.proofs.trace.TraceLaws.{All}
+use Rattle.laws.proofs.strip.QuestionLaws.{ask-passed}
+use Rattle.laws.proofs.trace.TraceLaws.{All}
 use Rattle.claims.proofs.invariant.TouchLaws.{CommitFits}
 use Rattle.claims.proofs.claims.AlikeBook.{reads-alike}
 use Rattle.claims.proofs.claims.AlikeReplies.{reply-alike, readable-shown}

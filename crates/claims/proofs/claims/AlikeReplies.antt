@@ -18,9 +18,9 @@ use Rattle.model.specs.Demands.{heldEntries, untrimmed, closedBelow, someBefore
 use Rattle.model.specs.History.{Change, begins, reserves, aborts, stores, commits, flushes, Service, settles, trims, reads, roundBegins, roundSteps, Call, opening, confirm, change, service, isOpening}
 use Rattle.ledger.specs.Store.{Store, firstGroup, nextGroup, nextOf, placesLeft, promisedTo, freeLeft, hasRoom, mayFlush, entryBytes, isIdle, storeMustLog, commitMustLog, wrote, anyWrote, manyHomes, toSettle, toStep, mayStart, nextStart, listOf, replyChange, replyService, reply}
 use Rattle.claims.specs.Isolation.{Each, both, more, EntryAlike, CommitAlike, TaskAlike, idles, empties, holds, StoreAlike, CallAlike, equal, stored, Denied}
-use Rattle.model.proofs.bytes.ByteLaws.{length-part, part-within}
-use Rattle.model.proofs.bytes.LayoutLaws.{area-ext}
-use Rattle.model.proofs.trace.TraceLaws.{All}
+use Rattle.laws.proofs.bytes.ByteLaws.{length-part, part-within}
+use Rattle.laws.proofs.bytes.LayoutLaws.{area-ext}
+use Rattle.laws.proofs.trace.TraceLaws.{All}
 use Rattle.claims.proofs.invariant.TouchLaws.{CommitFits, length-homesAfter}
 use Rattle.claims.proofs.claims.StoreLaws.{marked-same}
 use Rattle.claims.proofs.claims.AlikeBook.{homes-alike}

@@ -18,8 +18,8 @@ use Rattle.model.specs.Calls.{sizeOf, beginRoundCall, stepRoundCall}
 use Rattle.model.specs.Demands.{closedBelow, untrimmed, eachContents}
 use Rattle.model.specs.History.{Change, begins, reserves, aborts, stores, commits, flushes, Service, settles, roundBegins, roundSteps, trims, reads, Call, opening, confirm, change, service, World, lent, ends, changeEnds, serviceEnds, isOpening}
 use Rattle.ledger.specs.Store.{Store, anyWrote, toStep, askBatch, replyOf, replyChange, replyService, reply}
-use Rattle.model.proofs.strip.BatchLaws.{batch-append, batch-one, length-FN}
-use Rattle.model.proofs.trace.WalkLaws.{closingBelow}
+use Rattle.laws.proofs.strip.BatchLaws.{batch-append, batch-one, length-FN}
+use Rattle.laws.proofs.trace.WalkLaws.{closingBelow}
 use Rattle.claims.proofs.invariant.Invariant.{Sizes, Running}
 use Rattle.claims.proofs.invariant.LiveLog.{tagsIn, keptIn}
 use Rattle.claims.proofs.steps.RoundRuns.{isDue, remaining, broughtUp, stepped, step-effect, step-size, step-inside, step-now, nextCursor, cursor-upto}

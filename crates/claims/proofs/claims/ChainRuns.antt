@@ -21,16 +21,16 @@ use Rattle.model.specs.History.{Call, begin, reserve, store, commit, Event, cal
 use Rattle.ledger.specs.Store.{Store, listOf, afterReply, replyOf, follow}
 use Rattle.ledger.specs.Store as abstract
 use Rattle.acts.specs.Units.{transacts, transactEnds, feedStores, feedTransact, leftBy, act, roomy, storesFrom, chain}
-use Rattle.model.proofs.bytes.ByteLaws.{length-part}
-use Rattle.model.proofs.strip.BatchLaws.{AllFormed, formed-append}
-use Rattle.model.proofs.strip.QuestionLaws.{ask-yes}
+use Rattle.laws.proofs.bytes.ByteLaws.{length-part}
+use Rattle.laws.proofs.strip.BatchLaws.{AllFormed, formed-append}
+use Rattle.laws.proofs.strip.QuestionLaws.{ask-yes}
 use Rattle.acts.proofs.ChainLaws.{each-of, TransactReady, transact-ready, store-fits, commit-fits}
 use Rattle.claims.proofs.steps.DoneLaws.{outcome-code, outcome-done, records-read, after, step-done}
 use Rattle.claims.proofs.steps.FormedLaws.{store-formed, commit-formed}
 use Rattle.claims.proofs.claims.Reached.{Reached, after-append, allowed-append, goes-on, call-code, kept-then, same-book, same-homes}
 use Rattle.claims.proofs.claims.StoreChains.{Along, store-replies, commit-replies, store-along, reserved-room, begin-along}
 use Rattle.claims.proofs.claims.ListRights.{lent-homes, rights-same}
-use Rattle.model.proofs.strip.LoggingLaws.{fits}
+use Rattle.laws.proofs.strip.LoggingLaws.{fits}
 
 -- the world with what an effect leaves, and a book
 abbrev stepped : World → Effect → Book → World

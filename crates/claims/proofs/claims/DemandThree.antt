@@ -15,7 +15,7 @@ use Rattle.model.specs.Crash.{fences, persist, fates}
 use Rattle.model.specs.Book.{Commit, Book, run, ended, crash}
 use Rattle.model.specs.Demands.{Opened, Crashed, NoneOwed, lost, Holds, AllHold, CallHolds, Demand3}
 use Rattle.model.specs.History.{Change, begins, reserves, aborts, stores, commits, flushes, Service, settles, roundBegins, roundSteps, trims, reads, Call, opening, confirm, change, service, settle, beginRound, stepRound, trim, Event, call, crash as cut, World, emptyStore, lent, ends, serviceEnds, isOpening, step, afterCrash, Allowed, AllAllowed}
-use Rattle.model.proofs.strip.QuestionLaws.{settle-ready, begin-round-ready, step-round-ready, trim-ready}
+use Rattle.laws.proofs.strip.QuestionLaws.{settle-ready, begin-round-ready, step-round-ready, trim-ready}
 use Rattle.claims.proofs.steps.DoneLaws.{after}
 use Rattle.claims.proofs.steps.FormatRuns.{from-format}
 use Rattle.claims.proofs.steps.Beginning.{format-closed}
@@ -26,7 +26,7 @@ use Rattle.claims.proofs.steps.TrimRuns.{trim-runs, trim-formed}
 use Rattle.claims.proofs.steps.OpenKeeps.{open-keeps, open-holds}
 use Rattle.claims.proofs.steps.CrashRuns.{crash-closed, crash-owed, quiet-closed, quiet-owed}
 use Rattle.claims.proofs.invariant.Invariant.{Sizes, Closed, Running, Invariant, OldCommits}
-use Rattle.model.proofs.strip.LoggingLaws.{fits}
+use Rattle.laws.proofs.strip.LoggingLaws.{fits}
 
 module _ (G D : ℕ) (z : Sizes G D) where
   settle-keeps : (w : World) → Running G D w → (batch : List ℕ) → Running G D (step w (call (settle batch)))

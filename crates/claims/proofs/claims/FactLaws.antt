@@ -21,15 +21,15 @@ use Rattle.model.specs.Calls.{outcome, sizeOf, openCall, beginCall, reserveCall
 use Rattle.model.specs.Demands.{groupWrites}
 use Rattle.model.specs.Facts.{slotWritten, headerWritten, writtenOnce, FormatOnce, PendingOnce, RowsWritten, homeWritten}
 use Rattle.model.specs.History.{Change, begins, reserves, aborts, stores, commits, flushes, Service, settles, trims, reads, change, service, changeEnds, serviceEnds, Call, opening, begin, reserve, abort, store, commit, flush, confirm, settle, trim, read, Event, call, crash, World, unopened, emptyStore, lent, loaded, ends, isOpening, afterCrash, step, after as along, Allowed, AllAllowed, roundBegins, roundSteps, beginRound, stepRound}
-use Rattle.model.proofs.bytes.LayoutLaws.{length-groupAt, group-fits, ring}
-use Rattle.model.proofs.strip.BatchLaws.{AllFormed, formed-append}
-use Rattle.model.proofs.strip.QuestionLaws.{and-true, open-ready, store-ready, commit-ready, flush-ready, settle-ready, step-round-ready, trim-ready}
+use Rattle.laws.proofs.bytes.LayoutLaws.{length-groupAt, group-fits, ring}
+use Rattle.laws.proofs.strip.BatchLaws.{AllFormed, formed-append}
+use Rattle.laws.proofs.strip.QuestionLaws.{and-true, open-ready, store-ready, commit-ready, flush-ready, settle-ready, step-round-ready, trim-ready}
 use Rattle.claims.proofs.steps.LogRuns.{logged-records, logged-log}
 use Rattle.claims.proofs.steps.CallRuns.{no-bytes, by-answer}
 use Rattle.claims.proofs.steps.OpenKeeps.{open-formed}
 use Rattle.claims.proofs.steps.SettleRuns.{settle-formed}
 use Rattle.claims.proofs.steps.RoundRuns.{lent-out, lent-within, isDue, remaining, broughtUp, stepped, step-effect, step-fresh, step-now, nextCursor, cursor-upto, step-round-formed}
-use Rattle.model.proofs.trace.HomeLaws.{In}
+use Rattle.laws.proofs.trace.HomeLaws.{In}
 use Rattle.claims.proofs.steps.TrimRuns.{trim-formed}
 use Rattle.claims.proofs.steps.FormatRuns.{from-format}
 use Rattle.claims.proofs.steps.Beginning.{format-closed}
@@ -37,7 +37,7 @@ use Rattle.claims.proofs.claims.DemandThree.{keeps}
 use Rattle.claims.proofs.claims.Yields.{rows-pending}
 use Rattle.claims.proofs.claims.OnceLaws.{once-fence, once-end, once-more, once-append, avoids-submits, slot-homes, once-marked, once-blanks, once-formatted, Avoids, avoids-mixed, avoids-homes, once-group, slot-group, home-group, slot-header, home-header, home-homes}
 use Rattle.claims.proofs.invariant.Invariant.{Sizes, Closed, Running, Invariant}
-use Rattle.model.proofs.strip.LoggingLaws.{fits, length-entered}
+use Rattle.laws.proofs.strip.LoggingLaws.{fits, length-entered}
 
 abbrev pub Once : World → Type 0
 Once w = writtenOnce (w .pending) ≡ true

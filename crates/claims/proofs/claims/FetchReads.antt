@@ -22,9 +22,9 @@ use Rattle.model.specs.Demands.{Live}
 use Rattle.model.specs.History.{read, World, afterFormat, lent, ends, serviceEnds}
 use Rattle.ledger.specs.Store.{newStore}
 use Rattle.acts.specs.Units.{fetchEnds, reviseEnds, acted, readsFrom, ReadTogether, ActsRead}
-use Rattle.model.proofs.bytes.ByteLaws.{length-zeros}
-use Rattle.model.proofs.strip.QuestionLaws.{ask-yes}
-use Rattle.model.proofs.strip.RightLaws.{list-by}
+use Rattle.laws.proofs.bytes.ByteLaws.{length-zeros}
+use Rattle.laws.proofs.strip.QuestionLaws.{ask-yes}
+use Rattle.laws.proofs.strip.RightLaws.{list-by}
 use Rattle.acts.proofs.ChainLaws.{HomesReady, each-of, fetch-ready, revise-ready}
 use Rattle.claims.proofs.steps.DoneLaws.{outcome-code, outcome-done}
 use Rattle.claims.proofs.claims.Reached.{begins, live-then}

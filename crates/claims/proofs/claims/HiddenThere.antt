@@ -19,7 +19,7 @@ use Rattle.ledger.specs.Store as abstract-store
 use Rattle.claims.specs.Isolation.{Each, both, more, EntryAlike, CommitAlike, TaskAlike, idles, empties, holds, StoreAlike, CallAlike, equal, stored, followed, Denied, DeniedThroughout, ToldSameThroughout}
 use Rattle.model.specs.Witnesses.{calls}
 use Rattle.claims.specs.Hidden.{rangeOf, firstWriters, nextWriters, unformatted, firstOpening, listing, listedBefore, bothAtWork, fourth}
-use Rattle.model.proofs.bytes.ByteLaws.{length-zeros}
+use Rattle.laws.proofs.bytes.ByteLaws.{length-zeros}
 use Rattle.claims.proofs.steps.FormatRuns.{after-format}
 use Rattle.model.proofs.answers.Computing.{all-definitions}
 use Rattle.claims.proofs.claims.AlikeFollows.{reply-keeps-alike}

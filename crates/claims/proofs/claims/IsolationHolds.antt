@@ -9,7 +9,7 @@ use Rattle.model.specs.History.{Event, World, unopened, Formatting, afterFormat
 use Rattle.ledger.specs.Store.{newStore}
 use Rattle.claims.specs.Isolation.{followed, Isolation}
 use Rattle.model.specs.Witnesses.{calls}
-use Rattle.model.proofs.trace.TraceLaws.{All}
+use Rattle.laws.proofs.trace.TraceLaws.{All}
 use Rattle.claims.proofs.invariant.Invariant.{Sizes, Invariant}
 use Rattle.claims.proofs.invariant.TouchLaws.{CommitFits, commits-fit}
 use Rattle.claims.proofs.steps.FormatRuns.{sizes, after-format}

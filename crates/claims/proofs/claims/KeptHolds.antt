@@ -19,7 +19,7 @@ use Rattle.model.specs.Effects.{Given, liveTags, liveBase, newestCommitted, cur
 use Rattle.model.specs.Book.{homesAfter}
 use Rattle.model.specs.History.{Event, World, emptyStore, unopened, lent, step, Allowed, AllAllowed}
 use Rattle.model.specs.Kept.{Kept, KeptThroughout, NewestKept}
-use Rattle.model.proofs.trace.TraceLaws.{All}
+use Rattle.laws.proofs.trace.TraceLaws.{All}
 use Rattle.claims.proofs.invariant.Invariant.{Sizes, Running, Invariant}
 use Rattle.claims.proofs.invariant.LiveLog.{tagsIn, baseOf, endOf, keptIn, Shown, all-each, live-from, live-room, lent-tags, live-transactions, kept-shown}
 use Rattle.claims.proofs.invariant.KeptBook.{lastCommitted, HomeIn, newest-committed}

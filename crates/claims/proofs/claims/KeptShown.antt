@@ -20,9 +20,9 @@ use Rattle.model.specs.Effects.{Given, liveTags, liveBase, newestCommitted, cur
 use Rattle.model.specs.Rights.{readList}
 use Rattle.model.specs.Book.{homesAfter}
 use Rattle.model.specs.History.{World, lent}
-use Rattle.model.proofs.strip.RightLaws.{list-by, list-part}
-use Rattle.model.proofs.trace.Trace.{blockOn}
-use Rattle.model.proofs.trace.TraceLaws.{All}
+use Rattle.laws.proofs.strip.RightLaws.{list-by, list-part}
+use Rattle.laws.proofs.trace.Trace.{blockOn}
+use Rattle.laws.proofs.trace.TraceLaws.{All}
 use Rattle.claims.proofs.invariant.Invariant.{Sizes, Running}
 use Rattle.claims.proofs.invariant.LiveLog.{tagsIn, baseOf, endOf, keptIn, Shown, all-each, live-from, live-room, lent-groups, lent-tags, live-transactions, kept-shown}
 use Rattle.claims.proofs.invariant.KeptBook.{lastCommitted, HomeIn, newest-committed}

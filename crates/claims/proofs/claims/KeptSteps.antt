@@ -22,13 +22,13 @@ use Rattle.model.specs.Book as book
 use Rattle.ledger.specs.Store.{Store, newStore, numbered, afterService, follow, toStep, inRound, roundOver}
 use Rattle.ledger.specs.Store as store
 use Rattle.model.specs.History.{Change, begins, reserves, aborts, stores, commits, flushes, Service, settles, roundBegins, roundSteps, trims, reads, Call, opening, confirm, change, service, commit, trim, Event, call, crash, World, emptyStore, unopened, lent, loaded, ends, changeEnds, serviceEnds, feed, feedChange, isOpening, afterDone, afterCrash, step, Allowed}
-use Rattle.model.proofs.bytes.LayoutLaws.{homes-in}
-use Rattle.model.proofs.strip.NewestLaws.{Keepable, kept-else, kept-entries, kept-forget, kept-nothing}
-use Rattle.model.proofs.strip.QuestionLaws.{Roomy, room-true, CommitReady, commit-ready}
-use Rattle.model.proofs.trace.Trace.{hist, closerOf, oldestOf, closingFrom}
-use Rattle.model.proofs.trace.TraceLaws.{All}
-use Rattle.model.proofs.trace.WholeLaws.{closingFrom-snoc}
-use Rattle.model.proofs.trace.CountLaws.{spanOf, spansOf}
+use Rattle.laws.proofs.bytes.LayoutLaws.{homes-in}
+use Rattle.laws.proofs.strip.NewestLaws.{Keepable, kept-else, kept-entries, kept-forget, kept-nothing}
+use Rattle.laws.proofs.strip.QuestionLaws.{Roomy, room-true, CommitReady, commit-ready}
+use Rattle.laws.proofs.trace.Trace.{hist, closerOf, oldestOf, closingFrom}
+use Rattle.laws.proofs.trace.TraceLaws.{All}
+use Rattle.laws.proofs.trace.WholeLaws.{closingFrom-snoc}
+use Rattle.laws.proofs.trace.CountLaws.{spanOf, spansOf}
 use Rattle.claims.proofs.invariant.Invariant.{Sizes, TaskOk, Running, Closed, Invariant}
 use Rattle.claims.proofs.invariant.LiveLog.{tagsIn, baseOf, keptIn, Shown, live-from, live-order, live-room, lent-groups, lent-homes, live-transactions, live-spans, kept-shown}
 use Rattle.claims.proofs.invariant.KeptBook.{lastEntry, lastCommitted, committed-more, committed-old, committed-by, committed-all, HomeIn, newest-entries, trimmedAt, committed-trimmed}

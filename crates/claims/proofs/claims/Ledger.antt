@@ -20,14 +20,14 @@ use Rattle.model.specs.Book.{Entry, Held, Task, idle, opened, Book, withTask, s
 use Rattle.model.specs.Book as book
 use Rattle.model.specs.History.{Change, begins, reserves, aborts, stores, commits, flushes, Service, settles, roundBegins, roundSteps, trims, reads, Call, opening, confirm, change, service, Event, call, crash, World, lent, loaded, ends, changeEnds, serviceEnds, feed, feedChange, isOpening, afterDone, afterCall, step, Allowed}
 use Rattle.model.specs.Promises.{none as nothing, grantTo, grantChange, grantDone, grantCall, grant, entriesOf}
-use Rattle.model.proofs.strip.PromiseLaws.{promise-setStart, promise-setNext, promise-setFilled, promise-setSettled, promise-setFenced, promise-setDurable, promise-setLast, promise-setRound, promise-setCursor, promise-setWriter, promise-setHeld, length-setPromise, promise-setPromise, promise-setPromise-other, promise-most}
-use Rattle.model.proofs.strip.WriterLaws.{length-setWriter, length-setHeld}
-use Rattle.model.proofs.strip.StateLaws.{length-setLast}
-use Rattle.model.proofs.strip.ListedLaws.{promise-carry}
-use Rattle.model.proofs.strip.SignLaws.{promise-keepList}
-use Rattle.model.proofs.strip.OrderLaws.{InOrder, Promises, promise-fresh}
-use Rattle.model.proofs.strip.QuestionLaws.{begin-ready, reserve-ready, may-promise, abort-ready, StoreReady, store-ready, CommitReady, commit-ready}
-use Rattle.model.proofs.trace.Trace.{Ev}
+use Rattle.laws.proofs.strip.PromiseLaws.{promise-setStart, promise-setNext, promise-setFilled, promise-setSettled, promise-setFenced, promise-setDurable, promise-setLast, promise-setRound, promise-setCursor, promise-setWriter, promise-setHeld, length-setPromise, promise-setPromise, promise-setPromise-other, promise-most}
+use Rattle.laws.proofs.strip.WriterLaws.{length-setWriter, length-setHeld}
+use Rattle.laws.proofs.strip.StateLaws.{length-setLast}
+use Rattle.laws.proofs.strip.ListedLaws.{promise-carry}
+use Rattle.laws.proofs.strip.SignLaws.{promise-keepList}
+use Rattle.laws.proofs.strip.OrderLaws.{InOrder, Promises, promise-fresh}
+use Rattle.laws.proofs.strip.QuestionLaws.{begin-ready, reserve-ready, may-promise, abort-ready, StoreReady, store-ready, CommitReady, commit-ready}
+use Rattle.laws.proofs.trace.Trace.{Ev}
 use Rattle.claims.proofs.invariant.Invariant.{Sizes, TaskOk, entriesFor, Closed, Running, Invariant}
 use Rattle.claims.proofs.steps.RefusalLaws.{left-as-lent}
 use Rattle.claims.proofs.steps.DoneLaws.{outcome-code}

@@ -19,8 +19,8 @@ use Rattle.model.specs.Book.{homesAfter}
 use Rattle.model.specs.History.{World, lent}
 use Rattle.model.specs.Kept.{Kept}
 use Rattle.ledger.specs.Store.{Store, listOf}
-use Rattle.model.proofs.strip.RightLaws.{shown-by, list-part}
-use Rattle.model.proofs.strip.SignLaws.{store-agrees, store-none}
+use Rattle.laws.proofs.strip.RightLaws.{shown-by, list-part}
+use Rattle.laws.proofs.strip.SignLaws.{store-agrees, store-none}
 
 -- ---- blocks one behind the other
 

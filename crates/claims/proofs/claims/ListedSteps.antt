@@ -16,15 +16,15 @@ use Rattle.model.specs.Effects.{Given, Effect, homes, newState, submitted, logg
 use Rattle.model.specs.Questions.{blockRight, writerKnown, openAnswer, beginAnswer, reserveAnswer, abortAnswer, storeAnswer, commitAnswer, flushAnswer, confirmAnswer, settleAnswer, beginRoundAnswer, stepRoundAnswer, trimAnswer, readAnswer}
 use Rattle.model.specs.Calls.{Outcome, done, sizeOf, outcome, openCall, beginCall, reserveCall, abortCall, storeCall, commitCall, flushCall, confirmCall, settleCall, beginRoundCall, stepRoundCall, trimCall, readCall}
 use Rattle.model.specs.History.{Change, begins, reserves, aborts, stores, commits, flushes, Service, settles, roundBegins, roundSteps, trims, reads, Call, opening, confirm, change, service, Event, call, crash, World, lent, loaded, ends, changeEnds, serviceEnds, isOpening, afterDone, afterCrash, step, Allowed}
-use Rattle.model.proofs.bytes.ByteLaws.{length-zeros}
-use Rattle.model.proofs.bytes.LayoutLaws.{homes-in}
-use Rattle.model.proofs.strip.StateLaws.{length-laws, length-setStart, length-setFenced, length-setLast}
-use Rattle.model.proofs.strip.WriterLaws.{length-setWriter}
-use Rattle.model.proofs.strip.PromiseLaws.{length-setPromise}
-use Rattle.model.proofs.strip.NewestLaws.{length-entries, length-forget, kept-nothing}
-use Rattle.model.proofs.strip.ListedLaws.{listed-setNext, listed-setFilled, listed-setSettled, listed-setFenced, listed-setDurable, listed-setRound, listed-setCursor, listed-setWriter, listed-setHeld, listed-setPromise, listed-ones, listed-carry}
-use Rattle.model.proofs.strip.SignLaws.{listed-keepList}
-use Rattle.model.proofs.strip.QuestionLaws.{begin-ready, reserve-ready, abort-ready, store-ready, commit-ready}
+use Rattle.laws.proofs.bytes.ByteLaws.{length-zeros}
+use Rattle.laws.proofs.bytes.LayoutLaws.{homes-in}
+use Rattle.laws.proofs.strip.StateLaws.{length-laws, length-setStart, length-setFenced, length-setLast}
+use Rattle.laws.proofs.strip.WriterLaws.{length-setWriter}
+use Rattle.laws.proofs.strip.PromiseLaws.{length-setPromise}
+use Rattle.laws.proofs.strip.NewestLaws.{length-entries, length-forget, kept-nothing}
+use Rattle.laws.proofs.strip.ListedLaws.{listed-setNext, listed-setFilled, listed-setSettled, listed-setFenced, listed-setDurable, listed-setRound, listed-setCursor, listed-setWriter, listed-setHeld, listed-setPromise, listed-ones, listed-carry}
+use Rattle.laws.proofs.strip.SignLaws.{listed-keepList}
+use Rattle.laws.proofs.strip.QuestionLaws.{begin-ready, reserve-ready, abort-ready, store-ready, commit-ready}
 use Rattle.claims.proofs.invariant.Invariant.{Sizes, Running, Closed, Invariant}
 use Rattle.claims.proofs.invariant.LiveLog.{lent-homes}
 use Rattle.claims.proofs.steps.DoneLaws.{outcome-code}

@@ -22,15 +22,15 @@ use Rattle.model.specs.Calls.{Outcome, done, readCall}
 use Rattle.model.specs.Book.{Entry, Commit, Task, homesAfter, newestEntry, heldOr, ownOr, reads}
 use Rattle.model.specs.Demands.{foundIn, untrimmed, closedBelow, Live}
 use Rattle.model.specs.History.{World, lent, ends, read, serviceEnds}
-use Rattle.model.proofs.bytes.LayoutLaws.{groups-in}
-use Rattle.model.proofs.strip.OrderLaws.{order-in}
-use Rattle.model.proofs.strip.QuestionLaws.{read-ready}
+use Rattle.laws.proofs.bytes.LayoutLaws.{groups-in}
+use Rattle.laws.proofs.strip.OrderLaws.{order-in}
+use Rattle.laws.proofs.strip.QuestionLaws.{read-ready}
 use Rattle.claims.proofs.steps.DoneLaws.{outcome-code, outcome-done}
-use Rattle.model.proofs.trace.Trace.{Ev, mine, hist, tagAt, homeOn, blockOn, surviving, closerOf, oldestOf, closingFrom, allLanded}
-use Rattle.model.proofs.trace.TraceLaws.{All, all-map, Rising, done-rising, logs-own}
-use Rattle.model.proofs.trace.WalkLaws.{members-local}
-use Rattle.model.proofs.trace.CountLaws.{pick-all, Counted, writerOn, writers, counted-now}
-use Rattle.model.proofs.trace.ReplayLaws.{blockFor, replay-home, good-found}
+use Rattle.laws.proofs.trace.Trace.{Ev, mine, hist, tagAt, homeOn, blockOn, surviving, closerOf, oldestOf, closingFrom, allLanded}
+use Rattle.laws.proofs.trace.TraceLaws.{All, all-map, Rising, done-rising, logs-own}
+use Rattle.laws.proofs.trace.WalkLaws.{members-local}
+use Rattle.laws.proofs.trace.CountLaws.{pick-all, Counted, writerOn, writers, counted-now}
+use Rattle.laws.proofs.trace.ReplayLaws.{blockFor, replay-home, good-found}
 use Rattle.claims.proofs.invariant.RunLaws.{closedBelow-old}
 use Rattle.claims.proofs.invariant.Invariant.{Sizes, entryFor, entriesFor, Matches, OldCommits, Commits, TaskOk, Copies, Running}
 use Rattle.claims.proofs.invariant.LiveLog.{tagsIn, baseOf, endOf, keptIn, Shown, all-each, live-from, live-order, lent-groups, lent-homes, lent-tags, live-tags, live-transactions, kept-shown, open-shown}

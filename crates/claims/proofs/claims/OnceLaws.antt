@@ -10,10 +10,10 @@ use Rattle.model.specs.Layout.{homeAt}
 use Rattle.model.specs.Batch.{Record, GW, HW, KW, FN}
 use Rattle.model.specs.Effects.{marked, homeWrites, blankWrites, zeroHomes, formatted}
 use Rattle.model.specs.Facts.{slotWritten, homeWritten, headerWritten, writtenOnce}
-use Rattle.model.proofs.strip.QuestionLaws.{and-true}
-use Rattle.model.proofs.trace.HomeLaws.{In, marked-below}
-use Rattle.model.proofs.trace.CrashLaws.{submits}
-use Rattle.model.proofs.trace.MixLaws.{Mixed, groupPart, homePart}
+use Rattle.laws.proofs.strip.QuestionLaws.{and-true}
+use Rattle.laws.proofs.trace.HomeLaws.{In, marked-below}
+use Rattle.laws.proofs.trace.CrashLaws.{submits}
+use Rattle.laws.proofs.trace.MixLaws.{Mixed, groupPart, homePart}
 
 -- ---- a fence
 

@@ -23,10 +23,10 @@ use Rattle.model.specs.History.{Change, begins, reserves, aborts, stores, commi
 use Rattle.ledger.specs.Store.{Store, newStore, firstGroup, nextGroup, nextOf, placesLeft, promisedTo, mayFlush, isIdle, storeMustLog, commitMustLog, manyHomes, toSettle, mayStart, nextStart, Reply, told, askBatch, replyChange, replyService, reply, replyOf, numbered, inRound, fencedAfter, trimmedTo, afterService, afterReply, follow}
 use Rattle.ledger.specs.Store as store
 use Rattle.ledger.specs.Places.{Fate, Class, live, dead, free, many, liesAt, anyAt, taskAt, enter, enterCall, enterEvent, Accounted, AllIdle, Drained, Drains, drained, HeldBack, Told, AccountedThroughout, PlacesAccounted}
-use Rattle.model.proofs.strip.QuestionLaws.{ask-passed, and-true, store-ready}
-use Rattle.model.proofs.strip.OrderLaws.{InOrder}
-use Rattle.model.proofs.trace.Trace.{Ev, hist, closerOf, Apart}
-use Rattle.model.proofs.trace.TraceLaws.{Rising, done-rising}
+use Rattle.laws.proofs.strip.QuestionLaws.{ask-passed, and-true, store-ready}
+use Rattle.laws.proofs.strip.OrderLaws.{InOrder}
+use Rattle.laws.proofs.trace.Trace.{Ev, hist, closerOf, Apart}
+use Rattle.laws.proofs.trace.TraceLaws.{Rising, done-rising}
 use Rattle.claims.proofs.invariant.Invariant.{Sizes, TaskOk, Running, Closed, Invariant}
 use Rattle.claims.proofs.steps.RefusalLaws.{step-refused}
 use Rattle.claims.proofs.steps.DoneLaws.{outcome-code}

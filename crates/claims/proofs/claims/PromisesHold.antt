@@ -19,10 +19,10 @@ use Rattle.model.specs.Calls.{sizeOf, reserveCall, storeCall, commitCall, flush
 use Rattle.model.specs.Book.{Task, idle, opened}
 use Rattle.model.specs.History.{reserve, store, commit, flush, Event, World, lent, ends, changeEnds, step, AllAllowed, unopened, emptyStore}
 use Rattle.model.specs.Promises.{none, grant, entriesOf, Promised, PromisedThroughout, PromisesKept, filling, busyLog}
-use Rattle.model.proofs.bytes.LayoutLaws.{groups-in, homes-in, log-length-right, data-length-right}
-use Rattle.model.proofs.strip.OrderLaws.{InOrder, order-in, tests}
-use Rattle.model.proofs.strip.QuestionLaws.{ask-no, ask-yes, ask-passed, keeps-promises}
-use Rattle.model.proofs.trace.Trace.{Ev}
+use Rattle.laws.proofs.bytes.LayoutLaws.{groups-in, homes-in, log-length-right, data-length-right}
+use Rattle.laws.proofs.strip.OrderLaws.{InOrder, order-in, tests}
+use Rattle.laws.proofs.strip.QuestionLaws.{ask-no, ask-yes, ask-passed, keeps-promises}
+use Rattle.laws.proofs.trace.Trace.{Ev}
 use Rattle.claims.proofs.invariant.Invariant.{Sizes, TaskOk, Running, Invariant}
 use Rattle.claims.proofs.steps.DoneLaws.{outcome-code}
 use Rattle.claims.proofs.steps.Beginning.{format-closed}

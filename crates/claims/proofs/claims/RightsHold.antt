@@ -14,8 +14,8 @@ use Rattle.model.specs.Book.{Book, homesAfter}
 use Rattle.model.specs.History.{Change, begins, reserves, aborts, stores, commits, flushes, Service, settles, roundBegins, roundSteps, trims, reads, Call, opening, confirm, change, service, World, lent}
 use Rattle.ledger.specs.Store.{Store, listOf}
 use Rattle.model.specs.Kept.{Kept}
-use Rattle.model.proofs.strip.RightLaws.{shown-by, list-by, list-part}
-use Rattle.model.proofs.strip.SignLaws.{store-agrees, read-agrees, store-none, read-none}
+use Rattle.laws.proofs.strip.RightLaws.{shown-by, list-by, list-part}
+use Rattle.laws.proofs.strip.SignLaws.{store-agrees, read-agrees, store-none, read-none}
 use Rattle.claims.proofs.invariant.Invariant.{Sizes, Running}
 use Rattle.claims.proofs.invariant.LiveLog.{lent-homes}
 use Rattle.claims.proofs.claims.StoreAnswers.{Agrees}

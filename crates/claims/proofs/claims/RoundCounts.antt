@@ -14,7 +14,7 @@ use Rattle.model.specs.State.{stateOf, fixedIn}
 use Rattle.model.specs.declared.State.{State}
 use Rattle.model.specs.Effects.{Given, groups, homes, marked, touchedFrom, liveTags, liveBase, roundTransactions, roundHomes, tagsOf}
 use Rattle.model.specs.History.{World, lent}
-use Rattle.model.proofs.strip.StateLaws.{withCursor}
+use Rattle.laws.proofs.strip.StateLaws.{withCursor}
 use Rattle.claims.proofs.invariant.Invariant.{Sizes, Running}
 use Rattle.claims.proofs.invariant.LiveLog.{tagsIn, lent-homes, lent-tags}
 use Rattle.claims.proofs.steps.RoundRuns.{ts, round-is, isDue, remaining, nextCursor, cursor-from, cursor-upto, step-now}

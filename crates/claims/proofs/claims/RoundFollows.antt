@@ -14,9 +14,9 @@ use Rattle.model.specs.Questions.{beginRoundAnswer, stepRoundAnswer}
 use Rattle.model.specs.Calls.{Outcome, done, outcome, sizeOf, beginRoundCall, stepRoundCall}
 use Rattle.model.specs.History.{roundBegins, roundSteps, service, World, lent, ends, serviceEnds}
 use Rattle.ledger.specs.Store.{Store, nextGroup, toStep, numbered, inRound, roundOver, afterService}
-use Rattle.model.proofs.strip.StateLaws.{withRound, withCursor}
-use Rattle.model.proofs.strip.PromiseLaws.{promise-setRound, promise-setCursor}
-use Rattle.model.proofs.strip.QuestionLaws.{begin-round-ready, step-round-ready}
+use Rattle.laws.proofs.strip.StateLaws.{withRound, withCursor}
+use Rattle.laws.proofs.strip.PromiseLaws.{promise-setRound, promise-setCursor}
+use Rattle.laws.proofs.strip.QuestionLaws.{begin-round-ready, step-round-ready}
 use Rattle.claims.proofs.invariant.Invariant.{Sizes, Running}
 use Rattle.claims.proofs.steps.DoneLaws.{outcome-code}
 use Rattle.claims.proofs.steps.RoundRuns.{lent-out, lent-within, begun-numbers, remaining, stepped, step-effect, endedState, endedNumbers, ended-numbers, ended-promises, moved-numbers}

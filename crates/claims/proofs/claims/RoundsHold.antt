@@ -20,9 +20,9 @@ use Rattle.model.specs.Demands.{closedBelow, SettledHomes}
 use Rattle.model.specs.History.{Service, settles, roundBegins, roundSteps, trims, reads, Call, opening, confirm, change, service, settle, beginRound, stepRound, Event, call, crash, World, emptyStore, lent, loaded, ends, serviceEnds, isOpening, afterCall, afterDone, step, Allowed, AllAllowed}
 use Rattle.ledger.specs.Rounds.{homesLeft, homesLeftBy, Moved, Ended, ServiceRaises, Raises, RaisesAt, mayCome, StaysAt, RoundsThroughout, RoundsKept}
 use Rattle.ledger.specs.Store.{Store, newStore, follow}
-use Rattle.model.proofs.strip.OrderLaws.{state-fresh}
-use Rattle.model.proofs.strip.StateLaws.{withCursor}
-use Rattle.model.proofs.strip.QuestionLaws.{settle-ready, begin-round-ready, step-round-ready}
+use Rattle.laws.proofs.strip.OrderLaws.{state-fresh}
+use Rattle.laws.proofs.strip.StateLaws.{withCursor}
+use Rattle.laws.proofs.strip.QuestionLaws.{settle-ready, begin-round-ready, step-round-ready}
 use Rattle.claims.proofs.invariant.Invariant.{Sizes, Closed, Running, Invariant}
 use Rattle.claims.proofs.invariant.OpenLaws.{newStart}
 use Rattle.claims.proofs.invariant.SettledLaws.{settled-none}

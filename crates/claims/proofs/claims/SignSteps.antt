@@ -19,11 +19,11 @@ use Rattle.model.specs.Calls.{Outcome, done, sizeOf, openCall, commitCall, trim
 use Rattle.model.specs.Book.{homesAfter, withTask, withCommits}
 use Rattle.model.specs.Book as book
 use Rattle.model.specs.History.{Change, begins, reserves, aborts, stores, commits, flushes, Service, settles, roundBegins, roundSteps, trims, reads, Call, opening, confirm, change, service, commit, trim, Event, call, crash, World, lent, loaded, ends, changeEnds, serviceEnds, feed, feedChange, isOpening, afterDone, afterCrash, step, Allowed}
-use Rattle.model.proofs.bytes.ByteLaws.{length-zeros, number-above}
-use Rattle.model.proofs.strip.StateLaws.{length-laws}
-use Rattle.model.proofs.strip.ListedLaws.{listed-setStart, listed-setFenced, listed-setLast, listed-setWriter, listed-setPromise}
-use Rattle.model.proofs.strip.NewestLaws.{length-entries, length-forget}
-use Rattle.model.proofs.strip.SignLaws.{sign-fresh, sign-listed, sign-carry, sign-stays, sign-moves, none-moved, list-numbers, sign-faithful, sign-none, state-keepList}
+use Rattle.laws.proofs.bytes.ByteLaws.{length-zeros, number-above}
+use Rattle.laws.proofs.strip.StateLaws.{length-laws}
+use Rattle.laws.proofs.strip.ListedLaws.{listed-setStart, listed-setFenced, listed-setLast, listed-setWriter, listed-setPromise}
+use Rattle.laws.proofs.strip.NewestLaws.{length-entries, length-forget}
+use Rattle.laws.proofs.strip.SignLaws.{sign-fresh, sign-listed, sign-carry, sign-stays, sign-moves, none-moved, list-numbers, sign-faithful, sign-none, state-keepList}
 use Rattle.claims.proofs.invariant.Invariant.{Sizes, Running, Closed, Invariant}
 use Rattle.claims.proofs.invariant.LiveLog.{lent-homes}
 use Rattle.claims.proofs.steps.DoneLaws.{after}

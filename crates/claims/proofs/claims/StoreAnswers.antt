@@ -25,12 +25,12 @@ use Rattle.model.specs.Book.{Held, Task, idle, opened, Book, homesAfter}
 use Rattle.model.specs.History.{Change, begins, reserves, aborts, stores, commits, flushes, Service, settles, trims, reads, Call, opening, confirm, change, service, World, lent, loaded, ends, changeEnds, serviceEnds, isOpening}
 use Rattle.model.specs.Demands.{eachContents, untrimmed, closedBelow, free, firstGroup as groupOfRow, Trimmed}
 use Rattle.ledger.specs.Store.{Store, firstGroup, nextGroup, nextOf, placesLeft, promisedTo, freeLeft, hasRoom, mayFlush, entryBytes, isIdle, storeMustLog, commitMustLog, anyWrote, manyHomes, toSettle, mayStart, nextStart, listOf, Reply, told, askBatch, replyChange, replyService, reply, replyOf, foundInMemory}
-use Rattle.model.proofs.bytes.LayoutLaws.{groups-in, homes-in, log-length-right, data-length-right, length-groupAt, group-fits, length-header}
-use Rattle.model.proofs.strip.BatchLaws.{length-GW, length-KW, length-FN, batch-append, batch-one}
-use Rattle.model.proofs.strip.OrderLaws.{InOrder, order-in}
-use Rattle.model.proofs.strip.QuestionLaws.{ask-yes, ask-passed}
-use Rattle.model.proofs.trace.Trace.{Ev, hist, closingFrom}
-use Rattle.model.proofs.trace.WalkLaws.{closingBelow}
+use Rattle.laws.proofs.bytes.LayoutLaws.{groups-in, homes-in, log-length-right, data-length-right, length-groupAt, group-fits, length-header}
+use Rattle.laws.proofs.strip.BatchLaws.{length-GW, length-KW, length-FN, batch-append, batch-one}
+use Rattle.laws.proofs.strip.OrderLaws.{InOrder, order-in}
+use Rattle.laws.proofs.strip.QuestionLaws.{ask-yes, ask-passed}
+use Rattle.laws.proofs.trace.Trace.{Ev, hist, closingFrom}
+use Rattle.laws.proofs.trace.WalkLaws.{closingBelow}
 use Rattle.claims.proofs.invariant.Invariant.{Sizes, TaskOk, Copies, Commits, Running, Closed, Opens}
 use Rattle.claims.proofs.invariant.LiveLog.{tagsIn, baseOf, keptIn, Shown, all-each, upto-shown}
 use Rattle.claims.proofs.invariant.ReadBack.{SeenIn, untrimmed-old, untrimmed-matches}
@@ -44,7 +44,7 @@ use Rattle.claims.proofs.steps.Beginning.{header-fits}
 use Rattle.claims.proofs.steps.TrimRuns.{MayMove, trim-may}
 use Rattle.claims.proofs.claims.TrimYields.{first-group, trimmed}
 use Rattle.claims.proofs.claims.StoreLaws.{answers, ask-same, found-any-wrote, length-contents, marked-same, bytes-homes, bytes-opening}
-use Rattle.model.proofs.strip.LoggingLaws.{length-entered}
+use Rattle.laws.proofs.strip.LoggingLaws.{length-entered}
 
 -- the strip's numbers are the abstract store's
 pub record Numbers (s : Store) (st : State) : Type 0 where

@@ -15,8 +15,8 @@ use Rattle.model.specs.History.{commits, begin, reserve, store, commit, feed, f
 use Rattle.ledger.specs.Store.{Store, firstGroup, nextGroup, nextOf, placesLeft, promisedTo, freeLeft, hasRoom, entryBytes, isIdle, storeMustLog, commitMustLog, listOf, told, askBatch, replyChange, reply, setFor, promisesAfter, numbered}
 use Rattle.ledger.specs.Store as abstract
 use Rattle.acts.specs.Units.{roomy, feedStores}
-use Rattle.model.proofs.bytes.ByteLaws.{length-zeros}
-use Rattle.model.proofs.strip.QuestionLaws.{ask-yes, ask-passed, and-true}
+use Rattle.laws.proofs.bytes.ByteLaws.{length-zeros}
+use Rattle.laws.proofs.strip.QuestionLaws.{ask-yes, ask-passed, and-true}
 use Rattle.claims.proofs.claims.TransactBooks.{Chained, chained-store, chained}
 
 -- ---- a reply's number

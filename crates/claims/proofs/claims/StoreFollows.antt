@@ -23,15 +23,15 @@ use Rattle.model.specs.Demands.{untrimmed}
 use Rattle.model.specs.History.{Change, begins, reserves, aborts, stores, commits, flushes, Service, settles, trims, reads, Call, opening, confirm, change, service, Event, call, crash, World, unopened, emptyStore, lent, loaded, ends, changeEnds, serviceEnds, feed, isOpening, afterDone, afterCall, afterCrash, step, Allowed, rowFates, roundBegins, roundSteps}
 use Rattle.ledger.specs.Store.{Store, newStore, firstGroup, nextGroup, nextOf, nextStart, replyOf, storeMustLog, lastAfter, fencedAfter, setFor, promisesAfter, numbered, trimmedTo, afterService, afterReply, follow, foundInMemory, inRound, roundOver, toStep}
 use Rattle.ledger.specs.Store as store
-use Rattle.model.proofs.bytes.LayoutLaws.{groups-in, homes-in}
-use Rattle.model.proofs.strip.StateLaws.{withStart, withFenced, withSettled, withLast, withDurable, withNext, withFilled, length-setNext, length-setFilled, state-setNext, state-setFilled, state-setFenced, state-setDurable, state-setLast, length-setLast}
-use Rattle.model.proofs.strip.WriterLaws.{length-setWriter, length-setHeld, state-setWriter, state-setHeld}
-use Rattle.model.proofs.strip.PromiseLaws.{promise-setStart, promise-setNext, promise-setFilled, promise-setSettled, promise-setFenced, promise-setDurable, promise-setLast, promise-setWriter, promise-setHeld, state-setPromise, promise-setPromise, promise-setPromise-other, promise-most}
-use Rattle.model.proofs.strip.ListedLaws.{state-carry, promise-carry}
-use Rattle.model.proofs.strip.SignLaws.{state-keepList, promise-keepList}
-use Rattle.model.proofs.strip.OrderLaws.{InOrder, state-fresh, promise-fresh}
-use Rattle.model.proofs.strip.NewestLaws.{length-nothing}
-use Rattle.model.proofs.strip.QuestionLaws.{reserve-ready, may-promise, abort-ready, store-ready, commit-ready, trim-ready, open-ready}
+use Rattle.laws.proofs.bytes.LayoutLaws.{groups-in, homes-in}
+use Rattle.laws.proofs.strip.StateLaws.{withStart, withFenced, withSettled, withLast, withDurable, withNext, withFilled, length-setNext, length-setFilled, state-setNext, state-setFilled, state-setFenced, state-setDurable, state-setLast, length-setLast}
+use Rattle.laws.proofs.strip.WriterLaws.{length-setWriter, length-setHeld, state-setWriter, state-setHeld}
+use Rattle.laws.proofs.strip.PromiseLaws.{promise-setStart, promise-setNext, promise-setFilled, promise-setSettled, promise-setFenced, promise-setDurable, promise-setLast, promise-setWriter, promise-setHeld, state-setPromise, promise-setPromise, promise-setPromise-other, promise-most}
+use Rattle.laws.proofs.strip.ListedLaws.{state-carry, promise-carry}
+use Rattle.laws.proofs.strip.SignLaws.{state-keepList, promise-keepList}
+use Rattle.laws.proofs.strip.OrderLaws.{InOrder, state-fresh, promise-fresh}
+use Rattle.laws.proofs.strip.NewestLaws.{length-nothing}
+use Rattle.laws.proofs.strip.QuestionLaws.{reserve-ready, may-promise, abort-ready, store-ready, commit-ready, trim-ready, open-ready}
 use Rattle.claims.proofs.invariant.Invariant.{Sizes, Running, Closed, Invariant, Early, Late, ImageOk}
 use Rattle.claims.proofs.invariant.OpenLaws.{newStart}
 use Rattle.claims.proofs.invariant.LateOpens.{late-found}

@@ -19,11 +19,11 @@ use Rattle.model.specs.Calls.{Outcome, refused, done, sizeOf, outcome}
 use Rattle.model.specs.Book.{Held}
 use Rattle.model.specs.Demands.{contents, eachContents}
 use Rattle.ledger.specs.Store.{Reply, told, replyOf, wrote, anyWrote}
-use Rattle.model.proofs.bytes.ByteLaws.{length-part}
-use Rattle.model.proofs.bytes.EmptyLaws.{length-unusedGroup}
-use Rattle.model.proofs.strip.BatchLaws.{length-GW, length-HW, length-KW, length-FN, batch-append, batch-one}
-use Rattle.model.proofs.strip.QuestionLaws.{ask-passed}
-use Rattle.model.proofs.trace.HomeLaws.{In}
+use Rattle.laws.proofs.bytes.ByteLaws.{length-part}
+use Rattle.laws.proofs.bytes.EmptyLaws.{length-unusedGroup}
+use Rattle.laws.proofs.strip.BatchLaws.{length-GW, length-HW, length-KW, length-FN, batch-append, batch-one}
+use Rattle.laws.proofs.strip.QuestionLaws.{ask-passed}
+use Rattle.laws.proofs.trace.HomeLaws.{In}
 use Rattle.claims.proofs.invariant.LiveLog.{found-else}
 
 -- ---- replies

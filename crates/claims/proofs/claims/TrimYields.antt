@@ -20,11 +20,11 @@ use Rattle.model.specs.Calls.{Outcome, outcome, done, sizeOf, trimCall}
 use Rattle.model.specs.Book.{Kept, row, persisted, Entry, Commit, Task, idle, opened}
 use Rattle.model.specs.Demands.{firstGroup, keptBefore, someBefore, across, anyAcross, openBefore, anyOpenBefore, free, Trimmed}
 use Rattle.model.specs.History.{Call, trim, World, lent, ends, serviceEnds}
-use Rattle.model.proofs.strip.StateLaws.{withStart, withFenced, withLast, state-setStart, length-setStart, state-setFenced, length-setFenced, state-setLast}
-use Rattle.model.proofs.strip.ListedLaws.{state-carry}
-use Rattle.model.proofs.strip.QuestionLaws.{and-true, trim-ready}
-use Rattle.model.proofs.trace.Trace.{Ev, hist, firstOf, closerOf, oldestOf, Apart}
-use Rattle.model.proofs.trace.TraceLaws.{All, Falling, Long, firstOf-inside, open-falling, done-falling, done-long}
+use Rattle.laws.proofs.strip.StateLaws.{withStart, withFenced, withLast, state-setStart, length-setStart, state-setFenced, length-setFenced, state-setLast}
+use Rattle.laws.proofs.strip.ListedLaws.{state-carry}
+use Rattle.laws.proofs.strip.QuestionLaws.{and-true, trim-ready}
+use Rattle.laws.proofs.trace.Trace.{Ev, hist, firstOf, closerOf, oldestOf, Apart}
+use Rattle.laws.proofs.trace.TraceLaws.{All, Falling, Long, firstOf-inside, open-falling, done-falling, done-long}
 use Rattle.claims.proofs.steps.DoneLaws.{outcome-code, outcome-done}
 use Rattle.claims.proofs.steps.TrimRuns.{MayMove, trim-may, trim-most, lastKept}
 use Rattle.claims.proofs.claims.Yields.{ends-done, groups-are}

@@ -14,8 +14,8 @@ use Rattle.model.specs.Layout.{putHome}
 use Rattle.model.specs.Book.{Entry, Commit, Held, writeEntries, writeCommits}
 use Rattle.model.specs.Demands.{heldEntries}
 use Rattle.acts.specs.Units.{Label, other, unit, lastUnit, Apart}
-use Rattle.model.proofs.bytes.ByteLaws.{puts-append, puts-nil}
-use Rattle.model.proofs.bytes.LayoutLaws.{part-apart, part-written, length-putHome}
+use Rattle.laws.proofs.bytes.ByteLaws.{puts-append, puts-nil}
+use Rattle.laws.proofs.bytes.LayoutLaws.{part-apart, part-written, length-putHome}
 
 -- ---- the entries of a unit
 

@@ -20,7 +20,7 @@ use Rattle.model.specs.Book as book
 use Rattle.model.specs.Demands.{heldEntries}
 use Rattle.model.specs.History.{Change, begins, reserves, aborts, stores, commits, flushes, Call, opening, confirm, change, service, Event, call, crash, World, lent, ends, changeEnds, feed, feedChange, afterDone, afterRefused, afterCall, afterCrash, rowFates, step}
 use Rattle.acts.specs.Units.{Act, plain, transacts, fetches, revises, transactEnds, feedTransact, leftBy, act, acted, relabel, Label, other, unit, labelOf, labelsFrom, Apart, SparedByChange, SparedByCall, SparedByEvent, Spared, Reserved}
-use Rattle.model.proofs.bytes.ByteLaws.{length-part}
+use Rattle.laws.proofs.bytes.ByteLaws.{length-part}
 use Rattle.acts.proofs.ChainLaws.{TransactReady, transact-ready, store-block}
 use Rattle.claims.proofs.steps.DoneLaws.{outcome-code}
 use Rattle.claims.proofs.steps.HeldLogs.{filled-commits}

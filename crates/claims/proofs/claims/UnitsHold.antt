@@ -18,7 +18,7 @@ use Rattle.model.specs.Calls.{Outcome}
 use Rattle.model.specs.History.{Call, Event, call, crash, World, unopened, afterFormat, ends, afterDone, afterRefused, afterCall, afterCrash, step}
 use Rattle.ledger.specs.Store.{newStore}
 use Rattle.acts.specs.Units.{Act, plain, transacts, fetches, revises, leftBy, act, acted, readsFrom, ReadTogether, Label, lastUnit, labels, labelsFrom, Apart, UnitKept, UnitsKept}
-use Rattle.model.proofs.bytes.ByteLaws.{length-zeros, length-part, part-within}
+use Rattle.laws.proofs.bytes.ByteLaws.{length-zeros, length-part, part-within}
 use Rattle.claims.proofs.claims.UnitBooks.{commits-length, Outside, Fit, fit-length, fit-take, labels-say}
 use Rattle.claims.proofs.claims.UnitSteps.{HeldOutside, TaskOutside, Labelled, acts-labelled, empty-labelled}
 use Rattle.claims.proofs.claims.Reached.{begins}

@@ -22,8 +22,8 @@ use Rattle.ledger.specs.Places.{Fate, live, dead, free, many, anyAt, taskAt, co
 use Rattle.ledger.specs.Usage.{entriesIn, committedEntries, openEntries, holderOf, usageOf, usageIf, usageCall, Usages, UsageThroughout, UsageTold}
 use Rattle.model.specs.declared.Usage.{Usage}
 use Rattle.model.specs.declared.Holder.{Holder}
-use Rattle.model.proofs.trace.Trace.{Ev, hist, oldestOf}
-use Rattle.model.proofs.trace.TraceLaws.{All, Falling, Long, open-falling, done-falling, done-long}
+use Rattle.laws.proofs.trace.Trace.{Ev, hist, oldestOf}
+use Rattle.laws.proofs.trace.TraceLaws.{All, Falling, Long, open-falling, done-falling, done-long}
 use Rattle.ledger.proofs.PlaceCounts.{oneIf, one-false, times, timesIn, tally, Once, once, tally-same, tally-both, tally-none, tally-all, tally-closing, falling-from}
 use Rattle.claims.proofs.invariant.Invariant.{Sizes, entriesFor, TaskOk, Running, Invariant}
 use Rattle.claims.proofs.invariant.LiveLog.{tagsIn, baseOf, endOf, keptIn, live-room, live-from, lent-groups, lent-tags, live-transactions}

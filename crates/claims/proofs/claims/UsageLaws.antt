@@ -20,9 +20,9 @@ use Rattle.ledger.specs.Store.{Store, firstGroup, nextOf, storeMustLog, commitM
 use Rattle.ledger.specs.Places.{Fate, held, kept, aborted, passed, settleOne, settleAll, enter, enterCall, enterEvent, Class, live, dead, free, classOf, fateOn, classAt, sameClass, many, liesAt, anyAt, taskAt, commitAt, isHeld, isKept, Accounted}
 use Rattle.ledger.specs.Usage.{noHolder, holdsLower, holderOf}
 use Rattle.model.specs.declared.Holder.{Holder}
-use Rattle.model.proofs.strip.QuestionLaws.{store-ready}
-use Rattle.model.proofs.trace.Trace.{Ev, firstOf, oldestOf}
-use Rattle.model.proofs.trace.TraceLaws.{All, Falling, Long, firstOf-inside}
+use Rattle.laws.proofs.strip.QuestionLaws.{store-ready}
+use Rattle.laws.proofs.trace.Trace.{Ev, firstOf, oldestOf}
+use Rattle.laws.proofs.trace.TraceLaws.{All, Falling, Long, firstOf-inside}
 use Rattle.ledger.proofs.PlaceCounts.{oneIf, one-true, one-false, times, timesIn, tally}
 use Rattle.claims.proofs.invariant.Invariant.{entryFor, entriesFor, Matches}
 use Rattle.claims.proofs.steps.DoneLaws.{outcome-code}

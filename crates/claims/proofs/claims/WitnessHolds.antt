@@ -16,9 +16,9 @@ use Rattle.model.specs.Kept.{KeptThroughout}
 use Rattle.model.specs.History.{Call, Event, call, crash, World, Formatting, afterFormat, emptyStore, ends, isOpening, afterCall, step, Allowed, AllAllowed}
 use Rattle.model.specs.Trials.{answerOf}
 use Rattle.model.specs.Witnesses.{usedBefore, usedCopies, alike, allowed, history, answered, goesTo, goesSo, goesAsListed}
-use Rattle.model.proofs.strip.QuestionLaws.{and-true}
-use Rattle.model.proofs.bytes.ByteLaws.{length-puts}
-use Rattle.model.proofs.bytes.LayoutLaws.{three}
+use Rattle.laws.proofs.strip.QuestionLaws.{and-true}
+use Rattle.laws.proofs.bytes.ByteLaws.{length-puts}
+use Rattle.laws.proofs.bytes.LayoutLaws.{three}
 use Rattle.claims.proofs.steps.FormatRuns.{after-format}
 use Rattle.model.proofs.answers.Computing.{all-definitions}
 use Rattle.model.proofs.answers.HistoryHolds.{goes-as-listed}

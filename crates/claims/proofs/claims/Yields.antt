@@ -19,20 +19,20 @@ use Rattle.model.specs.Crash.{isFence, fences}
 use Rattle.model.specs.Book.{row, Entry, Commit, homesAfter, owedBy}
 use Rattle.model.specs.Demands.{closedBelow, groupWrites, fencedRows, rowsFenced, keptBelow, allBelow, owedRows, SettledHomes}
 use Rattle.model.specs.History.{confirm, settle, World, lent, ends, serviceEnds, beginRound, stepRound}
-use Rattle.model.proofs.bytes.LayoutLaws.{groups-in}
-use Rattle.model.proofs.strip.OrderLaws.{order-in}
-use Rattle.model.proofs.trace.CrashLaws.{NoFence, fences-append, fences-none, groupWrites-append, groupWrites-fence}
-use Rattle.model.proofs.trace.MixLaws.{none-mixed}
+use Rattle.laws.proofs.bytes.LayoutLaws.{groups-in}
+use Rattle.laws.proofs.strip.OrderLaws.{order-in}
+use Rattle.laws.proofs.trace.CrashLaws.{NoFence, fences-append, fences-none, groupWrites-append, groupWrites-fence}
+use Rattle.laws.proofs.trace.MixLaws.{none-mixed}
 use Rattle.claims.proofs.steps.FenceRuns.{tail-groups}
-use Rattle.model.proofs.trace.Trace.{Ev, hist, closerOf}
-use Rattle.model.proofs.trace.TraceLaws.{All, Falling, Long, done-falling, done-long}
+use Rattle.laws.proofs.trace.Trace.{Ev, hist, closerOf}
+use Rattle.laws.proofs.trace.TraceLaws.{All, Falling, Long, done-falling, done-long}
 use Rattle.claims.proofs.invariant.RunLaws.{ticket-below}
 use Rattle.claims.proofs.steps.DoneLaws.{outcome-code, outcome-done}
 use Rattle.claims.proofs.steps.SettleRuns as settles
 use Rattle.claims.proofs.steps.FenceRuns.{lasting-groups}
 use Rattle.claims.proofs.steps.RoundRuns.{lent-out, lent-within, begun-numbers, step-yields}
-use Rattle.model.proofs.strip.QuestionLaws.{begin-round-ready, step-round-ready}
-use Rattle.model.proofs.strip.StateLaws.{withRound, withCursor}
+use Rattle.laws.proofs.strip.QuestionLaws.{begin-round-ready, step-round-ready}
+use Rattle.laws.proofs.strip.StateLaws.{withRound, withCursor}
 use Rattle.claims.proofs.invariant.Invariant.{Sizes, entryFor, entriesFor, Matches, OldCommits, Commits, Running}
 
 -- an answer of 0 is a done call

@@ -18,10 +18,10 @@ use Rattle.model.specs.Book.{Commit, Task, idle, opened, Book, filledUp, submit
 use Rattle.model.specs.Book as book
 use Rattle.model.specs.Demands.{Live, Yields, ServiceYields, YieldsAt}
 use Rattle.model.specs.History.{Change, begins, reserves, aborts, stores, commits, flushes, Service, settles, trims, reads, Call, opening, confirm, change, service, commit, Event, call, crash, World, unopened, emptyStore, lent, ends, changeEnds, feed, feedChange, isOpening, afterDone, afterCall, afterCrash, step, Allowed, roundBegins, roundSteps}
-use Rattle.model.proofs.strip.QuestionLaws.{commit-ready}
+use Rattle.laws.proofs.strip.QuestionLaws.{commit-ready}
 use Rattle.claims.proofs.steps.RefusalLaws.{left-as-lent}
 use Rattle.claims.proofs.steps.DoneLaws.{outcome-code}
-use Rattle.model.proofs.trace.Trace.{Ev}
+use Rattle.laws.proofs.trace.Trace.{Ev}
 use Rattle.claims.proofs.invariant.Invariant.{Sizes, TaskOk, Running, Invariant}
 use Rattle.claims.proofs.claims.DemandThree.{keeps}
 use Rattle.claims.proofs.claims.Yields.{PastOwed, ends-done, confirm-yields, settle-yields, begin-round-yields, step-round-yields}

@@ -14,9 +14,9 @@ use Rattle.model.specs.Layout.{blockAt, homeAt, putHome}
 use Rattle.model.specs.Commit.{writeAll, replay}
 use Rattle.model.specs.Effects.{restore}
 use Rattle.model.specs.Book.{Entry, Commit, writeEntries, writeCommits}
-use Rattle.model.proofs.bytes.LayoutLaws.{home-same, home-other, length-putHome, area-ext}
-use Rattle.model.proofs.trace.Trace.{Ev, homeOn, blockOn, closerOf, closingFrom}
-use Rattle.model.proofs.trace.TraceLaws.{All}
+use Rattle.laws.proofs.bytes.LayoutLaws.{home-same, home-other, length-putHome, area-ext}
+use Rattle.laws.proofs.trace.Trace.{Ev, homeOn, blockOn, closerOf, closingFrom}
+use Rattle.laws.proofs.trace.TraceLaws.{All}
 use Rattle.claims.proofs.invariant.Invariant.{Sound, usedAt, entryFor, entriesFor, Matches, OldCommits, hasHome, touchesAbove}
 
 -- the entry of a position goes into its home

@@ -11,8 +11,8 @@ use Rattle.model.specs.Layout.{groupAt, headerStart}
 use Rattle.model.specs.Crash.{Memory}
 use Rattle.model.specs.Book.{Commit, fateAt, allSurvive}
 use Rattle.model.specs.declared.Tag.{Tag}
-use Rattle.model.proofs.trace.Trace.{Ev, mine, hist, tagAt, closerOf, oldestOf, Apart, LinkedIf}
-use Rattle.model.proofs.trace.TraceLaws.{All, all-map, Rising, tagAt-older, done-rising}
+use Rattle.laws.proofs.trace.Trace.{Ev, mine, hist, tagAt, closerOf, oldestOf, Apart, LinkedIf}
+use Rattle.laws.proofs.trace.TraceLaws.{All, all-map, Rising, tagAt-older, done-rising}
 use Rattle.claims.proofs.invariant.Invariant.{HoldsAt, entriesFor, landedIn, Late, ImageOk}
 use Rattle.claims.proofs.invariant.GrowLaws.{holdsAt-older, gap-done, open-done, close-done, oldest-upto, survive-newest, run-snoc, closed-snoc}
 

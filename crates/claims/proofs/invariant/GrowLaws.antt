@@ -11,8 +11,8 @@ use borrow.Author.Tests.{eq-eqb, ne-eqb, eqb-true, eqb-false, leb-true, leb-fals
 use Rattle.model.specs.Layout.{groupBlock, turnOf, withTopBit}
 use Rattle.model.specs.Book.{Entry, Commit, row, fateAt, survives, allSurvive, run}
 use Rattle.model.specs.Demands.{closedBelow}
-use Rattle.model.proofs.trace.Trace.{Ev, mine, setOpen, advance, hist, blockOn, closerOf, oldestOf}
-use Rattle.model.proofs.trace.TraceLaws.{at-here, All, all-map, Falling, firstOf-inside, mine-holds, homeOn-older, blockOn-older, homeOn-here, blockOn-here, open-falling, done-inside, open-inside}
+use Rattle.laws.proofs.trace.Trace.{Ev, mine, setOpen, advance, hist, blockOn, closerOf, oldestOf}
+use Rattle.laws.proofs.trace.TraceLaws.{at-here, All, all-map, Falling, firstOf-inside, mine-holds, homeOn-older, blockOn-older, homeOn-here, blockOn-here, open-falling, done-inside, open-inside}
 use Rattle.claims.proofs.invariant.Invariant.{wordOf, wordAt, usedAt, SoundAt, Sound, Holds, HoldsAt, entryFor, entriesFor, Matches, Commits}
 
 -- ---- words and uses by position

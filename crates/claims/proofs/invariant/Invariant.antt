@@ -22,11 +22,11 @@ use Rattle.model.specs.Book.{Kept, row, persisted, Entry, Commit, Held, Task, i
 use Rattle.model.specs.Demands.{closedBelow, SettledHomes, groupWrites}
 use Rattle.model.specs.History.{World}
 use Rattle.model.specs.declared.Tag.{Tag}
-use Rattle.model.proofs.strip.OrderLaws.{InOrder}
-use Rattle.model.proofs.trace.CrashLaws.{writeRecords, submits}
-use Rattle.model.proofs.trace.HomeLaws.{In}
-use Rattle.model.proofs.trace.MixLaws.{Mixed, groupPart, homePart}
-use Rattle.model.proofs.trace.Trace.{Ev, Hist, mine, hist, firstOf, tagAt, homeOn, blockOn, linkIn, closerOf, oldestOf, Apart, LinkOk, Linked, LinkedIf}
+use Rattle.laws.proofs.strip.OrderLaws.{InOrder}
+use Rattle.laws.proofs.trace.CrashLaws.{writeRecords, submits}
+use Rattle.laws.proofs.trace.HomeLaws.{In}
+use Rattle.laws.proofs.trace.MixLaws.{Mixed, groupPart, homePart}
+use Rattle.laws.proofs.trace.Trace.{Ev, Hist, mine, hist, firstOf, tagAt, homeOn, blockOn, linkIn, closerOf, oldestOf, Apart, LinkOk, Linked, LinkedIf}
 
 pub record Sizes (G D : ℕ) : Type 0 where
   pub low : 4 ≤ G

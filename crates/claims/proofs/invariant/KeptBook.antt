@@ -14,10 +14,10 @@ use Rattle.model.specs.Tag.{homeOf}
 use Rattle.model.specs.declared.Tag.{Tag}
 use Rattle.model.specs.Commit.{newestIn, orElse, newest}
 use Rattle.model.specs.Book.{Kept, row, persisted, Entry, Commit, owedBy, owedAll}
-use Rattle.model.proofs.rule.MemberLaws.{orElse-none, orElse-assoc}
-use Rattle.model.proofs.trace.Trace.{Ev, hist, firstOf, tagAt, homeOn, closerOf, oldestOf, closingFrom, Apart}
-use Rattle.model.proofs.trace.TraceLaws.{All, all-map, Falling, Rising, Names, Named, tagAt-home, tagAt-back, tagAt-from, done-named, done-falling, done-rising}
-use Rattle.model.proofs.trace.WholeLaws.{closingFrom-all}
+use Rattle.laws.proofs.rule.MemberLaws.{orElse-none, orElse-assoc}
+use Rattle.laws.proofs.trace.Trace.{Ev, hist, firstOf, tagAt, homeOn, closerOf, oldestOf, closingFrom, Apart}
+use Rattle.laws.proofs.trace.TraceLaws.{All, all-map, Falling, Rising, Names, Named, tagAt-home, tagAt-back, tagAt-from, done-named, done-falling, done-rising}
+use Rattle.laws.proofs.trace.WholeLaws.{closingFrom-all}
 use Rattle.claims.proofs.invariant.Invariant.{entryFor, entriesFor, Matches, OldCommits, Commits}
 use Rattle.claims.proofs.invariant.BookReplay.{ticket-above}
 

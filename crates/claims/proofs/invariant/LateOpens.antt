@@ -20,11 +20,11 @@ use Rattle.model.specs.Crash.{Memory}
 use Rattle.model.specs.Book.{Commit, fateAt, run, writeCommits, homesAfter}
 use Rattle.model.specs.Demands.{eachContents, untrimmed, closedBelow}
 use Rattle.ledger.specs.Store.{foundInMemory}
-use Rattle.model.proofs.bytes.ByteLaws.{length-zeros}
-use Rattle.model.proofs.trace.Trace.{Ev, hist, tagAt, homeOn, blockOn, firstIn, surviving, closerOf, oldestOf, closingFrom, allLanded, whole, Apart}
-use Rattle.model.proofs.trace.TraceLaws.{All, all-map, Falling, falling-inside, Names, Named, tagAt-beyond, tagAt-back, tagAt-home, done-falling, done-rising, done-named, surviving-nothing}
-use Rattle.model.proofs.trace.WalkLaws.{Agree, transactions-local, transactions-beyond, closingBelow}
-use Rattle.model.proofs.trace.Survivors.{survivors-if}
+use Rattle.laws.proofs.bytes.ByteLaws.{length-zeros}
+use Rattle.laws.proofs.trace.Trace.{Ev, hist, tagAt, homeOn, blockOn, firstIn, surviving, closerOf, oldestOf, closingFrom, allLanded, whole, Apart}
+use Rattle.laws.proofs.trace.TraceLaws.{All, all-map, Falling, falling-inside, Names, Named, tagAt-beyond, tagAt-back, tagAt-home, done-falling, done-rising, done-named, surviving-nothing}
+use Rattle.laws.proofs.trace.WalkLaws.{Agree, transactions-local, transactions-beyond, closingBelow}
+use Rattle.laws.proofs.trace.Survivors.{survivors-if}
 use Rattle.claims.proofs.invariant.RunLaws.{run-matches, run-old, closedBelow-old, closedBelow-matches, SafeBelow, whole-split, whole-above}
 use Rattle.claims.proofs.invariant.BookReplay.{place, writeCommits-append, replay-append, commits-replay, replay-ext, restore-place, hitsAny, Fits, fits-used, replay-area, touches-hits, touches-old, length-writeCommits}
 use Rattle.claims.proofs.invariant.ReadBack.{SeenIn, untrimmed-old, untrimmed-matches}

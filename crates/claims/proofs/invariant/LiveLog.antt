@@ -16,15 +16,15 @@ use Rattle.model.specs.Commit.{committed, transactions, newestIn, orElse, newes
 use Rattle.model.specs.State.{stateOf, nextPosition}
 use Rattle.model.specs.Effects.{groups, homes, tagsOf, liveTags, liveBase}
 use Rattle.model.specs.History.{World, lent}
-use Rattle.model.proofs.bytes.LayoutLaws.{groups-in, homes-in}
-use Rattle.model.proofs.strip.OrderLaws.{next-within}
+use Rattle.laws.proofs.bytes.LayoutLaws.{groups-in, homes-in}
+use Rattle.laws.proofs.strip.OrderLaws.{next-within}
 use Rattle.claims.proofs.invariant.GrowLaws.{used-inside, holds-at}
-use Rattle.model.proofs.trace.Trace.{Ev, hist, tagAt, homeOn, blockOn, firstIn, surviving, closerOf, oldestOf, closingFrom}
-use Rattle.model.proofs.trace.TraceLaws.{All, all-map, Names, Named, tagAt-back, tagAt-home, open-named, done-named}
-use Rattle.model.proofs.trace.WholeLaws.{whole-all}
-use Rattle.model.proofs.trace.WalkLaws.{Agree, committed-local, transactions-local, transactions-upto, closingBelow, surviving-back}
-use Rattle.model.proofs.trace.CountLaws.{spansOf}
-use Rattle.model.proofs.trace.Survivors.{survivors-spans, all-survive}
+use Rattle.laws.proofs.trace.Trace.{Ev, hist, tagAt, homeOn, blockOn, firstIn, surviving, closerOf, oldestOf, closingFrom}
+use Rattle.laws.proofs.trace.TraceLaws.{All, all-map, Names, Named, tagAt-back, tagAt-home, open-named, done-named}
+use Rattle.laws.proofs.trace.WholeLaws.{whole-all}
+use Rattle.laws.proofs.trace.WalkLaws.{Agree, committed-local, transactions-local, transactions-upto, closingBelow, surviving-back}
+use Rattle.laws.proofs.trace.CountLaws.{spansOf}
+use Rattle.laws.proofs.trace.Survivors.{survivors-spans, all-survive}
 use Rattle.claims.proofs.invariant.LogStep.{used-present, entry-of-holds, block-of-holds}
 use Rattle.claims.proofs.invariant.BookReplay.{hits, hitsAny, Fits, fits-used}
 use Rattle.claims.proofs.invariant.LateOpens.{all-taken}

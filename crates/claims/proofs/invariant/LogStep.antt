@@ -15,12 +15,12 @@ use Rattle.model.specs.declared.State.{State}
 use Rattle.model.specs.Effects.{entered}
 use Rattle.model.specs.declared.Tag.{Tag}
 use Rattle.model.specs.declared.Tag.the-variants.{Nothing, Entry, Closing}
-use Rattle.model.proofs.bytes.ByteLaws.{same-refl}
-use Rattle.model.proofs.bytes.TagLaws.{read-word, entry-fits, closing-fits, displaced-fits, displaced-back, read-displaced, read-entry, read-closing, read-zero}
-use Rattle.model.proofs.bytes.TurnLaws.{topBit-lt, length-withTopBit, topBit-with, turn-back, turnOf-lt}
-use Rattle.model.proofs.bytes.LayoutLaws.{length-putBlank, length-putEntry, group-fits, blank-same, blank-other, enterIn, length-enterIn, entry-same, entry-other, enter-number, enter-mark, enter-tag-same, enter-tag-other, enter-block-same, enter-block-other, length-blankGroup, blank-number, blank-tag, blank-turn, blank-mark, ring, position-group, position-slot, position-index}
-use Rattle.model.proofs.trace.Trace.{Ev, mine, hist, firstOf, tagOf, tagAt, blockOn, firstIn}
-use Rattle.model.proofs.trace.TraceLaws.{Falling, firstOf-inside, mine-holds, open-falling, blockOn-older, blockOn-here}
+use Rattle.laws.proofs.bytes.ByteLaws.{same-refl}
+use Rattle.laws.proofs.bytes.TagLaws.{read-word, entry-fits, closing-fits, displaced-fits, displaced-back, read-displaced, read-entry, read-closing, read-zero}
+use Rattle.laws.proofs.bytes.TurnLaws.{topBit-lt, length-withTopBit, topBit-with, turn-back, turnOf-lt}
+use Rattle.laws.proofs.bytes.LayoutLaws.{length-putBlank, length-putEntry, group-fits, blank-same, blank-other, enterIn, length-enterIn, entry-same, entry-other, enter-number, enter-mark, enter-tag-same, enter-tag-other, enter-block-same, enter-block-other, length-blankGroup, blank-number, blank-tag, blank-turn, blank-mark, ring, position-group, position-slot, position-index}
+use Rattle.laws.proofs.trace.Trace.{Ev, mine, hist, firstOf, tagOf, tagAt, blockOn, firstIn}
+use Rattle.laws.proofs.trace.TraceLaws.{Falling, firstOf-inside, mine-holds, open-falling, blockOn-older, blockOn-here}
 use Rattle.claims.proofs.invariant.Invariant.{Sizes, plainOf, wordOf, wordAt, usedAt, SoundAt, Sound, Holds, HoldsAt, NotAt}
 use Rattle.claims.proofs.invariant.GrowLaws.{word-other, used-other, word-used, used-inside, word-beyond, used-beyond, holds-older}
 

@@ -8,7 +8,7 @@ use lib.ListN.{length}
 use Rattle.model.specs.Layout.{groupAt, headerRight, headerStart}
 use Rattle.model.specs.Crash.{Memory}
 use Rattle.model.specs.Book.{Commit}
-use Rattle.model.proofs.trace.Trace.{Ev, hist, tagAt, Apart, Linked}
+use Rattle.laws.proofs.trace.Trace.{Ev, hist, tagAt, Apart, Linked}
 use Rattle.claims.proofs.invariant.Invariant.{Sizes, Sound, Holds, FoundBelow, Turned, Commits, HeldHome}
 
 -- `start` and `settled` are the strip's; groups below `group` were submitted before the fence, those from it to group + count since

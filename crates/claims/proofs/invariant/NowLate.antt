@@ -19,15 +19,15 @@ use Rattle.model.specs.Crash.{Memory, persistChosen, fatesChosen}
 use Rattle.model.specs.Book.{Commit, fateAt, run, homesAfter}
 use Rattle.model.specs.Demands.{closedBelow}
 use Rattle.model.specs.declared.Tag.{Tag}
-use Rattle.model.proofs.bytes.ByteLaws.{length-puts}
-use Rattle.model.proofs.bytes.TurnLaws.{turnOf-lt}
-use Rattle.model.proofs.bytes.LayoutLaws.{length-header, header-start, header-right, length-groupAt, group-fits, group-header, ring}
-use Rattle.model.proofs.bytes.BlockLaws.{blockIn, same-mark, same-number, same-tag, same-data, group-ext}
-use Rattle.model.proofs.trace.CrashLaws.{trues, submits, pieceCount, none-submits, chosen-append, fate-append, fateAt-trues, fateAt-after, NoFence, none-homes, none-append}
-use Rattle.model.proofs.trace.SubmitLaws.{fateAt-submits, fateAt-submits-past, area-submits, length-submits, headerStart-submits, headerRight-submits, groupAt-elsewhere, blockIn-submits, meta-submits}
-use Rattle.model.proofs.trace.HomeLaws.{In, fates-homes, log-homes, length-homes, homeAt-homes, log-header, area-header, fates-header}
-use Rattle.model.proofs.trace.Trace.{Ev, hist, tagAt, closerOf, Apart, Linked, LinkedIf}
-use Rattle.model.proofs.trace.LinkLaws.{linked-later}
+use Rattle.laws.proofs.bytes.ByteLaws.{length-puts}
+use Rattle.laws.proofs.bytes.TurnLaws.{turnOf-lt}
+use Rattle.laws.proofs.bytes.LayoutLaws.{length-header, header-start, header-right, length-groupAt, group-fits, group-header, ring}
+use Rattle.laws.proofs.bytes.BlockLaws.{blockIn, same-mark, same-number, same-tag, same-data, group-ext}
+use Rattle.laws.proofs.trace.CrashLaws.{trues, submits, pieceCount, none-submits, chosen-append, fate-append, fateAt-trues, fateAt-after, NoFence, none-homes, none-append}
+use Rattle.laws.proofs.trace.SubmitLaws.{fateAt-submits, fateAt-submits-past, area-submits, length-submits, headerStart-submits, headerRight-submits, groupAt-elsewhere, blockIn-submits, meta-submits}
+use Rattle.laws.proofs.trace.HomeLaws.{In, fates-homes, log-homes, length-homes, homeAt-homes, log-header, area-header, fates-header}
+use Rattle.laws.proofs.trace.Trace.{Ev, hist, tagAt, closerOf, Apart, Linked, LinkedIf}
+use Rattle.laws.proofs.trace.LinkLaws.{linked-later}
 use Rattle.claims.proofs.invariant.Invariant.{Holds, HoldsAt, NotGroup, NotAt, FoundBelow, touchesAbove, landedIn, Late, HeldHome}
 use Rattle.claims.proofs.invariant.GrowLaws.{holds-at}
 use Rattle.claims.proofs.invariant.TouchLaws.{commits-fit, touches-more, homesAfter-untouched, LandedBelow, touches-run}

@@ -15,13 +15,13 @@ use Rattle.model.specs.Batch.{KW, Record}
 use Rattle.model.specs.Effects.{homeWrites}
 use Rattle.model.specs.Crash.{Memory}
 use Rattle.model.specs.Book.{Commit}
-use Rattle.model.proofs.bytes.ByteLaws.{length-puts}
-use Rattle.model.proofs.bytes.TurnLaws.{turnOf-lt, turnOf-next}
-use Rattle.model.proofs.bytes.LayoutLaws.{length-header, header-start, header-right, group-header}
-use Rattle.model.proofs.trace.CrashLaws.{writeRecords, submits, none-submits, chosen-all, write-append}
-use Rattle.model.proofs.trace.HomeLaws.{log-homes-wrote, length-homes-wrote, log-header-wrote, area-header-wrote}
-use Rattle.model.proofs.trace.Trace.{Ev, hist, tagAt, Apart}
-use Rattle.model.proofs.trace.LinkLaws.{linked-later}
+use Rattle.laws.proofs.bytes.ByteLaws.{length-puts}
+use Rattle.laws.proofs.bytes.TurnLaws.{turnOf-lt, turnOf-next}
+use Rattle.laws.proofs.bytes.LayoutLaws.{length-header, header-start, header-right, group-header}
+use Rattle.laws.proofs.trace.CrashLaws.{writeRecords, submits, none-submits, chosen-all, write-append}
+use Rattle.laws.proofs.trace.HomeLaws.{log-homes-wrote, length-homes-wrote, log-header-wrote, area-header-wrote}
+use Rattle.laws.proofs.trace.Trace.{Ev, hist, tagAt, Apart}
+use Rattle.laws.proofs.trace.LinkLaws.{linked-later}
 use Rattle.claims.proofs.invariant.Invariant.{Holds, Turned, HeldHome}
 use Rattle.claims.proofs.invariant.Now.{Now}
 use Rattle.claims.proofs.invariant.NowLate.{image, numbers-now, kept, there-before, there-since, image-start, image-right, image-size, image-homes}

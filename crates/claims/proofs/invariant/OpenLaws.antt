@@ -19,13 +19,13 @@ use Rattle.model.specs.Crash.{Memory, persistChosen}
 use Rattle.model.specs.Book.{Commit, fateAt, homesAfter, run}
 use Rattle.model.specs.Demands.{closedBelow}
 use Rattle.model.specs.declared.Tag.{Tag}
-use Rattle.model.proofs.bytes.LayoutLaws.{length-header, header-start, header-right, group-header, area-ext}
-use Rattle.model.proofs.bytes.ByteLaws.{length-puts}
-use Rattle.model.proofs.trace.ReplayLaws.{Good, length-replayed, replay-same, replay-kept, good-found}
-use Rattle.model.proofs.trace.TraceLaws.{All}
-use Rattle.model.proofs.trace.CrashLaws.{writeRecords, chosen-all, none-homes}
-use Rattle.model.proofs.trace.HomeLaws.{In, in-marked, marked-in, marked-below, log-homes, length-homes, homeAt-homes, log-homes-wrote, length-homes-wrote, homeAt-unwritten, homeAt-wrote}
-use Rattle.model.proofs.trace.Trace.{hist}
+use Rattle.laws.proofs.bytes.LayoutLaws.{length-header, header-start, header-right, group-header, area-ext}
+use Rattle.laws.proofs.bytes.ByteLaws.{length-puts}
+use Rattle.laws.proofs.trace.ReplayLaws.{Good, length-replayed, replay-same, replay-kept, good-found}
+use Rattle.laws.proofs.trace.TraceLaws.{All}
+use Rattle.laws.proofs.trace.CrashLaws.{writeRecords, chosen-all, none-homes}
+use Rattle.laws.proofs.trace.HomeLaws.{In, in-marked, marked-in, marked-below, log-homes, length-homes, homeAt-homes, log-homes-wrote, length-homes-wrote, homeAt-unwritten, homeAt-wrote}
+use Rattle.laws.proofs.trace.Trace.{hist}
 use Rattle.claims.proofs.invariant.Invariant.{Sizes, FoundBelow, NotGroup, OldCommits, Opens, Late}
 
 -- a slot whose number lies below n does not hold group n

@@ -11,8 +11,8 @@ use Rattle.model.specs.declared.Tag.{Tag}
 use Rattle.model.specs.Layout.{blockAt}
 use Rattle.model.specs.Book.{Entry, Commit}
 use Rattle.model.specs.Demands.{contents, eachContents, heldEntries, untrimmed}
-use Rattle.model.proofs.trace.Trace.{Ev, homeOn, blockOn, closerOf, closingFrom}
-use Rattle.model.proofs.trace.TraceLaws.{All}
+use Rattle.laws.proofs.trace.Trace.{Ev, homeOn, blockOn, closerOf, closingFrom}
+use Rattle.laws.proofs.trace.TraceLaws.{All}
 use Rattle.claims.proofs.invariant.Invariant.{entryFor, entriesFor, Matches, OldCommits}
 use Rattle.claims.proofs.invariant.BookReplay.{ticket-above}
 

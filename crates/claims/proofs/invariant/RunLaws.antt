@@ -8,10 +8,10 @@ use lib.Dec.{leb, ltb}
 use borrow.Author.Tests.{leb-true, leb-false, le-leb, lt-ltb, le-ltb}
 use Rattle.model.specs.Book.{Entry, Commit, fateAt, survives, allSurvive, run}
 use Rattle.model.specs.Demands.{closedBelow}
-use Rattle.model.proofs.trace.Trace.{Ev, closerOf, closingFrom, allLanded, whole}
-use Rattle.model.proofs.trace.TraceLaws.{All, Rising}
-use Rattle.model.proofs.trace.WholeLaws.{closingFrom-all}
-use Rattle.model.proofs.trace.WalkLaws.{closingBelow}
+use Rattle.laws.proofs.trace.Trace.{Ev, closerOf, closingFrom, allLanded, whole}
+use Rattle.laws.proofs.trace.TraceLaws.{All, Rising}
+use Rattle.laws.proofs.trace.WholeLaws.{closingFrom-all}
+use Rattle.laws.proofs.trace.WalkLaws.{closingBelow}
 use Rattle.claims.proofs.invariant.Invariant.{entryFor, entriesFor, Matches, OldEntries, OldCommits, landedIn}
 use Rattle.claims.proofs.invariant.GrowLaws.{survive-append}
 use Rattle.claims.proofs.invariant.OpenLaws.{closed-old}

@@ -11,8 +11,8 @@ use Rattle.model.specs.declared.State.{State}
 use Rattle.model.specs.Book.{Commit}
 use Rattle.model.specs.Demands.{settledFor, SettledHomes}
 use Rattle.model.specs.History.{World}
-use Rattle.model.proofs.strip.OrderLaws.{InOrder}
-use Rattle.model.proofs.trace.Trace.{Ev}
+use Rattle.laws.proofs.strip.OrderLaws.{InOrder}
+use Rattle.laws.proofs.trace.Trace.{Ev}
 use Rattle.claims.proofs.invariant.Invariant.{HeldHome, Copies}
 
 -- what it is

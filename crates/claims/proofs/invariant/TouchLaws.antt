@@ -12,10 +12,10 @@ use Rattle.model.specs.Tag.{present}
 use Rattle.model.specs.Layout.{homeAt, putHome}
 use Rattle.model.specs.Book.{Entry, Commit, allSurvive, run, writeEntries, writeCommits, homesAfter, newestEntry}
 use Rattle.model.specs.Demands.{closedBelow}
-use Rattle.model.proofs.bytes.ByteLaws.{length-zeros}
-use Rattle.model.proofs.bytes.LayoutLaws.{home-same, home-other, length-putHome}
-use Rattle.model.proofs.trace.Trace.{Ev, hist, tagAt, closerOf, oldestOf, allLanded}
-use Rattle.model.proofs.trace.TraceLaws.{All, all-map, all-snoc, Falling, Rising, Names, Named, done-falling, done-rising, done-named}
+use Rattle.laws.proofs.bytes.ByteLaws.{length-zeros}
+use Rattle.laws.proofs.bytes.LayoutLaws.{home-same, home-other, length-putHome}
+use Rattle.laws.proofs.trace.Trace.{Ev, hist, tagAt, closerOf, oldestOf, allLanded}
+use Rattle.laws.proofs.trace.TraceLaws.{All, all-map, all-snoc, Falling, Rising, Names, Named, done-falling, done-rising, done-named}
 use Rattle.claims.proofs.invariant.Invariant.{Sound, entryFor, entriesFor, Matches, OldEntries, OldCommits, Commits, hasHome, touchesAbove, landedIn}
 use Rattle.claims.proofs.invariant.LogStep.{used-present}
 use Rattle.claims.proofs.invariant.RunLaws.{survive-landed, run-old, closedBelow-old}

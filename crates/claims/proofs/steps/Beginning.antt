@@ -19,10 +19,10 @@ use Rattle.model.specs.History.{World, unopened, emptyStore, loaded}
 use Rattle.model.specs.Demands.{eachContents}
 use Rattle.ledger.specs.Store.{foundInMemory}
 use Rattle.model.specs.declared.Tag.the-variants.{Nothing}
-use Rattle.model.proofs.bytes.ByteLaws.{length-zeros}
-use Rattle.model.proofs.bytes.EmptyLaws.{unused-mark, length-emptyLog, emptyLog-start, emptyLog-right, emptyLog-group}
-use Rattle.model.proofs.bytes.LayoutLaws.{groups-in, homes-in}
-use Rattle.model.proofs.trace.WalkLaws.{transactions-quiet}
+use Rattle.laws.proofs.bytes.ByteLaws.{length-zeros}
+use Rattle.laws.proofs.bytes.EmptyLaws.{unused-mark, length-emptyLog, emptyLog-start, emptyLog-right, emptyLog-group}
+use Rattle.laws.proofs.bytes.LayoutLaws.{groups-in, homes-in}
+use Rattle.laws.proofs.trace.WalkLaws.{transactions-quiet}
 use Rattle.claims.proofs.invariant.Invariant.{Sizes, FoundBelow, NotGroup, Opens, Closed}
 use Rattle.claims.proofs.invariant.OpenLaws.{found-below}
 

@@ -16,12 +16,12 @@ use Rattle.model.specs.Book.{Kept, persisted, Entry, Commit, Book, fateAt, surv
 use Rattle.model.specs.Book as book
 use Rattle.model.specs.Demands.{groupWrites, lost, NoneOwed, Crashed}
 use Rattle.model.specs.History.{World, rowFates, afterCrash}
-use Rattle.model.proofs.trace.CrashLaws.{trues, writeRecords, fences-append, groupWrites-fence, persist-stop, fates-stop, persist-last, fates-last, fates-fenced, fateAt-trues, fences-none}
-use Rattle.model.proofs.trace.FateLaws.{fateAt-drop, drop-trues}
-use Rattle.model.proofs.trace.MixLaws.{none-mixed}
-use Rattle.model.proofs.trace.Trace.{Ev, hist, closerOf, allLanded, whole}
-use Rattle.model.proofs.trace.TraceLaws.{All, Falling, Rising, Long, done-rising, done-falling, done-long}
-use Rattle.model.proofs.trace.WholeLaws.{whole-ext, whole-none}
+use Rattle.laws.proofs.trace.CrashLaws.{trues, writeRecords, fences-append, groupWrites-fence, persist-stop, fates-stop, persist-last, fates-last, fates-fenced, fateAt-trues, fences-none}
+use Rattle.laws.proofs.trace.FateLaws.{fateAt-drop, drop-trues}
+use Rattle.laws.proofs.trace.MixLaws.{none-mixed}
+use Rattle.laws.proofs.trace.Trace.{Ev, hist, closerOf, allLanded, whole}
+use Rattle.laws.proofs.trace.TraceLaws.{All, Falling, Rising, Long, done-rising, done-falling, done-long}
+use Rattle.laws.proofs.trace.WholeLaws.{whole-ext, whole-none}
 use Rattle.claims.proofs.invariant.RunLaws.{survive-landed, run-matches, run-old}
 use Rattle.claims.proofs.invariant.TouchLaws.{all-append, EntryFits, CommitFits, commits-fit}
 use Rattle.claims.proofs.invariant.LateOpens.{late-opens}

@@ -17,12 +17,12 @@ use Rattle.model.specs.Crash.{Memory, fences, persist, persistChosen, fates, fa
 use Rattle.model.specs.Book.{Commit, fateAt}
 use Rattle.model.specs.Demands.{groupWrites}
 use Rattle.model.specs.History.{World}
-use Rattle.model.proofs.bytes.LayoutLaws.{groups-in}
-use Rattle.model.proofs.trace.CrashLaws.{writeRecords, trues, NoFence, submits, fences-append, fences-fence, fences-none, none-append, groupWrites-append, groupWrites-fence, groupWrites-submits, write-append, write-fence, length-write, persist-stop, fates-stop, persist-last, fates-last, chosen-fence, fate-fence, write-nil}
-use Rattle.model.proofs.trace.FateLaws.{drop-trues}
-use Rattle.model.proofs.trace.HomeLaws.{In}
-use Rattle.model.proofs.trace.MixLaws.{groupPart, homePart, groupWrites-part, none-mixed, sorted-then, sorted-wrote}
-use Rattle.model.proofs.trace.Trace.{Ev}
+use Rattle.laws.proofs.bytes.LayoutLaws.{groups-in}
+use Rattle.laws.proofs.trace.CrashLaws.{writeRecords, trues, NoFence, submits, fences-append, fences-fence, fences-none, none-append, groupWrites-append, groupWrites-fence, groupWrites-submits, write-append, write-fence, length-write, persist-stop, fates-stop, persist-last, fates-last, chosen-fence, fate-fence, write-nil}
+use Rattle.laws.proofs.trace.FateLaws.{drop-trues}
+use Rattle.laws.proofs.trace.HomeLaws.{In}
+use Rattle.laws.proofs.trace.MixLaws.{groupPart, homePart, groupWrites-part, none-mixed, sorted-then, sorted-wrote}
+use Rattle.laws.proofs.trace.Trace.{Ev}
 use Rattle.claims.proofs.invariant.Invariant.{Sizes, HeldHome, Late, ImageOk, Copies, Submitted, Commits, Running}
 use Rattle.claims.proofs.invariant.SettledLaws.{copy-held}
 use Rattle.claims.proofs.invariant.Now.{Now}

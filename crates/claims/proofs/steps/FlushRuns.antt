@@ -20,15 +20,15 @@ use Rattle.model.specs.Book.{Commit, Task, Book, submit, fateAt, homesAfter}
 use Rattle.model.specs.Book as book
 use Rattle.model.specs.Demands.{closedBelow, groupWrites}
 use Rattle.model.specs.History.{Call, World, lent, feed, isConfirm, flush, feedChange}
-use Rattle.model.proofs.strip.StateLaws.{withFenced, withNext, withFilled, state-setFenced, length-setFenced, writer-setFenced, held-setFenced, state-setNext, length-setNext, writer-setNext, held-setNext, state-setFilled, length-setFilled, writer-setFilled, held-setFilled}
-use Rattle.model.proofs.strip.OrderLaws.{InOrder, WriterInOrder, Promises}
-use Rattle.model.proofs.strip.PromiseLaws.{promise-setFenced, promise-setNext, promise-setFilled, promised-agree}
-use Rattle.model.proofs.trace.CrashLaws.{writeRecords, submits, NoFence, trues, groupWrites-fence}
-use Rattle.model.proofs.trace.HomeLaws.{In}
-use Rattle.model.proofs.trace.MixLaws.{mixed-append}
-use Rattle.model.proofs.trace.Trace.{Ev, Hist, hist, tagAt, closerOf, Apart, Linked}
-use Rattle.model.proofs.trace.TraceLaws.{all-map}
-use Rattle.model.proofs.trace.LinkLaws.{linked-ext}
+use Rattle.laws.proofs.strip.StateLaws.{withFenced, withNext, withFilled, state-setFenced, length-setFenced, writer-setFenced, held-setFenced, state-setNext, length-setNext, writer-setNext, held-setNext, state-setFilled, length-setFilled, writer-setFilled, held-setFilled}
+use Rattle.laws.proofs.strip.OrderLaws.{InOrder, WriterInOrder, Promises}
+use Rattle.laws.proofs.strip.PromiseLaws.{promise-setFenced, promise-setNext, promise-setFilled, promised-agree}
+use Rattle.laws.proofs.trace.CrashLaws.{writeRecords, submits, NoFence, trues, groupWrites-fence}
+use Rattle.laws.proofs.trace.HomeLaws.{In}
+use Rattle.laws.proofs.trace.MixLaws.{mixed-append}
+use Rattle.laws.proofs.trace.Trace.{Ev, Hist, hist, tagAt, closerOf, Apart, Linked}
+use Rattle.laws.proofs.trace.TraceLaws.{all-map}
+use Rattle.laws.proofs.trace.LinkLaws.{linked-ext}
 use Rattle.claims.proofs.invariant.GrowLaws.{holds-gap, sound-gap, commits-gap, gap-done, gap-open, entries-older, open-below}
 use Rattle.claims.proofs.invariant.GrowImages.{image-gap, closers-older}
 use Rattle.claims.proofs.steps.DoneLaws.{after}

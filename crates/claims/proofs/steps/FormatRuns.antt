@@ -17,16 +17,16 @@ use Rattle.model.specs.Calls.{Outcome, done, sizeOf, formatCall, openCall}
 use Rattle.model.specs.Crash.{Memory, toLog, toArea, blocks, pieces, write, writeEach, writeIf, writeChosen, many, isFence, fences, persistChosen, persist}
 use Rattle.model.specs.Facts.{FormatEmpties, NeverOpens, FormatCut}
 use Rattle.model.specs.History.{World, Event, Formatting, formatRecords, landed, unopened, loaded, afterFormat, emptyStore, AllAllowed, Always}
-use Rattle.model.proofs.bytes.ByteLaws.{length-puts, length-zeros, puts-append, puts-nil, puts-whole, puts-front, part-below, part-inside}
-use Rattle.model.proofs.bytes.EmptyLaws.{length-unusedSlots}
-use Rattle.model.proofs.bytes.LayoutLaws.{length-header, log-length, data-length, groups-in, homes-in, log-length-right, data-length-right}
-use Rattle.model.proofs.strip.BatchLaws.{AllFormed, formed-append}
-use Rattle.model.proofs.strip.QuestionLaws.{and-true, format-ready}
-use Rattle.model.proofs.trace.CrashLaws.{writeRecords, write-append, NoFence, none-append, fences-none, fences-append, chosen-fence, persist-zero, persist-past}
-use Rattle.model.proofs.trace.OpeningLaws.{none-blanks, formed-blanks, write-blanks}
+use Rattle.laws.proofs.bytes.ByteLaws.{length-puts, length-zeros, puts-append, puts-nil, puts-whole, puts-front, part-below, part-inside}
+use Rattle.laws.proofs.bytes.EmptyLaws.{length-unusedSlots}
+use Rattle.laws.proofs.bytes.LayoutLaws.{length-header, log-length, data-length, groups-in, homes-in, log-length-right, data-length-right}
+use Rattle.laws.proofs.strip.BatchLaws.{AllFormed, formed-append}
+use Rattle.laws.proofs.strip.QuestionLaws.{and-true, format-ready}
+use Rattle.laws.proofs.trace.CrashLaws.{writeRecords, write-append, NoFence, none-append, fences-none, fences-append, chosen-fence, persist-zero, persist-past}
+use Rattle.laws.proofs.trace.OpeningLaws.{none-blanks, formed-blanks, write-blanks}
 use Rattle.claims.proofs.steps.DoneLaws.{outcome-code, outcome-done, records-read}
 use Rattle.claims.proofs.invariant.Invariant.{Sizes}
-use Rattle.model.proofs.strip.LoggingLaws.{fits}
+use Rattle.laws.proofs.strip.LoggingLaws.{fits}
 
 -- ---- a done format's records
 

@@ -15,11 +15,11 @@ use Rattle.model.specs.declared.Writer.{Writer}
 use Rattle.model.specs.Effects.{linkFrom}
 use Rattle.model.specs.Book.{Kept, row, Entry, Commit, Held, Task, opened, idle, Book, entryOf, submit, grown, filledUp}
 use Rattle.model.specs.History.{World}
-use Rattle.model.proofs.bytes.ByteLaws.{length-part}
-use Rattle.model.proofs.strip.OrderLaws.{InOrder, WriterInOrder}
-use Rattle.model.proofs.trace.Trace.{Ev, Hist, mine, hist, firstOf, closerOf, oldestOf, LinkOk}
-use Rattle.model.proofs.trace.TraceLaws.{done-rising, Rising}
-use Rattle.model.proofs.trace.LinkLaws.{lastFrom, Below, below-last}
+use Rattle.laws.proofs.bytes.ByteLaws.{length-part}
+use Rattle.laws.proofs.strip.OrderLaws.{InOrder, WriterInOrder}
+use Rattle.laws.proofs.trace.Trace.{Ev, Hist, mine, hist, firstOf, closerOf, oldestOf, LinkOk}
+use Rattle.laws.proofs.trace.TraceLaws.{done-rising, Rising}
+use Rattle.laws.proofs.trace.LinkLaws.{lastFrom, Below, below-last}
 use Rattle.claims.proofs.invariant.Invariant.{Sizes, SoundAt, entriesFor, TaskOk, Copies, LastOk, lastCloser}
 
 pub filled-tasks : (k : Book) → filledUp k .tasks ≡ k .tasks

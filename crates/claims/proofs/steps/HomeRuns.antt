@@ -15,11 +15,11 @@ use Rattle.model.specs.Effects.{homeWrites}
 use Rattle.model.specs.Crash.{Memory, persistChosen, fatesChosen}
 use Rattle.model.specs.Book.{Commit}
 use Rattle.model.specs.History.{World}
-use Rattle.model.proofs.bytes.LayoutLaws.{area-ext}
-use Rattle.model.proofs.trace.CrashLaws.{writeRecords, trues, submits, none-homes, groupWrites-homes, write-append}
-use Rattle.model.proofs.trace.HomeLaws.{In, in-cases, length-homes-wrote, homeAt-wrote, homeAt-unwritten}
-use Rattle.model.proofs.trace.RestoreLaws.{in-or-not}
-use Rattle.model.proofs.trace.Trace.{Ev}
+use Rattle.laws.proofs.bytes.LayoutLaws.{area-ext}
+use Rattle.laws.proofs.trace.CrashLaws.{writeRecords, trues, submits, none-homes, groupWrites-homes, write-append}
+use Rattle.laws.proofs.trace.HomeLaws.{In, in-cases, length-homes-wrote, homeAt-wrote, homeAt-unwritten}
+use Rattle.laws.proofs.trace.RestoreLaws.{in-or-not}
+use Rattle.laws.proofs.trace.Trace.{Ev}
 use Rattle.claims.proofs.invariant.Invariant.{Sizes, HeldHome, Late, Copies, Submitted, Commits}
 use Rattle.claims.proofs.invariant.Now.{Now}
 use Rattle.claims.proofs.invariant.NowLate.{now-late-homes, same-start}

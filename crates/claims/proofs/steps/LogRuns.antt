@@ -18,21 +18,21 @@ use Rattle.model.specs.Batch.{Record, GW, FN}
 use Rattle.model.specs.Book.{Kept, row, Entry, Commit, Held, Task, opened, idle, Book, homesAfter, entryOf, submit, grown, filledUp, withTask}
 use Rattle.model.specs.Demands.{closedBelow, settledFor}
 use Rattle.model.specs.History.{World}
-use Rattle.model.proofs.strip.StateLaws.{state-laws, writer-laws, held-laws, length-laws, state-setNext, state-setFilled, length-setNext, length-setFilled, writer-setNext, writer-setFilled, held-setNext, held-setFilled}
-use Rattle.model.proofs.strip.OrderLaws.{InOrder, WriterInOrder, Promises}
-use Rattle.model.proofs.strip.QuestionLaws.{Roomy}
-use Rattle.model.proofs.strip.PromiseLaws.{promise-setNext, promise-setFilled, promised-change}
-use Rattle.model.proofs.trace.Trace.{Ev, Hist, mine, hist, firstOf, tagAt, tagOf, linkIn, closerOf, oldestOf, Apart, LinkOk, Linked}
-use Rattle.model.proofs.trace.TraceLaws.{tagAt-here}
-use Rattle.model.proofs.trace.LinkLaws.{linked-more, linked-ext, lastFrom}
+use Rattle.laws.proofs.strip.StateLaws.{state-laws, writer-laws, held-laws, length-laws, state-setNext, state-setFilled, length-setNext, length-setFilled, writer-setNext, writer-setFilled, held-setNext, held-setFilled}
+use Rattle.laws.proofs.strip.OrderLaws.{InOrder, WriterInOrder, Promises}
+use Rattle.laws.proofs.strip.QuestionLaws.{Roomy}
+use Rattle.laws.proofs.strip.PromiseLaws.{promise-setNext, promise-setFilled, promised-change}
+use Rattle.laws.proofs.trace.Trace.{Ev, Hist, mine, hist, firstOf, tagAt, tagOf, linkIn, closerOf, oldestOf, Apart, LinkOk, Linked}
+use Rattle.laws.proofs.trace.TraceLaws.{tagAt-here}
+use Rattle.laws.proofs.trace.LinkLaws.{linked-more, linked-ext, lastFrom}
 use Rattle.claims.proofs.invariant.GrowLaws.{holds-older, sound-grow, close-done, open-done, open-other, open-below, entries-older}
 use Rattle.claims.proofs.invariant.GrowImages.{closers-older, apart-snoc}
 use Rattle.claims.proofs.invariant.LogStep.{log-groups}
 use Rattle.claims.proofs.invariant.Invariant.{Sizes, Sound, SoundAt, Holds, plainOf, entriesFor, TaskOk, Copies, LastOk, lastCloser}
 use Rattle.claims.proofs.invariant.SettledLaws.{settled-same, settled-most}
 use Rattle.claims.proofs.steps.WriterSteps.{each-writer}
-use Rattle.model.proofs.strip.LoggingLaws.{length-entered}
-pub use Rattle.model.proofs.strip.LoggingLaws.{Advance, advance-position, logged-numbers}
+use Rattle.laws.proofs.strip.LoggingLaws.{length-entered}
+pub use Rattle.laws.proofs.strip.LoggingLaws.{Advance, advance-position, logged-numbers}
 
 -- a strip that logging left: the writers' records, blocks and promises as they were
 pub record Kept-writers (s t : List ℕ) : Type 0 where

@@ -18,12 +18,12 @@ use Rattle.model.specs.Crash.{Memory, fences, persist, fates}
 use Rattle.model.specs.Book.{Commit, fateAt}
 use Rattle.model.specs.Demands.{closedBelow, groupWrites}
 use Rattle.model.specs.History.{World}
-use Rattle.model.proofs.trace.CrashLaws.{submits, fateAt-none, groupWrites-fence, writeRecords, write-append}
-use Rattle.model.proofs.trace.FateLaws.{fateAt-drop}
-use Rattle.model.proofs.trace.SubmitLaws.{area-group}
-use Rattle.model.proofs.trace.HomeLaws.{In}
-use Rattle.model.proofs.trace.MixLaws.{groupPart, homePart, mixed-append, groupPart-append, homePart-append}
-use Rattle.model.proofs.trace.Trace.{Ev}
+use Rattle.laws.proofs.trace.CrashLaws.{submits, fateAt-none, groupWrites-fence, writeRecords, write-append}
+use Rattle.laws.proofs.trace.FateLaws.{fateAt-drop}
+use Rattle.laws.proofs.trace.SubmitLaws.{area-group}
+use Rattle.laws.proofs.trace.HomeLaws.{In}
+use Rattle.laws.proofs.trace.MixLaws.{groupPart, homePart, mixed-append, groupPart-append, homePart-append}
+use Rattle.laws.proofs.trace.Trace.{Ev}
 use Rattle.claims.proofs.invariant.GrowLaws.{holds-older}
 use Rattle.claims.proofs.invariant.Invariant.{Holds, HeldHome, ImageOk, Copies, Submitted, Confirmed, OwedBelow}
 use Rattle.claims.proofs.steps.LogRuns.{Advance}

@@ -11,7 +11,7 @@ use Rattle.model.specs.Newest.{nothingKept}
 use Rattle.model.specs.Questions.{openAnswer, beginAnswer, reserveAnswer, abortAnswer, storeAnswer, commitAnswer, flushAnswer, confirmAnswer, settleAnswer, beginRoundAnswer, stepRoundAnswer, trimAnswer, readAnswer}
 use Rattle.model.specs.Calls.{Outcome, refused, done, sizeOf, outcome, openCall, beginCall, reserveCall, abortCall, storeCall, commitCall, flushCall, confirmCall, settleCall, beginRoundCall, stepRoundCall, trimCall, readCall}
 use Rattle.model.specs.History.{Change, begins, reserves, aborts, stores, commits, flushes, Service, settles, roundBegins, roundSteps, trims, reads, Call, opening, confirm, change, service, World, lent, loaded, ends, changeEnds, serviceEnds, isOpening}
-use Rattle.model.proofs.strip.NewestLaws.{length-entries, length-forget}
+use Rattle.laws.proofs.strip.NewestLaws.{length-entries, length-forget}
 use Rattle.claims.proofs.steps.DoneLaws.{outcome-code, outcome-done}
 
 -- ---- by the answer

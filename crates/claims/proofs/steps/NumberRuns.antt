@@ -18,12 +18,12 @@ use Rattle.model.specs.Book.{Commit, Entry, Book, homesAfter, writeCommits, owe
 use Rattle.model.specs.Book as book
 use Rattle.model.specs.Demands.{closedBelow, settledFor, SettledHomes, groupWrites}
 use Rattle.model.specs.History.{Call, World, lent, feed, isConfirm, flush, confirm, feedChange}
-use Rattle.model.proofs.strip.StateLaws.{withDurable, state-setFenced, length-setFenced, writer-setFenced, held-setFenced, state-setDurable, length-setDurable, writer-setDurable, held-setDurable}
-use Rattle.model.proofs.strip.OrderLaws.{InOrder, WriterInOrder, Promises}
-use Rattle.model.proofs.strip.PromiseLaws.{promise-setDurable, promised-agree}
-use Rattle.model.proofs.trace.CrashLaws.{fences-append, fences-none, groupWrites-fence}
-use Rattle.model.proofs.trace.MixLaws.{none-mixed}
-use Rattle.model.proofs.trace.Trace.{Ev, Hist, hist, tagAt, Apart, Linked}
+use Rattle.laws.proofs.strip.StateLaws.{withDurable, state-setFenced, length-setFenced, writer-setFenced, held-setFenced, state-setDurable, length-setDurable, writer-setDurable, held-setDurable}
+use Rattle.laws.proofs.strip.OrderLaws.{InOrder, WriterInOrder, Promises}
+use Rattle.laws.proofs.strip.PromiseLaws.{promise-setDurable, promised-agree}
+use Rattle.laws.proofs.trace.CrashLaws.{fences-append, fences-none, groupWrites-fence}
+use Rattle.laws.proofs.trace.MixLaws.{none-mixed}
+use Rattle.laws.proofs.trace.Trace.{Ev, Hist, hist, tagAt, Apart, Linked}
 use Rattle.claims.proofs.steps.DoneLaws.{after}
 use Rattle.claims.proofs.invariant.Invariant.{Sizes, Holds, TaskOk, Copies, Submitted, Confirmed, Commits, Running, LastOk, lastCloser, OwedBelow, OldCommits, Matches, ImageOk, Late, touchesAbove}
 use Rattle.claims.proofs.invariant.SettledLaws.{settled-same}

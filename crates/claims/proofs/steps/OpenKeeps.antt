@@ -15,19 +15,19 @@ use Rattle.model.specs.Calls.{Outcome, outcome, done, sizeOf, openCall}
 use Rattle.model.specs.Book.{homesAfter}
 use Rattle.model.specs.Demands.{Opened}
 use Rattle.model.specs.History.{Call, opening, Event, call, World, loaded, ends, step}
-use Rattle.model.proofs.bytes.ByteLaws.{length-part}
-use Rattle.model.proofs.bytes.LayoutLaws.{groups-in, length-header}
-use Rattle.model.proofs.strip.BatchLaws.{AllFormed, formed-append}
-use Rattle.model.proofs.strip.QuestionLaws.{open-ready}
-use Rattle.model.proofs.trace.HomeLaws.{In}
-use Rattle.model.proofs.trace.OpeningLaws.{formed-blanks}
+use Rattle.laws.proofs.bytes.ByteLaws.{length-part}
+use Rattle.laws.proofs.bytes.LayoutLaws.{groups-in, length-header}
+use Rattle.laws.proofs.strip.BatchLaws.{AllFormed, formed-append}
+use Rattle.laws.proofs.strip.QuestionLaws.{open-ready}
+use Rattle.laws.proofs.trace.HomeLaws.{In}
+use Rattle.laws.proofs.trace.OpeningLaws.{formed-blanks}
 use Rattle.claims.proofs.steps.DoneLaws.{outcome-code, outcome-done}
 use Rattle.claims.proofs.invariant.OpenLaws.{hs, newHeader, newStart, touched-below, restored-size}
 use Rattle.claims.proofs.steps.OpenStep.{opens-with, open-effect, open-runs}
 use Rattle.claims.proofs.steps.Beginning.{open-answers}
 use Rattle.claims.proofs.steps.CallRuns.{Done, by-answer}
 use Rattle.claims.proofs.invariant.Invariant.{Sizes, Closed, Running, Invariant}
-use Rattle.model.proofs.strip.LoggingLaws.{fits}
+use Rattle.laws.proofs.strip.LoggingLaws.{fits}
 
 pub homes-formed : (D : ℕ) (area hs : List ℕ) → D ≤ 65535 → length area ≡ 64 * D → ((h : ℕ) → In h hs → h < D) → AllFormed (homeWrites area hs)
 unfolding homeWrites homeAt

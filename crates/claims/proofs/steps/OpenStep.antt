@@ -23,19 +23,19 @@ use Rattle.model.specs.Crash.{Memory, fences, persist, persistChosen, fates}
 use Rattle.model.specs.Book.{Commit, Book, homesAfter, writeCommits, owedAll, withCommits, fateAt, run}
 use Rattle.model.specs.Demands.{closedBelow, settledFor, groupWrites}
 use Rattle.model.specs.History.{Call, opening, World, loaded, feed, isConfirm, feedChange}
-use Rattle.model.proofs.bytes.ByteLaws.{puts-whole}
-use Rattle.model.proofs.bytes.LayoutLaws.{length-header, groups-in, homes-in}
-use Rattle.model.proofs.bytes.BlockLaws.{blockIn, same-mark, same-number}
-use Rattle.model.proofs.bytes.EmptyLaws.{length-unusedGroup, unused-mark, unused-opposite, length-emptyLog, emptyLog-start, emptyLog-right, emptyLog-group}
-use Rattle.model.proofs.strip.OrderLaws.{in-order, length-fresh, state-fresh, writer-fresh, in-order-fresh}
-use Rattle.model.proofs.strip.QuestionLaws.{open-ready}
-use Rattle.model.proofs.trace.CrashLaws.{writeRecords, submits, NoFence, write-append, write-FN, groupWrites-fence, write-nil}
-use Rattle.model.proofs.trace.HomeLaws.{log-homes, log-homes-wrote, log-header, area-header, log-header-wrote, area-header-wrote}
-use Rattle.model.proofs.trace.SubmitLaws.{area-submits, length-submits, headerStart-submits, headerRight-submits, meta-submits}
-use Rattle.model.proofs.trace.OpeningLaws.{none-blanks, groupWrites-blanks, blank-submits, write-blanks, openingRecords, fences-opening, groupWrites-opening, opening-none, opening-one, opening-two}
-use Rattle.model.proofs.trace.FateLaws.{drop-fates}
-use Rattle.model.proofs.trace.MixLaws.{groupPart, homePart}
-use Rattle.model.proofs.trace.Trace.{Ev, hist}
+use Rattle.laws.proofs.bytes.ByteLaws.{puts-whole}
+use Rattle.laws.proofs.bytes.LayoutLaws.{length-header, groups-in, homes-in}
+use Rattle.laws.proofs.bytes.BlockLaws.{blockIn, same-mark, same-number}
+use Rattle.laws.proofs.bytes.EmptyLaws.{length-unusedGroup, unused-mark, unused-opposite, length-emptyLog, emptyLog-start, emptyLog-right, emptyLog-group}
+use Rattle.laws.proofs.strip.OrderLaws.{in-order, length-fresh, state-fresh, writer-fresh, in-order-fresh}
+use Rattle.laws.proofs.strip.QuestionLaws.{open-ready}
+use Rattle.laws.proofs.trace.CrashLaws.{writeRecords, submits, NoFence, write-append, write-FN, groupWrites-fence, write-nil}
+use Rattle.laws.proofs.trace.HomeLaws.{log-homes, log-homes-wrote, log-header, area-header, log-header-wrote, area-header-wrote}
+use Rattle.laws.proofs.trace.SubmitLaws.{area-submits, length-submits, headerStart-submits, headerRight-submits, meta-submits}
+use Rattle.laws.proofs.trace.OpeningLaws.{none-blanks, groupWrites-blanks, blank-submits, write-blanks, openingRecords, fences-opening, groupWrites-opening, opening-none, opening-one, opening-two}
+use Rattle.laws.proofs.trace.FateLaws.{drop-fates}
+use Rattle.laws.proofs.trace.MixLaws.{groupPart, homePart}
+use Rattle.laws.proofs.trace.Trace.{Ev, hist}
 use Rattle.claims.proofs.steps.DoneLaws.{after}
 use Rattle.claims.proofs.invariant.OpenLaws.{hs, ts, tags, newStart, newHeader, restored-size, closed-old, early-chosen, early-written, all-written, new-start, new-right, new-size, new-numbers, late-begin}
 use Rattle.claims.proofs.invariant.Invariant.{Sizes, OldCommits, OldEntries, OwedBelow, Commits, Copies, Submitted, Confirmed, Running, Closed, Opens, Early, Late, ImageOk, FoundBelow, Turned, lastCloser, TaskOk}

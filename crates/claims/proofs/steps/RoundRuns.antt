@@ -22,17 +22,17 @@ use Rattle.model.specs.Book.{homesAfter}
 use Rattle.model.specs.Demands.{closedBelow, settledFor, SettledHomes}
 use Rattle.model.specs.History.{World, lent, feed, isConfirm, beginRound, stepRound, feedChange}
 use Rattle.model.specs.declared.Tag.{Tag}
-use Rattle.model.proofs.strip.BatchLaws.{AllFormed, formed-append}
-use Rattle.model.proofs.strip.PromiseLaws.{promise-setSettled, promise-setFenced, promise-setRound, promise-setCursor}
-use Rattle.model.proofs.strip.StateLaws.{withSettled, withFenced, withRound, withCursor, length-setSettled, length-setFenced, length-setRound, length-setCursor, state-setSettled, state-setFenced, state-setRound, state-setCursor, writer-setSettled, writer-setFenced, writer-setRound, writer-setCursor, held-setSettled, held-setFenced, held-setRound, held-setCursor}
-use Rattle.model.proofs.strip.QuestionLaws.{and-true, out-of-round, within-round}
-use Rattle.model.proofs.trace.CrashLaws.{writeRecords, write-append}
-use Rattle.model.proofs.trace.HomeLaws.{In, in-cases, in-marked, marked-in, marked-below}
-use Rattle.model.proofs.trace.MixLaws.{groupPart, homePart, mixed-append, mixed-homes, groupPart-append, homePart-append, groupPart-homes, homePart-homes}
-use Rattle.model.proofs.trace.ReplayLaws.{Good, blockFor, replay-home, length-blockAt}
-use Rattle.model.proofs.trace.RestoreLaws.{in-at, take-marked, in-or-not, length-restored, restored-other, restored-in}
-use Rattle.model.proofs.trace.TraceLaws.{All}
-use Rattle.model.proofs.trace.WalkLaws.{closingBelow}
+use Rattle.laws.proofs.strip.BatchLaws.{AllFormed, formed-append}
+use Rattle.laws.proofs.strip.PromiseLaws.{promise-setSettled, promise-setFenced, promise-setRound, promise-setCursor}
+use Rattle.laws.proofs.strip.StateLaws.{withSettled, withFenced, withRound, withCursor, length-setSettled, length-setFenced, length-setRound, length-setCursor, state-setSettled, state-setFenced, state-setRound, state-setCursor, writer-setSettled, writer-setFenced, writer-setRound, writer-setCursor, held-setSettled, held-setFenced, held-setRound, held-setCursor}
+use Rattle.laws.proofs.strip.QuestionLaws.{and-true, out-of-round, within-round}
+use Rattle.laws.proofs.trace.CrashLaws.{writeRecords, write-append}
+use Rattle.laws.proofs.trace.HomeLaws.{In, in-cases, in-marked, marked-in, marked-below}
+use Rattle.laws.proofs.trace.MixLaws.{groupPart, homePart, mixed-append, mixed-homes, groupPart-append, homePart-append, groupPart-homes, homePart-homes}
+use Rattle.laws.proofs.trace.ReplayLaws.{Good, blockFor, replay-home, length-blockAt}
+use Rattle.laws.proofs.trace.RestoreLaws.{in-at, take-marked, in-or-not, length-restored, restored-other, restored-in}
+use Rattle.laws.proofs.trace.TraceLaws.{All}
+use Rattle.laws.proofs.trace.WalkLaws.{closingBelow}
 use Rattle.claims.proofs.invariant.Invariant.{Sizes, Copies, Submitted, Running, touchesAbove}
 use Rattle.claims.proofs.invariant.SettledLaws.{settled-done, settled-none, settled-ahead, settled-same, settled-homes-same, settled-fixed}
 use Rattle.claims.proofs.invariant.LiveLog.{tagsIn, baseOf, endOf, keptIn, Shown, all-each, live-upto, upto-shown, lent-groups, lent-homes, lent-tags, lent-base}

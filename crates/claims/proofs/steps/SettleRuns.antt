@@ -19,15 +19,15 @@ use Rattle.model.specs.Book.{Commit, writeCommits, homesAfter}
 use Rattle.model.specs.Demands.{closedBelow, settledFor}
 use Rattle.model.specs.History.{World, lent, feed, isConfirm, settle, feedChange}
 use Rattle.model.specs.declared.Tag.{Tag}
-use Rattle.model.proofs.bytes.ByteLaws.{length-part}
-use Rattle.model.proofs.strip.BatchLaws.{AllFormed, formed-append}
-use Rattle.model.proofs.strip.PromiseLaws.{promise-setSettled, promise-setFenced}
-use Rattle.model.proofs.strip.StateLaws.{withSettled, withFenced, length-setSettled, length-setFenced, state-setSettled, state-setFenced, writer-setSettled, writer-setFenced, held-setSettled, held-setFenced}
-use Rattle.model.proofs.trace.HomeLaws.{In, in-marked, marked-in, marked-below}
-use Rattle.model.proofs.trace.Trace.{Ev, hist, homeOn, closerOf, closingFrom}
-use Rattle.model.proofs.trace.TraceLaws.{Rising, done-rising}
-use Rattle.model.proofs.trace.WholeLaws.{closingFrom-all}
-use Rattle.model.proofs.trace.WalkLaws.{closingBelow}
+use Rattle.laws.proofs.bytes.ByteLaws.{length-part}
+use Rattle.laws.proofs.strip.BatchLaws.{AllFormed, formed-append}
+use Rattle.laws.proofs.strip.PromiseLaws.{promise-setSettled, promise-setFenced}
+use Rattle.laws.proofs.strip.StateLaws.{withSettled, withFenced, length-setSettled, length-setFenced, state-setSettled, state-setFenced, writer-setSettled, writer-setFenced, held-setSettled, held-setFenced}
+use Rattle.laws.proofs.trace.HomeLaws.{In, in-marked, marked-in, marked-below}
+use Rattle.laws.proofs.trace.Trace.{Ev, hist, homeOn, closerOf, closingFrom}
+use Rattle.laws.proofs.trace.TraceLaws.{Rising, done-rising}
+use Rattle.laws.proofs.trace.WholeLaws.{closingFrom-all}
+use Rattle.laws.proofs.trace.WalkLaws.{closingBelow}
 use Rattle.claims.proofs.invariant.RunLaws.{none-below, closedBelow-old, closedBelow-matches}
 use Rattle.claims.proofs.invariant.BookReplay.{place, writeCommits-append, replay-append, commits-replay, replay-ext, restore-place, hitsAny, Fits, replay-area, touches-hits, touches-old}
 use Rattle.claims.proofs.invariant.TouchLaws.{commits-fit, length-homesAfter, touches-more, touches-lower, homesAfter-untouched}

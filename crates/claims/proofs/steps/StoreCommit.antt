@@ -22,15 +22,15 @@ use Rattle.model.specs.Book.{Kept, row, Entry, Commit, Held, Task, opened, Book
 use Rattle.model.specs.Book as book
 use Rattle.model.specs.Demands.{closedBelow}
 use Rattle.model.specs.History.{Call, World, lent, feed, isConfirm, store, commit, feedChange}
-use Rattle.model.proofs.strip.StateLaws.{state-setLast, length-setLast, writer-setLast, held-setLast}
-use Rattle.model.proofs.strip.WriterLaws.{length-setWriter, length-setHeld, state-setWriter, writer-setWriter, writer-setWriter-other, held-setWriter, state-setHeld, writer-setHeld, held-setHeld, held-setHeld-other, fits-idle, fits-logging}
-use Rattle.model.proofs.strip.SignLaws.{length-keepList, state-keepList, writer-keepList, held-keepList, promise-keepList}
-use Rattle.model.proofs.strip.OrderLaws.{InOrder, WriterInOrder, Promises, place-below}
-use Rattle.model.proofs.strip.QuestionLaws.{Roomy}
-use Rattle.model.proofs.strip.PromiseLaws.{promise-setLast, promise-setWriter, promise-setHeld, length-setPromise, state-setPromise, writer-setPromise, held-setPromise, promise-setPromise, promise-setPromise-other, promise-most}
-use Rattle.model.proofs.trace.Trace.{Ev, Hist, mine, hist, firstOf, blockOn, tagAt, tagOf, linkIn, closerOf, oldestOf, Apart, LinkOk, Linked}
-use Rattle.model.proofs.trace.TraceLaws.{tagAt-here, blockOn-older, done-rising, all-map}
-use Rattle.model.proofs.trace.LinkLaws.{linked-more, linked-ext, lastFrom}
+use Rattle.laws.proofs.strip.StateLaws.{state-setLast, length-setLast, writer-setLast, held-setLast}
+use Rattle.laws.proofs.strip.WriterLaws.{length-setWriter, length-setHeld, state-setWriter, writer-setWriter, writer-setWriter-other, held-setWriter, state-setHeld, writer-setHeld, held-setHeld, held-setHeld-other, fits-idle, fits-logging}
+use Rattle.laws.proofs.strip.SignLaws.{length-keepList, state-keepList, writer-keepList, held-keepList, promise-keepList}
+use Rattle.laws.proofs.strip.OrderLaws.{InOrder, WriterInOrder, Promises, place-below}
+use Rattle.laws.proofs.strip.QuestionLaws.{Roomy}
+use Rattle.laws.proofs.strip.PromiseLaws.{promise-setLast, promise-setWriter, promise-setHeld, length-setPromise, state-setPromise, writer-setPromise, held-setPromise, promise-setPromise, promise-setPromise-other, promise-most}
+use Rattle.laws.proofs.trace.Trace.{Ev, Hist, mine, hist, firstOf, blockOn, tagAt, tagOf, linkIn, closerOf, oldestOf, Apart, LinkOk, Linked}
+use Rattle.laws.proofs.trace.TraceLaws.{tagAt-here, blockOn-older, done-rising, all-map}
+use Rattle.laws.proofs.trace.LinkLaws.{linked-more, linked-ext, lastFrom}
 use Rattle.claims.proofs.invariant.GrowLaws.{open-done, open-mine, close-done, close-mine, commits-open, commits-close, entries-here, mine-below, closed-snoc}
 use Rattle.claims.proofs.invariant.GrowImages.{apart-snoc, closers-older, image-open, image-close}
 use Rattle.claims.proofs.steps.DoneLaws.{after}
@@ -39,7 +39,7 @@ use Rattle.claims.proofs.steps.LogRuns.{Advance, advance-position, Kept
 use Rattle.claims.proofs.steps.LogSubmits.{submitted-logged, confirmed-more, owed-snoc}
 use Rattle.claims.proofs.steps.HeldLogs.{filled-tasks, filled-commits, event, soFar, Logging, logging-task, mine-event, last-closes, link-ok}
 use Rattle.claims.proofs.invariant.Invariant.{Sizes, SoundAt, plainOf, entriesFor, TaskOk, Copies, Submitted, Confirmed, Commits, Running, ImageOk, LastOk, lastCloser, OwedBelow}
-use Rattle.model.proofs.strip.LoggingLaws.{Bounds, bounds, held-size, link-small}
+use Rattle.laws.proofs.strip.LoggingLaws.{Bounds, bounds, held-size, link-small}
 
 -- a commit that logs, and the transaction that it closes: in the trace, in the log copy and in the book
 pub record Closing (G D : ℕ) (w : World) (R : Running G D w) (v : ℕ) (u : World) : Type 0 where

@@ -10,9 +10,9 @@ use lib.Dec.{leb, ltb}
 use borrow.Author.Tests.{leb-true, leb-false, lt-leb, ltb-false, le-ltb}
 use Rattle.model.specs.State.{writerOf, hasLogged}
 use Rattle.model.specs.Effects.{noneAcross, noneOpenBefore, largest}
-use Rattle.model.proofs.strip.QuestionLaws.{and-true}
-use Rattle.model.proofs.trace.Trace.{closerOf, oldestOf, closingFrom, Apart}
-use Rattle.model.proofs.trace.CountLaws.{spanOf, spansOf}
+use Rattle.laws.proofs.strip.QuestionLaws.{and-true}
+use Rattle.laws.proofs.trace.Trace.{closerOf, oldestOf, closingFrom, Apart}
+use Rattle.laws.proofs.trace.CountLaws.{spanOf, spansOf}
 
 -- ---- the largest start
 

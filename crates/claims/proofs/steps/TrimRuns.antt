@@ -20,18 +20,18 @@ use Rattle.model.specs.Effects.{Given, groups, homes, newState, mayStart, large
 use Rattle.model.specs.Crash.{Memory, isFence}
 use Rattle.model.specs.Demands.{groupWrites}
 use Rattle.model.specs.History.{World, lent, feed, isConfirm, trim, feedChange}
-use Rattle.model.proofs.bytes.ByteLaws.{length-puts}
-use Rattle.model.proofs.bytes.LayoutLaws.{length-header, group-header}
-use Rattle.model.proofs.strip.BatchLaws.{AllFormed}
-use Rattle.model.proofs.strip.StateLaws.{withStart, withFenced, withLast, state-setStart, length-setStart, writer-setStart, held-setStart, state-setFenced, length-setFenced, writer-setFenced, held-setFenced, state-setLast, length-setLast, writer-setLast, held-setLast}
-use Rattle.model.proofs.strip.PromiseLaws.{promise-setStart, promise-setFenced, promise-setLast}
-use Rattle.model.proofs.strip.ListedLaws.{length-carry, state-carry, writer-carry, held-carry, promise-carry}
-use Rattle.model.proofs.strip.QuestionLaws.{and-true}
-use Rattle.model.proofs.trace.CrashLaws.{writeRecords, write-append}
-use Rattle.model.proofs.trace.HomeLaws.{In, area-header-wrote}
-use Rattle.model.proofs.trace.Trace.{hist, tagAt, Apart}
-use Rattle.model.proofs.trace.LinkLaws.{linked-later}
-use Rattle.model.proofs.trace.CountLaws.{spansOf}
+use Rattle.laws.proofs.bytes.ByteLaws.{length-puts}
+use Rattle.laws.proofs.bytes.LayoutLaws.{length-header, group-header}
+use Rattle.laws.proofs.strip.BatchLaws.{AllFormed}
+use Rattle.laws.proofs.strip.StateLaws.{withStart, withFenced, withLast, state-setStart, length-setStart, writer-setStart, held-setStart, state-setFenced, length-setFenced, writer-setFenced, held-setFenced, state-setLast, length-setLast, writer-setLast, held-setLast}
+use Rattle.laws.proofs.strip.PromiseLaws.{promise-setStart, promise-setFenced, promise-setLast}
+use Rattle.laws.proofs.strip.ListedLaws.{length-carry, state-carry, writer-carry, held-carry, promise-carry}
+use Rattle.laws.proofs.strip.QuestionLaws.{and-true}
+use Rattle.laws.proofs.trace.CrashLaws.{writeRecords, write-append}
+use Rattle.laws.proofs.trace.HomeLaws.{In, area-header-wrote}
+use Rattle.laws.proofs.trace.Trace.{hist, tagAt, Apart}
+use Rattle.laws.proofs.trace.LinkLaws.{linked-later}
+use Rattle.laws.proofs.trace.CountLaws.{spansOf}
 use Rattle.claims.proofs.steps.DoneLaws.{after}
 use Rattle.claims.proofs.invariant.Invariant.{Sizes, HeldHome, Copies, Submitted, Running, LastOk, lastCloser}
 use Rattle.claims.proofs.invariant.Now.{Now}

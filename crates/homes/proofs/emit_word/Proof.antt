@@ -7,7 +7,7 @@ use lib.ListN.{length}
 use Rattle.model.specs.Bytes.{puts}
 use Rattle.model.specs.Batch.{batchBytes}
 use Rattle.model.specs.Effects.{homeWrites}
-use Rattle.model.proofs.bytes.ByteLaws.{length-puts}
+use Rattle.laws.proofs.bytes.ByteLaws.{length-puts}
 use Rattle.bitmap.specs.Marks.{bitsOf, raised}
 use Rattle.bitmap.proofs.WordLaws.{no-bits}
 use Rattle.homes.specs.Within.{Within}

@@ -5,7 +5,7 @@ use Prim.Native.Nat.{_+_}
 use native.Mathlib.Omega.{arith}
 use lib.ListN.{length, length-set}
 use Rattle.model.specs.Bytes.{puts, zeros}
-use Rattle.model.proofs.bytes.ByteLaws.{zero-turn, zero-end}
+use Rattle.laws.proofs.bytes.ByteLaws.{zero-turn, zero-end}
 use Rattle.codec.proofs.blocks.clear.Statement.{statement}
 use Rattle.codec.proofs.blocks.clear.Tie as tie
 

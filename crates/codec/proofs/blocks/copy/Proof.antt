@@ -5,7 +5,7 @@ use Prim.Native.Nat.{_+_, _-_, _≤_}
 use native.Mathlib.Omega.{arith}
 use lib.ListN.{length, length-set, drop}
 use Rattle.model.specs.Bytes.{puts}
-use Rattle.model.proofs.bytes.ByteLaws.{puts-turn, puts-end}
+use Rattle.laws.proofs.bytes.ByteLaws.{puts-turn, puts-end}
 use Rattle.codec.proofs.CopyLaws.{words-turn}
 use Rattle.codec.proofs.blocks.copy.Statement.{statement}
 use Rattle.codec.proofs.blocks.copy.Tie as tie

@@ -5,7 +5,7 @@ use Prim.Native.Nat.{_+_, _*_, _-_, _^_, _≤_, _<_}
 use native.Mathlib.Omega.{arith}
 use lib.ListN.{getD}
 use Rattle.model.specs.Bytes.{number}
-use Rattle.model.proofs.bytes.ByteLaws.{number-none, digit, within, get-turn}
+use Rattle.laws.proofs.bytes.ByteLaws.{number-none, digit, within, get-turn}
 use Rattle.codec.proofs.numbers.each_byte.Statement.{statement}
 use Rattle.codec.proofs.numbers.each_byte.Tie as tie
 

@@ -5,7 +5,7 @@ use Prim.Native.Nat.{_+_}
 use native.Mathlib.Omega.{arith}
 use lib.ListN.{length, length-set}
 use Rattle.model.specs.Bytes.{puts, bytes, putNumber}
-use Rattle.model.proofs.bytes.ByteLaws.{put-turn, put-end}
+use Rattle.laws.proofs.bytes.ByteLaws.{put-turn, put-end}
 use Rattle.codec.proofs.numbers.put_each_byte.Statement.{statement}
 use Rattle.codec.proofs.numbers.put_each_byte.Tie as tie
 

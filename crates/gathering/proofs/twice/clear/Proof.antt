@@ -4,7 +4,7 @@ use Prim.Native.Nat.{_+_}
 use native.Mathlib.Omega.{arith}
 use lib.ListN.{length, length-set}
 use Rattle.model.specs.Bytes.{puts, zeros}
-use Rattle.model.proofs.bytes.ByteLaws.{zero-turn, zero-end, puts-whole, length-zeros}
+use Rattle.laws.proofs.bytes.ByteLaws.{zero-turn, zero-end, puts-whole, length-zeros}
 use Rattle.gathering.proofs.twice.clear.Statement.{statement}
 use Rattle.gathering.proofs.twice.clear.Tie as tie
 

@@ -5,7 +5,7 @@ use native.Mathlib.Omega.{arith}
 use Rattle.model.specs.State.{firstFor, countFor}
 use Rattle.model.specs.Tag.{closingWord}
 use Rattle.model.specs.Effects.{linkFrom}
-use Rattle.model.proofs.bytes.TagLaws.{closing-fits}
+use Rattle.laws.proofs.bytes.TagLaws.{closing-fits}
 use borrow.Author.Needs.{needs}
 use Rattle.logging.proofs.entry.closing_word.Statement.{statement}
 use Rattle.logging.proofs.entry.closing_word.Tie as tie

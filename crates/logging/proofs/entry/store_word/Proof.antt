@@ -4,7 +4,7 @@ use Prim.Native.Nat.{_-_}
 use native.Mathlib.Omega.{arith}
 use Rattle.model.specs.State.{firstFor}
 use Rattle.model.specs.Tag.{entryWord}
-use Rattle.model.proofs.bytes.TagLaws.{entry-fits}
+use Rattle.laws.proofs.bytes.TagLaws.{entry-fits}
 use borrow.Author.Needs.{needs}
 use Rattle.logging.proofs.entry.store_word.Statement.{statement}
 use Rattle.logging.proofs.entry.store_word.Tie as tie

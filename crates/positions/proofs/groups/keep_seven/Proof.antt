@@ -8,7 +8,7 @@ use borrow.Author.Needs.{needs}
 use borrow.Author.Tests.{not-true, not-false}
 use Rattle.model.specs.Tag.{entryWord}
 use Rattle.model.specs.Layout.{entryIn}
-use Rattle.model.proofs.bytes.TagLaws.{entry-fits}
+use Rattle.laws.proofs.bytes.TagLaws.{entry-fits}
 use Rattle.scan.specs.Members.{taking}
 use Rattle.scan.proofs.PassLaws.{group-turn}
 use Rattle.scan.proofs.MemberPass.{over-before}

@@ -4,7 +4,7 @@ use Prim.Native.Nat.{_-_, _≤_}
 use native.Mathlib.Omega.{arith}
 use lib.ListN.{length}
 use Rattle.model.specs.Newest.{forget}
-use Rattle.model.proofs.strip.NewestLaws.{length-forget}
+use Rattle.laws.proofs.strip.NewestLaws.{length-forget}
 use Rattle.positions.proofs.StripLaws.{forget-more}
 use Rattle.positions.proofs.strip.forget.Statement.{statement}
 use Rattle.positions.proofs.strip.forget.Tie as tie

@@ -7,7 +7,7 @@ use lib.ListN.{length}
 use Rattle.model.specs.Bytes.{puts}
 use Rattle.model.specs.Batch.{batchBytes}
 use Rattle.model.specs.Effects.{marked, homeWrites}
-use Rattle.model.proofs.bytes.ByteLaws.{length-puts}
+use Rattle.laws.proofs.bytes.ByteLaws.{length-puts}
 use Rattle.bitmap.proofs.MarkedLaws.{marked-zero}
 use Rattle.replay.specs.Words.{touches}
 use Rattle.replay.specs.Restore.{restored, newestAt}

@@ -4,7 +4,7 @@ use mathlib.Core.Path.{_≡_, refl, sym, ap, _∙_}
 use Prim.Native.Nat.{_+_, _-_, _*_, _≤_}
 use native.Mathlib.Omega.{arith}
 use lib.ListN.{length, getD}
-use Rattle.model.proofs.bytes.LayoutLaws.{length-putHome}
+use Rattle.laws.proofs.bytes.LayoutLaws.{length-putHome}
 use Rattle.bitmap.specs.Marks.{bitsOf, raised}
 use Rattle.replay.specs.Restore.{restored, Ready}
 use Rattle.replay.proofs.RestoreLaws.{first-ready, rest-ready, word-turn, word-end}

@@ -9,7 +9,7 @@ use lib.ListN.{length}
 use Rattle.model.specs.Bytes.{puts}
 use Rattle.model.specs.Batch.{batchBytes}
 use Rattle.model.specs.Effects.{homeWrites}
-use Rattle.model.proofs.bytes.ByteLaws.{length-puts}
+use Rattle.laws.proofs.bytes.ByteLaws.{length-puts}
 use Rattle.replay.specs.Words.{touches}
 use Rattle.replay.specs.Restore.{restored, newestAt}
 use Rattle.replay.specs.Steps.{span, Stepped}

@@ -2,8 +2,8 @@
 use mathlib.Core.Path.{ap, _∙_}
 use native.Mathlib.Omega.{arith}
 use lib.ListN.{length}
-use Rattle.model.proofs.bytes.ByteLaws.{length-puts}
-use Rattle.model.proofs.bytes.LayoutLaws.{length-putHome}
+use Rattle.laws.proofs.bytes.ByteLaws.{length-puts}
+use Rattle.laws.proofs.bytes.LayoutLaws.{length-putHome}
 use Rattle.replay.proofs.StepLaws.{none-counted, one-counted, none-chosen, one-chosen}
 use Rattle.replay.proofs.stepping.bring_home.Statement.{statement}
 use Rattle.replay.proofs.stepping.bring_home.Tie as tie

@@ -3,7 +3,7 @@ use mathlib.Core.Path.{_∙_}
 use borrow.Author.Needs.{needs}
 use native.Mathlib.Omega.{arith}
 use Rattle.model.specs.Bytes.{zeros}
-use Rattle.model.proofs.bytes.ByteLaws.{puts-whole, length-zeros}
+use Rattle.laws.proofs.bytes.ByteLaws.{puts-whole, length-zeros}
 use Rattle.strip.proofs.fields.clear.Statement.{statement}
 use Rattle.strip.proofs.fields.clear.Tie as tie
 

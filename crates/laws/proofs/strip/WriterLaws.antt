@@ -1,0 +1,152 @@
+-- Laws of the writers' records and held blocks in the state strip (specs/State), named as those of StateLaws. Assumes nothing.
+use mathlib.Core.Path.{_≡_, _∙_}
+use mathlib.Core.Logic.{_⊎_, inl, inr, ⊎-map, ⊎-swap, _≢_}
+use mathlib.Core.List.{List}
+use Prim.Native.Nat.{ℕ, _+_, _*_, _^_, _≤_, _<_}
+use native.Mathlib.Decide.{decLt}
+use native.Mathlib.Omega.{arith}
+use lib.ListN.{length, getD}
+use Rattle.model.specs.Bytes.{part, number, putNumber}
+use Rattle.model.specs.declared.Writer.{Writer}
+use Rattle.model.specs.State.{stateOf, writerOffset, writerOf, setWriter, heldOf, setHeld, idle, begun, holding, logging}
+use Rattle.laws.proofs.bytes.ByteLaws.{length-puts, length-putNumber, number-put-below, number-lt, part-same, part-below, part-above, part-put-below, part-put-above}
+use Rattle.laws.proofs.strip.StateLaws.{number-back, Spare, state-agree, writer-agree, byte-agree}
+
+-- ---- each number of a writer's record is below 2 ^ 64
+
+pub record WriterFits (r : Writer) : Type 0 where
+  pub mode : r .mode < 2 ^ 64
+  pub home : r .home < 2 ^ 64
+  pub first : r .first < 2 ^ 64
+  pub count : r .count < 2 ^ 64
+
+pub writer-fits : (s : List ℕ) (w : ℕ) → ((i : ℕ) → getD s i 0 < 256) → WriterFits (writerOf s w)
+unfolding writerOf
+writer-fits s w h =
+    let f : (i : ℕ) → number 8 s i < 2 ^ 64 = λ i. number-lt 8 s i h in
+    let o = writerOffset w in
+    record { mode = f o; home = f (o + 8); first = f (o + 16); count = f (o + 24) }
+
+pub fits-idle : WriterFits idle
+unfolding idle
+fits-idle = omega arith
+
+pub fits-begun : WriterFits begun
+unfolding begun
+fits-begun = omega arith
+
+pub fits-holding : (home : ℕ) → home < 2 ^ 64 → WriterFits (holding home)
+unfolding holding
+fits-holding home h = omega arith
+
+pub fits-logging : (home first count : ℕ) → home < 2 ^ 64 → first < 2 ^ 64 → count < 2 ^ 64 → WriterFits (logging home first count)
+unfolding logging
+fits-logging home first count h f c = omega arith
+
+-- ---- lengths
+
+pub length-setWriter : (s : List ℕ) (w : ℕ) (r : Writer) → length (setWriter s w r) ≡ length s
+unfolding setWriter
+length-setWriter s w r = simp length-putNumber
+
+pub length-setHeld : (s : List ℕ) (w : ℕ) (block : List ℕ) → length (setHeld s w block) ≡ length s
+unfolding setHeld
+length-setHeld s w block = length-puts s (writerOffset w + 32) block
+
+-- ---- a part that lies apart from what is written stays
+
+pub part-setWriter : (s : List ℕ) (w : ℕ) (r : Writer) (a n : ℕ) → (a + n ≤ writerOffset w) ⊎ (writerOffset w + 32 ≤ a)
+    → part (setWriter s w r) a n ≡ part s a n
+unfolding setWriter
+part-setWriter s w r a n (inl h) =
+    part-put-below 8 _ (writerOffset w + 24) _ a n (omega arith) ∙ part-put-below 8 _ (writerOffset w + 16) _ a n (omega arith)
+    ∙ part-put-below 8 _ (writerOffset w + 8) _ a n (omega arith) ∙ part-put-below 8 s (writerOffset w) _ a n (omega arith)
+part-setWriter s w r a n (inr h) =
+    part-put-above 8 _ (writerOffset w + 24) _ a n (omega arith) ∙ part-put-above 8 _ (writerOffset w + 16) _ a n (omega arith)
+    ∙ part-put-above 8 _ (writerOffset w + 8) _ a n (omega arith) ∙ part-put-above 8 s (writerOffset w) _ a n (omega arith)
+
+pub part-setHeld : (s : List ℕ) (w : ℕ) (block : List ℕ) (a n : ℕ) → length block ≡ 64
+    → (a + n ≤ writerOffset w + 32) ⊎ (writerOffset w + 96 ≤ a) → part (setHeld s w block) a n ≡ part s a n
+unfolding setHeld
+part-setHeld s w block a n l (inl h) = part-below s (writerOffset w + 32) block a n h
+part-setHeld s w block a n l (inr h) = part-above s (writerOffset w + 32) block a n (omega arith)
+
+-- ---- where the writers' parts of the strip lie
+
+-- a writer's part ends before another's begins, or begins no earlier
+in-turn : (v w : ℕ) → (writerOffset v + 96 ≤ writerOffset w) ⊎ (writerOffset w ≤ writerOffset v)
+unfolding writerOffset
+in-turn v w = go (decLt v w)
+  where
+    go : Dec (v < w) → (128 + 96 * v + 96 ≤ 128 + 96 * w) ⊎ (128 + 96 * w ≤ 128 + 96 * v)
+    go (yes h) = inl (omega arith)
+    go (no h) = inr (omega arith)
+
+others : (v w : ℕ) → v ≢ w → (writerOffset v + 96 ≤ writerOffset w) ⊎ (writerOffset w + 96 ≤ writerOffset v)
+unfolding writerOffset
+others v w n = ⊎-map (λ h. h) (λ h. omega arith) (in-turn v w)
+
+-- a spare byte lies before the writers or after the last of them
+spare-apart : (w i : ℕ) → w < 8 → Spare i → (i + 1 ≤ writerOffset w) ⊎ (writerOffset w + 96 ≤ i)
+unfolding writerOffset
+spare-apart w i h (inl k) = inl (omega arith)
+spare-apart w i h (inr k) = inr (omega arith)
+
+-- ---- after setWriter
+
+module _ (s : List ℕ) (w : ℕ) (r : Writer) where
+  pub state-setWriter : stateOf (setWriter s w r) ≡ stateOf s
+  unfolding writerOffset
+  state-setWriter = state-agree (setWriter s w r) s (part-setWriter s w r 0 72 (inl (omega arith))) (part-setWriter s w r 88 16 (inl (omega arith)))
+
+  pub writer-setWriter : length s ≡ 1024 → w < 8 → WriterFits r → writerOf (setWriter s w r) w ≡ r
+  unfolding writerOf setWriter writerOffset
+  writer-setWriter l h f =
+      let o = writerOffset w in
+      let below : (d : List ℕ) (at v i : ℕ) → i + 8 ≤ at → number 8 (putNumber 8 d at v) i ≡ number 8 d i = number-put-below 8 8 in
+      let mode : number 8 (setWriter s w r) o ≡ r .mode =
+      below _ (o + 24) _ o (omega arith) ∙ below _ (o + 16) _ o (omega arith) ∙ below _ (o + 8) _ o (omega arith)
+      ∙ number-back s o _ l (omega arith) (f .mode) in
+      let home : number 8 (setWriter s w r) (o + 8) ≡ r .home =
+      below _ (o + 24) _ (o + 8) (omega arith) ∙ below _ (o + 16) _ (o + 8) (omega arith)
+      ∙ number-back _ (o + 8) _ (simp length-putNumber l) (omega arith) (f .home) in
+      let first : number 8 (setWriter s w r) (o + 16) ≡ r .first =
+      below _ (o + 24) _ (o + 16) (omega arith) ∙ number-back _ (o + 16) _ (simp length-putNumber l) (omega arith) (f .first) in
+      let count : number 8 (setWriter s w r) (o + 24) ≡ r .count = number-back _ (o + 24) _ (simp length-putNumber l) (omega arith) (f .count) in
+      rw (mode, home, first, count)
+
+  pub writer-setWriter-other : (v : ℕ) → v ≢ w → writerOf (setWriter s w r) v ≡ writerOf s v
+  writer-setWriter-other v n =
+      writer-agree (setWriter s w r) s v (part-setWriter s w r (writerOffset v) 32 (⊎-map (λ h. omega arith) (λ h. omega arith) (others v w n)))
+
+  pub held-setWriter : (v : ℕ) → heldOf (setWriter s w r) v ≡ heldOf s v
+  unfolding heldOf
+  held-setWriter v = part-setWriter s w r (writerOffset v + 32) 64 (⊎-map (λ h. omega arith) (λ h. omega arith) (in-turn v w))
+
+  pub spare-setWriter : (i : ℕ) → w < 8 → Spare i → getD (setWriter s w r) i 0 ≡ getD s i 0
+  spare-setWriter i h k =
+      byte-agree (setWriter s w r) s i (part-setWriter s w r i 1 (⊎-map (λ h. h) (λ h. omega arith) (spare-apart w i h k)))
+
+-- ---- after setHeld
+
+module _ (s : List ℕ) (w : ℕ) (block : List ℕ) where
+  pub state-setHeld : length block ≡ 64 → stateOf (setHeld s w block) ≡ stateOf s
+  unfolding writerOffset
+  state-setHeld l = state-agree (setHeld s w block) s (part-setHeld s w block 0 72 l (inl (omega arith))) (part-setHeld s w block 88 16 l (inl (omega arith)))
+
+  pub writer-setHeld : (v : ℕ) → length block ≡ 64 → writerOf (setHeld s w block) v ≡ writerOf s v
+  writer-setHeld v l =
+      writer-agree (setHeld s w block) s v
+      (part-setHeld s w block (writerOffset v) 32 l (⊎-map (λ h. omega arith) (λ h. h) (⊎-swap (in-turn w v))))
+
+  pub held-setHeld : length s ≡ 1024 → w < 8 → length block ≡ 64 → heldOf (setHeld s w block) w ≡ block
+  unfolding heldOf setHeld writerOffset
+  held-setHeld m h l = rw l at (part-same s (writerOffset w + 32) block (omega arith))
+
+  pub held-setHeld-other : (v : ℕ) → v ≢ w → length block ≡ 64 → heldOf (setHeld s w block) v ≡ heldOf s v
+  unfolding heldOf
+  held-setHeld-other v n l = part-setHeld s w block (writerOffset v + 32) 64 l (⊎-map (λ h. omega arith) (λ h. omega arith) (others v w n))
+
+  pub spare-setHeld : (i : ℕ) → w < 8 → length block ≡ 64 → Spare i → getD (setHeld s w block) i 0 ≡ getD s i 0
+  spare-setHeld i h l k =
+      byte-agree (setHeld s w block) s i (part-setHeld s w block i 1 l (⊎-map (λ h. omega arith) (λ h. h) (spare-apart w i h k)))
