@@ -18,6 +18,8 @@ SHELL = /bin/bash
 
 # The prover keeps memory that it has freed: giving it back took a fifth of its processor time.
 export MIMALLOC_PURGE_DELAY = -1
+# rt starts so many checks at once and waits for all of them before the next: one more than processors leaves none idle.
+export RT_JOBS ?= $(shell n=$$(nproc 2>/dev/null || echo 1); [ $$n -le 4 ] || n=4; echo $$((n + 1)))
 
 SEED ?= 1
 CUTS ?= 300
