@@ -132,6 +132,13 @@ module _ (w : ℕ) (some : 0 < w) (fits : w < 2 ^ 64) where
   lowest-first =
       marked-lowest (bit w) 64 (trailingZeros 64 w) lowest-lt (λ j h. bit-no w j (low .below j h)) (bit-one w (trailingZeros 64 w) (low .set))
 
+  -- it is set, and the others are as they were without it
+  pub lowest-set : bit w (trailingZeros 64 w) ≡ true
+  lowest-set = bit-one w (trailingZeros 64 w) (low .set)
+
+  pub cleared-others : (j : ℕ) → (j ≡ trailingZeros 64 w → ⊥) → bit (bitAnd w (w - 1)) j ≡ bit w j
+  cleared-others j n = bit-same (bitAnd w (w - 1)) w j (cleared w (trailingZeros 64 w) some low .kept j n)
+
   pub cleared-rest : bitsOf (bitAnd w (w - 1)) ≡ drop 1 (bitsOf w)
   unfolding bitsOf
   cleared-rest =

@@ -1,11 +1,12 @@
 // Maps of one bit for each home, in words of 64, as specs/ defines them. A slice of n words serves 64 × n homes.
 ghost use mathlib.Core.Path.{_≡_};
-ghost use mathlib.Core.Bool.{_||_};
+ghost use mathlib.Core.Bool.{true, _||_};
 ghost use mathlib.Core.List.{_∷_};
 ghost use Prim.Native.Nat.{ℕ, _*_, _≤_, _<_};
 ghost use lib.Dec.{eqb};
 ghost use lib.ListN.{length, drop};
-ghost use Rattle.bitmap.specs.Marks.{marks, withMark, bitsOf};
+ghost use lib.Count.{trailingZeros};
+ghost use Rattle.bitmap.specs.Marks.{bit, marks, withMark, bitsOf};
 
 // Marks `i`, and leaves every other mark as it was.
 pub fn mark(ws: &mut [u64], i: usize)
@@ -26,7 +27,7 @@ pub fn ones(w: u64) -> u64
 // The lowest bit that is set in a word, by its trailing zeros.
 pub fn lowest(w: u64) -> usize
     requires { ⌜ 0 < w ⌝ }
-    ensures { λ r. ⌜ (bitsOf w ≡ r ∷ drop 1 (bitsOf w)) × (r < 64) ⌝ }
+    ensures { λ r. ⌜ (bitsOf w ≡ r ∷ drop 1 (bitsOf w)) × (r < 64) × (r ≡ trailingZeros 64 w) × (bit w r ≡ true) ⌝ }
 {
     u64::trailing_zeros(w) as usize
 }
@@ -34,7 +35,7 @@ pub fn lowest(w: u64) -> usize
 // The word without its lowest bit that is set: what is left to visit.
 pub fn clear_lowest(w: u64) -> u64
     requires { ⌜ 0 < w ⌝ }
-    ensures { λ r. ⌜ (r < w) × (bitsOf r ≡ drop 1 (bitsOf w)) ⌝ }
+    ensures { λ r. ⌜ (r < w) × (bitsOf r ≡ drop 1 (bitsOf w)) × ((j : ℕ) → (j ≡ trailingZeros 64 w → ⊥) → bit r j ≡ bit w j) ⌝ }
 {
     w & (w - 1)
 }

@@ -89,7 +89,7 @@ module _ (g : Given) (n : ℕ) (c : Chain (g .log) (g .state) (g .block) (g .wri
 
   first-writer : writerOf s₃ (g .writer) ≡ holding (g .home + 0)
   first-writer =
-      writer-setHeld s₂ (g .writer) _ (g .writer) (block-size 0 (omega (arith, c .least)))
+      writer-setHeld s₂ (g .writer) _ (g .writer) (c .writer) (block-size 0 (omega (arith, c .least)))
       ∙ writer-setWriter s₁ (g .writer) (holding (g .home + 0)) size₁ (c .writer) (fits-holding (g .home + 0) (omega (arith, c .homes)))
 
   stored-one : Stored g 0 (andThen g (beginEffect g) (storeFirst (lentOn g (beginEffect g) (g .home + 0) (part (g .block) (64 * 0) 64))))
@@ -249,7 +249,7 @@ module _ (g : Given) (n : ℕ) (c : Chain (g .log) (g .state) (g .block) (g .wri
 
     next-writer : writerOf t₃ (g .writer) ≡ logging (g .home + suc j) (nextPosition (stateOf (g .state))) (j + 1)
     next-writer =
-        writer-setPromise t₂ (g .writer) _ (g .writer) (c .writer) ∙ writer-setHeld t₁ (g .writer) block (g .writer) (block-size (suc j) l)
+        writer-setPromise t₂ (g .writer) _ (g .writer) (c .writer) ∙ writer-setHeld t₁ (g .writer) block (g .writer) (c .writer) (block-size (suc j) l)
         ∙ writer-setWriter (en .state) (g .writer) _ (keeps .size) (c .writer)
         (fits-logging _ _ _ (omega (arith, c .homes)) (omega (arith, h .first, c .room, c .high, c .few)) (omega (arith, h .count, c .most)))
         ∙ rw (h .first, h .count)

@@ -9,7 +9,7 @@ use native.Mathlib.Omega.{arith}
 use borrow.Author.Tests.{le-leb, lt-leb, leb-true, lt-ltb, le-ltb, ltb-false}
 use lib.Dec.{leb, ltb}
 use Rattle.model.specs.Bytes.{number}
-use Rattle.model.specs.State.{stateOf, writerOffset, writerOf, hasLogged}
+use Rattle.model.specs.State.{stateOf, modeOffset, writerOffset, writerOf, hasLogged}
 use Rattle.model.specs.Effects.{noneOpenBefore}
 use Rattle.laws.proofs.strip.OrderLaws.{InOrder, both}
 use Rattle.limits.specs.Limits.{Highest, writerLimit}
@@ -17,20 +17,20 @@ use Rattle.limits.specs.Limits.{Highest, writerLimit}
 -- ---- the limit of one writer, as the code makes it
 
 module _ (s : List ℕ) (w limit : ℕ) where
-  pub writer-none : (mode : ℕ) → mode ≡ number 8 s (128 + 96 * w) → mode < 3 → limit ≡ writerLimit (writerOf s w) limit
-  unfolding writerLimit hasLogged writerOf writerOffset
+  pub writer-none : (mode : ℕ) → mode ≡ number 1 s (104 + w) → mode < 3 → limit ≡ writerLimit (writerOf s w) limit
+  unfolding writerLimit hasLogged writerOf modeOffset writerOffset
   writer-none mode e h = rw (← e, lt-leb 3 mode h)
 
-  writer-first : (mode first : ℕ) → mode ≡ number 8 s (128 + 96 * w) → 3 ≤ mode → first ≡ number 8 s (128 + 96 * w + 16)
+  writer-first : (mode first : ℕ) → mode ≡ number 1 s (104 + w) → 3 ≤ mode → first ≡ number 8 s (128 + 96 * w + 16)
       → min (first / 7) limit ≡ writerLimit (writerOf s w) limit
-  unfolding writerLimit hasLogged writerOf writerOffset
+  unfolding writerLimit hasLogged writerOf modeOffset writerOffset
   writer-first mode first e h f = rw (← e, le-leb 3 mode h, ← f)
 
-  pub writer-low : (mode first : ℕ) → mode ≡ number 8 s (128 + 96 * w) → 3 ≤ mode → first ≡ number 8 s (128 + 96 * w + 16) → first / 7 < limit
+  pub writer-low : (mode first : ℕ) → mode ≡ number 1 s (104 + w) → 3 ≤ mode → first ≡ number 8 s (128 + 96 * w + 16) → first / 7 < limit
       → first / 7 ≡ writerLimit (writerOf s w) limit
   writer-low mode first e h f l = let q : first / 7 ≡ min (first / 7) limit = omega arith in q ∙ writer-first mode first e h f
 
-  pub writer-high : (mode first : ℕ) → mode ≡ number 8 s (128 + 96 * w) → 3 ≤ mode → first ≡ number 8 s (128 + 96 * w + 16) → limit ≤ first / 7
+  pub writer-high : (mode first : ℕ) → mode ≡ number 1 s (104 + w) → 3 ≤ mode → first ≡ number 8 s (128 + 96 * w + 16) → limit ≤ first / 7
       → limit ≡ writerLimit (writerOf s w) limit
   writer-high mode first e h f l = let q : limit ≡ min (first / 7) limit = omega arith in q ∙ writer-first mode first e h f
 

@@ -11,10 +11,10 @@ fn writer_limit(state: &[u8], w: u64, limit: u64) -> u64
     requires { ⌜ (length (now state) ≡ 1024) × (w < 8) ⌝ }
     ensures { λ r. ⌜ r ≡ writerLimit (writerOf (now (state .entry)) w) limit ⌝ }
 {
-    let at = (128 + 96 * w) as usize;
-    if codec::number(state, at, 8) < 3 {
+    if codec::number(state, (104 + w) as usize, 1) < 3 {
         return limit;
     }
+    let at = (128 + 96 * w) as usize;
     let group = codec::number(state, at + 16, 8) / 7;
     if group < limit {
         return group;

@@ -1,4 +1,4 @@
--- The state strip of 1,024 bytes: numbers of eight bytes at fixed offsets, the writers' promises of two. Bytes that no field has are spare: no call but open changes them, and
+-- The state strip of 1,024 bytes: numbers of eight bytes at fixed offsets, the writers' promises of two and their modes of one. Bytes that no field has are spare: no call but open changes them, and
 -- none reads them. docs/FORMAT.md has the layout as a table.
 use Prim.Native.Nat.{ℕ, zero, suc, _+_, _-_, _*_}
 use mathlib.Core.Bool.{Bool, true, false, cond, _&&_, _||_}
@@ -127,7 +127,11 @@ unfoldable pub setListSign : List ℕ → ℕ → List ℕ
 setListSign s v = putNumber 8 s 928 v
 
 -- writers
--- The struct `Writer` of the crate's source: a writer's record but for the held block.
+-- The struct `Writer` of the crate's source: a writer's record but for the held block. The modes of all eight stand together, a byte each, so that one
+-- word of the strip tells that no writer holds a block.
+
+unfoldable pub modeOffset : ℕ → ℕ
+modeOffset w = 104 + w
 
 unfoldable pub writerOffset : ℕ → ℕ
 writerOffset w = 128 + 96 * w
@@ -135,7 +139,7 @@ writerOffset w = 128 + 96 * w
 unfoldable pub writerOf : List ℕ → ℕ → Writer
 writerOf s w =
     record {
-      mode = number 8 s (writerOffset w);
+      mode = number 1 s (modeOffset w);
       home = number 8 s (writerOffset w + 8);
       first = number 8 s (writerOffset w + 16);
       count = number 8 s (writerOffset w + 24);
@@ -144,7 +148,7 @@ writerOf s w =
 unfoldable pub setWriter : List ℕ → ℕ → Writer → List ℕ
 setWriter s w r =
     putNumber 8
-    (putNumber 8 (putNumber 8 (putNumber 8 s (writerOffset w) (r .mode)) (writerOffset w + 8) (r .home)) (writerOffset w + 16) (r .first))
+    (putNumber 8 (putNumber 8 (putNumber 1 s (modeOffset w) (r .mode)) (writerOffset w + 8) (r .home)) (writerOffset w + 16) (r .first))
     (writerOffset w + 24)
     (r .count)
 

@@ -1,2 +1,3 @@
 pub mod OrderTests
 pub mod PromiseSums
+pub mod ModeLaws

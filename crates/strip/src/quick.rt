@@ -43,18 +43,15 @@ fn logged_in_order(st: State, low: u64, all: u64, r: Writer) -> bool
     true
 }
 
-// Whether a writer's record is in order in a strip whose group numbers and places filled are.
+// Whether the record of a writer that is neither idle nor without a block is in order in a strip whose group numbers and places filled are.
 fn record_in_order(st: State, low: u64, all: u64, r: Writer) -> bool
-    requires { ⌜ Live st low all ⌝ }
+    requires { ⌜ Live st low all × (2 ≤ r .mode) ⌝ }
     ensures { λ b. ⌜ b ≡ writerInOrder st r ⌝ }
 {
-    if r.mode < 2 {
-        return true;
-    }
     if st.homes <= r.home {
         return false;
     }
-    if r.mode == 2 {
+    if r.mode < 3 {
         return true;
     }
     if r.mode != 3 {
@@ -63,17 +60,19 @@ fn record_in_order(st: State, low: u64, all: u64, r: Writer) -> bool
     logged_in_order(st, low, all, r)
 }
 
-// Whether the records of all eight writers are in order where nothing is promised: an idle writer is passed by its mode alone.
+// Whether the records of all eight writers are in order where nothing is promised. Their modes are read as one word, and only writers are visited of
+// whose mode a bit but the lowest is set.
 fn records_in_order(s: &[u8], st: State, low: u64, all: u64) -> bool
     requires { ⌜ (length (now s) ≡ 1024) × Live st low all × ((w : ℕ) → w < 8 → promiseOf (now s) w ≡ 0) ⌝ }
     ensures { λ r. ⌜ r ≡ writersInOrder (now (s .entry)) st 8 ⌝ }
 {
-    let mut w: usize = 0;
-    while w != 8 {
+    let mut left = codec::number(s, 104, 8) & 0xfefe_fefe_fefe_fefe;
+    while left != 0 {
+        let w = bitmap::lowest(left) / 8;
         if !record_in_order(st, low, all, writer(s, w)) {
             return false;
         }
-        w += 1;
+        left = bitmap::clear_lowest(left);
     }
     true
 }

@@ -1,4 +1,4 @@
-// The writers' records in the state strip: four numbers of eight bytes each and a held block of 64 bytes.
+// The writers' records in the state strip: a mode of one byte among those of all eight, three numbers of eight bytes and a held block of 64.
 use model::Writer;
 ghost use mathlib.Core.Path.{_≡_};
 ghost use Prim.Native.Nat.{_≤_, _<_};
@@ -19,7 +19,7 @@ pub fn writer(s: &[u8], w: usize) -> Writer
     ensures { λ r. ⌜ r ≡ writerOf (now (s .entry)) w ⌝ }
 {
     let at = offset(w);
-    let mode = codec::number(s, at, 8);
+    let mode = codec::number(s, 104 + w, 1);
     let home = codec::number(s, at + 8, 8);
     let first = codec::number(s, at + 16, 8);
     let count = codec::number(s, at + 24, 8);
@@ -37,7 +37,7 @@ pub fn set_writer(s: &mut [u8], w: usize, r: Writer)
     ensures { λ _. ⌜ now (s .exit) ≡ setWriter (now (s .entry)) w r ⌝ }
 {
     let at = offset(w);
-    codec::put_number(s, at, 8, r.mode);
+    codec::put_number(s, 104 + w, 1, r.mode);
     codec::put_number(s, at + 8, 8, r.home);
     codec::put_number(s, at + 16, 8, r.first);
     codec::put_number(s, at + 24, 8, r.count);

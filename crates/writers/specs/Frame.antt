@@ -4,12 +4,12 @@ use mathlib.Core.Path.{_≡_}
 use mathlib.Core.Logic.{_⊎_, _≢_}
 use mathlib.Core.List.{List}
 use lib.ListN.{length, getD}
-use Rattle.model.specs.State.{stateOf, writerOffset, writerOf, heldOf}
+use Rattle.model.specs.State.{stateOf, modeOffset, writerOffset, writerOf, heldOf}
 
--- a strip t that differs from a strip s in the 32 bytes of one writer's record at most
+-- a strip t that differs from a strip s in the mode of one writer and the 32 bytes of its record at most
 pub record SameElsewhere (w : ℕ) (s t : List ℕ) : Type 0 where
   pub size : length t ≡ length s
   pub numbers : stateOf t ≡ stateOf s
-  pub writer : (v : ℕ) → v ≢ w → writerOf t v ≡ writerOf s v
+  pub writer : (v : ℕ) → v < 8 → v ≢ w → writerOf t v ≡ writerOf s v
   pub held : (v : ℕ) → heldOf t v ≡ heldOf s v
-  pub byte : (i : ℕ) → (i < writerOffset w) ⊎ (writerOffset w + 32 ≤ i) → getD t i 0 ≡ getD s i 0
+  pub byte : (i : ℕ) → i ≢ modeOffset w → (i < writerOffset w) ⊎ (writerOffset w + 32 ≤ i) → getD t i 0 ≡ getD s i 0

@@ -191,15 +191,15 @@ module _ (G D : ℕ) (z : Sizes G D) (w : World) (R : Running G D w) (v : ℕ) (
 
     writer-is : writerOf (u .state) v ≡ logging home (firstFor r P) (countFor r + 1)
     writer-is =
-        rw state-is (writer-setPromise s₃ v n₃ v l ∙ writer-setHeld s₁ v block v hb ∙ writer-setWriter (lo .state) v _ (keeps _ .size) l
+        rw state-is (writer-setPromise s₃ v n₃ v l ∙ writer-setHeld s₁ v block v l hb ∙ writer-setWriter (lo .state) v _ (keeps _ .size) l
         (fits-logging home (firstFor r P) (countFor r + 1) (omega arith) (omega (arith, bs .upto, in-room, c .order .start-most)) (omega (arith, bs .many, bs .low, in-room, c .order .start-most))))
 
     held-is : heldOf (u .state) v ≡ block
     held-is = rw state-is (held-setPromise s₃ v n₃ v l ∙ held-setHeld s₁ v block size₁ l hb)
 
-    writer-others : (x : ℕ) → (x ≡ v → ⊥) → writerOf (u .state) x ≡ writerOf (w .state) x
-    writer-others x n =
-        rw state-is (writer-setPromise s₃ v n₃ x l ∙ writer-setHeld s₁ v block x hb ∙ writer-setWriter-other (lo .state) v _ x n ∙ keeps _ .writer x)
+    writer-others : (x : ℕ) → x < 8 → (x ≡ v → ⊥) → writerOf (u .state) x ≡ writerOf (w .state) x
+    writer-others x k n =
+        rw state-is (writer-setPromise s₃ v n₃ x l ∙ writer-setHeld s₁ v block x k hb ∙ writer-setWriter-other (lo .state) v _ x l k n ∙ keeps _ .writer x)
 
     promise-others : (x : ℕ) → x < 8 → (x ≡ v → ⊥) → promiseOf (u .state) x ≡ promiseOf (w .state) x
     promise-others x m n =
@@ -256,7 +256,7 @@ module _ (G D : ℕ) (z : Sizes G D) (w : World) (R : Running G D w) (v : ℕ) (
     promises-are : Promises (u .state)
     unfolding logging
     promises-are =
-        promises-logged (w .state) (u .state) v (st .last) l (c .order .promises) adv left promise-others (λ x m. writer-others x) (omega (arith, promise-is))
+        promises-logged (w .state) (u .state) v (st .last) l (c .order .promises) adv left promise-others writer-others (omega (arith, promise-is))
         (rw writer-is (λ h. absurd (omega arith)))
 
     links-are : Linked (7 * st .start) (tagAt (7 * b) (e₀ ∷ tr)) none (hist (7 * b) (e₀ ∷ tr) .done)
@@ -274,8 +274,8 @@ module _ (G D : ℕ) (z : Sizes G D) (w : World) (R : Running G D w) (v : ℕ) (
     copies-are =
         copies-logged G D b tr w u v e₀
         (opened (entriesFor b tr ps ++ (entryOf (w .book) (record { home = r .home; block = hd }) ∷ [])) (some (record { home = home; block = block })))
-        (st .last) z c l roomy refl refl (sound-event false 0 (omega arith)) adv (rw state-is (length-setPromise s₃ v n₃ ∙ size₃)) (λ x k. writer-others x)
-        (λ x k n. rw state-is (held-setPromise s₃ v n₃ x l ∙ held-setHeld-other s₁ v block x n hb ∙ held-setWriter (lo .state) v _ x ∙ keeps _ .held x))
+        (st .last) z c l roomy refl refl (sound-event false 0 (omega arith)) adv (rw state-is (length-setPromise s₃ v n₃ ∙ size₃)) writer-others
+        (λ x k n. rw state-is (held-setPromise s₃ v n₃ x l ∙ held-setHeld-other s₁ v block x n hb ∙ held-setWriter (lo .state) v _ x l ∙ keeps _ .held x))
         in-order-is promises-are task-is refl log-becomes refl
         (ap (λ (k : Book). k .tasks v) book-is ∙ task-here (filledUp (w .book)) v _)
         (λ x n. ap (λ (k : Book). k .tasks x) book-is ∙ task-other (filledUp (w .book)) v x _ n ∙ ap (λ (f : ℕ → Task). f x) (filled-tasks (w .book)))
@@ -364,7 +364,7 @@ module _ (G D : ℕ) (z : Sizes G D) (w : World) (R : Running G D w) (v : ℕ) (
 
     c-writers : (x : ℕ) → x < 8 → (x ≡ v → ⊥) → writerOf (y .state) x ≡ writerOf (w .state) x
     c-writers x k n =
-        rw c-state-is (writer-keepList left-by x k ∙ writer-setPromise s₄ v 0 x l ∙ writer-setWriter-other s₂ v idle x n ∙ writer-setLast (lc .state) (P + 1) x ∙ keeps _ .writer x)
+        rw c-state-is (writer-keepList left-by x k ∙ writer-setPromise s₄ v 0 x l ∙ writer-setWriter-other s₂ v idle x l k n ∙ writer-setLast (lc .state) (P + 1) x ∙ keeps _ .writer x)
 
     c-promises : (x : ℕ) → x < 8 → (x ≡ v → ⊥) → promiseOf (y .state) x ≡ promiseOf (w .state) x
     c-promises x m n =
@@ -441,7 +441,7 @@ module _ (G D : ℕ) (z : Sizes G D) (w : World) (R : Running G D w) (v : ℕ) (
     unfolding event commitHeld lent withTask addCommit
     c-copies =
         copies-logged G D b tr w y v e₁ book.idle (P + 1) z c l roomy refl refl (sound-event true lk lk-small) c-adv (rw c-state-is size₅) c-writers
-        (λ x k n. rw c-state-is (held-keepList left-by x k ∙ held-setPromise s₄ v 0 x l ∙ held-setWriter s₂ v idle x ∙ held-setLast (lc .state) (P + 1) x ∙ keeps _ .held x))
+        (λ x k n. rw c-state-is (held-keepList left-by x k ∙ held-setPromise s₄ v 0 x l ∙ held-setWriter s₂ v idle x l ∙ held-setLast (lc .state) (P + 1) x ∙ keeps _ .held x))
         (rw c-writer (order-idle _)) c-in-order (rw c-writer (inl ((unfold idle in refl), refl))) refl c-log refl
         (ap (λ (k : Book). k .tasks v) c-book ∙ task-here (addCommit (filledUp (w .book)) cm) v book.idle)
         (λ x n. ap (λ (k : Book). k .tasks x) c-book ∙ task-other (addCommit (filledUp (w .book)) cm) v x book.idle n ∙ ap (λ (f : ℕ → Task). f x) (filled-tasks (w .book)))

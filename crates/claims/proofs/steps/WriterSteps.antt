@@ -29,7 +29,7 @@ use Rattle.claims.proofs.invariant.Invariant.{Copies, Submitted, Confir
 pub record SameBut (v : ℕ) (s t : List ℕ) : Type 0 where
   pub size : length t ≡ 1024
   pub numbers : stateOf t ≡ stateOf s
-  pub writer : (x : ℕ) → (x ≡ v → ⊥) → writerOf t x ≡ writerOf s x
+  pub writer : (x : ℕ) → x < 8 → (x ≡ v → ⊥) → writerOf t x ≡ writerOf s x
   pub held : (x : ℕ) → (x ≡ v → ⊥) → heldOf t x ≡ heldOf s x
   pub promise : (x : ℕ) → x < 8 → (x ≡ v → ⊥) → promiseOf t x ≡ promiseOf s x
 
@@ -50,7 +50,7 @@ promises-same v s t l b p h k =
     let q : promised t 8 ≤ places (stateOf s) = omega (arith, c) in
     record {
       within = rw e at q;
-      none-idle = λ x m. each-writer (λ y. writerOf t y .mode ≡ 0 → promiseOf t y ≡ 0) v x h (λ n. rw (b .writer x n, b .promise x m n) (p .none-idle x m));
+      none-idle = λ x m. each-writer (λ y. writerOf t y .mode ≡ 0 → promiseOf t y ≡ 0) v x h (λ n. rw (b .writer x m n, b .promise x m n) (p .none-idle x m));
     }
 
 -- as they are if the promise stays and the writer is open
@@ -77,7 +77,7 @@ order-same v s t G D b o h p =
       round-fenced = rw e at (o .round-fenced);
       promises = p;
       writers = λ x l.
-          each-writer (λ y. WriterInOrder (stateOf t) (writerOf t y)) v x (rw e at h) (λ n. rw (b .writer x n) (rw e at (o .writers x l)));
+          each-writer (λ y. WriterInOrder (stateOf t) (writerOf t y)) v x (rw e at h) (λ n. rw (b .writer x l n) (rw e at (o .writers x l)));
     }
 
 pub task-here : (b : Book) (v : ℕ) (t : Task) → withTask b v t .tasks v ≡ t
@@ -112,7 +112,7 @@ copies-writer G D b tr w u v t c s l o p k eh el ea eb =
       tasks = λ x h.
           each-writer (λ y. TaskOk b tr (writerOf (u .state) y) (heldOf (u .state) y) (hist (7 * b) tr .openOf y) (u .book .tasks y)) v x
           (rw (ap (λ (z : Book). z .tasks v) eb ∙ task-here (w .book) v t) k)
-          (λ n. rw (ap (λ (z : Book). z .tasks x) eb ∙ task-other (w .book) v x t n, s .writer x n, s .held x n) (c .tasks x h));
+          (λ n. rw (ap (λ (z : Book). z .tasks x) eb ∙ task-other (w .book) v x t n, s .writer x h n, s .held x n) (c .tasks x h));
       rows = ap (λ (z : Book). z .rows) eb ∙ (rw e at (c .rows));
       filled = ap (λ (z : Book). z .filled) eb ∙ (rw e at (c .filled));
       settledHomes = rw (ea, ap (λ (z : Book). z .commits) eb) (rw e at (c .settledHomes));
@@ -187,13 +187,13 @@ running-writer G D w u v t r s l o p k eh el ea em ep eq er eb =
     }
 
 -- strips that differ so
-pub same-writer : (s : List ℕ) (v : ℕ) (r : Writer) → length s ≡ 1024 → SameBut v s (setWriter s v r)
-same-writer s v r h =
+pub same-writer : (s : List ℕ) (v : ℕ) (r : Writer) → length s ≡ 1024 → v < 8 → SameBut v s (setWriter s v r)
+same-writer s v r h l =
     record {
       size = length-setWriter s v r ∙ h;
       numbers = state-setWriter s v r;
-      writer = λ x n. writer-setWriter-other s v r x n;
-      held = λ x n. held-setWriter s v r x;
+      writer = λ x k n. writer-setWriter-other s v r x l k n;
+      held = λ x n. held-setWriter s v r x l;
       promise = λ x l n. promise-setWriter s v r x l;
     }
 
@@ -202,7 +202,7 @@ same-held s v block h k =
     record {
       size = length-setHeld s v block ∙ h;
       numbers = state-setHeld s v block k;
-      writer = λ x n. writer-setHeld s v block x k;
+      writer = λ x l n. writer-setHeld s v block x l k;
       held = λ x n. held-setHeld-other s v block x n k;
       promise = λ x l n. promise-setHeld s v block x k l;
     }
@@ -212,7 +212,7 @@ same-promise s v n h l =
     record {
       size = length-setPromise s v n ∙ h;
       numbers = state-setPromise s v n l;
-      writer = λ x d. writer-setPromise s v n x l;
+      writer = λ x m d. writer-setPromise s v n x l;
       held = λ x d. held-setPromise s v n x l;
       promise = λ x m d. promise-setPromise-other s v n x d;
     }
@@ -222,7 +222,7 @@ same-then v s t u a b =
     record {
       size = b .size;
       numbers = b .numbers ∙ a .numbers;
-      writer = λ x n. b .writer x n ∙ a .writer x n;
+      writer = λ x l n. b .writer x l n ∙ a .writer x l n;
       held = λ x n. b .held x n ∙ a .held x n;
       promise = λ x l n. b .promise x l n ∙ a .promise x l n;
     }
@@ -249,7 +249,7 @@ begin-runs G D w v r a =
     let l : v < 8 = ltb-true v 8 (h .1) in
     let c = r .copies in
     let e : writerOf (setWriter (w .state) v begun) v ≡ begun = writer-setWriter (w .state) v begun (c .stateSize) l fits-begun in
-    let b = same-writer (w .state) v begun (c .stateSize) in
+    let b = same-writer (w .state) v begun (c .stateSize) l in
     running-writer G D w _ v (opened [] none) r b l (rw e (order-begun _))
     (promises-kept v (w .state) (setWriter (w .state) v begun) l b (c .order .promises) (promise-setWriter (w .state) v begun v l) (rw e (unfold begun in omega arith)))
     (rw e (inr (inl (unfold begun in (refl, refl))))) refl refl refl refl (append-nil (w .pending)) refl refl refl
@@ -266,7 +266,7 @@ reserve-runs G D w v n r g a =
     let s₁ = setWriter s v begun in
     let t = setPromise s₁ v n in
     let size : length s₁ ≡ 1024 = length-setWriter s v begun ∙ c .stateSize in
-    let b : SameBut v s t = same-then v s s₁ t (same-writer s v begun (c .stateSize)) (same-promise s₁ v n size l) in
+    let b : SameBut v s t = same-then v s s₁ t (same-writer s v begun (c .stateSize) l) (same-promise s₁ v n size l) in
     let k = may-promise s n (h .3) in
     let m : writerOf s v .mode ≡ 0 = (unfold writerOpen isOpen in omega (arith, leb-false 1 (writerOf s v .mode) (h .2))) in
     let q : n ≤ places (stateOf s) - promised s 8 = unfold freePlaces in k .1 in
@@ -288,7 +288,7 @@ abort-runs G D w v r l c f eb =
     let s₁ = setWriter s v idle in
     let t = setPromise s₁ v 0 in
     let size : length s₁ ≡ 1024 = length-setWriter s v idle ∙ k .stateSize in
-    let b : SameBut v s t = same-then v s s₁ t (same-writer s v idle (k .stateSize)) (same-promise s₁ v 0 size l) in
+    let b : SameBut v s t = same-then v s s₁ t (same-writer s v idle (k .stateSize) l) (same-promise s₁ v 0 size l) in
     let e : writerOf t v ≡ idle = writer-setPromise s₁ v 0 v l ∙ writer-setWriter s v idle (k .stateSize) l fits-idle in
     let z : promiseOf t v ≡ 0 = promise-setPromise s₁ v 0 size l (omega arith) in
     running-writer G D w _ v idle′ r b l (rw e (order-idle _))
@@ -306,10 +306,10 @@ store-first-runs G D w v home block batch r l h d k m t =
     let s₁ = setWriter s v (holding home) in
     let e₁ : writerOf s₁ v ≡ holding home = writer-setWriter s v (holding home) (c .stateSize) l (fits-holding home (omega arith)) in
     let size : length s₁ ≡ 1024 = length-setWriter s v (holding home) ∙ c .stateSize in
-    let e₂ : writerOf (setHeld s₁ v block) v ≡ holding home = writer-setHeld s₁ v block v k ∙ e₁ in
+    let e₂ : writerOf (setHeld s₁ v block) v ≡ holding home = writer-setHeld s₁ v block v l k ∙ e₁ in
     let e₃ : heldOf (setHeld s₁ v block) v ≡ block = held-setHeld s₁ v block size l k in
     let b : SameBut v s (setHeld s₁ v block) =
-    same-then v s s₁ (setHeld s₁ v block) (same-writer s v (holding home) (c .stateSize)) (same-held s₁ v block size k) in
+    same-then v s s₁ (setHeld s₁ v block) (same-writer s v (holding home) (c .stateSize) l) (same-held s₁ v block size k) in
     running-writer G D w _ v (opened [] (some (record { home = home; block = block }))) r b l
     (rw e₂ (order-holding (stateOf s) home (rw (c .order .homes-same) h)))
     (promises-kept v s (setHeld s₁ v block) l b (c .order .promises) (promise-setHeld s₁ v block v k l ∙ promise-setWriter s v (holding home) v l)
@@ -340,7 +340,7 @@ store-again-runs G D w v home block batch r l k m eh =
     let c = r .copies in
     let s = w .state in
     let a = again (r .b) (r .tr) (writerOf s v) (heldOf s v) block (hist (7 * r .b) (r .tr) .openOf v) (w .book .tasks v) m (c .tasks v l) in
-    let e₂ : writerOf (setHeld s v block) v ≡ writerOf s v = writer-setHeld s v block v k in
+    let e₂ : writerOf (setHeld s v block) v ≡ writerOf s v = writer-setHeld s v block v l k in
     let e₃ : heldOf (setHeld s v block) v ≡ block = held-setHeld s v block (c .stateSize) l k in
     running-writer G D w _ v (opened (a .0) (some (record { home = writerOf s v .home; block = block }))) r (same-held s v block (c .stateSize) k) l
     (rw e₂ (c .order .writers v l))

@@ -11,7 +11,7 @@ use lib.ListN.{length, replicate, length-replicate}
 use borrow.Author.Tests.{le-leb}
 use Rattle.model.specs.Bytes.{part, number, putNumber}
 use Rattle.model.specs.declared.Writer.{Writer}
-use Rattle.model.specs.State.{stateOf, setStart, setNext, setFilled, setSettled, setFenced, setDurable, setLast, setRound, setCursor, writerOffset, writerOf, setWriter, heldOf, setHeld, promiseOffset, promiseOf, setPromise, listHome, listedOf, setListed}
+use Rattle.model.specs.State.{stateOf, setStart, setNext, setFilled, setSettled, setFenced, setDurable, setLast, setRound, setCursor, modeOffset, writerOffset, writerOf, setWriter, heldOf, setHeld, promiseOffset, promiseOf, setPromise, listHome, listedOf, setListed}
 use Rattle.model.specs.Newest.{noPosition, keptFor, carryListed}
 use Rattle.laws.proofs.bytes.ByteLaws.{length-puts, length-part, part-below, number-same-part, number-put-above, number-part, number-inside}
 use Rattle.laws.proofs.strip.StateLaws.{state-agree, writer-agree}
@@ -62,9 +62,9 @@ module _ (s : List ℕ) (v : ℕ) where
   listed-setCursor = listed-put s 96 v (omega arith)
 
 pub listed-setWriter : (s : List ℕ) (w : ℕ) (r : Writer) (i : ℕ) → w < 8 → listedOf (setWriter s w r) i ≡ listedOf s i
-unfolding listedOf writerOffset
+unfolding listedOf modeOffset writerOffset
 listed-setWriter s w r i l =
-    number-same-part 8 (setWriter s w r) (896 + 8 * i) s (896 + 8 * i) (part-setWriter s w r (896 + 8 * i) 8 (inr (omega arith)))
+    number-same-part 8 (setWriter s w r) (896 + 8 * i) s (896 + 8 * i) (part-setWriter s w r (896 + 8 * i) 8 (inr (omega arith)) (inr (omega arith)))
 
 pub listed-setHeld : (s : List ℕ) (w : ℕ) (block : List ℕ) (i : ℕ) → length block ≡ 64 → w < 8 → listedOf (setHeld s w block) i ≡ listedOf s i
 unfolding listedOf writerOffset
@@ -90,8 +90,8 @@ module _ (s positions : List ℕ) where
   state-setListed = state-agree (setListed s positions) s (part-setListed 0 72 (omega arith)) (part-setListed 88 16 (omega arith))
 
   pub writer-setListed : (w : ℕ) → w < 8 → writerOf (setListed s positions) w ≡ writerOf s w
-  unfolding writerOffset
-  writer-setListed w l = writer-agree (setListed s positions) s w (part-setListed (writerOffset w) 32 (omega arith))
+  unfolding modeOffset writerOffset
+  writer-setListed w l = writer-agree (setListed s positions) s w (part-setListed (modeOffset w) 1 (omega arith)) (part-setListed (writerOffset w) 32 (omega arith))
 
   pub held-setListed : (w : ℕ) → w < 8 → heldOf (setListed s positions) w ≡ heldOf s w
   unfolding heldOf writerOffset

@@ -8,7 +8,7 @@ use native.Mathlib.Omega.{arith}
 use lib.ListN.{length, getD}
 use Rattle.model.specs.Bytes.{part, zeros, putNumber}
 use Rattle.model.specs.declared.Writer.{Writer}
-use Rattle.model.specs.State.{stateOf, setGroups, setHomes, setStart, setNext, setFilled, setSettled, setFenced, setDurable, setLast, setRound, setCursor, writerOffset, writerOf, setWriter, heldOf, setHeld, promiseOffset, promiseOf, setPromise, promised}
+use Rattle.model.specs.State.{stateOf, setGroups, setHomes, setStart, setNext, setFilled, setSettled, setFenced, setDurable, setLast, setRound, setCursor, modeOffset, writerOffset, writerOf, setWriter, heldOf, setHeld, promiseOffset, promiseOf, setPromise, promised}
 use Rattle.laws.proofs.bytes.ByteLaws.{length-putNumber, number-same, number-put-below, number-put-above, number-same-part, number-lt, part-put-below, part-put-above}
 use Rattle.laws.proofs.bytes.LayoutLaws.{number-zeros}
 use Rattle.laws.proofs.strip.StateLaws.{Spare, state-agree, writer-agree, byte-agree}
@@ -75,9 +75,10 @@ pub ruleset promise-laws =
     (promise-setGroups, promise-setHomes, promise-setStart, promise-setNext, promise-setFilled, promise-setSettled, promise-setFenced, promise-setDurable, promise-setLast)
 
 pub promise-setWriter : (s : List ℕ) (w : ℕ) (r : Writer) (x : ℕ) → x < 8 → promiseOf (setWriter s w r) x ≡ promiseOf s x
-unfolding promiseOf promiseOffset writerOffset
+unfolding promiseOf promiseOffset modeOffset writerOffset
 promise-setWriter s w r x l =
-    number-same-part 2 (setWriter s w r) (72 + 2 * x) s (72 + 2 * x) (part-setWriter s w r (72 + 2 * x) 2 (inl (omega arith)))
+    number-same-part 2 (setWriter s w r) (72 + 2 * x) s (72 + 2 * x)
+    (part-setWriter s w r (72 + 2 * x) 2 (inl (omega arith)) (inl (omega arith)))
 
 pub promise-setHeld : (s : List ℕ) (w : ℕ) (block : List ℕ) (x : ℕ) → length block ≡ 64 → x < 8 → promiseOf (setHeld s w block) x ≡ promiseOf s x
 unfolding promiseOf promiseOffset writerOffset
@@ -97,8 +98,10 @@ module _ (s : List ℕ) (w n : ℕ) where
       state-agree (setPromise s w n) s (part-put-below 2 s (72 + 2 * w) n 0 72 (omega arith)) (part-put-above 2 s (72 + 2 * w) n 88 16 (omega arith))
 
   pub writer-setPromise : (v : ℕ) → w < 8 → writerOf (setPromise s w n) v ≡ writerOf s v
-  unfolding setPromise promiseOffset writerOffset
-  writer-setPromise v l = writer-agree (setPromise s w n) s v (part-put-above 2 s (72 + 2 * w) n (writerOffset v) 32 (omega arith))
+  unfolding setPromise promiseOffset modeOffset writerOffset
+  writer-setPromise v l =
+      writer-agree (setPromise s w n) s v (part-put-above 2 s (72 + 2 * w) n (modeOffset v) 1 (omega arith))
+      (part-put-above 2 s (72 + 2 * w) n (writerOffset v) 32 (omega arith))
 
   pub held-setPromise : (v : ℕ) → w < 8 → heldOf (setPromise s w n) v ≡ heldOf s v
   unfolding setPromise promiseOffset heldOf writerOffset

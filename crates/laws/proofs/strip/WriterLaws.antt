@@ -8,14 +8,14 @@ use native.Mathlib.Omega.{arith}
 use lib.ListN.{length, getD}
 use Rattle.model.specs.Bytes.{part, number, putNumber}
 use Rattle.model.specs.declared.Writer.{Writer}
-use Rattle.model.specs.State.{stateOf, writerOffset, writerOf, setWriter, heldOf, setHeld, idle, begun, holding, logging}
-use Rattle.laws.proofs.bytes.ByteLaws.{length-puts, length-putNumber, number-put-below, number-lt, part-same, part-below, part-above, part-put-below, part-put-above}
+use Rattle.model.specs.State.{stateOf, modeOffset, writerOffset, writerOf, setWriter, heldOf, setHeld, idle, begun, holding, logging}
+use Rattle.laws.proofs.bytes.ByteLaws.{length-puts, length-putNumber, number-same, number-put-below, number-lt, part-same, part-below, part-above, part-put-below, part-put-above}
 use Rattle.laws.proofs.strip.StateLaws.{number-back, Spare, state-agree, writer-agree, byte-agree}
 
--- ---- each number of a writer's record is below 2 ^ 64
+-- ---- each number of a writer's record is below 2 ^ 64, and the mode a byte
 
 pub record WriterFits (r : Writer) : Type 0 where
-  pub mode : r .mode < 2 ^ 64
+  pub mode : r .mode < 2 ^ 8
   pub home : r .home < 2 ^ 64
   pub first : r .first < 2 ^ 64
   pub count : r .count < 2 ^ 64
@@ -25,7 +25,7 @@ unfolding writerOf
 writer-fits s w h =
     let f : (i : ℕ) → number 8 s i < 2 ^ 64 = λ i. number-lt 8 s i h in
     let o = writerOffset w in
-    record { mode = f o; home = f (o + 8); first = f (o + 16); count = f (o + 24) }
+    record { mode = number-lt 1 s (modeOffset w) h; home = f (o + 8); first = f (o + 16); count = f (o + 24) }
 
 pub fits-idle : WriterFits idle
 unfolding idle
@@ -55,15 +55,19 @@ length-setHeld s w block = length-puts s (writerOffset w + 32) block
 
 -- ---- a part that lies apart from what is written stays
 
-pub part-setWriter : (s : List ℕ) (w : ℕ) (r : Writer) (a n : ℕ) → (a + n ≤ writerOffset w) ⊎ (writerOffset w + 32 ≤ a)
-    → part (setWriter s w r) a n ≡ part s a n
+part-mode : (s : List ℕ) (w m a n : ℕ) → (a + n ≤ modeOffset w) ⊎ (modeOffset w + 1 ≤ a) → part (putNumber 1 s (modeOffset w) m) a n ≡ part s a n
+part-mode s w m a n (inl h) = part-put-below 1 s (modeOffset w) m a n h
+part-mode s w m a n (inr h) = part-put-above 1 s (modeOffset w) m a n h
+
+pub part-setWriter : (s : List ℕ) (w : ℕ) (r : Writer) (a n : ℕ) → (a + n ≤ modeOffset w) ⊎ (modeOffset w + 1 ≤ a)
+    → (a + n ≤ writerOffset w) ⊎ (writerOffset w + 32 ≤ a) → part (setWriter s w r) a n ≡ part s a n
 unfolding setWriter
-part-setWriter s w r a n (inl h) =
+part-setWriter s w r a n m (inl h) =
     part-put-below 8 _ (writerOffset w + 24) _ a n (omega arith) ∙ part-put-below 8 _ (writerOffset w + 16) _ a n (omega arith)
-    ∙ part-put-below 8 _ (writerOffset w + 8) _ a n (omega arith) ∙ part-put-below 8 s (writerOffset w) _ a n (omega arith)
-part-setWriter s w r a n (inr h) =
+    ∙ part-put-below 8 _ (writerOffset w + 8) _ a n (omega arith) ∙ part-mode s w (r .mode) a n m
+part-setWriter s w r a n m (inr h) =
     part-put-above 8 _ (writerOffset w + 24) _ a n (omega arith) ∙ part-put-above 8 _ (writerOffset w + 16) _ a n (omega arith)
-    ∙ part-put-above 8 _ (writerOffset w + 8) _ a n (omega arith) ∙ part-put-above 8 s (writerOffset w) _ a n (omega arith)
+    ∙ part-put-above 8 _ (writerOffset w + 8) _ a n (omega arith) ∙ part-mode s w (r .mode) a n m
 
 pub part-setHeld : (s : List ℕ) (w : ℕ) (block : List ℕ) (a n : ℕ) → length block ≡ 64
     → (a + n ≤ writerOffset w + 32) ⊎ (writerOffset w + 96 ≤ a) → part (setHeld s w block) a n ≡ part s a n
@@ -86,7 +90,25 @@ others : (v w : ℕ) → v ≢ w → (writerOffset v + 96 ≤ writerOffset w) �
 unfolding writerOffset
 others v w n = ⊎-map (λ h. h) (λ h. omega arith) (in-turn v w)
 
--- a spare byte lies before the writers or after the last of them
+-- modes of different writers, and a mode and a writer's part, lie apart
+mode-others : (v w : ℕ) → v ≢ w → (modeOffset v + 1 ≤ modeOffset w) ⊎ (modeOffset w + 1 ≤ modeOffset v)
+unfolding modeOffset
+mode-others v w n = go (decLt v w)
+  where
+    go : Dec (v < w) → (104 + v + 1 ≤ 104 + w) ⊎ (104 + w + 1 ≤ 104 + v)
+    go (yes h) = inl (omega arith)
+    go (no h) = inr (omega (arith, n))
+
+mode-before : (v w : ℕ) → v < 8 → modeOffset v + 1 ≤ writerOffset w
+unfolding modeOffset writerOffset
+mode-before v w h = omega arith
+
+-- a spare byte lies after the modes, and before the writers or after the last of them
+spare-after : (w i : ℕ) → w < 8 → Spare i → modeOffset w + 1 ≤ i
+unfolding modeOffset
+spare-after w i h (inl k) = omega arith
+spare-after w i h (inr k) = omega arith
+
 spare-apart : (w i : ℕ) → w < 8 → Spare i → (i + 1 ≤ writerOffset w) ⊎ (writerOffset w + 96 ≤ i)
 unfolding writerOffset
 spare-apart w i h (inl k) = inl (omega arith)
@@ -96,17 +118,20 @@ spare-apart w i h (inr k) = inr (omega arith)
 
 module _ (s : List ℕ) (w : ℕ) (r : Writer) where
   pub state-setWriter : stateOf (setWriter s w r) ≡ stateOf s
-  unfolding writerOffset
-  state-setWriter = state-agree (setWriter s w r) s (part-setWriter s w r 0 72 (inl (omega arith))) (part-setWriter s w r 88 16 (inl (omega arith)))
+  unfolding modeOffset writerOffset
+  state-setWriter =
+      state-agree (setWriter s w r) s (part-setWriter s w r 0 72 (inl (omega arith)) (inl (omega arith)))
+      (part-setWriter s w r 88 16 (inl (omega arith)) (inl (omega arith)))
 
   pub writer-setWriter : length s ≡ 1024 → w < 8 → WriterFits r → writerOf (setWriter s w r) w ≡ r
-  unfolding writerOf setWriter writerOffset
+  unfolding writerOf setWriter modeOffset writerOffset
   writer-setWriter l h f =
       let o = writerOffset w in
+      let m = modeOffset w in
       let below : (d : List ℕ) (at v i : ℕ) → i + 8 ≤ at → number 8 (putNumber 8 d at v) i ≡ number 8 d i = number-put-below 8 8 in
-      let mode : number 8 (setWriter s w r) o ≡ r .mode =
-      below _ (o + 24) _ o (omega arith) ∙ below _ (o + 16) _ o (omega arith) ∙ below _ (o + 8) _ o (omega arith)
-      ∙ number-back s o _ l (omega arith) (f .mode) in
+      let mode : number 1 (setWriter s w r) m ≡ r .mode =
+      number-put-below 1 8 _ (o + 24) _ m (omega arith) ∙ number-put-below 1 8 _ (o + 16) _ m (omega arith)
+      ∙ number-put-below 1 8 _ (o + 8) _ m (omega arith) ∙ number-same 1 s m _ (omega arith) (f .mode) in
       let home : number 8 (setWriter s w r) (o + 8) ≡ r .home =
       below _ (o + 24) _ (o + 8) (omega arith) ∙ below _ (o + 16) _ (o + 8) (omega arith)
       ∙ number-back _ (o + 8) _ (simp length-putNumber l) (omega arith) (f .home) in
@@ -115,17 +140,21 @@ module _ (s : List ℕ) (w : ℕ) (r : Writer) where
       let count : number 8 (setWriter s w r) (o + 24) ≡ r .count = number-back _ (o + 24) _ (simp length-putNumber l) (omega arith) (f .count) in
       rw (mode, home, first, count)
 
-  pub writer-setWriter-other : (v : ℕ) → v ≢ w → writerOf (setWriter s w r) v ≡ writerOf s v
-  writer-setWriter-other v n =
-      writer-agree (setWriter s w r) s v (part-setWriter s w r (writerOffset v) 32 (⊎-map (λ h. omega arith) (λ h. omega arith) (others v w n)))
+  pub writer-setWriter-other : (v : ℕ) → w < 8 → v < 8 → v ≢ w → writerOf (setWriter s w r) v ≡ writerOf s v
+  writer-setWriter-other v h k n =
+      writer-agree (setWriter s w r) s v (part-setWriter s w r (modeOffset v) 1 (mode-others v w n) (inl (mode-before v w k)))
+      (part-setWriter s w r (writerOffset v) 32 (inr (mode-before w v h)) (⊎-map (λ h. omega arith) (λ h. omega arith) (others v w n)))
 
-  pub held-setWriter : (v : ℕ) → heldOf (setWriter s w r) v ≡ heldOf s v
+  pub held-setWriter : (v : ℕ) → w < 8 → heldOf (setWriter s w r) v ≡ heldOf s v
   unfolding heldOf
-  held-setWriter v = part-setWriter s w r (writerOffset v + 32) 64 (⊎-map (λ h. omega arith) (λ h. omega arith) (in-turn v w))
+  held-setWriter v h =
+      part-setWriter s w r (writerOffset v + 32) 64 (inr (let b = mode-before w v h in omega arith))
+      (⊎-map (λ h. omega arith) (λ h. omega arith) (in-turn v w))
 
   pub spare-setWriter : (i : ℕ) → w < 8 → Spare i → getD (setWriter s w r) i 0 ≡ getD s i 0
   spare-setWriter i h k =
-      byte-agree (setWriter s w r) s i (part-setWriter s w r i 1 (⊎-map (λ h. h) (λ h. omega arith) (spare-apart w i h k)))
+      byte-agree (setWriter s w r) s i
+      (part-setWriter s w r i 1 (inr (spare-after w i h k)) (⊎-map (λ h. h) (λ h. omega arith) (spare-apart w i h k)))
 
 -- ---- after setHeld
 
@@ -134,9 +163,9 @@ module _ (s : List ℕ) (w : ℕ) (block : List ℕ) where
   unfolding writerOffset
   state-setHeld l = state-agree (setHeld s w block) s (part-setHeld s w block 0 72 l (inl (omega arith))) (part-setHeld s w block 88 16 l (inl (omega arith)))
 
-  pub writer-setHeld : (v : ℕ) → length block ≡ 64 → writerOf (setHeld s w block) v ≡ writerOf s v
-  writer-setHeld v l =
-      writer-agree (setHeld s w block) s v
+  pub writer-setHeld : (v : ℕ) → v < 8 → length block ≡ 64 → writerOf (setHeld s w block) v ≡ writerOf s v
+  writer-setHeld v k l =
+      writer-agree (setHeld s w block) s v (part-setHeld s w block (modeOffset v) 1 l (inl (let b = mode-before v w k in omega arith)))
       (part-setHeld s w block (writerOffset v) 32 l (⊎-map (λ h. omega arith) (λ h. h) (⊎-swap (in-turn w v))))
 
   pub held-setHeld : length s ≡ 1024 → w < 8 → length block ≡ 64 → heldOf (setHeld s w block) w ≡ block

@@ -5,11 +5,8 @@ use Rattle.limits.proofs.WriterLaws.{writer-none, writer-low, writer-hi
 use Rattle.limits.proofs.writers.writer_limit.Statement.{statement}
 use Rattle.limits.proofs.writers.writer_limit.Tie as tie
 
-mul-at : tie.Need-mul-at
-mul-at c = search needs
-
-add-at : tie.Need-add-at
-add-at c = search needs
+add-number : tie.Need-add-number
+add-number c = search needs
 
 number-requires : tie.Need-number-requires
 number-requires c κs = search needs
@@ -17,8 +14,14 @@ number-requires c κs = search needs
 returns : tie.Need-returns
 returns c = writer-none _ _ _ _ (c .before .number .ensures .0) (omega (arith, c .if1 .taken))
 
-add-number : tie.Need-add-number
-add-number c = search needs
+mul-at : tie.Need-mul-at
+mul-at c = search needs
+
+add-at : tie.Need-add-at
+add-at c = search needs
+
+add-number-2 : tie.Need-add-number-2
+add-number-2 c = search needs
 
 number-requires-2 : tie.Need-number-requires-2
 number-requires-2 c κs = search needs
@@ -35,11 +38,12 @@ pub writer-limit-spec : {M : Type 1} → statement M
 writer-limit-spec =
     tie.close
     (tie.spec
-    mul-at
-    add-at
+    add-number
     number-requires
     returns
-    add-number
+    mul-at
+    add-at
+    add-number-2
     number-requires-2
     returns-2
     returns-3)

@@ -8,23 +8,19 @@ use Rattle.strip.proofs.quick.record_in_order.Statement.{statement}
 use Rattle.strip.proofs.quick.record_in_order.Tie as tie
 
 returns : tie.Need-returns
-returns c = sym (order-writer _ _ (record { mode = omega arith; home = λ k. omega arith; logged = λ k. omega arith }))
+returns c = writer-refused _ _ (λ o. let f = o .home (omega arith) in omega arith)
 
 returns-2 : tie.Need-returns-2
-returns-2 c = writer-refused _ _ (λ o. let f = o .home (omega arith) in omega arith)
+returns-2 c = sym (order-writer _ _ (record { mode = omega arith; home = λ k. omega arith; logged = λ k. omega arith }))
 
 returns-3 : tie.Need-returns-3
-returns-3 c = sym (order-writer _ _ (record { mode = omega arith; home = λ k. omega arith; logged = λ k. omega arith }))
-
-returns-4 : tie.Need-returns-4
-returns-4 c = other-mode _ _ (omega arith) (c .before .before .if3 .left) (c .if4 .taken)
+returns-3 c = other-mode _ _ (omega arith) (λ e. omega arith) (c .if3 .taken)
 
 logged-in-order-requires : tie.Need-logged-in-order-requires
 logged-in-order-requires c κs = search needs
 
-returns-5 : tie.Need-returns-5
-returns-5 c = search needs
+returns-4 : tie.Need-returns-4
+returns-4 c = search needs
 
 pub record-in-order-spec : {M : Type 1} → statement M
-record-in-order-spec =
-    tie.close (tie.spec returns returns-2 returns-3 returns-4 logged-in-order-requires returns-5)
+record-in-order-spec = tie.close (tie.spec returns returns-2 returns-3 logged-in-order-requires returns-4)

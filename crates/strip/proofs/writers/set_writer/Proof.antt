@@ -1,29 +1,32 @@
 -- `strip::set_writer` meets its contract. Assumes nothing.
 use borrow.Author.Needs.{needs}
-use Rattle.model.specs.State.{setWriter}
+use Rattle.model.specs.State.{modeOffset, setWriter}
 use Rattle.strip.proofs.writers.set_writer.Statement.{statement}
 use Rattle.strip.proofs.writers.set_writer.Tie as tie
 
 offset-requires : tie.Need-offset-requires
 offset-requires c κs = search needs
 
-put-number-requires : tie.Need-put-number-requires
-put-number-requires c κs = search needs
-
 add-put-number : tie.Need-add-put-number
 add-put-number c = search needs
 
-put-number-requires-2 : tie.Need-put-number-requires-2
-put-number-requires-2 c κs = search needs
+put-number-requires : tie.Need-put-number-requires
+put-number-requires c κs = search needs
 
 add-put-number-2 : tie.Need-add-put-number-2
 add-put-number-2 c = search needs
 
-put-number-requires-3 : tie.Need-put-number-requires-3
-put-number-requires-3 c κs = search needs
+put-number-requires-2 : tie.Need-put-number-requires-2
+put-number-requires-2 c κs = search needs
 
 add-put-number-3 : tie.Need-add-put-number-3
 add-put-number-3 c = search needs
+
+put-number-requires-3 : tie.Need-put-number-requires-3
+put-number-requires-3 c κs = search needs
+
+add-put-number-4 : tie.Need-add-put-number-4
+add-put-number-4 c = search needs
 
 put-number-requires-4 : tie.Need-put-number-requires-4
 put-number-requires-4 c κs = search needs
@@ -32,7 +35,7 @@ same-length : tie.Need-same-length
 same-length c = search needs
 
 returns : tie.Need-returns
-unfolding setWriter
+unfolding modeOffset setWriter
 returns c = cc
 
 pub set-writer-spec : {M : Type 1} → statement M
@@ -40,12 +43,13 @@ set-writer-spec =
     tie.close
     (tie.spec
     offset-requires
-    put-number-requires
     add-put-number
-    put-number-requires-2
+    put-number-requires
     add-put-number-2
-    put-number-requires-3
+    put-number-requires-2
     add-put-number-3
+    put-number-requires-3
+    add-put-number-4
     put-number-requires-4
     same-length
     returns)

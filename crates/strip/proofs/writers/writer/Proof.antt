@@ -1,35 +1,38 @@
 -- `strip::writer` meets its contract. Assumes nothing.
 use borrow.Author.Needs.{needs}
-use Rattle.model.specs.State.{writerOf}
+use Rattle.model.specs.State.{modeOffset, writerOf}
 use Rattle.strip.proofs.writers.writer.Statement.{statement}
 use Rattle.strip.proofs.writers.writer.Tie as tie
 
 offset-requires : tie.Need-offset-requires
 offset-requires c κs = search needs
 
-number-requires : tie.Need-number-requires
-number-requires c κs = search needs
-
 add-number : tie.Need-add-number
 add-number c = search needs
 
-number-requires-2 : tie.Need-number-requires-2
-number-requires-2 c κs = search needs
+number-requires : tie.Need-number-requires
+number-requires c κs = search needs
 
 add-number-2 : tie.Need-add-number-2
 add-number-2 c = search needs
 
-number-requires-3 : tie.Need-number-requires-3
-number-requires-3 c κs = search needs
+number-requires-2 : tie.Need-number-requires-2
+number-requires-2 c κs = search needs
 
 add-number-3 : tie.Need-add-number-3
 add-number-3 c = search needs
+
+number-requires-3 : tie.Need-number-requires-3
+number-requires-3 c κs = search needs
+
+add-number-4 : tie.Need-add-number-4
+add-number-4 c = search needs
 
 number-requires-4 : tie.Need-number-requires-4
 number-requires-4 c κs = search needs
 
 returns : tie.Need-returns
-unfolding writerOf
+unfolding modeOffset writerOf
 returns c =
     let c3 = c .before in
     let c2 = c3 .before in
@@ -47,11 +50,12 @@ writer-spec =
     tie.close
     (tie.spec
     offset-requires
-    number-requires
     add-number
-    number-requires-2
+    number-requires
     add-number-2
-    number-requires-3
+    number-requires-2
     add-number-3
+    number-requires-3
+    add-number-4
     number-requires-4
     returns)
