@@ -9,8 +9,8 @@ use second::state::{at, Writer};
 
 /// A number of the strip.
 const NUMBER: usize = 8;
-/// The four numbers of a writer's record.
-const RECORD: usize = 4 * NUMBER;
+/// A writer's mode and the three numbers of its record.
+const RECORD: usize = 1 + 3 * NUMBER;
 const TAG: usize = 8;
 
 /// What decides how much a call moves, as it stands before the call.

@@ -1,15 +1,16 @@
 /* Who holds a log back, told by the state. */
 #include "kagutin_store.h"
 
-/* Bytes of a writer's record in the state; docs/FORMAT.md. */
-enum { WRITERS = 128, WRITER_SIZE = 96, MODE = 0, FIRST = 16, MODE_LOGGING = 3 };
+/* The writers' modes and their records in the state; docs/FORMAT.md. */
+enum { MODES = 104, MODE_LOGGING = 3, WRITERS = 128, WRITER_SIZE = 96, FIRST = 16 };
 
-static uint64_t number(const uint8_t *bytes, int width)
+static uint64_t number(const uint8_t *bytes)
 {
     uint64_t value = 0;
+    int i;
 
-    while (width-- > 0)
-        value = value << 8 | bytes[width];
+    for (i = 7; i >= 0; i--)
+        value = value << 8 | bytes[i];
     return value;
 }
 
@@ -21,11 +22,11 @@ uint64_t kgt_holder(const uint8_t *state, uint64_t *first)
     for (writer = 0; writer < KAGUTIN_WRITERS; writer++) {
         const uint8_t *record = state + WRITERS + WRITER_SIZE * writer;
 
-        if (number(record + MODE, 8) != MODE_LOGGING)
+        if (state[MODES + writer] != MODE_LOGGING)
             continue;
-        if (holder == KAGUTIN_WRITERS || number(record + FIRST, 8) < *first) {
+        if (holder == KAGUTIN_WRITERS || number(record + FIRST) < *first) {
             holder = writer;
-            *first = number(record + FIRST, 8);
+            *first = number(record + FIRST);
         }
     }
     return holder;

@@ -204,7 +204,7 @@ fn damage_strip(rng: &mut Rng, lent: &mut Lent, old: &[Vec<u8>]) {
             lent.state = old[rng.below(old.len() as u64) as usize].clone();
         }
         8 => {
-            let field = 8 * rng.pick(&[0, 1, 2, 3, 4, 5, 6, 7, 8, 11, 12]);
+            let field = 8 * rng.pick(&[0, 1, 2, 3, 4, 5, 6, 7, 8, 11, 12, 13]);
             let wraps = u64::MAX / 7 + 1;
             let value = rng.pick(&[0, 1, 1 << 32, 1 << 47, 7 << 47, 1 << 63, u64::MAX, wraps]);
             put_word(&mut lent.state, field, value.wrapping_add(rng.below(3)).wrapping_sub(1));

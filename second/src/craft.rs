@@ -10,7 +10,7 @@ use crate::lists::random_block;
 use crate::newest::keep;
 use crate::rights::{carry_listed, has_room, of_list};
 use crate::rng::Rng;
-use crate::state::{at, mode, set_promise, State, Writer};
+use crate::state::{at, mode, pending_range, set_promise, spare_range, State, Writer};
 use crate::tag::{closing_tag, entry_tag, tag_home, with_displaced};
 
 /// A made-up log, data area and state, with blocks of one byte each but for
@@ -280,5 +280,9 @@ fn craft_writer(
         record.home = u64::MAX;
     }
     record.save(&mut lent.state, writer);
-    lent.state[crate::state::pending_range(writer)].fill(0xb0 + writer as u8);
+    if rng.chance(30) {
+        let any = rng.next();
+        put_word(&mut lent.state, spare_range(writer).start, rng.pick(&[1, 2, 3, any]));
+    }
+    lent.state[pending_range(writer)].fill(0xb0 + writer as u8);
 }

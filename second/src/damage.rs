@@ -49,11 +49,11 @@ pub fn damage_group(rng: &mut Rng, lent: &mut Lent, shape: Shape) {
 pub fn damage_state(rng: &mut Rng, lent: &mut Lent) {
     let bytes = &mut lent.state;
     let field = rng.pick(&FIELDS);
-    if field >= at::WRITER {
-        return damage_writer(rng, bytes);
-    }
-    if field == at::PROMISE {
-        return damage_promise(rng, bytes);
+    match field {
+        at::WRITER => return damage_writer(rng, bytes),
+        at::PROMISE => return damage_promise(rng, bytes),
+        at::MODE => return damage_modes(rng, bytes),
+        _ => {}
     }
     let [groups, homes, start, next, filled, settled, fenced] =
         [0, 8, 16, 24, 32, 40, 48].map(|from| word(bytes, from));
@@ -76,7 +76,7 @@ pub fn damage_state(rng: &mut Rng, lent: &mut Lent) {
     put_word(bytes, field, rng.pick(&limits).wrapping_add(off));
 }
 
-const FIELDS: [usize; 18] = [
+const FIELDS: [usize; 20] = [
     at::GROUPS,
     at::HOMES,
     at::START,
@@ -91,6 +91,8 @@ const FIELDS: [usize; 18] = [
     at::ROUND,
     at::ROUND,
     at::CURSOR,
+    at::MODE,
+    at::MODE,
     at::WRITER,
     at::WRITER,
     at::WRITER,
@@ -109,15 +111,31 @@ fn damage_promise(rng: &mut Rng, bytes: &mut [u8]) {
     set_promise(bytes, writer, rng.pick(&[0, 1, most, 0xffff]).wrapping_add(off));
 }
 
+/// Any value in one writer's mode, one of its bits, or any modes of all writers.
+fn damage_modes(rng: &mut Rng, bytes: &mut [u8]) {
+    let mode = at::MODE + rng.below(8) as usize;
+    match rng.below(4) {
+        0 => bytes[mode] = rng.next() as u8,
+        1 => bytes[mode] = rng.pick(&[0, 1, 2, 3, 4, 5, 0x80, 0xff]),
+        2 => bytes[mode] ^= 1 << rng.below(8),
+        _ => bytes[at::MODE..at::MODE + 8].fill_with(|| rng.below(4) as u8),
+    }
+}
+
+/// One number of a record or its spare bytes, or a record that logs.
 fn damage_writer(rng: &mut Rng, bytes: &mut [u8]) {
-    let from = at::WRITER + at::WRITER_SIZE * rng.below(8) as usize;
+    let writer = rng.below(8) as usize;
+    let (mode, from) = (at::MODE + writer, at::WRITER + at::WRITER_SIZE * writer);
     let homes = word(bytes, at::HOMES);
     let base = word(bytes, at::START).wrapping_mul(7);
     let next = word(bytes, at::NEXT).wrapping_mul(7).wrapping_add(word(bytes, at::FILLED));
     let first = word(bytes, from + at::FIRST);
     let off = rng.pick(&[0, 1, u64::MAX]);
     match rng.below(6) {
-        0 => put_word(bytes, from, rng.pick(&[0, 1, 2, 3, 4, 5, 1 << 32, u64::MAX])),
+        0 => {
+            let any = rng.next();
+            put_word(bytes, from, rng.pick(&[0, 1, 2, 3, 4, u64::MAX, any]));
+        }
         1 => put_word(bytes, from + at::HELD_HOME, homes.wrapping_add(off)),
         2 => put_word(bytes, from + at::FIRST, rng.pick(&[base, next]).wrapping_add(off)),
         3 => {
@@ -126,7 +144,7 @@ fn damage_writer(rng: &mut Rng, bytes: &mut [u8]) {
         }
         _ => {
             let (first, most) = (base, next.wrapping_sub(base));
-            put_word(bytes, from, 3);
+            bytes[mode] = 3;
             put_word(bytes, from + at::HELD_HOME, homes.wrapping_sub(1));
             put_word(bytes, from + at::FIRST, first);
             put_word(bytes, from + at::COUNT, rng.pick(&[0, 1, most, most.wrapping_add(1)]));

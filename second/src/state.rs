@@ -1,5 +1,5 @@
-//! The state between calls (the paper's "strip"): 1,024 bytes, eight-byte numbers
-//! and two-byte promises.
+//! The state between calls (the paper's "strip"): 1,024 bytes, eight-byte numbers,
+//! two-byte promises and one-byte modes.
 
 use crate::layout::{put_word, refuse, word, Shape, PLACES, START_LIMIT, STATE, WRITERS};
 
@@ -18,6 +18,8 @@ pub mod at {
     pub const PROMISE_SIZE: usize = 2;
     pub const ROUND: usize = 88;
     pub const CURSOR: usize = 96;
+    /// The modes of the eight writers, one byte each.
+    pub const MODE: usize = 104;
     pub const WRITER: usize = 128;
     /// The newest positions of the list's four homes.
     pub const LISTED: usize = 896;
@@ -25,7 +27,7 @@ pub mod at {
     /// The list's sign: 1, no list is committed; 2, one is; else nothing is said.
     pub const SIGN: usize = 928;
     pub const WRITER_SIZE: usize = 96;
-    pub const MODE: usize = 0;
+    /// In a writer's record, after eight spare bytes.
     pub const HELD_HOME: usize = 8;
     pub const FIRST: usize = 16;
     pub const COUNT: usize = 24;
@@ -60,7 +62,7 @@ pub struct State {
     pub cursor: u64,
 }
 
-/// The four numbers of a writer's record.
+/// A writer's mode and the three numbers of its record.
 #[derive(Clone, Copy, Debug, PartialEq, Eq)]
 pub struct Writer {
     pub mode: u64,
@@ -215,6 +217,11 @@ pub fn promised(bytes: &[u8]) -> u64 {
     (0..WRITERS).map(|w| promise(bytes, w)).sum()
 }
 
+/// The spare bytes of a writer's record.
+pub fn spare_range(writer: u64) -> std::ops::Range<usize> {
+    record(writer)..record(writer) + at::HELD_HOME
+}
+
 /// The bytes of a writer's pending block.
 pub fn pending_range(writer: u64) -> std::ops::Range<usize> {
     let from = record(writer) + at::HELD_BLOCK;
@@ -228,7 +235,7 @@ impl Writer {
     pub fn load(bytes: &[u8], writer: u64) -> Writer {
         let from = record(writer);
         Writer {
-            mode: word(bytes, from + at::MODE),
+            mode: u64::from(bytes[at::MODE + writer as usize]),
             home: word(bytes, from + at::HELD_HOME),
             first: word(bytes, from + at::FIRST),
             count: word(bytes, from + at::COUNT),
@@ -237,7 +244,7 @@ impl Writer {
 
     pub fn save(&self, bytes: &mut [u8], writer: u64) {
         let from = record(writer);
-        put_word(bytes, from + at::MODE, self.mode);
+        bytes[at::MODE + writer as usize] = self.mode as u8;
         put_word(bytes, from + at::HELD_HOME, self.home);
         put_word(bytes, from + at::FIRST, self.first);
         put_word(bytes, from + at::COUNT, self.count);

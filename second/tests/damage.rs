@@ -79,7 +79,49 @@ fn middle() {
 
 #[test]
 fn large() {
-    rounds(3, 12, |rng| Shape { groups: rng.between(900, 1024), homes: rng.between(1, 4096) });
+    rounds(3, 36, |rng| Shape { groups: rng.between(900, 1024), homes: rng.between(1, 4096) });
+}
+
+/// Every value of each mode's byte.
+#[test]
+fn modes() {
+    let mut rng = Rng::new(5);
+    let (mut kept, shape) = (0, Shape { groups: 4, homes: 13 });
+    for place in 104..112 {
+        for value in 0..=255 {
+            let mut lent = craft(&mut rng, shape);
+            lent.state[place] = value;
+            assert_eq!(in_order(&lent), model::in_order(&lent));
+            assert_eq!(usage(&lent.log, &lent.data, &lent.state), model::usage(&lent));
+            assert!(value < 4 || !in_order(&lent), "mode {value}");
+            kept += u64::from(in_order(&lent));
+            for kind in Kind::ALL {
+                compare(&mut rng, kind, &lent);
+            }
+        }
+    }
+    assert!(kept > 10, "{kept} in order");
+}
+
+/// The spare bytes are not asked, and stay as they are.
+#[test]
+fn spare_bytes() {
+    let mut rng = Rng::new(6);
+    for _ in 0..2_000 {
+        let shape = Shape { groups: 4, homes: rng.between(1, 14) };
+        let lent = craft(&mut rng, shape);
+        let mut other = lent.clone();
+        let spare = || (112..128).chain((0..8).flat_map(|writer| 128 + 96 * writer..136 + 96 * writer)).chain(936..1024);
+        spare().for_each(|at| other.state[at] = rng.next() as u8);
+        for kind in Kind::ALL.into_iter().filter(|&kind| kind != Kind::Open) {
+            let (writer, home) = (rng.below(8), rng.below(shape.homes));
+            let (mut one, mut two) = (lent.clone(), other.clone());
+            assert_eq!(one.run(kind, writer, home), two.run(kind, writer, home), "{kind:?} {writer} {home}");
+            assert!(spare().all(|at| two.state[at] == other.state[at]), "{kind:?} {writer} {home}: spare bytes");
+            spare().for_each(|at| two.state[at] = one.state[at]);
+            assert!(one == two, "{kind:?} {writer} {home}: memory");
+        }
+    }
 }
 
 #[test]

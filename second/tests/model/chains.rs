@@ -2,7 +2,7 @@
 //! the model's own calls one after the other.
 
 use super::rights::{may_read, may_store_lent_newest};
-use super::{in_order, lengths, number, places, promised, read, writers, Outcome};
+use super::{in_order, lengths, mode_of, places, promised, read, writers, Outcome};
 use second::chains::Chain;
 use second::lent::{Kind, Lent};
 use second::Answer;
@@ -54,7 +54,7 @@ fn attempt(chain: Chain, writer: u64, home: u64, before: &Lent, after: &mut Lent
 }
 
 fn transact(writer: u64, homes: std::ops::Range<u64>, before: &Lent, after: &mut Lent) -> Outcome {
-    if number(&before.state, 128 + 96 * writer as usize) != 0 {
+    if mode_of(&before.state, writer as usize) != 0 {
         return Err(6);
     }
     if (homes.end - homes.start) as i128 > places(&before.state) - promised(&before.state) {

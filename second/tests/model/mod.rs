@@ -42,6 +42,11 @@ fn lengths(kind: Kind, lent: &Lent) -> bool {
     log && data && state && newest && block
 }
 
+/// A writer's mode, one byte each from byte 104 on.
+fn mode_of(state: &[u8], writer: usize) -> u8 {
+    state[104 + writer]
+}
+
 /// The places promised to a writer, two bytes each from byte 72 on.
 fn promise(state: &[u8], writer: usize) -> i128 {
     i128::from(state[72 + 2 * writer]) + 256 * i128::from(state[73 + 2 * writer])
@@ -71,7 +76,7 @@ pub fn usage(lent: &Lent) -> Usage {
     let list = committed(&present(&lent.log, homes, start, Some(next)), start);
     let mut live: u64 = list.iter().map(|transaction| transaction.entries.len() as u64).sum();
     let (mut holder, mut first) = (8, 0);
-    for writer in (0..8).filter(|writer| number(s, 128 + 96 * writer) == 3) {
+    for writer in (0..8).filter(|&writer| mode_of(s, writer) == 3) {
         let (from, count) = (number(s, 144 + 96 * writer), number(s, 152 + 96 * writer));
         live += count;
         if holder == 8 || from < first {
@@ -93,7 +98,7 @@ pub fn in_order(lent: &Lent) -> bool {
     let position = 7 * next + filled;
     let writer = |w: usize| {
         let r = 128 + 96 * w;
-        let (mode, home, first, count) = (big(s, r), big(s, r + 8), big(s, r + 16), big(s, r + 24));
+        let (mode, home, first, count) = (mode_of(s, w), big(s, r + 8), big(s, r + 16), big(s, r + 24));
         let holds = mode == 2 || mode == 3;
         let in_range = 7 * start <= first && first < position;
         mode <= 3
@@ -294,8 +299,8 @@ fn step_round(k: u64, before: &Lent, after: &mut Lent) -> Outcome {
 fn trim(before: &Lent, after: &mut Lent) -> Outcome {
     let (start, _, list) = live(before);
     let state = &before.state;
-    let logging = (0..8).map(|w| 128 + 96 * w).filter(|&r| number(state, r) == 3);
-    let firsts: Vec<u64> = logging.map(|r| number(state, r + 16)).collect();
+    let logging = (0..8).filter(|&writer| mode_of(state, writer) == 3);
+    let firsts: Vec<u64> = logging.map(|writer| number(state, 144 + 96 * writer)).collect();
     let new_start = trim_start(&list, start, number(state, 40), &firsts);
     if new_start > 1 << 47 {
         return Err(10);
@@ -333,7 +338,7 @@ fn keep(after: &mut Lent, start: u64, first: u64, closing: u64) {
 fn read(before: &Lent, after: &mut Lent, writer: u64, home: u64) -> Outcome {
     let (start, next, _) = live(before);
     let record = 128 + 96 * writer as usize;
-    let mode = number(&before.state, record);
+    let mode = mode_of(&before.state, writer as usize);
     let mut block = before.data[64 * home as usize..64 * home as usize + 64].to_vec();
     let found = present(&before.log, shape(before).homes, start, Some(next));
     if let Some(kept) = found.get(&big(&before.newest, 8 * home as usize)).filter(|entry| entry.home == home) {

@@ -1,7 +1,7 @@
 //! The plain model of the other calls: format, begin, reserve, abort, store,
 //! commit, flush, confirm. Tags are put together by sums, not by shifts.
 
-use super::{blank_writes, head_write, keep, number, places, promise, promised, put, shape, Outcome};
+use super::{blank_writes, head_write, keep, mode_of, number, places, promise, promised, put, shape, Outcome};
 use second::lent::{Kind, Lent};
 
 pub fn format(before: &Lent, after: &mut Lent) -> Outcome {
@@ -20,9 +20,10 @@ pub fn format(before: &Lent, after: &mut Lent) -> Outcome {
     Ok((0, batch))
 }
 
-fn put_record(after: &mut Lent, writer: u64, numbers: [u64; 4]) {
+fn put_record(after: &mut Lent, writer: u64, mode: u8, numbers: [u64; 3]) {
+    after.state[104 + writer as usize] = mode;
     for (index, value) in numbers.into_iter().enumerate() {
-        put(&mut after.state, 128 + 96 * writer as usize + 8 * index, value);
+        put(&mut after.state, 136 + 96 * writer as usize + 8 * index, value);
     }
 }
 
@@ -34,7 +35,8 @@ fn put_promise(after: &mut Lent, writer: u64, places: u64) {
 
 pub fn writer_call(kind: Kind, writer: u64, home: u64, before: &Lent, after: &mut Lent) -> Outcome {
     let record = 128 + 96 * writer as usize;
-    let [mode, held, first, count] = [0, 8, 16, 24].map(|at| number(&before.state, record + at));
+    let mode = mode_of(&before.state, writer as usize);
+    let [held, first, count] = [8, 16, 24].map(|at| number(&before.state, record + at));
     match kind {
         Kind::Begin | Kind::Reserve if mode != 0 => return Err(6),
         Kind::Reserve => {
@@ -42,10 +44,10 @@ pub fn writer_call(kind: Kind, writer: u64, home: u64, before: &Lent, after: &mu
             if home == 0 || i128::from(home) > free {
                 return Err(17);
             }
-            put_record(after, writer, [1, 0, 0, 0]);
+            put_record(after, writer, 1, [0; 3]);
             put_promise(after, writer, home);
         }
-        Kind::Begin => put_record(after, writer, [1, 0, 0, 0]),
+        Kind::Begin => put_record(after, writer, 1, [0; 3]),
         _ if mode == 0 => return Err(7),
         Kind::Abort => end(after, writer),
         Kind::Commit if mode == 1 => end(after, writer),
@@ -60,12 +62,12 @@ pub fn writer_call(kind: Kind, writer: u64, home: u64, before: &Lent, after: &mu
             let block = before.block.clone();
             let mut batch = Vec::new();
             if mode == 1 {
-                put_record(after, writer, [2, home, 0, 0]);
+                put_record(after, writer, 2, [home, 0, 0]);
             } else if held != home {
                 let (position, bytes) = log_held(writer, false, before, after)?;
                 batch = bytes;
                 let logged = if mode == 3 { [first, count + 1] } else { [position, 1] };
-                put_record(after, writer, [3, home, logged[0], logged[1]]);
+                put_record(after, writer, 3, [home, logged[0], logged[1]]);
                 let left = (promise(&before.state, writer as usize) - 1).max(0);
                 put_promise(after, writer, left as u64);
             }
@@ -78,7 +80,7 @@ pub fn writer_call(kind: Kind, writer: u64, home: u64, before: &Lent, after: &mu
 
 /// The writer is idle, and nothing is promised to it.
 fn end(after: &mut Lent, writer: u64) {
-    put_record(after, writer, [0; 4]);
+    put_record(after, writer, 0, [0; 3]);
     put_promise(after, writer, 0);
 }
 
@@ -92,7 +94,7 @@ fn log_held(writer: u64, closing: bool, before: &Lent, after: &mut Lent) -> Outc
         return Err(8);
     }
     let position = 7 * next + filled;
-    let logging = number(state, record) == 3;
+    let logging = mode_of(state, writer as usize) == 3;
     let first = if logging { number(state, record + 16) } else { position };
     let mut tag = 1 + 4 * number(state, record + 8) + (1 << 14) * (position - first);
     if closing {
