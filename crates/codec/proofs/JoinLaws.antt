@@ -56,6 +56,10 @@ pub put-joined : (n m : ℕ) (d : List ℕ) (at v : ℕ) → putNumber m (putNum
 unfolding putNumber
 put-joined n m d at v = rw (bytes-join, puts-append, length-bytes)
 
+pub put-one : (d : List ℕ) (at v : ℕ) → set d at (v % 256) ≡ putNumber 1 d at v
+unfolding putNumber bytes
+put-one d at v = rw (← puts-cons, puts-nil)
+
 pub put-two : (d : List ℕ) (at v : ℕ) → set (set d at (v % 256)) (at + 1) (v / 256 % 256) ≡ putNumber 2 d at v
 unfolding putNumber bytes
 put-two d at v = rw (← puts-cons, ← puts-cons, puts-nil)

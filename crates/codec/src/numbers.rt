@@ -4,6 +4,14 @@ ghost use Prim.Native.Nat.{_+_, _^_, _<_, _≤_};
 ghost use lib.ListN.{length};
 ghost use Rattle.model.specs.Bytes.{number, putNumber};
 
+// The number that the byte at index `at` makes.
+pub fn byte(s: &[u8], at: usize) -> u64
+    requires { ⌜ at < length (now s) ⌝ }
+    ensures { λ r. ⌜ (r ≡ number 1 (now (s .entry)) at) × (r < 256) ⌝ }
+{
+    s[at] as u64
+}
+
 // The number that the two bytes from index `at` on make.
 fn two_bytes(s: &[u8], at: usize) -> u64
     requires { ⌜ at + 2 ≤ length (now s) ⌝ }
@@ -51,6 +59,14 @@ pub fn number(s: &[u8], at: usize, k: usize) -> u64
         return two_bytes(s, at);
     }
     each_byte(s, at, k)
+}
+
+// Writes `v` as the byte at index `at`, and leaves the other bytes as they were.
+pub fn put_byte(s: &mut [u8], at: usize, v: u64)
+    requires { ⌜ at < length (now s) ⌝ }
+    ensures { λ _. ⌜ now (s .exit) ≡ putNumber 1 (now (s .entry)) at v ⌝ }
+{
+    s[at] = (v % 256) as u8;
 }
 
 // Writes `v` as two bytes from index `at` on, and leaves the other bytes as they were.

@@ -11,7 +11,7 @@ fn writer_limit(state: &[u8], w: u64, limit: u64) -> u64
     requires { ⌜ (length (now state) ≡ 1024) × (w < 8) ⌝ }
     ensures { λ r. ⌜ r ≡ writerLimit (writerOf (now (state .entry)) w) limit ⌝ }
 {
-    if codec::number(state, (104 + w) as usize, 1) < 3 {
+    if codec::byte(state, (104 + w) as usize) < 3 {
         return limit;
     }
     let at = (128 + 96 * w) as usize;

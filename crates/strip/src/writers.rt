@@ -19,7 +19,7 @@ pub fn writer(s: &[u8], w: usize) -> Writer
     ensures { λ r. ⌜ r ≡ writerOf (now (s .entry)) w ⌝ }
 {
     let at = offset(w);
-    let mode = codec::number(s, 104 + w, 1);
+    let mode = codec::byte(s, 104 + w);
     let home = codec::number(s, at + 8, 8);
     let first = codec::number(s, at + 16, 8);
     let count = codec::number(s, at + 24, 8);
@@ -37,7 +37,7 @@ pub fn set_writer(s: &mut [u8], w: usize, r: Writer)
     ensures { λ _. ⌜ now (s .exit) ≡ setWriter (now (s .entry)) w r ⌝ }
 {
     let at = offset(w);
-    codec::put_number(s, 104 + w, 1, r.mode);
+    codec::put_byte(s, 104 + w, r.mode);
     codec::put_number(s, at + 8, 8, r.home);
     codec::put_number(s, at + 16, 8, r.first);
     codec::put_number(s, at + 24, 8, r.count);

@@ -7,6 +7,12 @@ use Rattle.strip.proofs.writers.set_writer.Tie as tie
 offset-requires : tie.Need-offset-requires
 offset-requires c κs = search needs
 
+add-put-byte : tie.Need-add-put-byte
+add-put-byte c = search needs
+
+put-byte-requires : tie.Need-put-byte-requires
+put-byte-requires c κs = search needs
+
 add-put-number : tie.Need-add-put-number
 add-put-number c = search needs
 
@@ -25,12 +31,6 @@ add-put-number-3 c = search needs
 put-number-requires-3 : tie.Need-put-number-requires-3
 put-number-requires-3 c κs = search needs
 
-add-put-number-4 : tie.Need-add-put-number-4
-add-put-number-4 c = search needs
-
-put-number-requires-4 : tie.Need-put-number-requires-4
-put-number-requires-4 c κs = search needs
-
 same-length : tie.Need-same-length
 same-length c = search needs
 
@@ -43,13 +43,13 @@ set-writer-spec =
     tie.close
     (tie.spec
     offset-requires
+    add-put-byte
+    put-byte-requires
     add-put-number
     put-number-requires
     add-put-number-2
     put-number-requires-2
     add-put-number-3
     put-number-requires-3
-    add-put-number-4
-    put-number-requires-4
     same-length
     returns)

@@ -7,6 +7,12 @@ use Rattle.strip.proofs.writers.writer.Tie as tie
 offset-requires : tie.Need-offset-requires
 offset-requires c κs = search needs
 
+add-byte : tie.Need-add-byte
+add-byte c = search needs
+
+byte-requires : tie.Need-byte-requires
+byte-requires c κs = search needs
+
 add-number : tie.Need-add-number
 add-number c = search needs
 
@@ -25,12 +31,6 @@ add-number-3 c = search needs
 number-requires-3 : tie.Need-number-requires-3
 number-requires-3 c κs = search needs
 
-add-number-4 : tie.Need-add-number-4
-add-number-4 c = search needs
-
-number-requires-4 : tie.Need-number-requires-4
-number-requires-4 c κs = search needs
-
 returns : tie.Need-returns
 unfolding modeOffset writerOf
 returns c =
@@ -38,10 +38,10 @@ returns c =
     let c2 = c3 .before in
     let c1 = c2 .before in
     rw (
-      c1 .number .ensures .0,
-      c2 .number2 .ensures .0,
-      c3 .number3 .ensures .0,
-      c .number4 .ensures .0,
+      c1 .byte .ensures .0,
+      c2 .number .ensures .0,
+      c3 .number2 .ensures .0,
+      c .number3 .ensures .0,
       c1 .before .offset .ensures .0,
     )
 
@@ -50,12 +50,12 @@ writer-spec =
     tie.close
     (tie.spec
     offset-requires
+    add-byte
+    byte-requires
     add-number
     number-requires
     add-number-2
     number-requires-2
     add-number-3
     number-requires-3
-    add-number-4
-    number-requires-4
     returns)
