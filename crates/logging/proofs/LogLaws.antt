@@ -125,7 +125,7 @@ submitted-record true s st slot l w r = rw (setNext-writer, setFilled-writer)
 submitted-record false s st slot l w r = rw setFilled-writer
 
 -- the numbers and the block that are logged stay, and logging leaves the record
-record-first : (s l : List ℕ) (word w : ℕ) (r : Writer)
+record-first : (s l : List ℕ) (word w : ℕ) (r : Writer) → w < 8
     → logged (setWriter s w r) l word (heldOf (setWriter s w r) w)
     ≡ record {
       state = setWriter (logged s l word (heldOf s w) .state) w r;
@@ -133,8 +133,8 @@ record-first : (s l : List ℕ) (word w : ℕ) (r : Writer)
       records = logged s l word (heldOf s w) .records;
     }
 unfolding logged
-record-first s l word w r =
-    let same : SameElsewhere w s (setWriter s w r) = elsewhere s w r in
+record-first s l word w r h =
+    let same : SameElsewhere w s (setWriter s w r) = elsewhere s w r h in
     rw (same .held w, same .numbers) (submitted-record (eqb (stateOf s .filled) 6) s (stateOf s) _ _ w r)
 
 -- the entry may still be logged
@@ -147,7 +147,7 @@ may-own l s b st w m = rw (← m .state) m
 
 pub may-after : (l s s₁ b : List ℕ) (st : State) (w : ℕ) (r : Writer) → MayLog l s b st w → s₁ ≡ setWriter s w r → MayLog l s₁ b st w
 may-after l s s₁ b st w r m e =
-    let same : SameElsewhere w s (setWriter s w r) = elsewhere s w r in
+    let same : SameElsewhere w s (setWriter s w r) = elsewhere s w r (m .writer) in
     record {
       state = m .state ∙ sym (ap stateOf e ∙ same .numbers);
       strip = ap length e ∙ same .size ∙ m .strip;
@@ -166,15 +166,15 @@ may-after l s s₁ b st w r m e =
 -- ---- a store that logs
 
 module _ (l s b : List ℕ) (st : State) (r : Writer) (w : ℕ) where
-  pub stored : (x : List ℕ) (home p word n : ℕ) (s₁ s₂ s′ l′ b′ : List ℕ) → p ≡ nextPosition st → word ≡ entryWord (r .home) (p - firstFor r p)
+  pub stored : (x : List ℕ) (home p word n : ℕ) (s₁ s₂ s′ l′ b′ : List ℕ) → w < 8 → p ≡ nextPosition st → word ≡ entryWord (r .home) (p - firstFor r p)
       → holds r ≡ true → r .home ≢ home → s₁ ≡ setWriter s w (heldFor r home p)
       → Wrote n s₂ l′ b′ b (logged s₁ l word (heldOf s₁ w)) → s′ ≡ setHeld s₂ w x → HeldNext n s′ l′ b′ s l b x st r w home
   unfolding loggedEntry
-  stored x home p word n s₁ s₂ s′ l′ b′ ep ew ho hn h₁ h hs =
+  stored x home p word n s₁ s₂ s′ l′ b′ hw ep ew ho hn h₁ h hs =
       let q : word ≡ entryWord (r .home) (nextPosition st - firstFor r (nextPosition st)) = ew ∙ rw ep in
       let e : s₁ ≡ setWriter s w (logging home (firstFor r (nextPosition st)) (countFor r + 1)) =
       h₁ ∙ rw (held-other r home p ho hn, ep) in
-      let k = rw (e, record-first s l word w (logging home (firstFor r (nextPosition st)) (countFor r + 1)), q) at h in
+      let k = rw (e, record-first s l word w (logging home (firstFor r (nextPosition st)) (countFor r + 1)) hw, q) at h in
       record { size = k .size; state = hs ∙ rw (k .state); log = k .log; batch = k .batch }
 
   -- and the promise

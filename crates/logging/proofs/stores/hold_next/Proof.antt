@@ -53,7 +53,7 @@ returns c =
     let c2 = c3 .before .before in
     let c1 = c2 .before in
     let p = c1 .before .before .before .before .before .pre in
-    stored _ _ _ _ _ _ _ _ _ _ _ _ _ _ _ _ (c1 .next-position .ensures) (c2 .store-word .ensures .0) (p .3) (p .4) (c3 .hold .ensures)
+    stored _ _ _ _ _ _ _ _ _ _ _ _ _ _ _ _ (p .0 .writer) (c1 .next-position .ensures) (c2 .store-word .ensures .0) (p .3) (p .4) (c3 .hold .ensures)
     (c4 .log-entry .ensures) (c5 .set-held .ensures ∙ ap (setHeld _ _) (take-all 64 _ (omega arith)))
 
 pub hold-next-spec : {M : Type 1} → statement M
