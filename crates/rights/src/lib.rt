@@ -1,11 +1,13 @@
-// Who may touch what: the questions 19 and 20, by the list of rights as it is committed.
+// Who may touch what: the questions 19 and 20, by the list of rights as it is committed. Each asks the list's sign itself, so that no call stands between
+// it and the look at the writer's own block.
 mod keep;
 mod list;
 mod ranges;
 mod zeros;
 
 pub use keep::keep_list;
-use list::open_to;
+use list::open_listed;
+use list::open_unsigned;
 use ranges::of_list;
 ghost use mathlib.Core.Path.{_≡_};
 ghost use mathlib.Core.List.{[]};
@@ -29,7 +31,11 @@ pub fn may_store(log: &[u8], area: &[u8], state: &[u8], writer: u64, home: u64) 
     if area.len() < 768 {
         return true;
     }
-    open_to(log, area, state, state, 896, 32 * writer as usize, home)
+    let at = 32 * writer as usize;
+    if strip::list_sign(state) == 2 {
+        return open_listed(log, area, state, state, 896, at, home);
+    }
+    open_unsigned(log, area, state, state, 896, at, home)
 }
 
 // Whether a writer may read a home. The list is found by the newest positions.
@@ -50,15 +56,11 @@ pub fn may_read(
     if area.len() < 768 {
         return true;
     }
-    open_to(
-        log,
-        area,
-        state,
-        newest,
-        64,
-        32 * writer as usize + 16,
-        home,
-    )
+    let at = 32 * writer as usize + 16;
+    if strip::list_sign(state) == 2 {
+        return open_listed(log, area, state, newest, 64, at, home);
+    }
+    open_unsigned(log, area, state, newest, 64, at, home)
 }
 
 // Whether a writer may store to a home, for a call that is lent the newest positions: the list is found by those.
@@ -79,5 +81,9 @@ pub fn may_store_newest(
     if area.len() < 768 {
         return true;
     }
-    open_to(log, area, state, newest, 64, 32 * writer as usize, home)
+    let at = 32 * writer as usize;
+    if strip::list_sign(state) == 2 {
+        return open_listed(log, area, state, newest, 64, at, home);
+    }
+    open_unsigned(log, area, state, newest, 64, at, home)
 }

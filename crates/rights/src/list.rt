@@ -129,8 +129,8 @@ pub fn all_zeros(log: &[u8], area: &[u8], state: &[u8], kept: &[u8], from: usize
     no_list(log, area, state, kept, from, 0)
 }
 
-// Whether the ranges from byte `at` of the list on open a home.
-fn open_listed(
+// Whether the ranges from byte `at` of the list on open a home: only the writer's own block is looked up.
+pub fn open_listed(
     log: &[u8],
     area: &[u8],
     state: &[u8],
@@ -165,8 +165,8 @@ fn open_kept(
     all_zeros(log, area, state, kept, from)
 }
 
-// The same, where the data copy is looked at without the log if no position is kept.
-fn open_unsigned(
+// The same by the list's sign, where that does not say that there is one. The data copy is looked at without the log if no position is kept.
+pub fn open_unsigned(
     log: &[u8],
     area: &[u8],
     state: &[u8],
@@ -175,9 +175,12 @@ fn open_unsigned(
     at: usize,
     home: u64,
 ) -> bool
-    requires { ⌜ Listed (now log) (now area) (stateOf (now state)) (now kept) from × (length (now state) ≡ 1024) × (12 ≤ stateOf (now state) .homes) × (at < 256) × (at % 64 + 16 ≤ 64) ⌝ }
-    ensures { λ r. ⌜ r ≡ opens (stateOf (now (state .entry)) .homes) (blocksBy (now (log .entry)) (now (area .entry)) (stateOf (now (state .entry))) (now (kept .entry)) from 4) at home ⌝ }
+    requires { ⌜ Listed (now log) (now area) (stateOf (now state)) (now kept) from × (length (now state) ≡ 1024) × (12 ≤ stateOf (now state) .homes) × (at < 256) × (at % 64 + 16 ≤ 64) × (listSign (now state) ≢ 2) ⌝ }
+    ensures { λ r. ⌜ r ≡ opensBy (listSign (now (state .entry))) (stateOf (now (state .entry)) .homes) (blocksBy (now (log .entry)) (now (area .entry)) (stateOf (now (state .entry))) (now (kept .entry)) from 4) at home ⌝ }
 {
+    if strip::list_sign(state) == 1 {
+        return true;
+    }
     if !none_kept(kept, from) {
         return open_kept(log, area, state, kept, from, at, home);
     }
@@ -185,28 +188,4 @@ fn open_unsigned(
         return true;
     }
     none_in_copy(area)
-}
-
-// Whether the ranges from byte `at` of the list on open a home, or there is no list; D has room for one. Where its sign says whether there is one, at
-// most the writer's own block is looked up.
-pub fn open_to(
-    log: &[u8],
-    area: &[u8],
-    state: &[u8],
-    kept: &[u8],
-    from: usize,
-    at: usize,
-    home: u64,
-) -> bool
-    requires { ⌜ Listed (now log) (now area) (stateOf (now state)) (now kept) from × (length (now state) ≡ 1024) × (12 ≤ stateOf (now state) .homes) × (at < 256) × (at % 64 + 16 ≤ 64) ⌝ }
-    ensures { λ r. ⌜ r ≡ opensBy (listSign (now (state .entry))) (stateOf (now (state .entry)) .homes) (blocksBy (now (log .entry)) (now (area .entry)) (stateOf (now (state .entry))) (now (kept .entry)) from 4) at home ⌝ }
-{
-    let sign = strip::list_sign(state);
-    if sign == 2 {
-        return open_listed(log, area, state, kept, from, at, home);
-    }
-    if sign == 1 {
-        return true;
-    }
-    open_unsigned(log, area, state, kept, from, at, home)
 }

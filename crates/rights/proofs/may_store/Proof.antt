@@ -1,8 +1,8 @@
 -- `rights::may_store` meets its contract. Assumes nothing.
 use borrow.Author.Needs.{needs}
-use mathlib.Core.Path.{refl}
+use mathlib.Core.Path.{refl, sym, _∙_}
 use native.Mathlib.Omega.{arith}
-use Rattle.rights.proofs.RightsLaws.{listed-state, store-listed, store-small, store-open}
+use Rattle.rights.proofs.RightsLaws.{listed-state, store-listed, store-small, store-open, sign-listed}
 use Rattle.rights.proofs.may_store.Statement.{statement}
 use Rattle.rights.proofs.may_store.Tie as tie
 
@@ -15,14 +15,29 @@ returns c = let p = c .before .before .before .before .before .pre in store-list
 returns-2 : tie.Need-returns-2
 returns-2 c = let p = c .before .before .before .before .before .before .pre in store-small _ _ _ _ (p .0) refl _ _ _ (c .before .before .of-list .ensures) (c .before .if1 .left) (omega (arith, c .if2 .taken))
 
-mul-open-to : tie.Need-mul-open-to
-mul-open-to c = search needs
+mul-at : tie.Need-mul-at
+mul-at c = search needs
 
-open-to-requires : tie.Need-open-to-requires
-open-to-requires c κs = let p = c .before .before .before .before .before .before .pre in (listed-state _ _ _ _ (p .0) refl, p .0 .state-length, omega (arith, p .0 .area-length, p .0 .order .homes-same, c .if2 .left), omega (arith, p .1), omega (arith, p .1))
+list-sign-requires : tie.Need-list-sign-requires
+list-sign-requires c κs = c .before .before .before .before .before .before .pre .0 .state-length
+
+open-listed-requires : tie.Need-open-listed-requires
+open-listed-requires c κs = let p = c .before .before .before .before .before .before .before .before .pre in (listed-state _ _ _ _ (p .0) refl, p .0 .state-length, omega (arith, p .0 .area-length, p .0 .order .homes-same, c .before .before .if2 .left), omega (arith, p .1), omega (arith, p .1))
 
 returns-3 : tie.Need-returns-3
-returns-3 c = let p = c .before .before .before .before .before .before .before .pre in store-open _ _ _ _ (p .0) refl _ _ _ _ (c .before .before .before .of-list .ensures) (c .before .before .if1 .left) (c .open-to .ensures)
+returns-3 c =
+    let p = c .before .before .before .before .before .before .before .before .before .pre in
+    store-open _ _ _ _ (p .0) refl _ _ _ _ (c .before .before .before .before .before .of-list .ensures) (c .before .before .before .before .if1 .left)
+    (sign-listed _ _ _ _ _ (listed-state _ _ _ _ (p .0) refl) (omega (arith, p .0 .area-length, p .0 .order .homes-same, c .before .before .before .if2 .left)) _ _ _ _
+    (sym (c .before .before .list-sign .ensures) ∙ c .before .if3 .taken) (c .open-listed .ensures))
+
+open-unsigned-requires : tie.Need-open-unsigned-requires
+open-unsigned-requires c κs =
+    let p = c .before .before .before .before .before .before .before .before .pre in
+    (listed-state _ _ _ _ (p .0) refl, p .0 .state-length, omega (arith, p .0 .area-length, p .0 .order .homes-same, c .before .before .if2 .left), omega (arith, p .1), omega (arith, p .1), λ e. c .if3 .left (c .before .list-sign .ensures ∙ e))
+
+returns-4 : tie.Need-returns-4
+returns-4 c = let p = c .before .before .before .before .before .before .before .before .before .pre in store-open _ _ _ _ (p .0) refl _ _ _ _ (c .before .before .before .before .before .of-list .ensures) (c .before .before .before .before .if1 .left) (c .open-unsigned .ensures)
 
 pub may-store-spec : {M : Type 1} → statement M
 may-store-spec =
@@ -31,6 +46,9 @@ may-store-spec =
     of-list-requires
     returns
     returns-2
-    mul-open-to
-    open-to-requires
-    returns-3)
+    mul-at
+    list-sign-requires
+    open-listed-requires
+    returns-3
+    open-unsigned-requires
+    returns-4)
