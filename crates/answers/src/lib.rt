@@ -60,11 +60,11 @@ pub fn in_use(log: &[u8], area: &[u8], state: &[u8]) -> u64
     }
     let groups = areas::log_groups(log.len());
     let homes = areas::data_homes(area.len());
-    let quick = strip::quick_answer(state, groups, homes);
+    let quick = order::quick_answer(state, groups, homes);
     if quick != 1 {
         return quick;
     }
-    if !strip::rest_in_order(state) {
+    if !order::rest_in_order(state) {
         return 2;
     }
     0
@@ -82,11 +82,11 @@ pub fn in_use_block(log: &[u8], area: &[u8], state: &[u8], block: &[u8]) -> u64
     }
     let groups = areas::log_groups(log.len());
     let homes = areas::data_homes(area.len());
-    let quick = strip::quick_answer(state, groups, homes);
+    let quick = order::quick_answer(state, groups, homes);
     if quick != 1 {
         return quick;
     }
-    if !strip::rest_in_order(state) {
+    if !order::rest_in_order(state) {
         return 2;
     }
     0

@@ -1,4 +1,4 @@
-// Maps of one bit for each home, in words of 64, as specs/ defines them. A slice of n words serves 64 × n homes.
+// Words of 64 bits: which are set, from the lowest on; and maps of one bit for each home, n words for 64 × n homes, as specs/ defines them.
 ghost use mathlib.Core.Path.{_≡_};
 ghost use mathlib.Core.Bool.{true, _||_};
 ghost use mathlib.Core.List.{_∷_};

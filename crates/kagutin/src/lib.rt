@@ -101,7 +101,7 @@ pub extern "C" fn kagutin_flush(
 ) -> Reply
     ensures { λ r. ⌜ leaves (r .code) (r .figure) (r .size) (now (log .entry)) (now (area .entry)) (now (state .exit)) [] (now (batch .exit)) ≡ flushCall (lent (now (log .entry)) (now (area .entry)) (now (state .entry)) [] (now (batch .entry)) 0 0) ⌝ }
 {
-    logging::flush(log, area, state, batch)
+    flushing::flush(log, area, state, batch)
 }
 
 // Makes the fenced position the durable mark, and returns it.

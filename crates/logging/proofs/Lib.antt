@@ -1,5 +1,4 @@
 pub mod CallLaws
-pub mod FlushLaws
 pub mod LogLaws
 pub mod ReadyLaws
 pub mod StoreLaws

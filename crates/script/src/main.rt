@@ -52,7 +52,7 @@ fn call(
             return commits::commit(log, area, state, newest, batch, w);
         }
         Line::Flush => {
-            return logging::flush(log, area, state, batch);
+            return flushing::flush(log, area, state, batch);
         }
         Line::Settle => {
             return recovery::settle(log, area, state, batch);

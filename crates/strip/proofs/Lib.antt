@@ -1,3 +1,1 @@
-pub mod OrderTests
 pub mod PromiseSums
-pub mod ModeLaws

@@ -1,14 +1,19 @@
-// The state strip of 1,024 bytes as model/specs/State defines it: its numbers, its writers' records, held blocks and promises, the positions and the sign of the list of rights, and whether it is in order.
-mod distances;
+// The state strip of 1,024 bytes as model/specs/State defines it: its numbers, its writers' records, held blocks and promises, and the positions and the sign of the list of rights.
 mod fields;
 mod listed;
-mod order;
 mod promises;
-mod quick;
 mod writers;
 
+pub use fields::durable;
+pub use fields::fenced;
+pub use fields::filled;
 pub use fields::fresh;
+pub use fields::last;
+pub use fields::next;
 pub use fields::next_position;
+pub use fields::number_of_groups;
+pub use fields::number_of_homes;
+pub use fields::round;
 pub use fields::set_cursor;
 pub use fields::set_durable;
 pub use fields::set_fenced;
@@ -18,19 +23,21 @@ pub use fields::set_next;
 pub use fields::set_round;
 pub use fields::set_settled;
 pub use fields::set_start;
+pub use fields::settled;
+pub use fields::start;
 pub use fields::state;
 pub use listed::carry_listed;
 pub use listed::list_sign;
 pub use listed::set_list_sign;
-pub use order::rest_in_order;
 pub use promises::keeps_promises;
 pub use promises::may_promise;
+pub use promises::none_promised;
 pub use promises::places;
+pub use promises::promise;
 pub use promises::promise_left;
 pub use promises::promised;
 pub use promises::room_for;
 pub use promises::set_promise;
-pub use quick::quick_answer;
 pub use writers::begun;
 pub use writers::count_for;
 pub use writers::first_for;

@@ -1,7 +1,7 @@
 -- `recovery::may_format` meets its contract: each test is a question. Assumes nothing.
 use mathlib.Core.Path.{sym}
 use native.Mathlib.Omega.{arith}
-use Rattle.strip.proofs.OrderTests.{answered-no, answered-yes}
+use Rattle.order.proofs.OrderTests.{answered-no, answered-yes}
 use Rattle.recovery.proofs.FormatLaws.{format-log-wrong, format-area-wrong, format-batch-short, format-allowed, groups-most, homes-most}
 use borrow.Author.Needs.{needs}
 use Rattle.recovery.proofs.formatting.may_format.Statement.{statement}

@@ -1,0 +1,2 @@
+pub mod OrderTests
+pub mod ModeLaws

@@ -1,0 +1,7 @@
+// Question 2: whether the state strip is in order for a log of so many groups and so many homes, as model/specs/State defines it.
+mod distances;
+mod quick;
+mod rest;
+
+pub use quick::quick_answer;
+pub use rest::rest_in_order;
