@@ -274,7 +274,7 @@ pub fn walk_with(
 }
 
 // The same with counters of its own, for a log of up to 64 groups.
-fn walk_small(log: &[u8], groups: u64, homes: u64, start: u64, n: u64) -> Found
+pub fn walk_small(log: &[u8], groups: u64, homes: u64, start: u64, n: u64) -> Found
     requires { ⌜ (length (now log) ≡ 64 + 512 * groups) × (4 ≤ groups) × (groups ≤ 64) × (homes ≤ 65535) × (start ≤ 2 ^ 47) × (n ≤ 7 * groups) ⌝ }
     ensures { λ r. ⌜ (r .end ≡ endOf (committed (entryAt (now (log .entry)) groups homes start) (7 * start) n)) × (r .number ≡ length (committed (entryAt (now (log .entry)) groups homes start) (7 * start) n)) ⌝ }
 {
@@ -282,8 +282,32 @@ fn walk_small(log: &[u8], groups: u64, homes: u64, start: u64, n: u64) -> Found
     walk_with(log, &mut counts, groups, homes, start, n)
 }
 
-// The same for any log.
-fn walk_large(log: &[u8], groups: u64, homes: u64, start: u64, n: u64) -> Found
+// The same for a log of up to 128 groups, 256, 512 and 1,024: at most half of the counters are made empty for nothing.
+fn walk_to_128(log: &[u8], groups: u64, homes: u64, start: u64, n: u64) -> Found
+    requires { ⌜ (length (now log) ≡ 64 + 512 * groups) × (4 ≤ groups) × (groups ≤ 128) × (homes ≤ 65535) × (start ≤ 2 ^ 47) × (n ≤ 7 * groups) ⌝ }
+    ensures { λ r. ⌜ (r .end ≡ endOf (committed (entryAt (now (log .entry)) groups homes start) (7 * start) n)) × (r .number ≡ length (committed (entryAt (now (log .entry)) groups homes start) (7 * start) n)) ⌝ }
+{
+    let mut counts = [0u16; 896];
+    walk_with(log, &mut counts, groups, homes, start, n)
+}
+
+fn walk_to_256(log: &[u8], groups: u64, homes: u64, start: u64, n: u64) -> Found
+    requires { ⌜ (length (now log) ≡ 64 + 512 * groups) × (4 ≤ groups) × (groups ≤ 256) × (homes ≤ 65535) × (start ≤ 2 ^ 47) × (n ≤ 7 * groups) ⌝ }
+    ensures { λ r. ⌜ (r .end ≡ endOf (committed (entryAt (now (log .entry)) groups homes start) (7 * start) n)) × (r .number ≡ length (committed (entryAt (now (log .entry)) groups homes start) (7 * start) n)) ⌝ }
+{
+    let mut counts = [0u16; 1792];
+    walk_with(log, &mut counts, groups, homes, start, n)
+}
+
+fn walk_to_512(log: &[u8], groups: u64, homes: u64, start: u64, n: u64) -> Found
+    requires { ⌜ (length (now log) ≡ 64 + 512 * groups) × (4 ≤ groups) × (groups ≤ 512) × (homes ≤ 65535) × (start ≤ 2 ^ 47) × (n ≤ 7 * groups) ⌝ }
+    ensures { λ r. ⌜ (r .end ≡ endOf (committed (entryAt (now (log .entry)) groups homes start) (7 * start) n)) × (r .number ≡ length (committed (entryAt (now (log .entry)) groups homes start) (7 * start) n)) ⌝ }
+{
+    let mut counts = [0u16; 3584];
+    walk_with(log, &mut counts, groups, homes, start, n)
+}
+
+fn walk_to_1024(log: &[u8], groups: u64, homes: u64, start: u64, n: u64) -> Found
     requires { ⌜ (length (now log) ≡ 64 + 512 * groups) × (4 ≤ groups) × (groups ≤ 1024) × (homes ≤ 65535) × (start ≤ 2 ^ 47) × (n ≤ 7 * groups) ⌝ }
     ensures { λ r. ⌜ (r .end ≡ endOf (committed (entryAt (now (log .entry)) groups homes start) (7 * start) n)) × (r .number ≡ length (committed (entryAt (now (log .entry)) groups homes start) (7 * start) n)) ⌝ }
 {
@@ -291,13 +315,19 @@ fn walk_large(log: &[u8], groups: u64, homes: u64, start: u64, n: u64) -> Found
     walk_with(log, &mut counts, groups, homes, start, n)
 }
 
-// The same with as many counters on the stack as the size of the log asks for.
-pub fn walk(log: &[u8], groups: u64, homes: u64, start: u64, n: u64) -> Found
+// The same for any log. This and `walk_small` serve two calls each, and so stay functions of their own: a small log never takes the counters of a large one.
+pub fn walk_large(log: &[u8], groups: u64, homes: u64, start: u64, n: u64) -> Found
     requires { ⌜ (length (now log) ≡ 64 + 512 * groups) × (4 ≤ groups) × (groups ≤ 1024) × (homes ≤ 65535) × (start ≤ 2 ^ 47) × (n ≤ 7 * groups) ⌝ }
     ensures { λ r. ⌜ (r .end ≡ endOf (committed (entryAt (now (log .entry)) groups homes start) (7 * start) n)) × (r .number ≡ length (committed (entryAt (now (log .entry)) groups homes start) (7 * start) n)) ⌝ }
 {
-    if groups <= 64 {
-        return walk_small(log, groups, homes, start, n);
+    if groups <= 128 {
+        return walk_to_128(log, groups, homes, start, n);
     }
-    walk_large(log, groups, homes, start, n)
+    if groups <= 256 {
+        return walk_to_256(log, groups, homes, start, n);
+    }
+    if groups <= 512 {
+        return walk_to_512(log, groups, homes, start, n);
+    }
+    walk_to_1024(log, groups, homes, start, n)
 }

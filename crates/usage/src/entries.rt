@@ -5,7 +5,8 @@ ghost use Prim.Native.Nat.{_+_, _-_, _*_, _^_, _≤_, _<_};
 ghost use lib.ListN.{length};
 ghost use Rattle.model.specs.Tag.{readTag};
 ghost use Rattle.model.specs.Layout.{turnOf, entryIn, entryAt};
-ghost use Rattle.model.specs.Commit.{transactions};
+ghost use Rattle.model.specs.Commit.{committed, transactions};
+ghost use Rattle.laws.proofs.rule.Closings.{endOf};
 ghost use Rattle.ledger.specs.Usage.{entriesIn};
 ghost use Rattle.scan.specs.Walk.{Walkable};
 ghost use Rattle.usage.specs.Sums.{addCount, summed};
@@ -77,11 +78,24 @@ fn closed_entries(log: &[u8], groups: u64, homes: u64, start: u64, end: u64) -> 
     sum
 }
 
+// Where the committed transactions end among the `n` positions of the log from its start on, or 0 for none.
+fn committed_end(log: &[u8], groups: u64, homes: u64, start: u64, n: u64) -> u64
+    requires { ⌜ (length (now log) ≡ 64 + 512 * groups) × (4 ≤ groups) × (groups ≤ 1024) × (homes ≤ 65535) × (start ≤ 2 ^ 47) × (n ≤ 7 * groups) ⌝ }
+    ensures { λ r. ⌜ r ≡ endOf (committed (entryAt (now (log .entry)) groups homes start) (7 * start) n) ⌝ }
+{
+    if groups <= 64 {
+        let found = scan::walk_small(log, groups, homes, start, n);
+        return found.end;
+    }
+    let found = scan::walk_large(log, groups, homes, start, n);
+    found.end
+}
+
 // The entries of the transactions that are committed among the `n` positions of the log from its start on.
 pub fn committed_entries(log: &[u8], groups: u64, homes: u64, start: u64, n: u64) -> u64
     requires { ⌜ (length (now log) ≡ 64 + 512 * groups) × (4 ≤ groups) × (groups ≤ 1024) × (homes ≤ 65535) × (start ≤ 2 ^ 47) × (n ≤ 7 * groups) ⌝ }
     ensures { λ r. ⌜ (r ≡ entriesIn (transactions (entryAt (now (log .entry)) groups homes start) (7 * start) n)) × (r ≤ 2 ^ 13 * 7168) ⌝ }
 {
-    let found = scan::walk(log, groups, homes, start, n);
-    closed_entries(log, groups, homes, start, found.end)
+    let end = committed_end(log, groups, homes, start, n);
+    closed_entries(log, groups, homes, start, end)
 }

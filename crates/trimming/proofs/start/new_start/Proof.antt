@@ -38,8 +38,8 @@ sub-n c =
     let p = c .before .before .before .before .before .before .before .before .before .before .pre in
     omega (arith, numbers _ _ _ _ (p .0) (p .1))
 
-walk-requires : tie.Need-walk-requires
-walk-requires c κs =
+committed-end-requires : tie.Need-committed-end-requires
+committed-end-requires c κs =
     let p = c .before .before .before .before .before .before .before .before .before .before .pre in
     omega (arith, numbers _ _ _ _ (p .0) (p .1))
 
@@ -50,7 +50,7 @@ closed-limit-requires c κs =
     let p = a .pre in
     let w = limit-within _ _ _ _ _ (p .0) (p .1) (o .open-limit .ensures) in
     let n = c .before .before .before .next-position .ensures in (
-      walkable _ _ _ _ (numbers _ _ _ _ (p .0) (p .1)) (ap (λ x. x - 7 * a .args .st .start) n) (c .walk .ensures .0),
+      walkable _ _ _ _ (numbers _ _ _ _ (p .0) (p .1)) (ap (λ x. x - 7 * a .args .st .start) n) (c .committed-end .ensures),
       w .0,
       w .1,
     )
@@ -62,7 +62,7 @@ returns-3 c =
     let p = a .pre in
     let m = numbers _ _ _ _ (p .0) (p .1) in
     let n = c .before .before .before .before .next-position .ensures in
-    start-found _ _ _ _ _ _ _ (p .0) (p .1) (ap (λ x. x - 7 * a .args .st .start) n) (c .before .walk .ensures .0)
+    start-found _ _ _ _ _ _ _ (p .0) (p .1) (ap (λ x. x - 7 * a .args .st .start) n) (c .before .committed-end .ensures)
     (trim-is _ _ _ _ _ _ (c .closed-limit .ensures .0) (omega (arith, m .settled)) (o .open-limit .ensures) (c .closed-limit .ensures .1))
 
 pub new-start-spec : {M : Type 1} → statement M
@@ -76,6 +76,6 @@ new-start-spec =
     returns-2
     mul-n
     sub-n
-    walk-requires
+    committed-end-requires
     closed-limit-requires
     returns-3)

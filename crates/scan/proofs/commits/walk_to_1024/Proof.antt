@@ -1,9 +1,9 @@
--- `scan::walk_large` meets its contract. Assumes nothing.
+-- `scan::walk_to_1024` meets its contract. Assumes nothing.
 use native.Mathlib.Omega.{arith}
 use borrow.Author.Needs.{needs}
 use Rattle.scan.proofs.ScanLaws.{zeros-all, zeros-long}
-use Rattle.scan.proofs.commits.walk_large.Statement.{statement}
-use Rattle.scan.proofs.commits.walk_large.Tie as tie
+use Rattle.scan.proofs.commits.walk_to_1024.Statement.{statement}
+use Rattle.scan.proofs.commits.walk_to_1024.Tie as tie
 
 slice-aggregate-walk-with : tie.Need-slice-aggregate-walk-with
 slice-aggregate-walk-with c = search needs
@@ -16,5 +16,5 @@ walk-with-requires c κs =
 returns : tie.Need-returns
 returns c = search needs
 
-pub walk-large-spec : {M : Type 1} → statement M
-walk-large-spec = tie.close (tie.spec slice-aggregate-walk-with walk-with-requires returns)
+pub walk-to-1024-spec : {M : Type 1} → statement M
+walk-to-1024-spec = tie.close (tie.spec slice-aggregate-walk-with walk-with-requires returns)
