@@ -64,8 +64,7 @@ fi
 
 # --- stack of each call ---
 gives 0 "stack: built" "$cc" -std=c99 -D_GNU_SOURCE -Wall -Wextra -pedantic -O2 -Iinclude tests/stack.c "$lib" ${C_LIBS:-} -o "$tmp/stack"
-case $lib in *staticlib*) walk=15360 ;; *) walk=6144 ;; esac
-gives 0 "stack: every call within its bound, small log and large" "$tmp/stack" $walk
+gives 0 "stack: every call within its bound, small log and large" "$tmp/stack"
 
 # --- no heap in the object; nm prints what it calls ---
 quiet sh -c "nm -u $out/store/store.o $out/store/usage.o $out/store/rights.o $out/store/batch.o $out/store/fram.o | grep -E 'alloc|free'"

@@ -1,7 +1,6 @@
 /*
- * stack [WALK]: deepest stack of each call in bytes, on a painted stack, with a full log and with a damaged one that takes two passes: in a small log,
- * whose calls stay below 6 KiB whatever the number of homes, and in the largest one, whose calls stay below 32 KiB. Status 1 above these. WALK is another
- * bound of trim and usage in a small log: in the archive their counters are always those of the largest one.
+ * Deepest stack of each call in bytes, on a painted stack, with a full log and with a damaged one that takes two passes: in a small log, whose calls
+ * stay below 6 KiB whatever the number of homes, and in the largest one, whose calls stay below 32 KiB. Status 1 above these.
  */
 #include <stdio.h>
 #include <stdlib.h>
@@ -161,11 +160,10 @@ static void work(void)
 }
 
 /* Prints what each call took in stores of this shape. */
-static int measure(size_t g, size_t d, size_t limit, size_t walk)
+static int measure(size_t g, size_t d, size_t limit)
 {
     static const char *names[] = { "format", "open", "begin", "store", "commit", "flush", "confirm", "settle", "trim", "read", "abort", "reserve",
                                    "begin_round", "step_round", "usage", "fetch", "revise", "transact" };
-    size_t most;
     int k, over = 0;
 
     groups = g;
@@ -186,20 +184,18 @@ static int measure(size_t g, size_t d, size_t limit, size_t walk)
     done(RESERVE);
     printf("G %zu, D %zu:", g, d);
     for (k = 0; k < EMPTY; k++) {
-        most = k == TRIM || k == USAGE ? walk : limit;
-        printf(" %s %zu%s", names[k], deepest[k], deepest[k] > most ? " (too much)" : "");
-        over |= deepest[k] > most;
+        printf(" %s %zu%s", names[k], deepest[k], deepest[k] > limit ? " (too much)" : "");
+        over |= deepest[k] > limit;
     }
     printf("\n");
     return over;
 }
 
-int main(int argc, char **argv)
+int main(void)
 {
-    size_t walk = argc > 1 ? (size_t)atoi(argv[1]) : 6144;
-    int over = measure(64, 4096, 6144, walk);
+    int over = measure(64, 4096, 6144);
 
-    over |= measure(64, HOMES, 6144, walk);
-    over |= measure(GROUPS, HOMES, 32768, 32768);
+    over |= measure(64, HOMES, 6144);
+    over |= measure(GROUPS, HOMES, 32768);
     return over;
 }
