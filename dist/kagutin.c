@@ -165,6 +165,18 @@ struct planning__steps__Made {
     bool more;
 };
 
+struct array_u16_896 {
+    uint16_t at[896];
+};
+
+struct array_u16_1792 {
+    uint16_t at[1792];
+};
+
+struct array_u16_3584 {
+    uint16_t at[3584];
+};
+
 struct model__Holder {
     uint64_t writer;
     uint64_t first;
@@ -369,7 +381,7 @@ static inline bool answers__lengths_right(struct slice_u8 log, struct slice_u8 a
 }
 
 /* How far `x` lies above `low`, modulo 2^64: one test of it tells whether `x` lies between `low` and a number above it. */
-static inline uint64_t strip__distances__distance(uint64_t x, uint64_t low)
+static inline uint64_t order__distances__distance(uint64_t x, uint64_t low)
 {
     uint64_t t4;
 
@@ -382,7 +394,7 @@ static inline uint64_t strip__distances__distance(uint64_t x, uint64_t low)
 }
 
 /* Whether the numbers of groups and homes are `groups` and `homes`, and the group numbers and the places filled are in order. */
-static inline bool strip__quick__groups_in_order(struct slice_u8 s, uint64_t groups, uint64_t homes)
+static inline bool order__quick__groups_in_order(struct slice_u8 s, uint64_t groups, uint64_t homes)
 {
     uint64_t t4, t5, t6;
 
@@ -396,7 +408,7 @@ static inline bool strip__quick__groups_in_order(struct slice_u8 s, uint64_t gro
     if (UINT64_C(0x800000000000) < t4) {
         return false;
     }
-    t5 = strip__distances__distance(load_8(s.ptr + 24u), t4);
+    t5 = order__distances__distance(load_8(s.ptr + 24u), t4);
     t6 = load_8(s.ptr + 32u);
     if (t5 < groups) {
         return t6 <= 6u;
@@ -409,16 +421,16 @@ static inline bool strip__quick__groups_in_order(struct slice_u8 s, uint64_t gro
 
 /* Whether the other numbers but the round are in order, where the log has `whole` positions from position `low` to the next
    group, and `all` with those filled. What lies between two others is compared once, by its distance from the lower one. */
-static inline bool strip__quick__bounds_in_order(struct slice_u8 s, uint64_t low, uint64_t whole, uint64_t all)
+static inline bool order__quick__bounds_in_order(struct slice_u8 s, uint64_t low, uint64_t whole, uint64_t all)
 {
     uint64_t t5, t6, t7, t9, t10;
 
     t5 = load_8(s.ptr + 48u);
-    t6 = strip__distances__distance(t5, low);
+    t6 = order__distances__distance(t5, low);
     if (whole < t6) {
         return false;
     }
-    t9 = strip__distances__distance(load_8(s.ptr + 40u), low);
+    t9 = order__distances__distance(load_8(s.ptr + 40u), low);
     if (t6 < t9) {
         return false;
     }
@@ -429,7 +441,7 @@ static inline bool strip__quick__bounds_in_order(struct slice_u8 s, uint64_t low
     if (t7 == 0u) {
         return true;
     }
-    t10 = strip__distances__distance(t7, low + 1u);
+    t10 = order__distances__distance(t7, low + 1u);
     return t10 < all;
 }
 
@@ -444,68 +456,68 @@ static inline bool strip__promises__none_promised(struct slice_u8 s)
 
 /* Whether the record of a writer that holds a block for a home below D and has logged entries is in order: the positions since
    its first one are among those of the log, and hold its entries. */
-static inline bool strip__quick__logged_in_order(struct model__State st, uint64_t low, uint64_t all, struct model__Writer r)
+static inline bool order__quick__logged_in_order(struct model__State st, uint64_t low, uint64_t all, struct model__Writer r)
 {
     uint64_t t5, t6;
     (void)st;
 
-    t5 = strip__distances__distance(low + all, r.first);
+    t5 = order__distances__distance(low + all, r.first);
     if (all < t5) {
         return false;
     }
-    t6 = strip__distances__distance(r.count, 1u);
+    t6 = order__distances__distance(r.count, 1u);
     if (t5 <= t6) {
         return false;
     }
     return true;
 }
 
-/* Whether a writer's record is in order in a strip whose group numbers and places filled are. */
-static inline bool strip__quick__record_in_order(struct model__State st, uint64_t low, uint64_t all, struct model__Writer r)
+/* Whether the record of a writer that is neither idle nor without a block is in order in a strip whose group numbers and places
+   filled are. */
+static inline bool order__quick__record_in_order(struct model__State st, uint64_t low, uint64_t all, struct model__Writer r)
 {
-    if (r.mode < 2u) {
-        return true;
-    }
     if (st.homes <= r.home) {
         return false;
     }
-    if (r.mode == 2u) {
+    if (r.mode < 3u) {
         return true;
     }
     if (r.mode != 3u) {
         return false;
     }
-    return strip__quick__logged_in_order(st, low, all, r);
+    return order__quick__logged_in_order(st, low, all, r);
 }
 
-/* Whether the records of all eight writers are in order where nothing is promised: an idle writer is passed by its mode alone. */
-static inline bool strip__quick__records_in_order(struct slice_u8 s, struct model__State st, uint64_t low, uint64_t all)
+/* Whether the records of all eight writers are in order where nothing is promised. Their modes are read as one word, and only
+   writers are visited of whose mode a bit but the lowest is set. */
+static inline bool order__quick__records_in_order(struct slice_u8 s, struct model__State st, uint64_t low, uint64_t all)
 {
-    uint64_t t5, t10;
-    bool t6;
+    uint64_t t5, t117, t118;
+    bool t8;
 
-    t5 = 0u;
-    while (t5 != 8u) {
-        t10 = 128u + (96u * t5);
-        t6 = strip__quick__record_in_order(st, low, all, (struct model__Writer){.mode = load_8(s.ptr + (size_t)t10),
-                .home = load_8(s.ptr + (size_t)(t10 + 8u)), .first = load_8(s.ptr + (size_t)(t10 + 16u)), .count = load_8(s.ptr
-                + (size_t)(t10 + 24u))});
-        if (!t6) {
+    t5 = load_8(s.ptr + 104u) & UINT64_C(0xfefefefefefefefe);
+    while (t5 != 0u) {
+        t117 = (uint64_t)trailing_zeros(t5) / 8u;
+        t118 = 128u + (96u * t117);
+        t8 = order__quick__record_in_order(st, low, all, (struct model__Writer){.mode = (uint64_t)s.ptr[(size_t)(104u + t117)],
+                .home = load_8(s.ptr + (size_t)(t118 + 8u)), .first = load_8(s.ptr + (size_t)(t118 + 16u)), .count = load_8(s.ptr
+                + (size_t)(t118 + 24u))});
+        if (!t8) {
             return false;
         }
-        t5 = t5 + 1u;
+        t5 = t5 & (t5 - 1u);
     }
     return true;
 }
 
 /* Question 2 for a log of `groups` groups and `homes` homes: 0 if the strip is in order, 2 if it is not, and 1 where a promise or
    a round leaves the rest to `rest_in_order`. */
-static inline uint64_t strip__quick__quick_answer(struct slice_u8 s, uint64_t groups, uint64_t homes)
+static inline uint64_t order__quick__quick_answer(struct slice_u8 s, uint64_t groups, uint64_t homes)
 {
     uint64_t t4, t5, t6, t7, t426, t427;
     bool t8;
 
-    t8 = strip__quick__groups_in_order(s, groups, homes);
+    t8 = order__quick__groups_in_order(s, groups, homes);
     if (!t8) {
         return 2u;
     }
@@ -513,7 +525,7 @@ static inline uint64_t strip__quick__quick_answer(struct slice_u8 s, uint64_t gr
     t5 = 7u * t4;
     t6 = 7u * (load_8(s.ptr + 24u) - t4);
     t7 = t6 + load_8(s.ptr + 32u);
-    t8 = strip__quick__bounds_in_order(s, t5, t6, t7);
+    t8 = order__quick__bounds_in_order(s, t5, t6, t7);
     if (!t8) {
         return 2u;
     }
@@ -526,7 +538,7 @@ static inline uint64_t strip__quick__quick_answer(struct slice_u8 s, uint64_t gr
     }
     t426 = load_8(s.ptr);
     t427 = load_8(s.ptr + 8u);
-    t8 = strip__quick__records_in_order(s, (struct model__State){.groups = t426, .homes = t427, .start = load_8(s.ptr + 16u),
+    t8 = order__quick__records_in_order(s, (struct model__State){.groups = t426, .homes = t427, .start = load_8(s.ptr + 16u),
             .next = load_8(s.ptr + 24u), .filled = load_8(s.ptr + 32u), .settled = load_8(s.ptr + 40u), .fenced = load_8(s.ptr
             + 48u), .durable = load_8(s.ptr + 56u), .last = load_8(s.ptr + 64u), .round = load_8(s.ptr + 88u),
             .cursor = load_8(s.ptr + 96u)}, t5, t7);
@@ -537,7 +549,7 @@ static inline uint64_t strip__quick__quick_answer(struct slice_u8 s, uint64_t gr
 }
 
 /* Whether the position that a round has fixed lies from the settled to the fenced one, or there is no round. */
-static inline bool strip__order__round_in_order(struct model__State st)
+static inline bool order__rest__round_in_order(struct model__State st)
 {
     if (st.round == 0u) {
         return true;
@@ -575,7 +587,7 @@ static inline uint64_t strip__promises__promised(struct slice_u8 s)
 }
 
 /* Whether a writer's record is in order in a strip with the numbers `st`. */
-static inline bool strip__order__writer_in_order(struct model__State st, struct model__Writer r)
+static inline bool order__rest__writer_in_order(struct model__State st, struct model__Writer r)
 {
     uint64_t t3;
 
@@ -609,16 +621,16 @@ static inline bool strip__order__writer_in_order(struct model__State st, struct 
 
 /* Whether the record of writer `w` is in order in the strip `s` with the numbers `st`, and nothing is promised to it while it is
    idle. */
-static inline bool strip__order__writer_at_in_order(struct slice_u8 s, struct model__State st, uint64_t w)
+static inline bool order__rest__writer_at_in_order(struct slice_u8 s, struct model__State st, uint64_t w)
 {
     struct model__Writer t4;
     bool t5;
     uint64_t t10;
 
     t10 = 128u + (96u * w);
-    t4 = (struct model__Writer){.mode = load_8(s.ptr + (size_t)t10), .home = load_8(s.ptr + (size_t)(t10 + 8u)),
+    t4 = (struct model__Writer){.mode = (uint64_t)s.ptr[(size_t)(104u + w)], .home = load_8(s.ptr + (size_t)(t10 + 8u)),
             .first = load_8(s.ptr + (size_t)(t10 + 16u)), .count = load_8(s.ptr + (size_t)(t10 + 24u))};
-    t5 = strip__order__writer_in_order(st, t4);
+    t5 = order__rest__writer_in_order(st, t4);
     if (!t5) {
         return false;
     }
@@ -629,14 +641,14 @@ static inline bool strip__order__writer_at_in_order(struct slice_u8 s, struct mo
 }
 
 /* Whether the records of all eight writers are in order in the strip `s` with the numbers `st`. */
-static inline bool strip__order__writers_in_order(struct slice_u8 s, struct model__State st)
+static inline bool order__rest__writers_in_order(struct slice_u8 s, struct model__State st)
 {
     uint64_t t3;
     bool t4;
 
     t3 = 0u;
     while (t3 < 8u) {
-        t4 = strip__order__writer_at_in_order(s, st, t3);
+        t4 = order__rest__writer_at_in_order(s, st, t3);
         if (!t4) {
             return false;
         }
@@ -646,7 +658,7 @@ static inline bool strip__order__writers_in_order(struct slice_u8 s, struct mode
 }
 
 /* The rest of question 2 where the numbers but the round are in order: the round, the promises and the writers. */
-static inline bool strip__order__rest_in_order(struct slice_u8 s)
+static inline bool order__rest__rest_in_order(struct slice_u8 s)
 {
     struct model__State t2;
     bool t3;
@@ -657,7 +669,7 @@ static inline bool strip__order__rest_in_order(struct slice_u8 s)
     t2 = (struct model__State){.groups = t8, .homes = t9, .start = load_8(s.ptr + 16u), .next = load_8(s.ptr + 24u),
             .filled = load_8(s.ptr + 32u), .settled = load_8(s.ptr + 40u), .fenced = load_8(s.ptr + 48u), .durable = load_8(s.ptr
             + 56u), .last = load_8(s.ptr + 64u), .round = load_8(s.ptr + 88u), .cursor = load_8(s.ptr + 96u)};
-    t3 = strip__order__round_in_order(t2);
+    t3 = order__rest__round_in_order(t2);
     if (!t3) {
         return false;
     }
@@ -665,7 +677,7 @@ static inline bool strip__order__rest_in_order(struct slice_u8 s)
     if (((7u * (t2.start + t2.groups)) - ((7u * t2.next) + t2.filled)) < t6) {
         return false;
     }
-    return strip__order__writers_in_order(s, t2);
+    return order__rest__writers_in_order(s, t2);
 }
 
 /* Questions 1 and 2: 0 if the lengths are right and the strip is in order, else the number of the refusal. */
@@ -679,11 +691,11 @@ static inline uint64_t answers__in_use(struct slice_u8 log, struct slice_u8 area
         return 1u;
     }
     t4 = areas__lengths__log_groups((uint64_t)log.len);
-    t6 = strip__quick__quick_answer(state, t4, (uint64_t)area.len / 64u);
+    t6 = order__quick__quick_answer(state, t4, (uint64_t)area.len / 64u);
     if (t6 != 1u) {
         return t6;
     }
-    t8 = strip__order__rest_in_order(state);
+    t8 = order__rest__rest_in_order(state);
     if (!t8) {
         return 2u;
     }
@@ -716,8 +728,8 @@ static inline uint64_t sessions__abort_answer(struct slice_u8 log, struct slice_
         return t5;
     }
     t11 = 128u + (96u * writer);
-    t7 = (struct model__Writer){.mode = load_8(state.ptr + (size_t)t11), .home = load_8(state.ptr + (size_t)(t11 + 8u)),
-            .first = load_8(state.ptr + (size_t)(t11 + 16u)), .count = load_8(state.ptr + (size_t)(t11 + 24u))};
+    t7 = (struct model__Writer){.mode = (uint64_t)state.ptr[(size_t)(104u + writer)], .home = load_8(state.ptr + (size_t)(t11
+            + 8u)), .first = load_8(state.ptr + (size_t)(t11 + 16u)), .count = load_8(state.ptr + (size_t)(t11 + 24u))};
     if (!(1u <= t7.mode)) {
         return 7u;
     }
@@ -740,7 +752,7 @@ static inline void strip__writers__set_writer(struct slice_mut_u8 s, uint64_t w,
     uint64_t t4;
 
     t4 = 128u + (96u * w);
-    store_8(s.ptr + (size_t)t4, r.mode);
+    s.ptr[(size_t)(104u + w)] = (uint8_t)(r.mode % 256u);
     store_8(s.ptr + (size_t)(t4 + 8u), r.home);
     store_8(s.ptr + (size_t)(t4 + 16u), r.first);
     store_8(s.ptr + (size_t)(t4 + 24u), r.count);
@@ -753,8 +765,8 @@ static inline void writers__abort(struct slice_mut_u8 s, uint64_t w)
     uint64_t t11;
 
     t11 = 128u + (96u * w);
-    t9 = writers__places__aborted((struct model__Writer){.mode = load_8(s.ptr + (size_t)t11), .home = load_8(s.ptr + (size_t)(t11
-            + 8u)), .first = load_8(s.ptr + (size_t)(t11 + 16u)), .count = load_8(s.ptr + (size_t)(t11 + 24u))});
+    t9 = writers__places__aborted((struct model__Writer){.mode = (uint64_t)s.ptr[(size_t)(104u + w)], .home = load_8(s.ptr
+            + (size_t)(t11 + 8u)), .first = load_8(s.ptr + (size_t)(t11 + 16u)), .count = load_8(s.ptr + (size_t)(t11 + 24u))});
     strip__writers__set_writer(s, w, t9);
 }
 
@@ -791,8 +803,8 @@ static inline uint64_t sessions__begin_answer(struct slice_u8 log, struct slice_
         return t5;
     }
     t11 = 128u + (96u * writer);
-    t8 = (struct model__Writer){.mode = load_8(state.ptr + (size_t)t11), .home = load_8(state.ptr + (size_t)(t11 + 8u)),
-            .first = load_8(state.ptr + (size_t)(t11 + 16u)), .count = load_8(state.ptr + (size_t)(t11 + 24u))};
+    t8 = (struct model__Writer){.mode = (uint64_t)state.ptr[(size_t)(104u + writer)], .home = load_8(state.ptr + (size_t)(t11
+            + 8u)), .first = load_8(state.ptr + (size_t)(t11 + 16u)), .count = load_8(state.ptr + (size_t)(t11 + 24u))};
     if (1u <= t8.mode) {
         return 6u;
     }
@@ -816,8 +828,8 @@ static inline void writers__begin(struct slice_mut_u8 s, uint64_t w)
     uint64_t t11;
 
     t11 = 128u + (96u * w);
-    t9 = writers__places__begun((struct model__Writer){.mode = load_8(s.ptr + (size_t)t11), .home = load_8(s.ptr + (size_t)(t11
-            + 8u)), .first = load_8(s.ptr + (size_t)(t11 + 16u)), .count = load_8(s.ptr + (size_t)(t11 + 24u))});
+    t9 = writers__places__begun((struct model__Writer){.mode = (uint64_t)s.ptr[(size_t)(104u + w)], .home = load_8(s.ptr
+            + (size_t)(t11 + 8u)), .first = load_8(s.ptr + (size_t)(t11 + 16u)), .count = load_8(s.ptr + (size_t)(t11 + 24u))});
     strip__writers__set_writer(s, w, t9);
 }
 
@@ -943,8 +955,8 @@ static inline uint64_t commits__commit_verdict(struct slice_u8 log, struct slice
         return 4u;
     }
     t14 = 128u + (96u * writer);
-    t8 = (struct model__Writer){.mode = load_8(state.ptr + (size_t)t14), .home = load_8(state.ptr + (size_t)(t14 + 8u)),
-            .first = load_8(state.ptr + (size_t)(t14 + 16u)), .count = load_8(state.ptr + (size_t)(t14 + 24u))};
+    t8 = (struct model__Writer){.mode = (uint64_t)state.ptr[(size_t)(104u + writer)], .home = load_8(state.ptr + (size_t)(t14
+            + 8u)), .first = load_8(state.ptr + (size_t)(t14 + 16u)), .count = load_8(state.ptr + (size_t)(t14 + 24u))};
     if (!(1u <= t8.mode)) {
         return 7u;
     }
@@ -1781,8 +1793,8 @@ static inline uint64_t commits__commit_next(struct slice_mut_u8 log, struct slic
             .start = load_8(state.ptr + 16u), .next = load_8(state.ptr + 24u), .filled = load_8(state.ptr + 32u),
             .settled = load_8(state.ptr + 40u), .fenced = load_8(state.ptr + 48u), .durable = load_8(state.ptr + 56u),
             .last = load_8(state.ptr + 64u), .round = load_8(state.ptr + 88u), .cursor = load_8(state.ptr + 96u)},
-            (struct model__Writer){.mode = load_8(state.ptr + (size_t)t1156), .home = load_8(state.ptr + (size_t)(t1156 + 8u)),
-            .first = load_8(state.ptr + (size_t)(t1156 + 16u)), .count = load_8(state.ptr + (size_t)(t1156 + 24u))}, w);
+            (struct model__Writer){.mode = (uint64_t)state.ptr[(size_t)(104u + w)], .home = load_8(state.ptr + (size_t)(t1156
+            + 8u)), .first = load_8(state.ptr + (size_t)(t1156 + 16u)), .count = load_8(state.ptr + (size_t)(t1156 + 24u))}, w);
 }
 
 /* Commits a writer's open transaction: its held block is logged as the closing entry, whose position + 1 is the ticket, and for
@@ -1790,7 +1802,7 @@ static inline uint64_t commits__commit_next(struct slice_mut_u8 log, struct slic
 static inline struct answers__Reply commits__commit(struct slice_mut_u8 log, struct slice_u8 area, struct slice_mut_u8 state,
         struct slice_mut_u8 newest, struct slice_mut_u8 batch, uint64_t writer)
 {
-    uint64_t t7, t8, t12, t41, t463, t464;
+    uint64_t t7, t8, t12, t41, t365, t366;
     struct model__Writer t9;
     struct model__State t10;
 
@@ -1801,15 +1813,15 @@ static inline struct answers__Reply commits__commit(struct slice_mut_u8 log, str
     }
     t8 = writer;
     t41 = 128u + (96u * t8);
-    t9 = (struct model__Writer){.mode = load_8(state.ptr + (size_t)t41), .home = load_8(state.ptr + (size_t)(t41 + 8u)),
+    t9 = (struct model__Writer){.mode = (uint64_t)state.ptr[(size_t)(104u + t8)], .home = load_8(state.ptr + (size_t)(t41 + 8u)),
             .first = load_8(state.ptr + (size_t)(t41 + 16u)), .count = load_8(state.ptr + (size_t)(t41 + 24u))};
     if (!(2u <= t9.mode)) {
         commits__commit_none(state, t8);
         return (struct answers__Reply){.code = 0u, .figure = 0u, .size = 0u};
     }
-    t463 = load_8(state.ptr);
-    t464 = load_8(state.ptr + 8u);
-    t10 = (struct model__State){.groups = t463, .homes = t464, .start = load_8(state.ptr + 16u), .next = load_8(state.ptr + 24u),
+    t365 = load_8(state.ptr);
+    t366 = load_8(state.ptr + 8u);
+    t10 = (struct model__State){.groups = t365, .homes = t366, .start = load_8(state.ptr + 16u), .next = load_8(state.ptr + 24u),
             .filled = load_8(state.ptr + 32u), .settled = load_8(state.ptr + 40u), .fenced = load_8(state.ptr + 48u),
             .durable = load_8(state.ptr + 56u), .last = load_8(state.ptr + 64u), .round = load_8(state.ptr + 88u),
             .cursor = load_8(state.ptr + 96u)};
@@ -1997,7 +2009,7 @@ static inline bool rights__list__own_ranges(struct slice_u8 log, struct slice_u8
     return rights__ranges__in_entry(log, found, at % 64u, home);
 }
 
-/* Whether the ranges from byte `at` of the list on open a home. */
+/* Whether the ranges from byte `at` of the list on open a home: only the writer's own block is looked up. */
 static inline bool rights__list__open_listed(struct slice_u8 log, struct slice_u8 area, struct slice_u8 state,
         struct slice_u8 kept, uint64_t from, uint64_t at, uint64_t home)
 {
@@ -2068,54 +2080,46 @@ static inline bool rights__list__none_in_copy(struct slice_u8 area)
             + (size_t)(t2961 + 16u)) | load_8(area.ptr + (size_t)(t2961 + 24u)))))) == 0u;
 }
 
-/* The same, where the data copy is looked at without the log if no position is kept. */
+/* The same by the list's sign, where that does not say that there is one. The data copy is looked at without the log if no
+   position is kept. */
 static inline bool rights__list__open_unsigned(struct slice_u8 log, struct slice_u8 area, struct slice_u8 state,
         struct slice_u8 kept, uint64_t from, uint64_t at, uint64_t home)
 {
-    bool t8, t10;
+    bool t9, t11;
 
-    t8 = rights__list__none_kept(kept, from);
-    if (!t8) {
+    if (load_8(state.ptr + 928u) == 1u) {
+        return true;
+    }
+    t9 = rights__list__none_kept(kept, from);
+    if (!t9) {
         return rights__list__open_kept(log, area, state, kept, from, at, home);
     }
-    t10 = rights__ranges__in_ranges(area, 512u + at, home);
-    if (t10) {
+    t11 = rights__ranges__in_ranges(area, 512u + at, home);
+    if (t11) {
         return true;
     }
     return rights__list__none_in_copy(area);
-}
-
-/* Whether the ranges from byte `at` of the list on open a home, or there is no list; D has room for one. Where its sign says
-   whether there is one, at most the writer's own block is looked up. */
-static inline bool rights__list__open_to(struct slice_u8 log, struct slice_u8 area, struct slice_u8 state, struct slice_u8 kept,
-        uint64_t from, uint64_t at, uint64_t home)
-{
-    uint64_t t8;
-
-    t8 = load_8(state.ptr + 928u);
-    if (t8 == 2u) {
-        return rights__list__open_listed(log, area, state, kept, from, at, home);
-    }
-    if (t8 == 1u) {
-        return true;
-    }
-    return rights__list__open_unsigned(log, area, state, kept, from, at, home);
 }
 
 /* Whether a writer may read a home. The list is found by the newest positions. */
 static inline bool rights__may_read(struct slice_u8 log, struct slice_u8 area, struct slice_u8 state, struct slice_u8 newest,
         uint64_t writer, uint64_t home)
 {
-    bool t7;
+    uint64_t t7;
+    bool t8;
 
-    t7 = rights__ranges__of_list(home);
-    if (t7) {
+    t8 = rights__ranges__of_list(home);
+    if (t8) {
         return true;
     }
     if ((uint64_t)area.len < 768u) {
         return true;
     }
-    return rights__list__open_to(log, area, state, newest, 64u, (32u * writer) + 16u, home);
+    t7 = (32u * writer) + 16u;
+    if (load_8(state.ptr + 928u) == 2u) {
+        return rights__list__open_listed(log, area, state, newest, 64u, t7, home);
+    }
+    return rights__list__open_unsigned(log, area, state, newest, 64u, t7, home);
 }
 
 /* Whether a writer may read each of `n` homes from `home` on. */
@@ -2374,8 +2378,8 @@ static inline void reading__blocks__show(struct slice_u8 log, struct slice_u8 ar
             .cursor = load_8(state.ptr + 96u)};
     t9 = writer;
     t1160 = 128u + (96u * t9);
-    t10 = (struct model__Writer){.mode = load_8(state.ptr + (size_t)t1160), .home = load_8(state.ptr + (size_t)(t1160 + 8u)),
-            .first = load_8(state.ptr + (size_t)(t1160 + 16u)), .count = load_8(state.ptr + (size_t)(t1160 + 24u))};
+    t10 = (struct model__Writer){.mode = (uint64_t)state.ptr[(size_t)(104u + t9)], .home = load_8(state.ptr + (size_t)(t1160
+            + 8u)), .first = load_8(state.ptr + (size_t)(t1160 + 16u)), .count = load_8(state.ptr + (size_t)(t1160 + 24u))};
     t12 = reading__blocks__holds_home(t10, home);
     if (t12) {
         reading__blocks__show_held(block, state, t9);
@@ -2445,7 +2449,7 @@ static inline bool strip__promises__keeps_promises(struct slice_u8 s, struct mod
 }
 
 /* How many bytes a flush writes: a fence, and a part-filled group before it. */
-static inline uint64_t logging__flushes__flush_size(struct model__State st)
+static inline uint64_t flushing__flush_size(struct model__State st)
 {
     if (st.filled == 0u) {
         return 2u;
@@ -2454,7 +2458,7 @@ static inline uint64_t logging__flushes__flush_size(struct model__State st)
 }
 
 /* The answer of a flush: 0, or the number of the question that refuses it. */
-static inline uint64_t logging__flushes__flush_verdict(struct slice_u8 log, struct slice_u8 area, struct slice_u8 state,
+static inline uint64_t flushing__flush_verdict(struct slice_u8 log, struct slice_u8 area, struct slice_u8 state,
         struct slice_u8 batch)
 {
     uint64_t t5, t10, t12, t13;
@@ -2475,7 +2479,7 @@ static inline uint64_t logging__flushes__flush_verdict(struct slice_u8 log, stru
     if (!t7) {
         return 18u;
     }
-    t10 = logging__flushes__flush_size(t6);
+    t10 = flushing__flush_size(t6);
     if ((uint64_t)batch.len < t10) {
         return 9u;
     }
@@ -2502,14 +2506,14 @@ static inline uint64_t batch__records__fence(struct slice_mut_u8 batch, uint64_t
 }
 
 /* Writes a fence where no group is part-filled. */
-static inline void logging__flushes__flush_none(struct slice_mut_u8 state, struct slice_mut_u8 batch, struct model__State st)
+static inline void flushing__flush_none(struct slice_mut_u8 state, struct slice_mut_u8 batch, struct model__State st)
 {
     (void)batch__records__fence(batch, 0u);
     store_8(state.ptr + 48u, 7u * st.next);
 }
 
 /* Hands on the part-filled group and writes a fence. */
-static inline void logging__flushes__flush_part(struct slice_u8 log, struct slice_mut_u8 state, struct slice_mut_u8 batch,
+static inline void flushing__flush_part(struct slice_u8 log, struct slice_mut_u8 state, struct slice_mut_u8 batch,
         struct model__State st)
 {
     uint64_t t6, t7;
@@ -2525,14 +2529,13 @@ static inline void logging__flushes__flush_part(struct slice_u8 log, struct slic
 }
 
 /* Hands on a part-filled group, if there is one, and writes a fence. */
-static inline struct answers__Reply logging__flushes__flush(struct slice_u8 log, struct slice_u8 area, struct slice_mut_u8 state,
+static inline struct answers__Reply flushing__flush(struct slice_u8 log, struct slice_u8 area, struct slice_mut_u8 state,
         struct slice_mut_u8 batch)
 {
     uint64_t t5, t27, t28;
     struct model__State t6;
 
-    t5 = logging__flushes__flush_verdict(log, area, (struct slice_u8){state.ptr, state.len}, (struct slice_u8){batch.ptr,
-            batch.len});
+    t5 = flushing__flush_verdict(log, area, (struct slice_u8){state.ptr, state.len}, (struct slice_u8){batch.ptr, batch.len});
     if (t5 != 0u) {
         return (struct answers__Reply){.code = t5, .figure = 0u, .size = 0u};
     }
@@ -2543,10 +2546,10 @@ static inline struct answers__Reply logging__flushes__flush(struct slice_u8 log,
             .durable = load_8(state.ptr + 56u), .last = load_8(state.ptr + 64u), .round = load_8(state.ptr + 88u),
             .cursor = load_8(state.ptr + 96u)};
     if (t6.filled == 0u) {
-        logging__flushes__flush_none(state, batch, t6);
+        flushing__flush_none(state, batch, t6);
         return (struct answers__Reply){.code = 0u, .figure = 0u, .size = 2u};
     }
-    logging__flushes__flush_part(log, state, batch, t6);
+    flushing__flush_part(log, state, batch, t6);
     return (struct answers__Reply){.code = 0u, .figure = 0u, .size = (uint64_t)516u + 2u};
 }
 
@@ -2554,7 +2557,7 @@ static inline struct answers__Reply logging__flushes__flush(struct slice_u8 log,
 static inline struct answers__Reply kagutin__kagutin_flush(struct slice_u8 log, struct slice_u8 area, struct slice_mut_u8 state,
         struct slice_mut_u8 batch)
 {
-    return logging__flushes__flush(log, area, state, batch);
+    return flushing__flush(log, area, state, batch);
 }
 
 /* The questions of format: 0, or the number of the refusal. */
@@ -3755,11 +3758,11 @@ static inline uint64_t answers__in_use_block(struct slice_u8 log, struct slice_u
         return 1u;
     }
     t5 = areas__lengths__log_groups((uint64_t)log.len);
-    t7 = strip__quick__quick_answer(state, t5, (uint64_t)area.len / 64u);
+    t7 = order__quick__quick_answer(state, t5, (uint64_t)area.len / 64u);
     if (t7 != 1u) {
         return t7;
     }
-    t8 = strip__order__rest_in_order(state);
+    t8 = order__rest__rest_in_order(state);
     if (!t8) {
         return 2u;
     }
@@ -3896,16 +3899,21 @@ static inline struct answers__Reply kagutin__kagutin_reserve(struct slice_u8 log
 static inline bool rights__may_store_newest(struct slice_u8 log, struct slice_u8 area, struct slice_u8 state,
         struct slice_u8 newest, uint64_t writer, uint64_t home)
 {
-    bool t7;
+    uint64_t t7;
+    bool t8;
 
-    t7 = rights__ranges__of_list(home);
-    if (t7) {
+    t8 = rights__ranges__of_list(home);
+    if (t8) {
         return writer == 0u;
     }
     if ((uint64_t)area.len < 768u) {
         return true;
     }
-    return rights__list__open_to(log, area, state, newest, 64u, 32u * writer, home);
+    t7 = 32u * writer;
+    if (load_8(state.ptr + 928u) == 2u) {
+        return rights__list__open_listed(log, area, state, newest, 64u, t7, home);
+    }
+    return rights__list__open_unsigned(log, area, state, newest, 64u, t7, home);
 }
 
 /* Whether a writer may store to each of `n` homes from `home` on. */
@@ -4320,16 +4328,21 @@ static inline struct answers__Reply kagutin__kagutin_step_round(struct slice_u8 
 static inline bool rights__may_store(struct slice_u8 log, struct slice_u8 area, struct slice_u8 state, uint64_t writer,
         uint64_t home)
 {
-    bool t6;
+    uint64_t t6;
+    bool t7;
 
-    t6 = rights__ranges__of_list(home);
-    if (t6) {
+    t7 = rights__ranges__of_list(home);
+    if (t7) {
         return writer == 0u;
     }
     if ((uint64_t)area.len < 768u) {
         return true;
     }
-    return rights__list__open_to(log, area, state, state, 896u, 32u * writer, home);
+    t6 = 32u * writer;
+    if (load_8(state.ptr + 928u) == 2u) {
+        return rights__list__open_listed(log, area, state, state, 896u, t6, home);
+    }
+    return rights__list__open_unsigned(log, area, state, state, 896u, t6, home);
 }
 
 /* The answer of a store: 0, or the number of the question that refuses it. */
@@ -4355,8 +4368,8 @@ static inline uint64_t logging__stores__store_verdict(struct slice_u8 log, struc
         return 19u;
     }
     t18 = 128u + (96u * writer);
-    t9 = (struct model__Writer){.mode = load_8(state.ptr + (size_t)t18), .home = load_8(state.ptr + (size_t)(t18 + 8u)),
-            .first = load_8(state.ptr + (size_t)(t18 + 16u)), .count = load_8(state.ptr + (size_t)(t18 + 24u))};
+    t9 = (struct model__Writer){.mode = (uint64_t)state.ptr[(size_t)(104u + writer)], .home = load_8(state.ptr + (size_t)(t18
+            + 8u)), .first = load_8(state.ptr + (size_t)(t18 + 16u)), .count = load_8(state.ptr + (size_t)(t18 + 24u))};
     if (!(1u <= t9.mode)) {
         return 7u;
     }
@@ -4490,8 +4503,9 @@ static inline uint64_t logging__stores__store_next(struct slice_mut_u8 log, stru
             .start = load_8(state.ptr + 16u), .next = load_8(state.ptr + 24u), .filled = load_8(state.ptr + 32u),
             .settled = load_8(state.ptr + 40u), .fenced = load_8(state.ptr + 48u), .durable = load_8(state.ptr + 56u),
             .last = load_8(state.ptr + 64u), .round = load_8(state.ptr + 88u), .cursor = load_8(state.ptr + 96u)},
-            (struct model__Writer){.mode = load_8(state.ptr + (size_t)t1154), .home = load_8(state.ptr + (size_t)(t1154 + 8u)),
-            .first = load_8(state.ptr + (size_t)(t1154 + 16u)), .count = load_8(state.ptr + (size_t)(t1154 + 24u))}, w, home);
+            (struct model__Writer){.mode = (uint64_t)state.ptr[(size_t)(104u + w)], .home = load_8(state.ptr + (size_t)(t1154
+            + 8u)), .first = load_8(state.ptr + (size_t)(t1154 + 16u)), .count = load_8(state.ptr + (size_t)(t1154 + 24u))}, w,
+            home);
 }
 
 /* Holds a block for a home in a writer's open transaction; a block held for another home is logged first. */
@@ -4508,7 +4522,7 @@ static inline struct answers__Reply logging__stores__store(struct slice_mut_u8 l
     }
     t9 = writer;
     t36 = 128u + (96u * t9);
-    t10 = (struct model__Writer){.mode = load_8(state.ptr + (size_t)t36), .home = load_8(state.ptr + (size_t)(t36 + 8u)),
+    t10 = (struct model__Writer){.mode = (uint64_t)state.ptr[(size_t)(104u + t9)], .home = load_8(state.ptr + (size_t)(t36 + 8u)),
             .first = load_8(state.ptr + (size_t)(t36 + 16u)), .count = load_8(state.ptr + (size_t)(t36 + 24u))};
     if (!(2u <= t10.mode)) {
         logging__stores__store_first(state, block, t10, t9, home);
@@ -4552,7 +4566,7 @@ static inline uint64_t chains__verdicts__may_log_all(struct slice_u8 state, stru
 static inline uint64_t chains__verdicts__transact_verdict(struct slice_u8 log, struct slice_u8 area, struct slice_u8 state,
         struct slice_u8 newest, struct slice_u8 blocks, struct slice_u8 batch, uint64_t writer, uint64_t home)
 {
-    uint64_t t9, t10, t19, t440, t441;
+    uint64_t t9, t10, t19, t342, t343;
     bool t11;
     struct model__Writer t16;
 
@@ -4566,14 +4580,14 @@ static inline uint64_t chains__verdicts__transact_verdict(struct slice_u8 log, s
         return 19u;
     }
     t19 = 128u + (96u * writer);
-    t16 = (struct model__Writer){.mode = load_8(state.ptr + (size_t)t19), .home = load_8(state.ptr + (size_t)(t19 + 8u)),
-            .first = load_8(state.ptr + (size_t)(t19 + 16u)), .count = load_8(state.ptr + (size_t)(t19 + 24u))};
+    t16 = (struct model__Writer){.mode = (uint64_t)state.ptr[(size_t)(104u + writer)], .home = load_8(state.ptr + (size_t)(t19
+            + 8u)), .first = load_8(state.ptr + (size_t)(t19 + 16u)), .count = load_8(state.ptr + (size_t)(t19 + 24u))};
     if (1u <= t16.mode) {
         return 6u;
     }
-    t440 = load_8(state.ptr);
-    t441 = load_8(state.ptr + 8u);
-    return chains__verdicts__may_log_all(state, (struct model__State){.groups = t440, .homes = t441, .start = load_8(state.ptr
+    t342 = load_8(state.ptr);
+    t343 = load_8(state.ptr + 8u);
+    return chains__verdicts__may_log_all(state, (struct model__State){.groups = t342, .homes = t343, .start = load_8(state.ptr
             + 16u), .next = load_8(state.ptr + 24u), .filled = load_8(state.ptr + 32u), .settled = load_8(state.ptr + 40u),
             .fenced = load_8(state.ptr + 48u), .durable = load_8(state.ptr + 56u), .last = load_8(state.ptr + 64u),
             .round = load_8(state.ptr + 88u), .cursor = load_8(state.ptr + 96u)}, t10, (uint64_t)batch.len);
@@ -4587,8 +4601,8 @@ static inline void chains__steps__hold_first(struct slice_mut_u8 state, struct s
     writers__begin(state, w);
     t18 = 128u + (96u * w);
     logging__stores__store_first(state, (struct slice_u8){blocks.ptr, (size_t)((uint64_t)64u - 0u)},
-            (struct model__Writer){.mode = load_8(state.ptr + (size_t)t18), .home = load_8(state.ptr + (size_t)(t18 + 8u)),
-            .first = load_8(state.ptr + (size_t)(t18 + 16u)), .count = load_8(state.ptr + (size_t)(t18 + 24u))}, w, home);
+            (struct model__Writer){.mode = (uint64_t)state.ptr[(size_t)(104u + w)], .home = load_8(state.ptr + (size_t)(t18
+            + 8u)), .first = load_8(state.ptr + (size_t)(t18 + 16u)), .count = load_8(state.ptr + (size_t)(t18 + 24u))}, w, home);
 }
 
 /* Stores the lent blocks but the first, which is held, by rising home. Returns how many bytes of the batch are written. */
@@ -4657,13 +4671,12 @@ static inline struct answers__Reply kagutin__kagutin_transact(struct slice_mut_u
 /* A limit lowered to the group in which a writer's open transaction begins, if it has logged entries. */
 static inline uint64_t limits__writers__writer_limit(struct slice_u8 state, uint64_t w, uint64_t limit)
 {
-    uint64_t t4, t5;
+    uint64_t t5;
 
-    t4 = 128u + (96u * w);
-    if (load_8(state.ptr + (size_t)t4) < 3u) {
+    if ((uint64_t)state.ptr[(size_t)(104u + w)] < 3u) {
         return limit;
     }
-    t5 = load_8(state.ptr + (size_t)(t4 + 16u)) / 7u;
+    t5 = load_8(state.ptr + (size_t)((128u + (96u * w)) + 16u)) / 7u;
     if (t5 < limit) {
         return t5;
     }
@@ -4694,8 +4707,35 @@ static APART struct scan__commits__Found scan__commits__walk_small(struct slice_
     return scan__commits__walk_with(log, (struct slice_mut_u16){t6.at, 448u}, groups, homes, start, n);
 }
 
-/* The same for any log. */
-static APART struct scan__commits__Found scan__commits__walk_large(struct slice_u8 log, uint64_t groups, uint64_t homes,
+/* The same for a log of up to 128 groups, 256, 512 and 1,024: at most half of the counters are made empty for nothing. */
+static APART struct scan__commits__Found scan__commits__walk_to_128(struct slice_u8 log, uint64_t groups, uint64_t homes,
+        uint64_t start, uint64_t n)
+{
+    struct array_u16_896 t6;
+
+    memset(&t6, 0, sizeof t6);
+    return scan__commits__walk_with(log, (struct slice_mut_u16){t6.at, 896u}, groups, homes, start, n);
+}
+
+static APART struct scan__commits__Found scan__commits__walk_to_256(struct slice_u8 log, uint64_t groups, uint64_t homes,
+        uint64_t start, uint64_t n)
+{
+    struct array_u16_1792 t6;
+
+    memset(&t6, 0, sizeof t6);
+    return scan__commits__walk_with(log, (struct slice_mut_u16){t6.at, 1792u}, groups, homes, start, n);
+}
+
+static APART struct scan__commits__Found scan__commits__walk_to_512(struct slice_u8 log, uint64_t groups, uint64_t homes,
+        uint64_t start, uint64_t n)
+{
+    struct array_u16_3584 t6;
+
+    memset(&t6, 0, sizeof t6);
+    return scan__commits__walk_with(log, (struct slice_mut_u16){t6.at, 3584u}, groups, homes, start, n);
+}
+
+static APART struct scan__commits__Found scan__commits__walk_to_1024(struct slice_u8 log, uint64_t groups, uint64_t homes,
         uint64_t start, uint64_t n)
 {
     struct array_u16_7168 t6;
@@ -4704,14 +4744,35 @@ static APART struct scan__commits__Found scan__commits__walk_large(struct slice_
     return scan__commits__walk_with(log, (struct slice_mut_u16){t6.at, 7168u}, groups, homes, start, n);
 }
 
-/* The same with as many counters on the stack as the size of the log asks for. */
-static inline struct scan__commits__Found scan__commits__walk(struct slice_u8 log, uint64_t groups, uint64_t homes,
+/* The same for any log. This and `walk_small` serve two calls each, and so stay functions of their own: a small log never takes
+   the counters of a large one. */
+static inline struct scan__commits__Found scan__commits__walk_large(struct slice_u8 log, uint64_t groups, uint64_t homes,
         uint64_t start, uint64_t n)
 {
-    if (groups <= 64u) {
-        return scan__commits__walk_small(log, groups, homes, start, n);
+    if (groups <= 128u) {
+        return scan__commits__walk_to_128(log, groups, homes, start, n);
     }
-    return scan__commits__walk_large(log, groups, homes, start, n);
+    if (groups <= 256u) {
+        return scan__commits__walk_to_256(log, groups, homes, start, n);
+    }
+    if (groups <= 512u) {
+        return scan__commits__walk_to_512(log, groups, homes, start, n);
+    }
+    return scan__commits__walk_to_1024(log, groups, homes, start, n);
+}
+
+/* Where the committed transactions end among the `n` positions of the log from its start on, or 0 for none. */
+static inline uint64_t trimming__start__committed_end(struct slice_u8 log, uint64_t groups, uint64_t homes, uint64_t start,
+        uint64_t n)
+{
+    struct scan__commits__Found t6, t7;
+
+    if (groups <= 64u) {
+        t6 = scan__commits__walk_small(log, groups, homes, start, n);
+        return t6.end;
+    }
+    t7 = scan__commits__walk_large(log, groups, homes, start, n);
+    return t7.end;
 }
 
 /* Those of the group before. */
@@ -4835,8 +4896,7 @@ static inline uint64_t limits__spans__closed_limit(struct slice_u8 log, uint64_t
 static inline uint64_t trimming__start__new_start(struct slice_u8 log, struct slice_u8 area, struct slice_u8 state,
         struct model__State st)
 {
-    uint64_t t5, t6;
-    struct scan__commits__Found t8;
+    uint64_t t5, t6, t8;
     (void)area;
 
     t5 = limits__writers__open_limit(state, st.settled / 7u);
@@ -4847,8 +4907,8 @@ static inline uint64_t trimming__start__new_start(struct slice_u8 log, struct sl
     if (t6 <= (7u * t5)) {
         return t5;
     }
-    t8 = scan__commits__walk(log, st.groups, st.homes, st.start, t6 - (7u * st.start));
-    return limits__spans__closed_limit(log, st.groups, st.homes, st.start, t8.end, t5);
+    t8 = trimming__start__committed_end(log, st.groups, st.homes, st.start, t6 - (7u * st.start));
+    return limits__spans__closed_limit(log, st.groups, st.homes, st.start, t8, t5);
 }
 
 /* Writes the new header and a fence into the batch. */
@@ -4957,6 +5017,20 @@ static inline struct answers__Reply kagutin__kagutin_trim(struct slice_mut_u8 lo
     return trimming__trim(log, area, state, newest, batch);
 }
 
+/* Where the committed transactions end among the `n` positions of the log from its start on, or 0 for none. */
+static inline uint64_t usage__entries__committed_end(struct slice_u8 log, uint64_t groups, uint64_t homes, uint64_t start,
+        uint64_t n)
+{
+    struct scan__commits__Found t6, t7;
+
+    if (groups <= 64u) {
+        t6 = scan__commits__walk_small(log, groups, homes, start, n);
+        return t6.end;
+    }
+    t7 = scan__commits__walk_large(log, groups, homes, start, n);
+    return t7.end;
+}
+
 /* A sum with the number of entries that the word of a tag counts, if it closes a transaction. */
 static inline uint64_t usage__entries__word_entries(uint64_t word, uint64_t position, uint64_t base, uint64_t homes, uint64_t sum)
 {
@@ -5032,10 +5106,10 @@ static inline uint64_t usage__entries__closed_entries(struct slice_u8 log, uint6
 static inline uint64_t usage__entries__committed_entries(struct slice_u8 log, uint64_t groups, uint64_t homes, uint64_t start,
         uint64_t n)
 {
-    struct scan__commits__Found t6;
+    uint64_t t6;
 
-    t6 = scan__commits__walk(log, groups, homes, start, n);
-    return usage__entries__closed_entries(log, groups, homes, start, t6.end);
+    t6 = usage__entries__committed_end(log, groups, homes, start, n);
+    return usage__entries__closed_entries(log, groups, homes, start, t6);
 }
 
 /* How many entries writer `w` has logged in an open transaction. */
@@ -5044,9 +5118,9 @@ static inline uint64_t usage__writers__logged(struct slice_u8 state, uint64_t w)
     uint64_t t5;
 
     t5 = 128u + (96u * w);
-    return strip__writers__count_for((struct model__Writer){.mode = load_8(state.ptr + (size_t)t5), .home = load_8(state.ptr
-            + (size_t)(t5 + 8u)), .first = load_8(state.ptr + (size_t)(t5 + 16u)), .count = load_8(state.ptr + (size_t)(t5
-            + 24u))});
+    return strip__writers__count_for((struct model__Writer){.mode = (uint64_t)state.ptr[(size_t)(104u + w)],
+            .home = load_8(state.ptr + (size_t)(t5 + 8u)), .first = load_8(state.ptr + (size_t)(t5 + 16u)),
+            .count = load_8(state.ptr + (size_t)(t5 + 24u))});
 }
 
 /* How many entries the eight writers have logged in open transactions. */
@@ -5092,7 +5166,7 @@ static inline struct model__Holder usage__writers__lower(struct slice_u8 state, 
     uint64_t t10;
 
     t10 = 128u + (96u * w);
-    t4 = (struct model__Writer){.mode = load_8(state.ptr + (size_t)t10), .home = load_8(state.ptr + (size_t)(t10 + 8u)),
+    t4 = (struct model__Writer){.mode = (uint64_t)state.ptr[(size_t)(104u + w)], .home = load_8(state.ptr + (size_t)(t10 + 8u)),
             .first = load_8(state.ptr + (size_t)(t10 + 16u)), .count = load_8(state.ptr + (size_t)(t10 + 24u))};
     if (!(3u <= t4.mode)) {
         return h;
