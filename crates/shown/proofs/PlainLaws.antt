@@ -91,6 +91,13 @@ top-plain w home h e = let l : w / 2 ^ 53 < 16 = omega arith in (omega (arith, e
 pub top-displaced : (w home : ℕ) → home < 2 ^ 16 → w / 2 ^ 53 ≡ home / 2 ^ 12 + 16 → (w / 2 ^ 53 % 2 ^ 4 ≡ home / 2 ^ 12) × (w / 2 ^ 58 ≡ 0)
 top-displaced w home h e = let l : w / 2 ^ 53 < 32 = omega arith in let k : home / 2 ^ 12 < 16 = omega arith in (omega (arith, e, k), omega (arith, l))
 
+-- lowest and highest bits next to each other
+key-parts : (l t home k : ℕ) → l < 2 ^ 14 → k < 4 → l + 2 ^ 14 * t ≡ 4 * home + k → (t ≡ home / 2 ^ 12) × (l ≡ 4 * (home % 2 ^ 12) + k)
+key-parts l t home k h s e = (omega arith, omega arith)
+
+low-key : (w : ℕ) → w % 0x4000 < 2 ^ 14
+low-key w = omega arith
+
 one-zero : (n : ℕ) → n ≡ 1 → n ≡ 0 → ⊥
 one-zero n e z = omega arith
 
@@ -232,3 +239,52 @@ module _ (w home after base homes : ℕ) (fits : w < 2 ^ 64) (small : home < 2 ^
           eq-eqb (w / 2 ^ 2 % 2 ^ 12 + 2 ^ 12 * (w / 2 ^ 53 % 2 ^ 4)) home (home-parts home _ _ (t .2) top),
           ne-eqb (w / 2 % 2) 0 (λ z. one-zero (w / 2 % 2) (t .1) z),
         ))
+
+  -- the same with lowest and highest bits compared at once
+  module _ (near : w / 2 ^ 14 % 0x2000 ≤ after) where
+    pub closing-key : w % 0x4000 + 0x4000 * (w / 2 ^ 53) ≡ 4 * home + 1 + 2
+        → ltb 0 (w / 2 ^ 40 % 0x2000)
+        ≡ (present (readTag w (base + after) base homes) && eqb (homeOf (readTag w (base + after) base homes)) home)
+    closing-key e =
+        let q = key-parts (w % 0x4000) (w / 2 ^ 53) home 3 (low-key w) (omega arith) (omega (arith, e)) in
+        let t = top-plain w home small (q .0) in
+        closing-low near (t .0) (t .1) (omega (arith, q .1))
+
+    pub closing-displaced : w % 0x4000 + 0x4000 * (w / 2 ^ 53) ≡ 4 * home + 1 + 0x4_0002
+        → ltb 0 (w / 2 ^ 40 % 0x2000)
+        ≡ (present (readTag w (base + after) base homes) && eqb (homeOf (readTag w (base + after) base homes)) home)
+    closing-displaced e =
+        let q = key-parts (w % 0x4000) (w / 2 ^ 53) (home + 2 ^ 16) 3 (low-key w) (omega arith) (omega (arith, e)) in
+        let t = top-displaced w home small (omega (arith, q .0)) in
+        closing-low near (t .0) (t .1) (omega (arith, q .1))
+
+    pub plain-key : w % 0x4000 + 0x4000 * (w / 2 ^ 53) ≡ 4 * home + 1
+        → eqb (w / 2 ^ 27 % 0x400_0000) 0
+        ≡ (present (readTag w (base + after) base homes) && eqb (homeOf (readTag w (base + after) base homes)) home)
+    plain-key e =
+        let q = key-parts (w % 0x4000) (w / 2 ^ 53) home 1 (low-key w) (omega arith) e in
+        let t = top-plain w home small (q .0) in
+        plain-low near (t .0) (t .1) (omega (arith, q .1))
+
+    pub plain-displaced : w % 0x4000 + 0x4000 * (w / 2 ^ 53) ≡ 4 * home + 1 + 0x4_0000
+        → eqb (w / 2 ^ 27 % 0x400_0000) 0
+        ≡ (present (readTag w (base + after) base homes) && eqb (homeOf (readTag w (base + after) base homes)) home)
+    plain-displaced e =
+        let q = key-parts (w % 0x4000) (w / 2 ^ 53) (home + 2 ^ 16) 1 (low-key w) (omega arith) (omega (arith, e)) in
+        let t = top-displaced w home small (omega (arith, q .0)) in
+        plain-low near (t .0) (t .1) (omega (arith, q .1))
+
+    pub other-key : (w % 0x4000 + 0x4000 * (w / 2 ^ 53) ≡ 4 * home + 1 + 2 → ⊥) → (w % 0x4000 + 0x4000 * (w / 2 ^ 53) ≡ 4 * home + 1 + 0x4_0002 → ⊥)
+        → (w % 0x4000 + 0x4000 * (w / 2 ^ 53) ≡ 4 * home + 1 → ⊥) → (w % 0x4000 + 0x4000 * (w / 2 ^ 53) ≡ 4 * home + 1 + 0x4_0000 → ⊥)
+        → false ≡ (present (readTag w (base + after) base homes) && eqb (homeOf (readTag w (base + after) base homes)) home)
+    other-key a b c d = go (ℕ-discrete (w / 2 ^ 53) (home / 2 ^ 12)) (ℕ-discrete (w / 2 ^ 53) (home / 2 ^ 12 + 16))
+      where
+        go : Dec (w / 2 ^ 53 ≡ home / 2 ^ 12) → Dec (w / 2 ^ 53 ≡ home / 2 ^ 12 + 16)
+            → false ≡ (present (readTag w (base + after) base homes) && eqb (homeOf (readTag w (base + after) base homes)) home)
+        go (yes e) f =
+            let t = top-plain w home small e in
+            other-low near (t .0) (t .1) (λ z. c (omega (arith, e, z))) (λ z. a (omega (arith, e, z)))
+        go (no p) (yes e) =
+            let t = top-displaced w home small e in
+            other-low near (t .0) (t .1) (λ z. d (omega (arith, e, z))) (λ z. b (omega (arith, e, z)))
+        go (no p) (no q) = other-top p q

@@ -2,26 +2,24 @@
 use mathlib.Core.Path.{_≡_, refl, sym, ap, _∙_}
 use mathlib.Core.Bool.{Bool, true, false, cond, _&&_, and-false, false≢true}
 use mathlib.Core.List.{List}
-use mathlib.Core.Option.{Option, none, some}
+use mathlib.Core.Option.{none, some}
 use Prim.Native.Nat.{ℕ, _+_, _-_, _*_, _/_, _%_, _^_, _≤_, _<_}
 use native.Mathlib.Nat.{mod-lt}
 use native.Mathlib.Omega.{arith}
 use lib.Dec.{leb, ltb, eqb}
 use lib.ListN.{length, take, drop}
-use borrow.Author.Tests.{ne-eqb, ltb-true, lt-ltb, le-ltb, leb-true, le-leb, lt-leb}
+use borrow.Author.Tests.{ltb-true, lt-ltb, le-ltb, le-leb, lt-leb}
 use Rattle.model.specs.Bytes.{part, puts, number, same}
-use Rattle.model.specs.Layout.{groupAt, slotOf, indexOf, blockOf, blockAt, homeAt, turnOf, withTopBit, wordThere, groupMark, groupValid, entryIn, entryAt}
-use Rattle.model.specs.Tag.{present, homeOf, readTag, displaced}
+use Rattle.model.specs.Layout.{groupAt, slotOf, indexOf, blockOf, blockAt, homeAt, wordThere, groupMark, groupValid, entryIn, entryAt}
+use Rattle.model.specs.Tag.{present, homeOf, readTag}
 use Rattle.model.specs.State.{stateOf, nextPosition}
 use Rattle.model.specs.declared.State.{State}
-use Rattle.model.specs.declared.Tag.{Tag}
-use Rattle.model.specs.declared.Tag.the-variants.{Nothing, Entry, Closing}
+use Rattle.model.specs.declared.Tag.the-variants.{Nothing}
 use Rattle.model.specs.Effects.{Given, groups, homes, tagsOf, liveTags, liveBase, blockOr, isThere}
 use Rattle.model.specs.Rights.{shownAt}
 use Rattle.laws.proofs.bytes.ByteLaws.{puts-whole}
-use Rattle.laws.proofs.bytes.TagLaws.{entry-known, closing-known}
 use Rattle.laws.proofs.trace.ReplayLaws.{length-blockAt}
-use Rattle.laws.proofs.strip.OrderLaws.{InOrder, next-within}
+use Rattle.laws.proofs.strip.OrderLaws.{next-within}
 use Rattle.answers.proofs.AnswerLaws.{Usable}
 use Rattle.scan.specs.declared.slots.RingSlot.{RingSlot}
 use Rattle.scan.specs.Slots.{Kept}
@@ -83,36 +81,6 @@ module _ (log : List ℕ) (st : State) (p : ℕ) (at : RingPlace) (from : ℕ) (
   there-word r word home h w g =
       let t : tagsBy log st p ≡ readTag word p (7 * st .start) (st .homes) = there-tag ∙ rw (h, w) in
       g ∙ rw t
-
--- nothing is there for a home that the store does not have
-none-for : (w position base homes home : ℕ) → homes ≤ home
-    → (present (readTag w position base homes) && eqb (homeOf (readTag w position base homes)) home) ≡ false
-unfolding present homeOf
-none-for w position base homes home l = go (readTag w position base homes) refl
-  where
-    go : (t : Tag) → readTag w position base homes ≡ t → (present t && eqb (homeOf t) home) ≡ false
-    go Nothing e = refl
-    go (Entry h f) e = ne-eqb h home (λ q. omega (arith, entry-known w position base homes h f e .0))
-    go (Closing h f n c) e = ne-eqb h home (λ q. omega (arith, closing-known w position base homes h f n c e .0))
-
-pub other-home : (log : List ℕ) (st : State) (home p : ℕ) → st .homes ≤ home → thereBy log st home p ≡ false
-unfolding thereBy entryAt entryIn present
-other-home log st home p l =
-    go (groupValid (groupAt log (slotOf (st .groups) p)) (st .groups) (st .start) (p / 7)) (leb (7 * st .start) p) (ltb p (nextPosition st))
-  where
-    go : (v a b : Bool)
-        → (a && b
-        && present
-        (cond v (readTag (wordThere (groupAt log (slotOf (st .groups) p)) (turnOf (st .groups) (p / 7)) (indexOf p)) p (7 * st .start) (st .homes)) Nothing)
-        && eqb
-        (homeOf
-        (cond v (readTag (wordThere (groupAt log (slotOf (st .groups) p)) (turnOf (st .groups) (p / 7)) (indexOf p)) p (7 * st .start) (st .homes)) Nothing))
-        home)
-        ≡ false
-    go v false b = refl
-    go v true false = refl
-    go false true true = refl
-    go true true true = none-for _ p (7 * st .start) (st .homes) home l
 
 -- ---- the entry at the kept position
 

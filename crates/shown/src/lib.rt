@@ -53,13 +53,10 @@ fn place_by(log: &[u8], st: State, home: u64, position: u64) -> usize
 
 // The same by the strip. Called by one name from everywhere, so that of its numbers only those that are compared are read.
 pub fn place(log: &[u8], state: &[u8], home: u64, position: u64) -> usize
-    requires { ⌜ Searchable (now log) (stateOf (now state)) × (length (now state) ≡ 1024) ⌝ }
+    requires { ⌜ Searchable (now log) (stateOf (now state)) × (length (now state) ≡ 1024) × (home < stateOf (now state) .homes) ⌝ }
     ensures { λ r. ⌜ r ≡ placeBy (now (log .entry)) (stateOf (now (state .entry))) home position ⌝ }
 {
     let st = strip::state(state);
-    if st.homes <= home {
-        return 0;
-    }
     place_by(log, st, home, position)
 }
 

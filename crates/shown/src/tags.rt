@@ -5,7 +5,8 @@ ghost use Prim.Native.Nat.{ℕ, _+_, _^_, _<_};
 ghost use lib.Dec.{eqb};
 ghost use Rattle.model.specs.Tag.{present, homeOf, readTag};
 
-// Whether a word says `after` positions behind the log's start that an entry for a home is there, test by test of its fields.
+// Whether a word says `after` positions behind the log's start that an entry for a home is there. Its lowest bits and its highest, next to
+// each other, are those of the home, with 2 more where it closes a transaction and 2^18 more where it displaced a bit.
 fn fields_for(word: u64, home: u64, after: u64) -> bool
     requires { ⌜ home < 2 ^ 16 ⌝ }
     ensures { λ r. ⌜ ((base homes : ℕ) → home < homes → r ≡ (present (readTag word (base + after) base homes) && eqb (homeOf (readTag word (base + after) base homes)) home)) ⌝ }
@@ -13,22 +14,21 @@ fn fields_for(word: u64, home: u64, after: u64) -> bool
     if (word >> 14) % 0x2000 > after {
         return false;
     }
-    let top = word >> 53;
-    let high = home >> 12;
-    if top != high {
-        if top != high + 16 {
-            return false;
-        }
+    let key = word % 0x4000 + 0x4000 * (word >> 53);
+    let plain = 4 * home + 1;
+    if key == plain + 2 {
+        return 0 < (word >> 40) % 0x2000;
     }
-    let low = word % 0x4000;
-    let plain = 4 * (home % 0x1000) + 1;
-    if low == plain {
+    if key == plain + 0x4_0002 {
+        return 0 < (word >> 40) % 0x2000;
+    }
+    if key == plain {
         return (word >> 27) % 0x400_0000 == 0;
     }
-    if low != plain + 2 {
+    if key != plain + 0x4_0000 {
         return false;
     }
-    0 < (word >> 40) % 0x2000
+    (word >> 27) % 0x400_0000 == 0
 }
 
 // The same. The word of an entry that does not close its transaction and displaced no bit has nothing above the distance back: that and its low bits
