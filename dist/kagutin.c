@@ -488,26 +488,53 @@ static inline bool order__quick__record_in_order(struct model__State st, uint64_
     return order__quick__logged_in_order(st, low, all, r);
 }
 
-/* Whether the records of all eight writers are in order where nothing is promised. Their modes are read as one word, and only
-   writers are visited of whose mode a bit but the lowest is set. */
-static inline bool order__quick__records_in_order(struct slice_u8 s, struct model__State st, uint64_t low, uint64_t all)
+/* The same for any writer. */
+static inline bool order__quick__any_in_order(struct model__State st, uint64_t low, uint64_t all, struct model__Writer r)
 {
-    uint64_t t5, t117, t118;
-    bool t8;
+    if (r.mode < 2u) {
+        return true;
+    }
+    return order__quick__record_in_order(st, low, all, r);
+}
 
-    t5 = load_8(s.ptr + 104u) & UINT64_C(0xfefefefefefefefe);
-    while (t5 != 0u) {
-        t117 = (uint64_t)trailing_zeros(t5) / 8u;
-        t118 = 128u + (96u * t117);
-        t8 = order__quick__record_in_order(st, low, all, (struct model__Writer){.mode = (uint64_t)s.ptr[(size_t)(104u + t117)],
-                .home = load_8(s.ptr + (size_t)(t118 + 8u)), .first = load_8(s.ptr + (size_t)(t118 + 16u)), .count = load_8(s.ptr
-                + (size_t)(t118 + 24u))});
-        if (!t8) {
+/* Whether the records of all eight writers are in order where nothing is promised, one after the other. */
+static inline bool order__quick__each_in_order(struct slice_u8 s, struct model__State st, uint64_t low, uint64_t all)
+{
+    uint64_t t5, t10;
+    bool t6;
+
+    t5 = 0u;
+    while (t5 != 8u) {
+        t10 = 128u + (96u * t5);
+        t6 = order__quick__any_in_order(st, low, all, (struct model__Writer){.mode = (uint64_t)s.ptr[(size_t)(104u + t5)],
+                .home = load_8(s.ptr + (size_t)(t10 + 8u)), .first = load_8(s.ptr + (size_t)(t10 + 16u)), .count = load_8(s.ptr
+                + (size_t)(t10 + 24u))});
+        if (!t6) {
             return false;
         }
-        t5 = t5 & (t5 - 1u);
+        t5 = t5 + 1u;
     }
     return true;
+}
+
+/* The same by their modes, read as one word: of a writer that holds a block a bit but the lowest is set. Where it is one writer,
+   only that one is visited. */
+static inline bool order__quick__records_in_order(struct slice_u8 s, struct model__State st, uint64_t low, uint64_t all)
+{
+    uint64_t t5, t118, t119;
+
+    t5 = load_8(s.ptr + 104u) & UINT64_C(0xfefefefefefefefe);
+    if (t5 == 0u) {
+        return true;
+    }
+    if ((t5 & (t5 - 1u)) != 0u) {
+        return order__quick__each_in_order(s, st, low, all);
+    }
+    t118 = (uint64_t)trailing_zeros(t5) / 8u;
+    t119 = 128u + (96u * t118);
+    return order__quick__record_in_order(st, low, all, (struct model__Writer){.mode = (uint64_t)s.ptr[(size_t)(104u + t118)],
+            .home = load_8(s.ptr + (size_t)(t119 + 8u)), .first = load_8(s.ptr + (size_t)(t119 + 16u)), .count = load_8(s.ptr
+            + (size_t)(t119 + 24u))});
 }
 
 /* Question 2 for a log of `groups` groups and `homes` homes: 0 if the strip is in order, 2 if it is not, and 1 where a promise or
@@ -1551,30 +1578,31 @@ static inline struct shown__ring__RingPlace shown__ring__ring_place(struct model
     return (struct shown__ring__RingPlace){.number = t4, .slot = t5.slot, .turn = t5.turn, .k = after - (7u * t3)};
 }
 
-/* Whether a word says `after` positions behind the log's start that an entry for a home is there, test by test of its fields. */
+/* Whether a word says `after` positions behind the log's start that an entry for a home is there. Its lowest bits and its
+   highest, next to each other, are those of the home, with 2 more where it closes a transaction and 2^18 more where it displaced
+   a bit. */
 static inline bool shown__tags__fields_for(uint64_t word, uint64_t home, uint64_t after)
 {
-    uint64_t t4, t5, t6, t7;
+    uint64_t t4, t5;
 
     if (after < ((word >> 14u) % 8192u)) {
         return false;
     }
-    t4 = word >> 53u;
-    t5 = home >> 12u;
-    if (t4 != t5) {
-        if (t4 != (t5 + 16u)) {
-            return false;
-        }
+    t4 = (word % 16384u) + (16384u * (word >> 53u));
+    t5 = (4u * home) + 1u;
+    if (t4 == (t5 + 2u)) {
+        return 0u < ((word >> 40u) % 8192u);
     }
-    t6 = word % 16384u;
-    t7 = (4u * (home % 4096u)) + 1u;
-    if (t6 == t7) {
+    if (t4 == (t5 + UINT64_C(0x40002))) {
+        return 0u < ((word >> 40u) % 8192u);
+    }
+    if (t4 == t5) {
         return ((word >> 27u) % UINT64_C(0x4000000)) == 0u;
     }
-    if (t6 != (t7 + 2u)) {
+    if (t4 != (t5 + UINT64_C(0x40000))) {
         return false;
     }
-    return 0u < ((word >> 40u) % 8192u);
+    return ((word >> 27u) % UINT64_C(0x4000000)) == 0u;
 }
 
 /* The same. The word of an entry that does not close its transaction and displaced no bit has nothing above the distance back:
@@ -1631,19 +1659,14 @@ static inline uint64_t shown__place_by(struct slice_u8 log, struct model__State 
 /* The same by the strip. Called by one name from everywhere, so that of its numbers only those that are compared are read. */
 static inline uint64_t shown__place(struct slice_u8 log, struct slice_u8 state, uint64_t home, uint64_t position)
 {
-    struct model__State t5;
-    uint64_t t8, t9;
+    uint64_t t7, t8;
 
-    t8 = load_8(state.ptr);
-    t9 = load_8(state.ptr + 8u);
-    t5 = (struct model__State){.groups = t8, .homes = t9, .start = load_8(state.ptr + 16u), .next = load_8(state.ptr + 24u),
-            .filled = load_8(state.ptr + 32u), .settled = load_8(state.ptr + 40u), .fenced = load_8(state.ptr + 48u),
-            .durable = load_8(state.ptr + 56u), .last = load_8(state.ptr + 64u), .round = load_8(state.ptr + 88u),
-            .cursor = load_8(state.ptr + 96u)};
-    if (t5.homes <= home) {
-        return 0u;
-    }
-    return shown__place_by(log, t5, home, position);
+    t7 = load_8(state.ptr);
+    t8 = load_8(state.ptr + 8u);
+    return shown__place_by(log, (struct model__State){.groups = t7, .homes = t8, .start = load_8(state.ptr + 16u),
+            .next = load_8(state.ptr + 24u), .filled = load_8(state.ptr + 32u), .settled = load_8(state.ptr + 40u),
+            .fenced = load_8(state.ptr + 48u), .durable = load_8(state.ptr + 56u), .last = load_8(state.ptr + 64u),
+            .round = load_8(state.ptr + 88u), .cursor = load_8(state.ptr + 96u)}, home, position);
 }
 
 /* Where the block of the list's home 8 + `i` lies in the log, 0 where the data copy has it. */
