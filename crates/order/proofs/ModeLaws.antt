@@ -22,7 +22,7 @@ use Rattle.laws.proofs.strip.OrderLaws.{order-writer}
 use Rattle.codec.proofs.JoinLaws.{number-join}
 use Rattle.bitmap.specs.Marks.{bit}
 use Rattle.bitmap.proofs.WordLaws.{bit-zero}
-use Rattle.order.proofs.OrderTests.{record-held, writers-none, writers-turn, writers-stop}
+use Rattle.order.proofs.OrderTests.{record-held, writers-none, writers-turn}
 
 -- every bit of a byte but the lowest, for each writer
 abbrev pub high : ℕ
@@ -130,45 +130,55 @@ module _ (s : List ℕ) (b : (i : ℕ) → getD s i 0 < 256) where
           (λ e. omega arith)
           (λ e. omega arith)
 
--- the writer of a bit holds a block, or has a mode that there is not
-pub held-high : (s : List ℕ) (word held : ℕ) → ((i : ℕ) → getD s i 0 < 256) → word ≡ number 8 s 104 → held ≡ bitAnd word high
-    → (t : ℕ) → t < 64 → bit held t ≡ true → 2 ≤ writerOf s (t / 8) .mode
-held-high s word held b f e t l h =
-    mode-high s b t l (ap (λ (x : ℕ). bit x t) (sym (e ∙ ap (λ (x : ℕ). bitAnd x high) f)) ∙ h)
+-- ---- the writers visited one after the other, by the bits that are left
 
--- ---- all eight writers, where nothing is promised
+-- a writer of whose mode no bit is left is in order, and the bits left are among those looked at
+pub record Visited (s : List ℕ) (st : State) (left : ℕ) : Type 0 where
+  pub in-order : (w : ℕ) → w < 8 → ((k : ℕ) → k < 8 → bit left (8 * w + k) ≡ false) → true ≡ writerInOrder st (writerOf s w)
+  pub among : (t : ℕ) → bit left t ≡ true → bit (bitAnd (number 8 s 104) high) t ≡ true
 
-module _ (s : List ℕ) (st : State) (word held : ℕ) (b : (i : ℕ) → getD s i 0 < 256) (f : word ≡ number 8 s 104) (e : held ≡ bitAnd word high)
-    (none : (w : ℕ) → w < 8 → promiseOf s w ≡ 0) where
-  -- a writer of whose mode no bit is set is in order
-  low-held : (w : ℕ) → w < 8 → ((k : ℕ) → k < 8 → bit held (8 * w + k) ≡ false) → true ≡ writerInOrder st (writerOf s w)
-  low-held w h no-bit =
-      let g : bitAnd (number 8 s 104) high ≡ held = sym (e ∙ ap (λ (x : ℕ). bitAnd x high) f) in
-      let m = mode-low s b w h (λ k l. ap (λ (x : ℕ). bit x (8 * w + k)) g ∙ no-bit k l) in
-      sym (order-writer st (writerOf s w) (record { mode = omega arith; home = λ k. omega arith; logged = λ k. omega arith }))
+module _ (s : List ℕ) (st : State) where
+  -- at the beginning
+  pub visited-none : (left word : ℕ) → ((i : ℕ) → getD s i 0 < 256) → word ≡ number 8 s 104 → left ≡ bitAnd word high → Visited s st left
+  visited-none left word b f e =
+      let g : left ≡ bitAnd (number 8 s 104) high = e ∙ ap (λ (x : ℕ). bitAnd x high) f in
+      record {
+        in-order =
+            λ w h none.
+            let m = mode-low s b w h (λ k l. ap (λ (x : ℕ). bit x (8 * w + k)) (sym g) ∙ none k l) in
+            sym (order-writer st (writerOf s w) (record { mode = omega arith; home = λ k. omega arith; logged = λ k. omega arith }));
+        among = λ t h. ap (λ (x : ℕ). bit x t) (sym g) ∙ h;
+      }
 
-  all-held : ((w : ℕ) → w < 8 → true ≡ writerInOrder st (writerOf s w)) → true ≡ writersInOrder s st 8
-  all-held each = go 8 (omega arith)
+  -- once the writer of the lowest bit is found in order, and that bit is cleared
+  pub visited-next : (left next t : ℕ) → Visited s st left → t ≡ trailingZeros 64 left → bit left t ≡ true
+      → ((j : ℕ) → (j ≡ trailingZeros 64 left → ⊥) → bit next j ≡ bit left j) → true ≡ writerInOrder st (writerOf s (t / 8)) → Visited s st next
+  visited-next left next t v e set others o = record { in-order = orders; among = amongs }
+    where
+      kept : (j : ℕ) → j ≢ t → bit next j ≡ bit left j
+      kept j n = others j (λ f. n (f ∙ sym e))
+
+      orders : (w : ℕ) → w < 8 → ((k : ℕ) → k < 8 → bit next (8 * w + k) ≡ false) → true ≡ writerInOrder st (writerOf s w)
+      orders w h none = go (ℕ-discrete w (t / 8))
+        where
+          go : Dec (w ≡ t / 8) → true ≡ writerInOrder st (writerOf s w)
+          go (yes f) = rw f o
+          go (no f) = v .in-order w h (λ k l. sym (kept (8 * w + k) (λ q. f (omega arith))) ∙ none k l)
+
+      amongs : (j : ℕ) → bit next j ≡ true → bit (bitAnd (number 8 s 104) high) j ≡ true
+      amongs j h = go (ℕ-discrete j t)
+        where
+          go : Dec (j ≡ t) → bit (bitAnd (number 8 s 104) high) j ≡ true
+          go (yes f) = v .among j (ap (bit left) f ∙ set)
+          go (no f) = v .among j (sym (kept j f) ∙ h)
+
+  -- with none left all are in order, where nothing is promised
+  pub visited-all : Visited s st 0 → ((w : ℕ) → w < 8 → promiseOf s w ≡ 0) → true ≡ writersInOrder s st 8
+  visited-all v none = go 8 (omega arith)
     where
       go : (n : ℕ) → n ≤ 8 → true ≡ writersInOrder s st n
       go zero h = writers-none s st
       go (suc n) h =
-          rw (← add-one n) (writers-turn s st n (go n (omega arith)) (record-held s st n true (each n (omega arith)) (none n (omega arith))))
-
-  -- no bit is set
-  pub none-held : held ≡ 0 → true ≡ writersInOrder s st 8
-  none-held z = all-held (λ w h. low-held w h (λ k l. ap (λ (x : ℕ). bit x (8 * w + k)) z ∙ bit-zero (8 * w + k)))
-
-  -- one bit is set, and none is once it is cleared: its writer tells
-  pub one-held : (next t : ℕ) → next ≡ 0 → t < 64 → t ≡ trailingZeros 64 held → ((j : ℕ) → (j ≡ trailingZeros 64 held → ⊥) → bit next j ≡ bit held j)
-      → (r : Bool) → r ≡ writerInOrder st (writerOf s (t / 8)) → r ≡ writersInOrder s st 8
-  one-held next t z l et others true o = all-held (λ w h. go w h (ℕ-discrete w (t / 8)))
-    where
-      cleared : (j : ℕ) → j ≢ t → bit held j ≡ false
-      cleared j n = sym (others j (λ q. n (q ∙ sym et))) ∙ ap (λ (x : ℕ). bit x j) z ∙ bit-zero j
-
-      go : (w : ℕ) → w < 8 → Dec (w ≡ t / 8) → true ≡ writerInOrder st (writerOf s w)
-      go w h (yes q) = rw q o
-      go w h (no q) = low-held w h (λ k m. cleared (8 * w + k) (λ x. q (omega arith)))
-  one-held next t z l et others false o =
-      writers-stop s st (t / 8) 8 (omega arith) (record-held s st (t / 8) false o (none (t / 8) (omega arith)))
+          rw (← add-one n)
+          (writers-turn s st n (go n (omega arith))
+          (record-held s st n true (v .in-order n (omega arith) (λ k l. bit-zero (8 * n + k))) (none n (omega arith))))

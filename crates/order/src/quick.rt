@@ -60,46 +60,21 @@ fn record_in_order(st: State, low: u64, all: u64, r: Writer) -> bool
     logged_in_order(st, low, all, r)
 }
 
-// The same for any writer.
-fn any_in_order(st: State, low: u64, all: u64, r: Writer) -> bool
-    requires { ⌜ Live st low all ⌝ }
-    ensures { λ b. ⌜ b ≡ writerInOrder st r ⌝ }
-{
-    if r.mode < 2 {
-        return true;
-    }
-    record_in_order(st, low, all, r)
-}
-
-// Whether the records of all eight writers are in order where nothing is promised, one after the other.
-fn each_in_order(s: &[u8], st: State, low: u64, all: u64) -> bool
-    requires { ⌜ (length (now s) ≡ 1024) × Live st low all × ((w : ℕ) → w < 8 → promiseOf (now s) w ≡ 0) ⌝ }
-    ensures { λ r. ⌜ r ≡ writersInOrder (now (s .entry)) st 8 ⌝ }
-{
-    let mut w: usize = 0;
-    while w != 8 {
-        if !any_in_order(st, low, all, writer(s, w)) {
-            return false;
-        }
-        w += 1;
-    }
-    true
-}
-
-// The same by their modes, read as one word: of a writer that holds a block a bit but the lowest is set. Where it is one writer, only that one is visited.
+// Whether the records of all eight writers are in order where nothing is promised. Their modes are read as one word, and only writers are visited of
+// whose mode a bit but the lowest is set.
 fn records_in_order(s: &[u8], st: State, low: u64, all: u64) -> bool
     requires { ⌜ (length (now s) ≡ 1024) × Live st low all × ((w : ℕ) → w < 8 → promiseOf (now s) w ≡ 0) ⌝ }
     ensures { λ r. ⌜ r ≡ writersInOrder (now (s .entry)) st 8 ⌝ }
 {
-    let held = codec::number(s, 104, 8) & 0xfefe_fefe_fefe_fefe;
-    if held == 0 {
-        return true;
+    let mut left = codec::number(s, 104, 8) & 0xfefe_fefe_fefe_fefe;
+    while left != 0 {
+        let w = bitmap::lowest(left) / 8;
+        if !record_in_order(st, low, all, writer(s, w)) {
+            return false;
+        }
+        left = bitmap::clear_lowest(left);
     }
-    if bitmap::clear_lowest(held) != 0 {
-        return each_in_order(s, st, low, all);
-    }
-    let w = bitmap::lowest(held) / 8;
-    record_in_order(st, low, all, writer(s, w))
+    true
 }
 
 // Whether the numbers of groups and homes are `groups` and `homes`, and the group numbers and the places filled are in order.
