@@ -488,53 +488,26 @@ static inline bool order__quick__record_in_order(struct model__State st, uint64_
     return order__quick__logged_in_order(st, low, all, r);
 }
 
-/* The same for any writer. */
-static inline bool order__quick__any_in_order(struct model__State st, uint64_t low, uint64_t all, struct model__Writer r)
-{
-    if (r.mode < 2u) {
-        return true;
-    }
-    return order__quick__record_in_order(st, low, all, r);
-}
-
-/* Whether the records of all eight writers are in order where nothing is promised, one after the other. */
-static inline bool order__quick__each_in_order(struct slice_u8 s, struct model__State st, uint64_t low, uint64_t all)
-{
-    uint64_t t5, t10;
-    bool t6;
-
-    t5 = 0u;
-    while (t5 != 8u) {
-        t10 = 128u + (96u * t5);
-        t6 = order__quick__any_in_order(st, low, all, (struct model__Writer){.mode = (uint64_t)s.ptr[(size_t)(104u + t5)],
-                .home = load_8(s.ptr + (size_t)(t10 + 8u)), .first = load_8(s.ptr + (size_t)(t10 + 16u)), .count = load_8(s.ptr
-                + (size_t)(t10 + 24u))});
-        if (!t6) {
-            return false;
-        }
-        t5 = t5 + 1u;
-    }
-    return true;
-}
-
-/* The same by their modes, read as one word: of a writer that holds a block a bit but the lowest is set. Where it is one writer,
-   only that one is visited. */
+/* Whether the records of all eight writers are in order where nothing is promised. Their modes are read as one word, and only
+   writers are visited of whose mode a bit but the lowest is set. */
 static inline bool order__quick__records_in_order(struct slice_u8 s, struct model__State st, uint64_t low, uint64_t all)
 {
-    uint64_t t5, t118, t119;
+    uint64_t t5, t117, t118;
+    bool t8;
 
     t5 = load_8(s.ptr + 104u) & UINT64_C(0xfefefefefefefefe);
-    if (t5 == 0u) {
-        return true;
+    while (t5 != 0u) {
+        t117 = (uint64_t)trailing_zeros(t5) / 8u;
+        t118 = 128u + (96u * t117);
+        t8 = order__quick__record_in_order(st, low, all, (struct model__Writer){.mode = (uint64_t)s.ptr[(size_t)(104u + t117)],
+                .home = load_8(s.ptr + (size_t)(t118 + 8u)), .first = load_8(s.ptr + (size_t)(t118 + 16u)), .count = load_8(s.ptr
+                + (size_t)(t118 + 24u))});
+        if (!t8) {
+            return false;
+        }
+        t5 = t5 & (t5 - 1u);
     }
-    if ((t5 & (t5 - 1u)) != 0u) {
-        return order__quick__each_in_order(s, st, low, all);
-    }
-    t118 = (uint64_t)trailing_zeros(t5) / 8u;
-    t119 = 128u + (96u * t118);
-    return order__quick__record_in_order(st, low, all, (struct model__Writer){.mode = (uint64_t)s.ptr[(size_t)(104u + t118)],
-            .home = load_8(s.ptr + (size_t)(t119 + 8u)), .first = load_8(s.ptr + (size_t)(t119 + 16u)), .count = load_8(s.ptr
-            + (size_t)(t119 + 24u))});
+    return true;
 }
 
 /* Question 2 for a log of `groups` groups and `homes` homes: 0 if the strip is in order, 2 if it is not, and 1 where a promise or
