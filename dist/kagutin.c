@@ -1996,7 +1996,8 @@ static inline bool rights__ranges__in_entry(struct slice_u8 log, uint64_t place,
     return rights__ranges__in_last(log, place, home);
 }
 
-/* Whether a home lies in one of the four ranges from byte `at` of the list on, whose block has the place `found`. */
+/* Whether a home lies in one of the four ranges from byte `at` of the list on, whose block has the place `found`. Two ask it, so
+   that it stays a function of its own and `open_listed` is short enough to stand in the questions themselves. */
 static inline bool rights__list__own_ranges(struct slice_u8 log, struct slice_u8 area, uint64_t found, uint64_t at, uint64_t home)
 {
     if (found == 0u) {
@@ -2034,10 +2035,12 @@ static inline bool rights__list__none_kept(struct slice_u8 kept, uint64_t from)
 static inline bool rights__list__open_kept(struct slice_u8 log, struct slice_u8 area, struct slice_u8 state, struct slice_u8 kept,
         uint64_t from, uint64_t at, uint64_t home)
 {
-    bool t8;
+    uint64_t t8;
+    bool t10;
 
-    t8 = rights__list__open_listed(log, area, state, kept, from, at, home);
-    if (t8) {
+    t8 = rights__list__place(log, state, kept, from, at / 64u);
+    t10 = rights__list__own_ranges(log, area, t8, at, home);
+    if (t10) {
         return true;
     }
     return rights__list__all_zeros(log, area, state, kept, from);

@@ -32,6 +32,7 @@ static const struct shape shapes[] = {
     {"log", 64, NEXT, 0, 8, 0, {0, 0}},
     {"log-last-range", 64, NEXT, 3, 8, 0, {0, 0}},
     {"log-apart", 64, APART, 0, 8, 0, {0, 0}},
+    {"log-apart-last", 64, APART, 3, 8, 0, {0, 0}},
     {"log-refused", 64, NEXT, -1, 0, 0, {KAGUTIN_NO_STORE, KAGUTIN_NO_READ}},
     {"log-refused-late", 64, NEXT, -1, 7, 0, {KAGUTIN_NO_STORE, KAGUTIN_NO_READ}},
     {"zeros", 64, NEXT, -1, 8, 0, {0, 0}},
