@@ -27,9 +27,9 @@ use Rattle.commits.specs.Closings.{loggedClosing, keptBy, Committed}
 use Rattle.commits.proofs.CommitLaws.{effect-held, kept-list}
 use Rattle.acts.specs.Chains.{blocksLent, blocksRight, homesKnown, lentOn, andThen, storedFirst, transactEffect, askHomes, allOf, mayStoreAll, roomForAll, transactAnswer, transactCall}
 use Rattle.chains.specs.Steps.{Chain, BatchRoom, Moved, Stored, Reached}
-use Rattle.chains.proofs.AllowedLaws.{read-list-same, storeTest}
+use Rattle.fetching.proofs.AllowedLaws.{read-list-same, storeTest}
 use Rattle.chains.proofs.StoredLaws.{sizes-more, may-log, moves, moved-more, bytes-more, stored}
-use Rattle.chains.proofs.VerdictLaws.{HomesLent, homes-refuse, homes-pass, homes-first, homes-lent}
+use Rattle.fetching.proofs.VerdictLaws.{HomesLent, homes-refuse, homes-pass, homes-first, homes-lent}
 
 -- ---- what the questions let through
 

@@ -1,10 +1,6 @@
-// Calls on several homes in a row under one verdict: fetch and revise read them, transact begins, stores them and commits.
-mod allowed;
-mod fetches;
+// Transact: blocks for several homes in a row, stored and committed under one verdict.
 mod steps;
 mod transacts;
 mod verdicts;
 
-pub use fetches::fetch;
-pub use fetches::revise;
 pub use transacts::transact;

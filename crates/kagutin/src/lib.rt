@@ -190,7 +190,7 @@ pub extern "C" fn kagutin_fetch(
 ) -> Reply
     ensures { λ r. ⌜ leavesAll (r .code) (r .figure) (r .size) (now (log .entry)) (now (area .entry)) (now (state .entry)) (now (newest .entry)) (now (blocks .exit)) [] ≡ fetchCall (lentAll (now (log .entry)) (now (area .entry)) (now (state .entry)) (now (newest .entry)) (now (blocks .entry)) [] writer home) ⌝ }
 {
-    chains::fetch(log, area, state, newest, blocks, writer, home)
+    fetching::fetch(log, area, state, newest, blocks, writer, home)
 }
 
 // The same for a writer that is going to store what it makes of the blocks: it may store to the homes, too.
@@ -206,7 +206,7 @@ pub extern "C" fn kagutin_revise(
 ) -> Reply
     ensures { λ r. ⌜ leavesAll (r .code) (r .figure) (r .size) (now (log .entry)) (now (area .entry)) (now (state .entry)) (now (newest .entry)) (now (blocks .exit)) [] ≡ reviseCall (lentAll (now (log .entry)) (now (area .entry)) (now (state .entry)) (now (newest .entry)) (now (blocks .entry)) [] writer home) ⌝ }
 {
-    chains::revise(log, area, state, newest, blocks, writer, home)
+    fetching::revise(log, area, state, newest, blocks, writer, home)
 }
 
 // Begins a transaction of an idle writer, stores one to seven blocks for the homes from `home` on and commits them. The figure is the ticket.

@@ -1,5 +1,5 @@
 -- `chains::may_log_all` meets its contract. Assumes nothing.
-use Rattle.chains.proofs.VerdictLaws.{room-no, room-part, room-short, room-full}
+use Rattle.fetching.proofs.VerdictLaws.{room-no, room-part, room-short, room-full}
 use borrow.Author.Needs.{needs}
 use native.Mathlib.Omega.{arith}
 use Rattle.chains.proofs.verdicts.may_log_all.Statement.{statement}

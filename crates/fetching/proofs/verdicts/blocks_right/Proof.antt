@@ -1,8 +1,8 @@
--- `chains::blocks_right` meets its contract. Assumes nothing.
-use Rattle.chains.proofs.VerdictLaws.{blocks-split, blocks-few, blocks-many}
+-- `fetching::blocks_right` meets its contract. Assumes nothing.
+use Rattle.fetching.proofs.VerdictLaws.{blocks-split, blocks-few, blocks-many}
 use native.Mathlib.Omega.{arith}
-use Rattle.chains.proofs.verdicts.blocks_right.Statement.{statement}
-use Rattle.chains.proofs.verdicts.blocks_right.Tie as tie
+use Rattle.fetching.proofs.verdicts.blocks_right.Statement.{statement}
+use Rattle.fetching.proofs.verdicts.blocks_right.Tie as tie
 
 returns : tie.Need-returns
 returns c =

@@ -1,9 +1,9 @@
--- `chains::homes_answer` meets its contract. Assumes nothing.
-use Rattle.chains.proofs.VerdictLaws.{blocks-no, first-no, writer-no, homes-no, homes-yes}
+-- `fetching::homes_answer` meets its contract. Assumes nothing.
+use Rattle.fetching.proofs.VerdictLaws.{blocks-no, first-no, writer-no, homes-no, homes-yes}
 use borrow.Author.Needs.{needs}
 use native.Mathlib.Omega.{arith}
-use Rattle.chains.proofs.verdicts.homes_answer.Statement.{statement}
-use Rattle.chains.proofs.verdicts.homes_answer.Tie as tie
+use Rattle.fetching.proofs.verdicts.homes_answer.Statement.{statement}
+use Rattle.fetching.proofs.verdicts.homes_answer.Tie as tie
 
 blocks-right-requires : tie.Need-blocks-right-requires
 blocks-right-requires c κs = search needs

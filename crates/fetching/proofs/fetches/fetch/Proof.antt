@@ -1,8 +1,8 @@
--- `chains::fetch` meets its contract. Assumes nothing.
-use Rattle.chains.proofs.FetchLaws.{fetch-refused, fetch-lent, fetch-done}
+-- `fetching::fetch` meets its contract. Assumes nothing.
+use Rattle.fetching.proofs.FetchLaws.{fetch-refused, fetch-lent, fetch-done}
 use borrow.Author.Needs.{needs}
-use Rattle.chains.proofs.fetches.fetch.Statement.{statement}
-use Rattle.chains.proofs.fetches.fetch.Tie as tie
+use Rattle.fetching.proofs.fetches.fetch.Statement.{statement}
+use Rattle.fetching.proofs.fetches.fetch.Tie as tie
 
 fetch-verdict-requires : tie.Need-fetch-verdict-requires
 fetch-verdict-requires c κs = search needs

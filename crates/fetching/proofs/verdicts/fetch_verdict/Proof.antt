@@ -1,8 +1,8 @@
--- `chains::fetch_verdict` meets its contract. Assumes nothing.
-use Rattle.chains.proofs.FetchLaws.{fetch-first, asks-rights, fetch-no, fetch-yes}
+-- `fetching::fetch_verdict` meets its contract. Assumes nothing.
+use Rattle.fetching.proofs.FetchLaws.{fetch-first, asks-rights, fetch-no, fetch-yes}
 use borrow.Author.Needs.{needs}
-use Rattle.chains.proofs.verdicts.fetch_verdict.Statement.{statement}
-use Rattle.chains.proofs.verdicts.fetch_verdict.Tie as tie
+use Rattle.fetching.proofs.verdicts.fetch_verdict.Statement.{statement}
+use Rattle.fetching.proofs.verdicts.fetch_verdict.Tie as tie
 
 homes-answer-requires : tie.Need-homes-answer-requires
 homes-answer-requires c κs = search needs

@@ -24,8 +24,8 @@ use Rattle.answers.proofs.AnswerLaws.{Usable, refused-by, done-by}
 use Rattle.reading.specs.Shown.{readBlock}
 use Rattle.model.specs.Rights.{forHome}
 use Rattle.acts.specs.Chains.{blocksLent, blocksRead, fetchEffect, askHomes, allOf, mayStoreAll, mayReadAll, fetchAnswer, reviseAnswer, fetchCall, reviseCall}
-use Rattle.chains.proofs.AllowedLaws.{block-same, read-list-same, storeTest, readTest}
-use Rattle.chains.proofs.VerdictLaws.{HomesLent, homes-refuse, homes-pass, homes-first, homes-lent}
+use Rattle.fetching.proofs.AllowedLaws.{block-same, read-list-same, storeTest, readTest}
+use Rattle.fetching.proofs.VerdictLaws.{HomesLent, homes-refuse, homes-pass, homes-first, homes-lent}
 
 -- ---- one block in its place
 

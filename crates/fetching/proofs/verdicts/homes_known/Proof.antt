@@ -1,8 +1,8 @@
--- `chains::homes_known` meets its contract. Assumes nothing.
-use Rattle.chains.proofs.VerdictLaws.{homes-past, homes-left}
+-- `fetching::homes_known` meets its contract. Assumes nothing.
+use Rattle.fetching.proofs.VerdictLaws.{homes-past, homes-left}
 use native.Mathlib.Omega.{arith}
-use Rattle.chains.proofs.verdicts.homes_known.Statement.{statement}
-use Rattle.chains.proofs.verdicts.homes_known.Tie as tie
+use Rattle.fetching.proofs.verdicts.homes_known.Statement.{statement}
+use Rattle.fetching.proofs.verdicts.homes_known.Tie as tie
 
 returns : tie.Need-returns
 returns c =

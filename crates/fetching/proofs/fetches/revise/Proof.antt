@@ -1,8 +1,8 @@
--- `chains::revise` meets its contract. Assumes nothing.
-use Rattle.chains.proofs.FetchLaws.{revise-refused, revise-lent, revise-done}
+-- `fetching::revise` meets its contract. Assumes nothing.
+use Rattle.fetching.proofs.FetchLaws.{revise-refused, revise-lent, revise-done}
 use borrow.Author.Needs.{needs}
-use Rattle.chains.proofs.fetches.revise.Statement.{statement}
-use Rattle.chains.proofs.fetches.revise.Tie as tie
+use Rattle.fetching.proofs.fetches.revise.Statement.{statement}
+use Rattle.fetching.proofs.fetches.revise.Tie as tie
 
 revise-verdict-requires : tie.Need-revise-verdict-requires
 revise-verdict-requires c κs = search needs

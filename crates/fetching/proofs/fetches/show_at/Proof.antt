@@ -1,9 +1,9 @@
--- `chains::show_at` meets its contract. Assumes nothing.
-use Rattle.chains.proofs.FetchLaws.{shown-at}
+-- `fetching::show_at` meets its contract. Assumes nothing.
+use Rattle.fetching.proofs.FetchLaws.{shown-at}
 use borrow.Author.Needs.{needs}
 use native.Mathlib.Omega.{arith}
-use Rattle.chains.proofs.fetches.show_at.Statement.{statement}
-use Rattle.chains.proofs.fetches.show_at.Tie as tie
+use Rattle.fetching.proofs.fetches.show_at.Statement.{statement}
+use Rattle.fetching.proofs.fetches.show_at.Tie as tie
 
 add-show : tie.Need-add-show
 add-show c = search needs

@@ -1,8 +1,8 @@
--- `chains::revise_verdict` meets its contract. Assumes nothing.
-use Rattle.chains.proofs.FetchLaws.{revise-first, asks-rights, revise-no, revise-reads-no, revise-yes}
+-- `fetching::revise_verdict` meets its contract. Assumes nothing.
+use Rattle.fetching.proofs.FetchLaws.{revise-first, asks-rights, revise-no, revise-reads-no, revise-yes}
 use borrow.Author.Needs.{needs}
-use Rattle.chains.proofs.verdicts.revise_verdict.Statement.{statement}
-use Rattle.chains.proofs.verdicts.revise_verdict.Tie as tie
+use Rattle.fetching.proofs.verdicts.revise_verdict.Statement.{statement}
+use Rattle.fetching.proofs.verdicts.revise_verdict.Tie as tie
 
 homes-answer-requires : tie.Need-homes-answer-requires
 homes-answer-requires c κs = search needs

@@ -1,4 +1,4 @@
--- `chains::show_all` meets its contract. The loop's invariant: the blocks of the homes below home + i stand one behind the other. Assumes nothing.
+-- `fetching::show_all` meets its contract. The loop's invariant: the blocks of the homes below home + i stand one behind the other. Assumes nothing.
 use mathlib.Core.Path.{_≡_, refl}
 use mathlib.Core.List.{[]}
 use Prim.Native.Nat.{_*_, _-_, _≤_}
@@ -7,9 +7,9 @@ use lib.ListN.{length}
 use Rattle.model.specs.Bytes.{puts}
 use Rattle.answers.specs.Lent.{lentAll}
 use Rattle.acts.specs.Chains.{blocksRead}
-use Rattle.chains.proofs.FetchLaws.{read-none, read-more, read-all}
-use Rattle.chains.proofs.fetches.show_all.Statement.{statement}
-use Rattle.chains.proofs.fetches.show_all.Tie as tie
+use Rattle.fetching.proofs.FetchLaws.{read-none, read-more, read-all}
+use Rattle.fetching.proofs.fetches.show_all.Statement.{statement}
+use Rattle.fetching.proofs.fetches.show_all.Tie as tie
 
 abbrev Inv-loop : tie.InvT-loop
 Inv-loop log area state newest blocks₀ writer home n i₀ blocks i =
