@@ -1860,7 +1860,7 @@ static inline struct answers__Reply kagutin__kagutin_confirm(struct slice_u8 log
 }
 
 /* Whether a strip of home blocks may have `len` bytes: one to seven whole blocks. */
-static inline bool chains__verdicts__blocks_right(uint64_t len)
+static inline bool fetching__verdicts__blocks_right(uint64_t len)
 {
     if ((len % 64u) != 0u) {
         return false;
@@ -1872,7 +1872,7 @@ static inline bool chains__verdicts__blocks_right(uint64_t len)
 }
 
 /* Whether the `n` homes from `home` on are all below `homes`. */
-static inline bool chains__verdicts__homes_known(uint64_t homes, uint64_t home, uint64_t n)
+static inline bool fetching__verdicts__homes_known(uint64_t homes, uint64_t home, uint64_t n)
 {
     if (homes < home) {
         return false;
@@ -1881,13 +1881,13 @@ static inline bool chains__verdicts__homes_known(uint64_t homes, uint64_t home, 
 }
 
 /* Questions 1, 2, 4 and 5, which each call on several homes puts first: 0 if none refuses it, else the number of the refusal. */
-static inline uint64_t chains__verdicts__homes_answer(struct slice_u8 log, struct slice_u8 area, struct slice_u8 state,
+static inline uint64_t fetching__verdicts__homes_answer(struct slice_u8 log, struct slice_u8 area, struct slice_u8 state,
         struct slice_u8 newest, struct slice_u8 blocks, uint64_t writer, uint64_t home)
 {
     uint64_t t8;
     bool t9;
 
-    t9 = chains__verdicts__blocks_right((uint64_t)blocks.len);
+    t9 = fetching__verdicts__blocks_right((uint64_t)blocks.len);
     if (!t9) {
         return 1u;
     }
@@ -1898,7 +1898,7 @@ static inline uint64_t chains__verdicts__homes_answer(struct slice_u8 log, struc
     if (8u <= writer) {
         return 4u;
     }
-    t9 = chains__verdicts__homes_known((uint64_t)area.len / 64u, home, (uint64_t)blocks.len / 64u);
+    t9 = fetching__verdicts__homes_known((uint64_t)area.len / 64u, home, (uint64_t)blocks.len / 64u);
     if (!t9) {
         return 5u;
     }
@@ -2122,7 +2122,7 @@ static inline bool rights__may_read(struct slice_u8 log, struct slice_u8 area, s
 }
 
 /* Whether a writer may read each of `n` homes from `home` on. */
-static inline bool chains__allowed__may_read_all(struct slice_u8 log, struct slice_u8 area, struct slice_u8 state,
+static inline bool fetching__allowed__may_read_all(struct slice_u8 log, struct slice_u8 area, struct slice_u8 state,
         struct slice_u8 newest, uint64_t writer, uint64_t home, uint64_t n)
 {
     uint64_t t8;
@@ -2140,17 +2140,17 @@ static inline bool chains__allowed__may_read_all(struct slice_u8 log, struct sli
 }
 
 /* The answer of a fetch: 0, or the number of the question that refuses it. */
-static inline uint64_t chains__verdicts__fetch_verdict(struct slice_u8 log, struct slice_u8 area, struct slice_u8 state,
+static inline uint64_t fetching__verdicts__fetch_verdict(struct slice_u8 log, struct slice_u8 area, struct slice_u8 state,
         struct slice_u8 newest, struct slice_u8 blocks, uint64_t writer, uint64_t home)
 {
     uint64_t t8;
     bool t9;
 
-    t8 = chains__verdicts__homes_answer(log, area, state, newest, blocks, writer, home);
+    t8 = fetching__verdicts__homes_answer(log, area, state, newest, blocks, writer, home);
     if (t8 != 0u) {
         return t8;
     }
-    t9 = chains__allowed__may_read_all(log, area, state, newest, writer, home, (uint64_t)blocks.len / 64u);
+    t9 = fetching__allowed__may_read_all(log, area, state, newest, writer, home, (uint64_t)blocks.len / 64u);
     if (!t9) {
         return 20u;
     }
@@ -2393,7 +2393,7 @@ static inline void reading__blocks__show(struct slice_u8 log, struct slice_u8 ar
 }
 
 /* Copies the block of a home that a writer sees to the index `at`. */
-static inline void chains__fetches__show_at(struct slice_u8 log, struct slice_u8 area, struct slice_u8 state,
+static inline void fetching__fetches__show_at(struct slice_u8 log, struct slice_u8 area, struct slice_u8 state,
         struct slice_u8 newest, struct slice_mut_u8 blocks, uint64_t at, uint64_t writer, uint64_t home)
 {
     reading__blocks__show(log, area, state, newest, (struct slice_mut_u8){blocks.ptr + (size_t)at, (size_t)((at + 64u) - at)},
@@ -2401,7 +2401,7 @@ static inline void chains__fetches__show_at(struct slice_u8 log, struct slice_u8
 }
 
 /* Copies the blocks that a writer sees of the homes from `home` on, one behind the other. */
-static inline void chains__fetches__show_all(struct slice_u8 log, struct slice_u8 area, struct slice_u8 state,
+static inline void fetching__fetches__show_all(struct slice_u8 log, struct slice_u8 area, struct slice_u8 state,
         struct slice_u8 newest, struct slice_mut_u8 blocks, uint64_t writer, uint64_t home)
 {
     uint64_t t8, t9;
@@ -2409,22 +2409,22 @@ static inline void chains__fetches__show_all(struct slice_u8 log, struct slice_u
     t8 = (uint64_t)blocks.len / 64u;
     t9 = 0u;
     while (t9 < t8) {
-        chains__fetches__show_at(log, area, state, newest, blocks, 64u * t9, writer, home + t9);
+        fetching__fetches__show_at(log, area, state, newest, blocks, 64u * t9, writer, home + t9);
         t9 = t9 + 1u;
     }
 }
 
 /* Reads the blocks of one to seven homes from `home` on, one behind the other, as a writer that may read them all sees them. */
-static inline struct answers__Reply chains__fetches__fetch(struct slice_u8 log, struct slice_u8 area, struct slice_u8 state,
+static inline struct answers__Reply fetching__fetches__fetch(struct slice_u8 log, struct slice_u8 area, struct slice_u8 state,
         struct slice_u8 newest, struct slice_mut_u8 blocks, uint64_t writer, uint64_t home)
 {
     uint64_t t8;
 
-    t8 = chains__verdicts__fetch_verdict(log, area, state, newest, (struct slice_u8){blocks.ptr, blocks.len}, writer, home);
+    t8 = fetching__verdicts__fetch_verdict(log, area, state, newest, (struct slice_u8){blocks.ptr, blocks.len}, writer, home);
     if (t8 != 0u) {
         return (struct answers__Reply){.code = t8, .figure = 0u, .size = 0u};
     }
-    chains__fetches__show_all(log, area, state, newest, blocks, writer, home);
+    fetching__fetches__show_all(log, area, state, newest, blocks, writer, home);
     return (struct answers__Reply){.code = 0u, .figure = 0u, .size = 0u};
 }
 
@@ -2432,7 +2432,7 @@ static inline struct answers__Reply chains__fetches__fetch(struct slice_u8 log, 
 static inline struct answers__Reply kagutin__kagutin_fetch(struct slice_u8 log, struct slice_u8 area, struct slice_u8 state,
         struct slice_u8 newest, struct slice_mut_u8 blocks, uint64_t writer, uint64_t home)
 {
-    return chains__fetches__fetch(log, area, state, newest, blocks, writer, home);
+    return fetching__fetches__fetch(log, area, state, newest, blocks, writer, home);
 }
 
 /* Whether a flush leaves as many places as are promised. */
@@ -3916,7 +3916,7 @@ static inline bool rights__may_store_newest(struct slice_u8 log, struct slice_u8
 }
 
 /* Whether a writer may store to each of `n` homes from `home` on. */
-static inline bool chains__allowed__may_store_all(struct slice_u8 log, struct slice_u8 area, struct slice_u8 state,
+static inline bool fetching__allowed__may_store_all(struct slice_u8 log, struct slice_u8 area, struct slice_u8 state,
         struct slice_u8 newest, uint64_t writer, uint64_t home, uint64_t n)
 {
     uint64_t t8;
@@ -3934,22 +3934,22 @@ static inline bool chains__allowed__may_store_all(struct slice_u8 log, struct sl
 }
 
 /* The answer of a revise: that of a fetch, which asks for the right to store too. */
-static inline uint64_t chains__verdicts__revise_verdict(struct slice_u8 log, struct slice_u8 area, struct slice_u8 state,
+static inline uint64_t fetching__verdicts__revise_verdict(struct slice_u8 log, struct slice_u8 area, struct slice_u8 state,
         struct slice_u8 newest, struct slice_u8 blocks, uint64_t writer, uint64_t home)
 {
     uint64_t t8, t9;
     bool t10;
 
-    t8 = chains__verdicts__homes_answer(log, area, state, newest, blocks, writer, home);
+    t8 = fetching__verdicts__homes_answer(log, area, state, newest, blocks, writer, home);
     if (t8 != 0u) {
         return t8;
     }
     t9 = (uint64_t)blocks.len / 64u;
-    t10 = chains__allowed__may_store_all(log, area, state, newest, writer, home, t9);
+    t10 = fetching__allowed__may_store_all(log, area, state, newest, writer, home, t9);
     if (!t10) {
         return 19u;
     }
-    t10 = chains__allowed__may_read_all(log, area, state, newest, writer, home, t9);
+    t10 = fetching__allowed__may_read_all(log, area, state, newest, writer, home, t9);
     if (!t10) {
         return 20u;
     }
@@ -3957,16 +3957,16 @@ static inline uint64_t chains__verdicts__revise_verdict(struct slice_u8 log, str
 }
 
 /* The same for a writer that is going to store what it makes of them: it may store to them all, too. */
-static inline struct answers__Reply chains__fetches__revise(struct slice_u8 log, struct slice_u8 area, struct slice_u8 state,
+static inline struct answers__Reply fetching__fetches__revise(struct slice_u8 log, struct slice_u8 area, struct slice_u8 state,
         struct slice_u8 newest, struct slice_mut_u8 blocks, uint64_t writer, uint64_t home)
 {
     uint64_t t8;
 
-    t8 = chains__verdicts__revise_verdict(log, area, state, newest, (struct slice_u8){blocks.ptr, blocks.len}, writer, home);
+    t8 = fetching__verdicts__revise_verdict(log, area, state, newest, (struct slice_u8){blocks.ptr, blocks.len}, writer, home);
     if (t8 != 0u) {
         return (struct answers__Reply){.code = t8, .figure = 0u, .size = 0u};
     }
-    chains__fetches__show_all(log, area, state, newest, blocks, writer, home);
+    fetching__fetches__show_all(log, area, state, newest, blocks, writer, home);
     return (struct answers__Reply){.code = 0u, .figure = 0u, .size = 0u};
 }
 
@@ -3974,7 +3974,7 @@ static inline struct answers__Reply chains__fetches__revise(struct slice_u8 log,
 static inline struct answers__Reply kagutin__kagutin_revise(struct slice_u8 log, struct slice_u8 area, struct slice_u8 state,
         struct slice_u8 newest, struct slice_mut_u8 blocks, uint64_t writer, uint64_t home)
 {
-    return chains__fetches__revise(log, area, state, newest, blocks, writer, home);
+    return fetching__fetches__revise(log, area, state, newest, blocks, writer, home);
 }
 
 /* Brings the data copy and the data area up to the fenced position. */
@@ -4569,12 +4569,12 @@ static inline uint64_t chains__verdicts__transact_verdict(struct slice_u8 log, s
     bool t11;
     struct model__Writer t16;
 
-    t9 = chains__verdicts__homes_answer(log, area, state, newest, blocks, writer, home);
+    t9 = fetching__verdicts__homes_answer(log, area, state, newest, blocks, writer, home);
     if (t9 != 0u) {
         return t9;
     }
     t10 = (uint64_t)blocks.len / 64u;
-    t11 = chains__allowed__may_store_all(log, area, state, newest, writer, home, t10);
+    t11 = fetching__allowed__may_store_all(log, area, state, newest, writer, home, t10);
     if (!t11) {
         return 19u;
     }
