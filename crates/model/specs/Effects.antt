@@ -190,9 +190,9 @@ storeEffect g =
 -- Commit: "logs the held block as closing entry; returns its position + 1, the ticket. Without a store it logs nothing, the ticket is 0, and it
 -- counts as no commit."
 
--- the distance back to the last closing entry, 0 if there is none
+-- the distance back to the last closing entry, 0 if there is none since the start
 unfoldable pub linkFrom : ℕ → State → ℕ
-linkFrom position st = cond (eqb (st .last) 0) 0 (position + 1 - st .last)
+linkFrom position st = cond (leb (st .last) (7 * st .start)) 0 (position + 1 - st .last)
 
 unfoldable pub logClosing : Given → Writer → ℕ → Logged
 logClosing g r position =

@@ -11,7 +11,7 @@ use lib.ListN.{length, replicate, length-replicate}
 use borrow.Author.Tests.{le-leb, lt-leb, leb-true, eqb-true, eqb-false}
 use Rattle.model.specs.Bytes.{part, number, value, zeros, same}
 use Rattle.model.specs.Layout.{homeAt}
-use Rattle.model.specs.State.{stateOf, setGroups, setHomes, setStart, setNext, setSettled, setFenced, setDurable, freshNumbers, freshState, modeOffset, writerOffset, writerOf, heldOf, promiseOffset, promiseOf, listHome, listedOf, setListed, listSign, setListSign}
+use Rattle.model.specs.State.{stateOf, setGroups, setHomes, setStart, setNext, setSettled, setFenced, setDurable, freshNumbers, freshState, modeOffset, writerOffset, writerOf, heldOffset, heldOf, promiseOffset, promiseOf, listHome, listedOf, setListed, listSign, setListSign}
 use Rattle.model.specs.Newest.{keptFor, carryListed}
 use Rattle.model.specs.Given.{Given, homes, tagsOf, liveBase, liveTags, blockOr, isThere}
 use Rattle.model.specs.Rights.{forHome, shownAt, listBy, readList, inRanges, isList, mayStore, mayRead, listMoved, signFor, signIf, keepList, sameListed, signedList, storeRight, readRight, Faithful}
@@ -48,11 +48,11 @@ module _ (s : List ℕ) (v : ℕ) where
 
   pub writer-setListSign : (w : ℕ) → w < 8 → writerOf (setListSign s v) w ≡ writerOf s w
   unfolding modeOffset writerOffset
-  writer-setListSign w l = writer-agree (setListSign s v) s w (part-setListSign (modeOffset w) 1 (omega arith)) (part-setListSign (writerOffset w) 32 (omega arith))
+  writer-setListSign w l = writer-agree (setListSign s v) s w (part-setListSign (modeOffset w) 1 (omega arith)) (part-setListSign (writerOffset w) 24 (omega arith))
 
   pub held-setListSign : (w : ℕ) → w < 8 → heldOf (setListSign s v) w ≡ heldOf s w
-  unfolding heldOf writerOffset
-  held-setListSign w l = part-setListSign (writerOffset w + 32) 64 (omega arith)
+  unfolding heldOf heldOffset
+  held-setListSign w l = part-setListSign (heldOffset w) 64 (omega arith)
 
   pub promise-setListSign : (w : ℕ) → w < 8 → promiseOf (setListSign s v) w ≡ promiseOf s w
   unfolding promiseOf promiseOffset
