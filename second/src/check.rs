@@ -5,7 +5,7 @@ use crate::lent::Kind;
 use crate::literal;
 use crate::newest::{position, NONE};
 use crate::rights::has_room;
-use crate::state::{at, mode, pending_range, promise, spare_range, State, Writer};
+use crate::state::{at, mode, pending_range, promise, State, Writer};
 use crate::usage::{usage, Usage};
 use crate::world::{Call, Odd, World};
 use std::collections::BTreeMap;
@@ -163,7 +163,6 @@ impl World {
             }
         }
         must(record == want, &format!("writer {writer}: {record:?}, expected {want:?}"))?;
-        must(self.lent.state[spare_range(writer)] == [0; 8], "spare bytes of a writer's record")?;
         must(promise(&self.lent.state, writer) == self.promise(writer), "promise")
     }
 
