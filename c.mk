@@ -69,13 +69,24 @@ $(C_OUT)/sanitize/%.o: tests/%.c $(C_HEADERS)
 	@mkdir -p $(@D)
 	$(CC) $(C_FLAGS) $(C_SANITIZE) -c $< -o $@
 
+# The libraries that the programs were linked with: with others they are linked again, even if these are older.
+C_LINKED = $(C_OUT)/linked.txt
+C_LINK = $(strip $(LIB) $(GAUGES_LIB) $(INFLOW_LIB) $(C_LIBS))
+
+ifneq ($(shell cat $(C_LINKED) 2> /dev/null),$(C_LINK))
+.PHONY: $(C_LINKED)
+endif
+$(C_LINKED):
+	@mkdir -p $(@D)
+	@echo '$(C_LINK)' > $@
+
 # One program in both builds: its name, its objects, the libraries it needs.
 define C_PROGRAM
-$(C_OUT)/$(1): $(2:%=$(C_OUT)/%.o) $(3)
-	$$(CC) $$(CFLAGS) $$^ $(if $(3),$$(C_LIBS)) -o $$@
+$(C_OUT)/$(1): $(2:%=$(C_OUT)/%.o) $(3) $(if $(3),$(C_LINKED))
+	$$(CC) $$(CFLAGS) $$(filter-out $(C_LINKED),$$^) $(if $(3),$$(C_LIBS)) -o $$@
 
-$(C_OUT)/sanitize/$(1): $(2:%=$(C_OUT)/sanitize/%.o) $(3:$(C_OUT)/%=$(C_OUT)/sanitize/%)
-	$$(CC) $$(C_SANITIZE) $$^ $(if $(3),$$(C_LIBS)) -o $$@
+$(C_OUT)/sanitize/$(1): $(2:%=$(C_OUT)/sanitize/%.o) $(3:$(C_OUT)/%=$(C_OUT)/sanitize/%) $(if $(3),$(C_LINKED))
+	$$(CC) $$(C_SANITIZE) $$(filter-out $(C_LINKED),$$^) $(if $(3),$$(C_LIBS)) -o $$@
 endef
 
 $(eval $(call C_PROGRAM,inspect,$(C_INSPECT),))
