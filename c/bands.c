@@ -16,6 +16,7 @@ static const char usage[] =
     "usage: bands set [--writer W] IMAGE TABLE.txt\n"
     "       bands show [--writer W] IMAGE\n"
     "       bands at [--writer W] IMAGE MM\n"
+    "       bands -h, --help, --version\n"
     "Which pumps run at which depth, as the table in homes 12 to 14 of an image.\n"
     "  set    puts the table of a text file in, as one transaction: a power cut leaves this table or the one before\n"
     "  show   prints the table as such a file\n"
@@ -23,7 +24,6 @@ static const char usage[] =
     "A line of the file is: from to pumps, in mm, both included; # begins a comment. Rows may stand in any order; every\n"
     "millimetre from 0 to 9999 lies in exactly one of at most 32, and pumps go from 0 to 4.\n"
     "  --writer W   the writer that stores or reads, 0 to 7 (0)\n"
-    "  -h, --help   this text\n"
     "show and at leave the image as it is.\n"
     "Status: 0 done, 1 the table is refused, or there is none, 2 wrong options, 3 a file cannot be read or written.\n";
 
@@ -59,16 +59,22 @@ static uint64_t read_number(const char *what, const char *text)
     return number;
 }
 
+static void print_and_end(const char *text)
+{
+    fputs(text, stdout);
+    exit(fflush(stdout) == 0 ? STATUS_DONE : STATUS_TROUBLE);
+}
+
 static struct options read_options(int count, char **words)
 {
     struct options options = {{NULL, NULL, NULL}, 0, 0};
     int i;
 
     for (i = 1; i < count; i++) {
-        if (strcmp(words[i], "--help") == 0 || strcmp(words[i], "-h") == 0) {
-            fputs(usage, stdout);
-            exit(fflush(stdout) == 0 ? STATUS_DONE : STATUS_TROUBLE);
-        }
+        if (strcmp(words[i], "--help") == 0 || strcmp(words[i], "-h") == 0)
+            print_and_end(usage);
+        if (strcmp(words[i], "--version") == 0)
+            print_and_end("bands (Kagutin) " KAGUTIN_VERSION "\n");
         if (strcmp(words[i], "--writer") == 0)
             options.writer = read_number("--writer", words[++i]);
         else if (words[i][0] == '-' && words[i][1])

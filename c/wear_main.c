@@ -13,7 +13,7 @@ enum { STATUS_DONE = 0, STATUS_USAGE = 2, STATUS_TROUBLE = 3 };
 enum { RUNNING = 12 }; /* byte of a pump's home; docs/HOMES.md */
 
 static const char usage[] =
-    "usage: wear [--interval HOURS] [--csv | --html FILE] [--all] [--writer W] IMAGE..\n"
+    "usage: wear [--interval HOURS] [--csv | --html FILE] [--all] [--writer W] [-h, --help] [--version] IMAGE..\n"
     "Prints the wear sheet of one image, or of several as one fleet: for each pump its starts, the hours of its finished\n"
     "runs, the whole services due and the hours to the next; the pump to open first stands at the top.\n"
     "  --interval HOURS  hours between two services, 1 to 1000000 (2000)\n"
@@ -21,7 +21,6 @@ static const char usage[] =
     "  --html FILE       the same as one HTML page with a plot; the text is not printed then\n"
     "  --all             pumps that never started too\n"
     "  --writer W        the writer that reads, 0 to 7 (0)\n"
-    "  -h, --help        this text\n"
     "The images stay as they are. Status: 0 done, 2 wrong options, 3 a file cannot be read or written, or an image has no\n"
     "homes for pumps or something else in them; the others are in the sheet all the same.\n";
 
@@ -73,6 +72,12 @@ static const char *file_name(const char *text)
     return text;
 }
 
+static void print_and_end(const char *text)
+{
+    fputs(text, stdout);
+    exit(fflush(stdout) == 0 ? STATUS_DONE : STATUS_TROUBLE);
+}
+
 static struct options read_options(int count, char **words)
 {
     struct options options = {NULL, 0, NULL, false, false, 2000, 0};
@@ -80,10 +85,10 @@ static struct options read_options(int count, char **words)
 
     options.images = words;
     for (i = 1; i < count; i++) {
-        if (strcmp(words[i], "--help") == 0 || strcmp(words[i], "-h") == 0) {
-            fputs(usage, stdout);
-            exit(fflush(stdout) == 0 ? STATUS_DONE : STATUS_TROUBLE);
-        }
+        if (strcmp(words[i], "--help") == 0 || strcmp(words[i], "-h") == 0)
+            print_and_end(usage);
+        if (strcmp(words[i], "--version") == 0)
+            print_and_end("wear (Kagutin) " KAGUTIN_VERSION "\n");
         if (strcmp(words[i], "--csv") == 0)
             options.csv = true;
         else if (strcmp(words[i], "--all") == 0)

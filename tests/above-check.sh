@@ -87,6 +87,8 @@ says "no image" 3 "no image" "$san/bands" show "$tmp/table.txt"
 head -c 9000 "$tmp/north.img" > "$tmp/short.img"
 says "9000 bytes; 16 groups and 32 homes take 10304" 3 "a short image" "$san/bands" show "$tmp/short.img"
 gives 0 "--help" "$san/bands" --help
+gives 0 "--version" "$san/bands" --version
+shows '^bands (Kagutin) [0-9]'
 
 # --- wear ---
 gives 0 "a second image" "$out/above_check" --image "$tmp/depot, \"old\".img" 30 2
@@ -147,6 +149,8 @@ says "takes a number" 2 "--interval at the end" "$san/wear" x --interval
 says "two sheets" 2 "--csv and --html" "$san/wear" --csv --html a x
 says "cannot be created" 3 "a page in a missing folder" "$san/wear" --html "$tmp/no/page.html" "$tmp/north.img"
 gives 0 "--help" "$san/wear" --help
+gives 0 "--version" "$san/wear" --version
+shows '^wear (Kagutin) [0-9]'
 
 # --- cost: the last call of each case, with no list of rights and with one in the log ---
 if command -v valgrind > /dev/null; then

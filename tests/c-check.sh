@@ -74,6 +74,10 @@ quiet sh -c "nm -u $out/store/store.o $out/store/usage.o $out/store/rights.o $ou
 gives 0 "quick start" "$san/quickstart" "$tmp/quickstart.img"
 gives 0 "quick start again" "$san/quickstart" "$tmp/quickstart.img"
 grep -q '^2 starts.*, durable' "$tmp/out"; report $? "quick start: two starts, durable"
+gives 0 "quick start -h" "$san/quickstart" -h
+grep -q '^quickstart (Kagutin) [0-9]' "$tmp/out"; report $? "quick start: says its version"
+gives 2 "quick start --frob" "$san/quickstart" --frob
+[ ! -e -h ] && [ ! -e --frob ]; report $? "quick start: makes no image of an option"
 gives 0 "driver" "$san/driver_check" "$tmp/driver.img"
 
 # --- the store object and its drivers ---
@@ -154,6 +158,7 @@ image=$tmp/station.img
 gives 0 "station on a new file" "$san/station" --seed 3 --cuts 10 --groups 12 --homes 40 --file "$image"
 gives 0 "station goes on with it" "$san/station" --seed 4 --cuts 10 --file "$image"
 says "other numbers" 3 "station with another shape" "$san/station" --groups 4 --file "$image"
+says "other numbers" 1 "the station's image by the quick start" "$san/quickstart" "$image"
 gives 0 "station leaves a cut" "$san/station" --seed 35 --cuts 7 --file "$image" --keep-cut
 grep -q 'kept .*came back' "$tmp/out" && grep -q 'in the image' "$tmp/out"
 report $? "and counts what is in it as not opened"

@@ -50,6 +50,8 @@ gives 0 "empty lists" "$san/gauges" "$tmp/empty.csv" "$tmp/empty.csv"
 shows '0 different minutes'
 gives 0 "--help" "$san/gauges" --help
 gives 0 "-h" "$san/gauges" -h
+gives 0 "--version" "$san/gauges" --version
+shows '^gauges (Kagutin) [0-9]'
 
 # --- the plot ---
 gives 1 "a plot" "$san/gauges" --plot "$tmp/plot.svg" "$tmp/cell.csv" "$tmp/sounder.csv"

@@ -42,6 +42,8 @@ bounds 2.5000 25000 2.5000 25000 --area 100 0 200 --pumped 5000
 bounds -6553500.0000 -65535000000 6982996.7295 69829967295 --area 1000000 --pumped 0..4294967295 0..65535 0..65535
 gives 0 "--help" "$san/inflow" --help
 gives 0 "-h" "$san/inflow" -h
+gives 0 "--version" "$san/inflow" --version
+grep -q '^inflow (Kagutin) [0-9]' "$tmp/out"; report $? "and it says its version"
 
 # --- refusals ---
 says "depth before: the low end 10 is above the high end 9" 1 "a range the wrong way round" "$san/inflow" --area 5 10..9 1
