@@ -126,6 +126,9 @@ gives 0 "station, every cut" "$san/station" --cuts 60 --verbose
 [ "$(grep -c '^ *[0-9]* *\(at work\|opening\) ' "$tmp/out")" -eq 60 ]; report $? "station --verbose: a line for each cut"
 [ "$(awk 'length > 99' "$tmp/out" | wc -l)" -eq 0 ]; report $? "station: no line of 100 columns"
 grep -q '^log full (.* 0 free; task [0-7] holds it' "$tmp/out"; report $? "station: says why the log is full"
+for word in confirm settling trim live dead 'held back' promised unissued arrived replayed; do
+    grep -q "^  $word  " "$tmp/out" || break
+done; report $? "station: a legend for its words"
 grep -q '^ *[0-9]* live at the end, [0-9]* dead, [0-9]* free$' "$tmp/out"; report $? "station: what fills the log at the end"
 grep -q '[1-9][0-9]* times the radio task had its places promised' "$tmp/out"; report $? "station: the radio task has places promised"
 grep -q '^ *[1-9][0-9]* stores and [1-9][0-9]* reads of a home that the list of rights does not give' "$tmp/out"
@@ -227,7 +230,13 @@ for bytes in '\364\377\377\377\377\177' '\350\377\377\377\377\177' '\000\000\000
     start "$tmp/worn.img" "$bytes"
     gives 4 "station on a worn-out image" "$san/station" --seed 3 --cuts 60 --file "$tmp/worn.img"
     grep -q 'worn out' "$tmp/out"; report $? "and says so"
+    gives 0 "inspect it" "$san/inspect" "$tmp/worn.img"
+    grep -q '^worn  *out' "$tmp/out"; report $? "inspect: says so"
+    gives 0 "inspect it as JSON" "$san/inspect" --json "$tmp/worn.img"
+    grep -q '"worn_out":true}' "$tmp/out"; report $? "inspect: says so"
 done
+gives 4 "station on one that it cannot open once" "$san/station" --file "$tmp/worn.img"
+grep -q 'every opening' "$tmp/out"; [ $? -eq 1 ]; report $? "and it says nothing of openings"
 
 mkdir "$tmp/folder"
 says "regular file\|directory" 3 "station on a folder" "$san/station" --file "$tmp/folder"
