@@ -8,6 +8,7 @@
 #include "kagutin.h"
 #include "kagutin_gauges.h"
 #include "levels_plot.h"
+#include "page_file.h"
 #include "readings.h"
 
 enum { STATUS_SAME = 0, STATUS_DIFFERS = 1, STATUS_USAGE = 2, STATUS_TROUBLE = 3 };
@@ -129,10 +130,11 @@ static void print_report(const struct readings *lists, const uint8_t *report, si
 static void draw(const struct options *options, const struct readings *lists, const uint8_t *report, size_t lines)
 {
     struct levels_plot plot = {&lists[0], &lists[1], report, lines, options->tolerance};
-    FILE *file = fopen(options->plot, "wb");
+    const char *why;
+    FILE *file = page_create(options->plot, &why);
 
     if (!file)
-        quit(STATUS_TROUBLE, "%s: cannot be created: %s", options->plot, strerror(errno));
+        quit(STATUS_TROUBLE, "%s: cannot be created: %s", options->plot, why);
     levels_plot_write(&plot, file);
     if (ferror(file) | (fclose(file) != 0))
         quit(STATUS_TROUBLE, "%s: cannot be written: %s", options->plot, strerror(errno));

@@ -69,6 +69,18 @@ static struct range read_range(const char *what, const char *text, uint64_t most
     return range;
 }
 
+static uint64_t read_area(const char *text)
+{
+    unsigned long long area;
+    char *end;
+
+    errno = 0;
+    area = strtoull(text, &end, 10);
+    if (text[0] < '0' || text[0] > '9' || *end || errno)
+        quit(STATUS_USAGE, "--area: a whole number from 1 to %d is expected, not '%s'", KAGUTIN_MAX_AREA, text);
+    return area;
+}
+
 static const char *value_of(const char *name, const char *text)
 {
     if (!text)
@@ -86,7 +98,6 @@ static struct options read_options(int count, char **words)
 {
     struct options options = {0, {0, 0}, {0, 0}, {0, 0}};
     int i, depths = 0;
-    const char *end;
     unsigned has_area = 0;
 
     for (i = 1; i < count; i++) {
@@ -96,9 +107,7 @@ static struct options read_options(int count, char **words)
             print_and_end("inflow (Kagutin) " KAGUTIN_VERSION "\n");
         if (strcmp(words[i], "--area") == 0) {
             i++;
-            options.area = read_number("--area", value_of("--area", words[i]), &end, UINT64_MAX);
-            if (*end)
-                quit(STATUS_USAGE, "--area: a whole number is expected, not '%s'", words[i]);
+            options.area = read_area(value_of("--area", words[i]));
             has_area = 1;
         } else if (strcmp(words[i], "--pumped") == 0) {
             i++;

@@ -126,9 +126,11 @@ gives 0 "station, every cut" "$san/station" --cuts 60 --verbose
 [ "$(grep -c '^ *[0-9]* *\(at work\|opening\) ' "$tmp/out")" -eq 60 ]; report $? "station --verbose: a line for each cut"
 [ "$(awk 'length > 99' "$tmp/out" | wc -l)" -eq 0 ]; report $? "station: no line of 100 columns"
 grep -q '^log full (.* 0 free; task [0-7] holds it' "$tmp/out"; report $? "station: says why the log is full"
+missing=0
 for word in confirm settling trim live dead 'held back' promised unissued arrived replayed; do
-    grep -q "^  $word  " "$tmp/out" || break
-done; report $? "station: a legend for its words"
+    grep -q "^  $word  " "$tmp/out" || missing=1
+done
+report $missing "station: a legend for its words"
 grep -q '^ *[0-9]* live at the end, [0-9]* dead, [0-9]* free$' "$tmp/out"; report $? "station: what fills the log at the end"
 grep -q '[1-9][0-9]* times the radio task had its places promised' "$tmp/out"; report $? "station: the radio task has places promised"
 grep -q '^ *[1-9][0-9]* stores and [1-9][0-9]* reads of a home that the list of rights does not give' "$tmp/out"

@@ -65,7 +65,8 @@ says "AFTER: whole numbers" 2 "a letter" "$san/inflow" --area 5 1 x
 says "AFTER: LOW..HIGH or one value" 2 "a single dot" "$san/inflow" --area 5 1 1.2
 says "AFTER: whole numbers" 2 "an open range" "$san/inflow" --area 5 1 1..
 says "0 to 4294967295" 2 "a large pumped volume" "$san/inflow" --area 5 1 1 --pumped 4294967296
-says "a whole number is expected" 2 "an area with a fraction" "$san/inflow" --area 5.5 1 1
+says "a whole number from 1 to 1000000 is expected" 2 "an area with a fraction" "$san/inflow" --area 5.5 1 1
+says "a whole number from 1 to 1000000 is expected" 2 "an area of letters" "$san/inflow" --area x 1 1
 
 if command -v valgrind > /dev/null; then
     gives 0 "under memcheck" valgrind -q --error-exitcode=9 --leak-check=full "$out/inflow" --area 10000 0..10 5..20
