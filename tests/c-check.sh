@@ -295,8 +295,9 @@ if command -v valgrind > /dev/null; then
     gives 0 "inspect under memcheck" $memcheck "$out/inspect" "$tmp/kept.img"
     gives 0 "quick start under memcheck" $memcheck "$out/quickstart" "$tmp/memcheck.img"
     gives 0 "store under memcheck" $memcheck "$out/store_check" 499 30
+    gives 0 "cost of question 2" sh tests/question-cost.sh "$out"
 else
-    echo "skipped memcheck: valgrind is not installed"
+    echo "skipped memcheck and cost: valgrind is not installed"
 fi
 
 # --- the sources of the object in one folder, and a program built from them ---

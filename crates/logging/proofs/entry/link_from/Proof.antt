@@ -5,8 +5,8 @@ use borrow.Author.Needs.{needs}
 use Rattle.logging.proofs.entry.link_from.Statement.{statement}
 use Rattle.logging.proofs.entry.link_from.Tie as tie
 
-mul-result : tie.Need-mul-result
-mul-result c = search needs
+mul-if1 : tie.Need-mul-if1
+mul-if1 c = search needs
 
 returns : tie.Need-returns
 returns c = link-none _ _ (omega (arith, c .if1 .taken))
@@ -21,4 +21,4 @@ returns-2 : tie.Need-returns-2
 returns-2 c = link-some _ _ (omega (arith, c .before .if1 .left))
 
 pub link-from-spec : {M : Type 1} → statement M
-link-from-spec = tie.close (tie.spec mul-result returns add-result sub-result returns-2)
+link-from-spec = tie.close (tie.spec mul-if1 returns add-result sub-result returns-2)
