@@ -4,7 +4,7 @@ use model::Writer;
 ghost use mathlib.Core.Path.{_≡_};
 ghost use Prim.Native.Nat.{_≤_, _<_};
 ghost use lib.ListN.{length};
-ghost use Rattle.model.specs.State.{writerOffset, lessOne, writerOf, setWriter, heldOffset, setHeld, idle, begun, holding, logging, isOpen, holds, hasLogged, firstFor, countFor};
+ghost use Rattle.model.specs.State.{writerOffset, lessOne, oneMore, writerOf, setWriter, heldOffset, setHeld, idle, begun, holding, logging, isOpen, holds, hasLogged, firstFor, countFor};
 
 // Where the three numbers of writer `w` begin.
 fn offset(w: usize) -> usize
@@ -22,6 +22,16 @@ fn held_offset(w: usize) -> usize
     320 + 64 * w
 }
 
+// The count that is kept as `less`.
+fn one_more(less: u64) -> u64
+    ensures { λ r. ⌜ r ≡ oneMore less ⌝ }
+{
+    if less == u64::MAX {
+        return 0;
+    }
+    less + 1
+}
+
 // Reads the four numbers of writer `w`.
 pub fn writer(s: &[u8], w: usize) -> Writer
     requires { ⌜ (length (now s) ≡ 1024) × (w < 8) ⌝ }
@@ -31,7 +41,7 @@ pub fn writer(s: &[u8], w: usize) -> Writer
     let mode = codec::byte(s, 104 + w);
     let home = codec::number(s, at, 8);
     let first = codec::number(s, at + 8, 8);
-    let count = std::num::wrapping_add_u64(codec::number(s, at + 16, 8), 1);
+    let count = one_more(codec::number(s, at + 16, 8));
     Writer {
         mode,
         home,
@@ -44,7 +54,10 @@ pub fn writer(s: &[u8], w: usize) -> Writer
 fn less_one(count: u64) -> u64
     ensures { λ r. ⌜ r ≡ lessOne count ⌝ }
 {
-    std::num::wrapping_sub_u64(count, 1)
+    if count == 0 {
+        return u64::MAX;
+    }
+    count - 1
 }
 
 // Stores `r` as the four numbers of writer `w`, and leaves the rest of the strip as it was.

@@ -1,5 +1,5 @@
 -- `strip::writer` meets its contract. Assumes nothing.
-use Rattle.model.specs.State.{modeOffset, oneMore, writerOf}
+use Rattle.model.specs.State.{modeOffset, writerOf}
 use borrow.Author.Needs.{needs}
 use Rattle.strip.proofs.writers.writer.Statement.{statement}
 use Rattle.strip.proofs.writers.writer.Tie as tie
@@ -28,16 +28,12 @@ add-number-2 c = search needs
 number-requires-3 : tie.Need-number-requires-3
 number-requires-3 c κs = search needs
 
-wrapping-add-u64-requires : tie.Need-wrapping-add-u64-requires
-wrapping-add-u64-requires c κs = search needs
+one-more-requires : tie.Need-one-more-requires
+one-more-requires c κs = search needs
 
 returns : tie.Need-returns
-unfolding modeOffset oneMore writerOf
-returns c = 
-    let c3 = c .before in
-    let c2 = c3 .before in
-    let c1 = c2 .before in
-    cc
+unfolding modeOffset writerOf
+returns c = cc
 
 pub writer-spec : {M : Type 1} → statement M
 writer-spec =
@@ -51,5 +47,5 @@ writer-spec =
     number-requires-2
     add-number-2
     number-requires-3
-    wrapping-add-u64-requires
+    one-more-requires
     returns)
