@@ -135,11 +135,10 @@ impl World {
         listed
     }
 
-    /// The sign is that of the list which the book has; none is set while no
-    /// position of the list is kept since the opening.
+    /// The sign is that of the list which the book has, 0 where D is too small for one.
     fn sign_fits(&self, sign: u64) -> bool {
         match sign {
-            0 => self.listed() == [0xff; 32],
+            0 => !has_room(self.shape.homes),
             1 => has_room(self.shape.homes) && !self.list().is_there(),
             2 => self.list().is_there(),
             _ => false,

@@ -118,7 +118,7 @@ listedOf s i = number 8 s (896 + 8 * i)
 unfoldable pub setListed : List ℕ → List ℕ → List ℕ
 setListed s positions = puts s 896 positions
 
--- The list's sign, which commit sets, so that no question need look at all four blocks: 1, the list as committed is all zeros; 2, it is not; any other
+-- The list's sign, which opening and commit set, so that no question need look at all four blocks: 1, the list as committed is all zeros; 2, it is not; any other
 -- number says nothing.
 unfoldable pub listSign : List ℕ → ℕ
 listSign s = number 8 s 928
@@ -202,7 +202,7 @@ firstFor r position = cond (hasLogged r) (r .first) position
 unfoldable pub countFor : Writer → ℕ
 countFor r = cond (hasLogged r) (r .count) 0
 
--- the strip that an opening leaves: no position of the list's homes, all else zeros
+-- the strip that an opening leaves: no position of the list's homes, the list's sign, all else zeros
 unfoldable pub freshNumbers : ℕ → ℕ → ℕ → List ℕ
 freshNumbers groups homes start =
     setDurable
@@ -211,8 +211,8 @@ freshNumbers groups homes start =
     (7 * start))
     (7 * start)
 
-unfoldable pub freshState : ℕ → ℕ → ℕ → List ℕ
-freshState groups homes start = setListed (freshNumbers groups homes start) (replicate 32 255)
+unfoldable pub freshState : ℕ → ℕ → ℕ → ℕ → List ℕ
+freshState groups homes start sign = setListSign (setListed (freshNumbers groups homes start) (replicate 32 255)) sign
 
 -- Question 2
 -- "start ≤ 2^47; start ≤ next group ≤ start + G; 0 to 6 places filled, none at start + G; 7 × start ≤ settled ≤ F ≤ 7 × next group; mark ≤ F;

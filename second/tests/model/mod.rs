@@ -233,6 +233,9 @@ fn open(before: &Lent, after: &mut Lent) -> Outcome {
         put(&mut after.state, at, 7 * new_start);
     }
     after.state[896..928].fill(255);
+    if shape.homes >= 12 {
+        put(&mut after.state, 928, if after.data[512..768] == [0; 256] { 1 } else { 2 });
+    }
     after.newest.fill(255);
     Ok((list.len() as u64, batch))
 }

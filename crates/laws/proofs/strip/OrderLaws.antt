@@ -18,6 +18,7 @@ use Rattle.laws.proofs.bytes.ByteLaws.{length-zeros, number-none, numbe
 use Rattle.laws.proofs.strip.StateLaws.{length-laws, state-laws, writer-laws}
 use Rattle.laws.proofs.strip.PromiseLaws.{promise-laws, promise-zeros, promised-none, promise-most}
 use Rattle.laws.proofs.strip.ListedLaws.{length-setListed, state-setListed, writer-setListed, promise-setListed}
+use Rattle.laws.proofs.strip.SignLaws.{length-setListSign, state-setListSign, writer-setListSign, promise-setListSign}
 use Rattle.laws.proofs.bytes.LayoutLaws.{number-zeros}
 
 -- ---- tests and what they tell: simp by the set turns a chain of tests into its facts, and back
@@ -218,13 +219,13 @@ idle-in-order st = refl
 
 -- ---- the strip that an opening leaves
 
-module _ (groups homes start : ℕ) where
-  pub length-fresh : length (freshState groups homes start) ≡ 1024
+module _ (groups homes start sign : ℕ) where
+  pub length-fresh : length (freshState groups homes start sign) ≡ 1024
   unfolding freshState freshNumbers
-  length-fresh = length-setListed _ _ ∙ simp (length-laws, length-zeros)
+  length-fresh = length-setListSign _ _ ∙ length-setListed _ _ ∙ simp (length-laws, length-zeros)
 
   pub state-fresh : groups < 2 ^ 64 → homes < 2 ^ 64 → 7 * start < 2 ^ 64
-      → stateOf (freshState groups homes start)
+      → stateOf (freshState groups homes start sign)
       ≡ record {
         groups = groups;
         homes = homes;
@@ -241,22 +242,22 @@ module _ (groups homes start : ℕ) where
   unfolding freshState freshNumbers
   state-fresh g h k =
       let q : start < 2 ^ 64 = omega arith in
-      state-setListed _ _ ∙ simp (state-laws, length-laws, length-zeros, state-zeros)
+      state-setListSign _ _ ∙ state-setListed _ _ ∙ simp (state-laws, length-laws, length-zeros, state-zeros)
 
-  pub writer-fresh : (w : ℕ) → w < 8 → writerOf (freshState groups homes start) w ≡ idle
+  pub writer-fresh : (w : ℕ) → w < 8 → writerOf (freshState groups homes start sign) w ≡ idle
   unfolding freshState freshNumbers
-  writer-fresh w l = writer-setListed _ _ w l ∙ simp (writer-laws, writer-zeros)
+  writer-fresh w l = writer-setListSign _ _ w l ∙ writer-setListed _ _ w l ∙ simp (writer-laws, writer-zeros)
 
-  pub promise-fresh : (w : ℕ) → w < 8 → promiseOf (freshState groups homes start) w ≡ 0
+  pub promise-fresh : (w : ℕ) → w < 8 → promiseOf (freshState groups homes start sign) w ≡ 0
   unfolding freshState freshNumbers
-  promise-fresh w l = promise-setListed _ _ w l ∙ simp (promise-laws, promise-zeros)
+  promise-fresh w l = promise-setListSign _ _ w l ∙ promise-setListed _ _ w l ∙ simp (promise-laws, promise-zeros)
 
-  pub in-order-fresh : start ≤ 2 ^ 47 → groups ≤ 1024 → homes ≤ 65535 → inOrder (freshState groups homes start) groups homes ≡ true
+  pub in-order-fresh : start ≤ 2 ^ 47 → groups ≤ 1024 → homes ≤ 65535 → inOrder (freshState groups homes start sign) groups homes ≡ true
   unfolding inOrder numbersInOrder nextPosition
   in-order-fresh h g d =
-      rw (state-fresh (omega arith) (omega arith) (omega arith), promised-none (freshState groups homes start) 8 promise-fresh)
+      rw (state-fresh (omega arith) (omega arith) (omega arith), promised-none (freshState groups homes start sign) 8 promise-fresh)
       (simp tests (
         omega arith,
-        among-writers (freshState groups homes start) _ 8
-            (λ w k. order-at (freshState groups homes start) _ w (rw (writer-fresh w k) (writer-order _ idle (idle-in-order _))) (λ e. promise-fresh w k)),
+        among-writers (freshState groups homes start sign) _ 8
+            (λ w k. order-at (freshState groups homes start sign) _ w (rw (writer-fresh w k) (writer-order _ idle (idle-in-order _))) (λ e. promise-fresh w k)),
       ))
