@@ -2102,22 +2102,18 @@ static inline bool rights__list__none_in_copy(struct slice_u8 area)
             + (size_t)(t2961 + 16u)) | load_8(area.ptr + (size_t)(t2961 + 24u)))))) == 0u;
 }
 
-/* The same by the list's sign, where that does not say that there is one. The data copy is looked at without the log if no
-   position is kept. */
+/* The same by the list's sign, where that says nothing. The data copy is looked at without the log if no position is kept. */
 static inline bool rights__list__open_unsigned(struct slice_u8 log, struct slice_u8 area, struct slice_u8 state,
         struct slice_u8 kept, uint64_t from, uint64_t at, uint64_t home)
 {
-    bool t9, t11;
+    bool t8, t10;
 
-    if (load_8(state.ptr + 928u) == 1u) {
-        return true;
-    }
-    t9 = rights__list__none_kept(kept, from);
-    if (!t9) {
+    t8 = rights__list__none_kept(kept, from);
+    if (!t8) {
         return rights__list__open_kept(log, area, state, kept, from, at, home);
     }
-    t11 = rights__ranges__in_ranges(area, 512u + at, home);
-    if (t11) {
+    t10 = rights__ranges__in_ranges(area, 512u + at, home);
+    if (t10) {
         return true;
     }
     return rights__list__none_in_copy(area);
@@ -2127,18 +2123,22 @@ static inline bool rights__list__open_unsigned(struct slice_u8 log, struct slice
 static inline bool rights__may_read(struct slice_u8 log, struct slice_u8 area, struct slice_u8 state, struct slice_u8 newest,
         uint64_t writer, uint64_t home)
 {
-    uint64_t t7;
-    bool t8;
+    uint64_t t7, t8;
+    bool t9;
 
-    t8 = rights__ranges__of_list(home);
-    if (t8) {
+    t9 = rights__ranges__of_list(home);
+    if (t9) {
         return true;
     }
     if ((uint64_t)area.len < 768u) {
         return true;
     }
     t7 = (32u * writer) + 16u;
-    if (load_8(state.ptr + 928u) == 2u) {
+    t8 = load_8(state.ptr + 928u);
+    if (t8 == 1u) {
+        return true;
+    }
+    if (t8 == 2u) {
         return rights__list__open_listed(log, area, state, newest, 64u, t7, home);
     }
     return rights__list__open_unsigned(log, area, state, newest, 64u, t7, home);
@@ -3671,6 +3671,21 @@ static inline void recovery__opening__open_records(struct slice_mut_u8 batch, ui
     (void)batch__records__fence(batch, t6);
 }
 
+/* The sign of the list of rights in the data copy. */
+static inline uint64_t recovery__opening__open_sign(struct slice_u8 area, uint64_t homes)
+{
+    bool t4;
+
+    if (homes < 12u) {
+        return 0u;
+    }
+    t4 = codec__blocks__all_zero(area, 512u, 256u);
+    if (t4) {
+        return 1u;
+    }
+    return 2u;
+}
+
 /* Makes every byte of the strip zero. */
 static inline void strip__fields__clear(struct slice_mut_u8 s)
 {
@@ -3694,14 +3709,15 @@ static inline void strip__fields__fresh_numbers(struct slice_mut_u8 s, uint64_t 
 }
 
 /* Makes `s` the strip of an opened store whose log is empty at the group number `start`: no position of the list of rights is
-   kept. */
-static inline void strip__fields__fresh(struct slice_mut_u8 s, uint64_t groups, uint64_t homes, uint64_t start)
+   kept, and `sign` is its sign. */
+static inline void strip__fields__fresh(struct slice_mut_u8 s, uint64_t groups, uint64_t homes, uint64_t start, uint64_t sign)
 {
-    struct array_u8_32 t5;
+    struct array_u8_32 t6;
 
-    memset(&t5, 255u, sizeof t5);
+    memset(&t6, 255u, sizeof t6);
     strip__fields__fresh_numbers(s, groups, homes, start);
-    strip__listed__set_listed(s, (struct slice_u8){t5.at, 32u});
+    strip__listed__set_listed(s, (struct slice_u8){t6.at, 32u});
+    store_8(s.ptr + 928u, sign);
 }
 
 /* Keeps no position for any home. */
@@ -3720,11 +3736,14 @@ static inline void positions__strip__keep_nothing(struct slice_mut_u8 newest, ui
 }
 
 /* Makes the log copy empty from a new start on, the strip that of an empty log, and keeps no position. */
-static inline void recovery__opening__open_copies(struct slice_mut_u8 log, struct slice_mut_u8 state, struct slice_mut_u8 newest,
-        uint64_t groups, uint64_t homes, uint64_t start)
+static inline void recovery__opening__open_copies(struct slice_mut_u8 log, struct slice_u8 area, struct slice_mut_u8 state,
+        struct slice_mut_u8 newest, uint64_t groups, uint64_t homes, uint64_t start)
 {
+    uint64_t t13;
+
     areas__unused__put_empty_log(log, start, groups, homes);
-    strip__fields__fresh(state, groups, homes, start);
+    t13 = recovery__opening__open_sign(area, homes);
+    strip__fields__fresh(state, groups, homes, start, t13);
     positions__strip__keep_nothing(newest, homes);
 }
 
@@ -3752,7 +3771,7 @@ static inline struct answers__Reply recovery__opening__reopen(struct slice_mut_u
         return (struct answers__Reply){.code = 9u, .figure = 0u, .size = 0u};
     }
     recovery__opening__open_records(batch, t13 - t11, t10 + t8, t8, t9);
-    recovery__opening__open_copies(log, state, newest, t8, t9, t10 + t8);
+    recovery__opening__open_copies(log, (struct slice_u8){area.ptr, area.len}, state, newest, t8, t9, t10 + t8);
     return (struct answers__Reply){.code = 0u, .figure = t12.number, .size = t13};
 }
 
@@ -3920,18 +3939,22 @@ static inline struct answers__Reply kagutin__kagutin_reserve(struct slice_u8 log
 static inline bool rights__may_store_newest(struct slice_u8 log, struct slice_u8 area, struct slice_u8 state,
         struct slice_u8 newest, uint64_t writer, uint64_t home)
 {
-    uint64_t t7;
-    bool t8;
+    uint64_t t7, t8;
+    bool t9;
 
-    t8 = rights__ranges__of_list(home);
-    if (t8) {
+    t9 = rights__ranges__of_list(home);
+    if (t9) {
         return writer == 0u;
     }
     if ((uint64_t)area.len < 768u) {
         return true;
     }
     t7 = 32u * writer;
-    if (load_8(state.ptr + 928u) == 2u) {
+    t8 = load_8(state.ptr + 928u);
+    if (t8 == 1u) {
+        return true;
+    }
+    if (t8 == 2u) {
         return rights__list__open_listed(log, area, state, newest, 64u, t7, home);
     }
     return rights__list__open_unsigned(log, area, state, newest, 64u, t7, home);
@@ -4349,18 +4372,22 @@ static inline struct answers__Reply kagutin__kagutin_step_round(struct slice_u8 
 static inline bool rights__may_store(struct slice_u8 log, struct slice_u8 area, struct slice_u8 state, uint64_t writer,
         uint64_t home)
 {
-    uint64_t t6;
-    bool t7;
+    uint64_t t6, t7;
+    bool t8;
 
-    t7 = rights__ranges__of_list(home);
-    if (t7) {
+    t8 = rights__ranges__of_list(home);
+    if (t8) {
         return writer == 0u;
     }
     if ((uint64_t)area.len < 768u) {
         return true;
     }
     t6 = 32u * writer;
-    if (load_8(state.ptr + 928u) == 2u) {
+    t7 = load_8(state.ptr + 928u);
+    if (t7 == 1u) {
+        return true;
+    }
+    if (t7 == 2u) {
         return rights__list__open_listed(log, area, state, state, 896u, t6, home);
     }
     return rights__list__open_unsigned(log, area, state, state, 896u, t6, home);
