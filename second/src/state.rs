@@ -234,6 +234,7 @@ impl Writer {
         Writer { mode: mode::HOLDING, home, ..Writer::IDLE }
     }
 
+    #[inline(always)] // sixteen times in question 2
     pub fn load(bytes: &[u8], writer: u64) -> Writer {
         let from = record(writer);
         Writer {
