@@ -19,7 +19,8 @@ returns : tie.Need-returns
 returns c t =
     let e = none-of-three _ _ _ (eqb-true _ 0 t) in (
       sym (c .before .before .round .ensures .0) ∙ e .0,
-      both-zero _ (sym (c .before .first-promises .ensures) ∙ e .1) (sym (c .later-promises .ensures) ∙ e .2))
+      both-zero _ (sym (c .before .first-promises .ensures) ∙ e .1) (sym (c .later-promises .ensures) ∙ e .2),
+    )
 
 pub nothing-pending-spec : {M : Type 1} → statement M
 nothing-pending-spec =
