@@ -1,6 +1,7 @@
 # make            builds the library and the C programs from dist/, with a C compiler alone
 # make run        a pump station on the store: power cuts at random, each opening checked; alarm panel and wear sheet at the end
 # make test       runs every test and every proof; the prover's verdict is the last line
+# make library    the proved archive for x86-64 Linux, target/staticlib/libkagutin.a; make LIB=that run and so on use it
 # make dist       dist/kagutin.c again from the proved program; the gate fails where it differs
 # make compare    a long comparison of the library, built in many ways, with the second implementation, call by call
 # make arm        the C file on an emulated Cortex-M board and other machines; port/packages.sh installs what it needs

@@ -33,8 +33,8 @@ above-dist-check:
 	@echo "dist: $(ABOVE_DIST): what the proved program gives"
 
 C_ABOVE = station bands wear above_check above_cost
-C_BANDS = bands bands_table copy store/units $(C_STORE)
-C_WEAR = wear_main wear_text wear_page copy store/units $(C_STORE)
+C_BANDS = bands bands_table text_line copy store/units $(C_STORE)
+C_WEAR = wear_main wear_text wear_page page_file copy store/units $(C_STORE)
 C_ABOVE_CHECK = above_check store/units $(C_STORE)
 C_ABOVE_COST = above_cost $(C_STORE)
 C_ABOVE_PROGRAMS = $(C_ABOVE:%=$(C_OUT)/%) $(C_ABOVE:%=$(C_OUT)/sanitize/%)

@@ -7,6 +7,7 @@
 # c-sanitize                     the same with address and undefined-behaviour sanitizers, in target/c/sanitize
 # c-check                        tests of all of these
 # rights-cost                    what questions 19 and 20 cost, by callgrind
+# question-cost                  what question 2 costs; with LIB the archive it is a function of its own
 # c-kills                        longer: KILLS kills of a process at work, on this disk
 # c-dist                         headers and sources of the store object and its drivers into DIST
 # install, uninstall             headers, libraries and kagutin.pc, under DESTDIR and PREFIX
@@ -38,11 +39,12 @@ C_RIGHTS_CHECK = rights_check $(C_STORE)
 C_FILE_CHECK = file_check play $(C_STORE)
 C_KILL_CHECK = kill_check play $(C_STORE)
 C_FRAM_CHECK = fram_check play $(C_STORE)
-C_GAUGES = gauges readings levels_plot
+C_GAUGES = gauges readings text_line levels_plot page_file
 C_GAUGES_COST = gauges_cost
 C_RIGHTS_COST = rights_cost
+C_QUESTION_COST = question_cost
 C_INFLOW = inflow
-C_PROGRAMS = inspect quickstart driver_check store_check reserve_check round_check rights_check file_check kill_check fram_check gauges gauges_cost rights_cost inflow
+C_PROGRAMS = inspect quickstart driver_check store_check reserve_check round_check rights_check file_check kill_check fram_check gauges gauges_cost rights_cost question_cost inflow
 
 .PHONY: station inspect quickstart gauges inflow c-sanitize c-check c-kills c-dist install uninstall c-clean
 
@@ -69,13 +71,24 @@ $(C_OUT)/sanitize/%.o: tests/%.c $(C_HEADERS)
 	@mkdir -p $(@D)
 	$(CC) $(C_FLAGS) $(C_SANITIZE) -c $< -o $@
 
+# The libraries that the programs were linked with: with others they are linked again, even if these are older.
+C_LINKED = $(C_OUT)/linked.txt
+C_LINK = $(strip $(LIB) $(GAUGES_LIB) $(INFLOW_LIB) $(C_LIBS))
+
+ifneq ($(shell cat $(C_LINKED) 2> /dev/null),$(C_LINK))
+.PHONY: $(C_LINKED)
+endif
+$(C_LINKED):
+	@mkdir -p $(@D)
+	@echo '$(C_LINK)' > $@
+
 # One program in both builds: its name, its objects, the libraries it needs.
 define C_PROGRAM
-$(C_OUT)/$(1): $(2:%=$(C_OUT)/%.o) $(3)
-	$$(CC) $$(CFLAGS) $$^ $(if $(3),$$(C_LIBS)) -o $$@
+$(C_OUT)/$(1): $(2:%=$(C_OUT)/%.o) $(3) $(if $(3),$(C_LINKED))
+	$$(CC) $$(CFLAGS) $$(filter-out $(C_LINKED),$$^) $(if $(3),$$(C_LIBS)) -o $$@
 
-$(C_OUT)/sanitize/$(1): $(2:%=$(C_OUT)/sanitize/%.o) $(3:$(C_OUT)/%=$(C_OUT)/sanitize/%)
-	$$(CC) $$(C_SANITIZE) $$^ $(if $(3),$$(C_LIBS)) -o $$@
+$(C_OUT)/sanitize/$(1): $(2:%=$(C_OUT)/sanitize/%.o) $(3:$(C_OUT)/%=$(C_OUT)/sanitize/%) $(if $(3),$(C_LINKED))
+	$$(CC) $$(C_SANITIZE) $$(filter-out $(C_LINKED),$$^) $(if $(3),$$(C_LIBS)) -o $$@
 endef
 
 $(eval $(call C_PROGRAM,inspect,$(C_INSPECT),))
@@ -91,6 +104,7 @@ $(eval $(call C_PROGRAM,fram_check,$(C_FRAM_CHECK),$(LIB)))
 $(eval $(call C_PROGRAM,gauges,$(C_GAUGES),$(GAUGES_LIB)))
 $(eval $(call C_PROGRAM,gauges_cost,$(C_GAUGES_COST),$(GAUGES_LIB)))
 $(eval $(call C_PROGRAM,rights_cost,$(C_RIGHTS_COST),$(LIB)))
+$(eval $(call C_PROGRAM,question_cost,$(C_QUESTION_COST),$(LIB)))
 $(eval $(call C_PROGRAM,inflow,$(C_INFLOW),$(INFLOW_LIB)))
 
 c-check: $(C_PROGRAMS:%=$(C_OUT)/%) c-sanitize
@@ -98,10 +112,13 @@ c-check: $(C_PROGRAMS:%=$(C_OUT)/%) c-sanitize
 	CC="$(CC)" LIB="$(LIB)" GAUGES_LIB="$(GAUGES_LIB)" sh tests/gauges-check.sh $(C_OUT)
 	CC="$(CC)" LIB="$(LIB)" GAUGES_LIB="$(GAUGES_LIB)" INFLOW_LIB="$(INFLOW_LIB)" sh tests/inflow-check.sh $(C_OUT)
 
-# Instructions of a store and a read under a list of rights, by callgrind.
-.PHONY: rights-cost
+# Instructions of a store and a read under a list of rights, and of question 2, by callgrind.
+.PHONY: rights-cost question-cost
 rights-cost: $(C_OUT)/rights_cost
 	sh tests/rights-cost.sh $(C_OUT)
+
+question-cost: $(C_OUT)/question_cost
+	sh tests/question-cost.sh $(C_OUT)
 
 # A process killed at random instants, long.
 KILLS ?= 1000

@@ -16,6 +16,7 @@ static const char usage[] =
     "usage: bands set [--writer W] IMAGE TABLE.txt\n"
     "       bands show [--writer W] IMAGE\n"
     "       bands at [--writer W] IMAGE MM\n"
+    "       bands -h, --help, --version\n"
     "Which pumps run at which depth, as the table in homes 12 to 14 of an image.\n"
     "  set    puts the table of a text file in, as one transaction: a power cut leaves this table or the one before\n"
     "  show   prints the table as such a file\n"
@@ -23,7 +24,6 @@ static const char usage[] =
     "A line of the file is: from to pumps, in mm, both included; # begins a comment. Rows may stand in any order; every\n"
     "millimetre from 0 to 9999 lies in exactly one of at most 32, and pumps go from 0 to 4.\n"
     "  --writer W   the writer that stores or reads, 0 to 7 (0)\n"
-    "  -h, --help   this text\n"
     "show and at leave the image as it is.\n"
     "Status: 0 done, 1 the table is refused, or there is none, 2 wrong options, 3 a file cannot be read or written.\n";
 
@@ -59,16 +59,22 @@ static uint64_t read_number(const char *what, const char *text)
     return number;
 }
 
+static void print_and_end(const char *text)
+{
+    fputs(text, stdout);
+    exit(fflush(stdout) == 0 ? STATUS_DONE : STATUS_TROUBLE);
+}
+
 static struct options read_options(int count, char **words)
 {
     struct options options = {{NULL, NULL, NULL}, 0, 0};
     int i;
 
     for (i = 1; i < count; i++) {
-        if (strcmp(words[i], "--help") == 0 || strcmp(words[i], "-h") == 0) {
-            fputs(usage, stdout);
-            exit(fflush(stdout) == 0 ? STATUS_DONE : STATUS_TROUBLE);
-        }
+        if (strcmp(words[i], "--help") == 0 || strcmp(words[i], "-h") == 0)
+            print_and_end(usage);
+        if (strcmp(words[i], "--version") == 0)
+            print_and_end("bands (Kagutin) " KAGUTIN_VERSION "\n");
         if (strcmp(words[i], "--writer") == 0)
             options.writer = read_number("--writer", words[++i]);
         else if (words[i][0] == '-' && words[i][1])
@@ -84,10 +90,15 @@ static struct options read_options(int count, char **words)
 }
 
 /* Ends the program over an answer that is not about the table. */
-static void quit_answer(const char *path, uint64_t code, size_t homes)
+static void quit_answer(const struct options *options, uint64_t code, size_t homes)
 {
+    const char *path = options->words[1];
+
     if (code == KAGUTIN_BAD_HOME)
         quit(STATUS_REFUSED, "%s: a table takes homes 12 to 14; the image has %lu homes", path, (unsigned long)homes);
+    if (code == KAGUTIN_NO_STORE || code == KAGUTIN_NO_READ)
+        quit(STATUS_REFUSED, "%s: writer %llu has %s homes 12 to 14; --writer W chooses another", path,
+             (unsigned long long)options->writer, code == KAGUTIN_NO_READ ? "no right to read" : "no right to store to");
     quit(code < KGT_CLOSED ? STATUS_REFUSED : STATUS_TROUBLE, "%s: %s (answer %llu)", path, kgt_unit_answer_text(code),
          (unsigned long long)code);
 }
@@ -114,7 +125,7 @@ static void set_table(const struct options *options)
     kgt_init(&store, memory, size, file.groups, file.homes, kgt_file_driver(&file));
     reply = kgt_open(&store);
     if (reply.code != KAGUTIN_DONE)
-        quit_answer(path, reply.code, file.homes);
+        quit(STATUS_TROUBLE, "%s: cannot be opened: %s", path, kgt_answer_text(reply.code));
     reply = kgt_bands_set(&store, options->writer, table.strip, KAGUTIN_BAND_SIZE * table.count);
     if (reply.code >= KAGUTIN_BAD_BANDS && reply.code <= KAGUTIN_BAND_OVERLAP) {
         table_explain(&table, reply.code, reply.figure);
@@ -124,7 +135,7 @@ static void set_table(const struct options *options)
     if (reply.code == KAGUTIN_DONE)
         reply = kgt_sync(&store);
     if (reply.code != KAGUTIN_DONE)
-        quit_answer(path, reply.code, file.homes);
+        quit_answer(options, reply.code, file.homes);
     printf("%s: table of %lu row%s set, %s\n", path, (unsigned long)table.count, table.count == 1 ? "" : "s",
            reply.figure >= ticket ? "durable" : "not durable yet");
     kgt_file_close(&file);
@@ -140,7 +151,7 @@ static struct kagutin_band look_up(struct copy *copy, const struct options *opti
     if (band.code == KAGUTIN_BAD_BANDS)
         quit(STATUS_REFUSED, "depths go from 0 to 9999 mm, not %llu", (unsigned long long)mm);
     if (band.code != KAGUTIN_DONE)
-        quit_answer(options->words[1], band.code, copy->homes);
+        quit_answer(options, band.code, copy->homes);
     return band;
 }
 

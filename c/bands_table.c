@@ -7,6 +7,8 @@
 #include <stdlib.h>
 #include <string.h>
 
+#include "text_line.h"
+
 #define LINE_SIZE 256
 
 static bool say(struct table *table, const char *format, ...)
@@ -27,7 +29,7 @@ static bool say_at(struct table *table, unsigned long line, const char *what)
 /* Blank, or nothing but a comment. The comment is cut off. */
 static bool is_blank(char *line)
 {
-    line[strcspn(line, "#\r\n")] = '\0';
+    line[strcspn(line, "#")] = '\0';
     return line[strspn(line, " \t")] == '\0';
 }
 
@@ -89,11 +91,12 @@ static bool read_rows(struct table *table, FILE *file)
 {
     char text[LINE_SIZE];
     unsigned long line = 0;
+    enum text_line read;
 
-    while (fgets(text, sizeof text, file)) {
+    while ((read = text_line_read(file, text, sizeof text)) != TEXT_END) {
         line++;
-        if (!strchr(text, '\n') && !feof(file))
-            return say_at(table, line, "the line is too long");
+        if (read != TEXT_LINE)
+            return say_at(table, line, read == TEXT_LONG ? "the line is too long" : "a zero byte, no text");
         if (!is_blank(text) && !read_row(table, line, text))
             return false;
     }

@@ -84,6 +84,8 @@ static bool read_image(struct copy *copy, const char *path, int file)
         return say(copy, "%s: no image: it has %lld bytes", path, (long long)status.st_size);
     if (!read_all(copy, path, file, (size_t)status.st_size))
         return false;
+    if (copy->image[0] == 0x50 && copy->image[1] == 0x48)
+        return say(copy, "%s: an image of an older format: the header's mark is 50 48, not 50 54", path);
     if (copy->image[0] != 0x50 || copy->image[1] != 0x54)
         return say(copy, "%s: no image: the header's mark is %02X %02X, not 50 54", path, copy->image[0], copy->image[1]);
     copy->groups = number16(copy->image + 8);

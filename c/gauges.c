@@ -5,8 +5,10 @@
 #include <stdlib.h>
 #include <string.h>
 
+#include "kagutin.h"
 #include "kagutin_gauges.h"
 #include "levels_plot.h"
+#include "page_file.h"
 #include "readings.h"
 
 enum { STATUS_SAME = 0, STATUS_DIFFERS = 1, STATUS_USAGE = 2, STATUS_TROUBLE = 3 };
@@ -19,14 +21,13 @@ struct options {
 };
 
 static const char usage[] =
-    "usage: gauges [--tolerance MM] [--brief] [--plot FILE.svg] FIRST.csv SECOND.csv\n"
+    "usage: gauges [--tolerance MM] [--brief] [--plot FILE.svg] [-h, --help] [--version] FIRST.csv SECOND.csv\n"
     "Compares two lists of levels of one pit, such as a pressure cell's and an echo sounder's, minute by minute.\n"
     "A row of a file is minute,millimetres: whole numbers up to 65535, minutes rising, at most 1440 rows. A heading,\n"
     "blank lines and lines that begin with # are passed over.\n"
     "  --tolerance MM   millimetres that agreeing levels may lie apart, 0 to 65535 (10)\n"
     "  --brief          leaves the agreeing minutes out of the report\n"
     "  --plot FILE.svg  draws both lists, and where they differ\n"
-    "  -h, --help       this text\n"
     "Status: 0 no minute differs, 1 a minute differs, 2 wrong options, 3 a file cannot be read or written or has a bad row.\n";
 
 static void quit(int status, const char *format, ...)
@@ -55,16 +56,22 @@ static uint16_t tolerance_option(const char *text)
     return (uint16_t)number;
 }
 
+static void print_and_end(const char *text)
+{
+    fputs(text, stdout);
+    exit(fflush(stdout) == 0 ? STATUS_SAME : STATUS_TROUBLE);
+}
+
 static struct options read_options(int count, char **words)
 {
     struct options options = {{NULL, NULL}, NULL, 0, false, 10};
     int i;
 
     for (i = 1; i < count; i++) {
-        if (strcmp(words[i], "--help") == 0 || strcmp(words[i], "-h") == 0) {
-            fputs(usage, stdout);
-            exit(fflush(stdout) == 0 ? STATUS_SAME : STATUS_TROUBLE);
-        }
+        if (strcmp(words[i], "--help") == 0 || strcmp(words[i], "-h") == 0)
+            print_and_end(usage);
+        if (strcmp(words[i], "--version") == 0)
+            print_and_end("gauges (Kagutin) " KAGUTIN_VERSION "\n");
         if (strcmp(words[i], "--brief") == 0) {
             options.brief = true;
         } else if (strcmp(words[i], "--tolerance") == 0) {
@@ -123,10 +130,11 @@ static void print_report(const struct readings *lists, const uint8_t *report, si
 static void draw(const struct options *options, const struct readings *lists, const uint8_t *report, size_t lines)
 {
     struct levels_plot plot = {&lists[0], &lists[1], report, lines, options->tolerance};
-    FILE *file = fopen(options->plot, "wb");
+    const char *why;
+    FILE *file = page_create(options->plot, &why);
 
     if (!file)
-        quit(STATUS_TROUBLE, "%s: cannot be created: %s", options->plot, strerror(errno));
+        quit(STATUS_TROUBLE, "%s: cannot be created: %s", options->plot, why);
     levels_plot_write(&plot, file);
     if (ferror(file) | (fclose(file) != 0))
         quit(STATUS_TROUBLE, "%s: cannot be written: %s", options->plot, strerror(errno));

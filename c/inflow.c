@@ -6,6 +6,7 @@
 #include <stdlib.h>
 #include <string.h>
 
+#include "kagutin.h"
 #include "kagutin_inflow.h"
 
 enum { STATUS_DONE = 0, STATUS_REFUSED = 1, STATUS_USAGE = 2, STATUS_TROUBLE = 3 };
@@ -20,13 +21,12 @@ struct options {
 };
 
 static const char usage[] =
-    "usage: inflow --area CM2 [--pumped VOLUME] BEFORE AFTER\n"
+    "usage: inflow --area CM2 [--pumped VOLUME] [-h, --help] [--version] BEFORE AFTER\n"
     "Prints the least and the most inflow of a pit between two moments: area × change of depth + pumped.\n"
     "  BEFORE, AFTER      the depth at both moments in mm, 0 to 65535: LOW..HIGH, such as two floats give, or one value\n"
     "  --area CM2         the pit's area in cm², 1 to 1000000\n"
     "  --pumped VOLUME    what was pumped in between: LOW..HIGH or one value, in cm² × mm, 0 to 4294967295 (0);\n"
     "                     10000 are one litre\n"
-    "  -h, --help         this text\n"
     "Status: 0 done, 1 a range has its low end above its high end, or the area is out of range, 2 wrong options,\n"
     "3 the output cannot be written.\n";
 
@@ -69,6 +69,18 @@ static struct range read_range(const char *what, const char *text, uint64_t most
     return range;
 }
 
+static uint64_t read_area(const char *text)
+{
+    unsigned long long area;
+    char *end;
+
+    errno = 0;
+    area = strtoull(text, &end, 10);
+    if (text[0] < '0' || text[0] > '9' || *end || errno)
+        quit(STATUS_USAGE, "--area: a whole number from 1 to %d is expected, not '%s'", KAGUTIN_MAX_AREA, text);
+    return area;
+}
+
 static const char *value_of(const char *name, const char *text)
 {
     if (!text)
@@ -76,23 +88,26 @@ static const char *value_of(const char *name, const char *text)
     return text;
 }
 
+static void print_and_end(const char *text)
+{
+    fputs(text, stdout);
+    exit(fflush(stdout) == 0 ? STATUS_DONE : STATUS_TROUBLE);
+}
+
 static struct options read_options(int count, char **words)
 {
     struct options options = {0, {0, 0}, {0, 0}, {0, 0}};
     int i, depths = 0;
-    const char *end;
     unsigned has_area = 0;
 
     for (i = 1; i < count; i++) {
-        if (strcmp(words[i], "--help") == 0 || strcmp(words[i], "-h") == 0) {
-            fputs(usage, stdout);
-            exit(fflush(stdout) == 0 ? STATUS_DONE : STATUS_TROUBLE);
-        }
+        if (strcmp(words[i], "--help") == 0 || strcmp(words[i], "-h") == 0)
+            print_and_end(usage);
+        if (strcmp(words[i], "--version") == 0)
+            print_and_end("inflow (Kagutin) " KAGUTIN_VERSION "\n");
         if (strcmp(words[i], "--area") == 0) {
             i++;
-            options.area = read_number("--area", value_of("--area", words[i]), &end, UINT64_MAX);
-            if (*end)
-                quit(STATUS_USAGE, "--area: a whole number is expected, not '%s'", words[i]);
+            options.area = read_area(value_of("--area", words[i]));
             has_area = 1;
         } else if (strcmp(words[i], "--pumped") == 0) {
             i++;

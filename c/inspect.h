@@ -58,6 +58,9 @@ void image_check(struct image *image);
 
 void image_note(struct image *image, const char *format, ...);
 
+/* Would an opening move the start past 2^47? The store then refuses it. */
+bool image_worn_out(const struct image *image);
+
 /* Why a slot is a hole; null if its group is valid. */
 const char *image_hole(const struct image *image, size_t slot);
 

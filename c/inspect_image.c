@@ -154,6 +154,11 @@ void image_choose_shape(struct image *image, const struct options *options)
     }
 }
 
+bool image_worn_out(const struct image *image)
+{
+    return image->log.start + image->log.groups > MAX_START;
+}
+
 const char *image_hole(const struct image *image, size_t slot)
 {
     if (image->file_size < HEADER + GROUP * (slot + 1))

@@ -28,7 +28,7 @@ static void text_entry(const struct image *image, const struct fates *fates, uin
     struct tag tag = rule_tag(&image->log, position);
 
     if (tag.torn) {
-        printf("      %12llu  torn     home %4llu  first %llu\n      %12s  ! nothing: %s\n", (number)position, (number)tag.home,
+        printf("      %12llu  torn     home %5llu  first %llu\n      %12s  ! nothing: %s\n", (number)position, (number)tag.home,
                (number)(position - tag.back), "", tag.why);
         return;
     }
@@ -37,7 +37,7 @@ static void text_entry(const struct image *image, const struct fates *fates, uin
             printf("      %12llu  reads as nothing: %s\n", (number)position, tag.why);
         return;
     }
-    printf("      %12llu  %-7s  home %4llu  first %llu", (number)position, kinds[tag.kind], (number)tag.home,
+    printf("      %12llu  %-7s  home %5llu  first %llu", (number)position, kinds[tag.kind], (number)tag.home,
            (number)(position - tag.back));
     if (tag.kind == TAG_CLOSING) {
         printf("  entries %llu  link ", (number)tag.count);
@@ -95,9 +95,9 @@ static void text_home(const struct image *image, const struct fates *fates, size
 
     for (at = 0; at < size; at += 16) {
         if (at == 0)
-            printf("  %4lu  ", (unsigned long)home);
+            printf("  %5lu  ", (unsigned long)home);
         else
-            printf("        ");
+            printf("         ");
         for (i = at; i < at + 16; i++)
             printf(i % 4 == 0 ? " %02x" : "%02x", block[i]);
         fputs("  ", stdout);
@@ -136,6 +136,8 @@ void print_text(const struct image *image, const struct rule_walk *walk, const s
     printf("live    groups %llu to %llu, positions %llu to %llu\n", (number)log->start,
            (number)(log->start + log->groups - 1), (number)(7 * log->start),
            (number)(7 * (log->start + log->groups) - 1));
+    if (image_worn_out(image))
+        puts("worn    out: an opening would move the start past 2^47 and is refused; homes as it would leave them");
     printf("places  %lu: %lu with entries that come back, %lu with others, %lu torn, %lu unused\n\ngroups\n",
            (unsigned long)(7 * log->groups), (unsigned long)fates->committed, (unsigned long)fates->others,
            (unsigned long)fates->torn, (unsigned long)(7 * log->groups - fates->committed - fates->others - fates->torn));

@@ -7,6 +7,8 @@
 #include <stdlib.h>
 #include <string.h>
 
+#include "text_line.h"
+
 #define LINE_SIZE 256
 
 struct source {
@@ -21,12 +23,17 @@ static bool refuse(const struct source *source, const char *format, ...)
     va_list arguments;
     int used = source->line ? snprintf(source->trouble, source->trouble_size, "%s:%lu: ", source->path, source->line)
                             : snprintf(source->trouble, source->trouble_size, "%s: ", source->path);
+    char *text;
 
     if (used < 0 || (size_t)used >= source->trouble_size)
         return false;
+    text = source->trouble + used;
     va_start(arguments, format);
-    vsnprintf(source->trouble + used, source->trouble_size - (size_t)used, format, arguments);
+    vsnprintf(text, source->trouble_size - (size_t)used, format, arguments);
     va_end(arguments);
+    for (; *text; text++) /* what the file holds is not for a terminal */
+        if (iscntrl((unsigned char)*text))
+            *text = '?';
     return false;
 }
 
@@ -88,18 +95,16 @@ static bool is_heading(const char *text, bool first)
 static bool read_rows(struct source *source, FILE *file, struct readings *readings)
 {
     char line[LINE_SIZE];
+    enum text_line read;
     bool first = true;
 
-    while (fgets(line, sizeof line, file)) {
+    while ((read = text_line_read(file, line, sizeof line)) != TEXT_END) {
         char *text = line;
-        size_t length = strlen(line);
 
         source->line++;
-        if (length == sizeof line - 1 && line[length - 1] != '\n')
-            return refuse(source, "the line is too long for a row");
-        while (length && (line[length - 1] == '\n' || line[length - 1] == '\r'))
-            line[--length] = '\0';
-        if (source->line == 1 && memcmp(line, "\xef\xbb\xbf", 3) == 0)
+        if (read != TEXT_LINE)
+            return refuse(source, read == TEXT_LONG ? "the line is too long for a row" : "a zero byte, no text");
+        if (source->line == 1 && strncmp(line, "\xef\xbb\xbf", 3) == 0)
             text += 3;
         text = past_blanks(text);
         if (*text == '\0' || *text == '#')

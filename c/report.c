@@ -15,11 +15,16 @@ static unsigned long sum(const unsigned long counts[KAGUTIN_WRITERS])
     return total;
 }
 
+static const char *plural(unsigned long count)
+{
+    return count == 1 ? "" : "s";
+}
+
 void report_start(struct station *station)
 {
     station->progress = !station->verbose && isatty(fileno(station->report));
-    fprintf(station->report, "station: seed %llu, %lu cuts, %lu groups, %lu homes, %s\n",
-            (unsigned long long)station->seed, station->cuts, (unsigned long)station->driver.groups,
+    fprintf(station->report, "station: seed %llu, %lu cut%s, %lu groups, %lu homes, %s\n",
+            (unsigned long long)station->seed, station->cuts, plural(station->cuts), (unsigned long)station->driver.groups,
             (unsigned long)station->driver.homes, station->path ? station->path : "in memory");
     if (station->verbose)
         fputs("\n cut  power failed  unissued    arrived  commits  kept  confirmed  replayed\n", station->report);
@@ -79,10 +84,10 @@ void report_full(struct station *station, const char *call, unsigned writer)
         counters->holds[usage->holder]++;
     if (!station->verbose && counters->full > 1)
         return;
-    fprintf(station->report, "%slog full (%s of task %u): %lu live, %lu dead, %lu free", station->progress ? "\r\033[K" : "",
+    fprintf(station->report, "%slog full (%s, task %u): %lu live, %lu dead, %lu free", station->progress ? "\r\033[K" : "",
             call, writer, (unsigned long)usage->live, (unsigned long)usage->dead, (unsigned long)usage->free);
     if (usage->holder < KAGUTIN_WRITERS)
-        fprintf(station->report, "; task %lu holds it from position %llu on", (unsigned long)usage->holder,
+        fprintf(station->report, "; task %lu holds it from %llu on", (unsigned long)usage->holder,
                 (unsigned long long)usage->first);
     fputc('\n', station->report);
 }
@@ -124,8 +129,9 @@ static void print_commits(const struct station *station)
     fprintf(report, "  - %8lu lost          on the way to lasting memory; it, or one before it, did not arrive whole\n", lost);
     fprintf(report, "  . %8lu never issued  the driver had not begun to write all of it\n", unissued);
     if (!station->opened)
-        fprintf(report, "    %8lu in the image  it was not opened after its last cut; an opening brings them back\n",
-                counters->left);
+        fprintf(report, "    %8lu in the image  it %s\n", counters->left,
+                station->worn_out ? "cannot be opened any more; the inspector shows what they wrote"
+                                  : "was not opened after its last cut; an opening brings them back");
     if (station->book.commit_count)
         fprintf(report, "    %8lu made          since the last cut\n", (unsigned long)station->book.commit_count);
 }
@@ -172,6 +178,18 @@ static void print_log(const struct station *station)
                 (unsigned long)usage->dead, (unsigned long)usage->free);
 }
 
+static void print_legend(FILE *report)
+{
+    fputs("\nWords\n"
+          "  confirm    tells up to which commit all is durable\n"
+          "  settling   writes committed blocks home; in a round, a few homes each step\n"
+          "  trim       frees the places before the oldest entry that is open or not yet written home\n"
+          "  live       places with entries of open transactions, or of commits that are not trimmed\n"
+          "  dead       places with aborted entries, or passed over by a flush, that are not trimmed\n"
+          "  held back  by the oldest open transaction: no trim frees its first entry or a later one\n"
+          "  promised   places that one transaction alone can take, so that a full log cannot stop it\n", report);
+}
+
 static void print_verbose_legend(FILE *report)
 {
     fputs("\n  unissued   records that the driver had not begun to write when power failed\n"
@@ -187,16 +205,20 @@ void report_summary(struct station *station)
 
     if (station->progress)
         fputs("\r\033[K", station->report);
+    if (station->worn_out)
+        fputs("\nThe image is worn out: its log's start can move no further than 2^47. Make a new one;\n"
+              "the inspector still shows each home's value.\n", station->report);
+    if (station->worn_out && !counters->calls)
+        return;
     if (station->verbose)
         print_verbose_legend(station->report);
-    fprintf(station->report, "\n%lu power cuts, %lu of them while opening: every opening gave exactly the commits kept.\n",
-            counters->cuts, counters->opening_cuts);
+    fprintf(station->report, "\n%lu power cut%s, %lu while opening: every opening gave exactly the commits kept.\n",
+            counters->cuts, plural(counters->cuts), counters->opening_cuts);
     fputs("Each block of 64 bytes arrived or not by itself, so that groups were left torn.\n", station->report);
     if (station_interrupted())
-        fprintf(station->report, "Interrupted, %lu cuts were asked for.\n", station->cuts);
-    if (station->worn_out)
-        fputs("The image is worn out: its log's start can move no further than 2^47. Make a new one.\n", station->report);
+        fprintf(station->report, "Interrupted, %lu cut%s asked for.\n", station->cuts, station->cuts == 1 ? " was" : "s were");
     print_commits(station);
     print_calls(station);
     print_log(station);
+    print_legend(station->report);
 }

@@ -7,13 +7,14 @@
 
 #include "copy.h"
 #include "kagutin_units.h"
+#include "page_file.h"
 #include "wear_sheet.h"
 
 enum { STATUS_DONE = 0, STATUS_USAGE = 2, STATUS_TROUBLE = 3 };
 enum { RUNNING = 12 }; /* byte of a pump's home; docs/HOMES.md */
 
 static const char usage[] =
-    "usage: wear [--interval HOURS] [--csv | --html FILE] [--all] [--writer W] IMAGE..\n"
+    "usage: wear [--interval HOURS] [--csv | --html FILE] [--all] [--writer W] [-h, --help] [--version] IMAGE..\n"
     "Prints the wear sheet of one image, or of several as one fleet: for each pump its starts, the hours of its finished\n"
     "runs, the whole services due and the hours to the next; the pump to open first stands at the top.\n"
     "  --interval HOURS  hours between two services, 1 to 1000000 (2000)\n"
@@ -21,9 +22,8 @@ static const char usage[] =
     "  --html FILE       the same as one HTML page with a plot; the text is not printed then\n"
     "  --all             pumps that never started too\n"
     "  --writer W        the writer that reads, 0 to 7 (0)\n"
-    "  -h, --help        this text\n"
     "The images stay as they are. Status: 0 done, 2 wrong options, 3 a file cannot be read or written, or an image has no\n"
-    "homes for pumps or something else in them; the others are in the sheet all the same.\n";
+    "homes for pumps or something else in them; the others are in the sheet all the same, and with none there is no sheet.\n";
 
 struct options {
     char **images; /* the words that are no options, moved to the front */
@@ -73,6 +73,12 @@ static const char *file_name(const char *text)
     return text;
 }
 
+static void print_and_end(const char *text)
+{
+    fputs(text, stdout);
+    exit(fflush(stdout) == 0 ? STATUS_DONE : STATUS_TROUBLE);
+}
+
 static struct options read_options(int count, char **words)
 {
     struct options options = {NULL, 0, NULL, false, false, 2000, 0};
@@ -80,10 +86,10 @@ static struct options read_options(int count, char **words)
 
     options.images = words;
     for (i = 1; i < count; i++) {
-        if (strcmp(words[i], "--help") == 0 || strcmp(words[i], "-h") == 0) {
-            fputs(usage, stdout);
-            exit(fflush(stdout) == 0 ? STATUS_DONE : STATUS_TROUBLE);
-        }
+        if (strcmp(words[i], "--help") == 0 || strcmp(words[i], "-h") == 0)
+            print_and_end(usage);
+        if (strcmp(words[i], "--version") == 0)
+            print_and_end("wear (Kagutin) " KAGUTIN_VERSION "\n");
         if (strcmp(words[i], "--csv") == 0)
             options.csv = true;
         else if (strcmp(words[i], "--all") == 0)
@@ -119,14 +125,18 @@ static bool is_record(struct copy *copy, uint64_t writer, unsigned pump)
     return i == sizeof block && block[RUNNING] <= 1;
 }
 
-/* One pump into the sheet; false if the library refuses. */
+/* One pump into the sheet; false if the library refuses. hidden counts those that the writer may not read. */
 static bool read_pump(struct wear_sheet *sheet, struct copy *copy, const struct options *options, const char *path,
-                      unsigned pump)
+                      unsigned pump, unsigned *hidden)
 {
     struct kagutin_figures hours = kgt_pump_hours(&copy->store, options->writer, pump);
     struct kagutin_figures due = kgt_pump_services(&copy->store, options->writer, pump, sheet->interval);
     struct wear_row *row = &sheet->rows[sheet->count];
 
+    if (hours.code == KAGUTIN_NO_READ) {
+        ++*hidden;
+        return false;
+    }
     if (hours.code != KAGUTIN_DONE || due.code != KAGUTIN_DONE) {
         complain("%s: pump %u: %s", path, pump, kgt_unit_answer_text(hours.code ? hours.code : due.code));
         return false;
@@ -152,7 +162,7 @@ static bool read_pump(struct wear_sheet *sheet, struct copy *copy, const struct 
 static bool read_image(struct wear_sheet *sheet, const struct options *options, const char *path)
 {
     struct copy copy;
-    unsigned pump;
+    unsigned pump, hidden = 0;
     bool done = true;
 
     if (!copy_open(&copy, path)) {
@@ -164,9 +174,12 @@ static bool read_image(struct wear_sheet *sheet, const struct options *options, 
         copy_close(&copy);
         return false;
     }
-    sheet->images++;
     for (pump = 0; pump < KAGUTIN_PUMPS && KAGUTIN_PUMP_HOME + pump < copy.homes; pump++)
-        done = read_pump(sheet, &copy, options, path, pump) && done;
+        done = read_pump(sheet, &copy, options, path, pump, &hidden) && done;
+    if (hidden)
+        complain("%s: writer %u has no right to read %s pumps' homes; --writer W chooses another", path,
+                 (unsigned)options->writer, hidden == pump ? "the" : "some");
+    sheet->images += hidden < pump;
     copy_close(&copy);
     return done;
 }
@@ -187,11 +200,12 @@ static int compare_rows(const void *first, const void *second)
 
 static bool write_page(const struct wear_sheet *sheet, const char *path)
 {
-    FILE *file = fopen(path, "w");
+    const char *why;
+    FILE *file = page_create(path, &why);
     bool failed;
 
     if (!file) {
-        complain("%s: cannot be created: %s", path, strerror(errno));
+        complain("%s: cannot be created: %s", path, why);
         return false;
     }
     wear_page(sheet, file);
@@ -219,9 +233,9 @@ int main(int count, char **words)
     for (i = 0; i < options.count; i++)
         done = read_image(&sheet, &options, options.images[i]) && done;
     qsort(sheet.rows, sheet.count, sizeof *sheet.rows, compare_rows);
-    if (options.html)
+    if (options.html && sheet.images)
         done = write_page(&sheet, options.html) && done;
-    else
+    else if (sheet.images)
         (options.csv ? wear_csv : wear_text)(&sheet, stdout);
     if (fflush(stdout) != 0 || ferror(stdout)) {
         complain("cannot write the output");

@@ -24,6 +24,13 @@ struct slice_u8 {
     size_t len;
 };
 
+struct model__Writer {
+    uint64_t mode;
+    uint64_t home;
+    uint64_t first;
+    uint64_t count;
+};
+
 struct model__State {
     uint64_t groups;
     uint64_t homes;
@@ -36,13 +43,6 @@ struct model__State {
     uint64_t last;
     uint64_t round;
     uint64_t cursor;
-};
-
-struct model__Writer {
-    uint64_t mode;
-    uint64_t home;
-    uint64_t first;
-    uint64_t count;
 };
 
 struct slice_mut_u8 {
@@ -394,7 +394,7 @@ static inline uint64_t order__distances__distance(uint64_t x, uint64_t low)
 }
 
 /* Whether the numbers of groups and homes are `groups` and `homes`, and the group numbers and the places filled are in order. */
-static inline bool order__quick__groups_in_order(struct slice_u8 s, uint64_t groups, uint64_t homes)
+static inline bool order__numbers__groups_in_order(struct slice_u8 s, uint64_t groups, uint64_t homes)
 {
     uint64_t t4, t5, t6;
 
@@ -408,50 +408,61 @@ static inline bool order__quick__groups_in_order(struct slice_u8 s, uint64_t gro
     if (UINT64_C(0x800000000000) < t4) {
         return false;
     }
-    t5 = order__distances__distance(load_8(s.ptr + 24u), t4);
-    t6 = load_8(s.ptr + 32u);
-    if (t5 < groups) {
-        return t6 <= 6u;
-    }
-    if (t5 != groups) {
+    t5 = load_8(s.ptr + 32u);
+    if (6u < t5) {
         return false;
     }
-    return t6 == 0u;
+    t6 = order__distances__distance(load_8(s.ptr + 24u), t4);
+    if (t6 < groups) {
+        return true;
+    }
+    if (t6 != groups) {
+        return false;
+    }
+    return t5 == 0u;
 }
 
 /* Whether the other numbers but the round are in order, where the log has `whole` positions from position `low` to the next
    group, and `all` with those filled. What lies between two others is compared once, by its distance from the lower one. */
-static inline bool order__quick__bounds_in_order(struct slice_u8 s, uint64_t low, uint64_t whole, uint64_t all)
+static inline bool order__numbers__bounds_in_order(struct slice_u8 s, uint64_t low, uint64_t whole, uint64_t all)
 {
-    uint64_t t5, t6, t7, t9, t10;
+    uint64_t t5, t6, t7;
 
     t5 = load_8(s.ptr + 48u);
+    if (t5 < load_8(s.ptr + 56u)) {
+        return false;
+    }
     t6 = order__distances__distance(t5, low);
     if (whole < t6) {
         return false;
     }
-    t9 = order__distances__distance(load_8(s.ptr + 40u), low);
-    if (t6 < t9) {
+    t7 = order__distances__distance(load_8(s.ptr + 40u), low);
+    if (t6 < t7) {
         return false;
     }
-    if (t5 < load_8(s.ptr + 56u)) {
-        return false;
-    }
-    t7 = load_8(s.ptr + 64u);
-    if (t7 == 0u) {
-        return true;
-    }
-    t10 = order__distances__distance(t7, low + 1u);
-    return t10 < all;
+    return load_8(s.ptr + 64u) <= (low + all);
 }
 
-/* Whether nothing is promised to any writer: the eight promises are zero as two words. */
-static inline bool strip__promises__none_promised(struct slice_u8 s)
+/* The count that is kept as `less`. */
+static inline uint64_t strip__writers__one_more(uint64_t less)
 {
-    if (load_8(s.ptr + 72u) != 0u) {
-        return false;
+    if (less == UINT64_C(0xffffffffffffffff)) {
+        return 0u;
     }
-    return load_8(s.ptr + 80u) == 0u;
+    return less + 1u;
+}
+
+/* Reads the four numbers of writer `w`. */
+static inline struct model__Writer strip__writers__writer(struct slice_u8 s, uint64_t w)
+{
+    uint64_t t3, t4, t5, t6, t7;
+
+    t3 = 128u + (24u * w);
+    t4 = (uint64_t)s.ptr[(size_t)(104u + w)];
+    t5 = load_8(s.ptr + (size_t)t3);
+    t6 = load_8(s.ptr + (size_t)(t3 + 8u));
+    t7 = strip__writers__one_more(load_8(s.ptr + (size_t)(t3 + 16u)));
+    return (struct model__Writer){.mode = t4, .home = t5, .first = t6, .count = t7};
 }
 
 /* Whether the record of a writer that holds a block for a home below D and has logged entries is in order: the positions since
@@ -466,10 +477,7 @@ static inline bool order__quick__logged_in_order(struct model__State st, uint64_
         return false;
     }
     t6 = order__distances__distance(r.count, 1u);
-    if (t5 <= t6) {
-        return false;
-    }
-    return true;
+    return t6 < t5;
 }
 
 /* Whether the record of a writer that is neither idle nor without a block is in order in a strip whose group numbers and places
@@ -479,29 +487,24 @@ static inline bool order__quick__record_in_order(struct model__State st, uint64_
     if (st.homes <= r.home) {
         return false;
     }
-    if (r.mode < 3u) {
-        return true;
+    if (r.mode == 3u) {
+        return order__quick__logged_in_order(st, low, all, r);
     }
-    if (r.mode != 3u) {
-        return false;
-    }
-    return order__quick__logged_in_order(st, low, all, r);
+    return r.mode < 3u;
 }
 
 /* Whether the records of all eight writers are in order where nothing is promised. Their modes are read as one word, and only
    writers are visited of whose mode a bit but the lowest is set. */
 static inline bool order__quick__records_in_order(struct slice_u8 s, struct model__State st, uint64_t low, uint64_t all)
 {
-    uint64_t t5, t117, t118;
+    uint64_t t5;
     bool t8;
+    struct model__Writer t10;
 
     t5 = load_8(s.ptr + 104u) & UINT64_C(0xfefefefefefefefe);
     while (t5 != 0u) {
-        t117 = (uint64_t)trailing_zeros(t5) / 8u;
-        t118 = 128u + (96u * t117);
-        t8 = order__quick__record_in_order(st, low, all, (struct model__Writer){.mode = (uint64_t)s.ptr[(size_t)(104u + t117)],
-                .home = load_8(s.ptr + (size_t)(t118 + 8u)), .first = load_8(s.ptr + (size_t)(t118 + 16u)), .count = load_8(s.ptr
-                + (size_t)(t118 + 24u))});
+        t10 = strip__writers__writer(s, (uint64_t)trailing_zeros(t5) / 8u);
+        t8 = order__quick__record_in_order(st, low, all, t10);
         if (!t8) {
             return false;
         }
@@ -510,14 +513,17 @@ static inline bool order__quick__records_in_order(struct slice_u8 s, struct mode
     return true;
 }
 
-/* Question 2 for a log of `groups` groups and `homes` homes: 0 if the strip is in order, 2 if it is not, and 1 where a promise or
-   a round leaves the rest to `rest_in_order`. */
+/* Question 2 for a log of `groups` groups and `homes` homes: 0 if the strip is seen to be in order, else 2, which
+   `whole_in_order` may still deny. */
 static inline uint64_t order__quick__quick_answer(struct slice_u8 s, uint64_t groups, uint64_t homes)
 {
-    uint64_t t4, t5, t6, t7, t426, t427;
+    uint64_t t4, t5, t6, t7, t638, t639;
     bool t8;
 
-    t8 = order__quick__groups_in_order(s, groups, homes);
+    if (!(((load_8(s.ptr + 88u) | load_8(s.ptr + 72u)) | load_8(s.ptr + 80u)) == 0u)) {
+        return 2u;
+    }
+    t8 = order__numbers__groups_in_order(s, groups, homes);
     if (!t8) {
         return 2u;
     }
@@ -525,20 +531,13 @@ static inline uint64_t order__quick__quick_answer(struct slice_u8 s, uint64_t gr
     t5 = 7u * t4;
     t6 = 7u * (load_8(s.ptr + 24u) - t4);
     t7 = t6 + load_8(s.ptr + 32u);
-    t8 = order__quick__bounds_in_order(s, t5, t6, t7);
+    t8 = order__numbers__bounds_in_order(s, t5, t6, t7);
     if (!t8) {
         return 2u;
     }
-    if (load_8(s.ptr + 88u) != 0u) {
-        return 1u;
-    }
-    t8 = strip__promises__none_promised(s);
-    if (!t8) {
-        return 1u;
-    }
-    t426 = load_8(s.ptr);
-    t427 = load_8(s.ptr + 8u);
-    t8 = order__quick__records_in_order(s, (struct model__State){.groups = t426, .homes = t427, .start = load_8(s.ptr + 16u),
+    t638 = load_8(s.ptr);
+    t639 = load_8(s.ptr + 8u);
+    t8 = order__quick__records_in_order(s, (struct model__State){.groups = t638, .homes = t639, .start = load_8(s.ptr + 16u),
             .next = load_8(s.ptr + 24u), .filled = load_8(s.ptr + 32u), .settled = load_8(s.ptr + 40u), .fenced = load_8(s.ptr
             + 48u), .durable = load_8(s.ptr + 56u), .last = load_8(s.ptr + 64u), .round = load_8(s.ptr + 88u),
             .cursor = load_8(s.ptr + 96u)}, t5, t7);
@@ -549,7 +548,7 @@ static inline uint64_t order__quick__quick_answer(struct slice_u8 s, uint64_t gr
 }
 
 /* Whether the position that a round has fixed lies from the settled to the fenced one, or there is no round. */
-static inline bool order__rest__round_in_order(struct model__State st)
+static inline bool order__whole__round_in_order(struct model__State st)
 {
     if (st.round == 0u) {
         return true;
@@ -558,6 +557,15 @@ static inline bool order__rest__round_in_order(struct model__State st)
         return false;
     }
     return (st.round - 1u) <= st.fenced;
+}
+
+/* Whether nothing is promised to any writer: the eight promises are zero as two words. */
+static inline bool strip__promises__none_promised(struct slice_u8 s)
+{
+    if (load_8(s.ptr + 72u) != 0u) {
+        return false;
+    }
+    return load_8(s.ptr + 80u) == 0u;
 }
 
 /* How many places are promised to the eight writers together, one after the other. */
@@ -587,7 +595,7 @@ static inline uint64_t strip__promises__promised(struct slice_u8 s)
 }
 
 /* Whether a writer's record is in order in a strip with the numbers `st`. */
-static inline bool order__rest__writer_in_order(struct model__State st, struct model__Writer r)
+static inline bool order__whole__writer_in_order(struct model__State st, struct model__Writer r)
 {
     uint64_t t3;
 
@@ -621,16 +629,13 @@ static inline bool order__rest__writer_in_order(struct model__State st, struct m
 
 /* Whether the record of writer `w` is in order in the strip `s` with the numbers `st`, and nothing is promised to it while it is
    idle. */
-static inline bool order__rest__writer_at_in_order(struct slice_u8 s, struct model__State st, uint64_t w)
+static inline bool order__whole__writer_at_in_order(struct slice_u8 s, struct model__State st, uint64_t w)
 {
     struct model__Writer t4;
     bool t5;
-    uint64_t t10;
 
-    t10 = 128u + (96u * w);
-    t4 = (struct model__Writer){.mode = (uint64_t)s.ptr[(size_t)(104u + w)], .home = load_8(s.ptr + (size_t)(t10 + 8u)),
-            .first = load_8(s.ptr + (size_t)(t10 + 16u)), .count = load_8(s.ptr + (size_t)(t10 + 24u))};
-    t5 = order__rest__writer_in_order(st, t4);
+    t4 = strip__writers__writer(s, w);
+    t5 = order__whole__writer_in_order(st, t4);
     if (!t5) {
         return false;
     }
@@ -641,14 +646,14 @@ static inline bool order__rest__writer_at_in_order(struct slice_u8 s, struct mod
 }
 
 /* Whether the records of all eight writers are in order in the strip `s` with the numbers `st`. */
-static inline bool order__rest__writers_in_order(struct slice_u8 s, struct model__State st)
+static inline bool order__whole__writers_in_order(struct slice_u8 s, struct model__State st)
 {
     uint64_t t3;
     bool t4;
 
     t3 = 0u;
     while (t3 < 8u) {
-        t4 = order__rest__writer_at_in_order(s, st, t3);
+        t4 = order__whole__writer_at_in_order(s, st, t3);
         if (!t4) {
             return false;
         }
@@ -658,45 +663,64 @@ static inline bool order__rest__writers_in_order(struct slice_u8 s, struct model
 }
 
 /* The rest of question 2 where the numbers but the round are in order: the round, the promises and the writers. */
-static inline bool order__rest__rest_in_order(struct slice_u8 s)
+static inline bool order__whole__rest_in_order(struct slice_u8 s, struct model__State st)
 {
-    struct model__State t2;
     bool t3;
-    uint64_t t6, t8, t9;
+    uint64_t t6;
 
-    t8 = load_8(s.ptr);
-    t9 = load_8(s.ptr + 8u);
-    t2 = (struct model__State){.groups = t8, .homes = t9, .start = load_8(s.ptr + 16u), .next = load_8(s.ptr + 24u),
-            .filled = load_8(s.ptr + 32u), .settled = load_8(s.ptr + 40u), .fenced = load_8(s.ptr + 48u), .durable = load_8(s.ptr
-            + 56u), .last = load_8(s.ptr + 64u), .round = load_8(s.ptr + 88u), .cursor = load_8(s.ptr + 96u)};
-    t3 = order__rest__round_in_order(t2);
+    t3 = order__whole__round_in_order(st);
     if (!t3) {
         return false;
     }
     t6 = strip__promises__promised(s);
-    if (((7u * (t2.start + t2.groups)) - ((7u * t2.next) + t2.filled)) < t6) {
+    if (((7u * (st.start + st.groups)) - ((7u * st.next) + st.filled)) < t6) {
         return false;
     }
-    return order__rest__writers_in_order(s, t2);
+    return order__whole__writers_in_order(s, st);
+}
+
+/* Question 2 for a log of `groups` groups and `homes` homes, whatever is promised and whether a round is under way. */
+static inline bool order__whole__whole_in_order(struct slice_u8 s, uint64_t groups, uint64_t homes)
+{
+    uint64_t t4, t6, t323, t324;
+    bool t8;
+
+    t8 = order__numbers__groups_in_order(s, groups, homes);
+    if (!t8) {
+        return false;
+    }
+    t4 = load_8(s.ptr + 16u);
+    t6 = 7u * (load_8(s.ptr + 24u) - t4);
+    t8 = order__numbers__bounds_in_order(s, 7u * t4, t6, t6 + load_8(s.ptr + 32u));
+    if (!t8) {
+        return false;
+    }
+    t323 = load_8(s.ptr);
+    t324 = load_8(s.ptr + 8u);
+    return order__whole__rest_in_order(s, (struct model__State){.groups = t323, .homes = t324, .start = load_8(s.ptr + 16u),
+            .next = load_8(s.ptr + 24u), .filled = load_8(s.ptr + 32u), .settled = load_8(s.ptr + 40u), .fenced = load_8(s.ptr
+            + 48u), .durable = load_8(s.ptr + 56u), .last = load_8(s.ptr + 64u), .round = load_8(s.ptr + 88u),
+            .cursor = load_8(s.ptr + 96u)});
 }
 
 /* Questions 1 and 2: 0 if the lengths are right and the strip is in order, else the number of the refusal. */
 static inline uint64_t answers__in_use(struct slice_u8 log, struct slice_u8 area, struct slice_u8 state)
 {
-    uint64_t t4, t6;
-    bool t7, t8;
+    uint64_t t4, t5, t9;
+    bool t6, t7;
 
-    t7 = answers__lengths_right(log, area, state);
-    if (!t7) {
+    t6 = answers__lengths_right(log, area, state);
+    if (!t6) {
         return 1u;
     }
     t4 = areas__lengths__log_groups((uint64_t)log.len);
-    t6 = order__quick__quick_answer(state, t4, (uint64_t)area.len / 64u);
-    if (t6 != 1u) {
-        return t6;
+    t5 = (uint64_t)area.len / 64u;
+    t9 = order__quick__quick_answer(state, t4, t5);
+    if (t9 == 0u) {
+        return 0u;
     }
-    t8 = order__rest__rest_in_order(state);
-    if (!t8) {
+    t7 = order__whole__whole_in_order(state, t4, t5);
+    if (!t7) {
         return 2u;
     }
     return 0u;
@@ -720,16 +744,14 @@ static inline uint64_t sessions__writer_answer(struct slice_u8 log, struct slice
 /* Whether a writer may abort: 0, or the number of the refusal. */
 static inline uint64_t sessions__abort_answer(struct slice_u8 log, struct slice_u8 area, struct slice_u8 state, uint64_t writer)
 {
-    uint64_t t5, t11;
+    uint64_t t5;
     struct model__Writer t7;
 
     t5 = sessions__writer_answer(log, area, state, writer);
     if (t5 != 0u) {
         return t5;
     }
-    t11 = 128u + (96u * writer);
-    t7 = (struct model__Writer){.mode = (uint64_t)state.ptr[(size_t)(104u + writer)], .home = load_8(state.ptr + (size_t)(t11
-            + 8u)), .first = load_8(state.ptr + (size_t)(t11 + 16u)), .count = load_8(state.ptr + (size_t)(t11 + 24u))};
+    t7 = strip__writers__writer(state, writer);
     if (!(1u <= t7.mode)) {
         return 7u;
     }
@@ -742,31 +764,39 @@ static inline struct model__Writer writers__places__aborted(struct model__Writer
     struct model__Writer t2;
 
     t2 = r;
-    (*&t2) = (struct model__Writer){.mode = 0u, .home = 0u, .first = 0u, .count = 0u};
+    (*&t2) = (struct model__Writer){.mode = 0u, .home = 0u, .first = 0u, .count = 1u};
     return t2;
+}
+
+/* A count as it is kept: less one, modulo 2^64. */
+static inline uint64_t strip__writers__less_one(uint64_t count)
+{
+    if (count == 0u) {
+        return UINT64_C(0xffffffffffffffff);
+    }
+    return count - 1u;
 }
 
 /* Stores `r` as the four numbers of writer `w`, and leaves the rest of the strip as it was. */
 static inline void strip__writers__set_writer(struct slice_mut_u8 s, uint64_t w, struct model__Writer r)
 {
-    uint64_t t4;
+    uint64_t t4, t15;
 
-    t4 = 128u + (96u * w);
+    t4 = 128u + (24u * w);
     s.ptr[(size_t)(104u + w)] = (uint8_t)(r.mode % 256u);
-    store_8(s.ptr + (size_t)(t4 + 8u), r.home);
-    store_8(s.ptr + (size_t)(t4 + 16u), r.first);
-    store_8(s.ptr + (size_t)(t4 + 24u), r.count);
+    store_8(s.ptr + (size_t)t4, r.home);
+    store_8(s.ptr + (size_t)(t4 + 8u), r.first);
+    t15 = strip__writers__less_one(r.count);
+    store_8(s.ptr + (size_t)(t4 + 16u), t15);
 }
 
 /* Ends the transaction in the record of writer `w`. */
 static inline void writers__abort(struct slice_mut_u8 s, uint64_t w)
 {
-    struct model__Writer t9;
-    uint64_t t11;
+    struct model__Writer t3, t9;
 
-    t11 = 128u + (96u * w);
-    t9 = writers__places__aborted((struct model__Writer){.mode = (uint64_t)s.ptr[(size_t)(104u + w)], .home = load_8(s.ptr
-            + (size_t)(t11 + 8u)), .first = load_8(s.ptr + (size_t)(t11 + 16u)), .count = load_8(s.ptr + (size_t)(t11 + 24u))});
+    t3 = strip__writers__writer((struct slice_u8){s.ptr, s.len}, w);
+    t9 = writers__places__aborted(t3);
     strip__writers__set_writer(s, w, t9);
 }
 
@@ -795,16 +825,14 @@ static inline struct answers__Reply kagutin__kagutin_abort(struct slice_u8 log, 
 /* Whether a writer may begin: 0, or the number of the refusal. */
 static inline uint64_t sessions__begin_answer(struct slice_u8 log, struct slice_u8 area, struct slice_u8 state, uint64_t writer)
 {
-    uint64_t t5, t11;
+    uint64_t t5;
     struct model__Writer t8;
 
     t5 = sessions__writer_answer(log, area, state, writer);
     if (t5 != 0u) {
         return t5;
     }
-    t11 = 128u + (96u * writer);
-    t8 = (struct model__Writer){.mode = (uint64_t)state.ptr[(size_t)(104u + writer)], .home = load_8(state.ptr + (size_t)(t11
-            + 8u)), .first = load_8(state.ptr + (size_t)(t11 + 16u)), .count = load_8(state.ptr + (size_t)(t11 + 24u))};
+    t8 = strip__writers__writer(state, writer);
     if (1u <= t8.mode) {
         return 6u;
     }
@@ -817,19 +845,17 @@ static inline struct model__Writer writers__places__begun(struct model__Writer r
     struct model__Writer t2;
 
     t2 = r;
-    (*&t2) = (struct model__Writer){.mode = 1u, .home = 0u, .first = 0u, .count = 0u};
+    (*&t2) = (struct model__Writer){.mode = 1u, .home = 0u, .first = 0u, .count = 1u};
     return t2;
 }
 
 /* Begins a transaction in the record of writer `w`. */
 static inline void writers__begin(struct slice_mut_u8 s, uint64_t w)
 {
-    struct model__Writer t9;
-    uint64_t t11;
+    struct model__Writer t3, t9;
 
-    t11 = 128u + (96u * w);
-    t9 = writers__places__begun((struct model__Writer){.mode = (uint64_t)s.ptr[(size_t)(104u + w)], .home = load_8(s.ptr
-            + (size_t)(t11 + 8u)), .first = load_8(s.ptr + (size_t)(t11 + 16u)), .count = load_8(s.ptr + (size_t)(t11 + 24u))});
+    t3 = strip__writers__writer((struct slice_u8){s.ptr, s.len}, w);
+    t9 = writers__places__begun(t3);
     strip__writers__set_writer(s, w, t9);
 }
 
@@ -944,7 +970,7 @@ static inline uint64_t logging__entry__may_log(struct slice_u8 state, uint64_t w
 static inline uint64_t commits__commit_verdict(struct slice_u8 log, struct slice_u8 area, struct slice_u8 state,
         struct slice_u8 newest, struct slice_u8 batch, uint64_t writer)
 {
-    uint64_t t7, t14;
+    uint64_t t7;
     struct model__Writer t8;
 
     t7 = answers__in_use_newest(log, area, state, newest);
@@ -954,9 +980,7 @@ static inline uint64_t commits__commit_verdict(struct slice_u8 log, struct slice
     if (8u <= writer) {
         return 4u;
     }
-    t14 = 128u + (96u * writer);
-    t8 = (struct model__Writer){.mode = (uint64_t)state.ptr[(size_t)(104u + writer)], .home = load_8(state.ptr + (size_t)(t14
-            + 8u)), .first = load_8(state.ptr + (size_t)(t14 + 16u)), .count = load_8(state.ptr + (size_t)(t14 + 24u))};
+    t8 = strip__writers__writer(state, writer);
     if (!(1u <= t8.mode)) {
         return 7u;
     }
@@ -986,10 +1010,10 @@ static inline uint64_t strip__writers__first_for(struct model__Writer r, uint64_
     return t4;
 }
 
-/* The distance from `position` back to the last closing entry, 0 if there is none. */
+/* The distance from `position` back to the last closing entry, 0 if there is none since the start. */
 static inline uint64_t logging__entry__link_from(uint64_t position, struct model__State st)
 {
-    if (st.last == 0u) {
+    if (st.last <= (7u * st.start)) {
         return 0u;
     }
     return (position + 1u) - st.last;
@@ -1192,7 +1216,7 @@ static inline uint64_t logging__entry__log_entry(struct slice_mut_u8 log, struct
             .cursor = load_8(state.ptr + 96u)};
     t7 = scan__slots__first_slot(t6.next, t6.groups);
     t8 = t7.slot;
-    t9 = (128u + (96u * w)) + 32u;
+    t9 = 320u + (64u * w);
     areas__groups__enter(log, t8, t7.turn, t6, word, (struct slice_u8){state.ptr + (size_t)t9, (size_t)((t9 + 64u) - t9)});
     if (t6.filled != 6u) {
         store_8(state.ptr + 32u, t6.filled + 1u);
@@ -1780,17 +1804,18 @@ static inline uint64_t commits__commit_held(struct slice_mut_u8 log, struct slic
 static inline uint64_t commits__commit_next(struct slice_mut_u8 log, struct slice_u8 area, struct slice_mut_u8 state,
         struct slice_mut_u8 newest, struct slice_mut_u8 batch, uint64_t w)
 {
-    uint64_t t22, t23, t1156;
+    struct model__State t7;
+    struct model__Writer t8;
+    uint64_t t22, t23;
 
     t22 = load_8(state.ptr);
     t23 = load_8(state.ptr + 8u);
-    t1156 = 128u + (96u * w);
-    return commits__commit_held(log, area, state, newest, batch, (struct model__State){.groups = t22, .homes = t23,
-            .start = load_8(state.ptr + 16u), .next = load_8(state.ptr + 24u), .filled = load_8(state.ptr + 32u),
-            .settled = load_8(state.ptr + 40u), .fenced = load_8(state.ptr + 48u), .durable = load_8(state.ptr + 56u),
-            .last = load_8(state.ptr + 64u), .round = load_8(state.ptr + 88u), .cursor = load_8(state.ptr + 96u)},
-            (struct model__Writer){.mode = (uint64_t)state.ptr[(size_t)(104u + w)], .home = load_8(state.ptr + (size_t)(t1156
-            + 8u)), .first = load_8(state.ptr + (size_t)(t1156 + 16u)), .count = load_8(state.ptr + (size_t)(t1156 + 24u))}, w);
+    t7 = (struct model__State){.groups = t22, .homes = t23, .start = load_8(state.ptr + 16u), .next = load_8(state.ptr + 24u),
+            .filled = load_8(state.ptr + 32u), .settled = load_8(state.ptr + 40u), .fenced = load_8(state.ptr + 48u),
+            .durable = load_8(state.ptr + 56u), .last = load_8(state.ptr + 64u), .round = load_8(state.ptr + 88u),
+            .cursor = load_8(state.ptr + 96u)};
+    t8 = strip__writers__writer((struct slice_u8){state.ptr, state.len}, w);
+    return commits__commit_held(log, area, state, newest, batch, t7, t8, w);
 }
 
 /* Commits a writer's open transaction: its held block is logged as the closing entry, whose position + 1 is the ticket, and for
@@ -1798,7 +1823,7 @@ static inline uint64_t commits__commit_next(struct slice_mut_u8 log, struct slic
 static inline struct answers__Reply commits__commit(struct slice_mut_u8 log, struct slice_u8 area, struct slice_mut_u8 state,
         struct slice_mut_u8 newest, struct slice_mut_u8 batch, uint64_t writer)
 {
-    uint64_t t7, t8, t12, t41, t365, t366;
+    uint64_t t7, t8, t12, t43, t44;
     struct model__Writer t9;
     struct model__State t10;
 
@@ -1808,16 +1833,14 @@ static inline struct answers__Reply commits__commit(struct slice_mut_u8 log, str
         return (struct answers__Reply){.code = t7, .figure = 0u, .size = 0u};
     }
     t8 = writer;
-    t41 = 128u + (96u * t8);
-    t9 = (struct model__Writer){.mode = (uint64_t)state.ptr[(size_t)(104u + t8)], .home = load_8(state.ptr + (size_t)(t41 + 8u)),
-            .first = load_8(state.ptr + (size_t)(t41 + 16u)), .count = load_8(state.ptr + (size_t)(t41 + 24u))};
+    t9 = strip__writers__writer((struct slice_u8){state.ptr, state.len}, t8);
     if (!(2u <= t9.mode)) {
         commits__commit_none(state, t8);
         return (struct answers__Reply){.code = 0u, .figure = 0u, .size = 0u};
     }
-    t365 = load_8(state.ptr);
-    t366 = load_8(state.ptr + 8u);
-    t10 = (struct model__State){.groups = t365, .homes = t366, .start = load_8(state.ptr + 16u), .next = load_8(state.ptr + 24u),
+    t43 = load_8(state.ptr);
+    t44 = load_8(state.ptr + 8u);
+    t10 = (struct model__State){.groups = t43, .homes = t44, .start = load_8(state.ptr + 16u), .next = load_8(state.ptr + 24u),
             .filled = load_8(state.ptr + 32u), .settled = load_8(state.ptr + 40u), .fenced = load_8(state.ptr + 48u),
             .durable = load_8(state.ptr + 56u), .last = load_8(state.ptr + 64u), .round = load_8(state.ptr + 88u),
             .cursor = load_8(state.ptr + 96u)};
@@ -2079,22 +2102,18 @@ static inline bool rights__list__none_in_copy(struct slice_u8 area)
             + (size_t)(t2961 + 16u)) | load_8(area.ptr + (size_t)(t2961 + 24u)))))) == 0u;
 }
 
-/* The same by the list's sign, where that does not say that there is one. The data copy is looked at without the log if no
-   position is kept. */
+/* The same by the list's sign, where that says nothing. The data copy is looked at without the log if no position is kept. */
 static inline bool rights__list__open_unsigned(struct slice_u8 log, struct slice_u8 area, struct slice_u8 state,
         struct slice_u8 kept, uint64_t from, uint64_t at, uint64_t home)
 {
-    bool t9, t11;
+    bool t8, t10;
 
-    if (load_8(state.ptr + 928u) == 1u) {
-        return true;
-    }
-    t9 = rights__list__none_kept(kept, from);
-    if (!t9) {
+    t8 = rights__list__none_kept(kept, from);
+    if (!t8) {
         return rights__list__open_kept(log, area, state, kept, from, at, home);
     }
-    t11 = rights__ranges__in_ranges(area, 512u + at, home);
-    if (t11) {
+    t10 = rights__ranges__in_ranges(area, 512u + at, home);
+    if (t10) {
         return true;
     }
     return rights__list__none_in_copy(area);
@@ -2104,18 +2123,22 @@ static inline bool rights__list__open_unsigned(struct slice_u8 log, struct slice
 static inline bool rights__may_read(struct slice_u8 log, struct slice_u8 area, struct slice_u8 state, struct slice_u8 newest,
         uint64_t writer, uint64_t home)
 {
-    uint64_t t7;
-    bool t8;
+    uint64_t t7, t8;
+    bool t9;
 
-    t8 = rights__ranges__of_list(home);
-    if (t8) {
+    t9 = rights__ranges__of_list(home);
+    if (t9) {
         return true;
     }
     if ((uint64_t)area.len < 768u) {
         return true;
     }
     t7 = (32u * writer) + 16u;
-    if (load_8(state.ptr + 928u) == 2u) {
+    t8 = load_8(state.ptr + 928u);
+    if (t8 == 1u) {
+        return true;
+    }
+    if (t8 == 2u) {
         return rights__list__open_listed(log, area, state, newest, 64u, t7, home);
     }
     return rights__list__open_unsigned(log, area, state, newest, 64u, t7, home);
@@ -2175,7 +2198,7 @@ static inline void areas__blocks__copy_block(struct slice_mut_u8 dst, uint64_t a
 /* Copies the block that a writer holds. */
 static inline void reading__blocks__show_held(struct slice_mut_u8 block, struct slice_u8 state, uint64_t w)
 {
-    areas__blocks__copy_block(block, 0u, state, (128u + (96u * w)) + 32u);
+    areas__blocks__copy_block(block, 0u, state, 320u + (64u * w));
 }
 
 /* How many of the `left` positions the next group has. */
@@ -2365,7 +2388,7 @@ static inline void reading__blocks__show(struct slice_u8 log, struct slice_u8 ar
         struct slice_mut_u8 block, uint64_t writer, uint64_t home)
 {
     struct model__State t8;
-    uint64_t t9, t11, t26, t27, t1160;
+    uint64_t t9, t11, t26, t27;
     struct model__Writer t10;
     bool t12;
 
@@ -2376,9 +2399,7 @@ static inline void reading__blocks__show(struct slice_u8 log, struct slice_u8 ar
             .durable = load_8(state.ptr + 56u), .last = load_8(state.ptr + 64u), .round = load_8(state.ptr + 88u),
             .cursor = load_8(state.ptr + 96u)};
     t9 = writer;
-    t1160 = 128u + (96u * t9);
-    t10 = (struct model__Writer){.mode = (uint64_t)state.ptr[(size_t)(104u + t9)], .home = load_8(state.ptr + (size_t)(t1160
-            + 8u)), .first = load_8(state.ptr + (size_t)(t1160 + 16u)), .count = load_8(state.ptr + (size_t)(t1160 + 24u))};
+    t10 = strip__writers__writer(state, t9);
     t12 = reading__blocks__holds_home(t10, home);
     if (t12) {
         reading__blocks__show_held(block, state, t9);
@@ -3650,6 +3671,21 @@ static inline void recovery__opening__open_records(struct slice_mut_u8 batch, ui
     (void)batch__records__fence(batch, t6);
 }
 
+/* The sign of the list of rights in the data copy. */
+static inline uint64_t recovery__opening__open_sign(struct slice_u8 area, uint64_t homes)
+{
+    bool t4;
+
+    if (homes < 12u) {
+        return 0u;
+    }
+    t4 = codec__blocks__all_zero(area, 512u, 256u);
+    if (t4) {
+        return 1u;
+    }
+    return 2u;
+}
+
 /* Makes every byte of the strip zero. */
 static inline void strip__fields__clear(struct slice_mut_u8 s)
 {
@@ -3673,14 +3709,15 @@ static inline void strip__fields__fresh_numbers(struct slice_mut_u8 s, uint64_t 
 }
 
 /* Makes `s` the strip of an opened store whose log is empty at the group number `start`: no position of the list of rights is
-   kept. */
-static inline void strip__fields__fresh(struct slice_mut_u8 s, uint64_t groups, uint64_t homes, uint64_t start)
+   kept, and `sign` is its sign. */
+static inline void strip__fields__fresh(struct slice_mut_u8 s, uint64_t groups, uint64_t homes, uint64_t start, uint64_t sign)
 {
-    struct array_u8_32 t5;
+    struct array_u8_32 t6;
 
-    memset(&t5, 255u, sizeof t5);
+    memset(&t6, 255u, sizeof t6);
     strip__fields__fresh_numbers(s, groups, homes, start);
-    strip__listed__set_listed(s, (struct slice_u8){t5.at, 32u});
+    strip__listed__set_listed(s, (struct slice_u8){t6.at, 32u});
+    store_8(s.ptr + 928u, sign);
 }
 
 /* Keeps no position for any home. */
@@ -3699,11 +3736,14 @@ static inline void positions__strip__keep_nothing(struct slice_mut_u8 newest, ui
 }
 
 /* Makes the log copy empty from a new start on, the strip that of an empty log, and keeps no position. */
-static inline void recovery__opening__open_copies(struct slice_mut_u8 log, struct slice_mut_u8 state, struct slice_mut_u8 newest,
-        uint64_t groups, uint64_t homes, uint64_t start)
+static inline void recovery__opening__open_copies(struct slice_mut_u8 log, struct slice_u8 area, struct slice_mut_u8 state,
+        struct slice_mut_u8 newest, uint64_t groups, uint64_t homes, uint64_t start)
 {
+    uint64_t t13;
+
     areas__unused__put_empty_log(log, start, groups, homes);
-    strip__fields__fresh(state, groups, homes, start);
+    t13 = recovery__opening__open_sign(area, homes);
+    strip__fields__fresh(state, groups, homes, start, t13);
     positions__strip__keep_nothing(newest, homes);
 }
 
@@ -3731,7 +3771,7 @@ static inline struct answers__Reply recovery__opening__reopen(struct slice_mut_u
         return (struct answers__Reply){.code = 9u, .figure = 0u, .size = 0u};
     }
     recovery__opening__open_records(batch, t13 - t11, t10 + t8, t8, t9);
-    recovery__opening__open_copies(log, state, newest, t8, t9, t10 + t8);
+    recovery__opening__open_copies(log, (struct slice_u8){area.ptr, area.len}, state, newest, t8, t9, t10 + t8);
     return (struct answers__Reply){.code = 0u, .figure = t12.number, .size = t13};
 }
 
@@ -3746,23 +3786,24 @@ static inline struct answers__Reply kagutin__kagutin_open(struct slice_mut_u8 lo
 static inline uint64_t answers__in_use_block(struct slice_u8 log, struct slice_u8 area, struct slice_u8 state,
         struct slice_u8 block)
 {
-    uint64_t t5, t7;
-    bool t8;
+    uint64_t t5, t6, t10;
+    bool t7;
 
-    t8 = answers__lengths_right(log, area, state);
-    if (!t8) {
+    t7 = answers__lengths_right(log, area, state);
+    if (!t7) {
         return 1u;
     }
     if ((uint64_t)block.len != 64u) {
         return 1u;
     }
     t5 = areas__lengths__log_groups((uint64_t)log.len);
-    t7 = order__quick__quick_answer(state, t5, (uint64_t)area.len / 64u);
-    if (t7 != 1u) {
-        return t7;
+    t6 = (uint64_t)area.len / 64u;
+    t10 = order__quick__quick_answer(state, t5, t6);
+    if (t10 == 0u) {
+        return 0u;
     }
-    t8 = order__rest__rest_in_order(state);
-    if (!t8) {
+    t7 = order__whole__whole_in_order(state, t5, t6);
+    if (!t7) {
         return 2u;
     }
     return 0u;
@@ -3898,18 +3939,22 @@ static inline struct answers__Reply kagutin__kagutin_reserve(struct slice_u8 log
 static inline bool rights__may_store_newest(struct slice_u8 log, struct slice_u8 area, struct slice_u8 state,
         struct slice_u8 newest, uint64_t writer, uint64_t home)
 {
-    uint64_t t7;
-    bool t8;
+    uint64_t t7, t8;
+    bool t9;
 
-    t8 = rights__ranges__of_list(home);
-    if (t8) {
+    t9 = rights__ranges__of_list(home);
+    if (t9) {
         return writer == 0u;
     }
     if ((uint64_t)area.len < 768u) {
         return true;
     }
     t7 = 32u * writer;
-    if (load_8(state.ptr + 928u) == 2u) {
+    t8 = load_8(state.ptr + 928u);
+    if (t8 == 1u) {
+        return true;
+    }
+    if (t8 == 2u) {
         return rights__list__open_listed(log, area, state, newest, 64u, t7, home);
     }
     return rights__list__open_unsigned(log, area, state, newest, 64u, t7, home);
@@ -4327,18 +4372,22 @@ static inline struct answers__Reply kagutin__kagutin_step_round(struct slice_u8 
 static inline bool rights__may_store(struct slice_u8 log, struct slice_u8 area, struct slice_u8 state, uint64_t writer,
         uint64_t home)
 {
-    uint64_t t6;
-    bool t7;
+    uint64_t t6, t7;
+    bool t8;
 
-    t7 = rights__ranges__of_list(home);
-    if (t7) {
+    t8 = rights__ranges__of_list(home);
+    if (t8) {
         return writer == 0u;
     }
     if ((uint64_t)area.len < 768u) {
         return true;
     }
     t6 = 32u * writer;
-    if (load_8(state.ptr + 928u) == 2u) {
+    t7 = load_8(state.ptr + 928u);
+    if (t7 == 1u) {
+        return true;
+    }
+    if (t7 == 2u) {
         return rights__list__open_listed(log, area, state, state, 896u, t6, home);
     }
     return rights__list__open_unsigned(log, area, state, state, 896u, t6, home);
@@ -4348,7 +4397,7 @@ static inline bool rights__may_store(struct slice_u8 log, struct slice_u8 area, 
 static inline uint64_t logging__stores__store_verdict(struct slice_u8 log, struct slice_u8 area, struct slice_u8 state,
         struct slice_u8 block, struct slice_u8 batch, uint64_t writer, uint64_t home)
 {
-    uint64_t t8, t18;
+    uint64_t t8;
     struct model__Writer t9;
     bool t10;
 
@@ -4366,9 +4415,7 @@ static inline uint64_t logging__stores__store_verdict(struct slice_u8 log, struc
     if (!t10) {
         return 19u;
     }
-    t18 = 128u + (96u * writer);
-    t9 = (struct model__Writer){.mode = (uint64_t)state.ptr[(size_t)(104u + writer)], .home = load_8(state.ptr + (size_t)(t18
-            + 8u)), .first = load_8(state.ptr + (size_t)(t18 + 16u)), .count = load_8(state.ptr + (size_t)(t18 + 24u))};
+    t9 = strip__writers__writer(state, writer);
     if (!(1u <= t9.mode)) {
         return 7u;
     }
@@ -4387,7 +4434,7 @@ static inline struct model__Writer writers__records__hold(struct model__Writer r
     uint64_t t4, t7;
 
     if (!(2u <= r.mode)) {
-        return (struct model__Writer){.mode = 2u, .home = home, .first = 0u, .count = 0u};
+        return (struct model__Writer){.mode = 2u, .home = home, .first = 0u, .count = 1u};
     }
     if (r.home == home) {
         return r;
@@ -4429,7 +4476,7 @@ static inline void writers__hold(struct slice_mut_u8 s, uint64_t w, struct model
 /* Stores `block` as the held block of writer `w`, and leaves the rest of the strip as it was. */
 static inline void strip__writers__set_held(struct slice_mut_u8 s, uint64_t w, struct slice_u8 block)
 {
-    codec__blocks__copy(s, (128u + (96u * w)) + 32u, block);
+    codec__blocks__copy(s, 320u + (64u * w), block);
 }
 
 /* Holds the first block of a transaction. */
@@ -4493,25 +4540,25 @@ static inline uint64_t logging__stores__store_other(struct slice_mut_u8 log, str
 static inline uint64_t logging__stores__store_next(struct slice_mut_u8 log, struct slice_mut_u8 state, struct slice_u8 block,
         struct slice_mut_u8 batch, uint64_t w, uint64_t home)
 {
-    uint64_t t20, t21, t1154;
+    struct model__State t7;
+    struct model__Writer t8;
+    uint64_t t20, t21;
 
     t20 = load_8(state.ptr);
     t21 = load_8(state.ptr + 8u);
-    t1154 = 128u + (96u * w);
-    return logging__stores__store_other(log, state, block, batch, (struct model__State){.groups = t20, .homes = t21,
-            .start = load_8(state.ptr + 16u), .next = load_8(state.ptr + 24u), .filled = load_8(state.ptr + 32u),
-            .settled = load_8(state.ptr + 40u), .fenced = load_8(state.ptr + 48u), .durable = load_8(state.ptr + 56u),
-            .last = load_8(state.ptr + 64u), .round = load_8(state.ptr + 88u), .cursor = load_8(state.ptr + 96u)},
-            (struct model__Writer){.mode = (uint64_t)state.ptr[(size_t)(104u + w)], .home = load_8(state.ptr + (size_t)(t1154
-            + 8u)), .first = load_8(state.ptr + (size_t)(t1154 + 16u)), .count = load_8(state.ptr + (size_t)(t1154 + 24u))}, w,
-            home);
+    t7 = (struct model__State){.groups = t20, .homes = t21, .start = load_8(state.ptr + 16u), .next = load_8(state.ptr + 24u),
+            .filled = load_8(state.ptr + 32u), .settled = load_8(state.ptr + 40u), .fenced = load_8(state.ptr + 48u),
+            .durable = load_8(state.ptr + 56u), .last = load_8(state.ptr + 64u), .round = load_8(state.ptr + 88u),
+            .cursor = load_8(state.ptr + 96u)};
+    t8 = strip__writers__writer((struct slice_u8){state.ptr, state.len}, w);
+    return logging__stores__store_other(log, state, block, batch, t7, t8, w, home);
 }
 
 /* Holds a block for a home in a writer's open transaction; a block held for another home is logged first. */
 static inline struct answers__Reply logging__stores__store(struct slice_mut_u8 log, struct slice_u8 area,
         struct slice_mut_u8 state, struct slice_u8 block, struct slice_mut_u8 batch, uint64_t writer, uint64_t home)
 {
-    uint64_t t8, t9, t11, t36;
+    uint64_t t8, t9, t11;
     struct model__Writer t10;
 
     t8 = logging__stores__store_verdict((struct slice_u8){log.ptr, log.len}, area, (struct slice_u8){state.ptr, state.len}, block,
@@ -4520,9 +4567,7 @@ static inline struct answers__Reply logging__stores__store(struct slice_mut_u8 l
         return (struct answers__Reply){.code = t8, .figure = 0u, .size = 0u};
     }
     t9 = writer;
-    t36 = 128u + (96u * t9);
-    t10 = (struct model__Writer){.mode = (uint64_t)state.ptr[(size_t)(104u + t9)], .home = load_8(state.ptr + (size_t)(t36 + 8u)),
-            .first = load_8(state.ptr + (size_t)(t36 + 16u)), .count = load_8(state.ptr + (size_t)(t36 + 24u))};
+    t10 = strip__writers__writer((struct slice_u8){state.ptr, state.len}, t9);
     if (!(2u <= t10.mode)) {
         logging__stores__store_first(state, block, t10, t9, home);
         return (struct answers__Reply){.code = 0u, .figure = 0u, .size = 0u};
@@ -4565,7 +4610,7 @@ static inline uint64_t chains__verdicts__may_log_all(struct slice_u8 state, stru
 static inline uint64_t chains__verdicts__transact_verdict(struct slice_u8 log, struct slice_u8 area, struct slice_u8 state,
         struct slice_u8 newest, struct slice_u8 blocks, struct slice_u8 batch, uint64_t writer, uint64_t home)
 {
-    uint64_t t9, t10, t19, t342, t343;
+    uint64_t t9, t10, t20, t21;
     bool t11;
     struct model__Writer t16;
 
@@ -4578,15 +4623,13 @@ static inline uint64_t chains__verdicts__transact_verdict(struct slice_u8 log, s
     if (!t11) {
         return 19u;
     }
-    t19 = 128u + (96u * writer);
-    t16 = (struct model__Writer){.mode = (uint64_t)state.ptr[(size_t)(104u + writer)], .home = load_8(state.ptr + (size_t)(t19
-            + 8u)), .first = load_8(state.ptr + (size_t)(t19 + 16u)), .count = load_8(state.ptr + (size_t)(t19 + 24u))};
+    t16 = strip__writers__writer(state, writer);
     if (1u <= t16.mode) {
         return 6u;
     }
-    t342 = load_8(state.ptr);
-    t343 = load_8(state.ptr + 8u);
-    return chains__verdicts__may_log_all(state, (struct model__State){.groups = t342, .homes = t343, .start = load_8(state.ptr
+    t20 = load_8(state.ptr);
+    t21 = load_8(state.ptr + 8u);
+    return chains__verdicts__may_log_all(state, (struct model__State){.groups = t20, .homes = t21, .start = load_8(state.ptr
             + 16u), .next = load_8(state.ptr + 24u), .filled = load_8(state.ptr + 32u), .settled = load_8(state.ptr + 40u),
             .fenced = load_8(state.ptr + 48u), .durable = load_8(state.ptr + 56u), .last = load_8(state.ptr + 64u),
             .round = load_8(state.ptr + 88u), .cursor = load_8(state.ptr + 96u)}, t10, (uint64_t)batch.len);
@@ -4595,13 +4638,11 @@ static inline uint64_t chains__verdicts__transact_verdict(struct slice_u8 log, s
 /* Begins a transaction of the writer `w`, which holds the first of the lent blocks. */
 static inline void chains__steps__hold_first(struct slice_mut_u8 state, struct slice_u8 blocks, uint64_t w, uint64_t home)
 {
-    uint64_t t18;
+    struct model__Writer t5;
 
     writers__begin(state, w);
-    t18 = 128u + (96u * w);
-    logging__stores__store_first(state, (struct slice_u8){blocks.ptr, (size_t)((uint64_t)64u - 0u)},
-            (struct model__Writer){.mode = (uint64_t)state.ptr[(size_t)(104u + w)], .home = load_8(state.ptr + (size_t)(t18
-            + 8u)), .first = load_8(state.ptr + (size_t)(t18 + 16u)), .count = load_8(state.ptr + (size_t)(t18 + 24u))}, w, home);
+    t5 = strip__writers__writer((struct slice_u8){state.ptr, state.len}, w);
+    logging__stores__store_first(state, (struct slice_u8){blocks.ptr, (size_t)((uint64_t)64u - 0u)}, t5, w, home);
 }
 
 /* Stores the lent blocks but the first, which is held, by rising home. Returns how many bytes of the batch are written. */
@@ -4675,7 +4716,7 @@ static inline uint64_t limits__writers__writer_limit(struct slice_u8 state, uint
     if ((uint64_t)state.ptr[(size_t)(104u + w)] < 3u) {
         return limit;
     }
-    t5 = load_8(state.ptr + (size_t)((128u + (96u * w)) + 16u)) / 7u;
+    t5 = load_8(state.ptr + (size_t)((128u + (24u * w)) + 8u)) / 7u;
     if (t5 < limit) {
         return t5;
     }
@@ -5114,12 +5155,10 @@ static inline uint64_t usage__entries__committed_entries(struct slice_u8 log, ui
 /* How many entries writer `w` has logged in an open transaction. */
 static inline uint64_t usage__writers__logged(struct slice_u8 state, uint64_t w)
 {
-    uint64_t t5;
+    struct model__Writer t3;
 
-    t5 = 128u + (96u * w);
-    return strip__writers__count_for((struct model__Writer){.mode = (uint64_t)state.ptr[(size_t)(104u + w)],
-            .home = load_8(state.ptr + (size_t)(t5 + 8u)), .first = load_8(state.ptr + (size_t)(t5 + 16u)),
-            .count = load_8(state.ptr + (size_t)(t5 + 24u))});
+    t3 = strip__writers__writer(state, w);
+    return strip__writers__count_for(t3);
 }
 
 /* How many entries the eight writers have logged in open transactions. */
@@ -5162,11 +5201,8 @@ static inline uint64_t usage__rest(uint64_t places, uint64_t used)
 static inline struct model__Holder usage__writers__lower(struct slice_u8 state, uint64_t w, struct model__Holder h)
 {
     struct model__Writer t4;
-    uint64_t t10;
 
-    t10 = 128u + (96u * w);
-    t4 = (struct model__Writer){.mode = (uint64_t)state.ptr[(size_t)(104u + w)], .home = load_8(state.ptr + (size_t)(t10 + 8u)),
-            .first = load_8(state.ptr + (size_t)(t10 + 16u)), .count = load_8(state.ptr + (size_t)(t10 + 24u))};
+    t4 = strip__writers__writer(state, w);
     if (!(3u <= t4.mode)) {
         return h;
     }

@@ -51,4 +51,4 @@ if [ "$status" -ne 0 ]; then
     exit "$status"
 fi
 touch "$archive"
-echo "library: $total crates proved, $archive written, $(clock)"
+echo "library: $total crate$([ "$total" -eq 1 ] || echo s) proved, $archive written, $(clock)"

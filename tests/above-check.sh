@@ -68,6 +68,7 @@ bad '0 9999\n' 3 '1: pumps is missing' "two numbers"
 bad '0 9999 1 1\n' 3 '1: more than three numbers' "four numbers"
 bad '0 9999 one\n' 3 '1: pumps is not a whole number' "a word"
 bad '0 -1 1\n' 3 '1: to is not a whole number' "a negative number"
+bad '0 9999 1\n\000\000' 3 '2: a zero byte' "zeros at the end"
 awk 'BEGIN { for (i = 0; i < 32; i++) print i, i, 1; print 32, 9999, 1 }' > "$tmp/bad.txt"
 says "bad.txt:33: row 33; a table has at most 32" 1 "33 rows" "$san/bands" set "$tmp/north.img" "$tmp/bad.txt"
 awk 'BEGIN { for (i = 0; i < 31; i++) print i, i, 1; print 31, 9999, 1 }' > "$tmp/full.txt"
@@ -87,6 +88,8 @@ says "no image" 3 "no image" "$san/bands" show "$tmp/table.txt"
 head -c 9000 "$tmp/north.img" > "$tmp/short.img"
 says "9000 bytes; 16 groups and 32 homes take 10304" 3 "a short image" "$san/bands" show "$tmp/short.img"
 gives 0 "--help" "$san/bands" --help
+gives 0 "--version" "$san/bands" --version
+shows '^bands (Kagutin) [0-9]'
 
 # --- wear ---
 gives 0 "a second image" "$out/above_check" --image "$tmp/depot, \"old\".img" 30 2
@@ -145,8 +148,22 @@ says "whole hours from 1 to 1000000" 2 "--interval 0" "$san/wear" --interval 0 x
 says "whole hours from 1 to 1000000" 2 "--interval 1.5" "$san/wear" --interval 1.5 x
 says "takes a number" 2 "--interval at the end" "$san/wear" x --interval
 says "two sheets" 2 "--csv and --html" "$san/wear" --csv --html a x
+cp "$tmp/north.img" "$tmp/before.img"
+says "holds something else" 3 "a page over an image" "$san/wear" --html "$tmp/north.img" "$tmp/new.img"
+gives 0 "the image stays" cmp "$tmp/north.img" "$tmp/before.img"
+gives 0 "a page of one image" "$san/wear" --html "$tmp/one.html" "$tmp/north.img"
+cp "$tmp/one.html" "$tmp/before.html"
+says "cannot be opened" 3 "a page of a missing image" "$san/wear" --html "$tmp/one.html" "$tmp/missing.img"
+gives 0 "the page from before stays" cmp "$tmp/one.html" "$tmp/before.html"
+says "writer 0 has no right to read the pumps' homes; --writer W" 3 "a writer without rights" "$san/wear" "$tmp/station.img"
+[ ! -s "$tmp/out" ] && [ "$(wc -l < "$tmp/log")" -eq 1 ]; report $? "and nothing else"
+says "writer 0 has no right to read homes 12 to 14; --writer W" 1 "bands, a writer without rights" "$san/bands" show "$tmp/station.img"
+printf '\364\377\377\377\377\177' | dd of="$tmp/other.img" bs=1 seek=2 conv=notrunc 2> /dev/null
+says "cannot be opened: " 3 "bands set in a worn-out image" "$san/bands" set "$tmp/other.img" "$tmp/table.txt"
 says "cannot be created" 3 "a page in a missing folder" "$san/wear" --html "$tmp/no/page.html" "$tmp/north.img"
 gives 0 "--help" "$san/wear" --help
+gives 0 "--version" "$san/wear" --version
+shows '^wear (Kagutin) [0-9]'
 
 # --- cost: the last call of each case, with no list of rights and with one in the log ---
 if command -v valgrind > /dev/null; then

@@ -74,6 +74,10 @@ quiet sh -c "nm -u $out/store/store.o $out/store/usage.o $out/store/rights.o $ou
 gives 0 "quick start" "$san/quickstart" "$tmp/quickstart.img"
 gives 0 "quick start again" "$san/quickstart" "$tmp/quickstart.img"
 grep -q '^2 starts.*, durable' "$tmp/out"; report $? "quick start: two starts, durable"
+gives 0 "quick start -h" "$san/quickstart" -h
+grep -q '^quickstart (Kagutin) [0-9]' "$tmp/out"; report $? "quick start: says its version"
+gives 2 "quick start --frob" "$san/quickstart" --frob
+[ ! -e -h ] && [ ! -e --frob ]; report $? "quick start: makes no image of an option"
 gives 0 "driver" "$san/driver_check" "$tmp/driver.img"
 
 # --- the store object and its drivers ---
@@ -122,6 +126,11 @@ gives 0 "station, every cut" "$san/station" --cuts 60 --verbose
 [ "$(grep -c '^ *[0-9]* *\(at work\|opening\) ' "$tmp/out")" -eq 60 ]; report $? "station --verbose: a line for each cut"
 [ "$(awk 'length > 99' "$tmp/out" | wc -l)" -eq 0 ]; report $? "station: no line of 100 columns"
 grep -q '^log full (.* 0 free; task [0-7] holds it' "$tmp/out"; report $? "station: says why the log is full"
+missing=0
+for word in confirm settling trim live dead 'held back' promised unissued arrived replayed; do
+    grep -q "^  $word  " "$tmp/out" || missing=1
+done
+report $missing "station: a legend for its words"
 grep -q '^ *[0-9]* live at the end, [0-9]* dead, [0-9]* free$' "$tmp/out"; report $? "station: what fills the log at the end"
 grep -q '[1-9][0-9]* times the radio task had its places promised' "$tmp/out"; report $? "station: the radio task has places promised"
 grep -q '^ *[1-9][0-9]* stores and [1-9][0-9]* reads of a home that the list of rights does not give' "$tmp/out"
@@ -154,6 +163,7 @@ image=$tmp/station.img
 gives 0 "station on a new file" "$san/station" --seed 3 --cuts 10 --groups 12 --homes 40 --file "$image"
 gives 0 "station goes on with it" "$san/station" --seed 4 --cuts 10 --file "$image"
 says "other numbers" 3 "station with another shape" "$san/station" --groups 4 --file "$image"
+says "other numbers" 1 "the station's image by the quick start" "$san/quickstart" "$image"
 gives 0 "station leaves a cut" "$san/station" --seed 35 --cuts 7 --file "$image" --keep-cut
 grep -q 'kept .*came back' "$tmp/out" && grep -q 'in the image' "$tmp/out"
 report $? "and counts what is in it as not opened"
@@ -222,7 +232,13 @@ for bytes in '\364\377\377\377\377\177' '\350\377\377\377\377\177' '\000\000\000
     start "$tmp/worn.img" "$bytes"
     gives 4 "station on a worn-out image" "$san/station" --seed 3 --cuts 60 --file "$tmp/worn.img"
     grep -q 'worn out' "$tmp/out"; report $? "and says so"
+    gives 0 "inspect it" "$san/inspect" "$tmp/worn.img"
+    grep -q '^worn  *out' "$tmp/out"; report $? "inspect: says so"
+    gives 0 "inspect it as JSON" "$san/inspect" --json "$tmp/worn.img"
+    grep -q '"worn_out":true}' "$tmp/out"; report $? "inspect: says so"
 done
+gives 4 "station on one that it cannot open once" "$san/station" --file "$tmp/worn.img"
+grep -q 'every opening' "$tmp/out"; [ $? -eq 1 ]; report $? "and it says nothing of openings"
 
 mkdir "$tmp/folder"
 says "regular file\|directory" 3 "station on a folder" "$san/station" --file "$tmp/folder"
@@ -279,8 +295,9 @@ if command -v valgrind > /dev/null; then
     gives 0 "inspect under memcheck" $memcheck "$out/inspect" "$tmp/kept.img"
     gives 0 "quick start under memcheck" $memcheck "$out/quickstart" "$tmp/memcheck.img"
     gives 0 "store under memcheck" $memcheck "$out/store_check" 499 30
+    gives 0 "cost of question 2" sh tests/question-cost.sh "$out"
 else
-    echo "skipped memcheck: valgrind is not installed"
+    echo "skipped memcheck and cost: valgrind is not installed"
 fi
 
 # --- the sources of the object in one folder, and a program built from them ---

@@ -50,6 +50,8 @@ gives 0 "empty lists" "$san/gauges" "$tmp/empty.csv" "$tmp/empty.csv"
 shows '0 different minutes'
 gives 0 "--help" "$san/gauges" --help
 gives 0 "-h" "$san/gauges" -h
+gives 0 "--version" "$san/gauges" --version
+shows '^gauges (Kagutin) [0-9]'
 
 # --- the plot ---
 gives 1 "a plot" "$san/gauges" --plot "$tmp/plot.svg" "$tmp/cell.csv" "$tmp/sounder.csv"
@@ -61,6 +63,10 @@ if command -v python3 > /dev/null; then
 for name in sys.argv[1:]: xml.dom.minidom.parse(name)' "$tmp/plot.svg" "$tmp/none.svg"
 fi
 says "cannot be created" 3 "a plot in a missing folder" "$san/gauges" --plot "$tmp/no/plot.svg" "$tmp/cell.csv" "$tmp/cell.csv"
+gives 1 "a plot over an older one" "$san/gauges" --plot "$tmp/plot.svg" "$tmp/cell.csv" "$tmp/sounder.csv"
+cp "$tmp/cell.csv" "$tmp/same.csv"
+says "holds something else" 3 "a plot over a list" "$san/gauges" --plot "$tmp/cell.csv" "$tmp/cell.csv" "$tmp/sounder.csv"
+gives 0 "the list stays" cmp "$tmp/cell.csv" "$tmp/same.csv"
 
 # --- wrong options ---
 says "unknown option" 2 "--frob" "$san/gauges" --frob a b
@@ -88,6 +94,8 @@ bad '1,x\n' '1: the level in millimetres is not a whole number' "a letter"
 bad '1,-4\n' '1: the level in millimetres is not a whole number' "a negative level"
 bad '1,2.5\n' '1: a row has two numbers' "a fraction"
 bad '1,2,3\n' '1: a row has two numbers' "three numbers"
+bad '1,2\n\000\000\000' '2: a zero byte' "zeros at the end"
+bad '1,2\n\033[2J\n' "2: the minute is not a whole number: '?\[2J'" "an escape"
 bad 'minute,mm\nagain,mm\n' '2: the minute is not a whole number' "two headings"
 awk 'BEGIN { for (i = 0; i <= 1440; i++) print i "," i % 500 }' > "$tmp/long.csv"
 says "long.csv:1441: more than 1440 rows" 3 "too many rows" "$san/gauges" "$tmp/long.csv" "$tmp/cell.csv"

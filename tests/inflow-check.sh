@@ -42,6 +42,8 @@ bounds 2.5000 25000 2.5000 25000 --area 100 0 200 --pumped 5000
 bounds -6553500.0000 -65535000000 6982996.7295 69829967295 --area 1000000 --pumped 0..4294967295 0..65535 0..65535
 gives 0 "--help" "$san/inflow" --help
 gives 0 "-h" "$san/inflow" -h
+gives 0 "--version" "$san/inflow" --version
+grep -q '^inflow (Kagutin) [0-9]' "$tmp/out"; report $? "and it says its version"
 
 # --- refusals ---
 says "depth before: the low end 10 is above the high end 9" 1 "a range the wrong way round" "$san/inflow" --area 5 10..9 1
@@ -63,7 +65,8 @@ says "AFTER: whole numbers" 2 "a letter" "$san/inflow" --area 5 1 x
 says "AFTER: LOW..HIGH or one value" 2 "a single dot" "$san/inflow" --area 5 1 1.2
 says "AFTER: whole numbers" 2 "an open range" "$san/inflow" --area 5 1 1..
 says "0 to 4294967295" 2 "a large pumped volume" "$san/inflow" --area 5 1 1 --pumped 4294967296
-says "a whole number is expected" 2 "an area with a fraction" "$san/inflow" --area 5.5 1 1
+says "a whole number from 1 to 1000000 is expected" 2 "an area with a fraction" "$san/inflow" --area 5.5 1 1
+says "a whole number from 1 to 1000000 is expected" 2 "an area of letters" "$san/inflow" --area x 1 1
 
 if command -v valgrind > /dev/null; then
     gives 0 "under memcheck" valgrind -q --error-exitcode=9 --leak-check=full "$out/inflow" --area 10000 0..10 5..20

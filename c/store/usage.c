@@ -2,7 +2,7 @@
 #include "kagutin_store.h"
 
 /* The writers' modes and their records in the state; docs/FORMAT.md. */
-enum { MODES = 104, MODE_LOGGING = 3, WRITERS = 128, WRITER_SIZE = 96, FIRST = 16 };
+enum { MODES = 104, MODE_LOGGING = 3, WRITERS = 128, WRITER_SIZE = 24, FIRST = 8 };
 
 static uint64_t number(const uint8_t *bytes)
 {

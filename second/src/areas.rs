@@ -8,7 +8,7 @@ use crate::layout::{
     PLACES, START_LIMIT, STATE, WRITERS,
 };
 use crate::newest::{check_newest, forget};
-use crate::rights::carry_listed;
+use crate::rights::{carry_listed, sign_opened};
 use crate::rounds::check_no_round;
 use crate::state::{State, Writer};
 use crate::walk::{trim_point, Newest, View};
@@ -102,6 +102,7 @@ fn try_open(
     put_blanks(log, &mut out, shape, new_start);
     out.fence();
     State::save_fresh(bytes, shape, new_start);
+    sign_opened(shape.homes, data, bytes);
     kept.fill(0xff);
     Ok(Answer { code: 0, figure: newest.commits, len: out.len() })
 }

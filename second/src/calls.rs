@@ -116,7 +116,7 @@ pub fn hold(
     let record = Writer::load(bytes, writer);
     let mut len = 0;
     if !record.holds() {
-        Writer { mode: mode::HOLDING, home, first: 0, count: 0 }.save(bytes, writer);
+        Writer::holding(home).save(bytes, writer);
     } else if record.home != home {
         let position = state.next_position();
         let (first, count) = record.logged().unwrap_or((position, 0));
@@ -224,7 +224,8 @@ pub fn close(
     if record.holds() {
         let position = state.next_position();
         let (first, count) = record.logged().unwrap_or((position, 0));
-        let link = if state.last_closing == 0 { 0 } else { position + 1 - state.last_closing };
+        let linked = state.last_closing > state.first_position();
+        let link = if linked { position + 1 - state.last_closing } else { 0 };
         let tag = closing_tag(record.home, position - first, link, count + 1);
         state.last_closing = position + 1;
         answer.figure = position + 1;

@@ -152,7 +152,7 @@ fn damage(rng: &mut Rng, lent: &mut Lent, shape: Shape, kind: Kind) {
     if kind == Kind::Open && rng.chance(80) {
         lent.state.fill(0xee);
     } else if rng.chance(15) {
-        let spare = rng.pick(&[112, 120, 127, 128, 135, 800, 936, 1000, 1023]);
+        let spare = rng.pick(&[112, 120, 127, 832, 860, 895, 936, 1000, 1023]);
         lent.state[spare] ^= 0x5a;
     }
 }

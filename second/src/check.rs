@@ -5,7 +5,7 @@ use crate::lent::Kind;
 use crate::literal;
 use crate::newest::{position, NONE};
 use crate::rights::has_room;
-use crate::state::{at, mode, pending_range, promise, spare_range, State, Writer};
+use crate::state::{at, mode, pending_range, promise, State, Writer};
 use crate::usage::{usage, Usage};
 use crate::world::{Call, Odd, World};
 use std::collections::BTreeMap;
@@ -135,11 +135,10 @@ impl World {
         listed
     }
 
-    /// The sign is that of the list which the book has; none is set while no
-    /// position of the list is kept since the opening.
+    /// The sign is that of the list which the book has, 0 where D is too small for one.
     fn sign_fits(&self, sign: u64) -> bool {
         match sign {
-            0 => self.listed() == [0xff; 32],
+            0 => !has_room(self.shape.homes),
             1 => has_room(self.shape.homes) && !self.list().is_there(),
             2 => self.list().is_there(),
             _ => false,
@@ -163,7 +162,6 @@ impl World {
             }
         }
         must(record == want, &format!("writer {writer}: {record:?}, expected {want:?}"))?;
-        must(self.lent.state[spare_range(writer)] == [0; 8], "spare bytes of a writer's record")?;
         must(promise(&self.lent.state, writer) == self.promise(writer), "promise")
     }
 

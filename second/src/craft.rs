@@ -10,7 +10,7 @@ use crate::lists::random_block;
 use crate::newest::keep;
 use crate::rights::{carry_listed, has_room, of_list};
 use crate::rng::Rng;
-use crate::state::{at, mode, pending_range, set_promise, spare_range, State, Writer};
+use crate::state::{at, mode, pending_range, set_promise, State, Writer};
 use crate::tag::{closing_tag, entry_tag, tag_home, with_displaced};
 
 /// A made-up log, data area and state, with blocks of one byte each but for
@@ -211,6 +211,7 @@ fn craft_state(rng: &mut Rng, lent: &mut Lent, shape: Shape, start: u64, tags: &
         last_closing: match closings {
             Some(offset) if rng.chance(80) => 7 * start + offset as u64 + 1,
             _ if used > 0 && rng.chance(50) => 7 * start + 1 + rng.below(used),
+            _ if rng.chance(50) => rng.between((7 * start).saturating_sub(30), 7 * start),
             _ => 0,
         },
         round: match rng.below(6) {
@@ -259,7 +260,7 @@ fn craft_writer(
 ) {
     let used = state.next_position() - state.first_position();
     let (mode, home) = (rng.below(modes), rng.below(state.shape.homes));
-    let mut record = Writer { mode, home, first: 0, count: 0 };
+    let mut record = Writer { mode, ..Writer::holding(home) };
     if record.mode == mode::LOGGING && used == 0 || rng.chance(30) {
         record.mode = rng.below(3);
     }
@@ -280,9 +281,5 @@ fn craft_writer(
         record.home = u64::MAX;
     }
     record.save(&mut lent.state, writer);
-    if rng.chance(30) {
-        let any = rng.next();
-        put_word(&mut lent.state, spare_range(writer).start, rng.pick(&[1, 2, 3, any]));
-    }
     lent.state[pending_range(writer)].fill(0xb0 + writer as u8);
 }

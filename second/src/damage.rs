@@ -70,7 +70,7 @@ pub fn damage_state(rng: &mut Rng, lent: &mut Lent) {
         at::DURABLE => [fenced, fenced, 0, u64::MAX],
         at::ROUND => [1, settled.wrapping_add(1), fenced.wrapping_add(1), u64::MAX],
         at::CURSOR => [homes, homes / 2, 1 << 32, u64::MAX],
-        _ => [base.wrapping_add(1), position, 0, u64::MAX],
+        _ => [base, position, 0, u64::MAX],
     };
     let off = rng.pick(&[0, 1, u64::MAX]);
     put_word(bytes, field, rng.pick(&limits).wrapping_add(off));
@@ -122,7 +122,7 @@ fn damage_modes(rng: &mut Rng, bytes: &mut [u8]) {
     }
 }
 
-/// One number of a record or its spare bytes, or a record that logs.
+/// One number of a record, or a record that logs.
 fn damage_writer(rng: &mut Rng, bytes: &mut [u8]) {
     let writer = rng.below(8) as usize;
     let (mode, from) = (at::MODE + writer, at::WRITER + at::WRITER_SIZE * writer);
@@ -131,15 +131,11 @@ fn damage_writer(rng: &mut Rng, bytes: &mut [u8]) {
     let next = word(bytes, at::NEXT).wrapping_mul(7).wrapping_add(word(bytes, at::FILLED));
     let first = word(bytes, from + at::FIRST);
     let off = rng.pick(&[0, 1, u64::MAX]);
-    match rng.below(6) {
-        0 => {
-            let any = rng.next();
-            put_word(bytes, from, rng.pick(&[0, 1, 2, 3, 4, u64::MAX, any]));
-        }
-        1 => put_word(bytes, from + at::HELD_HOME, homes.wrapping_add(off)),
-        2 => put_word(bytes, from + at::FIRST, rng.pick(&[base, next]).wrapping_add(off)),
-        3 => {
-            let most = next.wrapping_sub(first);
+    match rng.below(5) {
+        0 => put_word(bytes, from + at::HELD_HOME, homes.wrapping_add(off)),
+        1 => put_word(bytes, from + at::FIRST, rng.pick(&[base, next]).wrapping_add(off)),
+        2 => {
+            let most = next.wrapping_sub(first).wrapping_sub(1);
             put_word(bytes, from + at::COUNT, rng.pick(&[0, most, u64::MAX]).wrapping_add(off));
         }
         _ => {
@@ -147,7 +143,7 @@ fn damage_writer(rng: &mut Rng, bytes: &mut [u8]) {
             bytes[mode] = 3;
             put_word(bytes, from + at::HELD_HOME, homes.wrapping_sub(1));
             put_word(bytes, from + at::FIRST, first);
-            put_word(bytes, from + at::COUNT, rng.pick(&[0, 1, most, most.wrapping_add(1)]));
+            put_word(bytes, from + at::COUNT, rng.pick(&[0, most.wrapping_sub(1), most, u64::MAX]));
         }
     }
 }

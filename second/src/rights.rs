@@ -151,6 +151,15 @@ pub fn carry_listed(homes: u64, newest: &[u8], state: &mut [u8]) {
     }
 }
 
+/// The sign that an opening leaves: the whole list lies in the data copy.
+pub fn sign_opened(homes: u64, data: &[u8], state: &mut [u8]) {
+    if has_room(homes) {
+        let (first, end) = (home_range(LIST_HOME as usize).start, home_range((LIST_HOME + LIST_HOMES) as usize).start);
+        let zeros = data[first..end].iter().all(|&byte| byte == 0);
+        put_word(state, at::SIGN, if zeros { 1 } else { 2 });
+    }
+}
+
 /// What a commit keeps of the list in the state: its positions, and where one
 /// of them has changed the sign of the list as it is now.
 pub fn keep_list(view: &View, data: &[u8], newest: &[u8], state: &mut [u8]) {

@@ -1,7 +1,7 @@
 //! The state between calls (the paper's "strip"): 1,024 bytes, eight-byte numbers,
 //! two-byte promises and one-byte modes.
 
-use crate::layout::{put_word, refuse, word, Shape, PLACES, START_LIMIT, STATE, WRITERS};
+use crate::layout::{put_word, refuse, word, Shape, BLOCK, PLACES, START_LIMIT, STATE, WRITERS};
 
 /// Byte places of the fields.
 pub mod at {
@@ -20,18 +20,20 @@ pub mod at {
     pub const CURSOR: usize = 96;
     /// The modes of the eight writers, one byte each.
     pub const MODE: usize = 104;
+    /// Three numbers of each writer.
     pub const WRITER: usize = 128;
+    pub const WRITER_SIZE: usize = 24;
+    pub const HELD_HOME: usize = 0;
+    pub const FIRST: usize = 8;
+    /// The number of logged entries less one, modulo 2^64.
+    pub const COUNT: usize = 16;
+    /// The writers' pending blocks.
+    pub const HELD_BLOCK: usize = 320;
     /// The newest positions of the list's four homes.
     pub const LISTED: usize = 896;
     pub const LISTED_END: usize = 928;
     /// The list's sign: 1, no list is committed; 2, one is; else nothing is said.
     pub const SIGN: usize = 928;
-    pub const WRITER_SIZE: usize = 96;
-    /// In a writer's record, after eight spare bytes.
-    pub const HELD_HOME: usize = 8;
-    pub const FIRST: usize = 16;
-    pub const COUNT: usize = 24;
-    pub const HELD_BLOCK: usize = 32;
 }
 
 /// Writer modes. A pending block is the paper's "held block".
@@ -54,7 +56,7 @@ pub struct State {
     pub settled: u64,
     pub fenced: u64,
     pub durable: u64,
-    /// Position of the last commit entry plus one, 0 for none.
+    /// Position of the last commit entry plus one; none up to the first position of the log.
     pub last_closing: u64,
     /// The F that the round under way has fixed, plus one; 0 for no round.
     pub round: u64,
@@ -115,7 +117,7 @@ impl State {
             && self.settled <= self.fenced
             && self.fenced <= PLACES * self.next
             && self.durable <= self.fenced
-            && (self.last_closing == 0 || self.is_used(self.last_closing - 1))
+            && (self.last_closing <= self.first_position() || self.is_used(self.last_closing - 1))
             && (self.round == 0 || (self.settled < self.round && self.round - 1 <= self.fenced))
     }
 
@@ -217,28 +219,29 @@ pub fn promised(bytes: &[u8]) -> u64 {
     (0..WRITERS).map(|w| promise(bytes, w)).sum()
 }
 
-/// The spare bytes of a writer's record.
-pub fn spare_range(writer: u64) -> std::ops::Range<usize> {
-    record(writer)..record(writer) + at::HELD_HOME
-}
-
 /// The bytes of a writer's pending block.
 pub fn pending_range(writer: u64) -> std::ops::Range<usize> {
-    let from = record(writer) + at::HELD_BLOCK;
-    from..record(writer) + at::WRITER_SIZE
+    let from = at::HELD_BLOCK + BLOCK * writer as usize;
+    from..from + BLOCK
 }
 
 impl Writer {
-    pub const IDLE: Writer = Writer { mode: mode::IDLE, home: 0, first: 0, count: 0 };
-    pub const OPEN: Writer = Writer { mode: mode::OPEN, home: 0, first: 0, count: 0 };
+    /// A record of zeros: its count of 1 says nothing, since the mode is not that of a writer that logs.
+    pub const IDLE: Writer = Writer { mode: mode::IDLE, home: 0, first: 0, count: 1 };
+    pub const OPEN: Writer = Writer { mode: mode::OPEN, ..Writer::IDLE };
 
+    pub fn holding(home: u64) -> Writer {
+        Writer { mode: mode::HOLDING, home, ..Writer::IDLE }
+    }
+
+    #[inline(always)] // sixteen times in question 2
     pub fn load(bytes: &[u8], writer: u64) -> Writer {
         let from = record(writer);
         Writer {
             mode: u64::from(bytes[at::MODE + writer as usize]),
             home: word(bytes, from + at::HELD_HOME),
             first: word(bytes, from + at::FIRST),
-            count: word(bytes, from + at::COUNT),
+            count: word(bytes, from + at::COUNT).wrapping_add(1),
         }
     }
 
@@ -247,7 +250,7 @@ impl Writer {
         bytes[at::MODE + writer as usize] = self.mode as u8;
         put_word(bytes, from + at::HELD_HOME, self.home);
         put_word(bytes, from + at::FIRST, self.first);
-        put_word(bytes, from + at::COUNT, self.count);
+        put_word(bytes, from + at::COUNT, self.count.wrapping_sub(1));
     }
 
     pub fn holds(&self) -> bool {

@@ -72,10 +72,6 @@ state-all g r o n m v e h en em eo k =
     sym (ask-yes _ 1 _ (yes g r e h) ∙ ask-yes _ 2 v (sym (ordered g n m o en em eo) ∙ not-false o k))
 
 -- where a quick look tells
-pub state-told : (g : Given) (r : Bool) (n m q : ℕ) → r ≡ lengths g → not r ≡ false → n ≡ groupsIn (length (g .log))
-    → m ≡ homesIn (length (g .area)) → q ≡ ask (inOrder (g .state) n m) 2 0 → q ≡ askState g 0
-unfolding askState
-state-told g r n m q e h en em t = t ∙ ap (λ o. ask o 2 0) (ordered g n m _ en em refl) ∙ sym (ask-yes _ 1 _ (yes g r e h))
 
 -- ---- the answers of one that is lent a block
 
@@ -100,11 +96,6 @@ pub block-order-no : (g : Given) (r o : Bool) (n m v : ℕ) → r ≡ lengths g 
 unfolding askBlock
 block-order-no g r o n m v e h b en em eo k =
     sym (ask-yes _ 1 _ (block-yes g (yes g r e h) b) ∙ ask-no _ 2 v (sym (ordered g n m o en em eo) ∙ not-true o k))
-
-pub block-told : (g : Given) (r : Bool) (n m q : ℕ) → r ≡ lengths g → not r ≡ false → length (g .block) ≡ 64
-    → n ≡ groupsIn (length (g .log)) → m ≡ homesIn (length (g .area)) → q ≡ ask (inOrder (g .state) n m) 2 0 → q ≡ askBlock g 0
-unfolding askBlock
-block-told g r n m q e h b en em t = t ∙ ap (λ o. ask o 2 0) (ordered g n m _ en em refl) ∙ sym (ask-yes _ 1 _ (block-yes g (yes g r e h) b))
 
 pub block-all : (g : Given) (r o : Bool) (n m v : ℕ) → r ≡ lengths g → not r ≡ false → length (g .block) ≡ 64
     → n ≡ groupsIn (length (g .log)) → m ≡ homesIn (length (g .area)) → o ≡ inOrder (g .state) n m → not o ≡ false → v ≡ askBlock g v

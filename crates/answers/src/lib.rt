@@ -60,11 +60,10 @@ pub fn in_use(log: &[u8], area: &[u8], state: &[u8]) -> u64
     }
     let groups = areas::log_groups(log.len());
     let homes = areas::data_homes(area.len());
-    let quick = order::quick_answer(state, groups, homes);
-    if quick != 1 {
-        return quick;
+    if order::quick_answer(state, groups, homes) == 0 {
+        return 0;
     }
-    if !order::rest_in_order(state) {
+    if !order::whole_in_order(state, groups, homes) {
         return 2;
     }
     0
@@ -82,11 +81,10 @@ pub fn in_use_block(log: &[u8], area: &[u8], state: &[u8], block: &[u8]) -> u64
     }
     let groups = areas::log_groups(log.len());
     let homes = areas::data_homes(area.len());
-    let quick = order::quick_answer(state, groups, homes);
-    if quick != 1 {
-        return quick;
+    if order::quick_answer(state, groups, homes) == 0 {
+        return 0;
     }
-    if !order::rest_in_order(state) {
+    if !order::whole_in_order(state, groups, homes) {
         return 2;
     }
     0

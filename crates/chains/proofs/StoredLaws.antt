@@ -154,10 +154,10 @@ module _ (g : Given) (n : ℕ) (c : Chain (g .log) (g .state) (g .block) (g .wri
             near = omega (arith, h .first, position, c .most);
             many = omega (arith, h .count, c .most);
             high = omega (arith, position, c .room, c .high, c .few);
-            before = ⊎-elim (λ z. omega (arith, h .last)) (λ z. omega (arith, h .last, position)) (c .last);
+            before = omega (arith, h .last, position, c .last);
             link =
                 link-small (stateOf (e .state) .groups) (stateOf (e .state)) (omega (arith, h .groups, c .few)) (omega (arith, position, c .room, h .start, h .groups))
-                (⊎-elim (λ z. inl (omega (arith, h .last))) (λ z. inr (omega (arith, h .last, h .start), omega (arith, h .last, position))) (c .last));
+                (omega (arith, h .last, position, c .last));
           },
         )
 

@@ -23,7 +23,7 @@ pub record Chain (l s x : List ℕ) (w home n : ℕ) : Type 0 where
   pub high : stateOf s .start ≤ 2 ^ 47
   pub low : stateOf s .start ≤ stateOf s .next
   pub filled : stateOf s .filled ≤ 6
-  pub last : (stateOf s .last ≡ 0) ⊎ ((7 * stateOf s .start < stateOf s .last) × (stateOf s .last ≤ nextPosition (stateOf s)))
+  pub last : stateOf s .last ≤ nextPosition (stateOf s)
   pub homes : home + n ≤ 2 ^ 16
   pub blocks : length x ≡ 64 * n
   pub least : 1 ≤ n

@@ -21,16 +21,16 @@ module _ (s : List ℕ) (w limit : ℕ) where
   unfolding writerLimit hasLogged writerOf modeOffset writerOffset
   writer-none mode e h = rw (← e, lt-leb 3 mode h)
 
-  writer-first : (mode first : ℕ) → mode ≡ number 1 s (104 + w) → 3 ≤ mode → first ≡ number 8 s (128 + 96 * w + 16)
+  writer-first : (mode first : ℕ) → mode ≡ number 1 s (104 + w) → 3 ≤ mode → first ≡ number 8 s (128 + 24 * w + 8)
       → min (first / 7) limit ≡ writerLimit (writerOf s w) limit
   unfolding writerLimit hasLogged writerOf modeOffset writerOffset
   writer-first mode first e h f = rw (← e, le-leb 3 mode h, ← f)
 
-  pub writer-low : (mode first : ℕ) → mode ≡ number 1 s (104 + w) → 3 ≤ mode → first ≡ number 8 s (128 + 96 * w + 16) → first / 7 < limit
+  pub writer-low : (mode first : ℕ) → mode ≡ number 1 s (104 + w) → 3 ≤ mode → first ≡ number 8 s (128 + 24 * w + 8) → first / 7 < limit
       → first / 7 ≡ writerLimit (writerOf s w) limit
   writer-low mode first e h f l = let q : first / 7 ≡ min (first / 7) limit = omega arith in q ∙ writer-first mode first e h f
 
-  pub writer-high : (mode first : ℕ) → mode ≡ number 1 s (104 + w) → 3 ≤ mode → first ≡ number 8 s (128 + 96 * w + 16) → limit ≤ first / 7
+  pub writer-high : (mode first : ℕ) → mode ≡ number 1 s (104 + w) → 3 ≤ mode → first ≡ number 8 s (128 + 24 * w + 8) → limit ≤ first / 7
       → limit ≡ writerLimit (writerOf s w) limit
   writer-high mode first e h f l = let q : limit ≡ min (first / 7) limit = omega arith in q ∙ writer-first mode first e h f
 

@@ -14,8 +14,8 @@ fn writer_limit(state: &[u8], w: u64, limit: u64) -> u64
     if codec::byte(state, (104 + w) as usize) < 3 {
         return limit;
     }
-    let at = (128 + 96 * w) as usize;
-    let group = codec::number(state, at + 16, 8) / 7;
+    let at = (128 + 24 * w) as usize;
+    let group = codec::number(state, at + 8, 8) / 7;
     if group < limit {
         return group;
     }

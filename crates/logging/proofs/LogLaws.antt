@@ -13,7 +13,7 @@ use Rattle.model.specs.Layout.{groupAt}
 use Rattle.model.specs.Batch.{GW, recordBytes, batchBytes}
 use Rattle.model.specs.declared.State.{State}
 use Rattle.model.specs.declared.Writer.{Writer}
-use Rattle.model.specs.State.{stateOf, setNext, setFilled, nextPosition, writerOf, writerOffset, setWriter, heldOf, setHeld, setPromise, promiseLeft, holding, logging, holds, hasLogged, firstFor, countFor}
+use Rattle.model.specs.State.{stateOf, setNext, setFilled, nextPosition, writerOf, setWriter, heldOffset, heldOf, setHeld, setPromise, promiseLeft, holding, logging, holds, hasLogged, firstFor, countFor}
 use Rattle.model.specs.Tag.{entryWord}
 use Rattle.model.specs.Effects.{entered, submitted, logged, linkFrom}
 use Rattle.model.specs.Questions.{ask}
@@ -47,18 +47,18 @@ batch-full f len h l = rw (eq-eqb f 6 h) (sym (ask-yes (leb 516 len) 9 0 (le-leb
 
 -- ---- the link
 
-pub link-none : (p : ℕ) (st : State) → st .last ≡ 0 → 0 ≡ linkFrom p st
+pub link-none : (p : ℕ) (st : State) → st .last ≤ 7 * st .start → 0 ≡ linkFrom p st
 unfolding linkFrom
-link-none p st h = rw (eq-eqb (st .last) 0 h)
+link-none p st h = rw (le-leb (st .last) (7 * st .start) h)
 
-pub link-some : (p : ℕ) (st : State) → st .last ≢ 0 → p + 1 - st .last ≡ linkFrom p st
+pub link-some : (p : ℕ) (st : State) → 7 * st .start < st .last → p + 1 - st .last ≡ linkFrom p st
 unfolding linkFrom
-link-some p st h = rw (ne-eqb (st .last) 0 h)
+link-some p st h = rw (lt-leb (st .last) (7 * st .start) h)
 
 -- ---- what logging leaves
 
-pub held-lent : (s : List ℕ) (w at : ℕ) → at ≡ 128 + 96 * w + 32 → take (at + 64 - at) (drop at s) ≡ heldOf s w
-unfolding heldOf part writerOffset
+pub held-lent : (s : List ℕ) (w at : ℕ) → at ≡ 320 + 64 * w → take (at + 64 - at) (drop at s) ≡ heldOf s w
+unfolding heldOf part heldOffset
 held-lent s w at e = let h : at + 64 - at ≡ 64 = omega arith in rw (h, e)
 
 logged-as : (s l : List ℕ) (word : ℕ) (x : List ℕ) (st : State) (t : Bool) → st ≡ stateOf s → eqb (st .filled) 6 ≡ t

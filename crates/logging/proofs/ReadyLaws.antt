@@ -76,6 +76,6 @@ fits-tag l a s st r v u es er hv hh room = rw (es, er) (go (rw er at hh) (rw es 
           near = omega (arith, b .low);
           many = omega (arith, b .low, b .many);
           high = omega (arith, o .start-most);
-          before = ⊎-elim (λ z. omega arith) (λ z. omega arith) (o .last-closing);
+          before = omega (arith, o .last-closing);
           link = link-small (stateOf s .groups) (stateOf s) g top (o .last-closing);
         }

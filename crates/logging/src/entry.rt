@@ -3,7 +3,7 @@ use model::State;
 use model::Writer;
 ghost use mathlib.Core.Path.{_≡_};
 ghost use mathlib.Core.Bool.{cond};
-ghost use Prim.Native.Nat.{_+_, _-_, _^_, _<_, _≤_};
+ghost use Prim.Native.Nat.{_+_, _-_, _*_, _^_, _<_, _≤_};
 ghost use lib.Dec.{eqb, leb};
 ghost use lib.ListN.{length};
 ghost use Rattle.model.specs.State.{stateOf, heldOf, firstFor, countFor};
@@ -39,7 +39,7 @@ pub fn log_entry(log: &mut [u8], state: &mut [u8], batch: &mut [u8], word: u64, 
     let st = strip::state(state);
     let at = scan::first_slot(st.next, st.groups);
     let slot = at.slot as usize;
-    let held = 128 + 96 * w + 32;
+    let held = 320 + 64 * w;
     areas::enter(log, slot, at.turn, st, word, &state[held..held + 64]);
     if st.filled != 6 {
         strip::set_filled(state, st.filled + 1);
@@ -58,12 +58,12 @@ pub fn store_word(st: State, r: Writer, position: u64) -> u64
     codec::entry_word(r.home, position - strip::first_for(r, position))
 }
 
-// The distance from `position` back to the last closing entry, 0 if there is none.
+// The distance from `position` back to the last closing entry, 0 if there is none since the start.
 pub fn link_from(position: u64, st: State) -> u64
-    requires { ⌜ (st .last ≤ position + 1) × (position + 1 < 2 ^ 63) ⌝ }
+    requires { ⌜ (7 * st .start ≤ position) × (st .last ≤ position + 1) × (position + 1 < 2 ^ 63) ⌝ }
     ensures { λ x. ⌜ x ≡ linkFrom position st ⌝ }
 {
-    if st.last == 0 {
+    if st.last <= 7 * st.start {
         return 0;
     }
     position + 1 - st.last

@@ -12,7 +12,7 @@ use Rattle.model.specs.Commit.{Span, committed, transactions, replay, me
 use Rattle.model.specs.Batch.{Record, GW, HW, KW, FN}
 use Rattle.model.specs.State.{State, stateOf, setStart, setNext, setFilled, setSettled, setFenced, setDurable, setLast, nextPosition, Writer, writerOf, setWriter, heldOf, setHeld, setPromise, promiseLeft, idle, begun, holding, logging, isOpen, holds, hasLogged, holdsHome, firstFor, countFor, freshState, setRound, setCursor, fixedIn}
 use Rattle.model.specs.Newest.{keptFor, nothingKept, keepEntries, forget, carryListed}
-use Rattle.model.specs.Rights.{keepList}
+use Rattle.model.specs.Rights.{openSign, keepList}
 use Rattle.model.specs.declared.Tag.{Tag}
 pub use Rattle.model.specs.Given.{Given, groups, homes}
 unfoldable pub use Rattle.model.specs.Given.{tagsOf, liveBase, liveTags, blockOr, isThere}
@@ -103,7 +103,7 @@ openEffect g =
     let head : List ℕ = header (openStart g) (groups g) (homes g) in
     record {
       figure = length ts;
-      state = freshState (groups g) (homes g) (openStart g);
+      state = freshState (groups g) (homes g) (openStart g) (openSign (homes g) area);
       newest = nothingKept (homes g);
       log = emptyLog (openStart g) (groups g) (homes g);
       area = area;
@@ -190,9 +190,9 @@ storeEffect g =
 -- Commit: "logs the held block as closing entry; returns its position + 1, the ticket. Without a store it logs nothing, the ticket is 0, and it
 -- counts as no commit."
 
--- the distance back to the last closing entry, 0 if there is none
+-- the distance back to the last closing entry, 0 if there is none since the start
 unfoldable pub linkFrom : ℕ → State → ℕ
-linkFrom position st = cond (eqb (st .last) 0) 0 (position + 1 - st .last)
+linkFrom position st = cond (leb (st .last) (7 * st .start)) 0 (position + 1 - st .last)
 
 unfoldable pub logClosing : Given → Writer → ℕ → Logged
 logClosing g r position =

@@ -124,14 +124,15 @@ tooSmall =
 -- what is kept of the list, and what every call answers
 unfoldable pub moments : List Trial
 moments =
-    record { yields = begun .numbers; paper = 0 ∷ 0 ∷ 19 ∷ 19 ∷ 7 ∷ 0 ∷ 0 ∷ 0 ∷ 0 ∷ 0 ∷ 0 ∷ 0 ∷ 0 ∷ [] }
+    record { yields = seen unguarded []; paper = noPosition ∷ noPosition ∷ 1 ∷ [] }
+    ∷ record { yields = begun .numbers; paper = 0 ∷ 0 ∷ 19 ∷ 19 ∷ 7 ∷ 0 ∷ 0 ∷ 0 ∷ 0 ∷ 0 ∷ 0 ∷ 0 ∷ 0 ∷ [] }
     ∷ record {
       yields = seen guarded (denying .numbers);
       paper = 28 ∷ 28 ∷ 2 ∷ 20 ∷ 0 ∷ 19 ∷ 19 ∷ 19 ∷ 0 ∷ 20 ∷ 0 ∷ 0 ∷ 20 ∷ 20 ∷ 19 ∷ 0 ∷ 19 ∷ 0 ∷ 0 ∷ [];
     }
     ∷ record { yields = seen replaced (runs replaced underNext .numbers); paper = 33 ∷ 33 ∷ 2 ∷ 7 ∷ 19 ∷ 0 ∷ 20 ∷ 20 ∷ 19 ∷ 7 ∷ [] }
     ∷ record { yields = seen laidDown (runs laidDown underNext .numbers); paper = noPosition ∷ noPosition ∷ 2 ∷ 7 ∷ 19 ∷ 0 ∷ 20 ∷ 20 ∷ 19 ∷ 7 ∷ [] }
-    ∷ record { yields = seen reopened (runs reopened underFirst .numbers); paper = noPosition ∷ noPosition ∷ 0 ∷ 7 ∷ 19 ∷ 0 ∷ 20 ∷ 0 ∷ [] }
+    ∷ record { yields = seen reopened (runs reopened underFirst .numbers); paper = noPosition ∷ noPosition ∷ 2 ∷ 7 ∷ 19 ∷ 0 ∷ 20 ∷ 0 ∷ [] }
     ∷ record { yields = seen withdrawn (runs withdrawn ofOthers .numbers); paper = 30 ∷ 30 ∷ 1 ∷ 0 ∷ 0 ∷ [] }
     ∷ record { yields = seen again (runs again ofOthers .numbers); paper = 31 ∷ 31 ∷ 2 ∷ 20 ∷ 19 ∷ [] }
     ∷ record { yields = tooSmall; paper = 0 ∷ 0 ∷ 0 ∷ 0 ∷ 0 ∷ 0 ∷ 19 ∷ 19 ∷ 5 ∷ 0 ∷ 0 ∷ [] } ∷ []

@@ -8,7 +8,7 @@ use mathlib.Core.Bool.{Bool, true, false, cond, not, _&&_, _||_}
 use mathlib.Core.List.{List, [], _++_}
 use mathlib.Core.Option.{Option, none, some}
 use lib.Dec.{eqb, leb, ltb}
-use Rattle.model.specs.Bytes.{zeros, number, same}
+use Rattle.model.specs.Bytes.{part, zeros, number, same}
 use Rattle.model.specs.Layout.{homeAt}
 use Rattle.model.specs.State.{listHome, listedOf, listSign, setListSign}
 use Rattle.model.specs.Newest.{keptFor, carryListed}
@@ -47,7 +47,7 @@ storeList g = listBy g (listedOf (g .state)) 4
 unfoldable pub readList : Given → List ℕ
 readList g = listBy g (λ i. keptFor (g .newest) (listHome + i)) 4
 
--- Commit keeps the four positions in the state strip, and where they have changed the sign of the list as it is then.
+-- Commit keeps the four positions in the state strip, and where they have changed the sign of the list as it is then. Opening sets the sign too.
 
 -- whether the state strip has, for the first n homes of the list, what the newest positions have
 unfoldable pub sameListed : Given → ℕ → Bool
@@ -60,6 +60,10 @@ listMoved g = leb (listHome + 4) (homes g) && not (sameListed g 4)
 
 unfoldable pub signFor : List ℕ → ℕ
 signFor list = cond (same list (zeros 256)) 1 2
+
+-- an opening leaves the whole list in the data copy
+unfoldable pub openSign : ℕ → List ℕ → ℕ
+openSign homes area = cond (leb (listHome + 4) homes) (signFor (part area (64 * listHome) 256)) 0
 
 unfoldable pub signIf : Bool → List ℕ → List ℕ → List ℕ
 signIf moved list s = cond moved (setListSign s (signFor list)) s

@@ -1,6 +1,6 @@
 -- The state strip of 1,024 bytes: numbers of eight bytes at fixed offsets, the writers' promises of two and their modes of one. Bytes that no field has are spare: no call but open changes them, and
 -- none reads them. docs/FORMAT.md has the layout as a table.
-use Prim.Native.Nat.{ℕ, zero, suc, _+_, _-_, _*_}
+use Prim.Native.Nat.{ℕ, zero, suc, _+_, _-_, _*_, _%_, _^_}
 use mathlib.Core.Bool.{Bool, true, false, cond, _&&_, _||_}
 use mathlib.Core.List.{List, [], _∷_}
 use lib.Dec.{eqb, leb, ltb}
@@ -118,7 +118,7 @@ listedOf s i = number 8 s (896 + 8 * i)
 unfoldable pub setListed : List ℕ → List ℕ → List ℕ
 setListed s positions = puts s 896 positions
 
--- The list's sign, which commit sets, so that no question need look at all four blocks: 1, the list as committed is all zeros; 2, it is not; any other
+-- The list's sign, which opening and commit set, so that no question need look at all four blocks: 1, the list as committed is all zeros; 2, it is not; any other
 -- number says nothing.
 unfoldable pub listSign : List ℕ → ℕ
 listSign s = number 8 s 928
@@ -134,40 +134,51 @@ unfoldable pub modeOffset : ℕ → ℕ
 modeOffset w = 104 + w
 
 unfoldable pub writerOffset : ℕ → ℕ
-writerOffset w = 128 + 96 * w
+writerOffset w = 128 + 24 * w
+
+-- The count is kept less one, modulo 2 ^ 64: its field says how many entries are logged after the first one.
+unfoldable pub lessOne : ℕ → ℕ
+lessOne n = (n + (2 ^ 64 - 1)) % 2 ^ 64
+
+unfoldable pub oneMore : ℕ → ℕ
+oneMore n = (n + 1) % 2 ^ 64
 
 unfoldable pub writerOf : List ℕ → ℕ → Writer
 writerOf s w =
     record {
       mode = number 1 s (modeOffset w);
-      home = number 8 s (writerOffset w + 8);
-      first = number 8 s (writerOffset w + 16);
-      count = number 8 s (writerOffset w + 24);
+      home = number 8 s (writerOffset w);
+      first = number 8 s (writerOffset w + 8);
+      count = oneMore (number 8 s (writerOffset w + 16));
     }
 
 unfoldable pub setWriter : List ℕ → ℕ → Writer → List ℕ
 setWriter s w r =
     putNumber 8
-    (putNumber 8 (putNumber 8 (putNumber 1 s (modeOffset w) (r .mode)) (writerOffset w + 8) (r .home)) (writerOffset w + 16) (r .first))
-    (writerOffset w + 24)
-    (r .count)
+    (putNumber 8 (putNumber 8 (putNumber 1 s (modeOffset w) (r .mode)) (writerOffset w) (r .home)) (writerOffset w + 8) (r .first))
+    (writerOffset w + 16)
+    (lessOne (r .count))
 
 -- the held block
+unfoldable pub heldOffset : ℕ → ℕ
+heldOffset w = 320 + 64 * w
+
 unfoldable pub heldOf : List ℕ → ℕ → List ℕ
-heldOf s w = part s (writerOffset w + 32) 64
+heldOf s w = part s (heldOffset w) 64
 
 unfoldable pub setHeld : List ℕ → ℕ → List ℕ → List ℕ
-setHeld s w block = puts s (writerOffset w + 32) block
+setHeld s w block = puts s (heldOffset w) block
 
+-- a writer that has logged nothing: its record has zeros, which reads as a count of 1 that no call looks at
 unfoldable pub idle : Writer
-idle = record { mode = 0; home = 0; first = 0; count = 0 }
+idle = record { mode = 0; home = 0; first = 0; count = 1 }
 
 unfoldable pub begun : Writer
-begun = record { mode = 1; home = 0; first = 0; count = 0 }
+begun = record { mode = 1; home = 0; first = 0; count = 1 }
 
 -- a block is held for a home, after so many logged entries from a first position on
 unfoldable pub holding : ℕ → Writer
-holding home = record { mode = 2; home = home; first = 0; count = 0 }
+holding home = record { mode = 2; home = home; first = 0; count = 1 }
 
 unfoldable pub logging : ℕ → ℕ → ℕ → Writer
 logging home first count = record { mode = 3; home = home; first = first; count = count }
@@ -191,7 +202,7 @@ firstFor r position = cond (hasLogged r) (r .first) position
 unfoldable pub countFor : Writer → ℕ
 countFor r = cond (hasLogged r) (r .count) 0
 
--- the strip that an opening leaves: no position of the list's homes, all else zeros
+-- the strip that an opening leaves: no position of the list's homes, the list's sign, all else zeros
 unfoldable pub freshNumbers : ℕ → ℕ → ℕ → List ℕ
 freshNumbers groups homes start =
     setDurable
@@ -200,18 +211,19 @@ freshNumbers groups homes start =
     (7 * start))
     (7 * start)
 
-unfoldable pub freshState : ℕ → ℕ → ℕ → List ℕ
-freshState groups homes start = setListed (freshNumbers groups homes start) (replicate 32 255)
+unfoldable pub freshState : ℕ → ℕ → ℕ → ℕ → List ℕ
+freshState groups homes start sign = setListSign (setListed (freshNumbers groups homes start) (replicate 32 255)) sign
 
 -- Question 2
 -- "start ≤ 2^47; start ≤ next group ≤ start + G; 0 to 6 places filled, none at start + G; 7 × start ≤ settled ≤ F ≤ 7 × next group; mark ≤ F;
--- last closing none or from 7 × start to below the next position"; "question 2 also asks that the fixed F lies from settled to F"
+-- last closing none or from 7 × start to below the next position" (kept as position + 1, and up to 7 × start it is none); "question 2 also asks that
+-- the fixed F lies from settled to F"
 unfoldable pub numbersInOrder : State → Bool
 numbersInOrder s =
     leb (s .start) maxStart && leb (s .start) (s .next) && leb (s .next) (s .start + s .groups) && leb (s .filled) 6
     && (ltb (s .next) (s .start + s .groups) || eqb (s .filled) 0) && leb (7 * s .start) (s .settled) && leb (s .settled) (s .fenced)
     && leb (s .fenced) (7 * s .next) && leb (s .durable) (s .fenced)
-    && (eqb (s .last) 0 || ltb (7 * s .start) (s .last) && leb (s .last) (nextPosition s))
+    && leb (s .last) (nextPosition s)
     && (eqb (s .round) 0 || ltb (s .settled) (s .round) && leb (s .round) (s .fenced + 1))
 
 -- "an idle writer holds nothing; a held home < D; a logging writer holds a block, its first position is in that range and its count from 1 to

@@ -22,7 +22,7 @@ pub struct State {
     pub settled: u64,
     pub fenced: u64,
     pub durable: u64,
-    // the last closing entry's position + 1, or 0 for none since the start
+    // the last closing entry's position + 1; none since the start where it is at most 7 x start
     pub last: u64,
     // the fenced position that the round under way has fixed + 1, or 0 for no round; homes below the cursor are done in it
     pub round: u64,

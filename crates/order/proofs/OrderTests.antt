@@ -118,7 +118,7 @@ module _ (st : State) where
         settled-fenced = omega arith;
         fenced-next = omega arith;
         durable-fenced = omega arith;
-        last-closing = f .0 .1;
+        last-closing = omega arith;
       }))
 
   pub round-refused : false ≡ roundInOrder st → false ≡ numbersInOrder st
@@ -148,13 +148,13 @@ positions-fit st x e g =
 pub writer-refused : (st : State) (r : Writer) → (WriterInOrder st r → ⊥) → false ≡ writerInOrder st r
 writer-refused st r h = refuted (writerInOrder st r) (λ e. h (writer-order st r e))
 
--- a mode that is neither that of a writer that holds a block nor that of one that logs
-pub other-mode : (st : State) (r : Writer) → 2 ≤ r .mode → r .mode ≢ 2 → r .mode ≢ 3 → false ≡ writerInOrder st r
-other-mode st r l n m = writer-refused st r (λ o. go (o .mode) (decLt (r .mode) 3))
+-- a mode that is not that of a writer that logs: that of one that holds a block, or none
+pub other-mode : (st : State) (r : Writer) → r .mode ≢ 3 → r .home < st .homes → ltb (r .mode) 3 ≡ writerInOrder st r
+other-mode st r n h = go (ltb (r .mode) 3) refl
   where
-    go : r .mode ≤ 3 → Dec (r .mode < 3) → ⊥
-    go k (yes h) = n (omega arith)
-    go k (no h) = m (omega arith)
+    go : (t : Bool) → ltb (r .mode) 3 ≡ t → t ≡ writerInOrder st r
+    go true e = let l = ltb-true (r .mode) 3 e in sym (order-writer st r (record { mode = omega arith; home = λ _. h; logged = λ k. omega arith }))
+    go false e = let l = ltb-false (r .mode) 3 e in writer-refused st r (λ o. n (omega (arith, o .mode)))
 
 module _ (s : List ℕ) (st : State) (w : ℕ) where
   pub record-refused : false ≡ writerInOrder st (writerOf s w) → false ≡ writerAtInOrder s st w
@@ -213,24 +213,10 @@ module _ (s : List ℕ) (st : State) (groups homes : ℕ) (e : st ≡ stateOf s)
   unfolding inOrder
   too-many h = rw (← e, lt-leb (promised s 8) (places st) h, and-false)
 
-  pub by-records : st .groups ≡ groups → st .homes ≡ homes → true ≡ numbersInOrder st → promised s 8 ≡ 0 → writersInOrder s st 8 ≡ inOrder s groups homes
-  unfolding inOrder
-  by-records g h k p = rw (← e, eq-eqb (st .groups) groups g, eq-eqb (st .homes) homes h, ← k, le-leb (promised s 8) (places st) (omega (arith, p)))
-
   pub by-writers : st .groups ≡ groups → st .homes ≡ homes → true ≡ numbersInOrder st → promised s 8 ≤ places st
       → writersInOrder s st 8 ≡ inOrder s groups homes
   unfolding inOrder
   by-writers g h k p = rw (← e, eq-eqb (st .groups) groups g, eq-eqb (st .homes) homes h, ← k, le-leb (promised s 8) (places st) p)
-
--- ---- the answer of a quick look
-
-pub told-yes : (b : Bool) → true ≡ b → 0 ≡ ask b 2 0
-unfolding ask
-told-yes b h = rw (← h)
-
-pub told-no : (b : Bool) → false ≡ b → 2 ≡ ask b 2 0
-unfolding ask
-told-no b h = rw (← h)
 
 -- ---- the first numbers, as they are read
 
@@ -254,35 +240,36 @@ module _ (s : List ℕ) (groups homes : ℕ) where
     pub tells-start : 2 ^ 47 < low → Tells false s groups homes
     tells-start l = tells-no (over (λ o. omega (arith, o .start-most)))
 
-    module _ (h up used filled : ℕ) (eh : h ≡ stateOf s .homes) (sh : h ≡ homes) (most : low ≤ 2 ^ 47) (eu : up ≡ stateOf s .next)
-        (d : (used + low) % 2 ^ 64 ≡ up) (b : used < 2 ^ 64) (ef : filled ≡ stateOf s .filled) where
-      apart : (used + stateOf s .start) % 2 ^ 64 ≡ stateOf s .next
-      apart = rw (← el, ← eu) d
+    module _ (filled : ℕ) (ef : filled ≡ stateOf s .filled) where
+      pub tells-filled : 6 < filled → Tells false s groups homes
+      tells-filled l = tells-no (over (λ o. omega (arith, o .filled-most)))
 
-      agrees : used ≤ groups → filled ≤ 6 → 7 * used + filled ≤ 7 * groups → Agrees (stateOf s) groups homes
-      agrees l f k =
-          record {
-            groups-same = sym eg ∙ sg;
-            homes-same = sym eh ∙ sh;
-            in-order = not-over (stateOf s) groups used (sym eg ∙ sg) m (omega arith) apart l (omega arith) (omega arith);
-          }
+      module _ (h up used : ℕ) (eh : h ≡ stateOf s .homes) (sh : h ≡ homes) (most : low ≤ 2 ^ 47) (few : filled ≤ 6) (eu : up ≡ stateOf s .next)
+          (d : (used + low) % 2 ^ 64 ≡ up) (b : used < 2 ^ 64) where
+        apart : (used + stateOf s .start) % 2 ^ 64 ≡ stateOf s .next
+        apart = rw (← el, ← eu) d
 
-      pub tells-part : used < groups → Tells (leb filled 6) s groups homes
-      tells-part l = (
-        λ t. let f = leb-true filled 6 t in agrees (omega arith) f (omega arith),
-        λ t. let f = leb-false filled 6 t in over (λ o. omega (arith, o .filled-most)),
-      )
+        agrees : used ≤ groups → 7 * used + filled ≤ 7 * groups → Agrees (stateOf s) groups homes
+        agrees l k =
+            record {
+              groups-same = sym eg ∙ sg;
+              homes-same = sym eh ∙ sh;
+              in-order = not-over (stateOf s) groups used (sym eg ∙ sg) m (omega arith) apart l (omega arith) (omega arith);
+            }
 
-      pub tells-over : groups < used → Tells false s groups homes
-      tells-over l = tells-no (over (λ o. groups-over (stateOf s) groups used (sym eg ∙ sg) apart b l o))
+        pub tells-part : used < groups → Tells true s groups homes
+        tells-part l = (λ t. agrees (omega arith) (omega arith), λ t. absurd (false≢true (sym t)))
 
-      pub tells-full : used ≡ groups → Tells (eqb filled 0) s groups homes
-      tells-full e = (
-        λ t. let f = eqb-true filled 0 t in agrees (omega arith) (omega arith) (omega arith),
-        λ t.
-            let f = eqb-false filled 0 t in
-            over (λ o. places-over (stateOf s) groups used (sym eg ∙ sg) apart b (omega arith) o),
-      )
+        pub tells-over : groups < used → Tells false s groups homes
+        tells-over l = tells-no (over (λ o. groups-over (stateOf s) groups used (sym eg ∙ sg) apart b l o))
+
+        pub tells-full : used ≡ groups → Tells (eqb filled 0) s groups homes
+        tells-full e = (
+          λ t. let f = eqb-true filled 0 t in agrees (omega arith) (omega arith),
+          λ t.
+              let f = eqb-false filled 0 t in
+              over (λ o. places-over (stateOf s) groups used (sym eg ∙ sg) apart b (omega arith) o),
+        )
 
 -- ---- the other numbers, as they are read
 
@@ -293,8 +280,8 @@ pub live-by : (st : State) (first up f : ℕ) → GroupsInOrder st → first ≡
     → Live st (7 * first) (7 * (up - first) + f)
 live-by st first up f g es en ef = record { in-order = g; lowest = rw es; every = rw (es, en, ef) }
 
-module _ (s : List ℕ) (low whole all end far : ℕ) (l : Live (stateOf s) low all) (w : whole + stateOf s .filled ≡ all) (ee : end ≡ stateOf s .fenced)
-    (d : (far + low) % 2 ^ 64 ≡ end) (b : far < 2 ^ 64) where
+module _ (s : List ℕ) (low whole all end mark : ℕ) (l : Live (stateOf s) low all) (w : whole + stateOf s .filled ≡ all) (ee : end ≡ stateOf s .fenced)
+    (em : mark ≡ stateOf s .durable) where
   bounds-no : (BoundsInOrder (stateOf s) → ⊥) → Bounds false s
   bounds-no h = (λ t. absurd (false≢true t), λ _. bounds-refused (stateOf s) h)
 
@@ -307,79 +294,59 @@ module _ (s : List ℕ) (low whole all end far : ℕ) (l : Live (stateOf s) low 
     l .lowest,
   )
 
-  upwards : BoundsInOrder (stateOf s) → end ≡ far + low
-  upwards p = distance-up far low end d b (omega (arith, small .4, p .start-settled, p .settled-fenced))
+  pub bounds-durable : end < mark → Bounds false s
+  bounds-durable q = bounds-no (λ p. omega (arith, p .durable-fenced))
 
-  pub bounds-fenced : whole < far → Bounds false s
-  bounds-fenced k = bounds-no (λ p. omega (arith, upwards p, p .fenced-next, small .3))
+  module _ (q : mark ≤ end) (far : ℕ) (d : (far + low) % 2 ^ 64 ≡ end) (b : far < 2 ^ 64) where
+    upwards : BoundsInOrder (stateOf s) → end ≡ far + low
+    upwards p = distance-up far low end d b (omega (arith, small .4, p .start-settled, p .settled-fenced))
 
-  module _ (k : far ≤ whole) (x near : ℕ) (ex : x ≡ stateOf s .settled) (dx : (near + low) % 2 ^ 64 ≡ x) (bx : near < 2 ^ 64) where
-    pub bounds-settled : far < near → Bounds false s
-    bounds-settled o =
-        bounds-no
-        (λ p.
-        let n = distance-up near low x dx bx (omega (arith, small .4, p .start-settled)) in
-        omega (arith, upwards p, n, p .settled-fenced))
+    pub bounds-fenced : whole < far → Bounds false s
+    bounds-fenced k = bounds-no (λ p. omega (arith, upwards p, p .fenced-next, small .3))
 
-    module _ (o : near ≤ far) (mark : ℕ) (em : mark ≡ stateOf s .durable) where
-      pub bounds-durable : end < mark → Bounds false s
-      bounds-durable q = bounds-no (λ p. omega (arith, p .durable-fenced))
+    module _ (k : far ≤ whole) (x near : ℕ) (ex : x ≡ stateOf s .settled) (dx : (near + low) % 2 ^ 64 ≡ x) (bx : near < 2 ^ 64) where
+      pub bounds-settled : far < near → Bounds false s
+      bounds-settled o =
+          bounds-no
+          (λ p.
+          let n = distance-up near low x dx bx (omega (arith, small .4, p .start-settled)) in
+          omega (arith, upwards p, n, p .settled-fenced))
 
-      bounds-yes : mark ≤ end → (stateOf s .last ≢ 0 → (7 * stateOf s .start < stateOf s .last) × (stateOf s .last ≤ nextPosition (stateOf s)))
-          → BoundsInOrder (stateOf s)
-      bounds-yes q c =
-          let e = distance-short far low end d (omega (arith, small .0, small .2)) in
-          let n = distance-short near low x dx (omega (arith, small .0, small .2)) in
-          record {
-            start-settled = omega (arith, n, small .4);
-            settled-fenced = omega (arith, n, e);
-            fenced-next = omega (arith, e, small .3);
-            durable-fenced = omega arith;
-            last-closing = c;
-          }
+      above : low + all ≡ nextPosition (stateOf s)
+      unfolding nextPosition
+      above = omega (arith, small .3, w)
 
-      module _ (q : mark ≤ end) (y : ℕ) (ey : y ≡ stateOf s .last) where
-        pub bounds-none : y ≡ 0 → Bounds true s
-        bounds-none z = (λ _. bounds-yes q (λ n. absurd (n (sym ey ∙ z))), λ t. absurd (false≢true (sym t)))
-
-        pub bounds-last : (behind : ℕ) → y ≢ 0 → (behind + (low + 1)) % 2 ^ 64 ≡ y → behind < 2 ^ 64 → Bounds (ltb behind all) s
-        unfolding nextPosition
-        bounds-last behind n dy by = (
-          λ t.
-              let k = ltb-true behind all t in
-              let e = distance-short behind (low + 1) y dy (omega (arith, small .0, small .1)) in
-              bounds-yes q (λ _. (omega (arith, e, small .4), omega (arith, e, small .3, w))),
-          λ t.
-              let k = ltb-false behind all t in
-              bounds-refused (stateOf s)
-              (λ p.
-              let f = p .last-closing (λ z. n (ey ∙ z)) in
-              let e = distance-up behind (low + 1) y dy by (omega (arith, f .0, small .4)) in
-              omega (arith, e, f .1, small .3, w)),
-        )
+      pub bounds-last : near ≤ far → (y : ℕ) → y ≡ stateOf s .last → Bounds (leb y (low + all)) s
+      bounds-last o y ey = (
+        λ t.
+            let e = distance-short far low end d (omega (arith, small .0, small .2)) in
+            let n = distance-short near low x dx (omega (arith, small .0, small .2)) in
+            let z = leb-true y (low + all) t in
+            record {
+              start-settled = omega (arith, n, small .4);
+              settled-fenced = omega (arith, n, e);
+              fenced-next = omega (arith, e, small .3);
+              durable-fenced = omega arith;
+              last-closing = omega (arith, above, z);
+            },
+        λ t. let z = leb-false y (low + all) t in bounds-refused (stateOf s) (λ p. omega (arith, above, p .last-closing)),
+      )
 
 -- ---- the whole answer
 
 abbrev Answer : ℕ → List ℕ → ℕ → ℕ → Type 0
-Answer r s groups homes =
-    (r ≢ 1 → r ≡ ask (inOrder s groups homes) 2 0) × (r ≡ 1 → Agrees (stateOf s) groups homes × BoundsInOrder (stateOf s))
+Answer r s groups homes = r ≡ 0 → true ≡ inOrder s groups homes
 
 module _ (s : List ℕ) (groups homes : ℕ) where
-  pub answer-no : false ≡ inOrder s groups homes → Answer 2 s groups homes
-  answer-no h = (λ _. told-no _ h, λ z. absurd (omega arith))
-
-  pub answer-yes : true ≡ inOrder s groups homes → Answer 0 s groups homes
-  answer-yes h = (λ _. told-yes _ h, λ z. absurd (omega arith))
-
-  pub answer-rest : Agrees (stateOf s) groups homes → BoundsInOrder (stateOf s) → Answer 1 s groups homes
-  answer-rest a b = (λ n. absurd (n refl), λ _. (a, b))
+  pub answer-not : Answer 2 s groups homes
+  answer-not z = absurd (omega arith)
 
   -- with no round and no promise the writers tell
-  pub quick-records : (x : ℕ) (st : State) → Agrees (stateOf s) groups homes → BoundsInOrder (stateOf s) → x ≡ stateOf s .round → x ≡ 0
-      → st ≡ stateOf s → promised s 8 ≡ 0 → writersInOrder s st 8 ≡ inOrder s groups homes
-  quick-records x st a b e z es p =
-      by-records s st groups homes es (ap (λ (y : State). y .groups) es ∙ a .groups-same) (ap (λ (y : State). y .homes) es ∙ a .homes-same)
-      (rw es (numbers-held (stateOf s) (a .in-order) b (round-none (stateOf s) (sym e ∙ z)))) p
+  pub quick-records : (st : State) → Agrees (stateOf s) groups homes → BoundsInOrder (stateOf s) → stateOf s .round ≡ 0 → st ≡ stateOf s
+      → promised s 8 ≡ 0 → writersInOrder s st 8 ≡ inOrder s groups homes
+  quick-records st a b z es p =
+      by-writers s st groups homes es (ap (λ (y : State). y .groups) es ∙ a .groups-same) (ap (λ (y : State). y .homes) es ∙ a .homes-same)
+      (rw es (numbers-held (stateOf s) (a .in-order) b (round-none (stateOf s) z))) (omega (arith, p))
 
 -- ---- the record of a writer that has logged entries
 
@@ -397,20 +364,27 @@ module _ (st : State) (r : Writer) (low all since : ℕ) (l : Live st low all) (
       let e = distance-up since (r .first) (low + all) d b (omega (arith, ahead)) in
       omega (arith, l .lowest, q))
 
-  pub logged-few : (less : ℕ) → (less + 1) % 2 ^ 64 ≡ r .count → less < 2 ^ 64 → since ≤ less → false ≡ writerInOrder st r
-  logged-few less c bl k =
-      writer-refused st r
-      (λ o.
-      let q = o .logged (omega arith) in
-      let e = distance-up since (r .first) (low + all) d b (omega (arith, ahead)) in
-      let n = distance-up less 1 (r .count) c bl (omega (arith, q)) in
-      omega (arith, ahead, q))
+  pub logged-by : (less : ℕ) → since ≤ all → (less + 1) % 2 ^ 64 ≡ r .count → less < 2 ^ 64 → ltb less since ≡ writerInOrder st r
+  logged-by less k c bl = go (ltb less since) refl
+    where
+      few : since ≤ less → false ≡ writerInOrder st r
+      few u =
+          writer-refused st r
+          (λ o.
+          let q = o .logged (omega arith) in
+          let e = distance-up since (r .first) (low + all) d b (omega (arith, ahead)) in
+          let n = distance-up less 1 (r .count) c bl (omega (arith, q)) in
+          omega (arith, ahead, q))
 
-  pub logged-held : (less : ℕ) → since ≤ all → (less + 1) % 2 ^ 64 ≡ r .count → less < since → true ≡ writerInOrder st r
-  logged-held less k c u =
-      let g = l .in-order in
-      let n = distance-short less 1 (r .count) c (omega (arith, l .every, g .next-most, g .groups-most, g .filled-most)) in
-      let e = distance-down since (r .first) (low + all) d f (omega arith) in
-      sym
-      (order-writer st r
-      (record { mode = omega arith; home = λ _. h; logged = λ _. (omega (arith, l .lowest), omega (arith, ahead), omega arith, omega (arith, ahead)) }))
+      enough : less < since → true ≡ writerInOrder st r
+      enough u =
+          let g = l .in-order in
+          let n = distance-short less 1 (r .count) c (omega (arith, l .every, g .next-most, g .groups-most, g .filled-most)) in
+          let e = distance-down since (r .first) (low + all) d f (omega arith) in
+          sym
+          (order-writer st r
+          (record { mode = omega arith; home = λ _. h; logged = λ _. (omega (arith, l .lowest), omega (arith, ahead), omega arith, omega (arith, ahead)) }))
+
+      go : (t : Bool) → ltb less since ≡ t → t ≡ writerInOrder st r
+      go true e = enough (ltb-true less since e)
+      go false e = few (ltb-false less since e)

@@ -12,7 +12,7 @@ use Rattle.model.specs.Bytes.{part, puts}
 use Rattle.model.specs.Layout.{blockAt, homesIn, homeAt}
 use Rattle.model.specs.Commit.{members, newestIn, orElse}
 use Rattle.model.specs.Newest.{keptFor}
-use Rattle.model.specs.State.{stateOf, nextPosition, writerOffset, writerOf, heldOf, holds, hasLogged, holdsHome}
+use Rattle.model.specs.State.{stateOf, nextPosition, writerOf, heldOffset, heldOf, holds, hasLogged, holdsHome}
 use Rattle.model.specs.declared.State.{State}
 use Rattle.model.specs.declared.Writer.{Writer}
 use Rattle.model.specs.Effects.{Given, groups, homes, tagsOf, liveTags, liveBase, newestOwn, blockOr, ownElse, keptPosition, shown, readEffect}
@@ -116,11 +116,11 @@ module _ (log newest : List ℕ) (st : State) (r : Writer) (home own : ℕ) (e :
 -- ---- blocks that are copied
 
 pub held-copied : (block state : List ℕ) (w : ℕ) → length block ≡ 64 → length state ≡ 1024 → w < 8
-    → puts block 0 (part state (128 + 96 * w + 32) 64) ≡ heldOf state w
-unfolding heldOf writerOffset
+    → puts block 0 (part state (320 + 64 * w) 64) ≡ heldOf state w
+unfolding heldOf heldOffset
 held-copied block state w e l h =
-    let q : length (part state (128 + 96 * w + 32) 64) ≡ 64 = length-part state (128 + 96 * w + 32) 64 (omega arith) in
-    puts-whole block (part state (128 + 96 * w + 32) 64) (omega arith)
+    let q : length (part state (320 + 64 * w) 64) ≡ 64 = length-part state (320 + 64 * w) 64 (omega arith) in
+    puts-whole block (part state (320 + 64 * w) 64) (omega arith)
 
 -- ---- a home that is held
 

@@ -26,7 +26,7 @@ fn show_held(block: &mut [u8], state: &[u8], w: usize)
     requires { ⌜ (length (now block) ≡ 64) × (length (now state) ≡ 1024) × (w < 8) ⌝ }
     ensures { λ _. ⌜ now (block .exit) ≡ heldOf (now (state .entry)) w ⌝ }
 {
-    areas::copy_block(block, 0, state, 128 + 96 * w + 32)
+    areas::copy_block(block, 0, state, 320 + 64 * w)
 }
 
 // Copies the block of a home that a writer sees.

@@ -1,6 +1,6 @@
 -- Open: its questions, the records after those of the homes, and how the call ends. Assumes nothing.
 use mathlib.Core.Path.{_≡_, refl, sym, ap, _∙_}
-use mathlib.Core.Bool.{Bool, true, false, not, _&&_, and-false}
+use mathlib.Core.Bool.{Bool, true, false, cond, not, _&&_, and-false}
 use mathlib.Core.Logic.{_≢_}
 use mathlib.Core.List.{List, [], _∷_, append-nil}
 use Prim.Native.Nat.{ℕ, _+_, _-_, _*_, _^_, _≤_, _<_}
@@ -8,11 +8,12 @@ use native.Mathlib.Omega.{arith}
 use lib.Dec.{eqb, leb}
 use lib.ListN.{length, length-append}
 use borrow.Author.Tests.{not-true, not-false, le-leb, lt-leb}
-use Rattle.model.specs.Bytes.{puts}
+use Rattle.model.specs.Bytes.{part, puts, zeros, same}
 use Rattle.model.specs.Layout.{groupsIn, homesIn, logLengthRight, dataLengthRight, header, headerStart, headerRight, emptyLog, entryAt}
 use Rattle.model.specs.Batch.{FN, KW, recordBytes, batchBytes}
 use Rattle.model.specs.Newest.{nothingKept}
-use Rattle.model.specs.State.{freshState}
+use Rattle.model.specs.Rights.{signFor, openSign}
+use Rattle.model.specs.State.{listHome, freshState}
 use Rattle.model.specs.Effects.{Given, blankWrites, touched, replayed, homeWrites, openTags, openStart, openEffect}
 use Rattle.model.specs.Questions.{ask, areasRight, stateRight, headerFits, startFits, batchFits, openAnswer, newestRight}
 use Rattle.model.specs.Calls.{sizeOf, openCall}
@@ -162,6 +163,17 @@ area-homes log area state newest homes k e = omega arith
 pub newest-homes : (log area state newest : List ℕ) (homes : ℕ) → Openable log area state newest → homes ≡ homesIn (length area) → length newest ≡ 8 * homes
 newest-homes log area state newest homes k e = omega (arith, k .newest-length)
 
+-- ---- the list's sign
+
+module _ (homes : ℕ) (area : List ℕ) where
+  pub sign-small : homes < 12 → 0 ≡ openSign homes area
+  unfolding openSign
+  sign-small h = rw (lt-leb (listHome + 4) homes h)
+
+  pub sign-told : (b : Bool) → 12 ≤ homes → b ≡ same (part area 512 256) (zeros 256) → cond b 1 2 ≡ openSign homes area
+  unfolding openSign signFor
+  sign-told b h e = rw (le-leb (listHome + 4) homes h, e)
+
 pub open-searchable : (log area state newest : List ℕ) (groups homes start : ℕ) → Openable log area state newest
     → (groups ≡ groupsIn (length log)) × (homes ≡ homesIn (length area)) × (start ≡ headerStart log) × (start < 2 ^ 48)
     → Searchable log groups homes start (7 * groups)
@@ -267,7 +279,7 @@ module _ (log area state newest batch : List ℕ) where
         ≡ puts batch 0
         (batchBytes (homeWrites a (touched (entryAt log groups homes start) (closedBelow log groups homes start end) homes)))
         → b ≡ puts d at (batchBytes (emptied (start + groups) groups homes)) → at ≡ 68 * count
-        → l ≡ emptyLog (start + groups) groups homes → s ≡ freshState groups homes (start + groups) → p′ ≡ nothingKept homes
+        → l ≡ emptyLog (start + groups) groups homes → s ≡ freshState groups homes (start + groups) (openSign homes a) → p′ ≡ nothingKept homes
         → leavesAll code figure size l a s p′ [] b ≡ openCall opening
     unfolding openCall batchFits openEffect openTags openStart
     open-done code figure size at l a s p′ d b h r ea ed eb et el es ep =
@@ -278,5 +290,6 @@ module _ (log area state newest batch : List ℕ) where
         (open-passes v _ e z ∙ ask-yes _ 9 0 (le-leb (sizeOf (openEffect opening)) (length batch) (omega (arith, open-size))))
         (r .0) (r .1 ∙ plan-all .numbered) (r .2 ∙ sym open-length) (el ∙ rw (q .0, q .1, q .2))
         (plan-area log area _ _ _ _ end number count plan-all area-long a ra)
-        (es ∙ rw (q .0, q .1, q .2)) (ep ∙ rw (q .1)) refl
+        (es ∙ rw (q .0, q .1, q .2) (ap (λ (x : List ℕ). freshState (groupsIn (length log)) (homesIn (length area)) (headerStart log + groupsIn (length log)) (openSign (homesIn (length area)) x)) (plan-area log area _ _ _ _ end number count plan-all area-long a ra)))
+        (ep ∙ rw (q .1)) refl
         (plan-batch log area _ _ _ _ end number count plan-all area-long a d b batch at _ ra rd et rb)

@@ -8,6 +8,7 @@ ghost use Rattle.model.specs.Bytes.{puts};
 ghost use Rattle.model.specs.Layout.{groupsIn, homesIn, headerStart, emptyLog};
 ghost use Rattle.model.specs.Batch.{batchBytes};
 ghost use Rattle.model.specs.Newest.{nothingKept};
+ghost use Rattle.model.specs.Rights.{openSign};
 ghost use Rattle.model.specs.State.{freshState};
 ghost use Rattle.model.specs.Calls.{openCall};
 ghost use Rattle.answers.specs.Lent.{lentAll, leavesAll};
@@ -73,22 +74,37 @@ fn open_records(batch: &mut [u8], at: usize, start: u64, groups: u64, homes: u64
     batch::fence(batch, next);
 }
 
+// The sign of the list of rights in the data copy.
+fn open_sign(area: &[u8], homes: u64) -> u64
+    requires { ⌜ length (now area) ≡ 64 * homes ⌝ }
+    ensures { λ r. ⌜ r ≡ openSign homes (now (area .entry)) ⌝ }
+{
+    if homes < 12 {
+        return 0;
+    }
+    if codec::all_zero(area, 512, 256) {
+        return 1;
+    }
+    2
+}
+
 // Makes the log copy empty from a new start on, the strip that of an empty log, and keeps no position.
 fn open_copies(
     log: &mut [u8],
+    area: &[u8],
     state: &mut [u8],
     newest: &mut [u8],
     groups: u64,
     homes: u64,
     start: u64,
 )
-    requires { ⌜ (length (now log) ≡ 64 + 512 * groups) × (0 < groups) × (length (now state) ≡ 1024) × (length (now newest) ≡ 8 * homes) × (7 * start < 2 ^ 64) ⌝ }
+    requires { ⌜ (length (now log) ≡ 64 + 512 * groups) × (0 < groups) × (length (now state) ≡ 1024) × (length (now newest) ≡ 8 * homes) × (length (now area) ≡ 64 * homes) × (7 * start < 2 ^ 64) ⌝ }
     ensures { λ _. ⌜ (now (log .exit) ≡ emptyLog start groups homes)
-        × (now (state .exit) ≡ freshState groups homes start)
+        × (now (state .exit) ≡ freshState groups homes start (openSign homes (now (area .entry))))
         × (now (newest .exit) ≡ nothingKept homes) ⌝ }
 {
     areas::put_empty_log(log, start, groups, homes);
-    strip::fresh(state, groups, homes, start);
+    strip::fresh(state, groups, homes, start, open_sign(area, homes));
     positions::keep_nothing(newest, homes as usize);
 }
 
@@ -117,6 +133,6 @@ pub fn reopen(
         return answers::refused(9);
     }
     open_records(batch, (size - more) as usize, start + groups, groups, homes);
-    open_copies(log, state, newest, groups, homes, start + groups);
+    open_copies(log, area, state, newest, groups, homes, start + groups);
     answers::done(replay.number, size)
 }

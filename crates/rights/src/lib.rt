@@ -32,7 +32,11 @@ pub fn may_store(log: &[u8], area: &[u8], state: &[u8], writer: u64, home: u64) 
         return true;
     }
     let at = 32 * writer as usize;
-    if strip::list_sign(state) == 2 {
+    let sign = strip::list_sign(state);
+    if sign == 1 {
+        return true;
+    }
+    if sign == 2 {
         return open_listed(log, area, state, state, 896, at, home);
     }
     open_unsigned(log, area, state, state, 896, at, home)
@@ -57,7 +61,11 @@ pub fn may_read(
         return true;
     }
     let at = 32 * writer as usize + 16;
-    if strip::list_sign(state) == 2 {
+    let sign = strip::list_sign(state);
+    if sign == 1 {
+        return true;
+    }
+    if sign == 2 {
         return open_listed(log, area, state, newest, 64, at, home);
     }
     open_unsigned(log, area, state, newest, 64, at, home)
@@ -82,7 +90,11 @@ pub fn may_store_newest(
         return true;
     }
     let at = 32 * writer as usize;
-    if strip::list_sign(state) == 2 {
+    let sign = strip::list_sign(state);
+    if sign == 1 {
+        return true;
+    }
+    if sign == 2 {
         return open_listed(log, area, state, newest, 64, at, home);
     }
     open_unsigned(log, area, state, newest, 64, at, home)

@@ -167,7 +167,7 @@ fn open_kept(
     all_zeros(log, area, state, kept, from)
 }
 
-// The same by the list's sign, where that does not say that there is one. The data copy is looked at without the log if no position is kept.
+// The same by the list's sign, where that says nothing. The data copy is looked at without the log if no position is kept.
 pub fn open_unsigned(
     log: &[u8],
     area: &[u8],
@@ -177,12 +177,9 @@ pub fn open_unsigned(
     at: usize,
     home: u64,
 ) -> bool
-    requires { ⌜ Listed (now log) (now area) (stateOf (now state)) (now kept) from × (length (now state) ≡ 1024) × (12 ≤ stateOf (now state) .homes) × (at < 256) × (at % 64 + 16 ≤ 64) × (listSign (now state) ≢ 2) ⌝ }
+    requires { ⌜ Listed (now log) (now area) (stateOf (now state)) (now kept) from × (length (now state) ≡ 1024) × (12 ≤ stateOf (now state) .homes) × (at < 256) × (at % 64 + 16 ≤ 64) × (listSign (now state) ≢ 1) × (listSign (now state) ≢ 2) ⌝ }
     ensures { λ r. ⌜ r ≡ opensBy (listSign (now (state .entry))) (stateOf (now (state .entry)) .homes) (blocksBy (now (log .entry)) (now (area .entry)) (stateOf (now (state .entry))) (now (kept .entry)) from 4) at home ⌝ }
 {
-    if strip::list_sign(state) == 1 {
-        return true;
-    }
     if !none_kept(kept, from) {
         return open_kept(log, area, state, kept, from, at, home);
     }

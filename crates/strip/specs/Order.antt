@@ -1,6 +1,5 @@
 -- Question 2 as plain facts: the group numbers and the places filled are in order, so no position passes 64 bits, and then the other numbers.
 use mathlib.Core.Path.{_≡_}
-use mathlib.Core.Logic.{_≢_}
 use Prim.Native.Nat.{ℕ, _+_, _-_, _*_, _^_, _≤_, _<_}
 use mathlib.Core.Bool.{Bool, _&&_, _||_}
 use lib.Dec.{eqb, leb, ltb}
@@ -33,7 +32,7 @@ pub record BoundsInOrder (st : State) : Type 0 where
   pub settled-fenced : st .settled ≤ st .fenced
   pub fenced-next : st .fenced ≤ 7 * st .next
   pub durable-fenced : st .durable ≤ st .fenced
-  pub last-closing : st .last ≢ 0 → (7 * st .start < st .last) × (st .last ≤ nextPosition st)
+  pub last-closing : st .last ≤ nextPosition st
 
 -- a round: none, or the fixed F from the settled position to F
 unfoldable pub roundInOrder : State → Bool

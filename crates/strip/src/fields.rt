@@ -1,4 +1,5 @@
 // The numbers of the state strip but those of the writers, eight bytes each.
+use crate::listed::set_list_sign;
 use crate::listed::set_listed;
 use model::State;
 ghost use mathlib.Core.Path.{_≡_};
@@ -238,11 +239,12 @@ fn fresh_numbers(s: &mut [u8], groups: u64, homes: u64, start: u64)
     set_durable(s, position);
 }
 
-// Makes `s` the strip of an opened store whose log is empty at the group number `start`: no position of the list of rights is kept.
-pub fn fresh(s: &mut [u8], groups: u64, homes: u64, start: u64)
+// Makes `s` the strip of an opened store whose log is empty at the group number `start`: no position of the list of rights is kept, and `sign` is its sign.
+pub fn fresh(s: &mut [u8], groups: u64, homes: u64, start: u64, sign: u64)
     requires { ⌜ (length (now s) ≡ 1024) × (7 * start < 2 ^ 64) ⌝ }
-    ensures { λ _. ⌜ now (s .exit) ≡ freshState groups homes start ⌝ }
+    ensures { λ _. ⌜ now (s .exit) ≡ freshState groups homes start sign ⌝ }
 {
     fresh_numbers(s, groups, homes, start);
     set_listed(s, &[255u8; 32]);
+    set_list_sign(s, sign);
 }

@@ -1,16 +1,35 @@
-// The writers' records in the state strip: a mode of one byte among those of all eight, three numbers of eight bytes and a held block of 64.
+// The writers' records in the state strip: a mode of one byte among those of all eight, three numbers of eight bytes among those of all, and a held
+// block of 64.
 use model::Writer;
 ghost use mathlib.Core.Path.{_≡_};
 ghost use Prim.Native.Nat.{_≤_, _<_};
 ghost use lib.ListN.{length};
-ghost use Rattle.model.specs.State.{writerOffset, writerOf, setWriter, setHeld, idle, begun, holding, logging, isOpen, holds, hasLogged, firstFor, countFor};
+ghost use Rattle.model.specs.State.{writerOffset, lessOne, oneMore, writerOf, setWriter, heldOffset, setHeld, idle, begun, holding, logging, isOpen, holds, hasLogged, firstFor, countFor};
 
-// Where the part of writer `w` begins.
+// Where the three numbers of writer `w` begin.
 fn offset(w: usize) -> usize
     requires { ⌜ w < 8 ⌝ }
-    ensures { λ r. ⌜ (r ≡ writerOffset w) × (r ≤ 800) ⌝ }
+    ensures { λ r. ⌜ (r ≡ writerOffset w) × (r ≤ 296) ⌝ }
 {
-    128 + 96 * w
+    128 + 24 * w
+}
+
+// Where the held block of writer `w` begins.
+fn held_offset(w: usize) -> usize
+    requires { ⌜ w < 8 ⌝ }
+    ensures { λ r. ⌜ (r ≡ heldOffset w) × (r ≤ 768) ⌝ }
+{
+    320 + 64 * w
+}
+
+// The count that is kept as `less`.
+fn one_more(less: u64) -> u64
+    ensures { λ r. ⌜ r ≡ oneMore less ⌝ }
+{
+    if less == u64::MAX {
+        return 0;
+    }
+    less + 1
 }
 
 // Reads the four numbers of writer `w`.
@@ -20,15 +39,25 @@ pub fn writer(s: &[u8], w: usize) -> Writer
 {
     let at = offset(w);
     let mode = codec::byte(s, 104 + w);
-    let home = codec::number(s, at + 8, 8);
-    let first = codec::number(s, at + 16, 8);
-    let count = codec::number(s, at + 24, 8);
+    let home = codec::number(s, at, 8);
+    let first = codec::number(s, at + 8, 8);
+    let count = one_more(codec::number(s, at + 16, 8));
     Writer {
         mode,
         home,
         first,
         count,
     }
+}
+
+// A count as it is kept: less one, modulo 2^64.
+fn less_one(count: u64) -> u64
+    ensures { λ r. ⌜ r ≡ lessOne count ⌝ }
+{
+    if count == 0 {
+        return u64::MAX;
+    }
+    count - 1
 }
 
 // Stores `r` as the four numbers of writer `w`, and leaves the rest of the strip as it was.
@@ -38,9 +67,9 @@ pub fn set_writer(s: &mut [u8], w: usize, r: Writer)
 {
     let at = offset(w);
     codec::put_byte(s, 104 + w, r.mode);
-    codec::put_number(s, at + 8, 8, r.home);
-    codec::put_number(s, at + 16, 8, r.first);
-    codec::put_number(s, at + 24, 8, r.count);
+    codec::put_number(s, at, 8, r.home);
+    codec::put_number(s, at + 8, 8, r.first);
+    codec::put_number(s, at + 16, 8, less_one(r.count));
 }
 
 // Stores `block` as the held block of writer `w`, and leaves the rest of the strip as it was.
@@ -48,8 +77,8 @@ pub fn set_held(s: &mut [u8], w: usize, block: &[u8])
     requires { ⌜ (length (now s) ≡ 1024) × (w < 8) × (length (now block) ≡ 64) ⌝ }
     ensures { λ _. ⌜ now (s .exit) ≡ setHeld (now (s .entry)) w (now (block .entry)) ⌝ }
 {
-    let at = offset(w);
-    codec::copy(s, at + 32, block);
+    let at = held_offset(w);
+    codec::copy(s, at, block);
 }
 
 // The record of a writer with no open transaction.
@@ -60,7 +89,7 @@ pub fn idle() -> Writer
         mode: 0,
         home: 0,
         first: 0,
-        count: 0,
+        count: 1,
     }
 }
 
@@ -72,7 +101,7 @@ pub fn begun() -> Writer
         mode: 1,
         home: 0,
         first: 0,
-        count: 0,
+        count: 1,
     }
 }
 
@@ -84,7 +113,7 @@ pub fn holding(home: u64) -> Writer
         mode: 2,
         home,
         first: 0,
-        count: 0,
+        count: 1,
     }
 }
 

@@ -12,7 +12,7 @@ use lib.ListN.{length, getD}
 use Rattle.model.specs.Bytes.{puts, bytes, putNumber}
 use Rattle.model.specs.declared.State.{State}
 use Rattle.model.specs.declared.Writer.{Writer}
-use Rattle.model.specs.State.{stateOf, setNext, setFilled, modeOffset, writerOffset, writerOf, setWriter, heldOf}
+use Rattle.model.specs.State.{stateOf, setNext, setFilled, modeOffset, writerOffset, lessOne, writerOf, setWriter, heldOf}
 use Rattle.laws.proofs.bytes.ByteLaws.{puts-nil, length-bytes}
 use Rattle.laws.proofs.strip.StateLaws.{byte-agree}
 use Rattle.laws.proofs.strip.WriterLaws.{length-setWriter, part-setWriter, state-setWriter, writer-setWriter-other, held-setWriter}
@@ -56,12 +56,12 @@ number-first n d a u b v h = puts-apart d a (bytes 8 u) b (bytes n v) (rw (lengt
 below-writers : (s : List ℕ) (w : ℕ) (r : Writer) (a u : ℕ) → a + 8 ≤ 104 → putNumber 8 (setWriter s w r) a u ≡ setWriter (putNumber 8 s a u) w r
 unfolding setWriter modeOffset writerOffset
 below-writers s w r a u h =
-    number-first 8 _ a u (128 + 96 * w + 24) _ (omega arith)
-    ∙ ap (λ (d : List ℕ). putNumber 8 d (128 + 96 * w + 24) (r .count))
-    (number-first 8 _ a u (128 + 96 * w + 16) _ (omega arith)
-    ∙ ap (λ (d : List ℕ). putNumber 8 d (128 + 96 * w + 16) (r .first))
-    (number-first 8 _ a u (128 + 96 * w + 8) _ (omega arith)
-    ∙ ap (λ (d : List ℕ). putNumber 8 d (128 + 96 * w + 8) (r .home)) (number-first 1 s a u (104 + w) _ (omega arith))))
+    number-first 8 _ a u (128 + 24 * w + 16) _ (omega arith)
+    ∙ ap (λ (d : List ℕ). putNumber 8 d (128 + 24 * w + 16) (lessOne (r .count)))
+    (number-first 8 _ a u (128 + 24 * w + 8) _ (omega arith)
+    ∙ ap (λ (d : List ℕ). putNumber 8 d (128 + 24 * w + 8) (r .first))
+    (number-first 8 _ a u (128 + 24 * w) _ (omega arith)
+    ∙ ap (λ (d : List ℕ). putNumber 8 d (128 + 24 * w) (r .home)) (number-first 1 s a u (104 + w) _ (omega arith))))
 
 module _ (s : List ℕ) (w : ℕ) (r : Writer) (v : ℕ) where
   pub setNext-writer : setNext (setWriter s w r) v ≡ setWriter (setNext s v) w r

@@ -77,7 +77,7 @@ pub fn usage(lent: &Lent) -> Usage {
     let mut live: u64 = list.iter().map(|transaction| transaction.entries.len() as u64).sum();
     let (mut holder, mut first) = (8, 0);
     for writer in (0..8).filter(|&writer| mode_of(s, writer) == 3) {
-        let (from, count) = (number(s, 144 + 96 * writer), number(s, 152 + 96 * writer));
+        let (from, count) = (number(s, 136 + 24 * writer), number(s, 144 + 24 * writer) + 1);
         live += count;
         if holder == 8 || from < first {
             (holder, first) = (writer as u64, from);
@@ -97,8 +97,8 @@ pub fn in_order(lent: &Lent) -> bool {
     let (last, round) = (big(s, 64) - 1, big(s, 88) - 1);
     let position = 7 * next + filled;
     let writer = |w: usize| {
-        let r = 128 + 96 * w;
-        let (mode, home, first, count) = (mode_of(s, w), big(s, r + 8), big(s, r + 16), big(s, r + 24));
+        let r = 128 + 24 * w;
+        let (mode, home, first, count) = (mode_of(s, w), big(s, r), big(s, r + 8), big(s, r + 16) + 1);
         let holds = mode == 2 || mode == 3;
         let in_range = 7 * start <= first && first < position;
         mode <= 3
@@ -117,7 +117,7 @@ pub fn in_order(lent: &Lent) -> bool {
         && settled <= fenced
         && fenced <= 7 * next
         && durable <= fenced
-        && (last == -1 || (7 * start <= last && last < position))
+        && (last < 7 * start || last < position)
         && (round == -1 || (settled <= round && round <= fenced))
         && (0..8).all(writer)
         && promised(s) <= places(s)
@@ -233,6 +233,9 @@ fn open(before: &Lent, after: &mut Lent) -> Outcome {
         put(&mut after.state, at, 7 * new_start);
     }
     after.state[896..928].fill(255);
+    if shape.homes >= 12 {
+        put(&mut after.state, 928, if after.data[512..768] == [0; 256] { 1 } else { 2 });
+    }
     after.newest.fill(255);
     Ok((list.len() as u64, batch))
 }
@@ -300,7 +303,7 @@ fn trim(before: &Lent, after: &mut Lent) -> Outcome {
     let (start, _, list) = live(before);
     let state = &before.state;
     let logging = (0..8).filter(|&writer| mode_of(state, writer) == 3);
-    let firsts: Vec<u64> = logging.map(|writer| number(state, 144 + 96 * writer)).collect();
+    let firsts: Vec<u64> = logging.map(|writer| number(state, 136 + 24 * writer)).collect();
     let new_start = trim_start(&list, start, number(state, 40), &firsts);
     if new_start > 1 << 47 {
         return Err(10);
@@ -337,7 +340,7 @@ fn keep(after: &mut Lent, start: u64, first: u64, closing: u64) {
 
 fn read(before: &Lent, after: &mut Lent, writer: u64, home: u64) -> Outcome {
     let (start, next, _) = live(before);
-    let record = 128 + 96 * writer as usize;
+    let (record, held) = (128 + 24 * writer as usize, 320 + 64 * writer as usize);
     let mode = mode_of(&before.state, writer as usize);
     let mut block = before.data[64 * home as usize..64 * home as usize + 64].to_vec();
     let found = present(&before.log, shape(before).homes, start, Some(next));
@@ -345,15 +348,15 @@ fn read(before: &Lent, after: &mut Lent, writer: u64, home: u64) -> Outcome {
         block = kept.block.clone();
     }
     if mode == 3 {
-        let first = big(&before.state, record + 16);
+        let first = big(&before.state, record + 8);
         for entry in found.values() {
             if entry.first == first && entry.home == home {
                 block = entry.block.clone();
             }
         }
     }
-    if mode >= 2 && number(&before.state, record + 8) == home {
-        block = before.state[record + 32..record + 96].to_vec();
+    if mode >= 2 && number(&before.state, record) == home {
+        block = before.state[held..held + 64].to_vec();
     }
     after.block = block;
     Ok((0, Vec::new()))

@@ -20,10 +20,11 @@ pub fn format(before: &Lent, after: &mut Lent) -> Outcome {
     Ok((0, batch))
 }
 
+/// Home, first position and the entries logged after the first.
 fn put_record(after: &mut Lent, writer: u64, mode: u8, numbers: [u64; 3]) {
     after.state[104 + writer as usize] = mode;
     for (index, value) in numbers.into_iter().enumerate() {
-        put(&mut after.state, 136 + 96 * writer as usize + 8 * index, value);
+        put(&mut after.state, 128 + 24 * writer as usize + 8 * index, value);
     }
 }
 
@@ -34,9 +35,9 @@ fn put_promise(after: &mut Lent, writer: u64, places: u64) {
 }
 
 pub fn writer_call(kind: Kind, writer: u64, home: u64, before: &Lent, after: &mut Lent) -> Outcome {
-    let record = 128 + 96 * writer as usize;
+    let record = 128 + 24 * writer as usize;
     let mode = mode_of(&before.state, writer as usize);
-    let [held, first, count] = [8, 16, 24].map(|at| number(&before.state, record + at));
+    let [held, first, more] = [0, 8, 16].map(|at| number(&before.state, record + at));
     match kind {
         Kind::Begin | Kind::Reserve if mode != 0 => return Err(6),
         Kind::Reserve => {
@@ -66,12 +67,13 @@ pub fn writer_call(kind: Kind, writer: u64, home: u64, before: &Lent, after: &mu
             } else if held != home {
                 let (position, bytes) = log_held(writer, false, before, after)?;
                 batch = bytes;
-                let logged = if mode == 3 { [first, count + 1] } else { [position, 1] };
+                let logged = if mode == 3 { [first, more + 1] } else { [position, 0] };
                 put_record(after, writer, 3, [home, logged[0], logged[1]]);
                 let left = (promise(&before.state, writer as usize) - 1).max(0);
                 put_promise(after, writer, left as u64);
             }
-            after.state[record + 32..record + 96].copy_from_slice(&block);
+            let block_at = 320 + 64 * writer as usize;
+            after.state[block_at..block_at + 64].copy_from_slice(&block);
             return Ok((0, batch));
         }
     }
@@ -87,19 +89,19 @@ fn end(after: &mut Lent, writer: u64) {
 /// Logs the held block; gives its position and the batch.
 fn log_held(writer: u64, closing: bool, before: &Lent, after: &mut Lent) -> Outcome {
     let state = &before.state;
-    let record = 128 + 96 * writer as usize;
+    let (record, held) = (128 + 24 * writer as usize, 320 + 64 * writer as usize);
     let groups = shape(before).groups;
-    let (next, filled, last) = (number(state, 24), number(state, 32), number(state, 64));
+    let (start, next, filled, last) = (number(state, 16), number(state, 24), number(state, 32), number(state, 64));
     if promise(state, writer as usize) == 0 && places(state) <= promised(state) {
         return Err(8);
     }
     let position = 7 * next + filled;
     let logging = mode_of(state, writer as usize) == 3;
-    let first = if logging { number(state, record + 16) } else { position };
-    let mut tag = 1 + 4 * number(state, record + 8) + (1 << 14) * (position - first);
+    let first = if logging { number(state, record + 8) } else { position };
+    let mut tag = 1 + 4 * number(state, record) + (1 << 14) * (position - first);
     if closing {
-        let link = if last == 0 { 0 } else { position - (last - 1) };
-        let count = 1 + if logging { number(state, record + 24) } else { 0 };
+        let link = if last <= 7 * start { 0 } else { position - (last - 1) };
+        let count = 1 + if logging { number(state, record + 16) + 1 } else { 0 };
         tag += 2 + (1 << 27) * link + (1 << 40) * count;
     }
     let from = 64 + 512 * (next % groups) as usize;
@@ -113,9 +115,9 @@ fn log_held(writer: u64, closing: bool, before: &Lent, after: &mut Lent) -> Outc
         }
     }
     let place = filled as usize;
-    let last = state[record + 95];
+    let last = state[held + 63];
     put(group, 8 + 8 * place, tag + (1 << 57) * u64::from(last / 128));
-    group[64 + 64 * place..128 + 64 * place].copy_from_slice(&state[record + 32..record + 96]);
+    group[64 + 64 * place..128 + 64 * place].copy_from_slice(&state[held..held + 64]);
     group[127 + 64 * place] = last % 128 + 128 * turn;
     let mut batch = Vec::new();
     put(&mut after.state, 32, filled + 1);

@@ -1,7 +1,8 @@
 -- `answers::in_use` meets its contract: each return follows the tests that led to it. Assumes nothing.
+use mathlib.Core.Path.{refl}
 use native.Mathlib.Omega.{arith}
 use lib.ListN.{length}
-use Rattle.answers.proofs.LengthTests.{sizes, state-lengths-no, state-told, state-order-no, state-all}
+use Rattle.answers.proofs.LengthTests.{sizes, state-lengths-no, state-order-no, state-all}
 use borrow.Author.Needs.{needs}
 use Rattle.answers.proofs.in_use.Statement.{statement}
 use Rattle.answers.proofs.in_use.Tie as tie
@@ -27,24 +28,23 @@ quick-answer-requires c κs =
 returns-2 : tie.Need-returns-2
 returns-2 c =
     let k = c .before .before .before in
-    state-told _ _ _ _ _ (k .before .before .lengths-right .ensures) (k .before .if1 .left) (k .log-groups .ensures)
+    state-all _ _ _ _ _ _ (k .before .before .lengths-right .ensures) (k .before .if1 .left) (k .log-groups .ensures)
     (c .before .before .data-homes .ensures)
-    (c .before .quick-answer .ensures .0 (c .if2 .taken))
+    (c .before .quick-answer .ensures (c .if2 .taken)) refl
 
-rest-in-order-requires : tie.Need-rest-in-order-requires
-rest-in-order-requires c κs =
+whole-in-order-requires : tie.Need-whole-in-order-requires
+whole-in-order-requires c κs =
     let k = c .before .before in
     let a = k .before .before .before .before .before .before .before .args in
     let s = sizes (length (a .log .now)) (length (a .area .now)) (length (a .state .now)) _ (k .before .before .before .lengths-right .ensures) (k .before .before .if1 .left) in
-    let q = c .before .quick-answer .ensures .1 (c .if2 .left) in
-    (s .state-length, q .0 .in-order, q .1)
+    omega arith
 
 returns-3 : tie.Need-returns-3
 returns-3 c =
     let k = c .before .before .before .before .before in
     state-order-no _ _ _ _ _ _ (k .before .before .lengths-right .ensures) (k .before .if1 .left) (k .log-groups .ensures)
     (c .before .before .before .before .data-homes .ensures)
-    (c .before .rest-in-order .ensures _ _ (c .before .before .before .quick-answer .ensures .1 (c .before .before .if2 .left) .0))
+    (c .before .whole-in-order .ensures)
     (c .if3 .taken)
 
 returns-4 : tie.Need-returns-4
@@ -52,7 +52,7 @@ returns-4 c =
     let k = c .before .before .before .before .before in
     state-all _ _ _ _ _ _ (k .before .before .lengths-right .ensures) (k .before .if1 .left) (k .log-groups .ensures)
     (c .before .before .before .before .data-homes .ensures)
-    (c .before .rest-in-order .ensures _ _ (c .before .before .before .quick-answer .ensures .1 (c .before .before .if2 .left) .0))
+    (c .before .whole-in-order .ensures)
     (c .if3 .left)
 
 pub in-use-spec : {M : Type 1} → statement M
@@ -65,6 +65,6 @@ in-use-spec =
     data-homes-requires
     quick-answer-requires
     returns-2
-    rest-in-order-requires
+    whole-in-order-requires
     returns-3
     returns-4)

@@ -1,7 +1,8 @@
 -- `answers::in_use_block` meets its contract: each return follows the tests that led to it. Assumes nothing.
+use mathlib.Core.Path.{refl}
 use native.Mathlib.Omega.{arith}
 use lib.ListN.{length}
-use Rattle.answers.proofs.LengthTests.{sizes, block-lengths-no, block-length-no, block-told, block-order-no, block-all}
+use Rattle.answers.proofs.LengthTests.{sizes, block-lengths-no, block-length-no, block-order-no, block-all}
 use borrow.Author.Needs.{needs}
 use Rattle.answers.proofs.in_use_block.Statement.{statement}
 use Rattle.answers.proofs.in_use_block.Tie as tie
@@ -30,18 +31,17 @@ quick-answer-requires c κs =
 returns-3 : tie.Need-returns-3
 returns-3 c =
     let k = c .before .before .before in
-    block-told _ _ _ _ _ (k .before .before .before .lengths-right .ensures) (k .before .before .if1 .left) (k .before .if2 .left)
+    block-all _ _ _ _ _ _ (k .before .before .before .lengths-right .ensures) (k .before .before .if1 .left) (k .before .if2 .left)
     (k .log-groups .ensures)
     (c .before .before .data-homes .ensures)
-    (c .before .quick-answer .ensures .0 (c .if3 .taken))
+    (c .before .quick-answer .ensures (c .if3 .taken)) refl
 
-rest-in-order-requires : tie.Need-rest-in-order-requires
-rest-in-order-requires c κs =
+whole-in-order-requires : tie.Need-whole-in-order-requires
+whole-in-order-requires c κs =
     let k = c .before .before in
     let a = k .before .before .before .before .before .before .before .before .before .args in
     let s = sizes (length (a .log .now)) (length (a .area .now)) (length (a .state .now)) _ (k .before .before .before .before .lengths-right .ensures) (k .before .before .before .if1 .left) in
-    let q = c .before .quick-answer .ensures .1 (c .if3 .left) in
-    (s .state-length, q .0 .in-order, q .1)
+    omega arith
 
 returns-4 : tie.Need-returns-4
 returns-4 c =
@@ -49,7 +49,7 @@ returns-4 c =
     block-order-no _ _ _ _ _ _ (k .before .before .before .lengths-right .ensures) (k .before .before .if1 .left) (k .before .if2 .left)
     (k .log-groups .ensures)
     (c .before .before .before .before .data-homes .ensures)
-    (c .before .rest-in-order .ensures _ _ (c .before .before .before .quick-answer .ensures .1 (c .before .before .if3 .left) .0))
+    (c .before .whole-in-order .ensures)
     (c .if4 .taken)
 
 returns-5 : tie.Need-returns-5
@@ -58,7 +58,7 @@ returns-5 c =
     block-all _ _ _ _ _ _ (k .before .before .before .lengths-right .ensures) (k .before .before .if1 .left) (k .before .if2 .left)
     (k .log-groups .ensures)
     (c .before .before .before .before .data-homes .ensures)
-    (c .before .rest-in-order .ensures _ _ (c .before .before .before .quick-answer .ensures .1 (c .before .before .if3 .left) .0))
+    (c .before .whole-in-order .ensures)
     (c .if4 .left)
 
 pub in-use-block-spec : {M : Type 1} → statement M
@@ -72,6 +72,6 @@ in-use-block-spec =
     data-homes-requires
     quick-answer-requires
     returns-3
-    rest-in-order-requires
+    whole-in-order-requires
     returns-4
     returns-5)

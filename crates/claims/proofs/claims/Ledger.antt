@@ -410,7 +410,7 @@ unfolding ends openCall nothing
 open-agrees w state newest batch tasks h x l =
     let g = loaded w state newest batch in
     let e : Effect = openEffect g in
-    rw (state-done (openCall g) g (openAnswer g (openStart g) (sizeOf e)) e refl h) (unfold openEffect in (promise-fresh _ _ _ x l ∙ omega arith))
+    rw (state-done (openCall g) g (openAnswer g (openStart g) (sizeOf e)) e refl h) (unfold openEffect in (promise-fresh _ _ _ _ x l ∙ omega arith))
 
 opening-agrees : (granted : ℕ → ℕ) (w : World) (c : Call) → isOpening c ≡ true → ends w c .code ≡ 0 → Ledger (grantDone granted c) (afterDone w c (ends w c))
 unfolding isOpening grantDone afterDone

@@ -23,7 +23,7 @@ use Rattle.laws.proofs.strip.WriterLaws.{length-setWriter}
 use Rattle.laws.proofs.strip.PromiseLaws.{length-setPromise}
 use Rattle.laws.proofs.strip.NewestLaws.{length-entries, length-forget, kept-nothing}
 use Rattle.laws.proofs.strip.ListedLaws.{listed-setNext, listed-setFilled, listed-setSettled, listed-setFenced, listed-setDurable, listed-setRound, listed-setCursor, listed-setWriter, listed-setHeld, listed-setPromise, listed-ones, listed-carry}
-use Rattle.laws.proofs.strip.SignLaws.{listed-keepList}
+use Rattle.laws.proofs.strip.SignLaws.{listed-keepList, listed-fresh}
 use Rattle.laws.proofs.strip.QuestionLaws.{begin-ready, reserve-ready, abort-ready, store-ready, commit-ready}
 use Rattle.claims.proofs.invariant.Invariant.{Sizes, Running, Closed, Invariant}
 use Rattle.claims.proofs.invariant.LiveLog.{lent-homes}
@@ -286,7 +286,7 @@ opened-listed G D w c state newest batch h m i k =
     let a : ends w (opening state newest batch) .state ≡ openEffect g .state =
     unfold ends openCall in state-done (openCall g) g (openAnswer g (openStart g) (sizeOf (openEffect g))) (openEffect g) refl h in
     rw (open-newest w state newest batch h, e, kept-nothing D (listHome + i) (omega arith), a)
-    (unfold openEffect freshState freshNumbers in listed-ones _ i (simp (length-laws, length-zeros)) k)
+    (unfold openEffect in listed-fresh _ _ _ _ i k)
 
 -- ---- every event
 

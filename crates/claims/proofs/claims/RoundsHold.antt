@@ -9,6 +9,7 @@ use lib.Dec.{leb}
 use lib.ListN.{length, take}
 use lib.Seq.{take-all}
 use borrow.Author.Tests.{leb-true, leb-false}
+use Rattle.model.specs.Rights.{openSign}
 use Rattle.model.specs.Layout.{homeAt}
 use Rattle.model.specs.State.{stateOf, fixedIn, freshState}
 use Rattle.model.specs.declared.State.{State}
@@ -171,7 +172,7 @@ module _ (G D : ℕ) (z : Sizes G D) (w : World) (c : Closed G D w) (state newes
   abbrev b : ℕ
   b = newStart G D z (w .memory) (homesAfter D (w .book .commits)) (c .opens)
 
-  opened-state : ends w (opening state newest batch) .state ≡ freshState G D b
+  opened-state : ends w (opening state newest batch) .state ≡ freshState G D b (openSign D (homesAfter D (w .book .commits)))
   unfolding ends openCall
   opened-state =
       let g : Given = loaded w state newest batch in
@@ -182,7 +183,7 @@ module _ (G D : ℕ) (z : Sizes G D) (w : World) (c : Closed G D w) (state newes
   round-ended =
       ap (λ (x : List ℕ). stateOf x .round) opened-state
       ∙ ap (λ (x : State). x .round)
-      (state-fresh G D b (omega (arith, z .high)) (omega (arith, z .homes)) (omega (arith, z .high, c .opens .start)))
+      (state-fresh G D b _ (omega (arith, z .high)) (omega (arith, z .homes)) (omega (arith, z .high, c .opens .start)))
 
 module _ (G D : ℕ) (z : Sizes G D) where
   opening-raises : (w : World) (k : Closed G D w) (c : Call) → isOpening c ≡ true → ends w c .code ≡ 0 → Raises w c (ends w c)

@@ -1,5 +1,5 @@
 -- The sign of the list of rights says nothing false of the list as the book has it: a commit that changes a position of the list's homes sets it by the
--- list as it is then, one that changes none leaves the list, an opening leaves no sign, and no other call changes either. Assumes nothing.
+-- list as it is then, one that changes none leaves the list, an opening sets it by the homes that it brings back, and no other call changes either. Assumes nothing.
 use Prim.Native.Nat.{ℕ, _+_, _*_, _≤_, _<_}
 use mathlib.Core.Path.{_≡_, refl, sym, ap, _∙_, subst}
 use mathlib.Core.Logic.{inl, inr}
@@ -9,7 +9,7 @@ use native.Mathlib.Omega.{arith}
 use lib.Dec.{eqb, leb}
 use lib.ListN.{length, replicate, length-replicate}
 use borrow.Author.Tests.{leb-false}
-use Rattle.model.specs.Bytes.{part}
+use Rattle.model.specs.Bytes.{part, zeros}
 use Rattle.model.specs.State.{stateOf, setStart, setLast, setFenced, setWriter, setPromise, nextPosition, writerOf, idle, holds, listHome, listedOf, listSign, freshNumbers, freshState}
 use Rattle.model.specs.Newest.{keptFor, forget}
 use Rattle.model.specs.Effects.{Given, Effect, homes, newState, openEffect, openStart, abortEffect, commitHeld, commitEffect, keptCommit, logClosing, trimStart, trimTo, trimEffect}
@@ -23,10 +23,11 @@ use Rattle.laws.proofs.bytes.ByteLaws.{length-zeros, number-above}
 use Rattle.laws.proofs.strip.StateLaws.{length-laws}
 use Rattle.laws.proofs.strip.ListedLaws.{listed-setStart, listed-setFenced, listed-setLast, listed-setWriter, listed-setPromise}
 use Rattle.laws.proofs.strip.NewestLaws.{length-entries, length-forget}
-use Rattle.laws.proofs.strip.SignLaws.{sign-fresh, sign-listed, sign-carry, sign-stays, sign-moves, none-moved, list-numbers, sign-faithful, sign-none, state-keepList}
+use Rattle.laws.proofs.strip.SignLaws.{sign-fresh, sign-listed, sign-carry, sign-stays, sign-moves, none-moved, list-numbers, sign-faithful, state-keepList}
 use Rattle.claims.proofs.invariant.Invariant.{Sizes, Running, Closed, Invariant}
 use Rattle.claims.proofs.invariant.LiveLog.{lent-homes}
 use Rattle.claims.proofs.steps.DoneLaws.{after}
+use Rattle.claims.proofs.steps.OpenStep.{open-effect, homes-owed}
 use Rattle.claims.proofs.steps.NumberRuns.{owed-writes}
 use Rattle.claims.proofs.steps.NewestSteps.{Quiet, newest-length}
 use Rattle.claims.proofs.steps.StoreCommit.{left-by, c-state-is, left-size, commit-held-runs, commit-older}
@@ -204,31 +205,36 @@ module _ (G D : ℕ) (z : Sizes G D) (w : World) (r : Running G D w) (s : Store)
   done-signed (change c) e h = change-signed c h
   done-signed (service c) e h = service-signed c h
 
--- ---- an opening leaves no sign
+-- ---- an opening sets the sign by the homes that it brings back
 
-opened-signed : (D : ℕ) (w : World) (state newest batch : List ℕ) → ends w (opening state newest batch) .code ≡ 0
+opened-signed : (G D : ℕ) (z : Sizes G D) (w : World) → Closed G D w → (state newest batch : List ℕ) → ends w (opening state newest batch) .code ≡ 0
     → Signed D (afterDone w (opening state newest batch) (ends w (opening state newest batch)))
-unfolding afterDone
-opened-signed D w state newest batch h m =
+unfolding afterDone feed withCommits homesAfter
+opened-signed G D z w c state newest batch h m =
     let g : Given = loaded w state newest batch in
     let e : ends w (opening state newest batch) .state ≡ openEffect g .state =
     unfold ends openCall in state-done (openCall g) g (openAnswer g (openStart g) (sizeOf (openEffect g))) (openEffect g) refl h in
-    sign-none _ _ (ap listSign e ∙ (unfold openEffect in sign-fresh _ _ _))
+    let list : List ℕ = part (homesAfter D (w .book .commits)) (64 * listHome) 256 in
+    let f : listSign (ends w (opening state newest batch) .state) ≡ signFor list =
+    ap listSign (e ∙ ap (λ (x : Effect). x .state) (open-effect G D z w c state newest batch)) ∙ sign-fresh _ _ _ _ m in
+    let k : Faithful (listSign (ends w (opening state newest batch) .state)) list =
+    subst (λ (n : ℕ). Faithful n list) (sym f) (sign-faithful list) in
+    rw (homes-owed (w .book .commits) (zeros (64 * D))) k
 
 -- ---- every event
 
 module _ (G D : ℕ) (z : Sizes G D) where
-  opening-signed : (w : World) → (c : Call) → isOpening c ≡ true → ends w c .code ≡ 0 → Signed D (afterDone w c (ends w c))
+  opening-signed : (w : World) → Closed G D w → (c : Call) → isOpening c ≡ true → ends w c .code ≡ 0 → Signed D (afterDone w c (ends w c))
   unfolding isOpening
-  opening-signed w (opening state newest batch) e f = opened-signed D w state newest batch f
-  opening-signed w confirm e f = absurd (false≢true e)
-  opening-signed w (change c) e f = absurd (false≢true e)
-  opening-signed w (service c) e f = absurd (false≢true e)
+  opening-signed w i (opening state newest batch) e f = opened-signed G D z w i state newest batch f
+  opening-signed w i confirm e f = absurd (false≢true e)
+  opening-signed w i (change c) e f = absurd (false≢true e)
+  opening-signed w i (service c) e f = absurd (false≢true e)
 
   pub signed-keeps : (w : World) → Invariant G D w → Kept-along G D w → (w .ready ≡ true → Listed D (w .state) (w .newest)) → (w .ready ≡ true → Signed D w)
       → (e : Event) → Allowed w e → (step w e .ready ≡ true → Signed D (step w e))
   signed-keeps w (inl c) k l p (call c₀) h =
-      step-by (λ u. u .ready ≡ true → Signed D u) w c₀ p (λ e q. opening-signed w c₀ (h ∙ ap not (c .ready)) e)
+      step-by (λ u. u .ready ≡ true → Signed D u) w c₀ p (λ e q. opening-signed w c c₀ (h ∙ ap not (c .ready)) e)
   signed-keeps w (inr r) k l p (call c) h =
       step-by (λ u. u .ready ≡ true → Signed D u) w c p
       (λ e q. done-signed G D z w r (k .0) (k .1) (k .2 (r .ready)) (l (r .ready)) (p (r .ready)) c (h ∙ ap not (r .ready)) e)

@@ -8,6 +8,7 @@ use native.Mathlib.Omega.{arith}
 use lib.Dec.{eqb, leb, ltb}
 use lib.ListN.{length, getD}
 use borrow.Author.Tests.{leb-true, ltb-true, eqb-true, eqb-false, le-leb, lt-leb, ne-eqb}
+use Rattle.model.specs.Rights.{openSign}
 use Rattle.model.specs.Tag.{entryWord, closingWord}
 use Rattle.model.specs.Layout.{groupsIn, homesIn, headerStart}
 use Rattle.model.specs.State.{stateOf, setStart, setNext, setFilled, setFenced, setSettled, setLast, setDurable, nextPosition, promiseOf, setPromise, promised, promiseLeft, places, freePlaces, writerOf, setWriter, heldOf, setHeld, freshState, idle, begun, holding, logging, holds, firstFor, countFor}
@@ -692,7 +693,7 @@ module _ (G D : ℕ) (z : Sizes G D) (w : World) (c : Closed G D w) (s : Store) 
   opened-small =
       subst (λ (x : ℕ). x ≤ 2 ^ 47) opened-start (start-small (openStart g) (open-ready g (openStart g) (sizeOf (openEffect g)) opened-zero .2))
 
-  opened-state : ends w (opening state newest batch) .state ≡ freshState G D b
+  opened-state : ends w (opening state newest batch) .state ≡ freshState G D b (openSign D (homesAfter D (w .book .commits)))
   unfolding ends openCall
   opened-state =
       done-state _ g (openAnswer g (openStart g) (sizeOf (openEffect g))) (openEffect g) refl h
@@ -706,7 +707,7 @@ module _ (G D : ℕ) (z : Sizes G D) (w : World) (c : Closed G D w) (s : Store) 
   unfolding store.afterDone
   opened-numbers =
       let m : b ≤ 2 ^ 47 = opened-small in
-      rw (opened-state, state-fresh G D b (omega (arith, z .high)) (omega (arith, z .homes)) (omega arith))
+      rw (opened-state, state-fresh G D b _ (omega (arith, z .high)) (omega (arith, z .homes)) (omega arith))
       (unfold inRound numbered in
       (record {
         start = opened-first;
@@ -735,7 +736,7 @@ module _ (G D : ℕ) (z : Sizes G D) (w : World) (c : Closed G D w) (s : Store) 
         book = unfold store.afterDone inRound numbered in ap (λ (x : Book). feed x (opening state newest batch) (ends w (opening state newest batch) .figure)) (a .book);
         numbers = λ k. opened-numbers;
         newest = λ k. opened-newest;
-        promises = λ k x l. unfold store.afterDone inRound numbered in sym (ap (λ (t : List ℕ). promiseOf t x) opened-state ∙ promise-fresh G D b x l);
+        promises = λ k x l. unfold store.afterDone inRound numbered in sym (ap (λ (t : List ℕ). promiseOf t x) opened-state ∙ promise-fresh G D b _ x l);
       }
 
 -- ---- a call, done or refused

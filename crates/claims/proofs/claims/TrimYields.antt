@@ -235,13 +235,9 @@ module _ (G D : ℕ) (z : Sizes G D) (w : World) (r : Running G D w) where
       last = cond (leb (st .last) (7 * s)) 0 (st .last)
 
       strip-last : st .last < 2 ^ 64
-      strip-last = by (r .copies .order .last-closing)
-        where
-          by : (st .last ≡ 0) ⊎ ((7 * st .start < st .last) × (st .last ≤ nextPosition st)) → st .last < 2 ^ 64
-          by (inl h) = omega arith
-          by (inr h) =
-              let q : nextPosition st ≡ 7 * st .next + st .filled = unfold nextPosition in refl in
-              omega (arith, small, r .copies .order .filled-most)
+      strip-last =
+          let q : nextPosition st ≡ 7 * st .next + st .filled = unfold nextPosition in refl in
+          omega (arith, small, r .copies .order .filled-most, r .copies .order .last-closing)
 
       either : (d : Bool) → cond d 0 (st .last) < 2 ^ 64
       either true = omega arith

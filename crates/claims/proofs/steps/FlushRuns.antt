@@ -204,11 +204,6 @@ module _ (G D : ℕ) (z : Sizes G D) (w : World) (r : Running G D w) (part : 0 <
   unfolding nextPosition
   further = omega (arith, c .order .filled-most)
 
-  later : (st .last ≡ 0) ⊎ ((7 * st .start < st .last) × (st .last ≤ nextPosition st))
-      → (st .last ≡ 0) ⊎ ((7 * st .start < st .last) × (st .last ≤ nextPosition (withFilled (withNext st n₁) 0)))
-  later (inl h) = inl h
-  later (inr h) = inr (h .0, omega (arith, further))
-
   copies₁ : Copies G D b tr₁ w₁
   unfolding submit
   copies₁ =
@@ -230,7 +225,7 @@ module _ (G D : ℕ) (z : Sizes G D) (w : World) (r : Running G D w) (part : 0 <
           settled-fenced = rw numbers₁ (o .settled-fenced);
           fenced-next = rw numbers₁ (omega (arith, o .fenced-next));
           durable-fenced = rw numbers₁ (o .durable-fenced);
-          last-closing = rw numbers₁ (later (o .last-closing));
+          last-closing = rw numbers₁ (omega (arith, further, o .last-closing));
           round-settled = rw numbers₁ (o .round-settled);
           round-fenced = rw numbers₁ (o .round-fenced);
           promises = record {

@@ -8,7 +8,7 @@ use Prim.Native.Nat.{ℕ, zero, suc, _+_, _-_, _*_, _/_, _%_, _^_, _≤_, _<_}
 use native.Mathlib.Omega.{arith}
 use lib.ListN.{length}
 use lib.Dec.{eqb, leb}
-use borrow.Author.Tests.{eqb-true, eqb-false, eq-eqb, ne-eqb, le-leb, lt-leb}
+use borrow.Author.Tests.{eqb-true, eqb-false, eq-eqb, ne-eqb, le-leb, lt-leb, leb-true, leb-false}
 use Rattle.model.specs.State.{stateOf, nextPosition, writerOf, heldOf, hasLogged, firstFor, countFor}
 use Rattle.model.specs.declared.State.{State}
 use Rattle.model.specs.declared.Writer.{Writer}
@@ -105,18 +105,24 @@ last-closes (u ∷ []) t = refl
 last-closes (u ∷ x ∷ ts) t = last-closes (x ∷ ts) t
 
 -- the link of a commit logged at p
-pub link-ok : (start p : ℕ) (st : State) (ts : List (List ℕ)) (low high : ℕ) → Rising low high ts → high ≤ p → LastOk start (st .last) (lastCloser ts)
-    → LinkOk (7 * start) (lastFrom none ts) p (linkFrom p st)
+pub link-ok : (p : ℕ) (st : State) (ts : List (List ℕ)) (low high : ℕ) → Rising low high ts → high ≤ p → LastOk (st .start) (st .last) (lastCloser ts)
+    → LinkOk (7 * st .start) (lastFrom none ts) p (linkFrom p st)
 unfolding linkFrom
-link-ok start p st ts low high r l o = go (lastFrom none ts) refl (below-last low high none ts tt r) o
+link-ok p st ts low high r l o =
+    go (lastFrom none ts) (leb (st .last) (7 * st .start)) refl refl (below-last low high none ts tt r) o
   where
-    go : (prev : Option ℕ) → lastFrom none ts ≡ prev → Below high prev → LastOk start (st .last) (lastCloser ts)
-        → LinkOk (7 * start) prev p (cond (eqb (st .last) 0) 0 (p + 1 - st .last))
-    go none e b (inl k) = inl (rw (eq-eqb (st .last) 0 (k ∙ last-none ts e)))
-    go none e b (inr k) = inl (rw (eq-eqb (st .last) 0 (k .0)))
-    go (some q) e b (inl k) =
+    go : (prev : Option ℕ) (t : Bool) → lastFrom none ts ≡ prev → leb (st .last) (7 * st .start) ≡ t → Below high prev
+        → LastOk (st .start) (st .last) (lastCloser ts) → LinkOk (7 * st .start) prev p (cond t 0 (p + 1 - st .last))
+    go none true e t b k = inl refl
+    go none false e t b (inl k) = absurd (omega (arith, leb-false (st .last) (7 * st .start) t, k ∙ last-none ts e))
+    go none false e t b (inr k) = absurd (omega (arith, leb-false (st .last) (7 * st .start) t, k .0))
+    go (some q) true e t b (inl k) =
         let f : st .last ≡ q + 1 = k ∙ last-is ts q e in
-        rw (ne-eqb (st .last) 0 (λ z. omega arith)) ((λ c. omega arith), (λ c. inr (omega arith)))
-    go (some q) e b (inr k) =
+        ((λ c. absurd (omega (arith, leb-true (st .last) (7 * st .start) t))), (λ c. inl refl))
+    go (some q) false e t b (inl k) =
+        let f : st .last ≡ q + 1 = k ∙ last-is ts q e in
+        ((λ c. omega arith), (λ c. absurd (omega (arith, leb-false (st .last) (7 * st .start) t))))
+    go (some q) true e t b (inr k) =
         let f = last-is ts q e in
-        rw (eq-eqb (st .last) 0 (k .0)) ((λ c. absurd (omega arith)), (λ c. inl refl))
+        ((λ c. absurd (omega arith)), (λ c. inl refl))
+    go (some q) false e t b (inr k) = absurd (omega (arith, leb-false (st .last) (7 * st .start) t, k .0))

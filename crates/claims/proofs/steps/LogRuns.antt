@@ -142,7 +142,7 @@ pub copies-logged : (G D b : ℕ) (tr : List Ev) (w u : World) (v : ℕ) (e : Ev
     → Apart (7 * stateOf (w .state) .start) (hist (7 * b) (e ∷ tr) .done)
     → Linked (7 * stateOf (w .state) .start) (tagAt (7 * b) (e ∷ tr)) none (hist (7 * b) (e ∷ tr) .done)
     → LastOk (stateOf (w .state) .start) last (lastCloser (hist (7 * b) (e ∷ tr) .done))
-    → (last ≡ 0) ⊎ ((7 * stateOf (w .state) .start < last) × (last ≤ nextPosition (stateOf (w .state)) + 1))
+    → last ≤ nextPosition (stateOf (w .state)) + 1
     → Copies G D b (e ∷ tr) u
 copies-logged G D b tr w u v e t last z c l room us who sd a size ow oh wo pr tk eh el ea tv to er ef eh′ ap′ ln lo lc =
     let st = stateOf (w .state) in
@@ -170,7 +170,7 @@ copies-logged G D b tr w u v e t last z c l room us who sd a size ow oh wo pr tk
         settled-fenced = omega (arith, a .settled, a .fenced, o .settled-fenced);
         fenced-next = ⊎-elim (λ h. omega (arith, a .fenced, o .fenced-next)) (λ h. omega (arith, a .fenced, o .fenced-next)) (a .moved);
         durable-fenced = omega (arith, a .durable, a .fenced, o .durable-fenced);
-        last-closing = ⊎-elim (λ h. inl (a .last ∙ h)) (λ h. inr (omega (arith, a .start, a .last), omega (arith, a .last, p))) lc;
+        last-closing = omega (arith, a .last, p, lc);
         round-settled = λ h. let k = o .round-settled (omega (arith, a .round)) in omega (arith, a .round, a .settled);
         round-fenced = omega (arith, a .round, a .fenced, o .round-fenced);
         promises = pr;

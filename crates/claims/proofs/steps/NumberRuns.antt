@@ -57,7 +57,7 @@ promises-renumber s t p n ew ep =
 
 pub order-renumber : (G D : ℕ) (s t : List ℕ) → InOrder s G D → Renumbered (stateOf s) (stateOf t) → ((x : ℕ) → x < 8 → writerOf t x ≡ writerOf s x)
     → ((x : ℕ) → x < 8 → promiseOf t x ≡ promiseOf s x)
-    → (stateOf t .last ≡ 0) ⊎ ((7 * stateOf t .start < stateOf t .last) × (stateOf t .last ≤ nextPosition (stateOf s)))
+    → stateOf t .last ≤ nextPosition (stateOf s)
     → ((x : ℕ) → x < 8 → 3 ≤ writerOf s x .mode → 7 * stateOf t .start ≤ writerOf s x .first) → InOrder t G D
 order-renumber G D s t o n ew ep lc fs =
     let p : nextPosition (stateOf t) ≡ nextPosition (stateOf s) = unfold nextPosition in omega (arith, n .next, n .filled) in
@@ -73,7 +73,7 @@ order-renumber G D s t o n ew ep lc fs =
       settled-fenced = n .settled;
       fenced-next = omega (arith, n .fenced, n .next);
       durable-fenced = n .durable;
-      last-closing = ⊎-elim inl (λ h. inr (h .0, omega (arith, p))) lc;
+      last-closing = omega (arith, p, lc);
       round-settled = n .round-settled;
       round-fenced = n .round-fenced;
       promises = promises-renumber s t (o .promises) n ew ep;
@@ -88,7 +88,7 @@ order-renumber G D s t o n ew ep lc fs =
 pub copies-renumber : (G D b : ℕ) (tr : List Ev) (w u : World) → Copies G D b tr w → Renumbered (stateOf (w .state)) (stateOf (u .state))
     → length (u .state) ≡ 1024 → ((x : ℕ) → x < 8 → writerOf (u .state) x ≡ writerOf (w .state) x) → ((x : ℕ) → x < 8 → heldOf (u .state) x ≡ heldOf (w .state) x)
     → ((x : ℕ) → x < 8 → promiseOf (u .state) x ≡ promiseOf (w .state) x)
-    → (stateOf (u .state) .last ≡ 0) ⊎ ((7 * stateOf (u .state) .start < stateOf (u .state) .last) × (stateOf (u .state) .last ≤ nextPosition (stateOf (w .state))))
+    → stateOf (u .state) .last ≤ nextPosition (stateOf (w .state))
     → ((x : ℕ) → x < 8 → 3 ≤ writerOf (w .state) x .mode → 7 * stateOf (u .state) .start ≤ writerOf (w .state) x .first)
     → u .homes ≡ w .homes → length (u .log) ≡ length (w .log) → ((slot : ℕ) → groupAt (u .log) slot ≡ groupAt (w .log) slot) → length (u .area) ≡ length (w .area)
     → u .book .tasks ≡ w .book .tasks → u .book .rows ≡ w .book .rows → u .book .filled ≡ w .book .filled

@@ -10,6 +10,7 @@ use native.Mathlib.Omega.{arith}
 use lib.ListN.{length, drop}
 use lib.Dec.{leb}
 use borrow.Author.Tests.{leb-true}
+use Rattle.model.specs.Rights.{openSign}
 use Rattle.model.specs.Bytes.{part, puts, same}
 use Rattle.model.specs.Layout.{groupsIn, homesIn, headerStart, header, groupMark, groupAt, groupNumber, unusedGroup, emptyLog, homeAt}
 use Rattle.model.specs.Batch.{Record, KW, FN}
@@ -76,7 +77,7 @@ module _ (G D : ℕ) (z : Sizes G D) (w : World) (c : Closed G D w) where
   opens-with =
       record {
         figure = length (ts G D z m X o);
-        state = freshState G D b;
+        state = freshState G D b (openSign D X);
         newest = nothingKept D;
         log = emptyLog b G D;
         area = X;
@@ -255,9 +256,9 @@ module _ (G D : ℕ) (z : Sizes G D) (w : World) (c : Closed G D w) where
   fence-count = ap fences whole-batch ∙ fences-opening X (hs G D z m X o) (newHeader G D z m X o) blanks quiet
 
   -- the strip's numbers
-  numbers : stateOf (freshState G D b)
+  numbers : stateOf (freshState G D b (openSign D X))
       ≡ record { groups = G; homes = D; start = b; next = b; filled = 0; settled = 7 * b; fenced = 7 * b; durable = 7 * b; last = 0; round = 0; cursor = 0 }
-  numbers = state-fresh G D b (omega arith) (omega arith) (omega (arith, o .start))
+  numbers = state-fresh G D b (openSign D X) (omega arith) (omega arith) (omega (arith, o .start))
 
   wrote : groupWrites fenced ≡ b - b + G
   wrote =
@@ -277,10 +278,10 @@ module _ (G D : ℕ) (z : Sizes G D) (w : World) (c : Closed G D w) where
         commits = record { new = []; split = sym (append-nil old); past = past; matches = tt };
         copies = record {
           homes = c .homes;
-          stateSize = length-fresh G D b;
+          stateSize = length-fresh G D b (openSign D X);
           logSize = length-emptyLog b G D;
           areaSize = restored-size G D z m X o;
-          order = in-order (freshState G D b) G D (in-order-fresh G D b most (omega arith) (omega arith));
+          order = in-order (freshState G D b (openSign D X)) G D (in-order-fresh G D b (openSign D X) most (omega arith) (omega arith));
           from = omega (arith, ap (λ (s : State). s .start) numbers);
           position = rw numbers (unfold nextPosition in omega arith);
           sound = tt;
@@ -288,11 +289,11 @@ module _ (G D : ℕ) (z : Sizes G D) (w : World) (c : Closed G D w) where
           apart = tt;
           links = tt;
           last = inl (ap (λ (s : State). s .last) numbers ∙ (unfold lastCloser in refl));
-          tasks = λ v l. rw (writer-fresh G D b v l) (inl ((unfold idle in refl), c .tasks v));
+          tasks = λ v l. rw (writer-fresh G D b (openSign D X) v l) (inl ((unfold idle in refl), c .tasks v));
           rows = c .rows ∙ omega (arith, ap (λ (s : State). s .next) numbers);
           filled = c .filled ∙ sym (ap (λ (s : State). s .filled) numbers);
           settledHomes = λ h l.
-              ap (λ (a : List ℕ). homeAt a h) (homes-same ∙ sym (ap (homesAfter D) (closed-old D (settledFor (stateOf (freshState G D b)) h) old past)));
+              ap (λ (a : List ℕ). homeAt a h) (homes-same ∙ sym (ap (homesAfter D) (closed-old D (settledFor (stateOf (freshState G D b (openSign D X))) h) old past)));
         };
         submitted = record {
           fenced = fenced;

@@ -280,7 +280,7 @@ module _ (G D : ℕ) (z : Sizes G D) (w : World) (R : Running G D w) (v : ℕ) (
         (ap (λ (k : Book). k .tasks v) book-is ∙ task-here (filledUp (w .book)) v _)
         (λ x n. ap (λ (k : Book). k .tasks x) book-is ∙ task-other (filledUp (w .book)) v x _ n ∙ ap (λ (f : ℕ → Task). f x) (filled-tasks (w .book)))
         (ap (λ (k : Book). k .rows) book-is) (ap (λ (k : Book). k .filled) book-is) (λ bound h. rw commits-are) (rw done-is (c .apart)) links-are (rw done-is (c .last))
-        (⊎-elim inl (λ h. inr (h .0, omega arith)) (c .order .last-closing))
+        (omega (arith, c .order .last-closing))
 
     pending-is : u .pending ≡ w .pending ++ cond (eqb (st .filled) 6) (GW (st .next % G) (groupAt (u .log) (st .next % G)) ∷ []) []
     unfolding storeOther logHeld lent
@@ -428,7 +428,7 @@ module _ (G D : ℕ) (z : Sizes G D) (w : World) (R : Running G D w) (v : ℕ) (
         (all-map (λ t. tagAt (7 * b) (e₁ ∷ tr) (closerOf t) ≡ tagAt (7 * b) tr (closerOf t)) (λ t. tagAt (7 * b) tr (closerOf t) ≡ tagAt (7 * b) (e₁ ∷ tr) (closerOf t)) (λ t h. sym h)
         (hist (7 * b) tr .done) (closers-older (7 * b) e₁ tr)) (c .links))
         (λ h. rw c-link (subst (λ (p : ℕ). LinkOk (7 * st .start) (lastFrom none (hist (7 * b) tr .done)) p lk) position
-        (link-ok (st .start) P st (hist (7 * b) tr .done) (7 * b) (7 * b + length tr) (done-rising (7 * b) tr) (omega (arith, position)) (c .last)))))
+        (link-ok P st (hist (7 * b) tr .done) (7 * b) (7 * b + length tr) (done-rising (7 * b) tr) (omega (arith, position)) (c .last)))))
 
     c-log : y .log ≡ entered st (st .next % G) (w .log) (plainOf (7 * b + length tr) e₁ (mine (hist (7 * b) tr) e₁) (e₁ .final)) (e₁ .block)
     unfolding commitHeld logClosing lent event
@@ -448,7 +448,7 @@ module _ (G D : ℕ) (z : Sizes G D) (w : World) (R : Running G D w) (v : ℕ) (
         (ap (λ (k : Book). k .rows) c-book) (ap (λ (k : Book). k .filled) c-book) c-homes
         (rw c-done (apart-snoc (7 * st .start) (hist (7 * b) tr .done) _ (low-first true lk) (c .apart))) c-links
         (rw c-done (inl (omega (arith, last-closes (hist (7 * b) tr .done) ((7 * b + length tr) ∷ mine (hist (7 * b) tr) e₁), position, closer))))
-        (inr (omega (arith, bs .low, bs .upto), omega arith))
+        (omega arith)
       where
         closer : closerOf ((7 * b + length tr) ∷ mine (hist (7 * b) tr) e₁) ≡ 7 * b + length tr
         closer = unfold closerOf in refl

@@ -65,22 +65,11 @@ last-ok start s last closer l o = go (leb last (7 * s)) refl o
     go false e (inl h) = inl h
     go false e (inr h) = absurd (omega (arith, leb-false last (7 * s) e))
 
-pub last-order : (start s last next : ℕ) → (last ≡ 0) ⊎ ((7 * start < last) × (last ≤ next))
-    → (lastKept s last ≡ 0) ⊎ ((7 * s < lastKept s last) × (lastKept s last ≤ next))
-unfolding lastKept
-last-order start s last next o = go (leb last (7 * s)) refl o
-  where
-    go : (b : Bool) → leb last (7 * s) ≡ b → (last ≡ 0) ⊎ ((7 * start < last) × (last ≤ next))
-        → (cond b 0 last ≡ 0) ⊎ ((7 * s < cond b 0 last) × (cond b 0 last ≤ next))
-    go true e h = inl refl
-    go false e (inl h) = inl h
-    go false e (inr h) = inr (leb-false last (7 * s) e, h .1)
-
-last-most : (s last bound : ℕ) → last < bound → lastKept s last < bound
+last-most : (s last bound : ℕ) → last ≤ bound → lastKept s last ≤ bound
 unfolding lastKept
 last-most s last bound h = go (leb last (7 * s))
   where
-    go : (b : Bool) → cond b 0 last < bound
+    go : (b : Bool) → cond b 0 last ≤ bound
     go true = omega arith
     go false = h
 
@@ -129,20 +118,16 @@ module _ (G D : ℕ) (z : Sizes G D) (w : World) (r : Running G D w) (s : ℕ) (
   next-small : 7 * st .next + 6 < 2 ^ 64
   next-small = omega (arith, c .order .next-most, c .order .start-most, c .order .groups-same, z .high)
 
-  last-small : st .last < 2 ^ 64
-  last-small = go (c .order .last-closing)
-    where
-      go : (st .last ≡ 0) ⊎ ((7 * st .start < st .last) × (st .last ≤ nextPosition st)) → st .last < 2 ^ 64
-      go (inl h) = omega arith
-      go (inr h) =
-          let q : nextPosition st ≡ 7 * st .next + st .filled = unfold nextPosition in refl in
-          omega (arith, next-small, c .order .filled-most)
+  last-small : lastKept s (st .last) < 2 ^ 64
+  last-small =
+      let q : nextPosition st ≡ 7 * st .next + st .filled = unfold nextPosition in refl in
+      omega (arith, last-most s (st .last) (nextPosition st) (c .order .last-closing), next-small, c .order .filled-most)
 
   pub renumbered-is : stateOf renumbered-strip ≡ withLast (withFenced (withStart st s) (7 * st .next)) last
   renumbered-is =
       state-setLast (setFenced (setStart (w .state) s) (7 * st .next)) last
       (length-setFenced (setStart (w .state) s) (7 * st .next) ∙ length-setStart (w .state) s ∙ c .stateSize)
-      (last-most s (st .last) (2 ^ 64) last-small)
+      last-small
       ∙ ap (λ (x : State). withLast x last)
       (state-setFenced (setStart (w .state) s) (7 * st .next) (length-setStart (w .state) s ∙ c .stateSize) (omega (arith, next-small))
       ∙ ap (λ (x : State). withFenced x (7 * st .next)) (state-setStart (w .state) s (c .stateSize) (omega arith)))
@@ -193,7 +178,7 @@ module _ (G D : ℕ) (z : Sizes G D) (w : World) (r : Running G D w) (s : ℕ) (
   copies′ : Copies G D (r .b) (r .tr) moved
   copies′ =
       copies-renumber G D (r .b) (r .tr) w moved c renumbered size writers blocks promises
-      (rw moved-numbers (last-order (st .start) s (st .last) (nextPosition st) (c .order .last-closing))) (rw moved-numbers (t .opens)) refl
+      (rw moved-numbers (last-most s (st .last) (nextPosition st) (c .order .last-closing))) (rw moved-numbers (t .opens)) refl
       (length-puts (w .log) 0 head) (λ slot. group-header (w .log) head slot (omega (arith, length-header s G D))) refl refl refl refl
       (rw moved-numbers
       (settled-homes-same D (w .area) st (withLast (withFenced (withStart st s) (7 * st .next)) last) (w .book .commits) refl refl refl (c .settledHomes)))

@@ -11,7 +11,7 @@ use lib.ListN.{length, replicate, length-replicate}
 use borrow.Author.Tests.{le-leb}
 use Rattle.model.specs.Bytes.{part, number, putNumber}
 use Rattle.model.specs.declared.Writer.{Writer}
-use Rattle.model.specs.State.{stateOf, setStart, setNext, setFilled, setSettled, setFenced, setDurable, setLast, setRound, setCursor, modeOffset, writerOffset, writerOf, setWriter, heldOf, setHeld, promiseOffset, promiseOf, setPromise, listHome, listedOf, setListed}
+use Rattle.model.specs.State.{stateOf, setStart, setNext, setFilled, setSettled, setFenced, setDurable, setLast, setRound, setCursor, modeOffset, writerOffset, writerOf, setWriter, heldOffset, heldOf, setHeld, promiseOffset, promiseOf, setPromise, listHome, listedOf, setListed}
 use Rattle.model.specs.Newest.{noPosition, keptFor, carryListed}
 use Rattle.laws.proofs.bytes.ByteLaws.{length-puts, length-part, part-below, number-same-part, number-put-above, number-part, number-inside}
 use Rattle.laws.proofs.strip.StateLaws.{state-agree, writer-agree}
@@ -67,7 +67,7 @@ listed-setWriter s w r i l =
     number-same-part 8 (setWriter s w r) (896 + 8 * i) s (896 + 8 * i) (part-setWriter s w r (896 + 8 * i) 8 (inr (omega arith)) (inr (omega arith)))
 
 pub listed-setHeld : (s : List ℕ) (w : ℕ) (block : List ℕ) (i : ℕ) → length block ≡ 64 → w < 8 → listedOf (setHeld s w block) i ≡ listedOf s i
-unfolding listedOf writerOffset
+unfolding listedOf heldOffset
 listed-setHeld s w block i h l =
     number-same-part 8 (setHeld s w block) (896 + 8 * i) s (896 + 8 * i) (part-setHeld s w block (896 + 8 * i) 8 h (inr (omega arith)))
 
@@ -91,11 +91,11 @@ module _ (s positions : List ℕ) where
 
   pub writer-setListed : (w : ℕ) → w < 8 → writerOf (setListed s positions) w ≡ writerOf s w
   unfolding modeOffset writerOffset
-  writer-setListed w l = writer-agree (setListed s positions) s w (part-setListed (modeOffset w) 1 (omega arith)) (part-setListed (writerOffset w) 32 (omega arith))
+  writer-setListed w l = writer-agree (setListed s positions) s w (part-setListed (modeOffset w) 1 (omega arith)) (part-setListed (writerOffset w) 24 (omega arith))
 
   pub held-setListed : (w : ℕ) → w < 8 → heldOf (setListed s positions) w ≡ heldOf s w
-  unfolding heldOf writerOffset
-  held-setListed w l = part-setListed (writerOffset w + 32) 64 (omega arith)
+  unfolding heldOf heldOffset
+  held-setListed w l = part-setListed (heldOffset w) 64 (omega arith)
 
   pub promise-setListed : (w : ℕ) → w < 8 → promiseOf (setListed s positions) w ≡ promiseOf s w
   unfolding promiseOf promiseOffset

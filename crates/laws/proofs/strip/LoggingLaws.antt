@@ -4,11 +4,11 @@ use mathlib.Core.Path.{_≡_, refl, _∙_}
 use mathlib.Core.Logic.{_⊎_, inl, inr, ⊎-elim}
 use mathlib.Core.Bool.{Bool, true, false, cond}
 use mathlib.Core.List.{List}
-use Prim.Native.Nat.{ℕ, _+_, _*_, _%_, _^_, _≤_, _<_}
+use Prim.Native.Nat.{ℕ, _+_, _-_, _*_, _%_, _^_, _≤_, _<_}
 use native.Mathlib.Omega.{arith}
 use lib.ListN.{length}
 use lib.Dec.{eqb, leb}
-use borrow.Author.Tests.{leb-true, eqb-true, eqb-false, eq-eqb, ne-eqb}
+use borrow.Author.Tests.{leb-true, leb-false, eqb-true, eqb-false}
 use Rattle.model.specs.Layout.{putBlank}
 use Rattle.model.specs.declared.State.{State}
 use Rattle.model.specs.declared.Writer.{Writer}
@@ -39,13 +39,16 @@ bounds st r o s = go (leb 3 (r .mode)) refl
 
 pub held-size : (s : List ℕ) (v : ℕ) → length s ≡ 1024 → v < 8 → length (heldOf s v) ≡ 64
 unfolding heldOf
-held-size s v h l = length-part s _ 64 (unfold Rattle.model.specs.State.writerOffset in omega arith)
+held-size s v h l = length-part s _ 64 (unfold Rattle.model.specs.State.heldOffset in omega arith)
 
 pub link-small : (G : ℕ) (st : State) → G ≤ 1024 → nextPosition st < 7 * (st .start + G)
-    → (st .last ≡ 0) ⊎ ((7 * st .start < st .last) × (st .last ≤ nextPosition st)) → linkFrom (nextPosition st) st < 2 ^ 13
+    → st .last ≤ nextPosition st → linkFrom (nextPosition st) st < 2 ^ 13
 unfolding linkFrom
-link-small G st g l (inl h) = rw (eq-eqb (st .last) 0 h) (omega arith)
-link-small G st g l (inr h) = rw (ne-eqb (st .last) 0 (λ z. omega arith)) (omega arith)
+link-small G st g l h = go (leb (st .last) (7 * st .start)) refl
+  where
+    go : (t : Bool) → leb (st .last) (7 * st .start) ≡ t → cond t 0 (nextPosition st + 1 - st .last) < 2 ^ 13
+    go true e = omega arith
+    go false e = omega (arith, leb-false (st .last) (7 * st .start) e)
 
 pub length-entered : (st : State) (slot : ℕ) (log : List ℕ) (word : ℕ) (block : List ℕ) → length (entered st slot log word block) ≡ length log
 unfolding entered

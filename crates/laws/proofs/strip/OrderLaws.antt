@@ -13,11 +13,12 @@ use lib.ListN.{length, getD}
 use Rattle.model.specs.Bytes.{zeros, number}
 use Rattle.model.specs.declared.State.{State}
 use Rattle.model.specs.declared.Writer.{Writer}
-use Rattle.model.specs.State.{stateOf, writerOf, idle, isOpen, promiseOf, promised, places, freshNumbers, freshState, nextPosition, numbersInOrder, writerInOrder, promiseInOrder, writerAtInOrder, writersInOrder, inOrder}
+use Rattle.model.specs.State.{stateOf, writerOf, oneMore, idle, isOpen, promiseOf, promised, places, freshNumbers, freshState, nextPosition, numbersInOrder, writerInOrder, promiseInOrder, writerAtInOrder, writersInOrder, inOrder}
 use Rattle.laws.proofs.bytes.ByteLaws.{length-zeros, number-none, number-more}
 use Rattle.laws.proofs.strip.StateLaws.{length-laws, state-laws, writer-laws}
 use Rattle.laws.proofs.strip.PromiseLaws.{promise-laws, promise-zeros, promised-none, promise-most}
 use Rattle.laws.proofs.strip.ListedLaws.{length-setListed, state-setListed, writer-setListed, promise-setListed}
+use Rattle.laws.proofs.strip.SignLaws.{length-setListSign, state-setListSign, writer-setListSign, promise-setListSign}
 use Rattle.laws.proofs.bytes.LayoutLaws.{number-zeros}
 
 -- ---- tests and what they tell: simp by the set turns a chain of tests into its facts, and back
@@ -69,7 +70,7 @@ pub record InOrder (s : List ℕ) (groups homes : ℕ) : Type 0 where
   pub settled-fenced : stateOf s .settled ≤ stateOf s .fenced
   pub fenced-next : stateOf s .fenced ≤ 7 * stateOf s .next
   pub durable-fenced : stateOf s .durable ≤ stateOf s .fenced
-  pub last-closing : (stateOf s .last ≡ 0) ⊎ ((7 * stateOf s .start < stateOf s .last) × (stateOf s .last ≤ nextPosition (stateOf s)))
+  pub last-closing : stateOf s .last ≤ nextPosition (stateOf s)
   pub round-settled : 1 ≤ stateOf s .round → stateOf s .settled < stateOf s .round
   pub round-fenced : stateOf s .round ≤ stateOf s .fenced + 1
   pub promises : Promises s
@@ -145,7 +146,7 @@ in-order s groups homes h =
       settled-fenced = omega arith;
       fenced-next = omega arith;
       durable-fenced = omega arith;
-      last-closing = last (ℕ-discrete (stateOf s .last) 0) (f .0 .0 .1 .0 .1);
+      last-closing = omega arith;
       round-settled = λ k. f .0 .0 .1 .1 (λ e. omega arith) .0;
       round-fenced = fixed (ℕ-discrete (stateOf s .round) 0) (f .0 .0 .1 .1);
       promises =
@@ -153,10 +154,6 @@ in-order s groups homes h =
       writers = λ w k. at-order s (stateOf s) w (writer-among s (stateOf s) 8 w (f .1) k) .0;
     }
   where
-    last : {A : Type 0} {n : ℕ} → Dec (n ≡ 0) → (n ≢ 0 → A) → (n ≡ 0) ⊎ A
-    last (yes e) k = inl e
-    last (no e) k = inr (k e)
-
     fixed : Dec (stateOf s .round ≡ 0)
         → (stateOf s .round ≢ 0 → (stateOf s .settled < stateOf s .round) × (stateOf s .round ≤ stateOf s .fenced + 1))
         → stateOf s .round ≤ stateOf s .fenced + 1
@@ -173,7 +170,7 @@ order-in s groups homes o =
           (
             (
               (((((omega arith, λ h. o .filled-none (omega arith)), o .start-settled), o .settled-fenced), o .fenced-next), o .durable-fenced),
-              last (o .last-closing),
+              o .last-closing,
             ),
             λ h. (o .round-settled (omega arith), o .round-fenced),
           ),
@@ -182,10 +179,6 @@ order-in s groups homes o =
       ),
       among-writers s (stateOf s) 8 (λ w k. order-at s (stateOf s) w (o .writers w k) (o .promises .none-idle w k)),
     )
-  where
-    last : {A : Type 0} {n : ℕ} → (n ≡ 0) ⊎ A → n ≢ 0 → A
-    last (inl e) k = absurd (k e)
-    last (inr a) k = a
 
 -- where a place is left the next group is below start + G
 pub place-below : (s : List ℕ) (groups homes w : ℕ) → InOrder s groups homes → w < 8 → (1 ≤ promiseOf s w) ⊎ (promised s 8 < places (stateOf s))
@@ -217,7 +210,7 @@ unfolding stateOf
 state-zeros n = simp number-zeros
 
 writer-zeros : (n w : ℕ) → writerOf (zeros n) w ≡ idle
-unfolding writerOf idle
+unfolding writerOf oneMore idle
 writer-zeros n w = simp number-zeros
 
 idle-in-order : (st : State) → writerInOrder st idle ≡ true
@@ -226,13 +219,13 @@ idle-in-order st = refl
 
 -- ---- the strip that an opening leaves
 
-module _ (groups homes start : ℕ) where
-  pub length-fresh : length (freshState groups homes start) ≡ 1024
+module _ (groups homes start sign : ℕ) where
+  pub length-fresh : length (freshState groups homes start sign) ≡ 1024
   unfolding freshState freshNumbers
-  length-fresh = length-setListed _ _ ∙ simp (length-laws, length-zeros)
+  length-fresh = length-setListSign _ _ ∙ length-setListed _ _ ∙ simp (length-laws, length-zeros)
 
   pub state-fresh : groups < 2 ^ 64 → homes < 2 ^ 64 → 7 * start < 2 ^ 64
-      → stateOf (freshState groups homes start)
+      → stateOf (freshState groups homes start sign)
       ≡ record {
         groups = groups;
         homes = homes;
@@ -249,22 +242,22 @@ module _ (groups homes start : ℕ) where
   unfolding freshState freshNumbers
   state-fresh g h k =
       let q : start < 2 ^ 64 = omega arith in
-      state-setListed _ _ ∙ simp (state-laws, length-laws, length-zeros, state-zeros)
+      state-setListSign _ _ ∙ state-setListed _ _ ∙ simp (state-laws, length-laws, length-zeros, state-zeros)
 
-  pub writer-fresh : (w : ℕ) → w < 8 → writerOf (freshState groups homes start) w ≡ idle
+  pub writer-fresh : (w : ℕ) → w < 8 → writerOf (freshState groups homes start sign) w ≡ idle
   unfolding freshState freshNumbers
-  writer-fresh w l = writer-setListed _ _ w l ∙ simp (writer-laws, writer-zeros)
+  writer-fresh w l = writer-setListSign _ _ w l ∙ writer-setListed _ _ w l ∙ simp (writer-laws, writer-zeros)
 
-  pub promise-fresh : (w : ℕ) → w < 8 → promiseOf (freshState groups homes start) w ≡ 0
+  pub promise-fresh : (w : ℕ) → w < 8 → promiseOf (freshState groups homes start sign) w ≡ 0
   unfolding freshState freshNumbers
-  promise-fresh w l = promise-setListed _ _ w l ∙ simp (promise-laws, promise-zeros)
+  promise-fresh w l = promise-setListSign _ _ w l ∙ promise-setListed _ _ w l ∙ simp (promise-laws, promise-zeros)
 
-  pub in-order-fresh : start ≤ 2 ^ 47 → groups ≤ 1024 → homes ≤ 65535 → inOrder (freshState groups homes start) groups homes ≡ true
+  pub in-order-fresh : start ≤ 2 ^ 47 → groups ≤ 1024 → homes ≤ 65535 → inOrder (freshState groups homes start sign) groups homes ≡ true
   unfolding inOrder numbersInOrder nextPosition
   in-order-fresh h g d =
-      rw (state-fresh (omega arith) (omega arith) (omega arith), promised-none (freshState groups homes start) 8 promise-fresh)
+      rw (state-fresh (omega arith) (omega arith) (omega arith), promised-none (freshState groups homes start sign) 8 promise-fresh)
       (simp tests (
         omega arith,
-        among-writers (freshState groups homes start) _ 8
-            (λ w k. order-at (freshState groups homes start) _ w (rw (writer-fresh w k) (writer-order _ idle (idle-in-order _))) (λ e. promise-fresh w k)),
+        among-writers (freshState groups homes start sign) _ 8
+            (λ w k. order-at (freshState groups homes start sign) _ w (rw (writer-fresh w k) (writer-order _ idle (idle-in-order _))) (λ e. promise-fresh w k)),
       ))

@@ -8,7 +8,7 @@ use native.Mathlib.Omega.{arith}
 use lib.ListN.{length, getD}
 use Rattle.model.specs.Bytes.{part, zeros, putNumber}
 use Rattle.model.specs.declared.Writer.{Writer}
-use Rattle.model.specs.State.{stateOf, setGroups, setHomes, setStart, setNext, setFilled, setSettled, setFenced, setDurable, setLast, setRound, setCursor, modeOffset, writerOffset, writerOf, setWriter, heldOf, setHeld, promiseOffset, promiseOf, setPromise, promised}
+use Rattle.model.specs.State.{stateOf, setGroups, setHomes, setStart, setNext, setFilled, setSettled, setFenced, setDurable, setLast, setRound, setCursor, modeOffset, writerOffset, writerOf, setWriter, heldOffset, heldOf, setHeld, promiseOffset, promiseOf, setPromise, promised}
 use Rattle.laws.proofs.bytes.ByteLaws.{length-putNumber, number-same, number-put-below, number-put-above, number-same-part, number-lt, part-put-below, part-put-above}
 use Rattle.laws.proofs.bytes.LayoutLaws.{number-zeros}
 use Rattle.laws.proofs.strip.StateLaws.{Spare, state-agree, writer-agree, byte-agree}
@@ -81,7 +81,7 @@ promise-setWriter s w r x l =
     (part-setWriter s w r (72 + 2 * x) 2 (inl (omega arith)) (inl (omega arith)))
 
 pub promise-setHeld : (s : List ℕ) (w : ℕ) (block : List ℕ) (x : ℕ) → length block ≡ 64 → x < 8 → promiseOf (setHeld s w block) x ≡ promiseOf s x
-unfolding promiseOf promiseOffset writerOffset
+unfolding promiseOf promiseOffset heldOffset
 promise-setHeld s w block x h l =
     number-same-part 2 (setHeld s w block) (72 + 2 * x) s (72 + 2 * x) (part-setHeld s w block (72 + 2 * x) 2 h (inl (omega arith)))
 
@@ -101,11 +101,11 @@ module _ (s : List ℕ) (w n : ℕ) where
   unfolding setPromise promiseOffset modeOffset writerOffset
   writer-setPromise v l =
       writer-agree (setPromise s w n) s v (part-put-above 2 s (72 + 2 * w) n (modeOffset v) 1 (omega arith))
-      (part-put-above 2 s (72 + 2 * w) n (writerOffset v) 32 (omega arith))
+      (part-put-above 2 s (72 + 2 * w) n (writerOffset v) 24 (omega arith))
 
   pub held-setPromise : (v : ℕ) → w < 8 → heldOf (setPromise s w n) v ≡ heldOf s v
-  unfolding setPromise promiseOffset heldOf writerOffset
-  held-setPromise v l = part-put-above 2 s (72 + 2 * w) n (writerOffset v + 32) 64 (omega arith)
+  unfolding setPromise promiseOffset heldOf heldOffset
+  held-setPromise v l = part-put-above 2 s (72 + 2 * w) n (heldOffset v) 64 (omega arith)
 
   pub spare-setPromise : (i : ℕ) → w < 8 → Spare i → getD (setPromise s w n) i 0 ≡ getD s i 0
   unfolding setPromise promiseOffset

@@ -11,14 +11,14 @@ use lib.ListN.{length, replicate, length-replicate}
 use borrow.Author.Tests.{le-leb, lt-leb, leb-true, eqb-true, eqb-false}
 use Rattle.model.specs.Bytes.{part, number, value, zeros, same}
 use Rattle.model.specs.Layout.{homeAt}
-use Rattle.model.specs.State.{stateOf, setGroups, setHomes, setStart, setNext, setSettled, setFenced, setDurable, freshNumbers, freshState, modeOffset, writerOffset, writerOf, heldOf, promiseOffset, promiseOf, listHome, listedOf, setListed, listSign, setListSign}
-use Rattle.model.specs.Newest.{keptFor, carryListed}
+use Rattle.model.specs.State.{stateOf, setGroups, setHomes, setStart, setNext, setSettled, setFenced, setDurable, freshNumbers, freshState, modeOffset, writerOffset, writerOf, heldOffset, heldOf, promiseOffset, promiseOf, listHome, listedOf, setListed, listSign, setListSign}
+use Rattle.model.specs.Newest.{noPosition, keptFor, carryListed}
 use Rattle.model.specs.Given.{Given, homes, tagsOf, liveBase, liveTags, blockOr, isThere}
-use Rattle.model.specs.Rights.{forHome, shownAt, listBy, readList, inRanges, isList, mayStore, mayRead, listMoved, signFor, signIf, keepList, sameListed, signedList, storeRight, readRight, Faithful}
-use Rattle.laws.proofs.bytes.ByteLaws.{length-putNumber, length-part, part-put-below, number-same-part, number-put-below, number-put-above, number-above}
-use Rattle.laws.proofs.strip.StateLaws.{state-agree, writer-agree, number-back}
+use Rattle.model.specs.Rights.{forHome, shownAt, listBy, readList, inRanges, isList, mayStore, mayRead, listMoved, signFor, openSign, signIf, keepList, sameListed, signedList, storeRight, readRight, Faithful}
+use Rattle.laws.proofs.bytes.ByteLaws.{length-zeros, length-putNumber, length-part, part-put-below, number-same-part, number-put-below, number-put-above, number-above}
+use Rattle.laws.proofs.strip.StateLaws.{length-laws, state-agree, writer-agree, number-back}
 use Rattle.laws.proofs.strip.RightLaws.{list-by}
-use Rattle.laws.proofs.strip.ListedLaws.{length-carry, state-carry, writer-carry, held-carry, promise-carry, listed-carry}
+use Rattle.laws.proofs.strip.ListedLaws.{length-setListed, listed-ones, length-carry, state-carry, writer-carry, held-carry, promise-carry, listed-carry}
 
 and-left : (a b : Bool) → (a && b) ≡ true → a ≡ true
 and-left true b e = refl
@@ -48,11 +48,11 @@ module _ (s : List ℕ) (v : ℕ) where
 
   pub writer-setListSign : (w : ℕ) → w < 8 → writerOf (setListSign s v) w ≡ writerOf s w
   unfolding modeOffset writerOffset
-  writer-setListSign w l = writer-agree (setListSign s v) s w (part-setListSign (modeOffset w) 1 (omega arith)) (part-setListSign (writerOffset w) 32 (omega arith))
+  writer-setListSign w l = writer-agree (setListSign s v) s w (part-setListSign (modeOffset w) 1 (omega arith)) (part-setListSign (writerOffset w) 24 (omega arith))
 
   pub held-setListSign : (w : ℕ) → w < 8 → heldOf (setListSign s v) w ≡ heldOf s w
-  unfolding heldOf writerOffset
-  held-setListSign w l = part-setListSign (writerOffset w + 32) 64 (omega arith)
+  unfolding heldOf heldOffset
+  held-setListSign w l = part-setListSign (heldOffset w) 64 (omega arith)
 
   pub promise-setListSign : (w : ℕ) → w < 8 → promiseOf (setListSign s v) w ≡ promiseOf s w
   unfolding promiseOf promiseOffset
@@ -127,18 +127,18 @@ sign-carry d newest s n = go (leb (listHome + 4) d) refl
         number-above 8 s 896 (part newest (8 * listHome) 32) 928 (omega arith)
     go false e = refl
 
+sign-small : (list : List ℕ) → signFor list < 2 ^ 64
+unfolding signFor
+sign-small list = go (same list (zeros 256))
+  where
+    go : (d : Bool) → cond d 1 2 < 2 ^ 64
+    go true = omega arith
+    go false = omega arith
+
 module _ (g : Given) where
   pub sign-stays : listMoved g ≡ false → length (g .newest) ≡ 8 * homes g → listSign (keepList g) ≡ listSign (g .state)
   unfolding keepList signIf
   sign-stays e n = rw e (sign-carry (homes g) (g .newest) (g .state) n)
-
-  sign-small : (list : List ℕ) → signFor list < 2 ^ 64
-  unfolding signFor
-  sign-small list = go (same list (zeros 256))
-    where
-      go : (d : Bool) → cond d 1 2 < 2 ^ 64
-      go true = omega arith
-      go false = omega arith
 
   pub sign-moves : listMoved g ≡ true → length (g .state) ≡ 1024 → listSign (keepList g) ≡ signFor (readList g)
   unfolding keepList signIf
@@ -163,15 +163,18 @@ module _ (g : Given) where
       not-false true e = refl
       not-false false e = absurd (false≢true (sym e))
 
--- a strip that an opening leaves has none
-pub sign-fresh : (groups n start : ℕ) → listSign (freshState groups n start) ≡ 0
-unfolding freshState freshNumbers listSign setListed setGroups setHomes setStart setNext setSettled setFenced setDurable
-sign-fresh groups n start =
-    let l : length {A = ℕ} (replicate 32 255) ≡ 32 = length-replicate {A = ℕ} 32 255 in
-    number-above 8 _ 896 (replicate 32 255) 928 (omega arith)
-    ∙ number-put-above 8 8 _ 56 _ 928 (omega arith) ∙ number-put-above 8 8 _ 48 _ 928 (omega arith) ∙ number-put-above 8 8 _ 40 _ 928 (omega arith)
-    ∙ number-put-above 8 8 _ 24 _ 928 (omega arith) ∙ number-put-above 8 8 _ 16 _ 928 (omega arith) ∙ number-put-above 8 8 _ 8 _ 928 (omega arith)
-    ∙ number-put-above 8 8 _ 0 _ 928 (omega arith) ∙ (unfold number zeros part value in refl)
+-- the sign that an opening leaves
+pub sign-fresh : (groups n start : ℕ) (area : List ℕ) → listHome + 4 ≤ n
+    → listSign (freshState groups n start (openSign n area)) ≡ signFor (part area (64 * listHome) 256)
+unfolding freshState freshNumbers openSign
+sign-fresh groups n start area h =
+    rw (le-leb (listHome + 4) n h)
+    (sign-setListSign _ (signFor (part area (64 * listHome) 256)) (length-setListed _ _ ∙ simp (length-laws, length-zeros))
+    (sign-small (part area (64 * listHome) 256)))
+
+pub listed-fresh : (groups n start sign i : ℕ) → i < 4 → listedOf (freshState groups n start sign) i ≡ noPosition
+unfolding freshState freshNumbers
+listed-fresh groups n start sign i h = listed-setListSign _ sign i h ∙ listed-ones _ i (simp (length-laws, length-zeros)) h
 
 -- ---- the list by a strip with the same numbers
 
@@ -202,10 +205,6 @@ sign-faithful list = go (same list (zeros 256)) refl
     go : (d : Bool) → same list (zeros 256) ≡ d → Faithful (cond d 1 2) list
     go true e = record { empty = λ h. e; given = λ h. absurd (omega (arith, h)) }
     go false e = record { empty = λ h. absurd (omega (arith, h)); given = λ h. e }
-
--- one that says nothing
-pub sign-none : (sign : ℕ) (list : List ℕ) → sign ≡ 0 → Faithful sign list
-sign-none sign list e = record { empty = λ h. absurd (omega (arith, e, h)); given = λ h. absurd (omega (arith, e, h)) }
 
 module _ (sign : ℕ) (list : List ℕ) (f : Faithful sign list) (homes writer home : ℕ) where
   list-agrees : signedList sign homes list ≡ isList homes list

@@ -9,7 +9,7 @@ use borrow.Author.Tests.{leb-true}
 use lib.ListN.{length, getD}
 use Rattle.model.specs.Bytes.{part, number, putNumber}
 use Rattle.model.specs.declared.State.{State}
-use Rattle.model.specs.State.{stateOf, setGroups, setHomes, setStart, setNext, setFilled, setSettled, setFenced, setDurable, setLast, setRound, setCursor, modeOffset, writerOffset, writerOf, heldOf}
+use Rattle.model.specs.State.{stateOf, setGroups, setHomes, setStart, setNext, setFilled, setSettled, setFenced, setDurable, setLast, setRound, setCursor, modeOffset, writerOffset, writerOf, heldOffset, heldOf}
 use Rattle.laws.proofs.bytes.ByteLaws.{length-putNumber, number-same, number-put-below, number-put-above, number-same-part, number-part, number-more, number-none, number-lt, part-put-above}
 
 -- ---- a number of eight bytes, written and read
@@ -42,14 +42,14 @@ state-agree s t e e′ =
     let cursor : number 8 s 96 ≡ number 8 t 96 = number-agree s t 88 16 96 e′ (omega arith) (omega arith) in
     rw (round, cursor) (simp (f, leb-true))
 
-pub writer-agree : (s t : List ℕ) (w : ℕ) → part s (modeOffset w) 1 ≡ part t (modeOffset w) 1 → part s (writerOffset w) 32 ≡ part t (writerOffset w) 32
+pub writer-agree : (s t : List ℕ) (w : ℕ) → part s (modeOffset w) 1 ≡ part t (modeOffset w) 1 → part s (writerOffset w) 24 ≡ part t (writerOffset w) 24
     → writerOf s w ≡ writerOf t w
 unfolding writerOf
 writer-agree s t w m e =
     let o = writerOffset w in
-    let f : (i : ℕ) → (o ≤ i) × (i + 8 ≤ o + 32) → number 8 s i ≡ number 8 t i = λ i h. number-agree s t o 32 i e (h .0) (h .1) in
+    let f : (i : ℕ) → (o ≤ i) × (i + 8 ≤ o + 24) → number 8 s i ≡ number 8 t i = λ i h. number-agree s t o 24 i e (h .0) (h .1) in
     let g : number 1 s (modeOffset w) ≡ number 1 t (modeOffset w) = number-same-part 1 s (modeOffset w) t (modeOffset w) m in
-    rw (g, f (o + 8) (omega arith), f (o + 16) (omega arith), f (o + 24) (omega arith))
+    rw (g, f o (omega arith), f (o + 8) (omega arith), f (o + 16) (omega arith))
 
 byte-number : (s : List ℕ) (i : ℕ) → number 1 s i ≡ getD s i 0
 byte-number s i = number-more 0 s i ∙ rw number-none (omega arith)
@@ -61,7 +61,7 @@ byte-agree s t i e = sym (byte-number s i) ∙ number-same-part 1 s i t i e ∙ 
 
 -- the bytes that no field has, and those of the list's positions (ListedLaws)
 abbrev pub Spare : ℕ → Type 0
-Spare i = ((112 ≤ i) × (i < 128)) ⊎ (896 ≤ i)
+Spare i = ((112 ≤ i) × (i < 128)) ⊎ (832 ≤ i)
 
 module _ (s : List ℕ) (o v : ℕ) (h : o + 8 ≤ 104) where
   part-put : (a n : ℕ) → 104 ≤ a → part (putNumber 8 s o v) a n ≡ part s a n
@@ -69,11 +69,11 @@ module _ (s : List ℕ) (o v : ℕ) (h : o + 8 ≤ 104) where
 
   writer-put : (w : ℕ) → writerOf (putNumber 8 s o v) w ≡ writerOf s w
   unfolding modeOffset writerOffset
-  writer-put w = writer-agree (putNumber 8 s o v) s w (part-put (modeOffset w) 1 (omega arith)) (part-put (writerOffset w) 32 (omega arith))
+  writer-put w = writer-agree (putNumber 8 s o v) s w (part-put (modeOffset w) 1 (omega arith)) (part-put (writerOffset w) 24 (omega arith))
 
   held-put : (w : ℕ) → heldOf (putNumber 8 s o v) w ≡ heldOf s w
-  unfolding heldOf writerOffset
-  held-put w = part-put (writerOffset w + 32) 64 (omega arith)
+  unfolding heldOf heldOffset
+  held-put w = part-put (heldOffset w) 64 (omega arith)
 
   spare-put : (i : ℕ) → Spare i → getD (putNumber 8 s o v) i 0 ≡ getD s i 0
   spare-put i (inl k) = byte-agree (putNumber 8 s o v) s i (part-put i 1 (omega arith))

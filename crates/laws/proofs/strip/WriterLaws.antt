@@ -1,14 +1,16 @@
 -- Laws of the writers' records and held blocks in the state strip (specs/State), named as those of StateLaws. Assumes nothing.
 use mathlib.Core.Path.{_≡_, _∙_}
-use mathlib.Core.Logic.{_⊎_, inl, inr, ⊎-map, ⊎-swap, _≢_}
+use mathlib.Core.Logic.{_⊎_, inl, inr, ⊎-map, _≢_}
 use mathlib.Core.List.{List}
-use Prim.Native.Nat.{ℕ, _+_, _*_, _^_, _≤_, _<_}
+use Prim.Native.Nat.{ℕ, _+_, _-_, _*_, _^_, _≤_, _<_}
 use native.Mathlib.Decide.{decLt}
+use native.Mathlib.Nat.{mod-lt}
+use lib.Dec.{lit<}
 use native.Mathlib.Omega.{arith}
 use lib.ListN.{length, getD}
 use Rattle.model.specs.Bytes.{part, number, putNumber}
 use Rattle.model.specs.declared.Writer.{Writer}
-use Rattle.model.specs.State.{stateOf, modeOffset, writerOffset, writerOf, setWriter, heldOf, setHeld, idle, begun, holding, logging}
+use Rattle.model.specs.State.{stateOf, modeOffset, writerOffset, lessOne, oneMore, writerOf, setWriter, heldOffset, heldOf, setHeld, idle, begun, holding, logging}
 use Rattle.laws.proofs.bytes.ByteLaws.{length-puts, length-putNumber, number-same, number-put-below, number-lt, part-same, part-below, part-above, part-put-below, part-put-above}
 use Rattle.laws.proofs.strip.StateLaws.{number-back, Spare, state-agree, writer-agree, byte-agree}
 
@@ -20,12 +22,25 @@ pub record WriterFits (r : Writer) : Type 0 where
   pub first : r .first < 2 ^ 64
   pub count : r .count < 2 ^ 64
 
+one-more-lt : (n : ℕ) → oneMore n < 2 ^ 64
+unfolding oneMore
+one-more-lt n = mod-lt (n + 1) (lit< tt)
+
+less-one-lt : (n : ℕ) → lessOne n < 2 ^ 64
+unfolding lessOne
+less-one-lt n = mod-lt (n + (2 ^ 64 - 1)) (lit< tt)
+
+-- a count kept less one reads back
+pub count-back : (n : ℕ) → n < 2 ^ 64 → oneMore (lessOne n) ≡ n
+unfolding oneMore lessOne
+count-back n h = omega arith
+
 pub writer-fits : (s : List ℕ) (w : ℕ) → ((i : ℕ) → getD s i 0 < 256) → WriterFits (writerOf s w)
 unfolding writerOf
 writer-fits s w h =
     let f : (i : ℕ) → number 8 s i < 2 ^ 64 = λ i. number-lt 8 s i h in
     let o = writerOffset w in
-    record { mode = number-lt 1 s (modeOffset w) h; home = f (o + 8); first = f (o + 16); count = f (o + 24) }
+    record { mode = number-lt 1 s (modeOffset w) h; home = f o; first = f (o + 8); count = one-more-lt _ }
 
 pub fits-idle : WriterFits idle
 unfolding idle
@@ -51,7 +66,7 @@ length-setWriter s w r = simp length-putNumber
 
 pub length-setHeld : (s : List ℕ) (w : ℕ) (block : List ℕ) → length (setHeld s w block) ≡ length s
 unfolding setHeld
-length-setHeld s w block = length-puts s (writerOffset w + 32) block
+length-setHeld s w block = length-puts s (heldOffset w) block
 
 -- ---- a part that lies apart from what is written stays
 
@@ -60,35 +75,44 @@ part-mode s w m a n (inl h) = part-put-below 1 s (modeOffset w) m a n h
 part-mode s w m a n (inr h) = part-put-above 1 s (modeOffset w) m a n h
 
 pub part-setWriter : (s : List ℕ) (w : ℕ) (r : Writer) (a n : ℕ) → (a + n ≤ modeOffset w) ⊎ (modeOffset w + 1 ≤ a)
-    → (a + n ≤ writerOffset w) ⊎ (writerOffset w + 32 ≤ a) → part (setWriter s w r) a n ≡ part s a n
+    → (a + n ≤ writerOffset w) ⊎ (writerOffset w + 24 ≤ a) → part (setWriter s w r) a n ≡ part s a n
 unfolding setWriter
 part-setWriter s w r a n m (inl h) =
-    part-put-below 8 _ (writerOffset w + 24) _ a n (omega arith) ∙ part-put-below 8 _ (writerOffset w + 16) _ a n (omega arith)
-    ∙ part-put-below 8 _ (writerOffset w + 8) _ a n (omega arith) ∙ part-mode s w (r .mode) a n m
+    part-put-below 8 _ (writerOffset w + 16) _ a n (omega arith) ∙ part-put-below 8 _ (writerOffset w + 8) _ a n (omega arith)
+    ∙ part-put-below 8 _ (writerOffset w) _ a n (omega arith) ∙ part-mode s w (r .mode) a n m
 part-setWriter s w r a n m (inr h) =
-    part-put-above 8 _ (writerOffset w + 24) _ a n (omega arith) ∙ part-put-above 8 _ (writerOffset w + 16) _ a n (omega arith)
-    ∙ part-put-above 8 _ (writerOffset w + 8) _ a n (omega arith) ∙ part-mode s w (r .mode) a n m
+    part-put-above 8 _ (writerOffset w + 16) _ a n (omega arith) ∙ part-put-above 8 _ (writerOffset w + 8) _ a n (omega arith)
+    ∙ part-put-above 8 _ (writerOffset w) _ a n (omega arith) ∙ part-mode s w (r .mode) a n m
 
 pub part-setHeld : (s : List ℕ) (w : ℕ) (block : List ℕ) (a n : ℕ) → length block ≡ 64
-    → (a + n ≤ writerOffset w + 32) ⊎ (writerOffset w + 96 ≤ a) → part (setHeld s w block) a n ≡ part s a n
+    → (a + n ≤ heldOffset w) ⊎ (heldOffset w + 64 ≤ a) → part (setHeld s w block) a n ≡ part s a n
 unfolding setHeld
-part-setHeld s w block a n l (inl h) = part-below s (writerOffset w + 32) block a n h
-part-setHeld s w block a n l (inr h) = part-above s (writerOffset w + 32) block a n (omega arith)
+part-setHeld s w block a n l (inl h) = part-below s (heldOffset w) block a n h
+part-setHeld s w block a n l (inr h) = part-above s (heldOffset w) block a n (omega arith)
 
 -- ---- where the writers' parts of the strip lie
 
--- a writer's part ends before another's begins, or begins no earlier
-in-turn : (v w : ℕ) → (writerOffset v + 96 ≤ writerOffset w) ⊎ (writerOffset w ≤ writerOffset v)
+-- the parts of different writers lie apart
+others : (v w : ℕ) → v ≢ w → (writerOffset v + 24 ≤ writerOffset w) ⊎ (writerOffset w + 24 ≤ writerOffset v)
 unfolding writerOffset
-in-turn v w = go (decLt v w)
+others v w n = go (decLt v w)
   where
-    go : Dec (v < w) → (128 + 96 * v + 96 ≤ 128 + 96 * w) ⊎ (128 + 96 * w ≤ 128 + 96 * v)
+    go : Dec (v < w) → (128 + 24 * v + 24 ≤ 128 + 24 * w) ⊎ (128 + 24 * w + 24 ≤ 128 + 24 * v)
     go (yes h) = inl (omega arith)
-    go (no h) = inr (omega arith)
+    go (no h) = inr (omega (arith, n))
 
-others : (v w : ℕ) → v ≢ w → (writerOffset v + 96 ≤ writerOffset w) ⊎ (writerOffset w + 96 ≤ writerOffset v)
-unfolding writerOffset
-others v w n = ⊎-map (λ h. h) (λ h. omega arith) (in-turn v w)
+held-others : (v w : ℕ) → v ≢ w → (heldOffset v + 64 ≤ heldOffset w) ⊎ (heldOffset w + 64 ≤ heldOffset v)
+unfolding heldOffset
+held-others v w n = go (decLt v w)
+  where
+    go : Dec (v < w) → (320 + 64 * v + 64 ≤ 320 + 64 * w) ⊎ (320 + 64 * w + 64 ≤ 320 + 64 * v)
+    go (yes h) = inl (omega arith)
+    go (no h) = inr (omega (arith, n))
+
+-- a writer's record and the held blocks lie apart
+record-before : (v w : ℕ) → v < 8 → writerOffset v + 24 ≤ heldOffset w
+unfolding writerOffset heldOffset
+record-before v w h = omega arith
 
 -- modes of different writers, and a mode and a writer's part, lie apart
 mode-others : (v w : ℕ) → v ≢ w → (modeOffset v + 1 ≤ modeOffset w) ⊎ (modeOffset w + 1 ≤ modeOffset v)
@@ -103,14 +127,18 @@ mode-before : (v w : ℕ) → v < 8 → modeOffset v + 1 ≤ writerOffset w
 unfolding modeOffset writerOffset
 mode-before v w h = omega arith
 
+mode-before-held : (v w : ℕ) → v < 8 → modeOffset v + 1 ≤ heldOffset w
+unfolding modeOffset heldOffset
+mode-before-held v w h = omega arith
+
 -- a spare byte lies after the modes, and before the writers or after the last of them
 spare-after : (w i : ℕ) → w < 8 → Spare i → modeOffset w + 1 ≤ i
 unfolding modeOffset
 spare-after w i h (inl k) = omega arith
 spare-after w i h (inr k) = omega arith
 
-spare-apart : (w i : ℕ) → w < 8 → Spare i → (i + 1 ≤ writerOffset w) ⊎ (writerOffset w + 96 ≤ i)
-unfolding writerOffset
+spare-apart : (w i : ℕ) → w < 8 → Spare i → (i + 1 ≤ writerOffset w) ⊎ (heldOffset w + 64 ≤ i)
+unfolding writerOffset heldOffset
 spare-apart w i h (inl k) = inl (omega arith)
 spare-apart w i h (inr k) = inr (omega arith)
 
@@ -130,52 +158,52 @@ module _ (s : List ℕ) (w : ℕ) (r : Writer) where
       let m = modeOffset w in
       let below : (d : List ℕ) (at v i : ℕ) → i + 8 ≤ at → number 8 (putNumber 8 d at v) i ≡ number 8 d i = number-put-below 8 8 in
       let mode : number 1 (setWriter s w r) m ≡ r .mode =
-      number-put-below 1 8 _ (o + 24) _ m (omega arith) ∙ number-put-below 1 8 _ (o + 16) _ m (omega arith)
-      ∙ number-put-below 1 8 _ (o + 8) _ m (omega arith) ∙ number-same 1 s m _ (omega arith) (f .mode) in
-      let home : number 8 (setWriter s w r) (o + 8) ≡ r .home =
-      below _ (o + 24) _ (o + 8) (omega arith) ∙ below _ (o + 16) _ (o + 8) (omega arith)
-      ∙ number-back _ (o + 8) _ (simp length-putNumber l) (omega arith) (f .home) in
-      let first : number 8 (setWriter s w r) (o + 16) ≡ r .first =
-      below _ (o + 24) _ (o + 16) (omega arith) ∙ number-back _ (o + 16) _ (simp length-putNumber l) (omega arith) (f .first) in
-      let count : number 8 (setWriter s w r) (o + 24) ≡ r .count = number-back _ (o + 24) _ (simp length-putNumber l) (omega arith) (f .count) in
-      rw (mode, home, first, count)
+      number-put-below 1 8 _ (o + 16) _ m (omega arith) ∙ number-put-below 1 8 _ (o + 8) _ m (omega arith)
+      ∙ number-put-below 1 8 _ o _ m (omega arith) ∙ number-same 1 s m _ (omega arith) (f .mode) in
+      let home : number 8 (setWriter s w r) o ≡ r .home =
+      below _ (o + 16) _ o (omega arith) ∙ below _ (o + 8) _ o (omega arith)
+      ∙ number-back _ o _ (simp length-putNumber l) (omega arith) (f .home) in
+      let first : number 8 (setWriter s w r) (o + 8) ≡ r .first =
+      below _ (o + 16) _ (o + 8) (omega arith) ∙ number-back _ (o + 8) _ (simp length-putNumber l) (omega arith) (f .first) in
+      let less : number 8 (setWriter s w r) (o + 16) ≡ lessOne (r .count) =
+      number-back _ (o + 16) _ (simp length-putNumber l) (omega arith) (less-one-lt (r .count)) in
+      rw (mode, home, first, less, count-back (r .count) (f .count))
 
   pub writer-setWriter-other : (v : ℕ) → w < 8 → v < 8 → v ≢ w → writerOf (setWriter s w r) v ≡ writerOf s v
   writer-setWriter-other v h k n =
       writer-agree (setWriter s w r) s v (part-setWriter s w r (modeOffset v) 1 (mode-others v w n) (inl (mode-before v w k)))
-      (part-setWriter s w r (writerOffset v) 32 (inr (mode-before w v h)) (⊎-map (λ h. omega arith) (λ h. omega arith) (others v w n)))
+      (part-setWriter s w r (writerOffset v) 24 (inr (mode-before w v h)) (others v w n))
 
   pub held-setWriter : (v : ℕ) → w < 8 → heldOf (setWriter s w r) v ≡ heldOf s v
   unfolding heldOf
   held-setWriter v h =
-      part-setWriter s w r (writerOffset v + 32) 64 (inr (let b = mode-before w v h in omega arith))
-      (⊎-map (λ h. omega arith) (λ h. omega arith) (in-turn v w))
+      part-setWriter s w r (heldOffset v) 64 (inr (mode-before-held w v h)) (inr (record-before w v h))
 
   pub spare-setWriter : (i : ℕ) → w < 8 → Spare i → getD (setWriter s w r) i 0 ≡ getD s i 0
   spare-setWriter i h k =
       byte-agree (setWriter s w r) s i
-      (part-setWriter s w r i 1 (inr (spare-after w i h k)) (⊎-map (λ h. h) (λ h. omega arith) (spare-apart w i h k)))
+      (part-setWriter s w r i 1 (inr (spare-after w i h k)) (⊎-map (λ h. h) (λ g. omega (arith, record-before w w h)) (spare-apart w i h k)))
 
 -- ---- after setHeld
 
 module _ (s : List ℕ) (w : ℕ) (block : List ℕ) where
   pub state-setHeld : length block ≡ 64 → stateOf (setHeld s w block) ≡ stateOf s
-  unfolding writerOffset
+  unfolding heldOffset
   state-setHeld l = state-agree (setHeld s w block) s (part-setHeld s w block 0 72 l (inl (omega arith))) (part-setHeld s w block 88 16 l (inl (omega arith)))
 
   pub writer-setHeld : (v : ℕ) → v < 8 → length block ≡ 64 → writerOf (setHeld s w block) v ≡ writerOf s v
   writer-setHeld v k l =
-      writer-agree (setHeld s w block) s v (part-setHeld s w block (modeOffset v) 1 l (inl (let b = mode-before v w k in omega arith)))
-      (part-setHeld s w block (writerOffset v) 32 l (⊎-map (λ h. omega arith) (λ h. h) (⊎-swap (in-turn w v))))
+      writer-agree (setHeld s w block) s v (part-setHeld s w block (modeOffset v) 1 l (inl (mode-before-held v w k)))
+      (part-setHeld s w block (writerOffset v) 24 l (inl (record-before v w k)))
 
   pub held-setHeld : length s ≡ 1024 → w < 8 → length block ≡ 64 → heldOf (setHeld s w block) w ≡ block
-  unfolding heldOf setHeld writerOffset
-  held-setHeld m h l = rw l at (part-same s (writerOffset w + 32) block (omega arith))
+  unfolding heldOf setHeld heldOffset
+  held-setHeld m h l = rw l at (part-same s (heldOffset w) block (omega arith))
 
   pub held-setHeld-other : (v : ℕ) → v ≢ w → length block ≡ 64 → heldOf (setHeld s w block) v ≡ heldOf s v
   unfolding heldOf
-  held-setHeld-other v n l = part-setHeld s w block (writerOffset v + 32) 64 l (⊎-map (λ h. omega arith) (λ h. omega arith) (others v w n))
+  held-setHeld-other v n l = part-setHeld s w block (heldOffset v) 64 l (held-others v w n)
 
   pub spare-setHeld : (i : ℕ) → w < 8 → length block ≡ 64 → Spare i → getD (setHeld s w block) i 0 ≡ getD s i 0
   spare-setHeld i h l k =
-      byte-agree (setHeld s w block) s i (part-setHeld s w block i 1 l (⊎-map (λ h. omega arith) (λ h. h) (spare-apart w i h k)))
+      byte-agree (setHeld s w block) s i (part-setHeld s w block i 1 l (⊎-map (λ g. omega (arith, record-before w w h)) (λ h. h) (spare-apart w i h k)))

@@ -24,9 +24,6 @@ mul-held c = search needs
 add-held : tie.Need-add-held
 add-held c = search needs
 
-add-held-2 : tie.Need-add-held-2
-add-held-2 c = search needs
-
 add-enter : tie.Need-add-enter
 add-enter c = search needs
 
@@ -138,7 +135,6 @@ log-entry-spec =
     first-slot-requires
     mul-held
     add-held
-    add-held-2
     add-enter
     sub-enter
     part-enter-start

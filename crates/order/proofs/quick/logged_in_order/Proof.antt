@@ -1,7 +1,7 @@
 -- `order::logged_in_order` meets its contract: each return follows the tests that led to it. Assumes nothing.
 use borrow.Author.Needs.{needs}
 use native.Mathlib.Omega.{arith}
-use Rattle.order.proofs.OrderTests.{logged-far, logged-few, logged-held}
+use Rattle.order.proofs.OrderTests.{logged-far, logged-by}
 use Rattle.order.proofs.quick.logged_in_order.Statement.{statement}
 use Rattle.order.proofs.quick.logged_in_order.Tie as tie
 
@@ -25,19 +25,9 @@ distance-requires-2 c κs = search needs
 
 returns-2 : tie.Need-returns-2
 returns-2 c =
-    let d = c .before .before .before in
+    let d = c .before .before in
     let p = d .before .pre in
-    logged-few _ _ _ _ _ (p .0) (p .1) (p .2) (d .distance .ensures) (omega arith) (omega arith) _ (c .before .distance2 .ensures) (omega arith)
-    (c .if2 .taken)
-
-returns-3 : tie.Need-returns-3
-returns-3 c =
-    let d = c .before .before .before in
-    let p = d .before .pre in
-    logged-held _ _ _ _ _ (p .0) (p .1) (p .2) (d .distance .ensures) (omega arith) (omega arith) _ (c .before .before .if1 .left)
-    (c .before .distance2 .ensures) (c .if2 .left)
+    logged-by _ _ _ _ _ (p .0) (p .1) (p .2) (d .distance .ensures) (omega arith) (omega arith) _ (c .before .if1 .left) (c .distance2 .ensures) (omega arith)
 
 pub logged-in-order-spec : {M : Type 1} → statement M
-logged-in-order-spec =
-    tie.close
-    (tie.spec add-distance distance-requires returns distance-requires-2 returns-2 returns-3)
+logged-in-order-spec = tie.close (tie.spec add-distance distance-requires returns distance-requires-2 returns-2)

@@ -11,9 +11,6 @@ mul-copy-block c = search needs
 add-copy-block : tie.Need-add-copy-block
 add-copy-block c = search needs
 
-add-copy-block-2 : tie.Need-add-copy-block-2
-add-copy-block-2 c = search needs
-
 copy-block-requires : tie.Need-copy-block-requires
 copy-block-requires c κs = search needs
 
@@ -31,7 +28,6 @@ show-held-spec =
     (tie.spec
     mul-copy-block
     add-copy-block
-    add-copy-block-2
     copy-block-requires
     same-length
     returns)

@@ -86,12 +86,13 @@ open-records-requires c κs =
 
 add-open-copies : tie.Need-add-open-copies
 add-open-copies c =
-    omega (arith, (openable _ _ _ _ _ (c .before .before .before .before .before .before .before .before .before .before .before .before .before .before .before .before .before .before .before .before .may-open .ensures) (c .before .before .before .before .before .before .before .before .before .before .before .before .before .before .before .before .before .before .before .if1 .left)), c .before .before .before .before .before .before .before .before .before .before .before .before .before .before .before .before .measure .ensures)
+    omega (arith, (openable _ _ _ _ _ (c .before .before .before .before .before .before .before .before .before .before .before .before .before .before .before .before .before .before .before .before .before .may-open .ensures) (c .before .before .before .before .before .before .before .before .before .before .before .before .before .before .before .before .before .before .before .before .if1 .left)), c .before .before .before .before .before .before .before .before .before .before .before .before .before .before .before .before .before .measure .ensures)
 
 open-copies-requires : tie.Need-open-copies-requires
 open-copies-requires c κs =
-    let o = (openable _ _ _ _ _ (c .before .before .before .before .before .before .before .before .before .before .before .before .before .before .before .before .before .before .before .before .may-open .ensures) (c .before .before .before .before .before .before .before .before .before .before .before .before .before .before .before .before .before .before .before .if1 .left)) in
-    omega (arith, o, newest-homes _ _ _ _ _ o (c .before .before .before .before .before .before .before .before .before .before .before .before .before .before .before .before .measure .ensures .1), c .before .before .before .before .before .before .before .before .before .before .before .before .before .before .before .before .measure .ensures .0, c .before .before .before .before .before .before .before .before .before .before .before .before .before .before .before .before .measure .ensures .2)
+    let b = c .before .before .before .before .before .before .before .before .before .before .before .before .before .bring-back in
+    let o = (openable _ _ _ _ _ (c .before .before .before .before .before .before .before .before .before .before .before .before .before .before .before .before .before .before .before .before .before .may-open .ensures) (c .before .before .before .before .before .before .before .before .before .before .before .before .before .before .before .before .before .before .before .before .if1 .left)) in
+    omega (arith, o, b .kept, area-homes _ _ _ _ _ o (c .before .before .before .before .before .before .before .before .before .before .before .before .before .before .before .before .before .measure .ensures .1), newest-homes _ _ _ _ _ o (c .before .before .before .before .before .before .before .before .before .before .before .before .before .before .before .before .before .measure .ensures .1), c .before .before .before .before .before .before .before .before .before .before .before .before .before .before .before .before .before .measure .ensures .0, c .before .before .before .before .before .before .before .before .before .before .before .before .before .before .before .before .before .measure .ensures .2)
 
 done-requires : tie.Need-done-requires
 done-requires c κs = search needs
@@ -113,15 +114,15 @@ same-length-14 c = search needs
 
 returns-3 : tie.Need-returns-3
 returns-3 c =
-    let s = open-searchable _ _ _ _ _ _ _ (openable _ _ _ _ _ (c .before .before .before .before .before .before .before .before .before .before .before .before .before .before .before .before .before .before .before .before .before .before .before .before .before .before .before .before .may-open .ensures) (c .before .before .before .before .before .before .before .before .before .before .before .before .before .before .before .before .before .before .before .before .before .before .before .before .before .before .before .if1 .left)) (c .before .before .before .before .before .before .before .before .before .before .before .before .before .before .before .before .before .before .before .before .before .before .before .before .measure .ensures) in
-    let b = c .before .before .before .before .before .before .before .before .before .before .before .before .before .before .before .before .before .before .before .before .bring-back in
+    let s = open-searchable _ _ _ _ _ _ _ (openable _ _ _ _ _ (c .before .before .before .before .before .before .before .before .before .before .before .before .before .before .before .before .before .before .before .before .before .before .before .before .before .before .before .before .before .may-open .ensures) (c .before .before .before .before .before .before .before .before .before .before .before .before .before .before .before .before .before .before .before .before .before .before .before .before .before .before .before .before .if1 .left)) (c .before .before .before .before .before .before .before .before .before .before .before .before .before .before .before .before .before .before .before .before .before .before .before .before .before .measure .ensures) in
+    let b = c .before .before .before .before .before .before .before .before .before .before .before .before .before .before .before .before .before .before .before .before .before .bring-back in
     let d = c .done .ensures in
     let p = planned _ _ _ _ _ _ _ _ s (b .ensures .0 .ends) (b .ensures .0 .numbered) refl in
     let k = c .before .before .before .before .before .before .before .open-copies .ensures in
-    open-done _ _ _ _ _ _ _ _ _ _ _ _ (c .before .before .before .before .before .before .before .before .before .before .before .before .before .before .before .before .before .before .before .before .before .before .before .before .before .before .before .before .may-open .ensures) (c .before .before .before .before .before .before .before .before .before .before .before .before .before .before .before .before .before .before .before .before .before .before .before .before .before .before .before .if1 .left) (c .before .before .before .before .before .before .before .before .before .before .before .before .before .before .before .before .before .before .before .before .before .before .before .before .measure .ensures) p _ _ _ _ _ _ _ _ _ _
-    (omega (arith, c .before .before .before .before .before .before .before .before .before .before .before .before .before .before .before .if2 .left, b .ensures .1 .0, b .kept)) (d .0, d .1, d .2 ∙ b .ensures .1 .0)
-    (b .ensures .1 .1 .copied (omega (arith, c .before .before .before .before .before .before .before .before .before .before .before .before .before .before .before .if2 .left, b .kept))) (b .ensures .1 .1 .written (omega (arith, c .before .before .before .before .before .before .before .before .before .before .before .before .before .before .before .if2 .left, b .kept)))
-    (c .before .before .before .before .before .before .before .before .before .before .before .before .before .open-records .ensures) (omega (arith, b .ensures .1 .0)) (k .0) (k .1) (k .2)
+    open-done _ _ _ _ _ _ _ _ _ _ _ _ (c .before .before .before .before .before .before .before .before .before .before .before .before .before .before .before .before .before .before .before .before .before .before .before .before .before .before .before .before .before .may-open .ensures) (c .before .before .before .before .before .before .before .before .before .before .before .before .before .before .before .before .before .before .before .before .before .before .before .before .before .before .before .before .if1 .left) (c .before .before .before .before .before .before .before .before .before .before .before .before .before .before .before .before .before .before .before .before .before .before .before .before .before .measure .ensures) p _ _ _ _ _ _ _ _ _ _
+    (omega (arith, c .before .before .before .before .before .before .before .before .before .before .before .before .before .before .before .before .if2 .left, b .ensures .1 .0, b .kept)) (d .0, d .1, d .2 ∙ b .ensures .1 .0)
+    (b .ensures .1 .1 .copied (omega (arith, c .before .before .before .before .before .before .before .before .before .before .before .before .before .before .before .before .if2 .left, b .kept))) (b .ensures .1 .1 .written (omega (arith, c .before .before .before .before .before .before .before .before .before .before .before .before .before .before .before .before .if2 .left, b .kept)))
+    (c .before .before .before .before .before .before .before .before .before .before .before .before .before .before .open-records .ensures) (omega (arith, b .ensures .1 .0)) (k .0) (k .1) (k .2)
 
 pub reopen-spec : {M : Type 1} → statement M
 reopen-spec =

@@ -13,12 +13,17 @@ slice-aggregate-set-listed c = search needs
 set-listed-requires : tie.Need-set-listed-requires
 set-listed-requires c κs = search needs
 
+set-list-sign-requires : tie.Need-set-list-sign-requires
+set-list-sign-requires c κs = search needs
+
 same-length : tie.Need-same-length
 same-length c = search needs
 
 returns : tie.Need-returns
 unfolding freshState
-returns c = rw (c .before .before .set-listed .ensures, c .before .before .before .before .before .before .before .fresh-numbers .ensures)
+returns c =
+    let l = c .before .before .before .before .before .before in
+    rw (c .before .before .set-list-sign .ensures, l .set-listed .ensures, l .before .before .before .before .before .fresh-numbers .ensures)
 
 pub fresh-spec : {M : Type 1} → statement M
 fresh-spec =
@@ -27,5 +32,6 @@ fresh-spec =
     fresh-numbers-requires
     slice-aggregate-set-listed
     set-listed-requires
+    set-list-sign-requires
     same-length
     returns)

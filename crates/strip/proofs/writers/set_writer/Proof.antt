@@ -1,6 +1,6 @@
 -- `strip::set_writer` meets its contract. Assumes nothing.
-use borrow.Author.Needs.{needs}
 use Rattle.model.specs.State.{modeOffset, setWriter}
+use borrow.Author.Needs.{needs}
 use Rattle.strip.proofs.writers.set_writer.Statement.{statement}
 use Rattle.strip.proofs.writers.set_writer.Tie as tie
 
@@ -13,20 +13,20 @@ add-put-byte c = search needs
 put-byte-requires : tie.Need-put-byte-requires
 put-byte-requires c κs = search needs
 
-add-put-number : tie.Need-add-put-number
-add-put-number c = search needs
-
 put-number-requires : tie.Need-put-number-requires
 put-number-requires c κs = search needs
 
-add-put-number-2 : tie.Need-add-put-number-2
-add-put-number-2 c = search needs
+add-put-number : tie.Need-add-put-number
+add-put-number c = search needs
 
 put-number-requires-2 : tie.Need-put-number-requires-2
 put-number-requires-2 c κs = search needs
 
-add-put-number-3 : tie.Need-add-put-number-3
-add-put-number-3 c = search needs
+add-put-number-2 : tie.Need-add-put-number-2
+add-put-number-2 c = search needs
+
+less-one-requires : tie.Need-less-one-requires
+less-one-requires c κs = search needs
 
 put-number-requires-3 : tie.Need-put-number-requires-3
 put-number-requires-3 c κs = search needs
@@ -45,11 +45,11 @@ set-writer-spec =
     offset-requires
     add-put-byte
     put-byte-requires
-    add-put-number
     put-number-requires
-    add-put-number-2
+    add-put-number
     put-number-requires-2
-    add-put-number-3
+    add-put-number-2
+    less-one-requires
     put-number-requires-3
     same-length
     returns)

@@ -1,6 +1,6 @@
 -- `strip::writer` meets its contract. Assumes nothing.
-use borrow.Author.Needs.{needs}
 use Rattle.model.specs.State.{modeOffset, writerOf}
+use borrow.Author.Needs.{needs}
 use Rattle.strip.proofs.writers.writer.Statement.{statement}
 use Rattle.strip.proofs.writers.writer.Tie as tie
 
@@ -13,37 +13,27 @@ add-byte c = search needs
 byte-requires : tie.Need-byte-requires
 byte-requires c κs = search needs
 
-add-number : tie.Need-add-number
-add-number c = search needs
-
 number-requires : tie.Need-number-requires
 number-requires c κs = search needs
 
-add-number-2 : tie.Need-add-number-2
-add-number-2 c = search needs
+add-number : tie.Need-add-number
+add-number c = search needs
 
 number-requires-2 : tie.Need-number-requires-2
 number-requires-2 c κs = search needs
 
-add-number-3 : tie.Need-add-number-3
-add-number-3 c = search needs
+add-number-2 : tie.Need-add-number-2
+add-number-2 c = search needs
 
 number-requires-3 : tie.Need-number-requires-3
 number-requires-3 c κs = search needs
 
+one-more-requires : tie.Need-one-more-requires
+one-more-requires c κs = search needs
+
 returns : tie.Need-returns
 unfolding modeOffset writerOf
-returns c =
-    let c3 = c .before in
-    let c2 = c3 .before in
-    let c1 = c2 .before in
-    rw (
-      c1 .byte .ensures .0,
-      c2 .number .ensures .0,
-      c3 .number2 .ensures .0,
-      c .number3 .ensures .0,
-      c1 .before .offset .ensures .0,
-    )
+returns c = cc
 
 pub writer-spec : {M : Type 1} → statement M
 writer-spec =
@@ -52,10 +42,10 @@ writer-spec =
     offset-requires
     add-byte
     byte-requires
-    add-number
     number-requires
-    add-number-2
+    add-number
     number-requires-2
-    add-number-3
+    add-number-2
     number-requires-3
+    one-more-requires
     returns)

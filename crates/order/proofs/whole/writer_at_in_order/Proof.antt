@@ -4,8 +4,8 @@ use mathlib.Core.Path.{ap, _∙_, sym}
 use lib.Dec.{eqb}
 use Rattle.model.specs.State.{isOpen, writerInOrder}
 use Rattle.order.proofs.OrderTests.{answered-no, answered-yes, record-refused, open-held, idle-held}
-use Rattle.order.proofs.rest.writer_at_in_order.Statement.{statement}
-use Rattle.order.proofs.rest.writer_at_in_order.Tie as tie
+use Rattle.order.proofs.whole.writer_at_in_order.Statement.{statement}
+use Rattle.order.proofs.whole.writer_at_in_order.Tie as tie
 
 writer-requires : tie.Need-writer-requires
 writer-requires c κs = search needs

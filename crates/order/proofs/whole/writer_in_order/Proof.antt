@@ -4,8 +4,8 @@ use mathlib.Core.Path.{sym}
 use native.Mathlib.Omega.{arith}
 use Rattle.laws.proofs.strip.OrderLaws.{order-writer}
 use Rattle.order.proofs.OrderTests.{writer-refused}
-use Rattle.order.proofs.rest.writer_in_order.Statement.{statement}
-use Rattle.order.proofs.rest.writer_in_order.Tie as tie
+use Rattle.order.proofs.whole.writer_in_order.Statement.{statement}
+use Rattle.order.proofs.whole.writer_in_order.Tie as tie
 
 returns : tie.Need-returns
 returns c = sym (order-writer _ _ (record { mode = omega arith; home = λ k. omega arith; logged = λ k. omega arith }))

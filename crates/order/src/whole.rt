@@ -1,15 +1,20 @@
-// Question 2 of a strip with places promised or a round under way, where the other numbers are in order.
+// Question 2 of any strip, with places promised or a round under way too.
+use crate::numbers::bounds_in_order;
+use crate::numbers::groups_in_order;
 use model::State;
 use model::Writer;
+use strip::filled;
 use strip::is_open;
+use strip::next;
 use strip::next_position;
 use strip::places;
 use strip::promise;
 use strip::promised;
+use strip::start;
 use strip::state;
 use strip::writer;
 ghost use mathlib.Core.Path.{_≡_};
-ghost use Prim.Native.Nat.{ℕ, _+_, _*_, _^_, _<_};
+ghost use Prim.Native.Nat.{ℕ, _+_, _*_, _^_, _≤_, _<_};
 ghost use lib.ListN.{length};
 ghost use Rattle.model.specs.State.{stateOf, writerInOrder, writerAtInOrder, writersInOrder, inOrder};
 ghost use Rattle.strip.specs.Order.{GroupsInOrder, Agrees, BoundsInOrder, roundInOrder};
@@ -91,11 +96,10 @@ fn writers_in_order(s: &[u8], st: State) -> bool
 }
 
 // The rest of question 2 where the numbers but the round are in order: the round, the promises and the writers.
-pub fn rest_in_order(s: &[u8]) -> bool
-    requires { ⌜ (length (now s) ≡ 1024) × GroupsInOrder (stateOf (now s)) × BoundsInOrder (stateOf (now s)) ⌝ }
+fn rest_in_order(s: &[u8], st: State) -> bool
+    requires { ⌜ (length (now s) ≡ 1024) × GroupsInOrder st × BoundsInOrder st × (st ≡ stateOf (now s)) ⌝ }
     ensures { λ r. ⌜ ((groups homes : ℕ) → Agrees (stateOf (now (s .entry))) groups homes → r ≡ inOrder (now (s .entry)) groups homes) ⌝ }
 {
-    let st = state(s);
     if !round_in_order(st) {
         return false;
     }
@@ -103,4 +107,22 @@ pub fn rest_in_order(s: &[u8]) -> bool
         return false;
     }
     writers_in_order(s, st)
+}
+
+// Question 2 for a log of `groups` groups and `homes` homes, whatever is promised and whether a round is under way.
+pub fn whole_in_order(s: &[u8], groups: u64, homes: u64) -> bool
+    requires { ⌜ (length (now s) ≡ 1024) × (groups ≤ 1024) ⌝ }
+    ensures { λ r. ⌜ r ≡ inOrder (now (s .entry)) groups homes ⌝ }
+{
+    if !groups_in_order(s, groups, homes) {
+        return false;
+    }
+    let start = start(s);
+    let low = 7 * start;
+    let whole = 7 * (next(s) - start);
+    let all = whole + filled(s);
+    if !bounds_in_order(s, low, whole, all) {
+        return false;
+    }
+    rest_in_order(s, state(s))
 }

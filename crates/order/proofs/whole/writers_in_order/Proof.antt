@@ -5,8 +5,8 @@ use Prim.Native.Nat.{_-_, _≤_}
 use native.Mathlib.Omega.{arith}
 use Rattle.model.specs.State.{writersInOrder}
 use Rattle.order.proofs.OrderTests.{answered-no, answered-yes, writers-none, writers-turn, writers-stop}
-use Rattle.order.proofs.rest.writers_in_order.Statement.{statement}
-use Rattle.order.proofs.rest.writers_in_order.Tie as tie
+use Rattle.order.proofs.whole.writers_in_order.Statement.{statement}
+use Rattle.order.proofs.whole.writers_in_order.Tie as tie
 
 abbrev Inv-loop : tie.InvT-loop
 Inv-loop s st w₀ w = (true ≡ writersInOrder s st w) × (w ≤ 8)

@@ -1,0 +1,10 @@
+/* Files that pages and plots are written to. */
+#ifndef PAGE_FILE_H
+#define PAGE_FILE_H
+
+#include <stdio.h>
+
+/* A new file, or one that holds a page, emptied. Null if not, with the reason: what begins otherwise than a page is left alone. */
+FILE *page_create(const char *path, const char **why);
+
+#endif
