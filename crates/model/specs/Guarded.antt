@@ -69,11 +69,12 @@ begun = runs unguarded beforeList
 unfoldable pub guarded : World
 guarded = begun .world
 
--- under the list: a block that writer 1 held before, its homes, homes that are not its own, and a writer that has none
+-- under the list: a block that writer 1 held before, its homes, homes that are not its own, and a writer that has none. Zeros that writer 0 holds for
+-- the list do not count yet
 unfoldable pub underList : List Call
 underList =
     reads 1 5 ∷ writes 1 3 ∷ writes 1 4 ∷ writes 1 6 ∷ writes 2 3 ∷ reads 1 3 ∷ reads 1 4 ∷ reads 1 6 ∷ reads 1 9 ∷ reads 2 3 ∷ reads 0 4 ∷ writes 0 3 ∷ begin 0
-    ∷ writes 0 3 ∷ writes 0 2 ∷ commit 1 room ∷ []
+    ∷ writes 0 3 ∷ writes 0 2 ∷ commit 1 room ∷ store 0 8 (zeros 64) room ∷ reads 0 2 ∷ []
 
 unfoldable pub denying : Run
 denying = runs guarded underList
@@ -128,7 +129,7 @@ moments =
     ∷ record { yields = begun .numbers; paper = 0 ∷ 0 ∷ 19 ∷ 19 ∷ 7 ∷ 0 ∷ 0 ∷ 0 ∷ 0 ∷ 0 ∷ 0 ∷ 0 ∷ 0 ∷ [] }
     ∷ record {
       yields = seen guarded (denying .numbers);
-      paper = 28 ∷ 28 ∷ 2 ∷ 20 ∷ 0 ∷ 19 ∷ 19 ∷ 19 ∷ 0 ∷ 20 ∷ 0 ∷ 0 ∷ 20 ∷ 20 ∷ 19 ∷ 0 ∷ 19 ∷ 0 ∷ 0 ∷ [];
+      paper = 28 ∷ 28 ∷ 2 ∷ 20 ∷ 0 ∷ 19 ∷ 19 ∷ 19 ∷ 0 ∷ 20 ∷ 0 ∷ 0 ∷ 20 ∷ 20 ∷ 19 ∷ 0 ∷ 19 ∷ 0 ∷ 0 ∷ 0 ∷ 0 ∷ [];
     }
     ∷ record { yields = seen replaced (runs replaced underNext .numbers); paper = 33 ∷ 33 ∷ 2 ∷ 7 ∷ 19 ∷ 0 ∷ 20 ∷ 20 ∷ 19 ∷ 7 ∷ [] }
     ∷ record { yields = seen laidDown (runs laidDown underNext .numbers); paper = noPosition ∷ noPosition ∷ 2 ∷ 7 ∷ 19 ∷ 0 ∷ 20 ∷ 20 ∷ 19 ∷ 7 ∷ [] }
