@@ -33,10 +33,10 @@ above-dist-check:
 	@echo "dist: $(ABOVE_DIST): what the proved program gives"
 
 C_ABOVE = station bands wear above_check above_cost
-C_BANDS = bands bands_table text_line copy store/units $(C_STORE)
-C_WEAR = wear_main wear_text wear_page page_file copy store/units $(C_STORE)
-C_ABOVE_CHECK = above_check store/units $(C_STORE)
-C_ABOVE_COST = above_cost $(C_STORE)
+C_BANDS = c/bands/main c/bands/table c/common/text_line c/common/copy c/store/units $(C_STORE)
+C_WEAR = $(addprefix c/wear/,main text page) c/common/page_file c/common/copy c/store/units $(C_STORE)
+C_ABOVE_CHECK = tests/above_check c/store/units $(C_STORE)
+C_ABOVE_COST = tests/above_cost $(C_STORE)
 C_ABOVE_PROGRAMS = $(C_ABOVE:%=$(C_OUT)/%) $(C_ABOVE:%=$(C_OUT)/sanitize/%)
 
 .PHONY: bands wear above-check above-compare
@@ -68,7 +68,7 @@ UNITS_LIB = $(C_OUT)/libkagutin_units.a
 ABOVE_HEADERS = $(patsubst %,include/kagutin_%.h,chains $(ABOVE) units)
 ABOVE_INSTALLED = $(notdir $(UNITS_LIB) $(ABOVE_LIBS))
 
-$(UNITS_LIB): $(C_OUT)/store/units.o
+$(UNITS_LIB): $(C_OBJECTS)/c/store/units.o
 	rm -f $@
 	$(AR) rcs $@ $^
 

@@ -25,25 +25,28 @@ SEED ?= 1
 C_FLAGS = -std=c99 -D_POSIX_C_SOURCE=200809L -Wall -Wextra -pedantic -Wshadow -Wconversion -Iinclude -Ic
 C_SANITIZE = -O1 -g -fno-omit-frame-pointer -fsanitize=address,undefined -fno-sanitize-recover=all
 C_OUT = target/c
-C_HEADERS = $(wildcard include/*.h c/*.h c/store/*.h)
+C_OBJECTS = $(C_OUT)/obj
+C_HEADERS = $(wildcard include/*.h c/*/*.h tests/*.h)
 
-C_STORE = store/store store/usage store/rights store/batch store/memory store/file store/file_io store/fram
-C_STATION = station_main options power tasks wear rights calls event_calls refusals report station events book rule driver driver_file $(C_STORE)
-C_INSPECT = inspect inspect_image inspect_fate inspect_rights inspect_text inspect_json rule
-C_DRIVER_CHECK = driver_check driver driver_file $(C_STORE)
-C_QUICKSTART = quickstart $(C_STORE)
-C_STORE_CHECK = store_check play $(C_STORE)
-C_RESERVE_CHECK = reserve_check $(C_STORE)
-C_ROUND_CHECK = round_check $(C_STORE)
-C_RIGHTS_CHECK = rights_check $(C_STORE)
-C_FILE_CHECK = file_check play $(C_STORE)
-C_KILL_CHECK = kill_check play $(C_STORE)
-C_FRAM_CHECK = fram_check play $(C_STORE)
-C_GAUGES = gauges readings text_line levels_plot page_file
-C_GAUGES_COST = gauges_cost
-C_RIGHTS_COST = rights_cost
-C_QUESTION_COST = question_cost
-C_INFLOW = inflow
+# Programs by their sources, from the root and without their ending.
+C_STORE = $(addprefix c/store/,store usage rights batch) $(addprefix c/drivers/,memory file file_io fram)
+C_STATION_PARTS = main options power tasks wear rights calls event_calls refusals report station events book driver driver_file
+C_STATION = $(C_STATION_PARTS:%=c/station/%) c/common/rule $(C_STORE)
+C_INSPECT = $(addprefix c/inspect/,main image fate rights text json) c/common/rule
+C_DRIVER_CHECK = tests/driver_check c/station/driver c/station/driver_file $(C_STORE)
+C_QUICKSTART = c/examples/quickstart $(C_STORE)
+C_STORE_CHECK = tests/store_check tests/play $(C_STORE)
+C_RESERVE_CHECK = tests/reserve_check $(C_STORE)
+C_ROUND_CHECK = tests/round_check $(C_STORE)
+C_RIGHTS_CHECK = tests/rights_check $(C_STORE)
+C_FILE_CHECK = tests/file_check tests/play $(C_STORE)
+C_KILL_CHECK = tests/kill_check tests/play $(C_STORE)
+C_FRAM_CHECK = tests/fram_check tests/play $(C_STORE)
+C_GAUGES = $(addprefix c/gauges/,main readings levels_plot) c/common/text_line c/common/page_file
+C_GAUGES_COST = tests/gauges_cost
+C_RIGHTS_COST = tests/rights_cost
+C_QUESTION_COST = tests/question_cost
+C_INFLOW = c/inflow/main
 C_PROGRAMS = inspect quickstart driver_check store_check reserve_check round_check rights_check file_check kill_check fram_check gauges gauges_cost rights_cost question_cost inflow
 
 .PHONY: station inspect quickstart gauges inflow c-sanitize c-check c-kills c-dist install uninstall c-clean
@@ -55,19 +58,11 @@ gauges: $(C_OUT)/gauges
 inflow: $(C_OUT)/inflow
 c-sanitize: $(C_PROGRAMS:%=$(C_OUT)/sanitize/%)
 
-$(C_OUT)/%.o: c/%.c $(C_HEADERS)
+$(C_OBJECTS)/%.o: %.c $(C_HEADERS)
 	@mkdir -p $(@D)
 	$(CC) $(C_FLAGS) $(CFLAGS) -c $< -o $@
 
-$(C_OUT)/%.o: tests/%.c $(C_HEADERS)
-	@mkdir -p $(@D)
-	$(CC) $(C_FLAGS) $(CFLAGS) -c $< -o $@
-
-$(C_OUT)/sanitize/%.o: c/%.c $(C_HEADERS)
-	@mkdir -p $(@D)
-	$(CC) $(C_FLAGS) $(C_SANITIZE) -c $< -o $@
-
-$(C_OUT)/sanitize/%.o: tests/%.c $(C_HEADERS)
+$(C_OUT)/sanitize/obj/%.o: %.c $(C_HEADERS)
 	@mkdir -p $(@D)
 	$(CC) $(C_FLAGS) $(C_SANITIZE) -c $< -o $@
 
@@ -84,10 +79,10 @@ $(C_LINKED):
 
 # One program in both builds: its name, its objects, the libraries it needs.
 define C_PROGRAM
-$(C_OUT)/$(1): $(2:%=$(C_OUT)/%.o) $(3) $(if $(3),$(C_LINKED))
+$(C_OUT)/$(1): $(2:%=$(C_OBJECTS)/%.o) $(3) $(if $(3),$(C_LINKED))
 	$$(CC) $$(CFLAGS) $$(filter-out $(C_LINKED),$$^) $(if $(3),$$(C_LIBS)) -o $$@
 
-$(C_OUT)/sanitize/$(1): $(2:%=$(C_OUT)/sanitize/%.o) $(3:$(C_OUT)/%=$(C_OUT)/sanitize/%) $(if $(3),$(C_LINKED))
+$(C_OUT)/sanitize/$(1): $(2:%=$(C_OUT)/sanitize/obj/%.o) $(3:$(C_OUT)/%=$(C_OUT)/sanitize/%) $(if $(3),$(C_LINKED))
 	$$(CC) $$(C_SANITIZE) $$(filter-out $(C_LINKED),$$^) $(if $(3),$$(C_LIBS)) -o $$@
 endef
 
@@ -130,18 +125,19 @@ c-kills: $(C_OUT)/kill_check
 # The store object as an archive of its own; it calls the library.
 STORE_LIB = $(C_OUT)/libkagutin_store.a
 
-$(STORE_LIB): $(C_STORE:%=$(C_OUT)/%.o)
+$(STORE_LIB): $(C_STORE:%=$(C_OBJECTS)/%.o)
 	rm -f $@
 	$(AR) rcs $@ $^
 
 C_PUBLIC = kagutin kagutin_store kagutin_rights kagutin_file kagutin_memory kagutin_fram
 
-# c/store/NAME.c becomes kagutin_NAME.c there; all headers and sources of dist/ stand in one folder.
+# NAME.c of c/store and c/drivers becomes kagutin_NAME.c there; all headers and sources of dist/ stand in one folder.
 DIST ?= dist
-c-dist: $(C_PUBLIC:%=include/%.h) $(C_STORE:%=c/%.c)
+C_PRIVATE = $(wildcard c/store/*.h c/drivers/*.h)
+c-dist: $(C_PUBLIC:%=include/%.h) $(C_PRIVATE) $(C_STORE:%=%.c)
 	install -d $(DIST)
-	install -m 644 $(C_PUBLIC:%=include/%.h) c/store/kagutin_file_inner.h $(DIST)
-	for name in $(C_STORE:store/%=%); do install -m 644 c/store/$$name.c $(DIST)/kagutin_$$name.c; done
+	install -m 644 $(C_PUBLIC:%=include/%.h) $(C_PRIVATE) $(DIST)
+	for name in $(C_STORE); do install -m 644 $$name.c $(DIST)/kagutin_$${name##*/}.c; done
 
 # Calls beside the store, each a header and an archive.
 C_BESIDE = kagutin_gauges kagutin_inflow

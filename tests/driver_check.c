@@ -1,5 +1,5 @@
 /* The driver by itself: damaged batches, subsets at a cut, fences, confirm, a file that shrinks. */
-#include "driver.h"
+#include "station/driver.h"
 
 #include <stdio.h>
 #include <string.h>

@@ -5,10 +5,10 @@
 #include <stdlib.h>
 #include <string.h>
 
-#include "copy.h"
+#include "common/copy.h"
+#include "common/page_file.h"
 #include "kagutin_units.h"
-#include "page_file.h"
-#include "wear_sheet.h"
+#include "sheet.h"
 
 enum { STATUS_DONE = 0, STATUS_USAGE = 2, STATUS_TROUBLE = 3 };
 enum { RUNNING = 12 }; /* byte of a pump's home; docs/HOMES.md */

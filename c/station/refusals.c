@@ -3,8 +3,8 @@
 
 #include <string.h>
 
+#include "common/rule.h"
 #include "rights.h"
-#include "rule.h"
 
 #define LOG(s) (s)->driver.log, (s)->driver.log_size
 #define AREA(s) (s)->driver.area, (s)->driver.area_size

@@ -1,5 +1,5 @@
 /* The wear sheet as one HTML page with a plot; it needs nothing beside itself. */
-#include "wear_sheet.h"
+#include "sheet.h"
 
 #include <inttypes.h>
 

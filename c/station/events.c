@@ -4,7 +4,7 @@
 #include <stdlib.h>
 #include <string.h>
 
-#include "rule.h"
+#include "common/rule.h"
 
 enum { PUMP_BYTES = 13, ALARM_BYTES = 7, FIRST_ALARM = 8 };
 

@@ -7,7 +7,7 @@
 #include <stdlib.h>
 #include <string.h>
 
-#include "text_line.h"
+#include "common/text_line.h"
 
 #define LINE_SIZE 256
 

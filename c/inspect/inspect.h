@@ -2,7 +2,7 @@
 #ifndef INSPECT_H
 #define INSPECT_H
 
-#include "rule.h"
+#include "common/rule.h"
 
 #define MAX_NOTES 200
 #define MAX_GROUPS 1024u

@@ -5,10 +5,10 @@
 #include <string.h>
 
 #include "calls_inner.h"
+#include "common/rule.h"
 #include "refusals.h"
 #include "report.h"
 #include "rights.h"
-#include "rule.h"
 
 void call_expect(struct station *station, const char *call, struct kagutin_reply reply, uint64_t figure, uint64_t size)
 {

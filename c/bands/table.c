@@ -1,5 +1,5 @@
 /* Tables of depth bands from text files, and what is wrong with one in terms of its lines. */
-#include "bands_table.h"
+#include "table.h"
 
 #include <errno.h>
 #include <stdarg.h>
@@ -7,7 +7,7 @@
 #include <stdlib.h>
 #include <string.h>
 
-#include "text_line.h"
+#include "common/text_line.h"
 
 #define LINE_SIZE 256
 

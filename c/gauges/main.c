@@ -5,10 +5,10 @@
 #include <stdlib.h>
 #include <string.h>
 
+#include "common/page_file.h"
 #include "kagutin.h"
 #include "kagutin_gauges.h"
 #include "levels_plot.h"
-#include "page_file.h"
 #include "readings.h"
 
 enum { STATUS_SAME = 0, STATUS_DIFFERS = 1, STATUS_USAGE = 2, STATUS_TROUBLE = 3 };

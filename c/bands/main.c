@@ -5,10 +5,10 @@
 #include <stdlib.h>
 #include <string.h>
 
-#include "bands_table.h"
-#include "copy.h"
+#include "common/copy.h"
 #include "kagutin_file.h"
 #include "kagutin_units.h"
+#include "table.h"
 
 enum { STATUS_DONE = 0, STATUS_REFUSED = 1, STATUS_USAGE = 2, STATUS_TROUBLE = 3 };
 

@@ -1,5 +1,5 @@
 /* The wear sheet as text and as CSV. */
-#include "wear_sheet.h"
+#include "sheet.h"
 
 #include <inttypes.h>
 #include <string.h>
