@@ -81,7 +81,7 @@ bench-docs:
 # The proofs come first, so that the library is made from what they have just proved; their verdict is printed again as the last line.
 test: second
 	cd second && cargo test --release --offline --quiet
-	python3 tests/definitions.py $(SEED) 200
+	python3 tests/definitions/definitions.py $(SEED) 200
 	verdict=$$(mktemp) && trap 'rm -f "$$verdict"' EXIT && \
 	rt ci 2>&1 | tee "$$verdict" && \
 	$(MAKE) --no-print-directory test-library && \

@@ -3,7 +3,7 @@
 # station       the simulated pump station, which keeps hours and alarms
 # bands         sets, shows and looks up the table of depth bands of an image
 # wear          the wear sheet of images: text, CSV or one HTML page
-# above-check   tests of these and of the calls on the store object
+# units-check   tests of these and of the calls on the store object
 # above-dist    makes dist/kagutin_UNIT.c again from the proved crates; above-dist-check fails if a byte of them differs
 # above-compare the calls against the second implementation: histories with cuts, damaged images, homes, strips and lengths
 
@@ -32,14 +32,14 @@ above-dist-check:
 	    || { echo "$$file is not what the proved program gives; make above-dist makes it again" >&2; exit 1; }; done
 	@echo "dist: $(ABOVE_DIST): what the proved program gives"
 
-C_ABOVE = station bands wear above_check above_cost
+C_ABOVE = station bands wear units_check units_cost
 C_BANDS = c/bands/main c/bands/table c/common/text_line c/common/copy c/store/units $(C_STORE)
 C_WEAR = $(addprefix c/wear/,main text page) c/common/page_file c/common/copy c/store/units $(C_STORE)
-C_ABOVE_CHECK = tests/above_check c/store/units $(C_STORE)
-C_ABOVE_COST = tests/above_cost $(C_STORE)
+C_ABOVE_CHECK = tests/store/units_check c/store/units $(C_STORE)
+C_ABOVE_COST = tests/costs/units_cost $(C_STORE)
 C_ABOVE_PROGRAMS = $(C_ABOVE:%=$(C_OUT)/%) $(C_ABOVE:%=$(C_OUT)/sanitize/%)
 
-.PHONY: bands wear above-check above-compare
+.PHONY: bands wear units-check above-compare
 
 bands: $(C_OUT)/bands
 wear: $(C_OUT)/wear
@@ -48,8 +48,8 @@ c-sanitize: $(C_ABOVE:%=$(C_OUT)/sanitize/%)
 $(eval $(call C_PROGRAM,station,$(C_STATION),$(ABOVE_LIBS) $(LIB)))
 $(eval $(call C_PROGRAM,bands,$(C_BANDS),$(ABOVE_LIBS) $(LIB)))
 $(eval $(call C_PROGRAM,wear,$(C_WEAR),$(ABOVE_LIBS) $(LIB)))
-$(eval $(call C_PROGRAM,above_check,$(C_ABOVE_CHECK),$(ABOVE_LIBS) $(LIB)))
-$(eval $(call C_PROGRAM,above_cost,$(C_ABOVE_COST),$(ABOVE_LIBS) $(LIB)))
+$(eval $(call C_PROGRAM,units_check,$(C_ABOVE_CHECK),$(ABOVE_LIBS) $(LIB)))
+$(eval $(call C_PROGRAM,units_cost,$(C_ABOVE_COST),$(ABOVE_LIBS) $(LIB)))
 
 $(ABOVE:%=$(C_OUT)/libkagutin_%.a): $(C_OUT)/lib%.a: dist/%.c $(C_HEADERS)
 	@mkdir -p $(@D)
@@ -91,10 +91,10 @@ install: install-above
 uninstall: uninstall-above
 c-dist: c-dist-above
 
-above-check: $(C_ABOVE_PROGRAMS)
-	CC="$(CC)" LIB="$(LIB)" sh tests/above-check.sh $(C_OUT)
+units-check: $(C_ABOVE_PROGRAMS)
+	CC="$(CC)" LIB="$(LIB)" sh tests/programs/units-check.sh $(C_OUT)
 
-c-check: above-check
+c-check: units-check
 
 # Shared objects for the comparison: the store and the units in one, plain and with sanitizers.
 ABOVE_SOURCES = dist/kagutin.c $(ABOVE_DIST)

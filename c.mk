@@ -26,26 +26,26 @@ C_FLAGS = -std=c99 -D_POSIX_C_SOURCE=200809L -Wall -Wextra -pedantic -Wshadow -W
 C_SANITIZE = -O1 -g -fno-omit-frame-pointer -fsanitize=address,undefined -fno-sanitize-recover=all
 C_OUT = target/c
 C_OBJECTS = $(C_OUT)/obj
-C_HEADERS = $(wildcard include/*.h c/*/*.h tests/*.h)
+C_HEADERS = $(wildcard include/*.h c/*/*.h tests/*/*.h)
 
 # Programs by their sources, from the root and without their ending.
 C_STORE = $(addprefix c/store/,store usage rights batch) $(addprefix c/drivers/,memory file file_io fram)
 C_STATION_PARTS = main options power tasks wear rights calls event_calls refusals report station events book driver driver_file
 C_STATION = $(C_STATION_PARTS:%=c/station/%) c/common/rule $(C_STORE)
 C_INSPECT = $(addprefix c/inspect/,main image fate rights text json) c/common/rule
-C_DRIVER_CHECK = tests/driver_check c/station/driver c/station/driver_file $(C_STORE)
+C_DRIVER_CHECK = tests/programs/driver_check c/station/driver c/station/driver_file $(C_STORE)
 C_QUICKSTART = c/examples/quickstart $(C_STORE)
-C_STORE_CHECK = tests/store_check tests/play $(C_STORE)
-C_RESERVE_CHECK = tests/reserve_check $(C_STORE)
-C_ROUND_CHECK = tests/round_check $(C_STORE)
-C_RIGHTS_CHECK = tests/rights_check $(C_STORE)
-C_FILE_CHECK = tests/file_check tests/play $(C_STORE)
-C_KILL_CHECK = tests/kill_check tests/play $(C_STORE)
-C_FRAM_CHECK = tests/fram_check tests/play $(C_STORE)
+C_STORE_CHECK = tests/store/store_check tests/common/play $(C_STORE)
+C_RESERVE_CHECK = tests/store/reserve_check $(C_STORE)
+C_ROUND_CHECK = tests/store/round_check $(C_STORE)
+C_RIGHTS_CHECK = tests/store/rights_check $(C_STORE)
+C_FILE_CHECK = tests/drivers/file_check tests/common/play $(C_STORE)
+C_KILL_CHECK = tests/drivers/kill_check tests/common/play $(C_STORE)
+C_FRAM_CHECK = tests/drivers/fram_check tests/common/play $(C_STORE)
 C_GAUGES = $(addprefix c/gauges/,main readings levels_plot) c/common/text_line c/common/page_file
-C_GAUGES_COST = tests/gauges_cost
-C_RIGHTS_COST = tests/rights_cost
-C_QUESTION_COST = tests/question_cost
+C_GAUGES_COST = tests/costs/gauges_cost
+C_RIGHTS_COST = tests/costs/rights_cost
+C_QUESTION_COST = tests/costs/question_cost
 C_INFLOW = c/inflow/main
 C_PROGRAMS = inspect quickstart driver_check store_check reserve_check round_check rights_check file_check kill_check fram_check gauges gauges_cost rights_cost question_cost inflow
 
@@ -104,16 +104,16 @@ $(eval $(call C_PROGRAM,inflow,$(C_INFLOW),$(INFLOW_LIB)))
 
 c-check: $(C_PROGRAMS:%=$(C_OUT)/%) c-sanitize
 	CC="$(CC)" LIB="$(LIB)" C_LIBS="$(C_LIBS)" sh tests/c-check.sh $(C_OUT)
-	CC="$(CC)" LIB="$(LIB)" GAUGES_LIB="$(GAUGES_LIB)" sh tests/gauges-check.sh $(C_OUT)
-	CC="$(CC)" LIB="$(LIB)" GAUGES_LIB="$(GAUGES_LIB)" INFLOW_LIB="$(INFLOW_LIB)" sh tests/inflow-check.sh $(C_OUT)
+	CC="$(CC)" LIB="$(LIB)" GAUGES_LIB="$(GAUGES_LIB)" sh tests/programs/gauges-check.sh $(C_OUT)
+	CC="$(CC)" LIB="$(LIB)" GAUGES_LIB="$(GAUGES_LIB)" INFLOW_LIB="$(INFLOW_LIB)" sh tests/programs/inflow-check.sh $(C_OUT)
 
 # Instructions of a store and a read under a list of rights, and of question 2, by callgrind.
 .PHONY: rights-cost question-cost
 rights-cost: $(C_OUT)/rights_cost
-	sh tests/rights-cost.sh $(C_OUT)
+	sh tests/costs/rights-cost.sh $(C_OUT)
 
 question-cost: $(C_OUT)/question_cost
-	sh tests/question-cost.sh $(C_OUT)
+	sh tests/costs/question-cost.sh $(C_OUT)
 
 # A process killed at random instants, long.
 KILLS ?= 1000

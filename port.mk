@@ -44,9 +44,9 @@ dist-check:
 
 # Tests of the generator itself.
 generator-check:
-	python3 tests/forms.py
-	python3 tests/generator.py $(GENERATE_WORDS)
-	python3 tests/imports.py
+	python3 tests/generator/forms.py
+	python3 tests/generator/generator.py $(GENERATE_WORDS)
+	python3 tests/generator/imports.py
 
 # The libraries of the C programs.
 DIST_LIBS = kagutin $(BESIDE:%=kagutin_%)

@@ -63,7 +63,7 @@ else
 fi
 
 # --- stack of each call ---
-gives 0 "stack: built" "$cc" -std=c99 -D_GNU_SOURCE -Wall -Wextra -pedantic -O2 -Iinclude tests/stack.c "$lib" ${C_LIBS:-} -o "$tmp/stack"
+gives 0 "stack: built" "$cc" -std=c99 -D_GNU_SOURCE -Wall -Wextra -pedantic -O2 -Iinclude tests/stack/stack.c "$lib" ${C_LIBS:-} -o "$tmp/stack"
 gives 0 "stack: every call within its bound, small log and large" "$tmp/stack"
 
 # --- no heap in the object; nm prints what it calls ---
@@ -91,7 +91,7 @@ gives 0 "files: written and mapped, stopped inside writes, locks, failures" "$sa
 gives 0 "FRAM: power gone after every byte" "$out/fram_check" 1
 gives 0 "FRAM: under sanitizers" "$san/fram_check" 13
 sources="c/store/store.c c/store/usage.c c/store/batch.c c/drivers/memory.c"
-build_tasks() { "$cc" -std=c99 -O1 -g "$@" $strict tests/tasks_check.c $sources "$lib" ${C_LIBS:-} -pthread -o "$tmp/tasks"; }
+build_tasks() { "$cc" -std=c99 -O1 -g "$@" $strict tests/store/tasks_check.c $sources "$lib" ${C_LIBS:-} -pthread -o "$tmp/tasks"; }
 gives 0 "tasks: built" build_tasks -fsanitize=thread
 if "$tmp/tasks" 2>&1 | grep -q 'unexpected memory mapping'; then # some kernels give the race detector no room
     gives 0 "tasks: built without the race detector" build_tasks
@@ -296,7 +296,7 @@ if command -v valgrind > /dev/null; then
     gives 0 "inspect under memcheck" $memcheck "$out/inspect" "$tmp/kept.img"
     gives 0 "quick start under memcheck" $memcheck "$out/quickstart" "$tmp/memcheck.img"
     gives 0 "store under memcheck" $memcheck "$out/store_check" 499 30
-    gives 0 "cost of question 2" sh tests/question-cost.sh "$out"
+    gives 0 "cost of question 2" sh tests/costs/question-cost.sh "$out"
 else
     echo "skipped memcheck and cost: valgrind is not installed"
 fi

@@ -1,6 +1,6 @@
 /*
- * Calls on units whose instructions callgrind counts: above_cost CASE makes a
- * store of 1,024 groups and 64 homes in memory and ends with the call, above_cost
+ * Calls on units whose instructions callgrind counts: units_cost CASE makes a
+ * store of 1,024 groups and 64 homes in memory and ends with the call, units_cost
  * CASE list commits a list of rights first. Without words it prints each case,
  * the function whose last call counts and the most instructions it may take.
  */
@@ -25,7 +25,7 @@ static void done(const char *what, uint64_t code)
 {
     if (code == 0)
         return;
-    fprintf(stderr, "above_cost: %s answers %llu\n", what, (unsigned long long)code);
+    fprintf(stderr, "units_cost: %s answers %llu\n", what, (unsigned long long)code);
     exit(1);
 }
 

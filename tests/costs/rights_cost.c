@@ -1,6 +1,6 @@
 /*
  * What questions 19 and 20 cost: rights_cost CASE CALL makes the case at G 1,024 and then the one call, store or read by
- * writer 1, inside counted(), whose instructions callgrind counts (tests/rights-cost.sh). Without words it lists the cases.
+ * writer 1, inside counted(), whose instructions callgrind counts (tests/costs/rights-cost.sh). Without words it lists the cases.
  */
 #include <stdbool.h>
 #include <stdio.h>

@@ -1,6 +1,6 @@
 /*
  * What question 2 costs: question_cost CASE makes the case at G 1,024 and then one confirm, whose instructions callgrind counts
- * (tests/question-cost.sh). Without words it lists the cases, each with the most that question 2 may take there, 0 for no limit.
+ * (tests/costs/question-cost.sh). Without words it lists the cases, each with the most that question 2 may take there, 0 for no limit.
  */
 #include <stdio.h>
 #include <stdlib.h>

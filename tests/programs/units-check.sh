@@ -1,11 +1,11 @@
 #!/bin/sh
-# Tests of depth bands, pump hours and alarms from C: above-check.sh FOLDER-OF-THE-PROGRAMS (run by make above-check from the root).
+# Tests of depth bands, pump hours and alarms from C: units-check.sh FOLDER-OF-THE-PROGRAMS (run by make units-check from the root).
 # Prints one line per test; the last line counts them. Status 1 if one failed.
 set -u
 out=$1
 san=$out/sanitize
 cc=${CC:-cc}
-. tests/c-helpers.sh
+. tests/common/helpers.sh
 
 shows() {
     grep -q -e "$1" "$tmp/out"; report $? "output: '$1'"
@@ -23,12 +23,12 @@ done
 
 # --- calls on the store object, with cuts ---
 for seed in 1 2 3; do
-    gives 0 "events and cuts, seed $seed" "$out/above_check" "$seed"
+    gives 0 "events and cuts, seed $seed" "$out/units_check" "$seed"
 done
-gives 0 "events and cuts with sanitizers" "$san/above_check" 4
+gives 0 "events and cuts with sanitizers" "$san/units_check" 4
 
 # --- bands ---
-gives 0 "an image" "$out/above_check" --image "$tmp/north.img" 90 4
+gives 0 "an image" "$out/units_check" --image "$tmp/north.img" 90 4
 printf '# north\n0 299 0\n900 1499 2 # two\n\n300 899 1\n1500 9999 4\n' > "$tmp/table.txt"
 cp "$tmp/north.img" "$tmp/before.img"
 says "no table is set" 1 "show without a table" "$san/bands" show "$tmp/north.img"
@@ -92,7 +92,7 @@ gives 0 "--version" "$san/bands" --version
 shows '^bands (Kagutin) [0-9]'
 
 # --- wear ---
-gives 0 "a second image" "$out/above_check" --image "$tmp/depot, \"old\".img" 30 2
+gives 0 "a second image" "$out/units_check" --image "$tmp/depot, \"old\".img" 30 2
 cp "$tmp/north.img" "$tmp/before.img"
 gives 0 "one image" "$san/wear" --interval 100 "$tmp/north.img"
 shows '^Wear sheet: 1 image, service interval 100 h'
@@ -130,7 +130,7 @@ grep -q '^Panel: ' "$tmp/log"; report $? "its panel"
 sed 1d "$tmp/out" | cut -d, -f1-3,5- > "$tmp/sheet"
 gives 0 "its pumps by the wear sheet" "$san/wear" --csv --all --interval 50 --writer 7 "$tmp/station.img"
 sed 1d "$tmp/out" | cut -d, -f3-5,7,8 | sort | cmp - "$tmp/sheet" > "$tmp/log" 2>&1; report $? "the same starts, seconds and services"
-gives 0 "an image without events" "$out/above_check" --image "$tmp/new.img" 0 4
+gives 0 "an image without events" "$out/units_check" --image "$tmp/new.img" 0 4
 gives 0 "a page of nothing" "$san/wear" --html "$tmp/none.html" --interval 1000000 "$tmp/new.img"
 gives 0 "a sheet of nothing" "$san/wear" "$tmp/new.img"
 shows '^8 pumps never started'
@@ -167,11 +167,11 @@ shows '^wear (Kagutin) [0-9]'
 
 # --- cost: the last call of each case, with no list of rights and with one in the log ---
 if command -v valgrind > /dev/null; then
-    "$out/above_cost" > "$tmp/cases"
+    "$out/units_cost" > "$tmp/cases"
     while read -r case function most; do
         for list in '' list; do
             valgrind --tool=callgrind --callgrind-out-file="$tmp/callgrind" --toggle-collect="$function" --zero-before="$function" \
-                "$out/above_cost" "$case" $list > "$tmp/out" 2> "$tmp/log"
+                "$out/units_cost" "$case" $list > "$tmp/out" 2> "$tmp/log"
             cost=$(sed -n 's/.*Collected : //p' "$tmp/log")
             [ "${cost:-0}" -gt 0 ] && [ "$cost" -le "$most" ]
             report $? "cost, $case${list:+ with a list}: $cost instructions"
@@ -181,4 +181,4 @@ else
     echo "skipped cost: valgrind is not installed"
 fi
 
-count above-check
+count units-check

@@ -8,8 +8,8 @@
 #include <stdlib.h>
 #include <string.h>
 
+#include "../common/play.h"
 #include "kagutin_memory.h"
-#include "play.h"
 
 enum { GROUPS = 5, HOMES = 8, STEPS = 260 };
 

@@ -14,8 +14,8 @@
 #include <time.h>
 #include <unistd.h>
 
+#include "../common/play.h"
 #include "kagutin_file.h"
-#include "play.h"
 
 enum { GROUPS = 6, HOMES = 16 };
 

@@ -8,7 +8,7 @@ cc=${CC:-cc}
 lib=${LIB:-target/staticlib/libkagutin.a}
 gauges=${GAUGES_LIB:-target/staticlib/libgauges.a}
 inflow=${INFLOW_LIB:-target/staticlib/libinflow.a}
-. tests/c-helpers.sh
+. tests/common/helpers.sh
 
 # Least and most in litres and in cm² × mm, then the options.
 bounds() {

@@ -15,10 +15,10 @@ import subprocess
 import sys
 import tempfile
 
-ROOT = pathlib.Path(__file__).resolve().parent.parent
+ROOT = pathlib.Path(__file__).resolve().parents[2]
 VECTORS = ROOT / "second/target/release/vectors"
 
-HEAD = """-- Written by tests/definitions.py.
+HEAD = """-- Written by tests/definitions/definitions.py.
 use mathlib.Core.Path.{_≡_, refl}
 use mathlib.Core.Bool.{Bool, true, _&&_}
 use mathlib.Core.List.{List, [], _∷_, _++_}

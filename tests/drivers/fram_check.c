@@ -6,8 +6,8 @@
 #include <stdlib.h>
 #include <string.h>
 
+#include "../common/play.h"
 #include "kagutin_fram.h"
-#include "play.h"
 
 enum { GROUPS = 4, HOMES = 7, STEPS = 200, BASE = 300, CHIP = 8192 };
 

@@ -16,8 +16,8 @@
 #include <sys/wait.h>
 #include <unistd.h>
 
+#include "../common/play.h"
 #include "kagutin_file.h"
-#include "play.h"
 
 enum { GROUPS = 5, HOMES = 8, STEPS = 150 };
 

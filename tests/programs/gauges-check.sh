@@ -7,7 +7,7 @@ san=$out/sanitize
 cc=${CC:-cc}
 lib=${LIB:-target/staticlib/libkagutin.a}
 gauges=${GAUGES_LIB:-target/staticlib/libgauges.a}
-. tests/c-helpers.sh
+. tests/common/helpers.sh
 
 # A row of the report on standard output.
 shows() {

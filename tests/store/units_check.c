@@ -1,7 +1,7 @@
 /*
  * Depth bands, pump hours and alarms on a store object, in memory that loses
- * power: held to the events whose commits came back. above_check [SEED]; also
- * above_check --image FILE DAYS PUMPS, which makes an image with the events of so
+ * power: held to the events whose commits came back. units_check [SEED]; also
+ * units_check --image FILE DAYS PUMPS, which makes an image with the events of so
  * many days.
  */
 #include <stdio.h>
@@ -36,7 +36,7 @@ static uint64_t random_below(uint64_t limit)
 
 static void fail(const char *what, uint64_t got, uint64_t wanted)
 {
-    printf("above_check: %s: %llu, wanted %llu (event %lu)\n", what, (unsigned long long)got, (unsigned long long)wanted,
+    printf("units_check: %s: %llu, wanted %llu (event %lu)\n", what, (unsigned long long)got, (unsigned long long)wanted,
            (unsigned long)last);
     exit(1);
 }
@@ -364,7 +364,7 @@ static int play_in_memory(void)
     check_lock(&store);
     play(&medium, &store);
     same("locks left", (uint64_t)locked, 0);
-    printf("above_check: %llu events, %llu cuts, %llu events lost, each opening at one moment of all units\n",
+    printf("units_check: %llu events, %llu cuts, %llu events lost, each opening at one moment of all units\n",
            (unsigned long long)events_done, (unsigned long long)cuts, (unsigned long long)events_lost);
     return events_lost == 0;
 }
@@ -381,7 +381,7 @@ static int make_image(const char *path, unsigned days, unsigned pumps)
     uint64_t i;
 
     if (!kgt_file_create(&file, path, 16, 32)) {
-        fprintf(stderr, "above_check: %s\n", file.message);
+        fprintf(stderr, "units_check: %s\n", file.message);
         return 1;
     }
     kgt_init(&store, memory, sizeof memory, 16, 32, kgt_file_driver(&file));
