@@ -30,7 +30,7 @@ ARCHIVE = target/staticlib/libkagutin.a
 GAUGES_ARCHIVE = target/staticlib/libgauges.a
 INFLOW_ARCHIVE = target/staticlib/libinflow.a
 
-.PHONY: all help run test test-library test-compared test-c compare play bench bench-docs second library clean
+.PHONY: all help run test test-library test-compared test-c compare play bench bench-docs reference library clean
 
 # The toolchain that this repository was checked with, as 'rt version' prints it.
 RATTLE = rattle-kit-5b-plain logic 097e4c862dff5811
@@ -55,32 +55,32 @@ $(INFLOW_ARCHIVE): $(shell find crates/inflow -name '*.rt' -o -name '*.antt')
 run: station
 	target/c/station --seed $(SEED) --cuts $(CUTS)
 
-second:
-	cd second && cargo build --release --offline --quiet
+reference:
+	cd rust && cargo build --release --offline --quiet -p reference
 
-compare/target/release/compare: $(ARCHIVE) $(GAUGES_ARCHIVE) $(INFLOW_ARCHIVE) second
-	cd compare && cargo build --release --offline --quiet
+rust/target/release/compare: $(ARCHIVE) $(GAUGES_ARCHIVE) $(INFLOW_ARCHIVE) reference
+	cd rust && cargo build --release --offline --quiet -p compare
 
 compare: port-compare
-	compare/target/release/compare --seed $(SEED) --calls 0 --damaged 0 --histories 0 --large-histories 20
+	rust/target/release/compare --seed $(SEED) --calls 0 --damaged 0 --histories 0 --large-histories 20
 
-play: second
-	second/target/release/play --seed $(SEED) --histories $(HISTORIES)
+play: reference
+	rust/target/release/play --seed $(SEED) --histories $(HISTORIES)
 
-bench/target/release/bench: $(ARCHIVE) $(GAUGES_ARCHIVE) $(INFLOW_ARCHIVE) second
-	cd bench && cargo build --release --offline --quiet
+rust/target/release/bench: $(ARCHIVE) $(GAUGES_ARCHIVE) $(INFLOW_ARCHIVE) reference
+	cd rust && cargo build --release --offline --quiet -p bench
 
-bench: bench/target/release/bench
-	bench/target/release/bench --seed $(SEED)
-	@if [ -x bench/peers/run.sh ]; then LIB=$(ARCHIVE) bench/peers/run.sh; fi
+bench: rust/target/release/bench
+	rust/target/release/bench --seed $(SEED)
+	@if [ -x rust/bench/peers/run.sh ]; then LIB=$(ARCHIVE) rust/bench/peers/run.sh; fi
 
 bench-docs:
-	python3 bench/plot.py target/bench/bench.tsv docs/ring-cost.svg
-	python3 bench/report.py target/bench/bench.tsv target/bench/peers.tsv docs/PERFORMANCE.md
+	python3 rust/bench/plot.py target/bench/bench.tsv docs/ring-cost.svg
+	python3 rust/bench/report.py target/bench/bench.tsv target/bench/peers.tsv docs/PERFORMANCE.md
 
 # The proofs come first, so that the library is made from what they have just proved; their verdict is printed again as the last line.
-test: second
-	cd second && cargo test --release --offline --quiet
+test: reference
+	cd rust && cargo test --release --offline --quiet -p reference
 	python3 tests/definitions/definitions.py $(SEED) 200
 	verdict=$$(mktemp) && trap 'rm -f "$$verdict"' EXIT && \
 	rt ci 2>&1 | tee "$$verdict" && \
@@ -88,7 +88,7 @@ test: second
 	tail -n 1 "$$verdict"
 
 # The comparisons and the tests of the C side need nothing of each other: two at a time, and what they say when both are done.
-test-library: bench/target/release/bench
+test-library: rust/target/release/bench
 	@mkdir -p target/test && echo "test: comparisons and the C side, some minutes; target/test has what they say meanwhile"
 	@$(MAKE) --no-print-directory test-compared > target/test/compared.log 2>&1 & compared=$$!; \
 	failed=0; $(MAKE) --no-print-directory test-c > target/test/c.log 2>&1 || failed=1; \
@@ -100,11 +100,11 @@ test-compared:
 	$(MAKE) --no-print-directory port-check
 	$(MAKE) --no-print-directory above-compare
 	$(MAKE) --no-print-directory board-check RECORD_LIB=$(ARCHIVE)
-	bench/target/release/bench --seed $(SEED) --no-counts --out target/bench-test > /dev/null && echo "bench: the same answers on both sides"
+	rust/target/release/bench --seed $(SEED) --no-counts --out target/bench-test > /dev/null && echo "bench: the same answers on both sides"
 
 test-c:
 	$(MAKE) --no-print-directory c-check
 	$(MAKE) --no-print-directory c-check LIB=$(ARCHIVE) GAUGES_LIB=$(GAUGES_ARCHIVE) INFLOW_LIB=$(INFLOW_ARCHIVE) C_OUT=target/c-archive
 
 clean:
-	rm -rf target second/target compare/target bench/target
+	rm -rf target rust/target

@@ -100,7 +100,7 @@ c-check: units-check
 ABOVE_SOURCES = dist/kagutin.c $(ABOVE_DIST)
 ABOVE_PARTS = $(PORT_OUT)/above.so
 ABOVE_TIGHT = $(PORT_OUT)/above-sanitize.so
-COMPARE_UNITS = compare/target/release/units
+COMPARE_UNITS = rust/target/release/units
 
 $(PORT_OUT)/above.so: $(ABOVE_SOURCES) $(C_HEADERS)
 	@mkdir -p $(@D)

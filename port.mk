@@ -98,7 +98,7 @@ $(PORT_OUT)/clang-sanitize.so: $(DIST_C) include/kagutin.h
 	clang $(PORT_SHARED) $(C_SANITIZE) -shared-libasan $< -o $@
 
 # The sanitizers' runtime must be loaded before all else; without guard bytes it sees every access outside a lent part.
-COMPARE = compare/target/release/compare
+COMPARE = rust/target/release/compare
 COMPARE_TIGHT = ASAN_OPTIONS=detect_leaks=0 LD_PRELOAD=$$($(1) -print-file-name=$(2)) $(COMPARE) --tight --build $(PORT_OUT)/$(1)-sanitize.so
 GCC_TIGHT = $(call COMPARE_TIGHT,gcc,libasan.so)
 CLANG_TIGHT = $(call COMPARE_TIGHT,clang,libclang_rt.asan-x86_64.so)
@@ -204,7 +204,7 @@ $(PORT_OUT)/gcc/libkagutin.a $(PORT_OUT)/clang/libkagutin.a: $(PORT_OUT)/%/libka
 	$(AR) rcs $@ $(@D)/kagutin.o
 
 $(BENCHED:%=$(PORT_OUT)/%/bench.tsv): $(PORT_OUT)/%/bench.tsv: $(PORT_OUT)/%/libkagutin.a
-	cd bench && KAGUTIN_LIB_DIR=$(CURDIR)/$(<D) CARGO_TARGET_DIR=$(CURDIR)/$(PORT_OUT)/bench cargo build --release --offline --quiet
+	cd rust && KAGUTIN_LIB_DIR=$(CURDIR)/$(<D) CARGO_TARGET_DIR=$(CURDIR)/$(PORT_OUT)/bench cargo build --release --offline --quiet -p bench
 	$(PORT_OUT)/bench/release/bench --seed $(SEED) --no-times --out $(@D) > /dev/null
 
 .PHONY: port-docs

@@ -16,7 +16,7 @@ import sys
 import tempfile
 
 ROOT = pathlib.Path(__file__).resolve().parents[2]
-VECTORS = ROOT / "second/target/release/vectors"
+VECTORS = ROOT / "rust/target/release/vectors"
 
 HEAD = """-- Written by tests/definitions/definitions.py.
 use mathlib.Core.Path.{_≡_, refl}
