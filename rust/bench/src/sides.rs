@@ -3,7 +3,7 @@
 //! own name, so that its instructions can be told from those of the others.
 
 use crate::script::Step;
-use compare::library::{self, Reply, Slices};
+use bindings::library::{self, Reply, Slices};
 use reference::lent::{Kind, Lent};
 use reference::Answer;
 use std::arch::asm;

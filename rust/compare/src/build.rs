@@ -1,8 +1,8 @@
 //! One build of the library, with the memory that is lent to it.
 
-use crate::library::{Calls, Reply};
-use crate::part::Part;
-use crate::trap;
+use bindings::library::{Calls, Reply};
+use bindings::part::Part;
+use bindings::trap;
 use reference::lent::{Kind, Lent};
 use reference::Answer;
 

@@ -1,8 +1,8 @@
 //! Calls on several homes: the library and the second implementation on
 //! made-up and damaged memory, byte for byte.
 
-use crate::library::Reply;
-use crate::part::Part;
+use bindings::library::Reply;
+use bindings::part::Part;
 use reference::chains::Chain;
 use reference::craft::random_chain;
 use reference::lent::Lent;

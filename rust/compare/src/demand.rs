@@ -2,8 +2,8 @@
 //! what it answers and leaves is held to the book; and what rights keep from a
 //! writer. The builds take turns.
 
-use crate::library::Calls;
-use crate::trap;
+use bindings::library::Calls;
+use bindings::trap;
 use reference::lent::{Lent, Runner};
 use reference::pairs::{pair, Pairs};
 use reference::player::{history_with, large_history_with, Tally};

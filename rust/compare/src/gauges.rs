@@ -1,7 +1,7 @@
 //! The comparison of two gauges: the library against the second implementation,
 //! over all small lists, at the limits, and on random and damaged strips.
 
-use crate::part::Part;
+use bindings::part::Part;
 use reference::gauges::{compare, Comparison};
 use reference::rng::Rng;
 

@@ -11,13 +11,12 @@ mod gauges;
 mod histories;
 mod inflow;
 mod pair;
-mod part;
 mod table;
 mod trials;
 
+use bindings::library::{Calls, ARCHIVE};
+use bindings::trap;
 use build::Build;
-use compare::library::{Calls, ARCHIVE};
-use compare::{library, trap};
 use pair::Pair;
 use reference::options::Words;
 use std::process::ExitCode;

@@ -2,8 +2,8 @@
 //! equal memory, compared.
 
 use crate::build::{views, Build};
-use crate::library::Reply;
-use crate::trap;
+use bindings::library::Reply;
+use bindings::trap;
 use reference::layout::refuse;
 use reference::lent::{Kind, Lent, Runner};
 use reference::usage::usage;

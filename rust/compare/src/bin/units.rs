@@ -5,11 +5,8 @@
 
 #![deny(warnings)]
 
-#[path = "../part.rs"]
-mod part;
-
-use compare::unit_calls::UnitCalls;
-use part::Part;
+use bindings::part::Part;
+use bindings::unit_calls::UnitCalls;
 use reference::craft::craft;
 use reference::damage::{damage_group, damage_lengths, damage_newest, damage_state};
 use reference::layout::{Shape, BLOCK};
