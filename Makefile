@@ -56,7 +56,7 @@ run: station
 	target/c/station --seed $(SEED) --cuts $(CUTS)
 
 reference:
-	cd rust && cargo build --release --offline --quiet -p reference
+	cd rust && cargo build --release --offline --quiet
 
 rust/target/release/compare: $(ARCHIVE) $(GAUGES_ARCHIVE) $(INFLOW_ARCHIVE) reference
 	cd rust && cargo build --release --offline --quiet -p compare
@@ -80,7 +80,7 @@ bench-docs:
 
 # The proofs come first, so that the library is made from what they have just proved; their verdict is printed again as the last line.
 test: reference
-	cd rust && cargo test --release --offline --quiet -p reference
+	cd rust && cargo test --release --offline --quiet
 	python3 tests/definitions/definitions.py $(SEED) 200
 	verdict=$$(mktemp) && trap 'rm -f "$$verdict"' EXIT && \
 	rt ci 2>&1 | tee "$$verdict" && \

@@ -15,7 +15,7 @@ mod steady;
 mod table;
 
 use row::{rows, Row};
-use reference::options::Words;
+use harness::options::Words;
 use std::path::PathBuf;
 
 const USAGE: &str = "\

@@ -4,7 +4,7 @@
 use crate::script::Recorder;
 use reference::layout::{group_head, put_word, set_top_bit, slot_range, turn, BLOCK, PLACES, WRITERS};
 use reference::lent::{Kind, Lent};
-use reference::rng::Rng;
+use harness::rng::Rng;
 use reference::state::State;
 use reference::tag::closing_tag;
 

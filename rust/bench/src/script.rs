@@ -5,7 +5,7 @@ use crate::floor::Before;
 use reference::layout::{word, BLOCK};
 use reference::lent::{Kind, Lent};
 use reference::rights::of_list;
-use reference::rng::Rng;
+use harness::rng::Rng;
 use reference::state::at;
 use reference::Answer;
 

@@ -4,9 +4,9 @@
 use bindings::library::Reply;
 use bindings::part::Part;
 use reference::chains::Chain;
-use reference::craft::random_chain;
+use harness::craft::random_chain;
 use reference::lent::Lent;
-use reference::rng::Rng;
+use harness::rng::Rng;
 
 extern "C" {
     fn kagutin_fetch(

@@ -2,16 +2,16 @@
 
 use crate::histories::{far, random_shape, Player, MOST_GROUPS};
 use crate::pair::Pair;
-use reference::craft::craft;
-use reference::damage::{damage_group, damage_header, damage_lengths, damage_listed, damage_newest, damage_state};
+use harness::craft::craft;
+use harness::damage::{damage_group, damage_header, damage_lengths, damage_listed, damage_newest, damage_state};
 use reference::layout::{
     group_head, header, put_word, set_top_bit, slot_range, turn, word, Shape, BLOCK, START_LIMIT,
 };
 use reference::lent::{ample, Kind, Lent};
 use reference::rights::LIST_HOME;
-use reference::rng::Rng;
+use harness::rng::Rng;
 use reference::state::{at, promised, Writer};
-use reference::world::World;
+use harness::world::World;
 
 /// A history that damaged images are taken from.
 struct Source {

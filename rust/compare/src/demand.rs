@@ -5,9 +5,9 @@
 use bindings::library::Calls;
 use bindings::trap;
 use reference::lent::{Lent, Runner};
-use reference::pairs::{pair, Pairs};
-use reference::player::{history_with, large_history_with, Tally};
-use reference::tears::{torn_history, Torn};
+use harness::pairs::{pair, Pairs};
+use harness::player::{history_with, large_history_with, Tally};
+use harness::tears::{torn_history, Torn};
 use std::panic::{catch_unwind, AssertUnwindSafe};
 
 /// Plays the histories of the seeds from `seed` on; the last `large` of them

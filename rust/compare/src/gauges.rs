@@ -3,7 +3,7 @@
 
 use bindings::part::Part;
 use reference::gauges::{compare, Comparison};
-use reference::rng::Rng;
+use harness::rng::Rng;
 
 #[repr(C)]
 struct Reply {

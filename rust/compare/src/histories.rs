@@ -1,12 +1,12 @@
 //! Calls over valid histories with cuts, compared one by one.
 
 use crate::pair::{runner, Pair};
-use reference::damage::damage_lengths;
+use harness::damage::damage_lengths;
 use reference::layout::{Shape, START_LIMIT};
 use reference::lent::{ample, Kind, Lent};
-use reference::player::{random_crash, random_odd, Profile};
-use reference::rng::Rng;
-use reference::world::{Call, World};
+use harness::player::{random_crash, random_odd, Profile};
+use harness::rng::Rng;
+use harness::world::{Call, World};
 use reference::Answer;
 use std::cell::RefCell;
 use std::rc::Rc;

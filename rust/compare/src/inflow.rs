@@ -2,7 +2,7 @@
 //! ranges, at the extremes, and on random numbers.
 
 use reference::inflow::{bounds, inflow, Bounds, Range};
-use reference::rng::Rng;
+use harness::rng::Rng;
 
 #[repr(C)]
 struct Reply {

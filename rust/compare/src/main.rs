@@ -18,7 +18,7 @@ use bindings::library::{Calls, ARCHIVE};
 use bindings::trap;
 use build::Build;
 use pair::Pair;
-use reference::options::Words;
+use harness::options::Words;
 use std::process::ExitCode;
 
 const USAGE: &str = "\

@@ -78,7 +78,7 @@ pub fn clear(bytes: &[u8; BYTES], identity: u16) -> Result<[u8; BYTES], u64> {
 #[cfg(test)]
 mod tests {
     use super::*;
-    use crate::rng::Rng;
+    use harness::rng::Rng;
 
     #[derive(Clone, Copy, Debug)]
     enum Event {

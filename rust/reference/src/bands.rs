@@ -79,7 +79,7 @@ pub fn look_up(packed: &[u8; SIZE], millimetre: u64) -> Option<Band> {
 #[cfg(test)]
 mod tests {
     use super::*;
-    use crate::rng::Rng;
+    use harness::rng::Rng;
 
     fn strip(rows: &[(u16, u16, u8)]) -> Vec<u8> {
         let mut strip = Vec::new();

@@ -73,7 +73,7 @@ pub fn services(total: u32, interval: u32) -> (u32, u32) {
 #[cfg(test)]
 mod tests {
     use super::*;
-    use crate::rng::Rng;
+    use harness::rng::Rng;
 
     /// Starts, seconds of finished runs, last second and whether the pump runs, by walking over the done events.
     fn said(done: &[Event]) -> (u64, u64, u64, bool) {

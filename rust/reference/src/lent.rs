@@ -2,7 +2,7 @@
 
 use crate::batch::{FENCE_LEN, GROUP_WRITE_LEN, HEADER_WRITE_LEN, HOME_WRITE_LEN};
 use crate::chains::{self, Chain};
-use crate::layout::{Answer, BLOCK, STATE};
+use crate::layout::{Answer, BLOCK, GROUP, HEADER, STATE};
 use crate::newest::POSITION;
 
 #[derive(Clone, Copy, Debug, PartialEq, Eq)]
@@ -117,10 +117,9 @@ pub struct Lent {
 impl Lent {
     /// Both areas as zeros, with a batch that suffices for every call.
     pub fn new(groups: u64, homes: u64) -> Lent {
-        let areas = crate::landing::Areas::zeros(groups, homes);
         Lent {
-            log: areas.log,
-            data: areas.data,
+            log: vec![0; HEADER + GROUP * groups as usize],
+            data: vec![0; BLOCK * homes as usize],
             state: vec![0; STATE],
             newest: vec![0; POSITION * homes as usize],
             block: vec![0; BLOCK],

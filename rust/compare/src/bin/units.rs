@@ -7,16 +7,16 @@
 
 use bindings::part::Part;
 use bindings::unit_calls::UnitCalls;
-use reference::craft::craft;
-use reference::damage::{damage_group, damage_lengths, damage_newest, damage_state};
+use harness::craft::craft;
+use harness::damage::{damage_group, damage_lengths, damage_newest, damage_state};
 use reference::layout::{Shape, BLOCK};
 use reference::lent::Lent;
-use reference::options::Words;
-use reference::player::{step, Profile, Tally};
-use reference::rng::Rng;
-use reference::unit_player::{random_table, unit_history_with, UnitTally};
+use harness::options::Words;
+use harness::player::{step, Profile, Tally};
+use harness::rng::Rng;
+use harness::unit_player::{random_table, unit_history_with, UnitTally};
 use reference::units::{Ask, Told, ALARM_HOME, PUMP_HOME, TABLE_HOME};
-use reference::world::World;
+use harness::world::World;
 use std::cell::RefCell;
 use std::process::ExitCode;
 use std::rc::Rc;
