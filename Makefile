@@ -40,7 +40,7 @@ all: station inspect quickstart gauges inflow bands wear
 help:
 	@sed -n '/^#/!q; s/^# //p' Makefile
 
-include c.mk
+include make/c.mk
 
 # The archive is made from proved crates only; rt proves what has changed, and a changed definition or proof counts as well.
 library $(ARCHIVE): crates.txt $(shell find crates -name '*.rt' -o -name '*.antt')

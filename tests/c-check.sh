@@ -302,12 +302,12 @@ else
 fi
 
 # --- the sources of the object in one folder, and a program built from them ---
-gives 0 "make c-dist" "${MAKE:-make}" -f c.mk DIST="$tmp/dist" c-dist
+gives 0 "make c-dist" "${MAKE:-make}" -f make/c.mk DIST="$tmp/dist" c-dist
 gives 0 "build from that folder" "$cc" -std=c99 -I"$tmp/dist" c/examples/quickstart.c "$tmp"/dist/kagutin_*.c "$lib" ${C_LIBS:-} -o "$tmp/from-dist"
 gives 0 "run it" "$tmp/from-dist" "$tmp/from-dist.img"
 
 # --- install, and a program outside built against it ---
-gives 0 "make install" "${MAKE:-make}" -f c.mk LIB="$lib" C_LIBS="${C_LIBS:-}" DESTDIR="$tmp/root" PREFIX=/opt/kagutin install
+gives 0 "make install" "${MAKE:-make}" -f make/c.mk LIB="$lib" C_LIBS="${C_LIBS:-}" DESTDIR="$tmp/root" PREFIX=/opt/kagutin install
 if command -v pkg-config > /dev/null; then
     cp c/examples/quickstart.c "$tmp/outside.c"
     flags=$(PKG_CONFIG_PATH="$tmp/root/opt/kagutin/lib/pkgconfig" PKG_CONFIG_SYSROOT_DIR="$tmp/root" pkg-config --cflags --libs kagutin)
@@ -316,7 +316,7 @@ if command -v pkg-config > /dev/null; then
 else
     echo "skipped the build outside: no pkg-config"
 fi
-gives 0 "make uninstall" "${MAKE:-make}" -f c.mk DESTDIR="$tmp/root" PREFIX=/opt/kagutin uninstall
+gives 0 "make uninstall" "${MAKE:-make}" -f make/c.mk DESTDIR="$tmp/root" PREFIX=/opt/kagutin uninstall
 [ -z "$(find "$tmp/root" -type f)" ]; report $? "and nothing is left"
 
 echo "c-check: $passed passed, $failed failed"

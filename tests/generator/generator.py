@@ -1,7 +1,7 @@
 #!/usr/bin/env python3
 """Tests of port/generate.py: what it does not know stops it with the function's name and the form, and writes nothing; its output
 does not depend on the run; the C file defines the headers' calls and no other external name. Run from the root, after the proofs, with
-the words that port.mk gives the generator.
+the words that make/port.mk gives the generator.
 """
 import json
 import os
@@ -13,7 +13,7 @@ import tempfile
 RLIB = os.path.abspath('target/rlib')
 DIST = 'dist/kagutin.c'
 ARCHIVE = 'target/staticlib/libkagutin.a'
-WORDS = sys.argv[1:]        # of the generator, as port.mk has them
+WORDS = sys.argv[1:]        # of the generator, as make/port.mk has them
 
 
 def generate(rlib, out, words, seed='0'):

@@ -1,5 +1,5 @@
-# The C side: header, driver, station, inspector. Included by the Makefile; also
-# make -f c.mk LIB=path/to/libkagutin.a station; without LIB the library is built from dist/kagutin.c
+# The C side: header, driver, station, inspector. Included by the Makefile; from the root also
+# make -f make/c.mk LIB=path/to/libkagutin.a station; without LIB the library is built from dist/kagutin.c
 #
 # station, inspect, quickstart   programs in target/c
 # gauges                         two CSV files of levels compared; a program over libkagutin_gauges.a alone
@@ -158,8 +158,8 @@ uninstall:
 	rm -f $(C_BESIDE:%=$(DESTDIR)$(PREFIX)/include/%.h) $(C_BESIDE:%=$(DESTDIR)$(PREFIX)/lib/lib%.a)
 	rm -f $(DESTDIR)$(PREFIX)/lib/libkagutin_store.a $(DESTDIR)$(PREFIX)/lib/pkgconfig/kagutin.pc
 
-include port.mk
-include above.mk
+include make/port.mk
+include make/units.mk
 
 c-clean:
 	rm -rf $(C_OUT)

@@ -1,4 +1,4 @@
-# What stands above the store: depth bands, pump hours, alarms. Included by c.mk.
+# What stands above the store: depth bands, pump hours, alarms. Included by make/c.mk.
 #
 # station       the simulated pump station, which keeps hours and alarms
 # bands         sets, shows and looks up the table of depth bands of an image

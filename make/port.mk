@@ -1,4 +1,4 @@
-# The portable C files, dist/kagutin.c and one for each call beside the store: made from the proved program, built, and compared. Included by c.mk.
+# The portable C files, dist/kagutin.c and one for each call beside the store: made from the proved program, built, and compared. Included by make/c.mk.
 #
 # dist            makes them again, after proving what has changed
 # dist-check      fails if a byte of them is not what the proved program gives
