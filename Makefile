@@ -29,6 +29,7 @@ HISTORIES ?= 400
 ARCHIVE = target/staticlib/libkagutin.a
 GAUGES_ARCHIVE = target/staticlib/libgauges.a
 INFLOW_ARCHIVE = target/staticlib/libinflow.a
+ARCHIVES = $(ARCHIVE) $(GAUGES_ARCHIVE) $(INFLOW_ARCHIVE)
 
 .PHONY: all help run test test-library test-compared test-c compare play bench bench-docs reference library clean
 
@@ -42,15 +43,11 @@ help:
 
 include make/c.mk
 
-# The archive is made from proved crates only; rt proves what has changed, and a changed definition or proof counts as well.
-library $(ARCHIVE): crates.txt $(shell find crates -name '*.rt' -o -name '*.antt')
-	@scripts/library.sh
+# Archives are made from proved crates only; rt proves what has changed, and a changed definition or proof counts as well.
+library: $(ARCHIVE)
 
-$(GAUGES_ARCHIVE): $(shell find crates/gauges -name '*.rt' -o -name '*.antt')
-	@scripts/library.sh gauges
-
-$(INFLOW_ARCHIVE): $(shell find crates/inflow -name '*.rt' -o -name '*.antt')
-	@scripts/library.sh inflow
+$(ARCHIVES): target/staticlib/lib%.a: crates.txt $(shell find crates -name '*.rt' -o -name '*.antt')
+	@scripts/library.sh $*
 
 run: station
 	target/c/station --seed $(SEED) --cuts $(CUTS)
@@ -58,7 +55,7 @@ run: station
 reference:
 	cd rust && cargo build --release --offline --quiet
 
-rust/target/release/compare: $(ARCHIVE) $(GAUGES_ARCHIVE) $(INFLOW_ARCHIVE) reference
+rust/target/release/compare: $(ARCHIVES) reference
 	cd rust && cargo build --release --offline --quiet -p compare
 
 compare: port-compare
@@ -67,7 +64,7 @@ compare: port-compare
 play: reference
 	rust/target/release/play --seed $(SEED) --histories $(HISTORIES)
 
-rust/target/release/bench: $(ARCHIVE) $(GAUGES_ARCHIVE) $(INFLOW_ARCHIVE) reference
+rust/target/release/bench: $(ARCHIVES) reference
 	cd rust && cargo build --release --offline --quiet -p bench
 
 bench: rust/target/release/bench
@@ -98,7 +95,7 @@ test-compared:
 	$(MAKE) --no-print-directory dist-check
 	$(MAKE) --no-print-directory generator-check
 	$(MAKE) --no-print-directory port-check
-	$(MAKE) --no-print-directory above-compare
+	$(MAKE) --no-print-directory units-compare
 	$(MAKE) --no-print-directory board-check RECORD_LIB=$(ARCHIVE)
 	rust/target/release/bench --seed $(SEED) --no-counts --out target/bench-test > /dev/null && echo "bench: the same answers on both sides"
 

@@ -125,10 +125,6 @@ c-kills: $(C_OUT)/kill_check
 # The store object as an archive of its own; it calls the library.
 STORE_LIB = $(C_OUT)/libkagutin_store.a
 
-$(STORE_LIB): $(C_STORE:%=$(C_OBJECTS)/%.o)
-	rm -f $@
-	$(AR) rcs $@ $^
-
 C_PUBLIC = kagutin kagutin_store kagutin_rights kagutin_file kagutin_memory kagutin_fram
 
 # NAME.c of c/store and c/drivers becomes kagutin_NAME.c there; all headers and sources of dist/ stand in one folder.
@@ -139,12 +135,12 @@ c-dist: $(C_PUBLIC:%=include/%.h) $(C_PRIVATE) $(C_STORE:%=%.c)
 	install -m 644 $(C_PUBLIC:%=include/%.h) $(C_PRIVATE) $(DIST)
 	for name in $(C_STORE); do install -m 644 $$name.c $(DIST)/kagutin_$${name##*/}.c; done
 
-# Calls beside the store, each a header and an archive.
-C_BESIDE = kagutin_gauges kagutin_inflow
+# Standalone calls, each a header and an archive.
+C_STANDALONE = kagutin_gauges kagutin_inflow
 
-install: $(LIB) $(STORE_LIB) $(GAUGES_LIB) $(INFLOW_LIB) $(C_PUBLIC:%=include/%.h) $(C_BESIDE:%=include/%.h) kagutin.pc.in
+install: $(LIB) $(STORE_LIB) $(GAUGES_LIB) $(INFLOW_LIB) $(C_PUBLIC:%=include/%.h) $(C_STANDALONE:%=include/%.h) kagutin.pc.in
 	install -d $(DESTDIR)$(PREFIX)/include $(DESTDIR)$(PREFIX)/lib/pkgconfig
-	install -m 644 $(C_PUBLIC:%=include/%.h) $(C_BESIDE:%=include/%.h) $(DESTDIR)$(PREFIX)/include
+	install -m 644 $(C_PUBLIC:%=include/%.h) $(C_STANDALONE:%=include/%.h) $(DESTDIR)$(PREFIX)/include
 	install -m 644 $(LIB) $(DESTDIR)$(PREFIX)/lib/libkagutin.a
 	install -m 644 $(STORE_LIB) $(DESTDIR)$(PREFIX)/lib/libkagutin_store.a
 	install -m 644 $(GAUGES_LIB) $(DESTDIR)$(PREFIX)/lib/libkagutin_gauges.a
@@ -155,11 +151,27 @@ install: $(LIB) $(STORE_LIB) $(GAUGES_LIB) $(INFLOW_LIB) $(C_PUBLIC:%=include/%.
 
 uninstall:
 	rm -f $(C_PUBLIC:%=$(DESTDIR)$(PREFIX)/include/%.h) $(DESTDIR)$(PREFIX)/lib/libkagutin.a
-	rm -f $(C_BESIDE:%=$(DESTDIR)$(PREFIX)/include/%.h) $(C_BESIDE:%=$(DESTDIR)$(PREFIX)/lib/lib%.a)
+	rm -f $(C_STANDALONE:%=$(DESTDIR)$(PREFIX)/include/%.h) $(C_STANDALONE:%=$(DESTDIR)$(PREFIX)/lib/lib%.a)
 	rm -f $(DESTDIR)$(PREFIX)/lib/libkagutin_store.a $(DESTDIR)$(PREFIX)/lib/pkgconfig/kagutin.pc
 
 include make/port.mk
 include make/units.mk
+
+# One archive in both builds: its name, its objects.
+define C_ARCHIVE
+$(C_OUT)/lib$(1).a: $(2:%=$(C_OBJECTS)/%.o)
+	rm -f $$@
+	$$(AR) rcs $$@ $$^
+
+$(C_OUT)/sanitize/lib$(1).a: $(2:%=$(C_OUT)/sanitize/obj/%.o)
+	rm -f $$@
+	$$(AR) rcs $$@ $$^
+endef
+
+# Those of dist/, the store object, and the calls on units for the object.
+$(foreach part,kagutin $(patsubst %,kagutin_%,$(STANDALONE) $(UNITS)),$(eval $(call C_ARCHIVE,$(part),dist/$(part))))
+$(eval $(call C_ARCHIVE,kagutin_store,$(C_STORE)))
+$(eval $(call C_ARCHIVE,kagutin_units,c/store/units))
 
 c-clean:
 	rm -rf $(C_OUT)

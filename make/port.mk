@@ -1,9 +1,9 @@
-# The portable C files, dist/kagutin.c and one for each call beside the store: made from the proved program, built, and compared. Included by make/c.mk.
+# The portable C files, dist/kagutin.c and one for each standalone call: made from the proved program, built, and compared. Included by make/c.mk.
 #
 # dist            makes them again, after proving what has changed
 # dist-check      fails if a byte of them is not what the proved program gives
 # generator-check tests of the generator
-# port-compare    builds of it by gcc and clang, with sanitizers too, against the archive and the second implementation: long
+# port-compare    builds of it by gcc and clang, with sanitizers too, against the archive and the reference implementation: long
 # port-docs       tables of the C file in docs/PERFORMANCE.md
 # arm             trials and recorded calls with cuts on emulated boards (Cortex-M0+, M4, M33), Arm, RISC-V and a big-endian machine
 
@@ -14,54 +14,39 @@ DIST_HEADERS = kagutin.h kagutin_chains.h
 DIST_RESULTS = answers::Reply=kagutin_reply model::Usage=kagutin_places
 
 PORT_OUT = target/port
+GENERATOR = python3 port/generate.py --rlib target/rlib --source crates
 GENERATE_WORDS = --rlib target/rlib --source crates $(EXPORTS:%=--export %) $(DIST_HEADERS:%=--header %) $(DIST_RESULTS:%=--result %)
 GENERATE = python3 port/generate.py $(GENERATE_WORDS)
 
-# The calls beside the store, each a crate and a C file of its own: a program takes those that it needs.
-GENERATE_BESIDE = python3 port/generate.py --rlib target/rlib --source crates
-GENERATE_gauges = $(GENERATE_BESIDE) --export gauges --header kagutin_gauges.h --result gauges::Comparison=kagutin_comparison
-GENERATE_inflow = $(GENERATE_BESIDE) --export inflow --header kagutin_inflow.h --result inflow::Bounds=kagutin_inflow_bounds
-BESIDE = gauges inflow
-DIST_FILES = $(DIST_C) $(BESIDE:%=dist/kagutin_%.c)
+# The standalone calls, which need no store, each a crate and a C file of its own: a program takes those that it needs.
+GENERATE_gauges = $(GENERATOR) --export gauges --header kagutin_gauges.h --result gauges::Comparison=kagutin_comparison
+GENERATE_inflow = $(GENERATOR) --export inflow --header kagutin_inflow.h --result inflow::Bounds=kagutin_inflow_bounds
+STANDALONE = gauges inflow
+DIST_FILES = $(DIST_C) $(STANDALONE:%=dist/kagutin_%.c)
 
 .PHONY: dist dist-check generator-check port-check port-compare
 
 dist:
 	@mkdir -p $(PORT_OUT)
-	@rt check $(EXPORTS) $(BESIDE) > $(PORT_OUT)/proved.log 2>&1 || { cat $(PORT_OUT)/proved.log; exit 1; }
+	@rt check $(EXPORTS) $(STANDALONE) > $(PORT_OUT)/proved.log 2>&1 || { cat $(PORT_OUT)/proved.log; exit 1; }
 	@$(GENERATE) --out $(DIST_C)
-	@$(foreach b,$(BESIDE),$(GENERATE_$(b)) --out dist/kagutin_$(b).c &&) true
-	@$(MAKE) --no-print-directory above-dist
+	@$(foreach b,$(STANDALONE),$(GENERATE_$(b)) --out dist/kagutin_$(b).c &&) true
+	@$(MAKE) --no-print-directory units-dist
 
 dist-check:
 	@rm -rf $(PORT_OUT)/again && mkdir -p $(PORT_OUT)/again
 	@$(GENERATE) --out $(PORT_OUT)/again/kagutin.c
-	@$(foreach b,$(BESIDE),$(GENERATE_$(b)) --out $(PORT_OUT)/again/kagutin_$(b).c &&) true
+	@$(foreach b,$(STANDALONE),$(GENERATE_$(b)) --out $(PORT_OUT)/again/kagutin_$(b).c &&) true
 	@for file in $(DIST_FILES); do cmp $(PORT_OUT)/again/$${file#dist/} $$file \
 	    || { echo "$$file is not what the proved program gives; make dist makes it again" >&2; exit 1; }; done
 	@echo "dist: $(DIST_FILES): what the proved program gives"
-	@$(MAKE) --no-print-directory above-dist-check
+	@$(MAKE) --no-print-directory units-dist-check
 
 # Tests of the generator itself.
 generator-check:
 	python3 tests/generator/forms.py
 	python3 tests/generator/generator.py $(GENERATE_WORDS)
 	python3 tests/generator/imports.py
-
-# The libraries of the C programs.
-DIST_LIBS = kagutin $(BESIDE:%=kagutin_%)
-
-$(DIST_LIBS:%=$(C_OUT)/lib%.a): $(C_OUT)/lib%.a: dist/%.c $(C_HEADERS)
-	@mkdir -p $(@D)
-	$(CC) $(C_FLAGS) $(CFLAGS) -c $< -o $(C_OUT)/$*.dist.o
-	rm -f $@
-	$(AR) rcs $@ $(C_OUT)/$*.dist.o
-
-$(DIST_LIBS:%=$(C_OUT)/sanitize/lib%.a): $(C_OUT)/sanitize/lib%.a: dist/%.c $(C_HEADERS)
-	@mkdir -p $(@D)
-	$(CC) $(C_FLAGS) $(C_SANITIZE) -c $< -o $(C_OUT)/sanitize/$*.dist.o
-	rm -f $@
-	$(AR) rcs $@ $(C_OUT)/sanitize/$*.dist.o
 
 # Shared objects that compare loads. no-passes.c is the same program without the generator's passes, gcc-plain without quicker helpers.
 PORT_SHARED = -std=c99 -Iinclude -fPIC -shared

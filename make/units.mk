@@ -1,118 +1,102 @@
-# What stands above the store: depth bands, pump hours, alarms. Included by make/c.mk.
+# The units on the store: depth bands, pump hours, alarms. Included by make/c.mk.
 #
 # station       the simulated pump station, which keeps hours and alarms
 # bands         sets, shows and looks up the table of depth bands of an image
 # wear          the wear sheet of images: text, CSV or one HTML page
 # units-check   tests of these and of the calls on the store object
-# above-dist    makes dist/kagutin_UNIT.c again from the proved crates; above-dist-check fails if a byte of them differs
-# above-compare the calls against the second implementation: histories with cuts, damaged images, homes, strips and lengths
+# units-dist    makes dist/kagutin_UNIT.c again from the proved crates; units-dist-check fails if a byte of them differs
+# units-compare the calls against the reference implementation: histories with cuts, damaged images, homes, strips and lengths
 
 # Each unit is one C file, dist/kagutin_UNIT.c, that calls the store's functions of dist/kagutin.c.
-ABOVE = bands hours alarms
-ABOVE_DIST = $(ABOVE:%=dist/kagutin_%.c)
-ABOVE_LIBS ?= $(ABOVE:%=$(C_OUT)/libkagutin_%.a)
+UNITS = bands hours alarms
+UNITS_DIST = $(UNITS:%=dist/kagutin_%.c)
+UNITS_LIBS ?= $(UNITS:%=$(C_OUT)/libkagutin_%.a)
 # Their crates, and the structs of their results.
-ABOVE_CRATES = band_calls hour_calls alarm_calls
-GENERATE_ABOVE = $(GENERATE_BESIDE) --import kagutin --header kagutin_chains.h --result answers::Reply=kagutin_reply
-GENERATE_bands = $(GENERATE_ABOVE) --export band_calls --header kagutin_bands.h --result band_calls::Band=kagutin_band
-GENERATE_hours = $(GENERATE_ABOVE) --export hour_calls --header kagutin_hours.h --result hour_calls::Figures=kagutin_figures
-GENERATE_alarms = $(GENERATE_ABOVE) --export alarm_calls --header kagutin_alarms.h --result alarm_calls::Gravest=kagutin_alarm
+UNITS_CRATES = band_calls hour_calls alarm_calls
+GENERATE_UNIT = $(GENERATOR) --import kagutin --header kagutin_chains.h --result answers::Reply=kagutin_reply
+GENERATE_bands = $(GENERATE_UNIT) --export band_calls --header kagutin_bands.h --result band_calls::Band=kagutin_band
+GENERATE_hours = $(GENERATE_UNIT) --export hour_calls --header kagutin_hours.h --result hour_calls::Figures=kagutin_figures
+GENERATE_alarms = $(GENERATE_UNIT) --export alarm_calls --header kagutin_alarms.h --result alarm_calls::Gravest=kagutin_alarm
 
-.PHONY: above-dist above-dist-check
+.PHONY: units-dist units-dist-check
 
-above-dist:
+units-dist:
 	@mkdir -p $(PORT_OUT)
-	@rt check $(ABOVE_CRATES) > $(PORT_OUT)/proved.log 2>&1 || { cat $(PORT_OUT)/proved.log; exit 1; }
-	@$(foreach u,$(ABOVE),$(GENERATE_$(u)) --out dist/kagutin_$(u).c &&) true
+	@rt check $(UNITS_CRATES) > $(PORT_OUT)/proved.log 2>&1 || { cat $(PORT_OUT)/proved.log; exit 1; }
+	@$(foreach u,$(UNITS),$(GENERATE_$(u)) --out dist/kagutin_$(u).c &&) true
 
-above-dist-check:
-	@rm -rf $(PORT_OUT)/above && mkdir -p $(PORT_OUT)/above
-	@$(foreach u,$(ABOVE),$(GENERATE_$(u)) --out $(PORT_OUT)/above/kagutin_$(u).c &&) true
-	@for file in $(ABOVE_DIST); do cmp $(PORT_OUT)/above/$${file#dist/} $$file \
-	    || { echo "$$file is not what the proved program gives; make above-dist makes it again" >&2; exit 1; }; done
-	@echo "dist: $(ABOVE_DIST): what the proved program gives"
+units-dist-check:
+	@rm -rf $(PORT_OUT)/units && mkdir -p $(PORT_OUT)/units
+	@$(foreach u,$(UNITS),$(GENERATE_$(u)) --out $(PORT_OUT)/units/kagutin_$(u).c &&) true
+	@for file in $(UNITS_DIST); do cmp $(PORT_OUT)/units/$${file#dist/} $$file \
+	    || { echo "$$file is not what the proved program gives; make units-dist makes it again" >&2; exit 1; }; done
+	@echo "dist: $(UNITS_DIST): what the proved program gives"
 
-C_ABOVE = station bands wear units_check units_cost
+C_UNITS = station bands wear units_check units_cost
 C_BANDS = c/bands/main c/bands/table c/common/text_line c/common/copy c/store/units $(C_STORE)
 C_WEAR = $(addprefix c/wear/,main text page) c/common/page_file c/common/copy c/store/units $(C_STORE)
-C_ABOVE_CHECK = tests/store/units_check c/store/units $(C_STORE)
-C_ABOVE_COST = tests/costs/units_cost $(C_STORE)
-C_ABOVE_PROGRAMS = $(C_ABOVE:%=$(C_OUT)/%) $(C_ABOVE:%=$(C_OUT)/sanitize/%)
+C_UNITS_CHECK = tests/store/units_check c/store/units $(C_STORE)
+C_UNITS_COST = tests/costs/units_cost $(C_STORE)
+C_UNITS_PROGRAMS = $(C_UNITS:%=$(C_OUT)/%) $(C_UNITS:%=$(C_OUT)/sanitize/%)
 
-.PHONY: bands wear units-check above-compare
+.PHONY: bands wear units-check units-compare
 
 bands: $(C_OUT)/bands
 wear: $(C_OUT)/wear
-c-sanitize: $(C_ABOVE:%=$(C_OUT)/sanitize/%)
+c-sanitize: $(C_UNITS:%=$(C_OUT)/sanitize/%)
 
-$(eval $(call C_PROGRAM,station,$(C_STATION),$(ABOVE_LIBS) $(LIB)))
-$(eval $(call C_PROGRAM,bands,$(C_BANDS),$(ABOVE_LIBS) $(LIB)))
-$(eval $(call C_PROGRAM,wear,$(C_WEAR),$(ABOVE_LIBS) $(LIB)))
-$(eval $(call C_PROGRAM,units_check,$(C_ABOVE_CHECK),$(ABOVE_LIBS) $(LIB)))
-$(eval $(call C_PROGRAM,units_cost,$(C_ABOVE_COST),$(ABOVE_LIBS) $(LIB)))
-
-$(ABOVE:%=$(C_OUT)/libkagutin_%.a): $(C_OUT)/lib%.a: dist/%.c $(C_HEADERS)
-	@mkdir -p $(@D)
-	$(CC) $(C_FLAGS) $(CFLAGS) -c $< -o $(C_OUT)/$*.dist.o
-	rm -f $@
-	$(AR) rcs $@ $(C_OUT)/$*.dist.o
-
-$(ABOVE:%=$(C_OUT)/sanitize/libkagutin_%.a): $(C_OUT)/sanitize/lib%.a: dist/%.c $(C_HEADERS)
-	@mkdir -p $(@D)
-	$(CC) $(C_FLAGS) $(C_SANITIZE) -c $< -o $(C_OUT)/sanitize/$*.dist.o
-	rm -f $@
-	$(AR) rcs $@ $(C_OUT)/sanitize/$*.dist.o
+$(eval $(call C_PROGRAM,station,$(C_STATION),$(UNITS_LIBS) $(LIB)))
+$(eval $(call C_PROGRAM,bands,$(C_BANDS),$(UNITS_LIBS) $(LIB)))
+$(eval $(call C_PROGRAM,wear,$(C_WEAR),$(UNITS_LIBS) $(LIB)))
+$(eval $(call C_PROGRAM,units_check,$(C_UNITS_CHECK),$(UNITS_LIBS) $(LIB)))
+$(eval $(call C_PROGRAM,units_cost,$(C_UNITS_COST),$(UNITS_LIBS) $(LIB)))
 
 # The calls on the store object as an archive of their own. Installed, and gone again, where dist/ has the units.
-UNITS_LIB = $(C_OUT)/libkagutin_units.a
-ABOVE_HEADERS = $(patsubst %,include/kagutin_%.h,chains $(ABOVE) units)
-ABOVE_INSTALLED = $(notdir $(UNITS_LIB) $(ABOVE_LIBS))
+C_UNITS_LIB = $(C_OUT)/libkagutin_units.a
+UNITS_HEADERS = $(patsubst %,include/kagutin_%.h,chains $(UNITS) units)
+UNITS_INSTALLED = $(notdir $(C_UNITS_LIB) $(UNITS_LIBS))
 
-$(UNITS_LIB): $(C_OBJECTS)/c/store/units.o
-	rm -f $@
-	$(AR) rcs $@ $^
+.PHONY: install-units uninstall-units c-dist-units
 
-.PHONY: install-above uninstall-above c-dist-above
-
-install-above: $(UNITS_LIB) $(ABOVE_LIBS) $(ABOVE_HEADERS)
+install-units: $(C_UNITS_LIB) $(UNITS_LIBS) $(UNITS_HEADERS)
 	install -d $(DESTDIR)$(PREFIX)/include $(DESTDIR)$(PREFIX)/lib
-	install -m 644 $(ABOVE_HEADERS) $(DESTDIR)$(PREFIX)/include
-	install -m 644 $(UNITS_LIB) $(ABOVE_LIBS) $(DESTDIR)$(PREFIX)/lib
+	install -m 644 $(UNITS_HEADERS) $(DESTDIR)$(PREFIX)/include
+	install -m 644 $(C_UNITS_LIB) $(UNITS_LIBS) $(DESTDIR)$(PREFIX)/lib
 
-uninstall-above:
-	rm -f $(ABOVE_HEADERS:include/%=$(DESTDIR)$(PREFIX)/include/%) $(ABOVE_INSTALLED:%=$(DESTDIR)$(PREFIX)/lib/%)
+uninstall-units:
+	rm -f $(UNITS_HEADERS:include/%=$(DESTDIR)$(PREFIX)/include/%) $(UNITS_INSTALLED:%=$(DESTDIR)$(PREFIX)/lib/%)
 
-c-dist-above: $(ABOVE_HEADERS) $(ABOVE_DIST) c/store/units.c
+c-dist-units: $(UNITS_HEADERS) $(UNITS_DIST) c/store/units.c
 	install -d $(DIST)
-	install -m 644 $(ABOVE_HEADERS) $(ABOVE_DIST) $(DIST)
+	install -m 644 $(UNITS_HEADERS) $(UNITS_DIST) $(DIST)
 	install -m 644 c/store/units.c $(DIST)/kagutin_units.c
 
-install: install-above
-uninstall: uninstall-above
-c-dist: c-dist-above
+install: install-units
+uninstall: uninstall-units
+c-dist: c-dist-units
 
-units-check: $(C_ABOVE_PROGRAMS)
+units-check: $(C_UNITS_PROGRAMS)
 	CC="$(CC)" LIB="$(LIB)" sh tests/programs/units-check.sh $(C_OUT)
 
 c-check: units-check
 
 # Shared objects for the comparison: the store and the units in one, plain and with sanitizers.
-ABOVE_SOURCES = dist/kagutin.c $(ABOVE_DIST)
-ABOVE_PARTS = $(PORT_OUT)/above.so
-ABOVE_TIGHT = $(PORT_OUT)/above-sanitize.so
+UNITS_SOURCES = dist/kagutin.c $(UNITS_DIST)
+UNITS_SHARED = $(PORT_OUT)/units.so
+UNITS_TIGHT = $(PORT_OUT)/units-sanitize.so
 COMPARE_UNITS = rust/target/release/units
 
-$(PORT_OUT)/above.so: $(ABOVE_SOURCES) $(C_HEADERS)
+$(PORT_OUT)/units.so: $(UNITS_SOURCES) $(C_HEADERS)
 	@mkdir -p $(@D)
-	gcc $(PORT_SHARED) -O2 $(ABOVE_SOURCES) -o $@
+	gcc $(PORT_SHARED) -O2 $(UNITS_SOURCES) -o $@
 
-$(PORT_OUT)/above-sanitize.so: $(ABOVE_SOURCES) $(C_HEADERS)
+$(PORT_OUT)/units-sanitize.so: $(UNITS_SOURCES) $(C_HEADERS)
 	@mkdir -p $(@D)
-	gcc $(PORT_SHARED) $(C_SANITIZE) $(ABOVE_SOURCES) -o $@
+	gcc $(PORT_SHARED) $(C_SANITIZE) $(UNITS_SOURCES) -o $@
 
 $(COMPARE_UNITS): $(COMPARE)
 
-above-compare: $(COMPARE_UNITS) $(ABOVE_PARTS) $(ABOVE_TIGHT)
-	$(COMPARE_UNITS) --seed $(SEED) --build $(ABOVE_PARTS)
+units-compare: $(COMPARE_UNITS) $(UNITS_SHARED) $(UNITS_TIGHT)
+	$(COMPARE_UNITS) --seed $(SEED) --build $(UNITS_SHARED)
 	ASAN_OPTIONS=detect_leaks=0 LD_PRELOAD=$$(gcc -print-file-name=libasan.so) $(COMPARE_UNITS) --seed $(SEED) --tight \
-	    --histories 40 --damaged 2000 --build $(ABOVE_TIGHT) | tail -n 1
+	    --histories 40 --damaged 2000 --build $(UNITS_TIGHT) | tail -n 1
