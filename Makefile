@@ -3,10 +3,10 @@
 # make test       runs every test and every proof; the prover's verdict is the last line
 # make library    the proved archive for x86-64 Linux, target/staticlib/libkagutin.a; make LIB=that run and so on use it
 # make dist       dist/kagutin.c again from the proved program; the gate fails where it differs
-# make compare    a long comparison of the library, built in many ways, with the second implementation, call by call
+# make compare    a long comparison of the library, built in many ways, with the reference implementation, call by call
 # make arm        the C file on an emulated Cortex-M board and other machines; port/packages.sh installs what it needs
-# make play       random histories on the second implementation alone
-# make bench      instructions and times of each call against the second implementation; other stores, if installed
+# make play       random histories on the reference implementation alone
+# make bench      instructions and times of each call against the reference implementation; other stores, if installed
 # make bench-docs tables of docs/PERFORMANCE.md and docs/ring-cost.svg from the last bench
 # make install    headers, libraries and pkg-config file, under DESTDIR and PREFIX; make uninstall takes them away
 # make inspect    the inspector, target/c/inspect; make station, quickstart, gauges, inflow, bands and wear the other programs

@@ -8,7 +8,7 @@ import csv
 import sys
 
 CALLS = ["open", "settle", "trim", "read"]
-SIDES = ["library", "second"]
+SIDES = ["library", "reference"]
 
 # Two by two panels; each has its place for numbers on the left and below.
 PANEL_W, PANEL_H = 300, 190
@@ -23,20 +23,20 @@ STYLE = """
   .grid { stroke: #d0d7de; stroke-width: 1; }
   .axis { stroke: #57606a; stroke-width: 1; fill: none; }
   .line { fill: none; stroke-width: 2; }
-  .second { stroke-dasharray: 6 3; }
+  .reference { stroke-dasharray: 6 3; }
   .line.library { stroke: #0550ae; }
-  .line.second { stroke: #bc4c00; }
+  .line.reference { stroke: #bc4c00; }
   .dot.library { fill: #0550ae; }
-  .dot.second { fill: #bc4c00; }
+  .dot.reference { fill: #bc4c00; }
   .back { fill: #ffffff; }
   @media (prefers-color-scheme: dark) {
     text { fill: #e6edf3; }
     .grid { stroke: #30363d; }
     .axis { stroke: #8b949e; }
     .line.library { stroke: #58a6ff; }
-    .line.second { stroke: #ffa657; }
+    .line.reference { stroke: #ffa657; }
     .dot.library { fill: #58a6ff; }
-    .dot.second { fill: #ffa657; }
+    .dot.reference { fill: #ffa657; }
     .back { fill: #0d1117; }
   }
 """
@@ -118,7 +118,7 @@ def panel(x0, y0, call, points):
 
 def legend(x, y):
     parts = []
-    for side, words in (("library", "the library"), ("second", "second implementation")):
+    for side, words in (("library", "the library"), ("reference", "reference implementation")):
         parts += curve([(x, y - 4), (x + 34, y - 4)], side)
         parts.append(text(x + 42, y, words, "start"))
         x += 140

@@ -32,22 +32,22 @@ def table(head, lines):
 
 
 def call_table(rows):
-    head = ["case, call", "library", "second", "ratio", "floor", "library ns", "second ns"]
+    head = ["case, call", "library", "reference", "ratio", "floor", "library ns", "reference ns"]
     lines = []
     for row in rows:
         name = f"{row['case']}: {row['call']}"
-        counts = [number(row["library"]), number(row["second"]), ratio(row["library"], row["second"]), number(row["floor"])]
-        lines.append([name] + counts + [number(row["library_ns"]), number(row["second_ns"])])
+        counts = [number(row["library"]), number(row["reference"]), ratio(row["library"], row["reference"]), number(row["floor"])]
+        lines.append([name] + counts + [number(row["library_ns"]), number(row["reference_ns"])])
     return table(head, lines)
 
 
 def size_table(rows):
-    head = ["call, groups in use of G", "library", "per group of the ring", "per group in use", "second", "ratio"]
+    head = ["call, groups in use of G", "library", "per group of the ring", "per group in use", "reference", "ratio"]
     lines = []
     for row in rows:
         library, groups, used = float(row["library"]), int(row["groups"]), int(row["used"])
-        cells = [number(row["library"]), number(library / groups), number(library / used), number(row["second"])]
-        lines.append([f"{row['call']}, {used:,} of {groups:,}"] + cells + [ratio(row["library"], row["second"])])
+        cells = [number(row["library"]), number(library / groups), number(library / used), number(row["reference"])]
+        lines.append([f"{row['call']}, {used:,} of {groups:,}"] + cells + [ratio(row["library"], row["reference"])])
     return table(head, lines)
 
 

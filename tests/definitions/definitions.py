@@ -1,7 +1,7 @@
 #!/usr/bin/env python3
-"""Compares the definitions with the second implementation, call by call.
+"""Compares the definitions with the reference implementation, call by call.
 
-The second implementation prints cases on random and damaged input: what a call is lent, what it answers and leaves. For each case a statement is
+The reference implementation prints cases on random and damaged input: what a call is lent, what it answers and leaves. For each case a statement is
 written down that the definition leaves the same answer, figure, batch length, strip, newest positions, copies, block and batch buffer, or of the call usage that
 it tells the same numbers, and the prover computes it.
 
@@ -110,8 +110,8 @@ def main():
     answers = collections.Counter(f"{case['call']} {case['code']}" for case in cases)
     if told.returncode != 0:
         print(told.stdout[-3000:], told.stderr[-3000:], sep="\n")
-        sys.exit(f"definitions: some of {len(cases)} cases differ from the second implementation (seed {seed})")
-    print(f"definitions: {len(cases)} cases as the second implementation has them; {len(answers)} pairs of call and answer")
+        sys.exit(f"definitions: some of {len(cases)} cases differ from the reference implementation (seed {seed})")
+    print(f"definitions: {len(cases)} cases as the reference implementation has them; {len(answers)} pairs of call and answer")
 
 
 main()

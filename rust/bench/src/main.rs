@@ -1,4 +1,4 @@
-//! Measures the library against the second implementation and against the
+//! Measures the library against the reference implementation and against the
 //! floor: instructions per call by callgrind, and median times.
 
 #![deny(warnings)]

@@ -49,7 +49,7 @@ struct Times {
     whole: Vec<u64>,
 }
 
-/// Median nanoseconds of each call, library and second. The sides take turns.
+/// Median nanoseconds of each call, library and reference. The sides take turns.
 pub fn time(case: &Case) -> Vec<(&'static str, [u64; 2])> {
     let mut times: [Times; 2] = Default::default();
     for script in &case.scripts {
@@ -62,13 +62,13 @@ pub fn time(case: &Case) -> Vec<(&'static str, [u64; 2])> {
     let mut medians = Vec::new();
     for kind in Kind::ALL {
         let both = times.each_mut().map(|side| median(&mut side.calls[kind as usize]));
-        if let [Some(library), Some(second)] = both {
-            medians.push((kind.name(), [library, second].map(|ns| ns.saturating_sub(clock))));
+        if let [Some(library), Some(reference)] = both {
+            medians.push((kind.name(), [library, reference].map(|ns| ns.saturating_sub(clock))));
         }
     }
     let commits = case.steps().filter(|step| step.kind == Kind::Commit).count() as u64;
-    if let [Some(library), Some(second)] = times.each_mut().map(|side| median(&mut side.whole)) {
-        medians.push((PER_COMMIT, [library, second].map(|ns| ns / commits)));
+    if let [Some(library), Some(reference)] = times.each_mut().map(|side| median(&mut side.whole)) {
+        medians.push((PER_COMMIT, [library, reference].map(|ns| ns / commits)));
     }
     medians
 }

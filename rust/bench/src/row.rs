@@ -18,9 +18,9 @@ pub struct Row {
     pub calls: u64,
     /// Bytes of batch in all.
     pub batch: u64,
-    /// Instructions in all: library, second, floor.
+    /// Instructions in all: library, reference, floor.
     pub counts: Option<[u64; 3]>,
-    /// Median nanoseconds: library, second.
+    /// Median nanoseconds: library, reference.
     pub times: Option<[u64; 2]>,
 }
 

@@ -1,5 +1,5 @@
 //! A script: the memory that its calls start from, the calls, and what they
-//! must answer and leave. The second implementation writes it; both play it.
+//! must answer and leave. The reference implementation writes it; both play it.
 
 use crate::floor::Before;
 use reference::layout::{word, BLOCK};

@@ -1,4 +1,4 @@
-//! The three that are measured: the library, the second implementation behind
+//! The three that are measured: the library, the reference implementation behind
 //! functions of the same C form, and the floor. Each call is a function of its
 //! own name, so that its instructions can be told from those of the others.
 
@@ -30,9 +30,9 @@ impl Side {
 }
 
 /// The prefixes of the functions' names, in the order of the columns.
-pub const PREFIXES: [&str; 3] = ["kagutin_", "second_", "floor_"];
+pub const PREFIXES: [&str; 3] = ["kagutin_", "reference_", "floor_"];
 
-/// Gives each call of the second implementation the form of its C namesake.
+/// Gives each call of the reference implementation the form of its C namesake.
 macro_rules! wrap {
     ($($name:ident: $call:ident [$($slice:ident $len:ident)*] [$($number:ident)*];)*) => {
         $(#[no_mangle]
@@ -45,20 +45,20 @@ macro_rules! wrap {
 }
 
 wrap! {
-    second_format: format [log g area d batch n] [];
-    second_open: open [log g area d state s newest p batch n] [];
-    second_begin: begin [log g area d state s] [writer];
-    second_reserve: reserve [log g area d state s] [writer places];
-    second_abort: abort [log g area d state s] [writer];
-    second_store: store [log g area d state s block k batch n] [writer home];
-    second_commit: commit [log g area d state s newest p batch n] [writer];
-    second_flush: flush [log g area d state s batch n] [];
-    second_confirm: confirm [log g area d state s] [];
-    second_settle: settle [log g area d state s batch n] [];
-    second_begin_round: begin_round [log g area d state s] [];
-    second_step_round: step_round [log g area d state s batch n] [homes];
-    second_trim: trim [log g area d state s newest p batch n] [];
-    second_read: read [log g area d state s newest p block k] [writer home];
+    reference_format: format [log g area d batch n] [];
+    reference_open: open [log g area d state s newest p batch n] [];
+    reference_begin: begin [log g area d state s] [writer];
+    reference_reserve: reserve [log g area d state s] [writer places];
+    reference_abort: abort [log g area d state s] [writer];
+    reference_store: store [log g area d state s block k batch n] [writer home];
+    reference_commit: commit [log g area d state s newest p batch n] [writer];
+    reference_flush: flush [log g area d state s batch n] [];
+    reference_confirm: confirm [log g area d state s] [];
+    reference_settle: settle [log g area d state s batch n] [];
+    reference_begin_round: begin_round [log g area d state s] [];
+    reference_step_round: step_round [log g area d state s batch n] [homes];
+    reference_trim: trim [log g area d state s newest p batch n] [];
+    reference_read: read [log g area d state s newest p block k] [writer home];
 }
 
 /// As `library::call`.
@@ -68,20 +68,20 @@ fn call(kind: Kind, slices: Slices, writer: u64, home: u64) -> Reply {
     // Each pointer goes with the length of its slice, and the slices are apart.
     unsafe {
         match kind {
-            Kind::Format => second_format(log, g, area, d, batch, n),
-            Kind::Open => second_open(log, g, area, d, state, s, newest, p, batch, n),
-            Kind::Begin => second_begin(log, g, area, d, state, s, writer),
-            Kind::Reserve => second_reserve(log, g, area, d, state, s, writer, home),
-            Kind::Abort => second_abort(log, g, area, d, state, s, writer),
-            Kind::Store => second_store(log, g, area, d, state, s, block, k, batch, n, writer, home),
-            Kind::Commit => second_commit(log, g, area, d, state, s, newest, p, batch, n, writer),
-            Kind::Flush => second_flush(log, g, area, d, state, s, batch, n),
-            Kind::Confirm => second_confirm(log, g, area, d, state, s),
-            Kind::Settle => second_settle(log, g, area, d, state, s, batch, n),
-            Kind::BeginRound => second_begin_round(log, g, area, d, state, s),
-            Kind::StepRound => second_step_round(log, g, area, d, state, s, batch, n, home),
-            Kind::Trim => second_trim(log, g, area, d, state, s, newest, p, batch, n),
-            Kind::Read => second_read(log, g, area, d, state, s, newest, p, block, k, writer, home),
+            Kind::Format => reference_format(log, g, area, d, batch, n),
+            Kind::Open => reference_open(log, g, area, d, state, s, newest, p, batch, n),
+            Kind::Begin => reference_begin(log, g, area, d, state, s, writer),
+            Kind::Reserve => reference_reserve(log, g, area, d, state, s, writer, home),
+            Kind::Abort => reference_abort(log, g, area, d, state, s, writer),
+            Kind::Store => reference_store(log, g, area, d, state, s, block, k, batch, n, writer, home),
+            Kind::Commit => reference_commit(log, g, area, d, state, s, newest, p, batch, n, writer),
+            Kind::Flush => reference_flush(log, g, area, d, state, s, batch, n),
+            Kind::Confirm => reference_confirm(log, g, area, d, state, s),
+            Kind::Settle => reference_settle(log, g, area, d, state, s, batch, n),
+            Kind::BeginRound => reference_begin_round(log, g, area, d, state, s),
+            Kind::StepRound => reference_step_round(log, g, area, d, state, s, batch, n, home),
+            Kind::Trim => reference_trim(log, g, area, d, state, s, newest, p, batch, n),
+            Kind::Read => reference_read(log, g, area, d, state, s, newest, p, block, k, writer, home),
         }
     }
 }

@@ -60,11 +60,11 @@ fn of(rows: &[Row], table: Table) -> impl Iterator<Item = &Row> {
     rows.iter().filter(move |row| row.table == table)
 }
 
-/// Library against second and floor, by instructions and time.
+/// Library against reference and floor, by instructions and time.
 fn calls(rows: &[Row], table: Table, title: &str) -> String {
     let head = [
-        "case", "call", "calls", "batch", "library", "second", "floor", "lib/sec", "", "lib/floor", "lib ns",
-        "sec ns", "lib/sec",
+        "case", "call", "calls", "batch", "library", "reference", "floor", "lib/ref", "", "lib/floor", "lib ns",
+        "ref ns", "lib/ref",
     ];
     let line = |row: &Row| {
         let time = |side: usize| whole(row.times.map(|times| times[side] as f64));
@@ -89,7 +89,7 @@ fn calls(rows: &[Row], table: Table, title: &str) -> String {
 
 /// The library's instructions in all, per group of the ring and per group in use.
 fn sizes(rows: &[Row]) -> String {
-    let head = ["call", "G", "in use", "library", "per group", "per used", "second", "lib/sec", ""];
+    let head = ["call", "G", "in use", "library", "per group", "per used", "reference", "lib/ref", ""];
     let mut sorted: Vec<&Row> = of(rows, Table::Size).collect();
     sorted.sort_by_key(|row| (row.call, row.used > 1, row.groups));
     let line = |row: &Row| {
@@ -114,12 +114,12 @@ fn sizes(rows: &[Row]) -> String {
 pub fn show(rows: &[Row], clock: u64) -> String {
     let notes = format!(
         "\
-library, second, floor  instructions per call, mean
-floor                   one memcpy of the bytes that the call must move
-batch                   bytes that the call asks the driver to write, mean
-ns                      median per call, less the {clock} ns that the clock itself takes; short ones are rough
-per commit              all calls of the steady state, shared out among its commits
-* and **                above 1.2 and 1.5 times the second implementation\n"
+library, reference, floor  instructions per call, mean
+floor                      one memcpy of the bytes that the call must move
+batch                      bytes that the call asks the driver to write, mean
+ns                         median per call, less the {clock} ns that the clock itself takes; short ones are rough
+per commit                 all calls of the steady state, shared out among its commits
+* and **                   above 1.2 and 1.5 times the reference implementation\n"
     );
     let parts = [
         calls(rows, Table::Calls, "Calls (G 1,024, D 4,096)"),
@@ -132,8 +132,8 @@ per commit              all calls of the steady state, shared out among its comm
 }
 
 const COLUMNS: [&str; 12] = [
-    "table", "case", "groups", "used", "call", "calls", "batch", "library", "second", "floor", "library_ns",
-    "second_ns",
+    "table", "case", "groups", "used", "call", "calls", "batch", "library", "reference", "floor", "library_ns",
+    "reference_ns",
 ];
 
 /// One line for each row, numbers plain, empty where there is none.

@@ -1,4 +1,4 @@
-//! The C interface of what stands above the store: depth bands, pump hours and
+//! The C interface of the units on the store: depth bands, pump hours and
 //! alarms, and the store's own calls on several homes. It is loaded from a shared
 //! object, since not every build of the library has it.
 

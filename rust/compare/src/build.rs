@@ -52,7 +52,7 @@ impl Build {
         ];
         for (field, got, want) in numbers {
             if got != want {
-                return Some(format!("{field}: {} {got}, second {want}", self.name));
+                return Some(format!("{field}: {} {got}, reference {want}", self.name));
             }
         }
         let fields = FIELDS.iter().zip(&self.parts).zip(views(lent)).zip(taken(kind));
@@ -63,7 +63,7 @@ impl Build {
             if taken && part.bytes() != want {
                 let at = part.bytes().iter().zip(want).position(|(a, b)| a != b).unwrap();
                 let (got, want) = (part.bytes()[at], want[at]);
-                return Some(format!("{field}, offset {at}: {} {got:#04x}, second {want:#04x}", self.name));
+                return Some(format!("{field}, offset {at}: {} {got:#04x}, reference {want:#04x}", self.name));
             }
         }
         None

@@ -1,4 +1,4 @@
-//! Calls on several homes: the library and the second implementation on
+//! Calls on several homes: the library and the reference implementation on
 //! made-up and damaged memory, byte for byte.
 
 use bindings::library::Reply;
@@ -53,7 +53,7 @@ fn call(chain: Chain, parts: &mut [Part; 6], writer: u64, home: u64) -> Reply {
 
 fn difference(parts: &[Part; 6], reply: Reply, want: Reply, after: &Lent) -> Option<String> {
     if reply != want {
-        return Some(format!("library {reply:?}, second {want:?}"));
+        return Some(format!("library {reply:?}, reference {want:?}"));
     }
     for ((field, part), want) in FIELDS.iter().zip(parts).zip(views(after)) {
         if let Some((at, byte)) = part.broken_guard() {

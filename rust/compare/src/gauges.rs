@@ -1,4 +1,4 @@
-//! The comparison of two gauges: the library against the second implementation,
+//! The comparison of two gauges: the library against the reference implementation,
 //! over all small lists, at the limits, and on random and damaged strips.
 
 use bindings::part::Part;

@@ -1,4 +1,4 @@
-//! Inflow from float switches: the library against the second implementation and against every choice inside small
+//! Inflow from float switches: the library against the reference implementation and against every choice inside small
 //! ranges, at the extremes, and on random numbers.
 
 use reference::inflow::{bounds, inflow, Bounds, Range};

@@ -1,4 +1,4 @@
-//! The builds of the library and the second implementation on equal memory,
+//! The builds of the library and the reference implementation on equal memory,
 //! byte for byte; then demand 3 on the library. A seed repeats a run exactly.
 
 #![deny(warnings)]
@@ -95,7 +95,7 @@ fn builds(options: &Options) -> Result<Vec<Build>, String> {
 fn run(options: &Options) -> Result<(), String> {
     let &Options { seed, calls, damaged: images, histories, large, .. } = options;
     let builds = builds(options)?;
-    println!("compare: {} of the library and the second implementation, seed {seed}", count(builds.len()));
+    println!("compare: {} of the library and the reference implementation, seed {seed}", count(builds.len()));
     let all: Vec<Calls> = builds.iter().map(|build| build.calls).collect();
     let pair = Pair::new(seed, builds);
 

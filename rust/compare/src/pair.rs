@@ -1,4 +1,4 @@
-//! One call by every build of the library and by the second implementation, on
+//! One call by every build of the library and by the reference implementation, on
 //! equal memory, compared.
 
 use crate::build::{views, Build};
@@ -28,7 +28,7 @@ pub struct Pair {
     pub sizes: Sizes,
     /// Usages compared: done, refused.
     pub usages: [u64; 2],
-    /// While false, only the second implementation is called.
+    /// While false, only the reference implementation is called.
     pub comparing: bool,
     /// The first difference found.
     pub difference: Option<String>,
@@ -48,7 +48,7 @@ impl Pair {
         }))
     }
 
-    /// Performs the call with all. The lent memory becomes what the second
+    /// Performs the call with all. The lent memory becomes what the reference
     /// implementation makes of it.
     pub fn run(&mut self, lent: &mut Lent, kind: Kind, writer: u64, home: u64) -> Answer {
         if !self.comparing || self.difference.is_some() {
@@ -70,7 +70,7 @@ impl Pair {
             let seed_case = format!("seed {}, case {}", self.seed, self.case);
             let arguments = format!("writer {writer}, home {home}, lengths {lengths:?}");
             self.difference = Some(format!(
-                "{} ({seed_case}): {what}\n  {arguments}\n  {} {reply:?}\n  second {:?}",
+                "{} ({seed_case}): {what}\n  {arguments}\n  {} {reply:?}\n  reference {:?}",
                 kind.name(),
                 build.name,
                 Reply::from(answer)
@@ -88,7 +88,7 @@ impl Pair {
             let got = build.calls.usage(lent);
             if got != want {
                 let seed_case = format!("seed {}, after case {}", self.seed, self.case);
-                self.difference = Some(format!("usage ({seed_case}):\n  {} {got:?}\n  second {want:?}", build.name));
+                self.difference = Some(format!("usage ({seed_case}):\n  {} {got:?}\n  reference {want:?}", build.name));
             }
         }
     }

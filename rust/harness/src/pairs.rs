@@ -46,7 +46,7 @@ pub struct Pairs {
 }
 
 impl Script {
-    /// A history of the second implementation: with crashes, then a list by
+    /// A history of the reference implementation: with crashes, then a list by
     /// writer 0, and from there on without a crash.
     pub fn random(rng: &mut Rng) -> Result<Script, String> {
         let shape = Shape { groups: rng.pick(&[4, 4, 5, 9]), homes: rng.between(12, 20) };

@@ -1,4 +1,4 @@
-//! Random histories with the calls above the store in them: after every step,
+//! Random histories with the calls on units in them: after every step,
 //! cuts included, tables, hours and alarms are what the labels of the book's
 //! list say.
 
@@ -44,8 +44,8 @@ pub struct UnitPlayer<'a> {
 struct Habits {
     /// Cuts in a thousand steps.
     cuts: u64,
-    /// Of the calls, how many in a hundred are above the store.
-    above: u64,
+    /// Of the calls, how many in a hundred are on units.
+    on_units: u64,
     /// Arrivals and clearings among those, in a hundred.
     alarms: u64,
     identities: u64,
@@ -58,7 +58,7 @@ impl Habits {
     fn random(rng: &mut Rng) -> Habits {
         Habits {
             cuts: rng.pick(&[0, 5, 20, 50]),
-            above: rng.pick(&[30, 60, 85]),
+            on_units: rng.pick(&[30, 60, 85]),
             alarms: rng.pick(&[20, 50, 90]),
             identities: rng.pick(&[3, 60, 60]),
             lists: rng.chance(30),
@@ -86,7 +86,7 @@ impl UnitPlayer<'_> {
             self.cut(rng)?;
             return Ok(true);
         }
-        if !self.world.opened || !rng.chance(self.habits.above) {
+        if !self.world.opened || !rng.chance(self.habits.on_units) {
             return self.plain(rng, deep);
         }
         let ask = random_ask(rng, &self.labels, &self.habits, self.world.shape.homes);

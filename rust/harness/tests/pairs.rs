@@ -1,4 +1,4 @@
-//! Pairs of histories on the second implementation, and on wrong variants of
+//! Pairs of histories on the reference implementation, and on wrong variants of
 //! it, each of which some pair must tell apart.
 
 use reference::layout::put_word;

@@ -1,4 +1,4 @@
-//! The calls that stand above the store: depth bands, pump hours and alarms.
+//! The calls on units: depth bands, pump hours and alarms.
 //! Each asks its own first questions, then the store's once for all its homes.
 
 use crate::alarms;

@@ -1,4 +1,4 @@
-//! What stands above the store, by shared objects of it and by the second
+//! The units on the store, by shared objects of them and by the reference
 //! implementation on equal memory, byte for byte: over histories with cuts, where
 //! what it tells is also held to the events in the book's list, and over damaged
 //! images, homes, strips and lengths.
@@ -27,7 +27,7 @@ usage: units [--seed S] [--histories H] [--damaged M] [--tight] --build FILE...
   --histories H  histories with cuts, each call compared and held to the book (300)
   --damaged M    damaged images, homes, strips and lengths, all calls on each (10000)
   --tight        no guard bytes, so that a memory checker sees reads outside
-  --build FILE   a shared object with the calls above the store; may be given again";
+  --build FILE   a shared object with the calls on units; may be given again";
 
 const FIELDS: [&str; 7] = ["log", "area", "state", "newest", "block", "batch", "rows"];
 
@@ -66,7 +66,7 @@ impl Build {
     /// The first field that differs, with its place and both values.
     fn compare(&self, told: Told, want: Told, lent: &Lent, rows: &[u8]) -> Option<String> {
         if told != want {
-            return Some(format!("{} {told:?}, second {want:?}", self.name));
+            return Some(format!("{} {told:?}, reference {want:?}", self.name));
         }
         for ((field, part), want) in FIELDS.iter().zip(&self.parts).zip(views(lent, rows)) {
             if let Some((at, byte)) = part.broken_guard() {
@@ -74,7 +74,7 @@ impl Build {
             }
             if let Some(at) = part.bytes().iter().zip(want).position(|(a, b)| a != b) {
                 let (got, want) = (part.bytes()[at], want[at]);
-                return Some(format!("{field}, offset {at}: {} {got:#04x}, second {want:#04x}", self.name));
+                return Some(format!("{field}, offset {at}: {} {got:#04x}, reference {want:#04x}", self.name));
             }
         }
         None
@@ -82,7 +82,7 @@ impl Build {
 }
 
 impl Pair {
-    /// Performs the call with all; the lent memory becomes what the second implementation makes of it.
+    /// Performs the call with all; the lent memory becomes what the reference implementation makes of it.
     fn run(&mut self, lent: &mut Lent, ask: &Ask, writer: u64) -> Told {
         let rows = if let Ask::SetTable(rows) = ask { rows.clone() } else { Vec::new() };
         let told: Vec<Told> = self.builds.iter_mut().map(|build| build.perform(lent, &rows, ask, writer)).collect();

@@ -12,7 +12,7 @@ use std::process::ExitCode;
 
 const USAGE: &str = "\
 usage: play [--seed S] [--histories N] [--torn T] [--pairs P]
-Plays random histories, each from its own seed, on the second implementation; then short ones, of
+Plays random histories, each from its own seed, on the reference implementation; then short ones, of
 which stretches are cut in every choice of up to twelve blocks; then pairs of histories that differ
 in bytes of homes a writer may not read, and must tell it the same.";
 

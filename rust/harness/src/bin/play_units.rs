@@ -8,7 +8,7 @@ use std::process::ExitCode;
 
 const USAGE: &str = "\
 usage: play_units [--seed S] [--histories N]
-Plays random histories with calls above the store, cuts included, on the second implementation.";
+Plays random histories with calls on units, cuts included, on the reference implementation.";
 
 fn main() -> ExitCode {
     let mut words = Words::new(USAGE);
