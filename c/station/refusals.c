@@ -5,6 +5,7 @@
 
 #include "common/rule.h"
 #include "rights.h"
+#include "store/state_layout.h"
 
 #define LOG(s) (s)->driver.log, (s)->driver.log_size
 #define AREA(s) (s)->driver.area, (s)->driver.area_size
@@ -188,7 +189,7 @@ static void try_events(struct station *s)
 /* A state that is out of order, or belongs to other areas. */
 static void try_bad_state(struct station *s)
 {
-    uint8_t *byte = &s->driver.state[station_random(s, 2) ? 0 : 8]; /* G, D */
+    uint8_t *byte = &s->driver.state[station_random(s, 2) ? STATE_GROUPS : STATE_HOMES];
 
     *byte ^= 1;
     refusal_prepare(s);

@@ -19,6 +19,7 @@
 #include <unistd.h>
 
 #include "kagutin.h"
+#include "store/state_layout.h"
 #include "workload.h"
 
 enum { GROUPS = KAGUTIN_MAX_GROUPS, TRIM_AT = GROUPS / 4 * 3, LINE = 64, PAGE = 4096 };
@@ -188,8 +189,8 @@ static uint64_t groups_in_use(void)
 {
     uint64_t start, next;
 
-    memcpy(&start, state + 16, 8);
-    memcpy(&next, state + 24, 8);
+    memcpy(&start, state + STATE_START, 8);
+    memcpy(&next, state + STATE_NEXT, 8);
     return next - start;
 }
 

@@ -17,7 +17,7 @@ LIB=${LIB:-target/staticlib/libkagutin.a}
 CC=${CC:-cc}
 FOLDER=${FOLDER:-/dev/shm}
 ROUNDS=${ROUNDS:-7}
-flags="-std=c99 -D_POSIX_C_SOURCE=200809L -Wall -Wextra -pedantic -Wshadow -Wconversion -O2 -Iinclude -I$here"
+flags="-std=c99 -D_POSIX_C_SOURCE=200809L -Wall -Wextra -pedantic -Wshadow -Wconversion -O2 -Iinclude -Ic -I$here"
 
 give_up()
 {
