@@ -14,8 +14,8 @@ mod sides;
 mod steady;
 mod table;
 
-use row::{rows, Row};
 use harness::options::Words;
+use row::{rows, Row};
 use std::path::PathBuf;
 
 const USAGE: &str = "\

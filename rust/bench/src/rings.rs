@@ -2,9 +2,9 @@
 //! short or long transactions, and one that no history of calls leaves.
 
 use crate::script::Recorder;
+use harness::rng::Rng;
 use reference::layout::{group_head, put_word, set_top_bit, slot_range, turn, BLOCK, PLACES, WRITERS};
 use reference::lent::{Kind, Lent};
-use harness::rng::Rng;
 use reference::state::State;
 use reference::tag::closing_tag;
 

@@ -2,10 +2,10 @@
 //! must answer and leave. The reference implementation writes it; both play it.
 
 use crate::floor::Before;
+use harness::rng::Rng;
 use reference::layout::{word, BLOCK};
 use reference::lent::{Kind, Lent};
 use reference::rights::of_list;
-use harness::rng::Rng;
 use reference::state::at;
 use reference::Answer;
 

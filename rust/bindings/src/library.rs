@@ -111,7 +111,8 @@ impl Calls {
 
     /// What fills the log.
     pub fn usage(&self, lent: &Lent) -> Usage {
-        let [(log, g), (area, d), (state, s)] = [&lent.log, &lent.data, &lent.state].map(|part| (part.as_ptr(), part.len()));
+        let [(log, g), (area, d), (state, s)] =
+            [&lent.log, &lent.data, &lent.state].map(|part| (part.as_ptr(), part.len()));
         // Each pointer goes with the length of its slice; the call writes none of them.
         unsafe { (self.kagutin_usage)(log, g, area, d, state, s) }
     }

@@ -89,15 +89,23 @@ impl UnitCalls {
         // Each pointer goes with the length of its slice, and the slices are apart.
         unsafe {
             match *ask {
-                Ask::SetTable(_) => (self.kagutin_bands_set)(log, g, area, d, state, s, newest, p, batch, n, rows, r, writer).into(),
-                Ask::LookUp(mm) => (self.kagutin_bands_look_up)(log, g, area, d, state, s, newest, p, writer, mm).into(),
+                Ask::SetTable(_) => {
+                    (self.kagutin_bands_set)(log, g, area, d, state, s, newest, p, batch, n, rows, r, writer).into()
+                }
+                Ask::LookUp(mm) => {
+                    (self.kagutin_bands_look_up)(log, g, area, d, state, s, newest, p, writer, mm).into()
+                }
                 Ask::Start { pump, second } => {
-                    (self.kagutin_pump_start)(log, g, area, d, state, s, newest, p, batch, n, writer, pump, second).into()
+                    (self.kagutin_pump_start)(log, g, area, d, state, s, newest, p, batch, n, writer, pump, second)
+                        .into()
                 }
                 Ask::Stop { pump, second } => {
-                    (self.kagutin_pump_stop)(log, g, area, d, state, s, newest, p, batch, n, writer, pump, second).into()
+                    (self.kagutin_pump_stop)(log, g, area, d, state, s, newest, p, batch, n, writer, pump, second)
+                        .into()
                 }
-                Ask::Hours { pump } => (self.kagutin_pump_hours)(log, g, area, d, state, s, newest, p, writer, pump).into(),
+                Ask::Hours { pump } => {
+                    (self.kagutin_pump_hours)(log, g, area, d, state, s, newest, p, writer, pump).into()
+                }
                 Ask::Services { pump, interval } => {
                     (self.kagutin_pump_services)(log, g, area, d, state, s, newest, p, writer, pump, interval).into()
                 }
@@ -109,10 +117,15 @@ impl UnitCalls {
                     (self.kagutin_alarm_clear)(log, g, area, d, state, s, newest, p, batch, n, writer, identity).into()
                 }
                 Ask::Gravest => (self.kagutin_alarm_gravest)(log, g, area, d, state, s, newest, p, writer).into(),
-                Ask::Fetch { home } => (self.kagutin_fetch)(log, g, area, d, state, s, newest, p, blocks, k, writer, home).into(),
-                Ask::Revise { home } => (self.kagutin_revise)(log, g, area, d, state, s, newest, p, blocks, k, writer, home).into(),
+                Ask::Fetch { home } => {
+                    (self.kagutin_fetch)(log, g, area, d, state, s, newest, p, blocks, k, writer, home).into()
+                }
+                Ask::Revise { home } => {
+                    (self.kagutin_revise)(log, g, area, d, state, s, newest, p, blocks, k, writer, home).into()
+                }
                 Ask::Transact { home } => {
-                    (self.kagutin_transact)(log, g, area, d, state, s, newest, p, blocks, k, batch, n, writer, home).into()
+                    (self.kagutin_transact)(log, g, area, d, state, s, newest, p, blocks, k, batch, n, writer, home)
+                        .into()
                 }
             }
         }

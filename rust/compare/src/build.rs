@@ -45,11 +45,8 @@ impl Build {
     /// The first field that differs, with its place and both values.
     pub fn compare(&self, kind: Kind, reply: Reply, answer: Answer, lent: &Lent) -> Option<String> {
         let want = Reply::from(answer);
-        let numbers = [
-            ("answer", reply.code, want.code),
-            ("figure", reply.figure, want.figure),
-            ("size", reply.size, want.size),
-        ];
+        let numbers =
+            [("answer", reply.code, want.code), ("figure", reply.figure, want.figure), ("size", reply.size, want.size)];
         for (field, got, want) in numbers {
             if got != want {
                 return Some(format!("{field}: {} {got}, reference {want}", self.name));

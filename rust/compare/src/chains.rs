@@ -3,23 +3,55 @@
 
 use bindings::library::Reply;
 use bindings::part::Part;
-use reference::chains::Chain;
 use harness::craft::random_chain;
-use reference::lent::Lent;
 use harness::rng::Rng;
+use reference::chains::Chain;
+use reference::lent::Lent;
 
 extern "C" {
     fn kagutin_fetch(
-        log: *mut u8, _: usize, area: *mut u8, _: usize, state: *mut u8, _: usize, newest: *mut u8, _: usize,
-        blocks: *mut u8, _: usize, writer: u64, home: u64,
+        log: *mut u8,
+        _: usize,
+        area: *mut u8,
+        _: usize,
+        state: *mut u8,
+        _: usize,
+        newest: *mut u8,
+        _: usize,
+        blocks: *mut u8,
+        _: usize,
+        writer: u64,
+        home: u64,
     ) -> Reply;
     fn kagutin_revise(
-        log: *mut u8, _: usize, area: *mut u8, _: usize, state: *mut u8, _: usize, newest: *mut u8, _: usize,
-        blocks: *mut u8, _: usize, writer: u64, home: u64,
+        log: *mut u8,
+        _: usize,
+        area: *mut u8,
+        _: usize,
+        state: *mut u8,
+        _: usize,
+        newest: *mut u8,
+        _: usize,
+        blocks: *mut u8,
+        _: usize,
+        writer: u64,
+        home: u64,
     ) -> Reply;
     fn kagutin_transact(
-        log: *mut u8, _: usize, area: *mut u8, _: usize, state: *mut u8, _: usize, newest: *mut u8, _: usize,
-        blocks: *mut u8, _: usize, batch: *mut u8, _: usize, writer: u64, home: u64,
+        log: *mut u8,
+        _: usize,
+        area: *mut u8,
+        _: usize,
+        state: *mut u8,
+        _: usize,
+        newest: *mut u8,
+        _: usize,
+        blocks: *mut u8,
+        _: usize,
+        batch: *mut u8,
+        _: usize,
+        writer: u64,
+        home: u64,
     ) -> Reply;
 }
 
@@ -46,7 +78,9 @@ fn call(chain: Chain, parts: &mut [Part; 6], writer: u64, home: u64) -> Reply {
         match chain {
             Chain::Fetch => kagutin_fetch(log, g, area, d, state, s, newest, p, blocks, k, writer, home),
             Chain::Revise => kagutin_revise(log, g, area, d, state, s, newest, p, blocks, k, writer, home),
-            Chain::Transact => kagutin_transact(log, g, area, d, state, s, newest, p, blocks, k, batch, n, writer, home),
+            Chain::Transact => {
+                kagutin_transact(log, g, area, d, state, s, newest, p, blocks, k, batch, n, writer, home)
+            }
         }
     }
 }

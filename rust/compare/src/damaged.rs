@@ -4,14 +4,12 @@ use crate::histories::{far, random_shape, Player, MOST_GROUPS};
 use crate::pair::Pair;
 use harness::craft::craft;
 use harness::damage::{damage_group, damage_header, damage_lengths, damage_listed, damage_newest, damage_state};
-use reference::layout::{
-    group_head, header, put_word, set_top_bit, slot_range, turn, word, Shape, BLOCK, START_LIMIT,
-};
+use harness::rng::Rng;
+use harness::world::World;
+use reference::layout::{group_head, header, put_word, set_top_bit, slot_range, turn, word, Shape, BLOCK, START_LIMIT};
 use reference::lent::{ample, Kind, Lent};
 use reference::rights::LIST_HOME;
-use harness::rng::Rng;
 use reference::state::{at, promised, Writer};
-use harness::world::World;
 
 /// A history that damaged images are taken from.
 struct Source {
@@ -49,13 +47,7 @@ impl Source {
 
 /// Compares calls on `images` damaged images, `large` in a thousand of them
 /// with the largest log.
-pub fn play(
-    seed: u64,
-    images: u64,
-    large: u64,
-    pair: &mut Pair,
-    mut progress: impl FnMut(u64),
-) -> Result<(), String> {
+pub fn play(seed: u64, images: u64, large: u64, pair: &mut Pair, mut progress: impl FnMut(u64)) -> Result<(), String> {
     let mut rng = Rng::new(seed ^ 0xdada_6e00);
     let mut sources = [None, None];
     let mut large_done = 0;
@@ -290,7 +282,8 @@ fn tags(rng: &mut Rng, lent: &mut Lent, shape: Shape) {
         if chain && word(&lent.log, place) != 0 {
             link = rng.pick(&[0, 1, 1, 1]);
         }
-        let fields = [(home, 2, 0xfff), (back, 14, 0x1fff), (link, 27, 0x1fff), (count, 40, 0x1fff), (home >> 12, 53, 0xf)];
+        let fields =
+            [(home, 2, 0xfff), (back, 14, 0x1fff), (link, 27, 0x1fff), (count, 40, 0x1fff), (home >> 12, 53, 0xf)];
         let mut tag = 1 | closes << 1;
         for (value, shift, mask) in fields {
             let unused = closes == 0 && (shift == 27 || shift == 40) && !rng.chance(5);

@@ -4,10 +4,10 @@
 
 use bindings::library::Calls;
 use bindings::trap;
-use reference::lent::{Lent, Runner};
 use harness::pairs::{pair, Pairs};
 use harness::player::{history_with, large_history_with, Tally};
 use harness::tears::{torn_history, Torn};
+use reference::lent::{Lent, Runner};
 use std::panic::{catch_unwind, AssertUnwindSafe};
 
 /// Plays the histories of the seeds from `seed` on; the last `large` of them
@@ -66,7 +66,8 @@ pub fn pairs(builds: &[Calls], seed: u64, count: u64) -> Result<Pairs, String> {
         let one = seed.wrapping_add(at);
         trap::note(one, at);
         let build = builds[(at % builds.len() as u64) as usize];
-        let mut runner: Runner = Box::new(move |lent: &mut Lent, kind, writer, home| build.run(lent, kind, writer, home));
+        let mut runner: Runner =
+            Box::new(move |lent: &mut Lent, kind, writer, home| build.run(lent, kind, writer, home));
         let outcome = catch_unwind(AssertUnwindSafe(|| pair(one, &mut pairs, &mut runner)));
         outcome.unwrap_or_else(|_| Err("panic".to_string())).map_err(|what| {
             let repeat = format!("--seed {one} --calls 0 --damaged 0 --histories 0 --torn 0 --pairs 1");

@@ -2,8 +2,8 @@
 //! over all small lists, at the limits, and on random and damaged strips.
 
 use bindings::part::Part;
-use reference::gauges::{compare, Comparison};
 use harness::rng::Rng;
+use reference::gauges::{compare, Comparison};
 
 #[repr(C)]
 struct Reply {
@@ -94,7 +94,8 @@ fn all_small(pair: &mut Pair, minutes: &[u16], levels: &[u16], tolerances: &[u16
     for first in &lists {
         for second in &lists {
             for &tolerance in tolerances {
-                let lines = reference::gauges::compare(first, second, &mut [0; 18], tolerance).counts.iter().sum::<u64>();
+                let lines =
+                    reference::gauges::compare(first, second, &mut [0; 18], tolerance).counts.iter().sum::<u64>();
                 for room in [0, 3 * lines as usize, (3 * lines as usize).saturating_sub(1), 20] {
                     pair.ask(first, second, &vec![0xc3; room], tolerance)?;
                 }
@@ -144,7 +145,15 @@ fn limits(pair: &mut Pair) -> Result<(), String> {
     let list = |from: u32, rows: u32, step: u32| -> Vec<u8> {
         strip(&(0..rows).map(|i| ((from + i * step) as u16, (i * 7 % 65536) as u16)).collect::<Vec<_>>())
     };
-    let lists = [list(0, 1440, 1), list(0, 1440, 2), list(1, 1440, 2), list(64096, 1440, 1), list(0, 1441, 1), list(64095, 1441, 1), list(0, 1439, 45)];
+    let lists = [
+        list(0, 1440, 1),
+        list(0, 1440, 2),
+        list(1, 1440, 2),
+        list(64096, 1440, 1),
+        list(0, 1441, 1),
+        list(64095, 1441, 1),
+        list(0, 1439, 45),
+    ];
     for first in &lists {
         for second in &lists {
             for room in [0, 4319, 4320, 8639, 8640, 8641] {

@@ -2,11 +2,11 @@
 
 use crate::pair::{runner, Pair};
 use harness::damage::damage_lengths;
-use reference::layout::{Shape, START_LIMIT};
-use reference::lent::{ample, Kind, Lent};
 use harness::player::{random_crash, random_odd, Profile};
 use harness::rng::Rng;
 use harness::world::{Call, World};
+use reference::layout::{Shape, START_LIMIT};
+use reference::lent::{ample, Kind, Lent};
 use reference::Answer;
 use std::cell::RefCell;
 use std::rc::Rc;
@@ -92,13 +92,7 @@ pub fn play(
     }
 }
 
-fn history(
-    rng: &mut Rng,
-    large: bool,
-    most: u64,
-    pair: &Rc<RefCell<Pair>>,
-    played: &mut Played,
-) -> Result<(), String> {
+fn history(rng: &mut Rng, large: bool, most: u64, pair: &Rc<RefCell<Pair>>, played: &mut Played) -> Result<(), String> {
     let shape = match large {
         true => Shape { groups: MOST_GROUPS, homes: rng.pick(&[1, 7, 64, 4096, 65535]) },
         false => random_shape(rng),

@@ -1,8 +1,8 @@
 //! Inflow from float switches: the library against the reference implementation and against every choice inside small
 //! ranges, at the extremes, and on random numbers.
 
-use reference::inflow::{bounds, inflow, Bounds, Range};
 use harness::rng::Rng;
+use reference::inflow::{bounds, inflow, Bounds, Range};
 
 #[repr(C)]
 struct Reply {
@@ -85,7 +85,12 @@ fn ranges<T: Copy>(values: &[T]) -> Vec<Range<T>> {
     values.iter().flat_map(|&low| values.iter().map(move |&high| Range { low, high })).collect()
 }
 
-fn all(areas: &[u64], depths: &[u16], volumes: &[u32], mut ask: impl FnMut(Given) -> Result<(), String>) -> Result<(), String> {
+fn all(
+    areas: &[u64],
+    depths: &[u16],
+    volumes: &[u32],
+    mut ask: impl FnMut(Given) -> Result<(), String>,
+) -> Result<(), String> {
     for &area in areas {
         for &before in &ranges(depths) {
             for &after in &ranges(depths) {

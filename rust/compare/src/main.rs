@@ -17,8 +17,8 @@ mod trials;
 use bindings::library::{Calls, ARCHIVE};
 use bindings::trap;
 use build::Build;
-use pair::Pair;
 use harness::options::Words;
+use pair::Pair;
 use std::process::ExitCode;
 
 const USAGE: &str = "\
@@ -177,12 +177,19 @@ fn run(options: &Options) -> Result<(), String> {
     let played = gauges::play(seed, calls / 50, options.guarded)?;
     println!("gauges: {} comparisons done and {} refused, the same on both sides", played.done, played.refused);
     let played = inflow::play(seed, calls / 10)?;
-    println!("inflow: {} calls done and {} refused, {} choices inside the ranges", played.done, played.refused, played.choices);
+    println!(
+        "inflow: {} calls done and {} refused, {} choices inside the ranges",
+        played.done, played.refused, played.choices
+    );
     Ok(())
 }
 
 fn count(builds: usize) -> String {
-    if builds == 1 { "one build".into() } else { format!("{builds} builds") }
+    if builds == 1 {
+        "one build".into()
+    } else {
+        format!("{builds} builds")
+    }
 }
 
 /// True at each tenth of the way.

@@ -1,18 +1,20 @@
 //! Test cases for a checker in another language: the lent memory before and
 //! after one call, and its answer.
 
+use crate::craft::{craft, random_chain};
+use crate::damage::{
+    damage_group, damage_header, damage_lengths, damage_listed, damage_newest, damage_sign, damage_state,
+};
+use crate::player::{random_crash, step, Profile, Tally};
+use crate::rng::Rng;
+use crate::world::World;
 use reference::batch::GROUP_WRITE_LEN;
 use reference::chains::Chain;
-use crate::craft::{craft, random_chain};
-use crate::damage::{damage_group, damage_header, damage_lengths, damage_listed, damage_newest, damage_sign, damage_state};
 use reference::layout::{put_word, word, Answer, Shape, START_LIMIT};
 use reference::lent::{ample, Kind, Lent};
-use crate::player::{random_crash, step, Profile, Tally};
 use reference::rights::{has_room, LIST_HOME};
-use crate::rng::Rng;
 use reference::state::{at, Writer};
 use reference::usage::usage;
-use crate::world::World;
 use std::fmt::Write;
 
 pub struct Case {
@@ -117,7 +119,11 @@ fn fresh_world(rng: &mut Rng) -> World {
 
 /// Few homes, or about as many as a list of rights needs.
 fn random_homes(rng: &mut Rng) -> u64 {
-    if rng.chance(50) { rng.between(1, 8) } else { rng.pick(&[9, 10, 11, 12, 12, 13, 13, 13]) }
+    if rng.chance(50) {
+        rng.between(1, 8)
+    } else {
+        rng.pick(&[9, 10, 11, 12, 12, 13, 13, 13])
+    }
 }
 
 /// Leaves one place in the next group, if the log is not full.
@@ -164,7 +170,13 @@ fn disagree(rng: &mut Rng, lent: &mut Lent, shape: Shape, kind: Kind) {
         damage_listed(rng, lent);
     }
     let reads = kind == Kind::Read;
-    if rng.chance(if reads && has_room(shape.homes) { 40 } else if reads { 60 } else { 20 }) {
+    if rng.chance(if reads && has_room(shape.homes) {
+        40
+    } else if reads {
+        60
+    } else {
+        20
+    }) {
         damage_newest(rng, lent);
     }
     if has_room(shape.homes) && rng.chance(30) {

@@ -1,17 +1,21 @@
 //! What must hold after a call: demands 2 and 3, and the state in order.
 
+use crate::literal;
+use crate::world::{Call, Odd, World};
 use reference::layout::{word, Answer};
 use reference::lent::Kind;
-use crate::literal;
 use reference::newest::{position, NONE};
 use reference::rights::has_room;
 use reference::state::{at, mode, pending_range, promise, State, Writer};
 use reference::usage::{usage, Usage};
-use crate::world::{Call, Odd, World};
 use std::collections::BTreeMap;
 
 pub fn must(holds: bool, what: &str) -> Result<(), String> {
-    if holds { Ok(()) } else { Err(what.to_string()) }
+    if holds {
+        Ok(())
+    } else {
+        Err(what.to_string())
+    }
 }
 
 impl World {
@@ -73,7 +77,11 @@ impl World {
         if call.kind != Kind::Read {
             must(self.lent.block == call.block, "block changed")?;
         }
-        if deep { self.check_areas() } else { Ok(()) }
+        if deep {
+            self.check_areas()
+        } else {
+            Ok(())
+        }
     }
 
     /// Demand 3, and that the count is of the untrimmed commits.

@@ -2,14 +2,12 @@
 //! history leaves, to try the commit rule on damaged contents.
 
 use crate::damage::{damage_group, damage_lengths, damage_listed, damage_newest, damage_sign, damage_state};
-use reference::layout::{
-    group_head, header, put_word, set_top_bit, slot_range, turn, word, Shape, BLOCK, START_LIMIT,
-};
-use reference::lent::Lent;
 use crate::lists::random_block;
+use crate::rng::Rng;
+use reference::layout::{group_head, header, put_word, set_top_bit, slot_range, turn, word, Shape, BLOCK, START_LIMIT};
+use reference::lent::Lent;
 use reference::newest::keep;
 use reference::rights::{carry_listed, has_room, of_list};
-use crate::rng::Rng;
 use reference::state::{at, mode, pending_range, set_promise, State, Writer};
 use reference::tag::{closing_tag, entry_tag, tag_home, with_displaced};
 
@@ -129,7 +127,11 @@ fn craft_link(rng: &mut Rng, offset: u64, start: u64, last: Option<u64>, wrong: 
         None if start > 0 && rng.chance(50) => before,
         None => 0,
     };
-    if rng.chance(wrong) { rng.pick(&[0, 1, right + 1, before]) } else { right }
+    if rng.chance(wrong) {
+        rng.pick(&[0, 1, right + 1, before])
+    } else {
+        right
+    }
 }
 
 /// Memory for a call on several homes, damaged at times, with a writer, most
@@ -251,13 +253,7 @@ fn craft_promises(rng: &mut Rng, lent: &mut Lent, places: u64) {
 
 /// A record in order, of one of the first `modes` modes; a transaction that
 /// logs often begins where one does in the log.
-fn craft_writer(
-    rng: &mut Rng,
-    lent: &mut Lent,
-    state: &State,
-    tags: &[u64],
-    (writer, modes): (u64, u64),
-) {
+fn craft_writer(rng: &mut Rng, lent: &mut Lent, state: &State, tags: &[u64], (writer, modes): (u64, u64)) {
     let used = state.next_position() - state.first_position();
     let (mode, home) = (rng.below(modes), rng.below(state.shape.homes));
     let mut record = Writer { mode, ..Writer::holding(home) };

@@ -1,11 +1,11 @@
 //! Damage to a log or a state, at the limits the questions name.
 
 use crate::craft::distort;
+use crate::rng::Rng;
 use reference::layout::{group_head, header, put_word, slot_range, word, Shape, BLOCK, START_LIMIT};
 use reference::lent::Lent;
 use reference::newest::{keep, position, NONE, POSITION};
 use reference::rights::LIST_HOMES;
-use crate::rng::Rng;
 use reference::state::{at, promise, promised, set_promise, State};
 
 pub fn damage_header(rng: &mut Rng, lent: &mut Lent, shape: Shape) {
@@ -102,8 +102,7 @@ const FIELDS: [usize; 20] = [
 /// A promise about as large as the others leave room for.
 fn damage_promise(rng: &mut Rng, bytes: &mut [u8]) {
     let writer = rng.below(8);
-    let [groups, start, next, filled] =
-        [at::GROUPS, at::START, at::NEXT, at::FILLED].map(|from| word(bytes, from));
+    let [groups, start, next, filled] = [at::GROUPS, at::START, at::NEXT, at::FILLED].map(|from| word(bytes, from));
     let end = start.wrapping_add(groups).wrapping_mul(7);
     let places = end.wrapping_sub(next.wrapping_mul(7).wrapping_add(filled));
     let most = places.wrapping_sub(promised(bytes).wrapping_sub(promise(bytes, writer)));
@@ -171,7 +170,8 @@ pub fn damage_listed(rng: &mut Rng, lent: &mut Lent) {
     for _ in 0..rng.between(1, 6) {
         let [index, other] = [(); 2].map(|()| at::LISTED + POSITION * rng.below(LIST_HOMES) as usize);
         let any = base.wrapping_add(rng.below(next.wrapping_sub(base).wrapping_add(2).max(1)));
-        let values = [rng.next(), word(&lent.state, other), any, any, base.wrapping_sub(1), next, next.wrapping_sub(1), NONE];
+        let values =
+            [rng.next(), word(&lent.state, other), any, any, base.wrapping_sub(1), next, next.wrapping_sub(1), NONE];
         put_word(&mut lent.state, index, rng.pick(&values));
     }
     damage_sign(rng, lent);
@@ -195,7 +195,8 @@ pub fn damage_lengths(rng: &mut Rng, lent: &mut Lent) {
         _ => &mut lent.block,
     };
     let len = part.len();
-    let wrong = [len.saturating_sub(1), len + 1, len.saturating_sub(64), len + 64, 0, len + 512, len.saturating_sub(512)];
+    let wrong =
+        [len.saturating_sub(1), len + 1, len.saturating_sub(64), len + 64, 0, len + 512, len.saturating_sub(512)];
     part.resize(rng.pick(&wrong), 0);
 }
 

@@ -1,11 +1,11 @@
 //! The answer that the book and the shadow lead one to expect of a call.
 
+use crate::literal;
+use crate::world::{Call, World};
 use reference::batch::{FENCE_LEN, GROUP_WRITE_LEN, HEADER_WRITE_LEN, HOME_WRITE_LEN};
 use reference::layout::{Answer, START_LIMIT};
 use reference::lent::Kind;
-use crate::literal;
 use reference::rights::{has_room, List, LIST_HOME};
-use crate::world::{Call, World};
 use std::collections::BTreeSet;
 
 impl World {
@@ -36,9 +36,7 @@ impl World {
         }
         match call.kind {
             Kind::Open => self.foresee_open(),
-            Kind::Begin | Kind::Reserve | Kind::Abort | Kind::Store | Kind::Commit => {
-                self.foresee_writer(call)
-            }
+            Kind::Begin | Kind::Reserve | Kind::Abort | Kind::Store | Kind::Commit => self.foresee_writer(call),
             Kind::Flush => self.foresee_flush(),
             Kind::Confirm => Ok(Answer { code: 0, figure: self.shadow.fenced, len: 0 }),
             Kind::Settle => self.foresee_settle(),
@@ -69,7 +67,11 @@ impl World {
 
     /// The bytes of a group write if at least this many places are filled.
     fn group_write(&self, places: usize) -> usize {
-        if self.book.row.len() >= places { GROUP_WRITE_LEN } else { 0 }
+        if self.book.row.len() >= places {
+            GROUP_WRITE_LEN
+        } else {
+            0
+        }
     }
 
     /// A part-filled group passes over the places behind it.

@@ -1,9 +1,9 @@
 //! Lists of rights made up at random, at the limits of their ranges.
 
 use crate::book::Block;
+use crate::rng::Rng;
 use reference::layout::WRITERS;
 use reference::rights::{List, LIST_HOMES, RANGES};
-use crate::rng::Rng;
 
 /// First home and number of homes: often a few homes, else at an edge, empty,
 /// beyond D, or such that a sum of 16 bits would wrap.

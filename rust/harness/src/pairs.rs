@@ -4,13 +4,13 @@
 
 use crate::book::Block;
 use crate::landing::{parse, Areas, Submitted};
-use reference::layout::{Answer, Shape};
-use reference::lent::{ample, Kind, Lent, Runner};
 use crate::lists::random_list;
 use crate::player::Profile;
-use reference::rights::{List, LIST_HOME, LIST_HOMES, RANGES};
 use crate::rng::Rng;
 use crate::world::{Call, World};
+use reference::layout::{Answer, Shape};
+use reference::lent::{ample, Kind, Lent, Runner};
+use reference::rights::{List, LIST_HOME, LIST_HOMES, RANGES};
 use std::collections::BTreeSet;
 
 /// What happened: a call, or a crash after so many fences whose choices come from a seed.
@@ -96,7 +96,8 @@ impl Script {
     fn commit_list(&mut self, rng: &mut Rng, world: &mut World) -> Result<(), String> {
         let shape = self.shape;
         let list = random_list(rng, shape.homes);
-        let mut kinds = vec![Kind::Open, Kind::Abort, Kind::Flush, Kind::StepRound, Kind::Settle, Kind::Trim, Kind::Begin];
+        let mut kinds =
+            vec![Kind::Open, Kind::Abort, Kind::Flush, Kind::StepRound, Kind::Settle, Kind::Trim, Kind::Begin];
         if world.opened {
             kinds.remove(0);
         }

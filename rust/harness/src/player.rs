@@ -1,12 +1,12 @@
 //! Random histories: calls, refused ones included, and crashes.
 
+use crate::lists::random_block;
+use crate::rng::Rng;
+use crate::world::{Call, Odd, World};
 use reference::batch::HOME_WRITE_LEN;
 use reference::layout::{refuse, Answer, Shape, START_LIMIT};
 use reference::lent::{ample, Kind, Lent, Runner};
-use crate::lists::random_block;
 use reference::rights::{has_room, of_list, LIST_HOME, LIST_HOMES};
-use crate::rng::Rng;
-use crate::world::{Call, Odd, World};
 
 /// What a number of histories came to.
 #[derive(Clone, Debug, Default)]

@@ -1,12 +1,12 @@
 //! What the paper says of rounds: answers to expect, and what must hold after
 //! each step and at the end.
 
-use reference::batch::{FENCE_LEN, HOME_WRITE_LEN};
 use crate::check::must;
 use crate::landing::{parse, Record};
+use crate::world::{Call, World};
+use reference::batch::{FENCE_LEN, HOME_WRITE_LEN};
 use reference::layout::{home_range, Answer};
 use reference::lent::{ample, Kind};
-use crate::world::{Call, World};
 
 /// A round, followed from answers and batches alone.
 #[derive(Clone, Debug)]
@@ -32,7 +32,11 @@ struct Settled {
 
 impl World {
     pub fn foresee_begin_round(&self) -> Result<Answer, u32> {
-        if self.shadow.round.is_some() { Err(21) } else { Ok(Answer::DONE) }
+        if self.shadow.round.is_some() {
+            Err(21)
+        } else {
+            Ok(Answer::DONE)
+        }
     }
 
     pub fn foresee_step(&self, homes: u64) -> Result<Answer, u32> {

@@ -2,12 +2,12 @@
 //! opening after each held to the book. The history itself is not disturbed.
 
 use crate::landing::Areas;
-use reference::layout::{Answer, Shape, STATE};
-use reference::lent::{ample, Kind, Lent, Runner};
 use crate::literal;
 use crate::player::{step, Profile, Tally};
 use crate::rng::Rng;
 use crate::world::World;
+use reference::layout::{Answer, Shape, STATE};
+use reference::lent::{ample, Kind, Lent, Runner};
 use reference::newest::POSITION;
 
 /// Blocks whose every choice is tried.
@@ -56,14 +56,8 @@ impl World {
     fn open_copy(&mut self, image: Areas) -> (Answer, Lent) {
         let batch = vec![0; ample(self.shape.groups, self.shape.homes)];
         let newest = vec![0; POSITION * self.shape.homes as usize];
-        let mut lent = Lent {
-            log: image.log,
-            data: image.data,
-            state: vec![0; STATE],
-            newest,
-            block: vec![0; 64],
-            batch,
-        };
+        let mut lent =
+            Lent { log: image.log, data: image.data, state: vec![0; STATE], newest, block: vec![0; 64], batch };
         let answer = (self.runner)(&mut lent, Kind::Open, 0, 0);
         (answer, lent)
     }

@@ -1,12 +1,12 @@
 //! What the labels of the book's commits say: the last table, a pump's events,
 //! the alarms not cleared; and the answers that they lead one to expect.
 
+use crate::world::World;
 use reference::alarms::{self, Alarm};
 use reference::bands;
 use reference::batch::GROUP_WRITE_LEN;
 use reference::hours::{Event, Pump};
 use reference::units::{Ask, Told, ALARM_HOME, ALARM_HOMES, PUMPS, PUMP_HOME, TABLE_HOME, TABLE_HOMES};
-use crate::world::World;
 
 /// What a commit of the book stands for.
 #[derive(Clone, Debug, PartialEq, Eq)]
@@ -88,7 +88,11 @@ fn pump_answer(labels: &[Label], pump: u64, event: Event) -> u64 {
         16
     } else {
         let (starts, total) = pump_figures(&with, pump);
-        if starts.max(total) >> 32 > 0 { 16 } else { 0 }
+        if starts.max(total) >> 32 > 0 {
+            16
+        } else {
+            0
+        }
     }
 }
 
@@ -152,7 +156,11 @@ fn first_question(ask: &Ask) -> Result<(), Told> {
         }
         Ask::LookUp(millimetre) if millimetre > 9999 => 11,
         Ask::Services { interval: 0, .. } => 14,
-        Ask::Start { pump, .. } | Ask::Stop { pump, .. } | Ask::Hours { pump } | Ask::Services { pump, .. } if pump >= PUMPS => 14,
+        Ask::Start { pump, .. } | Ask::Stop { pump, .. } | Ask::Hours { pump } | Ask::Services { pump, .. }
+            if pump >= PUMPS =>
+        {
+            14
+        }
         Ask::Arrive { class, .. } if class == 0 || class > 9 => 24,
         _ => return Ok(()),
     };

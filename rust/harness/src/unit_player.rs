@@ -2,18 +2,18 @@
 //! cuts included, tables, hours and alarms are what the labels of the book's
 //! list say.
 
-use reference::alarms;
 use crate::book::Block;
 use crate::check::{cut_to_odd, must};
 use crate::landing::Record;
-use reference::layout::{Answer, Shape, BLOCK};
-use reference::lent::{ample, Kind, Lent, Runner};
 use crate::player::{random_crash, random_odd, random_start, Profile};
-use reference::rights::of_list;
 use crate::rng::Rng;
 use crate::unit_book::{blocks_after, expected, homes_of, label_of, last_table, open_alarms, Label, Room};
-use reference::units::{of_units, Ask, Told, UnitRunner, ALARM_HOME, ALARM_HOMES, PUMPS};
 use crate::world::{Call, Odd, World};
+use reference::alarms;
+use reference::layout::{Answer, Shape, BLOCK};
+use reference::lent::{ample, Kind, Lent, Runner};
+use reference::rights::of_list;
+use reference::units::{of_units, Ask, Told, UnitRunner, ALARM_HOME, ALARM_HOMES, PUMPS};
 
 /// What a number of histories came to.
 #[derive(Clone, Debug, Default)]
@@ -159,7 +159,11 @@ impl UnitPlayer<'_> {
         let writer = rng.below(8);
         let idle = |writer: &u64| self.world.book.writers[*writer as usize].is_none();
         let some_idle = (0..8).map(|add| (writer + add) % 8).find(idle);
-        if rng.chance(90) { some_idle.unwrap_or(writer) } else { writer }
+        if rng.chance(90) {
+            some_idle.unwrap_or(writer)
+        } else {
+            writer
+        }
     }
 
     /// Performs a call and holds it to what book and labels say.
@@ -181,7 +185,8 @@ impl UnitPlayer<'_> {
         let odd = rng.chance(self.habits.odd).then(|| odd_part(rng, ask, &self.world));
         let room = Room { blocks, batch, odd: odd.is_some() };
         let want = expected(&self.world, &self.labels, ask, writer, room);
-        let told = self.run(ask, writer, want, odd).map_err(|what| format!("{ask:?}, writer {writer}, {room:?}: {what}"))?;
+        let told =
+            self.run(ask, writer, want, odd).map_err(|what| format!("{ask:?}, writer {writer}, {room:?}: {what}"))?;
         self.tally.answers[ask.index()][told.code as usize] += 1;
         Ok(told)
     }
@@ -292,7 +297,11 @@ fn random_depth(rng: &mut Rng, labels: &[Label]) -> u64 {
         }
         _ => rng.below(10_000),
     };
-    if rng.chance(5) { rng.pick(&[0, 9_999, 10_000, 65_535, 65_536, 1 << 32, u64::MAX]) } else { depth }
+    if rng.chance(5) {
+        rng.pick(&[0, 9_999, 10_000, 65_535, 65_536, 1 << 32, u64::MAX])
+    } else {
+        depth
+    }
 }
 
 /// Rows that part the depths, in any order; now and then a wrong table.
@@ -345,7 +354,11 @@ fn random_ask(rng: &mut Rng, labels: &[Label], habits: &Habits, homes: u64) -> A
             0 => u16::MAX,
             number => number - 1,
         };
-        let class = if rng.chance(habits.odd) { rng.pick(&[0, 10, 255, 257, 1 << 32 | 1, u64::MAX]) } else { rng.between(1, 9) };
+        let class = if rng.chance(habits.odd) {
+            rng.pick(&[0, 10, 255, 257, 1 << 32 | 1, u64::MAX])
+        } else {
+            rng.between(1, 9)
+        };
         let clears = rng.chance(if habits.identities > 3 { 12 } else { 40 });
         return if clears { Ask::Clear { identity } } else { Ask::Arrive { identity, class, second } };
     }

@@ -3,9 +3,9 @@
 
 use crate::book::{Block, Book};
 use crate::landing::{parse, Areas, Piece, Record, Submitted, Target};
+use crate::round_check::Round;
 use reference::layout::{header, word, Answer, Shape, HEADER};
 use reference::lent::{Kind, Lent, Runner};
-use crate::round_check::Round;
 use std::collections::HashSet;
 
 /// One call with its arguments.
@@ -229,11 +229,7 @@ impl World {
 
     /// A crash, each block landing by itself; checks that the surviving prefix
     /// holds what it must.
-    pub fn crash(
-        &mut self,
-        passed: usize,
-        choose: impl FnMut(&Record, Piece) -> bool,
-    ) -> Result<(), String> {
+    pub fn crash(&mut self, passed: usize, choose: impl FnMut(&Record, Piece) -> bool) -> Result<(), String> {
         let submitted = std::mem::take(&mut self.submitted);
         let landed = submitted.crash(passed, &mut self.image, choose);
         self.book.crash(&landed);

@@ -3,10 +3,10 @@
 
 mod model;
 
-use reference::chains::Chain;
 use harness::craft::random_chain;
-use reference::lent::{Kind, Lent};
 use harness::rng::Rng;
+use reference::chains::Chain;
+use reference::lent::{Kind, Lent};
 
 #[test]
 fn as_the_model() {
@@ -23,7 +23,8 @@ fn as_the_model() {
             seen[chain as usize][answer.code as usize] += 1;
         }
     }
-    let given: [&[usize]; Chain::COUNT] = [&[0, 1, 2, 4, 5, 20], &[0, 1, 2, 4, 5, 19, 20], &[0, 1, 2, 4, 5, 6, 8, 9, 19]];
+    let given: [&[usize]; Chain::COUNT] =
+        [&[0, 1, 2, 4, 5, 20], &[0, 1, 2, 4, 5, 19, 20], &[0, 1, 2, 4, 5, 6, 8, 9, 19]];
     for (seen, given) in seen.iter().zip(given) {
         assert!(given.iter().all(|&code| seen[code] > 100), "{seen:?}");
         assert!((0..22).all(|code| given.contains(&code) || seen[code] == 0), "{seen:?}");

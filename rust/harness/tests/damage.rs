@@ -5,9 +5,9 @@ mod model;
 use harness::cases::Cases;
 use harness::craft::craft;
 use harness::damage::{damage_group, damage_header, damage_listed, damage_newest, damage_state, in_order};
+use harness::rng::Rng;
 use reference::layout::Shape;
 use reference::lent::{Kind, Lent};
-use harness::rng::Rng;
 use reference::usage::usage;
 
 fn compare(rng: &mut Rng, kind: Kind, lent: &Lent) -> (u32, u64) {

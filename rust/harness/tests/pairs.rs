@@ -1,10 +1,10 @@
 //! Pairs of histories on the reference implementation, and on wrong variants of
 //! it, each of which some pair must tell apart.
 
+use harness::pairs::{pair, Pairs};
 use reference::layout::put_word;
 use reference::lent::{Kind, Lent, Runner};
 use reference::newest::{keep, NONE};
-use harness::pairs::{pair, Pairs};
 use reference::rights::{List, LIST_HOME};
 use reference::state::{at, Writer};
 use reference::Answer;
@@ -139,7 +139,11 @@ fn leaks_are_told_apart() {
     told_apart("a figure that bytes move", telling);
     let full: Runner = Box::new(|lent, kind, writer, home| {
         let logs = kind == Kind::Store && lent.block[63] > 127;
-        if logs && lent.state[32] == 6 { Answer { code: 8, figure: 0, len: 0 } } else { lent.run(kind, writer, home) }
+        if logs && lent.state[32] == 6 {
+            Answer { code: 8, figure: 0, len: 0 }
+        } else {
+            lent.run(kind, writer, home)
+        }
     });
     told_apart("an answer that the top bit moves", full);
 }

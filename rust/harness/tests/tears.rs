@@ -1,7 +1,7 @@
 //! Every choice of up to twelve blocks of a stretch, on a few small histories.
 
-use reference::lent::Lent;
 use harness::tears::{torn_history, Torn};
+use reference::lent::Lent;
 
 #[test]
 fn small_histories() {

@@ -1,11 +1,11 @@
 //! Tables, pumps and alarms at the edges of their numbers, through the calls.
 
+use harness::rng::Rng;
 use reference::alarms::{self, Alarm};
 use reference::bands;
 use reference::hours::{Event, Pump};
 use reference::layout::{Shape, BLOCK};
 use reference::lent::{Kind, Lent};
-use harness::rng::Rng;
 use reference::units::{Ask, Told, ALARM_HOME, PUMP_HOME, TABLE_HOME};
 
 /// A store just opened, with room for some hundred entries.
@@ -237,7 +237,16 @@ fn alarms_of_any_bytes() {
         let identity = if rng.chance(50) { rng.next() as u16 } else { list.first().map_or(3, |alarm| alarm.identity) };
         let open = list.iter().any(|alarm| alarm.identity == identity);
         let told = lent.ask(&Ask::Arrive { identity, class: 4, second: 9 }, 0);
-        assert_eq!(told.code, if open { 24 } else if list.len() == 48 { 25 } else { 0 });
+        assert_eq!(
+            told.code,
+            if open {
+                24
+            } else if list.len() == 48 {
+                25
+            } else {
+                0
+            }
+        );
         if told.code == 0 {
             let mut longer = list.clone();
             longer.push(Alarm { identity, class: 4, second: 9 });

@@ -1,14 +1,14 @@
 //! Histories with depth bands, pump hours and alarms in them; and chains held
 //! to the single calls that they stand for.
 
-use reference::chains::{fetch, revise, transact};
-use reference::layout::{Answer, Shape, BLOCK};
-use reference::lent::{ample, Kind, Lent};
 use harness::player::{step, Profile, Tally};
 use harness::rng::Rng;
 use harness::unit_player::{unit_history, UnitTally};
-use reference::units::Ask;
 use harness::world::World;
+use reference::chains::{fetch, revise, transact};
+use reference::layout::{Answer, Shape, BLOCK};
+use reference::lent::{ample, Kind, Lent};
+use reference::units::Ask;
 
 #[test]
 fn histories_with_cuts() {

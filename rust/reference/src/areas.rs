@@ -1,11 +1,9 @@
 //! The calls that rewrite homes or the header: format, open, settle, trim.
 
-use crate::batch::{
-    check_batch, Batch, FENCE_LEN, GROUP_WRITE_LEN, HEADER_WRITE_LEN, HOME_WRITE_LEN,
-};
+use crate::batch::{check_batch, Batch, FENCE_LEN, GROUP_WRITE_LEN, HEADER_WRITE_LEN, HOME_WRITE_LEN};
 use crate::layout::{
-    blank_slot, header, header_start, home_range, refuse, slot_range, Answer, Shape, BLOCK, HEADER,
-    PLACES, START_LIMIT, STATE, WRITERS,
+    blank_slot, header, header_start, home_range, refuse, slot_range, Answer, Shape, BLOCK, HEADER, PLACES,
+    START_LIMIT, STATE, WRITERS,
 };
 use crate::newest::{check_newest, forget};
 use crate::rights::{carry_listed, sign_opened};
@@ -63,16 +61,14 @@ fn put_homes(view: &View, newest: &Newest, data: &mut [u8], out: &mut Batch) {
 
 /// Question 9.
 fn check_start(start: u64) -> Result<(), u32> {
-    if start <= START_LIMIT { Ok(()) } else { Err(refuse::START) }
+    if start <= START_LIMIT {
+        Ok(())
+    } else {
+        Err(refuse::START)
+    }
 }
 
-pub fn open(
-    log: &mut [u8],
-    data: &mut [u8],
-    state: &mut [u8],
-    newest: &mut [u8],
-    batch: &mut [u8],
-) -> Answer {
+pub fn open(log: &mut [u8], data: &mut [u8], state: &mut [u8], newest: &mut [u8], batch: &mut [u8]) -> Answer {
     Answer::of(try_open(log, data, state, newest, batch))
 }
 
@@ -111,12 +107,7 @@ pub fn settle(log: &[u8], data: &mut [u8], state: &mut [u8], batch: &mut [u8]) -
     Answer::of(try_settle(log, data, state, batch))
 }
 
-fn try_settle(
-    log: &[u8],
-    data: &mut [u8],
-    bytes: &mut [u8],
-    batch: &mut [u8],
-) -> Result<Answer, u32> {
+fn try_settle(log: &[u8], data: &mut [u8], bytes: &mut [u8], batch: &mut [u8]) -> Result<Answer, u32> {
     let mut state = State::load(log, data, bytes)?;
     check_no_round(&state)?;
     let end = (state.fenced - state.first_position()) as u32;
@@ -131,23 +122,11 @@ fn try_settle(
     Ok(Answer::wrote(out.len()))
 }
 
-pub fn trim(
-    log: &mut [u8],
-    data: &[u8],
-    state: &mut [u8],
-    newest: &mut [u8],
-    batch: &mut [u8],
-) -> Answer {
+pub fn trim(log: &mut [u8], data: &[u8], state: &mut [u8], newest: &mut [u8], batch: &mut [u8]) -> Answer {
     Answer::of(try_trim(log, data, state, newest, batch))
 }
 
-fn try_trim(
-    log: &mut [u8],
-    data: &[u8],
-    bytes: &mut [u8],
-    kept: &mut [u8],
-    batch: &mut [u8],
-) -> Result<Answer, u32> {
+fn try_trim(log: &mut [u8], data: &[u8], bytes: &mut [u8], kept: &mut [u8], batch: &mut [u8]) -> Result<Answer, u32> {
     check_newest(Shape::of(log.len(), data.len())?, kept)?;
     let mut state = State::load(log, data, bytes)?;
     let new_start = trimmed_start(log, &state, bytes);

@@ -14,7 +14,11 @@ pub const FENCE_LEN: usize = 2;
 
 /// Question 10: is the batch as long as what the call writes?
 pub fn check_batch(batch: &[u8], need: usize) -> Result<(), u32> {
-    if need <= batch.len() { Ok(()) } else { Err(crate::layout::refuse::BATCH) }
+    if need <= batch.len() {
+        Ok(())
+    } else {
+        Err(crate::layout::refuse::BATCH)
+    }
 }
 
 /// A lent batch and the bytes written so far. Room is checked beforehand.

@@ -2,15 +2,13 @@
 //! abort, store, commit, flush, confirm, read.
 
 use crate::batch::{check_batch, Batch, FENCE_LEN, GROUP_WRITE_LEN};
-use crate::layout::{PLACES, 
-    clear_group, group_head, home_range, put_word, refuse, set_top_bit, slot_range, top_bit, turn,
-    Answer, Shape, BLOCK,
+use crate::layout::{
+    clear_group, group_head, home_range, put_word, refuse, set_top_bit, slot_range, top_bit, turn, Answer, Shape,
+    BLOCK, PLACES,
 };
 use crate::newest::{check_newest, keep, position};
 use crate::rights::{check_read, check_store, keep_list};
-use crate::state::{
-    check_home, check_writer, mode, pending_range, promise, promised, set_promise, State, Writer,
-};
+use crate::state::{check_home, check_writer, mode, pending_range, promise, promised, set_promise, State, Writer};
 use crate::tag::{closing_tag, entry_tag, with_displaced};
 use crate::walk::{kept_entry, newest_own, parts, View};
 
@@ -32,13 +30,7 @@ pub fn reserve(log: &[u8], data: &[u8], state: &mut [u8], writer: u64, places: u
     Answer::of(try_reserve(log, data, state, writer, places))
 }
 
-fn try_reserve(
-    log: &[u8],
-    data: &[u8],
-    bytes: &mut [u8],
-    writer: u64,
-    places: u64,
-) -> Result<Answer, u32> {
+fn try_reserve(log: &[u8], data: &[u8], bytes: &mut [u8], writer: u64, places: u64) -> Result<Answer, u32> {
     let state = State::load(log, data, bytes)?;
     check_writer(writer)?;
     if Writer::load(bytes, writer).mode != mode::IDLE {
@@ -68,7 +60,11 @@ fn try_abort(log: &[u8], data: &[u8], bytes: &mut [u8], writer: u64) -> Result<A
 /// Question 7.
 fn load_open(bytes: &[u8], writer: u64) -> Result<Writer, u32> {
     let record = Writer::load(bytes, writer);
-    if record.mode == mode::IDLE { Err(refuse::NOT_OPEN) } else { Ok(record) }
+    if record.mode == mode::IDLE {
+        Err(refuse::NOT_OPEN)
+    } else {
+        Ok(record)
+    }
 }
 
 pub fn store(
@@ -292,15 +288,7 @@ fn try_confirm(log: &[u8], data: &[u8], bytes: &mut [u8]) -> Result<Answer, u32>
     Ok(Answer { code: 0, figure: state.durable, len: 0 })
 }
 
-pub fn read(
-    log: &[u8],
-    data: &[u8],
-    state: &[u8],
-    newest: &[u8],
-    block: &mut [u8],
-    writer: u64,
-    home: u64,
-) -> Answer {
+pub fn read(log: &[u8], data: &[u8], state: &[u8], newest: &[u8], block: &mut [u8], writer: u64, home: u64) -> Answer {
     Answer::of(try_read(log, data, state, newest, block, writer, home))
 }
 
@@ -325,14 +313,7 @@ fn try_read(
 
 /// What a done read does: the writer's held block, else its newest own, else
 /// the one at the kept position, else the data copy's.
-pub fn show(
-    view: &View,
-    data: &[u8],
-    bytes: &[u8],
-    newest: &[u8],
-    block: &mut [u8],
-    (writer, home): (u64, u64),
-) {
+pub fn show(view: &View, data: &[u8], bytes: &[u8], newest: &[u8], block: &mut [u8], (writer, home): (u64, u64)) {
     let record = Writer::load(bytes, writer);
     if record.holds() && record.home == home {
         return block.copy_from_slice(&bytes[pending_range(writer)]);

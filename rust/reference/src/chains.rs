@@ -68,12 +68,20 @@ impl Homes {
 
     fn check_store(&self, list: &Rights) -> Result<(), u32> {
         let all = self.each().all(|home| list.may_store(self.writer, home));
-        if all { Ok(()) } else { Err(refuse::STORE_RIGHT) }
+        if all {
+            Ok(())
+        } else {
+            Err(refuse::STORE_RIGHT)
+        }
     }
 
     fn check_read(&self, list: &Rights) -> Result<(), u32> {
         let all = self.each().all(|home| list.may_read(self.writer, home));
-        if all { Ok(()) } else { Err(refuse::READ_RIGHT) }
+        if all {
+            Ok(())
+        } else {
+            Err(refuse::READ_RIGHT)
+        }
     }
 }
 

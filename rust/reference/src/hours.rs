@@ -109,7 +109,11 @@ mod tests {
             LATE
         } else {
             let (starts, total, ..) = said(&with);
-            if starts.max(total) > u64::from(u32::MAX) { LATE } else { 0 }
+            if starts.max(total) > u64::from(u32::MAX) {
+                LATE
+            } else {
+                0
+            }
         }
     }
 

@@ -141,7 +141,11 @@ pub fn turn(shape: Shape, number: u64) -> bool {
 pub fn next_in(shape: Shape, start: u64, slot: usize) -> u64 {
     let round = start - start % shape.groups;
     let number = round + slot as u64;
-    if number < start { number + shape.groups } else { number }
+    if number < start {
+        number + shape.groups
+    } else {
+        number
+    }
 }
 
 #[inline]

@@ -75,17 +75,11 @@ impl Kind {
     }
 
     pub fn takes_batch(self) -> bool {
-        !matches!(
-            self,
-            Kind::Begin | Kind::Reserve | Kind::Abort | Kind::Confirm | Kind::BeginRound | Kind::Read
-        )
+        !matches!(self, Kind::Begin | Kind::Reserve | Kind::Abort | Kind::Confirm | Kind::BeginRound | Kind::Read)
     }
 
     pub fn takes_writer(self) -> bool {
-        matches!(
-            self,
-            Kind::Begin | Kind::Reserve | Kind::Abort | Kind::Store | Kind::Commit | Kind::Read
-        )
+        matches!(self, Kind::Begin | Kind::Reserve | Kind::Abort | Kind::Store | Kind::Commit | Kind::Read)
     }
 
     /// Does it open a transaction?
@@ -165,8 +159,5 @@ pub type Runner = Box<dyn FnMut(&mut Lent, Kind, u64, u64) -> Answer>;
 
 /// What format writes; no call writes more.
 pub fn ample(groups: u64, homes: u64) -> usize {
-    groups as usize * GROUP_WRITE_LEN
-        + homes as usize * HOME_WRITE_LEN
-        + 2 * HEADER_WRITE_LEN
-        + 3 * FENCE_LEN
+    groups as usize * GROUP_WRITE_LEN + homes as usize * HOME_WRITE_LEN + 2 * HEADER_WRITE_LEN + 3 * FENCE_LEN
 }

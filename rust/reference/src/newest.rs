@@ -10,7 +10,11 @@ pub const POSITION: usize = 8;
 
 /// Question 1 of a call that is lent them.
 pub fn check_newest(shape: Shape, newest: &[u8]) -> Result<(), u32> {
-    if newest.len() == POSITION * shape.homes as usize { Ok(()) } else { Err(refuse::LENGTHS) }
+    if newest.len() == POSITION * shape.homes as usize {
+        Ok(())
+    } else {
+        Err(refuse::LENGTHS)
+    }
 }
 
 pub fn position(newest: &[u8], home: u64) -> u64 {

@@ -124,7 +124,11 @@ pub(crate) fn find(view: &View, data: &[u8], kept: impl Fn(u64) -> u64) -> List 
 pub fn check_store(view: &View, data: &[u8], state: &[u8], writer: u64, home: u64) -> Result<(), u32> {
     let listed = &state[at::LISTED..];
     let list = find(view, data, |home| position(listed, home - LIST_HOME));
-    if signed(view, state, list).may_store(writer, home) { Ok(()) } else { Err(refuse::STORE_RIGHT) }
+    if signed(view, state, list).may_store(writer, home) {
+        Ok(())
+    } else {
+        Err(refuse::STORE_RIGHT)
+    }
 }
 
 /// The list as a call finds it that is lent the newest positions.
@@ -140,7 +144,11 @@ pub fn newest_rights(view: &View, data: &[u8], state: &[u8], newest: &[u8]) -> R
 /// Question 20.
 pub fn check_read(view: &View, data: &[u8], state: &[u8], newest: &[u8], writer: u64, home: u64) -> Result<(), u32> {
     let rights = newest_rights(view, data, state, newest);
-    if rights.may_read(writer, home) { Ok(()) } else { Err(refuse::READ_RIGHT) }
+    if rights.may_read(writer, home) {
+        Ok(())
+    } else {
+        Err(refuse::READ_RIGHT)
+    }
 }
 
 /// The list's newest positions into the state, where D is large enough for it.

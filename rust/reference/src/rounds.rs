@@ -8,7 +8,11 @@ use crate::walk::{Newest, View};
 
 /// Question 21 for a begin and a plain settle.
 pub fn check_no_round(state: &State) -> Result<(), u32> {
-    if state.round == 0 { Ok(()) } else { Err(refuse::ROUND) }
+    if state.round == 0 {
+        Ok(())
+    } else {
+        Err(refuse::ROUND)
+    }
 }
 
 pub fn begin_round(log: &[u8], data: &[u8], state: &mut [u8]) -> Answer {
@@ -24,23 +28,11 @@ fn try_begin_round(log: &[u8], data: &[u8], bytes: &mut [u8]) -> Result<Answer, 
     Ok(Answer::DONE)
 }
 
-pub fn step_round(
-    log: &[u8],
-    data: &mut [u8],
-    state: &mut [u8],
-    batch: &mut [u8],
-    homes: u64,
-) -> Answer {
+pub fn step_round(log: &[u8], data: &mut [u8], state: &mut [u8], batch: &mut [u8], homes: u64) -> Answer {
     Answer::of(try_step_round(log, data, state, batch, homes))
 }
 
-fn try_step_round(
-    log: &[u8],
-    data: &mut [u8],
-    bytes: &mut [u8],
-    batch: &mut [u8],
-    homes: u64,
-) -> Result<Answer, u32> {
+fn try_step_round(log: &[u8], data: &mut [u8], bytes: &mut [u8], batch: &mut [u8], homes: u64) -> Result<Answer, u32> {
     let mut state = State::load(log, data, bytes)?;
     if state.round == 0 || homes == 0 {
         return Err(refuse::ROUND);

@@ -87,7 +87,11 @@ impl State {
             && (0..WRITERS).all(|w| state.writer_in_order(Writer::load(bytes, w)))
             && promised(bytes) <= state.places()
             && (0..WRITERS).all(|w| Writer::load(bytes, w).mode != mode::IDLE || promise(bytes, w) == 0);
-        if in_order { Ok(state) } else { Err(refuse::STATE) }
+        if in_order {
+            Ok(state)
+        } else {
+            Err(refuse::STATE)
+        }
     }
 
     /// The numbers as they stand there.
@@ -265,10 +269,18 @@ impl Writer {
 
 /// Question 4.
 pub fn check_writer(writer: u64) -> Result<(), u32> {
-    if writer < WRITERS { Ok(()) } else { Err(refuse::WRITER) }
+    if writer < WRITERS {
+        Ok(())
+    } else {
+        Err(refuse::WRITER)
+    }
 }
 
 /// Question 5.
 pub fn check_home(shape: Shape, home: u64) -> Result<(), u32> {
-    if home < shape.homes { Ok(()) } else { Err(refuse::HOME) }
+    if home < shape.homes {
+        Ok(())
+    } else {
+        Err(refuse::HOME)
+    }
 }

@@ -23,9 +23,17 @@ const UPPER: u64 = 0x3ff_ffff;
 #[derive(Clone, Copy, Debug, PartialEq, Eq)]
 pub enum Tag {
     Nothing,
-    Entry { home: u32, first: u32 },
+    Entry {
+        home: u32,
+        first: u32,
+    },
     /// The commit entry (the paper's "closing entry").
-    Closing { home: u32, first: u32, link: u32, count: u32 },
+    Closing {
+        home: u32,
+        first: u32,
+        link: u32,
+        count: u32,
+    },
 }
 
 /// The home that a tag names.

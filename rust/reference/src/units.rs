@@ -45,18 +45,8 @@ pub enum Ask {
 
 impl Ask {
     pub const NAMES: [&'static str; 12] = [
-        "bands_set",
-        "bands_look_up",
-        "pump_start",
-        "pump_stop",
-        "pump_hours",
-        "pump_services",
-        "alarm_arrive",
-        "alarm_clear",
-        "alarm_gravest",
-        "fetch",
-        "revise",
-        "transact",
+        "bands_set", "bands_look_up", "pump_start", "pump_stop", "pump_hours", "pump_services", "alarm_arrive",
+        "alarm_clear", "alarm_gravest", "fetch", "revise", "transact",
     ];
 
     /// Its index among the names.
@@ -118,7 +108,9 @@ impl Lent {
             Ask::LookUp(millimetre) => self.look_up(millimetre, writer),
             Ask::Start { pump, second } => self.pump_event(pump, Event::Start(second), writer),
             Ask::Stop { pump, second } => self.pump_event(pump, Event::Stop(second), writer),
-            Ask::Hours { pump } => self.pump(pump, writer).map(|p| [p.starts.into(), p.total.into(), 0]).map(Told::figures),
+            Ask::Hours { pump } => {
+                self.pump(pump, writer).map(|p| [p.starts.into(), p.total.into(), 0]).map(Told::figures)
+            }
             Ask::Services { pump, interval } => self.services(pump, interval, writer),
             Ask::Arrive { identity, class, second } => self.arrive(identity, class, second, writer),
             Ask::Clear { identity } => self.alarm_event(writer, |list| alarms::clear(list, identity)),
@@ -143,7 +135,11 @@ impl Lent {
     fn fetch<const SIZE: usize>(&self, writer: u64, home: u64) -> Result<[u8; SIZE], u64> {
         let mut blocks = [0; SIZE];
         let answer = fetch(&self.log, &self.data, &self.state, &self.newest, &mut blocks, writer, home);
-        if answer.code == 0 { Ok(blocks) } else { Err(answer.code.into()) }
+        if answer.code == 0 {
+            Ok(blocks)
+        } else {
+            Err(answer.code.into())
+        }
     }
 
     /// Reads a unit's blocks and stores what the event makes of them.

@@ -3,9 +3,7 @@
 //! Offsets count positions from 7 x start. The entries of each first position
 //! are counted as they pass, so a commit entry is judged when it is reached.
 
-use crate::layout::{
-    group_head, set_top_bit, slot_range, top_bit, turn, word, Shape, BLOCK, MAX_GROUPS, MAX_OFFSETS,
-};
+use crate::layout::{group_head, set_top_bit, slot_range, top_bit, turn, word, Shape, BLOCK, MAX_GROUPS, MAX_OFFSETS};
 use crate::state::State;
 use crate::tag::{displaced, read_tag, Tag};
 

@@ -9,14 +9,14 @@ use bindings::part::Part;
 use bindings::unit_calls::UnitCalls;
 use harness::craft::craft;
 use harness::damage::{damage_group, damage_lengths, damage_newest, damage_state};
-use reference::layout::{Shape, BLOCK};
-use reference::lent::Lent;
 use harness::options::Words;
 use harness::player::{step, Profile, Tally};
 use harness::rng::Rng;
 use harness::unit_player::{random_table, unit_history_with, UnitTally};
-use reference::units::{Ask, Told, ALARM_HOME, PUMP_HOME, TABLE_HOME};
 use harness::world::World;
+use reference::layout::{Shape, BLOCK};
+use reference::lent::Lent;
+use reference::units::{Ask, Told, ALARM_HOME, PUMP_HOME, TABLE_HOME};
 use std::cell::RefCell;
 use std::process::ExitCode;
 use std::rc::Rc;
@@ -104,7 +104,10 @@ impl Pair {
 
 /// Lent memory of a store under way, or made up.
 fn random_lent(rng: &mut Rng) -> Lent {
-    let shape = Shape { groups: rng.pick(&[4, 4, 5, 9]), homes: rng.pick(&[30, 30, 30, 31, 33, 29, 25, 24, 17, 16, 15, 14, 12, 5]) };
+    let shape = Shape {
+        groups: rng.pick(&[4, 4, 5, 9]),
+        homes: rng.pick(&[30, 30, 30, 31, 33, 29, 25, 24, 17, 16, 15, 14, 12, 5]),
+    };
     if rng.chance(40) {
         return craft(rng, shape);
     }
@@ -242,7 +245,10 @@ fn run(words: &mut Words) -> Result<(), String> {
     let tally = histories(seed, count, &pair)?;
     damaged(seed, images, &mut pair.borrow_mut())?;
     let pair = pair.borrow();
-    println!("{count} histories with {} cuts, {images} damaged images: {} calls compared, by answer", tally.crashes, pair.compared);
+    println!(
+        "{count} histories with {} cuts, {images} damaged images: {} calls compared, by answer",
+        tally.crashes, pair.compared
+    );
     for (name, answers) in Ask::NAMES.iter().zip(&pair.counts) {
         let met = answers.iter().enumerate().filter(|(_, times)| **times > 0);
         let met: Vec<String> = met.map(|(answer, times)| format!("{answer}: {times}")).collect();

@@ -2,11 +2,11 @@
 //! its own seed, short ones whose stretches are torn in every choice of blocks,
 //! and pairs that differ in bytes a writer may not read.
 
-use reference::lent::{Lent, Runner};
 use harness::options::Words;
 use harness::pairs::{pair, Pairs};
 use harness::player::{history, large_history, Tally};
 use harness::tears::{torn_history, Torn};
+use reference::lent::{Lent, Runner};
 use std::panic::{catch_unwind, AssertUnwindSafe};
 use std::process::ExitCode;
 
@@ -49,10 +49,16 @@ fn compare(first: u64, count: u64) -> Result<Pairs, String> {
 /// What was played, in words.
 fn report(tally: &Tally) {
     println!("{} histories: every opening and every answer as the book says", tally.histories);
-    println!("  {:>9} crashes and {} openings, which brought back {} transactions", tally.crashes, tally.openings, tally.brought_back);
+    println!(
+        "  {:>9} crashes and {} openings, which brought back {} transactions",
+        tally.crashes, tally.openings, tally.brought_back
+    );
     println!("  {:>9} commits, {} of them lost by a crash before they were durable", tally.commits, tally.commits_lost);
     println!("  {:>9} settles, {} trims", tally.settles, tally.trims);
-    println!("  {:>9} rounds of settling, {} steps, {} of them leaving homes for later", tally.rounds, tally.steps, tally.part_steps);
+    println!(
+        "  {:>9} rounds of settling, {} steps, {} of them leaving homes for later",
+        tally.rounds, tally.steps, tally.part_steps
+    );
     println!("  {:>9} calls, {} of them under a list of rights, by their answers:", tally.calls, tally.listed);
     for (number, count) in tally.answers.iter().enumerate().filter(|(_, count)| **count > 0) {
         println!("  {count:>9} answered {number}{}", if number == 0 { ", done" } else { "" });
@@ -81,8 +87,14 @@ fn main() -> ExitCode {
     report(&tally);
     match tear(first, torn) {
         Ok(torn) => {
-            println!("{} stretches in {} short histories: every opening as the book says", torn.stretches, torn.histories);
-            println!("  {:>9} choices of blocks, {} lost a commit, {} brought one back", torn.choices, torn.lost, torn.brought_back);
+            println!(
+                "{} stretches in {} short histories: every opening as the book says",
+                torn.stretches, torn.histories
+            );
+            println!(
+                "  {:>9} choices of blocks, {} lost a commit, {} brought one back",
+                torn.choices, torn.lost, torn.brought_back
+            );
         }
         Err(what) => {
             println!("MISMATCH torn, {what}");
@@ -92,7 +104,10 @@ fn main() -> ExitCode {
     match compare(first, pairs) {
         Ok(pairs) => {
             println!("{} pairs of histories: nothing that a writer may not read shows", pairs.pairs);
-            println!("  {:>9} calls, {} stores with other bytes, {} reads by the writer, {} of them refused", pairs.calls, pairs.stores, pairs.reads, pairs.refused);
+            println!(
+                "  {:>9} calls, {} stores with other bytes, {} reads by the writer, {} of them refused",
+                pairs.calls, pairs.stores, pairs.reads, pairs.refused
+            );
             ExitCode::SUCCESS
         }
         Err(what) => {

@@ -9,9 +9,9 @@ pub mod chains;
 mod rights;
 mod writers;
 
+use harness::literal::{committed, good_header, present, replay, trim_start, Transaction};
 use reference::layout::{header, Shape};
 use reference::lent::{Kind, Lent};
-use harness::literal::{committed, good_header, present, replay, trim_start, Transaction};
 use reference::usage::Usage;
 use reference::Answer;
 use std::collections::BTreeMap;
@@ -136,13 +136,7 @@ pub fn run(kind: Kind, writer: u64, home: u64, before: &Lent) -> (Answer, Lent) 
 }
 
 /// The outcome with a batch that suffices.
-fn attempt(
-    kind: Kind,
-    writer: u64,
-    home: u64,
-    before: &Lent,
-    after: &mut Lent,
-) -> Outcome {
+fn attempt(kind: Kind, writer: u64, home: u64, before: &Lent, after: &mut Lent) -> Outcome {
     if !lengths(kind, before) {
         return Err(1);
     }

@@ -1,8 +1,8 @@
 //! The plain model of rights: sentence by sentence, on signed numbers.
 
 use super::{big, live, put, shape};
-use reference::lent::Lent;
 use harness::literal::present;
+use reference::lent::Lent;
 
 /// The 256 bytes of the list, by the positions kept at `from` in `kept` for homes 8 to 11.
 fn list(before: &Lent, kept: &[u8], from: usize) -> Vec<u8> {
