@@ -32,11 +32,14 @@ above-dist-check:
 	    || { echo "$$file is not what the proved program gives; make above-dist makes it again" >&2; exit 1; }; done
 	@echo "dist: $(ABOVE_DIST): what the proved program gives"
 
-C_ABOVE = station bands wear above_check above_cost
+C_ABOVE = station bands wear above_check above_cost replies_check lock_check misuse_check
 C_BANDS = bands bands_table text_line copy store/units $(C_STORE)
 C_WEAR = wear_main wear_text wear_page page_file copy store/units $(C_STORE)
 C_ABOVE_CHECK = above_check store/units $(C_STORE)
 C_ABOVE_COST = above_cost $(C_STORE)
+C_REPLIES_CHECK = replies_check operations store/units $(C_STORE)
+C_LOCK_CHECK = lock_check operations store/units $(C_STORE)
+C_MISUSE_CHECK = misuse_check operations store/units $(C_STORE)
 C_ABOVE_PROGRAMS = $(C_ABOVE:%=$(C_OUT)/%) $(C_ABOVE:%=$(C_OUT)/sanitize/%)
 
 .PHONY: bands wear above-check above-compare
@@ -50,6 +53,9 @@ $(eval $(call C_PROGRAM,bands,$(C_BANDS),$(ABOVE_LIBS) $(LIB)))
 $(eval $(call C_PROGRAM,wear,$(C_WEAR),$(ABOVE_LIBS) $(LIB)))
 $(eval $(call C_PROGRAM,above_check,$(C_ABOVE_CHECK),$(ABOVE_LIBS) $(LIB)))
 $(eval $(call C_PROGRAM,above_cost,$(C_ABOVE_COST),$(ABOVE_LIBS) $(LIB)))
+$(eval $(call C_PROGRAM,replies_check,$(C_REPLIES_CHECK),$(ABOVE_LIBS) $(LIB)))
+$(eval $(call C_PROGRAM,lock_check,$(C_LOCK_CHECK),$(ABOVE_LIBS) $(LIB)))
+$(eval $(call C_PROGRAM,misuse_check,$(C_MISUSE_CHECK),$(ABOVE_LIBS) $(LIB)))
 
 $(ABOVE:%=$(C_OUT)/libkagutin_%.a): $(C_OUT)/lib%.a: dist/%.c $(C_HEADERS)
 	@mkdir -p $(@D)

@@ -27,7 +27,7 @@ C_SANITIZE = -O1 -g -fno-omit-frame-pointer -fsanitize=address,undefined -fno-sa
 C_OUT = target/c
 C_HEADERS = $(wildcard include/*.h c/*.h c/store/*.h)
 
-C_STORE = store/store store/usage store/rights store/batch store/memory store/file store/file_io store/fram
+C_STORE = store/store store/room store/usage store/rights store/batch store/memory store/file store/file_io store/fram
 C_STATION = station_main options power tasks wear rights calls event_calls refusals report station events book rule driver driver_file $(C_STORE)
 C_INSPECT = inspect inspect_image inspect_fate inspect_rights inspect_text inspect_json rule
 C_DRIVER_CHECK = driver_check driver driver_file $(C_STORE)
@@ -140,7 +140,7 @@ C_PUBLIC = kagutin kagutin_store kagutin_rights kagutin_file kagutin_memory kagu
 DIST ?= dist
 c-dist: $(C_PUBLIC:%=include/%.h) $(C_STORE:%=c/%.c)
 	install -d $(DIST)
-	install -m 644 $(C_PUBLIC:%=include/%.h) c/store/kagutin_file_inner.h $(DIST)
+	install -m 644 $(C_PUBLIC:%=include/%.h) c/store/kagutin_file_inner.h c/store/kagutin_store_inner.h $(DIST)
 	for name in $(C_STORE:store/%=%); do install -m 644 c/store/$$name.c $(DIST)/kagutin_$$name.c; done
 
 # Calls beside the store, each a header and an archive.

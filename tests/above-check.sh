@@ -26,6 +26,9 @@ for seed in 1 2 3; do
     gives 0 "events and cuts, seed $seed" "$out/above_check" "$seed"
 done
 gives 0 "events and cuts with sanitizers" "$san/above_check" 4
+gives 0 "replies: no field misleads, the driver failing at each call in turn, log full or not" "$san/replies_check"
+gives 0 "a lock refused at each taking, in every call: nothing has changed" "$san/lock_check"
+gives 0 "calls before init, a refused format, and who makes room" "$san/misuse_check"
 
 # --- bands ---
 gives 0 "an image" "$out/above_check" --image "$tmp/north.img" 90 4

@@ -67,7 +67,7 @@ gives 0 "stack: built" "$cc" -std=c99 -D_GNU_SOURCE -Wall -Wextra -pedantic -O2 
 gives 0 "stack: every call within its bound, small log and large" "$tmp/stack"
 
 # --- no heap in the object; nm prints what it calls ---
-quiet sh -c "nm -u $out/store/store.o $out/store/usage.o $out/store/rights.o $out/store/batch.o $out/store/fram.o | grep -E 'alloc|free'"
+quiet sh -c "nm -u $out/store/store.o $out/store/room.o $out/store/usage.o $out/store/rights.o $out/store/batch.o $out/store/fram.o | grep -E 'alloc|free'"
 [ $? -ne 0 ]; report $? "the object and the FRAM driver use no heap"
 
 # --- quick start, driver, station ---
@@ -89,7 +89,7 @@ gives 0 "store: the list of rights, its ranges and the moment it counts" "$san/r
 gives 0 "files: written and mapped, stopped inside writes, locks, failures" "$san/file_check" "$fast"
 gives 0 "FRAM: power gone after every byte" "$out/fram_check" 1
 gives 0 "FRAM: under sanitizers" "$san/fram_check" 13
-objects="c/store/store.c c/store/usage.c c/store/batch.c c/store/memory.c"
+objects="c/store/store.c c/store/room.c c/store/usage.c c/store/rights.c c/store/batch.c c/store/memory.c"
 build_tasks() { "$cc" -std=c99 -O1 -g "$@" $strict tests/tasks_check.c $objects "$lib" ${C_LIBS:-} -pthread -o "$tmp/tasks"; }
 gives 0 "tasks: built" build_tasks -fsanitize=thread
 if "$tmp/tasks" 2>&1 | grep -q 'unexpected memory mapping'; then # some kernels give the race detector no room
