@@ -26,8 +26,8 @@ struct kagutin_band kgt_bands_look_up(struct kagutin *store, uint64_t writer, ui
 
 struct kagutin_reply kgt_pump_start(struct kagutin *store, uint64_t writer, uint64_t pump, uint32_t second);
 struct kagutin_reply kgt_pump_stop(struct kagutin *store, uint64_t writer, uint64_t pump, uint32_t second);
-struct kagutin_figures kgt_pump_hours(struct kagutin *store, uint64_t writer, uint64_t pump);
-struct kagutin_figures kgt_pump_services(struct kagutin *store, uint64_t writer, uint64_t pump, uint64_t interval);
+struct kagutin_hours kgt_pump_hours(struct kagutin *store, uint64_t writer, uint64_t pump);
+struct kagutin_services kgt_pump_services(struct kagutin *store, uint64_t writer, uint64_t pump, uint64_t interval);
 
 struct kagutin_reply kgt_alarm_arrive(struct kagutin *store, uint64_t writer, uint16_t identity, uint64_t alarm_class,
                                       uint32_t second);

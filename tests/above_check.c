@@ -102,12 +102,13 @@ static void check_all(struct kagutin *store)
     uint64_t pump;
 
     for (pump = 0; pump < KAGUTIN_PUMPS; pump++) {
-        struct kagutin_figures hours = kgt_pump_hours(store, 5, pump), due = kgt_pump_services(store, 5, pump, 3600);
+        struct kagutin_hours hours = kgt_pump_hours(store, 5, pump);
+        struct kagutin_services services = kgt_pump_services(store, 5, pump, 3600);
 
         same("code of hours", hours.code, 0);
-        same("starts", hours.first, known->starts[pump]);
-        same("seconds", hours.second, known->seconds[pump]);
-        same("services", due.first * 3600 + due.second, known->seconds[pump]);
+        same("starts", hours.starts, known->starts[pump]);
+        same("seconds", hours.seconds, known->seconds[pump]);
+        same("services", services.due * 3600 + services.left, known->seconds[pump]);
     }
     check_table(store, known);
     check_gravest(store, known);

@@ -194,32 +194,32 @@ struct kagutin_band kgt_bands_look_up(struct kagutin *store, uint64_t writer, ui
     return band;
 }
 
-struct kagutin_figures kgt_pump_hours(struct kagutin *store, uint64_t writer, uint64_t pump)
+struct kagutin_hours kgt_pump_hours(struct kagutin *store, uint64_t writer, uint64_t pump)
 {
-    struct kagutin_figures figures = {0, 0, 0};
+    struct kagutin_hours hours = {0, 0, 0};
     struct kagutin_reply reply;
 
     if (enter(store, &reply)) {
-        figures = kagutin_pump_hours(MEMORY(store), writer, pump);
+        hours = kagutin_pump_hours(MEMORY(store), writer, pump);
         leave(store);
     } else {
-        figures.code = reply.code;
+        hours.code = reply.code;
     }
-    return figures;
+    return hours;
 }
 
-struct kagutin_figures kgt_pump_services(struct kagutin *store, uint64_t writer, uint64_t pump, uint64_t interval)
+struct kagutin_services kgt_pump_services(struct kagutin *store, uint64_t writer, uint64_t pump, uint64_t interval)
 {
-    struct kagutin_figures figures = {0, 0, 0};
+    struct kagutin_services services = {0, 0, 0};
     struct kagutin_reply reply;
 
     if (enter(store, &reply)) {
-        figures = kagutin_pump_services(MEMORY(store), writer, pump, interval);
+        services = kagutin_pump_services(MEMORY(store), writer, pump, interval);
         leave(store);
     } else {
-        figures.code = reply.code;
+        services.code = reply.code;
     }
-    return figures;
+    return services;
 }
 
 struct kagutin_alarm kgt_alarm_gravest(struct kagutin *store, uint64_t writer)
