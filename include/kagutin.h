@@ -86,21 +86,21 @@ extern "C" {
 /* Answers. A call asks its questions in the order 1 to 5, 19, 20, 6 to 8, 17, 18, 21, 10, 9. */
 enum kagutin_answer {
     KAGUTIN_DONE = 0,
-    KAGUTIN_BAD_LENGTH = 1,   /* a lent length is wrong */
-    KAGUTIN_BAD_STATE = 2,    /* the state is out of order, or of other areas */
-    KAGUTIN_BAD_HEADER = 3,   /* open: the log's header is not one */
-    KAGUTIN_BAD_WRITER = 4,   /* writer above 7 */
-    KAGUTIN_BAD_HOME = 5,     /* home not below D */
-    KAGUTIN_NOT_IDLE = 6,     /* begin, reserve: the writer has one open */
-    KAGUTIN_NOT_OPEN = 7,     /* store, commit, abort: it has none open */
-    KAGUTIN_FULL = 8,         /* no place left in the log for an entry */
-    KAGUTIN_SHORT_BATCH = 9,  /* the batch cannot hold what the call writes */
-    KAGUTIN_WORN_OUT = 10,    /* open, trim: the new start would exceed 2^47 */
-    KAGUTIN_NO_PLACES = 17,   /* reserve: n is 0 or more than are free */
-    KAGUTIN_PROMISED = 18,    /* flush: it would leave too few for promises */
-    KAGUTIN_NO_STORE = 19,    /* store: the writer has no right to store to this home */
-    KAGUTIN_NO_READ = 20,     /* read: the writer has no right to read this home */
-    KAGUTIN_WRONG_ROUND = 21  /* settle, begin_round: a round is under way; step_round: none is, or 0 homes */
+    KAGUTIN_BAD_LENGTH = 1,    /* a lent length is wrong */
+    KAGUTIN_BAD_STATE = 2,     /* the state is out of order, or of other areas */
+    KAGUTIN_BAD_HEADER = 3,    /* open: the log's header is not one */
+    KAGUTIN_BAD_WRITER = 4,    /* writer above 7 */
+    KAGUTIN_BAD_HOME = 5,      /* home not below D */
+    KAGUTIN_NOT_IDLE = 6,      /* begin, reserve: the writer has one open */
+    KAGUTIN_NOT_OPEN = 7,      /* store, commit, abort: it has none open */
+    KAGUTIN_FULL = 8,          /* no place left in the log for an entry */
+    KAGUTIN_SHORT_BATCH = 9,   /* the batch cannot hold what the call writes */
+    KAGUTIN_WORN_OUT = 10,     /* open, trim: the new start would exceed 2^47 */
+    KAGUTIN_NO_PLACES = 17,    /* reserve: n is 0 or more than are free */
+    KAGUTIN_PROMISED = 18,     /* flush: it would leave too few for promises */
+    KAGUTIN_STORE_DENIED = 19, /* store: the writer has no right to store to this home */
+    KAGUTIN_READ_DENIED = 20,  /* read: the writer has no right to read this home */
+    KAGUTIN_WRONG_ROUND = 21   /* settle, begin_round: a round is under way; step_round: none is, or 0 homes */
 };
 
 struct kagutin_reply {
@@ -184,8 +184,8 @@ static inline const char *kagutin_answer_text(uint64_t code)
     case KAGUTIN_WORN_OUT: return "the new start would exceed 2^47";
     case KAGUTIN_NO_PLACES: return "not so many places are free";
     case KAGUTIN_PROMISED: return "too few places would be left for promises";
-    case KAGUTIN_NO_STORE: return "no right to store to this home";
-    case KAGUTIN_NO_READ: return "no right to read this home";
+    case KAGUTIN_STORE_DENIED: return "no right to store to this home";
+    case KAGUTIN_READ_DENIED: return "no right to read this home";
     case KAGUTIN_WRONG_ROUND: return "a round of settling is under way, or none is";
     /* what stands above the store: kagutin_bands.h, kagutin_hours.h, kagutin_alarms.h */
     case 11: return "no table of depth bands, a bad row, or a depth above 9,999 mm";

@@ -24,9 +24,9 @@ extern "C" {
 #define KAGUTIN_PUMP_BATCH KAGUTIN_GW_SIZE
 
 /* Answers beyond those of kagutin.h. */
-#define KAGUTIN_BAD_PUMP 14   /* pump above 7, or interval 0 */
-#define KAGUTIN_WRONG_TURN 15 /* a start while it runs, a stop while it does not */
-#define KAGUTIN_BAD_SECOND 16 /* before the pump's last event, or starts or total past 32 bits */
+#define KAGUTIN_BAD_PUMP 14         /* pump above 7, or interval 0 */
+#define KAGUTIN_WRONG_PUMP_STATE 15 /* a start while it runs, a stop while it does not */
+#define KAGUTIN_BAD_SECOND 16       /* before the pump's last event, or starts or total past 32 bits */
 
 /* Zeros but for the answer if not done. */
 struct kagutin_hours {

@@ -14,7 +14,7 @@ const char *kgt_unit_answer_text(uint64_t code)
     case KAGUTIN_BAND_GAP: return "a millimetre lies in no row";
     case KAGUTIN_BAND_OVERLAP: return "a millimetre lies in two rows or more";
     case KAGUTIN_BAD_PUMP: return "no such pump, or no interval";
-    case KAGUTIN_WRONG_TURN: return "the pump runs already, or does not run";
+    case KAGUTIN_WRONG_PUMP_STATE: return "the pump runs already, or does not run";
     case KAGUTIN_BAD_SECOND: return "before the pump's last event, or past 32 bits";
     case KAGUTIN_BAD_ALARM: return "class out of range, or the alarm is open already, or not open";
     case KAGUTIN_ALARMS_FULL: return "48 alarms are open";
