@@ -99,7 +99,7 @@ static void quit_answer(const struct options *options, uint64_t code, size_t hom
     if (code == KAGUTIN_STORE_DENIED || code == KAGUTIN_READ_DENIED)
         quit(STATUS_REFUSED, "%s: writer %llu has %s homes 12 to 14; --writer W chooses another", path,
              (unsigned long long)options->writer, code == KAGUTIN_READ_DENIED ? "no right to read" : "no right to store to");
-    quit(code < KGT_CLOSED ? STATUS_REFUSED : STATUS_TROUBLE, "%s: %s (answer %llu)", path, kgt_unit_answer_text(code),
+    quit(code < KGT_CLOSED ? STATUS_REFUSED : STATUS_TROUBLE, "%s: %s (answer %llu)", path, kgt_answer_text(code),
          (unsigned long long)code);
 }
 

@@ -138,7 +138,7 @@ static bool read_pump(struct wear_sheet *sheet, struct copy *copy, const struct 
         return false;
     }
     if (hours.code != KAGUTIN_DONE || services.code != KAGUTIN_DONE) {
-        complain("%s: pump %u: %s", path, pump, kgt_unit_answer_text(hours.code ? hours.code : services.code));
+        complain("%s: pump %u: %s", path, pump, kgt_answer_text(hours.code ? hours.code : services.code));
         return false;
     }
     if (!is_record(copy, options->writer, pump)) {

@@ -23,20 +23,15 @@ extern "C" {
 /* The most that an event writes: one group. */
 #define KAGUTIN_PUMP_BATCH KAGUTIN_GW_SIZE
 
-/* Answers beyond those of kagutin.h. */
-#define KAGUTIN_BAD_PUMP 14         /* pump above 7, or interval 0 */
-#define KAGUTIN_WRONG_PUMP_STATE 15 /* a start while it runs, a stop while it does not */
-#define KAGUTIN_BAD_SECOND 16       /* before the pump's last event, or starts or total past 32 bits */
-
 /* Zeros but for the answer if not done. */
 struct kagutin_hours {
-    uint64_t code;
+    uint64_t code; /* one of enum kagutin_answer */
     uint64_t starts;
     uint64_t seconds; /* of the finished runs */
 };
 
 struct kagutin_services {
-    uint64_t code;
+    uint64_t code; /* one of enum kagutin_answer */
     uint64_t due;  /* whole services, one each interval seconds of finished runs */
     uint64_t left; /* seconds left over, below the interval */
 };

@@ -34,9 +34,6 @@ struct kagutin_reply kgt_alarm_arrive(struct kagutin *store, uint64_t writer, ui
 struct kagutin_reply kgt_alarm_clear(struct kagutin *store, uint64_t writer, uint16_t identity);
 struct kagutin_alarm kgt_alarm_gravest(struct kagutin *store, uint64_t writer);
 
-/* Any answer in words, those of kagutin_store.h included. */
-const char *kgt_unit_answer_text(uint64_t code);
-
 #ifdef __cplusplus
 }
 #endif

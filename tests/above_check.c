@@ -293,6 +293,21 @@ static void play(struct kgt_memory *memory, struct kagutin *store)
     }
 }
 
+/* Every answer has words of its own; 22 and 23 are given by calls without a store. */
+static void check_texts(void)
+{
+    const char *none = kgt_answer_text(UINT64_MAX);
+    uint64_t i, j;
+
+    for (i = 0; i <= KGT_LOCK_FAILED; i++) {
+        bool given = i <= KAGUTIN_WRONG_ROUND || i == KAGUTIN_BAD_ALARM || i == KAGUTIN_ALARMS_FULL || i >= KGT_CLOSED;
+
+        same("words for an answer", strcmp(kgt_answer_text(i), none) != 0, given);
+        for (j = 0; given && j < i; j++)
+            same("the same words for two answers", strcmp(kgt_answer_text(i), kgt_answer_text(j)) == 0, false);
+    }
+}
+
 /* The calls before opening, by a writer with something open, and in a log that one writer holds. */
 static void check_refusals(struct kagutin *store)
 {
@@ -361,6 +376,7 @@ static int play_in_memory(void)
     kgt_init(&store, memory, sizeof memory, GROUPS, HOMES, kgt_memory_driver(&medium));
     same("format", kgt_format(&store, scratch, sizeof scratch).code, 0);
     kgt_set_lock(&store, take_lock, give_lock, NULL);
+    check_texts();
     check_refusals(&store);
     check_lock(&store);
     play(&medium, &store);

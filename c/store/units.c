@@ -7,21 +7,6 @@
 #define BATCH(s) (s)->batch, (s)->batch_size
 #define MEMORY(s) AREAS(s), STATE(s), NEWEST(s)
 
-const char *kgt_unit_answer_text(uint64_t code)
-{
-    switch (code) {
-    case KAGUTIN_BAD_BANDS: return "no table of depth bands, or a bad one, or a depth above 9,999 mm";
-    case KAGUTIN_BAND_GAP: return "a millimetre lies in no row";
-    case KAGUTIN_BAND_OVERLAP: return "a millimetre lies in two rows or more";
-    case KAGUTIN_BAD_PUMP: return "no such pump, or no interval";
-    case KAGUTIN_WRONG_PUMP_STATE: return "the pump runs already, or does not run";
-    case KAGUTIN_BAD_SECOND: return "before the pump's last event, or past 32 bits";
-    case KAGUTIN_BAD_ALARM: return "class out of range, or the alarm is open already, or not open";
-    case KAGUTIN_ALARMS_FULL: return "48 alarms are open";
-    default: return kgt_answer_text(code);
-    }
-}
-
 /* ---- around every call ---- */
 
 static struct kagutin_reply answer(uint64_t code, uint64_t figure)
