@@ -15,7 +15,8 @@ ABOVE_LIBS ?= $(ABOVE:%=$(C_OUT)/libkagutin_%.a)
 ABOVE_CRATES = band_calls hour_calls alarm_calls
 GENERATE_ABOVE = $(GENERATE_BESIDE) --import kagutin --header kagutin_chains.h --result answers::Reply=kagutin_reply
 GENERATE_bands = $(GENERATE_ABOVE) --export band_calls --header kagutin_bands.h --result band_calls::Band=kagutin_band
-GENERATE_hours = $(GENERATE_ABOVE) --export hour_calls --header kagutin_hours.h --result hour_calls::Figures=kagutin_figures
+GENERATE_hours = $(GENERATE_ABOVE) --export hour_calls --header kagutin_hours.h \
+    --result hour_calls::Hours=kagutin_hours --result hour_calls::Services=kagutin_services
 GENERATE_alarms = $(GENERATE_ABOVE) --export alarm_calls --header kagutin_alarms.h --result alarm_calls::Gravest=kagutin_alarm
 
 .PHONY: above-dist above-dist-check

@@ -96,9 +96,9 @@ static void quit_answer(const struct options *options, uint64_t code, size_t hom
 
     if (code == KAGUTIN_BAD_HOME)
         quit(STATUS_REFUSED, "%s: a table takes homes 12 to 14; the image has %lu homes", path, (unsigned long)homes);
-    if (code == KAGUTIN_NO_STORE || code == KAGUTIN_NO_READ)
+    if (code == KAGUTIN_STORE_DENIED || code == KAGUTIN_READ_DENIED)
         quit(STATUS_REFUSED, "%s: writer %llu has %s homes 12 to 14; --writer W chooses another", path,
-             (unsigned long long)options->writer, code == KAGUTIN_NO_READ ? "no right to read" : "no right to store to");
+             (unsigned long long)options->writer, code == KAGUTIN_READ_DENIED ? "no right to read" : "no right to store to");
     quit(code < KGT_CLOSED ? STATUS_REFUSED : STATUS_TROUBLE, "%s: %s (answer %llu)", path, kgt_answer_text(code),
          (unsigned long long)code);
 }

@@ -133,7 +133,7 @@ static bool read_pump(struct wear_sheet *sheet, struct copy *copy, const struct 
     struct kgt_services due = kgt_pump_services(&copy->store, options->writer, pump, sheet->interval);
     struct wear_row *row = &sheet->rows[sheet->count];
 
-    if (hours.code == KAGUTIN_NO_READ) {
+    if (hours.code == KAGUTIN_READ_DENIED) {
         ++*hidden;
         return false;
     }

@@ -123,13 +123,13 @@ static struct kgt_ticket pump_event(struct kagutin *store, struct known *next)
         next->running[pump] = false;
         next->seconds[pump] += clock_now - next->since[pump];
         next->since[pump] = clock_now;
-        same("start while running", kgt_pump_start(store, PUMP_WRITER, pump, clock_now).code, KAGUTIN_WRONG_TURN);
+        same("start while running", kgt_pump_start(store, PUMP_WRITER, pump, clock_now).code, KAGUTIN_WRONG_PUMP_STATE);
         return kgt_pump_stop(store, PUMP_WRITER, pump, clock_now);
     }
     next->running[pump] = true;
     next->starts[pump]++;
     next->since[pump] = clock_now;
-    same("stop while idle", kgt_pump_stop(store, PUMP_WRITER, pump, clock_now).code, KAGUTIN_WRONG_TURN);
+    same("stop while idle", kgt_pump_stop(store, PUMP_WRITER, pump, clock_now).code, KAGUTIN_WRONG_PUMP_STATE);
     return kgt_pump_start(store, PUMP_WRITER, pump, clock_now);
 }
 

@@ -140,8 +140,8 @@ static void check_all(const struct kgt_rights *list)
             bool may = kgt_rights_may_store(list, writer, home);
 
             if (home < 8 || home > 11)
-                store_one(writer, home, may ? KAGUTIN_DONE : KAGUTIN_NO_STORE, "store");
-            read_one(writer, home, kgt_rights_may_read(list, writer, home) ? KAGUTIN_DONE : KAGUTIN_NO_READ, "read");
+                store_one(writer, home, may ? KAGUTIN_DONE : KAGUTIN_STORE_DENIED, "store");
+            read_one(writer, home, kgt_rights_may_read(list, writer, home) ? KAGUTIN_DONE : KAGUTIN_READ_DENIED, "read");
         }
 }
 
@@ -153,7 +153,7 @@ static void check_object(void)
     gives(kgt_get_rights(&store, 5, &found).code, KAGUTIN_DONE, "get");
     check(!kgt_rights_is_list(&found), "no list at first");
     check_all(&found);
-    store_one(1, 8, KAGUTIN_NO_STORE, "the list's homes are writer 0's");
+    store_one(1, 8, KAGUTIN_STORE_DENIED, "the list's homes are writer 0's");
     make_list(&list);
     check(kgt_set_rights(&store, &list).ticket != KGT_NOT_TOLD, "set");
     gives(kgt_get_rights(&store, 7, &found).code, KAGUTIN_DONE, "get");
@@ -185,17 +185,17 @@ static void check_moment(void)
     read_one(0, 20, KAGUTIN_DONE, "not for writer 0 either");
     gives(kgt_set_rights(&store, &list).code, KAGUTIN_NOT_IDLE, "set while writer 0 is at work");
     gives(kgt_commit(&store, 0).code, KAGUTIN_DONE, "commit of the list");
-    store_one(3, 20, KAGUTIN_NO_STORE, "from its commit on it does");
-    read_one(0, 20, KAGUTIN_NO_READ, "for writer 0 too");
+    store_one(3, 20, KAGUTIN_STORE_DENIED, "from its commit on it does");
+    read_one(0, 20, KAGUTIN_READ_DENIED, "for writer 0 too");
     cut();
     store_one(3, 20, KAGUTIN_DONE, "a cut has taken it");
     set = kgt_set_rights(&store, &list);
     check(set.code == KAGUTIN_DONE && kgt_sync(&store).mark >= set.ticket, "set, sync");
     cut();
-    store_one(3, 20, KAGUTIN_NO_STORE, "a list that is durable stays");
+    store_one(3, 20, KAGUTIN_STORE_DENIED, "a list that is durable stays");
     gives(kgt_maintain(&store, 0).code, KAGUTIN_DONE, "maintain");
-    store_one(3, 20, KAGUTIN_NO_STORE, "settled and trimmed, too");
-    read_one(1, 20, KAGUTIN_NO_READ, "and for reads");
+    store_one(3, 20, KAGUTIN_STORE_DENIED, "settled and trimmed, too");
+    read_one(1, 20, KAGUTIN_READ_DENIED, "and for reads");
 }
 
 static void check_room(void)
@@ -208,7 +208,7 @@ static void check_room(void)
     for (i = 0; i < PLACES - 1; i++)
         store_one(4, 16 + i % 8, KAGUTIN_DONE, "store");
     gives(kgt_set_rights(&store, &list).code, KAGUTIN_DONE, "set makes room in a full log");
-    store_one(4, 20, KAGUTIN_NO_STORE, "and counts");
+    store_one(4, 20, KAGUTIN_STORE_DENIED, "and counts");
     start(HOMES);
     gives(kgt_reserve(&store, 4, PLACES - 3).code, KAGUTIN_DONE, "reserve");
     gives(kgt_set_rights(&store, &list).code, KAGUTIN_FULL, "no room for four entries");
@@ -217,7 +217,7 @@ static void check_room(void)
     gives(kgt_set_rights(&store, &list).code, KAGUTIN_BAD_HOME, "too few homes for a list");
     gives(kgt_get_rights(&store, 0, &list).code, KAGUTIN_BAD_HOME, "none to get");
     store_one(0, 10, KAGUTIN_DONE, "homes from 8 on are writer 0's");
-    store_one(1, 10, KAGUTIN_NO_STORE, "not the others'");
+    store_one(1, 10, KAGUTIN_STORE_DENIED, "not the others'");
     read_one(1, 10, KAGUTIN_DONE, "all read them");
     store_one(1, 7, KAGUTIN_DONE, "no list: other homes are open");
 }
