@@ -353,23 +353,23 @@ static inline struct answers__Reply hour_calls__kagutin_pump_stop(struct slice_m
     return units__finish(log, area, state, newest, (struct slice_u8){t9.at, 64u}, batch, writer, t10, t12);
 }
 
-struct kagutin_figures kagutin_pump_hours(const uint8_t *log, size_t log_size, const uint8_t *area, size_t area_size,
+struct kagutin_hours kagutin_pump_hours(const uint8_t *log, size_t log_size, const uint8_t *area, size_t area_size,
         const uint8_t *state, size_t state_size, const uint8_t *newest, size_t newest_size, uint64_t writer, uint64_t pump)
 {
     struct hour_calls__Figures r = hour_calls__kagutin_pump_hours((struct slice_u8){log, log_size}, (struct slice_u8){area,
             area_size}, (struct slice_u8){state, state_size}, (struct slice_u8){newest, newest_size}, writer, pump);
 
-    return (struct kagutin_figures){.code = r.code, .first = r.first, .second = r.second};
+    return (struct kagutin_hours){.code = r.code, .starts = r.first, .seconds = r.second};
 }
 
-struct kagutin_figures kagutin_pump_services(const uint8_t *log, size_t log_size, const uint8_t *area, size_t area_size,
+struct kagutin_services kagutin_pump_services(const uint8_t *log, size_t log_size, const uint8_t *area, size_t area_size,
         const uint8_t *state, size_t state_size, const uint8_t *newest, size_t newest_size, uint64_t writer, uint64_t pump,
         uint64_t interval)
 {
     struct hour_calls__Figures r = hour_calls__kagutin_pump_services((struct slice_u8){log, log_size}, (struct slice_u8){area,
             area_size}, (struct slice_u8){state, state_size}, (struct slice_u8){newest, newest_size}, writer, pump, interval);
 
-    return (struct kagutin_figures){.code = r.code, .first = r.first, .second = r.second};
+    return (struct kagutin_services){.code = r.code, .due = r.first, .left = r.second};
 }
 
 struct kagutin_reply kagutin_pump_start(uint8_t *log, size_t log_size, const uint8_t *area, size_t area_size, uint8_t *state,
