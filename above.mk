@@ -41,6 +41,10 @@ C_ABOVE_COST = above_cost $(C_STORE)
 C_REPLIES_CHECK = replies_check operations store/units $(C_STORE)
 C_LOCK_CHECK = lock_check operations store/units $(C_STORE)
 C_MISUSE_CHECK = misuse_check operations store/units $(C_STORE)
+# Calls of the object on a painted stack; not under sanitizers, which have a stack of their own.
+$(C_OUT)/object_stack: tests/object_stack.c port/replay/say_stdio.c $(C_STORE:%=$(C_OUT)/%.o) $(C_OUT)/store/units.o $(ABOVE_LIBS) $(LIB)
+	$(CC) $(C_FLAGS) $(CFLAGS) -Iport/replay $^ $(C_LIBS) -o $@
+
 C_ABOVE_PROGRAMS = $(C_ABOVE:%=$(C_OUT)/%) $(C_ABOVE:%=$(C_OUT)/sanitize/%)
 
 .PHONY: bands wear above-check above-compare
@@ -98,7 +102,7 @@ install: install-above
 uninstall: uninstall-above
 c-dist: c-dist-above
 
-above-check: $(C_ABOVE_PROGRAMS)
+above-check: $(C_ABOVE_PROGRAMS) $(C_OUT)/object_stack
 	CC="$(CC)" LIB="$(LIB)" sh tests/above-check.sh $(C_OUT)
 
 c-check: above-check
@@ -123,3 +127,14 @@ above-compare: $(COMPARE_UNITS) $(ABOVE_PARTS) $(ABOVE_TIGHT)
 	$(COMPARE_UNITS) --seed $(SEED) --build $(ABOVE_PARTS)
 	ASAN_OPTIONS=detect_leaks=0 LD_PRELOAD=$$(gcc -print-file-name=libasan.so) $(COMPARE_UNITS) --seed $(SEED) --tight \
 	    --histories 40 --damaged 2000 --build $(ABOVE_TIGHT) | tail -n 1
+
+# Stack of the object's calls on a board.
+OBJECT_SOURCES = $(patsubst %,c/store/%.c,store room usage rights units batch) $(DIST_C) $(ABOVE_DIST)
+$(REPLAY_OUT)/object-stack-m4: tests/object_stack.c $(OBJECT_SOURCES) $(wildcard port/replay/*) $(C_HEADERS)
+	@mkdir -p $(@D)
+	arm-none-eabi-gcc -mthumb $(m4_FLAGS) -Os $(REPLAY_FLAGS) $(filter %.c,$(filter-out port/replay/%,$^)) port/replay/say_board.c $(BOARD_LINK) \
+	    $(m4_MEMORY) -o $@
+
+.PHONY: object-stack
+object-stack: $(REPLAY_OUT)/object-stack-m4
+	@printf 'm4: ' && $(BOARD_RUN) $(m4_QEMU) -kernel $<

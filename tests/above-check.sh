@@ -29,6 +29,7 @@ gives 0 "events and cuts with sanitizers" "$san/above_check" 4
 gives 0 "replies: no field misleads, the driver failing at each call in turn, log full or not" "$san/replies_check"
 gives 0 "a lock refused at each taking, in every call: nothing has changed" "$san/lock_check"
 gives 0 "calls before init, a refused format, and who makes room" "$san/misuse_check"
+gives 0 "stack of the object's calls, room made at once or left to the task that maintains" "$out/object_stack"
 
 # --- bands ---
 gives 0 "an image" "$out/above_check" --image "$tmp/north.img" 90 4
