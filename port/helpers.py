@@ -34,6 +34,12 @@ APART = '''#if QUICK_C
 #endif
 '''
 
+# A number of 64 bits that goes out as a size_t would lose its high bits on other machines.
+WIDE_SIZE = '''#if SIZE_MAX < UINT64_MAX
+#error "this program hands numbers of 64 bits over as size_t"
+#endif
+'''
+
 LOAD = '''/* The number that {size} bytes make, lowest byte first. */
 static inline uint64_t load_{size}(const uint8_t *p)
 {{
@@ -150,7 +156,8 @@ def texts(used):
     if used & {'trailing_zeros', 'leading_zeros'}:
         used = used | {'count_ones'}
     words = [(word, size) for word in ('load', 'store') for size in (2, 4, 8) if f'{word}_{size}' in used]
-    out = [QUICK] if words or used & {'UNROLL', 'APART', 'trailing_zeros'} else []
+    out = [WIDE_SIZE] if 'WIDE_SIZE' in used else []
+    out += [QUICK] if words or used & {'UNROLL', 'APART', 'trailing_zeros'} else []
     out += [ORDER] if words else []
     out += [UNROLL] if 'UNROLL' in used else []
     out += [APART] if 'APART' in used else []
