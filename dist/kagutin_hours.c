@@ -57,6 +57,42 @@ struct hours__Due {
     uint64_t left;
 };
 
+/* With -DKAGUTIN_CHECK_BUFFERS every call answers 63 (KAGUTIN_BAD_BUFFERS), with zeros in all other fields, if a lent pointer is null or
+   two lent buffers share a byte. Without it nothing is asked. */
+#ifdef KAGUTIN_CHECK_BUFFERS
+struct lent {
+    const void *ptr;
+    size_t size;
+};
+
+static bool are_apart(const struct lent *lent, size_t count)
+{
+    size_t i, j;
+
+    for (i = 0; i < count; i++) {
+        uintptr_t a = (uintptr_t)lent[i].ptr;
+
+        if (lent[i].ptr == NULL || lent[i].size > UINTPTR_MAX - a)
+            return false;
+        for (j = 0; j < i; j++) {
+            uintptr_t b = (uintptr_t)lent[j].ptr;
+
+            if (lent[i].size != 0 && lent[j].size != 0 && a < b + lent[j].size && b < a + lent[i].size)
+                return false;
+        }
+    }
+    return true;
+}
+
+#define ASK_BUFFERS(result, ...) \
+    do { \
+        const struct lent all_lent[] = {__VA_ARGS__}; \
+        if (!are_apart(all_lent, sizeof all_lent / sizeof all_lent[0])) \
+            return (struct result){.code = 63u}; \
+    } while (0);
+#else
+#define ASK_BUFFERS(result, ...)
+#endif
 
 static inline struct answers__Reply kagutin__kagutin_fetch(struct slice_u8 log, struct slice_u8 area, struct slice_u8 state,
         struct slice_u8 newest, struct slice_mut_u8 blocks, uint64_t writer, uint64_t home)
@@ -356,6 +392,7 @@ static inline struct answers__Reply hour_calls__kagutin_pump_stop(struct slice_m
 struct kagutin_figures kagutin_pump_hours(const uint8_t *log, size_t log_size, const uint8_t *area, size_t area_size,
         const uint8_t *state, size_t state_size, const uint8_t *newest, size_t newest_size, uint64_t writer, uint64_t pump)
 {
+    ASK_BUFFERS(kagutin_figures, {log, log_size}, {area, area_size}, {state, state_size}, {newest, newest_size})
     struct hour_calls__Figures r = hour_calls__kagutin_pump_hours((struct slice_u8){log, log_size}, (struct slice_u8){area,
             area_size}, (struct slice_u8){state, state_size}, (struct slice_u8){newest, newest_size}, writer, pump);
 
@@ -366,6 +403,7 @@ struct kagutin_figures kagutin_pump_services(const uint8_t *log, size_t log_size
         const uint8_t *state, size_t state_size, const uint8_t *newest, size_t newest_size, uint64_t writer, uint64_t pump,
         uint64_t interval)
 {
+    ASK_BUFFERS(kagutin_figures, {log, log_size}, {area, area_size}, {state, state_size}, {newest, newest_size})
     struct hour_calls__Figures r = hour_calls__kagutin_pump_services((struct slice_u8){log, log_size}, (struct slice_u8){area,
             area_size}, (struct slice_u8){state, state_size}, (struct slice_u8){newest, newest_size}, writer, pump, interval);
 
@@ -376,6 +414,8 @@ struct kagutin_reply kagutin_pump_start(uint8_t *log, size_t log_size, const uin
         size_t state_size, uint8_t *newest, size_t newest_size, uint8_t *batch, size_t batch_size, uint64_t writer, uint64_t pump,
         uint32_t second)
 {
+    ASK_BUFFERS(kagutin_reply, {log, log_size}, {area, area_size}, {state, state_size}, {newest, newest_size}, {batch,
+            batch_size})
     struct answers__Reply r = hour_calls__kagutin_pump_start((struct slice_mut_u8){log, log_size}, (struct slice_u8){area,
             area_size}, (struct slice_mut_u8){state, state_size}, (struct slice_mut_u8){newest, newest_size},
             (struct slice_mut_u8){batch, batch_size}, writer, pump, second);
@@ -387,6 +427,8 @@ struct kagutin_reply kagutin_pump_stop(uint8_t *log, size_t log_size, const uint
         size_t state_size, uint8_t *newest, size_t newest_size, uint8_t *batch, size_t batch_size, uint64_t writer, uint64_t pump,
         uint32_t second)
 {
+    ASK_BUFFERS(kagutin_reply, {log, log_size}, {area, area_size}, {state, state_size}, {newest, newest_size}, {batch,
+            batch_size})
     struct answers__Reply r = hour_calls__kagutin_pump_stop((struct slice_mut_u8){log, log_size}, (struct slice_u8){area,
             area_size}, (struct slice_mut_u8){state, state_size}, (struct slice_mut_u8){newest, newest_size},
             (struct slice_mut_u8){batch, batch_size}, writer, pump, second);

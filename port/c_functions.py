@@ -263,9 +263,25 @@ class FunctionText(Values):
         result, lines = self.exported_result(f, export, f'{c_name(f.name)}({", ".join(args)})', results, signed_fields)
         self.line(0, f'{result} {export.name}({", ".join(params) or "void"})')
         self.out.append('{')
+        self.ask_buffers(f, export, results)
         for line in lines:
             self.line(1 if line else 0, line)
         self.out += ['}', '']
+
+    def ask_buffers(self, f, export, results):
+        """In builds with KAGUTIN_CHECK_BUFFERS: an answer for lent buffers that overlap or are null."""
+        lent = [f'{{{f.names[i]}, {self.size_in_bytes(f.names[i], f.types[i])}}}' for i in f.parameters() if isinstance(f.types[i], Slice)]
+        if not lent:
+            return
+        t = f.types[0]
+        if isinstance(t, Named) and self.types.is_struct(t) and ('code', U64) in self.types.members(t):
+            self.helpers.add('ASK_BUFFERS')
+            self.line(1, f'ASK_BUFFERS({results[t.name]}, {", ".join(lent)})')
+        else:
+            self.out += ['#ifdef KAGUTIN_CHECK_BUFFERS', f'#error "{export.name} has no code to answer with"', '#endif']
+
+    def size_in_bytes(self, name, t):
+        return f'{name}_size' if t.item == U8 else f'{name}_size * sizeof *{name}'
 
     def exported_number(self, t, source):
         """The header's type of a number, by the type that the source writes."""
