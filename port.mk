@@ -47,6 +47,8 @@ generator-check:
 	python3 tests/forms.py
 	python3 tests/generator.py $(GENERATE_WORDS)
 	python3 tests/imports.py
+	python3 tests/translated.py
+	python3 tests/buffers.py
 
 # The libraries of the C programs.
 DIST_LIBS = kagutin $(BESIDE:%=kagutin_%)

@@ -40,8 +40,15 @@
  *
  * Every call finishes. A refused call changes no lent byte, and its reply holds
  * the answer and zeros. Bytes of the batch past reply.size stay as they were.
- * Pointers must not be null, also with length 0, and lent memory must not
- * overlap. All that passes from call to call is in the lent memory.
+ * All that passes from call to call is in the lent memory.
+ *
+ * Pointers must not be null, also with length 0, and no two lent buffers may
+ * share a byte. No call asks this by itself: if it is not so, nothing that is
+ * proved holds, and memory outside the buffers may be read and written. While
+ * a program is being made, build the library with -DKAGUTIN_CHECK_BUFFERS (all
+ * the files of dist/ have it): every call then asks it first, and answers 63
+ * with zeros and touches nothing if it is not so. Lengths that are longer than
+ * the memory behind the pointer nothing can find out.
  */
 #ifndef KAGUTIN_H
 #define KAGUTIN_H
@@ -111,7 +118,8 @@ enum kagutin_answer {
     KAGUTIN_READ_DENIED = 20,      /* read: the writer has no right to read this home */
     KAGUTIN_WRONG_ROUND = 21,      /* settle, begin_round: a round is under way; step_round: none is, or 0 homes */
     KAGUTIN_BAD_ALARM = 24,        /* class out of range, an arrival already open, a clearing not open */
-    KAGUTIN_ALARMS_FULL = 25       /* an arrival while 48 are open */
+    KAGUTIN_ALARMS_FULL = 25,      /* an arrival while 48 are open */
+    KAGUTIN_BAD_BUFFERS = 63       /* lent buffers overlap or a pointer is null; only in builds with KAGUTIN_CHECK_BUFFERS */
 };
 
 struct kagutin_reply {
@@ -206,6 +214,7 @@ static inline const char *kagutin_answer_text(uint64_t code)
     case KAGUTIN_WRONG_ROUND: return "a round of settling is under way, or none is";
     case KAGUTIN_BAD_ALARM: return "a class out of range, an alarm already open, or one that is not";
     case KAGUTIN_ALARMS_FULL: return "48 alarms are open";
+    case KAGUTIN_BAD_BUFFERS: return "lent buffers overlap or a pointer is null";
     default: return "not an answer";
     }
 }
