@@ -88,7 +88,9 @@ static struct kgt_reply take_lock(struct kagutin *store)
 {
     if (store->condition == KGT_IS_UNUSABLE)
         return answer(KGT_NOT_INIT);
-    return answer(store->lock && store->lock(store->lock_context) != 0 ? KGT_LOCK_FAILED : KAGUTIN_DONE);
+    if (store->lock && store->lock(store->lock_context) != 0)
+        return answer(KGT_LOCK_FAILED);
+    return answer(KAGUTIN_DONE);
 }
 
 struct kgt_reply kgt_inner_leave(struct kagutin *store, struct kagutin_reply reply)
