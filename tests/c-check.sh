@@ -51,23 +51,24 @@ for header in include/*.h; do echo "#include \"${header#include/}\""; done > "$t
 cp "$tmp/headers.c" "$tmp/headers.cpp"
 for standard in c99 c11; do
     gives 0 "headers as $standard" "$cc" -std=$standard $strict -fsyntax-only "$tmp/headers.c"
-    gives 0 "store object and drivers as $standard" "$cc" -std=$standard $strict -fsyntax-only c/store/*.c
+    gives 0 "store object and drivers as $standard" "$cc" -std=$standard $strict -fsyntax-only c/store/*.c c/drivers/*.c
 done
 if command -v g++ > /dev/null; then
     for standard in c++11 c++17; do
         gives 0 "headers as $standard" g++ -std=$standard $strict -fsyntax-only "$tmp/headers.cpp"
-        gives 0 "store object and drivers as $standard" g++ -x c++ -std=$standard $strict -fsyntax-only c/store/*.c
+        gives 0 "store object and drivers as $standard" g++ -x c++ -std=$standard $strict -fsyntax-only c/store/*.c c/drivers/*.c
     done
 else
     echo "skipped headers as C++: no g++"
 fi
 
 # --- stack of each call ---
-gives 0 "stack: built" "$cc" -std=c99 -D_GNU_SOURCE -Wall -Wextra -pedantic -O2 -Iinclude tests/stack.c "$lib" ${C_LIBS:-} -o "$tmp/stack"
+gives 0 "stack: built" "$cc" -std=c99 -D_GNU_SOURCE -Wall -Wextra -pedantic -O2 -Iinclude tests/stack/stack.c "$lib" ${C_LIBS:-} -o "$tmp/stack"
 gives 0 "stack: every call within its bound, small log and large" "$tmp/stack"
 
 # --- no heap in the object; nm prints what it calls ---
-quiet sh -c "nm -u $out/store/store.o $out/store/room.o $out/store/usage.o $out/store/rights.o $out/store/batch.o $out/store/fram.o | grep -E 'alloc|free'"
+objects=$out/obj/c
+quiet sh -c "nm -u $objects/store/store.o $objects/store/room.o $objects/store/usage.o $objects/store/rights.o $objects/store/batch.o $objects/drivers/fram.o | grep -E 'alloc|free'"
 [ $? -ne 0 ]; report $? "the object and the FRAM driver use no heap"
 
 # --- quick start, driver, station ---
@@ -89,8 +90,8 @@ gives 0 "store: the list of rights, its ranges and the moment it counts" "$san/r
 gives 0 "files: written and mapped, stopped inside writes, locks, failures" "$san/file_check" "$fast"
 gives 0 "FRAM: power gone after every byte" "$out/fram_check" 1
 gives 0 "FRAM: under sanitizers" "$san/fram_check" 13
-objects="c/store/store.c c/store/room.c c/store/usage.c c/store/rights.c c/store/batch.c c/store/memory.c"
-build_tasks() { "$cc" -std=c99 -O1 -g "$@" $strict tests/tasks_check.c $objects "$lib" ${C_LIBS:-} -pthread -o "$tmp/tasks"; }
+sources="c/store/store.c c/store/room.c c/store/usage.c c/store/rights.c c/store/batch.c c/drivers/memory.c"
+build_tasks() { "$cc" -std=c99 -O1 -g "$@" $strict tests/store/tasks_check.c $sources "$lib" ${C_LIBS:-} -pthread -o "$tmp/tasks"; }
 gives 0 "tasks: built" build_tasks -fsanitize=thread
 if "$tmp/tasks" 2>&1 | grep -q 'unexpected memory mapping'; then # some kernels give the race detector no room
     gives 0 "tasks: built without the race detector" build_tasks
@@ -295,27 +296,27 @@ if command -v valgrind > /dev/null; then
     gives 0 "inspect under memcheck" $memcheck "$out/inspect" "$tmp/kept.img"
     gives 0 "quick start under memcheck" $memcheck "$out/quickstart" "$tmp/memcheck.img"
     gives 0 "store under memcheck" $memcheck "$out/store_check" 499 30
-    gives 0 "cost of question 2" sh tests/question-cost.sh "$out"
+    gives 0 "cost of question 2" sh tests/costs/question-cost.sh "$out"
 else
     echo "skipped memcheck and cost: valgrind is not installed"
 fi
 
 # --- the sources of the object in one folder, and a program built from them ---
-gives 0 "make c-dist" "${MAKE:-make}" -f c.mk DIST="$tmp/dist" c-dist
-gives 0 "build from that folder" "$cc" -std=c99 -I"$tmp/dist" c/quickstart.c "$tmp"/dist/kagutin_*.c "$lib" ${C_LIBS:-} -o "$tmp/from-dist"
+gives 0 "make c-dist" "${MAKE:-make}" -f make/c.mk DIST="$tmp/dist" c-dist
+gives 0 "build from that folder" "$cc" -std=c99 -I"$tmp/dist" c/examples/quickstart.c "$tmp"/dist/kagutin_*.c "$lib" ${C_LIBS:-} -o "$tmp/from-dist"
 gives 0 "run it" "$tmp/from-dist" "$tmp/from-dist.img"
 
 # --- install, and a program outside built against it ---
-gives 0 "make install" "${MAKE:-make}" -f c.mk LIB="$lib" C_LIBS="${C_LIBS:-}" DESTDIR="$tmp/root" PREFIX=/opt/kagutin install
+gives 0 "make install" "${MAKE:-make}" -f make/c.mk LIB="$lib" C_LIBS="${C_LIBS:-}" DESTDIR="$tmp/root" PREFIX=/opt/kagutin install
 if command -v pkg-config > /dev/null; then
-    cp c/quickstart.c "$tmp/outside.c"
+    cp c/examples/quickstart.c "$tmp/outside.c"
     flags=$(PKG_CONFIG_PATH="$tmp/root/opt/kagutin/lib/pkgconfig" PKG_CONFIG_SYSROOT_DIR="$tmp/root" pkg-config --cflags --libs kagutin)
     gives 0 "build outside with pkg-config" "$cc" "$tmp/outside.c" -o "$tmp/outside" $flags
     gives 0 "run it" "$tmp/outside" "$tmp/outside.img"
 else
     echo "skipped the build outside: no pkg-config"
 fi
-gives 0 "make uninstall" "${MAKE:-make}" -f c.mk DESTDIR="$tmp/root" PREFIX=/opt/kagutin uninstall
+gives 0 "make uninstall" "${MAKE:-make}" -f make/c.mk DESTDIR="$tmp/root" PREFIX=/opt/kagutin uninstall
 [ -z "$(find "$tmp/root" -type f)" ]; report $? "and nothing is left"
 
 echo "c-check: $passed passed, $failed failed"

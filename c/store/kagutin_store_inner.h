@@ -2,6 +2,7 @@
 #ifndef KAGUTIN_STORE_INNER_H
 #define KAGUTIN_STORE_INNER_H
 
+#include "kagutin_state_layout.h"
 #include "kagutin_store.h"
 
 /* What the library's calls are lent. */
@@ -10,20 +11,6 @@
 #define KGT_NEWEST(s) (s)->newest, (s)->newest_size
 #define KGT_BATCH(s) (s)->batch, (s)->batch_size
 #define KGT_MEMORY(s) KGT_AREAS(s), KGT_STATE(s), KGT_NEWEST(s)
-
-/* Where numbers stand in the state, 8 bytes each but the modes, one each; docs/FORMAT.md. */
-enum {
-    KGT_STATE_START = 16,
-    KGT_STATE_SETTLED = 40,
-    KGT_STATE_FENCED = 48,
-    KGT_STATE_ROUND = 88,
-    KGT_STATE_MODES = 104,
-    KGT_STATE_WRITERS = 128,
-    KGT_STATE_WRITER_SIZE = 24,
-    KGT_STATE_WRITER_FIRST = 8
-};
-
-enum { KGT_MODE_LOGGING = 3 };
 
 /* A number of the state. */
 uint64_t kgt_inner_number(const uint8_t *state, size_t at);

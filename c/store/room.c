@@ -3,17 +3,17 @@
 
 static uint64_t start_of(const struct kagutin *store)
 {
-    return kgt_inner_number(store->state, KGT_STATE_START);
+    return kgt_inner_number(store->state, STATE_START);
 }
 
 static bool in_round(const struct kagutin *store)
 {
-    return kgt_inner_number(store->state, KGT_STATE_ROUND) != 0;
+    return kgt_inner_number(store->state, STATE_ROUND) != 0;
 }
 
 static bool is_settled(const struct kagutin *store)
 {
-    return kgt_inner_number(store->state, KGT_STATE_SETTLED) == kgt_inner_number(store->state, KGT_STATE_FENCED);
+    return kgt_inner_number(store->state, STATE_SETTLED) == kgt_inner_number(store->state, STATE_FENCED);
 }
 
 static struct kagutin_reply flush(struct kagutin *store)

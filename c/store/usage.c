@@ -18,9 +18,9 @@ uint64_t kgt_inner_holder(const uint8_t *state, uint64_t *first)
 
     *first = 0;
     for (writer = 0; writer < KAGUTIN_WRITERS; writer++) {
-        if (state[KGT_STATE_MODES + writer] != KGT_MODE_LOGGING)
+        if (state[STATE_MODES + writer] != STATE_MODE_LOGGING)
             continue;
-        begins = kgt_inner_number(state, KGT_STATE_WRITERS + KGT_STATE_WRITER_SIZE * writer + KGT_STATE_WRITER_FIRST);
+        begins = kgt_inner_number(state, STATE_WRITERS + STATE_WRITER_SIZE * writer + STATE_WRITER_FIRST);
         if (holder == KGT_NO_HOLDER || begins < *first) {
             holder = writer;
             *first = begins;

@@ -1,0 +1,177 @@
+# The C side: header, driver, station, inspector. Included by the Makefile; from the root also
+# make -f make/c.mk LIB=path/to/libkagutin.a station; without LIB the library is built from dist/kagutin.c
+#
+# station, inspect, quickstart   programs in target/c
+# gauges                         two CSV files of levels compared; a program over libkagutin_gauges.a alone
+# inflow                         least and most inflow of a pit; a program over libkagutin_inflow.a alone
+# c-sanitize                     the same with address and undefined-behaviour sanitizers, in target/c/sanitize
+# c-check                        tests of all of these
+# rights-cost                    what questions 19 and 20 cost, by callgrind
+# question-cost                  what question 2 costs; with LIB the archive it is a function of its own
+# c-kills                        longer: KILLS kills of a process at work, on this disk
+# c-dist                         headers and sources of the store object and its drivers into DIST
+# install, uninstall             headers, libraries and kagutin.pc, under DESTDIR and PREFIX
+
+LIB ?= $(C_OUT)/libkagutin.a
+GAUGES_LIB ?= $(C_OUT)/libkagutin_gauges.a
+INFLOW_LIB ?= $(C_OUT)/libkagutin_inflow.a
+C_LIBS ?=
+PREFIX ?= /usr/local
+DESTDIR ?=
+VERSION := $(shell sed -n 's/.define KAGUTIN_VERSION "\(.*\)"/\1/p' include/kagutin.h)
+CFLAGS ?= -O2 -g
+SEED ?= 1
+
+C_FLAGS = -std=c99 -D_POSIX_C_SOURCE=200809L -Wall -Wextra -pedantic -Wshadow -Wconversion -Iinclude -Ic
+C_SANITIZE = -O1 -g -fno-omit-frame-pointer -fsanitize=address,undefined -fno-sanitize-recover=all
+C_OUT = target/c
+C_OBJECTS = $(C_OUT)/obj
+C_HEADERS = $(wildcard include/*.h c/*/*.h tests/*/*.h)
+
+# Programs by their sources, from the root and without their ending.
+C_STORE = $(addprefix c/store/,store room usage rights batch) $(addprefix c/drivers/,memory file file_io fram)
+C_STATION_PARTS = main options power tasks wear rights calls event_calls refusals report station events book driver driver_file
+C_STATION = $(C_STATION_PARTS:%=c/station/%) c/common/rule $(C_STORE)
+C_INSPECT = $(addprefix c/inspect/,main image fate rights text json) c/common/rule
+C_DRIVER_CHECK = tests/programs/driver_check c/station/driver c/station/driver_file $(C_STORE)
+C_QUICKSTART = c/examples/quickstart $(C_STORE)
+C_STORE_CHECK = tests/store/store_check tests/common/play $(C_STORE)
+C_RESERVE_CHECK = tests/store/reserve_check $(C_STORE)
+C_ROUND_CHECK = tests/store/round_check $(C_STORE)
+C_RIGHTS_CHECK = tests/store/rights_check $(C_STORE)
+C_FILE_CHECK = tests/drivers/file_check tests/common/play $(C_STORE)
+C_KILL_CHECK = tests/drivers/kill_check tests/common/play $(C_STORE)
+C_FRAM_CHECK = tests/drivers/fram_check tests/common/play $(C_STORE)
+C_GAUGES = $(addprefix c/gauges/,main readings levels_plot) c/common/text_line c/common/page_file
+C_GAUGES_COST = tests/costs/gauges_cost
+C_RIGHTS_COST = tests/costs/rights_cost
+C_QUESTION_COST = tests/costs/question_cost
+C_INFLOW = c/inflow/main
+C_PROGRAMS = inspect quickstart driver_check store_check reserve_check round_check rights_check file_check kill_check fram_check gauges gauges_cost rights_cost question_cost inflow
+
+.PHONY: station inspect quickstart gauges inflow c-sanitize c-check c-kills c-dist install uninstall c-clean
+
+station: $(C_OUT)/station
+inspect: $(C_OUT)/inspect
+quickstart: $(C_OUT)/quickstart
+gauges: $(C_OUT)/gauges
+inflow: $(C_OUT)/inflow
+c-sanitize: $(C_PROGRAMS:%=$(C_OUT)/sanitize/%)
+
+$(C_OBJECTS)/%.o: %.c $(C_HEADERS)
+	@mkdir -p $(@D)
+	$(CC) $(C_FLAGS) $(CFLAGS) -c $< -o $@
+
+$(C_OUT)/sanitize/obj/%.o: %.c $(C_HEADERS)
+	@mkdir -p $(@D)
+	$(CC) $(C_FLAGS) $(C_SANITIZE) -c $< -o $@
+
+# The libraries that the programs were linked with: with others they are linked again, even if these are older.
+C_LINKED = $(C_OUT)/linked.txt
+C_LINK = $(strip $(LIB) $(GAUGES_LIB) $(INFLOW_LIB) $(C_LIBS))
+
+ifneq ($(shell cat $(C_LINKED) 2> /dev/null),$(C_LINK))
+.PHONY: $(C_LINKED)
+endif
+$(C_LINKED):
+	@mkdir -p $(@D)
+	@echo '$(C_LINK)' > $@
+
+# One program in both builds: its name, its objects, the libraries it needs.
+define C_PROGRAM
+$(C_OUT)/$(1): $(2:%=$(C_OBJECTS)/%.o) $(3) $(if $(3),$(C_LINKED))
+	$$(CC) $$(CFLAGS) $$(filter-out $(C_LINKED),$$^) $(if $(3),$$(C_LIBS)) -o $$@
+
+$(C_OUT)/sanitize/$(1): $(2:%=$(C_OUT)/sanitize/obj/%.o) $(3:$(C_OUT)/%=$(C_OUT)/sanitize/%) $(if $(3),$(C_LINKED))
+	$$(CC) $$(C_SANITIZE) $$(filter-out $(C_LINKED),$$^) $(if $(3),$$(C_LIBS)) -o $$@
+endef
+
+$(eval $(call C_PROGRAM,inspect,$(C_INSPECT),))
+$(eval $(call C_PROGRAM,quickstart,$(C_QUICKSTART),$(LIB)))
+$(eval $(call C_PROGRAM,driver_check,$(C_DRIVER_CHECK),$(LIB)))
+$(eval $(call C_PROGRAM,store_check,$(C_STORE_CHECK),$(LIB)))
+$(eval $(call C_PROGRAM,reserve_check,$(C_RESERVE_CHECK),$(LIB)))
+$(eval $(call C_PROGRAM,round_check,$(C_ROUND_CHECK),$(LIB)))
+$(eval $(call C_PROGRAM,rights_check,$(C_RIGHTS_CHECK),$(LIB)))
+$(eval $(call C_PROGRAM,file_check,$(C_FILE_CHECK),$(LIB)))
+$(eval $(call C_PROGRAM,kill_check,$(C_KILL_CHECK),$(LIB)))
+$(eval $(call C_PROGRAM,fram_check,$(C_FRAM_CHECK),$(LIB)))
+$(eval $(call C_PROGRAM,gauges,$(C_GAUGES),$(GAUGES_LIB)))
+$(eval $(call C_PROGRAM,gauges_cost,$(C_GAUGES_COST),$(GAUGES_LIB)))
+$(eval $(call C_PROGRAM,rights_cost,$(C_RIGHTS_COST),$(LIB)))
+$(eval $(call C_PROGRAM,question_cost,$(C_QUESTION_COST),$(LIB)))
+$(eval $(call C_PROGRAM,inflow,$(C_INFLOW),$(INFLOW_LIB)))
+
+c-check: $(C_PROGRAMS:%=$(C_OUT)/%) c-sanitize
+	CC="$(CC)" LIB="$(LIB)" C_LIBS="$(C_LIBS)" sh tests/c-check.sh $(C_OUT)
+	CC="$(CC)" LIB="$(LIB)" GAUGES_LIB="$(GAUGES_LIB)" sh tests/programs/gauges-check.sh $(C_OUT)
+	CC="$(CC)" LIB="$(LIB)" GAUGES_LIB="$(GAUGES_LIB)" INFLOW_LIB="$(INFLOW_LIB)" sh tests/programs/inflow-check.sh $(C_OUT)
+
+# Instructions of a store and a read under a list of rights, and of question 2, by callgrind.
+.PHONY: rights-cost question-cost
+rights-cost: $(C_OUT)/rights_cost
+	sh tests/costs/rights-cost.sh $(C_OUT)
+
+question-cost: $(C_OUT)/question_cost
+	sh tests/costs/question-cost.sh $(C_OUT)
+
+# A process killed at random instants, long.
+KILLS ?= 1000
+c-kills: $(C_OUT)/kill_check
+	rm -f $(C_OUT)/kills.img
+	$(C_OUT)/kill_check $(C_OUT)/kills.img $(KILLS) $(SEED)
+	rm -f $(C_OUT)/kills.img
+
+# The store object as an archive of its own; it calls the library.
+STORE_LIB = $(C_OUT)/libkagutin_store.a
+
+C_PUBLIC = kagutin kagutin_store kagutin_rights kagutin_file kagutin_memory kagutin_fram
+
+# NAME.c of c/store and c/drivers becomes kagutin_NAME.c there; all headers and sources of dist/ stand in one folder.
+DIST ?= dist
+C_PRIVATE = $(wildcard c/store/*.h c/drivers/*.h)
+c-dist: $(C_PUBLIC:%=include/%.h) $(C_PRIVATE) $(C_STORE:%=%.c)
+	install -d $(DIST)
+	install -m 644 $(C_PUBLIC:%=include/%.h) $(C_PRIVATE) $(DIST)
+	for name in $(C_STORE); do install -m 644 $$name.c $(DIST)/kagutin_$${name##*/}.c; done
+
+# Standalone calls, each a header and an archive.
+C_STANDALONE = kagutin_gauges kagutin_inflow
+
+install: $(LIB) $(STORE_LIB) $(GAUGES_LIB) $(INFLOW_LIB) $(C_PUBLIC:%=include/%.h) $(C_STANDALONE:%=include/%.h) kagutin.pc.in
+	install -d $(DESTDIR)$(PREFIX)/include $(DESTDIR)$(PREFIX)/lib/pkgconfig
+	install -m 644 $(C_PUBLIC:%=include/%.h) $(C_STANDALONE:%=include/%.h) $(DESTDIR)$(PREFIX)/include
+	install -m 644 $(LIB) $(DESTDIR)$(PREFIX)/lib/libkagutin.a
+	install -m 644 $(STORE_LIB) $(DESTDIR)$(PREFIX)/lib/libkagutin_store.a
+	install -m 644 $(GAUGES_LIB) $(DESTDIR)$(PREFIX)/lib/libkagutin_gauges.a
+	install -m 644 $(INFLOW_LIB) $(DESTDIR)$(PREFIX)/lib/libkagutin_inflow.a
+	sed -e 's|@PREFIX@|$(PREFIX)|' -e 's|@VERSION@|$(VERSION)|' -e 's|@LIBS@|$(C_LIBS)|' -e 's/ *$$//' kagutin.pc.in \
+	    > $(DESTDIR)$(PREFIX)/lib/pkgconfig/kagutin.pc
+	chmod 644 $(DESTDIR)$(PREFIX)/lib/pkgconfig/kagutin.pc
+
+uninstall:
+	rm -f $(C_PUBLIC:%=$(DESTDIR)$(PREFIX)/include/%.h) $(DESTDIR)$(PREFIX)/lib/libkagutin.a
+	rm -f $(C_STANDALONE:%=$(DESTDIR)$(PREFIX)/include/%.h) $(C_STANDALONE:%=$(DESTDIR)$(PREFIX)/lib/lib%.a)
+	rm -f $(DESTDIR)$(PREFIX)/lib/libkagutin_store.a $(DESTDIR)$(PREFIX)/lib/pkgconfig/kagutin.pc
+
+include make/port.mk
+include make/units.mk
+
+# One archive in both builds: its name, its objects.
+define C_ARCHIVE
+$(C_OUT)/lib$(1).a: $(2:%=$(C_OBJECTS)/%.o)
+	rm -f $$@
+	$$(AR) rcs $$@ $$^
+
+$(C_OUT)/sanitize/lib$(1).a: $(2:%=$(C_OUT)/sanitize/obj/%.o)
+	rm -f $$@
+	$$(AR) rcs $$@ $$^
+endef
+
+# Those of dist/, the store object, and the calls on units for the object.
+$(foreach part,kagutin $(patsubst %,kagutin_%,$(STANDALONE) $(UNITS)),$(eval $(call C_ARCHIVE,$(part),dist/$(part))))
+$(eval $(call C_ARCHIVE,kagutin_store,$(C_STORE)))
+$(eval $(call C_ARCHIVE,kagutin_units,c/store/units))
+
+c-clean:
+	rm -rf $(C_OUT)
