@@ -89,6 +89,8 @@ gives 0 "store: the list of rights, its ranges and the moment it counts" "$san/r
 gives 0 "files: written and mapped, stopped inside writes, locks, failures" "$san/file_check" "$fast"
 gives 0 "FRAM: power gone after every byte, at work and inside a format" "$out/fram_check" 1
 gives 0 "FRAM: under sanitizers" "$san/fram_check" 13
+gives 0 "format: over a damaged header, cut with every choice of words or blocks" "$out/format_check" 1
+gives 0 "format: the same under sanitizers" "$san/format_check" 17
 objects="c/store/store.c c/store/usage.c c/store/batch.c c/store/memory.c"
 build_tasks() { "$cc" -std=c99 -O1 -g "$@" $strict tests/tasks_check.c $objects "$lib" ${C_LIBS:-} -pthread -o "$tmp/tasks"; }
 gives 0 "tasks: built" build_tasks -fsanitize=thread

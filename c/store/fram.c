@@ -4,9 +4,9 @@
 #include <string.h>
 
 enum { WRITE_ENABLE = 0x06, WRITE = 0x02, READ = 0x03 };
-enum { COPY = 32, USED = 12 }; /* distance of the header's copies; bytes of it that are not always zero */
+enum { WORD = 8, COPY = 32, USED = 12 }; /* distance of the header's copies; bytes of it that are not always zero */
 
-#define BAD_RANGE (-1) /* the header is loaded and written whole */
+#define BAD_RANGE (-1) /* the header is loaded and written whole, but for zeros in its first word */
 
 static int transfer(struct kgt_fram *fram, uint8_t what, uint32_t at, const uint8_t *out, uint8_t *in, size_t size)
 {
@@ -85,17 +85,24 @@ static int wipe_header(struct kgt_fram *fram)
     return error ? error : write_bytes(fram, COPY * (size_t)fram->newest, none, sizeof none);
 }
 
-/* Zeros, as a format begins with, wipe both copies; anything else goes to the older one. */
-static int write_header(struct kgt_fram *fram, const uint8_t *header)
+/*
+ * A first word of zeros, which a format writes alone and then with the rest,
+ * wipes both copies; anything else goes to the older one.
+ */
+static int write_header(struct kgt_fram *fram, const uint8_t *header, size_t size)
 {
-    static const uint8_t none[KAGUTIN_HEADER_SIZE] = {0};
+    static const uint8_t no_mark[WORD] = {0};
     uint8_t copy[2 * USED];
     unsigned older = 1 - fram->newest;
     size_t i;
     int error;
 
-    if (memcmp(header, none, sizeof none) == 0)
+    if (size != WORD && size != KAGUTIN_HEADER_SIZE)
+        return BAD_RANGE;
+    if (memcmp(header, no_mark, WORD) == 0)
         return wipe_header(fram);
+    if (size == WORD)
+        return BAD_RANGE;
     for (i = 0; i < USED; i++) {
         copy[i] = header[i];
         copy[USED + i] = (uint8_t)~header[i];
@@ -127,7 +134,7 @@ static int write(void *context, enum kgt_area area, size_t at, const uint8_t *by
 
     if (from >= KAGUTIN_HEADER_SIZE)
         return write_bytes(fram, from, bytes, size);
-    return from == 0 && size == KAGUTIN_HEADER_SIZE ? write_header(fram, bytes) : BAD_RANGE;
+    return from == 0 ? write_header(fram, bytes, size) : BAD_RANGE;
 }
 
 static int fence(void *context)
