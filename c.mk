@@ -40,12 +40,14 @@ C_FILE_CHECK = file_check play $(C_STORE)
 C_KILL_CHECK = kill_check play $(C_STORE)
 C_FRAM_CHECK = fram_check play $(C_STORE)
 C_FORMAT_CHECK = format_check play $(C_STORE)
+C_REOPEN_CHECK = reopen_check play $(C_STORE)
+C_DISK_CHECK = disk_check play $(C_STORE)
 C_GAUGES = gauges readings text_line levels_plot page_file
 C_GAUGES_COST = gauges_cost
 C_RIGHTS_COST = rights_cost
 C_QUESTION_COST = question_cost
 C_INFLOW = inflow
-C_PROGRAMS = inspect quickstart driver_check store_check reserve_check round_check rights_check file_check kill_check fram_check format_check gauges gauges_cost rights_cost question_cost inflow
+C_PROGRAMS = inspect quickstart driver_check store_check reserve_check round_check rights_check file_check kill_check fram_check format_check reopen_check disk_check gauges gauges_cost rights_cost question_cost inflow
 
 .PHONY: station inspect quickstart gauges inflow c-sanitize c-check c-kills c-dist install uninstall c-clean
 
@@ -103,6 +105,8 @@ $(eval $(call C_PROGRAM,file_check,$(C_FILE_CHECK),$(LIB)))
 $(eval $(call C_PROGRAM,kill_check,$(C_KILL_CHECK),$(LIB)))
 $(eval $(call C_PROGRAM,fram_check,$(C_FRAM_CHECK),$(LIB)))
 $(eval $(call C_PROGRAM,format_check,$(C_FORMAT_CHECK),$(LIB)))
+$(eval $(call C_PROGRAM,reopen_check,$(C_REOPEN_CHECK),$(LIB)))
+$(eval $(call C_PROGRAM,disk_check,$(C_DISK_CHECK),$(LIB)))
 $(eval $(call C_PROGRAM,gauges,$(C_GAUGES),$(GAUGES_LIB)))
 $(eval $(call C_PROGRAM,gauges_cost,$(C_GAUGES_COST),$(GAUGES_LIB)))
 $(eval $(call C_PROGRAM,rights_cost,$(C_RIGHTS_COST),$(LIB)))

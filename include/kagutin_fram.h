@@ -23,7 +23,8 @@ extern "C" {
 struct kgt_fram {
     /*
      * One selection of the chip: sends the command, then sends out or reads in,
-     * whichever is not null. Returns 0, or the board's error.
+     * whichever is not null. Returns 0, or the board's error; also then no
+     * byte reaches the chip after it has returned.
      */
     int (*transfer)(void *bus, const uint8_t *command, size_t command_size, const uint8_t *out, uint8_t *in,
                     size_t size);

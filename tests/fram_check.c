@@ -1,7 +1,7 @@
 /*
- * A store on a simulated serial FRAM that loses power after every single byte
- * that it takes, at work and inside a format of a chip that was used. Argument:
- * every so many bytes (1: all).
+ * A store on a simulated serial FRAM that loses power, or its bus, after every
+ * single byte that it takes, at work and inside a format of a chip that was
+ * used. Argument: every so many bytes (1: all).
  */
 #include <stdio.h>
 #include <stdlib.h>
@@ -61,21 +61,33 @@ static int transfer(void *bus, const uint8_t *command, size_t command_size, cons
     return 0;
 }
 
-static void power_on(uint64_t left)
+/* The bus works again, for so many bytes. */
+static void bus_on(uint64_t left)
 {
     chip.off = false;
     chip.enabled = false;
     chip.left = left;
+}
+
+static void power_on(uint64_t left)
+{
+    bus_on(left);
     kgt_fram_init(&fram, GROUPS, BASE, left % 2 ? 2 : 3, transfer, &chip);
     check(kgt_init(&store, memory, sizeof memory, GROUPS, HOMES, kgt_fram_driver(&fram)).code == 0, "init", 0);
 }
 
+/* Opens after a cut, or after a failure of the bus with driver and store as they are; that may come again. */
 static void reopen(unsigned long at)
 {
     int cuts;
 
     for (cuts = 0; cuts < 4; cuts++) {
-        power_on(cuts < 3 && play_random(&play, 2) ? play_random(&play, 3500) : UINT64_MAX);
+        uint64_t left = cuts < 3 && play_random(&play, 2) ? play_random(&play, 3500) : UINT64_MAX;
+
+        if (play_random(&play, 2))
+            power_on(left);
+        else
+            bus_on(left);
         if (kgt_open(&store).code == KAGUTIN_DONE)
             break;
         check(chip.off, "an opening that is not done though power is on", at);
