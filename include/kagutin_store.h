@@ -66,13 +66,17 @@ enum kgt_landing { KGT_LANDS_WORDS, KGT_LANDS_BLOCKS };
 /*
  * A driver: three functions that return 0, or an error of the driver's own.
  *
- * load   copies lasting memory in. Everything it gives must be there after a
- *        power cut, and no earlier write may arrive later: a driver with a
- *        cache writes it back first.
- * write  writes at an offset of an area. Its bytes may arrive at any time up
- *        to the next fence, before or after other writes, in parts no smaller
- *        than the landing says.
- * fence  returns when all earlier writes are in lasting memory.
+ * load   first decides what lasting memory holds, then copies it in: all that it
+ *        gives is still there after a power cut, and no earlier write arrives
+ *        any more. A store opened again after a failure, without a cut, relies
+ *        on this alone. So before it reads, load waits for transfers under way
+ *        or calls them off, and writes a cache back or drops it.
+ * write  writes at an offset of an area; offsets and sizes are multiples of 8.
+ *        Its bytes may arrive at any time up to the next fence, before or after
+ *        other writes, in parts no smaller than the landing says; also if it
+ *        fails.
+ * fence  returns 0 when all earlier writes are in lasting memory. If it fails,
+ *        any of them may be.
  *
  * docs/DRIVERS.md says why this is enough, and what to do on other media.
  */
@@ -175,7 +179,9 @@ bool kgt_read_record(const uint8_t *batch, size_t size, size_t groups, size_t ho
  * Runs records on a driver. Where blocks do not land whole, a group's first
  * word, which holds its number, is written after a fence that follows the rest
  * of it; until then the slot is a hole. Up to KGT_HEADS such words wait. A
- * group without a number, as format and open write them, is a hole anyway.
+ * group without a number, as format and open write them, is a hole anyway. A
+ * header of zeros, with which a format begins, goes out as its first word, a
+ * fence, then all of it: so no torn wipe makes a damaged header whole.
  */
 #define KGT_HEADS 16
 #define KGT_BAD_BATCH (-1000) /* the error for a batch that cannot be read */
@@ -244,8 +250,9 @@ struct kgt_reply kgt_set_room(struct kagutin *store, enum kgt_room room);
 /*
  * Makes lasting memory an empty store with all homes zero. Once in a device's
  * life; scratch has KGT_FORMAT_SIZE(groups, homes) bytes and is free again
- * afterwards. The store is then closed. Answers 9 (scratch is too short; the
- * store is as it was), 65, 66, 67.
+ * afterwards. The store is then closed. After a failure it loads the header
+ * first, so that no earlier write arrives any more. Answers 9 (scratch is too
+ * short; the store is as it was), 65, 66, 67.
  */
 struct kgt_reply kgt_format(struct kagutin *store, uint8_t *scratch, size_t size);
 

@@ -131,8 +131,9 @@ static int get(struct kgt_file *file, size_t from, uint8_t *bytes, size_t size)
 static int write_file(void *context, enum kgt_area area, size_t at, const uint8_t *bytes, size_t size)
 {
     struct kgt_file *file = (struct kgt_file *)context;
+    int error = check_size(file); /* a write past the end would make a file long again that has lost blocks */
 
-    return file->failed ? file->failed : put(file, offset(file, area, at), bytes, size);
+    return error ? error : put(file, offset(file, area, at), bytes, size);
 }
 
 /*

@@ -151,6 +151,22 @@ struct kagutin_reply kgt_inner_run(struct kagutin *store, struct kagutin_reply r
 
 /* ---- format and open ---- */
 
+/* Runs the batch of a format, which has made new copies already. After a failure no earlier write may arrive any more: load sees to that. */
+static struct kagutin_reply run_format(struct kagutin *store, const uint8_t *batch, struct kagutin_reply format)
+{
+    const struct kgt_driver *driver = &store->runner.driver;
+    uint8_t header[KAGUTIN_HEADER_SIZE];
+    int error = 0;
+
+    if (store->condition == KGT_HAS_FAILED)
+        error = driver->load(driver->context, KGT_LOG, 0, header, sizeof header);
+    if (error)
+        return fail(store, error);
+    store->condition = KGT_IS_CLOSED;
+    store->runner.waiting = 0;
+    return run(store, batch, format);
+}
+
 struct kgt_reply kgt_format(struct kagutin *store, uint8_t *scratch, size_t size)
 {
     struct kgt_reply reply = take_lock(store);
@@ -159,11 +175,8 @@ struct kgt_reply kgt_format(struct kagutin *store, uint8_t *scratch, size_t size
     if (reply.code != KAGUTIN_DONE)
         return reply;
     format = kagutin_format(KGT_AREAS(store), scratch, size);
-    if (format.code == KAGUTIN_DONE) {
-        store->condition = KGT_IS_CLOSED;
-        store->runner.waiting = 0;
-        format = run(store, scratch, format);
-    }
+    if (format.code == KAGUTIN_DONE)
+        format = run_format(store, scratch, format);
     return kgt_inner_leave(store, format);
 }
 
