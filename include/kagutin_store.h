@@ -122,6 +122,9 @@ enum kgt_answer {
 /* Any answer in words. */
 const char *kgt_answer_text(uint64_t code);
 
+/* KAGUTIN_VERSION as it was when the object was compiled. */
+const char *kagutin_version(void);
+
 /* ---- replies ---- */
 
 /* A number that a call tells only if it is done; no done call tells this one. */
