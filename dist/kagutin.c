@@ -217,6 +217,43 @@ struct model__Usage {
 #define APART
 #endif
 
+/* With -DKAGUTIN_CHECK_BUFFERS every call answers 63 (KAGUTIN_BAD_BUFFERS), with zeros in all other fields, if a lent pointer is null or
+   two lent buffers share a byte. Without it nothing is asked. */
+#ifdef KAGUTIN_CHECK_BUFFERS
+struct lent {
+    const void *ptr;
+    size_t size;
+};
+
+static bool are_apart(const struct lent *lent, size_t count)
+{
+    size_t i, j;
+
+    for (i = 0; i < count; i++) {
+        uintptr_t a = (uintptr_t)lent[i].ptr;
+
+        if (lent[i].ptr == NULL || lent[i].size > UINTPTR_MAX - a)
+            return false;
+        for (j = 0; j < i; j++) {
+            uintptr_t b = (uintptr_t)lent[j].ptr;
+
+            if (lent[i].size != 0 && lent[j].size != 0 && a < b + lent[j].size && b < a + lent[i].size)
+                return false;
+        }
+    }
+    return true;
+}
+
+#define ASK_BUFFERS(result, ...) \
+    do { \
+        const struct lent all_lent[] = {__VA_ARGS__}; \
+        if (!are_apart(all_lent, sizeof all_lent / sizeof all_lent[0])) \
+            return (struct result){.code = 63u}; \
+    } while (0);
+#else
+#define ASK_BUFFERS(result, ...)
+#endif
+
 /* The number that 2 bytes make, lowest byte first. */
 static inline uint64_t load_2(const uint8_t *p)
 {
@@ -5272,6 +5309,7 @@ static inline struct model__Usage kagutin__kagutin_usage(struct slice_u8 log, st
 struct kagutin_reply kagutin_abort(const uint8_t *log, size_t log_size, const uint8_t *area, size_t area_size, uint8_t *state,
         size_t state_size, uint64_t writer)
 {
+    ASK_BUFFERS(kagutin_reply, {log, log_size}, {area, area_size}, {state, state_size})
     struct answers__Reply r = kagutin__kagutin_abort((struct slice_u8){log, log_size}, (struct slice_u8){area, area_size},
             (struct slice_mut_u8){state, state_size}, writer);
 
@@ -5281,6 +5319,7 @@ struct kagutin_reply kagutin_abort(const uint8_t *log, size_t log_size, const ui
 struct kagutin_reply kagutin_begin(const uint8_t *log, size_t log_size, const uint8_t *area, size_t area_size, uint8_t *state,
         size_t state_size, uint64_t writer)
 {
+    ASK_BUFFERS(kagutin_reply, {log, log_size}, {area, area_size}, {state, state_size})
     struct answers__Reply r = kagutin__kagutin_begin((struct slice_u8){log, log_size}, (struct slice_u8){area, area_size},
             (struct slice_mut_u8){state, state_size}, writer);
 
@@ -5290,6 +5329,7 @@ struct kagutin_reply kagutin_begin(const uint8_t *log, size_t log_size, const ui
 struct kagutin_reply kagutin_begin_round(const uint8_t *log, size_t log_size, const uint8_t *area, size_t area_size,
         uint8_t *state, size_t state_size)
 {
+    ASK_BUFFERS(kagutin_reply, {log, log_size}, {area, area_size}, {state, state_size})
     struct answers__Reply r = kagutin__kagutin_begin_round((struct slice_u8){log, log_size}, (struct slice_u8){area, area_size},
             (struct slice_mut_u8){state, state_size});
 
@@ -5299,6 +5339,8 @@ struct kagutin_reply kagutin_begin_round(const uint8_t *log, size_t log_size, co
 struct kagutin_reply kagutin_commit(uint8_t *log, size_t log_size, const uint8_t *area, size_t area_size, uint8_t *state,
         size_t state_size, uint8_t *newest, size_t newest_size, uint8_t *batch, size_t batch_size, uint64_t writer)
 {
+    ASK_BUFFERS(kagutin_reply, {log, log_size}, {area, area_size}, {state, state_size}, {newest, newest_size}, {batch,
+            batch_size})
     struct answers__Reply r = kagutin__kagutin_commit((struct slice_mut_u8){log, log_size}, (struct slice_u8){area, area_size},
             (struct slice_mut_u8){state, state_size}, (struct slice_mut_u8){newest, newest_size}, (struct slice_mut_u8){batch,
             batch_size}, writer);
@@ -5309,6 +5351,7 @@ struct kagutin_reply kagutin_commit(uint8_t *log, size_t log_size, const uint8_t
 struct kagutin_reply kagutin_confirm(const uint8_t *log, size_t log_size, const uint8_t *area, size_t area_size, uint8_t *state,
         size_t state_size)
 {
+    ASK_BUFFERS(kagutin_reply, {log, log_size}, {area, area_size}, {state, state_size})
     struct answers__Reply r = kagutin__kagutin_confirm((struct slice_u8){log, log_size}, (struct slice_u8){area, area_size},
             (struct slice_mut_u8){state, state_size});
 
@@ -5319,6 +5362,8 @@ struct kagutin_reply kagutin_fetch(const uint8_t *log, size_t log_size, const ui
         const uint8_t *state, size_t state_size, const uint8_t *newest, size_t newest_size, uint8_t *blocks, size_t blocks_size,
         uint64_t writer, uint64_t home)
 {
+    ASK_BUFFERS(kagutin_reply, {log, log_size}, {area, area_size}, {state, state_size}, {newest, newest_size}, {blocks,
+            blocks_size})
     struct answers__Reply r = kagutin__kagutin_fetch((struct slice_u8){log, log_size}, (struct slice_u8){area, area_size},
             (struct slice_u8){state, state_size}, (struct slice_u8){newest, newest_size}, (struct slice_mut_u8){blocks,
             blocks_size}, writer, home);
@@ -5329,6 +5374,7 @@ struct kagutin_reply kagutin_fetch(const uint8_t *log, size_t log_size, const ui
 struct kagutin_reply kagutin_flush(const uint8_t *log, size_t log_size, const uint8_t *area, size_t area_size, uint8_t *state,
         size_t state_size, uint8_t *batch, size_t batch_size)
 {
+    ASK_BUFFERS(kagutin_reply, {log, log_size}, {area, area_size}, {state, state_size}, {batch, batch_size})
     struct answers__Reply r = kagutin__kagutin_flush((struct slice_u8){log, log_size}, (struct slice_u8){area, area_size},
             (struct slice_mut_u8){state, state_size}, (struct slice_mut_u8){batch, batch_size});
 
@@ -5338,6 +5384,7 @@ struct kagutin_reply kagutin_flush(const uint8_t *log, size_t log_size, const ui
 struct kagutin_reply kagutin_format(uint8_t *log, size_t log_size, uint8_t *area, size_t area_size, uint8_t *batch,
         size_t batch_size)
 {
+    ASK_BUFFERS(kagutin_reply, {log, log_size}, {area, area_size}, {batch, batch_size})
     struct answers__Reply r = kagutin__kagutin_format((struct slice_mut_u8){log, log_size}, (struct slice_mut_u8){area,
             area_size}, (struct slice_mut_u8){batch, batch_size});
 
@@ -5347,6 +5394,8 @@ struct kagutin_reply kagutin_format(uint8_t *log, size_t log_size, uint8_t *area
 struct kagutin_reply kagutin_open(uint8_t *log, size_t log_size, uint8_t *area, size_t area_size, uint8_t *state,
         size_t state_size, uint8_t *newest, size_t newest_size, uint8_t *batch, size_t batch_size)
 {
+    ASK_BUFFERS(kagutin_reply, {log, log_size}, {area, area_size}, {state, state_size}, {newest, newest_size}, {batch,
+            batch_size})
     struct answers__Reply r = kagutin__kagutin_open((struct slice_mut_u8){log, log_size}, (struct slice_mut_u8){area, area_size},
             (struct slice_mut_u8){state, state_size}, (struct slice_mut_u8){newest, newest_size}, (struct slice_mut_u8){batch,
             batch_size});
@@ -5358,6 +5407,8 @@ struct kagutin_reply kagutin_read(const uint8_t *log, size_t log_size, const uin
         const uint8_t *state, size_t state_size, const uint8_t *newest, size_t newest_size, uint8_t *block, size_t block_size,
         uint64_t writer, uint64_t home)
 {
+    ASK_BUFFERS(kagutin_reply, {log, log_size}, {area, area_size}, {state, state_size}, {newest, newest_size}, {block,
+            block_size})
     struct answers__Reply r = kagutin__kagutin_read((struct slice_u8){log, log_size}, (struct slice_u8){area, area_size},
             (struct slice_u8){state, state_size}, (struct slice_u8){newest, newest_size}, (struct slice_mut_u8){block,
             block_size}, writer, home);
@@ -5368,6 +5419,7 @@ struct kagutin_reply kagutin_read(const uint8_t *log, size_t log_size, const uin
 struct kagutin_reply kagutin_reserve(const uint8_t *log, size_t log_size, const uint8_t *area, size_t area_size, uint8_t *state,
         size_t state_size, uint64_t writer, uint64_t n)
 {
+    ASK_BUFFERS(kagutin_reply, {log, log_size}, {area, area_size}, {state, state_size})
     struct answers__Reply r = kagutin__kagutin_reserve((struct slice_u8){log, log_size}, (struct slice_u8){area, area_size},
             (struct slice_mut_u8){state, state_size}, writer, n);
 
@@ -5378,6 +5430,8 @@ struct kagutin_reply kagutin_revise(const uint8_t *log, size_t log_size, const u
         const uint8_t *state, size_t state_size, const uint8_t *newest, size_t newest_size, uint8_t *blocks, size_t blocks_size,
         uint64_t writer, uint64_t home)
 {
+    ASK_BUFFERS(kagutin_reply, {log, log_size}, {area, area_size}, {state, state_size}, {newest, newest_size}, {blocks,
+            blocks_size})
     struct answers__Reply r = kagutin__kagutin_revise((struct slice_u8){log, log_size}, (struct slice_u8){area, area_size},
             (struct slice_u8){state, state_size}, (struct slice_u8){newest, newest_size}, (struct slice_mut_u8){blocks,
             blocks_size}, writer, home);
@@ -5388,6 +5442,7 @@ struct kagutin_reply kagutin_revise(const uint8_t *log, size_t log_size, const u
 struct kagutin_reply kagutin_settle(const uint8_t *log, size_t log_size, uint8_t *area, size_t area_size, uint8_t *state,
         size_t state_size, uint8_t *batch, size_t batch_size)
 {
+    ASK_BUFFERS(kagutin_reply, {log, log_size}, {area, area_size}, {state, state_size}, {batch, batch_size})
     struct answers__Reply r = kagutin__kagutin_settle((struct slice_u8){log, log_size}, (struct slice_mut_u8){area, area_size},
             (struct slice_mut_u8){state, state_size}, (struct slice_mut_u8){batch, batch_size});
 
@@ -5397,6 +5452,7 @@ struct kagutin_reply kagutin_settle(const uint8_t *log, size_t log_size, uint8_t
 struct kagutin_reply kagutin_step_round(const uint8_t *log, size_t log_size, uint8_t *area, size_t area_size, uint8_t *state,
         size_t state_size, uint8_t *batch, size_t batch_size, uint64_t homes)
 {
+    ASK_BUFFERS(kagutin_reply, {log, log_size}, {area, area_size}, {state, state_size}, {batch, batch_size})
     struct answers__Reply r = kagutin__kagutin_step_round((struct slice_u8){log, log_size}, (struct slice_mut_u8){area,
             area_size}, (struct slice_mut_u8){state, state_size}, (struct slice_mut_u8){batch, batch_size}, homes);
 
@@ -5407,6 +5463,7 @@ struct kagutin_reply kagutin_store(uint8_t *log, size_t log_size, const uint8_t 
         size_t state_size, const uint8_t *block, size_t block_size, uint8_t *batch, size_t batch_size, uint64_t writer,
         uint64_t home)
 {
+    ASK_BUFFERS(kagutin_reply, {log, log_size}, {area, area_size}, {state, state_size}, {block, block_size}, {batch, batch_size})
     struct answers__Reply r = kagutin__kagutin_store((struct slice_mut_u8){log, log_size}, (struct slice_u8){area, area_size},
             (struct slice_mut_u8){state, state_size}, (struct slice_u8){block, block_size}, (struct slice_mut_u8){batch,
             batch_size}, writer, home);
@@ -5418,6 +5475,8 @@ struct kagutin_reply kagutin_transact(uint8_t *log, size_t log_size, const uint8
         size_t state_size, uint8_t *newest, size_t newest_size, const uint8_t *blocks, size_t blocks_size, uint8_t *batch,
         size_t batch_size, uint64_t writer, uint64_t home)
 {
+    ASK_BUFFERS(kagutin_reply, {log, log_size}, {area, area_size}, {state, state_size}, {newest, newest_size}, {blocks,
+            blocks_size}, {batch, batch_size})
     struct answers__Reply r = kagutin__kagutin_transact((struct slice_mut_u8){log, log_size}, (struct slice_u8){area, area_size},
             (struct slice_mut_u8){state, state_size}, (struct slice_mut_u8){newest, newest_size}, (struct slice_u8){blocks,
             blocks_size}, (struct slice_mut_u8){batch, batch_size}, writer, home);
@@ -5428,6 +5487,8 @@ struct kagutin_reply kagutin_transact(uint8_t *log, size_t log_size, const uint8
 struct kagutin_reply kagutin_trim(uint8_t *log, size_t log_size, const uint8_t *area, size_t area_size, uint8_t *state,
         size_t state_size, uint8_t *newest, size_t newest_size, uint8_t *batch, size_t batch_size)
 {
+    ASK_BUFFERS(kagutin_reply, {log, log_size}, {area, area_size}, {state, state_size}, {newest, newest_size}, {batch,
+            batch_size})
     struct answers__Reply r = kagutin__kagutin_trim((struct slice_mut_u8){log, log_size}, (struct slice_u8){area, area_size},
             (struct slice_mut_u8){state, state_size}, (struct slice_mut_u8){newest, newest_size}, (struct slice_mut_u8){batch,
             batch_size});
@@ -5438,6 +5499,7 @@ struct kagutin_reply kagutin_trim(uint8_t *log, size_t log_size, const uint8_t *
 struct kagutin_places kagutin_usage(const uint8_t *log, size_t log_size, const uint8_t *area, size_t area_size,
         const uint8_t *state, size_t state_size)
 {
+    ASK_BUFFERS(kagutin_places, {log, log_size}, {area, area_size}, {state, state_size})
     struct model__Usage r = kagutin__kagutin_usage((struct slice_u8){log, log_size}, (struct slice_u8){area, area_size},
             (struct slice_u8){state, state_size});
 

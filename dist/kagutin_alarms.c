@@ -75,6 +75,43 @@ struct array_u8_64 {
 #define UNROLL
 #endif
 
+/* With -DKAGUTIN_CHECK_BUFFERS every call answers 63 (KAGUTIN_BAD_BUFFERS), with zeros in all other fields, if a lent pointer is null or
+   two lent buffers share a byte. Without it nothing is asked. */
+#ifdef KAGUTIN_CHECK_BUFFERS
+struct lent {
+    const void *ptr;
+    size_t size;
+};
+
+static bool are_apart(const struct lent *lent, size_t count)
+{
+    size_t i, j;
+
+    for (i = 0; i < count; i++) {
+        uintptr_t a = (uintptr_t)lent[i].ptr;
+
+        if (lent[i].ptr == NULL || lent[i].size > UINTPTR_MAX - a)
+            return false;
+        for (j = 0; j < i; j++) {
+            uintptr_t b = (uintptr_t)lent[j].ptr;
+
+            if (lent[i].size != 0 && lent[j].size != 0 && a < b + lent[j].size && b < a + lent[i].size)
+                return false;
+        }
+    }
+    return true;
+}
+
+#define ASK_BUFFERS(result, ...) \
+    do { \
+        const struct lent all_lent[] = {__VA_ARGS__}; \
+        if (!are_apart(all_lent, sizeof all_lent / sizeof all_lent[0])) \
+            return (struct result){.code = 63u}; \
+    } while (0);
+#else
+#define ASK_BUFFERS(result, ...)
+#endif
+
 /* The number that 2 bytes make, lowest byte first. */
 static inline uint64_t load_2(const uint8_t *p)
 {
@@ -501,6 +538,8 @@ struct kagutin_reply kagutin_alarm_arrive(uint8_t *log, size_t log_size, const u
         size_t state_size, uint8_t *newest, size_t newest_size, uint8_t *batch, size_t batch_size, uint64_t writer,
         uint16_t identity, uint64_t class, uint32_t second)
 {
+    ASK_BUFFERS(kagutin_reply, {log, log_size}, {area, area_size}, {state, state_size}, {newest, newest_size}, {batch,
+            batch_size})
     struct answers__Reply r = alarm_calls__kagutin_alarm_arrive((struct slice_mut_u8){log, log_size}, (struct slice_u8){area,
             area_size}, (struct slice_mut_u8){state, state_size}, (struct slice_mut_u8){newest, newest_size},
             (struct slice_mut_u8){batch, batch_size}, writer, identity, class, second);
@@ -512,6 +551,8 @@ struct kagutin_reply kagutin_alarm_clear(uint8_t *log, size_t log_size, const ui
         size_t state_size, uint8_t *newest, size_t newest_size, uint8_t *batch, size_t batch_size, uint64_t writer,
         uint16_t identity)
 {
+    ASK_BUFFERS(kagutin_reply, {log, log_size}, {area, area_size}, {state, state_size}, {newest, newest_size}, {batch,
+            batch_size})
     struct answers__Reply r = alarm_calls__kagutin_alarm_clear((struct slice_mut_u8){log, log_size}, (struct slice_u8){area,
             area_size}, (struct slice_mut_u8){state, state_size}, (struct slice_mut_u8){newest, newest_size},
             (struct slice_mut_u8){batch, batch_size}, writer, identity);
@@ -522,6 +563,7 @@ struct kagutin_reply kagutin_alarm_clear(uint8_t *log, size_t log_size, const ui
 struct kagutin_alarm kagutin_alarm_gravest(const uint8_t *log, size_t log_size, const uint8_t *area, size_t area_size,
         const uint8_t *state, size_t state_size, const uint8_t *newest, size_t newest_size, uint64_t writer)
 {
+    ASK_BUFFERS(kagutin_alarm, {log, log_size}, {area, area_size}, {state, state_size}, {newest, newest_size})
     struct alarm_calls__Gravest r = alarm_calls__kagutin_alarm_gravest((struct slice_u8){log, log_size}, (struct slice_u8){area,
             area_size}, (struct slice_u8){state, state_size}, (struct slice_u8){newest, newest_size}, writer);
 

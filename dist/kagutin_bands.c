@@ -77,6 +77,43 @@ struct bands__judging__Verdict {
 #define WHOLE_WORDS 0
 #endif
 
+/* With -DKAGUTIN_CHECK_BUFFERS every call answers 63 (KAGUTIN_BAD_BUFFERS), with zeros in all other fields, if a lent pointer is null or
+   two lent buffers share a byte. Without it nothing is asked. */
+#ifdef KAGUTIN_CHECK_BUFFERS
+struct lent {
+    const void *ptr;
+    size_t size;
+};
+
+static bool are_apart(const struct lent *lent, size_t count)
+{
+    size_t i, j;
+
+    for (i = 0; i < count; i++) {
+        uintptr_t a = (uintptr_t)lent[i].ptr;
+
+        if (lent[i].ptr == NULL || lent[i].size > UINTPTR_MAX - a)
+            return false;
+        for (j = 0; j < i; j++) {
+            uintptr_t b = (uintptr_t)lent[j].ptr;
+
+            if (lent[i].size != 0 && lent[j].size != 0 && a < b + lent[j].size && b < a + lent[i].size)
+                return false;
+        }
+    }
+    return true;
+}
+
+#define ASK_BUFFERS(result, ...) \
+    do { \
+        const struct lent all_lent[] = {__VA_ARGS__}; \
+        if (!are_apart(all_lent, sizeof all_lent / sizeof all_lent[0])) \
+            return (struct result){.code = 63u}; \
+    } while (0);
+#else
+#define ASK_BUFFERS(result, ...)
+#endif
+
 /* The number that 2 bytes make, lowest byte first. */
 static inline uint64_t load_2(const uint8_t *p)
 {
@@ -525,6 +562,7 @@ static inline struct answers__Reply band_calls__kagutin_bands_set(struct slice_m
 struct kagutin_band kagutin_bands_look_up(const uint8_t *log, size_t log_size, const uint8_t *area, size_t area_size,
         const uint8_t *state, size_t state_size, const uint8_t *newest, size_t newest_size, uint64_t writer, uint64_t mm)
 {
+    ASK_BUFFERS(kagutin_band, {log, log_size}, {area, area_size}, {state, state_size}, {newest, newest_size})
     struct band_calls__Band r = band_calls__kagutin_bands_look_up((struct slice_u8){log, log_size}, (struct slice_u8){area,
             area_size}, (struct slice_u8){state, state_size}, (struct slice_u8){newest, newest_size}, writer, mm);
 
@@ -535,6 +573,8 @@ struct kagutin_reply kagutin_bands_set(uint8_t *log, size_t log_size, const uint
         size_t state_size, uint8_t *newest, size_t newest_size, uint8_t *batch, size_t batch_size, const uint8_t *rows,
         size_t rows_size, uint64_t writer)
 {
+    ASK_BUFFERS(kagutin_reply, {log, log_size}, {area, area_size}, {state, state_size}, {newest, newest_size}, {batch,
+            batch_size}, {rows, rows_size})
     struct answers__Reply r = band_calls__kagutin_bands_set((struct slice_mut_u8){log, log_size}, (struct slice_u8){area,
             area_size}, (struct slice_mut_u8){state, state_size}, (struct slice_mut_u8){newest, newest_size},
             (struct slice_mut_u8){batch, batch_size}, (struct slice_u8){rows, rows_size}, writer);

@@ -63,6 +63,43 @@ struct gauges__Comparison {
 #define WHOLE_WORDS 0
 #endif
 
+/* With -DKAGUTIN_CHECK_BUFFERS every call answers 63 (KAGUTIN_BAD_BUFFERS), with zeros in all other fields, if a lent pointer is null or
+   two lent buffers share a byte. Without it nothing is asked. */
+#ifdef KAGUTIN_CHECK_BUFFERS
+struct lent {
+    const void *ptr;
+    size_t size;
+};
+
+static bool are_apart(const struct lent *lent, size_t count)
+{
+    size_t i, j;
+
+    for (i = 0; i < count; i++) {
+        uintptr_t a = (uintptr_t)lent[i].ptr;
+
+        if (lent[i].ptr == NULL || lent[i].size > UINTPTR_MAX - a)
+            return false;
+        for (j = 0; j < i; j++) {
+            uintptr_t b = (uintptr_t)lent[j].ptr;
+
+            if (lent[i].size != 0 && lent[j].size != 0 && a < b + lent[j].size && b < a + lent[i].size)
+                return false;
+        }
+    }
+    return true;
+}
+
+#define ASK_BUFFERS(result, ...) \
+    do { \
+        const struct lent all_lent[] = {__VA_ARGS__}; \
+        if (!are_apart(all_lent, sizeof all_lent / sizeof all_lent[0])) \
+            return (struct result){.code = 63u}; \
+    } while (0);
+#else
+#define ASK_BUFFERS(result, ...)
+#endif
+
 /* Writes the low 2 bytes of a number, lowest byte first. */
 static inline void store_2(uint8_t *p, uint64_t v)
 {
@@ -242,6 +279,7 @@ static inline struct gauges__Comparison gauges__kagutin_compare_gauges(struct sl
 struct kagutin_comparison kagutin_compare_gauges(const uint8_t *first, size_t first_size, const uint8_t *second,
         size_t second_size, uint8_t *report, size_t report_size, uint16_t tolerance)
 {
+    ASK_BUFFERS(kagutin_comparison, {first, first_size}, {second, second_size}, {report, report_size})
     struct gauges__Comparison r = gauges__kagutin_compare_gauges((struct slice_u8){first, first_size}, (struct slice_u8){second,
             second_size}, (struct slice_mut_u8){report, report_size}, tolerance);
 

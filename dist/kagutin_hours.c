@@ -42,14 +42,20 @@ struct hours__Pump {
     bool running;
 };
 
-struct hour_calls__Figures {
+struct hour_calls__Hours {
     uint64_t code;
-    uint64_t first;
-    uint64_t second;
+    uint64_t starts;
+    uint64_t seconds;
 };
 
 struct array_u8_64 {
     uint8_t at[64];
+};
+
+struct hour_calls__Services {
+    uint64_t code;
+    uint64_t due;
+    uint64_t left;
 };
 
 struct hours__Due {
@@ -57,6 +63,42 @@ struct hours__Due {
     uint64_t left;
 };
 
+/* With -DKAGUTIN_CHECK_BUFFERS every call answers 63 (KAGUTIN_BAD_BUFFERS), with zeros in all other fields, if a lent pointer is null or
+   two lent buffers share a byte. Without it nothing is asked. */
+#ifdef KAGUTIN_CHECK_BUFFERS
+struct lent {
+    const void *ptr;
+    size_t size;
+};
+
+static bool are_apart(const struct lent *lent, size_t count)
+{
+    size_t i, j;
+
+    for (i = 0; i < count; i++) {
+        uintptr_t a = (uintptr_t)lent[i].ptr;
+
+        if (lent[i].ptr == NULL || lent[i].size > UINTPTR_MAX - a)
+            return false;
+        for (j = 0; j < i; j++) {
+            uintptr_t b = (uintptr_t)lent[j].ptr;
+
+            if (lent[i].size != 0 && lent[j].size != 0 && a < b + lent[j].size && b < a + lent[i].size)
+                return false;
+        }
+    }
+    return true;
+}
+
+#define ASK_BUFFERS(result, ...) \
+    do { \
+        const struct lent all_lent[] = {__VA_ARGS__}; \
+        if (!are_apart(all_lent, sizeof all_lent / sizeof all_lent[0])) \
+            return (struct result){.code = 63u}; \
+    } while (0);
+#else
+#define ASK_BUFFERS(result, ...)
+#endif
 
 static inline struct answers__Reply kagutin__kagutin_fetch(struct slice_u8 log, struct slice_u8 area, struct slice_u8 state,
         struct slice_u8 newest, struct slice_mut_u8 blocks, uint64_t writer, uint64_t home)
@@ -108,7 +150,7 @@ static inline struct hours__Pump hours__read(struct slice_u8 block)
 }
 
 /* Starts of a pump and the seconds of its finished runs. */
-static inline struct hour_calls__Figures hour_calls__kagutin_pump_hours(struct slice_u8 log, struct slice_u8 area,
+static inline struct hour_calls__Hours hour_calls__kagutin_pump_hours(struct slice_u8 log, struct slice_u8 area,
         struct slice_u8 state, struct slice_u8 newest, uint64_t writer, uint64_t pump)
 {
     struct array_u8_64 t7;
@@ -116,33 +158,33 @@ static inline struct hour_calls__Figures hour_calls__kagutin_pump_hours(struct s
     struct hours__Pump t9;
 
     if (7u < pump) {
-        return (struct hour_calls__Figures){.code = 14u, .first = 0u, .second = 0u};
+        return (struct hour_calls__Hours){.code = 14u, .starts = 0u, .seconds = 0u};
     }
     memset(&t7, 0u, sizeof t7);
     t8 = kagutin__kagutin_fetch(log, area, state, newest, (struct slice_mut_u8){t7.at, 64u}, writer, 16u + pump);
     if (t8.code != 0u) {
-        return (struct hour_calls__Figures){.code = t8.code, .first = 0u, .second = 0u};
+        return (struct hour_calls__Hours){.code = t8.code, .starts = 0u, .seconds = 0u};
     }
     t9 = hours__read((struct slice_u8){t7.at, 64u});
-    return (struct hour_calls__Figures){.code = 0u, .first = t9.starts, .second = t9.total};
+    return (struct hour_calls__Hours){.code = 0u, .starts = t9.starts, .seconds = t9.total};
 }
 
 /* Whole services due of a pump, one each `interval` seconds of finished runs, and the seconds left over. */
-static inline struct hour_calls__Figures hour_calls__kagutin_pump_services(struct slice_u8 log, struct slice_u8 area,
+static inline struct hour_calls__Services hour_calls__kagutin_pump_services(struct slice_u8 log, struct slice_u8 area,
         struct slice_u8 state, struct slice_u8 newest, uint64_t writer, uint64_t pump, uint64_t interval)
 {
-    struct hour_calls__Figures t8;
+    struct hour_calls__Hours t8;
     struct hours__Due t9;
 
     if (interval == 0u) {
-        return (struct hour_calls__Figures){.code = 14u, .first = 0u, .second = 0u};
+        return (struct hour_calls__Services){.code = 14u, .due = 0u, .left = 0u};
     }
     t8 = hour_calls__kagutin_pump_hours(log, area, state, newest, writer, pump);
     if (t8.code != 0u) {
-        return (struct hour_calls__Figures){.code = t8.code, .first = 0u, .second = 0u};
+        return (struct hour_calls__Services){.code = t8.code, .due = 0u, .left = 0u};
     }
-    t9 = (struct hours__Due){.services = t8.second / interval, .left = t8.second % interval};
-    return (struct hour_calls__Figures){.code = 0u, .first = t9.services, .second = t9.left};
+    t9 = (struct hours__Due){.services = t8.seconds / interval, .left = t8.seconds % interval};
+    return (struct hour_calls__Services){.code = 0u, .due = t9.services, .left = t9.left};
 }
 
 static inline struct answers__Reply kagutin__kagutin_revise(struct slice_u8 log, struct slice_u8 area, struct slice_u8 state,
@@ -353,29 +395,33 @@ static inline struct answers__Reply hour_calls__kagutin_pump_stop(struct slice_m
     return units__finish(log, area, state, newest, (struct slice_u8){t9.at, 64u}, batch, writer, t10, t12);
 }
 
-struct kagutin_figures kagutin_pump_hours(const uint8_t *log, size_t log_size, const uint8_t *area, size_t area_size,
+struct kagutin_hours kagutin_pump_hours(const uint8_t *log, size_t log_size, const uint8_t *area, size_t area_size,
         const uint8_t *state, size_t state_size, const uint8_t *newest, size_t newest_size, uint64_t writer, uint64_t pump)
 {
-    struct hour_calls__Figures r = hour_calls__kagutin_pump_hours((struct slice_u8){log, log_size}, (struct slice_u8){area,
+    ASK_BUFFERS(kagutin_hours, {log, log_size}, {area, area_size}, {state, state_size}, {newest, newest_size})
+    struct hour_calls__Hours r = hour_calls__kagutin_pump_hours((struct slice_u8){log, log_size}, (struct slice_u8){area,
             area_size}, (struct slice_u8){state, state_size}, (struct slice_u8){newest, newest_size}, writer, pump);
 
-    return (struct kagutin_figures){.code = r.code, .first = r.first, .second = r.second};
+    return (struct kagutin_hours){.code = r.code, .starts = r.starts, .seconds = r.seconds};
 }
 
-struct kagutin_figures kagutin_pump_services(const uint8_t *log, size_t log_size, const uint8_t *area, size_t area_size,
+struct kagutin_services kagutin_pump_services(const uint8_t *log, size_t log_size, const uint8_t *area, size_t area_size,
         const uint8_t *state, size_t state_size, const uint8_t *newest, size_t newest_size, uint64_t writer, uint64_t pump,
         uint64_t interval)
 {
-    struct hour_calls__Figures r = hour_calls__kagutin_pump_services((struct slice_u8){log, log_size}, (struct slice_u8){area,
+    ASK_BUFFERS(kagutin_services, {log, log_size}, {area, area_size}, {state, state_size}, {newest, newest_size})
+    struct hour_calls__Services r = hour_calls__kagutin_pump_services((struct slice_u8){log, log_size}, (struct slice_u8){area,
             area_size}, (struct slice_u8){state, state_size}, (struct slice_u8){newest, newest_size}, writer, pump, interval);
 
-    return (struct kagutin_figures){.code = r.code, .first = r.first, .second = r.second};
+    return (struct kagutin_services){.code = r.code, .due = r.due, .left = r.left};
 }
 
 struct kagutin_reply kagutin_pump_start(uint8_t *log, size_t log_size, const uint8_t *area, size_t area_size, uint8_t *state,
         size_t state_size, uint8_t *newest, size_t newest_size, uint8_t *batch, size_t batch_size, uint64_t writer, uint64_t pump,
         uint32_t second)
 {
+    ASK_BUFFERS(kagutin_reply, {log, log_size}, {area, area_size}, {state, state_size}, {newest, newest_size}, {batch,
+            batch_size})
     struct answers__Reply r = hour_calls__kagutin_pump_start((struct slice_mut_u8){log, log_size}, (struct slice_u8){area,
             area_size}, (struct slice_mut_u8){state, state_size}, (struct slice_mut_u8){newest, newest_size},
             (struct slice_mut_u8){batch, batch_size}, writer, pump, second);
@@ -387,6 +433,8 @@ struct kagutin_reply kagutin_pump_stop(uint8_t *log, size_t log_size, const uint
         size_t state_size, uint8_t *newest, size_t newest_size, uint8_t *batch, size_t batch_size, uint64_t writer, uint64_t pump,
         uint32_t second)
 {
+    ASK_BUFFERS(kagutin_reply, {log, log_size}, {area, area_size}, {state, state_size}, {newest, newest_size}, {batch,
+            batch_size})
     struct answers__Reply r = hour_calls__kagutin_pump_stop((struct slice_mut_u8){log, log_size}, (struct slice_u8){area,
             area_size}, (struct slice_mut_u8){state, state_size}, (struct slice_mut_u8){newest, newest_size},
             (struct slice_mut_u8){batch, batch_size}, writer, pump, second);

@@ -40,8 +40,15 @@
  *
  * Every call finishes. A refused call changes no lent byte, and its reply holds
  * the answer and zeros. Bytes of the batch past reply.size stay as they were.
- * Pointers must not be null, also with length 0, and lent memory must not
- * overlap. All that passes from call to call is in the lent memory.
+ * All that passes from call to call is in the lent memory.
+ *
+ * Pointers must not be null, also with length 0, and no two lent buffers may
+ * share a byte. No call asks this by itself: if it is not so, nothing that is
+ * proved holds, and memory outside the buffers may be read and written. While
+ * a program is being made, build the library with -DKAGUTIN_CHECK_BUFFERS (all
+ * the files of dist/ have it): every call then asks it first, and answers 63
+ * with zeros and touches nothing if it is not so. Lengths that are longer than
+ * the memory behind the pointer nothing can find out.
  */
 #ifndef KAGUTIN_H
 #define KAGUTIN_H
@@ -53,7 +60,12 @@
 extern "C" {
 #endif
 
+/* Of this header; kagutin_version() of kagutin_store.h tells that of the object that was linked. */
+#define KAGUTIN_VERSION_MAJOR 1
+#define KAGUTIN_VERSION_MINOR 0
+#define KAGUTIN_VERSION_PATCH 0
 #define KAGUTIN_VERSION "1.0.0"
+#define KAGUTIN_VERSION_NUMBER (KAGUTIN_VERSION_MAJOR * 10000 + KAGUTIN_VERSION_MINOR * 100 + KAGUTIN_VERSION_PATCH)
 
 /* Sizes in bytes. */
 #define KAGUTIN_BLOCK_SIZE 64
@@ -83,24 +95,36 @@ extern "C" {
 #define KAGUTIN_FLUSH_BATCH (KAGUTIN_GW_SIZE + KAGUTIN_FN_SIZE)
 #define KAGUTIN_TRIM_BATCH (KAGUTIN_KW_SIZE + KAGUTIN_FN_SIZE)
 
-/* Answers. A call asks its questions in the order 1 to 5, 19, 20, 6 to 8, 17, 18, 21, 10, 9. */
+/*
+ * Answers. A call asks its questions in the order 1 to 5, 19, 20, 6 to 8, 17, 18, 21, 10, 9. 11 to 16, 24 and 25
+ * are given by what stands above the store: kagutin_bands.h, kagutin_hours.h, kagutin_alarms.h.
+ */
 enum kagutin_answer {
     KAGUTIN_DONE = 0,
-    KAGUTIN_BAD_LENGTH = 1,   /* a lent length is wrong */
-    KAGUTIN_BAD_STATE = 2,    /* the state is out of order, or of other areas */
-    KAGUTIN_BAD_HEADER = 3,   /* open: the log's header is not one */
-    KAGUTIN_BAD_WRITER = 4,   /* writer above 7 */
-    KAGUTIN_BAD_HOME = 5,     /* home not below D */
-    KAGUTIN_NOT_IDLE = 6,     /* begin, reserve: the writer has one open */
-    KAGUTIN_NOT_OPEN = 7,     /* store, commit, abort: it has none open */
-    KAGUTIN_FULL = 8,         /* no place left in the log for an entry */
-    KAGUTIN_SHORT_BATCH = 9,  /* the batch cannot hold what the call writes */
-    KAGUTIN_WORN_OUT = 10,    /* open, trim: the new start would exceed 2^47 */
-    KAGUTIN_NO_PLACES = 17,   /* reserve: n is 0 or more than are free */
-    KAGUTIN_PROMISED = 18,    /* flush: it would leave too few for promises */
-    KAGUTIN_NO_STORE = 19,    /* store: the writer has no right to store to this home */
-    KAGUTIN_NO_READ = 20,     /* read: the writer has no right to read this home */
-    KAGUTIN_WRONG_ROUND = 21  /* settle, begin_round: a round is under way; step_round: none is, or 0 homes */
+    KAGUTIN_BAD_LENGTH = 1,        /* a lent length is wrong */
+    KAGUTIN_BAD_STATE = 2,         /* the state is out of order, or of other areas */
+    KAGUTIN_BAD_HEADER = 3,        /* open: the log's header is not one */
+    KAGUTIN_BAD_WRITER = 4,        /* writer above 7 */
+    KAGUTIN_BAD_HOME = 5,          /* home not below D */
+    KAGUTIN_NOT_IDLE = 6,          /* begin, reserve: the writer has one open */
+    KAGUTIN_NOT_OPEN = 7,          /* store, commit, abort: it has none open */
+    KAGUTIN_FULL = 8,              /* no place left in the log for an entry */
+    KAGUTIN_SHORT_BATCH = 9,       /* the batch cannot hold what the call writes */
+    KAGUTIN_WORN_OUT = 10,         /* open, trim: the new start would exceed 2^47 */
+    KAGUTIN_BAD_BANDS = 11,        /* bands_set: a bad strip or row; bands_look_up: above 9,999 mm, or no table */
+    KAGUTIN_BAND_GAP = 12,         /* bands_set: a millimetre in no row */
+    KAGUTIN_BAND_OVERLAP = 13,     /* bands_set: a millimetre in two rows or more */
+    KAGUTIN_BAD_PUMP = 14,         /* pump above 7, or interval 0 */
+    KAGUTIN_WRONG_PUMP_STATE = 15, /* pump_start while it runs, pump_stop while it does not */
+    KAGUTIN_BAD_SECOND = 16,       /* before the pump's last event, or starts or total past 32 bits */
+    KAGUTIN_NO_PLACES = 17,        /* reserve: n is 0 or more than are free */
+    KAGUTIN_PROMISED = 18,         /* flush: it would leave too few for promises */
+    KAGUTIN_STORE_DENIED = 19,     /* store: the writer has no right to store to this home */
+    KAGUTIN_READ_DENIED = 20,      /* read: the writer has no right to read this home */
+    KAGUTIN_WRONG_ROUND = 21,      /* settle, begin_round: a round is under way; step_round: none is, or 0 homes */
+    KAGUTIN_BAD_ALARM = 24,        /* class out of range, an arrival already open, a clearing not open */
+    KAGUTIN_ALARMS_FULL = 25,      /* an arrival while 48 are open */
+    KAGUTIN_BAD_BUFFERS = 63       /* lent buffers overlap or a pointer is null; only in builds with KAGUTIN_CHECK_BUFFERS */
 };
 
 struct kagutin_reply {
@@ -182,20 +206,20 @@ static inline const char *kagutin_answer_text(uint64_t code)
     case KAGUTIN_FULL: return "the log is full";
     case KAGUTIN_SHORT_BATCH: return "the batch is too short";
     case KAGUTIN_WORN_OUT: return "the new start would exceed 2^47";
+    case KAGUTIN_BAD_BANDS: return "no table of depth bands, a bad row, or a depth above 9,999 mm";
+    case KAGUTIN_BAND_GAP: return "a millimetre lies in no row";
+    case KAGUTIN_BAND_OVERLAP: return "a millimetre lies in two rows or more";
+    case KAGUTIN_BAD_PUMP: return "no such pump, or an interval of 0";
+    case KAGUTIN_WRONG_PUMP_STATE: return "a start while the pump runs, or a stop while it does not";
+    case KAGUTIN_BAD_SECOND: return "a second before the pump's last event, or a number past 32 bits";
     case KAGUTIN_NO_PLACES: return "not so many places are free";
     case KAGUTIN_PROMISED: return "too few places would be left for promises";
-    case KAGUTIN_NO_STORE: return "no right to store to this home";
-    case KAGUTIN_NO_READ: return "no right to read this home";
+    case KAGUTIN_STORE_DENIED: return "no right to store to this home";
+    case KAGUTIN_READ_DENIED: return "no right to read this home";
     case KAGUTIN_WRONG_ROUND: return "a round of settling is under way, or none is";
-    /* what stands above the store: kagutin_bands.h, kagutin_hours.h, kagutin_alarms.h */
-    case 11: return "no table of depth bands, a bad row, or a depth above 9,999 mm";
-    case 12: return "a millimetre lies in no row";
-    case 13: return "a millimetre lies in two rows or more";
-    case 14: return "no such pump, or an interval of 0";
-    case 15: return "a start while the pump runs, or a stop while it does not";
-    case 16: return "a second before the pump's last event, or a number past 32 bits";
-    case 24: return "a class out of range, an alarm already open, or one that is not";
-    case 25: return "48 alarms are open";
+    case KAGUTIN_BAD_ALARM: return "a class out of range, an alarm already open, or one that is not";
+    case KAGUTIN_ALARMS_FULL: return "48 alarms are open";
+    case KAGUTIN_BAD_BUFFERS: return "lent buffers overlap or a pointer is null";
     default: return "not an answer";
     }
 }

@@ -29,13 +29,9 @@ extern "C" {
 /* The most that an event writes: one group. */
 #define KAGUTIN_ALARM_BATCH KAGUTIN_GW_SIZE
 
-/* Answers beyond those of kagutin.h. */
-#define KAGUTIN_BAD_ALARM 24   /* class out of range, an arrival already open, a clearing not open */
-#define KAGUTIN_ALARMS_FULL 25 /* an arrival while 48 are open */
-
 /* The answer, and the alarm; three zeros if none is open, and if not done. */
 struct kagutin_alarm {
-    uint64_t code;
+    uint64_t code; /* one of enum kagutin_answer */
     uint64_t identity;
     uint64_t alarm_class;
     uint64_t second;

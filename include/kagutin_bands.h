@@ -29,14 +29,9 @@ extern "C" {
 /* The most that setting a table writes: one group. */
 #define KAGUTIN_BANDS_BATCH KAGUTIN_GW_SIZE
 
-/* Answers beyond those of kagutin.h. */
-#define KAGUTIN_BAD_BANDS 11    /* set: a bad strip or row; look_up: above 9,999 mm, or no table */
-#define KAGUTIN_BAND_GAP 12     /* set: a millimetre in no row */
-#define KAGUTIN_BAND_OVERLAP 13 /* set: a millimetre in two rows or more */
-
 /* The answer, and the row; zeros if not done. */
 struct kagutin_band {
-    uint64_t code;
+    uint64_t code; /* one of enum kagutin_answer */
     uint64_t from;
     uint64_t to;
     uint64_t pumps;

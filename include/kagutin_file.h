@@ -13,7 +13,9 @@
  * A file is open in one place at a time: the lock belongs to the open file,
  * not to the process. After a failed write or sync, or if the file's size has
  * changed, the file is of no more use; close it, open it anew and open the
- * store on it again. Functions that return false leave a message.
+ * store on it again. What the failed sync has left in the cache is decided
+ * then: opening writes the whole image back as it reads it, and syncs.
+ * Functions that return false leave a message.
  */
 #ifndef KAGUTIN_FILE_H
 #define KAGUTIN_FILE_H
@@ -42,8 +44,9 @@ struct kgt_file {
 bool kgt_file_create(struct kgt_file *file, const char *path, size_t groups, size_t homes);
 
 /*
- * Opens an image; its groups and homes are then known. Refuses a file that is
- * read-only, in use, no image, or of another size than its header says.
+ * Opens an image; its groups and homes are then known, and the disk holds what
+ * is read from it. Refuses a file that is read-only, in use, no image, of
+ * another size than its header says, or that cannot be written back.
  */
 bool kgt_file_open(struct kgt_file *file, const char *path);
 

@@ -8,7 +8,8 @@
  * needs no more than that (docs/DRIVERS.md). The header does: its first twelve
  * bytes stand twice in the place of 64 bytes that it has, at 0 and at 32, each
  * time followed by their complements. A write goes to the older copy; loading
- * takes the whole one with the higher start.
+ * takes the whole one with the higher start. A format wipes the older copy
+ * first, so that a cut inside it leaves the store as it was, or none.
  */
 #ifndef KAGUTIN_FRAM_H
 #define KAGUTIN_FRAM_H
@@ -22,7 +23,8 @@ extern "C" {
 struct kgt_fram {
     /*
      * One selection of the chip: sends the command, then sends out or reads in,
-     * whichever is not null. Returns 0, or the board's error.
+     * whichever is not null. Returns 0, or the board's error; also then no
+     * byte reaches the chip after it has returned.
      */
     int (*transfer)(void *bus, const uint8_t *command, size_t command_size, const uint8_t *out, uint8_t *in,
                     size_t size);

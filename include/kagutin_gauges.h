@@ -7,7 +7,10 @@
  * is a strip of 3-byte lines: the minute, then a byte for the kind.
  *
  * The call finishes for any bytes and lengths, and uses no heap. Pointers must
- * not be null, also with length 0, and lent memory must not overlap.
+ * not be null, also with length 0, and no two lent buffers may share a byte, or
+ * else memory outside them may be read and written. Built with
+ * -DKAGUTIN_CHECK_BUFFERS, the call asks this first, and answers 63 with counts
+ * of 0 if it is not so.
  */
 #ifndef KAGUTIN_GAUGES_H
 #define KAGUTIN_GAUGES_H

@@ -23,16 +23,17 @@ extern "C" {
 /* The most that an event writes: one group. */
 #define KAGUTIN_PUMP_BATCH KAGUTIN_GW_SIZE
 
-/* Answers beyond those of kagutin.h. */
-#define KAGUTIN_BAD_PUMP 14   /* pump above 7, or interval 0 */
-#define KAGUTIN_WRONG_TURN 15 /* a start while it runs, a stop while it does not */
-#define KAGUTIN_BAD_SECOND 16 /* before the pump's last event, or starts or total past 32 bits */
+/* Zeros but for the answer if not done. */
+struct kagutin_hours {
+    uint64_t code; /* one of enum kagutin_answer */
+    uint64_t starts;
+    uint64_t seconds; /* of the finished runs */
+};
 
-/* The answer and two figures; zeros if not done. */
-struct kagutin_figures {
-    uint64_t code;
-    uint64_t first;
-    uint64_t second;
+struct kagutin_services {
+    uint64_t code; /* one of enum kagutin_answer */
+    uint64_t due;  /* whole services, one each interval seconds of finished runs */
+    uint64_t left; /* seconds left over, below the interval */
 };
 
 /*
@@ -51,21 +52,13 @@ struct kagutin_reply kagutin_pump_stop(
     uint8_t *state, size_t state_size, uint8_t *newest, size_t newest_size,
     uint8_t *batch, size_t batch_size, uint64_t writer, uint64_t pump, uint32_t second);
 
-/*
- * first: starts; second: seconds of the finished runs. Changes nothing.
- * Answers 14, 1, 2, 4, 5, 20.
- */
-struct kagutin_figures kagutin_pump_hours(
+/* Change nothing. Answers 14, 1, 2, 4, 5, 20. */
+struct kagutin_hours kagutin_pump_hours(
     const uint8_t *log, size_t log_size, const uint8_t *area, size_t area_size,
     const uint8_t *state, size_t state_size,
     const uint8_t *newest, size_t newest_size, uint64_t writer, uint64_t pump);
 
-/*
- * first: whole services due, one each interval seconds of finished runs;
- * second: seconds left over, below the interval. Changes nothing.
- * Answers 14, 1, 2, 4, 5, 20.
- */
-struct kagutin_figures kagutin_pump_services(
+struct kagutin_services kagutin_pump_services(
     const uint8_t *log, size_t log_size, const uint8_t *area, size_t area_size,
     const uint8_t *state, size_t state_size,
     const uint8_t *newest, size_t newest_size, uint64_t writer, uint64_t pump,

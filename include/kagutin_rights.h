@@ -57,14 +57,19 @@ bool kgt_rights_may_read(const struct kgt_rights *list, uint64_t writer, uint64_
 
 /*
  * Commits a list as one transaction of writer 0, which must be idle; no power
- * cut leaves a part of it. figure: the ticket, for kgt_sync. Answers 5 (fewer
- * than 12 homes), 6, 17 (no room for four entries), 64, 65, 66; nothing has
- * changed then.
+ * cut leaves a part of it. It is durable once kgt_sync's mark reaches the ticket.
+ * Makes room in a full log as kgt_commit does. Answers 5 (fewer than 12 homes),
+ * 6, 8 (no room for four entries), 10, 64, 65, 66, 67; but for 65 nothing has
+ * changed then, and after 65 an opening tells.
  */
-struct kagutin_reply kgt_set_rights(struct kagutin *store, const struct kgt_rights *list);
+struct kgt_ticket kgt_set_rights(struct kagutin *store, const struct kgt_rights *list);
 
-/* Gives the committed list, as a writer without a transaction of its own reads it. Answers 4, 5, 64, 65, 66. */
-struct kagutin_reply kgt_get_rights(struct kagutin *store, uint64_t writer, struct kgt_rights *list);
+/*
+ * Gives the list as the writer sees it: the committed one, but for what an open
+ * transaction of writer 0 has stored there. All of one moment. Answers 4, 5, 64,
+ * 65, 66, 67; the list is then as it was.
+ */
+struct kgt_reply kgt_get_rights(struct kagutin *store, uint64_t writer, struct kgt_rights *list);
 
 #ifdef __cplusplus
 }

@@ -6,21 +6,40 @@
  *     static uint8_t memory[KGT_MEMORY_SIZE(16, 32)];
  *     static struct kagutin store;
  *
- *     kgt_init(&store, memory, sizeof memory, 16, 32, driver);
- *     kgt_open(&store);                          after every start
- *     kgt_begin(&store, 0);                      writer 0
- *     kgt_store(&store, 0, 7, block);              home 7
- *     ticket = kgt_commit(&store, 0).figure;
- *     durable = kgt_sync(&store).figure >= ticket;
+ *     static bool start(struct kgt_driver driver)    after every start of the device
+ *     {
+ *         return kgt_init(&store, memory, sizeof memory, 16, 32, driver).code == KAGUTIN_DONE
+ *             && kgt_open(&store).code == KAGUTIN_DONE;
+ *     }
  *
- * Tasks. Every call but kgt_init and kgt_set_lock takes the lock, if one is
- * set, and gives it back before it returns; without a lock all calls must come
- * from one task. Begin, reserve, store, commit, abort, read, sync, maintain and
- * usage may come from any task at any time; a writer belongs to one task at a
- * time. Format and open come from one task before the others start, or after a
- * failure. No call may come from an interrupt or a signal handler, or from a
- * driver's function: hand the block to a task. A call holds the lock while its
- * driver writes, so the lock should pass priority on.
+ *     static bool keep(const uint8_t *block)         writer 0, home 7; true: no power cut takes it
+ *     {
+ *         if (kgt_begin(&store, 0).code != KAGUTIN_DONE)
+ *             return false;
+ *         if (kgt_store(&store, 0, 7, block).code == KAGUTIN_DONE && kgt_commit_sync(&store, 0).code == KAGUTIN_DONE)
+ *             return true;
+ *         kgt_abort(&store, 0);                      gone, if it is still open
+ *         return false;
+ *     }
+ *
+ * Replies. Every call has code, 0 for done. Its other fields have one meaning
+ * each, and unless the call is done they promise nothing: no mark ever reaches
+ * the ticket, the mark reaches no ticket, more is false, numbers are
+ * KGT_NOT_TOLD. So `kgt_sync(&store).mark >= ticket` is true only of a commit
+ * that is durable (a commit of nothing has ticket 0, and nothing to lose).
+ *
+ * Tasks. Every call but kgt_init, kgt_set_lock and kgt_set_room takes the lock,
+ * if one is set, once, and gives it back before it returns; without a lock all
+ * calls must come from one task. Begin, reserve, store, commit, abort, read,
+ * sync, maintain and usage may come from any task at any time; a writer belongs
+ * to one task at a time. Format and open come from one task before the others
+ * start, or after a failure. No call may come from an interrupt or a signal
+ * handler, or from a driver's function: hand the block to a task. A call holds
+ * the lock while its driver writes, so the lock should pass priority on.
+ *
+ * Stack. By default a call that finds the log full settles it, on its caller's
+ * stack; kgt_set_room leaves that to the task that maintains. docs/DRIVERS.md
+ * has the sizes of both, by call.
  */
 #ifndef KAGUTIN_STORE_H
 #define KAGUTIN_STORE_H
@@ -47,13 +66,17 @@ enum kgt_landing { KGT_LANDS_WORDS, KGT_LANDS_BLOCKS };
 /*
  * A driver: three functions that return 0, or an error of the driver's own.
  *
- * load   copies lasting memory in. Everything it gives must be there after a
- *        power cut, and no earlier write may arrive later: a driver with a
- *        cache writes it back first.
- * write  writes at an offset of an area. Its bytes may arrive at any time up
- *        to the next fence, before or after other writes, in parts no smaller
- *        than the landing says.
- * fence  returns when all earlier writes are in lasting memory.
+ * load   first decides what lasting memory holds, then copies it in: all that it
+ *        gives is still there after a power cut, and no earlier write arrives
+ *        any more. A store opened again after a failure, without a cut, relies
+ *        on this alone. So before it reads, load waits for transfers under way
+ *        or calls them off, and writes a cache back or drops it.
+ * write  writes at an offset of an area; offsets and sizes are multiples of 8.
+ *        Its bytes may arrive at any time up to the next fence, before or after
+ *        other writes, in parts no smaller than the landing says; also if it
+ *        fails.
+ * fence  returns 0 when all earlier writes are in lasting memory. If it fails,
+ *        any of them may be.
  *
  * docs/DRIVERS.md says why this is enough, and what to do on other media.
  */
@@ -90,13 +113,56 @@ struct kgt_driver {
 /* ---- answers beyond those of kagutin.h ---- */
 
 enum kgt_answer {
-    KGT_CLOSED = 64,       /* the store has not been opened */
-    KGT_DRIVER_FAILED = 65, /* in this or an earlier call; figure: its error. Open again. */
-    KGT_LOCK_FAILED = 66   /* the lock was not given; nothing was done */
+    KGT_CLOSED = 64,        /* the store has not been opened */
+    KGT_DRIVER_FAILED = 65, /* in this or an earlier call. Open again. */
+    KGT_LOCK_FAILED = 66,   /* the lock was not given; nothing was done */
+    KGT_NOT_INIT = 67       /* kgt_init was not called, or was refused */
 };
 
 /* Any answer in words. */
 const char *kgt_answer_text(uint64_t code);
+
+/* KAGUTIN_VERSION as it was when the object was compiled. */
+const char *kagutin_version(void);
+
+/* ---- replies ---- */
+
+/* A number that a call tells only if it is done; no done call tells this one. */
+#define KGT_NOT_TOLD UINT64_MAX
+
+/* The holder where no open transaction holds the log, and in every reply but those of a full log. */
+#define KGT_NO_HOLDER KAGUTIN_WRITERS
+
+struct kgt_reply {
+    uint64_t code;   /* 0: done */
+    uint64_t holder; /* 8 and 17: the writer whose open transaction holds the log's oldest groups */
+    int error;       /* 65: the driver's; else 0 */
+};
+
+struct kgt_opened {
+    uint64_t code;
+    uint64_t commits; /* transactions brought back from the log; KGT_NOT_TOLD unless done */
+    int error;
+};
+
+struct kgt_ticket {
+    uint64_t code;
+    uint64_t ticket; /* the commit is durable once a mark is this or more; KGT_NOT_TOLD, which no mark reaches, if there is no commit */
+    uint64_t holder;
+    int error;
+};
+
+struct kgt_mark {
+    uint64_t code;
+    uint64_t mark; /* commits with this ticket or less are durable; 0 unless done */
+    int error;
+};
+
+struct kgt_progress {
+    uint64_t code;
+    bool more; /* there is more to do; false unless done */
+    int error;
+};
 
 /* ---- running batches ---- */
 
@@ -116,7 +182,9 @@ bool kgt_read_record(const uint8_t *batch, size_t size, size_t groups, size_t ho
  * Runs records on a driver. Where blocks do not land whole, a group's first
  * word, which holds its number, is written after a fence that follows the rest
  * of it; until then the slot is a hole. Up to KGT_HEADS such words wait. A
- * group without a number, as format and open write them, is a hole anyway.
+ * group without a number, as format and open write them, is a hole anyway. A
+ * header of zeros, with which a format begins, goes out as its first word, a
+ * fence, then all of it: so no torn wipe makes a damaged header whole.
  */
 #define KGT_HEADS 16
 #define KGT_BAD_BATCH (-1000) /* the error for a batch that cannot be read */
@@ -138,34 +206,19 @@ int kgt_run_record(struct kgt_runner *runner, const struct kgt_record *record);
 int kgt_run(struct kgt_runner *runner, const uint8_t *batch, size_t size);
 int kgt_run_fence(struct kgt_runner *runner);
 
-/* ---- what fills a log ---- */
-
-/*
- * What kagutin_usage tells: the 7 x G places from the log's start to the end of
- * group start + G - 1, each live, dead or free. Dead places and those of committed transactions come free
- * by sync and maintain, up to the group in which the holder's transaction begins.
- */
-struct kgt_places {
-    uint64_t live;     /* entries of open transactions, and of committed ones that are not trimmed */
-    uint64_t dead;     /* aborted, or passed over by a flush, and not trimmed */
-    uint64_t free;     /* from the next position on, promised ones included */
-    uint64_t promised; /* of the free ones: to writers that reserved them */
-    uint64_t holder;   /* writer whose open transaction begins first in the log; 8: none has entries there */
-    uint64_t first;    /* position of that transaction's first entry; 0 with holder 8 */
-};
-
-/* The holder alone, by the state of a store that is open. */
-uint64_t kgt_holder(const uint8_t *state, uint64_t *first);
-
 /* ---- the object ---- */
 
-enum kgt_condition { KGT_IS_CLOSED, KGT_IS_OPEN, KGT_HAS_FAILED };
+enum kgt_condition { KGT_IS_UNUSABLE, KGT_IS_CLOSED, KGT_IS_OPEN, KGT_HAS_FAILED };
+
+/* Who makes room in a full log: the call that finds it full, or only the task that calls kgt_maintain. */
+enum kgt_room { KGT_ROOM_AT_ONCE, KGT_ROOM_BY_MAINTAIN };
 
 struct kagutin {
     struct kgt_runner runner;
     uint8_t *log, *area, *state, *newest, *batch; /* parts of the lent memory */
     size_t log_size, area_size, newest_size, batch_size;
     enum kgt_condition condition;
+    enum kgt_room room;
     int error; /* of the driver, once it has failed */
     int (*lock)(void *context);
     void (*unlock)(void *context);
@@ -174,80 +227,105 @@ struct kagutin {
 
 /*
  * Takes KGT_MEMORY_SIZE(groups, homes) bytes of memory or more, and a driver;
- * both stay lent to the store. Touches no lasting memory. Answer 1: a size is
- * wrong, or groups or homes are out of range.
+ * both stay lent to the store. Touches no lasting memory. Forgets an earlier
+ * lock and room setting. Answer 1: a size is wrong, groups or homes are out of
+ * range, or a function of the driver is null; every call then answers 67.
  */
-struct kagutin_reply kgt_init(struct kagutin *store, uint8_t *memory, size_t size, size_t groups, size_t homes,
-                              struct kgt_driver driver);
+struct kgt_reply kgt_init(struct kagutin *store, uint8_t *memory, size_t size, size_t groups, size_t homes,
+                          struct kgt_driver driver);
 
-/* Hooks around every call; lock returns 0 when it has the lock. Null: none. */
-void kgt_set_lock(struct kagutin *store, int (*lock)(void *context), void (*unlock)(void *context), void *context);
+/*
+ * Hooks around every call; lock returns 0 when it has the lock. Null: none.
+ * After kgt_init and before the tasks start. Answers 67, and 1 if only one of
+ * the two is null.
+ */
+struct kgt_reply kgt_set_lock(struct kagutin *store, int (*lock)(void *context), void (*unlock)(void *context),
+                              void *context);
+
+/*
+ * KGT_ROOM_BY_MAINTAIN: writers' calls and sync never settle. In a full log they
+ * answer 8, 17 or 18 at once and leave making room to one task that calls
+ * kgt_sync and then kgt_maintain until nothing is left. That task alone needs
+ * the stack of a settle. After kgt_init and before the tasks start. Answer 67.
+ */
+struct kgt_reply kgt_set_room(struct kagutin *store, enum kgt_room room);
 
 /*
  * Makes lasting memory an empty store with all homes zero. Once in a device's
  * life; scratch has KGT_FORMAT_SIZE(groups, homes) bytes and is free again
- * afterwards. The store is then closed. Answers 9, 65, 66.
+ * afterwards. The store is then closed. After a failure it loads the header
+ * first, so that no earlier write arrives any more. Answers 9 (scratch is too
+ * short; the store is as it was), 65, 66, 67.
  */
-struct kagutin_reply kgt_format(struct kagutin *store, uint8_t *scratch, size_t size);
+struct kgt_reply kgt_format(struct kagutin *store, uint8_t *scratch, size_t size);
 
 /*
  * Loads lasting memory and brings back the longest run of commits that
  * persisted; transactions open before are gone, as in a power cut. Needed
- * after init and after a failure; figure: transactions brought back from the
- * log. Answers 1 (another shape is stored), 3 (no store there), 10, 65, 66.
+ * after init and after a failure. Answers 3 (no store there, one of another
+ * shape or of an older format), 10 (worn out), 65, 66, 67.
  */
-struct kagutin_reply kgt_open(struct kagutin *store);
+struct kgt_opened kgt_open(struct kagutin *store);
 
 /*
- * As the calls of kagutin.h, with their answers and 64, 65, 66. A block has 64
- * bytes. reply.size is 0, since batches are run already.
+ * As the calls of kagutin.h, with their answers and 64, 65, 66, 67. A block has
+ * 64 bytes; a read that is not done leaves it as it was.
  *
- * If the log is full, store and commit flush, settle and trim once and try
- * again; 10 then means that the log is worn out. If that frees nothing they
- * answer 8, and figure is the writer whose open transaction holds the log's
- * oldest groups (8: none): commit or abort that one; if it is this writer
- * itself, its transaction is too long for the log. The transaction stays open
- * and as it was. 19 and 20 come from the list of rights; kagutin_rights.h.
+ * If the log is full, store, commit and reserve flush, settle and trim once and
+ * try again; 10 then means that the log is worn out. If that frees nothing they
+ * answer 8, and holder is the writer whose open transaction holds the log's
+ * oldest groups: commit or abort that one; if it is this writer itself, its
+ * transaction is too long for the log. The transaction stays open and as it
+ * was. 19 and 20 come from the list of rights; kagutin_rights.h.
  */
-struct kagutin_reply kgt_begin(struct kagutin *store, uint64_t writer);
-struct kagutin_reply kgt_store(struct kagutin *store, uint64_t writer, uint64_t home, const uint8_t *block);
-struct kagutin_reply kgt_commit(struct kagutin *store, uint64_t writer);
-struct kagutin_reply kgt_abort(struct kagutin *store, uint64_t writer);
-struct kagutin_reply kgt_read(struct kagutin *store, uint64_t writer, uint64_t home, uint8_t *block);
+struct kgt_reply kgt_begin(struct kagutin *store, uint64_t writer);
+struct kgt_reply kgt_store(struct kagutin *store, uint64_t writer, uint64_t home, const uint8_t *block);
+struct kgt_ticket kgt_commit(struct kagutin *store, uint64_t writer);
+struct kgt_reply kgt_abort(struct kagutin *store, uint64_t writer);
+struct kgt_reply kgt_read(struct kagutin *store, uint64_t writer, uint64_t home, uint8_t *block);
 
 /*
  * As begin, and promises the transaction so many places of the log: a store or
  * commit whose entry is among its first so many is never answered 8. A
  * transaction of n stores has at most n entries. Unused places come back at
  * commit and abort. If too few are free it makes room once. Answer 17: too few
- * still, or places is 0; figure as for 8; the writer stays idle.
+ * still, or places is 0; holder as for 8; the writer stays idle. 10: worn out.
  */
-struct kagutin_reply kgt_reserve(struct kagutin *store, uint64_t writer, uint64_t places);
+struct kgt_reply kgt_reserve(struct kagutin *store, uint64_t writer, uint64_t places);
 
 /*
- * Flush, fence, confirm. figure: the durable mark; commits with that ticket or
- * less are durable. Answer 18: the flush would pass over places that are
+ * Flush, fence, confirm. Answer 18: the flush would pass over places that are
  * promised, and making room did not help; nothing is confirmed. Sync again when
- * a transaction that reserved places has ended.
+ * a transaction that reserved places has ended. 10: worn out.
  */
-struct kagutin_reply kgt_sync(struct kagutin *store);
+struct kgt_mark kgt_sync(struct kagutin *store);
+
+/*
+ * Commit and sync in one. Done: the commit is durable. Refused with the commit's
+ * answers, the transaction is as after a refused commit, and ticket is
+ * KGT_NOT_TOLD. 18 with a ticket: committed, and durable once a later sync's
+ * mark reaches it.
+ */
+struct kgt_ticket kgt_commit_sync(struct kagutin *store, uint64_t writer);
 
 /*
  * Frees log space in the background: writes home what is committed and fenced,
  * and trims. most bounds the homes that one call writes; it begins a round if
  * none is under way and something is to be settled, moves it on by one step,
- * and trims when it is over. 0: no bound, all in one call. figure: 1 if there
- * is more to do, so that a caller goes on until it is 0. Other calls may come
- * between; a full log makes them finish the round.
+ * and trims when it is over. 0: no bound, a whole settle. Go on while there is
+ * more. Other calls may come between; a full log makes them finish the round,
+ * unless kgt_set_room says otherwise. Answers 10, 64, 65, 66, 67.
  */
-struct kagutin_reply kgt_maintain(struct kagutin *store, uint64_t most);
+struct kgt_progress kgt_maintain(struct kagutin *store, uint64_t most);
 
 /*
- * Tells what fills the log at this moment, and which writer holds it back. A
- * held block has no place yet. Writes nothing; looks at the tags of the log as a
- * trim does. Answers 64, 65, 66, which leave places as they were.
+ * Tells what fills the log at this moment, and which writer holds it back; dead
+ * places and those of committed transactions come free by sync and maintain, up
+ * to the group in which the holder's transaction begins. A held block has no
+ * place yet. Writes nothing; looks at the tags of the log as a trim does.
+ * Answers 64, 65, 66, 67; places then has this code, zeros, and holder 8.
  */
-struct kagutin_reply kgt_usage(struct kagutin *store, struct kgt_places *places);
+struct kgt_reply kgt_usage(struct kagutin *store, struct kagutin_places *places);
 
 #ifdef __cplusplus
 }

@@ -30,7 +30,7 @@ C_OBJECTS = $(C_OUT)/obj
 C_HEADERS = $(wildcard include/*.h c/*/*.h tests/*/*.h)
 
 # Programs by their sources, from the root and without their ending.
-C_STORE = $(addprefix c/store/,store usage rights batch) $(addprefix c/drivers/,memory file file_io fram)
+C_STORE = $(addprefix c/store/,store room usage rights batch) $(addprefix c/drivers/,memory file file_io fram)
 C_STATION_PARTS = main options power tasks wear rights calls event_calls refusals report station events book driver driver_file
 C_STATION = $(C_STATION_PARTS:%=c/station/%) c/common/rule $(C_STORE)
 C_INSPECT = $(addprefix c/inspect/,main image fate rights text json) c/common/rule
@@ -43,12 +43,15 @@ C_RIGHTS_CHECK = tests/store/rights_check $(C_STORE)
 C_FILE_CHECK = tests/drivers/file_check tests/common/play $(C_STORE)
 C_KILL_CHECK = tests/drivers/kill_check tests/common/play $(C_STORE)
 C_FRAM_CHECK = tests/drivers/fram_check tests/common/play $(C_STORE)
+C_FORMAT_CHECK = tests/drivers/format_check tests/common/play $(C_STORE)
+C_REOPEN_CHECK = tests/drivers/reopen_check tests/common/play $(C_STORE)
+C_DISK_CHECK = tests/drivers/disk_check tests/common/play $(C_STORE)
 C_GAUGES = $(addprefix c/gauges/,main readings levels_plot) c/common/text_line c/common/page_file
 C_GAUGES_COST = tests/costs/gauges_cost
 C_RIGHTS_COST = tests/costs/rights_cost
 C_QUESTION_COST = tests/costs/question_cost
 C_INFLOW = c/inflow/main
-C_PROGRAMS = inspect quickstart driver_check store_check reserve_check round_check rights_check file_check kill_check fram_check gauges gauges_cost rights_cost question_cost inflow
+C_PROGRAMS = inspect quickstart driver_check store_check reserve_check round_check rights_check file_check kill_check fram_check format_check reopen_check disk_check gauges gauges_cost rights_cost question_cost inflow
 
 .PHONY: station inspect quickstart gauges inflow c-sanitize c-check c-kills c-dist install uninstall c-clean
 
@@ -97,6 +100,9 @@ $(eval $(call C_PROGRAM,rights_check,$(C_RIGHTS_CHECK),$(LIB)))
 $(eval $(call C_PROGRAM,file_check,$(C_FILE_CHECK),$(LIB)))
 $(eval $(call C_PROGRAM,kill_check,$(C_KILL_CHECK),$(LIB)))
 $(eval $(call C_PROGRAM,fram_check,$(C_FRAM_CHECK),$(LIB)))
+$(eval $(call C_PROGRAM,format_check,$(C_FORMAT_CHECK),$(LIB)))
+$(eval $(call C_PROGRAM,reopen_check,$(C_REOPEN_CHECK),$(LIB)))
+$(eval $(call C_PROGRAM,disk_check,$(C_DISK_CHECK),$(LIB)))
 $(eval $(call C_PROGRAM,gauges,$(C_GAUGES),$(GAUGES_LIB)))
 $(eval $(call C_PROGRAM,gauges_cost,$(C_GAUGES_COST),$(GAUGES_LIB)))
 $(eval $(call C_PROGRAM,rights_cost,$(C_RIGHTS_COST),$(LIB)))

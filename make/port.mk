@@ -46,6 +46,8 @@ dist-check:
 generator-check: forms-check
 	python3 tests/generator/generator.py $(GENERATE_WORDS)
 	python3 tests/generator/imports.py
+	python3 tests/generator/translated.py
+	python3 tests/generator/buffers.py
 
 forms-check:
 	python3 tests/generator/forms.py
@@ -160,7 +162,7 @@ $(BOARD_TESTS): on-%: $(REPLAY_OUT)/%.elf
 $(LINUX_TESTS): on-%: $(REPLAY_OUT)/%.linux
 	@printf '%s: ' $* && $($*_QEMU) $<
 
-arm: $(BOARD_TESTS) $(LINUX_TESTS)
+arm: $(BOARD_TESTS) $(LINUX_TESTS) object-stack
 
 # Tables of docs/PERFORMANCE.md: size, stack and instructions on each core; instructions of the C file against the archive on x86-64.
 COSTS = $(foreach b,$(BOARDS),$(foreach l,Os O2,$(REPLAY_OUT)/$(b)-$(l).cost))
@@ -200,5 +202,5 @@ port-docs: $(COSTS) $(BENCHED:%=$(PORT_OUT)/%/bench.tsv)
 
 # What the gate runs: one board, where the packages are there.
 board-check:
-	@if command -v arm-none-eabi-gcc > /dev/null && command -v qemu-system-arm > /dev/null; then $(MAKE) --no-print-directory -s on-m4; \
+	@if command -v arm-none-eabi-gcc > /dev/null && command -v qemu-system-arm > /dev/null; then $(MAKE) --no-print-directory -s on-m4 object-stack; \
 	else echo "skipped the emulated board: no arm-none-eabi-gcc or qemu-system-arm (port/packages.sh installs them)"; fi

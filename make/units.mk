@@ -15,7 +15,8 @@ UNITS_LIBS ?= $(UNITS:%=$(C_OUT)/libkagutin_%.a)
 UNITS_CRATES = band_calls hour_calls alarm_calls
 GENERATE_UNIT = $(GENERATOR) --import kagutin --header kagutin_chains.h --result answers::Reply=kagutin_reply
 GENERATE_bands = $(GENERATE_UNIT) --export band_calls --header kagutin_bands.h --result band_calls::Band=kagutin_band
-GENERATE_hours = $(GENERATE_UNIT) --export hour_calls --header kagutin_hours.h --result hour_calls::Figures=kagutin_figures
+GENERATE_hours = $(GENERATE_UNIT) --export hour_calls --header kagutin_hours.h \
+    --result hour_calls::Hours=kagutin_hours --result hour_calls::Services=kagutin_services
 GENERATE_alarms = $(GENERATE_UNIT) --export alarm_calls --header kagutin_alarms.h --result alarm_calls::Gravest=kagutin_alarm
 
 .PHONY: units-dist units-dist-check
@@ -32,11 +33,14 @@ units-dist-check:
 	    || { echo "$$file is not what the proved program gives; make units-dist makes it again" >&2; exit 1; }; done
 	@echo "dist: $(UNITS_DIST): what the proved program gives"
 
-C_UNITS = station bands wear units_check units_cost
+C_UNITS = station bands wear units_check units_cost replies_check lock_check misuse_check
 C_BANDS = c/bands/main c/bands/table c/common/text_line c/common/copy c/store/units $(C_STORE)
 C_WEAR = $(addprefix c/wear/,main text page) c/common/page_file c/common/copy c/store/units $(C_STORE)
 C_UNITS_CHECK = tests/store/units_check c/store/units $(C_STORE)
 C_UNITS_COST = tests/costs/units_cost $(C_STORE)
+C_REPLIES_CHECK = tests/store/replies_check tests/common/operations c/store/units $(C_STORE)
+C_LOCK_CHECK = tests/store/lock_check tests/common/operations c/store/units $(C_STORE)
+C_MISUSE_CHECK = tests/store/misuse_check tests/common/operations c/store/units $(C_STORE)
 C_UNITS_PROGRAMS = $(C_UNITS:%=$(C_OUT)/%) $(C_UNITS:%=$(C_OUT)/sanitize/%)
 
 .PHONY: bands wear units-check units-compare
@@ -50,6 +54,13 @@ $(eval $(call C_PROGRAM,bands,$(C_BANDS),$(UNITS_LIBS) $(LIB)))
 $(eval $(call C_PROGRAM,wear,$(C_WEAR),$(UNITS_LIBS) $(LIB)))
 $(eval $(call C_PROGRAM,units_check,$(C_UNITS_CHECK),$(UNITS_LIBS) $(LIB)))
 $(eval $(call C_PROGRAM,units_cost,$(C_UNITS_COST),$(UNITS_LIBS) $(LIB)))
+$(eval $(call C_PROGRAM,replies_check,$(C_REPLIES_CHECK),$(UNITS_LIBS) $(LIB)))
+$(eval $(call C_PROGRAM,lock_check,$(C_LOCK_CHECK),$(UNITS_LIBS) $(LIB)))
+$(eval $(call C_PROGRAM,misuse_check,$(C_MISUSE_CHECK),$(UNITS_LIBS) $(LIB)))
+
+# Calls of the object on a painted stack; not under sanitizers, which have a stack of their own.
+$(C_OUT)/object_stack: tests/stack/object_stack.c port/replay/say_stdio.c $(C_STORE:%=$(C_OBJECTS)/%.o) $(C_OBJECTS)/c/store/units.o $(UNITS_LIBS) $(LIB)
+	$(CC) $(C_FLAGS) $(CFLAGS) -Iport/replay $^ $(C_LIBS) -o $@
 
 # The calls on the store object as an archive of their own. Installed, and gone again, where dist/ has the units.
 C_UNITS_LIB = $(C_OUT)/libkagutin_units.a
@@ -75,7 +86,7 @@ install: install-units
 uninstall: uninstall-units
 c-dist: c-dist-units
 
-units-check: $(C_UNITS_PROGRAMS)
+units-check: $(C_UNITS_PROGRAMS) $(C_OUT)/object_stack
 	CC="$(CC)" LIB="$(LIB)" sh tests/programs/units-check.sh $(C_OUT)
 
 c-check: units-check
@@ -100,3 +111,14 @@ units-compare: $(COMPARE_UNITS) $(UNITS_SHARED) $(UNITS_TIGHT)
 	$(COMPARE_UNITS) --seed $(SEED) --build $(UNITS_SHARED)
 	ASAN_OPTIONS=detect_leaks=0 LD_PRELOAD=$$(gcc -print-file-name=libasan.so) $(COMPARE_UNITS) --seed $(SEED) --tight \
 	    --histories 40 --damaged 2000 --build $(UNITS_TIGHT) | tail -n 1
+
+# Stack of the object's calls on a board.
+OBJECT_SOURCES = $(patsubst %,c/store/%.c,store room usage rights units batch) $(DIST_C) $(UNITS_DIST)
+$(REPLAY_OUT)/object-stack-m4: tests/stack/object_stack.c $(OBJECT_SOURCES) $(wildcard port/replay/*) $(C_HEADERS)
+	@mkdir -p $(@D)
+	arm-none-eabi-gcc -mthumb $(m4_FLAGS) -Os $(REPLAY_FLAGS) $(filter %.c,$(filter-out port/replay/%,$^)) port/replay/say_board.c $(BOARD_LINK) \
+	    $(m4_MEMORY) -o $@
+
+.PHONY: object-stack
+object-stack: $(REPLAY_OUT)/object-stack-m4
+	@printf 'm4: ' && $(BOARD_RUN) $(m4_QEMU) -kernel $<

@@ -152,6 +152,9 @@ class FunctionText(Values):
         text, t = self.value(f, statement.value)
         if not isinstance(t, IntType) or not isinstance(statement.value, Copy):
             raise Stop(f'switch on {t}')
+        if statement.arms[0][0] is None:
+            self.body(f, statement.arms[0][1], depth, around, last)
+            return
         for k, (keys, body) in enumerate(statement.arms):
             final = k == len(statement.arms) - 1
             test = ' || '.join(f'{text} == {key}u' for key in keys or ())
@@ -260,9 +263,25 @@ class FunctionText(Values):
         result, lines = self.exported_result(f, export, f'{c_name(f.name)}({", ".join(args)})', results, signed_fields)
         self.line(0, f'{result} {export.name}({", ".join(params) or "void"})')
         self.out.append('{')
+        self.ask_buffers(f, export, results)
         for line in lines:
             self.line(1 if line else 0, line)
         self.out += ['}', '']
+
+    def ask_buffers(self, f, export, results):
+        """In builds with KAGUTIN_CHECK_BUFFERS: an answer for lent buffers that overlap or are null."""
+        lent = [f'{{{f.names[i]}, {self.size_in_bytes(f.names[i], f.types[i])}}}' for i in f.parameters() if isinstance(f.types[i], Slice)]
+        if not lent:
+            return
+        t = f.types[0]
+        if isinstance(t, Named) and self.types.is_struct(t) and ('code', U64) in self.types.members(t):
+            self.helpers.add('ASK_BUFFERS')
+            self.line(1, f'ASK_BUFFERS({results[t.name]}, {", ".join(lent)})')
+        else:
+            self.out += ['#ifdef KAGUTIN_CHECK_BUFFERS', f'#error "{export.name} has no code to answer with"', '#endif']
+
+    def size_in_bytes(self, name, t):
+        return f'{name}_size' if t.item == U8 else f'{name}_size * sizeof *{name}'
 
     def exported_number(self, t, source):
         """The header's type of a number, by the type that the source writes."""
@@ -271,11 +290,14 @@ class FunctionText(Values):
         return self.types.c(t)[1:] if re.fullmatch(r'i(8|16|32|64)', source) else self.types.c(t)
 
     def number_out(self, text, t, source):
-        """A number as the header has it: the signed number of its bits, or the same."""
+        """A number as the header has it: the signed number of its bits, a size where 64 bits fit one, or the same."""
         if re.fullmatch(r'i(8|16|32|64)', source):
             self.helpers.add('to_signed')
             return f'(int{t.width}_t)to_signed({bare(self.extended(text, t))})' if t.width < 64 else f'to_signed({text})'
-        return f'(size_t){text}' if source == 'usize' else text
+        if source == 'usize':
+            self.helpers.add('WIDE_SIZE')
+            return f'(size_t){text}'
+        return text
 
     def exported_result(self, f, export, call, results, signed_fields):
         """Type and lines of the exported function."""
@@ -302,8 +324,7 @@ class FunctionText(Values):
             if isinstance(t, Slice):
                 args += [f'{n}.ptr', f'{n}.len']
             elif isinstance(t, IntType) or t == BOOL:
-                c = self.exported_number(t, export.types[i - 1])
-                args.append(n if c == self.types.c(t) else f'({c}){n}')
+                args.append(self.number_out(n, t, export.types[i - 1]))
             else:
                 raise Stop(f'imported with a parameter of {t}')
         signature = ', '.join(self.types.declare(t, n) for t, n in self.parameters(f)) or 'void'

@@ -16,6 +16,7 @@ class Types:
     def __init__(self, shapes, field_names):
         self.shapes, self.field_names = shapes, field_names
         self.structs = {}                               # C name -> declarations of its members
+        self.named = {}                                 # C name -> the type that has it
 
     def short(self, t):
         if isinstance(t, IntType):
@@ -41,6 +42,8 @@ class Types:
             members = lambda: [self.declare(u, n) for n, u in self.members(t)]
         else:
             raise Stop(f'type {t}')
+        if self.named.setdefault(name, t) != t:
+            raise Stop(f'{name} in C is also the name of {self.named[name]}')
         if name not in self.structs:
             self.structs[name] = members()
         return name

@@ -24,6 +24,13 @@ def bare(text):
     return text
 
 
+def is_literal(value):
+    """A number written in digits, whose C type is as wide as the digits need; a cast to its own width changes nothing of that."""
+    while isinstance(value, Cast) and isinstance(value.operand, (Int, Cast)) and value.operand.width == value.width:
+        value = value.operand
+    return isinstance(value, Int)
+
+
 class Values:
     def __init__(self, types):
         self.types, self.helpers = types, set()
@@ -129,7 +136,7 @@ class Values:
         if value.op == 'Not' and t == BOOL:
             return f'!{text}', t
         if value.op == 'Not' and isinstance(t, IntType):
-            wide = f'(uint64_t){text}' if isinstance(value.operand, Int) else text      # of a literal all bits are meant
+            wide = f'(uint64_t){text}' if is_literal(value.operand) else text      # of a literal all bits are meant
             return f'({self.types.c(t)})~{wide}', t
         if value.op in COUNTS and t == U64:
             self.helpers.add(COUNTS[value.op])
@@ -146,11 +153,11 @@ class Values:
             raise Stop(f'{op} of {t} and {u}')
         if op in COMPARISONS or t == BOOL:
             return f'({x} {SIGNS[op]} {y})', BOOL
-        if op in ('Shl', 'Shr') and not isinstance(value.right, Int):
+        if op in ('Shl', 'Shr') and not is_literal(value.right):
             y = f'({y} & {t.width - 1}u)'                           # proved: below the width; the mask changes nothing
         if t.width < 64:
             return f'({self.types.c(t)})((uint32_t){x} {SIGNS[op]} {y})', t
-        if isinstance(value.left, Int) and (isinstance(value.right, Int) or op in ('Shl', 'Shr')):
+        if is_literal(value.left) and (is_literal(value.right) or op in ('Shl', 'Shr')):
             x = f'(uint64_t){x}'
         return f'({x} {SIGNS[op]} {y})', t
 

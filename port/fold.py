@@ -120,23 +120,24 @@ class Folding:
         self.local, self.in_memory, self.pairs = local, function.in_memory, 0
         self.body = self.fold_list(function.body)
 
-    def fold_list(self, body):
-        body = [with_bodies(statement, self.fold_list) for statement in body]
+    def fold_list(self, before):
+        body = [with_bodies(statement, self.fold_list) for statement in before]
         for i, statement in enumerate(body):
             to = target_of(statement)
             if to == Place(self.local):
-                self.fold_one(body, i)
+                self.fold_one(before, body, i)
         return tuple(statement for statement in body if statement is not None)
 
-    def fold_one(self, body, i):
-        """Finds the reading of what statement i writes, and folds it if nothing between forbids it."""
+    def fold_one(self, before, body, i):
+        """Finds the reading of what statement i writes, and folds it if nothing between forbids it. Whether a body inside mentions the
+        local is asked of the list as it was: folded, the body no longer shows that it writes it."""
         value = body[i].value if isinstance(body[i], Assign) else None
         read, memory = (locals_read(value), reads_memory(value, self.in_memory)) if value else (set(), True)
         free = value is not None
         for j in range(i + 1, len(body)):
             hits = []
             new = put_into(body[j], self.local, value or UNKNOWN, hits)
-            if any(mentions(inner, self.local) for inner in bodies_of(body[j])) or len(hits) > 1:
+            if any(mentions(inner, self.local) for inner in bodies_of(before[j])) or len(hits) > 1:
                 return
             if hits:
                 self.pairs += 1

@@ -34,6 +34,51 @@ APART = '''#if QUICK_C
 #endif
 '''
 
+# Asked before anything is read. An address is compared as a number: pointers into different memory may not be.
+ASK_BUFFERS = '''/* With -DKAGUTIN_CHECK_BUFFERS every call answers 63 (KAGUTIN_BAD_BUFFERS), with zeros in all other fields, if a lent pointer is null or
+   two lent buffers share a byte. Without it nothing is asked. */
+#ifdef KAGUTIN_CHECK_BUFFERS
+struct lent {
+    const void *ptr;
+    size_t size;
+};
+
+static bool are_apart(const struct lent *lent, size_t count)
+{
+    size_t i, j;
+
+    for (i = 0; i < count; i++) {
+        uintptr_t a = (uintptr_t)lent[i].ptr;
+
+        if (lent[i].ptr == NULL || lent[i].size > UINTPTR_MAX - a)
+            return false;
+        for (j = 0; j < i; j++) {
+            uintptr_t b = (uintptr_t)lent[j].ptr;
+
+            if (lent[i].size != 0 && lent[j].size != 0 && a < b + lent[j].size && b < a + lent[i].size)
+                return false;
+        }
+    }
+    return true;
+}
+
+#define ASK_BUFFERS(result, ...) \\
+    do { \\
+        const struct lent all_lent[] = {__VA_ARGS__}; \\
+        if (!are_apart(all_lent, sizeof all_lent / sizeof all_lent[0])) \\
+            return (struct result){.code = 63u}; \\
+    } while (0);
+#else
+#define ASK_BUFFERS(result, ...)
+#endif
+'''
+
+# A number of 64 bits that goes out as a size_t would lose its high bits on other machines.
+WIDE_SIZE = '''#if SIZE_MAX < UINT64_MAX
+#error "this program hands numbers of 64 bits over as size_t"
+#endif
+'''
+
 LOAD = '''/* The number that {size} bytes make, lowest byte first. */
 static inline uint64_t load_{size}(const uint8_t *p)
 {{
@@ -150,9 +195,11 @@ def texts(used):
     if used & {'trailing_zeros', 'leading_zeros'}:
         used = used | {'count_ones'}
     words = [(word, size) for word in ('load', 'store') for size in (2, 4, 8) if f'{word}_{size}' in used]
-    out = [QUICK] if words or used & {'UNROLL', 'APART', 'trailing_zeros'} else []
+    out = [WIDE_SIZE] if 'WIDE_SIZE' in used else []
+    out += [QUICK] if words or used & {'UNROLL', 'APART', 'trailing_zeros'} else []
     out += [ORDER] if words else []
     out += [UNROLL] if 'UNROLL' in used else []
     out += [APART] if 'APART' in used else []
+    out += [ASK_BUFFERS] if 'ASK_BUFFERS' in used else []
     out += [{'load': load, 'store': store}[word](size) for word, size in words]
     return '\n'.join(out + [text for name, text in {**COUNTS, **SIGNED}.items() if name in used])

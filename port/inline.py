@@ -74,13 +74,19 @@ def compared(function):
     return found - assigned(function)
 
 
+def copied_for(i, literal, all_known):
+    """A literal in the copy's name; with its parameter's number where other copies may have it for another parameter."""
+    return str(literal.value) if all_known else f'p{i}@{literal.value}'
+
+
 def specialised(program, call, prepare):
     """A call with literals for compared parameters, as a call of a copy of the function without these."""
     function = program.function(call.name)
-    known = {i: call.args[i - 1] for i in sorted(compared(function)) if isinstance(call.args[i - 1], Int)}
+    asked = sorted(compared(function))
+    known = {i: call.args[i - 1] for i in asked if isinstance(call.args[i - 1], Int)}
     if not known:
         return call
-    name = '@'.join([function.name] + [str(literal.value) for literal in known.values()])
+    name = '@'.join([function.name] + [copied_for(i, literal, len(known) == len(asked)) for i, literal in known.items()])
     if name not in program.functions:
         types = [UNIT if i in known else t for i, t in enumerate(function.types)]
         copy = Function(name, function.params, types, function.in_memory, renamed_body(function.body, known))

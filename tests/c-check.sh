@@ -68,7 +68,7 @@ gives 0 "stack: every call within its bound, small log and large" "$tmp/stack"
 
 # --- no heap in the object; nm prints what it calls ---
 objects=$out/obj/c
-quiet sh -c "nm -u $objects/store/store.o $objects/store/usage.o $objects/store/rights.o $objects/store/batch.o $objects/drivers/fram.o | grep -E 'alloc|free'"
+quiet sh -c "nm -u $objects/store/store.o $objects/store/room.o $objects/store/usage.o $objects/store/rights.o $objects/store/batch.o $objects/drivers/fram.o | grep -E 'alloc|free'"
 [ $? -ne 0 ]; report $? "the object and the FRAM driver use no heap"
 
 # --- quick start, driver, station ---
@@ -88,9 +88,17 @@ gives 0 "store: places promised beforehand" "$san/reserve_check"
 gives 0 "store: settling in small steps, cut inside a round" "$san/round_check"
 gives 0 "store: the list of rights, its ranges and the moment it counts" "$san/rights_check"
 gives 0 "files: written and mapped, stopped inside writes, locks, failures" "$san/file_check" "$fast"
-gives 0 "FRAM: power gone after every byte" "$out/fram_check" 1
+gives 0 "FRAM: power gone after every byte, at work and inside a format" "$out/fram_check" 1
 gives 0 "FRAM: under sanitizers" "$san/fram_check" 13
-sources="c/store/store.c c/store/usage.c c/store/batch.c c/drivers/memory.c"
+gives 0 "format: over a damaged header, cut with every choice of words or blocks" "$out/format_check" 1
+gives 0 "format: the same under sanitizers" "$san/format_check" 5
+gives 0 "reopening: a driver that fails at each call in turn, any choice landed" "$out/reopen_check" 20000
+gives 0 "reopening: the same under sanitizers" "$san/reopen_check" 4000
+gives 1 "reopening: a load that shows a cache breaks the store" "$out/reopen_check" 20000 cache
+gives 1 "reopening: a load that lets writes arrive later does" "$out/reopen_check" 20000 late
+gives 0 "reopening: image files after failed syncs, mapped by a second process" "$out/disk_check" "$fast" 10000
+gives 0 "reopening: the same under sanitizers, on this disk" "$san/disk_check" "$tmp" 1000
+sources="c/store/store.c c/store/room.c c/store/usage.c c/store/rights.c c/store/batch.c c/drivers/memory.c"
 build_tasks() { "$cc" -std=c99 -O1 -g "$@" $strict tests/store/tasks_check.c $sources "$lib" ${C_LIBS:-} -pthread -o "$tmp/tasks"; }
 gives 0 "tasks: built" build_tasks -fsanitize=thread
 if "$tmp/tasks" 2>&1 | grep -q 'unexpected memory mapping'; then # some kernels give the race detector no room

@@ -96,22 +96,23 @@ static void quit_answer(const struct options *options, uint64_t code, size_t hom
 
     if (code == KAGUTIN_BAD_HOME)
         quit(STATUS_REFUSED, "%s: a table takes homes 12 to 14; the image has %lu homes", path, (unsigned long)homes);
-    if (code == KAGUTIN_NO_STORE || code == KAGUTIN_NO_READ)
+    if (code == KAGUTIN_STORE_DENIED || code == KAGUTIN_READ_DENIED)
         quit(STATUS_REFUSED, "%s: writer %llu has %s homes 12 to 14; --writer W chooses another", path,
-             (unsigned long long)options->writer, code == KAGUTIN_NO_READ ? "no right to read" : "no right to store to");
-    quit(code < KGT_CLOSED ? STATUS_REFUSED : STATUS_TROUBLE, "%s: %s (answer %llu)", path, kgt_unit_answer_text(code),
+             (unsigned long long)options->writer, code == KAGUTIN_READ_DENIED ? "no right to read" : "no right to store to");
+    quit(code < KGT_CLOSED ? STATUS_REFUSED : STATUS_TROUBLE, "%s: %s (answer %llu)", path, kgt_answer_text(code),
          (unsigned long long)code);
 }
 
 static void set_table(const struct options *options)
 {
     const char *path = options->words[1];
-    struct kagutin_reply reply;
+    struct kgt_opened opened;
     struct kagutin store;
     struct kgt_file file;
+    struct kgt_table set;
+    struct kgt_mark mark;
     struct table table;
     uint8_t *memory;
-    uint64_t ticket;
     size_t size;
 
     if (!table_read(&table, options->words[2]))
@@ -123,28 +124,28 @@ static void set_table(const struct options *options)
     if (!memory)
         quit(STATUS_TROUBLE, "out of memory");
     kgt_init(&store, memory, size, file.groups, file.homes, kgt_file_driver(&file));
-    reply = kgt_open(&store);
-    if (reply.code != KAGUTIN_DONE)
-        quit(STATUS_TROUBLE, "%s: cannot be opened: %s", path, kgt_answer_text(reply.code));
-    reply = kgt_bands_set(&store, options->writer, table.strip, KAGUTIN_BAND_SIZE * table.count);
-    if (reply.code >= KAGUTIN_BAD_BANDS && reply.code <= KAGUTIN_BAND_OVERLAP) {
-        table_explain(&table, reply.code, reply.figure);
+    opened = kgt_open(&store);
+    if (opened.code != KAGUTIN_DONE)
+        quit(STATUS_TROUBLE, "%s: cannot be opened: %s", path, kgt_answer_text(opened.code));
+    set = kgt_bands_set(&store, options->writer, table.strip, KAGUTIN_BAND_SIZE * table.count);
+    if (set.code >= KAGUTIN_BAD_BANDS && set.code <= KAGUTIN_BAND_OVERLAP) {
+        table_explain(&table, set.code, set.mm);
         quit(STATUS_REFUSED, "%s", table.message);
     }
-    ticket = reply.figure;
-    if (reply.code == KAGUTIN_DONE)
-        reply = kgt_sync(&store);
-    if (reply.code != KAGUTIN_DONE)
-        quit_answer(options, reply.code, file.homes);
+    if (set.code != KAGUTIN_DONE)
+        quit_answer(options, set.code, file.homes);
+    mark = kgt_sync(&store);
+    if (mark.code != KAGUTIN_DONE)
+        quit_answer(options, mark.code, file.homes);
     printf("%s: table of %lu row%s set, %s\n", path, (unsigned long)table.count, table.count == 1 ? "" : "s",
-           reply.figure >= ticket ? "durable" : "not durable yet");
+           mark.mark >= set.ticket ? "durable" : "not durable yet");
     kgt_file_close(&file);
     free(memory);
 }
 
-static struct kagutin_band look_up(struct copy *copy, const struct options *options, uint64_t mm)
+static struct kgt_band look_up(struct copy *copy, const struct options *options, uint64_t mm)
 {
-    struct kagutin_band band = kgt_bands_look_up(&copy->store, options->writer, mm);
+    struct kgt_band band = kgt_bands_look_up(&copy->store, options->writer, mm);
 
     if (band.code == KAGUTIN_BAD_BANDS && mm < KAGUTIN_DEPTHS)
         quit(STATUS_REFUSED, "%s: no table is set", options->words[1]);
@@ -158,7 +159,7 @@ static struct kagutin_band look_up(struct copy *copy, const struct options *opti
 /* Each row begins one past the row before, so lookups find all of them. */
 static void show_table(const struct options *options)
 {
-    struct kagutin_band band;
+    struct kgt_band band;
     struct copy copy;
     uint64_t mm;
 
@@ -177,7 +178,7 @@ static void show_table(const struct options *options)
 static void show_depth(const struct options *options)
 {
     uint64_t mm = read_number("MM", options->words[2]);
-    struct kagutin_band band;
+    struct kgt_band band;
     struct copy copy;
 
     if (!copy_open(&copy, options->words[1]))

@@ -101,17 +101,17 @@ static bool open_store(struct copy *copy, const char *path)
 {
     struct kgt_driver driver = {NULL, load, drop, pass, KGT_LANDS_BLOCKS};
     size_t size = KGT_MEMORY_SIZE(copy->groups, copy->homes);
-    struct kagutin_reply reply;
+    uint64_t code;
 
     driver.context = copy;
     copy->memory = (uint8_t *)malloc(size);
     if (!copy->memory)
         return say(copy, "%s: out of memory", path);
-    reply = kgt_init(&copy->store, copy->memory, size, copy->groups, copy->homes, driver);
-    if (reply.code == KAGUTIN_DONE)
-        reply = kgt_open(&copy->store);
-    if (reply.code != KAGUTIN_DONE)
-        return say(copy, "%s: cannot be opened: %s", path, kgt_answer_text(reply.code));
+    code = kgt_init(&copy->store, copy->memory, size, copy->groups, copy->homes, driver).code;
+    if (code == KAGUTIN_DONE)
+        code = kgt_open(&copy->store).code;
+    if (code != KAGUTIN_DONE)
+        return say(copy, "%s: cannot be opened: %s", path, kgt_answer_text(code));
     return true;
 }
 

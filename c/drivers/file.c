@@ -210,7 +210,7 @@ static bool check_image(struct kgt_file *file, const char *path, off_t size)
     return true;
 }
 
-/* Locks the file first; then drops what the cache holds, so that it is read from the disk. */
+/* Locks the file first; once it is known for an image, what the cache holds of it is brought to the disk. */
 static bool open_image(struct kgt_file *file, const char *path)
 {
     struct stat status;
@@ -223,12 +223,9 @@ static bool open_image(struct kgt_file *file, const char *path)
         return kgt_file_say(file, "%s: is read-only", path);
     if (!take_lock(file, path))
         return false;
-    if (fdatasync(file->descriptor) != 0)
-        return kgt_file_say(file, "%s: cannot be synced: %s", path, strerror(errno));
-    posix_fadvise(file->descriptor, 0, 0, POSIX_FADV_DONTNEED);
     if (fstat(file->descriptor, &status) != 0)
         return kgt_file_say(file, "%s: cannot be looked at: %s", path, strerror(errno));
-    return check_image(file, path, status.st_size);
+    return check_image(file, path, status.st_size) && kgt_file_write_back(file) == 0;
 }
 
 bool kgt_file_open(struct kgt_file *file, const char *path)

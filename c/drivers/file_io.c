@@ -98,13 +98,10 @@ static int write_mapped(void *context, enum kgt_area area, size_t at, const uint
 }
 
 /* The cache takes a write page by page, and a page ends where a block does. */
-static int write_file(void *context, enum kgt_area area, size_t at, const uint8_t *bytes, size_t size)
+static int put(struct kgt_file *file, size_t from, const uint8_t *bytes, size_t size)
 {
-    struct kgt_file *file = (struct kgt_file *)context;
-    size_t from = offset(file, area, at), done = 0;
+    size_t done = 0;
 
-    if (file->failed)
-        return file->failed;
     while (done < size) {
         ssize_t count = pwrite(file->descriptor, bytes + done, size - done, (off_t)(from + done));
 
@@ -116,19 +113,10 @@ static int write_file(void *context, enum kgt_area area, size_t at, const uint8_
     return 0;
 }
 
-/* What the cache holds is synced first: nothing is loaded that a cut could still take away. */
-static int load(void *context, enum kgt_area area, size_t at, uint8_t *bytes, size_t size)
+static int get(struct kgt_file *file, size_t from, uint8_t *bytes, size_t size)
 {
-    struct kgt_file *file = (struct kgt_file *)context;
-    size_t from = offset(file, area, at), done = 0;
-    int error = kgt_file_sync(file);
+    size_t done = 0;
 
-    if (error)
-        return error;
-    if (file->map) {
-        memcpy(bytes, file->map + from, size);
-        return 0;
-    }
     while (done < size) {
         ssize_t count = pread(file->descriptor, bytes + done, size - done, (off_t)(from + done));
 
@@ -138,6 +126,49 @@ static int load(void *context, enum kgt_area area, size_t at, uint8_t *bytes, si
             return fail(file, count == 0 ? EIO : errno, "the image cannot be read");
     }
     return 0;
+}
+
+static int write_file(void *context, enum kgt_area area, size_t at, const uint8_t *bytes, size_t size)
+{
+    struct kgt_file *file = (struct kgt_file *)context;
+    int error = check_size(file); /* a write past the end would make a file long again that has lost blocks */
+
+    return error ? error : put(file, offset(file, area, at), bytes, size);
+}
+
+/*
+ * What the cache holds is synced first: nothing is loaded that a cut could still
+ * take away. A sync is enough, since all of the image was written when the file
+ * was made or opened, and no sync has failed from then on.
+ */
+static int load(void *context, enum kgt_area area, size_t at, uint8_t *bytes, size_t size)
+{
+    struct kgt_file *file = (struct kgt_file *)context;
+    size_t from = offset(file, area, at);
+    int error = kgt_file_sync(file);
+
+    if (error || !file->map)
+        return error ? error : get(file, from, bytes, size);
+    memcpy(bytes, file->map + from, size);
+    return 0;
+}
+
+int kgt_file_write_back(struct kgt_file *file)
+{
+    uint8_t page[4096];
+    size_t at, size;
+
+    for (at = 0; at < file->size; at += size) {
+        int error;
+
+        size = file->size - at < sizeof page ? file->size - at : sizeof page;
+        error = get(file, at, page, size);
+        if (!error)
+            error = put(file, at, page, size);
+        if (error)
+            return error;
+    }
+    return kgt_file_sync(file);
 }
 
 bool kgt_file_map(struct kgt_file *file)

@@ -4,9 +4,9 @@
 #include <string.h>
 
 enum { WRITE_ENABLE = 0x06, WRITE = 0x02, READ = 0x03 };
-enum { COPY = 32, USED = 12 }; /* distance of the header's copies; bytes of it that are not always zero */
+enum { WORD = 8, COPY = 32, USED = 12 }; /* distance of the header's copies; bytes of it that are not always zero */
 
-#define BAD_RANGE (-1) /* the header is loaded and written whole */
+#define BAD_RANGE (-1) /* the header is loaded and written whole, but for zeros in its first word */
 
 static int transfer(struct kgt_fram *fram, uint8_t what, uint32_t at, const uint8_t *out, uint8_t *in, size_t size)
 {
@@ -25,29 +25,6 @@ static int write_bytes(struct kgt_fram *fram, size_t at, const uint8_t *bytes, s
     int error = fram->transfer(fram->bus, &enable, 1, NULL, NULL, 0);
 
     return error ? error : transfer(fram, WRITE, fram->base + (uint32_t)at, bytes, NULL, size);
-}
-
-/* Zeros, as a format begins with, wipe both copies; anything else goes to the older one. */
-static int write_header(struct kgt_fram *fram, const uint8_t *header)
-{
-    static const uint8_t none[2 * COPY] = {0};
-    uint8_t copy[2 * USED];
-    unsigned older = 1 - fram->newest;
-    size_t i;
-    int error;
-
-    if (memcmp(header, none, sizeof none) == 0) {
-        fram->newest = 1;
-        return write_bytes(fram, 0, none, sizeof none);
-    }
-    for (i = 0; i < USED; i++) {
-        copy[i] = header[i];
-        copy[USED + i] = (uint8_t)~header[i];
-    }
-    error = write_bytes(fram, COPY * (size_t)older, copy, sizeof copy);
-    if (!error)
-        fram->newest = older;
-    return error;
 }
 
 static bool whole(const uint8_t *copy)
@@ -71,19 +48,69 @@ static bool later(const uint8_t *one, const uint8_t *other)
     return false;
 }
 
+/* Finds the copy that counts: the whole one with the higher start. False if neither is whole. */
+static bool find_newest(struct kgt_fram *fram, const uint8_t *copies)
+{
+    bool first = whole(copies), second = whole(copies + COPY);
+
+    fram->newest = !first || (second && later(copies + COPY, copies));
+    return first || second;
+}
+
 /* Makes the header of the two copies that stand in its place; zeros if neither is whole. */
 static void join_header(struct kgt_fram *fram, uint8_t *header)
 {
     uint8_t copies[2 * COPY];
-    bool first, second;
 
     memcpy(copies, header, sizeof copies);
     memset(header, 0, KAGUTIN_HEADER_SIZE);
-    first = whole(copies);
-    second = whole(copies + COPY);
-    fram->newest = !first || (second && later(copies + COPY, copies));
-    if (first || second)
+    if (find_newest(fram, copies))
         memcpy(header, copies + COPY * fram->newest, USED);
+}
+
+/*
+ * The older copy goes first, so that a cut leaves the newest header or none.
+ * The chip is asked which that is: a format need not have loaded anything.
+ */
+static int wipe_header(struct kgt_fram *fram)
+{
+    static const uint8_t none[COPY] = {0};
+    uint8_t copies[2 * COPY];
+    int error = transfer(fram, READ, fram->base, NULL, copies, sizeof copies);
+
+    if (error)
+        return error;
+    find_newest(fram, copies);
+    error = write_bytes(fram, COPY * (size_t)(1 - fram->newest), none, sizeof none);
+    return error ? error : write_bytes(fram, COPY * (size_t)fram->newest, none, sizeof none);
+}
+
+/*
+ * A first word of zeros, which a format writes alone and then with the rest,
+ * wipes both copies; anything else goes to the older one.
+ */
+static int write_header(struct kgt_fram *fram, const uint8_t *header, size_t size)
+{
+    static const uint8_t no_mark[WORD] = {0};
+    uint8_t copy[2 * USED];
+    unsigned older = 1 - fram->newest;
+    size_t i;
+    int error;
+
+    if (size != WORD && size != KAGUTIN_HEADER_SIZE)
+        return BAD_RANGE;
+    if (memcmp(header, no_mark, WORD) == 0)
+        return wipe_header(fram);
+    if (size == WORD)
+        return BAD_RANGE;
+    for (i = 0; i < USED; i++) {
+        copy[i] = header[i];
+        copy[USED + i] = (uint8_t)~header[i];
+    }
+    error = write_bytes(fram, COPY * (size_t)older, copy, sizeof copy);
+    if (!error)
+        fram->newest = older;
+    return error;
 }
 
 static int load(void *context, enum kgt_area area, size_t at, uint8_t *bytes, size_t size)
@@ -107,7 +134,7 @@ static int write(void *context, enum kgt_area area, size_t at, const uint8_t *by
 
     if (from >= KAGUTIN_HEADER_SIZE)
         return write_bytes(fram, from, bytes, size);
-    return from == 0 && size == KAGUTIN_HEADER_SIZE ? write_header(fram, bytes) : BAD_RANGE;
+    return from == 0 ? write_header(fram, bytes, size) : BAD_RANGE;
 }
 
 static int fence(void *context)

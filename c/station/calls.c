@@ -408,7 +408,7 @@ bool call_read(struct station *station, unsigned writer, size_t home, uint8_t *b
         refusal_prepare(station);
     reply = kagutin_read(AREAS(station), STATE(station), NEWEST(station), block, KAGUTIN_BLOCK_SIZE, writer, home);
     if (!may) {
-        refusal_check(station, "read", reply, KAGUTIN_NO_READ);
+        refusal_check(station, "read", reply, KAGUTIN_READ_DENIED);
         return false;
     }
     call_expect(station, "read", reply, 0, 0);

@@ -74,28 +74,28 @@ static void expect_figure(struct station *station, const char *what, unsigned nu
                          (unsigned long long)events);
 }
 
-struct kagutin_figures call_hours(struct station *station, unsigned task, unsigned pump)
+struct kagutin_hours call_hours(struct station *station, unsigned task, unsigned pump)
 {
     const struct event_pump *sum = &station->events.newest.pumps[pump];
-    struct kagutin_figures hours = kagutin_pump_hours(MEMORY(station), task, pump);
+    struct kagutin_hours hours = kagutin_pump_hours(MEMORY(station), task, pump);
 
     station->counters.calls++;
     expect_figure(station, "answer on the hours of pump", pump, hours.code, KAGUTIN_DONE);
-    expect_figure(station, "starts of pump", pump, hours.first, sum->starts);
-    expect_figure(station, "run seconds of pump", pump, hours.second, sum->seconds);
+    expect_figure(station, "starts of pump", pump, hours.starts, sum->starts);
+    expect_figure(station, "run seconds of pump", pump, hours.seconds, sum->seconds);
     return hours;
 }
 
-struct kagutin_figures call_services(struct station *station, unsigned task, unsigned pump, uint64_t interval)
+struct kagutin_services call_services(struct station *station, unsigned task, unsigned pump, uint64_t interval)
 {
     const struct event_pump *sum = &station->events.newest.pumps[pump];
-    struct kagutin_figures due = kagutin_pump_services(MEMORY(station), task, pump, interval);
+    struct kagutin_services services = kagutin_pump_services(MEMORY(station), task, pump, interval);
 
     station->counters.calls++;
-    expect_figure(station, "answer on the services of pump", pump, due.code, KAGUTIN_DONE);
-    expect_figure(station, "services due of pump", pump, due.first, sum->seconds / interval);
-    expect_figure(station, "seconds since the last service due of pump", pump, due.second, sum->seconds % interval);
-    return due;
+    expect_figure(station, "answer on the services of pump", pump, services.code, KAGUTIN_DONE);
+    expect_figure(station, "services due of pump", pump, services.due, sum->seconds / interval);
+    expect_figure(station, "seconds since the last service due of pump", pump, services.left, sum->seconds % interval);
+    return services;
 }
 
 struct kagutin_alarm call_gravest(struct station *station, unsigned task)

@@ -11,8 +11,8 @@ bool call_event(struct station *station, unsigned writer, struct event *event);
 struct kagutin_reply call_event_bare(struct station *station, unsigned writer, const struct event *event);
 
 /* What a task shows, which must be what the events come to. */
-struct kagutin_figures call_hours(struct station *station, unsigned task, unsigned pump);
-struct kagutin_figures call_services(struct station *station, unsigned task, unsigned pump, uint64_t interval);
+struct kagutin_hours call_hours(struct station *station, unsigned task, unsigned pump);
+struct kagutin_services call_services(struct station *station, unsigned task, unsigned pump, uint64_t interval);
 struct kagutin_alarm call_gravest(struct station *station, unsigned task);
 
 /* After an opening: homes, hours, starts and the gravest alarm are those of the events in the run. */

@@ -5,7 +5,7 @@
 
 #include "common/rule.h"
 #include "rights.h"
-#include "store/state_layout.h"
+#include "store/kagutin_state_layout.h"
 
 #define LOG(s) (s)->driver.log, (s)->driver.log_size
 #define AREA(s) (s)->driver.area, (s)->driver.area_size
@@ -52,8 +52,8 @@ void refusal_check(struct station *station, const char *call, struct kagutin_rep
 
     station->counters.refusals++;
     station->counters.full += code == KAGUTIN_FULL;
-    station->counters.no_store += code == KAGUTIN_NO_STORE;
-    station->counters.no_read += code == KAGUTIN_NO_READ;
+    station->counters.store_denied += code == KAGUTIN_STORE_DENIED;
+    station->counters.read_denied += code == KAGUTIN_READ_DENIED;
     if (reply.code != code)
         station_mismatch(station, "%s answered %llu, it must be refused with %llu (%s)", call,
                          (unsigned long long)reply.code, (unsigned long long)code, kagutin_answer_text(code));
@@ -155,10 +155,10 @@ static void try_rights(struct station *s)
 
     if (!rights_may_store(s, writer, home))
         refusal_check(s, "store", kagutin_store(LOG(s), AREA(s), STATE(s), block, sizeof block, BATCH(s), writer, home),
-                      KAGUTIN_NO_STORE);
+                      KAGUTIN_STORE_DENIED);
     if (!rights_may_read(s, writer, home))
         refusal_check(s, "read", kagutin_read(LOG(s), AREA(s), STATE(s), NEWEST(s), block, sizeof block, writer, home),
-                      KAGUTIN_NO_READ);
+                      KAGUTIN_READ_DENIED);
 }
 
 /* Events of pumps out of turn or too early, alarms that are open or not, and those of another task. */
@@ -170,12 +170,12 @@ static void try_events(struct station *s)
     uint32_t early = (uint32_t)sum->last - 1;
 
     refusal_check(s, "pump_start", kagutin_pump_start(MEMORY(s), RUN_HOURS, KAGUTIN_PUMPS, s->second), KAGUTIN_BAD_PUMP);
-    refusal_check(s, "pump_stop", kagutin_pump_stop(MEMORY(s), SERVICE, pump, s->second), KAGUTIN_NO_STORE);
-    refusal_check(s, "alarm_clear", kagutin_alarm_clear(MEMORY(s), RUN_HOURS, (uint16_t)alarm), KAGUTIN_NO_STORE);
+    refusal_check(s, "pump_stop", kagutin_pump_stop(MEMORY(s), SERVICE, pump, s->second), KAGUTIN_STORE_DENIED);
+    refusal_check(s, "alarm_clear", kagutin_alarm_clear(MEMORY(s), RUN_HOURS, (uint16_t)alarm), KAGUTIN_STORE_DENIED);
     if (sum->running)
-        refusal_check(s, "pump_start", kagutin_pump_start(MEMORY(s), RUN_HOURS, pump, s->second), KAGUTIN_WRONG_TURN);
+        refusal_check(s, "pump_start", kagutin_pump_start(MEMORY(s), RUN_HOURS, pump, s->second), KAGUTIN_WRONG_PUMP_STATE);
     else
-        refusal_check(s, "pump_stop", kagutin_pump_stop(MEMORY(s), RUN_HOURS, pump, s->second), KAGUTIN_WRONG_TURN);
+        refusal_check(s, "pump_stop", kagutin_pump_stop(MEMORY(s), RUN_HOURS, pump, s->second), KAGUTIN_WRONG_PUMP_STATE);
     if (sum->running && sum->last)
         refusal_check(s, "pump_stop", kagutin_pump_stop(MEMORY(s), RUN_HOURS, pump, early), KAGUTIN_BAD_SECOND);
     if (open)

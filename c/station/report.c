@@ -150,7 +150,7 @@ static void print_calls(const struct station *station)
     fprintf(report, "  %10lu refused as they must be, with no lent byte changed; %lu because the log was full\n",
             counters->refusals, counters->full);
     fprintf(report, "  %10lu stores and %lu reads of a home that the list of rights does not give: refused\n",
-            counters->no_store, counters->no_read);
+            counters->store_denied, counters->read_denied);
     fprintf(report, "  %10lu transactions aborted, %lu of them since the log stayed full\n", counters->aborts,
             counters->given_up);
 }

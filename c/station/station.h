@@ -30,7 +30,7 @@ struct counters {
     unsigned long calls, refusals, full, reserves, waits, reads, commits, aborts, given_up, confirms, trims, rounds, steps;
     unsigned long full_live, full_dead, holds[KAGUTIN_WRITERS]; /* places, and who held the log, when it was full */
     unsigned long pump_events, alarm_events;
-    unsigned long lists, no_store, no_read; /* lists committed, and what they forbid */
+    unsigned long lists, store_denied, read_denied; /* lists committed, and what they forbid */
     unsigned long replayed, cuts, opening_cuts;
     unsigned long kept[KAGUTIN_WRITERS], lost[KAGUTIN_WRITERS], unissued[KAGUTIN_WRITERS]; /* commits by task */
     unsigned long left; /* commits in an image that was not opened after its last cut */

@@ -18,10 +18,10 @@ static void read_pumps(struct station *station, struct pump pumps[KAGUTIN_PUMPS]
     unsigned i;
 
     for (i = 0; i < KAGUTIN_PUMPS; i++) {
-        struct kagutin_figures hours = call_hours(station, SERVICE, i);
-        struct kagutin_figures due = call_services(station, SERVICE, i, 3600 * SERVICE_HOURS);
+        struct kagutin_hours hours = call_hours(station, SERVICE, i);
+        struct kagutin_services services = call_services(station, SERVICE, i, 3600 * SERVICE_HOURS);
 
-        pumps[i] = (struct pump){hours.first, hours.second, due.first, due.second};
+        pumps[i] = (struct pump){hours.starts, hours.seconds, services.due, services.left};
     }
 }
 

@@ -53,14 +53,20 @@ static int write_heads(struct kgt_runner *runner)
     return error;
 }
 
+static bool is_zero(const uint8_t *word)
+{
+    static const uint8_t zeros[WORD] = {0};
+
+    return memcmp(word, zeros, WORD) == 0;
+}
+
 static int write_group(struct kgt_runner *runner, size_t slot, const uint8_t *bytes)
 {
-    static const uint8_t no_number[WORD] = {0};
     const struct kgt_driver *driver = &runner->driver;
     size_t at = KGT_LOG_SIZE(slot);
     int error;
 
-    if (driver->landing == KGT_LANDS_BLOCKS || memcmp(bytes, no_number, WORD) == 0)
+    if (driver->landing == KGT_LANDS_BLOCKS || is_zero(bytes))
         return driver->write(driver->context, KGT_LOG, at, bytes, KAGUTIN_GROUP_SIZE);
     error = runner->waiting == KGT_HEADS ? write_heads(runner) : 0;
     if (error)
@@ -69,6 +75,20 @@ static int write_group(struct kgt_runner *runner, size_t slot, const uint8_t *by
     memcpy(runner->heads[runner->waiting].word, bytes, WORD);
     runner->waiting++;
     return driver->write(driver->context, KGT_LOG, at + WORD, bytes + WORD, KAGUTIN_GROUP_SIZE - WORD);
+}
+
+/* A header without a mark, as a format begins with: the old mark is gone before any other word changes. */
+static int write_header(struct kgt_runner *runner, const uint8_t *bytes)
+{
+    const struct kgt_driver *driver = &runner->driver;
+    int error = 0;
+
+    if (driver->landing == KGT_LANDS_WORDS && is_zero(bytes)) {
+        error = driver->write(driver->context, KGT_LOG, 0, bytes, WORD);
+        if (!error)
+            error = driver->fence(driver->context);
+    }
+    return error ? error : driver->write(driver->context, KGT_LOG, 0, bytes, KAGUTIN_HEADER_SIZE);
 }
 
 int kgt_run_fence(struct kgt_runner *runner)
@@ -89,7 +109,7 @@ int kgt_run_record(struct kgt_runner *runner, const struct kgt_record *record)
         return driver->write(driver->context, KGT_HOMES, KGT_HOMES_SIZE(record->place), record->bytes,
                              KAGUTIN_BLOCK_SIZE);
     case KGT_KW:
-        return driver->write(driver->context, KGT_LOG, 0, record->bytes, KAGUTIN_HEADER_SIZE);
+        return write_header(runner, record->bytes);
     default:
         return kgt_run_fence(runner);
     }

@@ -1,7 +1,9 @@
 /* The list of rights: its bytes, and the transaction that stores it. */
 #include <string.h>
 
+#include "kagutin_chains.h"
 #include "kagutin_rights.h"
+#include "kagutin_store_inner.h"
 
 /* By writer: ranges to store, then to read; each first home and number of homes, 16 bits. */
 enum { RANGE = 4, READS = KGT_RIGHTS_RANGES * RANGE, WRITER = 2 * READS, MOST = 65535 };
@@ -109,34 +111,31 @@ bool kgt_rights_may_read(const struct kgt_rights *list, uint64_t writer, uint64_
 
 /* ---- on the store object ---- */
 
-/* The places are reserved, so that no call of the transaction finds the log full. */
-struct kagutin_reply kgt_set_rights(struct kagutin *store, const struct kgt_rights *list)
+static struct kagutin_reply set_once(struct kagutin *store, const struct kgt_rights *list)
 {
-    struct kagutin_reply reply = kgt_reserve(store, 0, KGT_RIGHTS_HOMES);
-    size_t i;
+    return kgt_inner_run(store, kagutin_transact(KGT_MEMORY(store), list->bytes, sizeof list->bytes, KGT_BATCH(store), 0,
+                                                 KGT_RIGHTS_HOME));
+}
+
+struct kgt_ticket kgt_set_rights(struct kagutin *store, const struct kgt_rights *list)
+{
+    struct kgt_reply reply = kgt_inner_enter(store);
+    struct kagutin_reply set;
+
+    if (reply.code != KAGUTIN_DONE)
+        return kgt_inner_ticket(reply, 0);
+    set = set_once(store, list);
+    if (set.code == KAGUTIN_FULL && kgt_inner_make_room(store, &set))
+        set = set_once(store, list);
+    return kgt_inner_ticket(kgt_inner_leave(store, set), set.figure);
+}
+
+struct kgt_reply kgt_get_rights(struct kagutin *store, uint64_t writer, struct kgt_rights *list)
+{
+    struct kgt_reply reply = kgt_inner_enter(store);
 
     if (reply.code != KAGUTIN_DONE)
         return reply;
-    if (store->runner.homes < KGT_RIGHTS_HOME + KGT_RIGHTS_HOMES)
-        reply.code = KAGUTIN_BAD_HOME;
-    for (i = 0; i < KGT_RIGHTS_HOMES && reply.code == KAGUTIN_DONE; i++)
-        reply = kgt_store(store, 0, KGT_RIGHTS_HOME + i, list->bytes + KAGUTIN_BLOCK_SIZE * i);
-    if (reply.code == KAGUTIN_DONE)
-        return kgt_commit(store, 0);
-    kgt_abort(store, 0);
-    return reply;
-}
-
-struct kagutin_reply kgt_get_rights(struct kagutin *store, uint64_t writer, struct kgt_rights *list)
-{
-    struct kgt_rights found;
-    struct kagutin_reply reply;
-    size_t i = 0;
-
-    do
-        reply = kgt_read(store, writer, KGT_RIGHTS_HOME + i, found.bytes + KAGUTIN_BLOCK_SIZE * i);
-    while (++i < KGT_RIGHTS_HOMES && reply.code == KAGUTIN_DONE);
-    if (reply.code == KAGUTIN_DONE)
-        *list = found;
-    return reply;
+    return kgt_inner_leave(store, kagutin_fetch(KGT_MEMORY(store), list->bytes, sizeof list->bytes, writer,
+                                                KGT_RIGHTS_HOME));
 }

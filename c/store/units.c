@@ -1,72 +1,6 @@
 /* Depth bands, pump hours and alarms on the store object. */
+#include "kagutin_store_inner.h"
 #include "kagutin_units.h"
-
-#define AREAS(s) (s)->log, (s)->log_size, (s)->area, (s)->area_size
-#define STATE(s) (s)->state, (size_t)KAGUTIN_STATE_SIZE
-#define NEWEST(s) (s)->newest, (s)->newest_size
-#define BATCH(s) (s)->batch, (s)->batch_size
-#define MEMORY(s) AREAS(s), STATE(s), NEWEST(s)
-
-const char *kgt_unit_answer_text(uint64_t code)
-{
-    switch (code) {
-    case KAGUTIN_BAD_BANDS: return "no table of depth bands, or a bad one, or a depth above 9,999 mm";
-    case KAGUTIN_BAND_GAP: return "a millimetre lies in no row";
-    case KAGUTIN_BAND_OVERLAP: return "a millimetre lies in two rows or more";
-    case KAGUTIN_BAD_PUMP: return "no such pump, or no interval";
-    case KAGUTIN_WRONG_TURN: return "the pump runs already, or does not run";
-    case KAGUTIN_BAD_SECOND: return "before the pump's last event, or past 32 bits";
-    case KAGUTIN_BAD_ALARM: return "class out of range, or the alarm is open already, or not open";
-    case KAGUTIN_ALARMS_FULL: return "48 alarms are open";
-    default: return kgt_answer_text(code);
-    }
-}
-
-/* ---- around every call ---- */
-
-static struct kagutin_reply answer(uint64_t code, uint64_t figure)
-{
-    struct kagutin_reply reply;
-
-    reply.code = code;
-    reply.figure = figure;
-    reply.size = 0;
-    return reply;
-}
-
-static void leave(struct kagutin *store)
-{
-    if (store->unlock)
-        store->unlock(store->lock_context);
-}
-
-/* Takes the lock of a store that is open; else the reply says why not. */
-static bool enter(struct kagutin *store, struct kagutin_reply *reply)
-{
-    *reply = answer(KGT_LOCK_FAILED, 0);
-    if (store->lock && store->lock(store->lock_context) != 0)
-        return false;
-    if (store->condition == KGT_IS_OPEN)
-        return true;
-    *reply = store->condition == KGT_HAS_FAILED ? answer(KGT_DRIVER_FAILED, (uint64_t)(int64_t)store->error)
-                                                : answer(KGT_CLOSED, 0);
-    leave(store);
-    return false;
-}
-
-/* Runs the batch of a done call. From the first failure on the store is shut. */
-static struct kagutin_reply run(struct kagutin *store, struct kagutin_reply reply)
-{
-    if (reply.code == KAGUTIN_DONE) {
-        store->error = kgt_run(&store->runner, store->batch, (size_t)reply.size);
-        if (store->error) {
-            store->condition = KGT_HAS_FAILED;
-            reply = answer(KGT_DRIVER_FAILED, (uint64_t)(int64_t)store->error);
-        }
-    }
-    reply.size = 0;
-    return reply;
-}
 
 /* ---- events ---- */
 
@@ -74,7 +8,6 @@ enum event_kind { SET_BANDS, PUMP_STARTS, PUMP_STOPS, ALARM_ARRIVES, ALARM_CLEAR
 
 struct event {
     enum event_kind kind;
-    uint64_t entries; /* that it logs */
     const uint8_t *rows;
     size_t rows_size;
     uint64_t pump, alarm_class;
@@ -82,156 +15,189 @@ struct event {
     uint32_t second;
 };
 
+static struct event event_of(enum event_kind kind)
+{
+    struct event event = {SET_BANDS, NULL, 0, 0, 0, 0, 0};
+
+    event.kind = kind;
+    return event;
+}
+
 static struct kagutin_reply call(struct kagutin *store, uint64_t writer, const struct event *event)
 {
     switch (event->kind) {
     case SET_BANDS:
-        return kagutin_bands_set(MEMORY(store), BATCH(store), event->rows, event->rows_size, writer);
+        return kagutin_bands_set(KGT_MEMORY(store), KGT_BATCH(store), event->rows, event->rows_size, writer);
     case PUMP_STARTS:
-        return kagutin_pump_start(MEMORY(store), BATCH(store), writer, event->pump, event->second);
+        return kagutin_pump_start(KGT_MEMORY(store), KGT_BATCH(store), writer, event->pump, event->second);
     case PUMP_STOPS:
-        return kagutin_pump_stop(MEMORY(store), BATCH(store), writer, event->pump, event->second);
+        return kagutin_pump_stop(KGT_MEMORY(store), KGT_BATCH(store), writer, event->pump, event->second);
     case ALARM_ARRIVES:
-        return kagutin_alarm_arrive(MEMORY(store), BATCH(store), writer, event->identity, event->alarm_class,
+        return kagutin_alarm_arrive(KGT_MEMORY(store), KGT_BATCH(store), writer, event->identity, event->alarm_class,
                                     event->second);
     default:
-        return kagutin_alarm_clear(MEMORY(store), BATCH(store), writer, event->identity);
+        return kagutin_alarm_clear(KGT_MEMORY(store), KGT_BATCH(store), writer, event->identity);
     }
 }
 
-static struct kagutin_reply try_once(struct kagutin *store, uint64_t writer, const struct event *event)
+/* Takes the event in, with room made once; figure is the library's. */
+static struct kgt_reply take(struct kagutin *store, uint64_t writer, const struct event *event, uint64_t *figure)
 {
-    struct kagutin_reply reply;
+    struct kgt_reply reply = kgt_inner_enter(store);
+    struct kagutin_reply taken;
 
-    if (!enter(store, &reply))
+    *figure = 0;
+    if (reply.code != KAGUTIN_DONE)
         return reply;
-    reply = run(store, call(store, writer, event));
-    leave(store);
-    return reply;
+    taken = kgt_inner_run(store, call(store, writer, event));
+    if (taken.code == KAGUTIN_FULL && kgt_inner_make_room(store, &taken))
+        taken = kgt_inner_run(store, call(store, writer, event));
+    *figure = taken.figure;
+    return kgt_inner_leave(store, taken);
 }
 
-/* A reservation makes room in a full log; given back at once, it leaves that room to the event. */
-static struct kagutin_reply take(struct kagutin *store, uint64_t writer, const struct event *event)
+static struct kgt_ticket ticket_of(struct kagutin *store, uint64_t writer, const struct event *event)
 {
-    struct kagutin_reply reply = try_once(store, writer, event), room;
+    uint64_t figure;
+    struct kgt_reply reply = take(store, writer, event, &figure);
 
-    if (reply.code != KAGUTIN_FULL)
-        return reply;
-    room = kgt_reserve(store, writer, event->entries);
-    if (room.code == KAGUTIN_NO_PLACES) {
-        reply.figure = room.figure;
-        return reply;
-    }
-    if (room.code == KAGUTIN_DONE)
-        room = kgt_abort(store, writer);
-    if (room.code != KAGUTIN_DONE)
-        return room;
-    reply = try_once(store, writer, event);
-    if (reply.code == KAGUTIN_FULL) /* other tasks were quicker */
-        reply.figure = KAGUTIN_WRITERS;
-    return reply;
+    return kgt_inner_ticket(reply, figure);
 }
 
-struct kagutin_reply kgt_bands_set(struct kagutin *store, uint64_t writer, const uint8_t *rows, size_t size)
+struct kgt_table kgt_bands_set(struct kagutin *store, uint64_t writer, const uint8_t *rows, size_t size)
 {
-    struct event event = {SET_BANDS, KAGUTIN_BANDS_HOMES, NULL, 0, 0, 0, 0, 0};
+    struct event event = event_of(SET_BANDS);
+    struct kgt_reply reply;
+    struct kgt_table table;
+    uint64_t figure;
 
     event.rows = rows;
     event.rows_size = size;
-    return take(store, writer, &event);
+    reply = take(store, writer, &event, &figure);
+    table.code = reply.code;
+    table.ticket = reply.code == KAGUTIN_DONE ? figure : KGT_NOT_TOLD;
+    table.mm = reply.code == KAGUTIN_BAND_GAP || reply.code == KAGUTIN_BAND_OVERLAP ? figure : KGT_NOT_TOLD;
+    table.holder = reply.holder;
+    table.error = reply.error;
+    return table;
 }
 
-struct kagutin_reply kgt_pump_start(struct kagutin *store, uint64_t writer, uint64_t pump, uint32_t second)
+static struct kgt_ticket pump_event(struct kagutin *store, enum event_kind kind, uint64_t writer, uint64_t pump,
+                                    uint32_t second)
 {
-    struct event event = {PUMP_STARTS, 1, NULL, 0, 0, 0, 0, 0};
+    struct event event = event_of(kind);
 
     event.pump = pump;
     event.second = second;
-    return take(store, writer, &event);
+    return ticket_of(store, writer, &event);
 }
 
-struct kagutin_reply kgt_pump_stop(struct kagutin *store, uint64_t writer, uint64_t pump, uint32_t second)
+struct kgt_ticket kgt_pump_start(struct kagutin *store, uint64_t writer, uint64_t pump, uint32_t second)
 {
-    struct event event = {PUMP_STOPS, 1, NULL, 0, 0, 0, 0, 0};
-
-    event.pump = pump;
-    event.second = second;
-    return take(store, writer, &event);
+    return pump_event(store, PUMP_STARTS, writer, pump, second);
 }
 
-struct kagutin_reply kgt_alarm_arrive(struct kagutin *store, uint64_t writer, uint16_t identity, uint64_t alarm_class,
-                                      uint32_t second)
+struct kgt_ticket kgt_pump_stop(struct kagutin *store, uint64_t writer, uint64_t pump, uint32_t second)
 {
-    struct event event = {ALARM_ARRIVES, KAGUTIN_ALARMS_HOMES, NULL, 0, 0, 0, 0, 0};
+    return pump_event(store, PUMP_STOPS, writer, pump, second);
+}
+
+struct kgt_ticket kgt_alarm_arrive(struct kagutin *store, uint64_t writer, uint16_t identity, uint64_t alarm_class,
+                                   uint32_t second)
+{
+    struct event event = event_of(ALARM_ARRIVES);
 
     event.identity = identity;
     event.alarm_class = alarm_class;
     event.second = second;
-    return take(store, writer, &event);
+    return ticket_of(store, writer, &event);
 }
 
-struct kagutin_reply kgt_alarm_clear(struct kagutin *store, uint64_t writer, uint16_t identity)
+struct kgt_ticket kgt_alarm_clear(struct kagutin *store, uint64_t writer, uint16_t identity)
 {
-    struct event event = {ALARM_CLEARS, KAGUTIN_ALARMS_HOMES, NULL, 0, 0, 0, 0, 0};
+    struct event event = event_of(ALARM_CLEARS);
 
     event.identity = identity;
-    return take(store, writer, &event);
+    return ticket_of(store, writer, &event);
 }
 
 /* ---- calls that read ---- */
 
-struct kagutin_band kgt_bands_look_up(struct kagutin *store, uint64_t writer, uint64_t mm)
+struct kgt_band kgt_bands_look_up(struct kagutin *store, uint64_t writer, uint64_t mm)
 {
-    struct kagutin_band band = {0, 0, 0, 0};
-    struct kagutin_reply reply;
+    struct kgt_reply reply = kgt_inner_enter(store);
+    struct kagutin_band found = {0, 0, 0, 0};
+    struct kgt_band band;
+    bool done;
 
-    if (enter(store, &reply)) {
-        band = kagutin_bands_look_up(MEMORY(store), writer, mm);
-        leave(store);
-    } else {
-        band.code = reply.code;
+    if (reply.code == KAGUTIN_DONE) {
+        found = kagutin_bands_look_up(KGT_MEMORY(store), writer, mm);
+        reply = kgt_inner_leave(store, kgt_inner_answer(found.code));
     }
+    done = reply.code == KAGUTIN_DONE;
+    band.code = reply.code;
+    band.from = done ? found.from : KGT_NOT_TOLD;
+    band.to = done ? found.to : KGT_NOT_TOLD;
+    band.pumps = done ? found.pumps : KGT_NOT_TOLD;
+    band.error = reply.error;
     return band;
 }
 
-struct kagutin_figures kgt_pump_hours(struct kagutin *store, uint64_t writer, uint64_t pump)
+struct kgt_hours kgt_pump_hours(struct kagutin *store, uint64_t writer, uint64_t pump)
 {
-    struct kagutin_figures figures = {0, 0, 0};
-    struct kagutin_reply reply;
+    struct kgt_reply reply = kgt_inner_enter(store);
+    struct kagutin_hours found = {0, 0, 0};
+    struct kgt_hours hours;
+    bool done;
 
-    if (enter(store, &reply)) {
-        figures = kagutin_pump_hours(MEMORY(store), writer, pump);
-        leave(store);
-    } else {
-        figures.code = reply.code;
+    if (reply.code == KAGUTIN_DONE) {
+        found = kagutin_pump_hours(KGT_MEMORY(store), writer, pump);
+        reply = kgt_inner_leave(store, kgt_inner_answer(found.code));
     }
-    return figures;
+    done = reply.code == KAGUTIN_DONE;
+    hours.code = reply.code;
+    hours.starts = done ? found.starts : KGT_NOT_TOLD;
+    hours.seconds = done ? found.seconds : KGT_NOT_TOLD;
+    hours.error = reply.error;
+    return hours;
 }
 
-struct kagutin_figures kgt_pump_services(struct kagutin *store, uint64_t writer, uint64_t pump, uint64_t interval)
+struct kgt_services kgt_pump_services(struct kagutin *store, uint64_t writer, uint64_t pump, uint64_t interval)
 {
-    struct kagutin_figures figures = {0, 0, 0};
-    struct kagutin_reply reply;
+    struct kgt_reply reply = kgt_inner_enter(store);
+    struct kagutin_services found = {0, 0, 0};
+    struct kgt_services services;
+    bool done;
 
-    if (enter(store, &reply)) {
-        figures = kagutin_pump_services(MEMORY(store), writer, pump, interval);
-        leave(store);
-    } else {
-        figures.code = reply.code;
+    if (reply.code == KAGUTIN_DONE) {
+        found = kagutin_pump_services(KGT_MEMORY(store), writer, pump, interval);
+        reply = kgt_inner_leave(store, kgt_inner_answer(found.code));
     }
-    return figures;
+    done = reply.code == KAGUTIN_DONE;
+    services.code = reply.code;
+    services.due = done ? found.due : KGT_NOT_TOLD;
+    services.left = done ? found.left : KGT_NOT_TOLD;
+    services.error = reply.error;
+    return services;
 }
 
-struct kagutin_alarm kgt_alarm_gravest(struct kagutin *store, uint64_t writer)
+struct kgt_alarm kgt_alarm_gravest(struct kagutin *store, uint64_t writer)
 {
-    struct kagutin_alarm alarm = {0, 0, 0, 0};
-    struct kagutin_reply reply;
+    struct kgt_reply reply = kgt_inner_enter(store);
+    struct kagutin_alarm found = {0, 0, 0, 0};
+    struct kgt_alarm alarm;
+    bool open;
 
-    if (enter(store, &reply)) {
-        alarm = kagutin_alarm_gravest(MEMORY(store), writer);
-        leave(store);
-    } else {
-        alarm.code = reply.code;
+    if (reply.code == KAGUTIN_DONE) {
+        found = kagutin_alarm_gravest(KGT_MEMORY(store), writer);
+        reply = kgt_inner_leave(store, kgt_inner_answer(found.code));
     }
+    open = reply.code == KAGUTIN_DONE && found.alarm_class != 0;
+    alarm.code = reply.code;
+    alarm.shown = reply.code != KAGUTIN_DONE ? KGT_ALARM_NOT_TOLD : open ? KGT_ALARM_OPEN : KGT_NONE_OPEN;
+    alarm.identity = open ? found.identity : KGT_NOT_TOLD;
+    alarm.alarm_class = open ? found.alarm_class : KGT_NOT_TOLD;
+    alarm.second = open ? found.second : KGT_NOT_TOLD;
+    alarm.error = reply.error;
     return alarm;
 }

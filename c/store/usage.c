@@ -1,33 +1,45 @@
-/* Who holds a log back, told by the state. */
-#include "kagutin_store.h"
+/* What the state tells of a log: its numbers, and who holds it back. */
+#include "kagutin_store_inner.h"
 
-/* The writers' modes and their records in the state; docs/FORMAT.md. */
-enum { MODES = 104, MODE_LOGGING = 3, WRITERS = 128, WRITER_SIZE = 24, FIRST = 8 };
-
-static uint64_t number(const uint8_t *bytes)
+uint64_t kgt_inner_number(const uint8_t *state, size_t at)
 {
     uint64_t value = 0;
-    int i;
+    size_t i;
 
-    for (i = 7; i >= 0; i--)
-        value = value << 8 | bytes[i];
+    for (i = 8; i > 0; i--)
+        value = value << 8 | state[at + i - 1];
     return value;
 }
 
-uint64_t kgt_holder(const uint8_t *state, uint64_t *first)
+uint64_t kgt_inner_holder(const uint8_t *state, uint64_t *first)
 {
-    uint64_t holder = KAGUTIN_WRITERS, writer;
+    uint64_t holder = KGT_NO_HOLDER, begins;
+    size_t writer;
 
     *first = 0;
     for (writer = 0; writer < KAGUTIN_WRITERS; writer++) {
-        const uint8_t *record = state + WRITERS + WRITER_SIZE * writer;
-
-        if (state[MODES + writer] != MODE_LOGGING)
+        if (state[STATE_MODES + writer] != STATE_MODE_LOGGING)
             continue;
-        if (holder == KAGUTIN_WRITERS || number(record + FIRST) < *first) {
+        begins = kgt_inner_number(state, STATE_WRITERS + STATE_WRITER_SIZE * writer + STATE_WRITER_FIRST);
+        if (holder == KGT_NO_HOLDER || begins < *first) {
             holder = writer;
-            *first = number(record + FIRST);
+            *first = begins;
         }
     }
     return holder;
+}
+
+struct kgt_reply kgt_usage(struct kagutin *store, struct kagutin_places *places)
+{
+    static const struct kagutin_places none = {0, 0, 0, 0, 0, KGT_NO_HOLDER, 0};
+    struct kgt_reply reply = kgt_inner_enter(store);
+    struct kagutin_places found = none;
+
+    if (reply.code == KAGUTIN_DONE) {
+        found = kagutin_usage(KGT_AREAS(store), KGT_STATE(store));
+        reply = kgt_inner_leave(store, kgt_inner_answer(found.code));
+    }
+    *places = reply.code == KAGUTIN_DONE ? found : none;
+    places->code = reply.code;
+    return reply;
 }

@@ -129,32 +129,32 @@ static bool is_record(struct copy *copy, uint64_t writer, unsigned pump)
 static bool read_pump(struct wear_sheet *sheet, struct copy *copy, const struct options *options, const char *path,
                       unsigned pump, unsigned *hidden)
 {
-    struct kagutin_figures hours = kgt_pump_hours(&copy->store, options->writer, pump);
-    struct kagutin_figures due = kgt_pump_services(&copy->store, options->writer, pump, sheet->interval);
+    struct kgt_hours hours = kgt_pump_hours(&copy->store, options->writer, pump);
+    struct kgt_services due = kgt_pump_services(&copy->store, options->writer, pump, sheet->interval);
     struct wear_row *row = &sheet->rows[sheet->count];
 
-    if (hours.code == KAGUTIN_NO_READ) {
+    if (hours.code == KAGUTIN_READ_DENIED) {
         ++*hidden;
         return false;
     }
     if (hours.code != KAGUTIN_DONE || due.code != KAGUTIN_DONE) {
-        complain("%s: pump %u: %s", path, pump, kgt_unit_answer_text(hours.code ? hours.code : due.code));
+        complain("%s: pump %u: %s", path, pump, kgt_answer_text(hours.code ? hours.code : due.code));
         return false;
     }
     if (!is_record(copy, options->writer, pump)) {
         complain("%s: home %u holds no record of pump %u", path, KAGUTIN_PUMP_HOME + pump, pump);
         return false;
     }
-    if (hours.first == 0 && !options->all) {
+    if (hours.starts == 0 && !options->all) {
         sheet->idle++;
         return true;
     }
     row->image = path;
     row->pump = pump;
-    row->starts = hours.first;
-    row->seconds = hours.second;
-    row->services = due.first;
-    row->left = due.second;
+    row->starts = hours.starts;
+    row->seconds = hours.seconds;
+    row->services = due.due;
+    row->left = due.left;
     sheet->count++;
     return true;
 }

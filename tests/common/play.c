@@ -27,11 +27,11 @@ static bool wrong(struct play *play, const char *what)
 }
 
 /* Done, as it must be, or the driver has failed. */
-static bool done(struct play *play, struct kagutin_reply reply, const char *what)
+static bool done(struct play *play, uint64_t code, const char *what)
 {
-    if (reply.code == KAGUTIN_DONE)
+    if (code == KAGUTIN_DONE)
         return true;
-    return reply.code == KGT_DRIVER_FAILED ? false : wrong(play, what);
+    return code == KGT_DRIVER_FAILED ? false : wrong(play, what);
 }
 
 static void fill(uint8_t *block, uint64_t number, uint64_t home)
@@ -66,7 +66,7 @@ static bool reads(struct play *play, uint64_t writer, uint64_t home, uint64_t co
 {
     uint8_t block[KAGUTIN_BLOCK_SIZE], right[KAGUTIN_BLOCK_SIZE];
 
-    if (!done(play, kgt_read(play->store, writer, home, block), "read"))
+    if (!done(play, kgt_read(play->store, writer, home, block).code, "read"))
         return false;
     expected(play, commits, home, right);
     return memcmp(block, right, sizeof block) == 0 || wrong(play, "a home holds another block than the book has");
@@ -79,19 +79,19 @@ static void use_place(struct play *play, uint64_t writer)
 }
 
 /* The log is full: gives the transaction up. */
-static bool give_up(struct play *play, uint64_t writer, struct kagutin_reply reply)
+static bool give_up(struct play *play, uint64_t writer, uint64_t code, uint64_t holder)
 {
-    if (reply.code != KAGUTIN_FULL) {
+    if (code != KAGUTIN_FULL) {
         use_place(play, writer);
-        return done(play, reply, "store or commit");
+        return holder == KGT_NO_HOLDER ? done(play, code, "store or commit") : wrong(play, "a holder without answer 8");
     }
     play->full++;
     if (play->sure[writer])
         return wrong(play, "a promised place is refused");
-    if (reply.figure > KAGUTIN_WRITERS || (reply.figure < KAGUTIN_WRITERS && !play->open[reply.figure]))
+    if (holder > KGT_NO_HOLDER || (holder < KGT_NO_HOLDER && !play->open[holder]))
         return wrong(play, "the writer that holds the log has no transaction");
     play->open[writer] = false;
-    return done(play, kgt_abort(play->store, writer), "abort");
+    return done(play, kgt_abort(play->store, writer).code, "abort");
 }
 
 /* Homes 8 to 11 are the list of rights; no list is set here. */
@@ -105,34 +105,12 @@ static bool store_one(struct play *play, uint64_t writer)
     struct play_commit *plan = &play->writers[writer];
     uint64_t home = open_home(1 + play_random(play, play->homes - 1));
     uint8_t block[KAGUTIN_BLOCK_SIZE];
-    struct kagutin_reply reply;
+    struct kgt_reply reply;
 
     fill(block, plan->transaction, home);
     reply = kgt_store(play->store, writer, home, block);
     plan->homes |= (uint64_t)1 << home;
-    return give_up(play, writer, reply);
-}
-
-static bool commit(struct play *play, uint64_t writer)
-{
-    uint8_t block[KAGUTIN_BLOCK_SIZE];
-    struct kagutin_reply reply;
-
-    if (play->committed - play->opened == PLAY_MOST_COMMITS)
-        return wrong(play, "the book is too short for this work");
-    fill(block, play->committed + 1, 0);
-    reply = kgt_store(play->store, writer, 0, block);
-    if (reply.code != KAGUTIN_DONE)
-        return give_up(play, writer, reply);
-    use_place(play, writer);
-    play->commits[play->committed - play->opened] = play->writers[writer];
-    play->started = play->committed + 1;
-    reply = kgt_commit(play->store, writer);
-    if (reply.code != KAGUTIN_DONE)
-        return give_up(play, writer, reply);
-    play->committed = play->committed + 1;
-    play->open[writer] = false;
-    return true;
+    return give_up(play, writer, reply.code, reply.holder);
 }
 
 static bool any_reserved(const struct play *play)
@@ -145,15 +123,43 @@ static bool any_reserved(const struct play *play)
     return false;
 }
 
+static bool commit(struct play *play, uint64_t writer)
+{
+    uint8_t block[KAGUTIN_BLOCK_SIZE];
+    struct kgt_ticket ticket;
+    struct kgt_reply reply;
+    bool synced;
+
+    if (play->committed - play->opened == PLAY_MOST_COMMITS)
+        return wrong(play, "the book is too short for this work");
+    fill(block, play->committed + 1, 0);
+    reply = kgt_store(play->store, writer, 0, block);
+    if (reply.code != KAGUTIN_DONE)
+        return give_up(play, writer, reply.code, reply.holder);
+    use_place(play, writer);
+    play->commits[play->committed - play->opened] = play->writers[writer];
+    play->started = play->committed + 1;
+    synced = play_random(play, 16) == 0;
+    ticket = synced ? kgt_commit_sync(play->store, writer) : kgt_commit(play->store, writer);
+    if (ticket.ticket == KGT_NOT_TOLD)
+        return give_up(play, writer, ticket.code, ticket.holder);
+    play->committed = play->committed + 1;
+    play->open[writer] = false;
+    if (synced && ticket.code == KAGUTIN_DONE)
+        play->confirmed = play->committed;
+    return ticket.code == KAGUTIN_DONE || (synced && ticket.code == KAGUTIN_PROMISED && any_reserved(play))
+        || wrong(play, "a commit with a sync");
+}
+
 /* Promises may forbid it. */
 static bool sync_all(struct play *play)
 {
-    struct kagutin_reply reply = kgt_sync(play->store);
+    struct kgt_mark mark = kgt_sync(play->store);
 
-    if (reply.code == KAGUTIN_PROMISED && any_reserved(play))
-        return true;
-    if (!done(play, reply, "sync"))
-        return false;
+    if (mark.code == KAGUTIN_PROMISED && any_reserved(play))
+        return mark.mark == 0 || wrong(play, "a mark without a sync");
+    if (!done(play, mark.code, "sync"))
+        return mark.mark == 0 ? false : wrong(play, "a mark without a sync");
     play->confirmed = play->committed;
     return true;
 }
@@ -162,7 +168,7 @@ static bool sync_all(struct play *play)
 static bool begin(struct play *play, uint64_t writer)
 {
     uint64_t places = play_random(play, 4) ? 0 : 1 + play_random(play, 12);
-    struct kagutin_reply reply = places ? kgt_reserve(play->store, writer, places) : kgt_begin(play->store, writer);
+    struct kgt_reply reply = places ? kgt_reserve(play->store, writer, places) : kgt_begin(play->store, writer);
 
     if (reply.code == KAGUTIN_NO_PLACES && places) {
         play->full++;
@@ -173,7 +179,7 @@ static bool begin(struct play *play, uint64_t writer)
     play->sure[writer] = places;
     play->writers[writer].transaction = ++play->transactions;
     play->writers[writer].homes = 0;
-    return done(play, reply, "begin or reserve");
+    return done(play, reply.code, "begin or reserve");
 }
 
 static bool step(struct play *play)
@@ -183,14 +189,14 @@ static bool step(struct play *play)
     if (what == 0)
         return sync_all(play);
     if (what == 1)
-        return done(play, kgt_maintain(play->store, play_random(play, 4)), "maintain");
+        return done(play, kgt_maintain(play->store, play_random(play, 4)).code, "maintain");
     if (what == 2)
         return reads(play, 7, play_random(play, play->homes), play->committed);
     if (!play->open[writer])
         return begin(play, writer);
     if (what == 3) {
         play->open[writer] = false;
-        return done(play, kgt_abort(play->store, writer), "abort");
+        return done(play, kgt_abort(play->store, writer).code, "abort");
     }
     return what < 16 ? commit(play, writer) : store_one(play, writer);
 }
@@ -209,7 +215,7 @@ bool play_opened(struct play *play)
     uint8_t block[KAGUTIN_BLOCK_SIZE];
     int i;
 
-    if (!done(play, kgt_read(play->store, 0, 0, block), "read after an opening"))
+    if (!done(play, kgt_read(play->store, 0, 0, block).code, "read after an opening"))
         return false;
     for (i = 7; i >= 0; i--)
         number = number << 8 | block[i];

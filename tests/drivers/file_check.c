@@ -200,10 +200,10 @@ static void check_creation(void)
 /* After one failure the file is of no more use, though the disk is in order again. */
 static void check_gone(const char *what)
 {
-    struct kagutin_reply reply = kgt_sync(&store);
+    struct kgt_mark reply = kgt_sync(&store);
     uint8_t block[KAGUTIN_BLOCK_SIZE] = {0};
 
-    check(reply.code == KGT_DRIVER_FAILED && reply.figure != 0, what, (unsigned long)reply.code);
+    check(reply.code == KGT_DRIVER_FAILED && reply.error != 0 && reply.mark == 0, what, (unsigned long)reply.code);
     check(kgt_open(&store).code == KGT_DRIVER_FAILED, "it stays failed", 0);
     check(kgt_read(&store, 0, 1, block).code == KGT_DRIVER_FAILED, "every call is refused", 0);
     check(file.message[0] != '\0', "a message is left", 0);

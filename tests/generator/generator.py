@@ -75,6 +75,21 @@ def stops(rlib, words, said):
             fail(f'{said}: something was written')
 
 
+def one_name_each():
+    """Two types whose names are the same in C stop it."""
+    sys.path.insert(0, 'port')
+    from c_types import Types
+    from forms import U8, U64, Fields, Named, Slice, Stop
+    types = Types({'a::b::c': Fields((U8,)), 'a::b__c': Fields((U64,))}, {})
+    for first, second in ((Named('a::b::c'), Named('a::b__c')), (Slice(False, Slice(False, U8)), Slice(False, Slice(False, U64)))):
+        types.c(first)
+        try:
+            types.c(second)
+        except Stop:
+            continue
+        fail(f'{first} and {second} have one name in C')
+
+
 def names(command):
     """External names of an object or archive: defined, and not."""
     symbols = subprocess.run(command, capture_output=True, text=True, check=True).stdout.split('\n')
@@ -116,7 +131,8 @@ def main():
                 if handle.read() != text:
                     fail('two runs write different text')
     external_names()
-    print(f'generator: {len(EDITS) + 1} unknown forms refused, the same text in each run, no external names but the calls')
+    one_name_each()
+    print(f'generator: {len(EDITS) + 3} unknown forms refused, the same text in each run, no external names but the calls')
 
 
 if __name__ == '__main__':

@@ -26,6 +26,10 @@ for seed in 1 2 3; do
     gives 0 "events and cuts, seed $seed" "$out/units_check" "$seed"
 done
 gives 0 "events and cuts with sanitizers" "$san/units_check" 4
+gives 0 "replies: no field misleads, the driver failing at each call in turn, log full or not" "$san/replies_check"
+gives 0 "a lock refused at each taking, in every call: nothing has changed" "$san/lock_check"
+gives 0 "calls before init, a refused format, and who makes room" "$san/misuse_check"
+gives 0 "stack of the object's calls, room made at once or left to the task that maintains" "$out/object_stack"
 
 # --- bands ---
 gives 0 "an image" "$out/units_check" --image "$tmp/north.img" 90 4

@@ -24,19 +24,19 @@ static void check(bool right, const char *what)
     exit(1);
 }
 
-static void gives(struct kagutin_reply reply, uint64_t code, const char *what)
+static void gives(uint64_t answer, uint64_t code, const char *what)
 {
-    if (reply.code != code)
-        printf("rights_check: answer %lu, not %lu\n", (unsigned long)reply.code, (unsigned long)code);
-    check(reply.code == code, what);
+    if (answer != code)
+        printf("rights_check: answer %lu, not %lu\n", (unsigned long)answer, (unsigned long)code);
+    check(answer == code, what);
 }
 
 static void start(size_t homes)
 {
     kgt_memory_init(&medium, lasting, written, GROUPS, homes);
-    gives(kgt_init(&store, memory, sizeof memory, GROUPS, homes, kgt_memory_driver(&medium)), KAGUTIN_DONE, "init");
-    gives(kgt_format(&store, scratch, sizeof scratch), KAGUTIN_DONE, "format");
-    gives(kgt_open(&store), KAGUTIN_DONE, "open");
+    gives(kgt_init(&store, memory, sizeof memory, GROUPS, homes, kgt_memory_driver(&medium)).code, KAGUTIN_DONE, "init");
+    gives(kgt_format(&store, scratch, sizeof scratch).code, KAGUTIN_DONE, "format");
+    gives(kgt_open(&store).code, KAGUTIN_DONE, "open");
 }
 
 static bool none_lands(void *context, size_t at)
@@ -49,19 +49,19 @@ static bool none_lands(void *context, size_t at)
 static void cut(void)
 {
     kgt_memory_cut(&medium, none_lands, NULL);
-    gives(kgt_open(&store), KAGUTIN_DONE, "open after a cut");
+    gives(kgt_open(&store).code, KAGUTIN_DONE, "open after a cut");
 }
 
 static void store_one(uint64_t writer, uint64_t home, uint64_t code, const char *what)
 {
-    gives(kgt_begin(&store, writer), KAGUTIN_DONE, "begin");
-    gives(kgt_store(&store, writer, home, block), code, what);
-    gives(kgt_commit(&store, writer), KAGUTIN_DONE, "commit");
+    gives(kgt_begin(&store, writer).code, KAGUTIN_DONE, "begin");
+    gives(kgt_store(&store, writer, home, block).code, code, what);
+    gives(kgt_commit(&store, writer).code, KAGUTIN_DONE, "commit");
 }
 
 static void read_one(uint64_t writer, uint64_t home, uint64_t code, const char *what)
 {
-    gives(kgt_read(&store, writer, home, block), code, what);
+    gives(kgt_read(&store, writer, home, block).code, code, what);
 }
 
 /* ---- the list's bytes ---- */
@@ -140,8 +140,8 @@ static void check_all(const struct kgt_rights *list)
             bool may = kgt_rights_may_store(list, writer, home);
 
             if (home < 8 || home > 11)
-                store_one(writer, home, may ? KAGUTIN_DONE : KAGUTIN_NO_STORE, "store");
-            read_one(writer, home, kgt_rights_may_read(list, writer, home) ? KAGUTIN_DONE : KAGUTIN_NO_READ, "read");
+                store_one(writer, home, may ? KAGUTIN_DONE : KAGUTIN_STORE_DENIED, "store");
+            read_one(writer, home, kgt_rights_may_read(list, writer, home) ? KAGUTIN_DONE : KAGUTIN_READ_DENIED, "read");
         }
 }
 
@@ -150,22 +150,22 @@ static void check_object(void)
     struct kgt_rights list, found;
 
     start(HOMES);
-    gives(kgt_get_rights(&store, 5, &found), KAGUTIN_DONE, "get");
+    gives(kgt_get_rights(&store, 5, &found).code, KAGUTIN_DONE, "get");
     check(!kgt_rights_is_list(&found), "no list at first");
     check_all(&found);
-    store_one(1, 8, KAGUTIN_NO_STORE, "the list's homes are writer 0's");
+    store_one(1, 8, KAGUTIN_STORE_DENIED, "the list's homes are writer 0's");
     make_list(&list);
-    check(kgt_set_rights(&store, &list).figure > 0, "set");
-    gives(kgt_get_rights(&store, 7, &found), KAGUTIN_DONE, "get");
+    check(kgt_set_rights(&store, &list).ticket != KGT_NOT_TOLD, "set");
+    gives(kgt_get_rights(&store, 7, &found).code, KAGUTIN_DONE, "get");
     check(memcmp(&list, &found, sizeof list) == 0, "the list that was set");
     check_all(&list);
-    gives(kgt_sync(&store), KAGUTIN_DONE, "sync");
+    gives(kgt_sync(&store).code, KAGUTIN_DONE, "sync");
     cut();
-    gives(kgt_get_rights(&store, 7, &found), KAGUTIN_DONE, "get");
+    gives(kgt_get_rights(&store, 7, &found).code, KAGUTIN_DONE, "get");
     check(memcmp(&list, &found, sizeof list) == 0, "the list after a cut");
     check_all(&list);
     kgt_rights_clear(&list);
-    gives(kgt_set_rights(&store, &list), KAGUTIN_DONE, "set zeros");
+    gives(kgt_set_rights(&store, &list).code, KAGUTIN_DONE, "set zeros");
     check_all(&list);
 }
 
@@ -173,27 +173,29 @@ static void check_object(void)
 static void check_moment(void)
 {
     struct kgt_rights list;
+    struct kgt_ticket set;
     uint64_t i;
 
     start(HOMES);
     make_list(&list);
-    gives(kgt_begin(&store, 0), KAGUTIN_DONE, "begin");
+    gives(kgt_begin(&store, 0).code, KAGUTIN_DONE, "begin");
     for (i = 0; i < KGT_RIGHTS_HOMES; i++)
-        gives(kgt_store(&store, 0, KGT_RIGHTS_HOME + i, list.bytes + 64 * i), KAGUTIN_DONE, "store of the list");
+        gives(kgt_store(&store, 0, KGT_RIGHTS_HOME + i, list.bytes + 64 * i).code, KAGUTIN_DONE, "store of the list");
     store_one(3, 20, KAGUTIN_DONE, "a list that is stored does not count");
     read_one(0, 20, KAGUTIN_DONE, "not for writer 0 either");
-    gives(kgt_set_rights(&store, &list), KAGUTIN_NOT_IDLE, "set while writer 0 is at work");
-    gives(kgt_commit(&store, 0), KAGUTIN_DONE, "commit of the list");
-    store_one(3, 20, KAGUTIN_NO_STORE, "from its commit on it does");
-    read_one(0, 20, KAGUTIN_NO_READ, "for writer 0 too");
+    gives(kgt_set_rights(&store, &list).code, KAGUTIN_NOT_IDLE, "set while writer 0 is at work");
+    gives(kgt_commit(&store, 0).code, KAGUTIN_DONE, "commit of the list");
+    store_one(3, 20, KAGUTIN_STORE_DENIED, "from its commit on it does");
+    read_one(0, 20, KAGUTIN_READ_DENIED, "for writer 0 too");
     cut();
     store_one(3, 20, KAGUTIN_DONE, "a cut has taken it");
-    check(kgt_set_rights(&store, &list).figure <= kgt_sync(&store).figure, "set, sync");
+    set = kgt_set_rights(&store, &list);
+    check(set.code == KAGUTIN_DONE && kgt_sync(&store).mark >= set.ticket, "set, sync");
     cut();
-    store_one(3, 20, KAGUTIN_NO_STORE, "a list that is durable stays");
-    gives(kgt_maintain(&store, 0), KAGUTIN_DONE, "maintain");
-    store_one(3, 20, KAGUTIN_NO_STORE, "settled and trimmed, too");
-    read_one(1, 20, KAGUTIN_NO_READ, "and for reads");
+    store_one(3, 20, KAGUTIN_STORE_DENIED, "a list that is durable stays");
+    gives(kgt_maintain(&store, 0).code, KAGUTIN_DONE, "maintain");
+    store_one(3, 20, KAGUTIN_STORE_DENIED, "settled and trimmed, too");
+    read_one(1, 20, KAGUTIN_READ_DENIED, "and for reads");
 }
 
 static void check_room(void)
@@ -205,17 +207,17 @@ static void check_room(void)
     make_list(&list);
     for (i = 0; i < PLACES - 1; i++)
         store_one(4, 16 + i % 8, KAGUTIN_DONE, "store");
-    gives(kgt_set_rights(&store, &list), KAGUTIN_DONE, "set makes room in a full log");
-    store_one(4, 20, KAGUTIN_NO_STORE, "and counts");
+    gives(kgt_set_rights(&store, &list).code, KAGUTIN_DONE, "set makes room in a full log");
+    store_one(4, 20, KAGUTIN_STORE_DENIED, "and counts");
     start(HOMES);
-    gives(kgt_reserve(&store, 4, PLACES - 3), KAGUTIN_DONE, "reserve");
-    gives(kgt_set_rights(&store, &list), KAGUTIN_NO_PLACES, "no room for four entries");
-    gives(kgt_begin(&store, 0), KAGUTIN_DONE, "writer 0 is idle then");
+    gives(kgt_reserve(&store, 4, PLACES - 3).code, KAGUTIN_DONE, "reserve");
+    gives(kgt_set_rights(&store, &list).code, KAGUTIN_FULL, "no room for four entries");
+    gives(kgt_begin(&store, 0).code, KAGUTIN_DONE, "writer 0 is idle then");
     start(SMALL);
-    gives(kgt_set_rights(&store, &list), KAGUTIN_BAD_HOME, "too few homes for a list");
-    gives(kgt_get_rights(&store, 0, &list), KAGUTIN_BAD_HOME, "none to get");
+    gives(kgt_set_rights(&store, &list).code, KAGUTIN_BAD_HOME, "too few homes for a list");
+    gives(kgt_get_rights(&store, 0, &list).code, KAGUTIN_BAD_HOME, "none to get");
     store_one(0, 10, KAGUTIN_DONE, "homes from 8 on are writer 0's");
-    store_one(1, 10, KAGUTIN_NO_STORE, "not the others'");
+    store_one(1, 10, KAGUTIN_STORE_DENIED, "not the others'");
     read_one(1, 10, KAGUTIN_DONE, "all read them");
     store_one(1, 7, KAGUTIN_DONE, "no list: other homes are open");
 }

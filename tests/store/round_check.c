@@ -23,9 +23,9 @@ static void check(bool right, const char *what)
     exit(1);
 }
 
-static void done(struct kagutin_reply reply, const char *what)
+static void done(uint64_t code, const char *what)
 {
-    check(reply.code == KAGUTIN_DONE && reply.size == 0, what);
+    check(code == KAGUTIN_DONE, what);
 }
 
 static int counting_write(void *context, enum kgt_area area, size_t at, const uint8_t *bytes, size_t size)
@@ -41,22 +41,22 @@ static void start(bool blocks)
     if (blocks)
         kgt_memory_keep_blocks(&medium);
     inner = kgt_memory_driver(&medium);
-    done(kgt_init(&store, memory, sizeof memory, GROUPS, HOMES, inner), "init");
+    done(kgt_init(&store, memory, sizeof memory, GROUPS, HOMES, inner).code, "init");
     store.runner.driver.write = counting_write;
-    done(kgt_format(&store, scratch, sizeof scratch), "format");
-    done(kgt_open(&store), "open");
+    done(kgt_format(&store, scratch, sizeof scratch).code, "format");
+    done(kgt_open(&store).code, "open");
 }
 
 /* A maintain that may write so many homes writes this many, and says whether there is more to do. */
-static void maintain(uint64_t most, unsigned long homes, uint64_t more)
+static void maintain(uint64_t most, unsigned long homes, bool more)
 {
-    struct kagutin_reply reply;
+    struct kgt_progress reply;
 
     home_writes = 0;
     reply = kgt_maintain(&store, most);
-    done(reply, "maintain");
+    done(reply.code, "maintain");
     check(home_writes == homes, "the homes that a maintain writes");
-    check(reply.figure == more, "whether there is more to do");
+    check(reply.more == more, "whether there is more to do");
 }
 
 static void commit(uint64_t writer, uint64_t home, uint8_t byte)
@@ -64,9 +64,9 @@ static void commit(uint64_t writer, uint64_t home, uint8_t byte)
     uint8_t block[KAGUTIN_BLOCK_SIZE] = {0};
 
     block[0] = byte;
-    done(kgt_begin(&store, writer), "begin");
-    done(kgt_store(&store, writer, home, block), "store");
-    done(kgt_commit(&store, writer), "commit");
+    done(kgt_begin(&store, writer).code, "begin");
+    done(kgt_store(&store, writer, home, block).code, "store");
+    done(kgt_commit(&store, writer).code, "commit");
 }
 
 /* One commit of this many homes, fenced. */
@@ -75,11 +75,11 @@ static void commit_fenced(uint64_t writer, uint64_t count)
     uint8_t block[KAGUTIN_BLOCK_SIZE] = {0};
     uint64_t home;
 
-    done(kgt_begin(&store, writer), "begin");
+    done(kgt_begin(&store, writer).code, "begin");
     for (home = 0; home < count; home++)
-        done(kgt_store(&store, writer, home, block), "store");
-    done(kgt_commit(&store, writer), "commit");
-    done(kgt_sync(&store), "sync");
+        done(kgt_store(&store, writer, home, block).code, "store");
+    done(kgt_commit(&store, writer).code, "commit");
+    done(kgt_sync(&store).code, "sync");
 }
 
 /* A home's first byte, as everybody reads it. */
@@ -87,29 +87,29 @@ static uint8_t byte_of(uint64_t home)
 {
     uint8_t block[KAGUTIN_BLOCK_SIZE];
 
-    done(kgt_read(&store, 7, home, block), "read");
+    done(kgt_read(&store, 7, home, block).code, "read");
     return block[0];
 }
 
 static void all_free(void)
 {
-    struct kgt_places usage;
+    struct kagutin_places usage;
 
-    done(kgt_usage(&store, &usage), "usage");
+    done(kgt_usage(&store, &usage).code, "usage");
     check(usage.free == PLACES && usage.live == 0 && usage.dead == 0, "every place is free");
 }
 
 /* Never more homes than the bound, and only as many calls as they need. */
 static void check_bounds(void)
 {
-    struct kgt_places usage;
+    struct kagutin_places usage;
 
     start(false);
     maintain(2, 0, 0); /* nothing to settle */
     commit_fenced(0, HOMES);
     maintain(2, 2, 1);
     maintain(4, 4, 1);
-    done(kgt_usage(&store, &usage), "usage");
+    done(kgt_usage(&store, &usage).code, "usage");
     check(usage.live == HOMES, "nothing is trimmed inside a round");
     maintain(1, 1, 1);
     maintain(9, 1, 0);
@@ -129,9 +129,9 @@ static void check_held(void)
     uint8_t block[KAGUTIN_BLOCK_SIZE] = {0};
 
     start(false);
-    done(kgt_begin(&store, 6), "begin");
-    done(kgt_store(&store, 6, 7, block), "store");
-    done(kgt_store(&store, 6, 6, block), "store");
+    done(kgt_begin(&store, 6).code, "begin");
+    done(kgt_store(&store, 6, 7, block).code, "store");
+    done(kgt_store(&store, 6, 6, block).code, "store");
     commit_fenced(0, 3);
     maintain(9, 3, 0);
     maintain(9, 0, 0);
@@ -139,7 +139,7 @@ static void check_held(void)
     maintain(2, 2, 1); /* what is not trimmed is written again */
     maintain(2, 1, 0);
     maintain(2, 0, 0);
-    done(kgt_abort(&store, 6), "abort");
+    done(kgt_abort(&store, 6).code, "abort");
     maintain(2, 0, 0); /* nothing to settle, but groups to free */
     all_free();
 }
@@ -152,12 +152,12 @@ static void check_between(void)
     start(false);
     for (home = 0; home < 4; home++)
         commit(0, home, 1);
-    done(kgt_sync(&store), "sync");
+    done(kgt_sync(&store).code, "sync");
     maintain(1, 1, 1);
     commit(1, 0, 2);
     commit(1, 3, 2);
     commit(1, 7, 2);
-    done(kgt_sync(&store), "sync");
+    done(kgt_sync(&store).code, "sync");
     maintain(2, 2, 1);
     maintain(2, 1, 1); /* over; the three commits since are to be settled */
     check(lasting[KGT_LOG_SIZE(GROUPS) + KGT_HOMES_SIZE(3)] == 1, "the round does not write a later commit home");
@@ -183,9 +183,9 @@ static void check_full(void)
     }
     commit_fenced(0, HOMES);
     maintain(1, 1, 1);
-    done(kgt_reserve(&store, 5, PLACES - KAGUTIN_GROUP_ENTRIES), "a reserve that needs room");
-    done(kgt_abort(&store, 5), "abort");
-    done(kgt_sync(&store), "sync");
+    done(kgt_reserve(&store, 5, PLACES - KAGUTIN_GROUP_ENTRIES).code, "a reserve that needs room");
+    done(kgt_abort(&store, 5).code, "abort");
+    done(kgt_sync(&store).code, "sync");
 }
 
 static bool by_chance(void *context, size_t at)
@@ -205,13 +205,13 @@ static void check_cut(bool blocks)
         start(blocks);
         for (home = 0; home < HOMES; home++)
             commit(0, home, 7);
-        done(kgt_sync(&store), "sync");
+        done(kgt_sync(&store).code, "sync");
         for (home = 0; home < steps; home++)
             check(kgt_maintain(&store, 1).code == KAGUTIN_DONE, "maintain");
         for (home = 0; home < HOMES; home++)
             commit(1, home, 9); /* may be lost */
         kgt_memory_cut(&medium, by_chance, NULL);
-        done(kgt_open(&store), "open");
+        done(kgt_open(&store).code, "open");
         for (home = 0; home < HOMES; home++)
             check(byte_of(home) == 7 || byte_of(home) == 9, "a home after a cut");
         maintain(1, 0, 0);

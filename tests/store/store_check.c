@@ -136,28 +136,41 @@ static int failing_fence(void *context)
     return error ? error : inner.fence(context);
 }
 
-static void check_refused(struct kagutin_reply reply, unsigned long at)
+static void check_refused(struct kgt_reply reply, unsigned long at)
 {
-    check(reply.code == KGT_DRIVER_FAILED && reply.figure == 77 && reply.size == 0, "a call after a failure is refused", at);
+    check(reply.code == KGT_DRIVER_FAILED && reply.error == 77 && reply.holder == KGT_NO_HOLDER,
+          "a call after a failure is refused", at);
+}
+
+static void check_no_ticket(struct kgt_ticket reply, unsigned long at)
+{
+    check(reply.code == KGT_DRIVER_FAILED && reply.error == 77 && reply.holder == KGT_NO_HOLDER
+              && reply.ticket == KGT_NOT_TOLD, "a commit after a failure is refused", at);
 }
 
 /* Every call is refused, and changes nothing, also when the driver works again. */
 static void check_shut(unsigned long at)
 {
     uint8_t block[KAGUTIN_BLOCK_SIZE] = {0};
-    struct kgt_places usage;
+    struct kagutin_places usage;
+    struct kgt_progress progress;
+    struct kgt_mark mark;
 
     calls_left = 1000;
     memcpy(before, memory, sizeof memory);
     check_refused(kgt_begin(&store, 0), at);
     check_refused(kgt_reserve(&store, 0, 1), at);
     check_refused(kgt_store(&store, 0, 1, block), at);
-    check_refused(kgt_commit(&store, 0), at);
+    check_no_ticket(kgt_commit(&store, 0), at);
+    check_no_ticket(kgt_commit_sync(&store, 0), at);
     check_refused(kgt_abort(&store, 0), at);
     check_refused(kgt_read(&store, 0, 1, block), at);
-    check_refused(kgt_sync(&store), at);
-    check_refused(kgt_maintain(&store, 0), at);
+    mark = kgt_sync(&store);
+    check(mark.code == KGT_DRIVER_FAILED && mark.error == 77 && mark.mark == 0, "a sync after a failure", at);
+    progress = kgt_maintain(&store, at % 3);
+    check(progress.code == KGT_DRIVER_FAILED && progress.error == 77 && !progress.more, "a maintain after a failure", at);
     check_refused(kgt_usage(&store, &usage), at);
+    check(usage.code == KGT_DRIVER_FAILED && usage.holder == KGT_NO_HOLDER && usage.free == 0, "no usage told", at);
     check(calls_left == 1000 && memcmp(before, memory, sizeof memory) == 0, "a refused call does nothing", at);
 }
 
@@ -207,9 +220,9 @@ static void give(void *context)
     held = 0;
 }
 
-static void check_lock_refused(struct kagutin_reply reply)
+static void check_lock_refused(uint64_t code)
 {
-    check(reply.code == KGT_LOCK_FAILED && reply.figure == 0 && held == 0, "a call without the lock is refused", 0);
+    check(code == KGT_LOCK_FAILED && held == 0, "a call without the lock is refused", 0);
     check(memcmp(before, memory, sizeof memory) == 0, "and does nothing", 0);
     locks_left = 1;
 }
@@ -217,25 +230,25 @@ static void check_lock_refused(struct kagutin_reply reply)
 static void check_locks(void)
 {
     uint8_t block[KAGUTIN_BLOCK_SIZE] = {0};
-    struct kgt_places usage;
+    struct kagutin_places usage;
 
     power_on();
-    kgt_set_lock(&store, take, give, NULL);
+    check(kgt_set_lock(&store, take, give, NULL).code == KAGUTIN_DONE, "a lock", 0);
     check(kgt_begin(&store, 0).code == KGT_CLOSED && held == 0, "a closed store gives the lock back", 0);
     check(kgt_open(&store).code == KAGUTIN_DONE && play_work(&play, STEPS) && held == 0, "work under a lock", 0);
     memcpy(before, memory, sizeof memory);
     locks_left = 1;
-    check_lock_refused(kgt_begin(&store, 0));
-    check_lock_refused(kgt_reserve(&store, 0, 1));
-    check_lock_refused(kgt_store(&store, 0, 1, block));
-    check_lock_refused(kgt_commit(&store, 0));
-    check_lock_refused(kgt_abort(&store, 0));
-    check_lock_refused(kgt_read(&store, 0, 1, block));
-    check_lock_refused(kgt_sync(&store));
-    check_lock_refused(kgt_maintain(&store, 0));
-    check_lock_refused(kgt_usage(&store, &usage));
-    check_lock_refused(kgt_open(&store));
-    check_lock_refused(kgt_format(&store, scratch, sizeof scratch));
+    check_lock_refused(kgt_begin(&store, 0).code);
+    check_lock_refused(kgt_reserve(&store, 0, 1).code);
+    check_lock_refused(kgt_store(&store, 0, 1, block).code);
+    check_lock_refused(kgt_commit(&store, 0).code);
+    check_lock_refused(kgt_abort(&store, 0).code);
+    check_lock_refused(kgt_read(&store, 0, 1, block).code);
+    check_lock_refused(kgt_sync(&store).code);
+    check_lock_refused(kgt_maintain(&store, 0).code);
+    check_lock_refused(kgt_usage(&store, &usage).code);
+    check_lock_refused(kgt_open(&store).code);
+    check_lock_refused(kgt_format(&store, scratch, sizeof scratch).code);
     locks_left = 0;
     check(play_work(&play, STEPS), "work goes on", 0);
 }
@@ -265,29 +278,28 @@ static void check_sizes(void)
 static void check_full(void)
 {
     uint8_t block[KAGUTIN_BLOCK_SIZE] = {0};
-    struct kagutin_reply reply = {0, 0, 0};
+    struct kgt_reply reply = {KAGUTIN_DONE, KGT_NO_HOLDER, 0};
+    struct kgt_ticket ticket = {KAGUTIN_DONE, 0, KGT_NO_HOLDER, 0};
     uint64_t i;
 
     power_on();
     check(kgt_open(&store).code == KAGUTIN_DONE, "open", 0);
     check(kgt_begin(&store, 2).code == 0 && kgt_store(&store, 2, 1, block).code == 0, "writer 2", 0);
     check(kgt_store(&store, 2, 2, block).code == 0, "logs one entry", 0);
-    for (i = 0; i < 1000 && reply.code == KAGUTIN_DONE; i++) {
-        reply = kgt_begin(&store, 0);
-        if (reply.code == KAGUTIN_DONE)
-            reply = kgt_store(&store, 0, i % HOMES, block);
-        if (reply.code == KAGUTIN_DONE)
-            reply = kgt_commit(&store, 0);
+    for (i = 0; i < 1000 && ticket.code == KAGUTIN_DONE; i++) {
+        check(kgt_begin(&store, 0).code == 0 && kgt_store(&store, 0, i % HOMES, block).code == 0, "begin, store", i);
+        ticket = kgt_commit(&store, 0);
     }
-    check(reply.code == KAGUTIN_FULL && reply.figure == 2, "the full log names writer 2", i);
+    check(ticket.code == KAGUTIN_FULL && ticket.holder == 2, "the full log names writer 2", i);
+    check(ticket.ticket > kgt_sync(&store).mark, "and its commit is not durable", 0);
     check(kgt_abort(&store, 2).code == KAGUTIN_DONE, "abort", 0);
-    reply = kgt_commit(&store, 0);
-    check(reply.code == KAGUTIN_DONE && reply.figure != 0, "then a commit makes room by itself", 0);
-    check(kgt_sync(&store).figure >= reply.figure, "and is durable", 0);
+    ticket = kgt_commit(&store, 0);
+    check(ticket.code == KAGUTIN_DONE && ticket.ticket != 0, "then a commit makes room by itself", 0);
+    check(kgt_sync(&store).mark >= ticket.ticket, "and is durable", 0);
     kgt_begin(&store, 1);
-    for (i = 0, reply.code = 0; i < 1000 && reply.code == KAGUTIN_DONE; i++)
+    for (i = 0; i < 1000 && reply.code == KAGUTIN_DONE; i++)
         reply = kgt_store(&store, 1, i % HOMES, block);
-    check(reply.code == KAGUTIN_FULL && reply.figure == 1, "a transaction too long for the log names itself", i);
+    check(reply.code == KAGUTIN_FULL && reply.holder == 1, "a transaction too long for the log names itself", i);
     for (i = 0; i < 1000; i++)
         check(kgt_abort(&store, 1).code == KAGUTIN_DONE && kgt_begin(&store, 1).code == KAGUTIN_DONE
                   && kgt_store(&store, 1, 0, block).code == KAGUTIN_DONE && kgt_store(&store, 1, 1, block).code == 0,
@@ -300,7 +312,7 @@ static void check_full(void)
 static void check_usage(uint64_t live, uint64_t dead, uint64_t holder, uint64_t first)
 {
     static unsigned long at;
-    struct kgt_places usage;
+    struct kagutin_places usage;
 
     at++;
     check(kgt_usage(&store, &usage).code == KAGUTIN_DONE, "usage", at);
@@ -329,10 +341,11 @@ static void begin_and_store(uint64_t writer, uint64_t count)
 
 static void check_classes(void)
 {
-    struct kgt_places usage = {1, 2, 3, 4, 5, 6};
+    struct kagutin_places usage = {1, 2, 3, 4, 5, 6, 7};
 
     power_on();
-    check(kgt_usage(&store, &usage).code == KGT_CLOSED && usage.live == 1 && usage.first == 6, "usage of a closed store", 0);
+    check(kgt_usage(&store, &usage).code == KGT_CLOSED && usage.code == KGT_CLOSED && usage.live == 0
+              && usage.holder == KGT_NO_HOLDER, "usage of a closed store", 0);
     check(kgt_open(&store).code == KAGUTIN_DONE, "open", 0);
     check_usage(0, 0, 8, 0);
     begin_and_store(0, 1);
@@ -341,7 +354,7 @@ static void check_classes(void)
     check_usage(2, 0, 1, 0);
     store_blocks(0, 3);
     check_usage(4, 0, 1, 0);
-    check(kgt_commit(&store, 1).figure == KAGUTIN_GROUP_ENTRIES * GROUPS + 5, "commit", 1);
+    check(kgt_commit(&store, 1).ticket == KAGUTIN_GROUP_ENTRIES * GROUPS + 5, "commit", 1);
     check_usage(5, 0, 0, 2);
     begin_and_store(5, 2);
     check(kgt_abort(&store, 5).code == KAGUTIN_DONE, "abort", 5);

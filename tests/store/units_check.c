@@ -69,7 +69,7 @@ static size_t make_table(uint64_t number, uint8_t *rows)
 static void check_table(struct kagutin *store, const struct known *known)
 {
     uint64_t edge = known->table % 9998 + 1;
-    struct kagutin_band low = kgt_bands_look_up(store, 5, edge - 1), high = kgt_bands_look_up(store, 5, edge);
+    struct kgt_band low = kgt_bands_look_up(store, 5, edge - 1), high = kgt_bands_look_up(store, 5, edge);
 
     same("code of a lookup", low.code, known->table ? 0 : KAGUTIN_BAD_BANDS);
     if (known->table == 0)
@@ -81,7 +81,7 @@ static void check_table(struct kagutin *store, const struct known *known)
 
 static void check_gravest(struct kagutin *store, const struct known *known)
 {
-    struct kagutin_alarm gravest = kgt_alarm_gravest(store, 5);
+    struct kgt_alarm gravest = kgt_alarm_gravest(store, 5);
     uint64_t best = 64, i;
 
     for (i = 0; i < 64; i++)
@@ -91,9 +91,10 @@ static void check_gravest(struct kagutin *store, const struct known *known)
                     && known->alarms[i].second < known->alarms[best].second)))
             best = i;
     same("code of the gravest", gravest.code, 0);
-    same("gravest identity", gravest.identity, best == 64 ? 0 : best);
-    same("gravest class", gravest.alarm_class, best == 64 ? 0 : known->alarms[best].alarm_class);
-    same("gravest second", gravest.second, best == 64 ? 0 : known->alarms[best].second);
+    same("shown", gravest.shown, best == 64 ? KGT_NONE_OPEN : KGT_ALARM_OPEN);
+    same("gravest identity", gravest.identity, best == 64 ? KGT_NOT_TOLD : best);
+    same("gravest class", gravest.alarm_class, best == 64 ? KGT_NOT_TOLD : known->alarms[best].alarm_class);
+    same("gravest second", gravest.second, best == 64 ? KGT_NOT_TOLD : known->alarms[best].second);
 }
 
 static void check_all(struct kagutin *store)
@@ -102,18 +103,19 @@ static void check_all(struct kagutin *store)
     uint64_t pump;
 
     for (pump = 0; pump < KAGUTIN_PUMPS; pump++) {
-        struct kagutin_figures hours = kgt_pump_hours(store, 5, pump), due = kgt_pump_services(store, 5, pump, 3600);
+        struct kgt_hours hours = kgt_pump_hours(store, 5, pump);
+        struct kgt_services due = kgt_pump_services(store, 5, pump, 3600);
 
         same("code of hours", hours.code, 0);
-        same("starts", hours.first, known->starts[pump]);
-        same("seconds", hours.second, known->seconds[pump]);
-        same("services", due.first * 3600 + due.second, known->seconds[pump]);
+        same("starts", hours.starts, known->starts[pump]);
+        same("seconds", hours.seconds, known->seconds[pump]);
+        same("services", due.due * 3600 + due.left, known->seconds[pump]);
     }
     check_table(store, known);
     check_gravest(store, known);
 }
 
-static struct kagutin_reply pump_event(struct kagutin *store, struct known *next)
+static struct kgt_ticket pump_event(struct kagutin *store, struct known *next)
 {
     uint64_t pump = random_below(KAGUTIN_PUMPS);
 
@@ -121,17 +123,17 @@ static struct kagutin_reply pump_event(struct kagutin *store, struct known *next
         next->running[pump] = false;
         next->seconds[pump] += clock_now - next->since[pump];
         next->since[pump] = clock_now;
-        same("start while running", kgt_pump_start(store, PUMP_WRITER, pump, clock_now).code, KAGUTIN_WRONG_TURN);
+        same("start while running", kgt_pump_start(store, PUMP_WRITER, pump, clock_now).code, KAGUTIN_WRONG_PUMP_STATE);
         return kgt_pump_stop(store, PUMP_WRITER, pump, clock_now);
     }
     next->running[pump] = true;
     next->starts[pump]++;
     next->since[pump] = clock_now;
-    same("stop while idle", kgt_pump_stop(store, PUMP_WRITER, pump, clock_now).code, KAGUTIN_WRONG_TURN);
+    same("stop while idle", kgt_pump_stop(store, PUMP_WRITER, pump, clock_now).code, KAGUTIN_WRONG_PUMP_STATE);
     return kgt_pump_start(store, PUMP_WRITER, pump, clock_now);
 }
 
-static struct kagutin_reply alarm_event(struct kagutin *store, struct known *next)
+static struct kgt_ticket alarm_event(struct kagutin *store, struct known *next)
 {
     uint64_t identity = random_below(40), alarm_class = 1 + random_below(9);
 
@@ -146,34 +148,41 @@ static struct kagutin_reply alarm_event(struct kagutin *store, struct known *nex
     return kgt_alarm_arrive(store, ALARM_WRITER, (uint16_t)identity, alarm_class, clock_now);
 }
 
-static struct kagutin_reply table_event(struct kagutin *store, struct known *next)
+static struct kgt_ticket table_event(struct kagutin *store, struct known *next)
 {
     uint8_t rows[2 * KAGUTIN_BAND_SIZE];
+    struct kgt_ticket ticket;
+    struct kgt_table set;
     size_t size;
 
     next->table = last + 1;
     size = make_table(next->table, rows);
     rows[2]--; /* a gap of one millimetre, if the first row had two */
     if (rows[2] != 0xff && next->table % 9998 > 1) {
-        struct kagutin_reply reply = kgt_bands_set(store, TABLE_WRITER, rows, size);
-
-        same("a gap", reply.code, KAGUTIN_BAND_GAP);
-        same("its millimetre", reply.figure, next->table % 9998);
+        set = kgt_bands_set(store, TABLE_WRITER, rows, size);
+        same("a gap", set.code, KAGUTIN_BAND_GAP);
+        same("its millimetre", set.mm, next->table % 9998);
+        same("no ticket", set.ticket, KGT_NOT_TOLD);
     }
     make_table(next->table, rows);
-    return kgt_bands_set(store, TABLE_WRITER, rows, size);
+    set = kgt_bands_set(store, TABLE_WRITER, rows, size);
+    ticket.code = set.code;
+    ticket.ticket = set.ticket;
+    ticket.holder = set.holder;
+    ticket.error = set.error;
+    return ticket;
 }
 
 /* One event; false once power is gone. */
 static bool one_event(struct kagutin *store)
 {
     struct known next = moments[last];
-    struct kagutin_reply reply;
+    struct kgt_ticket reply;
     uint64_t kind = random_below(10);
 
     clock_now += (uint32_t)random_below(600);
     reply = kind < 6 ? pump_event(store, &next) : kind < 9 ? alarm_event(store, &next) : table_event(store, &next);
-    next.ticket = reply.figure;
+    next.ticket = reply.ticket;
     moments[last + 1] = next; /* after a failure it may have come to lasting memory, or not */
     if (reply.code == KGT_DRIVER_FAILED)
         return false;
@@ -232,7 +241,7 @@ static bool alarms_fit(struct kagutin *store, const struct known *known)
 
 static bool table_fits(struct kagutin *store, const struct known *known)
 {
-    struct kagutin_band band = kgt_bands_look_up(store, 5, 9999);
+    struct kgt_band band = kgt_bands_look_up(store, 5, 9999);
 
     return known->table == 0 ? band.code == KAGUTIN_BAD_BANDS : band.code == 0 && band.from == known->table % 9998 + 1;
 }
@@ -275,10 +284,10 @@ static void play(struct kgt_memory *memory, struct kagutin *store)
             powered = one_event(store);
             newest = powered ? last : last + 1;
             if (powered && random_below(8) == 0) {
-                struct kagutin_reply reply = kgt_sync(store);
+                struct kgt_mark reply = kgt_sync(store);
 
                 powered = reply.code == KAGUTIN_DONE;
-                if (powered && reply.figure >= moments[last].ticket)
+                if (reply.mark >= moments[last].ticket)
                     durable = last;
             }
             if (powered && random_below(16) == 0)
@@ -297,7 +306,7 @@ static void check_refusals(struct kagutin *store)
 {
     uint8_t rows[2 * KAGUTIN_BAND_SIZE], block[KAGUTIN_BLOCK_SIZE] = {0};
     size_t size = make_table(5, rows);
-    struct kagutin_reply reply;
+    struct kgt_table reply;
     uint64_t i;
 
     same("closed", kgt_pump_start(store, 1, 0, 0).code, KGT_CLOSED);
@@ -311,7 +320,7 @@ static void check_refusals(struct kagutin *store)
         ;
     reply = kgt_bands_set(store, 2, rows, size);
     same("a held log", reply.code, KAGUTIN_FULL);
-    same("its holder", reply.figure, 1);
+    same("its holder", reply.holder, 1);
     same("abort", kgt_abort(store, 1).code, 0);
     same("room is made", kgt_alarm_arrive(store, 2, 7, 1, 1).code, 0);
     same("clearing", kgt_alarm_clear(store, 2, 7).code, 0);

@@ -15,7 +15,7 @@ use Rattle.hours.specs.declared.Pump.{Pump}
 use Rattle.hours.specs.Events.{Event, applied, leaves as blockLeft}
 use Rattle.hours.specs.Services.{due}
 use Rattle.hours.specs.declared.Due.{Due}
-use Rattle.hour_calls.specs.Calls.{pumpHome, known, judge, eventCall, Told, tells, pumpTells, dueTells, hoursIn, hoursCall, servicesOf, servicesCall}
+use Rattle.hour_calls.specs.Calls.{pumpHome, known, judge, eventCall, Hours, hoursTold, pumpTells, hoursIn, hoursCall, Services, servicesTold, dueTells, servicesOf, servicesCall}
 
 -- what the pump's block answers an event and holds then
 pub judging : (e : Event) (block : List ℕ) {answer : ℕ} {next : List ℕ} → blockLeft answer next ≡ applied block e → judged answer next ≡ judge e block
@@ -36,7 +36,7 @@ module _ (l : Lent) (writer pump : ℕ) where
 
   -- ---- hours and services
 
-  pub hours-unknown : 7 < pump → {t : Told} → t ≡ tells 14 0 0 → t ≡ hoursCall l writer pump
+  pub hours-unknown : 7 < pump → {t : Hours} → t ≡ hoursTold 14 0 0 → t ≡ hoursCall l writer pump
   unfolding hoursCall known
   hours-unknown h q = rw (lt-leb pump 7 h) q
 
@@ -51,25 +51,25 @@ module _ (l : Lent) (writer pump : ℕ) where
       fetch : readAs l code figure size blocks ≡ fetched l writer (pumpHome pump) 1
       fetch = fetching l writer (pumpHome pump) 1 code figure size given blocks z e
 
-      pub hours-unread : code ≢ 0 → {t : Told} → t ≡ tells code 0 0 → t ≡ hoursCall l writer pump
+      pub hours-unread : code ≢ 0 → {t : Hours} → t ≡ hoursTold code 0 0 → t ≡ hoursCall l writer pump
       unfolding hoursCall hoursIn known
       hours-unread n q = rw (le-leb pump 7 h, ← fetch, ne-eqb code 0 n) q
 
-      pub hours-read : code ≡ 0 → {p : Pump} → p ≡ pumpOf blocks → tells 0 (p .starts) (p .total) ≡ hoursCall l writer pump
+      pub hours-read : code ≡ 0 → {p : Pump} → p ≡ pumpOf blocks → hoursTold 0 (p .starts) (p .total) ≡ hoursCall l writer pump
       unfolding hoursCall hoursIn known pumpTells
       hours-read n q = rw (le-leb pump 7 h, ← fetch, n, q)
 
   -- services, from the hours
 
-  pub services-none : (interval : ℕ) → interval ≡ 0 → {t : Told} → t ≡ tells 14 0 0 → t ≡ servicesCall l writer pump interval
+  pub services-none : (interval : ℕ) → interval ≡ 0 → {t : Services} → t ≡ servicesTold 14 0 0 → t ≡ servicesCall l writer pump interval
   unfolding servicesCall
   services-none interval z q = rw z q
 
-  module _ (interval : ℕ) (i : 1 ≤ interval) (code first second : ℕ) (h : tells code first second ≡ hoursCall l writer pump) where
-    pub services-unread : code ≢ 0 → {t : Told} → t ≡ tells code 0 0 → t ≡ servicesCall l writer pump interval
+  module _ (interval : ℕ) (i : 1 ≤ interval) (h : Hours) (e : h ≡ hoursCall l writer pump) where
+    pub services-unread : h .code ≢ 0 → {t : Services} → t ≡ servicesTold (h .code) 0 0 → t ≡ servicesCall l writer pump interval
     unfolding servicesCall servicesOf
-    services-unread n q = rw (le-leb 1 interval i, ← h, ne-eqb code 0 n) q
+    services-unread n q = rw (le-leb 1 interval i, ← e, ne-eqb (h .code) 0 n) q
 
-    pub services-read : code ≡ 0 → {d : Due} → d ≡ due second interval → tells 0 (d .services) (d .left) ≡ servicesCall l writer pump interval
+    pub services-read : h .code ≡ 0 → {d : Due} → d ≡ due (h .seconds) interval → servicesTold 0 (d .services) (d .left) ≡ servicesCall l writer pump interval
     unfolding servicesCall servicesOf dueTells
-    services-read n w = rw (le-leb 1 interval i, ← h, n, w)
+    services-read n w = rw (le-leb 1 interval i, ← e, n, w)

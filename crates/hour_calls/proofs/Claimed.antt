@@ -14,7 +14,7 @@ use Rattle.hours.specs.Events.{Event, after, settled, applied}
 use Rattle.hours.specs.Services.{due}
 use Rattle.hours.specs.Promises.{starts, total, answerBy, heldWith, Timed, Kept}
 use Rattle.hours.proofs.Promised.{grown, kept-none, readable}
-use Rattle.hour_calls.specs.Calls.{pumpHome, known, judge, tells, pumpTells, dueTells, hoursIn, hoursCall, servicesOf, servicesCall}
+use Rattle.hour_calls.specs.Calls.{pumpHome, known, judge, hoursTold, pumpTells, dueTells, hoursIn, hoursCall, servicesOf, servicesCall}
 use Rattle.hour_calls.specs.Claims.{Recording, Claim, Claimed}
 use Rattle.hour_calls.proofs.CallLaws.{event-known}
 
@@ -36,7 +36,7 @@ pub recording : Recording
 recording = record { none = kept-none; answers = answers; grows = grows; size = size }
 
 module _ (l : Lent) (writer pump : ℕ) (p : pump ≤ 7) (es : List Event) (block : List ℕ) (k : Kept es block) (s : Shown l writer (pumpHome pump) 1 block) where
-  hours-by : fetched l writer (pumpHome pump) 1 .code ≡ 0 → hoursCall l writer pump ≡ tells 0 (starts es) (total es)
+  hours-by : fetched l writer (pumpHome pump) 1 .code ≡ 0 → hoursCall l writer pump ≡ hoursTold 0 (starts es) (total es)
   unfolding hoursCall hoursIn known pumpTells
   hours-by z = rw (le-leb pump 7 p, z, s .fetched z, k .says .starts, k .says .total)
 

@@ -11,6 +11,8 @@ use Rattle.hours.specs.declared.Pump.{Pump}
 use Rattle.hours.specs.Events.{Event, applied}
 use Rattle.hours.specs.Services.{due}
 use Rattle.hours.specs.declared.Due.{Due}
+pub use Rattle.hour_calls.specs.declared.Hours.{Hours}
+pub use Rattle.hour_calls.specs.declared.Services.{Services}
 
 -- the home of a pump
 abbrev pub pumpHome : ℕ → ℕ
@@ -27,31 +29,29 @@ judge e block = judged (applied block e .code) (applied block e .block)
 unfoldable pub eventCall : Lent → ℕ → ℕ → Event → Left
 eventCall l writer pump e = cond (known pump) (event l writer (pumpHome pump) 1 (judge e)) (untouched l 14 0)
 
--- what a call that only reads tells: its answer and two figures, zeros if it is refused
-pub record Told : Type 0 where
-  pub code : ℕ
-  pub first : ℕ
-  pub second : ℕ
+-- what the calls that only read tell: the answer and two figures, zeros if it is refused
+abbrev pub hoursTold : ℕ → ℕ → ℕ → Hours
+hoursTold code starts seconds = record { code = code; starts = starts; seconds = seconds }
 
-abbrev pub tells : ℕ → ℕ → ℕ → Told
-tells code first second = record { code = code; first = first; second = second }
-
-unfoldable pub pumpTells : Pump → Told
-pumpTells p = tells 0 (p .starts) (p .total)
-
-unfoldable pub dueTells : Due → Told
-dueTells d = tells 0 (d .services) (d .left)
+abbrev pub servicesTold : ℕ → ℕ → ℕ → Services
+servicesTold code due left = record { code = code; due = due; left = left }
 
 -- starts and total
-unfoldable pub hoursIn : Outcome → Told
-hoursIn o = cond (eqb (o .code) 0) (pumpTells (pumpOf (o .block))) (tells (o .code) 0 0)
+unfoldable pub pumpTells : Pump → Hours
+pumpTells p = hoursTold 0 (p .starts) (p .total)
 
-unfoldable pub hoursCall : Lent → ℕ → ℕ → Told
-hoursCall l writer pump = cond (known pump) (hoursIn (fetched l writer (pumpHome pump) 1)) (tells 14 0 0)
+unfoldable pub hoursIn : Outcome → Hours
+hoursIn o = cond (eqb (o .code) 0) (pumpTells (pumpOf (o .block))) (hoursTold (o .code) 0 0)
+
+unfoldable pub hoursCall : Lent → ℕ → ℕ → Hours
+hoursCall l writer pump = cond (known pump) (hoursIn (fetched l writer (pumpHome pump) 1)) (hoursTold 14 0 0)
 
 -- "For a given service interval it gives whole services due and seconds left over"; "14 pump above 7 or interval 0"
-unfoldable pub servicesOf : ℕ → Told → Told
-servicesOf interval t = cond (eqb (t .code) 0) (dueTells (due (t .second) interval)) (tells (t .code) 0 0)
+unfoldable pub dueTells : Due → Services
+dueTells d = servicesTold 0 (d .services) (d .left)
 
-unfoldable pub servicesCall : Lent → ℕ → ℕ → ℕ → Told
-servicesCall l writer pump interval = cond (leb 1 interval) (servicesOf interval (hoursCall l writer pump)) (tells 14 0 0)
+unfoldable pub servicesOf : ℕ → Hours → Services
+servicesOf interval h = cond (eqb (h .code) 0) (dueTells (due (h .seconds) interval)) (servicesTold (h .code) 0 0)
+
+unfoldable pub servicesCall : Lent → ℕ → ℕ → ℕ → Services
+servicesCall l writer pump interval = cond (leb 1 interval) (servicesOf interval (hoursCall l writer pump)) (servicesTold 14 0 0)

@@ -11,7 +11,7 @@ use Rattle.units.specs.Shown.{Shown}
 use Rattle.hours.specs.Events.{Event}
 use Rattle.hours.specs.Services.{due}
 use Rattle.hours.specs.Promises.{starts, total, answerBy, Timed, Kept}
-use Rattle.hour_calls.specs.Calls.{pumpHome, judge, eventCall, tells, dueTells, hoursCall, servicesCall}
+use Rattle.hour_calls.specs.Calls.{pumpHome, judge, eventCall, hoursTold, dueTells, hoursCall, servicesCall}
 
 -- a home of zeros says that there was no event; a block that says what some events do answers the next as they do, and says it too once it is done
 pub record Recording : Type 0 where
@@ -23,7 +23,7 @@ pub record Recording : Type 0 where
 
 pub record Claim (l : Lent) (writer pump : ℕ) (es : List Event) (block : List ℕ) : Type 0 where
   -- "After a cut, hours and starts are those of the events in demand 3's run."
-  pub hours : fetched l writer (pumpHome pump) 1 .code ≡ 0 → hoursCall l writer pump ≡ tells 0 (starts es) (total es)
+  pub hours : fetched l writer (pumpHome pump) 1 .code ≡ 0 → hoursCall l writer pump ≡ hoursTold 0 (starts es) (total es)
   pub services :
       (interval : ℕ) → 0 < interval → fetched l writer (pumpHome pump) 1 .code ≡ 0 → servicesCall l writer pump interval ≡ dueTells (due (total es) interval)
   -- 15 and 16 are those of the events

@@ -4,28 +4,46 @@ ghost use mathlib.Core.Path.{_≡_};
 ghost use mathlib.Core.List.{[]};
 ghost use Rattle.units.specs.Unit.{lentTo, leaves};
 ghost use Rattle.hours.specs.Events.{startAt, stopAt};
-ghost use Rattle.hour_calls.specs.Calls.{eventCall, tells, hoursCall, servicesCall};
+ghost use Rattle.hour_calls.specs.Calls.{eventCall, hoursTold, hoursCall, servicesTold, servicesCall};
 
 // Pumps are numbered from 0, and the home of pump 0 is the first of theirs.
 const LAST_PUMP: u64 = 7;
 
 const HOMES: u64 = 16;
 
-// What a call that only reads tells: 0 and its two figures, or the number of the refusal and zeros.
+// Starts of a pump and the seconds of its finished runs; zeros with the number of a refusal.
 #[repr(C)]
-pub struct Figures {
+pub struct Hours {
     pub code: u64,
-    pub first: u64,
-    pub second: u64,
+    pub starts: u64,
+    pub seconds: u64,
 }
 
-fn refused(code: u64) -> Figures
-    ensures { λ r. ⌜ tells (r .code) (r .first) (r .second) ≡ tells code 0 0 ⌝ }
+// Whole services due of a pump and the seconds left over; zeros with the number of a refusal.
+#[repr(C)]
+pub struct Services {
+    pub code: u64,
+    pub due: u64,
+    pub left: u64,
+}
+
+fn no_hours(code: u64) -> Hours
+    ensures { λ r. ⌜ r ≡ hoursTold code 0 0 ⌝ }
 {
-    Figures {
+    Hours {
         code,
-        first: 0,
-        second: 0,
+        starts: 0,
+        seconds: 0,
+    }
+}
+
+fn no_services(code: u64) -> Services
+    ensures { λ r. ⌜ r ≡ servicesTold code 0 0 ⌝ }
+{
+    Services {
+        code,
+        due: 0,
+        left: 0,
     }
 }
 
@@ -92,22 +110,22 @@ pub extern "C" fn kagutin_pump_hours(
     newest: &[u8],
     writer: u64,
     pump: u64,
-) -> Figures
-    ensures { λ r. ⌜ tells (r .code) (r .first) (r .second) ≡ hoursCall (lentTo (now (log .entry)) (now (area .entry)) (now (state .entry)) (now (newest .entry)) []) writer pump ⌝ }
+) -> Hours
+    ensures { λ r. ⌜ r ≡ hoursCall (lentTo (now (log .entry)) (now (area .entry)) (now (state .entry)) (now (newest .entry)) []) writer pump ⌝ }
 {
     if pump > LAST_PUMP {
-        return refused(14);
+        return no_hours(14);
     }
     let mut block = [0; 64];
     let read = kagutin::kagutin_fetch(log, area, state, newest, &mut block, writer, HOMES + pump);
     if read.code != 0 {
-        return refused(read.code);
+        return no_hours(read.code);
     }
     let p = hours::read(&block);
-    Figures {
+    Hours {
         code: 0,
-        first: p.starts,
-        second: p.total,
+        starts: p.starts,
+        seconds: p.total,
     }
 }
 
@@ -121,20 +139,20 @@ pub extern "C" fn kagutin_pump_services(
     writer: u64,
     pump: u64,
     interval: u64,
-) -> Figures
-    ensures { λ r. ⌜ tells (r .code) (r .first) (r .second) ≡ servicesCall (lentTo (now (log .entry)) (now (area .entry)) (now (state .entry)) (now (newest .entry)) []) writer pump interval ⌝ }
+) -> Services
+    ensures { λ r. ⌜ r ≡ servicesCall (lentTo (now (log .entry)) (now (area .entry)) (now (state .entry)) (now (newest .entry)) []) writer pump interval ⌝ }
 {
     if interval == 0 {
-        return refused(14);
+        return no_services(14);
     }
     let hours = kagutin_pump_hours(log, area, state, newest, writer, pump);
     if hours.code != 0 {
-        return refused(hours.code);
+        return no_services(hours.code);
     }
-    let due = hours::services(hours.second, interval);
-    Figures {
+    let d = hours::services(hours.seconds, interval);
+    Services {
         code: 0,
-        first: due.services,
-        second: due.left,
+        due: d.services,
+        left: d.left,
     }
 }

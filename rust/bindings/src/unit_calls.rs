@@ -9,10 +9,18 @@ use std::ffi::c_void;
 
 #[repr(C)]
 #[derive(Clone, Copy)]
-struct Figures {
+struct Hours {
     code: u64,
-    first: u64,
-    second: u64,
+    starts: u64,
+    seconds: u64,
+}
+
+#[repr(C)]
+#[derive(Clone, Copy)]
+struct Services {
+    code: u64,
+    due: u64,
+    left: u64,
 }
 
 /// A row of a table, or an alarm.
@@ -29,9 +37,15 @@ impl From<Reply> for Told {
     }
 }
 
-impl From<Figures> for Told {
-    fn from(told: Figures) -> Told {
-        Told { code: told.code, figures: [told.first, told.second, 0], size: 0 }
+impl From<Hours> for Told {
+    fn from(told: Hours) -> Told {
+        Told { code: told.code, figures: [told.starts, told.seconds, 0], size: 0 }
+    }
+}
+
+impl From<Services> for Told {
+    fn from(told: Services) -> Told {
+        Told { code: told.code, figures: [told.due, told.left, 0], size: 0 }
     }
 }
 
@@ -69,8 +83,8 @@ declare! {
     kagutin_bands_look_up: [] [u64 u64] -> Three;
     kagutin_pump_start: [batch] [u64 u64 u32] -> Reply;
     kagutin_pump_stop: [batch] [u64 u64 u32] -> Reply;
-    kagutin_pump_hours: [] [u64 u64] -> Figures;
-    kagutin_pump_services: [] [u64 u64 u64] -> Figures;
+    kagutin_pump_hours: [] [u64 u64] -> Hours;
+    kagutin_pump_services: [] [u64 u64 u64] -> Services;
     kagutin_alarm_arrive: [batch] [u64 u16 u64 u32] -> Reply;
     kagutin_alarm_clear: [batch] [u64 u16] -> Reply;
     kagutin_alarm_gravest: [] [u64] -> Three;

@@ -1,6 +1,6 @@
 //! Hours book of a pump, from the request alone: its home block and its events.
 
-pub const WRONG_TURN: u64 = 15;
+pub const WRONG_PUMP_STATE: u64 = 15;
 pub const LATE: u64 = 16;
 pub const BLOCK: usize = 64;
 
@@ -44,7 +44,7 @@ impl Pump {
             Event::Stop(second) => (false, second),
         };
         if start == self.running {
-            return Err(WRONG_TURN);
+            return Err(WRONG_PUMP_STATE);
         }
         let gone = second.checked_sub(self.last).ok_or(LATE)?;
         let starts = self.starts.checked_add(u32::from(start)).ok_or(LATE)?;
@@ -104,7 +104,7 @@ mod tests {
         let mut with = done.to_vec();
         with.push(event);
         if start == running {
-            WRONG_TURN
+            WRONG_PUMP_STATE
         } else if u64::from(second) < last {
             LATE
         } else {
@@ -172,7 +172,7 @@ mod tests {
         let run = Pump { starts: 1, total: u32::MAX - 4, last: 3, running: true };
         assert_eq!(run.after(Event::Stop(7)).map(|p| p.total), Ok(u32::MAX));
         assert_eq!(run.after(Event::Stop(8)), Err(LATE));
-        assert_eq!(run.after(Event::Start(0)), Err(WRONG_TURN));
+        assert_eq!(run.after(Event::Start(0)), Err(WRONG_PUMP_STATE));
         let mut rng = Rng::new(16);
         for _ in 0..2000 {
             let mut block = [0u8; BLOCK];

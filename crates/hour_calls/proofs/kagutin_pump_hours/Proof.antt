@@ -7,11 +7,11 @@ use borrow.Author.Needs.{needs}
 use Rattle.hour_calls.proofs.kagutin_pump_hours.Statement.{statement}
 use Rattle.hour_calls.proofs.kagutin_pump_hours.Tie as tie
 
-refused-requires : tie.Need-refused-requires
-refused-requires c κs = search needs
+no-hours-requires : tie.Need-no-hours-requires
+no-hours-requires c κs = search needs
 
 returns : tie.Need-returns
-returns c = hours-unknown _ _ _ (c .before .if1 .taken) (c .refused .ensures)
+returns c = hours-unknown _ _ _ (c .before .if1 .taken) (c .no-hours .ensures)
 
 slice-aggregate-kagutin-fetch : tie.Need-slice-aggregate-kagutin-fetch
 slice-aggregate-kagutin-fetch c = search needs
@@ -22,15 +22,15 @@ add-kagutin-fetch c = search needs
 kagutin-fetch-requires : tie.Need-kagutin-fetch-requires
 kagutin-fetch-requires c κs = search needs
 
-refused-requires-2 : tie.Need-refused-requires-2
-refused-requires-2 c κs = search needs
+no-hours-requires-2 : tie.Need-no-hours-requires-2
+no-hours-requires-2 c κs = search needs
 
 returns-2 : tie.Need-returns-2
 unfolding zeros
 returns-2 c =
     let r = c .before .before .before .before in
     hours-unread _ _ _ (omega (arith, r .before .before .if1 .left)) _ _ _ _ _ refl (r .kagutin-fetch .ensures) (c .before .if2 .taken)
-    (c .refused2 .ensures)
+    (c .no-hours2 .ensures)
 
 slice-aggregate-read : tie.Need-slice-aggregate-read
 slice-aggregate-read c = search needs
@@ -49,12 +49,12 @@ pub kagutin-pump-hours-spec : {M : Type 1} → statement M
 kagutin-pump-hours-spec =
     tie.close
     (tie.spec
-    refused-requires
+    no-hours-requires
     returns
     slice-aggregate-kagutin-fetch
     add-kagutin-fetch
     kagutin-fetch-requires
-    refused-requires-2
+    no-hours-requires-2
     returns-2
     slice-aggregate-read
     read-requires

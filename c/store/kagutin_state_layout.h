@@ -11,7 +11,7 @@ enum {
     STATE_FENCED = 48,
     STATE_ROUND = 88,
     STATE_MODES = 104, /* one byte for each writer */
-    STATE_MODE_LOGS = 3,
+    STATE_MODE_LOGGING = 3,
     STATE_WRITERS = 128, /* their records */
     STATE_WRITER_SIZE = 24,
     STATE_WRITER_FIRST = 8
