@@ -47,8 +47,11 @@ include make/c.mk
 # Archives are made from proved crates only; rt proves what has changed, and a changed definition or proof counts as well.
 library: $(ARCHIVE)
 
-$(ARCHIVES): target/staticlib/lib%.a: crates.txt $(shell find crates -name '*.rt' -o -name '*.antt')
-	@scripts/library.sh $*
+define ARCHIVE_OF
+target/staticlib/lib$(1).a: crates.txt $$(shell find crates.txt $(addprefix crates/,$(shell scripts/library.sh --crates $(1))) -name '*.rt' -o -name '*.antt')
+	@scripts/library.sh $(1)
+endef
+$(foreach crate,$(ARCHIVES:target/staticlib/lib%.a=%),$(eval $(call ARCHIVE_OF,$(crate))))
 
 run: station
 	target/c/station --seed $(SEED) --cuts $(CUTS)
