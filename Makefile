@@ -1,5 +1,6 @@
 # make            builds the library and the C programs from dist/, with a C compiler alone
 # make run        a pump station on the store: power cuts at random, each opening checked; alarm panel and wear sheet at the end
+# make quick      the edit loop: C programs from dist/ and quick tests, within two minutes and without the prover
 # make test       runs every test and every proof; the prover's verdict is the last line
 # make library    the proved archive for x86-64 Linux, target/staticlib/libkagutin.a; make LIB=that run and so on use it
 # make dist       dist/kagutin.c again from the proved program; the gate fails where it differs
@@ -31,7 +32,7 @@ GAUGES_ARCHIVE = target/staticlib/libgauges.a
 INFLOW_ARCHIVE = target/staticlib/libinflow.a
 ARCHIVES = $(ARCHIVE) $(GAUGES_ARCHIVE) $(INFLOW_ARCHIVE)
 
-.PHONY: all help run test test-library test-compared test-c compare play bench bench-docs reference library clean
+.PHONY: all help run quick test test-library test-compared test-c compare play bench bench-docs reference library clean
 
 # The toolchain that this repository was checked with, as 'rt version' prints it.
 RATTLE = rattle-kit-5b-plain logic 097e4c862dff5811
@@ -46,8 +47,11 @@ include make/c.mk
 # Archives are made from proved crates only; rt proves what has changed, and a changed definition or proof counts as well.
 library: $(ARCHIVE)
 
-$(ARCHIVES): target/staticlib/lib%.a: crates.txt $(shell find crates -name '*.rt' -o -name '*.antt')
-	@scripts/library.sh $*
+define ARCHIVE_OF
+target/staticlib/lib$(1).a: crates.txt $$(shell find crates.txt $(addprefix crates/,$(shell scripts/library.sh --crates $(1))) -name '*.rt' -o -name '*.antt')
+	@scripts/library.sh $(1)
+endef
+$(foreach crate,$(ARCHIVES:target/staticlib/lib%.a=%),$(eval $(call ARCHIVE_OF,$(crate))))
 
 run: station
 	target/c/station --seed $(SEED) --cuts $(CUTS)
@@ -74,6 +78,13 @@ bench: rust/target/release/bench
 bench-docs:
 	python3 rust/bench/plot.py target/bench/bench.tsv docs/ring-cost.svg
 	python3 rust/bench/report.py target/bench/bench.tsv target/bench/peers.tsv docs/PERFORMANCE.md
+
+# For the edit loop: what needs no prover and little time. The generator's longer tests run where the proved program is there.
+quick: all c-quick
+	$(MAKE) --no-print-directory $(if $(wildcard target/rlib/$(EXPORTS).rlib),generator-check,forms-check)
+	@if command -v cargo > /dev/null; then echo "cargo test"; cd rust && cargo test --offline --quiet > ../target/quick.log 2>&1 \
+	    && echo "reference: tests passed" || { cat ../target/quick.log; exit 1; }; \
+	else echo "skipped the reference implementation: no cargo"; fi
 
 # The proofs come first, so that the library is made from what they have just proved; their verdict is printed again as the last line.
 test: reference

@@ -6,6 +6,7 @@
 # inflow                         least and most inflow of a pit; a program over libkagutin_inflow.a alone
 # c-sanitize                     the same with address and undefined-behaviour sanitizers, in target/c/sanitize
 # c-check                        tests of all of these
+# c-quick                        the quick ones of them, without sanitizers
 # rights-cost                    what questions 19 and 20 cost, by callgrind
 # question-cost                  what question 2 costs; with LIB the archive it is a function of its own
 # c-kills                        longer: KILLS kills of a process at work, on this disk
@@ -112,6 +113,12 @@ c-check: $(C_PROGRAMS:%=$(C_OUT)/%) c-sanitize
 	CC="$(CC)" LIB="$(LIB)" C_LIBS="$(C_LIBS)" sh tests/c-check.sh $(C_OUT)
 	CC="$(CC)" LIB="$(LIB)" GAUGES_LIB="$(GAUGES_LIB)" sh tests/programs/gauges-check.sh $(C_OUT)
 	CC="$(CC)" LIB="$(LIB)" GAUGES_LIB="$(GAUGES_LIB)" INFLOW_LIB="$(INFLOW_LIB)" sh tests/programs/inflow-check.sh $(C_OUT)
+
+# The quick tests, in seconds.
+C_QUICK = station inspect quickstart gauges inflow bands wear driver_check store_check reserve_check round_check rights_check file_check fram_check units_check
+.PHONY: c-quick
+c-quick: $(C_QUICK:%=$(C_OUT)/%)
+	CC="$(CC)" LIB="$(LIB)" C_LIBS="$(C_LIBS)" sh tests/quick.sh $(C_OUT)
 
 # Instructions of a store and a read under a list of rights, and of question 2, by callgrind.
 .PHONY: rights-cost question-cost

@@ -24,7 +24,7 @@ GENERATE_inflow = $(GENERATOR) --export inflow --header kagutin_inflow.h --resul
 STANDALONE = gauges inflow
 DIST_FILES = $(DIST_C) $(STANDALONE:%=dist/kagutin_%.c)
 
-.PHONY: dist dist-check generator-check port-check port-compare
+.PHONY: dist dist-check generator-check forms-check port-check port-compare
 
 dist:
 	@mkdir -p $(PORT_OUT)
@@ -42,13 +42,15 @@ dist-check:
 	@echo "dist: $(DIST_FILES): what the proved program gives"
 	@$(MAKE) --no-print-directory units-dist-check
 
-# Tests of the generator itself.
-generator-check:
-	python3 tests/generator/forms.py
+# Tests of the generator itself; forms-check needs no proved program.
+generator-check: forms-check
 	python3 tests/generator/generator.py $(GENERATE_WORDS)
 	python3 tests/generator/imports.py
 	python3 tests/generator/translated.py
 	python3 tests/generator/buffers.py
+
+forms-check:
+	python3 tests/generator/forms.py
 
 # Shared objects that compare loads. no-passes.c is the same program without the generator's passes, gcc-plain without quicker helpers.
 PORT_SHARED = -std=c99 -Iinclude -fPIC -shared
