@@ -6,6 +6,7 @@
 # inflow                         least and most inflow of a pit; a program over libkagutin_inflow.a alone
 # c-sanitize                     the same with address and undefined-behaviour sanitizers, in target/c/sanitize
 # c-check                        tests of all of these
+# snippets-check                 the examples and commands of README, docs and headers: built, run and judged
 # rights-cost                    what questions 19 and 20 cost, by callgrind
 # question-cost                  what question 2 costs; with LIB the archive it is a function of its own
 # c-kills                        longer: KILLS kills of a process at work, on this disk
@@ -164,6 +165,18 @@ uninstall:
 
 include port.mk
 include above.mk
+
+# Every C example of README, docs and headers, and every command there.
+SNIPPET_LIBS = $(UNITS_LIB) $(ABOVE_LIBS) $(STORE_LIB) $(LIB)
+SNIPPET_SANITIZED = $(patsubst %,$(C_OUT)/sanitize/%.o,store/units $(C_STORE)) $(patsubst $(C_OUT)/%,$(C_OUT)/sanitize/%,$(ABOVE_LIBS) $(LIB))
+SNIPPET_PROGRAMS = $(patsubst %,$(C_OUT)/%,quickstart station bands wear gauges inflow)
+
+.PHONY: snippets-check
+snippets-check: $(SNIPPET_LIBS) $(SNIPPET_SANITIZED) $(SNIPPET_PROGRAMS)
+	@if command -v python3 > /dev/null; then python3 tests/snippets.py $(C_OUT) $(SNIPPET_LIBS) $(C_LIBS) --sanitized $(SNIPPET_SANITIZED) $(C_LIBS); \
+	else echo "skipped the examples of the documents: python3 is not installed"; fi
+
+c-check: snippets-check
 
 c-clean:
 	rm -rf $(C_OUT)
