@@ -6,19 +6,19 @@
  *     static uint8_t memory[KGT_MEMORY_SIZE(16, 32)];
  *     static struct kagutin store;
  *
- *     static bool start(struct kgt_driver driver)    after every start of the device
+ *     static bool start(struct kgt_driver driver)    // after every start of the device
  *     {
  *         return kgt_init(&store, memory, sizeof memory, 16, 32, driver).code == KAGUTIN_DONE
  *             && kgt_open(&store).code == KAGUTIN_DONE;
  *     }
  *
- *     static bool keep(const uint8_t *block)         writer 0, home 7; true: no power cut takes it
+ *     static bool keep(const uint8_t *block)         // writer 0, home 7; true: no power cut takes it away
  *     {
  *         if (kgt_begin(&store, 0).code != KAGUTIN_DONE)
  *             return false;
  *         if (kgt_store(&store, 0, 7, block).code == KAGUTIN_DONE && kgt_commit_sync(&store, 0).code == KAGUTIN_DONE)
  *             return true;
- *         kgt_abort(&store, 0);                      gone, if it is still open
+ *         kgt_abort(&store, 0);                      // if it is still open
  *         return false;
  *     }
  *
