@@ -1,12 +1,11 @@
 #!/bin/sh
 # Makes the page: compiles the C for wasm32 and puts style, scripts and program into one HTML file.
-# usage: build.sh PROVED_C INSPECTOR_C OUT; PROVED_C and INSPECTOR_C are lists of sources, from the repository's root.
+# usage: build.sh "SOURCES" OUT, from the repository's root; SOURCES are those of the proved program and of the inspector.
 # Needs clang and wasm-ld alone (page/packages.sh installs them); CLANG names another clang.
 set -eu
 
-proved=$1
-inspector=$2
-page=$3
+sources=$1
+page=$2
 work=target/page
 
 pick()
@@ -27,15 +26,15 @@ mkdir -p "$work" "$(dirname "$page")"
 
 # No host header is seen: the compiler's own, those of page/wasm and the repository's. Names and paths do not reach the file.
 flags="--target=wasm32 -std=c99 -Os -nostdinc -isystem $("$clang" -print-resource-dir)/include
-    -Ipage/wasm/include -Ipage/wasm -Iinclude -Ic -Ic/inspect -Ic/common -Wall -Wextra -pedantic -Wshadow -Wconversion
-    -fvisibility=hidden -Dmain=inspect_main"
+    -Ipage/wasm/include -Ipage/wasm -Iinclude -Ic -Wall -Wextra -pedantic -Wshadow -Wconversion -fvisibility=hidden
+    -Dmain=inspect_main $(for source in $sources; do echo "-I${source%/*}"; done | sort -u)"
 link="-nostdlib -Wl,--no-entry -Wl,--strip-all -Wl,-z,stack-size=131072"
 
 # Without -fno-builtin a memcpy in a loop would become a call of itself.
 # shellcheck disable=SC2086 # lists of words
 "$clang" $flags -fno-builtin -c page/wasm/memory.c -o "$work/memory.o"
 # shellcheck disable=SC2086
-"$clang" $flags $link page/wasm/calls.c page/wasm/host.c page/wasm/print.c page/wasm/wrong.c "$work/memory.o" $proved $inspector \
+"$clang" $flags $link page/wasm/calls.c page/wasm/host.c page/wasm/print.c page/wasm/wrong.c "$work/memory.o" $sources \
     -o "$work/kagutin.wasm"
 base64 -w 160 "$work/kagutin.wasm" > "$work/kagutin.base64"
 

@@ -11,7 +11,7 @@ PAGE_INSPECTOR = $(wildcard c/inspect*.c c/inspect/*.c c/rule.c c/common/rule.c)
 .PHONY: page page-check
 
 page:
-	@sh page/build.sh "$(PAGE_PROVED)" "$(PAGE_INSPECTOR)" $(PAGE)
+	@sh page/build.sh "$(PAGE_PROVED) $(PAGE_INSPECTOR)" $(PAGE)
 
-page-check: inspect station
-	@sh page/test/check.sh "$(PAGE_PROVED)" "$(PAGE_INSPECTOR)" $(PAGE)
+page-check: inspect station wear
+	@sh page/test/check.sh "$(PAGE_PROVED) $(PAGE_INSPECTOR)" $(PAGE) $(C_OUT)

@@ -9,7 +9,7 @@ function build(made, attributes, children) {
     if (key === "on") for (const [event, act] of Object.entries(value)) made.addEventListener(event, act);
     else made.setAttribute(key, value === true ? "" : value);
   }
-  made.append(...children.flat().filter(child => child !== null && child !== undefined && child !== false));
+  made.append(...children.flat(Infinity).filter(child => child !== null && child !== undefined && child !== false));
   return made;
 }
 
@@ -24,7 +24,7 @@ function svg(name, attributes, ...children) {
 
 /* Puts children in the place of all that an element holds. */
 function fill(parent, ...children) {
-  parent.replaceChildren(...children.flat().filter(child => child !== null && child !== undefined && child !== false));
+  parent.replaceChildren(...children.flat(Infinity).filter(child => child !== null && child !== undefined && child !== false));
 }
 
 /* A table whose long tail comes with a button. row(item) gives its cells; numbers stand right. */
@@ -46,7 +46,7 @@ function table(caption, heads, items, row, most = 100) {
 
 function cell(value) {
   if (value instanceof Node) return el("td", null, value);
-  return el("td", typeof value === "number" ? { class: "number" } : null, typeof value === "number" ? value.toLocaleString("en") : String(value));
+  return el("td", typeof value === "number" ? { class: "number" } : null, String(value));
 }
 
 /* Waits until the page has been drawn, so that long work leaves it alive. */

@@ -31,11 +31,11 @@ function hurtWords(result) {
     + " was confirmed durable, and it is lost: its blocks never landed.");
   for (const { commit, lost, there } of result.hurt) {
     const who = "Commit " + commit.number + " of " + TASKS[commit.writer];
-    words.push(there.length ? who + " is back by half: " + namesOf(there) + " hold its blocks, " + namesOf(lost) + " do not."
-      : who + " is lost: " + namesOf(lost) + " should hold its blocks and do not.");
+    words.push(there.length ? who + " is back by half. Its blocks are in " + namesOf(there) + ", but not in " + namesOf(lost) + "."
+      : who + " is lost. Its blocks should be in " + namesOf(lost) + ", and are not.");
   }
   const strange = result.differ.filter(home => !result.hurt.some(hurt => hurt.lost.includes(home)));
-  if (strange.length) words.push(namesOf(strange) + " should be zeros and are not: a commit that is not in the run came back.");
+  if (strange.length) words.push("A commit that is not in the run came back, in " + namesOf(strange) + ".");
   if (result.code) words.push("The opening was refused with " + result.code + ".");
   return words;
 }

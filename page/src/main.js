@@ -7,7 +7,9 @@ function setTheme(theme) {
 function startTheme() {
   const dark = matchMedia("(prefers-color-scheme: dark)");
   const now = () => document.documentElement.dataset.theme || (dark.matches ? "dark" : "light");
-  byId("theme").textContent = now() === "dark" ? "Light page" : "Dark page";
+  const name = () => byId("theme").textContent = now() === "dark" ? "Light page" : "Dark page";
+  name();
+  dark.addEventListener("change", name);
   byId("theme").addEventListener("click", () => setTheme(now() === "dark" ? "light" : "dark"));
 }
 
@@ -21,6 +23,7 @@ function startStation(view) {
   click("many", () => view.many(1000));
   click("find", () => view.find());
   click("again", () => view.start(seed(), program()));
+  click("with-seed", () => view.start(seed(), program()));
   click("earlier", () => view.show(view.shown - 1));
   click("later", () => view.show(view.shown + 1));
   click("carry", () => view.carryOn());
@@ -74,15 +77,15 @@ async function start() {
   view = new StationView(session, record);
   startStation(view);
   startImage(new ImageView(), view);
-  const follow = async () => {
+  const follow = async first => {
     const told = linkOf(location.hash), meant = /[#&]seed=/.test(location.hash);
-    if (told) await view.play(told);
-    else if (meant) view.start(1, 0);
-    if (meant && !told) view.say("This link cannot be played; a new run begins.");
+    if (told) return view.play(told);
+    if (first || meant) view.start(1, 0);
+    if (meant) view.say("This link cannot be played; a new run begins.");
+    return null;
   };
-  if (!linkOf(location.hash)) view.start(1, 0);
-  addEventListener("hashchange", follow);
-  await follow();
+  addEventListener("hashchange", () => follow(false));
+  await follow(true);
 }
 
 start().then(() => document.documentElement.dataset.ready = "yes").catch(trouble => {

@@ -77,7 +77,7 @@ async function findBreak(station, program, from, told) {
   return null;
 }
 
-/* Does a difference tell its story: a commit lost or by half? */
+/* Does a difference show in the homes, as a commit lost or by half? */
 function tells(result) {
-  return result.hurt.length > 0 || result.owedLost.length > 0;
+  return result.hurt.length > 0;
 }

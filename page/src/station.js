@@ -6,6 +6,9 @@ const STATION_GROUPS = 8, STATION_HOMES = 40, CROWD = 96;
 const PROGRAMS = ["as proved", "no fence", "blanking first", "replay by position"];
 const NO_FENCE = 1;
 
+/* Who makes a call that is no task's. */
+const DRIVER = -1;
+
 function plural(count, one, many = one + "s") {
   return count.toLocaleString("en") + " " + (count === 1 ? one : many);
 }
@@ -134,7 +137,7 @@ class Station {
   flush() {
     const reply = this.store_.call("flush");
     if (this.take(reply, "flush")) this.book.flush();
-    return this.tell(reply, -1, "flush", reply.records.some(record => record.kind === "GW") ? ": the part-filled group is handed on, then a fence" : ": a fence");
+    return this.tell(reply, DRIVER, "flush", reply.records.some(record => record.kind === "GW") ? ": the part-filled group is handed on, then a fence" : ": a fence");
   }
 
   /* The driver waits for every fence, then says so. */
@@ -143,7 +146,7 @@ class Station {
     const reply = this.store_.call("confirm");
     if (this.take(reply, "confirm")) this.book.confirm(reply.figure);
     this.counts.owed = this.book.commits.filter(commit => commit.owed).length;
-    return this.tell(reply, -1, "confirm", ": all fences have passed, commits up to ticket " + reply.figure + " are durable");
+    return this.tell(reply, DRIVER, "confirm", ": all fences have passed, commits up to ticket " + reply.figure + " are durable");
   }
 
   /* settle, trim. */
@@ -152,13 +155,13 @@ class Station {
     this.take(reply, name);
     const homes = reply.records.filter(record => record.kind === "HW").length;
     const moved = reply.records.some(record => record.kind === "KW");
-    return this.tell(reply, -1, name, name === "settle" ? ": " + plural(homes, "home") + " written" : moved ? ": old groups are free, a new header" : ": nothing to free");
+    return this.tell(reply, DRIVER, name, name === "settle" ? ": " + plural(homes, "home") + " written" : moved ? ": old groups are free, a new header" : ": nothing to free");
   }
 
   beginRound() {
     const reply = this.store_.call("begin_round");
     this.round = this.take(reply, "begin_round");
-    return this.tell(reply, -1, "a round of settling in small steps begins");
+    return this.tell(reply, DRIVER, "a round of settling in small steps begins");
   }
 
   stepRound(homes) {
@@ -167,12 +170,12 @@ class Station {
     const written = reply.records.filter(record => record.kind === "HW").length;
     const over = reply.code !== 0 || reply.records.some(record => record.kind === "FN") || (this.program === NO_FENCE && written < homes);
     this.round = !over;
-    return this.tell(reply, -1, "a step of the round", ": " + plural(written, "home") + " written" + (over ? ", the round is over" : ""));
+    return this.tell(reply, DRIVER, "a step of the round", ": " + plural(written, "home") + " written" + (over ? ", the round is over" : ""));
   }
 
   fencePasses() {
     const blocks = this.lasting.passFence();
-    return { code: 0, who: -1, text: "a fence passes: " + plural(blocks, "block") + " before it " + (blocks === 1 ? "has" : "have") + " landed" };
+    return { code: 0, who: DRIVER, text: "a fence passes: " + plural(blocks, "block") + " before it " + (blocks === 1 ? "has" : "have") + " landed" };
   }
 
   /* One call of a task or of the driver. */
@@ -196,7 +199,7 @@ class Station {
     this.result = { back, gone, owedLost, blocks, landed, inside: this.opening, opened: false };
     this.phase = "off";
     this.round = false;
-    this.said = { code: 0, who: -1, text: "The power is cut" + (this.opening ? " inside an opening" : "") + ": " + landed + " of "
+    this.said = { code: 0, text: "The power is cut" + (this.opening ? " inside an opening" : "") + ": " + landed + " of "
       + plural(blocks, "block") + " landed" + (fences ? ", after " + plural(fences, "more fence") : "") + "." };
   }
 
@@ -213,7 +216,7 @@ class Station {
     if (broken) this.counts.differences += 1;
     this.phase = broken ? "broken" : "on";
     this.tasks.reset();
-    this.said = { code: reply.code, who: -1, text: broken ? "Opened: what is found is NOT the book's run."
+    this.said = { code: reply.code, text: broken ? "Opened: what is found is NOT the book's run. Go back through the history to see how, or start again."
       : "Opened: " + plural(reply.figure, "transaction") + " brought back. All " + this.homes + " homes are as the book says." };
     return !broken;
   }

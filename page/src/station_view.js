@@ -99,8 +99,11 @@ class StationView {
       await breathe();
     });
     this.busy = false;
-    if (found) await this.play(found);
-    else {
+    if (found) {
+      await this.play(found);
+      byId("verdict").focus({ preventScroll: true });
+      byId("verdict").scrollIntoView({ block: "center" });
+    } else {
       this.start(Number(byId("seed").value) || 0, program);
       this.say("No cut was found that shows a difference.");
     }
@@ -162,7 +165,7 @@ class StationView {
     const moment = this.moment();
     if (!moment) return;
     const { said } = moment;
-    this.say(said.who >= 0 ? TASKS[said.who] + ": " + said.text : said.who === undefined || /^[A-Z]/.test(said.text) ? said.text : "driver: " + said.text);
+    this.say(said.who >= 0 ? "Task " + said.who + ", " + TASKS[said.who] + ": " + said.text + "." : said.who === DRIVER ? "Driver: " + said.text + "." : said.text);
     this.drawButtons();
     this.drawCounts(moment);
     this.drawTasks(moment);
@@ -176,10 +179,14 @@ class StationView {
     const off = { step: phase !== "on", run: phase !== "on", cut: phase !== "on", open: phase !== "off", many: phase === "broken",
       carry: now, earlier: this.shown === 0, later: now };
     for (const [id, is] of Object.entries(off)) byId(id).disabled = is || this.busy || (this.choice.open && id !== "carry");
-    for (const id of ["find", "again", "program", "seed"]) byId(id).disabled = this.busy || this.choice.open;
+    for (const id of ["find", "again", "with-seed", "program", "seed"]) byId(id).disabled = this.busy || this.choice.open;
     byId("run").textContent = this.timer ? "Pause" : "Run slowly";
     byId("run").setAttribute("aria-pressed", String(Boolean(this.timer)));
-    byId("find").hidden = Number(byId("program").value) === 0;
+    byId("said").setAttribute("aria-live", this.timer ? "off" : "polite");
+    const { program } = this.station;
+    byId("find").hidden = program === 0;
+    byId("wrong").hidden = program === 0;
+    byId("wrong").textContent = "Wrong on purpose: the station runs the program \u201c" + PROGRAMS[program] + "\u201d.";
     const slider = byId("slider");
     slider.max = String(Math.max(0, this.history.last()));
     slider.value = String(this.shown);
@@ -246,11 +253,12 @@ class StationView {
     byId("walk").textContent = "In lasting memory an opening would now find " + plural(told.commits.length, "commit") + "; the walk stopped: " + told.stop.why + ".";
   }
 
+  /* Group blocks on their way; at a cut those before a fence that has passed land, the next ones can be picked. */
   onTheWay(moment) {
-    const choosing = this.choice.open, stretch = choosing ? this.choice.blocks() : moment.waiting[0];
-    return stretch.map((block, i) => block.kind !== "GW" ? null : svg("path", {
-      d: cellPath(block.place, block.part, STATION_GROUPS), class: "going" + (choosing ? (this.choice.chosen[i] ? " lands pick" : " pick") : ""),
-      on: choosing ? { click: () => this.choice.toggle(i) } : {},
-    })).filter(Boolean);
+    const { choice } = this, outline = (block, name, act) => block.kind !== "GW" ? null
+      : svg("path", { d: cellPath(block.place, block.part, STATION_GROUPS), class: "going" + name, on: act ? { click: act } : {} });
+    if (!choice.open) return moment.waiting[0].map(block => outline(block, "")).filter(Boolean);
+    const sure = moment.waiting.slice(0, choice.fences).flat().map(block => outline(block, " lands"));
+    return [...sure, ...choice.blocks().map((block, i) => outline(block, choice.chosen[i] ? " lands pick" : " pick", () => choice.toggle(i)))].filter(Boolean);
   }
 }

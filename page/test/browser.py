@@ -42,7 +42,7 @@ class Browser:
                                         stderr=subprocess.DEVNULL)
         os.close(takes)
         os.close(gives)
-        self.number, self.rest, self.answers, self.errors, self.requests = 0, b"", {}, [], []
+        self.number, self.rest, self.answers, self.errors, self.requests, self.pressed = 0, b"", {}, [], [], set()
         target = self.send("Target.createTarget", session=None, url="about:blank")["targetId"]
         self.session = self.send("Target.attachToTarget", session=None, targetId=target, flatten=True)["sessionId"]
         for domain in ("Page", "Runtime", "DOM", "Log", "Network"):
@@ -114,6 +114,7 @@ class Browser:
 
     def click(self, name):
         """A press on a button that must be there and enabled."""
+        self.pressed.add(name)
         self.run("""const button = document.getElementById(%s);
             if (!button || button.disabled || !button.checkVisibility()) throw new Error("cannot press " + %s);
             button.click();""" % (json.dumps(name), json.dumps(name)))
