@@ -13,5 +13,8 @@ PAGE_INSPECTOR = $(wildcard c/inspect*.c c/inspect/*.c c/rule.c c/common/rule.c)
 page:
 	@sh page/build.sh "$(PAGE_PROVED) $(PAGE_INSPECTOR)" $(PAGE)
 
+# The gate runs it with the other tests of the C side.
+test-c: page-check
+
 page-check: inspect station wear
 	@sh page/test/check.sh "$(PAGE_PROVED) $(PAGE_INSPECTOR)" $(PAGE) $(C_OUT)

@@ -21,6 +21,7 @@ function entriesTable(told) {
 }
 
 function commitsTable(told) {
+  if (!told.commits.length) return el("p", null, "No commit comes back.");
   return table("Commits that come back, in commit order", ["commit", "positions", "entries", "homes"], told.commits.map((commit, i) => ({ ...commit, i })),
     commit => [commit.i + 1, commit.first + " to " + commit.closing, commit.entries, commit.homes.join(" ")]);
 }

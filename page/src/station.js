@@ -19,7 +19,7 @@ class Station {
   }
 
   constructor(store) {
-    this.store_ = store;
+    this.kagutin = store;
     this.groups = STATION_GROUPS;
     this.homes = STATION_HOMES;
   }
@@ -28,7 +28,7 @@ class Station {
   reset(seed, program) {
     this.seed = seed;
     this.program = program;
-    this.store_.program.choose_program(0);
+    this.kagutin.program.choose_program(0);
     this.book = new Book(this.homes);
     this.lasting = new Lasting(this.groups, this.homes, block => {
       if (block.row >= 0) this.book.landed(block.row, block.part);
@@ -38,11 +38,11 @@ class Station {
     this.round = false;
     this.opening = false;
     this.result = null;
-    this.lasting.submit(this.store_.call("format").records, "format");
+    this.lasting.submit(this.kagutin.call("format").records, "format");
     this.lasting.passAll();
-    this.lasting.submit(this.store_.openImage(this.lasting.bytes).records, "open");
+    this.lasting.submit(this.kagutin.openImage(this.lasting.bytes).records, "open");
     this.lasting.passAll();
-    this.store_.program.choose_program(program);
+    this.kagutin.program.choose_program(program);
     this.tasks = new Tasks(this, new Chance(seed));
     this.said = { code: 0, text: "A new store: " + this.groups + " groups, " + this.homes + " homes, formatted and opened." };
   }
@@ -57,36 +57,36 @@ class Station {
 
   /* What a call was and what it answered, in words. */
   tell(reply, who, what, done = "") {
-    const text = reply.code ? what + ": refused, " + reply.code + ", " + this.store_.answerText(reply.code) : what + done;
+    const text = reply.code ? what + ": refused, " + reply.code + ", " + this.kagutin.answerText(reply.code) : what + done;
     return { code: reply.code, who, text };
   }
 
   begin(writer) {
-    const reply = this.store_.call("begin", writer);
+    const reply = this.kagutin.call("begin", writer);
     if (this.take(reply, "begin")) this.book.begin(writer);
     return this.tell(reply, writer, "begin");
   }
 
   reserve(writer, places) {
-    const reply = this.store_.call("reserve", writer, places);
+    const reply = this.kagutin.call("reserve", writer, places);
     if (this.take(reply, "reserve")) this.book.begin(writer);
     return this.tell(reply, writer, "reserve " + plural(places, "place"));
   }
 
   abort(writer) {
-    const reply = this.store_.call("abort", writer);
+    const reply = this.kagutin.call("abort", writer);
     if (this.take(reply, "abort")) this.book.abort(writer);
     return this.tell(reply, writer, "abort");
   }
 
   store(writer, home, block) {
-    const reply = this.store_.store(writer, home, block);
+    const reply = this.kagutin.store(writer, home, block);
     if (this.take(reply, "store")) this.book.store(writer, home, block);
     return this.tell(reply, writer, "store home " + home, ", " + homeName(home) + this.handedOn(reply));
   }
 
   commit(writer) {
-    const reply = this.store_.call("commit", writer);
+    const reply = this.kagutin.call("commit", writer);
     if (this.take(reply, "commit")) {
       this.book.commit(writer, reply.figure);
       if (reply.figure) this.counts.commits += 1;
@@ -109,7 +109,7 @@ class Station {
 
   pump(writer, pump, starts, second) {
     const block = pumpAfter(this.book.blockOf(PUMP_HOME + pump), starts, second);
-    const reply = this.store_.call(starts ? "pump_start" : "pump_stop", writer, pump, second);
+    const reply = this.kagutin.call(starts ? "pump_start" : "pump_stop", writer, pump, second);
     return this.transact(writer, reply, PUMP_HOME + pump, block, "pump " + pump + (starts ? " starts" : " stops"));
   }
 
@@ -119,23 +119,37 @@ class Station {
 
   arrives(writer, identity, alarmClass, second) {
     const list = [...this.openAlarms(), { identity, class: alarmClass, second }];
-    const reply = this.store_.call("alarm_arrive", writer, identity, alarmClass, second);
+    const reply = this.kagutin.call("alarm_arrive", writer, identity, alarmClass, second);
     return this.transact(writer, reply, ALARM_HOME, alarmBytes(list), "alarm " + identity + " of class " + alarmClass + " arrives");
   }
 
   clears(writer, identity) {
     const list = this.openAlarms().filter(alarm => alarm.identity !== identity);
-    const reply = this.store_.call("alarm_clear", writer, identity);
+    const reply = this.kagutin.call("alarm_clear", writer, identity);
     return this.transact(writer, reply, ALARM_HOME, alarmBytes(list), "alarm " + identity + " clears");
   }
 
   bands(writer, rows) {
-    const reply = this.store_.setBands(writer, bandRows(rows));
+    const reply = this.kagutin.setBands(writer, bandRows(rows));
     return this.transact(writer, reply, BAND_HOME, bandBlocks(rows), "new depth bands, " + rows.length + " rows");
   }
 
+  /* A writer with nothing open reads what is committed: by the book, else the program is wrong. */
+  read(writer, home) {
+    const reply = this.kagutin.call("read", writer, home);
+    this.take(reply, "read");
+    const block = this.kagutin.block, wants = this.book.blockOf(home);
+    if (reply.code === 0 && !wants.every((byte, i) => byte === block[i])) {
+      this.counts.differences += 1;
+      this.phase = "broken";
+      this.result = null;
+      return this.tell(reply, writer, "read home " + home, ": NOT what the book says");
+    }
+    return this.tell(reply, writer, "read home " + home, ", " + homeName(home) + ": as the book says");
+  }
+
   flush() {
-    const reply = this.store_.call("flush");
+    const reply = this.kagutin.call("flush");
     if (this.take(reply, "flush")) this.book.flush();
     return this.tell(reply, DRIVER, "flush", reply.records.some(record => record.kind === "GW") ? ": the part-filled group is handed on, then a fence" : ": a fence");
   }
@@ -143,7 +157,7 @@ class Station {
   /* The driver waits for every fence, then says so. */
   confirm() {
     this.lasting.passAll();
-    const reply = this.store_.call("confirm");
+    const reply = this.kagutin.call("confirm");
     if (this.take(reply, "confirm")) this.book.confirm(reply.figure);
     this.counts.owed = this.book.commits.filter(commit => commit.owed).length;
     return this.tell(reply, DRIVER, "confirm", ": all fences have passed, commits up to ticket " + reply.figure + " are durable");
@@ -151,7 +165,7 @@ class Station {
 
   /* settle, trim. */
   plain(name) {
-    const reply = this.store_.call(name);
+    const reply = this.kagutin.call(name);
     this.take(reply, name);
     const homes = reply.records.filter(record => record.kind === "HW").length;
     const moved = reply.records.some(record => record.kind === "KW");
@@ -159,13 +173,13 @@ class Station {
   }
 
   beginRound() {
-    const reply = this.store_.call("begin_round");
+    const reply = this.kagutin.call("begin_round");
     this.round = this.take(reply, "begin_round");
     return this.tell(reply, DRIVER, "a round of settling in small steps begins");
   }
 
   stepRound(homes) {
-    const reply = this.store_.call("step_round", homes);
+    const reply = this.kagutin.call("step_round", homes);
     this.take(reply, "step_round");
     const written = reply.records.filter(record => record.kind === "HW").length;
     const over = reply.code !== 0 || reply.records.some(record => record.kind === "FN") || (this.program === NO_FENCE && written < homes);
@@ -205,10 +219,10 @@ class Station {
 
   /* Loads both areas, opens, and holds the homes against the book's run. */
   open() {
-    const reply = this.store_.openImage(this.lasting.bytes);
+    const reply = this.kagutin.openImage(this.lasting.bytes);
     this.lasting.submit(reply.records, "open");
     this.opening = true;
-    const found = this.store_.area.slice();
+    const found = this.kagutin.area.slice();
     const { differ, hurt } = this.book.compare(found);
     const owedLost = this.result ? this.result.owedLost : [];
     const broken = reply.code !== 0 || differ.length > 0 || owedLost.length > 0;

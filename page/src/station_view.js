@@ -1,5 +1,7 @@
 /* The station as it is seen: buttons, the ring, tasks, what is on its way, homes beside the book. */
 const SPEEDS = { slow: 1400, steady: 500, quick: 120 };
+const FATES = { owed: "confirmed durable", landed: "all its blocks have landed", going: "not all its blocks have landed", back: "in the run", gone: "not in the run" };
+const MOST_LISTED = 8;
 const COUNTS = [["cuts", "cuts tried"], ["inside", "of them inside an opening"], ["commits", "commits made"], ["back", "came back after a cut"],
   ["gone", "gone: an entry had not landed"], ["refused", "calls refused"], ["differences", "differences"]];
 
@@ -50,8 +52,10 @@ class StationView {
   }
 
   pause() {
+    const ran = Boolean(this.timer);
     clearInterval(this.timer);
     this.timer = 0;
+    if (ran) this.keepLink();
     this.drawButtons();
   }
 
@@ -152,7 +156,7 @@ class StationView {
   keepLink() {
     const link = this.link();
     byId("link-text").value = location.href.replace(/#.*/, "") + link;
-    if (link.length < 4000 && (this.session.moves.length || /seed=/.test(location.hash))) history.replaceState(null, "", link);
+    if (!this.timer && link.length < 4000 && (this.session.moves.length || /seed=/.test(location.hash))) history.replaceState(null, "", link);
   }
 
   /* ---- what is drawn ---- */
@@ -170,6 +174,7 @@ class StationView {
     this.drawCounts(moment);
     this.drawTasks(moment);
     this.drawWaiting(moment);
+    this.drawCommits(moment);
     this.drawHomes(moment);
     this.drawRing();
   }
@@ -223,6 +228,14 @@ class StationView {
       i < moment.waiting.length - 1 ? el("li", { class: "fence" }, "fence") : null]));
   }
 
+  drawCommits({ commits }) {
+    const shown = commits.slice(-MOST_LISTED), more = commits.length - shown.length;
+    fill(byId("commits"), shown.map(commit => el("li", { class: commit.fate }, el("b", null, "commit " + commit.number + " "), TASKS[commit.writer]
+      + ", " + (commit.homes.length === 1 ? "home " : "homes ") + commit.homes.join(" ") + ": ", el("span", null, FATES[commit.fate]))));
+    byId("commits-told").textContent = commits.length === 0 ? "No commit since the last cut." : more ? "The last " + shown.length + " of " + commits.length + " since the last cut."
+      : plural(commits.length, "commit") + " since the last cut.";
+  }
+
   drawHomes(moment) {
     const { result } = moment, opened = result && result.opened;
     fill(byId("homes"), homesList(moment.byBook, opened ? result.found : null));
@@ -235,7 +248,7 @@ class StationView {
 
   verdict({ result, phase }) {
     if (!result) return [];
-    const run = "The book's run: " + plural(result.back.length, "commit") + " since the last cut came through, " + result.gone.length + " did not.";
+    const run = plural(result.back.length, "commit") + " of this run came through the cut, " + result.gone.length + " did not.";
     if (!result.opened) return [el("p", null, run)];
     if (!result.broken) return [el("p", null, el("b", null, "No difference. "), "Every home is as the book says. " + run)];
     return [el("p", null, el("b", null, "Broken. "), phase === "broken" ? "This is what the theorem excludes." : ""),
@@ -250,7 +263,7 @@ class StationView {
     const told = JSON.parse(output), states = blockStates(told, moment.image);
     fill(byId("ring"), ringPicture(told, states, this.onTheWay(moment)));
     fill(byId("legend"), legend(states, [["going", "on its way"], ...(this.choice.open ? [["going lands", "chosen to land"]] : [])]));
-    byId("walk").textContent = "In lasting memory an opening would now find " + plural(told.commits.length, "commit") + "; the walk stopped: " + told.stop.why + ".";
+    byId("walk").textContent = "An opening would now find " + plural(told.commits.length, "commit") + " in the log; those of trimmed groups are home. The walk stopped: " + told.stop.why + ".";
   }
 
   /* Group blocks on their way; at a cut those before a fence that has passed land, the next ones can be picked. */

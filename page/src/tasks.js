@@ -1,8 +1,8 @@
 /*
  * The eight tasks of a pump station. Each step makes one call. Task w has home
  * w; homes from 32 on are notes that all tasks write. Run hours starts and
- * stops pumps, alarms raises and clears them, service sets the depth bands, the
- * radio reserves its places.
+ * stops pumps, alarms raises and clears them, service sets the depth bands and
+ * reads any home, the radio reserves its places.
  */
 const TASKS = ["level", "switching", "run hours", "alarms", "radio", "energy", "rain gauge", "service"];
 const LEVEL = 0, SWITCHING = 1, RUN_HOURS = 2, ALARMS = 3, RADIO = 4, SERVICE = 7;
@@ -70,6 +70,7 @@ class Tasks {
     if (this.chance.oneIn(40)) return this.trespass(writer);
     if (writer === RUN_HOURS && !this.chance.oneIn(5)) return this.pumpEvent();
     if (writer === ALARMS && !this.chance.oneIn(4)) return this.alarmEvent();
+    if (writer === SERVICE && this.chance.oneIn(3)) return this.station.read(SERVICE, this.chance.below(this.station.homes));
     if (writer === SERVICE && this.chance.oneIn(4)) return this.setBands();
     const homes = this.chance.oneIn(8) ? [] : [writer];
     const notes = this.station.homes - NOTE_HOME;
@@ -151,7 +152,7 @@ class Tasks {
     return done;
   }
 
-  /* A block with words that can be read; its last byte is any. */
+  /* A block with words that can be read, then the transaction's number; its last byte is any. */
   block(writer, home, i, count) {
     const { chance } = this, bytes = new Uint8Array(BLOCK);
     const what = {
@@ -162,11 +163,10 @@ class Tasks {
       6: () => chance.below(300) / 10 + " mm rain",
       [SERVICE]: () => "panel seen",
     }[writer];
-    const number = this.plans[writer] ? this.plans[writer].number : 0;
-    const text = "#" + number + " " + TASKS[writer] + " " + (i + 1) + "/" + count
-      + (home < WRITERS && what ? ": " + what() : "") + " " + clockText(this.second);
-    new TextEncoder().encodeInto(text.slice(0, 62), bytes);
-    bytes[63] = chance.below(256);
+    const text = TASKS[writer] + " " + (i + 1) + " of " + count + (home < WRITERS && what ? ", " + what() : "") + ", " + clockText(this.second);
+    new TextEncoder().encodeInto(text.slice(0, WORDS - 1), bytes);
+    putNumber(bytes, WORDS, 4, this.plans[writer].number);
+    bytes[BLOCK - 1] = chance.below(256);
     return bytes;
   }
 }

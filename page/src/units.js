@@ -1,5 +1,6 @@
 /* What lies in the homes that have an owner, docs/HOMES.md: pumps, alarms, depth bands, rights. Read, and made for the book. */
 const PUMP_HOME = 16, PUMPS = 8, ALARM_HOME = 24, ALARM_HOMES = 6, MOST_ALARMS = 48;
+const WORDS = 59; /* bytes of a station's block that are words */
 const BAND_HOME = 12, BAND_HOMES = 3, RIGHTS_HOME = 8, RIGHTS_HOMES = 4, NOTE_HOME = 32;
 
 function number(bytes, at, width) {
@@ -130,6 +131,6 @@ function blockText(home, block) {
   if (home >= RIGHTS_HOME && home < RIGHTS_HOME + RIGHTS_HOMES) return "list of writers " + 2 * (home - RIGHTS_HOME) + " and " + (2 * (home - RIGHTS_HOME) + 1);
   if (home === ALARM_HOME && block[0] <= MOST_ALARMS) return block[0] + " open, gravest " + number(block, 1, 2) + " class " + block[3];
   if (home === BAND_HOME && block[0] <= 32) return block[0] + " rows, " + block[5] + " pumps at 0 mm";
-  const text = String.fromCharCode(...block.subarray(0, 63)).replace(/\0+$/, "");
+  const text = String.fromCharCode(...block.subarray(0, WORDS)).replace(/\0+$/, "");
   return /^[ -~]+$/.test(text) ? text : Array.from(block.subarray(0, 8), byte => byte.toString(16).padStart(2, "0")).join("") + "…";
 }

@@ -137,10 +137,11 @@ class Browser:
     def media(self, media="", dark=False):
         self.send("Emulation.setEmulatedMedia", media=media, features=[{"name": "prefers-color-scheme", "value": "dark" if dark else "light"}])
 
-    def picture(self, path, selector=None):
-        """A picture of the whole page, or of one element with a margin."""
-        box = self.run("""const chosen = document.querySelector(%s), box = chosen.getBoundingClientRect();
-            return { x: box.x + scrollX, y: box.y + scrollY, width: box.width, height: box.height }""" % json.dumps(selector or "html"))
+    def picture(self, path, first="html", last="html"):
+        """A picture of the whole page, or from the top of one element to the end of another, over its whole width."""
+        box = self.run("""const box = selector => document.querySelector(selector).getBoundingClientRect();
+            const top = box(%s).top, end = box(%s).bottom, whole = box("html").width;
+            return { x: 0, y: top + scrollY, width: whole, height: end - top }""" % (json.dumps(first), json.dumps(last)))
         taken = self.send("Page.captureScreenshot", captureBeyondViewport=True, clip={**box, "scale": 1})
         path.write_bytes(base64.b64decode(taken["data"]))
 

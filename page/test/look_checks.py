@@ -57,6 +57,17 @@ def theme(browser):
     browser.run("delete document.documentElement.dataset.theme")
 
 
+def for_documents(browser, address, path):
+    """The picture that documents show: a cut being chosen."""
+    browser.go(address + "#seed=1&program=0&moves=44")
+    browser.click("cut")
+    browser.run("const field = document.getElementById('fences'); field.value = 0; field.dispatchEvent(new Event('change'))")
+    browser.run("for (const i of [0, 1, 4, 8, 9, 11, 12, 13]) document.querySelectorAll('#choice-blocks input')[i].click()")
+    browser.wait("document.querySelectorAll('#ring .lands').length === 8")
+    browser.picture(path, ".controls", ".columns")
+    browser.click("cut-not")
+
+
 def looks(browser, folder):
     """At 420 and 1,200 pixels, light and dark: no text too pale, nothing wider than the page; pictures and a print."""
     for width in (1200, 420):

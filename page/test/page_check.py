@@ -61,6 +61,7 @@ def check(browser, address, programs, folder, shots):
     image_checks.choose(browser, folder / "cut.img")
     browser.wait("document.getElementById('proved')")
     look_checks.looks(browser, shots)
+    look_checks.for_documents(browser, address, shots / "station.png")
     tell("contrast and width at 420 and 1,200 pixels, light and dark, and on paper")
     missed = set(browser.run("return [...document.querySelectorAll('button[id]')].map(button => button.id)")) - browser.pressed
     assert not missed, "buttons that no test pressed: %s" % sorted(missed)
