@@ -43,6 +43,7 @@ help:
 	@sed -n '/^#/!q; s/^# //p' Makefile
 
 include make/c.mk
+include page/page.mk
 
 # Archives are made from proved crates only; rt proves what has changed, and a changed definition or proof counts as well.
 library: $(ARCHIVE)
