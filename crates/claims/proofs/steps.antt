@@ -2,6 +2,8 @@
 pub mod RefusalLaws
 pub mod DoneLaws
 pub mod FormedLaws
+pub mod Rows
+pub mod Footprint
 pub mod NewestSteps
 pub mod WriterSteps
 pub mod OpenStep

@@ -6,8 +6,8 @@ use mathlib.Core.Path.{_≡_, refl, sym, ap, _∙_, subst}
 use mathlib.Core.Bool.{Bool, true, false, cond, not}
 use mathlib.Core.List.{List, [], _∷_, _++_}
 use native.Mathlib.Omega.{arith}
-use lib.Dec.{eqb, leb, ltb}
-use lib.ListN.{length, getD}
+use lib.Dec.{eqb, ltb}
+use lib.ListN.{length}
 use borrow.Author.Tests.{ne-eqb}
 use Rattle.model.specs.Effects.{Given, Effect, readEffect}
 use Rattle.model.specs.Rights.{mayRead}
@@ -15,14 +15,15 @@ use Rattle.model.specs.Questions.{ask, readAnswer}
 use Rattle.model.specs.Calls.{Outcome, refused, done, outcome, readCall}
 use Rattle.model.specs.Book.{Commit, Book, reads as readBy}
 use Rattle.model.specs.Book as book
-use Rattle.model.specs.History.{Service, settles, trims, reads, roundBegins, roundSteps, Call, opening, confirm, change, service, read, Event, call, crash, World, lent, ends, serviceEnds, isOpening, afterDone, afterRefused, afterCall, afterCrash, rowFates, feed, step, after, AllAllowed}
+use Rattle.model.specs.History.{Call, read, Event, call, crash, World, lent, ends, serviceEnds, isOpening, afterDone, afterRefused, afterCall, afterCrash, rowFates, feed, step, after, AllAllowed}
 use Rattle.model.specs.Demands.{LiveThroughout}
-use Rattle.ledger.specs.Store.{Store, nextStart, toStep, numbered, inRound, roundOver, trimmedTo, afterService, listOf, Reply, told, replyService, reply, replyOf, afterReply, follow, AnswersThroughout}
+use Rattle.ledger.specs.Store.{Store, listOf, Reply, told, replyService, reply, replyOf, afterReply, follow, AnswersThroughout}
 use Rattle.ledger.specs.Store as store
 use Rattle.claims.specs.Isolation.{Each, both, more, StoreAlike, CallAlike, equal, stored, followed, Denied, DeniedThroughout, ToldSame, ToldSameThroughout}
 use Rattle.model.specs.Witnesses.{calls}
 use Rattle.laws.proofs.strip.QuestionLaws.{ask-passed}
 use Rattle.laws.proofs.trace.TraceLaws.{All}
+use Rattle.claims.proofs.steps.Footprint.{steady}
 use Rattle.claims.proofs.invariant.TouchLaws.{CommitFits}
 use Rattle.claims.proofs.claims.AlikeBook.{reads-alike}
 use Rattle.claims.proofs.claims.AlikeReplies.{reply-alike, readable-shown}
@@ -35,38 +36,12 @@ pub record Beside (D : ℕ) (w : World) (s : Store) : Type 0 where
   pub homes : s .homes ≡ D
   pub book : w .book ≡ s .book
 
-service-leaves : (s : Store) (c : Service) → (afterService s c .homes ≡ s .homes) × (afterService s c .book ≡ s .book)
-unfolding afterService numbered inRound roundOver trimmedTo
-service-leaves s (settles batch) = (refl, refl)
-service-leaves s roundBegins = (refl, refl)
-service-leaves s (roundSteps k batch) = go (leb (length (toStep s)) k)
-  where
-    next : Store
-    next = inRound s (s .round) (getD (toStep s) (k - 1) 0 + 1)
-
-    go : (d : Bool) → (cond d (roundOver s) next .homes ≡ s .homes) × (cond d (roundOver s) next .book ≡ s .book)
-    go true = (refl, refl)
-    go false = (refl, refl)
-service-leaves s (trims batch) = go (eqb (nextStart s) (s .start))
-  where
-    go : (d : Bool) → (cond d s (trimmedTo s (nextStart s)) .homes ≡ s .homes) × (cond d s (trimmedTo s (nextStart s)) .book ≡ s .book)
-    go true = (refl, refl)
-    go false = (refl, refl)
-service-leaves s (reads v home block) = (refl, refl)
-
-done-leaves : (s : Store) (c : Call) (figure : ℕ) → (store.afterDone s c figure .homes ≡ s .homes) × (store.afterDone s c figure .book ≡ feed (s .book) c figure)
-unfolding store.afterDone
-done-leaves s (opening state newest batch) figure = unfold numbered inRound in (refl, refl)
-done-leaves s confirm figure = unfold numbered in (refl, refl)
-done-leaves s (change c) figure = unfold numbered in (refl, refl)
-done-leaves s (service c) figure = unfold feed in service-leaves s c
-
 call-beside : (D : ℕ) (w : World) (s : Store) (c : Call) (o : Outcome) (k : ℕ) → o .code ≡ k → Beside D w s
     → Beside D (afterCall w c o k) (cond (eqb k 0) (store.afterDone s c (o .figure)) s)
 unfolding afterCall afterDone afterRefused
 call-beside D w s c o zero e a =
-    let q = done-leaves s c (o .figure) in
-    record { world = a .world; homes = q .0 ∙ a .homes; book = ap (λ (b : Book). feed b c (o .figure)) (a .book) ∙ sym (q .1) }
+    let q = steady s c (o .figure) in
+    record { world = a .world; homes = q .homes ∙ a .homes; book = ap (λ (b : Book). feed b c (o .figure)) (a .book) ∙ sym (q .book) }
 call-beside D w s c o (suc k) e a =
     rw (ne-eqb (suc k) 0 (λ x. omega arith)) (record { world = a .world; homes = a .homes; book = a .book })
 

@@ -10,20 +10,22 @@ use native.Mathlib.Omega.{arith}
 use native.Mathlib.Decide.{decLt}
 use lib.Dec.{eqb, leb}
 use lib.ListN.{length}
-use borrow.Author.Tests.{eqb-true, eqb-false, ne-eqb, leb-true, leb-false}
+use borrow.Author.Tests.{eqb-true, eqb-false, leb-true, leb-false}
 use Rattle.model.specs.Layout.{groupsIn, groupAt, header}
 use Rattle.model.specs.Batch.{Record, GW, KW, FN}
 use lib.Seq.{take-all}
 use Rattle.model.specs.State.{stateOf, nextPosition, writerOf, holds}
-use Rattle.model.specs.Effects.{Given, Effect, groups, homes, newState, marked, touched, blankWrites, homeWrites, openEffect, openStart, beginEffect, reserveEffect, abortEffect, logged, logHeld, logClosing, storeFirst, storeAgain, storeOther, storeEffect, commitHeld, commitEffect, flushNone, flushPart, flushEffect, confirmEffect, settleEffect, trimStart, trimTo, trimEffect, readEffect, beginRoundEffect, stepRoundEffect}
-use Rattle.model.specs.Questions.{openAnswer, beginAnswer, reserveAnswer, abortAnswer, storeAnswer, commitAnswer, flushAnswer, confirmAnswer, settleAnswer, trimAnswer, readAnswer, beginRoundAnswer, stepRoundAnswer}
-use Rattle.model.specs.Calls.{outcome, sizeOf, openCall, beginCall, reserveCall, abortCall, storeCall, commitCall, flushCall, confirmCall, settleCall, trimCall, readCall, beginRoundCall, stepRoundCall}
+use Rattle.model.specs.Effects.{Given, Effect, groups, homes, newState, marked, touched, blankWrites, homeWrites, openEffect, openStart, abortEffect, logged, logHeld, logClosing, storeFirst, storeAgain, storeOther, storeEffect, commitHeld, commitEffect, flushNone, flushPart, flushEffect, settleEffect, trimStart, trimTo, trimEffect, stepRoundEffect}
+use Rattle.model.specs.Questions.{openAnswer, storeAnswer, commitAnswer, flushAnswer, settleAnswer, trimAnswer, stepRoundAnswer}
+use Rattle.model.specs.Calls.{outcome, sizeOf, openCall, storeCall, commitCall, flushCall, settleCall, trimCall, stepRoundCall}
 use Rattle.model.specs.Demands.{groupWrites}
 use Rattle.model.specs.Facts.{slotWritten, headerWritten, writtenOnce, FormatOnce, PendingOnce, RowsWritten, homeWritten}
-use Rattle.model.specs.History.{Change, begins, reserves, aborts, stores, commits, flushes, Service, settles, trims, reads, change, service, changeEnds, serviceEnds, Call, opening, begin, reserve, abort, store, commit, flush, confirm, settle, trim, read, Event, call, crash, World, unopened, emptyStore, lent, loaded, ends, isOpening, afterCrash, step, after as along, Allowed, AllAllowed, roundBegins, roundSteps, beginRound, stepRound}
+use Rattle.model.specs.History.{change, service, changeEnds, serviceEnds, Call, opening, store, commit, flush, confirm, settle, trim, Event, call, crash, World, unopened, emptyStore, lent, loaded, ends, isOpening, afterCrash, step, after as along, Allowed, AllAllowed, stepRound}
 use Rattle.laws.proofs.bytes.LayoutLaws.{length-groupAt, group-fits, ring}
 use Rattle.laws.proofs.strip.BatchLaws.{AllFormed, formed-append}
 use Rattle.laws.proofs.strip.QuestionLaws.{and-true, open-ready, store-ready, commit-ready, flush-ready, settle-ready, step-round-ready, trim-ready}
+use Rattle.claims.proofs.steps.Rows.{ends-row}
+use Rattle.claims.proofs.steps.Footprint.{writes, Touch, records-open, records-store, records-commit, records-flush, records-settle, records-step, records-trim, Spares, frame}
 use Rattle.claims.proofs.steps.LogRuns.{logged-records, logged-log}
 use Rattle.claims.proofs.steps.CallRuns.{no-bytes, by-answer}
 use Rattle.claims.proofs.steps.OpenKeeps.{open-formed}
@@ -315,41 +317,19 @@ module _ (G D : ℕ) (z : Sizes G D) (w : World) (r : Running G D w) where
             go true = (unfold newState in once-none h)
             go false = (unfold trimTo in once-fenced (KW (header s (groups g) (homes g)) ∷ []) (once-header h (header s (groups g) (homes g))))
 
-    change-once : (c : Change) → Once (step w (call (change c)))
-    change-once (begins v) =
-        (unfold ends changeEnds beginCall in
-        quiet (begin v) (lent w [] [] v 0) (beginAnswer (lent w [] [] v 0)) (beginEffect (lent w [] [] v 0)) refl (unfold beginEffect newState in refl))
-    change-once (reserves v n) =
-        (unfold ends changeEnds reserveCall in
-        quiet (reserve v n) (lent w [] [] v 0) (reserveAnswer (lent w [] [] v 0) n) (reserveEffect (lent w [] [] v 0) n) refl
-        (unfold reserveEffect newState in refl))
-    change-once (aborts v) =
-        (unfold ends changeEnds abortCall in
-        quiet (abort v) (lent w [] [] v 0) (abortAnswer (lent w [] [] v 0)) (abortEffect (lent w [] [] v 0)) refl (unfold abortEffect newState in refl))
-    change-once (stores v home block batch) = store-once v home block batch
-    change-once (commits v batch) = commit-once v batch
-    change-once (flushes batch) = flush-once batch
-
-    service-once : (c : Service) → Once (step w (call (service c)))
-    service-once (settles batch) = settle-once batch
-    service-once roundBegins =
-        (unfold ends serviceEnds beginRoundCall in
-        quiet beginRound (lent w [] [] 0 0) (beginRoundAnswer (lent w [] [] 0 0)) (beginRoundEffect (lent w [] [] 0 0)) refl
-        (unfold beginRoundEffect newState in refl))
-    service-once (roundSteps k batch) = step-round-once k batch
-    service-once (trims batch) = trim-once batch
-    service-once (reads v home block) =
-        (unfold ends serviceEnds readCall in
-        quiet (read v home block) (lent w block [] v home) (readAnswer (lent w block [] v home)) (readEffect (lent w block [] v home)) refl (unfold readEffect in refl))
-
     pub call-once : (c : Call) → isOpening c ≡ false → Once (step w (call c))
     unfolding isOpening
-    call-once (opening state newest batch) e = absurd (false≢true (sym e))
-    call-once confirm e =
-        (unfold ends confirmCall in
-        quiet confirm (lent w [] [] 0 0) (confirmAnswer (lent w [] [] 0 0)) (confirmEffect (lent w [] [] 0 0)) refl (unfold confirmEffect newState in refl))
-    call-once (change c) e = change-once c
-    call-once (service c) e = service-once c
+    call-once c o = go c o (frame writes c)
+      where
+        go : (c : Call) → isOpening c ≡ false → Touch writes c ⊎ Spares writes c → Once (step w (call c))
+        go c o (inl (records-open state newest batch)) = absurd (false≢true (sym o))
+        go c o (inl (records-store v home block batch)) = store-once v home block batch
+        go c o (inl (records-commit v batch)) = commit-once v batch
+        go c o (inl (records-flush batch)) = flush-once batch
+        go c o (inl (records-settle batch)) = settle-once batch
+        go c o (inl (records-step k batch)) = step-round-once k batch
+        go c o (inl (records-trim batch)) = trim-once batch
+        go c o (inr f) = quiet c _ _ _ (ends-row w c) (f w)
 
 -- ---- openings
 

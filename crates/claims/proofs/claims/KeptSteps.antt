@@ -1,13 +1,13 @@
 -- The newest positions are those that the book gives, after a done opening and every call that follows. Assumes nothing.
 use Prim.Native.Nat.{ℕ, _+_, _-_, _*_, _^_, _≤_, _<_}
 use mathlib.Core.Path.{_≡_, refl, sym, ap, _∙_}
-use mathlib.Core.Logic.{inl, inr}
+use mathlib.Core.Logic.{_⊎_, inl, inr}
 use mathlib.Core.Bool.{Bool, true, false, cond, not, false≢true}
 use mathlib.Core.List.{List, [], _∷_, _++_}
 use mathlib.Core.Option.{Option, none, some}
 use native.Mathlib.Omega.{arith}
-use lib.Dec.{eqb, ltb, leb}
-use lib.ListN.{length, getD}
+use lib.Dec.{eqb, ltb}
+use lib.ListN.{length}
 use borrow.Author.Tests.{leb-true, leb-false, ltb-true, eqb-true, le-ltb}
 use Rattle.model.specs.declared.Tag.{Tag}
 use Rattle.model.specs.Layout.{homesIn, headerStart}
@@ -19,9 +19,9 @@ use Rattle.model.specs.Questions.{writerKnown, commitAnswer, commitLogs, room, 
 use Rattle.model.specs.Calls.{Outcome, done, sizeOf, commitCall, trimCall}
 use Rattle.model.specs.Book.{Task, commitTask, withTask, withCommits}
 use Rattle.model.specs.Book as book
-use Rattle.ledger.specs.Store.{Store, newStore, numbered, afterService, follow, toStep, inRound, roundOver}
+use Rattle.ledger.specs.Store.{Store, newStore, numbered, follow}
 use Rattle.ledger.specs.Store as store
-use Rattle.model.specs.History.{Change, begins, reserves, aborts, stores, commits, flushes, Service, settles, roundBegins, roundSteps, trims, reads, Call, opening, confirm, change, service, commit, trim, Event, call, crash, World, emptyStore, unopened, lent, loaded, ends, changeEnds, serviceEnds, feed, feedChange, isOpening, afterDone, afterCrash, step, Allowed}
+use Rattle.model.specs.History.{commits, Call, opening, confirm, change, service, commit, trim, Event, call, crash, World, emptyStore, unopened, lent, loaded, ends, changeEnds, serviceEnds, feed, feedChange, isOpening, afterDone, afterCrash, step, Allowed}
 use Rattle.laws.proofs.bytes.LayoutLaws.{homes-in}
 use Rattle.laws.proofs.strip.NewestLaws.{Keepable, kept-else, kept-entries, kept-forget, kept-nothing}
 use Rattle.laws.proofs.strip.QuestionLaws.{Roomy, room-true, CommitReady, commit-ready}
@@ -33,12 +33,13 @@ use Rattle.claims.proofs.invariant.Invariant.{Sizes, TaskOk, Running, C
 use Rattle.claims.proofs.invariant.LiveLog.{tagsIn, baseOf, keptIn, Shown, live-from, live-order, live-room, lent-groups, lent-homes, live-transactions, live-spans, kept-shown}
 use Rattle.claims.proofs.invariant.KeptBook.{lastEntry, lastCommitted, committed-more, committed-old, committed-by, committed-all, HomeIn, newest-entries, trimmedAt, committed-trimmed}
 use Rattle.claims.proofs.steps.DoneLaws.{outcome-code, after}
-use Rattle.claims.proofs.steps.NewestSteps.{done-newest, quiet-newest, settle-newest, begin-round-newest, step-round-newest, read-newest, confirm-newest, open-newest}
+use Rattle.claims.proofs.steps.NewestSteps.{done-newest, open-newest}
 use Rattle.claims.proofs.steps.StoreCommit.{Closing, commit-closes}
 use Rattle.claims.proofs.steps.TrimRuns.{MayMove, trim-may}
 use Rattle.claims.proofs.claims.Yields.{ends-done}
 use Rattle.claims.proofs.claims.TrimYields.{trim-leaves}
-use Rattle.claims.proofs.claims.YieldsAll.{step-by, store-commits, flush-commits}
+use Rattle.claims.proofs.claims.YieldsAll.{step-by}
+use Rattle.claims.proofs.steps.Footprint.{lists, committed, logStart, Touch, lists-open, lists-commit, lists-trim, committed-open, committed-confirm, committed-commit, start-open, start-trim, Spares, frame}
 use Rattle.claims.proofs.claims.StoreAnswers.{Agrees}
 use Rattle.claims.proofs.claims.StoreFollows.{done-agrees, follows, empty-agrees}
 
@@ -284,52 +285,24 @@ module _ (G D : ℕ) (z : Sizes G D) (w : World) (r : Running G D w) (s : Store)
 
   -- ---- every call of an era
 
-  change-placed : (c : Change) → ends w (change c) .code ≡ 0 → Placed G D (afterDone w (change c) (ends w (change c)))
-  change-placed (begins v) h =
-      quiet-placed (change (begins v)) (unfold isOpening in refl) h (unfold ends in quiet-newest w (begins v) tt) (unfold store.afterDone numbered in refl)
-      (λ b c x. unfold feed feedChange book.begin withTask in refl)
-  change-placed (reserves v n) h =
-      quiet-placed (change (reserves v n)) (unfold isOpening in refl) h (unfold ends in quiet-newest w (reserves v n) tt)
-      (unfold store.afterDone numbered in refl) (λ b c x. unfold feed feedChange book.begin withTask in refl)
-  change-placed (aborts v) h =
-      quiet-placed (change (aborts v)) (unfold isOpening in refl) h (unfold ends in quiet-newest w (aborts v) tt) (unfold store.afterDone numbered in refl)
-      (λ b c x. unfold feed feedChange book.abort withTask in refl)
-  change-placed (stores v home block batch) h =
-      quiet-placed (change (stores v home block batch)) (unfold isOpening in refl) h (unfold ends in quiet-newest w (stores v home block batch) tt)
-      (unfold store.afterDone numbered in refl)
-      (λ b c x. unfold feed feedChange book.store in ap (lastCommitted b c x) (store-commits (w .book) v home block (w .book .tasks v)))
-  change-placed (commits v batch) h = commit-placed v batch h
-  change-placed (flushes batch) h =
-      quiet-placed (change (flushes batch)) (unfold isOpening in refl) h (unfold ends in quiet-newest w (flushes batch) tt)
-      (unfold store.afterDone numbered in refl) (λ b c x. unfold feed feedChange in ap (lastCommitted b c x) (flush-commits (w .book)))
-
-  service-placed : (c : Service) → ends w (service c) .code ≡ 0 → Placed G D (afterDone w (service c) (ends w (service c)))
-  service-placed (settles batch) h =
-      quiet-placed (service (settles batch)) (unfold isOpening in refl) h (unfold ends in settle-newest w batch)
-      (unfold store.afterDone afterService numbered in refl) (λ b c x. unfold feed in refl)
-  service-placed roundBegins h =
-      quiet-placed (service roundBegins) (unfold isOpening in refl) h (unfold ends in begin-round-newest w)
-      (unfold store.afterDone afterService inRound in refl) (λ b c x. unfold feed in refl)
-  service-placed (roundSteps k batch) h =
-      quiet-placed (service (roundSteps k batch)) (unfold isOpening in refl) h (unfold ends in step-round-newest w k batch)
-      (unfold store.afterDone afterService in go (leb (length (toStep s)) k)) (λ b c x. unfold feed in refl)
-    where
-      go : (last : Bool) → cond last (roundOver s) (inRound s (s .round) (getD (toStep s) (k - 1) 0 + 1)) .start ≡ s .start
-      go true = unfold roundOver inRound numbered in refl
-      go false = unfold inRound in refl
-  service-placed (trims batch) h = trim-placed batch h
-  service-placed (reads v home block) h =
-      quiet-placed (service (reads v home block)) (unfold isOpening in refl) h (unfold ends in read-newest w v home block)
-      (unfold store.afterDone afterService in refl) (λ b c x. unfold feed in refl)
-
   pub done-placed : (c : Call) → isOpening c ≡ false → ends w c .code ≡ 0 → Placed G D (afterDone w c (ends w c))
   unfolding isOpening
-  done-placed (opening state newest batch) e h = absurd (false≢true (sym e))
-  done-placed confirm e h =
-      quiet-placed confirm refl h (confirm-newest w) (unfold store.afterDone numbered in refl)
-      (λ b c x. unfold feed withCommits in committed-by (ends w confirm .figure) b c x (w .book .commits))
-  done-placed (change c) e h = change-placed c h
-  done-placed (service c) e h = service-placed c h
+  done-placed c o h = go c o h (frame lists c) (frame committed c) (frame logStart c)
+    where
+      go : (c : Call) → isOpening c ≡ false → ends w c .code ≡ 0 → Touch lists c ⊎ Spares lists c → Touch committed c ⊎ Spares committed c
+          → Touch logStart c ⊎ Spares logStart c → Placed G D (afterDone w c (ends w c))
+      go c o h (inl (lists-open state newest batch)) k q = absurd (false≢true (sym o))
+      go c o h (inl (lists-commit v batch)) k q = commit-placed v batch h
+      go c o h (inl (lists-trim batch)) k q = trim-placed batch h
+      go c o h (inr f) k (inl (start-open state newest batch)) = absurd (false≢true (sym o))
+      go c o h (inr f) k (inl (start-trim batch)) = trim-placed batch h
+      go c o h (inr f) (inl (committed-open state newest batch)) (inr q) = absurd (false≢true (sym o))
+      go c o h (inr f) (inl (committed-commit v batch)) (inr q) = commit-placed v batch h
+      go c o h (inr f) (inl committed-confirm) (inr q) =
+          quiet-placed confirm o h (f w h .0) (q s (ends w confirm .figure))
+          (λ b c₀ x. unfold feed withCommits in committed-by (ends w confirm .figure) b c₀ x (w .book .commits))
+      go c o h (inr f) (inr k) (inr q) =
+          quiet-placed c o h (f w h .0) (q s (ends w c .figure)) (λ b c₀ x. ap (lastCommitted b c₀ x) (k (w .book) (ends w c .figure)))
 
 -- ---- an opening
 

@@ -7,28 +7,27 @@ use mathlib.Core.Bool.{Bool, true, false, cond, not, false≢true}
 use mathlib.Core.List.{List, [], _∷_, _++_}
 use mathlib.Core.Option.{Option, none, some}
 use native.Mathlib.Omega.{arith}
-use lib.Dec.{eqb, leb}
-use lib.ListN.{length, getD, length-append}
-use borrow.Author.Tests.{eq-eqb, ne-eqb, eqb-true, eqb-false, leb-true, leb-false, ltb-true}
-use Rattle.model.specs.State.{stateOf, nextPosition, setStart, setNext, setFilled, setSettled, setFenced, setDurable, setLast, setRound, setCursor, fixedIn, writerOf, setWriter, heldOf, setHeld, promiseOf, setPromise, promiseLeft, promised, places, freePlaces, isOpen, holds, begun, holding, logging, firstFor, countFor, idle as idleWriter}
-use Rattle.model.specs.declared.State.{State}
+use lib.Dec.{eqb}
+use lib.ListN.{length, length-append}
+use borrow.Author.Tests.{eq-eqb, ne-eqb, eqb-true, leb-true, leb-false, ltb-true}
+use Rattle.model.specs.State.{stateOf, nextPosition, setNext, setFilled, writerOf, setWriter, heldOf, setHeld, promiseOf, setPromise, promiseLeft, promised, places, freePlaces, isOpen, holds, begun, holding, idle as idleWriter}
 use Rattle.model.specs.declared.Writer.{Writer}
-use Rattle.model.specs.Effects.{Given, Effect, newState, beginEffect, reserveEffect, abortEffect, logged, logHeld, logClosing, storeFirst, storeAgain, storeOther, storeEffect, commitHeld, commitEffect, flushNone, flushPart, flushEffect, confirmEffect, settleEffect, beginRoundEffect, roundHomes, roundEnded, roundMoved, stepHomes, stepRoundEffect, trimStart, trimTo, trimEffect, readEffect, openEffect, openStart}
-use Rattle.model.specs.Questions.{beginAnswer, reserveAnswer, abortAnswer, storeAnswer, commitAnswer, flushAnswer, confirmAnswer, settleAnswer, beginRoundAnswer, stepRoundAnswer, trimAnswer, readAnswer, openAnswer, writerKnown, writerOpen, blockRight}
-use Rattle.model.specs.Calls.{Outcome, done, sizeOf, outcome, beginCall, reserveCall, abortCall, storeCall, commitCall, flushCall, confirmCall, settleCall, beginRoundCall, stepRoundCall, trimCall, readCall, openCall}
-use Rattle.model.specs.Book.{Entry, Held, Task, idle, opened, Book, withTask, setTask, filledUp, entryOf, submit, addCommit, storeTask, commitTask, hold, withCommits}
+use Rattle.model.specs.Effects.{Given, Effect, newState, beginEffect, reserveEffect, abortEffect, logged, logHeld, logClosing, storeFirst, storeAgain, storeOther, storeEffect, commitHeld, commitEffect, flushNone, flushPart, flushEffect, openEffect, openStart}
+use Rattle.model.specs.Questions.{beginAnswer, reserveAnswer, abortAnswer, storeAnswer, commitAnswer, flushAnswer, openAnswer, writerKnown, writerOpen, blockRight}
+use Rattle.model.specs.Calls.{Outcome, done, sizeOf, outcome, beginCall, reserveCall, abortCall, storeCall, commitCall, flushCall, openCall}
+use Rattle.model.specs.Book.{Entry, Held, Task, idle, opened, Book, withTask, filledUp, entryOf, submit, addCommit, storeTask, commitTask, hold, withCommits}
 use Rattle.model.specs.Book as book
-use Rattle.model.specs.History.{Change, begins, reserves, aborts, stores, commits, flushes, Service, settles, roundBegins, roundSteps, trims, reads, Call, opening, confirm, change, service, Event, call, crash, World, lent, loaded, ends, changeEnds, serviceEnds, feed, feedChange, isOpening, afterDone, afterCall, step, Allowed}
+use Rattle.model.specs.History.{Change, begins, reserves, aborts, stores, commits, flushes, Service, Call, opening, confirm, change, service, Event, call, crash, World, lent, loaded, ends, changeEnds, feed, feedChange, isOpening, afterDone, afterCall, step, Allowed}
 use Rattle.model.specs.Promises.{none as nothing, grantTo, grantChange, grantDone, grantCall, grant, entriesOf}
-use Rattle.laws.proofs.strip.PromiseLaws.{promise-setStart, promise-setNext, promise-setFilled, promise-setSettled, promise-setFenced, promise-setDurable, promise-setLast, promise-setRound, promise-setCursor, promise-setWriter, promise-setHeld, length-setPromise, promise-setPromise, promise-setPromise-other, promise-most}
+use Rattle.laws.proofs.strip.PromiseLaws.{promise-setNext, promise-setFilled, promise-setFenced, promise-setLast, promise-setWriter, promise-setHeld, promise-setPromise, promise-setPromise-other, promise-most}
 use Rattle.laws.proofs.strip.WriterLaws.{length-setWriter, length-setHeld}
 use Rattle.laws.proofs.strip.StateLaws.{length-setLast}
-use Rattle.laws.proofs.strip.ListedLaws.{promise-carry}
 use Rattle.laws.proofs.strip.SignLaws.{promise-keepList}
-use Rattle.laws.proofs.strip.OrderLaws.{InOrder, Promises, promise-fresh}
+use Rattle.laws.proofs.strip.OrderLaws.{promise-fresh}
 use Rattle.laws.proofs.strip.QuestionLaws.{begin-ready, reserve-ready, may-promise, abort-ready, StoreReady, store-ready, CommitReady, commit-ready}
 use Rattle.laws.proofs.trace.Trace.{Ev}
-use Rattle.claims.proofs.invariant.Invariant.{Sizes, TaskOk, entriesFor, Closed, Running, Invariant}
+use Rattle.claims.proofs.steps.Footprint.{shares, Touch, Spares, frame}
+use Rattle.claims.proofs.invariant.Invariant.{Sizes, TaskOk, entriesFor, Running, Invariant}
 use Rattle.claims.proofs.steps.RefusalLaws.{left-as-lent}
 use Rattle.claims.proofs.steps.DoneLaws.{outcome-code}
 use Rattle.claims.proofs.steps.WriterSteps.{each-writer, task-here, task-other}
@@ -296,47 +295,6 @@ module _ (G D : ℕ) (z : Sizes G D) (granted : ℕ → ℕ) (w : World) (r : Ru
           rw (promise-setFenced (setFilled (setNext s (stateOf s .next + 1)) 0) (7 * (stateOf s .next + 1)) x, promise-setFilled (setNext s (stateOf s .next + 1)) 0 x, promise-setNext s (stateOf s .next + 1) x)
           (a x l)
 
-  confirm-agrees : Agree granted (confirmEffect (lent w [] [] 0 0) .state) tasks
-  unfolding confirmEffect newState lent
-  confirm-agrees x l = rw (promise-setDurable s (stateOf s .fenced) x) (a x l)
-
-  settle-agrees : (batch : List ℕ) → Agree granted (settleEffect (lent w [] batch 0 0) .state) tasks
-  unfolding settleEffect lent
-  settle-agrees batch x l = rw (promise-setFenced (setSettled s (stateOf s .fenced)) (7 * stateOf s .next) x, promise-setSettled s (stateOf s .fenced) x) (a x l)
-
-  begin-round-agrees : Agree granted (beginRoundEffect (lent w [] [] 0 0) .state) tasks
-  unfolding beginRoundEffect newState lent
-  begin-round-agrees x l =
-      rw (promise-setCursor (setRound s (stateOf s .fenced + 1)) 0 x l, promise-setRound s (stateOf s .fenced + 1) x l) (a x l)
-
-  step-round-agrees : (k : ℕ) (batch : List ℕ) → Agree granted (stepRoundEffect (lent w [] batch 0 0) k .state) tasks
-  unfolding stepRoundEffect stepHomes roundEnded roundMoved lent
-  step-round-agrees k batch = go (leb (length (roundHomes (lent w [] batch 0 0))) k)
-    where
-      F : ℕ
-      F = fixedIn (stateOf s)
-
-      go : (d : Bool)
-          → Agree granted (cond d (roundEnded s (stateOf s)) (roundMoved s (roundHomes (lent w [] batch 0 0)) k)) tasks
-      go true x l =
-          rw (
-            promise-setCursor (setRound (setFenced (setSettled s F) (7 * stateOf s .next)) 0) 0 x l,
-            promise-setRound (setFenced (setSettled s F) (7 * stateOf s .next)) 0 x l,
-            promise-setFenced (setSettled s F) (7 * stateOf s .next) x,
-            promise-setSettled s F x,
-          ) (a x l)
-      go false x l = rw (promise-setCursor s (getD (roundHomes (lent w [] batch 0 0)) (k - 1) 0 + 1) x l) (a x l)
-
-  trim-agrees : (batch : List ℕ) (start : ℕ) → Agree granted (trimEffect (lent w [] batch 0 0) start .state) tasks
-  unfolding trimEffect trimTo newState lent
-  trim-agrees batch start = go (eqb start (stateOf s .start))
-    where
-      go : (d : Bool) → Agree granted (cond d (newState (lent w [] batch 0 0) s 0) (trimTo (lent w [] batch 0 0) (stateOf s) start) .state) tasks
-      go true x l = a x l
-      go false x l =
-          promise-carry _ _ _ x l ∙ promise-setLast (setFenced (setStart s start) (7 * stateOf s .next)) _ x
-          ∙ promise-setFenced (setStart s start) (7 * stateOf s .next) x ∙ promise-setStart s start x ∙ a x l
-
   -- ---- a done call
 
   change-agrees : (c : Change) → ends w (change c) .code ≡ 0
@@ -367,39 +325,27 @@ module _ (G D : ℕ) (z : Sizes G D) (granted : ℕ → ℕ) (w : World) (r : Ru
       let e : Effect = flushEffect g in
       rw (state-done (flushCall g) g (flushAnswer g (sizeOf e)) e refl h) (flush-agrees batch)
 
-  service-agrees : (c : Service) → ends w (service c) .code ≡ 0 → Agree granted (ends w (service c) .state) tasks
-  unfolding ends serviceEnds settleCall beginRoundCall stepRoundCall trimCall readCall
-  service-agrees (settles batch) h =
-      let g = lent w [] batch 0 0 in
-      let e : Effect = settleEffect g in
-      rw (state-done (settleCall g) g (settleAnswer g (sizeOf e)) e refl h) (settle-agrees batch)
-  service-agrees roundBegins h =
-      let g = lent w [] [] 0 0 in
-      rw (state-done (beginRoundCall g) g (beginRoundAnswer g) (beginRoundEffect g) refl h) begin-round-agrees
-  service-agrees (roundSteps k batch) h =
-      let g = lent w [] batch 0 0 in
-      let e : Effect = stepRoundEffect g k in
-      rw (state-done (stepRoundCall g k) g (stepRoundAnswer g k (sizeOf e)) e refl h) (step-round-agrees k batch)
-  service-agrees (trims batch) h =
-      let g = lent w [] batch 0 0 in
-      let n : ℕ = trimStart g in
-      let e : Effect = trimEffect g n in
-      rw (state-done (trimCall g) g (trimAnswer g n (sizeOf e)) e refl h) (trim-agrees batch n)
-  service-agrees (reads v home block) h =
-      let g = lent w block [] v home in
-      rw (state-done (readCall g) g (readAnswer g) (readEffect g) refl h) (unfold readEffect lent in a)
+  -- one that leaves the promises
+  spared : (c : Call) → ends w c .code ≡ 0 → Spares shares c → Agree granted (ends w c .state) tasks
+  spared c h f x l = f .0 w h x l ∙ a x l
 
-  confirm-done : ends w confirm .code ≡ 0 → Agree granted (ends w confirm .state) tasks
-  unfolding ends confirmCall
-  confirm-done h =
-      let g = lent w [] [] 0 0 in
-      rw (state-done (confirmCall g) g (confirmAnswer g) (confirmEffect g) refl h) confirm-agrees
+  service-agrees : (c : Service) → ends w (service c) .code ≡ 0 → Agree granted (ends w (service c) .state) tasks
+  service-agrees c h = go c h (frame shares (service c))
+    where
+      go : (c : Service) → ends w (service c) .code ≡ 0 → Touch shares (service c) ⊎ Spares shares (service c) → Agree granted (ends w (service c) .state) tasks
+      go c h (inr f) = spared (service c) h f
+
+  confirm-agrees : ends w confirm .code ≡ 0 → Agree granted (ends w confirm .state) tasks
+  confirm-agrees h = go (frame shares confirm)
+    where
+      go : Touch shares confirm ⊎ Spares shares confirm → Agree granted (ends w confirm .state) tasks
+      go (inr f) = spared confirm h f
 
   pub call-agrees : (c : Call) → isOpening c ≡ false → ends w c .code ≡ 0
       → Agree (grantDone granted c) (ends w c .state) (feed (w .book) c (ends w c .figure) .tasks)
   unfolding isOpening grantDone feed withCommits
   call-agrees (opening state newest batch) e h = absurd (false≢true (sym e))
-  call-agrees confirm e h = confirm-done h
+  call-agrees confirm e h = confirm-agrees h
   call-agrees (change c) e h = change-agrees c h
   call-agrees (service c) e h = service-agrees c h
 

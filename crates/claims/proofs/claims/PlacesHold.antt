@@ -1,30 +1,29 @@
 -- Places are accounted for at every moment, and a log with no open transaction drains. Assumes nothing.
-use Prim.Native.Nat.{ℕ, zero, suc, _+_, _-_, _*_, _/_, _^_, _≤_, _<_}
+use Prim.Native.Nat.{ℕ, zero, suc, _+_, _-_, _*_, _≤_, _<_}
 use mathlib.Core.Path.{_≡_, refl, sym, ap, _∙_, subst}
-use mathlib.Core.Logic.{_⊎_, inl, inr}
-use mathlib.Core.Bool.{Bool, true, false, cond, not, _&&_, _||_, false≢true}
+use mathlib.Core.Logic.{inl, inr}
+use mathlib.Core.Bool.{Bool, true, false, cond, not, _||_, false≢true}
 use mathlib.Core.List.{List, [], _∷_, _++_}
 use native.Mathlib.Omega.{arith}
 use lib.Dec.{eqb, leb, ltb}
 use lib.ListN.{length, length-append}
-use borrow.Author.Tests.{eq-eqb, leb-true, ltb-true, eqb-true, le-leb, lt-leb, ltb-false, ne-eqb}
+use borrow.Author.Tests.{eq-eqb, ltb-true, eqb-true, le-leb, ltb-false, ne-eqb}
 use Rattle.model.specs.Layout.{maxStart}
-use Rattle.model.specs.State.{stateOf, nextPosition, promiseOf, writerOf, heldOf}
+use Rattle.model.specs.State.{stateOf, nextPosition, writerOf, heldOf}
 use Rattle.model.specs.declared.State.{State}
 use Rattle.model.specs.declared.Writer.{Writer}
 use Rattle.model.specs.Effects.{Given, storeEffect, marked}
 use Rattle.model.specs.Questions.{ask, writerKnown, storeAnswer}
 use Rattle.model.specs.Calls.{Outcome, sizeOf, storeCall}
-use mathlib.Core.Option.{Option, none, some}
+use mathlib.Core.Option.{Option}
 use Rattle.model.specs.Book.{Kept, row, persisted, Entry, Held, Task, idle, opened, Book}
 use Rattle.model.specs.Book as book
 use Rattle.model.specs.Demands.{free as mayBe, keptBefore, someBefore, openBefore, anyOpenBefore, anyAcross}
-use Rattle.model.specs.History.{Change, begins, reserves, aborts, stores, commits, flushes, Service, settles, trims, reads, Call, opening, confirm, change, service, flush, settle, trim, Event, call, crash, World, unopened, emptyStore, lent, ends, changeEnds, feed, feedChange, isOpening, afterDone, afterCall, afterCrash, step, Allowed, AllAllowed}
-use Rattle.ledger.specs.Store.{Store, newStore, firstGroup, nextGroup, nextOf, placesLeft, promisedTo, mayFlush, isIdle, storeMustLog, commitMustLog, manyHomes, toSettle, mayStart, nextStart, Reply, told, askBatch, replyChange, replyService, reply, replyOf, numbered, inRound, fencedAfter, trimmedTo, afterService, afterReply, follow}
+use Rattle.model.specs.History.{Change, begins, reserves, aborts, stores, commits, flushes, Service, settles, trims, Call, opening, confirm, change, service, flush, settle, trim, Event, call, crash, World, unopened, emptyStore, lent, ends, changeEnds, feed, feedChange, isOpening, afterDone, afterCall, afterCrash, step, Allowed, AllAllowed}
+use Rattle.ledger.specs.Store.{Store, newStore, firstGroup, nextGroup, nextOf, placesLeft, promisedTo, mayFlush, isIdle, manyHomes, toSettle, mayStart, nextStart, Reply, told, askBatch, replyChange, replyService, reply, replyOf, numbered, inRound, fencedAfter, trimmedTo, afterService, afterReply, follow}
 use Rattle.ledger.specs.Store as store
-use Rattle.ledger.specs.Places.{Fate, Class, live, dead, free, many, liesAt, anyAt, taskAt, enter, enterCall, enterEvent, Accounted, AllIdle, Drained, Drains, drained, HeldBack, Told, AccountedThroughout, PlacesAccounted}
+use Rattle.ledger.specs.Places.{Fate, liesAt, anyAt, taskAt, enter, enterCall, enterEvent, Accounted, AllIdle, Drained, drained, HeldBack, Told, AccountedThroughout, PlacesAccounted}
 use Rattle.laws.proofs.strip.QuestionLaws.{ask-passed, and-true, store-ready}
-use Rattle.laws.proofs.strip.OrderLaws.{InOrder}
 use Rattle.laws.proofs.trace.Trace.{Ev, hist, closerOf, Apart}
 use Rattle.laws.proofs.trace.TraceLaws.{Rising, done-rising}
 use Rattle.claims.proofs.invariant.Invariant.{Sizes, TaskOk, Running, Closed, Invariant}
@@ -35,10 +34,11 @@ use Rattle.claims.proofs.steps.FormatRuns.{sizes, after-format}
 use Rattle.claims.proofs.steps.TrimRuns.{MayMove, trim-may, trim-most}
 use Rattle.claims.proofs.claims.DemandThree.{keeps}
 use Rattle.claims.proofs.claims.TrimYields.{trimmed, none-open}
-use Rattle.claims.proofs.claims.StoreAnswers.{Agrees, first-is, next-is, filled-is, position-is, may-is, start-is}
+use Rattle.claims.proofs.claims.StoreAnswers.{Agrees, next-is, filled-is, position-is, may-is, start-is}
 use Rattle.claims.proofs.claims.RightsHold.{ChangeRights, RightsAt}
 use Rattle.claims.proofs.claims.CallAnswers.{call-answers}
-use Rattle.claims.proofs.claims.StoreFollows.{follows, service-same, empty-agrees}
+use Rattle.claims.proofs.claims.StoreFollows.{follows, empty-agrees}
+use Rattle.claims.proofs.steps.Footprint.{steady}
 use Rattle.claims.proofs.claims.LedgerLaws.{many-all, many-free}
 use Rattle.claims.proofs.claims.LedgerSteps.{Led, begin-led, abort-led, store-led, commit-led, flush-led, confirm-led, opened-led}
 
@@ -165,13 +165,12 @@ module _ (G D : ℕ) (z : Sizes G D) (w : World) (r : Running G D w) (s : Store)
   done-led (opening state newest batch) n h = absurd (false≢true (sym n))
   done-led confirm n h = (unfold store.afterDone numbered firstGroup feed in confirm-led (s .head + s .groups) (s .book) fs (ends w confirm .figure) (unfold firstGroup in l))
   done-led (change c) n h = (unfold store.afterDone numbered firstGroup feed in (unfold firstGroup in change-led c (ends w (change c) .figure) h))
-  done-led (service c) n h = (unfold store.afterDone in service-led c)
-    where
-      service-led : (c : Service) → LedBy (afterService s c) fs
-      service-led c =
-          let q = service-same G D z w r s a c in
-          let e : firstGroup (afterService s c) ≡ firstGroup s = first-same (afterService s c) s (q .2) (q .0) in
-          subst (λ (f : ℕ). Led f (afterService s c .book) fs) (sym e) (subst (λ (b : Book). Led (firstGroup s) b fs) (sym (q .4)) l)
+  done-led (service c) n h =
+      let q = steady s (service c) (ends w (service c) .figure) in
+      let t : Store = store.afterDone s (service c) (ends w (service c) .figure) in
+      let e : t .book ≡ s .book = unfold feed in q .book in
+      subst (λ (f : ℕ). Led f (t .book) fs) (sym (first-same t s (q .head) (q .groups)))
+      (subst (λ (b : Book). Led (firstGroup s) b fs) (sym e) l)
 
   -- ---- the accounts
 

@@ -1,17 +1,18 @@
 -- The worlds that histories under the premises reach, each with the abstract store beside it, and what the claims say of one. Assumes nothing.
 use Prim.Native.Nat.{ℕ, zero, suc}
 use mathlib.Core.Path.{_≡_, refl, sym, ap, _∙_, subst}
-use mathlib.Core.Bool.{Bool, true, false, cond, not}
+use mathlib.Core.Bool.{true, cond, not}
 use mathlib.Core.List.{List, [], _∷_, _++_}
-use lib.Dec.{eqb, leb}
-use lib.ListN.{length}
+use lib.Dec.{eqb}
 use native.Mathlib.Omega.{arith}
 use borrow.Author.Tests.{ne-eqb}
 use Rattle.model.specs.Demands.{Live, LiveThroughout}
 use Rattle.model.specs.Kept.{Kept, KeptThroughout}
-use Rattle.model.specs.History.{Service, settles, roundBegins, roundSteps, trims, reads, Call, opening, confirm, change, service, Event, call, crash, World, unopened, Formatting, afterFormat, ends, feed, isOpening, afterCall, afterDone, afterRefused, afterCrash, step, after, Allowed, AllAllowed}
-use Rattle.ledger.specs.Store.{Store, newStore, Reply, nextStart, toStep, numbered, inRound, roundOver, trimmedTo, afterService, afterReply, reply, replyOf, follow, AnswersAt, AnswersThroughout}
+use Rattle.model.specs.History.{Call, Event, call, crash, World, unopened, Formatting, afterFormat, ends, feed, isOpening, afterCall, afterDone, afterRefused, afterCrash, step, after, Allowed, AllAllowed}
+use Rattle.ledger.specs.Store.{Store, newStore, Reply, afterReply, reply, replyOf, follow, AnswersAt, AnswersThroughout}
 use Rattle.ledger.specs.Store as store
+use Rattle.claims.proofs.steps.Footprint.{steady}
+use Rattle.model.specs.Book.{Book}
 use Rattle.claims.proofs.claims.KeptHolds.{newest-kept}
 use Rattle.claims.proofs.claims.AnswersHold.{answers-hold}
 use Rattle.claims.proofs.claims.DemandTwo.{demand2}
@@ -121,30 +122,10 @@ record Alike (w : World) (s : Store) : Type 0 where
   book : s .book ≡ w .book
   homes : s .homes ≡ w .homes
 
-service-book : (s : Store) (c : Service) → (afterService s c .book ≡ s .book) × (afterService s c .homes ≡ s .homes)
-unfolding afterService numbered inRound roundOver trimmedTo
-service-book s (settles batch) = (refl, refl)
-service-book s roundBegins = (refl, refl)
-service-book s (roundSteps homes batch) = go (leb (length (toStep s)) homes) _
-  where
-    go : (d : Bool) (other : ℕ)
-        → (cond d (roundOver s) (inRound s (s .round) other) .book ≡ s .book) × (cond d (roundOver s) (inRound s (s .round) other) .homes ≡ s .homes)
-    go true other = (refl, refl)
-    go false other = (refl, refl)
-service-book s (trims batch) = go (eqb (nextStart s) (s .start))
-  where
-    go : (d : Bool) → (cond d s (trimmedTo s (nextStart s)) .book ≡ s .book) × (cond d s (trimmedTo s (nextStart s)) .homes ≡ s .homes)
-    go true = (refl, refl)
-    go false = (refl, refl)
-service-book s (reads writer home block) = (refl, refl)
-
 done-alike : (w : World) (s : Store) (c : Call) (figure : ℕ) → Alike w s
     → (store.afterDone s c figure .book ≡ feed (w .book) c figure) × (store.afterDone s c figure .homes ≡ w .homes)
-unfolding store.afterDone numbered inRound feed
-done-alike w s (opening state newest batch) figure a = (rw (a .book), a .homes)
-done-alike w s confirm figure a = (rw (a .book), a .homes)
-done-alike w s (change c) figure a = (rw (a .book), a .homes)
-done-alike w s (service c) figure a = let k = service-book s c in (k .0 ∙ a .book, k .1 ∙ a .homes)
+done-alike w s c figure a =
+    let q = steady s c figure in (q .book ∙ ap (λ (b : Book). feed b c figure) (a .book), q .homes ∙ a .homes)
 
 step-alike : (w : World) (s : Store) (e : Event) → Alike w s → Alike (step w e) (follow s w e)
 unfolding step follow afterReply replyOf

@@ -1,25 +1,22 @@
 -- The abstract store follows the calls of rounds: its numbers and promises are the strip's after them. Assumes nothing.
-use Prim.Native.Nat.{ℕ, _+_, _-_, _*_, _≤_, _<_}
+use Prim.Native.Nat.{ℕ, _+_, _-_, _*_, _≤_}
 use mathlib.Core.Path.{_≡_, refl, sym, ap, _∙_}
 use mathlib.Core.Bool.{Bool, true, false, cond}
 use mathlib.Core.List.{List, []}
-use native.Mathlib.Omega.{arith}
 use lib.Dec.{leb}
 use lib.ListN.{length, getD}
-use borrow.Author.Tests.{leb-true, leb-false}
-use Rattle.model.specs.State.{stateOf, setRound, setCursor, fixedIn, promiseOf}
+use borrow.Author.Tests.{leb-false}
+use Rattle.model.specs.State.{stateOf, fixedIn}
 use Rattle.model.specs.declared.State.{State}
-use Rattle.model.specs.Effects.{Given, Effect, newState, roundMoved, beginRoundEffect, stepRoundEffect}
+use Rattle.model.specs.Effects.{Given, Effect, newState, beginRoundEffect, stepRoundEffect}
 use Rattle.model.specs.Questions.{beginRoundAnswer, stepRoundAnswer}
-use Rattle.model.specs.Calls.{Outcome, done, outcome, sizeOf, beginRoundCall, stepRoundCall}
+use Rattle.model.specs.Calls.{Outcome, done, sizeOf, beginRoundCall, stepRoundCall}
 use Rattle.model.specs.History.{roundBegins, roundSteps, service, World, lent, ends, serviceEnds}
-use Rattle.ledger.specs.Store.{Store, nextGroup, toStep, numbered, inRound, roundOver, afterService}
-use Rattle.laws.proofs.strip.StateLaws.{withRound, withCursor}
-use Rattle.laws.proofs.strip.PromiseLaws.{promise-setRound, promise-setCursor}
+use Rattle.ledger.specs.Store.{Store, numbered, inRound, roundOver, afterService}
 use Rattle.laws.proofs.strip.QuestionLaws.{begin-round-ready, step-round-ready}
 use Rattle.claims.proofs.invariant.Invariant.{Sizes, Running}
 use Rattle.claims.proofs.steps.DoneLaws.{outcome-code}
-use Rattle.claims.proofs.steps.RoundRuns.{lent-out, lent-within, begun-numbers, remaining, stepped, step-effect, endedState, endedNumbers, ended-numbers, ended-promises, moved-numbers}
+use Rattle.claims.proofs.steps.RoundRuns.{lent-out, lent-within, begun-numbers, remaining, stepped, step-effect, ended-numbers, moved-numbers}
 use Rattle.claims.proofs.claims.Yields.{ends-done}
 use Rattle.claims.proofs.claims.StoreAnswers.{Numbers, Agrees, next-is}
 use Rattle.claims.proofs.claims.CallAnswers.{remaining-is}
@@ -61,12 +58,6 @@ module _ (G D : ℕ) (z : Sizes G D) (w : World) (r : Running G D w) (s : Store)
           round = ap (λ (x : ℕ). x + 1) (n .fenced);
           cursor = refl;
         })))
-
-    pub begin-round-promises : (x : ℕ) → x < 8 → promiseOf (ends w (service roundBegins) .state) x ≡ promiseOf (w .state) x
-    begin-round-promises x l =
-        ap (λ (t : List ℕ). promiseOf t x) begun-state
-        ∙ (unfold beginRoundEffect newState lent in
-        (promise-setCursor (setRound (w .state) (st .fenced + 1)) 0 x l ∙ promise-setRound (w .state) (st .fenced + 1) x l))
 
   -- ---- a step
 
@@ -124,10 +115,3 @@ module _ (G D : ℕ) (z : Sizes G D) (w : World) (r : Running G D w) (s : Store)
               round = n .round;
               cursor = refl;
             }))
-
-    pub step-round-promises : (x : ℕ) → x < 8 → promiseOf (ends w (service (roundSteps k batch)) .state) x ≡ promiseOf (w .state) x
-    step-round-promises x l = ap (λ (t : List ℕ). promiseOf t x) step-state ∙ go (leb (length rest) k)
-      where
-        go : (d : Bool) → promiseOf (stepped G D z w r under k d .state) x ≡ promiseOf (w .state) x
-        go true = ended-promises G D z w r under x l
-        go false = unfold roundMoved in promise-setCursor (w .state) (getD rest (k - 1) 0 + 1) x l

@@ -1,27 +1,25 @@
 -- A done call between a round's steps leaves the round and its cursor, and no more homes. Assumes nothing.
-use Prim.Native.Nat.{ℕ, zero, suc, _+_, _-_, _*_, _≤_, _<_}
+use Prim.Native.Nat.{ℕ, zero, suc, _+_, _-_, _*_, _≤_}
 use mathlib.Core.Path.{_≡_, refl, sym, ap, _∙_, subst}
 use mathlib.Core.Logic.{_⊎_, inl, inr}
-use mathlib.Core.Bool.{Bool, true, false, cond, false≢true}
-use mathlib.Core.List.{List, [], _∷_}
+use mathlib.Core.Bool.{true, cond, false≢true}
+use mathlib.Core.List.{List, []}
 use mathlib.Core.Option.{none, some}
 use native.Mathlib.Omega.{arith}
-use lib.Dec.{eqb}
 use lib.ListN.{length}
 use Rattle.model.specs.State.{stateOf, fixedIn, nextPosition}
-use Rattle.model.specs.declared.State.{State}
 use Rattle.model.specs.Book.{Book, Task, idle, opened, commitTask, withTask, homesAfter}
 use Rattle.model.specs.Demands.{closedBelow}
 use Rattle.model.specs.Book as book
-use Rattle.model.specs.History.{Change, begins, reserves, aborts, stores, commits, flushes, Service, settles, roundBegins, roundSteps, trims, reads, Call, opening, confirm, change, service, call, World, ends, afterCall, afterDone, step, feed, feedChange, isOpening}
-use Rattle.ledger.specs.Store.{Store, Reply, told, reply, replyOf, replyChange, commitMustLog, nextOf, toStep, nextStart, numbered, trimmedTo, afterService, afterReply, follow}
+use Rattle.model.specs.History.{Change, commits, Call, opening, confirm, change, service, commit, call, World, ends, afterCall, afterDone, step, feed, feedChange, isOpening}
+use Rattle.ledger.specs.Store.{Store, Reply, told, reply, replyOf, replyChange, commitMustLog, nextOf, toStep, afterReply, follow}
 use Rattle.ledger.specs.Store as store
 use Rattle.ledger.specs.Rounds.{homesLeft, mayCome, TicketAbove}
 use Rattle.claims.proofs.invariant.Invariant.{Sizes, Running}
 use Rattle.claims.proofs.steps.RoundRuns.{remaining-are}
-use Rattle.claims.proofs.claims.StoreAnswers.{Numbers, Agrees, position-is}
+use Rattle.claims.proofs.claims.StoreAnswers.{Agrees, position-is}
 use Rattle.claims.proofs.claims.CallAnswers.{remaining-is, call-answers}
-use Rattle.claims.proofs.claims.YieldsAll.{store-commits, flush-commits}
+use Rattle.claims.proofs.steps.Footprint.{committed, rounds, Touch, committed-commit, round-open, round-begin, round-step, Spares, frame}
 use Rattle.claims.proofs.claims.RoundSteps.{homes-same, steps-shrink}
 
 told-figure : (x figure size : ℕ) → told x figure size .code ≡ 0 → told x figure size .figure ≡ figure
@@ -31,19 +29,14 @@ told-figure (suc x) figure size e = absurd (omega arith)
 
 round-stays : (s : Store) (c : Call) (figure : ℕ) → mayCome c ≡ true
     → (store.afterDone s c figure .round ≡ s .round) × (store.afterDone s c figure .cursor ≡ s .cursor)
-unfolding mayCome store.afterDone afterService numbered trimmedTo
-round-stays s (opening state newest batch) figure m = absurd (false≢true m)
-round-stays s confirm figure m = (refl, refl)
-round-stays s (change c) figure m = (refl, refl)
-round-stays s (service (settles batch)) figure m = (refl, refl)
-round-stays s (service roundBegins) figure m = absurd (false≢true m)
-round-stays s (service (roundSteps k batch)) figure m = absurd (false≢true m)
-round-stays s (service (trims batch)) figure m = go (eqb (nextStart s) (s .start))
+unfolding mayCome
+round-stays s c figure m = go c m (frame rounds c)
   where
-    go : (d : Bool) → (cond d s (trimmedTo s (nextStart s)) .round ≡ s .round) × (cond d s (trimmedTo s (nextStart s)) .cursor ≡ s .cursor)
-    go true = (refl, refl)
-    go false = (refl, refl)
-round-stays s (service (reads v home block)) figure m = (refl, refl)
+    go : (c : Call) → mayCome c ≡ true → Touch rounds c ⊎ Spares rounds c → (store.afterDone s c figure .round ≡ s .round) × (store.afterDone s c figure .cursor ≡ s .cursor)
+    go c m (inl (round-open state newest batch)) = absurd (false≢true m)
+    go c m (inl round-begin) = absurd (false≢true m)
+    go c m (inl (round-step k batch)) = absurd (false≢true m)
+    go c m (inr f) = f s figure
 
 module _ (G D : ℕ) (z : Sizes G D) (w : World) (r : Running G D w) (s : Store) (a : Agrees G D w s) where
   left-is : 1 ≤ stateOf (w .state) .round → homesLeft w ≡ toStep s
@@ -63,15 +56,10 @@ module _ (G D : ℕ) (z : Sizes G D) (w : World) (r : Running G D w) (s : Store)
       let e : nextPosition (stateOf (w .state)) ≡ 7 * stateOf (w .state) .next + stateOf (w .state) .filled = unfold nextPosition in refl in
       omega (arith, a .numbers (r .ready) .round, o .round-fenced, o .fenced-next, position-is G D z w r s a, e)
 
-  ticket : (c : Call) → ends w c .code ≡ 0 → TicketAbove s c (ends w c .figure)
-  unfolding feed feedChange book.begin book.abort book.store book.commit withTask
-  ticket (opening state newest batch) h = tt
-  ticket confirm h = tt
-  ticket (change (begins v)) h = inl refl
-  ticket (change (reserves v n)) h = inl refl
-  ticket (change (aborts v)) h = inl refl
-  ticket (change (stores v home block batch)) h = inl (store-commits (s .book) v home block (s .book .tasks v))
-  ticket (change (commits v batch)) h = go (s .book .tasks v) (commit-figure v batch h)
+  committing : (v : ℕ) (batch : List ℕ) → ends w (commit v batch) .code ≡ 0
+      → (feed (s .book) (commit v batch) (ends w (commit v batch) .figure) .commits ≡ s .book .commits) ⊎ (s .round ≤ ends w (commit v batch) .figure)
+  unfolding feed feedChange book.commit
+  committing v batch h = go (s .book .tasks v) (commit-figure v batch h)
     where
       go : (t : Task) → ends w (change (commits v batch)) .figure ≡ cond (commitMustLog t) (nextOf s + 1) 0
           → (commitTask (s .book) v (ends w (change (commits v batch)) .figure) t .commits ≡ s .book .commits)
@@ -81,7 +69,15 @@ module _ (G D : ℕ) (z : Sizes G D) (w : World) (r : Running G D w) (s : Store)
       go (opened es (some x)) e =
           let q : ends w (change (commits v batch)) .figure ≡ nextOf s + 1 = e ∙ (unfold commitMustLog in refl) in
           inr (omega (arith, q, above))
-  ticket (change (flushes batch)) h = inl (flush-commits (s .book))
+
+  ticket : (c : Call) → ends w c .code ≡ 0 → TicketAbove s c (ends w c .figure)
+  ticket (opening state newest batch) h = tt
+  ticket confirm h = tt
+  ticket (change c) h = go c h (frame committed (change c))
+    where
+      go : (c : Change) → ends w (change c) .code ≡ 0 → Touch committed (change c) ⊎ Spares committed (change c) → TicketAbove s (change c) (ends w (change c) .figure)
+      go c h (inl (committed-commit v batch)) = committing v batch h
+      go c h (inr f) = inl (f (s .book) (ends w (change c) .figure))
   ticket (service c) h = tt
 
 module _ (G D : ℕ) (z : Sizes G D) (w : World) (r : Running G D w) (s : Store) (a : Agrees G D w s) (c : Call) (h : ends w c .code ≡ 0)

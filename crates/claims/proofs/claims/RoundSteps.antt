@@ -10,16 +10,16 @@ use lib.Dec.{leb, ltb, eqb}
 use lib.ListN.{length, length-append}
 use borrow.Author.Tests.{ltb-true, lt-ltb}
 use Rattle.model.specs.Effects.{marked}
-use Rattle.model.specs.Book.{Commit, Book, Task, idle, opened, commitTask, storeTask, withTask, addCommit, entryOf, filledUp, owedBy, withCommits, writeCommits, homesAfter}
+use Rattle.model.specs.Book.{Commit, Book, Task, idle, opened, commitTask, withTask, addCommit, filledUp, owedBy, withCommits, writeCommits, homesAfter}
 use Rattle.model.specs.Book as book
 use Rattle.model.specs.Demands.{untrimmed, closedBelow, heldEntries}
-use Rattle.model.specs.History.{Change, begins, reserves, aborts, stores, commits, flushes, Service, settles, roundBegins, roundSteps, trims, reads, Call, opening, confirm, change, service, feed, feedChange}
+use Rattle.model.specs.History.{Change, commits, Service, trims, Call, opening, confirm, change, service, feed, feedChange}
 use Rattle.ledger.specs.Store.{Store, wrote, anyWrote, toStep, nextStart, numbered, trimmedTo, afterService, afterDone}
 use Rattle.ledger.specs.Rounds.{mayCome, TicketAbove, StepsShrink}
 use Rattle.claims.proofs.steps.TrimLaws.{largest-from}
 use Rattle.claims.proofs.invariant.GrowLaws.{closed-snoc}
 use Rattle.claims.proofs.steps.HeldLogs.{filled-commits}
-use Rattle.claims.proofs.claims.YieldsAll.{store-commits, flush-commits}
+use Rattle.claims.proofs.steps.Footprint.{committed, logStart, rounds, Touch, committed-commit, start-trim, round-begin, round-step, Spares, frame, Steady, steady}
 
 marked-fewer : (p q : ℕ → Bool) (n : ℕ) → ((h : ℕ) → p h ≡ true → q h ≡ true) → length (marked p n) ≤ length (marked q n)
 unfolding marked
@@ -79,14 +79,14 @@ commit-same b v bound figure (opened es (some h)) l =
 
 change-same : (b : Book) (c : Change) (bound figure : ℕ) → (feedChange b c figure .commits ≡ b .commits) ⊎ (bound < figure)
     → closedBelow bound (feedChange b c figure .commits) ≡ closedBelow bound (b .commits)
-unfolding feedChange book.begin book.abort book.store book.commit withTask
-change-same b (begins v) bound figure a = refl
-change-same b (reserves v n) bound figure a = refl
-change-same b (aborts v) bound figure a = refl
-change-same b (stores v home block batch) bound figure a = ap (closedBelow bound) (store-commits b v home block (b .tasks v))
-change-same b (commits v batch) bound figure (inl e) = ap (closedBelow bound) e
-change-same b (commits v batch) bound figure (inr l) = commit-same b v bound figure (b .tasks v) l
-change-same b (flushes batch) bound figure a = ap (closedBelow bound) (flush-commits b)
+unfolding feed feedChange book.commit
+change-same b c bound figure a = go c a (frame committed (change c))
+  where
+    go : (c : Change) → (feedChange b c figure .commits ≡ b .commits) ⊎ (bound < figure) → Touch committed (change c) ⊎ Spares committed (change c)
+        → closedBelow bound (feedChange b c figure .commits) ≡ closedBelow bound (b .commits)
+    go c (inl e) q = ap (closedBelow bound) e
+    go c (inr l) (inl (committed-commit v batch)) = commit-same b v bound figure (b .tasks v) l
+    go c (inr l) (inr f) = ap (closedBelow bound) (f b figure)
 
 -- the homes hang on no flag that a confirm sets
 writes-same : (mark bound : ℕ) (cs : List Commit) (A : List ℕ) → writeCommits (closedBelow bound (owedBy mark cs)) A ≡ writeCommits (closedBelow bound cs) A
@@ -127,17 +127,30 @@ module _ (s : Store) (one : 1 ≤ s .round) where
       go true b c f q = f q
       go false b c f q = q
 
-  service-shrinks : (c : Service) → mayCome (service c) ≡ true → length (toStep (afterService s c)) ≤ length (toStep s)
-  unfolding mayCome afterService numbered
-  service-shrinks (settles batch) m = unfold toStep in omega arith
-  service-shrinks roundBegins m = absurd (false≢true m)
-  service-shrinks (roundSteps k batch) m = absurd (false≢true m)
-  service-shrinks (trims batch) m = go (eqb (nextStart s) (s .start))
+  trim-shrinks : (batch : List ℕ) → length (toStep (afterService s (trims batch))) ≤ length (toStep s)
+  unfolding afterService numbered
+  trim-shrinks batch = go (eqb (nextStart s) (s .start))
     where
       go : (d : Bool) → length (toStep (cond d s (trimmedTo s (nextStart s)))) ≤ length (toStep s)
       go true = omega arith
       go false = unfold toStep trimmedTo nextStart in unfold toStep in shrinks (nextStart s) (s .book .commits) (unfold nextStart in largest-from _ (s .start) _) refl
-  service-shrinks (reads v home block) m = omega arith
+
+  same-steps : (t : Store) → (t .round ≡ s .round) × (t .cursor ≡ s .cursor) → t .start ≡ s .start → t .homes ≡ s .homes → t .book ≡ s .book
+      → length (toStep t) ≤ length (toStep s)
+  unfolding toStep
+  same-steps t r e h b = rw (r .0, r .1, e, h, b) (omega arith)
+
+  service-shrinks : (c : Service) (figure : ℕ) → mayCome (service c) ≡ true → length (toStep (afterDone s (service c) figure)) ≤ length (toStep s)
+  unfolding mayCome feed
+  service-shrinks c figure m = go c m (frame rounds (service c)) (frame logStart (service c)) (steady s (service c) figure)
+    where
+      go : (c : Service) → mayCome (service c) ≡ true → Touch rounds (service c) ⊎ Spares rounds (service c)
+          → Touch logStart (service c) ⊎ Spares logStart (service c) → Steady s (service c) figure
+          → length (toStep (afterDone s (service c) figure)) ≤ length (toStep s)
+      go c m (inl round-begin) k q = absurd (false≢true m)
+      go c m (inl (round-step n batch)) k q = absurd (false≢true m)
+      go c m (inr f) (inl (start-trim batch)) q = unfold afterDone in trim-shrinks batch
+      go c m (inr f) (inr k) q = same-steps (afterDone s (service c) figure) (f s figure) (k s figure) (q .homes) (q .book)
 
 pub steps-shrink : StepsShrink
 unfolding mayCome afterDone numbered feed
@@ -152,4 +165,4 @@ steps-shrink s (change c) figure one m a =
         → (feedChange (s .book) c figure .commits ≡ s .book .commits) ⊎ (s .round - 1 < figure)
     above (inl e) = inl e
     above (inr l) = inr (omega arith)
-steps-shrink s (service c) figure one m a = service-shrinks s one c m
+steps-shrink s (service c) figure one m a = service-shrinks s one c figure m

@@ -2,25 +2,21 @@
 -- list as it is then, one that changes none leaves the list, an opening sets it by the homes that it brings back, and no other call changes either. Assumes nothing.
 use Prim.Native.Nat.{ℕ, _+_, _*_, _≤_, _<_}
 use mathlib.Core.Path.{_≡_, refl, sym, ap, _∙_, subst}
-use mathlib.Core.Logic.{inl, inr}
+use mathlib.Core.Logic.{_⊎_, inl, inr}
 use mathlib.Core.Bool.{Bool, true, false, cond, not, false≢true}
 use mathlib.Core.List.{List, []}
-use native.Mathlib.Omega.{arith}
-use lib.Dec.{eqb, leb}
-use lib.ListN.{length, replicate, length-replicate}
+use lib.Dec.{eqb}
+use lib.ListN.{length}
 use borrow.Author.Tests.{leb-false}
 use Rattle.model.specs.Bytes.{part, zeros}
-use Rattle.model.specs.State.{stateOf, setStart, setLast, setFenced, setWriter, setPromise, nextPosition, writerOf, idle, holds, listHome, listedOf, listSign, freshNumbers, freshState}
-use Rattle.model.specs.Newest.{keptFor, forget}
-use Rattle.model.specs.Effects.{Given, Effect, homes, newState, openEffect, openStart, abortEffect, commitHeld, commitEffect, keptCommit, logClosing, trimStart, trimTo, trimEffect}
+use Rattle.model.specs.State.{stateOf, nextPosition, writerOf, idle, holds, listHome, listedOf, listSign}
+use Rattle.model.specs.Newest.{keptFor}
+use Rattle.model.specs.Effects.{Given, Effect, homes, newState, openEffect, commitHeld, commitEffect, keptCommit, trimStart, trimTo, trimEffect}
 use Rattle.model.specs.Rights.{readList, listMoved, signFor, keepList, Faithful}
-use Rattle.model.specs.Questions.{openAnswer, commitAnswer, trimAnswer}
-use Rattle.model.specs.Calls.{Outcome, done, sizeOf, openCall, commitCall, trimCall}
-use Rattle.model.specs.Book.{homesAfter, withTask, withCommits}
+use Rattle.model.specs.Calls.{Outcome, done}
+use Rattle.model.specs.Book.{homesAfter, withCommits}
 use Rattle.model.specs.Book as book
-use Rattle.model.specs.History.{Change, begins, reserves, aborts, stores, commits, flushes, Service, settles, roundBegins, roundSteps, trims, reads, Call, opening, confirm, change, service, commit, trim, Event, call, crash, World, lent, loaded, ends, changeEnds, serviceEnds, feed, feedChange, isOpening, afterDone, afterCrash, step, Allowed}
-use Rattle.laws.proofs.bytes.ByteLaws.{length-zeros, number-above}
-use Rattle.laws.proofs.strip.StateLaws.{length-laws}
+use Rattle.model.specs.History.{commits, Call, opening, confirm, change, service, commit, trim, Event, call, crash, World, lent, loaded, ends, feed, feedChange, isOpening, afterDone, afterCrash, step, Allowed}
 use Rattle.laws.proofs.strip.ListedLaws.{listed-setStart, listed-setFenced, listed-setLast, listed-setWriter, listed-setPromise}
 use Rattle.laws.proofs.strip.NewestLaws.{length-entries, length-forget}
 use Rattle.laws.proofs.strip.SignLaws.{sign-fresh, sign-listed, sign-carry, sign-stays, sign-moves, none-moved, list-numbers, sign-faithful, state-keepList}
@@ -29,13 +25,14 @@ use Rattle.claims.proofs.invariant.LiveLog.{lent-homes}
 use Rattle.claims.proofs.steps.DoneLaws.{after}
 use Rattle.claims.proofs.steps.OpenStep.{open-effect, homes-owed}
 use Rattle.claims.proofs.steps.NumberRuns.{owed-writes}
-use Rattle.claims.proofs.steps.NewestSteps.{Quiet, newest-length}
 use Rattle.claims.proofs.steps.StoreCommit.{left-by, c-state-is, left-size, commit-held-runs, commit-older}
 use Rattle.claims.proofs.claims.StoreAnswers.{Agrees}
-use Rattle.claims.proofs.claims.YieldsAll.{step-by, store-commits, flush-commits}
+use Rattle.claims.proofs.claims.YieldsAll.{step-by}
+use Rattle.claims.proofs.steps.Rows.{rowOf, row-state}
+use Rattle.claims.proofs.steps.Footprint.{lists, committed, Touch, lists-open, lists-commit, lists-trim, committed-open, committed-confirm, committed-commit, Spares, frame, logged-listed, abort-leaves}
 use Rattle.claims.proofs.claims.KeptSteps.{Placed, Kept-along, idle-commits, ready, known, ended, held-effect, held-mode, held-roomy, placed-then}
 use Rattle.claims.proofs.claims.KeptShown.{list-shown, same-list}
-use Rattle.claims.proofs.claims.ListedSteps.{Listed, Untrimmed, change-stays, service-stays, confirm-stays, logged-listed, abort-listed, state-done}
+use Rattle.claims.proofs.claims.ListedSteps.{Listed}
 use Rattle.ledger.specs.Store.{Store}
 
 -- the list as the book has it
@@ -93,7 +90,7 @@ module _ (G D : ℕ) (z : Sizes G D) (w : World) (r : Running G D w) (s : Store)
     none-signed e =
         quiet-signed (commit v batch)
         (ap (λ (o : Outcome). listedOf (o .state) 4) (ended G D z w r s a p v batch h)
-        ∙ (unfold done commitEffect lent in rw e (abort-listed (lent w [] batch v 0) 4 (unfold lent in lv))))
+        ∙ (unfold done commitEffect lent in rw e (abort-leaves (lent w [] batch v 0) (unfold lent in lv) .1 4)))
         (unfold feed feedChange book.commit in
         ap (homesAfter D) (idle-commits G D z w r s a p v (ends w (commit v batch) .figure) lv (leb-false 2 (writerOf (w .state) v .mode) (unfold holds in e))))
 
@@ -129,7 +126,7 @@ module _ (G D : ℕ) (z : Sizes G D) (w : World) (r : Running G D w) (s : Store)
       listed-left : (i : ℕ) → listedOf (left .state) i ≡ listedOf (w .state) i
       listed-left i =
           listed-setPromise _ v 0 i lv ∙ listed-setWriter _ v idle i lv ∙ listed-setLast _ _ i
-          ∙ (unfold lent in logged-listed (lent w [] batch v 0) i (unfold lent in lv) _ _ _)
+          ∙ (unfold lent in logged-listed (lent w [] batch v 0) i _ _ _)
 
       -- a position has changed: the sign is that of the list as it is now
       moved-signed : listMoved left ≡ true → Signed D y
@@ -170,40 +167,28 @@ module _ (G D : ℕ) (z : Sizes G D) (w : World) (r : Running G D w) (s : Store)
 
   -- ---- every call
 
-  change-signed : (c : Change) → ends w (change c) .code ≡ 0 → Signed D (afterDone w (change c) (ends w (change c)))
-  change-signed (begins v) h = quiet-signed (change (begins v)) (change-stays w 4 (begins v) tt h) (unfold feed feedChange book.begin withTask in refl)
-  change-signed (reserves v n) h = quiet-signed (change (reserves v n)) (change-stays w 4 (reserves v n) tt h) (unfold feed feedChange book.begin withTask in refl)
-  change-signed (aborts v) h = quiet-signed (change (aborts v)) (change-stays w 4 (aborts v) tt h) (unfold feed feedChange book.abort withTask in refl)
-  change-signed (stores v home block batch) h =
-      quiet-signed (change (stores v home block batch)) (change-stays w 4 (stores v home block batch) tt h)
-      (unfold feed feedChange book.store in ap (homesAfter D) (store-commits (w .book) v home block (w .book .tasks v)))
-  change-signed (commits v batch) h = commit-signed v batch h
-  change-signed (flushes batch) h =
-      quiet-signed (change (flushes batch)) (change-stays w 4 (flushes batch) tt h) (unfold feed feedChange in ap (homesAfter D) (flush-commits (w .book)))
-
   trim-signed : (batch : List ℕ) → ends w (trim batch) .code ≡ 0 → Signed D (afterDone w (trim batch) (ends w (trim batch)))
   trim-signed batch h =
       let g : Given = lent w [] batch 0 0 in
       let x : ℕ = trimStart g in
       let n : length (g .newest) ≡ 8 * homes g = rw (homes-are [] batch 0 0) (unfold lent in a .newest (r .ready)) in
-      let e : ends w (trim batch) .state ≡ trimEffect g x .state =
-      unfold ends serviceEnds trimCall in state-done (trimCall g) g (trimAnswer g x (sizeOf (trimEffect g x))) (trimEffect g x) refl h in
+      let e : ends w (trim batch) .state ≡ trimEffect g x .state = row-state w (trim batch) h ∙ (unfold rowOf in refl) in
       same-signed (trim batch) (ap listSign e ∙ trim-sign g x n ∙ (unfold lent in refl)) (unfold feed in refl)
-
-  service-signed : (c : Service) → ends w (service c) .code ≡ 0 → Signed D (afterDone w (service c) (ends w (service c)))
-  service-signed (settles batch) h = quiet-signed (service (settles batch)) (service-stays w 4 (settles batch) tt h) (unfold feed in refl)
-  service-signed roundBegins h = quiet-signed (service roundBegins) (service-stays w 4 roundBegins tt h) (unfold feed in refl)
-  service-signed (roundSteps k batch) h = quiet-signed (service (roundSteps k batch)) (service-stays w 4 (roundSteps k batch) tt h) (unfold feed in refl)
-  service-signed (trims batch) h = trim-signed batch h
-  service-signed (reads v home block) h = quiet-signed (service (reads v home block)) (service-stays w 4 (reads v home block) tt h) (unfold feed in refl)
 
   done-signed : (c : Call) → isOpening c ≡ false → ends w c .code ≡ 0 → Signed D (afterDone w c (ends w c))
   unfolding isOpening
-  done-signed (opening state newest batch) e h = absurd (false≢true (sym e))
-  done-signed confirm e h =
-      quiet-signed confirm (confirm-stays w 4 h) (unfold feed withCommits homesAfter in owed-writes (ends w confirm .figure) (w .book .commits) _)
-  done-signed (change c) e h = change-signed c h
-  done-signed (service c) e h = service-signed c h
+  done-signed c o h = go c o h (frame lists c) (frame committed c)
+    where
+      go : (c : Call) → isOpening c ≡ false → ends w c .code ≡ 0 → Touch lists c ⊎ Spares lists c → Touch committed c ⊎ Spares committed c
+          → Signed D (afterDone w c (ends w c))
+      go c o h (inl (lists-open state newest batch)) k = absurd (false≢true (sym o))
+      go c o h (inl (lists-commit v batch)) k = commit-signed v batch h
+      go c o h (inl (lists-trim batch)) k = trim-signed batch h
+      go c o h (inr f) (inl (committed-open state newest batch)) = absurd (false≢true (sym o))
+      go c o h (inr f) (inl committed-confirm) =
+          quiet-signed confirm (f w h .1 4) (unfold feed withCommits homesAfter in owed-writes (ends w confirm .figure) (w .book .commits) _)
+      go c o h (inr f) (inl (committed-commit v batch)) = commit-signed v batch h
+      go c o h (inr f) (inr k) = quiet-signed c (f w h .1 4) (ap (homesAfter D) (k (w .book) (ends w c .figure)))
 
 -- ---- an opening sets the sign by the homes that it brings back
 
@@ -212,8 +197,7 @@ opened-signed : (G D : ℕ) (z : Sizes G D) (w : World) → Closed G D w → (st
 unfolding afterDone feed withCommits homesAfter
 opened-signed G D z w c state newest batch h m =
     let g : Given = loaded w state newest batch in
-    let e : ends w (opening state newest batch) .state ≡ openEffect g .state =
-    unfold ends openCall in state-done (openCall g) g (openAnswer g (openStart g) (sizeOf (openEffect g))) (openEffect g) refl h in
+    let e : ends w (opening state newest batch) .state ≡ openEffect g .state = row-state w (opening state newest batch) h ∙ (unfold rowOf in refl) in
     let list : List ℕ = part (homesAfter D (w .book .commits)) (64 * listHome) 256 in
     let f : listSign (ends w (opening state newest batch) .state) ≡ signFor list =
     ap listSign (e ∙ ap (λ (x : Effect). x .state) (open-effect G D z w c state newest batch)) ∙ sign-fresh _ _ _ _ m in

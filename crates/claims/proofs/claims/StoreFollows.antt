@@ -1,53 +1,55 @@
 -- The abstract store goes on agreeing with the world, call by call and crash by crash. Assumes nothing.
-use Prim.Native.Nat.{ℕ, zero, suc, _+_, _-_, _*_, _/_, _%_, _^_, _≤_, _<_}
+use Prim.Native.Nat.{ℕ, zero, suc, _+_, _-_, _*_, _^_, _≤_, _<_}
 use mathlib.Core.Path.{_≡_, refl, sym, ap, _∙_, subst}
 use mathlib.Core.Logic.{_⊎_, inl, inr}
 use mathlib.Core.Bool.{Bool, true, false, cond, not, _&&_, false≢true}
-use mathlib.Core.List.{List, [], _∷_, _++_}
+use mathlib.Core.List.{List, []}
 use native.Mathlib.Omega.{arith}
-use lib.Dec.{eqb, leb, ltb}
-use lib.ListN.{length, getD}
+use lib.Dec.{eqb, leb}
+use lib.ListN.{length}
 use borrow.Author.Tests.{leb-true, ltb-true, eqb-true, eqb-false, le-leb, lt-leb, ne-eqb}
 use Rattle.model.specs.Rights.{openSign}
 use Rattle.model.specs.Tag.{entryWord, closingWord}
 use Rattle.model.specs.Layout.{groupsIn, homesIn, headerStart}
-use Rattle.model.specs.State.{stateOf, setStart, setNext, setFilled, setFenced, setSettled, setLast, setDurable, nextPosition, promiseOf, setPromise, promised, promiseLeft, places, freePlaces, writerOf, setWriter, heldOf, setHeld, freshState, idle, begun, holding, logging, holds, firstFor, countFor}
+use Rattle.model.specs.State.{stateOf, setStart, setNext, setFilled, setFenced, setLast, nextPosition, promiseOf, setPromise, promised, promiseLeft, places, freePlaces, writerOf, setWriter, heldOf, setHeld, freshState, idle, begun, holding, logging, holds, firstFor, countFor}
 use Rattle.model.specs.declared.State.{State}
 use Rattle.model.specs.declared.Writer.{Writer}
-use Rattle.model.specs.Effects.{Given, Effect, homes, Logged, logged, linkFrom, logHeld, logClosing, beginEffect, reserveEffect, abortEffect, storeFirst, storeAgain, storeOther, storeEffect, commitHeld, commitEffect, flushNone, flushPart, flushEffect, confirmEffect, settleEffect, trimStart, trimTo, trimEffect, readEffect, newState, openEffect, openStart}
+use Rattle.model.specs.Effects.{Given, Effect, homes, logged, linkFrom, logHeld, logClosing, beginEffect, reserveEffect, abortEffect, storeFirst, storeAgain, storeOther, storeEffect, commitHeld, commitEffect, flushNone, flushPart, flushEffect, confirmEffect, settleEffect, trimStart, trimTo, trimEffect, readEffect, newState, openEffect, openStart}
 use Rattle.model.specs.Questions.{blockRight, writerKnown, mayPromise, storeLogs, startFits, openAnswer, beginAnswer, reserveAnswer, abortAnswer, storeAnswer, commitAnswer, flushAnswer, confirmAnswer, settleAnswer, trimAnswer, readAnswer}
 use Rattle.model.specs.Calls.{Outcome, done, outcome, sizeOf, openCall, beginCall, reserveCall, abortCall, storeCall, commitCall, flushCall, confirmCall, settleCall, trimCall, readCall}
-use Rattle.model.specs.Crash.{Memory, fences, persist, fates}
+use Rattle.model.specs.Crash.{Memory, fences, persist}
 use Rattle.model.specs.Book.{Book, homesAfter, run}
 use Rattle.model.specs.Book as book
 use Rattle.model.specs.Demands.{untrimmed}
-use Rattle.model.specs.History.{Change, begins, reserves, aborts, stores, commits, flushes, Service, settles, trims, reads, Call, opening, confirm, change, service, Event, call, crash, World, unopened, emptyStore, lent, loaded, ends, changeEnds, serviceEnds, feed, isOpening, afterDone, afterCall, afterCrash, step, Allowed, rowFates, roundBegins, roundSteps}
-use Rattle.ledger.specs.Store.{Store, newStore, firstGroup, nextGroup, nextOf, nextStart, replyOf, storeMustLog, lastAfter, fencedAfter, setFor, promisesAfter, numbered, trimmedTo, afterService, afterReply, follow, foundInMemory, inRound, roundOver, toStep}
+use Rattle.model.specs.History.{Change, begins, reserves, aborts, stores, commits, flushes, Service, settles, trims, reads, Call, opening, confirm, change, service, Event, call, crash, World, unopened, emptyStore, lent, loaded, ends, changeEnds, serviceEnds, feed, isOpening, afterDone, afterCall, afterCrash, step, Allowed, rowFates, roundBegins, roundSteps, reserve, abort, store, commit}
+use Rattle.ledger.specs.Store.{Store, newStore, firstGroup, nextGroup, replyOf, storeMustLog, lastAfter, fencedAfter, setFor, promisesAfter, numbered, trimmedTo, afterService, afterReply, follow, foundInMemory, inRound}
 use Rattle.ledger.specs.Store as store
 use Rattle.laws.proofs.bytes.LayoutLaws.{groups-in, homes-in}
 use Rattle.laws.proofs.strip.StateLaws.{withStart, withFenced, withSettled, withLast, withDurable, withNext, withFilled, length-setNext, length-setFilled, state-setNext, state-setFilled, state-setFenced, state-setDurable, state-setLast, length-setLast}
 use Rattle.laws.proofs.strip.WriterLaws.{length-setWriter, length-setHeld, state-setWriter, state-setHeld}
-use Rattle.laws.proofs.strip.PromiseLaws.{promise-setStart, promise-setNext, promise-setFilled, promise-setSettled, promise-setFenced, promise-setDurable, promise-setLast, promise-setWriter, promise-setHeld, state-setPromise, promise-setPromise, promise-setPromise-other, promise-most}
-use Rattle.laws.proofs.strip.ListedLaws.{state-carry, promise-carry}
+use Rattle.laws.proofs.strip.PromiseLaws.{promise-setLast, promise-setWriter, promise-setHeld, state-setPromise, promise-setPromise, promise-setPromise-other, promise-most}
+use Rattle.laws.proofs.strip.ListedLaws.{state-carry}
 use Rattle.laws.proofs.strip.SignLaws.{state-keepList, promise-keepList}
 use Rattle.laws.proofs.strip.OrderLaws.{InOrder, state-fresh, promise-fresh}
 use Rattle.laws.proofs.strip.NewestLaws.{length-nothing}
 use Rattle.laws.proofs.strip.QuestionLaws.{reserve-ready, may-promise, abort-ready, store-ready, commit-ready, trim-ready, open-ready}
-use Rattle.claims.proofs.invariant.Invariant.{Sizes, Running, Closed, Invariant, Early, Late, ImageOk}
+use Rattle.claims.proofs.invariant.Invariant.{Sizes, Running, Closed, Invariant, ImageOk}
 use Rattle.claims.proofs.invariant.OpenLaws.{newStart}
 use Rattle.claims.proofs.invariant.LateOpens.{late-found}
 use Rattle.claims.proofs.steps.RefusalLaws.{left-as-lent}
 use Rattle.claims.proofs.steps.DoneLaws.{outcome-code}
+use Rattle.claims.proofs.steps.Rows.{rowOf, row-state}
+use Rattle.claims.proofs.steps.Footprint.{shares, Touch, shares-open, shares-reserve, shares-abort, shares-store, shares-commit, Spares, frame, steady}
 use Rattle.claims.proofs.steps.NewestSteps.{newest-length, open-newest}
 use Rattle.claims.proofs.steps.LogRuns.{Advance, logged-numbers, logged-writers}
-use Rattle.claims.proofs.steps.SettleRuns.{newArea, due, effect, settle-effect, numbers}
+use Rattle.claims.proofs.steps.SettleRuns.{settle-effect, numbers}
 use Rattle.claims.proofs.steps.TrimRuns.{MayMove, trim-may, lastKept, renumbered-is}
 use Rattle.claims.proofs.steps.CrashRuns.{image, same-memory}
-use Rattle.claims.proofs.steps.OpenStep.{opens-with, open-effect}
+use Rattle.claims.proofs.steps.OpenStep.{open-effect}
 use Rattle.claims.proofs.steps.Beginning.{formatted-start, formatted-found}
 use Rattle.claims.proofs.claims.Yields.{ends-done}
-use Rattle.claims.proofs.claims.StoreAnswers.{Numbers, Agrees, first-is, next-is, filled-is, position-is, start-is, store-logs}
-use Rattle.claims.proofs.claims.RoundFollows.{begin-round-numbers, begin-round-promises, step-round-numbers, step-round-promises}
+use Rattle.claims.proofs.claims.StoreAnswers.{Numbers, Agrees, next-is, filled-is, start-is, store-logs}
+use Rattle.claims.proofs.claims.RoundFollows.{begin-round-numbers, step-round-numbers}
 
 -- what a done call leaves in the strip and gives as its figure
 done-state : (o : Outcome) (g : Given) (a : ℕ) (e : Effect) → o ≡ outcome g a e → o .code ≡ 0 → o .state ≡ e .state
@@ -387,19 +389,6 @@ module _ (G D : ℕ) (z : Sizes G D) (w : World) (r : Running G D w) (s : Store)
       go true = held-promises v batch x lv lx
       go false = (unfold abortEffect newState in idle-promises v x lv lx)
 
-  flush-promises : (batch : List ℕ) (x : ℕ) → x < 8 → s .promises x ≡ promiseOf (flushEffect (lent w [] batch 0 0) .state) x
-  unfolding flushEffect flushNone flushPart lent
-  flush-promises batch x lx = go (eqb (stateOf (w .state) .filled) 0)
-    where
-      go : (d : Bool)
-          → s .promises x
-          ≡ promiseOf (cond d (flushNone (lent w [] batch 0 0) (stateOf (w .state))) (flushPart (lent w [] batch 0 0) (stateOf (w .state))) .state) x
-      go true = ps x lx ∙ sym (promise-setFenced (w .state) (7 * st .next) x)
-      go false =
-          ps x lx
-          ∙ sym (promise-setFenced (setFilled (setNext (w .state) (st .next + 1)) 0) (7 * (st .next + 1)) x
-          ∙ promise-setFilled (setNext (w .state) (st .next + 1)) 0 x ∙ promise-setNext (w .state) (st .next + 1) x)
-
   reserve-passed : (v m : ℕ) → reserveCall (lent w [] [] v 0) m .code ≡ 0 → (v < 8) × (m < 2 ^ 16)
   unfolding reserveCall
   reserve-passed v m h =
@@ -441,37 +430,6 @@ module _ (G D : ℕ) (z : Sizes G D) (w : World) (r : Running G D w) (s : Store)
       let g : Given = lent w [] batch v 0 in
       known-writer [] batch v 0 (commit-ready g (sizeOf (commitEffect g)) (sym (outcome-code g (commitAnswer g (sizeOf (commitEffect g))) (commitEffect g)) ∙ h) .writer)
 
-  change-promises : (c : Change) → ends w (change c) .code ≡ 0 → (x : ℕ) → x < 8 → promisesAfter s c x ≡ promiseOf (ends w (change c) .state) x
-  unfolding promisesAfter ends changeEnds
-  change-promises (begins v) h x l =
-      let g : Given = lent w [] [] v 0 in
-      (unfold beginCall in
-      ps x l
-      ∙ sym (ap (λ (t : List ℕ). promiseOf t x) (done-state _ g (beginAnswer g) (beginEffect g) refl h)
-      ∙ (unfold beginEffect newState lent in promise-setWriter (w .state) v begun x l)))
-  change-promises (reserves v places) h x l =
-      let g : Given = lent w [] [] v 0 in
-      (unfold reserveCall in
-      reserved v places x h l ∙ sym (ap (λ (t : List ℕ). promiseOf t x) (done-state _ g (reserveAnswer g places) (reserveEffect g places) refl h)))
-  change-promises (aborts v) h x l =
-      let g : Given = lent w [] [] v 0 in
-      (unfold abortCall in
-      aborted v x h l ∙ sym (ap (λ (t : List ℕ). promiseOf t x) (done-state _ g (abortAnswer g) (abortEffect g) refl h)))
-  change-promises (stores v home block batch) h x l =
-      let g : Given = lent w block batch v home in
-      (unfold storeCall in
-      stored v home block batch x h l
-      ∙ sym (ap (λ (t : List ℕ). promiseOf t x) (done-state _ g (storeAnswer g (sizeOf (storeEffect g))) (storeEffect g) refl h)))
-  change-promises (commits v batch) h x l =
-      let g : Given = lent w [] batch v 0 in
-      (unfold commitCall in
-      commit-promises v batch x (committed-writer v batch h) l
-      ∙ sym (ap (λ (t : List ℕ). promiseOf t x) (done-state _ g (commitAnswer g (sizeOf (commitEffect g))) (commitEffect g) refl h)))
-  change-promises (flushes batch) h x l =
-      let g : Given = lent w [] batch 0 0 in
-      (unfold flushCall in
-      flush-promises batch x l ∙ sym (ap (λ (t : List ℕ). promiseOf t x) (done-state _ g (flushAnswer g (sizeOf (flushEffect g))) (flushEffect g) refl h)))
-
   -- ---- confirm and the calls that change nothing in the book
 
   confirm-numbers : ends w confirm .code ≡ 0 → Numbers (store.afterDone s confirm (ends w confirm .figure)) (stateOf (ends w confirm .state))
@@ -486,14 +444,6 @@ module _ (G D : ℕ) (z : Sizes G D) (w : World) (r : Running G D w) (s : Store)
       )
       (numbers-as s _ _ (s .start) (s .settled) (s .fenced) (st .fenced) (s .last) (withDurable (stateOf (w .state)) (stateOf (w .state) .fenced)) (n .start)
       (n .settled) (n .fenced) refl (n .last) (n .round) (n .cursor))
-
-  confirm-promises : ends w confirm .code ≡ 0 → (x : ℕ) → x < 8 → s .promises x ≡ promiseOf (ends w confirm .state) x
-  unfolding ends confirmCall
-  confirm-promises h x l =
-      let g : Given = lent w [] [] 0 0 in
-      ps x l
-      ∙ sym (ap (λ (t : List ℕ). promiseOf t x) (done-state _ g (confirmAnswer g) (confirmEffect g) refl h)
-      ∙ (unfold confirmEffect newState lent in promise-setDurable (w .state) (st .fenced) x))
 
   settle-numbers : (batch : List ℕ) → ends w (service (settles batch)) .code ≡ 0
       → Numbers (afterService s (settles batch)) (stateOf (ends w (service (settles batch)) .state))
@@ -559,116 +509,47 @@ module _ (G D : ℕ) (z : Sizes G D) (w : World) (r : Running G D w) (s : Store)
       (unfold afterService ends serviceEnds readCall in
       rw (done-state _ g (readAnswer g) (readEffect g) refl h) (unfold readEffect lent in n))
 
-  kept-promises : (batch : List ℕ) (y x : ℕ) → x < 8 → promiseOf (trimEffect (lent w [] batch 0 0) y .state) x ≡ promiseOf (w .state) x
-  unfolding trimEffect trimTo newState lent
-  kept-promises batch y x l = go (eqb y (stateOf (w .state) .start))
-    where
-      go : (d : Bool)
-          → promiseOf (cond d (newState (lent w [] batch 0 0) (w .state) 0) (trimTo (lent w [] batch 0 0) (stateOf (w .state)) y) .state) x
-          ≡ promiseOf (w .state) x
-      go true = refl
-      go false =
-          promise-carry _ _ _ x l ∙ promise-setLast (setFenced (setStart (w .state) y) (7 * st .next)) (cond (leb (st .last) (7 * y)) 0 (st .last)) x
-          ∙ promise-setFenced (setStart (w .state) y) (7 * st .next) x ∙ promise-setStart (w .state) y x
-
-  settle-promises : (batch : List ℕ) (x : ℕ) → x < 8 → ends w (service (settles batch)) .code ≡ 0
-      → s .promises x ≡ promiseOf (ends w (service (settles batch)) .state) x
-  unfolding ends serviceEnds settleCall
-  settle-promises batch x l h =
-      let g : Given = lent w [] batch 0 0 in
-      ps x l
-      ∙ sym (ap (λ (t : List ℕ). promiseOf t x)
-      (done-state _ g (settleAnswer g (sizeOf (settleEffect g))) (settleEffect g) refl h ∙ ap (λ (e : Effect). e .state) (settle-effect G D z w r batch))
-      ∙ promise-setFenced (setSettled (w .state) (st .fenced)) (7 * st .next) x ∙ promise-setSettled (w .state) (st .fenced) x)
-
-  trim-promises : (batch : List ℕ) (x : ℕ) → x < 8 → ends w (service (trims batch)) .code ≡ 0
-      → s .promises x ≡ promiseOf (ends w (service (trims batch)) .state) x
-  unfolding ends serviceEnds trimCall
-  trim-promises batch x l h =
-      let g : Given = lent w [] batch 0 0 in
-      let y : ℕ = trimStart g in
-      ps x l
-      ∙ sym (ap (λ (t : List ℕ). promiseOf t x) (done-state _ g (trimAnswer g y (sizeOf (trimEffect g y))) (trimEffect g y) refl h)
-      ∙ kept-promises batch y x l)
-
-  service-promises : (c : Service) → ends w (service c) .code ≡ 0 → (x : ℕ) → x < 8 → s .promises x ≡ promiseOf (ends w (service c) .state) x
-  service-promises (settles batch) h x l = settle-promises batch x l h
-  service-promises roundBegins h x l = ps x l ∙ sym (begin-round-promises G D z w r s a h x l)
-  service-promises (roundSteps k batch) h x l = ps x l ∙ sym (step-round-promises G D z w r s a k batch h x l)
-  service-promises (trims batch) h x l = trim-promises batch x l h
-  service-promises (reads v home block) h x l =
-      let g : Given = lent w block [] v home in
-      (unfold ends serviceEnds readCall in
-      ps x l ∙ sym (ap (λ (t : List ℕ). promiseOf t x) (done-state _ g (readAnswer g) (readEffect g) refl h) ∙ (unfold readEffect lent in refl)))
-
-  -- ---- what the service calls leave of the store
-
-  pub service-same : (c : Service)
-      → (afterService s c .groups ≡ s .groups) × (afterService s c .homes ≡ s .homes) × (afterService s c .head ≡ s .head) × (afterService s c .back ≡ s .back)
-      × (afterService s c .book ≡ s .book) × (afterService s c .promises ≡ s .promises)
-  unfolding afterService numbered inRound roundOver trimmedTo
-  service-same (settles batch) = (refl, refl, refl, refl, refl, refl)
-  service-same roundBegins = (refl, refl, refl, refl, refl, refl)
-  service-same (roundSteps k batch) = go (leb (length (toStep s)) k)
-    where
-      next : Store
-      next = inRound s (s .round) (getD (toStep s) (k - 1) 0 + 1)
-
-      go : (d : Bool)
-          → (cond d (roundOver s) next .groups ≡ s .groups) × (cond d (roundOver s) next .homes ≡ s .homes)
-          × (cond d (roundOver s) next .head ≡ s .head) × (cond d (roundOver s) next .back ≡ s .back)
-          × (cond d (roundOver s) next .book ≡ s .book) × (cond d (roundOver s) next .promises ≡ s .promises)
-      go true = (refl, refl, refl, refl, refl, refl)
-      go false = (refl, refl, refl, refl, refl, refl)
-  service-same (trims batch) = go (eqb (nextStart s) (s .start))
-    where
-      go : (d : Bool)
-          → (cond d s (trimmedTo s (nextStart s)) .groups ≡ s .groups) × (cond d s (trimmedTo s (nextStart s)) .homes ≡ s .homes)
-          × (cond d s (trimmedTo s (nextStart s)) .head ≡ s .head) × (cond d s (trimmedTo s (nextStart s)) .back ≡ s .back)
-          × (cond d s (trimmedTo s (nextStart s)) .book ≡ s .book) × (cond d s (trimmedTo s (nextStart s)) .promises ≡ s .promises)
-      go true = (refl, refl, refl, refl, refl, refl)
-      go false = (refl, refl, refl, refl, refl, refl)
-  service-same (reads v home block) = (refl, refl, refl, refl, refl, refl)
-
   -- ---- a done call
+
+  done-numbers : (c : Call) → isOpening c ≡ false → ends w c .code ≡ 0 → Numbers (store.afterDone s c (ends w c .figure)) (stateOf (ends w c .state))
+  unfolding isOpening
+  done-numbers (opening state newest batch) e h = absurd (false≢true (sym e))
+  done-numbers confirm e h = confirm-numbers h
+  done-numbers (change c) e h = change-numbers c h
+  done-numbers (service c) e h = unfold store.afterDone in service-numbers c h
+
+  done-promises : (c : Call) → isOpening c ≡ false → ends w c .code ≡ 0 → (x : ℕ) → x < 8
+      → store.afterDone s c (ends w c .figure) .promises x ≡ promiseOf (ends w c .state) x
+  unfolding isOpening store.afterDone numbered promisesAfter rowOf
+  done-promises c o h x l = go c o h (frame shares c)
+    where
+      state-is : (c : Call) → ends w c .code ≡ 0 → promiseOf (rowOf w c .effect .state) x ≡ promiseOf (ends w c .state) x
+      state-is c h = ap (λ (t : List ℕ). promiseOf t x) (sym (row-state w c h))
+
+      go : (c : Call) → isOpening c ≡ false → ends w c .code ≡ 0 → Touch shares c ⊎ Spares shares c
+          → store.afterDone s c (ends w c .figure) .promises x ≡ promiseOf (ends w c .state) x
+      go c o h (inl (shares-open state newest batch)) = absurd (false≢true (sym o))
+      go c o h (inl (shares-reserve v n)) = reserved v n x (unfold ends changeEnds in h) l ∙ state-is (reserve v n) h
+      go c o h (inl (shares-abort v)) = aborted v x (unfold ends changeEnds in h) l ∙ state-is (abort v) h
+      go c o h (inl (shares-store v home block batch)) = stored v home block batch x (unfold ends changeEnds in h) l ∙ state-is (store v home block batch) h
+      go c o h (inl (shares-commit v batch)) =
+          commit-promises v batch x (committed-writer v batch (unfold ends changeEnds in h)) l ∙ state-is (commit v batch) h
+      go c o h (inr f) = ap (λ (p : ℕ → ℕ). p x) (f .1 s (ends w c .figure)) ∙ ps x l ∙ sym (f .0 w h x l)
 
   pub done-agrees : (c : Call) → isOpening c ≡ false → ends w c .code ≡ 0
       → Agrees G D (afterDone w c (ends w c)) (store.afterDone s c (ends w c .figure))
-  unfolding isOpening afterDone feed
-  done-agrees (opening state newest batch) e h = absurd (false≢true (sym e))
-  done-agrees confirm e h =
+  unfolding afterDone
+  done-agrees c e h =
+      let q = steady s c (ends w c .figure) in
       record {
-        groups = unfold store.afterDone numbered in a .groups;
-        homes = unfold store.afterDone numbered in a .homes;
-        head = unfold store.afterDone numbered in a .head;
-        found = unfold store.afterDone numbered in a .found;
-        book = unfold store.afterDone numbered in ap (λ (b : Book). feed b confirm (ends w confirm .figure)) (a .book);
-        numbers = λ k. confirm-numbers h;
-        newest = λ k. newest-length w confirm e ∙ a .newest (r .ready);
-        promises = λ k x l. unfold store.afterDone numbered in confirm-promises h x l;
-      }
-  done-agrees (change c) e h =
-      record {
-        groups = unfold store.afterDone numbered in a .groups;
-        homes = unfold store.afterDone numbered in a .homes;
-        head = unfold store.afterDone numbered in a .head;
-        found = unfold store.afterDone numbered in a .found;
-        book = unfold store.afterDone numbered in ap (λ (b : Book). feed b (change c) (ends w (change c) .figure)) (a .book);
-        numbers = λ k. change-numbers c h;
-        newest = λ k. newest-length w (change c) e ∙ a .newest (r .ready);
-        promises = λ k x l. unfold store.afterDone numbered in change-promises c h x l;
-      }
-  done-agrees (service c) e h =
-      let q = service-same c in
-      record {
-        groups = unfold store.afterDone in (q .0 ∙ a .groups);
-        homes = unfold store.afterDone in (q .1 ∙ a .homes);
-        head = unfold store.afterDone in (q .2 ∙ a .head);
-        found = unfold store.afterDone in (a .found ∙ sym (q .3));
-        book = unfold store.afterDone in (q .4 ∙ a .book);
-        numbers = λ k. unfold store.afterDone in service-numbers c h;
-        newest = λ k. newest-length w (service c) e ∙ a .newest (r .ready);
-        promises = λ k x l. unfold store.afterDone in (ap (λ (p : ℕ → ℕ). p x) (q .5) ∙ service-promises c h x l);
+        groups = q .groups ∙ a .groups;
+        homes = q .homes ∙ a .homes;
+        head = q .head ∙ a .head;
+        found = a .found ∙ sym (q .back);
+        book = q .book ∙ ap (λ (b : Book). feed b c (ends w c .figure)) (a .book);
+        numbers = λ k. done-numbers c e h;
+        newest = λ k. newest-length w c e h ∙ a .newest (r .ready);
+        promises = λ k. done-promises c e h;
       }
 
 -- ---- a done opening

@@ -2,31 +2,30 @@
 -- whose ticket a crash has ended is owed. Assumes nothing.
 use Prim.Native.Nat.{ℕ, zero, suc, _≤_, _<_}
 use mathlib.Core.Path.{_≡_, refl, sym, ap, _∙_}
-use mathlib.Core.Logic.{inl, inr}
-use mathlib.Core.Bool.{Bool, true, false, cond, not, false≢true}
+use mathlib.Core.Logic.{_⊎_, inl, inr}
+use mathlib.Core.Bool.{Bool, true, false, not, false≢true}
 use mathlib.Core.List.{List, [], _∷_, _++_}
 use mathlib.Core.Option.{none, some}
 use native.Mathlib.Omega.{arith}
-use lib.Dec.{eqb}
 use borrow.Author.Tests.{leb-false, ltb-true}
 use Rattle.model.specs.State.{writerOf, heldOf, holds}
 use Rattle.model.specs.declared.Writer.{Writer}
 use Rattle.model.specs.Effects.{Given, commitHeld, commitEffect}
 use Rattle.model.specs.Questions.{writerKnown, commitAnswer}
 use Rattle.model.specs.Calls.{Outcome, done, sizeOf, commitCall}
-use Rattle.model.specs.Book.{Commit, Task, idle, opened, Book, filledUp, submit, grown, withTask, addCommit, entryOf, storeTask, commitTask, owedBy, owedAll, withCommits}
+use Rattle.model.specs.Book.{Commit, Task, idle, opened, Book, filledUp, withTask, addCommit, entryOf, commitTask, owedBy, owedAll, withCommits}
 use Rattle.model.specs.Book as book
 use Rattle.model.specs.Demands.{Live, Yields, ServiceYields, YieldsAt}
-use Rattle.model.specs.History.{Change, begins, reserves, aborts, stores, commits, flushes, Service, settles, trims, reads, Call, opening, confirm, change, service, commit, Event, call, crash, World, unopened, emptyStore, lent, ends, changeEnds, feed, feedChange, isOpening, afterDone, afterCall, afterCrash, step, Allowed, roundBegins, roundSteps}
+use Rattle.model.specs.History.{commits, Service, settles, trims, reads, Call, opening, confirm, change, service, commit, Event, call, crash, World, unopened, emptyStore, lent, ends, changeEnds, feed, feedChange, isOpening, afterDone, afterCall, afterCrash, step, Allowed, roundBegins, roundSteps}
 use Rattle.laws.proofs.strip.QuestionLaws.{commit-ready}
 use Rattle.claims.proofs.steps.RefusalLaws.{left-as-lent}
 use Rattle.claims.proofs.steps.DoneLaws.{outcome-code}
 use Rattle.laws.proofs.trace.Trace.{Ev}
 use Rattle.claims.proofs.invariant.Invariant.{Sizes, TaskOk, Running, Invariant}
-use Rattle.claims.proofs.claims.DemandThree.{keeps}
 use Rattle.claims.proofs.claims.Yields.{PastOwed, ends-done, confirm-yields, settle-yields, begin-round-yields, step-round-yields}
 use Rattle.claims.proofs.claims.TrimYields.{trim-yields}
 use Rattle.claims.proofs.steps.HeldLogs.{filled-commits}
+use Rattle.claims.proofs.steps.Footprint.{committed, Touch, committed-open, committed-confirm, committed-commit, Spares, frame}
 
 -- ---- lists of commits
 
@@ -45,26 +44,6 @@ past-snoc [] c p l = (λ h. absurd (omega arith), tt)
 past-snoc (d ∷ cs) c p l = (p .0, past-snoc cs c (p .1) l)
 
 -- ---- what the book's steps do to its commits
-
-pub store-commits : (b : Book) (v home : ℕ) (block : List ℕ) (t : Task) → storeTask b v home block t .commits ≡ b .commits
-unfolding storeTask withTask
-store-commits b v home block idle = refl
-store-commits b v home block (opened es none) = refl
-store-commits b v home block (opened es (some h)) = go (eqb (h .home) home)
-  where
-    go : (d : Bool)
-        → cond d (withTask b v (opened es (book.hold home block))) (withTask (filledUp b) v (opened (es ++ (entryOf b h ∷ [])) (book.hold home block))) .commits
-        ≡ b .commits
-    go true = refl
-    go false = filled-commits b
-
-pub flush-commits : (b : Book) → book.flush b .commits ≡ b .commits
-unfolding book.flush submit
-flush-commits b = go (eqb (b .filled) 0)
-  where
-    go : (d : Bool) → cond d b (submit b) .commits ≡ b .commits
-    go true = refl
-    go false = refl
 
 -- a commit that is added has a ticket
 abbrev Ticketed : ℕ → Task → Type 0
@@ -136,24 +115,17 @@ module _ (G D : ℕ) (z : Sizes G D) where
           idle-ticketed (r .b) (r .tr) (writerOf (w .state) v) (heldOf (w .state) v) _ (w .book .tasks v) _ (r .copies .tasks v l)
           (leb-false 2 (writerOf (w .state) v .mode) (unfold holds in e))
 
-  past-change : (w : World) → Running G D w → (c : Change) → ends w (change c) .code ≡ 0 → PastOwed (w .book .commits)
-      → PastOwed (feedChange (w .book) c (ends w (change c) .figure) .commits)
-  unfolding feedChange
-  past-change w r (begins v) h p = (unfold book.begin withTask in p)
-  past-change w r (reserves v n) h p = (unfold book.begin withTask in p)
-  past-change w r (aborts v) h p = (unfold book.abort withTask in p)
-  past-change w r (stores v home block batch) h p = (unfold book.store in rw (store-commits (w .book) v home block (w .book .tasks v)) p)
-  past-change w r (commits v batch) h p =
-      (unfold book.commit in commit-past (w .book) v (ends w (commit v batch) .figure) (w .book .tasks v) (commit-ticketed w r v batch h) p)
-  past-change w r (flushes batch) h p = rw (flush-commits (w .book)) p
-
   past-done : (w : World) → Running G D w → (c : Call) → isOpening c ≡ false → ends w c .code ≡ 0 → PastOwed (w .book .commits)
       → PastOwed (feed (w .book) c (ends w c .figure) .commits)
-  unfolding isOpening feed
-  past-done w r (opening state newest batch) e h p = absurd (false≢true (sym e))
-  past-done w r confirm e h p = (unfold withCommits in past-by (ends w confirm .figure) (w .book .commits) p)
-  past-done w r (change c) e h p = past-change w r c h p
-  past-done w r (service c) e h p = p
+  unfolding isOpening feed feedChange
+  past-done w r c o h p = go c o h (frame committed c)
+    where
+      go : (c : Call) → isOpening c ≡ false → ends w c .code ≡ 0 → Touch committed c ⊎ Spares committed c → PastOwed (feed (w .book) c (ends w c .figure) .commits)
+      go c o h (inl (committed-open state newest batch)) = absurd (false≢true (sym o))
+      go c o h (inl committed-confirm) = (unfold withCommits in past-by (ends w confirm .figure) (w .book .commits) p)
+      go c o h (inl (committed-commit v batch)) =
+          (unfold book.commit in commit-past (w .book) v (ends w (commit v batch) .figure) (w .book .tasks v) (commit-ticketed w r v batch h) p)
+      go c o h (inr f) = rw (f (w .book) (ends w c .figure)) p
 
   pub running-owing : (w : World) → Running G D w → Owing w → (c : Call) → isOpening c ≡ false → Owing (step w (call c))
   unfolding afterDone

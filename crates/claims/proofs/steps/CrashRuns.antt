@@ -64,7 +64,7 @@ fits-run D fs (c ∷ cs) f = go (allSurvive fs (c .entries)) (fits-run D fs cs (
     go false h = tt
 
 -- where nothing of the era has persisted the run is what the opening brought back
-run-early : (D b : ℕ) (tr : List Ev) (old cs : List Commit) (fs : List (ℕ → Bool)) → Commits D b tr old cs → ((r k : ℕ) → fateAt fs r k ≡ false) → run fs cs ≡ old
+pub run-early : (D b : ℕ) (tr : List Ev) (old cs : List Commit) (fs : List (ℕ → Bool)) → Commits D b tr old cs → ((r k : ℕ) → fateAt fs r k ≡ false) → run fs cs ≡ old
 unfolding landedIn
 run-early D b tr old cs fs k lack = ap (run fs) (k .split) ∙ run-old D fs old (k .new) (k .past) ∙ ap (λ (x : List Commit). old ++ x) (nothing (run fs (k .new)) matched) ∙ append-nil old
   where
