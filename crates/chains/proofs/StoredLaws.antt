@@ -1,31 +1,29 @@
 -- What some stores in a row leave: entry after entry is logged, and the last block is held. Assumes nothing.
 use mathlib.Core.Path.{_≡_, refl, sym, ap, _∙_, subst}
-use mathlib.Core.Bool.{Bool, true, false, cond}
+use mathlib.Core.Bool.{true, false, cond}
 use mathlib.Core.Logic.{_⊎_, inl, inr, ⊎-elim, _≢_}
 use mathlib.Core.List.{List, [], _∷_, _++_, append-nil}
-use Prim.Native.Nat.{ℕ, zero, suc, _+_, _-_, _*_, _^_, _≤_, _<_}
+use Prim.Native.Nat.{ℕ, zero, suc, _+_, _-_, _*_, _<_}
 use native.Mathlib.Omega.{arith}
-use lib.Dec.{eqb, leb}
+use lib.Dec.{eqb}
 use lib.ListN.{length, length-append}
 use borrow.Author.Tests.{eq-eqb, ne-eqb}
 use Rattle.model.specs.Bytes.{part, puts}
 use Rattle.model.specs.Batch.{Record, batchBytes}
-use Rattle.model.specs.declared.State.{State}
 use Rattle.model.specs.declared.Writer.{Writer}
 use Rattle.model.specs.State.{stateOf, nextPosition, writerOf, setWriter, heldOf, setHeld, setPromise, promiseLeft, begun, holding, logging, holds, hasLogged, firstFor, countFor}
 use Rattle.model.specs.Tag.{entryWord}
-use Rattle.model.specs.Effects.{Given, Effect, Logged, logged, newState, beginEffect, logHeld, storeFirst, storeOther, storeEffect, linkFrom}
+use Rattle.model.specs.Effects.{Given, Effect, Logged, logged, newState, beginEffect, logHeld, storeFirst, storeOther, storeEffect}
 use Rattle.laws.proofs.bytes.ByteLaws.{length-part, puts-nil}
 use Rattle.laws.proofs.strip.BatchLaws.{batch-append}
 use Rattle.laws.proofs.strip.WriterLaws.{length-setWriter, length-setHeld, state-setWriter, state-setHeld, writer-setWriter, writer-setHeld, fits-begun, fits-holding, fits-logging}
 use Rattle.laws.proofs.strip.PromiseLaws.{length-setPromise, state-setPromise, writer-setPromise}
-use Rattle.claims.proofs.steps.LogRuns.{Advance, Kept-writers, advance-position, logged-numbers, logged-writers, logged-log, logged-records}
 use Rattle.logging.specs.Logs.{MayLog, Fits, StoredOther, loggedEntry}
 use Rattle.logging.proofs.LogLaws.{logged-size}
 use Rattle.logging.proofs.StoreLaws.{effect-first, effect-other}
 use Rattle.acts.specs.Chains.{lentOn, andThen, storedFirst}
 use Rattle.chains.specs.Steps.{Chain, BatchRoom, Moved, Stored, Reached}
-use Rattle.laws.proofs.strip.LoggingLaws.{length-entered, link-small}
+use Rattle.laws.proofs.strip.LoggingLaws.{Advance, SameWriters, length-entered, link-small, logged-numbers, logged-writers, logged-log, logged-records}
 
 -- ---- an entry's records
 
@@ -227,7 +225,7 @@ module _ (g : Given) (n : ℕ) (c : Chain (g .log) (g .state) (g .block) (g .wri
     unfolding lentOn
     next-effect = effect-other next r (stateOf (e .state)) refl refl (h .holding) (λ z. omega (arith, h .home))
 
-    keeps : Kept-writers (e .state) (en .state)
+    keeps : SameWriters (e .state) (en .state)
     keeps = logged-writers (e .state) (e .log) _ _ (h .strip)
 
     abbrev t₁ : List ℕ

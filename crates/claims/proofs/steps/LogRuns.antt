@@ -1,83 +1,33 @@
 -- A call that logs an entry: the strip and the copies after it.
-use mathlib.Core.Path.{_≡_, refl, sym, ap, _∙_, subst}
+use mathlib.Core.Path.{_≡_, sym, ap, _∙_}
 use mathlib.Core.Logic.{_⊎_, inl, inr, ⊎-elim}
-use mathlib.Core.Bool.{Bool, true, false, cond, _&&_, false≢true}
-use mathlib.Core.List.{List, [], _∷_, _++_, append-nil, append-assoc}
-use mathlib.Core.Option.{Option, none, some}
-use Prim.Native.Nat.{ℕ, zero, suc, _+_, _-_, _*_, _/_, _%_, _^_, _≤_, _<_}
+use mathlib.Core.Bool.{true, cond}
+use mathlib.Core.List.{List, [], _∷_}
+use mathlib.Core.Option.{none, some}
+use Prim.Native.Nat.{ℕ, _+_, _-_, _*_, _%_, _≤_, _<_}
 use native.Mathlib.Omega.{arith}
 use lib.ListN.{length}
-use lib.Dec.{eqb, leb}
-use borrow.Author.Tests.{eqb-true, eqb-false, eq-eqb, ne-eqb, le-leb, lt-leb}
+use lib.Dec.{eqb}
+use borrow.Author.Tests.{eq-eqb, ne-eqb}
 use Rattle.model.specs.Layout.{groupAt}
-use Rattle.model.specs.State.{stateOf, setNext, setFilled, setLast, nextPosition, writerOf, heldOf, promiseOf, promised, places, hasLogged, firstFor, countFor}
+use Rattle.model.specs.State.{stateOf, nextPosition, writerOf, heldOf, promiseOf, promised, places}
 use Rattle.model.specs.declared.State.{State}
 use Rattle.model.specs.declared.Writer.{Writer}
-use Rattle.model.specs.Effects.{Logged, entered, submitted, logged}
-use Rattle.model.specs.Batch.{Record, GW, FN}
-use Rattle.model.specs.Book.{Kept, row, Entry, Commit, Held, Task, opened, idle, Book, homesAfter, entryOf, submit, grown, filledUp, withTask}
+use Rattle.model.specs.Effects.{entered, submitted, logged}
+use Rattle.model.specs.Book.{row, Task, opened, Book, submit, grown, filledUp}
 use Rattle.model.specs.Demands.{closedBelow, settledFor}
 use Rattle.model.specs.History.{World}
-use Rattle.laws.proofs.strip.StateLaws.{state-laws, writer-laws, held-laws, length-laws, state-setNext, state-setFilled, length-setNext, length-setFilled, writer-setNext, writer-setFilled, held-setNext, held-setFilled}
-use Rattle.laws.proofs.strip.OrderLaws.{InOrder, WriterInOrder, Promises}
+use Rattle.laws.proofs.strip.OrderLaws.{WriterInOrder, Promises}
 use Rattle.laws.proofs.strip.QuestionLaws.{Roomy}
-use Rattle.laws.proofs.strip.PromiseLaws.{promise-setNext, promise-setFilled, promised-change}
-use Rattle.laws.proofs.trace.Trace.{Ev, Hist, mine, hist, firstOf, tagAt, tagOf, linkIn, closerOf, oldestOf, Apart, LinkOk, Linked}
-use Rattle.laws.proofs.trace.TraceLaws.{tagAt-here}
-use Rattle.laws.proofs.trace.LinkLaws.{linked-more, linked-ext, lastFrom}
-use Rattle.claims.proofs.invariant.GrowLaws.{holds-older, sound-grow, close-done, open-done, open-other, open-below, entries-older}
-use Rattle.claims.proofs.invariant.GrowImages.{closers-older, apart-snoc}
+use Rattle.laws.proofs.strip.PromiseLaws.{promised-change}
+use Rattle.laws.proofs.trace.Trace.{Ev, mine, hist, tagAt, Apart, Linked}
+use Rattle.claims.proofs.invariant.GrowLaws.{sound-grow, open-other, open-below, entries-older}
 use Rattle.claims.proofs.invariant.LogStep.{log-groups}
-use Rattle.claims.proofs.invariant.Invariant.{Sizes, Sound, SoundAt, Holds, plainOf, entriesFor, TaskOk, Copies, LastOk, lastCloser}
+use Rattle.claims.proofs.invariant.Invariant.{Sizes, SoundAt, Holds, plainOf, entriesFor, TaskOk, Copies, LastOk, lastCloser}
 use Rattle.claims.proofs.invariant.SettledLaws.{settled-same, settled-most}
 use Rattle.claims.proofs.steps.WriterSteps.{each-writer}
 use Rattle.laws.proofs.strip.LoggingLaws.{length-entered}
-pub use Rattle.laws.proofs.strip.LoggingLaws.{Advance, advance-position, logged-numbers}
-
--- a strip that logging left: the writers' records, blocks and promises as they were
-pub record Kept-writers (s t : List ℕ) : Type 0 where
-  pub size : length t ≡ 1024
-  pub writer : (x : ℕ) → writerOf t x ≡ writerOf s x
-  pub held : (x : ℕ) → heldOf t x ≡ heldOf s x
-  pub promise : (x : ℕ) → promiseOf t x ≡ promiseOf s x
-
-pub logged-writers : (s log : List ℕ) (word : ℕ) (block : List ℕ) → length s ≡ 1024 → Kept-writers s (logged s log word block .state)
-unfolding logged submitted
-logged-writers s log word block h = go (eqb (stateOf s .filled) 6)
-  where
-    go : (t : Bool) → Kept-writers s (submitted t s (stateOf s) (stateOf s .next % stateOf s .groups) (entered (stateOf s) (stateOf s .next % stateOf s .groups) log word block) .state)
-    go true = record {
-      size = length-setFilled (setNext s (stateOf s .next + 1)) 0 ∙ length-setNext s (stateOf s .next + 1) ∙ h;
-      writer = λ x. writer-setFilled (setNext s (stateOf s .next + 1)) 0 x ∙ writer-setNext s (stateOf s .next + 1) x;
-      held = λ x. held-setFilled (setNext s (stateOf s .next + 1)) 0 x ∙ held-setNext s (stateOf s .next + 1) x;
-      promise = λ x. promise-setFilled (setNext s (stateOf s .next + 1)) 0 x ∙ promise-setNext s (stateOf s .next + 1) x;
-    }
-    go false = record {
-      size = length-setFilled s (stateOf s .filled + 1) ∙ h;
-      writer = λ x. writer-setFilled s (stateOf s .filled + 1) x;
-      held = λ x. held-setFilled s (stateOf s .filled + 1) x;
-      promise = λ x. promise-setFilled s (stateOf s .filled + 1) x;
-    }
-
-pub logged-log : (s log : List ℕ) (word : ℕ) (block : List ℕ)
-    → logged s log word block .log ≡ entered (stateOf s) (stateOf s .next % stateOf s .groups) log word block
-unfolding logged submitted
-logged-log s log word block = go (eqb (stateOf s .filled) 6)
-  where
-    go : (t : Bool) → submitted t s (stateOf s) (stateOf s .next % stateOf s .groups) (entered (stateOf s) (stateOf s .next % stateOf s .groups) log word block) .log ≡ entered (stateOf s) (stateOf s .next % stateOf s .groups) log word block
-    go true = refl
-    go false = refl
-
-pub logged-records : (s log : List ℕ) (word : ℕ) (block : List ℕ)
-    → logged s log word block .records
-    ≡ cond (eqb (stateOf s .filled) 6) (GW (stateOf s .next % stateOf s .groups) (groupAt (logged s log word block .log) (stateOf s .next % stateOf s .groups)) ∷ []) []
-unfolding logged submitted
-logged-records s log word block = go (eqb (stateOf s .filled) 6)
-  where
-    go : (t : Bool) → submitted t s (stateOf s) (stateOf s .next % stateOf s .groups) (entered (stateOf s) (stateOf s .next % stateOf s .groups) log word block) .records
-        ≡ cond t (GW (stateOf s .next % stateOf s .groups) (groupAt (submitted t s (stateOf s) (stateOf s .next % stateOf s .groups) (entered (stateOf s) (stateOf s .next % stateOf s .groups) log word block) .log) (stateOf s .next % stateOf s .groups)) ∷ []) []
-    go true = refl
-    go false = refl
+pub use Rattle.laws.proofs.strip.LoggingLaws.{Advance, SameWriters, advance-position, logged-numbers, logged-writers, logged-log, logged-records}
 
 -- the book's row is filled and submitted along with the log's group
 pub row-moves : (b : ℕ) (k : Book) (st st′ : State) (last : ℕ) → Advance st st′ last → b ≤ st .next → k .rows ≡ st .next - b → k .filled ≡ st .filled

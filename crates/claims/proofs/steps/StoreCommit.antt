@@ -35,7 +35,7 @@ use Rattle.claims.proofs.invariant.GrowLaws.{open-done, open-mine, clos
 use Rattle.claims.proofs.invariant.GrowImages.{apart-snoc, closers-older, image-open, image-close}
 use Rattle.claims.proofs.steps.DoneLaws.{after}
 use Rattle.claims.proofs.steps.WriterSteps.{task-here, task-other, order-idle}
-use Rattle.claims.proofs.steps.LogRuns.{Advance, advance-position, Kept-writers, logged-writers, logged-numbers, logged-log, logged-records, promises-logged, copies-logged}
+use Rattle.claims.proofs.steps.LogRuns.{Advance, advance-position, SameWriters, logged-writers, logged-numbers, logged-log, logged-records, promises-logged, copies-logged}
 use Rattle.claims.proofs.steps.LogSubmits.{submitted-logged, confirmed-more, owed-snoc}
 use Rattle.claims.proofs.steps.HeldLogs.{filled-tasks, filled-commits, event, soFar, Logging, logging-task, mine-event, last-closes, link-ok}
 use Rattle.claims.proofs.invariant.Invariant.{Sizes, SoundAt, plainOf, entriesFor, TaskOk, Copies, Submitted, Confirmed, Commits, Running, ImageOk, LastOk, lastCloser, OwedBelow}
@@ -136,7 +136,7 @@ module _ (G D : ℕ) (z : Sizes G D) (w : World) (R : Running G D w) (v : ℕ) (
   groups-are = c .order .groups-same
 
   -- the strip after logging
-  keeps : (word : ℕ) → Kept-writers (w .state) (logged (w .state) (w .log) word hd .state)
+  keeps : (word : ℕ) → SameWriters (w .state) (logged (w .state) (w .log) word hd .state)
   keeps word = logged-writers (w .state) (w .log) word hd (c .stateSize)
 
   moves : (word : ℕ) → Advance st (stateOf (logged (w .state) (w .log) word hd .state)) (st .last)

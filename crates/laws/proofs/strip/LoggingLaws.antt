@@ -3,21 +3,23 @@
 use mathlib.Core.Path.{_≡_, refl, _∙_}
 use mathlib.Core.Logic.{_⊎_, inl, inr, ⊎-elim}
 use mathlib.Core.Bool.{Bool, true, false, cond}
-use mathlib.Core.List.{List}
+use mathlib.Core.List.{List, [], _∷_}
 use Prim.Native.Nat.{ℕ, _+_, _-_, _*_, _%_, _^_, _≤_, _<_}
 use native.Mathlib.Omega.{arith}
 use lib.ListN.{length}
 use lib.Dec.{eqb, leb}
 use borrow.Author.Tests.{leb-true, leb-false, eqb-true, eqb-false}
-use Rattle.model.specs.Layout.{putBlank}
+use Rattle.model.specs.Batch.{GW}
+use Rattle.model.specs.Layout.{groupAt, putBlank}
 use Rattle.model.specs.declared.State.{State}
 use Rattle.model.specs.declared.Writer.{Writer}
-use Rattle.model.specs.State.{stateOf, setNext, setFilled, nextPosition, heldOf, hasLogged, firstFor, countFor}
+use Rattle.model.specs.State.{stateOf, setNext, setFilled, nextPosition, writerOf, heldOf, promiseOf, hasLogged, firstFor, countFor}
 use Rattle.model.specs.Effects.{Given, linkFrom, entered, submitted, logged}
 use Rattle.model.specs.Questions.{batchFits}
 use Rattle.laws.proofs.bytes.ByteLaws.{length-part}
 use Rattle.laws.proofs.bytes.LayoutLaws.{length-putBlank, length-putEntry}
-use Rattle.laws.proofs.strip.StateLaws.{state-setNext, state-setFilled, length-setNext, length-setFilled}
+use Rattle.laws.proofs.strip.StateLaws.{state-setNext, state-setFilled, length-setNext, length-setFilled, writer-setNext, writer-setFilled, held-setNext, held-setFilled}
+use Rattle.laws.proofs.strip.PromiseLaws.{promise-setNext, promise-setFilled}
 use Rattle.laws.proofs.strip.OrderLaws.{WriterInOrder}
 
 -- where a transaction's first position and count stand
@@ -104,3 +106,48 @@ logged-length s log word block = go (eqb (stateOf s .filled) 6)
         ≡ length s
     go true = length-setFilled (setNext s (stateOf s .next + 1)) 0 ∙ length-setNext s (stateOf s .next + 1)
     go false = length-setFilled s (stateOf s .filled + 1)
+
+-- a strip that logging left: the writers' records, blocks and promises as they were
+pub record SameWriters (s t : List ℕ) : Type 0 where
+  pub size : length t ≡ 1024
+  pub writer : (x : ℕ) → writerOf t x ≡ writerOf s x
+  pub held : (x : ℕ) → heldOf t x ≡ heldOf s x
+  pub promise : (x : ℕ) → promiseOf t x ≡ promiseOf s x
+
+pub logged-writers : (s log : List ℕ) (word : ℕ) (block : List ℕ) → length s ≡ 1024 → SameWriters s (logged s log word block .state)
+unfolding logged submitted
+logged-writers s log word block h = go (eqb (stateOf s .filled) 6)
+  where
+    go : (t : Bool) → SameWriters s (submitted t s (stateOf s) (stateOf s .next % stateOf s .groups) (entered (stateOf s) (stateOf s .next % stateOf s .groups) log word block) .state)
+    go true = record {
+      size = length-setFilled (setNext s (stateOf s .next + 1)) 0 ∙ length-setNext s (stateOf s .next + 1) ∙ h;
+      writer = λ x. writer-setFilled (setNext s (stateOf s .next + 1)) 0 x ∙ writer-setNext s (stateOf s .next + 1) x;
+      held = λ x. held-setFilled (setNext s (stateOf s .next + 1)) 0 x ∙ held-setNext s (stateOf s .next + 1) x;
+      promise = λ x. promise-setFilled (setNext s (stateOf s .next + 1)) 0 x ∙ promise-setNext s (stateOf s .next + 1) x;
+    }
+    go false = record {
+      size = length-setFilled s (stateOf s .filled + 1) ∙ h;
+      writer = λ x. writer-setFilled s (stateOf s .filled + 1) x;
+      held = λ x. held-setFilled s (stateOf s .filled + 1) x;
+      promise = λ x. promise-setFilled s (stateOf s .filled + 1) x;
+    }
+
+pub logged-log : (s log : List ℕ) (word : ℕ) (block : List ℕ)
+    → logged s log word block .log ≡ entered (stateOf s) (stateOf s .next % stateOf s .groups) log word block
+unfolding logged submitted
+logged-log s log word block = go (eqb (stateOf s .filled) 6)
+  where
+    go : (t : Bool) → submitted t s (stateOf s) (stateOf s .next % stateOf s .groups) (entered (stateOf s) (stateOf s .next % stateOf s .groups) log word block) .log ≡ entered (stateOf s) (stateOf s .next % stateOf s .groups) log word block
+    go true = refl
+    go false = refl
+
+pub logged-records : (s log : List ℕ) (word : ℕ) (block : List ℕ)
+    → logged s log word block .records
+    ≡ cond (eqb (stateOf s .filled) 6) (GW (stateOf s .next % stateOf s .groups) (groupAt (logged s log word block .log) (stateOf s .next % stateOf s .groups)) ∷ []) []
+unfolding logged submitted
+logged-records s log word block = go (eqb (stateOf s .filled) 6)
+  where
+    go : (t : Bool) → submitted t s (stateOf s) (stateOf s .next % stateOf s .groups) (entered (stateOf s) (stateOf s .next % stateOf s .groups) log word block) .records
+        ≡ cond t (GW (stateOf s .next % stateOf s .groups) (groupAt (submitted t s (stateOf s) (stateOf s .next % stateOf s .groups) (entered (stateOf s) (stateOf s .next % stateOf s .groups) log word block) .log) (stateOf s .next % stateOf s .groups)) ∷ []) []
+    go true = refl
+    go false = refl
