@@ -47,7 +47,7 @@ include make/c.mk
 library: $(ARCHIVE)
 
 $(ARCHIVES): target/staticlib/lib%.a: crates.txt $(shell find crates -name '*.rt' -o -name '*.antt')
-	@scripts/library.sh $*
+	@scripts/library.sh $(if $(filter $*,$(STANDALONE)),alone_)$* $*
 
 run: station
 	target/c/station --seed $(SEED) --cuts $(CUTS)

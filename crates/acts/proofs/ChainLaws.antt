@@ -10,7 +10,7 @@ use Rattle.model.specs.State.{freePlaces}
 use Rattle.model.specs.Effects.{Given, homes}
 use Rattle.model.specs.Questions.{areasRight, stateRight, newestRight, blockRight, stripInOrder, writerKnown, homeKnown, storeAllowed, writerOpen, storeLogs, commitLogs, room, batchFits, askBlock, askNewest, storeAnswer, commitAnswer}
 use Rattle.acts.specs.Chains.{blocksLent, blocksRight, homesKnown, allOf, mayStoreAll, mayReadAll, roomForAll, askHomes, fetchAnswer, reviseAnswer, transactAnswer}
-use Rattle.laws.proofs.strip.QuestionLaws.{ask-passed, and-true}
+use Rattle.model_laws.proofs.strip.QuestionLaws.{ask-passed, and-true}
 
 -- what every call on several homes has been lent when it is done
 pub record HomesReady (g : Given) : Type 0 where

@@ -13,12 +13,12 @@ use Rattle.model.specs.Crash.{Memory, isFence, fences as fencesIn, persist, per
 use Rattle.model.specs.Book.{run, homesAfter}
 use Rattle.model.specs.Demands.{groupWrites}
 use Rattle.model.specs.History.{World, rowFates}
-use Rattle.laws.proofs.trace.CrashLaws.{writeRecords, NoFence, trues, fences-append, fences-none, persist-zero, persist-stop, fates-zero, fates-stop, fates-past, fate-fence}
-use Rattle.laws.proofs.trace.MixLaws.{none-mixed}
-use Rattle.claims.proofs.invariant.Invariant.{Sizes, Opens, ImageOk, Submitted, Running}
-use Rattle.claims.proofs.invariant.LateOpens.{late-opens}
-use Rattle.claims.proofs.steps.FenceRuns.{lasting-groups}
-use Rattle.claims.proofs.steps.CrashRuns.{image, run-early}
+use Rattle.model_laws.proofs.trace.CrashLaws.{writeRecords, NoFence, trues, fences-append, fences-none, persist-zero, persist-stop, fates-zero, fates-stop, fates-past, fate-fence}
+use Rattle.model_laws.proofs.trace.MixLaws.{none-mixed}
+use Rattle.theorems.proofs.invariant.Invariant.{Sizes, Opens, ImageOk, Submitted, Running}
+use Rattle.theorems.proofs.invariant.LateOpens.{late-opens}
+use Rattle.theorems.proofs.steps.FenceRuns.{lasting-groups}
+use Rattle.theorems.proofs.steps.CrashRuns.{image, run-early}
 use Rattle.object.specs.Medium.{Landing}
 use Rattle.object.specs.Alike.{Alike}
 use Rattle.object.specs.Order.{Allowed, Left, moved, motions}
