@@ -1,7 +1,7 @@
 -- The places of specs/Counted are counted so, by computation.
 use mathlib.Core.Path.{_≡_, refl}
 use mathlib.Core.Bool.{true, _&&_}
-use Rattle.model.specs.Demands.{keptBefore, someBefore, across, anyAcross, openBefore, anyOpenBefore}
+use Rattle.model.specs.Demands.{landsBefore, someBefore, across, anyAcross, openBefore, anyOpenBefore}
 use Rattle.model.specs.Reservations.{promising, givingBack, closing, reserving}
 use Rattle.model.proofs.answers.Computing.{all-definitions}
 use Rattle.abstract_store.specs.Store as store
@@ -12,5 +12,5 @@ use Rattle.abstract_store.specs.Usage.{entriesIn, committedEntries, open
 use Rattle.abstract_store.specs.Counted.{counts, countsSo, usageAfter, numbersOf, usageSo, drainsAt, drainsSo}
 
 pub counted-so : (countsSo && usageSo && drainsSo) ≡ true
-unfolding all-definitions promising givingBack closing reserving counts countsSo newStore firstGroup nextGroup nextOf storeMustLog commitMustLog lastAfter fencedAfter setFor promisesAfter numbered inRound store.afterDone afterReply replyOf follow settleOne settleAll enter enterCall enterEvent classOf fateOn classAt sameClass places.many usageAfter numbersOf usageSo entriesIn committedEntries openEntries noHolder holdsLower holderOf usageOf usageRefused usageIf usageCall drainsAt drainsSo placesLeft nextStart trimmedTo afterService roundOver store.mayStart keptBefore someBefore across anyAcross openBefore anyOpenBefore places.drained
+unfolding all-definitions promising givingBack closing reserving counts countsSo newStore firstGroup nextGroup nextOf storeMustLog commitMustLog lastAfter fencedAfter setFor promisesAfter numbered inRound store.afterDone afterReply replyOf follow settleOne settleAll enter enterCall enterEvent classOf fateOn classAt sameClass places.many usageAfter numbersOf usageSo entriesIn committedEntries openEntries noHolder holdsLower holderOf usageOf usageRefused usageIf usageCall drainsAt drainsSo placesLeft nextStart trimmedTo afterService roundOver store.mayStart landsBefore someBefore across anyAcross openBefore anyOpenBefore places.drained
 counted-so = refl

@@ -9,7 +9,7 @@ use lib.Dec.{eqb, leb, ltb}
 use lib.ListN.{length, replicate}
 use Rattle.model.specs.Layout.{maxStart}
 use Rattle.model.specs.Book as book
-use Rattle.model.specs.Book.{Kept, row, persisted, Entry, Commit, Task, idle, opened, Book}
+use Rattle.model.specs.Book.{Landing, row, persisted, Entry, Commit, Task, idle, opened, Book}
 use Rattle.model.specs.History.{Change, begins, reserves, aborts, stores, commits, flushes, Service, Call, opening, confirm, change, service, flush, settle, trim, Event, call, crash, World, Formatting, afterFormat, ends, step, AllAllowed}
 use Rattle.abstract_store.specs.Store.{Store, newStore, firstGroup, nextGroup, nextOf, placesLeft, manyHomes, toSettle, nextStart, storeMustLog, commitMustLog, reply, replyOf, follow}
 
@@ -91,13 +91,13 @@ many s fs c from zero = 0
 many s fs c from (suc n) = many s fs c from n + cond (sameClass c (classAt s fs (from + n))) 1 0
 
 -- By the book: whether an entry lies at a position, one of a task's transaction, one of a commit's
-unfoldable pub liesAt : ℕ → ℕ → Kept → Bool
+unfoldable pub liesAt : ℕ → ℕ → Landing → Bool
 liesAt first position (row r k) = eqb (7 * (first + r) + k) position
 liesAt first position persisted = false
 
 unfoldable pub anyAt : ℕ → ℕ → List Entry → Bool
 anyAt first position [] = false
-anyAt first position (e ∷ es) = liesAt first position (e .kept) || anyAt first position es
+anyAt first position (e ∷ es) = liesAt first position (e .landing) || anyAt first position es
 
 unfoldable pub taskAt : ℕ → ℕ → Task → Bool
 taskAt first position idle = false

@@ -48,8 +48,8 @@ module _ (size : ℕ) (tags : ℕ → Tag) (base : ℕ) (at : Placed tags base) 
     same : g .progress ≡ ruled (suc reach) .progress
     one : g .progress .failed ≡ 1
 
-  abbrev Kept : ℕ → Walk → Type 0
-  Kept n g = (Going n g) ⊎ ((Failed n g) ⊎ (g .progress .failed ≡ 2))
+  abbrev WalkHolds : ℕ → Walk → Type 0
+  WalkHolds n g = (Going n g) ⊎ ((Failed n g) ⊎ (g .progress .failed ≡ 2))
 
   few-counted : (n : ℕ) → n ≤ maxEntries → (i : ℕ) → getD (ruled n .counts) i 0 < closedMark
   few-counted n l i =
@@ -74,7 +74,7 @@ module _ (size : ℕ) (tags : ℕ → Tag) (base : ℕ) (at : Placed tags base) 
     rooms : (length (ruled n .counts) ≡ size) × (length (noted n .last) ≡ size)
     rooms = (agrees size tags base n (omega arith) at .room, holds-over size tags base at home n (omega arith) .0 .lasts)
 
-    kept-nothing : tags (base + n) ≡ Nothing → Kept (suc n) g
+    kept-nothing : tags (base + n) ≡ Nothing → WalkHolds (suc n) g
     kept-nothing e =
         inl (record {
           tables =
@@ -96,7 +96,7 @@ module _ (size : ℕ) (tags : ℕ → Tag) (base : ℕ) (at : Placed tags base) 
         b : noted (suc n) ≡ noted n
         b = unfold over note in rw e
 
-    kept-entry : (h f : ℕ) → tags (base + n) ≡ Entry h f → Kept (suc n) (joinEntry h (base + n - base) (f - base) g)
+    kept-entry : (h f : ℕ) → tags (base + n) ≡ Entry h f → WalkHolds (suc n) (joinEntry h (base + n - base) (f - base) g)
     unfolding joinEntry
     kept-entry h f e = go (ltb (getD (g .cells) (f - base) 0) closedMark) refl
       where
@@ -110,7 +110,7 @@ module _ (size : ℕ) (tags : ℕ → Tag) (base : ℕ) (at : Placed tags base) 
         b = unfold over note in rw (e, d)
 
         go : (x : Bool) → ltb (getD (g .cells) (f - base) 0) closedMark ≡ x
-            → Kept (suc n) (cond x (joined h (base + n - base) (f - base) (getD (g .cells) (f - base) 0 + 1) (g .progress) g) (stopped g (strayed (g .progress))))
+            → WalkHolds (suc n) (cond x (joined h (base + n - base) (f - base) (getD (g .cells) (f - base) 0 + 1) (g .progress) g) (stopped g (strayed (g .progress))))
         go false q = inr (inr (unfold stopped strayed in refl))
         go true q =
             let p = at .entry (base + n) h f e in
@@ -119,7 +119,7 @@ module _ (size : ℕ) (tags : ℕ → Tag) (base : ℕ) (at : Placed tags base) 
               same = rw a (unfold joined in k .same);
             }))
 
-    kept-closing : (h f link count : ℕ) → tags (base + n) ≡ Closing h f link count → Kept (suc n) (joinClosing base (base + n) h (f - base) link count g)
+    kept-closing : (h f link count : ℕ) → tags (base + n) ≡ Closing h f link count → WalkHolds (suc n) (joinClosing base (base + n) h (f - base) link count g)
     unfolding joinClosing joinJudged
     kept-closing h f link count e = go (ltb (getD (g .cells) (f - base) 0) closedMark) refl
       where
@@ -139,7 +139,7 @@ module _ (size : ℕ) (tags : ℕ → Tag) (base : ℕ) (at : Placed tags base) 
             rw (e, o .1, k .same)
 
         judged : (x : Bool) → eqb (next .failed) 0 ≡ x → ltb (getD (g .cells) (f - base) 0) closedMark ≡ true
-            → Kept (suc n) (cond x (joined h n (f - base) (closedMark + (n + 1)) next g) (stopped g next))
+            → WalkHolds (suc n) (cond x (joined h n (f - base) (closedMark + (n + 1)) next g) (stopped g next))
         judged true z q =
             let p = at .closing (base + n) h f link count e in
             inl (record {
@@ -159,15 +159,15 @@ module _ (size : ℕ) (tags : ℕ → Tag) (base : ℕ) (at : Placed tags base) 
             }))
 
         go : (x : Bool) → ltb (getD (g .cells) (f - base) 0) closedMark ≡ x
-            → Kept (suc n) (cond x (joinJudged h (base + n - base) (f - base) next g) (stopped g (strayed (g .progress))))
+            → WalkHolds (suc n) (cond x (joinJudged h (base + n - base) (f - base) next g) (stopped g (strayed (g .progress))))
         go false q = inr (inr (unfold stopped strayed in refl))
         go true q = rw d (judged (eqb (next .failed) 0) refl q)
 
-    kept-going : Kept (suc n) (join base (base + n) (tags (base + n)) g)
+    kept-going : WalkHolds (suc n) (join base (base + n) (tags (base + n)) g)
     unfolding join joinTag
     kept-going = rw (eq-eqb (g .progress .failed) 0 zero-failed) (go (tags (base + n)) refl)
       where
-        go : (t : Tag) → tags (base + n) ≡ t → Kept (suc n) (joinTag base (base + n) t g)
+        go : (t : Tag) → tags (base + n) ≡ t → WalkHolds (suc n) (joinTag base (base + n) t g)
         go Nothing e = kept-nothing e
         go (Entry h f) e = kept-entry h f e
         go (Closing h f link count) e = kept-closing h f link count e
@@ -177,7 +177,7 @@ module _ (size : ℕ) (tags : ℕ → Tag) (base : ℕ) (at : Placed tags base) 
   unfolding join
   join-stopped position t g h = rw (ne-eqb (g .progress .failed) 0 h)
 
-  kept-one : (n : ℕ) (g : Walk) → n < size → Kept n g → Kept (suc n) (join base (base + n) (tags (base + n)) g)
+  kept-one : (n : ℕ) (g : Walk) → n < size → WalkHolds n g → WalkHolds (suc n) (join base (base + n) (tags (base + n)) g)
   kept-one n g l (inl k) = kept-going n g l k
   kept-one n g l (inr (inl k)) =
       rw (join-stopped (base + n) (tags (base + n)) g (λ z. omega (arith, k .one))) (inr (inl (record {
@@ -189,7 +189,7 @@ module _ (size : ℕ) (tags : ℕ → Tag) (base : ℕ) (at : Placed tags base) 
       })))
   kept-one n g l (inr (inr k)) = rw (join-stopped (base + n) (tags (base + n)) g (λ z. omega arith)) (inr (inr k))
 
-  kept-all : (n : ℕ) → n ≤ size → Kept n (over (join base) tags base n (begun size))
+  kept-all : (n : ℕ) → n ≤ size → WalkHolds n (over (join base) tags base n (begun size))
   unfolding over
   kept-all zero l = inl (unfold begun fresh scanned.fresh in record {
     tables =
@@ -220,7 +220,7 @@ module _ (size : ℕ) (tags : ℕ → Tag) (base : ℕ) (at : Placed tags base) 
     end : g .progress .end ≡ endOf (committed tags base n)
     number : g .progress .number ≡ length (committed tags base n)
 
-  reached : (n j : ℕ) (g : Walk) → j ≤ n → n ≤ size → (g .progress .failed ≡ 0 → j ≡ n) → (g .progress .failed ≡ 2 → ⊥) → Kept j g → Reached n j g
+  reached : (n j : ℕ) (g : Walk) → j ≤ n → n ≤ size → (g .progress .failed ≡ 0 → j ≡ n) → (g .progress .failed ≡ 2 → ⊥) → WalkHolds j g → Reached n j g
   reached n j g l m all h (inl k) =
       let z : j ≡ n = all (ap (λ (p : Progress). p .failed) (k .same) ∙ k .tables .going) in
       let f = found size tags base n (ruled n) m at refl in
@@ -272,7 +272,7 @@ module _ (log : List ℕ) (groups homes start n size : ℕ) (g : Walk) (few : ho
   abbrev tags : ℕ → Tag
   tags = entryAt log groups homes start
 
-  sound : Kept size tags (7 * start) (placed log groups homes start) (housed log groups homes start few) (passed .taken) g
+  sound : WalkHolds size tags (7 * start) (placed log groups homes start) (housed log groups homes start few) (passed .taken) g
   sound = rw (passed .is) (kept-all size tags (7 * start) (placed log groups homes start) (housed log groups homes start few) (passed .taken) (omega (arith, passed .most)))
 
   told : (g .progress .failed ≡ 2 → ⊥)

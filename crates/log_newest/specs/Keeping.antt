@@ -9,7 +9,7 @@ use Rattle.model.specs.Newest.{keep}
 use Rattle.model.specs.declared.Tag.{Tag}
 use Rattle.log_scan.specs.Members.{taking}
 use Rattle.log_scan.specs.Scan.{over}
-use Rattle.log_scan.specs.Slots.{Kept}
+use Rattle.log_scan.specs.Slots.{SlotOf}
 use Rattle.log_newest.specs.declared.commits.Pass.{Pass}
 
 -- an entry for a home at a position
@@ -44,6 +44,6 @@ pub record Passed (log : List ℕ) (groups homes start f end from : ℕ) (p : Pa
   pub on : from ≤ p .number
   pub below : 7 * p .number + p .done ≤ end
   pub part : p .done < 7
-  pub ring : Kept groups (p .number) (p .at)
+  pub ring : SlotOf groups (p .number) (p .at)
   pub taken : (before : List ℕ) → newest ≡ keptOver (entryAt log groups homes start) f (7 * start) (7 * from - 7 * start) before
       → after ≡ takenTo log groups homes start f (p .number) (p .done) before

@@ -11,7 +11,7 @@ ghost use Rattle.model.specs.Layout.{entryAt};
 ghost use Rattle.model.specs.Commit.{entries};
 ghost use Rattle.model.specs.Newest.{keepEntries};
 ghost use Rattle.log_scan.specs.Members.{Stretch};
-ghost use Rattle.log_scan.specs.Slots.{Kept};
+ghost use Rattle.log_scan.specs.Slots.{SlotOf};
 ghost use Rattle.log_newest.specs.Keeping.{keptOver, takenTo, Passed};
 
 // How far the pass has come: to tag `done` of the group with number `number`, which lies at `at`.
@@ -32,7 +32,7 @@ fn keep_rest(
     m: usize,
     newest: &mut [u8],
 )
-    requires { ⌜ (length (now log) ≡ 64 + 512 * groups) × (groups ≤ 1024) × (homes ≤ 65535) × (start ≤ 2 ^ 47) × (pass .number < start + groups) × Kept groups (pass .number) (pass .at) × (pass .done ≤ m) × (m ≤ 7) × (7 * start ≤ first) × (first ≤ 7 * pass .number + pass .done) × (start ≤ pass .number) × (length (now newest) ≡ 8 * homes) ⌝ }
+    requires { ⌜ (length (now log) ≡ 64 + 512 * groups) × (groups ≤ 1024) × (homes ≤ 65535) × (start ≤ 2 ^ 47) × (pass .number < start + groups) × SlotOf groups (pass .number) (pass .at) × (pass .done ≤ m) × (m ≤ 7) × (7 * start ≤ first) × (first ≤ 7 * pass .number + pass .done) × (start ≤ pass .number) × (length (now newest) ≡ 8 * homes) ⌝ }
     ensures { λ _. ⌜ ((before : List ℕ) → now (newest .entry) ≡ takenTo (now (log .entry)) groups homes start first (pass .number) (pass .done) before → now (newest .exit) ≡ keptOver (entryAt (now (log .entry)) groups homes start) first (7 * start) (7 * pass .number + m - 7 * start) before) ⌝ }
 {
     let at = pass.at;
@@ -64,7 +64,7 @@ fn keep_groups(
     ring: RingSlot,
     newest: &mut [u8],
 ) -> Pass
-    requires { ⌜ Stretch (now log) groups start first end × (homes ≤ 65535) × (start ≤ from) × (first ≤ 7 * from) × (7 * from ≤ end) × Kept groups from ring × (length (now newest) ≡ 8 * homes) ⌝ }
+    requires { ⌜ Stretch (now log) groups start first end × (homes ≤ 65535) × (start ≤ from) × (first ≤ 7 * from) × (7 * from ≤ end) × SlotOf groups from ring × (length (now newest) ≡ 8 * homes) ⌝ }
     ensures { λ r. ⌜ Passed (now (log .entry)) groups homes start first end from r (now (newest .entry)) (now (newest .exit)) ⌝ }
 {
     let mut number = from;

@@ -7,9 +7,9 @@ use native.Mathlib.Omega.{arith}
 use Rattle.model.specs.Layout.{turnOf}
 use Rattle.model_laws.proofs.bytes.TurnLaws.{turnOf-lt}
 use Rattle.log_scan.specs.declared.slots.RingSlot.{RingSlot}
-use Rattle.log_scan.specs.Slots.{Kept}
+use Rattle.log_scan.specs.Slots.{SlotOf}
 
-pub slot-first : (n groups : ℕ) → 0 < groups → Kept groups n (record { slot = n % groups; turn = n / groups % 2 })
+pub slot-first : (n groups : ℕ) → 0 < groups → SlotOf groups n (record { slot = n % groups; turn = n / groups % 2 })
 unfolding turnOf
 slot-first n groups h = record { same = refl; low = mod-lt n h; turn = refl; bit = omega arith }
 
@@ -48,7 +48,7 @@ turn-same n groups p h =
 slot-more : (n groups slot r : ℕ) → slot ≡ n % groups → r ≡ (slot + 1) % groups → r ≡ (n + 1) % groups
 slot-more n groups slot r e f = f ∙ rw (e, mod-add-mod)
 
-pub slot-wraps : (at : RingSlot) (groups n : ℕ) → at .slot + 1 ≡ groups → Kept groups n at → Kept groups (n + 1) (record { slot = 0; turn = 1 - at .turn })
+pub slot-wraps : (at : RingSlot) (groups n : ℕ) → at .slot + 1 ≡ groups → SlotOf groups n at → SlotOf groups (n + 1) (record { slot = 0; turn = 1 - at .turn })
 slot-wraps at groups n e k =
     record {
       same = slot-more n groups (at .slot) 0 (k .same) (rw e (sym (mod-self groups)));
@@ -57,8 +57,8 @@ slot-wraps at groups n e k =
       bit = omega arith;
     }
 
-pub slot-next : (at : RingSlot) (groups n : ℕ) → at .slot < groups → (at .slot + 1 ≡ groups → ⊥) → Kept groups n at
-    → Kept groups (n + 1) (record { slot = at .slot + 1; turn = at .turn })
+pub slot-next : (at : RingSlot) (groups n : ℕ) → at .slot < groups → (at .slot + 1 ≡ groups → ⊥) → SlotOf groups n at
+    → SlotOf groups (n + 1) (record { slot = at .slot + 1; turn = at .turn })
 slot-next at groups n h e k =
     record {
       same = slot-more n groups (at .slot) (at .slot + 1) (k .same) (sym (mod-eq-of-lt (omega arith)));
@@ -94,15 +94,15 @@ slot-less n groups slot r p e l f = go (ℕ-discrete (r + 1) groups) (ℕ-discre
         let y : ((n - 1) % groups + 1) % groups ≡ (n - 1) % groups + 1 = mod-eq-of-lt (omega (arith, q)) in
         omega (arith, same)
 
-pub slot-last : (at : RingSlot) (groups n : ℕ) → at .slot ≡ 0 → 0 < groups → 0 < n → Kept groups n at
-    → Kept groups (n - 1) (record { slot = groups - 1; turn = 1 - at .turn })
+pub slot-last : (at : RingSlot) (groups n : ℕ) → at .slot ≡ 0 → 0 < groups → 0 < n → SlotOf groups n at
+    → SlotOf groups (n - 1) (record { slot = groups - 1; turn = 1 - at .turn })
 slot-last at groups n e h p k =
     let z : groups - 1 + 1 ≡ groups = omega arith in
     let s : groups - 1 ≡ (n - 1) % groups = slot-less n groups (at .slot) (groups - 1) p (k .same) (omega arith) (rw (z, e) (mod-self groups)) in
     record { same = s; low = omega arith; turn = omega (arith, turn-before n groups h p (omega arith), k .turn); bit = omega arith }
 
-pub slot-before : (at : RingSlot) (groups n : ℕ) → (at .slot ≡ 0 → ⊥) → at .slot < groups → 0 < n → Kept groups n at
-    → Kept groups (n - 1) (record { slot = at .slot - 1; turn = at .turn })
+pub slot-before : (at : RingSlot) (groups n : ℕ) → (at .slot ≡ 0 → ⊥) → at .slot < groups → 0 < n → SlotOf groups n at
+    → SlotOf groups (n - 1) (record { slot = at .slot - 1; turn = at .turn })
 slot-before at groups n e h p k =
     let z : at .slot - 1 + 1 ≡ at .slot = omega arith in
     let s : at .slot - 1 ≡ (n - 1) % groups = slot-less n groups (at .slot) (at .slot - 1) p (k .same) (omega arith) (rw z (mod-eq-of-lt h)) in

@@ -5,7 +5,7 @@ use Rattle.model.specs.Layout.{turnOf}
 use Rattle.log_scan.specs.declared.slots.RingSlot.{RingSlot}
 
 -- "at each group that the walk visits the kept slot is the group's number mod G", and the kept turn is its turn, for the group with number n
-pub record Kept (groups n : ℕ) (at : RingSlot) : Type 0 where
+pub record SlotOf (groups n : ℕ) (at : RingSlot) : Type 0 where
   pub same : at .slot ≡ n % groups
   pub low : at .slot < groups
   pub turn : at .turn ≡ turnOf groups n

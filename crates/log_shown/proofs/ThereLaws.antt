@@ -22,7 +22,7 @@ use Rattle.model_laws.proofs.trace.ReplayLaws.{length-blockAt}
 use Rattle.model_laws.proofs.strip.OrderLaws.{next-within}
 use Rattle.call_ask.proofs.AnswerLaws.{Usable}
 use Rattle.log_scan.specs.declared.slots.RingSlot.{RingSlot}
-use Rattle.log_scan.specs.Slots.{Kept}
+use Rattle.log_scan.specs.Slots.{SlotOf}
 use Rattle.base_areas.proofs.GroupLaws.{entry-block}
 use Rattle.log_scan.proofs.GroupLaws.{part-group, valid-other, valid-range}
 use Rattle.log_shown.specs.declared.ring.RingPlace.{RingPlace}
@@ -49,7 +49,7 @@ searchable log area state st u e =
 -- ---- the entry at a position
 
 -- its ring place, counted from the log's start
-pub ring-placed : (groups start after ahead : ℕ) (at : RingSlot) → ahead ≡ after / 7 → Kept groups (start + ahead) at
+pub ring-placed : (groups start after ahead : ℕ) (at : RingSlot) → ahead ≡ after / 7 → SlotOf groups (start + ahead) at
     → RingPlaced groups (7 * start + after) (record { number = start + ahead; slot = at .slot; turn = at .turn; k = after - 7 * ahead })
 ring-placed groups start after ahead at f q =
     let n : start + ahead ≡ (7 * start + after) / 7 = omega arith in

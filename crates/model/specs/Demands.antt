@@ -16,7 +16,7 @@ use Rattle.model.specs.Effects.{Given, groups, liveTags, liveBase}
 use Rattle.model.specs.declared.Tag.{Tag}
 use Rattle.model.specs.Calls.{Outcome}
 use Rattle.model.specs.Crash.{fences}
-use Rattle.model.specs.Book.{Kept, row, persisted, Entry, Commit, Held, Task, idle, opened, Book, run, homesAfter, reads as readBy, owedBy}
+use Rattle.model.specs.Book.{Landing, row, persisted, Entry, Commit, Held, Task, idle, opened, Book, run, homesAfter, reads as readBy, owedBy}
 use Rattle.model.specs.History.{Service, settles, trims, reads, Call, opening, confirm, change, service, read, Event, call, crash, World, lent, ends, rowFates, step, Always, roundBegins, roundSteps}
 
 -- Demand 3
@@ -97,13 +97,13 @@ fencedRows (r ∷ rs) = cond (leb 1 (fences (r ∷ rs))) (groupWrites (r ∷ [])
 unfoldable pub rowsFenced : World → ℕ
 rowsFenced w = fencedRows (w .pending) - groupsIn (length (w .memory .log))
 
-unfoldable pub keptBelow : ℕ → Kept → Bool
-keptBelow rows (row number index) = ltb number rows
-keptBelow rows persisted = true
+unfoldable pub landsBelow : ℕ → Landing → Bool
+landsBelow rows (row number index) = ltb number rows
+landsBelow rows persisted = true
 
 unfoldable pub allBelow : ℕ → List Entry → Bool
 allBelow rows [] = true
-allBelow rows (e ∷ es) = keptBelow rows (e .kept) && allBelow rows es
+allBelow rows (e ∷ es) = landsBelow rows (e .landing) && allBelow rows es
 
 unfoldable pub owedRows : ℕ → List Commit → List Commit
 owedRows rows [] = []
@@ -114,13 +114,13 @@ owedRows rows (c ∷ cs) =
 unfoldable pub firstGroup : World → ℕ
 firstGroup w = headerStart (w .memory .log) + groupsIn (length (w .log))
 
-unfoldable pub keptBefore : ℕ → ℕ → Kept → Bool
-keptBefore first position (row number index) = ltb (7 * (first + number) + index) position
-keptBefore first position persisted = true
+unfoldable pub landsBefore : ℕ → ℕ → Landing → Bool
+landsBefore first position (row number index) = ltb (7 * (first + number) + index) position
+landsBefore first position persisted = true
 
 unfoldable pub someBefore : ℕ → ℕ → List Entry → Bool
 someBefore first position [] = false
-someBefore first position (e ∷ es) = keptBefore first position (e .kept) || someBefore first position es
+someBefore first position (e ∷ es) = landsBefore first position (e .landing) || someBefore first position es
 
 unfoldable pub across : ℕ → ℕ → Commit → Bool
 across first position c = leb position (c .ticket - 1) && leb 1 (c .ticket) && someBefore first position (c .entries)

@@ -20,7 +20,7 @@ pub mod Witnesses
 pub mod Reservations
 pub mod Tears
 pub mod Promises
-pub mod Kept
+pub mod NewestTrue
 pub mod Guarded
 pub mod TwoRounds
 pub mod Facts

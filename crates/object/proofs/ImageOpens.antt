@@ -19,7 +19,7 @@ use Rattle.theorems.proofs.invariant.Invariant.{Sizes, Opens, ImageOk, Submitte
 use Rattle.theorems.proofs.invariant.LateOpens.{late-opens}
 use Rattle.theorems.proofs.steps.FenceRuns.{lasting-groups}
 use Rattle.theorems.proofs.steps.CrashRuns.{image, run-early}
-use Rattle.object.specs.Medium.{Landing}
+use Rattle.object.specs.Medium.{Grain}
 use Rattle.object.specs.Alike.{Alike}
 use Rattle.object.specs.Order.{Allowed, Left, moved, motions}
 use Rattle.object.proofs.CutAlike.{joined, Good, AllGood, Cut, cut-alike, persist-in, persist-beyond, fences-joined, leftBy}
@@ -102,7 +102,7 @@ module _ (G D : ℕ) (z : Sizes G D) (w : World) (r : Running G D w) where
           (opens-image _ _ (image G D z w r passed c least h))
 
   -- the claim for a world of an era
-  cut-running : Stretches G D w → (l : Landing) (many : ℕ) (chosen : ℕ → Bool)
+  cut-running : Stretches G D w → (l : Grain) (many : ℕ) (chosen : ℕ → Bool)
       → Cut l G D (w .pending) (w .memory) many (leftBy l chosen (moved (record { lasting = w .memory; written = [] }) (take many (motions l [] (w .pending)))))
   cut-running k l many chosen =
       subst (λ (rs : List Record). Cut l G D rs (w .memory) many (leftBy l chosen (moved (record { lasting = w .memory; written = [] }) (take many (motions l [] rs)))))
@@ -114,7 +114,7 @@ module _ (G D : ℕ) (z : Sizes G D) (w : World) (r : Running G D w) where
       last-formed : FormedFor G D (k .last) (baseOf (k .stretches) (w .memory))
       last-formed = rw (last-is G D z w r k, base-is G D z w r k) (tail-formed G D z w r k)
 
-  pub running-cut : Stretches G D w → (l : Landing) (many : ℕ) (chosen : ℕ → Bool) → Allowed l G w many (Left l w many chosen)
+  pub running-cut : Stretches G D w → (l : Grain) (many : ℕ) (chosen : ℕ → Bool) → Allowed l G w many (Left l w many chosen)
   unfolding leftBy
   running-cut k l many chosen =
       let c = cut-running k l many chosen in

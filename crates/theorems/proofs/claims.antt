@@ -11,12 +11,12 @@ pub mod RightsHold
 pub mod CallAnswers
 pub mod RoundFollows
 pub mod StoreFollows
-pub mod KeptSteps
+pub mod NewestFollows
 pub mod ListRights
 pub mod ListedSteps
-pub mod KeptShown
+pub mod NewestShown
 pub mod SignSteps
-pub mod KeptHolds
+pub mod NewestHolds
 pub mod AnswersHold
 pub mod DemandTwo
 pub mod Reached

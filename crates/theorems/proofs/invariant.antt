@@ -14,4 +14,4 @@ pub mod Now
 pub mod NowLate
 pub mod NowNext
 pub mod LiveLog
-pub mod KeptBook
+pub mod NewestBook

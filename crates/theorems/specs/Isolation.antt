@@ -24,7 +24,7 @@ pub data Each {A : Type 0} (Alike : A → A → Type 0) : List A → List A → 
 module _ (hidden : ℕ → Bool) where
   pub record EntryAlike (a b : Entry) : Type 0 where
     pub home : a .home ≡ b .home
-    pub kept : a .kept ≡ b .kept
+    pub landing : a .landing ≡ b .landing
     pub block : hidden (a .home) ≡ false → a .block ≡ b .block
 
   pub record CommitAlike (a b : Commit) : Type 0 where

@@ -15,7 +15,7 @@ use Rattle.unit_shared.specs.Moments.{lentIn, Leaves}
 use Rattle.unit_shared.proofs.MomentLaws.{event-stands}
 use Rattle.unit_shared.proofs.MomentShown.{shown-there, first-there, kept-there, event-alike}
 use Rattle.unit_alarms_list.specs.Events.{Event, arrival, clearing, settled, applied}
-use Rattle.unit_alarms_list.specs.Promises.{answerBy, heldWith, Kept, Typed}
+use Rattle.unit_alarms_list.specs.Promises.{answerBy, heldWith, Represents, Typed}
 use Rattle.unit_alarms_list.specs.Stored.{judged}
 use Rattle.unit_alarms_list.proofs.StoredHolds.{filling, alarms-recorded}
 use Rattle.unit_alarms.specs.Calls.{alarmHome, judge, arriveCall, clearCall}
@@ -37,7 +37,7 @@ judged-alike w writer e batch =
     event-alike (lentIn w batch) writer alarmHome 6 (λ b. judges (judged b e) (heldWith b e)) (judge e) (λ b. refl) (λ b z. rw z)
 
 module _ (w : World) (ns : List (Option Event)) (ready : w .ready ≡ true)
-    (f : Folded alarmHome 6 judged heldWith Typed w ns) (r : Recorded alarmHome 6 judged heldWith Typed answerBy Kept w ns) where
+    (f : Folded alarmHome 6 judged heldWith Typed w ns) (r : Recorded alarmHome 6 judged heldWith Typed answerBy Represents w ns) where
   abbrev held : List ℕ
   held = heldAfter heldWith (zeros (64 * 6)) (noted ns)
 
@@ -46,7 +46,7 @@ module _ (w : World) (ns : List (Option Event)) (ready : w .ready ≡ true)
       record {
         blocks = held;
         claim = λ writer batch. claimed (lentIn w batch) writer (noted ns) held
-            (kept-there alarmHome 6 judged heldWith Typed w ns f answerBy Kept r) (shown-there alarmHome 6 judged heldWith Typed w ns f ready writer batch)
+            (kept-there alarmHome 6 judged heldWith Typed w ns f answerBy Represents r) (shown-there alarmHome 6 judged heldWith Typed w ns f ready writer batch)
             (first-there alarmHome 6 judged heldWith Typed w ns f ready writer 1 batch (omega arith));
         stands = λ writer e batch i. subst (Leaves w (stepped alarmHome 6 judged heldWith w (offers writer e batch)))
             (judged-alike w writer e batch ∙ asked-is w writer e batch i)

@@ -14,17 +14,17 @@ use Rattle.unit_alarms_list.specs.Alarm.{classKnown}
 use Rattle.unit_alarms_list.specs.declared.Alarm.{Alarm}
 use Rattle.unit_alarms_list.specs.OpenAlarms.{gravest, told, alarmsOf}
 use Rattle.unit_alarms_list.specs.Events.{Event, arrival, clearing, answer, after, settled, applied}
-use Rattle.unit_alarms_list.specs.Promises.{openBy, answerBy, Typed, Says, Kept}
+use Rattle.unit_alarms_list.specs.Promises.{openBy, answerBy, Typed, Says, Represents}
 use Rattle.unit_alarms_list.proofs.Promised.{says, grown, kept-none, readable}
 use Rattle.unit_alarms.specs.Calls.{alarmHome, judge, arriveCall, clearCall, alarmTells, gravestIn, gravestCall}
 use Rattle.unit_alarms.specs.Claims.{Recording, eventCall, Claim, FirstShown, Claimed}
 
-answers : (es : List Event) (blocks : List ℕ) (e : Event) → Kept es blocks → Typed e → judge e blocks .code ≡ answerBy es e
+answers : (es : List Event) (blocks : List ℕ) (e : Event) → Represents es blocks → Typed e → judge e blocks .code ≡ answerBy es e
 unfolding judge
 answers es blocks e k t = grown k e (zeros 384) t .code
 
-grows : (es : List Event) (blocks : List ℕ) (e : Event) → Kept es blocks → Typed e → judge e blocks .code ≡ 0
-    → Kept (es ++ (e ∷ [])) (judge e blocks .blocks)
+grows : (es : List Event) (blocks : List ℕ) (e : Event) → Represents es blocks → Typed e → judge e blocks .code ≡ 0
+    → Represents (es ++ (e ∷ [])) (judge e blocks .blocks)
 unfolding judge
 grows es blocks e k t z = grown k e (zeros 384) t .kept z
 
@@ -41,7 +41,7 @@ unranged : (l : Lent) (writer : ℕ) (es : List Event) (a : Alarm) → classKnow
 unfolding answerBy answer arriveCall
 unranged l writer es a e = (rw e, rw e)
 
-module _ (l : Lent) (writer : ℕ) (es : List Event) (blocks : List ℕ) (k : Kept es blocks) (s : Shown l writer alarmHome 6 blocks) (f : FirstShown l writer blocks) where
+module _ (l : Lent) (writer : ℕ) (es : List Event) (blocks : List ℕ) (k : Represents es blocks) (s : Shown l writer alarmHome 6 blocks) (f : FirstShown l writer blocks) where
   gravest-by : fetched l writer alarmHome 1 .code ≡ 0 → gravestCall l writer ≡ alarmTells (told (gravest (openBy es)))
   unfolding gravestCall gravestIn
   gravest-by z = rw (z, f z, readable .block blocks, k .kept)

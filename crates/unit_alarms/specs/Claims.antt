@@ -10,15 +10,15 @@ use Rattle.unit_shared.specs.Unit.{Lent, Left, untouched, fetched, revised, tra
 use Rattle.unit_shared.specs.Shown.{Shown}
 use Rattle.unit_alarms_list.specs.OpenAlarms.{gravest, told}
 use Rattle.unit_alarms_list.specs.Events.{Event, arrival, clearing}
-use Rattle.unit_alarms_list.specs.Promises.{Says, openBy, answerBy, Typed, Kept}
+use Rattle.unit_alarms_list.specs.Promises.{Says, openBy, answerBy, Typed, Represents}
 use Rattle.unit_alarms.specs.Calls.{alarmHome, judge, arriveCall, clearCall, alarmTells, gravestCall}
 
 -- homes of zeros say that there was no event; blocks that say what some events do answer the next as they do, and say it too once it is done
 pub record Recording : Type 0 where
-  pub none : Kept [] (zeros 384)
-  pub answers : (es : List Event) (blocks : List ℕ) (e : Event) → Kept es blocks → Typed e → judge e blocks .code ≡ answerBy es e
+  pub none : Represents [] (zeros 384)
+  pub answers : (es : List Event) (blocks : List ℕ) (e : Event) → Represents es blocks → Typed e → judge e blocks .code ≡ answerBy es e
   pub grows :
-      (es : List Event) (blocks : List ℕ) (e : Event) → Kept es blocks → Typed e → judge e blocks .code ≡ 0 → Kept (es ++ (e ∷ [])) (judge e blocks .blocks)
+      (es : List Event) (blocks : List ℕ) (e : Event) → Represents es blocks → Typed e → judge e blocks .code ≡ 0 → Represents (es ++ (e ∷ [])) (judge e blocks .blocks)
   pub size : (blocks : List ℕ) (e : Event) → judge e blocks .code ≡ 0 → length (judge e blocks .blocks) ≡ 384
 
 -- the call of an event
@@ -46,5 +46,5 @@ FirstShown l writer blocks = fetched l writer alarmHome 1 .code ≡ 0 → fetche
 
 abbrev pub Claimed : Type 0
 Claimed =
-    (l : Lent) (writer : ℕ) (es : List Event) (blocks : List ℕ) → Kept es blocks → Shown l writer alarmHome 6 blocks → FirstShown l writer blocks →
+    (l : Lent) (writer : ℕ) (es : List Event) (blocks : List ℕ) → Represents es blocks → Shown l writer alarmHome 6 blocks → FirstShown l writer blocks →
     Claim l writer es blocks

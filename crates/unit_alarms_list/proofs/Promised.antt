@@ -14,7 +14,7 @@ use Rattle.unit_events.proofs.OfferedLaws.{all-done, kept-all}
 use Rattle.unit_alarms_list.specs.Alarm.{Alarm, InRange, classKnown}
 use Rattle.unit_alarms_list.specs.OpenAlarms.{among, gravest, told, alarmsOf, keptOf, packed}
 use Rattle.unit_alarms_list.specs.Events.{Event, arrival, clearing, answer, after, settled, applied}
-use Rattle.unit_alarms_list.specs.Promises.{Has, Known, Says, outOfRange, already, noRoom, arrives, notThere, clears, openBy, answerBy, AllInRange, Distinct, nothing, Kept, Typed, Grown, heldWith, Booked, Readable}
+use Rattle.unit_alarms_list.specs.Promises.{Has, Known, Says, outOfRange, already, noRoom, arrives, notThere, clears, openBy, answerBy, AllInRange, Distinct, nothing, Represents, Typed, Grown, heldWith, Booked, Readable}
 use Rattle.unit_alarms_list.proofs.EventLaws.{class-most}
 use Rattle.unit_alarms_list.proofs.HasLaws.{among-has, among-none, without-member, without-short, distinct-without, distinct-join}
 use Rattle.unit_alarms_list.proofs.HistoryLaws.{open-after}
@@ -88,15 +88,15 @@ fit-after xs f (clearing i) t z =
       classes = λ b m. f .classes b (without-member i xs b m);
     }
 
-kept-of : (ds : List Event) (bs : List ℕ) → alarmsOf bs ≡ openBy ds → keptOf bs ≡ told (gravest (openBy ds)) → Fit (openBy ds) → Kept ds bs
+kept-of : (ds : List Event) (bs : List ℕ) → alarmsOf bs ≡ openBy ds → keptOf bs ≡ told (gravest (openBy ds)) → Fit (openBy ds) → Represents ds bs
 kept-of ds bs l k f = record { list = l; kept = k; few = f .few; distinct = f .distinct; ranges = f .ranges; classes = f .classes }
 
-fit-of : {ds : List Event} {bs : List ℕ} → Kept ds bs → Fit (openBy ds)
+fit-of : {ds : List Event} {bs : List ℕ} → Represents ds bs → Fit (openBy ds)
 fit-of k = record { few = k .few; distinct = k .distinct; ranges = k .ranges; classes = k .classes }
 
-module _ {ds : List Event} {bs : List ℕ} (k : Kept ds bs) (e : Event) where
+module _ {ds : List Event} {bs : List ℕ} (k : Represents ds bs) (e : Event) where
   -- the bytes of the list with one more event
-  packs : Typed e → answer (openBy ds) e ≡ 0 → Kept (ds ++ (e ∷ [])) (packed (after (openBy ds) e))
+  packs : Typed e → answer (openBy ds) e ≡ 0 → Represents (ds ++ (e ∷ [])) (packed (after (openBy ds) e))
   packs t z =
       let f = fit-after (openBy ds) (fit-of k) e t z in
       let o = open-after ds e (k .distinct) in
@@ -128,15 +128,15 @@ module _ {ds : List Event} {bs : List ℕ} (k : Kept ds bs) (e : Event) where
 
 -- ---- all events
 
-joined-kept : {ds : List Event} {bs : List ℕ} (e : Event) → Kept ds bs → Typed e → Kept (joined answerBy ds e) (heldWith bs e)
+joined-kept : {ds : List Event} {bs : List ℕ} (e : Event) → Represents ds bs → Typed e → Represents (joined answerBy ds e) (heldWith bs e)
 unfolding joined answerBy heldWith
 joined-kept {ds} {bs} e k t = go (eqb (answer (openBy ds) e) 0) refl
   where
-    go : (b : Bool) → eqb (answer (openBy ds) e) 0 ≡ b → Kept (cond b (ds ++ (e ∷ [])) ds) (applied bs bs e .output)
+    go : (b : Bool) → eqb (answer (openBy ds) e) 0 ≡ b → Represents (cond b (ds ++ (e ∷ [])) ds) (applied bs bs e .output)
     go true q = let z = eqb-true (answer (openBy ds) e) 0 q in rw (done-output k e bs z) (packs k e t z)
     go false q = rw (refused-output k e bs (eqb-false (answer (openBy ds) e) 0 q)) k
 
-pub kept-none : Kept [] (zeros 384)
+pub kept-none : Represents [] (zeros 384)
 unfolding openBy gravest told
 kept-none =
     kept-of [] (zeros 384) list-zeros kept-zeros
@@ -144,7 +144,7 @@ kept-none =
 
 pub booked : (es : List Event) → ((e : Event) → List·Memᴰ e es → Typed e) → Booked es
 booked es t =
-    let k = kept-all answerBy Kept Typed heldWith (λ ds b e k f. joined-kept e k f) es [] (zeros 384) t kept-none in
+    let k = kept-all answerBy Represents Typed heldWith (λ ds b e k f. joined-kept e k f) es [] (zeros 384) t kept-none in
     record {
       kept = k;
       answers = λ e output. rw (same-code k e output) (says (openBy (done answerBy es)) e);

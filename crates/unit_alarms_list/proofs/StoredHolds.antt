@@ -10,7 +10,7 @@ use Rattle.unit_events.specs.Folded.{Filling, Growing}
 use Rattle.unit_events.proofs.FoldedHolds.{events-recorded}
 use Rattle.unit_alarms_list.specs.OpenAlarms.{alarmsOf, keptOf}
 use Rattle.unit_alarms_list.specs.Events.{Event, answer, after, settled, applied}
-use Rattle.unit_alarms_list.specs.Promises.{answerBy, heldWith, Kept, Typed}
+use Rattle.unit_alarms_list.specs.Promises.{answerBy, heldWith, Represents, Typed}
 use Rattle.unit_alarms_list.specs.Stored.{firstHome, judged, AlarmsRecorded, GravestTold}
 use Rattle.unit_alarms_list.proofs.BackLaws.{length-packed, kept-block}
 use Rattle.unit_alarms_list.proofs.Promised.{grown, kept-none}
@@ -19,12 +19,12 @@ pub filling : Filling firstHome 6 judged heldWith
 unfolding judged heldWith applied settled
 filling bs e z = rw (eq-eqb (answer (alarmsOf bs) e) 0 z) (length-packed (after (alarmsOf bs) e))
 
-growing : Growing firstHome 6 judged heldWith Typed answerBy Kept
+growing : Growing firstHome 6 judged heldWith Typed answerBy Represents
 unfolding judged heldWith
 growing ds bs e k t = let g = grown k e bs t in (g .code, g .kept)
 
 pub alarms-recorded : AlarmsRecorded
-alarms-recorded = events-recorded firstHome 6 judged heldWith Typed answerBy Kept (omega arith) filling kept-none growing
+alarms-recorded = events-recorded firstHome 6 judged heldWith Typed answerBy Represents (omega arith) filling kept-none growing
 
 pub gravest-told : GravestTold
 gravest-told w ns r writer block ready l z =

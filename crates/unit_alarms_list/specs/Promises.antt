@@ -76,7 +76,7 @@ pub data Distinct : List Alarm → Type 0 where
   more : {a : Alarm} {xs : List Alarm} → (Has xs (a .identity) → ⊥) → Distinct xs → Distinct (a ∷ xs)
 
 -- six blocks that hold what a list of events says
-pub record Kept (ds : List Event) (bs : List ℕ) : Type 0 where
+pub record Represents (ds : List Event) (bs : List ℕ) : Type 0 where
   pub list : alarmsOf bs ≡ openBy ds
   pub kept : keptOf bs ≡ told (gravest (openBy ds))
   pub few : length (openBy ds) ≤ 48
@@ -93,7 +93,7 @@ Typed (clearing i) = i < 2 ^ 16
 pub record Grown (ds : List Event) (bs output : List ℕ) (e : Event) : Type 0 where
   pub says : Says (openBy ds) e (applied bs output e .code)
   pub code : applied bs output e .code ≡ answerBy ds e
-  pub kept : applied bs output e .code ≡ 0 → Kept (ds ++ (e ∷ [])) (applied bs output e .output)
+  pub kept : applied bs output e .code ≡ 0 → Represents (ds ++ (e ∷ [])) (applied bs output e .output)
   pub untouched : (applied bs output e .code ≡ 0 → ⊥) → applied bs output e .output ≡ output
 
 -- what the homes hold after an event
@@ -103,7 +103,7 @@ heldWith bs e = applied bs bs e .output
 -- for all events that are offered, done or refused: the homes, zeros at first, hold the arrivals not cleared after and their gravest; of an accepted
 -- list all are done
 pub record Booked (es : List Event) : Type 0 where
-  pub kept : Kept (done answerBy es) (heldAfter heldWith (zeros 384) es)
+  pub kept : Represents (done answerBy es) (heldAfter heldWith (zeros 384) es)
   pub answers : (e : Event) (output : List ℕ) → Says (openBy (done answerBy es)) e (applied (heldAfter heldWith (zeros 384) es) output e .code)
   pub accepted : Accepted answerBy es → done answerBy es ≡ es
 

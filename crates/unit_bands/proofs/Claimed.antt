@@ -14,7 +14,7 @@ use Rattle.unit_bands_table.specs.Packed.{pack, found}
 use Rattle.unit_bands_table.specs.Stored.{lastFrom, lastOf}
 use Rattle.unit_bands_table.proofs.Promised.{promised, blank}
 use Rattle.unit_bands.specs.Calls.{tableHome, accepted, setCall, foundIn, lookUpCall}
-use Rattle.unit_bands.specs.Claims.{Kept, Recording, Claim, Claimed}
+use Rattle.unit_bands.specs.Claims.{Represents, Recording, Claim, Claimed}
 
 last-join : (t : Option (List ℕ)) (ts : List (List ℕ)) (strip : List ℕ) → lastFrom t (ts ++ (strip ∷ [])) ≡ some strip
 unfolding lastFrom
@@ -24,11 +24,11 @@ last-join t (s ∷ ts) strip = last-join (some s) ts strip
 some-same : {a b : List ℕ} → _≡_ {A = Option (List ℕ)} (some a) (some b) → a ≡ b
 some-same e = cc
 
-kept-none : Kept [] (zeros 192)
+kept-none : Represents [] (zeros 192)
 unfolding zeros lastFrom lastOf found
 kept-none = record { looks = λ mm. blank .refused mm; passed = λ s e. cc }
 
-grows : (ts : List (List ℕ)) (strip : List ℕ) → judgement strip .code ≡ 0 → Kept (ts ++ (strip ∷ [])) (pack strip)
+grows : (ts : List (List ℕ)) (strip : List ℕ) → judgement strip .code ≡ 0 → Represents (ts ++ (strip ∷ [])) (pack strip)
 unfolding found lastOf
 grows ts strip z =
     let j = last-join none ts strip in
@@ -40,7 +40,7 @@ grows ts strip z =
 pub recording : Recording
 recording = record { none = kept-none; grows = grows; size = λ strip z. promised strip .room z }
 
-module _ (l : Lent) (writer : ℕ) (ts : List (List ℕ)) (blocks : List ℕ) (k : Kept ts blocks) (s : Shown l writer tableHome 3 blocks) where
+module _ (l : Lent) (writer : ℕ) (ts : List (List ℕ)) (blocks : List ℕ) (k : Represents ts blocks) (s : Shown l writer tableHome 3 blocks) where
   lookup-by : (mm : ℕ) → mm ≤ 9999 → fetched l writer tableHome 3 .code ≡ 0 → lookUpCall l writer mm ≡ found mm (lastOf ts)
   unfolding lookUpCall foundIn depths
   lookup-by mm h z = rw (lt-ltb mm 10000 (omega arith), z, s .fetched z) (k .looks mm)

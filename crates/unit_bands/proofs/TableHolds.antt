@@ -19,11 +19,11 @@ use Rattle.unit_bands_table.specs.Packed.{pack}
 use Rattle.unit_bands_table.specs.Stored.{judged, stored, answerBy, Accepted}
 use Rattle.unit_bands_table.proofs.StoredHolds.{filling}
 use Rattle.unit_bands.specs.Calls.{tableHome, accepted, setCall}
-use Rattle.unit_bands.specs.Claims.{Kept}
+use Rattle.unit_bands.specs.Claims.{Represents}
 use Rattle.unit_bands.specs.Histories.{TableAt, TableKept}
 use Rattle.unit_bands.proofs.Claimed.{recording, claimed}
 
-growing : Growing tableHome 3 judged stored Accepted answerBy Kept
+growing : Growing tableHome 3 judged stored Accepted answerBy Represents
 unfolding judged stored answerBy
 growing ts blocks strip k a = (refl, λ z. recording .grows ts strip z)
 
@@ -34,7 +34,7 @@ unfolding setCall accepted stored
 set-is w writer strip batch z = rw z
 
 module _ (w : World) (ns : List (Option (List ℕ))) (ready : w .ready ≡ true)
-    (f : Folded tableHome 3 judged stored Accepted w ns) (r : Recorded tableHome 3 judged stored Accepted answerBy Kept w ns) where
+    (f : Folded tableHome 3 judged stored Accepted w ns) (r : Recorded tableHome 3 judged stored Accepted answerBy Represents w ns) where
   abbrev held : List ℕ
   held = heldAfter stored (zeros (64 * 3)) (noted ns)
 
@@ -42,7 +42,7 @@ module _ (w : World) (ns : List (Option (List ℕ))) (ready : w .ready ≡ true)
   table-at =
       record {
         claim = λ writer batch. claimed (lentIn w batch) writer (noted ns) held
-            (kept-there tableHome 3 judged stored Accepted w ns f answerBy Kept r) (shown-there tableHome 3 judged stored Accepted w ns f ready writer batch);
+            (kept-there tableHome 3 judged stored Accepted w ns f answerBy Represents r) (shown-there tableHome 3 judged stored Accepted w ns f ready writer batch);
         stands = λ writer strip batch z. subst (Leaves w (stepped tableHome 3 judged stored w (sets writer strip batch))) (set-is w writer strip batch z)
             (set-stands tableHome 3 judged stored w writer strip batch);
       }
@@ -51,4 +51,4 @@ pub table-kept : TableKept
 table-kept groups homes d f ss ok s ready =
     table-at (ran tableHome 3 judged stored (afterFormat f) ss) (notes tableHome 3 judged stored (afterFormat f) ss) ready
     (events-folded tableHome 3 judged stored Accepted (omega arith) filling groups homes d f ss ok s)
-    (events-recorded tableHome 3 judged stored Accepted answerBy Kept (omega arith) filling (recording .none) growing groups homes d f ss ok s)
+    (events-recorded tableHome 3 judged stored Accepted answerBy Represents (omega arith) filling (recording .none) growing groups homes d f ss ok s)

@@ -17,14 +17,14 @@ use Rattle.unit_bands_table.specs.Stored.{lastOf}
 use Rattle.unit_bands.specs.Calls.{tableHome, setCall, lookUpCall}
 
 -- blocks that hold the last table of a list, an accepted one
-pub record Kept (ts : List (List ℕ)) (blocks : List ℕ) : Type 0 where
+pub record Represents (ts : List (List ℕ)) (blocks : List ℕ) : Type 0 where
   pub looks : (mm : ℕ) → lookUp blocks mm ≡ found mm (lastOf ts)
   pub passed : (strip : List ℕ) → lastOf ts ≡ some strip → judgement strip .code ≡ 0
 
 -- homes of zeros hold no table; the blocks of an accepted table hold it, whatever was there before
 pub record Recording : Type 0 where
-  pub none : Kept [] (zeros 192)
-  pub grows : (ts : List (List ℕ)) (strip : List ℕ) → judgement strip .code ≡ 0 → Kept (ts ++ (strip ∷ [])) (pack strip)
+  pub none : Represents [] (zeros 192)
+  pub grows : (ts : List (List ℕ)) (strip : List ℕ) → judgement strip .code ≡ 0 → Represents (ts ++ (strip ∷ [])) (pack strip)
   pub size : (strip : List ℕ) → judgement strip .code ≡ 0 → length (pack strip) ≡ 192
 
 pub record Claim (l : Lent) (writer : ℕ) (ts : List (List ℕ)) : Type 0 where
@@ -38,4 +38,4 @@ pub record Claim (l : Lent) (writer : ℕ) (ts : List (List ℕ)) : Type 0 where
   pub stored : (strip : List ℕ) → judgement strip .code ≡ 0 → setCall l writer strip ≡ transacted l writer tableHome (pack strip)
 
 abbrev pub Claimed : Type 0
-Claimed = (l : Lent) (writer : ℕ) (ts : List (List ℕ)) (blocks : List ℕ) → Kept ts blocks → Shown l writer tableHome 3 blocks → Claim l writer ts
+Claimed = (l : Lent) (writer : ℕ) (ts : List (List ℕ)) (blocks : List ℕ) → Represents ts blocks → Shown l writer tableHome 3 blocks → Claim l writer ts

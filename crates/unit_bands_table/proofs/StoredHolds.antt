@@ -9,7 +9,7 @@ use Rattle.model.specs.Bytes.{zeros}
 use Rattle.unit_events.specs.Folded.{Filling, Growing}
 use Rattle.unit_events.proofs.FoldedHolds.{events-recorded}
 use Rattle.unit_bands_table.specs.Packed.{pack, unpack, found, lookUp}
-use Rattle.unit_bands_table.specs.Stored.{firstHome, judged, stored, answerBy, Accepted, lastFrom, lastOf, Kept, TablesRecorded}
+use Rattle.unit_bands_table.specs.Stored.{firstHome, judged, stored, answerBy, Accepted, lastFrom, lastOf, Represents, TablesRecorded}
 use Rattle.unit_bands_table.proofs.Promised.{promised, blank}
 
 last-joined : (t : Option (List ℕ)) (ss : List (List ℕ)) (s : List ℕ) → lastFrom t (ss ++ (s ∷ [])) ≡ some s
@@ -17,11 +17,11 @@ unfolding lastFrom
 last-joined t [] s = refl
 last-joined t (r ∷ ss) s = last-joined (some r) ss s
 
-kept-of : (tables : List (List ℕ)) (blocks : List ℕ) → unpack blocks ≡ lastOf tables → Kept tables blocks
+kept-of : (tables : List (List ℕ)) (blocks : List ℕ) → unpack blocks ≡ lastOf tables → Represents tables blocks
 unfolding lookUp
 kept-of tables blocks e = record { table = e; lookups = λ mm. ap (found mm) e }
 
-kept-none : Kept [] (zeros (64 * 3))
+kept-none : Represents [] (zeros (64 * 3))
 unfolding lastOf lastFrom zeros
 kept-none = kept-of [] (zeros (64 * 3)) (blank .empty)
 
@@ -29,9 +29,9 @@ pub filling : Filling firstHome 3 judged stored
 unfolding judged stored
 filling blocks strip z = promised strip .room z
 
-growing : Growing firstHome 3 judged stored Accepted answerBy Kept
+growing : Growing firstHome 3 judged stored Accepted answerBy Represents
 unfolding judged stored answerBy lastOf
 growing tables blocks strip k a = (refl, λ z. kept-of (tables ++ (strip ∷ [])) (pack strip) (promised strip .kept z ∙ sym (last-joined none tables strip)))
 
 pub tables-recorded : TablesRecorded
-tables-recorded = events-recorded firstHome 3 judged stored Accepted answerBy Kept (omega arith) filling kept-none growing
+tables-recorded = events-recorded firstHome 3 judged stored Accepted answerBy Represents (omega arith) filling kept-none growing

@@ -34,9 +34,9 @@ unfoldable pub lastOf : List (List ℕ) → Option (List ℕ)
 lastOf tables = lastFrom none tables
 
 -- the homes hold the last table of a list, and every lookup finds it
-pub record Kept (tables : List (List ℕ)) (blocks : List ℕ) : Type 0 where
+pub record Represents (tables : List (List ℕ)) (blocks : List ℕ) : Type 0 where
   pub table : unpack blocks ≡ lastOf tables
   pub lookups : (mm : ℕ) → lookUp blocks mm ≡ found mm (lastOf tables)
 
 abbrev pub TablesRecorded : Type 0
-TablesRecorded = AlwaysRecorded firstHome 3 judged stored Accepted answerBy Kept
+TablesRecorded = AlwaysRecorded firstHome 3 judged stored Accepted answerBy Represents

@@ -296,35 +296,35 @@ module _ {E : Type 0} (home n : ℕ) (judge : List ℕ → E → ℕ) (apply : L
 
   -- ---- by a list of events
 
-  module _ (answer : List E → E → ℕ) (Kept : List E → List ℕ → Type 0) (grows : Growing home n judge apply Fit answer Kept) where
-    kept-after : (es ds : List E) (b : List ℕ) → Kept ds b → AllFit Fit es → JudgedFrom home n judge apply b es
-        → AcceptedFrom answer ds es × Kept (ds ++ es) (heldAfter apply b es)
+  module _ (answer : List E → E → ℕ) (Represents : List E → List ℕ → Type 0) (grows : Growing home n judge apply Fit answer Represents) where
+    kept-after : (es ds : List E) (b : List ℕ) → Represents ds b → AllFit Fit es → JudgedFrom home n judge apply b es
+        → AcceptedFrom answer ds es × Represents (ds ++ es) (heldAfter apply b es)
     unfolding AcceptedFrom heldAfter
-    kept-after [] ds b k f j = (tt, subst (λ (xs : List E). Kept xs b) (sym (append-nil ds)) k)
+    kept-after [] ds b k f j = (tt, subst (λ (xs : List E). Represents xs b) (sym (append-nil ds)) k)
     kept-after (e ∷ es) ds b k f j =
         let g = grows ds b e k (f .0) in
         let r = kept-after es (ds ++ (e ∷ [])) (apply b e) (g .1 (j .0)) (f .1) (j .1) in
-        ((sym (g .0) ∙ j .0, r .0), subst (λ (xs : List E). Kept xs (heldAfter apply (apply b e) es)) (append-assoc ds (e ∷ []) es) (r .1))
+        ((sym (g .0) ∙ j .0, r .0), subst (λ (xs : List E). Represents xs (heldAfter apply (apply b e) es)) (append-assoc ds (e ∷ []) es) (r .1))
 
-    folded-recorded : (w : World) (ns : List (Option E)) → Kept [] blank → Folded home n judge apply Fit w ns
-        → Recorded home n judge apply Fit answer Kept w ns
+    folded-recorded : (w : World) (ns : List (Option E)) → Represents [] blank → Folded home n judge apply Fit w ns
+        → Recorded home n judge apply Fit answer Represents w ns
     folded-recorded w ns base f =
         let whole : noted (take (length ns) ns) ≡ noted ns = ap noted (take-length ns) in
-        let front : (k : ℕ) → AcceptedFrom answer [] (noted (take k ns)) × Kept (noted (take k ns)) (heldAfter apply blank (noted (take k ns))) =
+        let front : (k : ℕ) → AcceptedFrom answer [] (noted (take k ns)) × Represents (noted (take k ns)) (heldAfter apply blank (noted (take k ns))) =
         λ k. kept-after (noted (take k ns)) [] blank base (f .fit k) (f .judged k) in
-        let all : Kept (noted ns) (heldAfter apply blank (noted ns)) =
-        subst (λ (es : List E). Kept es (heldAfter apply blank es)) whole (front (length ns) .1) in
+        let all : Represents (noted ns) (heldAfter apply blank (noted ns)) =
+        subst (λ (es : List E). Represents es (heldAfter apply blank es)) whole (front (length ns) .1) in
         record {
           many = f .many;
           accepted = λ k. front k .0;
-          kept = λ k. subst (Kept (noted (take k ns))) (sym (f .held k)) (front k .1);
-          fetched = λ v blocks ready l z. subst (Kept (noted ns)) (sym (f .fetched v blocks ready l z)) all;
+          kept = λ k. subst (Represents (noted (take k ns))) (sym (f .held k)) (front k .1);
+          fetched = λ v blocks ready l z. subst (Represents (noted ns)) (sym (f .fetched v blocks ready l z)) all;
           partly = λ v from m blocks ready l e z. (heldAfter apply blank (noted ns), all, f .partly v from m blocks ready l e z);
           answers = λ v e batch ready z t.
               answered-is w v e batch z ∙ ap (λ (a : ℕ). first a (transactEnds w v home (apply (readFor home n judge apply w v .block) e) batch .code)) (ap (λ (b : List ℕ). judge b e) (f .read v ready z) ∙ grows (noted ns) (heldAfter apply blank (noted ns)) e all t .0);
         }
 
-  pub events-recorded : (answer : List E → E → ℕ) (Kept : List E → List ℕ → Type 0) → EventsRecorded home n judge apply Fit answer Kept
-  events-recorded answer Kept p sized base grows groups homes d f ss ok s =
-      folded-recorded answer Kept grows (ran home n judge apply (afterFormat f) ss) (notes home n judge apply (afterFormat f) ss) base
+  pub events-recorded : (answer : List E → E → ℕ) (Represents : List E → List ℕ → Type 0) → EventsRecorded home n judge apply Fit answer Represents
+  events-recorded answer Represents p sized base grows groups homes d f ss ok s =
+      folded-recorded answer Represents grows (ran home n judge apply (afterFormat f) ss) (notes home n judge apply (afterFormat f) ss) base
       (events-folded p sized groups homes d f ss ok s)

@@ -38,9 +38,9 @@ module _ {E : Type 0} (answer : List E → E → ℕ) where
       go false q rec = rec ds h
 
   -- what holds of the done events and what is held, and of one event more, holds of all
-  module _ {B : Type 0} (Kept : List E → B → Type 0) (Fit : E → Type 0) (apply : B → E → B)
-      (step : (ds : List E) (b : B) (e : E) → Kept ds b → Fit e → Kept (joined answer ds e) (apply b e)) where
-    pub kept-all : (es ds : List E) (b : B) → ((e : E) → List·Memᴰ e es → Fit e) → Kept ds b → Kept (doneFrom answer ds es) (heldAfter apply b es)
+  module _ {B : Type 0} (Represents : List E → B → Type 0) (Fit : E → Type 0) (apply : B → E → B)
+      (step : (ds : List E) (b : B) (e : E) → Represents ds b → Fit e → Represents (joined answer ds e) (apply b e)) where
+    pub kept-all : (es ds : List E) (b : B) → ((e : E) → List·Memᴰ e es → Fit e) → Represents ds b → Represents (doneFrom answer ds es) (heldAfter apply b es)
     unfolding doneFrom heldAfter
     kept-all [] ds b f k = k
     kept-all (e ∷ es) ds b f k = kept-all es (joined answer ds e) (apply b e) (λ d m. f d (List·Memᴰ·tail m)) (step ds b e k (f e (List·Memᴰ·head refl)))

@@ -144,26 +144,26 @@ module _ {E : Type 0} (home n : ℕ) (judge : List ℕ → E → ℕ) (apply : L
       1 ≤ n → Filling → (groups homes : ℕ) → home + n ≤ homes → (f : Formatting groups homes) (ss : List (Step E)) →
       AllStepsAllowed (afterFormat f) ss → SparedBySteps Fit ss → Folded Fit (ran (afterFormat f) ss) (notes (afterFormat f) ss)
 
-  -- Where the blocks that hold what a list of done events says (`Kept`) answer as the list does and hold, after one more, what the longer list says: for
+  -- Where the blocks that hold what a list of done events says (`Represents`) answer as the list does and hold, after one more, what the longer list says: for
   -- every front of the book's list its events are an accepted list, and the homes hold what it says; a done fetch gives what the whole list says, and
   -- the list answers the next event, before the transaction does.
-  pub record Recorded (Fit : E → Type 0) (answer : List E → E → ℕ) (Kept : List E → List ℕ → Type 0) (w : World) (ns : List (Option E)) : Type 0 where
+  pub record Recorded (Fit : E → Type 0) (answer : List E → E → ℕ) (Represents : List E → List ℕ → Type 0) (w : World) (ns : List (Option E)) : Type 0 where
     pub many : length ns ≡ length (w .book .commits)
     pub accepted : (k : ℕ) → Accepted answer (noted (take k ns))
-    pub kept : (k : ℕ) → Kept (noted (take k ns)) (part (homesAfter (w .homes) (take k (w .book .commits))) (64 * home) (64 * n))
+    pub kept : (k : ℕ) → Represents (noted (take k ns)) (part (homesAfter (w .homes) (take k (w .book .commits))) (64 * home) (64 * n))
     pub fetched :
         (writer : ℕ) (blocks : List ℕ) →
         w .ready ≡ true →
         length blocks ≡ 64 * n →
         fetchEnds w writer home blocks .code ≡ 0 →
-        Kept (noted ns) (fetchEnds w writer home blocks .block)
+        Represents (noted ns) (fetchEnds w writer home blocks .block)
     pub partly :
         (writer from m : ℕ) (blocks : List ℕ) →
         w .ready ≡ true →
         from + m ≤ n →
         length blocks ≡ 64 * m →
         fetchEnds w writer (home + from) blocks .code ≡ 0 →
-        (b : List ℕ) × Kept (noted ns) b × (fetchEnds w writer (home + from) blocks .block ≡ part b (64 * from) (64 * m))
+        (b : List ℕ) × Represents (noted ns) b × (fetchEnds w writer (home + from) blocks .block ≡ part b (64 * from) (64 * m))
     pub answers :
         (writer : ℕ) (e : E) (batch : List ℕ) →
         w .ready ≡ true →
@@ -172,13 +172,13 @@ module _ {E : Type 0} (home n : ℕ) (judge : List ℕ → E → ℕ) (apply : L
         answered w writer e batch ≡ first (answer (noted ns) e) (transactEnds w writer home (apply (readFor w writer .block) e) batch .code)
 
   abbrev pub Growing : (E → Type 0) → (List E → E → ℕ) → (List E → List ℕ → Type 0) → Type 0
-  Growing Fit answer Kept =
-      (ds : List E) (b : List ℕ) (e : E) → Kept ds b → Fit e → (judge b e ≡ answer ds e) × (judge b e ≡ 0 → Kept (ds ++ (e ∷ [])) (apply b e))
+  Growing Fit answer Represents =
+      (ds : List E) (b : List ℕ) (e : E) → Represents ds b → Fit e → (judge b e ≡ answer ds e) × (judge b e ≡ 0 → Represents (ds ++ (e ∷ [])) (apply b e))
 
   abbrev pub AlwaysRecorded : (E → Type 0) → (List E → E → ℕ) → (List E → List ℕ → Type 0) → Type 0
-  AlwaysRecorded Fit answer Kept =
+  AlwaysRecorded Fit answer Represents =
       (groups homes : ℕ) → home + n ≤ homes → (f : Formatting groups homes) (ss : List (Step E)) → AllStepsAllowed (afterFormat f) ss →
-      SparedBySteps Fit ss → Recorded Fit answer Kept (ran (afterFormat f) ss) (notes (afterFormat f) ss)
+      SparedBySteps Fit ss → Recorded Fit answer Represents (ran (afterFormat f) ss) (notes (afterFormat f) ss)
 
   abbrev pub EventsRecorded : (E → Type 0) → (List E → E → ℕ) → (List E → List ℕ → Type 0) → Type 0
-  EventsRecorded Fit answer Kept = 1 ≤ n → Filling → Kept [] (zeros (64 * n)) → Growing Fit answer Kept → AlwaysRecorded Fit answer Kept
+  EventsRecorded Fit answer Represents = 1 ≤ n → Filling → Represents [] (zeros (64 * n)) → Growing Fit answer Represents → AlwaysRecorded Fit answer Represents

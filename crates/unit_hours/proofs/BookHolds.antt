@@ -16,7 +16,7 @@ use Rattle.unit_shared.specs.Moments.{lentIn, Leaves}
 use Rattle.unit_shared.proofs.MomentLaws.{event-stands}
 use Rattle.unit_shared.proofs.MomentShown.{shown-there, kept-there}
 use Rattle.unit_hours_book.specs.Events.{Event, applied}
-use Rattle.unit_hours_book.specs.Promises.{answerBy, heldWith, Kept, Timed}
+use Rattle.unit_hours_book.specs.Promises.{answerBy, heldWith, Represents, Timed}
 use Rattle.unit_hours_book.specs.Stored.{judged}
 use Rattle.unit_hours_book.proofs.StoredHolds.{filling, hours-recorded}
 use Rattle.unit_hours.specs.Calls.{pumpHome, known, judge, eventCall}
@@ -30,7 +30,7 @@ unfolding eventCall known judge judged heldWith
 call-is w pump writer e batch p = rw (le-leb pump 7 p)
 
 module _ (pump : ℕ) (p : pump ≤ 7) (w : World) (ns : List (Option Event)) (ready : w .ready ≡ true)
-    (f : Folded (pumpHome pump) 1 judged heldWith Timed w ns) (r : Recorded (pumpHome pump) 1 judged heldWith Timed answerBy Kept w ns) where
+    (f : Folded (pumpHome pump) 1 judged heldWith Timed w ns) (r : Recorded (pumpHome pump) 1 judged heldWith Timed answerBy Represents w ns) where
   abbrev held : List ℕ
   held = heldAfter heldWith (zeros (64 * 1)) (noted ns)
 
@@ -39,7 +39,7 @@ module _ (pump : ℕ) (p : pump ≤ 7) (w : World) (ns : List (Option Event)) (r
       record {
         block = held;
         claim = λ writer batch. claimed (lentIn w batch) writer pump p (noted ns) held
-            (kept-there (pumpHome pump) 1 judged heldWith Timed w ns f answerBy Kept r) (shown-there (pumpHome pump) 1 judged heldWith Timed w ns f ready writer batch);
+            (kept-there (pumpHome pump) 1 judged heldWith Timed w ns f answerBy Represents r) (shown-there (pumpHome pump) 1 judged heldWith Timed w ns f ready writer batch);
         stands = λ writer e batch. subst (Leaves w (stepped (pumpHome pump) 1 judged heldWith w (offers writer e batch))) (call-is w pump writer e batch p)
             (event-stands (pumpHome pump) 1 judged heldWith w writer e batch .leaves);
       }

@@ -12,17 +12,17 @@ use Rattle.unit_events.specs.Offered.{joined}
 use Rattle.unit_hours_book.specs.Pump.{pumpOf}
 use Rattle.unit_hours_book.specs.Events.{Event, after, settled, applied}
 use Rattle.unit_hours_book.specs.Services.{due}
-use Rattle.unit_hours_book.specs.Promises.{starts, total, answerBy, heldWith, Timed, Kept}
+use Rattle.unit_hours_book.specs.Promises.{starts, total, answerBy, heldWith, Timed, Represents}
 use Rattle.unit_hours_book.proofs.Promised.{grown, kept-none, readable}
 use Rattle.unit_hours.specs.Calls.{pumpHome, known, judge, hoursTold, pumpTells, dueTells, hoursIn, hoursCall, servicesOf, servicesCall}
 use Rattle.unit_hours.specs.Claims.{Recording, Claim, Claimed}
 use Rattle.unit_hours.proofs.CallLaws.{event-known}
 
-answers : (es : List Event) (block : List ℕ) (e : Event) → Kept es block → Timed e → judge e block .code ≡ answerBy es e
+answers : (es : List Event) (block : List ℕ) (e : Event) → Represents es block → Timed e → judge e block .code ≡ answerBy es e
 unfolding judge
 answers es block e k t = grown k e t .code
 
-grows : (es : List Event) (block : List ℕ) (e : Event) → Kept es block → Timed e → judge e block .code ≡ 0 → Kept (es ++ (e ∷ [])) (judge e block .blocks)
+grows : (es : List Event) (block : List ℕ) (e : Event) → Represents es block → Timed e → judge e block .code ≡ 0 → Represents (es ++ (e ∷ [])) (judge e block .blocks)
 unfolding judge joined heldWith
 grows es block e k t z =
     let a : answerBy es e ≡ 0 = sym (answers es block e k t) ∙ z in
@@ -35,7 +35,7 @@ size block e z = rw z (readable .size (after (pumpOf block) e))
 pub recording : Recording
 recording = record { none = kept-none; answers = answers; grows = grows; size = size }
 
-module _ (l : Lent) (writer pump : ℕ) (p : pump ≤ 7) (es : List Event) (block : List ℕ) (k : Kept es block) (s : Shown l writer (pumpHome pump) 1 block) where
+module _ (l : Lent) (writer pump : ℕ) (p : pump ≤ 7) (es : List Event) (block : List ℕ) (k : Represents es block) (s : Shown l writer (pumpHome pump) 1 block) where
   hours-by : fetched l writer (pumpHome pump) 1 .code ≡ 0 → hoursCall l writer pump ≡ hoursTold 0 (starts es) (total es)
   unfolding hoursCall hoursIn known pumpTells
   hours-by z = rw (le-leb pump 7 p, z, s .fetched z, k .says .starts, k .says .total)

@@ -10,15 +10,15 @@ use Rattle.unit_shared.specs.Unit.{Lent, untouched, fetched, revised, transacte
 use Rattle.unit_shared.specs.Shown.{Shown}
 use Rattle.unit_hours_book.specs.Events.{Event}
 use Rattle.unit_hours_book.specs.Services.{due}
-use Rattle.unit_hours_book.specs.Promises.{starts, total, answerBy, Timed, Kept}
+use Rattle.unit_hours_book.specs.Promises.{starts, total, answerBy, Timed, Represents}
 use Rattle.unit_hours.specs.Calls.{pumpHome, judge, eventCall, hoursTold, dueTells, hoursCall, servicesCall}
 
 -- a home of zeros says that there was no event; a block that says what some events do answers the next as they do, and says it too once it is done
 pub record Recording : Type 0 where
-  pub none : Kept [] (zeros 64)
-  pub answers : (es : List Event) (block : List ℕ) (e : Event) → Kept es block → Timed e → judge e block .code ≡ answerBy es e
+  pub none : Represents [] (zeros 64)
+  pub answers : (es : List Event) (block : List ℕ) (e : Event) → Represents es block → Timed e → judge e block .code ≡ answerBy es e
   pub grows :
-      (es : List Event) (block : List ℕ) (e : Event) → Kept es block → Timed e → judge e block .code ≡ 0 → Kept (es ++ (e ∷ [])) (judge e block .blocks)
+      (es : List Event) (block : List ℕ) (e : Event) → Represents es block → Timed e → judge e block .code ≡ 0 → Represents (es ++ (e ∷ [])) (judge e block .blocks)
   pub size : (block : List ℕ) (e : Event) → judge e block .code ≡ 0 → length (judge e block .blocks) ≡ 64
 
 pub record Claim (l : Lent) (writer pump : ℕ) (es : List Event) (block : List ℕ) : Type 0 where
@@ -38,5 +38,5 @@ pub record Claim (l : Lent) (writer pump : ℕ) (es : List Event) (block : List 
 
 abbrev pub Claimed : Type 0
 Claimed =
-    (l : Lent) (writer pump : ℕ) → pump ≤ 7 → (es : List Event) (block : List ℕ) → Kept es block → Shown l writer (pumpHome pump) 1 block →
+    (l : Lent) (writer pump : ℕ) → pump ≤ 7 → (es : List Event) (block : List ℕ) → Represents es block → Shown l writer (pumpHome pump) 1 block →
     Claim l writer pump es block

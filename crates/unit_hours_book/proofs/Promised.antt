@@ -13,7 +13,7 @@ use Rattle.unit_events.proofs.OfferedLaws.{all-done, kept-all}
 use Rattle.unit_hours_book.specs.Pump.{Pump, unused, pumpOf, blockOf, Fits}
 use Rattle.unit_hours_book.specs.Events.{Event, startAt, stopAt, late, totalAt, answer, after, settled, applied}
 use Rattle.unit_hours_book.specs.Services.{due}
-use Rattle.unit_hours_book.specs.Promises.{secondOf, isStart, starts, total, runsFrom, lastSecond, lastFrom, wrongTurn, within, answerBy, heldWith, Says, Kept, Timed, Booked, Grown, Serviced, Readable}
+use Rattle.unit_hours_book.specs.Promises.{secondOf, isStart, starts, total, runsFrom, lastSecond, lastFrom, wrongTurn, within, answerBy, heldWith, Says, Represents, Timed, Booked, Grown, Serviced, Readable}
 use Rattle.unit_hours_book.proofs.BlockLaws.{length-block, read-back, read-zeros, read-fits}
 use Rattle.unit_hours_book.proofs.EventLaws.{start-done, stop-done}
 use Rattle.unit_hours_book.proofs.ListLaws.{starts-join, runs-join, last-join, total-start, total-stop}
@@ -76,13 +76,13 @@ join {ds} {p} h f l (stopAt s) t z =
       below = omega (arith, h .total, h .last, d .1);
     }
 
-pub grown : {ds : List Event} {block : List ℕ} → Kept ds block → (e : Event) → secondOf e < 2 ^ 32 → Grown ds block e
+pub grown : {ds : List Event} {block : List ℕ} → Represents ds block → (e : Event) → secondOf e < 2 ^ 32 → Grown ds block e
 unfolding applied settled heldWith joined
 grown {ds} {block} k e t =
     let s = same-answer (k .says) (k .fits) e in
     record { code = s; kept = rw s (go (eqb (answerBy ds e) 0) refl) }
   where
-    go : (b : Bool) → eqb (answerBy ds e) 0 ≡ b → Kept (cond b (ds ++ (e ∷ [])) ds) (cond b (blockOf (after (pumpOf block) e)) block)
+    go : (b : Bool) → eqb (answerBy ds e) 0 ≡ b → Represents (cond b (ds ++ (e ∷ [])) ds) (cond b (blockOf (after (pumpOf block) e)) block)
     go true q =
         let j = join (k .says) (k .fits) (k .below) e t (same-answer (k .says) (k .fits) e ∙ eqb-true (answerBy ds e) 0 q) in
         let r = read-back (after (pumpOf block) e) (j .fits) in
@@ -91,7 +91,7 @@ grown {ds} {block} k e t =
 
 -- ---- all events
 
-pub kept-none : Kept [] (zeros 64)
+pub kept-none : Represents [] (zeros 64)
 unfolding unused starts total runsFrom lastFrom
 kept-none =
     let s : Says [] unused = record { starts = refl; total = refl; last = refl; running = refl } in
@@ -101,7 +101,7 @@ kept-none =
 pub booked : (es : List Event) → ((e : Event) → List·Memᴰ e es → Timed e) → Booked es
 unfolding applied settled
 booked es t =
-    let k = kept-all answerBy Kept Timed heldWith (λ ds b e k f. grown k e f .kept) es [] (zeros 64) t kept-none in
+    let k = kept-all answerBy Represents Timed heldWith (λ ds b e k f. grown k e f .kept) es [] (zeros 64) t kept-none in
     record { kept = k; answers = λ e. same-answer (k .says) (k .fits) e; accepted = all-done answerBy [] es }
 
 -- ---- services and blocks

@@ -11,7 +11,7 @@ use Rattle.unit_events.specs.Folded.{Filling, Growing}
 use Rattle.unit_events.proofs.FoldedHolds.{events-recorded}
 use Rattle.unit_hours_book.specs.Pump.{Pump, pumpOf, blockOf}
 use Rattle.unit_hours_book.specs.Events.{Event, answer, after, settled, applied}
-use Rattle.unit_hours_book.specs.Promises.{answerBy, heldWith, Kept, Timed}
+use Rattle.unit_hours_book.specs.Promises.{answerBy, heldWith, Represents, Timed}
 use Rattle.unit_hours_book.specs.Stored.{homeOf, judged, HoursRecorded}
 use Rattle.unit_hours_book.proofs.BlockLaws.{length-block}
 use Rattle.unit_hours_book.proofs.Promised.{grown, kept-none}
@@ -24,11 +24,11 @@ joined-done : (ds : List Event) (e : Event) → answerBy ds e ≡ 0 → joined a
 unfolding joined
 joined-done ds e z = rw (eq-eqb (answerBy ds e) 0 z)
 
-growing : (pump : ℕ) → Growing (homeOf pump) 1 judged heldWith Timed answerBy Kept
+growing : (pump : ℕ) → Growing (homeOf pump) 1 judged heldWith Timed answerBy Represents
 unfolding judged
 growing pump ds block e k t =
     let g = grown k e t in
-    (g .code, λ z. subst (λ (es : List Event). Kept es (heldWith block e)) (joined-done ds e (sym (g .code) ∙ z)) (g .kept))
+    (g .code, λ z. subst (λ (es : List Event). Represents es (heldWith block e)) (joined-done ds e (sym (g .code) ∙ z)) (g .kept))
 
 pub hours-recorded : HoursRecorded
-hours-recorded pump = events-recorded (homeOf pump) 1 judged heldWith Timed answerBy Kept (omega arith) (filling pump) kept-none (growing pump)
+hours-recorded pump = events-recorded (homeOf pump) 1 judged heldWith Timed answerBy Represents (omega arith) (filling pump) kept-none (growing pump)

@@ -75,7 +75,7 @@ pub record Says (es : List Event) (p : Pump) : Type 0 where
   pub running : p .running ≡ runs es
 
 -- a block that holds what a list says; its total is never above its last second
-pub record Kept (ds : List Event) (block : List ℕ) : Type 0 where
+pub record Represents (ds : List Event) (block : List ℕ) : Type 0 where
   pub says : Says ds (pumpOf block)
   pub fits : Fits (pumpOf block)
   pub below : total ds ≤ lastSecond ds
@@ -83,7 +83,7 @@ pub record Kept (ds : List Event) (block : List ℕ) : Type 0 where
 -- one event: a block that holds what a list says answers as the list does, and holds what the list says then
 pub record Grown (ds : List Event) (block : List ℕ) (e : Event) : Type 0 where
   pub code : applied block e .code ≡ answerBy ds e
-  pub kept : Kept (joined answerBy ds e) (heldWith block e)
+  pub kept : Represents (joined answerBy ds e) (heldWith block e)
 
 -- a second of 32 bits
 abbrev pub Timed : Event → Type 0
@@ -92,7 +92,7 @@ Timed e = secondOf e < 2 ^ 32
 -- for all events that a pump is offered, done or refused: its home, zeros at first, holds what the done ones say, and every next answer is theirs;
 -- of an accepted list all are done
 pub record Booked (es : List Event) : Type 0 where
-  pub kept : Kept (done answerBy es) (heldAfter heldWith (zeros 64) es)
+  pub kept : Represents (done answerBy es) (heldAfter heldWith (zeros 64) es)
   pub answers : (e : Event) → applied (heldAfter heldWith (zeros 64) es) e .code ≡ answerBy (done answerBy es) e
   pub accepted : Accepted answerBy es → done answerBy es ≡ es
 

@@ -4,7 +4,7 @@ use Prim.Native.Nat.{ℕ, _+_}
 use mathlib.Core.List.{List}
 use Rattle.unit_events.specs.Folded.{AlwaysRecorded}
 use Rattle.unit_hours_book.specs.Events.{Event, applied}
-use Rattle.unit_hours_book.specs.Promises.{answerBy, heldWith, Kept, Timed}
+use Rattle.unit_hours_book.specs.Promises.{answerBy, heldWith, Represents, Timed}
 
 -- pump p's home
 abbrev pub homeOf : ℕ → ℕ
@@ -16,4 +16,4 @@ judged block e = applied block e .code
 
 -- other pumps' events, and all else, are acts of the history that spare this home
 abbrev pub HoursRecorded : Type 0
-HoursRecorded = (pump : ℕ) → AlwaysRecorded (homeOf pump) 1 judged heldWith Timed answerBy Kept
+HoursRecorded = (pump : ℕ) → AlwaysRecorded (homeOf pump) 1 judged heldWith Timed answerBy Represents

@@ -36,10 +36,10 @@ module _ {E : Type 0} (home n : ℕ) (judge : List ℕ → E → ℕ) (apply : L
   first-there ready writer m batch l z = f .partly writer 0 m (zeros (64 * m)) ready (omega arith) (length-zeros (64 * m)) z
 
   -- and they hold what the list says
-  pub kept-there : (answer : List E → E → ℕ) (Kept : List E → List ℕ → Type 0) → Recorded home n judge apply Fit answer Kept w ns → Kept (noted ns) held
-  kept-there answer Kept r =
-      subst (λ (es : List E). Kept es (heldAfter apply (zeros (64 * n)) es)) (ap noted (take-length ns))
-      (subst (Kept (noted (take (length ns) ns))) (f .held (length ns)) (r .kept (length ns)))
+  pub kept-there : (answer : List E → E → ℕ) (Represents : List E → List ℕ → Type 0) → Recorded home n judge apply Fit answer Represents w ns → Represents (noted ns) held
+  kept-there answer Represents r =
+      subst (λ (es : List E). Represents es (heldAfter apply (zeros (64 * n)) es)) (ap noted (take-length ns))
+      (subst (Represents (noted (take (length ns) ns))) (f .held (length ns)) (r .kept (length ns)))
 
 -- an event looks at the new blocks only where it is done
 stored-alike : (l : Lent) (writer home : ℕ) (i j : Judged) → i .code ≡ j .code → (j .code ≡ 0 → i .blocks ≡ j .blocks) → stored l writer home i ≡ stored l writer home j

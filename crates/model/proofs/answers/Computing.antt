@@ -13,10 +13,10 @@ use Rattle.model.specs.Newest.{keptAs, keptFor, keep, nothingKept, keepE
 use Rattle.model.specs.Calls.{refused, done, sizeOf, outcome, formatCall, openCall, beginCall, abortCall, storeCall, commitCall, flushCall, confirmCall, settleCall, trimCall, readCall, reserveCall, beginRoundCall, stepRoundCall}
 use Rattle.model.specs.Crash.{blocks, pieces, write, writeEach, writeIf, writeChosen, many, isFence, fences, persistChosen, persist, groupFate, fatesChosen, fates}
 use Rattle.model.specs.History.{unopened, emptyStore, lent, loaded, ends, feed, isOpening, isConfirm, afterDone, afterRefused, afterCall, rowFates, afterCrash, step, after, changeEnds, serviceEnds, feedChange}
-use Rattle.model.specs.Book.{empty as book-empty, setTask as book-setTask, withTask as book-withTask, begin as book-begin, abort as book-abort, entryOf as book-entryOf, submit as book-submit, grown as book-grown, filledUp as book-filledUp, hold as book-hold, storeTask as book-storeTask, store as book-store, addCommit as book-addCommit, commitTask as book-commitTask, commit as book-commit, flush as book-flush, owedBy as book-owedBy, owedAll as book-owedAll, withCommits as book-withCommits, fateAt as book-fateAt, survives as book-survives, allSurvive as book-allSurvive, run as book-run, settledEntries as book-settledEntries, ended as book-ended, crash as book-crash, writeEntries as book-writeEntries, writeCommits as book-writeCommits, homesAfter as book-homesAfter, newestEntry as book-newestEntry, heldOr as book-heldOr, ownOr as book-ownOr, reads as book-reads}
+use Rattle.model.specs.Book.{empty as book-empty, setTask as book-setTask, withTask as book-withTask, begin as book-begin, abort as book-abort, entryOf as book-entryOf, submit as book-submit, grown as book-grown, filledUp as book-filledUp, hold as book-hold, storeTask as book-storeTask, store as book-store, addCommit as book-addCommit, commitTask as book-commitTask, commit as book-commit, flush as book-flush, owedBy as book-owedBy, owedAll as book-owedAll, withCommits as book-withCommits, fateAt as book-fateAt, survives as book-survives, allSurvive as book-allSurvive, run as book-run, persistedEntries as book-settledEntries, ended as book-ended, crash as book-crash, writeEntries as book-writeEntries, writeCommits as book-writeCommits, homesAfter as book-homesAfter, newestEntry as book-newestEntry, heldOr as book-heldOr, ownOr as book-ownOr, reads as book-reads}
 use Rattle.model.specs.Trials.{room as trial-room, lane, fill, goes, answerOf, answers, fresh, base, tagAt, startOf, nextOf, readOf, lastReadOf, reopened, trial1, trial1High, trial2, trial3, stores, commits, firstLost, trial4, trial5, inTurn, answersThen, fullAndFreed, trial6and7, trial8, trial9, unformatted, trial10, startingAt, trial13, markedWith, headMarks, trials, allMatch, positions}
 use Rattle.model.specs.Witnesses.{usedBefore, usedCopies, formatLeaves, opensWith, formatsSo, alike, allowed, calls, reopen, refusals, seven, alone, wraps, loses, again, history, plain, answered, filledWith, endsSo, goesTo, goesSo, goesAsListed, opensLarger}
-use Rattle.model.specs.Kept.{seenOf, firstCommits, bothCommit, nextGroup, firstTrimmed, openedAgain, listed, lentOther, showsAt, overDamage, wrongLength}
+use Rattle.model.specs.NewestTrue.{seenOf, firstCommits, bothCommit, nextGroup, firstTrimmed, openedAgain, listed, lentOther, showsAt, overDamage, wrongLength}
 use Rattle.model.specs.Guarded.{sixteens, ranges, firstList, nextList, runs, reads as guarded-reads, writes as guarded-writes, seen, reopening, unguarded, beforeList, begun as guarded-begun, guarded, underList, denying, replaced, underNext, trimmed, openedAgain as guarded-again, underFirst, recommitted, withdrawn, ofOthers, tooSmall}
 
 unfoldable pub all-definitions : Bool

@@ -1,8 +1,8 @@
--- What is kept of newest positions in the history of specs/Kept, and what reads show by it, by computation.
+-- What is kept of newest positions in the history of specs/NewestTrue, and what reads show by it, by computation.
 use mathlib.Core.Path.{_≡_, refl}
 use mathlib.Core.Bool.{true}
 use Rattle.model.specs.Trials.{allMatch}
-use Rattle.model.specs.Kept.{moments}
+use Rattle.model.specs.NewestTrue.{moments}
 use Rattle.model.proofs.answers.Computing.{all-definitions}
 
 pub positions-hold : allMatch moments ≡ true

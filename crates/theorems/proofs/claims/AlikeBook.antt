@@ -47,7 +47,7 @@ module _ (hidden : ℕ → Bool) where
 
   entry-of : {b d : Book} {h k : Held} → BookAlike b d → HeldAlike hidden h k → EntryAlike hidden (entryOf b h) (entryOf d k)
   unfolding entryOf
-  entry-of a q = record { home = q .home; kept = rw (a .rows, a .filled); block = q .block }
+  entry-of a q = record { home = q .home; landing = rw (a .rows, a .filled); block = q .block }
 
   submit-alike : {b d : Book} → BookAlike b d → BookAlike (submit b) (submit d)
   unfolding submit

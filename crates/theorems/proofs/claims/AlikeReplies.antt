@@ -93,7 +93,7 @@ module _ (hidden : ℕ → Bool) where
   before-alike : {xs ys : List Entry} (first position : ℕ) → Each (EntryAlike hidden) xs ys → someBefore first position xs ≡ someBefore first position ys
   unfolding someBefore
   before-alike first position both = refl
-  before-alike first position (more k es) = rw (k .kept, before-alike first position es)
+  before-alike first position (more k es) = rw (k .landing, before-alike first position es)
 
   across-alike : {cs ds : List Commit} (first position : ℕ) → Each (CommitAlike hidden) cs ds → anyAcross first position cs ≡ anyAcross first position ds
   unfolding anyAcross across

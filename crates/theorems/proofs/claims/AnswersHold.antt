@@ -6,7 +6,7 @@ use mathlib.Core.Bool.{true, false, not, false≢true}
 use mathlib.Core.List.{List, [], _∷_}
 use Rattle.model.specs.History.{Call, opening, confirm, change, service, Event, call, crash, World, emptyStore, ends, isOpening, step, Allowed, AllAllowed}
 use Rattle.abstract_store.specs.Store.{Store, newStore, replyOf, reply, follow, foundInMemory, AnswersAt, AnswersThroughout, Answers}
-use Rattle.model.specs.Kept.{Kept}
+use Rattle.model.specs.NewestTrue.{NewestTrue}
 use Rattle.theorems.proofs.invariant.Invariant.{Sizes, Closed, Invariant}
 use Rattle.theorems.proofs.steps.FormatRuns.{sizes, after-format}
 use Rattle.theorems.proofs.steps.Beginning.{format-closed}
@@ -15,7 +15,7 @@ use Rattle.theorems.proofs.claims.StoreAnswers.{Agrees, open-answers}
 use Rattle.theorems.proofs.claims.RightsHold.{rights-at}
 use Rattle.theorems.proofs.claims.CallAnswers.{call-answers}
 use Rattle.theorems.proofs.claims.StoreFollows.{follows, empty-agrees}
-use Rattle.theorems.proofs.claims.KeptHolds.{Kept-now, kept-ready, now-keeps, now-begins}
+use Rattle.theorems.proofs.claims.NewestHolds.{NewestNow, kept-ready, now-keeps, now-begins}
 
 module _ (G D : ℕ) (z : Sizes G D) where
   opening-answers : (w : World) → Closed G D w → (s : Store) → Agrees G D w s → (c : Call) → isOpening c ≡ true → replyOf (ends w c) ≡ reply s c
@@ -25,7 +25,7 @@ module _ (G D : ℕ) (z : Sizes G D) where
   opening-answers w k s a (change c) e = absurd (false≢true e)
   opening-answers w k s a (service c) e = absurd (false≢true e)
 
-  answers-at : (w : World) → Invariant G D w → (w .ready ≡ true → Kept w) → (s : Store) → Agrees G D w s → (e : Event) → Allowed w e → AnswersAt w s e
+  answers-at : (w : World) → Invariant G D w → (w .ready ≡ true → NewestTrue w) → (s : Store) → Agrees G D w s → (e : Event) → Allowed w e → AnswersAt w s e
   answers-at w (inl k) p s a (call c) h = opening-answers w k s a c (h ∙ ap not (k .ready))
   answers-at w (inr r) p s a (call c) h = call-answers G D z w r s a c (h ∙ ap not (r .ready)) (rights-at G D z w r s a (p (r .ready)) c)
   answers-at w i p s a (crash passed chosen) h = tt
@@ -33,7 +33,7 @@ module _ (G D : ℕ) (z : Sizes G D) where
   found-now : (w : World) (s : Store) → Agrees G D w s → foundInMemory (s .groups) (s .homes) (w .memory) ≡ s .back
   found-now w s a = rw (a .groups, a .homes) (a .found)
 
-  throughout : (es : List Event) (w : World) (s : Store) → Invariant G D w → Kept-now G D w → Agrees G D w s → AllAllowed w es → AnswersThroughout w s es
+  throughout : (es : List Event) (w : World) (s : Store) → Invariant G D w → NewestNow G D w → Agrees G D w s → AllAllowed w es → AnswersThroughout w s es
   throughout [] w s i p a h = found-now w s a
   throughout (e ∷ es) w s i p a h = (
     found-now w s a,

@@ -13,15 +13,15 @@ use Rattle.theorems.proofs.steps.Beginning.{format-closed}
 use Rattle.theorems.proofs.claims.LiveHolds.{live-holds}
 use Rattle.theorems.proofs.claims.DemandThree.{keeps}
 use Rattle.theorems.proofs.claims.YieldsAll.{Owing, owing-keeps, event-yields, format-owing}
-use Rattle.theorems.proofs.claims.KeptSteps.{Kept-along, along-keeps, along-begins}
-use Rattle.theorems.proofs.claims.KeptShown.{shown-current}
+use Rattle.theorems.proofs.claims.NewestFollows.{NewestAlong, along-keeps, along-begins}
+use Rattle.theorems.proofs.claims.NewestShown.{shown-current}
 
 module _ (G D : ℕ) (z : Sizes G D) where
-  live-ready : (w : World) → Invariant G D w → Kept-along G D w → w .ready ≡ true → Live w
+  live-ready : (w : World) → Invariant G D w → NewestAlong G D w → w .ready ≡ true → Live w
   live-ready w (inl k) a h = absurd (false≢true (sym (k .ready) ∙ h))
   live-ready w (inr r) a h = live-holds G D z w r (shown-current G D z w r (a .2 h))
 
-  live-throughout : (es : List Event) (w : World) → Invariant G D w → Owing w → Kept-along G D w → AllAllowed w es → LiveThroughout w es
+  live-throughout : (es : List Event) (w : World) → Invariant G D w → Owing w → NewestAlong G D w → AllAllowed w es → LiveThroughout w es
   live-throughout [] w i o k a = live-ready w i k
   live-throughout (e ∷ es) w i o k a = (
     live-ready w i k,

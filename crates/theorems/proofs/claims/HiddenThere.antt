@@ -85,7 +85,7 @@ denied-always (e ∷ es) s w m =
 module _ (hidden : ℕ → Bool) where
   entries-self : (es : List Entry) → Each (EntryAlike hidden) es es
   entries-self [] = both
-  entries-self (e ∷ es) = more (record { home = refl; kept = refl; block = λ h. refl }) (entries-self es)
+  entries-self (e ∷ es) = more (record { home = refl; landing = refl; block = λ h. refl }) (entries-self es)
 
   commits-self : (cs : List Commit) → Each (CommitAlike hidden) cs cs
   commits-self [] = both

@@ -9,7 +9,7 @@ use native.Mathlib.Omega.{arith}
 use lib.Dec.{eqb, leb}
 use lib.ListN.{length, replicate}
 use borrow.Author.Tests.{eqb-true, eqb-false, eq-eqb, ne-eqb, le-leb, lt-leb}
-use Rattle.model.specs.Book.{Kept, row, persisted, Entry, Commit, Task, idle, opened, Book, owedBy, owedAll}
+use Rattle.model.specs.Book.{Landing, row, persisted, Entry, Commit, Task, idle, opened, Book, owedBy, owedAll}
 use Rattle.abstract_store.specs.Store.{Store, nextOf, firstGroup}
 use Rattle.abstract_store.specs.Places.{Fate, held, kept, aborted, passed, settleOne, settleAll, Class, live, dead, free, classOf, fateOn, classAt, sameClass, many, liesAt, anyAt, taskAt, commitAt, isHeld, isKept}
 use Rattle.theorems.proofs.invariant.Invariant.{OldEntries, OldCommits}
@@ -129,7 +129,7 @@ pub any-append : (first p : ℕ) (xs ys : List Entry) → anyAt first p (xs ++ y
 unfolding anyAt
 any-append first p [] ys = refl
 any-append first p (e ∷ xs) ys =
-    ap (λ (b : Bool). liesAt first p (e .kept) || b) (any-append first p xs ys) ∙ or-assoc (liesAt first p (e .kept)) (anyAt first p xs) (anyAt first p ys)
+    ap (λ (b : Bool). liesAt first p (e .landing) || b) (any-append first p xs ys) ∙ or-assoc (liesAt first p (e .landing)) (anyAt first p xs) (anyAt first p ys)
 
 pub commits-append : (first p : ℕ) (xs ys : List Commit) → commitAt first p (xs ++ ys) ≡ (commitAt first p xs || commitAt first p ys)
 unfolding commitAt

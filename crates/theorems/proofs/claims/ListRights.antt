@@ -17,7 +17,7 @@ use Rattle.model.specs.Rights.{forHome, shownAt, readList, mayStore, storeRight
 use Rattle.model.specs.Questions.{newestRight}
 use Rattle.model.specs.Book.{homesAfter}
 use Rattle.model.specs.History.{World, lent}
-use Rattle.model.specs.Kept.{Kept}
+use Rattle.model.specs.NewestTrue.{NewestTrue}
 use Rattle.abstract_store.specs.Store.{Store, listOf}
 use Rattle.model_laws.proofs.strip.RightLaws.{shown-by, list-part}
 use Rattle.model_laws.proofs.strip.SignLaws.{store-agrees, store-none}
@@ -49,7 +49,7 @@ pub shown-at : (w : World) (blocks batch : List ℕ) (v h x : ℕ)
 unfolding shown keptPosition shownAt forHome lent
 shown-at w blocks batch v h x = shown-by (lent w [] [] 0 x) (w .newest) blocks batch v (keptFor (w .newest) x)
 
-list-found : (w : World) (blocks batch : List ℕ) (v h : ℕ) → Kept w → listHome + 4 ≤ w .homes
+list-found : (w : World) (blocks batch : List ℕ) (v h : ℕ) → NewestTrue w → listHome + 4 ≤ w .homes
     → readList (lent w blocks batch v h) ≡ part (homesAfter (w .homes) (w .book .commits)) (64 * listHome) 256
 unfolding readList lent
 list-found w blocks batch v h k l =
@@ -65,11 +65,11 @@ store-same sign homes list list′ v x f k = go (decLt homes (listHome + 4))
     go (no l) = ap (λ (ls : List ℕ). storeRight sign homes ls v x) (f (omega arith)) ∙ store-agrees sign list′ (k (omega arith)) homes v x
 
 -- what is lent has the world's number of homes
-pub lent-homes : (w : World) (blocks batch : List ℕ) (v h : ℕ) → Kept w → newestRight (lent w blocks batch v h) ≡ true → homes (lent w blocks batch v h) ≡ w .homes
+pub lent-homes : (w : World) (blocks batch : List ℕ) (v h : ℕ) → NewestTrue w → newestRight (lent w blocks batch v h) ≡ true → homes (lent w blocks batch v h) ≡ w .homes
 unfolding newestRight lent
 lent-homes w blocks batch v h k e = let q = eqb-true (length (w .newest)) _ e in omega (arith, k .size, q)
 
-pub rights-same : (w : World) (s : Store) (blocks batch : List ℕ) (v h x : ℕ) → s .book ≡ w .book → s .homes ≡ w .homes → Kept w
+pub rights-same : (w : World) (s : Store) (blocks batch : List ℕ) (v h x : ℕ) → s .book ≡ w .book → s .homes ≡ w .homes → NewestTrue w
     → newestRight (lent w blocks batch v h) ≡ true
     → storeRight (listSign (w .state)) (homes (lent w blocks batch v h)) (readList (lent w blocks batch v h)) v x ≡ mayStore (s .homes) (listOf s) v x
 unfolding listOf

@@ -16,9 +16,9 @@ use Rattle.model.specs.Effects.{Given, storeEffect, marked}
 use Rattle.model.specs.Questions.{ask, writerKnown, storeAnswer}
 use Rattle.model.specs.Calls.{Outcome, sizeOf, storeCall}
 use mathlib.Core.Option.{Option}
-use Rattle.model.specs.Book.{Kept, row, persisted, Entry, Held, Task, idle, opened, Book}
+use Rattle.model.specs.Book.{Landing, row, persisted, Entry, Held, Task, idle, opened, Book}
 use Rattle.model.specs.Book as book
-use Rattle.model.specs.Demands.{free as mayBe, keptBefore, someBefore, openBefore, anyOpenBefore, anyAcross}
+use Rattle.model.specs.Demands.{free as mayBe, landsBefore, someBefore, openBefore, anyOpenBefore, anyAcross}
 use Rattle.model.specs.History.{Change, begins, reserves, aborts, stores, commits, flushes, Service, settles, trims, Call, opening, confirm, change, service, flush, settle, trim, Event, call, crash, World, unopened, emptyStore, lent, ends, changeEnds, feed, feedChange, isOpening, afterDone, afterCall, afterCrash, step, Allowed, AllAllowed}
 use Rattle.abstract_store.specs.Store.{Store, newStore, firstGroup, nextGroup, nextOf, placesLeft, promisedTo, mayFlush, isIdle, manyHomes, toSettle, mayStart, nextStart, Reply, told, askBatch, replyChange, replyService, reply, replyOf, numbered, inRound, fencedAfter, trimmedTo, afterService, afterReply, follow}
 use Rattle.abstract_store.specs.Store as store
@@ -83,8 +83,8 @@ used-is : (s : Store) (fs : List Fate) → Led (firstGroup s) (s .book) fs → n
 unfolding nextOf nextGroup
 used-is s fs l = l .used
 
-kept-at : (first q p : ℕ) (k : Kept) → keptBefore first q k ≡ false → liesAt first p k ≡ true → q ≤ p
-unfolding keptBefore liesAt
+kept-at : (first q p : ℕ) (k : Landing) → landsBefore first q k ≡ false → liesAt first p k ≡ true → q ≤ p
+unfolding landsBefore liesAt
 kept-at first q p (row number index) b e =
     let m : q ≤ 7 * (first + number) + index = ltb-false (7 * (first + number) + index) q b in
     omega (arith, eqb-true (7 * (first + number) + index) p e)
@@ -94,12 +94,12 @@ kept-at first q p persisted b e = absurd (false≢true e)
 some-at : (first q p : ℕ) (es : List Entry) → someBefore first q es ≡ false → anyAt first p es ≡ true → q ≤ p
 unfolding someBefore anyAt
 some-at first q p [] b e = absurd (false≢true e)
-some-at first q p (x ∷ es) b e = go (keptBefore first q (x .kept)) refl b (liesAt first p (x .kept)) refl e (some-at first q p es)
+some-at first q p (x ∷ es) b e = go (landsBefore first q (x .landing)) refl b (liesAt first p (x .landing)) refl e (some-at first q p es)
   where
-    go : (d : Bool) → keptBefore first q (x .kept) ≡ d → (d || someBefore first q es) ≡ false → (f : Bool) → liesAt first p (x .kept) ≡ f
+    go : (d : Bool) → landsBefore first q (x .landing) ≡ d → (d || someBefore first q es) ≡ false → (f : Bool) → liesAt first p (x .landing) ≡ f
         → (f || anyAt first p es) ≡ true → (someBefore first q es ≡ false → anyAt first p es ≡ true → q ≤ p) → q ≤ p
     go true i b f j e ih = absurd (false≢true (sym b))
-    go false i b true j e ih = kept-at first q p (x .kept) i j
+    go false i b true j e ih = kept-at first q p (x .landing) i j
     go false i b false j e ih = ih b e
 
 before-at : (first q p : ℕ) (t : Task) → openBefore first q t ≡ false → taskAt first p t ≡ true → q ≤ p

@@ -7,13 +7,13 @@ use lib.Dec.{eqb}
 use native.Mathlib.Omega.{arith}
 use borrow.Author.Tests.{ne-eqb}
 use Rattle.model.specs.Demands.{Live, LiveThroughout}
-use Rattle.model.specs.Kept.{Kept, KeptThroughout}
+use Rattle.model.specs.NewestTrue.{NewestTrue, NewestThroughout}
 use Rattle.model.specs.History.{Call, Event, call, crash, World, unopened, Formatting, afterFormat, ends, feed, isOpening, afterCall, afterDone, afterRefused, afterCrash, step, after, Allowed, AllAllowed}
 use Rattle.abstract_store.specs.Store.{Store, newStore, Reply, afterReply, reply, replyOf, follow, AnswersAt, AnswersThroughout}
 use Rattle.abstract_store.specs.Store as store
 use Rattle.theorems.proofs.steps.Footprint.{steady}
 use Rattle.model.specs.Book.{Book}
-use Rattle.theorems.proofs.claims.KeptHolds.{newest-kept}
+use Rattle.theorems.proofs.claims.NewestHolds.{newest-kept}
 use Rattle.theorems.proofs.claims.AnswersHold.{answers-hold}
 use Rattle.theorems.proofs.claims.DemandTwo.{demand2}
 
@@ -83,7 +83,7 @@ unfolding after followed
 last-answers [] e w s h = h .1
 last-answers (d ∷ es) e w s h = last-answers es e (step w d) (follow s w d) (h .2)
 
-last-kept : (es : List Event) (w : World) → KeptThroughout w es → after w es .ready ≡ true → Kept (after w es)
+last-kept : (es : List Event) (w : World) → NewestThroughout w es → after w es .ready ≡ true → NewestTrue (after w es)
 unfolding after
 last-kept [] w h = h
 last-kept (e ∷ es) w h = last-kept es (step w e) (h .1)
@@ -106,9 +106,9 @@ pub call-code : (w : World) (s : Store) (c : Call) → Reached w s → isOpening
 unfolding replyOf
 call-code w s c r a = ap (λ (x : Reply). x .code) (call-answers w s c r a)
 
-pub kept-then : (w : World) (s : Store) → Reached w s → w .ready ≡ true → Kept w
+pub kept-then : (w : World) (s : Store) → Reached w s → w .ready ≡ true → NewestTrue w
 kept-then w s r =
-    subst (λ (v : World). v .ready ≡ true → Kept v) (r .world)
+    subst (λ (v : World). v .ready ≡ true → NewestTrue v) (r .world)
     (last-kept (r .events) (afterFormat (r .format)) (newest-kept (r .groups) (r .homes) (r .format) (r .events) (r .allowed)))
 
 pub live-then : (w : World) (s : Store) → Reached w s → w .ready ≡ true → Live w

@@ -13,7 +13,7 @@ use Rattle.model.specs.Questions.{storeAllowed, readAllowed}
 use Rattle.model.specs.Book.{Book, homesAfter}
 use Rattle.model.specs.History.{Change, begins, reserves, aborts, stores, commits, flushes, Service, settles, roundBegins, roundSteps, trims, reads, Call, opening, confirm, change, service, World, lent}
 use Rattle.abstract_store.specs.Store.{Store, listOf}
-use Rattle.model.specs.Kept.{Kept}
+use Rattle.model.specs.NewestTrue.{NewestTrue}
 use Rattle.model_laws.proofs.strip.RightLaws.{shown-by, list-by, list-part}
 use Rattle.model_laws.proofs.strip.SignLaws.{store-agrees, read-agrees, store-none, read-none}
 use Rattle.theorems.proofs.invariant.Invariant.{Sizes, Running}
@@ -42,7 +42,7 @@ RightsAt w s confirm = Unit {0}
 RightsAt w s (change c) = ChangeRights w s c
 RightsAt w s (service c) = ServiceRights w s c
 
-module _ (G D : ℕ) (z : Sizes G D) (w : World) (r : Running G D w) (s : Store) (a : Agrees G D w s) (k : Kept w) (block batch : List ℕ) (v h : ℕ) where
+module _ (G D : ℕ) (z : Sizes G D) (w : World) (r : Running G D w) (s : Store) (a : Agrees G D w s) (k : NewestTrue w) (block batch : List ℕ) (v h : ℕ) where
   abbrev g : Given
   g = lent w block batch v h
 
@@ -103,7 +103,7 @@ module _ (G D : ℕ) (z : Sizes G D) (w : World) (r : Running G D w) (s : Store)
           let m : listHome + 4 ≤ D = omega (arith, l, a .homes) in
           rw (read-list m) (read-agrees (listSign (w .state)) (listOf s) (sign-right m) (s .homes) v h)
 
-module _ (G D : ℕ) (z : Sizes G D) (w : World) (r : Running G D w) (s : Store) (a : Agrees G D w s) (k : Kept w) where
+module _ (G D : ℕ) (z : Sizes G D) (w : World) (r : Running G D w) (s : Store) (a : Agrees G D w s) (k : NewestTrue w) where
   change-rights : (c : Change) → ChangeRights w s c
   change-rights (begins v) = tt
   change-rights (reserves v n) = tt

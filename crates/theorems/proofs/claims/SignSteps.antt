@@ -30,8 +30,8 @@ use Rattle.theorems.proofs.claims.StoreAnswers.{Agrees}
 use Rattle.theorems.proofs.claims.YieldsAll.{step-by}
 use Rattle.theorems.proofs.steps.Rows.{rowOf, row-state}
 use Rattle.theorems.proofs.steps.Footprint.{lists, committed, Touch, lists-open, lists-commit, lists-trim, committed-open, committed-confirm, committed-commit, Spares, frame, logged-listed, abort-leaves}
-use Rattle.theorems.proofs.claims.KeptSteps.{Placed, Kept-along, idle-commits, ready, known, ended, held-effect, held-mode, held-roomy, placed-then}
-use Rattle.theorems.proofs.claims.KeptShown.{list-shown, same-list}
+use Rattle.theorems.proofs.claims.NewestFollows.{Placed, NewestAlong, idle-commits, ready, known, ended, held-effect, held-mode, held-roomy, placed-then}
+use Rattle.theorems.proofs.claims.NewestShown.{list-shown, same-list}
 use Rattle.theorems.proofs.claims.ListedSteps.{Listed}
 use Rattle.abstract_store.specs.Store.{Store}
 
@@ -215,7 +215,7 @@ module _ (G D : ℕ) (z : Sizes G D) where
   opening-signed w i (change c) e f = absurd (false≢true e)
   opening-signed w i (service c) e f = absurd (false≢true e)
 
-  pub signed-keeps : (w : World) → Invariant G D w → Kept-along G D w → (w .ready ≡ true → Listed D (w .state) (w .newest)) → (w .ready ≡ true → Signed D w)
+  pub signed-keeps : (w : World) → Invariant G D w → NewestAlong G D w → (w .ready ≡ true → Listed D (w .state) (w .newest)) → (w .ready ≡ true → Signed D w)
       → (e : Event) → Allowed w e → (step w e .ready ≡ true → Signed D (step w e))
   signed-keeps w (inl c) k l p (call c₀) h =
       step-by (λ u. u .ready ≡ true → Signed D u) w c₀ p (λ e q. opening-signed w c c₀ (h ∙ ap not (c .ready)) e)

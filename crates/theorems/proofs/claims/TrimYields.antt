@@ -17,8 +17,8 @@ use Rattle.model.specs.declared.Writer.{Writer}
 use Rattle.model.specs.Effects.{Given, Effect, groups, homes, newState, trimStart, trimTo, trimEffect}
 use Rattle.model.specs.Questions.{trimAnswer, startFits}
 use Rattle.model.specs.Calls.{Outcome, outcome, done, sizeOf, trimCall}
-use Rattle.model.specs.Book.{Kept, row, persisted, Entry, Commit, Task, idle, opened}
-use Rattle.model.specs.Demands.{firstGroup, keptBefore, someBefore, across, anyAcross, openBefore, anyOpenBefore, free, Trimmed}
+use Rattle.model.specs.Book.{Landing, row, persisted, Entry, Commit, Task, idle, opened}
+use Rattle.model.specs.Demands.{firstGroup, landsBefore, someBefore, across, anyAcross, openBefore, anyOpenBefore, free, Trimmed}
 use Rattle.model.specs.History.{Call, trim, World, lent, ends, serviceEnds}
 use Rattle.model_laws.proofs.strip.StateLaws.{withStart, withFenced, withLast, state-setStart, length-setStart, state-setFenced, length-setFenced, state-setLast}
 use Rattle.model_laws.proofs.strip.ListedLaws.{state-carry}
@@ -35,7 +35,7 @@ use Rattle.theorems.proofs.invariant.Invariant.{Sizes, entryFor, entrie
 before-append : (b q : ℕ) (xs ys : List Entry) → someBefore b q (xs ++ ys) ≡ (someBefore b q xs || someBefore b q ys)
 unfolding someBefore
 before-append b q [] ys = refl
-before-append b q (e ∷ xs) ys = go (keptBefore b q (e .kept)) (before-append b q xs ys)
+before-append b q (e ∷ xs) ys = go (landsBefore b q (e .landing)) (before-append b q xs ys)
   where
     go : (d : Bool) → someBefore b q (xs ++ ys) ≡ (someBefore b q xs || someBefore b q ys)
         → (d || someBefore b q (xs ++ ys)) ≡ ((d || someBefore b q xs) || someBefore b q ys)
@@ -44,7 +44,7 @@ before-append b q (e ∷ xs) ys = go (keptBefore b q (e .kept)) (before-append b
 
 before-cons : (b q : ℕ) (tr : List Ev) (p : ℕ) (ps : List ℕ) → 7 * b ≤ p
     → someBefore b q (entriesFor b tr (p ∷ ps)) ≡ (someBefore b q (entriesFor b tr ps) || ltb p q)
-unfolding entriesFor entryFor someBefore keptBefore
+unfolding entriesFor entryFor someBefore landsBefore
 before-cons b q tr p ps l =
     let e : 7 * (b + (p / 7 - b)) + p % 7 ≡ p = omega arith in
     before-append b q (entriesFor b tr ps) (entryFor b tr p ∷ []) ∙ rw (e, or-false (ltb p q))

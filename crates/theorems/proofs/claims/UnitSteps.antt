@@ -15,7 +15,7 @@ use Rattle.model.specs.Effects.{Given, storeEffect}
 use Rattle.model.specs.Questions.{storeAnswer}
 use Rattle.model.specs.Calls.{sizeOf, storeCall}
 use Rattle.acts.specs.Chains.{blocksLent, transactEffect, transactAnswer, transactCall}
-use Rattle.model.specs.Book.{Entry, Commit, Held, Task, idle, opened, Book, setTask, withTask, entryOf, submit, filledUp, hold, storeTask, addCommit, commitTask, owedBy, owedAll, withCommits, allSurvive, run, settledEntries, ended, empty}
+use Rattle.model.specs.Book.{Entry, Commit, Held, Task, idle, opened, Book, setTask, withTask, entryOf, submit, filledUp, hold, storeTask, addCommit, commitTask, owedBy, owedAll, withCommits, allSurvive, run, persistedEntries, ended, empty}
 use Rattle.model.specs.Book as book
 use Rattle.model.specs.Demands.{heldEntries}
 use Rattle.model.specs.History.{Change, begins, reserves, aborts, stores, commits, flushes, Call, opening, confirm, change, service, Event, call, crash, World, lent, ends, changeEnds, feed, feedChange, afterDone, afterRefused, afterCall, afterCrash, rowFates, step}
@@ -43,8 +43,8 @@ fit-owed-all home n [] (l ∷ ls) f = absurd f
 fit-owed-all home n (c ∷ cs) [] f = absurd f
 fit-owed-all home n (c ∷ cs) (l ∷ ls) f = (f .0, fit-owed-all home n cs ls (f .1))
 
-held-settled : (es : List Entry) → heldEntries (settledEntries es) ≡ heldEntries es
-unfolding heldEntries settledEntries
+held-settled : (es : List Entry) → heldEntries (persistedEntries es) ≡ heldEntries es
+unfolding heldEntries persistedEntries
 held-settled [] = refl
 held-settled (e ∷ es) = ap {B = List Held} (λ r. record { home = e .home; block = e .block } ∷ r) (held-settled es)
 

@@ -12,7 +12,7 @@ use Rattle.model.specs.Layout.{header}
 use Rattle.model.specs.Calls.{formatCall}
 use Rattle.model.specs.Crash.{fences}
 use Rattle.model.specs.Demands.{AllHold, LiveThroughout}
-use Rattle.model.specs.Kept.{KeptThroughout}
+use Rattle.model.specs.NewestTrue.{NewestThroughout}
 use Rattle.model.specs.History.{Call, Event, call, crash, World, Formatting, afterFormat, emptyStore, ends, isOpening, afterCall, step, Allowed, AllAllowed}
 use Rattle.model.specs.Trials.{answerOf}
 use Rattle.model.specs.Witnesses.{usedBefore, usedCopies, alike, allowed, history, answered, goesTo, goesSo, goesAsListed}
@@ -24,7 +24,7 @@ use Rattle.model.proofs.answers.Computing.{all-definitions}
 use Rattle.model.proofs.answers.HistoryHolds.{goes-as-listed}
 use Rattle.theorems.proofs.claims.DemandThree.{demand3}
 use Rattle.theorems.proofs.claims.DemandTwo.{demand2}
-use Rattle.theorems.proofs.claims.KeptHolds.{newest-kept}
+use Rattle.theorems.proofs.claims.NewestHolds.{newest-kept}
 
 -- the test for the premises is right
 alike-true : (a b : Bool) → alike a b ≡ true → a ≡ b
@@ -82,7 +82,7 @@ met = rw (after-format format) (goes-allowed (emptyStore 4 8) history answered _
 pub all-hold-there : AllHold (afterFormat format) history
 all-hold-there = demand3 4 8 format history met
 
-pub kept-there : KeptThroughout (afterFormat format) history
+pub kept-there : NewestThroughout (afterFormat format) history
 kept-there = newest-kept 4 8 format history met
 
 pub live-there : LiveThroughout (afterFormat format) history

@@ -17,7 +17,7 @@ use Rattle.model.specs.Questions.{confirmAnswer, settleAnswer, beginRoundAnswer
 use Rattle.model.specs.Calls.{Outcome, outcome, done, sizeOf, confirmCall, settleCall, beginRoundCall, stepRoundCall}
 use Rattle.model.specs.Crash.{isFence, fences}
 use Rattle.model.specs.Book.{row, Entry, Commit, homesAfter, owedBy}
-use Rattle.model.specs.Demands.{closedBelow, groupWrites, fencedRows, rowsFenced, keptBelow, allBelow, owedRows, SettledHomes}
+use Rattle.model.specs.Demands.{closedBelow, groupWrites, fencedRows, rowsFenced, landsBelow, allBelow, owedRows, SettledHomes}
 use Rattle.model.specs.History.{confirm, settle, World, lent, ends, serviceEnds, beginRound, stepRound}
 use Rattle.model_laws.proofs.bytes.LayoutLaws.{groups-in}
 use Rattle.model_laws.proofs.strip.OrderLaws.{order-in}
@@ -66,7 +66,7 @@ fenced-rows (r ∷ R) S f =
 below-append : (n : ℕ) (xs ys : List Entry) → allBelow n (xs ++ ys) ≡ (allBelow n xs && allBelow n ys)
 unfolding allBelow
 below-append n [] ys = refl
-below-append n (e ∷ xs) ys = go (keptBelow n (e .kept)) (below-append n xs ys)
+below-append n (e ∷ xs) ys = go (landsBelow n (e .landing)) (below-append n xs ys)
   where
     go : (d : Bool) → allBelow n (xs ++ ys) ≡ (allBelow n xs && allBelow n ys)
         → (d && allBelow n (xs ++ ys)) ≡ ((d && allBelow n xs) && allBelow n ys)
@@ -83,7 +83,7 @@ row-below b group p l = go (decLt p (7 * group))
 
 below-cons : (b group : ℕ) (tr : List Ev) (p : ℕ) (ps : List ℕ) → 7 * b ≤ p
     → allBelow (group - b) (entriesFor b tr (p ∷ ps)) ≡ (allBelow (group - b) (entriesFor b tr ps) && ltb p (7 * group))
-unfolding entriesFor entryFor allBelow keptBelow
+unfolding entriesFor entryFor allBelow landsBelow
 below-cons b group tr p ps l =
     below-append (group - b) (entriesFor b tr ps) (entryFor b tr p ∷ [])
     ∙ rw (and-true (ltb (p / 7 - b) (group - b)), row-below b group p l)

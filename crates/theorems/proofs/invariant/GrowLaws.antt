@@ -227,7 +227,7 @@ entries-older b e tr (p ∷ ps) h = rw (entries-older b e tr ps (h .1), entry-ol
 -- a transaction whose newest entry is the new event
 pub entries-here : (b : ℕ) (e : Ev) (tr : List Ev) (ps : List ℕ) → All (λ p. p < 7 * b + length tr) ps
     → entriesFor b (e ∷ tr) ((7 * b + length tr) ∷ ps)
-    ≡ entriesFor b tr ps ++ (record { home = e .home; block = e .block; kept = row ((7 * b + length tr) / 7 - b) ((7 * b + length tr) % 7) } ∷ [])
+    ≡ entriesFor b tr ps ++ (record { home = e .home; block = e .block; landing = row ((7 * b + length tr) / 7 - b) ((7 * b + length tr) % 7) } ∷ [])
 unfolding entriesFor entryFor
 entries-here b e tr ps h = rw (entries-older b e tr ps h, homeOn-here (7 * b) e tr, blockOn-here (7 * b) e tr)
 
@@ -283,7 +283,7 @@ module _ (D b : ℕ) (e : Ev) (tr : List Ev) (old cs : List Commit) where
 pub survive-append : (fs : List (ℕ → Bool)) (xs ys : List Entry) → allSurvive fs (xs ++ ys) ≡ (allSurvive fs xs && allSurvive fs ys)
 unfolding allSurvive
 survive-append fs [] ys = refl
-survive-append fs (x ∷ xs) ys = go (survives fs (x .kept)) (survive-append fs xs ys)
+survive-append fs (x ∷ xs) ys = go (survives fs (x .landing)) (survive-append fs xs ys)
   where
     go : (t : Bool) → allSurvive fs (xs ++ ys) ≡ (allSurvive fs xs && allSurvive fs ys)
         → (t && allSurvive fs (xs ++ ys)) ≡ ((t && allSurvive fs xs) && allSurvive fs ys)

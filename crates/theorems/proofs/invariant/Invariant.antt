@@ -18,7 +18,7 @@ use Rattle.model.specs.declared.State.{State}
 use Rattle.model.specs.declared.Writer.{Writer}
 use Rattle.model.specs.Effects.{replayed, homeWrites}
 use Rattle.model.specs.Crash.{Memory, fences, persist, fates}
-use Rattle.model.specs.Book.{Kept, row, persisted, Entry, Commit, Held, Task, idle, opened, Book, fateAt, run, homesAfter}
+use Rattle.model.specs.Book.{Landing, row, persisted, Entry, Commit, Held, Task, idle, opened, Book, fateAt, run, homesAfter}
 use Rattle.model.specs.Demands.{closedBelow, SettledHomes, groupWrites}
 use Rattle.model.specs.History.{World}
 use Rattle.model.specs.declared.Tag.{Tag}
@@ -105,7 +105,7 @@ FoundBelow log G bound =
 
 -- the book's entry for a position, and a transaction's, oldest first
 unfoldable pub entryFor : ℕ → List Ev → ℕ → Entry
-entryFor b tr p = record { home = homeOn (7 * b) tr p; block = blockOn (7 * b) tr p; kept = row (p / 7 - b) (p % 7) }
+entryFor b tr p = record { home = homeOn (7 * b) tr p; block = blockOn (7 * b) tr p; landing = row (p / 7 - b) (p % 7) }
 
 unfoldable pub entriesFor : ℕ → List Ev → List ℕ → List Entry
 entriesFor b tr [] = []
@@ -120,7 +120,7 @@ Matches b tr (c ∷ cs) (t ∷ ts) = (c .entries ≡ entriesFor b tr t) × (c .t
 -- commits of earlier eras: all entries persisted, tickets ended, homes and blocks in range
 abbrev pub OldEntries : ℕ → List Entry → Type 0
 OldEntries D [] = Unit {0}
-OldEntries D (e ∷ es) = (e .kept ≡ persisted) × (e .home < D) × (length (e .block) ≡ 64) × OldEntries D es
+OldEntries D (e ∷ es) = (e .landing ≡ persisted) × (e .home < D) × (length (e .block) ≡ 64) × OldEntries D es
 
 abbrev pub OldCommits : ℕ → List Commit → Type 0
 OldCommits D [] = Unit {0}

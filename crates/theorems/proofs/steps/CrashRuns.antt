@@ -12,7 +12,7 @@ use lib.Seq.{drop-length}
 use Rattle.model.specs.Batch.{Record, FN}
 use Rattle.model.specs.State.{stateOf}
 use Rattle.model.specs.Crash.{Memory, fences, persist, persistChosen, fates, fatesChosen}
-use Rattle.model.specs.Book.{Kept, persisted, Entry, Commit, Book, fateAt, survives, allSurvive, run, settledEntries, ended, homesAfter, writeEntries, writeCommits}
+use Rattle.model.specs.Book.{Landing, persisted, Entry, Commit, Book, fateAt, survives, allSurvive, run, persistedEntries, ended, homesAfter, writeEntries, writeCommits}
 use Rattle.model.specs.Book as book
 use Rattle.model.specs.Demands.{groupWrites, lost, NoneOwed, Crashed}
 use Rattle.model.specs.History.{World, rowFates, afterCrash}
@@ -30,22 +30,22 @@ use Rattle.theorems.proofs.steps.FenceRuns.{lasting-groups, now-of, inO
 use Rattle.theorems.proofs.invariant.Invariant.{Sizes, Sound, OldEntries, OldCommits, OwedBelow, Matches, landedIn, entriesFor, Commits, Copies, Submitted, Confirmed, Running, Closed, Opens, Early, Late, ImageOk}
 
 -- commits of the run, once it is over
-ended-entries : (es : List Entry) (A : List ℕ) → writeEntries (settledEntries es) A ≡ writeEntries es A
-unfolding settledEntries writeEntries
+ended-entries : (es : List Entry) (A : List ℕ) → writeEntries (persistedEntries es) A ≡ writeEntries es A
+unfolding persistedEntries writeEntries
 ended-entries [] A = refl
 ended-entries (e ∷ es) A = ended-entries es _
 
 ended-writes : (cs : List Commit) (A : List ℕ) → writeCommits (ended cs) A ≡ writeCommits cs A
 unfolding ended writeCommits
 ended-writes [] A = refl
-ended-writes (c ∷ cs) A = ended-writes cs (writeEntries (settledEntries (c .entries)) A) ∙ ap (writeCommits cs) (ended-entries (c .entries) A)
+ended-writes (c ∷ cs) A = ended-writes cs (writeEntries (persistedEntries (c .entries)) A) ∙ ap (writeCommits cs) (ended-entries (c .entries) A)
 
 pub ended-homes : (D : ℕ) (cs : List Commit) → homesAfter D (ended cs) ≡ homesAfter D cs
 unfolding homesAfter
 ended-homes D cs = ended-writes cs _
 
-old-entries : (D : ℕ) (es : List Entry) → All (EntryFits D) es → OldEntries D (settledEntries es)
-unfolding settledEntries
+old-entries : (D : ℕ) (es : List Entry) → All (EntryFits D) es → OldEntries D (persistedEntries es)
+unfolding persistedEntries
 old-entries D [] f = tt
 old-entries D (e ∷ es) f = (refl, f .0 .0, f .0 .1, old-entries D es (f .1))
 
@@ -258,8 +258,8 @@ module _ (G D : ℕ) (z : Sizes G D) (w : World) (r : Running G D w) (passed : �
 
 -- a crash before an opening is done leaves memory as it is, and loses no commit
 
-again-entries : (D : ℕ) (es : List Entry) → OldEntries D es → OldEntries D (settledEntries es)
-unfolding settledEntries
+again-entries : (D : ℕ) (es : List Entry) → OldEntries D es → OldEntries D (persistedEntries es)
+unfolding persistedEntries
 again-entries D [] o = tt
 again-entries D (e ∷ es) o = (refl, o .1, o .2, again-entries D es (o .3))
 

@@ -13,7 +13,7 @@ use Rattle.model.specs.State.{stateOf, nextPosition, writerOf, heldOf, hasLogge
 use Rattle.model.specs.declared.State.{State}
 use Rattle.model.specs.declared.Writer.{Writer}
 use Rattle.model.specs.Effects.{linkFrom}
-use Rattle.model.specs.Book.{Kept, row, Entry, Commit, Held, Task, opened, idle, Book, entryOf, submit, grown, filledUp}
+use Rattle.model.specs.Book.{Landing, row, Entry, Commit, Held, Task, opened, idle, Book, entryOf, submit, grown, filledUp}
 use Rattle.model.specs.History.{World}
 use Rattle.model_laws.proofs.bytes.ByteLaws.{length-part}
 use Rattle.model_laws.proofs.strip.OrderLaws.{InOrder, WriterInOrder}

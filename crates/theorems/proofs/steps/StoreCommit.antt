@@ -18,7 +18,7 @@ use Rattle.model.specs.Rights.{keepList}
 use Rattle.model.specs.Effects.{Given, Effect, homes, Logged, entered, logged, logHeld, storeOther, linkFrom, logClosing, commitHeld}
 use Rattle.model.specs.Batch.{Record, GW, FN}
 use Rattle.model.specs.Crash.{Memory}
-use Rattle.model.specs.Book.{Kept, row, Entry, Commit, Held, Task, opened, Book, fateAt, homesAfter, entryOf, filledUp, withTask, addCommit}
+use Rattle.model.specs.Book.{Landing, row, Entry, Commit, Held, Task, opened, Book, fateAt, homesAfter, entryOf, filledUp, withTask, addCommit}
 use Rattle.model.specs.Book as book
 use Rattle.model.specs.Demands.{closedBelow}
 use Rattle.model.specs.History.{Call, World, lent, feed, isConfirm, store, commit, feedChange}

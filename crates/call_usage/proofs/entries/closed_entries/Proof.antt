@@ -5,7 +5,7 @@ use Prim.Native.Nat.{_+_, _-_, _*_, _^_, _≤_, _<_}
 use native.Mathlib.Omega.{arith}
 use lib.ListN.{length-take, length-drop}
 use Rattle.model.specs.Layout.{entryAt}
-use Rattle.log_scan.specs.Slots.{Kept}
+use Rattle.log_scan.specs.Slots.{SlotOf}
 use Rattle.log_scan.proofs.PassLaws.{log-turn}
 use Rattle.call_usage.specs.Sums.{addCount, summed}
 use Rattle.call_usage.proofs.SumLaws.{summed-none}
@@ -16,7 +16,7 @@ abbrev Inv-loop : tie.InvT-loop
 Inv-loop log groups homes start end base sum₀ left₀ number₀ at₀ sum left number at =
     (sum ≡ summed (entryAt log groups homes start) (7 * start) (end - 7 * start - left) 0)
     × (left ≤ end - 7 * start)
-    × Kept groups number at
+    × SlotOf groups number at
     × (0 < left → 7 * start + (end - 7 * start - left) ≡ 7 * number)
     × (sum ≤ 2 ^ 13 * (end - 7 * start - left))
 

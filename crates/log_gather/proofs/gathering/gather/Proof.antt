@@ -6,7 +6,7 @@ use native.Mathlib.Omega.{arith}
 use lib.ListN.{length, length-take, length-drop}
 use Rattle.model.specs.Layout.{entryAt}
 use Rattle.log_scan.specs.Scan.{over}
-use Rattle.log_scan.specs.Slots.{Kept}
+use Rattle.log_scan.specs.Slots.{SlotOf}
 use Rattle.log_scan.proofs.PassLaws.{log-turn}
 use Rattle.log_gather.specs.Chains.{Chains, fresh, note}
 use Rattle.log_gather.proofs.ChainLaws.{empty-words, empty-each, chained-none, chained-all, none-over}
@@ -20,7 +20,7 @@ Inv-loop log last₀ heads₀ links₀ groups homes start end base left₀ numbe
     (over (note (7 * start)) (entryAt log groups homes start) (7 * start) (end - 7 * start - left) (fresh (length last₀)))
     )
     × (left ≤ end - 7 * start)
-    × Kept groups number at
+    × SlotOf groups number at
     × (0 < left → 7 * start + (end - 7 * start - left) ≡ 7 * number)
     × (length last ≡ length last₀)
     × (length heads ≡ length heads₀)

@@ -6,7 +6,7 @@ use native.Mathlib.Omega.{arith}
 use lib.ListN.{length, length-take, length-drop}
 use Rattle.model.specs.Layout.{entryAt}
 use Rattle.log_scan.specs.Scan.{over}
-use Rattle.log_scan.specs.Slots.{Kept}
+use Rattle.log_scan.specs.Slots.{SlotOf}
 use Rattle.log_scan.proofs.PassLaws.{log-turn}
 use Rattle.log_gather.specs.Walks.{Walk, begun, join}
 use Rattle.log_gather.proofs.ChainLaws.{empty-words, empty-each}
@@ -21,7 +21,7 @@ Inv-loop log cells₀ heads₀ links₀ groups homes start n progress₀ at₀ n
     (over (join (7 * start)) (entryAt log groups homes start) (7 * start) (n - left) (begun (length cells₀)))
     )
     × (left ≤ n)
-    × Kept groups number at
+    × SlotOf groups number at
     × (0 < left → 7 * start + (n - left) ≡ 7 * number)
     × (length cells ≡ length cells₀)
     × (length heads ≡ length heads₀)

@@ -5,7 +5,7 @@ use Prim.Native.Nat.{_+_, _-_, _*_, _≤_}
 use native.Mathlib.Omega.{arith}
 use lib.ListN.{length-take, length-drop}
 use Rattle.model.specs.Layout.{entryAt}
-use Rattle.log_scan.specs.Slots.{Kept}
+use Rattle.log_scan.specs.Slots.{SlotOf}
 use Rattle.log_limits.proofs.SpanLaws.{Lowered, lowered-none, lowered-group, lowered-end}
 use Rattle.log_limits.proofs.spans.closed_limit.Statement.{statement}
 use Rattle.log_limits.proofs.spans.closed_limit.Tie as tie
@@ -15,7 +15,7 @@ Inv-loop log groups homes start end limit lowest₀ number₀ at₀ lowest numbe
     Lowered (entryAt log groups homes start) (7 * start) end (7 * number) end limit lowest
     × (start ≤ lowest)
     × (7 * number ≤ end + 6)
-    × Kept groups number at
+    × SlotOf groups number at
 
 abbrev μ-loop : tie.MeasureT-loop
 μ-loop log groups homes start end limit lowest₀ number₀ at₀ lowest number at = number

@@ -3,7 +3,7 @@ use mathlib.Core.Path.{_≡_, refl, sym, _∙_}
 use Prim.Native.Nat.{_+_, _-_, _*_, _≤_, _<_}
 use native.Mathlib.Omega.{arith}
 use lib.ListN.{length}
-use Rattle.log_scan.specs.Slots.{Kept}
+use Rattle.log_scan.specs.Slots.{SlotOf}
 use Rattle.log_newest.specs.Keeping.{takenTo}
 use Rattle.log_newest.proofs.KeepLaws.{taken-start, taken-next, taken-end, kept-all}
 use Rattle.log_newest.proofs.commits.keep_entries.Statement.{statement}
@@ -15,7 +15,7 @@ Inv-loop log groups homes start first closing newest₀ number end pass₀ newes
     × (first ≤ 7 * pass .number + pass .done)
     × (7 * pass .number + pass .done ≤ closing + 1)
     × (pass .done < 7)
-    × Kept groups (pass .number) (pass .at)
+    × SlotOf groups (pass .number) (pass .at)
     × (start ≤ pass .number)
     × (length newest ≡ 8 * homes)
 

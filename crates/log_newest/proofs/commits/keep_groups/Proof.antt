@@ -5,7 +5,7 @@ use Prim.Native.Nat.{ℕ, _+_, _-_, _*_, _≤_, _<_}
 use native.Mathlib.Omega.{arith}
 use lib.ListN.{length, length-take, length-drop}
 use Rattle.model.specs.Layout.{entryAt}
-use Rattle.log_scan.specs.Slots.{Kept}
+use Rattle.log_scan.specs.Slots.{SlotOf}
 use Rattle.log_scan.proofs.MemberPass.{over-before}
 use Rattle.log_newest.specs.Keeping.{keepAt, keptOver}
 use Rattle.log_newest.proofs.KeepLaws.{part-taken, group-taken}
@@ -18,7 +18,7 @@ Inv-loop log groups homes start first end from newest₀ number₀ at₀ newest 
     → newest ≡ keptOver (entryAt log groups homes start) first (7 * start) (7 * number - 7 * start) before)
     × (from ≤ number)
     × (7 * number ≤ end)
-    × Kept groups number at
+    × SlotOf groups number at
     × (length newest ≡ 8 * homes)
 
 abbrev μ-loop : tie.MeasureT-loop

@@ -9,7 +9,7 @@ use Rattle.model.specs.Bytes.{zeros}
 use Rattle.model.specs.Layout.{entryAt}
 use Rattle.model.specs.declared.Tag.{Tag}
 use Rattle.log_scan.specs.Scan.{Scan, fresh, over, entered, Within}
-use Rattle.log_scan.specs.Slots.{Kept}
+use Rattle.log_scan.specs.Slots.{SlotOf}
 use Rattle.log_scan.proofs.PassLaws.{log-turn}
 use Rattle.log_scan.proofs.ScanLaws.{within-reached, fresh-within, found, found-stopped, placed}
 use Rattle.log_scan.proofs.commits.walk_with.Statement.{statement}
@@ -33,7 +33,7 @@ Inv-loop log counts₀ groups homes start n progress₀ at₀ number₀ left₀ 
     (entered (entryAt log groups homes start) (7 * start) (7 * start) (n - left) (fresh (length counts₀)))
     )
     × (left ≤ n)
-    × Kept groups number at
+    × SlotOf groups number at
     × (0 < left → 7 * start + (n - left) ≡ 7 * number)
     × (length counts ≡ length counts₀)
 

@@ -6,7 +6,7 @@ use native.Mathlib.Omega.{arith}
 use lib.ListN.{length, length-take, length-drop}
 use Rattle.model.specs.Layout.{entryAt}
 use Rattle.log_scan.specs.Members.{taking}
-use Rattle.log_scan.specs.Slots.{Kept}
+use Rattle.log_scan.specs.Slots.{SlotOf}
 use Rattle.log_scan.proofs.PassLaws.{log-turn}
 use Rattle.log_scan.proofs.MemberPass.{over-before}
 use Rattle.log_search.specs.Own.{noteAt, noted}
@@ -18,7 +18,7 @@ abbrev Inv-loop : tie.InvT-loop
 Inv-loop log groups homes start first end home newest₀ number₀ at₀ left₀ newest number at left =
     (newest ≡ noted (entryAt log groups homes start) home first (7 * start) (end - left - 7 * start) 0)
     × (left + 7 * start ≤ end)
-    × Kept groups number at
+    × SlotOf groups number at
     × (0 < left → end - left ≡ 7 * number)
     × (first < 7 * number + 7)
 

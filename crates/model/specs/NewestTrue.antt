@@ -17,7 +17,7 @@ use Rattle.model.specs.History.{begin, store, commit, flush, settle, tri
 use Rattle.model.specs.Trials.{room, fill, goes, fresh, readOf, Trial}
 use Rattle.model.specs.Witnesses.{reopen}
 
-pub record Kept (w : World) : Type 0 where
+pub record NewestTrue (w : World) : Type 0 where
   pub size : length (w .newest) ≡ 8 * w .homes
   -- "for each home the position of its newest committed entry, or none": as the commit rule finds it in the log copy
   pub positions : (home : ℕ) → home < w .homes → keptFor (w .newest) home ≡ keptAs (newestCommitted (lent w [] [] 0 home))
@@ -30,12 +30,12 @@ pub record Kept (w : World) : Type 0 where
   -- what a read shows is what it showed while it searched the log
   pub same : (writer home : ℕ) → home < w .homes → ownElse (lent w [] [] writer home) (shown (lent w [] [] writer home)) ≡ visible (lent w [] [] writer home)
 
-abbrev pub KeptThroughout : World → List Event → Type 0
-KeptThroughout w [] = w .ready ≡ true → Kept w
-KeptThroughout w (e ∷ es) = (w .ready ≡ true → Kept w) × KeptThroughout (step w e) es
+abbrev pub NewestThroughout : World → List Event → Type 0
+NewestThroughout w [] = w .ready ≡ true → NewestTrue w
+NewestThroughout w (e ∷ es) = (w .ready ≡ true → NewestTrue w) × NewestThroughout (step w e) es
 
 abbrev pub NewestKept : Type 0
-NewestKept = Always KeptThroughout
+NewestKept = Always NewestThroughout
 
 -- A history (G 4, D 8, positions from 28 on): what is kept for homes 3, 4, 6 and 7, and what a writer with nothing open reads of them.
 unfoldable pub seenOf : World → List ℕ → List ℕ

@@ -18,22 +18,22 @@ use Rattle.model.specs.Newest.{noPosition, keptAs, keptFor}
 use Rattle.model.specs.Effects.{Given, liveTags, liveBase, newestCommitted, current, ownElse, visible, isThere, keptPosition, shown}
 use Rattle.model.specs.Book.{homesAfter}
 use Rattle.model.specs.History.{Event, World, emptyStore, unopened, lent, step, Allowed, AllAllowed}
-use Rattle.model.specs.Kept.{Kept, KeptThroughout, NewestKept}
+use Rattle.model.specs.NewestTrue.{NewestTrue, NewestThroughout, NewestKept}
 use Rattle.model_laws.proofs.trace.TraceLaws.{All}
 use Rattle.theorems.proofs.invariant.Invariant.{Sizes, Running, Invariant}
 use Rattle.theorems.proofs.invariant.LiveLog.{tagsIn, baseOf, endOf, keptIn, Shown, all-each, live-from, live-room, lent-tags, live-transactions, kept-shown}
-use Rattle.theorems.proofs.invariant.KeptBook.{lastCommitted, HomeIn, newest-committed}
+use Rattle.theorems.proofs.invariant.NewestBook.{lastCommitted, HomeIn, newest-committed}
 use Rattle.theorems.proofs.steps.FormatRuns.{from-format}
 use Rattle.theorems.proofs.steps.Beginning.{format-closed}
 use Rattle.theorems.proofs.claims.LiveHolds.{current-is}
 use Rattle.theorems.proofs.claims.DemandThree.{keeps}
 use Rattle.theorems.proofs.claims.ListedSteps.{Listed, listed-keeps}
-use Rattle.theorems.proofs.claims.KeptSteps.{Placed, Kept-along, along-keeps, along-begins}
-use Rattle.theorems.proofs.claims.KeptShown.{kept-is, newest-is, block-shown, shown-same}
+use Rattle.theorems.proofs.claims.NewestFollows.{Placed, NewestAlong, along-keeps, along-begins}
+use Rattle.theorems.proofs.claims.NewestShown.{kept-is, newest-is, block-shown, shown-same}
 use Rattle.theorems.proofs.claims.SignSteps.{Signed, signed-keeps}
 
 module _ (G D : ℕ) (z : Sizes G D) (w : World) (r : Running G D w) (p : Placed G D w) where
-  pub kept-holds : length (w .newest) ≡ 8 * D → Listed D (w .state) (w .newest) → Signed D w → Kept w
+  pub kept-holds : length (w .newest) ≡ 8 * D → Listed D (w .state) (w .newest) → Signed D w → NewestTrue w
   kept-holds e listed signed =
       let d : w .homes ≡ D = r .copies .homes in
       record {
@@ -51,30 +51,30 @@ module _ (G D : ℕ) (z : Sizes G D) (w : World) (r : Running G D w) (p : Placed
 -- ---- every history
 
 -- the positions go along in the newest strip, and in the state strip for the list's homes, with the list's sign
-abbrev pub Kept-now : ℕ → ℕ → World → Type 0
-Kept-now G D w = Kept-along G D w × (w .ready ≡ true → Listed D (w .state) (w .newest)) × (w .ready ≡ true → Signed D w)
+abbrev pub NewestNow : ℕ → ℕ → World → Type 0
+NewestNow G D w = NewestAlong G D w × (w .ready ≡ true → Listed D (w .state) (w .newest)) × (w .ready ≡ true → Signed D w)
 
 module _ (G D : ℕ) (z : Sizes G D) where
-  pub kept-ready : (w : World) → Invariant G D w → Kept-now G D w → w .ready ≡ true → Kept w
+  pub kept-ready : (w : World) → Invariant G D w → NewestNow G D w → w .ready ≡ true → NewestTrue w
   kept-ready w (inl k) a h = absurd (false≢true (sym (k .ready) ∙ h))
   kept-ready w (inr r) a h = kept-holds G D z w r (a .0 .2 h) (a .0 .1 .newest h) (a .1 h) (a .2 h)
 
-  pub now-keeps : (w : World) → Invariant G D w → Kept-now G D w → (e : Event) → Allowed w e → Kept-now G D (step w e)
+  pub now-keeps : (w : World) → Invariant G D w → NewestNow G D w → (e : Event) → Allowed w e → NewestNow G D (step w e)
   now-keeps w i k e h = (
     along-keeps G D z w i (k .0) e h,
     listed-keeps G D z w i (k .0 .1 .newest) (k .1) e h,
     signed-keeps G D z w i (k .0) (k .1) (k .2) e h,
   )
 
-  pub now-begins : Kept-now G D (emptyStore G D)
+  pub now-begins : NewestNow G D (emptyStore G D)
   now-begins = (along-begins G D z, (λ h. absurd (false≢true (unfold emptyStore unopened in h))), λ h. absurd (false≢true (unfold emptyStore unopened in h)))
 
-  kept-throughout : (es : List Event) (w : World) → Invariant G D w → Kept-now G D w → AllAllowed w es → KeptThroughout w es
+  kept-throughout : (es : List Event) (w : World) → Invariant G D w → NewestNow G D w → AllAllowed w es → NewestThroughout w es
   kept-throughout [] w i k a = kept-ready w i k
   kept-throughout (e ∷ es) w i k a =
       (kept-ready w i k, kept-throughout es (step w e) (keeps G D z w i e (a .0) .0) (now-keeps w i k e (a .0)) (a .1))
 
 pub newest-kept : NewestKept
 newest-kept =
-    from-format KeptThroughout
+    from-format NewestThroughout
     (λ G D z es a. kept-throughout G D z es (emptyStore G D) (inl (format-closed G D z)) (now-begins G D z) a)

@@ -31,7 +31,7 @@ use Rattle.model_laws.proofs.trace.WholeLaws.{closingFrom-snoc}
 use Rattle.model_laws.proofs.trace.CountLaws.{spanOf, spansOf}
 use Rattle.theorems.proofs.invariant.Invariant.{Sizes, TaskOk, Running, Closed, Invariant}
 use Rattle.theorems.proofs.invariant.LiveLog.{tagsIn, baseOf, keptIn, Shown, live-from, live-order, live-room, lent-groups, lent-homes, live-transactions, live-spans, kept-shown}
-use Rattle.theorems.proofs.invariant.KeptBook.{lastEntry, lastCommitted, committed-more, committed-old, committed-by, committed-all, HomeIn, newest-entries, trimmedAt, committed-trimmed}
+use Rattle.theorems.proofs.invariant.NewestBook.{lastEntry, lastCommitted, committed-more, committed-old, committed-by, committed-all, HomeIn, newest-entries, trimmedAt, committed-trimmed}
 use Rattle.theorems.proofs.steps.DoneLaws.{outcome-code, after}
 use Rattle.theorems.proofs.steps.NewestSteps.{done-newest, open-newest}
 use Rattle.theorems.proofs.steps.StoreCommit.{Closing, commit-closes}
@@ -317,8 +317,8 @@ opened-placed G D w k state newest batch h x l =
 -- ---- every event
 
 -- the abstract store goes along, and after a done opening the newest positions are the book's
-abbrev pub Kept-along : ℕ → ℕ → World → Type 0
-Kept-along G D w = (s : Store) × Agrees G D w s × (w .ready ≡ true → Placed G D w)
+abbrev pub NewestAlong : ℕ → ℕ → World → Type 0
+NewestAlong G D w = (s : Store) × Agrees G D w s × (w .ready ≡ true → Placed G D w)
 
 module _ (G D : ℕ) (z : Sizes G D) where
   opening-placed : (w : World) → Closed G D w → (w .ready ≡ true → Placed G D w) → (c : Call) → isOpening c ≡ true
@@ -338,8 +338,8 @@ module _ (G D : ℕ) (z : Sizes G D) where
       (λ e q. done-placed G D z w r s a (p (r .ready)) c (h ∙ ap not (r .ready)) e)
   placed-keeps w i s a p (crash passed chosen) h = λ q. absurd (false≢true (unfold step afterCrash in q))
 
-  pub along-keeps : (w : World) → Invariant G D w → Kept-along G D w → (e : Event) → Allowed w e → Kept-along G D (step w e)
+  pub along-keeps : (w : World) → Invariant G D w → NewestAlong G D w → (e : Event) → Allowed w e → NewestAlong G D (step w e)
   along-keeps w i k e h = (follow (k .0) w e, follows G D z w i (k .0) (k .1) e h, placed-keeps w i (k .0) (k .1) (k .2) e h)
 
-  pub along-begins : Kept-along G D (emptyStore G D)
+  pub along-begins : NewestAlong G D (emptyStore G D)
   along-begins = (newStore G D, empty-agrees G D z, λ h. absurd (false≢true (unfold emptyStore unopened in h)))

@@ -25,10 +25,10 @@ use Rattle.model_laws.proofs.trace.Trace.{blockOn}
 use Rattle.model_laws.proofs.trace.TraceLaws.{All}
 use Rattle.theorems.proofs.invariant.Invariant.{Sizes, Running}
 use Rattle.theorems.proofs.invariant.LiveLog.{tagsIn, baseOf, endOf, keptIn, Shown, all-each, live-from, live-room, lent-groups, lent-tags, live-transactions, kept-shown}
-use Rattle.theorems.proofs.invariant.KeptBook.{lastCommitted, HomeIn, newest-committed}
+use Rattle.theorems.proofs.invariant.NewestBook.{lastCommitted, HomeIn, newest-committed}
 use Rattle.theorems.proofs.claims.LiveHolds.{current-is}
 use Rattle.theorems.proofs.claims.ListRights.{shown-at}
-use Rattle.theorems.proofs.claims.KeptSteps.{Placed}
+use Rattle.theorems.proofs.claims.NewestFollows.{Placed}
 
 -- ---- what is known of a newest position
 

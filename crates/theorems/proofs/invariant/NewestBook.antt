@@ -13,7 +13,7 @@ use borrow.Author.Tests.{le-leb, lt-leb, lt-ltb, le-ltb}
 use Rattle.model.specs.Tag.{homeOf}
 use Rattle.model.specs.declared.Tag.{Tag}
 use Rattle.model.specs.Commit.{newestIn, orElse, newest}
-use Rattle.model.specs.Book.{Kept, row, persisted, Entry, Commit, owedBy, owedAll}
+use Rattle.model.specs.Book.{Landing, row, persisted, Entry, Commit, owedBy, owedAll}
 use Rattle.model_laws.proofs.rule.MemberLaws.{orElse-none, orElse-assoc}
 use Rattle.model_laws.proofs.trace.Trace.{Ev, hist, firstOf, tagAt, homeOn, closerOf, oldestOf, closingFrom, Apart}
 use Rattle.model_laws.proofs.trace.TraceLaws.{All, all-map, Falling, Rising, Names, Named, tagAt-home, tagAt-back, tagAt-from, done-named, done-falling, done-rising}
@@ -22,14 +22,14 @@ use Rattle.theorems.proofs.invariant.Invariant.{entryFor, entriesFor, M
 use Rattle.theorems.proofs.invariant.BookReplay.{ticket-above}
 
 -- an entry's position, where row 0 is group b
-unfoldable pub placeOf : ℕ → Kept → ℕ
+unfoldable pub placeOf : ℕ → Landing → ℕ
 placeOf b (row r k) = 7 * (b + r) + k
 placeOf b persisted = 0
 
 -- the position of the last entry for a home
 unfoldable pub lastEntry : ℕ → ℕ → List Entry → Option ℕ
 lastEntry b h [] = none
-lastEntry b h (e ∷ es) = orElse (lastEntry b h es) (cond (eqb (e .home) h) (some (placeOf b (e .kept))) none)
+lastEntry b h (e ∷ es) = orElse (lastEntry b h es) (cond (eqb (e .home) h) (some (placeOf b (e .landing))) none)
 
 -- that of the last commit that is not trimmed and has one
 unfoldable pub lastCommitted : ℕ → ℕ → ℕ → List Commit → Option ℕ
@@ -42,8 +42,8 @@ entry-append : (b h : ℕ) (xs ys : List Entry) → lastEntry b h (xs ++ ys) ≡
 unfolding lastEntry
 entry-append b h [] ys = sym (orElse-none (lastEntry b h ys))
 entry-append b h (x ∷ xs) ys =
-    ap (λ (o : Option ℕ). orElse o (cond (eqb (x .home) h) (some (placeOf b (x .kept))) none)) (entry-append b h xs ys)
-    ∙ orElse-assoc (lastEntry b h ys) (lastEntry b h xs) (cond (eqb (x .home) h) (some (placeOf b (x .kept))) none)
+    ap (λ (o : Option ℕ). orElse o (cond (eqb (x .home) h) (some (placeOf b (x .landing))) none)) (entry-append b h xs ys)
+    ∙ orElse-assoc (lastEntry b h ys) (lastEntry b h xs) (cond (eqb (x .home) h) (some (placeOf b (x .landing))) none)
 
 committed-append : (b c h : ℕ) (xs ys : List Commit) → lastCommitted b c h (xs ++ ys) ≡ orElse (lastCommitted b c h ys) (lastCommitted b c h xs)
 unfolding lastCommitted
