@@ -10,7 +10,7 @@ use lib.Dec.{eqb}
 use lib.ListN.{length, length-append}
 use Rattle.alone_gauges.specs.Readings.{Reading, levelAt}
 use Rattle.alone_gauges.specs.Report.{Line, lineOf, lineAt, gather, minutes, report}
-use Rattle.alone_gauges.specs.Promises.{minutesOf, among, different}
+use Rattle.alone_gauges.specs.Guarantees.{minutesOf, among, different}
 use Rattle.alone_gauges.proofs.StrictLaws.{Below}
 
 -- how many numbers below n a test takes

@@ -8,4 +8,4 @@ pub mod CallLaws
 pub mod StrictLaws
 pub mod MemberLaws
 pub mod DifferentLaws
-pub mod Promised
+pub mod Guaranteed

@@ -10,7 +10,7 @@ use borrow.Author.Tests.{eqb-true, eqb-false, leb-true, leb-false, le-leb, lt-le
 use lib.Dec.{eqb, leb}
 use Rattle.alone_gauges.specs.Readings.{Reading, rising, levelAt}
 use Rattle.alone_gauges.specs.Report.{Line, line, difference, kindOf, lineOf, lineAt, gather, minutes, report}
-use Rattle.alone_gauges.specs.Promises.{Has, Lacks, Rises, minutesIn, Right, agreeing, differing, onlyFirst, onlySecond}
+use Rattle.alone_gauges.specs.Guarantees.{Has, Lacks, Rises, minutesIn, Right, agreeing, differing, onlyFirst, onlySecond}
 use Rattle.alone_gauges.proofs.ReadingLaws.{rising-low, rising-next, level-here, level-other}
 use Rattle.alone_gauges.proofs.StrictLaws.{Below, below-snoc, rises-snoc}
 

@@ -10,7 +10,7 @@ use lib.Dec.{eqb}
 use lib.ListN.{length, getD, length-append, List·getD-append}
 use lib.Seq.{getD-append-seam}
 use Rattle.alone_gauges.specs.Readings.{Reading, readings, rising, acceptable}
-use Rattle.alone_gauges.specs.Promises.{Rises, minutesOf, Sound}
+use Rattle.alone_gauges.specs.Guarantees.{Rises, minutesOf, Sound}
 use Rattle.alone_gauges.proofs.ReadingLaws.{rising-nil, rising-low, rising-next, rising-cons, acceptable-rest}
 use Rattle.alone_gauges.proofs.MergeLaws.{place-front, acceptable-short}
 

@@ -2,4 +2,4 @@ pub mod Readings
 pub mod Report
 pub mod Compare
 pub mod Merge
-pub mod Promises
+pub mod Guarantees

@@ -1,4 +1,4 @@
 pub mod IntegerLaws
 pub mod InflowLaws
 pub mod CallLaws
-pub mod Promised
+pub mod Guaranteed

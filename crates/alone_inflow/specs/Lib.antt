@@ -1,2 +1,2 @@
 pub mod Inflow
-pub mod Promises
+pub mod Guarantees

@@ -19,7 +19,7 @@ pub mod Trials
 pub mod Witnesses
 pub mod Reservations
 pub mod Tears
-pub mod Promises
+pub mod Reserved
 pub mod NewestTrue
 pub mod Guarded
 pub mod TwoRounds

@@ -15,7 +15,7 @@ use Rattle.unit_shared.specs.Moments.{lentIn, Leaves}
 use Rattle.unit_shared.proofs.MomentLaws.{event-stands}
 use Rattle.unit_shared.proofs.MomentShown.{shown-there, first-there, kept-there, event-alike}
 use Rattle.unit_alarms_list.specs.Events.{Event, arrival, clearing, settled, applied}
-use Rattle.unit_alarms_list.specs.Promises.{answerBy, heldWith, Represents, Typed}
+use Rattle.unit_alarms_list.specs.Guarantees.{answerBy, heldWith, Represents, Typed}
 use Rattle.unit_alarms_list.specs.Stored.{judged}
 use Rattle.unit_alarms_list.proofs.StoredHolds.{filling, alarms-recorded}
 use Rattle.unit_alarms.specs.Calls.{alarmHome, judge, arriveCall, clearCall}

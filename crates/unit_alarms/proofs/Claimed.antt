@@ -14,8 +14,8 @@ use Rattle.unit_alarms_list.specs.Alarm.{classKnown}
 use Rattle.unit_alarms_list.specs.declared.Alarm.{Alarm}
 use Rattle.unit_alarms_list.specs.OpenAlarms.{gravest, told, alarmsOf}
 use Rattle.unit_alarms_list.specs.Events.{Event, arrival, clearing, answer, after, settled, applied}
-use Rattle.unit_alarms_list.specs.Promises.{openBy, answerBy, Typed, Says, Represents}
-use Rattle.unit_alarms_list.proofs.Promised.{says, grown, kept-none, readable}
+use Rattle.unit_alarms_list.specs.Guarantees.{openBy, answerBy, Typed, Says, Represents}
+use Rattle.unit_alarms_list.proofs.Guaranteed.{says, grown, kept-none, readable}
 use Rattle.unit_alarms.specs.Calls.{alarmHome, judge, arriveCall, clearCall, alarmTells, gravestIn, gravestCall}
 use Rattle.unit_alarms.specs.Claims.{Recording, eventCall, Claim, FirstShown, Claimed}
 

@@ -10,7 +10,7 @@ use Rattle.unit_shared.specs.Unit.{Lent, Left, untouched, fetched, revised, tra
 use Rattle.unit_shared.specs.Shown.{Shown}
 use Rattle.unit_alarms_list.specs.OpenAlarms.{gravest, told}
 use Rattle.unit_alarms_list.specs.Events.{Event, arrival, clearing}
-use Rattle.unit_alarms_list.specs.Promises.{Says, openBy, answerBy, Typed, Represents}
+use Rattle.unit_alarms_list.specs.Guarantees.{Says, openBy, answerBy, Typed, Represents}
 use Rattle.unit_alarms.specs.Calls.{alarmHome, judge, arriveCall, clearCall, alarmTells, gravestCall}
 
 -- homes of zeros say that there was no event; blocks that say what some events do answer the next as they do, and say it too once it is done

@@ -9,7 +9,7 @@ use Rattle.unit_events.specs.Folded.{Step, offers, noted, ran, notes, stepped, 
 use Rattle.unit_shared.specs.Moments.{lentIn, Leaves}
 use Rattle.unit_alarms_list.specs.Alarm.{classKnown}
 use Rattle.unit_alarms_list.specs.Events.{Event, arrival, clearing}
-use Rattle.unit_alarms_list.specs.Promises.{heldWith, Typed}
+use Rattle.unit_alarms_list.specs.Guarantees.{heldWith, Typed}
 use Rattle.unit_alarms_list.specs.Stored.{judged}
 use Rattle.unit_alarms.specs.Calls.{alarmHome}
 use Rattle.unit_alarms.specs.Claims.{eventCall, Claim}

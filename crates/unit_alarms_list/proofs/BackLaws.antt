@@ -11,7 +11,7 @@ use Rattle.model.specs.Bytes.{part, puts, zeros, bytes, value, number, putNumbe
 use Rattle.model_laws.proofs.bytes.ByteLaws.{length-puts, length-zeros, length-bytes, length-putNumber, number-below, number-same, number-part}
 use Rattle.unit_alarms_list.specs.Alarm.{Alarm, alarm, alarmAt, alarmBytes, InRange}
 use Rattle.unit_alarms_list.specs.OpenAlarms.{gravest, told, alarmsFrom, limited, openOf, alarmsOf, keptOf, listBytes, sealed, packed}
-use Rattle.unit_alarms_list.specs.Promises.{AllInRange}
+use Rattle.unit_alarms_list.specs.Guarantees.{AllInRange}
 use Rattle.unit_alarms_list.proofs.ByteLaws.{length-alarm, alarm-same}
 use Rattle.unit_alarms_list.proofs.WalkLaws.{length-from}
 use Rattle.unit_alarms_list.proofs.PackLaws.{read-list, from-above, range-from}

@@ -8,7 +8,7 @@ use borrow.Author.Tests.{eqb-true, eqb-false, ltb-true, ltb-false}
 use lib.Dec.{eqb, ltb}
 use Rattle.unit_alarms_list.specs.Alarm.{Alarm, alarm, goesBefore, graver}
 use Rattle.unit_alarms_list.specs.OpenAlarms.{gravestFrom, gravest, told}
-use Rattle.unit_alarms_list.specs.Promises.{Before, byClass, bySecond, byIdentity, Gravest}
+use Rattle.unit_alarms_list.specs.Guarantees.{Before, byClass, bySecond, byIdentity, Gravest}
 
 -- equally grave, or before
 data Upto (a b : Alarm) : Type 0 where

@@ -10,7 +10,7 @@ use lib.Dec.{eqb}
 use lib.ListN.{length}
 use Rattle.unit_alarms_list.specs.Alarm.{Alarm}
 use Rattle.unit_alarms_list.specs.OpenAlarms.{among, without}
-use Rattle.unit_alarms_list.specs.Promises.{Has, Distinct, nothing, more}
+use Rattle.unit_alarms_list.specs.Guarantees.{Has, Distinct, nothing, more}
 
 -- ---- the test
 

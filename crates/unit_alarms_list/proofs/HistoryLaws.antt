@@ -8,7 +8,7 @@ use lib.Dec.{eqb}
 use Rattle.unit_alarms_list.specs.Alarm.{Alarm}
 use Rattle.unit_alarms_list.specs.OpenAlarms.{among, without}
 use Rattle.unit_alarms_list.specs.Events.{Event, arrival, clearing, after}
-use Rattle.unit_alarms_list.specs.Promises.{Distinct, nothing, more, clearedIn, openBy}
+use Rattle.unit_alarms_list.specs.Guarantees.{Distinct, nothing, more, clearedIn, openBy}
 use Rattle.unit_alarms_list.proofs.HasLaws.{has-not}
 
 cleared-arrival : (i : ℕ) (es : List Event) (a : Alarm) → clearedIn i (es ++ (arrival a ∷ [])) ≡ clearedIn i es

@@ -7,5 +7,5 @@ pub mod GravestLaws
 pub mod HasLaws
 pub mod HistoryLaws
 pub mod BackLaws
-pub mod Promised
+pub mod Guaranteed
 pub mod StoredHolds

@@ -9,7 +9,7 @@ use Rattle.model.specs.Bytes.{part, puts, zeros}
 use Rattle.model_laws.proofs.bytes.ByteLaws.{puts-append, puts-whole, length-puts, length-zeros}
 use Rattle.unit_alarms_list.specs.Alarm.{Alarm, alarmBytes, InRange}
 use Rattle.unit_alarms_list.specs.OpenAlarms.{gravest, told, alarmsFrom, listBytes, sealed, packed}
-use Rattle.unit_alarms_list.specs.Promises.{AllInRange}
+use Rattle.unit_alarms_list.specs.Guarantees.{AllInRange}
 use Rattle.unit_alarms_list.proofs.ByteLaws.{length-alarm, part-add, at-range, read-alarm, alarm-below, alarm-above, alarm-same}
 use Rattle.unit_alarms_list.proofs.WalkLaws.{length-from}
 

@@ -10,10 +10,10 @@ use Rattle.unit_events.specs.Folded.{Filling, Growing}
 use Rattle.unit_events.proofs.FoldedHolds.{events-recorded}
 use Rattle.unit_alarms_list.specs.OpenAlarms.{alarmsOf, keptOf}
 use Rattle.unit_alarms_list.specs.Events.{Event, answer, after, settled, applied}
-use Rattle.unit_alarms_list.specs.Promises.{answerBy, heldWith, Represents, Typed}
+use Rattle.unit_alarms_list.specs.Guarantees.{answerBy, heldWith, Represents, Typed}
 use Rattle.unit_alarms_list.specs.Stored.{firstHome, judged, AlarmsRecorded, GravestTold}
 use Rattle.unit_alarms_list.proofs.BackLaws.{length-packed, kept-block}
-use Rattle.unit_alarms_list.proofs.Promised.{grown, kept-none}
+use Rattle.unit_alarms_list.proofs.Guaranteed.{grown, kept-none}
 
 pub filling : Filling firstHome 6 judged heldWith
 unfolding judged heldWith applied settled

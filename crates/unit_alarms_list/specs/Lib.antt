@@ -1,5 +1,5 @@
 pub mod Alarm
 pub mod OpenAlarms
 pub mod Events
-pub mod Promises
+pub mod Guarantees
 pub mod Stored

@@ -11,7 +11,7 @@ use Rattle.acts.specs.Units.{fetchEnds}
 use Rattle.unit_events.specs.Folded.{noted, Recorded, AlwaysRecorded}
 use Rattle.unit_alarms_list.specs.OpenAlarms.{gravest, told, keptOf}
 use Rattle.unit_alarms_list.specs.Events.{Event, applied}
-use Rattle.unit_alarms_list.specs.Promises.{openBy, answerBy, heldWith, Represents, Typed}
+use Rattle.unit_alarms_list.specs.Guarantees.{openBy, answerBy, heldWith, Represents, Typed}
 
 -- the first of their six homes
 abbrev pub firstHome : ℕ

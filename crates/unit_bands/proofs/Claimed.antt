@@ -12,7 +12,7 @@ use Rattle.unit_shared.specs.Shown.{Shown}
 use Rattle.unit_bands_table.specs.Judge.{depths, judgement}
 use Rattle.unit_bands_table.specs.Packed.{pack, found}
 use Rattle.unit_bands_table.specs.Stored.{lastFrom, lastOf}
-use Rattle.unit_bands_table.proofs.Promised.{promised, blank}
+use Rattle.unit_bands_table.proofs.Guaranteed.{promised, blank}
 use Rattle.unit_bands.specs.Calls.{tableHome, accepted, setCall, foundIn, lookUpCall}
 use Rattle.unit_bands.specs.Claims.{Represents, Recording, Claim, Claimed}
 

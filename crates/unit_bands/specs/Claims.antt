@@ -12,7 +12,7 @@ use Rattle.unit_shared.specs.Shown.{Shown}
 use Rattle.unit_bands_table.specs.Rows.{rows}
 use Rattle.unit_bands_table.specs.Judge.{judgement}
 use Rattle.unit_bands_table.specs.Packed.{pack, found, lookUp}
-use Rattle.unit_bands_table.specs.Promises.{Told}
+use Rattle.unit_bands_table.specs.Guarantees.{Told}
 use Rattle.unit_bands_table.specs.Stored.{lastOf}
 use Rattle.unit_bands.specs.Calls.{tableHome, setCall, lookUpCall}
 

@@ -10,7 +10,7 @@ use lib.ListN.{length}
 use Rattle.unit_bands_table.specs.Rows.{Row, rows, count, place}
 use Rattle.unit_bands_table.specs.Judge.{allFit, sound, uncovered, judgement}
 use Rattle.unit_bands_table.specs.Sweep.{rest, rowAt, starting, width}
-use Rattle.unit_bands_table.specs.Promises.{rowOf, In}
+use Rattle.unit_bands_table.specs.Guarantees.{rowOf, In}
 use Rattle.unit_bands_table.proofs.RowLaws.{rest-row, rest-end, rest-all, numberAt, row-from, row-to, rows-whole, row-of, fit-ordered, all-at, sound-whole, sound-fit}
 use Rattle.unit_bands_table.proofs.CountLaws.{holds-in, count-at}
 use Rattle.unit_bands_table.proofs.LowestLaws.{uncovered-passed}

@@ -9,6 +9,6 @@ pub mod PackLaws
 pub mod TableLaws
 pub mod MemberLaws
 pub mod ChainLaws
-pub mod Promised
+pub mod Guaranteed
 pub mod Examples
 pub mod StoredHolds

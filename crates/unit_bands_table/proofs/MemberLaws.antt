@@ -8,7 +8,7 @@ use borrow.Author.Tests.{eqb-true, eqb-false, leb-true, leb-false}
 use lib.Dec.{eqb, leb}
 use lib.ListN.{length}
 use Rattle.unit_bands_table.specs.Rows.{Row, holds, count, place, lookup}
-use Rattle.unit_bands_table.specs.Promises.{rowOf, In, InSome, InTwo, InOne}
+use Rattle.unit_bands_table.specs.Guarantees.{rowOf, In, InSome, InTwo, InOne}
 use Rattle.unit_bands_table.proofs.CountLaws.{holds-above, holds-below, holds-in, count-nil, count-in, count-out, count-more, count-at, place-holds, place-some}
 
 -- ---- one index

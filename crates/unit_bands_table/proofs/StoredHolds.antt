@@ -10,7 +10,7 @@ use Rattle.unit_events.specs.Folded.{Filling, Growing}
 use Rattle.unit_events.proofs.FoldedHolds.{events-recorded}
 use Rattle.unit_bands_table.specs.Packed.{pack, unpack, found, lookUp}
 use Rattle.unit_bands_table.specs.Stored.{firstHome, judged, stored, answerBy, Accepted, lastFrom, lastOf, Represents, TablesRecorded}
-use Rattle.unit_bands_table.proofs.Promised.{promised, blank}
+use Rattle.unit_bands_table.proofs.Guaranteed.{promised, blank}
 
 last-joined : (t : Option (List ℕ)) (ss : List (List ℕ)) (s : List ℕ) → lastFrom t (ss ++ (s ∷ [])) ≡ some s
 unfolding lastFrom

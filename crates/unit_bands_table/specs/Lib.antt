@@ -2,5 +2,5 @@ pub mod Rows
 pub mod Judge
 pub mod Packed
 pub mod Sweep
-pub mod Promises
+pub mod Guarantees
 pub mod Stored

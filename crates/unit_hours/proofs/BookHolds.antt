@@ -16,7 +16,7 @@ use Rattle.unit_shared.specs.Moments.{lentIn, Leaves}
 use Rattle.unit_shared.proofs.MomentLaws.{event-stands}
 use Rattle.unit_shared.proofs.MomentShown.{shown-there, kept-there}
 use Rattle.unit_hours_book.specs.Events.{Event, applied}
-use Rattle.unit_hours_book.specs.Promises.{answerBy, heldWith, Represents, Timed}
+use Rattle.unit_hours_book.specs.Guarantees.{answerBy, heldWith, Represents, Timed}
 use Rattle.unit_hours_book.specs.Stored.{judged}
 use Rattle.unit_hours_book.proofs.StoredHolds.{filling, hours-recorded}
 use Rattle.unit_hours.specs.Calls.{pumpHome, known, judge, eventCall}

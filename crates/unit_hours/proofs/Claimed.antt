@@ -12,8 +12,8 @@ use Rattle.unit_events.specs.Offered.{joined}
 use Rattle.unit_hours_book.specs.Pump.{pumpOf}
 use Rattle.unit_hours_book.specs.Events.{Event, after, settled, applied}
 use Rattle.unit_hours_book.specs.Services.{due}
-use Rattle.unit_hours_book.specs.Promises.{starts, total, answerBy, heldWith, Timed, Represents}
-use Rattle.unit_hours_book.proofs.Promised.{grown, kept-none, readable}
+use Rattle.unit_hours_book.specs.Guarantees.{starts, total, answerBy, heldWith, Timed, Represents}
+use Rattle.unit_hours_book.proofs.Guaranteed.{grown, kept-none, readable}
 use Rattle.unit_hours.specs.Calls.{pumpHome, known, judge, hoursTold, pumpTells, dueTells, hoursIn, hoursCall, servicesOf, servicesCall}
 use Rattle.unit_hours.specs.Claims.{Recording, Claim, Claimed}
 use Rattle.unit_hours.proofs.CallLaws.{event-known}

@@ -10,7 +10,7 @@ use Rattle.unit_shared.specs.Unit.{Lent, untouched, fetched, revised, transacte
 use Rattle.unit_shared.specs.Shown.{Shown}
 use Rattle.unit_hours_book.specs.Events.{Event}
 use Rattle.unit_hours_book.specs.Services.{due}
-use Rattle.unit_hours_book.specs.Promises.{starts, total, answerBy, Timed, Represents}
+use Rattle.unit_hours_book.specs.Guarantees.{starts, total, answerBy, Timed, Represents}
 use Rattle.unit_hours.specs.Calls.{pumpHome, judge, eventCall, hoursTold, dueTells, hoursCall, servicesCall}
 
 -- a home of zeros says that there was no event; a block that says what some events do answers the next as they do, and says it too once it is done

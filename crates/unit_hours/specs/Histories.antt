@@ -7,7 +7,7 @@ use Rattle.model.specs.History.{World, Formatting, afterFormat}
 use Rattle.unit_events.specs.Folded.{Step, offers, noted, ran, notes, stepped, AllStepsAllowed, SparedBySteps}
 use Rattle.unit_shared.specs.Moments.{lentIn, Leaves}
 use Rattle.unit_hours_book.specs.Events.{Event}
-use Rattle.unit_hours_book.specs.Promises.{heldWith, Timed}
+use Rattle.unit_hours_book.specs.Guarantees.{heldWith, Timed}
 use Rattle.unit_hours_book.specs.Stored.{judged}
 use Rattle.unit_hours.specs.Calls.{pumpHome, eventCall}
 use Rattle.unit_hours.specs.Claims.{Claim}

@@ -5,7 +5,7 @@ use mathlib.Core.List.{List, [], _∷_, _++_}
 use Prim.Native.Nat.{ℕ, _+_, _-_}
 use native.Mathlib.Omega.{arith}
 use Rattle.unit_hours_book.specs.Events.{Event, startAt, stopAt}
-use Rattle.unit_hours_book.specs.Promises.{secondOf, isStart, starts, run, total, runsFrom, lastFrom}
+use Rattle.unit_hours_book.specs.Guarantees.{secondOf, isStart, starts, run, total, runsFrom, lastFrom}
 
 pub starts-join : (es : List Event) (e : Event) → starts (es ++ (e ∷ [])) ≡ starts es + cond (isStart e) 1 0
 unfolding starts

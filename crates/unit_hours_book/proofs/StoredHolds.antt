@@ -11,10 +11,10 @@ use Rattle.unit_events.specs.Folded.{Filling, Growing}
 use Rattle.unit_events.proofs.FoldedHolds.{events-recorded}
 use Rattle.unit_hours_book.specs.Pump.{Pump, pumpOf, blockOf}
 use Rattle.unit_hours_book.specs.Events.{Event, answer, after, settled, applied}
-use Rattle.unit_hours_book.specs.Promises.{answerBy, heldWith, Represents, Timed}
+use Rattle.unit_hours_book.specs.Guarantees.{answerBy, heldWith, Represents, Timed}
 use Rattle.unit_hours_book.specs.Stored.{homeOf, judged, HoursRecorded}
 use Rattle.unit_hours_book.proofs.BlockLaws.{length-block}
-use Rattle.unit_hours_book.proofs.Promised.{grown, kept-none}
+use Rattle.unit_hours_book.proofs.Guaranteed.{grown, kept-none}
 
 pub filling : (pump : ℕ) → Filling (homeOf pump) 1 judged heldWith
 unfolding judged heldWith applied settled

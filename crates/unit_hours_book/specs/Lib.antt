@@ -1,5 +1,5 @@
 pub mod Pump
 pub mod Events
 pub mod Services
-pub mod Promises
+pub mod Guarantees
 pub mod Stored

@@ -4,7 +4,7 @@ use Prim.Native.Nat.{ℕ, _+_}
 use mathlib.Core.List.{List}
 use Rattle.unit_events.specs.Folded.{AlwaysRecorded}
 use Rattle.unit_hours_book.specs.Events.{Event, applied}
-use Rattle.unit_hours_book.specs.Promises.{answerBy, heldWith, Represents, Timed}
+use Rattle.unit_hours_book.specs.Guarantees.{answerBy, heldWith, Represents, Timed}
 
 -- pump p's home
 abbrev pub homeOf : ℕ → ℕ

@@ -54,7 +54,7 @@ pub record WriterInOrder (st : State) (r : Writer) : Type 0 where
       → (7 * st .start ≤ r .first) × (r .first < nextPosition st) × (1 ≤ r .count) × (r .first + r .count ≤ nextPosition st)
 
 -- the promises: together at most the places from the next position on, and none for an idle writer
-pub record Promises (s : List ℕ) : Type 0 where
+pub record Reserved (s : List ℕ) : Type 0 where
   pub within : promised s 8 ≤ places (stateOf s)
   pub none-idle : (w : ℕ) → w < 8 → writerOf s w .mode ≡ 0 → promiseOf s w ≡ 0
 
@@ -73,7 +73,7 @@ pub record InOrder (s : List ℕ) (groups homes : ℕ) : Type 0 where
   pub last-closing : stateOf s .last ≤ nextPosition (stateOf s)
   pub round-settled : 1 ≤ stateOf s .round → stateOf s .settled < stateOf s .round
   pub round-fenced : stateOf s .round ≤ stateOf s .fenced + 1
-  pub promises : Promises s
+  pub promises : Reserved s
   pub writers : (w : ℕ) → w < 8 → WriterInOrder (stateOf s) (writerOf s w)
 
 -- ---- a writer, and the first n writers

@@ -39,8 +39,8 @@ use Rattle.theorems.proofs.claims.RightsHold.{ChangeRights, RightsAt}
 use Rattle.theorems.proofs.claims.CallAnswers.{call-answers}
 use Rattle.theorems.proofs.claims.StoreFollows.{follows, empty-agrees}
 use Rattle.theorems.proofs.steps.Footprint.{steady}
-use Rattle.theorems.proofs.claims.LedgerLaws.{many-all, many-free}
-use Rattle.theorems.proofs.claims.LedgerSteps.{Led, begin-led, abort-led, store-led, commit-led, flush-led, confirm-led, opened-led}
+use Rattle.theorems.proofs.claims.PlaceLedgerLaws.{many-all, many-free}
+use Rattle.theorems.proofs.claims.PlaceLedgerSteps.{Led, begin-led, abort-led, store-led, commit-led, flush-led, confirm-led, opened-led}
 
 -- ---- replies
 

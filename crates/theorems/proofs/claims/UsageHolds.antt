@@ -32,7 +32,7 @@ use Rattle.theorems.proofs.steps.FormatRuns.{sizes, after-format}
 use Rattle.theorems.proofs.claims.DemandThree.{keeps}
 use Rattle.theorems.proofs.claims.StoreAnswers.{Agrees, first-is, asked, promised-is, places-are}
 use Rattle.theorems.proofs.claims.StoreFollows.{follows, empty-agrees}
-use Rattle.theorems.proofs.claims.LedgerLaws.{commits-append, old-at}
+use Rattle.theorems.proofs.claims.PlaceLedgerLaws.{commits-append, old-at}
 use Rattle.theorems.proofs.claims.PlacesHold.{places-accounted}
 use Rattle.theorems.proofs.claims.UsageLaws.{Known, known-keeps, openAt, many-live, one-leb, any-times, commit-times, times-oldest, times-from, Holds, holder-holds}
 

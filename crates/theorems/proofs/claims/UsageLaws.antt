@@ -26,7 +26,7 @@ use Rattle.model_laws.proofs.trace.TraceLaws.{All, Falling, Long, firstOf-insid
 use Rattle.abstract_store.proofs.PlaceCounts.{oneIf, one-true, one-false, times, timesIn, tally}
 use Rattle.theorems.proofs.invariant.Invariant.{entryFor, entriesFor, Matches}
 use Rattle.theorems.proofs.steps.DoneLaws.{outcome-code}
-use Rattle.theorems.proofs.claims.LedgerLaws.{fate-past, any-append}
+use Rattle.theorems.proofs.claims.PlaceLedgerLaws.{fate-past, any-append}
 
 -- ---- the ledger names no writer but the eight
 

@@ -17,7 +17,7 @@ use Rattle.model.specs.Effects.{entered, submitted, logged}
 use Rattle.model.specs.Book.{row, Task, opened, Book, submit, grown, filledUp}
 use Rattle.model.specs.Demands.{closedBelow, settledFor}
 use Rattle.model.specs.History.{World}
-use Rattle.model_laws.proofs.strip.OrderLaws.{WriterInOrder, Promises}
+use Rattle.model_laws.proofs.strip.OrderLaws.{WriterInOrder, Reserved}
 use Rattle.model_laws.proofs.strip.QuestionLaws.{Roomy}
 use Rattle.model_laws.proofs.strip.PromiseLaws.{promised-change}
 use Rattle.model_laws.proofs.trace.Trace.{Ev, mine, hist, tagAt, Apart, Linked}
@@ -59,9 +59,9 @@ order-grows st st′ last r a o =
     }
 
 -- the promises once a writer with room has logged an entry: its own, if it had one, has become less
-pub promises-logged : (s t : List ℕ) (v last : ℕ) → v < 8 → Promises s → Advance (stateOf s) (stateOf t) last → Roomy s v
+pub promises-logged : (s t : List ℕ) (v last : ℕ) → v < 8 → Reserved s → Advance (stateOf s) (stateOf t) last → Roomy s v
     → ((x : ℕ) → x < 8 → (x ≡ v → ⊥) → promiseOf t x ≡ promiseOf s x) → ((x : ℕ) → x < 8 → (x ≡ v → ⊥) → writerOf t x ≡ writerOf s x)
-    → promiseOf t v ≤ promiseOf s v - 1 → (writerOf t v .mode ≡ 0 → promiseOf t v ≡ 0) → Promises t
+    → promiseOf t v ≤ promiseOf s v - 1 → (writerOf t v .mode ≡ 0 → promiseOf t v ≡ 0) → Reserved t
 unfolding places
 promises-logged s t v last l p a r f g k h =
     record {
@@ -82,7 +82,7 @@ pub copies-logged : (G D b : ℕ) (tr : List Ev) (w u : World) (v : ℕ) (e : Ev
     → Advance (stateOf (w .state)) (stateOf (u .state)) last → length (u .state) ≡ 1024
     → ((x : ℕ) → x < 8 → (x ≡ v → ⊥) → writerOf (u .state) x ≡ writerOf (w .state) x)
     → ((x : ℕ) → x < 8 → (x ≡ v → ⊥) → heldOf (u .state) x ≡ heldOf (w .state) x)
-    → WriterInOrder (stateOf (u .state)) (writerOf (u .state) v) → Promises (u .state)
+    → WriterInOrder (stateOf (u .state)) (writerOf (u .state) v) → Reserved (u .state)
     → TaskOk b (e ∷ tr) (writerOf (u .state) v) (heldOf (u .state) v) (hist (7 * b) (e ∷ tr) .openOf v) t
     → u .homes ≡ w .homes
     → u .log ≡ entered (stateOf (w .state)) (stateOf (w .state) .next % G) (w .log) (plainOf (7 * b + length tr) e (mine (hist (7 * b) tr) e) (e .final)) (e .block)

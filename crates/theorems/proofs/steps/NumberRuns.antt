@@ -19,7 +19,7 @@ use Rattle.model.specs.Book as book
 use Rattle.model.specs.Demands.{closedBelow, settledFor, SettledHomes, groupWrites}
 use Rattle.model.specs.History.{Call, World, lent, feed, isConfirm, flush, confirm, feedChange}
 use Rattle.model_laws.proofs.strip.StateLaws.{withDurable, state-setFenced, length-setFenced, writer-setFenced, held-setFenced, state-setDurable, length-setDurable, writer-setDurable, held-setDurable}
-use Rattle.model_laws.proofs.strip.OrderLaws.{InOrder, WriterInOrder, Promises}
+use Rattle.model_laws.proofs.strip.OrderLaws.{InOrder, WriterInOrder, Reserved}
 use Rattle.model_laws.proofs.strip.PromiseLaws.{promise-setDurable, promised-agree}
 use Rattle.model_laws.proofs.trace.CrashLaws.{fences-append, fences-none, groupWrites-fence}
 use Rattle.model_laws.proofs.trace.MixLaws.{none-mixed}
@@ -46,8 +46,8 @@ pub record Renumbered (st st′ : State) : Type 0 where
   pub round-fenced : st′ .round ≤ st′ .fenced + 1
 
 -- the start goes up at most, so there are no fewer places
-promises-renumber : (s t : List ℕ) → Promises s → Renumbered (stateOf s) (stateOf t) → ((x : ℕ) → x < 8 → writerOf t x ≡ writerOf s x)
-    → ((x : ℕ) → x < 8 → promiseOf t x ≡ promiseOf s x) → Promises t
+promises-renumber : (s t : List ℕ) → Reserved s → Renumbered (stateOf s) (stateOf t) → ((x : ℕ) → x < 8 → writerOf t x ≡ writerOf s x)
+    → ((x : ℕ) → x < 8 → promiseOf t x ≡ promiseOf s x) → Reserved t
 unfolding places nextPosition
 promises-renumber s t p n ew ep =
     record {

@@ -25,7 +25,7 @@ use Rattle.model.specs.History.{Call, World, lent, feed, isConfirm, store, comm
 use Rattle.model_laws.proofs.strip.StateLaws.{state-setLast, length-setLast, writer-setLast, held-setLast}
 use Rattle.model_laws.proofs.strip.WriterLaws.{length-setWriter, length-setHeld, state-setWriter, writer-setWriter, writer-setWriter-other, held-setWriter, state-setHeld, writer-setHeld, held-setHeld, held-setHeld-other, fits-idle, fits-logging}
 use Rattle.model_laws.proofs.strip.SignLaws.{length-keepList, state-keepList, writer-keepList, held-keepList, promise-keepList}
-use Rattle.model_laws.proofs.strip.OrderLaws.{InOrder, WriterInOrder, Promises, place-below}
+use Rattle.model_laws.proofs.strip.OrderLaws.{InOrder, WriterInOrder, Reserved, place-below}
 use Rattle.model_laws.proofs.strip.QuestionLaws.{Roomy}
 use Rattle.model_laws.proofs.strip.PromiseLaws.{promise-setLast, promise-setWriter, promise-setHeld, length-setPromise, state-setPromise, writer-setPromise, held-setPromise, promise-setPromise, promise-setPromise-other, promise-most}
 use Rattle.model_laws.proofs.trace.Trace.{Ev, Hist, mine, hist, firstOf, blockOn, tagAt, tagOf, linkIn, closerOf, oldestOf, Apart, LinkOk, Linked}
@@ -253,7 +253,7 @@ module _ (G D : ℕ) (z : Sizes G D) (w : World) (R : Running G D w) (v : ℕ) (
           logged = λ h. (omega (arith, adv .start, bs .low), omega (arith, p, bs .upto), omega arith, omega (arith, p, bs .many));
         })
 
-    promises-are : Promises (u .state)
+    promises-are : Reserved (u .state)
     unfolding logging
     promises-are =
         promises-logged (w .state) (u .state) v (st .last) l (c .order .promises) adv left promise-others writer-others (omega (arith, promise-is))
@@ -391,7 +391,7 @@ module _ (G D : ℕ) (z : Sizes G D) (w : World) (R : Running G D w) (v : ℕ) (
           moved = a .moved;
         })
 
-    c-in-order : Promises (y .state)
+    c-in-order : Reserved (y .state)
     c-in-order =
         promises-logged (w .state) (y .state) v (P + 1) l (c .order .promises) c-adv left c-promises c-writers (omega (arith, c-promise)) (λ h. c-promise)
 

@@ -21,7 +21,7 @@ use Rattle.model_laws.proofs.strip.QuestionLaws.{begin-ready, reserve-ready, ma
 use Rattle.model_laws.proofs.strip.WriterLaws.{length-setWriter, length-setHeld, state-setWriter, writer-setWriter, writer-setWriter-other, held-setWriter, state-setHeld, writer-setHeld, held-setHeld, held-setHeld-other, fits-begun, fits-idle, fits-holding}
 use Rattle.model_laws.proofs.strip.PromiseLaws.{promise-setWriter, promise-setHeld, length-setPromise, state-setPromise, writer-setPromise, held-setPromise, promise-setPromise, promise-setPromise-other, promised-change}
 use Rattle.theorems.proofs.steps.DoneLaws.{after}
-use Rattle.model_laws.proofs.strip.OrderLaws.{InOrder, WriterInOrder, Promises}
+use Rattle.model_laws.proofs.strip.OrderLaws.{InOrder, WriterInOrder, Reserved}
 use Rattle.model_laws.proofs.trace.Trace.{Ev, Hist, hist}
 use Rattle.theorems.proofs.invariant.Invariant.{Copies, Submitted, Confirmed, Commits, Running, TaskOk, entriesFor}
 
@@ -42,8 +42,8 @@ pub each-writer : (P : ℕ → Type 0) (v x : ℕ) → P v → ((x ≡ v → ⊥
 each-writer P v x h f = by-writer P v x h f (ℕ-discrete x v)
 
 -- its promises are in order if that writer's is, and all of them together find places
-pub promises-same : (v : ℕ) (s t : List ℕ) → v < 8 → SameBut v s t → Promises s → (writerOf t v .mode ≡ 0 → promiseOf t v ≡ 0)
-    → promised s 8 + promiseOf t v ≤ places (stateOf s) + promiseOf s v → Promises t
+pub promises-same : (v : ℕ) (s t : List ℕ) → v < 8 → SameBut v s t → Reserved s → (writerOf t v .mode ≡ 0 → promiseOf t v ≡ 0)
+    → promised s 8 + promiseOf t v ≤ places (stateOf s) + promiseOf s v → Reserved t
 promises-same v s t l b p h k =
     let e : stateOf s ≡ stateOf t = sym (b .numbers) in
     let c = promised-change s t v 8 l (b .promise) in
@@ -54,10 +54,10 @@ promises-same v s t l b p h k =
     }
 
 -- as they are if the promise stays and the writer is open
-pub promises-kept : (v : ℕ) (s t : List ℕ) → v < 8 → SameBut v s t → Promises s → promiseOf t v ≡ promiseOf s v → 1 ≤ writerOf t v .mode → Promises t
+pub promises-kept : (v : ℕ) (s t : List ℕ) → v < 8 → SameBut v s t → Reserved s → promiseOf t v ≡ promiseOf s v → 1 ≤ writerOf t v .mode → Reserved t
 promises-kept v s t l b p e m = promises-same v s t l b p (λ z. absurd (omega arith)) (omega (arith, e, p .within))
 
-pub order-same : (v : ℕ) (s t : List ℕ) (G D : ℕ) → SameBut v s t → InOrder s G D → WriterInOrder (stateOf s) (writerOf t v) → Promises t → InOrder t G D
+pub order-same : (v : ℕ) (s t : List ℕ) (G D : ℕ) → SameBut v s t → InOrder s G D → WriterInOrder (stateOf s) (writerOf t v) → Reserved t → InOrder t G D
 order-same v s t G D b o h p =
     let e : stateOf s ≡ stateOf t = sym (b .numbers) in
     record {
@@ -90,7 +90,7 @@ task-other b v x t n = rw (ne-eqb v x (λ e. n (sym e)))
 
 -- the copies after such a call
 pub copies-writer : (G D b : ℕ) (tr : List Ev) (w u : World) (v : ℕ) (t : Task) → Copies G D b tr w → SameBut v (w .state) (u .state) → v < 8
-    → WriterInOrder (stateOf (w .state)) (writerOf (u .state) v) → Promises (u .state)
+    → WriterInOrder (stateOf (w .state)) (writerOf (u .state) v) → Reserved (u .state)
     → TaskOk b tr (writerOf (u .state) v) (heldOf (u .state) v) (hist (7 * b) tr .openOf v) t
     → u .homes ≡ w .homes → u .log ≡ w .log → u .area ≡ w .area → u .book ≡ withTask (w .book) v t → Copies G D b tr u
 unfolding withTask
@@ -167,7 +167,7 @@ confirmed-same G b w u c es ep eq ec =
     }
 
 pub running-writer : (G D : ℕ) (w u : World) (v : ℕ) (t : Task) (r : Running G D w) → SameBut v (w .state) (u .state) → v < 8
-    → WriterInOrder (stateOf (w .state)) (writerOf (u .state) v) → Promises (u .state)
+    → WriterInOrder (stateOf (w .state)) (writerOf (u .state) v) → Reserved (u .state)
     → TaskOk (r .b) (r .tr) (writerOf (u .state) v) (heldOf (u .state) v) (hist (7 * r .b) (r .tr) .openOf v) t
     → u .homes ≡ w .homes → u .log ≡ w .log → u .area ≡ w .area → u .memory ≡ w .memory → u .pending ≡ w .pending → u .passed ≡ w .passed
     → u .ready ≡ true → u .book ≡ withTask (w .book) v t → Running G D u

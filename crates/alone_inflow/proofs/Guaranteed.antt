@@ -7,7 +7,7 @@ use borrow.Author.Tests.{leb-true, leb-false}
 use lib.Dec.{leb}
 use lib.Signed.{mag}
 use Rattle.alone_inflow.specs.Inflow.{inflow, Given, least, most, accepted, Outcome, gives, refused, boundInflow}
-use Rattle.alone_inflow.specs.Promises.{Asked, Done, Refused, Typed, Promise, Extremes}
+use Rattle.alone_inflow.specs.Guarantees.{Asked, Done, Refused, Typed, Guarantee, Extremes}
 use Rattle.alone_inflow.proofs.InflowLaws.{inflow-mono, inflow-fits}
 use Rattle.alone_inflow.proofs.CallLaws.{refused-none, refused-large, refused-before, refused-after, refused-pumped, done-inflow}
 
@@ -74,7 +74,7 @@ module _ (g : Given) where
   unfolding refused
   refused-fields e = record { code = ap (λ (o : Outcome). o .code) e; least = ap (λ (o : Outcome). o .least) e; most = ap (λ (o : Outcome). o .most) e }
 
-  pub promised : Promise g
+  pub promised : Guarantee g
   promised = record { done = asked-done; refused = λ n. refused-fields (asked-refused n); fits = asked-fits }
 
 pub extremes : Extremes

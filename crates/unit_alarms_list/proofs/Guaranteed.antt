@@ -14,7 +14,7 @@ use Rattle.unit_events.proofs.OfferedLaws.{all-done, kept-all}
 use Rattle.unit_alarms_list.specs.Alarm.{Alarm, InRange, classKnown}
 use Rattle.unit_alarms_list.specs.OpenAlarms.{among, gravest, told, alarmsOf, keptOf, packed}
 use Rattle.unit_alarms_list.specs.Events.{Event, arrival, clearing, answer, after, settled, applied}
-use Rattle.unit_alarms_list.specs.Promises.{Has, Known, Says, outOfRange, already, noRoom, arrives, notThere, clears, openBy, answerBy, AllInRange, Distinct, nothing, Represents, Typed, Grown, heldWith, Booked, Readable}
+use Rattle.unit_alarms_list.specs.Guarantees.{Has, Known, Says, outOfRange, already, noRoom, arrives, notThere, clears, openBy, answerBy, AllInRange, Distinct, nothing, Represents, Typed, Grown, heldWith, Booked, Readable}
 use Rattle.unit_alarms_list.proofs.EventLaws.{class-most}
 use Rattle.unit_alarms_list.proofs.HasLaws.{among-has, among-none, without-member, without-short, distinct-without, distinct-join}
 use Rattle.unit_alarms_list.proofs.HistoryLaws.{open-after}

@@ -12,7 +12,7 @@ use lib.Seq.{take-at}
 use Rattle.unit_bands_table.specs.Rows.{Row, rows, place, lookup}
 use Rattle.unit_bands_table.specs.Judge.{Verdict, verdict, fit, allFit, sound, uncovered, doubled, coverage, judgement}
 use Rattle.unit_bands_table.specs.Packed.{pack, held, acceptable, unpack, lookUp, found}
-use Rattle.unit_bands_table.specs.Promises.{rowOf, InSome, InOne, Fit, Sound, Judged, accepted, unsound, gap, double, Told, Promise, Blank}
+use Rattle.unit_bands_table.specs.Guarantees.{rowOf, InSome, InOne, Fit, Sound, Judged, accepted, unsound, gap, double, Told, Guarantee, Blank}
 use Rattle.unit_bands_table.proofs.RowLaws.{rows-whole, fit-pumps, fit-ordered, fit-shallow, fit-few, all-nil, all-first, all-rest, all-cons, sound-some, sound-short, sound-whole, sound-fit, sized-whole, sound-rest}
 use Rattle.unit_bands_table.proofs.LowestLaws.{uncovered-is, uncovered-passed, uncovered-here, doubled-is, doubled-passed, doubled-here}
 use Rattle.unit_bands_table.proofs.JudgeLaws.{coverage-gap, coverage-double, coverage-one, judged-unsound, judged-sound, accepted-sound, accepted-short}
@@ -130,7 +130,7 @@ module _ (strip : List ℕ) where
     found-as : (mm : ℕ) → lookUp (pack strip) mm ≡ record { code = 0; row = lookup mm (rows strip) }
     found-as mm = lookup-some (pack strip) mm acceptable-pack ∙ rw held-pack
 
-  pub promised : Promise strip
+  pub promised : Guarantee strip
   promised =
       record {
         judged = judged-as;

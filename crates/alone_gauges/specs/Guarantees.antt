@@ -89,7 +89,7 @@ pub record Refused (first second output : List ℕ) (tolerance : ℕ) : Type 0 w
   pub untouched : compareGauges first second output tolerance .output ≡ output
 
 -- for bytes of any contents and length: done with such a report if what is asked holds, else 22
-pub record Promise (first second output : List ℕ) (tolerance : ℕ) : Type 0 where
+pub record Guarantee (first second output : List ℕ) (tolerance : ℕ) : Type 0 where
   pub done :
       Asked first second output →
       (compareGauges first second output tolerance .code ≡ 0)

@@ -61,7 +61,7 @@ pub record Told (rs : List Row) (mm : ℕ) : Type 0 where
   pub row : lookup mm rs ≡ rowOf rs (one .at)
 
 -- for strips of any contents and length
-pub record Promise (strip : List ℕ) : Type 0 where
+pub record Guarantee (strip : List ℕ) : Type 0 where
   pub judged : Judged strip (judgement strip)
   pub taken : Sound strip → ((mm : ℕ) → mm ≤ 9999 → InOne (rows strip) mm) → judgement strip ≡ verdict 0 0
   pub told : judgement strip .code ≡ 0 → (mm : ℕ) → mm ≤ 9999 → Told (rows strip) mm

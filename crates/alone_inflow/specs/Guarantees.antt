@@ -44,7 +44,7 @@ pub record Typed (g : Given) : Type 0 where
   pub pumped : g .highPumped < 2 ^ 32
 
 -- for all numbers: done if what is asked holds, else 23; the results fit 64 bits in two's complement
-pub record Promise (g : Given) : Type 0 where
+pub record Guarantee (g : Given) : Type 0 where
   pub done : Asked g → Done g
   pub refused : (Asked g → ⊥) → Refused g
   pub fits : Asked g → Typed g → (mag (boundInflow g .least) < 2 ^ 63) × (mag (boundInflow g .most) < 2 ^ 63)

@@ -13,7 +13,7 @@ use Rattle.unit_events.proofs.OfferedLaws.{all-done, kept-all}
 use Rattle.unit_hours_book.specs.Pump.{Pump, unused, pumpOf, blockOf, Fits}
 use Rattle.unit_hours_book.specs.Events.{Event, startAt, stopAt, late, totalAt, answer, after, settled, applied}
 use Rattle.unit_hours_book.specs.Services.{due}
-use Rattle.unit_hours_book.specs.Promises.{secondOf, isStart, starts, total, runsFrom, lastSecond, lastFrom, wrongTurn, within, answerBy, heldWith, Says, Represents, Timed, Booked, Grown, Serviced, Readable}
+use Rattle.unit_hours_book.specs.Guarantees.{secondOf, isStart, starts, total, runsFrom, lastSecond, lastFrom, wrongTurn, within, answerBy, heldWith, Says, Represents, Timed, Booked, Grown, Serviced, Readable}
 use Rattle.unit_hours_book.proofs.BlockLaws.{length-block, read-back, read-zeros, read-fits}
 use Rattle.unit_hours_book.proofs.EventLaws.{start-done, stop-done}
 use Rattle.unit_hours_book.proofs.ListLaws.{starts-join, runs-join, last-join, total-start, total-stop}

@@ -12,7 +12,7 @@ use lib.Seq.{take-at, drop-at, getD-append-add}
 use Rattle.alone_gauges.specs.Readings.{Reading, reading, readings, rising, acceptable}
 use Rattle.alone_gauges.specs.Report.{Line, report, encode}
 use Rattle.alone_gauges.specs.Compare.{Outcome, written, done, refused, compareGauges}
-use Rattle.alone_gauges.specs.Promises.{Bytes, Has, Right, agreeing, differing, onlyFirst, onlySecond, minutesOf, different, Reported, Asked, Done, Refused, Promise}
+use Rattle.alone_gauges.specs.Guarantees.{Bytes, Has, Right, agreeing, differing, onlyFirst, onlySecond, minutesOf, different, Reported, Asked, Done, Refused, Guarantee}
 use Rattle.alone_gauges.proofs.OutputLaws.{length-encode}
 use Rattle.alone_gauges.proofs.CountLaws.{report-total}
 use Rattle.alone_gauges.proofs.CallLaws.{refused-first, refused-second, refused-room, done-report}
@@ -134,5 +134,5 @@ module _ (first second output : List ℕ) (tolerance : ℕ) (fb : Bytes first) (
       one true e = two e (acceptable second) refl
       one false e = refused-first first second output tolerance e
 
-  pub promised : Promise first second output tolerance
+  pub promised : Guarantee first second output tolerance
   promised = record { done = asked-done; refused = λ n. refused-fields first second output tolerance (asked-refused n) }

@@ -18,7 +18,7 @@ use Rattle.model.specs.Questions.{ask, areasRight, stateRight, blockRight, stri
 use Rattle.model.specs.Calls.{sizeOf, reserveCall, storeCall, commitCall, flushCall}
 use Rattle.model.specs.Book.{Task, idle, opened}
 use Rattle.model.specs.History.{reserve, store, commit, flush, Event, World, lent, ends, changeEnds, step, AllAllowed, unopened, emptyStore}
-use Rattle.model.specs.Promises.{none, grant, entriesOf, Promised, PromisedThroughout, PromisesKept, filling, busyLog}
+use Rattle.model.specs.Reserved.{none, grant, entriesOf, Promised, PromisedThroughout, ReservedKept, filling, busyLog}
 use Rattle.model_laws.proofs.bytes.LayoutLaws.{groups-in, homes-in, log-length-right, data-length-right}
 use Rattle.model_laws.proofs.strip.OrderLaws.{InOrder, order-in, tests}
 use Rattle.model_laws.proofs.strip.QuestionLaws.{ask-no, ask-yes, ask-passed, keeps-promises}
@@ -29,7 +29,7 @@ use Rattle.theorems.proofs.steps.Beginning.{format-closed}
 use Rattle.theorems.proofs.steps.FormatRuns.{from-format}
 use Rattle.theorems.proofs.claims.DemandThree.{keeps}
 use Rattle.model.proofs.answers.Computing.{all-definitions}
-use Rattle.theorems.proofs.claims.Ledger.{Agree, Ledger, ledger-keeps}
+use Rattle.theorems.proofs.claims.PromiseLedger.{Agree, Ledger, ledger-keeps}
 
 -- ---- chains of questions
 
@@ -202,7 +202,7 @@ module _ (G D : ℕ) (z : Sizes G D) where
     promised-throughout es (step w e) (grant granted w e) (keeps G D z w i e (p .0) .0) (ledger-keeps G D z granted w i a e (p .0)) (p .1),
   )
 
-pub promises-kept : PromisesKept
+pub promises-kept : ReservedKept
 promises-kept =
     from-format (λ w es. PromisedThroughout w none es)
     (λ G D z es p.

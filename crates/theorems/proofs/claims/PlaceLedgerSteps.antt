@@ -11,7 +11,7 @@ use borrow.Author.Tests.{eqb-true, eqb-false, eq-eqb, ne-eqb}
 use Rattle.model.specs.Book.{Landing, row, persisted, Entry, Commit, Held, Task, idle, opened, Book, setTask, withTask, begin, abort, entryOf, submit, grown, filledUp, hold, storeTask, store, addCommit, commitTask, commit, flush, owedBy, owedAll, withCommits}
 use Rattle.abstract_store.specs.Store.{isIdle, storeMustLog, commitMustLog}
 use Rattle.abstract_store.specs.Places.{Fate, held, kept, aborted, passed, settleOne, settleAll, fateOn, liesAt, anyAt, taskAt, commitAt, isHeld, isKept}
-use Rattle.theorems.proofs.claims.LedgerLaws.{fate-past, length-settle, fate-settle, length-passed, fate-passed, push-held, push-kept, held-other, held-own, kept-aborted, kept-kept, any-append, commits-append, owed-at, owed-all-at, old-at}
+use Rattle.theorems.proofs.claims.PlaceLedgerLaws.{fate-past, length-settle, fate-settle, length-passed, fate-passed, push-held, push-kept, held-other, held-own, kept-aborted, kept-kept, any-append, commits-append, owed-at, owed-all-at, old-at}
 use Rattle.theorems.proofs.invariant.Invariant.{OldCommits}
 
 -- a transaction that holds nothing has logged nothing

@@ -71,8 +71,8 @@ abbrev pub PromisedThroughout : World → (ℕ → ℕ) → List Event → Type 
 PromisedThroughout w granted [] = w .ready ≡ true → Promised w granted
 PromisedThroughout w granted (e ∷ es) = (w .ready ≡ true → Promised w granted) × PromisedThroughout (step w e) (grant granted w e) es
 
-abbrev pub PromisesKept : Type 0
-PromisesKept = Always (λ w es. PromisedThroughout w none es)
+abbrev pub ReservedKept : Type 0
+ReservedKept = Always (λ w es. PromisedThroughout w none es)
 
 -- A log of 28 places of which writer 0 reserves 25; writer 1 stores until it has logged three entries. Then writer 1's next store and its commit
 -- answer 8, a flush of the part-filled group 18 and another reserve 17; but writer 0 stores two homes and commits.

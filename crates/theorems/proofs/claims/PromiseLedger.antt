@@ -18,7 +18,7 @@ use Rattle.model.specs.Calls.{Outcome, done, sizeOf, outcome, beginCall, reserv
 use Rattle.model.specs.Book.{Entry, Held, Task, idle, opened, Book, withTask, filledUp, entryOf, submit, addCommit, storeTask, commitTask, hold, withCommits}
 use Rattle.model.specs.Book as book
 use Rattle.model.specs.History.{Change, begins, reserves, aborts, stores, commits, flushes, Service, Call, opening, confirm, change, service, Event, call, crash, World, lent, loaded, ends, changeEnds, feed, feedChange, isOpening, afterDone, afterCall, step, Allowed}
-use Rattle.model.specs.Promises.{none as nothing, grantTo, grantChange, grantDone, grantCall, grant, entriesOf}
+use Rattle.model.specs.Reserved.{none as nothing, grantTo, grantChange, grantDone, grantCall, grant, entriesOf}
 use Rattle.model_laws.proofs.strip.PromiseLaws.{promise-setNext, promise-setFilled, promise-setFenced, promise-setLast, promise-setWriter, promise-setHeld, promise-setPromise, promise-setPromise-other, promise-most}
 use Rattle.model_laws.proofs.strip.WriterLaws.{length-setWriter, length-setHeld}
 use Rattle.model_laws.proofs.strip.StateLaws.{length-setLast}
