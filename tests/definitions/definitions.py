@@ -98,7 +98,7 @@ def main():
                 shutil.copytree(ROOT / "crates" / name / part, crates / name / part)
         proofs = crates / "model/proofs"
         proofs.mkdir()
-        shutil.copy(ROOT / "crates/model/proofs/answers/Computing.antt", proofs)
+        shutil.copy(ROOT / "crates/model/proofs/examples/Computing.antt", proofs)
         (proofs / "Lib.antt").write_text("pub mod Computing\n")
         for part in ("src", "proofs"):
             (crates / "cases" / part).mkdir(parents=True)

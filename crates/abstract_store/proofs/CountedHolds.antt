@@ -3,7 +3,7 @@ use mathlib.Core.Path.{_≡_, refl}
 use mathlib.Core.Bool.{true, _&&_}
 use Rattle.model.specs.Demands.{landsBefore, someBefore, across, anyAcross, openBefore, anyOpenBefore}
 use Rattle.model.specs.Reservations.{promising, givingBack, closing, reserving}
-use Rattle.model.proofs.answers.Computing.{all-definitions}
+use Rattle.model.proofs.examples.Computing.{all-definitions}
 use Rattle.abstract_store.specs.Store as store
 use Rattle.abstract_store.specs.Store.{newStore, firstGroup, nextGroup, nextOf, storeMustLog, commitMustLog, lastAfter, fencedAfter, setFor, promisesAfter, numbered, inRound, afterReply, replyOf, follow, placesLeft, nextStart, trimmedTo, afterService, roundOver}
 use Rattle.abstract_store.specs.Places as places

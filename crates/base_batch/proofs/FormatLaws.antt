@@ -13,7 +13,7 @@ use Rattle.model.specs.Effects.{blankWrites, zeroHomes, formatted}
 use Rattle.model_laws.proofs.bytes.ByteLaws.{puts-nil, length-zeros}
 use Rattle.model_laws.proofs.bytes.LayoutLaws.{length-header}
 use Rattle.model_laws.proofs.bytes.EmptyLaws.{length-unusedGroup}
-use Rattle.model_laws.proofs.strip.BatchLaws.{batch-one, length-GW, length-HW, length-KW, length-FN}
+use Rattle.model_laws.proofs.state.BatchLaws.{batch-one, length-GW, length-HW, length-KW, length-FN}
 use Rattle.base_batch.proofs.RecordLaws.{length-joined, records-then, records-then-one, one-then-records}
 
 -- ---- a record for each number below n, each of `size` bytes

@@ -10,7 +10,7 @@ use Rattle.model.specs.Layout.{homeAt}
 use Rattle.model.specs.Batch.{Record, HW, recordBytes, batchBytes}
 use Rattle.model.specs.Effects.{marked, homeWrites}
 use Rattle.model_laws.proofs.bytes.ByteLaws.{length-part, puts-append, puts-nil}
-use Rattle.model_laws.proofs.strip.BatchLaws.{length-HW, batch-append}
+use Rattle.model_laws.proofs.state.BatchLaws.{length-HW, batch-append}
 use Rattle.base_bitmap.specs.Marks.{bitsOf, raised}
 use Rattle.base_bitmap.proofs.MarkedLaws.{raised-nil, raised-cons}
 use Rattle.base_bitmap.proofs.WordLaws.{no-bits}

@@ -8,7 +8,7 @@ use Rattle.model.specs.Bytes.{part, puts, zeros, bytes, putNumber}
 use Rattle.model.specs.Layout.{groupOffset, groupAt, homeAt}
 use Rattle.model.specs.Batch.{Record, GW, HW, KW, groupWriteMark, homeWriteMark, headerWriteMark, recordBytes, batchBytes}
 use Rattle.model_laws.proofs.bytes.ByteLaws.{puts-append}
-use Rattle.model_laws.proofs.strip.BatchLaws.{batch-append, batch-one}
+use Rattle.model_laws.proofs.state.BatchLaws.{batch-append, batch-one}
 use Rattle.base_areas.proofs.PieceLaws.{number-then}
 
 -- ---- one record

@@ -18,7 +18,7 @@ use Rattle.model.specs.Bytes.{number}
 use Rattle.model.specs.declared.State.{State}
 use Rattle.model.specs.State.{modeOffset, writerOf, promiseOf, writerInOrder, writersInOrder}
 use Rattle.model_laws.proofs.bytes.ByteLaws.{number-lt}
-use Rattle.model_laws.proofs.strip.OrderLaws.{order-writer}
+use Rattle.model_laws.proofs.state.OrderLaws.{order-writer}
 use Rattle.base_codec.proofs.JoinLaws.{number-join}
 use Rattle.base_bitmap.specs.Marks.{bit}
 use Rattle.base_bitmap.proofs.WordLaws.{bit-zero}

@@ -13,7 +13,7 @@ use Rattle.model.specs.declared.Writer.{Writer}
 use lib.Dec.{eqb, leb, ltb}
 use Rattle.model.specs.State.{stateOf, writerOf, isOpen, promiseOf, promised, places, nextPosition, numbersInOrder, writerInOrder, promiseInOrder, writerAtInOrder, writersInOrder, inOrder}
 use Rattle.model.specs.Questions.{ask}
-use Rattle.model_laws.proofs.strip.OrderLaws.{tests, WriterInOrder, writer-order, order-writer}
+use Rattle.model_laws.proofs.state.OrderLaws.{tests, WriterInOrder, writer-order, order-writer}
 use Rattle.base_state.specs.Order.{GroupsInOrder, Agrees, Live, BoundsInOrder, roundInOrder}
 
 refuted : (b : Bool) → (b ≡ true → ⊥) → false ≡ b

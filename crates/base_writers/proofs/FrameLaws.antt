@@ -14,8 +14,8 @@ use Rattle.model.specs.declared.State.{State}
 use Rattle.model.specs.declared.Writer.{Writer}
 use Rattle.model.specs.State.{stateOf, setNext, setFilled, modeOffset, writerOffset, lessOne, writerOf, setWriter, heldOf}
 use Rattle.model_laws.proofs.bytes.ByteLaws.{puts-nil, length-bytes}
-use Rattle.model_laws.proofs.strip.StateLaws.{byte-agree}
-use Rattle.model_laws.proofs.strip.WriterLaws.{length-setWriter, part-setWriter, state-setWriter, writer-setWriter-other, held-setWriter}
+use Rattle.model_laws.proofs.state.StateLaws.{byte-agree}
+use Rattle.model_laws.proofs.state.WriterLaws.{length-setWriter, part-setWriter, state-setWriter, writer-setWriter-other, held-setWriter}
 use Rattle.base_writers.specs.Frame.{SameElsewhere}
 
 -- ---- the frame

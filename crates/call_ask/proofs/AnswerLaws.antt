@@ -18,8 +18,8 @@ use Rattle.model.specs.Effects.{Given, Effect, newState}
 use Rattle.model.specs.Questions.{ask, areasRight, stateRight, blockRight, stripInOrder, askState, askBlock}
 use Rattle.model.specs.Calls.{Outcome, refused, done, sizeOf, outcome}
 use Rattle.model_laws.proofs.bytes.ByteLaws.{puts-nil}
-use Rattle.model_laws.proofs.strip.QuestionLaws.{ask-yes, ask-no, ask-passed, and-true}
-use Rattle.model_laws.proofs.strip.OrderLaws.{tests, InOrder, in-order}
+use Rattle.model_laws.proofs.state.QuestionLaws.{ask-yes, ask-no, ask-passed, and-true}
+use Rattle.model_laws.proofs.state.OrderLaws.{tests, InOrder, in-order}
 use Rattle.call_ask.specs.Lent.{lent, leavesAll}
 
 -- ---- the first two questions, and a third that stands for the rest

@@ -11,8 +11,8 @@ use Rattle.model.specs.Layout.{groupsIn, homesIn, logLengthRight, dataLengthRig
 use Rattle.model.specs.State.{inOrder}
 use Rattle.model.specs.Effects.{Given}
 use Rattle.model.specs.Questions.{ask, areasRight, stateRight, blockRight, stripInOrder, askState, askBlock}
-use Rattle.model_laws.proofs.strip.QuestionLaws.{ask-yes, ask-no}
-use Rattle.model_laws.proofs.strip.OrderLaws.{tests}
+use Rattle.model_laws.proofs.state.QuestionLaws.{ask-yes, ask-no}
+use Rattle.model_laws.proofs.state.OrderLaws.{tests}
 
 -- ---- the lengths of what is lent
 

@@ -13,7 +13,7 @@ use Rattle.model.specs.State.{stateOf}
 use Rattle.model.specs.declared.State.{State}
 use Rattle.model.specs.Effects.{Given}
 use Rattle.model.specs.Questions.{ask, areasRight, stateRight, blockRight, newestRight, stripInOrder, askState, askBlock, askNewest, askBoth}
-use Rattle.model_laws.proofs.strip.QuestionLaws.{ask-no}
+use Rattle.model_laws.proofs.state.QuestionLaws.{ask-no}
 use Rattle.call_ask.specs.Lent.{lentAll, lent}
 use Rattle.call_ask.proofs.AnswerLaws.{Usable, state-refuses, state-passes, state-usable, block-refuses, block-passes, block-usable}
 

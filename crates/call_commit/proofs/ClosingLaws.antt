@@ -15,10 +15,10 @@ use Rattle.model.specs.State.{stateOf, setLast, nextPosition, writerOf, setWrit
 use Rattle.model.specs.Tag.{closingWord}
 use Rattle.model.specs.Effects.{logged, linkFrom}
 use Rattle.model.specs.Rights.{keepList}
-use Rattle.model_laws.proofs.strip.StateLaws.{withLast, state-setLast}
-use Rattle.model_laws.proofs.strip.WriterLaws.{state-setWriter}
-use Rattle.model_laws.proofs.strip.PromiseLaws.{state-setPromise}
-use Rattle.model_laws.proofs.strip.LoggingLaws.{Advance, advance-position, logged-numbers, logged-length}
+use Rattle.model_laws.proofs.state.StateLaws.{withLast, state-setLast}
+use Rattle.model_laws.proofs.state.WriterLaws.{state-setWriter}
+use Rattle.model_laws.proofs.state.PromiseLaws.{state-setPromise}
+use Rattle.model_laws.proofs.state.LoggingLaws.{Advance, advance-position, logged-numbers, logged-length}
 use Rattle.call_ask.specs.Lent.{lentAll}
 use Rattle.call_rights.specs.Listed.{Left}
 use Rattle.log_scan.specs.Members.{Stretch}

@@ -18,8 +18,8 @@ use Rattle.model.specs.Effects.{Given, newState, abortEffect, logClosing, tagsO
 use Rattle.model.specs.Questions.{ask, askNewest, writerKnown, writerOpen, roomFor, room, commitLogs, batchFits, commitAnswer}
 use Rattle.model.specs.Calls.{sizeOf, commitCall}
 use Rattle.model_laws.proofs.bytes.ByteLaws.{puts-nil}
-use Rattle.model_laws.proofs.strip.OrderLaws.{place-below}
-use Rattle.model_laws.proofs.strip.QuestionLaws.{ask-yes, ask-no, room-true, CommitReady, commit-ready}
+use Rattle.model_laws.proofs.state.OrderLaws.{place-below}
+use Rattle.model_laws.proofs.state.QuestionLaws.{ask-yes, ask-no, room-true, CommitReady, commit-ready}
 use Rattle.call_ask.specs.Lent.{lentAll, leavesAll}
 use Rattle.call_ask.proofs.AnswerLaws.{Usable, refused-by}
 use Rattle.call_ask.proofs.NewestAnswers.{newest-usable, newest-refuses, newest-passes, newest-only}
@@ -28,7 +28,7 @@ use Rattle.call_commit.specs.Closings.{loggedClosing, keptBy, Committed}
 use Rattle.call_store.proofs.CallLaws.{newest-first, ends}
 use Rattle.call_store.proofs.LogLaws.{logged-size}
 use Rattle.call_store.proofs.ReadyLaws.{quiet, loud, may, fits-tag}
-use Rattle.model_laws.proofs.strip.LoggingLaws.{fits}
+use Rattle.model_laws.proofs.state.LoggingLaws.{fits}
 
 -- ---- its effect
 

@@ -17,8 +17,8 @@ use Rattle.model.specs.Effects.{Given, flushEffect, flushNone, flushPart}
 use Rattle.model.specs.Questions.{ask, askState, keepsPromises, batchFits, flushAnswer}
 use Rattle.model.specs.Calls.{sizeOf, flushCall}
 use Rattle.model_laws.proofs.bytes.ByteLaws.{puts-append}
-use Rattle.model_laws.proofs.strip.QuestionLaws.{ask-yes, ask-no, ask-passed}
-use Rattle.model_laws.proofs.strip.BatchLaws.{length-GW, length-FN, batch-one}
+use Rattle.model_laws.proofs.state.QuestionLaws.{ask-yes, ask-no, ask-passed}
+use Rattle.model_laws.proofs.state.BatchLaws.{length-GW, length-FN, batch-one}
 use Rattle.call_ask.specs.Lent.{lent, leaves}
 use Rattle.call_ask.proofs.AnswerLaws.{Usable, usable-groups, state-usable, state-refuses, state-passes, state-only, refused-by}
 use Rattle.base_state.specs.Order.{GroupsInOrder}

@@ -13,11 +13,11 @@ use Rattle.model.specs.declared.Writer.{Writer}
 use Rattle.model.specs.State.{stateOf, nextPosition, writerOf, setWriter, setHeld, begun, holding, holds}
 use Rattle.model.specs.Effects.{Given}
 use Rattle.model_laws.proofs.bytes.ByteLaws.{length-part, length-puts}
-use Rattle.model_laws.proofs.strip.WriterLaws.{writer-setWriter, fits-begun}
+use Rattle.model_laws.proofs.state.WriterLaws.{writer-setWriter, fits-begun}
 use Rattle.call_ask.specs.Lent.{lentAll}
 use Rattle.call_store.specs.Logs.{MayLog, Fits, StoredOther}
-use Rattle.acts.specs.Chains.{storedFirst}
-use Rattle.call_many.specs.Steps.{Chain, BatchRoom, Stored, Reached, Under}
+use Rattle.acts.specs.Many.{storedFirst}
+use Rattle.call_many.specs.Steps.{Several, BatchRoom, Stored, Reached, Under}
 use Rattle.call_many.proofs.StoredLaws.{may-log, stored, stored-reached, stored-first}
 
 -- ---- a part of the lent blocks
@@ -82,7 +82,7 @@ module _ (g : Given) (x : List ℕ) (w home n m : ℕ) (s l b : List ℕ) where
 
 -- ---- all of it
 
-pub under-first : (l a s p x b s′ : List ℕ) (w home n : ℕ) → Chain l s x w home n → BatchRoom s b n
+pub under-first : (l a s p x b s′ : List ℕ) (w home n : ℕ) → Several l s x w home n → BatchRoom s b n
     → s′ ≡ setHeld (setWriter (setWriter s w begun) w (holding home)) w (part x 0 64) → Under (lentAll l a s p x b w home) x w home n 1 0 s′ l b
 under-first l a s p x b s′ w home n c room e =
     let k : home + 0 ≡ home = omega arith in

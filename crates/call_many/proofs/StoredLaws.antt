@@ -15,15 +15,15 @@ use Rattle.model.specs.State.{stateOf, nextPosition, writerOf, setWriter, heldO
 use Rattle.model.specs.Tag.{entryWord}
 use Rattle.model.specs.Effects.{Given, Effect, Logged, logged, newState, beginEffect, logHeld, storeFirst, storeOther, storeEffect}
 use Rattle.model_laws.proofs.bytes.ByteLaws.{length-part, puts-nil}
-use Rattle.model_laws.proofs.strip.BatchLaws.{batch-append}
-use Rattle.model_laws.proofs.strip.WriterLaws.{length-setWriter, length-setHeld, state-setWriter, state-setHeld, writer-setWriter, writer-setHeld, fits-begun, fits-holding, fits-logging}
-use Rattle.model_laws.proofs.strip.PromiseLaws.{length-setPromise, state-setPromise, writer-setPromise}
+use Rattle.model_laws.proofs.state.BatchLaws.{batch-append}
+use Rattle.model_laws.proofs.state.WriterLaws.{length-setWriter, length-setHeld, state-setWriter, state-setHeld, writer-setWriter, writer-setHeld, fits-begun, fits-holding, fits-logging}
+use Rattle.model_laws.proofs.state.PromiseLaws.{length-setPromise, state-setPromise, writer-setPromise}
 use Rattle.call_store.specs.Logs.{MayLog, Fits, StoredOther, loggedEntry}
 use Rattle.call_store.proofs.LogLaws.{logged-size}
 use Rattle.call_store.proofs.StoreLaws.{effect-first, effect-other}
-use Rattle.acts.specs.Chains.{lentOn, andThen, storedFirst}
-use Rattle.call_many.specs.Steps.{Chain, BatchRoom, Moved, Stored, Reached}
-use Rattle.model_laws.proofs.strip.LoggingLaws.{Advance, SameWriters, length-entered, link-small, logged-numbers, logged-writers, logged-log, logged-records}
+use Rattle.acts.specs.Many.{lentOn, andThen, storedFirst}
+use Rattle.call_many.specs.Steps.{Several, BatchRoom, Moved, Stored, Reached}
+use Rattle.model_laws.proofs.state.LoggingLaws.{Advance, SameWriters, length-entered, link-small, logged-numbers, logged-writers, logged-log, logged-records}
 
 -- ---- an entry's records
 
@@ -55,7 +55,7 @@ pub stored-next : (g : Given) (k : ℕ)
 unfolding storedFirst
 stored-next g k = refl
 
-module _ (g : Given) (n : ℕ) (c : Chain (g .log) (g .state) (g .block) (g .writer) (g .home) n) where
+module _ (g : Given) (n : ℕ) (c : Several (g .log) (g .state) (g .block) (g .writer) (g .home) n) where
   block-size : (k : ℕ) → k < n → length (part (g .block) (64 * k) 64) ≡ 64
   block-size k l = length-part (g .block) (64 * k) 64 (omega (arith, c .blocks))
 

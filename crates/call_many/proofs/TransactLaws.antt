@@ -19,14 +19,14 @@ use Rattle.model.specs.Effects.{Given, Effect, Logged, logged, linkFrom, logClo
 use Rattle.model.specs.Questions.{ask, areasRight, stateRight, newestRight, stripInOrder, writerKnown, writerOpen, batchFits}
 use Rattle.model.specs.Calls.{sizeOf, outcome}
 use Rattle.model_laws.proofs.bytes.ByteLaws.{length-puts}
-use Rattle.model_laws.proofs.strip.QuestionLaws.{ask-yes, ask-no, ask-passed}
+use Rattle.model_laws.proofs.state.QuestionLaws.{ask-yes, ask-no, ask-passed}
 use Rattle.call_ask.specs.Lent.{lentAll, leavesAll}
 use Rattle.call_ask.proofs.AnswerLaws.{Usable, refused-by, done-by}
 use Rattle.call_store.specs.Logs.{MayLog, Fits}
 use Rattle.call_commit.specs.Closings.{loggedClosing, keptBy, Committed}
 use Rattle.call_commit.proofs.CommitLaws.{effect-held, kept-list}
-use Rattle.acts.specs.Chains.{blocksLent, blocksRight, homesKnown, lentOn, andThen, storedFirst, transactEffect, askHomes, allOf, mayStoreAll, roomForAll, transactAnswer, transactCall}
-use Rattle.call_many.specs.Steps.{Chain, BatchRoom, Moved, Stored, Reached}
+use Rattle.acts.specs.Many.{blocksLent, blocksRight, homesKnown, lentOn, andThen, storedFirst, transactEffect, askHomes, allOf, mayStoreAll, roomForAll, transactAnswer, transactCall}
+use Rattle.call_many.specs.Steps.{Several, BatchRoom, Moved, Stored, Reached}
 use Rattle.call_many_fetch.proofs.AllowedLaws.{read-list-same, storeTest}
 use Rattle.call_many.proofs.StoredLaws.{sizes-more, may-log, moves, moved-more, bytes-more, stored}
 use Rattle.call_many_fetch.proofs.VerdictLaws.{HomesLent, homes-refuse, homes-pass, homes-first, homes-lent}
@@ -34,7 +34,7 @@ use Rattle.call_many_fetch.proofs.VerdictLaws.{HomesLent, homes-refuse, homes-p
 -- ---- what the questions let through
 
 pub chain-lent : (g : Given) → HomesLent g → leb (length (g .block) / 64) (freePlaces (g .state)) ≡ true
-    → Chain (g .log) (g .state) (g .block) (g .writer) (g .home) (length (g .block) / 64)
+    → Several (g .log) (g .state) (g .block) (g .writer) (g .home) (length (g .block) / 64)
 unfolding freePlaces places
 chain-lent g k f =
     let u = k .usable in
@@ -60,7 +60,7 @@ chain-lent g k f =
 
 -- ---- its effect
 
-module _ (g : Given) (n : ℕ) (c : Chain (g .log) (g .state) (g .block) (g .writer) (g .home) n) (e : Effect) (j : ℕ) (h : Stored g j e) (l : suc j ≡ n) where
+module _ (g : Given) (n : ℕ) (c : Several (g .log) (g .state) (g .block) (g .writer) (g .home) n) (e : Effect) (j : ℕ) (h : Stored g j e) (l : suc j ≡ n) where
   abbrev r : Writer
   r = writerOf (e .state) (g .writer)
 
@@ -127,9 +127,9 @@ module _ (g : Given) (n : ℕ) (c : Chain (g .log) (g .state) (g .block) (g .wri
       (bytes-more g n c e j h (omega arith) word (heldOf (e .state) (g .writer)) (g .batch) b b′ eb (d .batch))
 
 -- the whole call
-module _ (g : Given) (c : Chain (g .log) (g .state) (g .block) (g .writer) (g .home) (length (g .block) / 64)) where
+module _ (g : Given) (c : Several (g .log) (g .state) (g .block) (g .writer) (g .home) (length (g .block) / 64)) where
   last-store : (n : ℕ) → n ≡ length (g .block) / 64
-      → Chain (g .log) (g .state) (g .block) (g .writer) (g .home) n → (j : ℕ) × ((suc j ≡ n) × Stored g j (storedFirst g n))
+      → Several (g .log) (g .state) (g .block) (g .writer) (g .home) n → (j : ℕ) × ((suc j ≡ n) × Stored g j (storedFirst g n))
   last-store zero e k = absurd (omega (arith, k .least))
   last-store (suc j) e k = (j, (refl, stored g (suc j) k j (omega arith)))
 
@@ -258,7 +258,7 @@ module _ (l a s p x b : List ℕ) (w h : ℕ) where
           let y = ask-passed _ 8 _ (f .1) in
           (homes-lent (lentAll l a s p x b w h) (k .0), f .0, y .0)
 
-      pub chain-is : Chain l s x w h (length x / 64)
+      pub chain-is : Several l s x w h (length x / 64)
       chain-is = chain-lent (lentAll l a s p x b w h) (passed .0) (passed .1)
 
       pub room-is : BatchRoom s b (length x / 64)

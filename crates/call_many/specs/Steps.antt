@@ -10,10 +10,10 @@ use Rattle.model.specs.Batch.{Record, batchBytes}
 use Rattle.model.specs.declared.State.{State}
 use Rattle.model.specs.State.{stateOf, nextPosition, writerOf, holds, firstFor, countFor}
 use Rattle.model.specs.Effects.{Given, Effect}
-use Rattle.acts.specs.Chains.{storedFirst}
+use Rattle.acts.specs.Many.{storedFirst}
 
 -- the log copy, the strip and the lent blocks of a transact of n blocks that questions 1, 2, 4, 5 and 8 let through
-pub record Chain (l s x : List ℕ) (w home n : ℕ) : Type 0 where
+pub record Several (l s x : List ℕ) (w home n : ℕ) : Type 0 where
   pub strip : length s ≡ 1024
   pub writer : w < 8
   pub some : 4 ≤ stateOf s .groups
@@ -69,6 +69,6 @@ pub record Under (g : Given) (x : List ℕ) (w h n i size : ℕ) (s l b : List �
   pub block : g .block ≡ x
   pub writer : g .writer ≡ w
   pub home : g .home ≡ h
-  pub chain : Chain (g .log) (g .state) (g .block) (g .writer) (g .home) n
+  pub chain : Several (g .log) (g .state) (g .block) (g .writer) (g .home) n
   pub room : BatchRoom (g .state) (g .batch) n
   pub reached : Reached size s l b (g .batch) (storedFirst g i)

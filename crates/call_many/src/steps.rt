@@ -10,8 +10,8 @@ ghost use Rattle.model.specs.State.{stateOf, nextPosition, writerOf, setWriter,
 ghost use Rattle.model.specs.Effects.{Given};
 ghost use Rattle.call_ask.specs.Lent.{lentAll};
 ghost use Rattle.call_store.specs.Logs.{MayLog, Fits, StoredOther};
-ghost use Rattle.acts.specs.Chains.{storedFirst};
-ghost use Rattle.call_many.specs.Steps.{Chain, BatchRoom, Reached, Under};
+ghost use Rattle.acts.specs.Many.{storedFirst};
+ghost use Rattle.call_many.specs.Steps.{Several, BatchRoom, Reached, Under};
 
 // Begins a transaction of the writer `w`, which holds the first of the lent blocks.
 fn hold_first(state: &mut [u8], blocks: &[u8], w: usize, home: u64)
@@ -56,7 +56,7 @@ pub fn store_all(
     w: usize,
     home: u64,
 ) -> u64
-    requires { ⌜ Chain (now log) (now state) (now blocks) w home (length (now blocks) / 64) × BatchRoom (now state) (now batch) (length (now blocks) / 64) ⌝ }
+    requires { ⌜ Several (now log) (now state) (now blocks) w home (length (now blocks) / 64) × BatchRoom (now state) (now batch) (length (now blocks) / 64) ⌝ }
     ensures { λ x. ⌜ ((a p : List ℕ) → Reached x (now (state .exit)) (now (log .exit)) (now (batch .exit)) (now (batch .entry)) (storedFirst (lentAll (now (log .entry)) a (now (state .entry)) p (now (blocks .entry)) (now (batch .entry)) w home) (length (now (blocks .entry)) / 64))) ⌝ }
 {
     hold_first(state, blocks, w, home);

@@ -4,7 +4,7 @@ use crate::verdicts::transact_verdict;
 use call_ask::Reply;
 ghost use mathlib.Core.Path.{_≡_};
 ghost use Rattle.call_ask.specs.Lent.{lentAll, leavesAll};
-ghost use Rattle.acts.specs.Chains.{transactCall};
+ghost use Rattle.acts.specs.Many.{transactCall};
 
 // Commits one to seven blocks for the homes from `home` on, in one transaction of a writer that has none open and may store to them all. The figure is
 // the ticket.

@@ -11,7 +11,7 @@ ghost use Rattle.model.specs.Questions.{ask};
 ghost use Rattle.model.specs.Calls.{sizeOf};
 ghost use Rattle.call_ask.specs.Lent.{lentAll};
 ghost use Rattle.base_state.specs.Order.{GroupsInOrder};
-ghost use Rattle.acts.specs.Chains.{transactAnswer, transactEffect};
+ghost use Rattle.acts.specs.Many.{transactAnswer, transactEffect};
 
 // Questions 8 and 10 of a call that logs `n` entries of an idle writer: 0 if the log has room for them, and the batch for the group that they may fill.
 fn may_log_all(state: &[u8], st: State, n: u64, batch: usize) -> u64

@@ -14,7 +14,7 @@ use Rattle.model.specs.Effects.{Given, tagsOf, liveTags, liveBase, isThere, blo
 use Rattle.model.specs.Rights.{forHome, shownAt, listBy, readList, storeRight, readRight}
 use Rattle.model.specs.Questions.{readAllowed}
 use Rattle.call_ask.specs.Lent.{lentAll}
-use Rattle.acts.specs.Chains.{allOf}
+use Rattle.acts.specs.Many.{allOf}
 
 -- ---- all of some homes
 

@@ -18,12 +18,12 @@ use Rattle.model.specs.Effects.{Given, blockOr, newestOwn, ownElse, keptPositio
 use Rattle.model.specs.Questions.{ask}
 use Rattle.model.specs.Calls.{outcome}
 use Rattle.model_laws.proofs.bytes.ByteLaws.{puts-nil, puts-sets, puts-append, puts-whole}
-use Rattle.model_laws.proofs.strip.QuestionLaws.{ask-yes, ask-no}
+use Rattle.model_laws.proofs.state.QuestionLaws.{ask-yes, ask-no}
 use Rattle.call_ask.specs.Lent.{lentAll, leavesAll}
 use Rattle.call_ask.proofs.AnswerLaws.{Usable, refused-by, done-by}
 use Rattle.call_read.specs.Shown.{readBlock}
 use Rattle.model.specs.Rights.{forHome}
-use Rattle.acts.specs.Chains.{blocksLent, blocksRead, fetchEffect, askHomes, allOf, mayStoreAll, mayReadAll, fetchAnswer, reviseAnswer, fetchCall, reviseCall}
+use Rattle.acts.specs.Many.{blocksLent, blocksRead, fetchEffect, askHomes, allOf, mayStoreAll, mayReadAll, fetchAnswer, reviseAnswer, fetchCall, reviseCall}
 use Rattle.call_many_fetch.proofs.AllowedLaws.{block-same, read-list-same, storeTest, readTest}
 use Rattle.call_many_fetch.proofs.VerdictLaws.{HomesLent, homes-refuse, homes-pass, homes-first, homes-lent}
 

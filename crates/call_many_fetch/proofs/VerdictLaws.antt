@@ -12,11 +12,11 @@ use Rattle.model.specs.Layout.{homesIn}
 use Rattle.model.specs.State.{freePlaces}
 use Rattle.model.specs.Effects.{Given}
 use Rattle.model.specs.Questions.{ask, areasRight, stateRight, newestRight, stripInOrder, writerKnown, askNewest, mayPromise}
-use Rattle.model_laws.proofs.strip.QuestionLaws.{ask-yes, ask-no, ask-passed, and-true}
+use Rattle.model_laws.proofs.state.QuestionLaws.{ask-yes, ask-no, ask-passed, and-true}
 use Rattle.call_ask.specs.Lent.{lentAll}
 use Rattle.call_ask.proofs.AnswerLaws.{Usable}
 use Rattle.call_ask.proofs.NewestAnswers.{newest-refuses, newest-passes, newest-usable, newest-only}
-use Rattle.acts.specs.Chains.{blocksLent, blocksRight, homesKnown, askHomes}
+use Rattle.acts.specs.Many.{blocksLent, blocksRight, homesKnown, askHomes}
 
 -- ---- tests
 

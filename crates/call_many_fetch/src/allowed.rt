@@ -8,7 +8,7 @@ ghost use Rattle.call_ask.specs.Lent.{lentAll};
 ghost use Rattle.call_ask.proofs.AnswerLaws.{Usable};
 ghost use Rattle.model.specs.State.{listSign};
 ghost use Rattle.model.specs.Rights.{storeRight, readRight, readList};
-ghost use Rattle.acts.specs.Chains.{allOf};
+ghost use Rattle.acts.specs.Many.{allOf};
 
 // Whether a writer may store to each of `n` homes from `home` on.
 pub fn may_store_all(

@@ -11,7 +11,7 @@ ghost use Rattle.model.specs.Layout.{homesIn};
 ghost use Rattle.call_ask.specs.Lent.{lentAll, leavesAll};
 ghost use Rattle.call_ask.proofs.AnswerLaws.{Usable};
 ghost use Rattle.call_read.specs.Shown.{readBlock};
-ghost use Rattle.acts.specs.Chains.{blocksRead, fetchCall, reviseCall};
+ghost use Rattle.acts.specs.Many.{blocksRead, fetchCall, reviseCall};
 
 // Copies the block of a home that a writer sees to the index `at`.
 fn show_at(

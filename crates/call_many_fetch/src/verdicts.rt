@@ -7,7 +7,7 @@ ghost use mathlib.Core.List.{[]};
 ghost use Prim.Native.Nat.{_+_, _*_, _/_};
 ghost use lib.Dec.{eqb, leb};
 ghost use Rattle.call_ask.specs.Lent.{lentAll};
-ghost use Rattle.acts.specs.Chains.{askHomes, fetchAnswer, reviseAnswer};
+ghost use Rattle.acts.specs.Many.{askHomes, fetchAnswer, reviseAnswer};
 
 // Whether a strip of home blocks may have `len` bytes: one to seven whole blocks.
 fn blocks_right(len: usize) -> bool

@@ -14,8 +14,8 @@ use Rattle.model.specs.Effects.{Given, formatEffect, formatted}
 use Rattle.model.specs.Questions.{areasRight, batchFits, formatAnswer}
 use Rattle.model.specs.Calls.{sizeOf, formatCall}
 use Rattle.model_laws.proofs.bytes.ByteLaws.{puts-whole, length-zeros}
-use Rattle.model_laws.proofs.strip.QuestionLaws.{ask-yes, ask-no, ask-passed}
-use Rattle.model_laws.proofs.strip.OrderLaws.{tests}
+use Rattle.model_laws.proofs.state.QuestionLaws.{ask-yes, ask-no, ask-passed}
+use Rattle.model_laws.proofs.state.OrderLaws.{tests}
 use Rattle.base_batch.proofs.FormatLaws.{length-formatted}
 use Rattle.call_ask.specs.Lent.{lent, leaves}
 use Rattle.call_ask.proofs.AnswerLaws.{refused-by, done-by}

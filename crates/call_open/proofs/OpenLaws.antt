@@ -18,9 +18,9 @@ use Rattle.model.specs.Effects.{Given, blankWrites, touched, replayed, homeWrit
 use Rattle.model.specs.Questions.{ask, areasRight, stateRight, headerFits, startFits, batchFits, openAnswer, newestRight}
 use Rattle.model.specs.Calls.{sizeOf, openCall}
 use Rattle.model_laws.proofs.bytes.LayoutLaws.{length-header}
-use Rattle.model_laws.proofs.strip.BatchLaws.{batch-append, length-FN, length-KW}
-use Rattle.model_laws.proofs.strip.QuestionLaws.{ask-yes, ask-no, ask-passed, and-true}
-use Rattle.model_laws.proofs.strip.OrderLaws.{tests}
+use Rattle.model_laws.proofs.state.BatchLaws.{batch-append, length-FN, length-KW}
+use Rattle.model_laws.proofs.state.QuestionLaws.{ask-yes, ask-no, ask-passed, and-true}
+use Rattle.model_laws.proofs.state.OrderLaws.{tests}
 use Rattle.base_batch.proofs.RecordLaws.{records-then-one, one-then-records}
 use Rattle.base_batch.proofs.FormatLaws.{length-groups}
 use Rattle.log_scan.specs.Walk.{closedBelow}

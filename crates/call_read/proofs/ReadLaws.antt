@@ -20,11 +20,11 @@ use Rattle.model.specs.Batch.{batchBytes}
 use Rattle.model.specs.Questions.{writerKnown, homeKnown, readAllowed, askBoth, readAnswer}
 use Rattle.model.specs.Calls.{readCall}
 use Rattle.model_laws.proofs.bytes.ByteLaws.{puts-nil, puts-whole, length-part}
-use Rattle.model_laws.proofs.strip.OrderLaws.{InOrder}
+use Rattle.model_laws.proofs.state.OrderLaws.{InOrder}
 use Rattle.call_ask.proofs.AnswerLaws.{Usable, refused-by, done-by}
 use Rattle.call_ask.proofs.NewestAnswers.{both-refuses, both-passes, both-zero, both-usable}
 use Rattle.call_ask.specs.Lent.{leavesAll}
-use Rattle.model_laws.proofs.strip.QuestionLaws.{ask-yes, ask-no, ask-passed}
+use Rattle.model_laws.proofs.state.QuestionLaws.{ask-yes, ask-no, ask-passed}
 use Rattle.log_scan.specs.Members.{Stretch}
 use Rattle.log_shown.specs.There.{tagsBy, thereBy, placeOf, placeBy, Searchable}
 use Rattle.log_shown.proofs.ThereLaws.{there-same, there-below}

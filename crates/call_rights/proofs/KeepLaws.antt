@@ -15,7 +15,7 @@ use Rattle.model.specs.Newest.{keptFor, carryListed}
 use Rattle.model.specs.Effects.{Given, groups, homes}
 use Rattle.model.specs.Rights.{readList, sameListed, listMoved, signFor, signIf, keepList}
 use Rattle.model_laws.proofs.bytes.LayoutLaws.{groups-in, homes-in}
-use Rattle.model_laws.proofs.strip.ListedLaws.{length-carry, state-carry}
+use Rattle.model_laws.proofs.state.ListedLaws.{length-carry, state-carry}
 use Rattle.call_ask.specs.Lent.{lentAll}
 use Rattle.call_rights.specs.Listed.{Listed, Left, blocksBy}
 use Rattle.call_rights.proofs.RightsLaws.{list-same, kept-at}

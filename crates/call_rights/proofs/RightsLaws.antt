@@ -19,7 +19,7 @@ use Rattle.model.specs.Questions.{storeAllowed, readAllowed}
 use Rattle.model_laws.proofs.bytes.ByteLaws.{length-part, number-part, part-whole}
 use Rattle.model_laws.proofs.bytes.LayoutLaws.{part-after, part-of-front}
 use Rattle.model_laws.proofs.trace.ReplayLaws.{length-blockAt}
-use Rattle.model_laws.proofs.strip.OrderLaws.{InOrder}
+use Rattle.model_laws.proofs.state.OrderLaws.{InOrder}
 use Rattle.call_ask.specs.Lent.{lent, lentAll}
 use Rattle.call_ask.proofs.AnswerLaws.{Usable}
 use Rattle.log_shown.specs.There.{thereBy, shownBy, Searchable}

@@ -18,9 +18,9 @@ use Rattle.model.specs.Effects.{Given, marked, homeWrites, touchedFrom, restore
 use Rattle.model.specs.Questions.{ask, askState, batchFits, inRound, beginRoundAnswer, stepRoundAnswer}
 use Rattle.model.specs.Calls.{sizeOf, beginRoundCall, stepRoundCall}
 use Rattle.model_laws.proofs.bytes.ByteLaws.{puts-append}
-use Rattle.model_laws.proofs.strip.BatchLaws.{batch-one, batch-append, length-FN}
-use Rattle.model_laws.proofs.strip.OrderLaws.{InOrder}
-use Rattle.model_laws.proofs.strip.QuestionLaws.{ask-yes, ask-no}
+use Rattle.model_laws.proofs.state.BatchLaws.{batch-one, batch-append, length-FN}
+use Rattle.model_laws.proofs.state.OrderLaws.{InOrder}
+use Rattle.model_laws.proofs.state.QuestionLaws.{ask-yes, ask-no}
 use Rattle.model_laws.proofs.trace.ReplayLaws.{length-blockAt}
 use Rattle.model_laws.proofs.trace.RestoreLaws.{length-restored}
 use Rattle.base_batch.specs.Within.{Within}

@@ -15,9 +15,9 @@ use Rattle.model.specs.State.{stateOf, setSettled, setFenced}
 use Rattle.model.specs.Effects.{Given, touched, replayed, homeWrites, tagsOf, liveTags, liveBase, settleEffect}
 use Rattle.model.specs.Questions.{ask, askState, batchFits, settleAnswer, inRound}
 use Rattle.model.specs.Calls.{sizeOf, settleCall}
-use Rattle.model_laws.proofs.strip.BatchLaws.{batch-one, length-FN}
-use Rattle.model_laws.proofs.strip.QuestionLaws.{ask-yes, ask-no}
-use Rattle.model_laws.proofs.strip.OrderLaws.{InOrder}
+use Rattle.model_laws.proofs.state.BatchLaws.{batch-one, length-FN}
+use Rattle.model_laws.proofs.state.QuestionLaws.{ask-yes, ask-no}
+use Rattle.model_laws.proofs.state.OrderLaws.{InOrder}
 use Rattle.log_scan.specs.Walk.{closedBelow}
 use Rattle.call_ask.specs.Lent.{lent, leaves}
 use Rattle.call_ask.proofs.AnswerLaws.{Usable, state-usable, state-only, state-refuses, state-passes, refused-by, done-by}

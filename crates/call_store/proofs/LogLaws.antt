@@ -18,15 +18,15 @@ use Rattle.model.specs.Tag.{entryWord}
 use Rattle.model.specs.Effects.{entered, submitted, logged, linkFrom}
 use Rattle.model.specs.Questions.{ask}
 use Rattle.model_laws.proofs.bytes.ByteLaws.{puts-nil}
-use Rattle.model_laws.proofs.strip.QuestionLaws.{ask-yes, ask-no}
-use Rattle.model_laws.proofs.strip.BatchLaws.{length-GW, batch-one}
+use Rattle.model_laws.proofs.state.QuestionLaws.{ask-yes, ask-no}
+use Rattle.model_laws.proofs.state.BatchLaws.{length-GW, batch-one}
 use Rattle.base_writers.specs.Held.{heldFor}
 use Rattle.base_writers.specs.Frame.{SameElsewhere}
 use Rattle.base_writers.proofs.HeldLaws.{held-first, held-other}
 use Rattle.base_writers.proofs.FrameLaws.{elsewhere, setNext-writer, setFilled-writer}
 use Rattle.call_store.specs.Logs.{MayLog, Fits, Wrote, loggedEntry, HeldNext, StoredOther}
 use Rattle.call_store.proofs.CallLaws.{length-slot}
-use Rattle.model_laws.proofs.strip.LoggingLaws.{length-entered}
+use Rattle.model_laws.proofs.state.LoggingLaws.{length-entered}
 
 -- ---- room in the log and in the batch
 

@@ -13,11 +13,11 @@ use Rattle.model.specs.declared.State.{State}
 use Rattle.model.specs.declared.Writer.{Writer}
 use Rattle.model.specs.State.{stateOf, nextPosition, writerOf, holds}
 use Rattle.model.specs.Questions.{ask}
-use Rattle.model_laws.proofs.strip.OrderLaws.{InOrder, WriterInOrder}
-use Rattle.model_laws.proofs.strip.QuestionLaws.{ask-yes}
+use Rattle.model_laws.proofs.state.OrderLaws.{InOrder, WriterInOrder}
+use Rattle.model_laws.proofs.state.QuestionLaws.{ask-yes}
 use Rattle.call_ask.proofs.AnswerLaws.{Usable}
 use Rattle.call_store.specs.Logs.{MayLog, Fits}
-use Rattle.model_laws.proofs.strip.LoggingLaws.{bounds, link-small}
+use Rattle.model_laws.proofs.state.LoggingLaws.{bounds, link-small}
 
 -- questions 8 and 10 of a call that logs nothing, and of one that logs
 pub quiet : (logs has : Bool) (size len : ℕ) → logs ≡ false → size ≡ 0 → ask (not logs || has) 8 (ask (leb size len) 9 0) ≡ 0

@@ -17,8 +17,8 @@ use Rattle.model.specs.Effects.{Given, newState, logHeld, storeFirst, storeAgai
 use Rattle.model.specs.Questions.{ask, askBlock, writerKnown, homeKnown, writerOpen, roomFor, room, storeLogs, batchFits, storeAllowed, storeAnswer}
 use Rattle.model.specs.Calls.{sizeOf, storeCall}
 use Rattle.model_laws.proofs.bytes.ByteLaws.{puts-nil}
-use Rattle.model_laws.proofs.strip.OrderLaws.{place-below}
-use Rattle.model_laws.proofs.strip.QuestionLaws.{ask-yes, ask-no, room-true, StoreReady, store-ready}
+use Rattle.model_laws.proofs.state.OrderLaws.{place-below}
+use Rattle.model_laws.proofs.state.QuestionLaws.{ask-yes, ask-no, room-true, StoreReady, store-ready}
 use Rattle.call_ask.specs.Lent.{lent, leaves}
 use Rattle.call_ask.proofs.AnswerLaws.{Usable, block-usable, block-refuses, block-passes, block-only, refused-by}
 use Rattle.call_rights.proofs.RightsLaws.{store-only}
@@ -26,7 +26,7 @@ use Rattle.call_store.specs.Logs.{MayLog, Fits, loggedEntry, StoredOther
 use Rattle.call_store.proofs.CallLaws.{block-first, ends}
 use Rattle.call_store.proofs.LogLaws.{logged-size}
 use Rattle.call_store.proofs.ReadyLaws.{quiet, loud, may, fits-tag}
-use Rattle.model_laws.proofs.strip.LoggingLaws.{fits}
+use Rattle.model_laws.proofs.state.LoggingLaws.{fits}
 
 -- ---- its effect
 

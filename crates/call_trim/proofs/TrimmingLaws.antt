@@ -17,13 +17,13 @@ use Rattle.model.specs.Effects.{Given, groups, homes, newState, tagsOf, liveTag
 use Rattle.model.specs.Questions.{startFits, batchFits, askNewest, trimAnswer}
 use Rattle.model.specs.Calls.{sizeOf, outcome, trimCall}
 use Rattle.model.specs.declared.State.{State}
-use Rattle.model_laws.proofs.strip.BatchLaws.{length-KW, length-FN}
+use Rattle.model_laws.proofs.state.BatchLaws.{length-KW, length-FN}
 use Rattle.model_laws.proofs.bytes.ByteLaws.{puts-append}
 use Rattle.model_laws.proofs.rule.Closings.{closings, endOf}
 use Rattle.model_laws.proofs.rule.ClosingLaws.{committed-closings, committed-most}
 use Rattle.model_laws.proofs.bytes.LayoutLaws.{length-header}
-use Rattle.model_laws.proofs.strip.OrderLaws.{InOrder, next-within}
-use Rattle.model_laws.proofs.strip.QuestionLaws.{ask-yes, ask-no}
+use Rattle.model_laws.proofs.state.OrderLaws.{InOrder, next-within}
+use Rattle.model_laws.proofs.state.QuestionLaws.{ask-yes, ask-no}
 use Rattle.call_ask.specs.Lent.{lentAll, leavesAll, lent}
 use Rattle.call_ask.proofs.AnswerLaws.{Usable, refused-by, done-by, strip-by}
 use Rattle.call_ask.proofs.NewestAnswers.{newest-refuses, newest-passes}

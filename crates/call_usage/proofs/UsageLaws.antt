@@ -19,7 +19,7 @@ use Rattle.model.specs.declared.Holder.{Holder}
 use Rattle.abstract_store.specs.Usage.{noHolder, holdsLower, holderOf, entriesIn, committedEntries, openEntries, usageOf, usageRefused, usageIf, usageCall}
 use Rattle.model.specs.declared.State.{State}
 use Rattle.model.specs.declared.Writer.{Writer}
-use Rattle.model_laws.proofs.strip.OrderLaws.{InOrder, next-within}
+use Rattle.model_laws.proofs.state.OrderLaws.{InOrder, next-within}
 use Rattle.call_ask.specs.Lent.{lent}
 use Rattle.call_ask.proofs.AnswerLaws.{Usable}
 use Rattle.call_usage.specs.Sums.{CountsFit}

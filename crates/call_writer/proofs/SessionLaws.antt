@@ -13,7 +13,7 @@ use Rattle.model.specs.State.{stateOf, setDurable, writerOf, setWriter, setProm
 use Rattle.model.specs.Effects.{Given, beginEffect, reserveEffect, abortEffect, confirmEffect}
 use Rattle.model.specs.Questions.{ask, areasRight, stateRight, stripInOrder, writerKnown, writerOpen, mayPromise, askState, beginAnswer, reserveAnswer, abortAnswer, confirmAnswer}
 use Rattle.model.specs.Calls.{beginCall, reserveCall, abortCall, confirmCall}
-use Rattle.model_laws.proofs.strip.QuestionLaws.{ask-yes, ask-no, ask-passed, and-true, InUse, begin-ready, reserve-ready, abort-ready, confirm-ready}
+use Rattle.model_laws.proofs.state.QuestionLaws.{ask-yes, ask-no, ask-passed, and-true, InUse, begin-ready, reserve-ready, abort-ready, confirm-ready}
 use Rattle.base_state.specs.Order.{GroupsInOrder}
 use Rattle.call_ask.specs.Lent.{lent, leavesAll}
 use Rattle.call_writer.specs.Writers.{askWriter}

@@ -4,7 +4,7 @@ use model::Usage;
 ghost use mathlib.Core.Path.{_≡_};
 ghost use mathlib.Core.List.{[]};
 ghost use Rattle.model.specs.Calls.{formatCall, openCall, beginCall, reserveCall, abortCall, storeCall, commitCall, flushCall, confirmCall, settleCall, trimCall, readCall, beginRoundCall, stepRoundCall};
-ghost use Rattle.acts.specs.Chains.{fetchCall, reviseCall, transactCall};
+ghost use Rattle.acts.specs.Many.{fetchCall, reviseCall, transactCall};
 ghost use Rattle.abstract_store.specs.Usage.{usageCall};
 ghost use Rattle.call_ask.specs.Lent.{lentAll, leavesAll, lent, leaves};
 

@@ -15,7 +15,7 @@ use Rattle.model.specs.declared.Tag.{Tag}
 use Rattle.model.specs.declared.Tag.the-variants.{Nothing, Entry, Closing}
 use Rattle.model_laws.proofs.rule.Closings.{closings, endOf}
 use Rattle.model_laws.proofs.rule.ClosingLaws.{lastAt, walked}
-use Rattle.model_laws.proofs.strip.OrderLaws.{byte-zeros}
+use Rattle.model_laws.proofs.state.OrderLaws.{byte-zeros}
 use Rattle.log_scan.specs.Scan.{Scan, counted, decided, taken, enter, entered, over}
 use Rattle.log_scan.specs.Scan as scanned
 use Rattle.log_scan.specs.declared.commits.Progress.{Progress}

@@ -11,7 +11,7 @@ use lib.Dec.{leb, ltb}
 use Rattle.model.specs.Bytes.{number}
 use Rattle.model.specs.State.{stateOf, modeOffset, writerOffset, writerOf, hasLogged}
 use Rattle.model.specs.Effects.{noneOpenBefore}
-use Rattle.model_laws.proofs.strip.OrderLaws.{InOrder, both}
+use Rattle.model_laws.proofs.state.OrderLaws.{InOrder, both}
 use Rattle.log_limits.specs.Limits.{Highest, writerLimit}
 
 -- ---- the limit of one writer, as the code makes it

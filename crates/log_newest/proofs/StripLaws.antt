@@ -11,7 +11,7 @@ use lib.ListN.{length, set, replicate, length-replicate}
 use Rattle.model.specs.Bytes.{puts, number, putNumber}
 use Rattle.model.specs.Newest.{noPosition, keptFor, keep, nothingKept, forget}
 use Rattle.model_laws.proofs.bytes.ByteLaws.{puts-nil, puts-cons, puts-whole}
-use Rattle.model_laws.proofs.strip.NewestLaws.{forget-above}
+use Rattle.model_laws.proofs.state.NewestLaws.{forget-above}
 
 -- ---- one home
 

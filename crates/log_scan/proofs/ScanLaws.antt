@@ -20,7 +20,7 @@ use Rattle.model.specs.declared.Tag.the-variants.{Nothing, Entry, Closing}
 use Rattle.model_laws.proofs.rule.Closings.{endOf}
 use Rattle.model_laws.proofs.rule.ClosingLaws.{members-more, members-same, end-more, lastAt, walk-more, walked, committed-stopped}
 use Rattle.model_laws.proofs.bytes.ByteLaws.{length-zeros}
-use Rattle.model_laws.proofs.strip.OrderLaws.{byte-zeros}
+use Rattle.model_laws.proofs.state.OrderLaws.{byte-zeros}
 use Rattle.model_laws.proofs.bytes.TagLaws.{entry-known, closing-known}
 use Rattle.log_scan.specs.declared.commits.Progress.{Progress}
 use Rattle.log_scan.specs.Scan.{Scan, fresh, counted, taken, decided, enter, over, entered, Within}

@@ -19,7 +19,7 @@ use Rattle.model.specs.Effects.{Given, groups, homes, tagsOf, liveTags, liveBas
 use Rattle.model.specs.Rights.{shownAt}
 use Rattle.model_laws.proofs.bytes.ByteLaws.{puts-whole}
 use Rattle.model_laws.proofs.trace.ReplayLaws.{length-blockAt}
-use Rattle.model_laws.proofs.strip.OrderLaws.{next-within}
+use Rattle.model_laws.proofs.state.OrderLaws.{next-within}
 use Rattle.call_ask.proofs.AnswerLaws.{Usable}
 use Rattle.log_scan.specs.declared.slots.RingSlot.{RingSlot}
 use Rattle.log_scan.specs.Slots.{SlotOf}

@@ -14,7 +14,7 @@ use Rattle.model.specs.Batch.{Record, batchBytes}
 use Rattle.model.specs.Effects.{touched, replayed, homeWrites}
 use Rattle.model.specs.declared.Tag.{Tag}
 use Rattle.model_laws.proofs.bytes.ByteLaws.{puts-append}
-use Rattle.model_laws.proofs.strip.BatchLaws.{batch-append}
+use Rattle.model_laws.proofs.state.BatchLaws.{batch-append}
 use Rattle.model_laws.proofs.rule.Closings.{endOf}
 use Rattle.model_laws.proofs.rule.ClosingLaws.{committed-closings, committed-within}
 use Rattle.model_laws.proofs.trace.ReplayLaws.{length-replayed}

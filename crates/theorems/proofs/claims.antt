@@ -22,8 +22,8 @@ pub mod DemandTwo
 pub mod Reached
 pub mod UnitBooks
 pub mod TransactBooks
-pub mod StoreChains
-pub mod ChainRuns
+pub mod StoreMany
+pub mod ManyRuns
 pub mod ActsHold
 pub mod FetchReads
 pub mod UnitSteps

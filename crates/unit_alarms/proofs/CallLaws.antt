@@ -7,7 +7,7 @@ use Prim.Native.Nat.{ℕ, _*_}
 use borrow.Author.Tests.{ne-eqb, not-true, not-false}
 use Rattle.model.specs.Bytes.{zeros}
 use Rattle.call_ask.specs.Lent.{lentAll}
-use Rattle.acts.specs.Chains.{fetchCall}
+use Rattle.acts.specs.Many.{fetchCall}
 use Rattle.unit_shared.specs.Unit.{Lent, Left, leaves, judged, fetched, event}
 use Rattle.unit_shared.proofs.UnitLaws.{refusal, readAs, fetching}
 use Rattle.unit_alarms_list.specs.Alarm.{classKnown}

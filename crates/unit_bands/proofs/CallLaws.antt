@@ -7,7 +7,7 @@ use borrow.Author.Tests.{ne-eqb, lt-ltb, le-ltb}
 use lib.ListN.{length}
 use Rattle.model.specs.Bytes.{zeros}
 use Rattle.call_ask.specs.Lent.{lentAll, leavesAll}
-use Rattle.acts.specs.Chains.{fetchCall, transactCall}
+use Rattle.acts.specs.Many.{fetchCall, transactCall}
 use Rattle.unit_shared.specs.Unit.{Lent, Left, leaves, fetched}
 use Rattle.unit_shared.proofs.UnitLaws.{refusal, transaction, readAs, fetching}
 use Rattle.unit_bands_table.specs.Judge.{verdict, depths, judgement}

@@ -8,7 +8,7 @@ pub mod JudgeLaws
 pub mod PackLaws
 pub mod TableLaws
 pub mod MemberLaws
-pub mod ChainLaws
+pub mod RowWalkLaws
 pub mod Guaranteed
 pub mod Examples
 pub mod StoredHolds

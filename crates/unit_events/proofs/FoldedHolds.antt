@@ -12,13 +12,13 @@ use lib.Seq.{take-at, take-length}
 use borrow.Author.Tests.{eqb-true, eqb-false, eq-eqb, ne-eqb}
 use Rattle.model.specs.Bytes.{part, zeros}
 use Rattle.model.specs.Calls.{sizeOf}
-use Rattle.acts.specs.Chains.{blocksLent, transactEffect, transactAnswer, transactCall}
+use Rattle.acts.specs.Many.{blocksLent, transactEffect, transactAnswer, transactCall}
 use Rattle.model.specs.Effects.{Given}
 use Rattle.model.specs.History.{World, unopened, afterFormat, lent}
 use Rattle.abstract_store.specs.Store.{newStore}
 use Rattle.acts.specs.Units.{Act, plain, transacts, fetches, revises, transactEnds, act, acted, ActAllowed, relabel, Label, other, unit, labelOf, lastUnit, Spared, UnitKept}
 use Rattle.model_laws.proofs.bytes.ByteLaws.{length-zeros}
-use Rattle.acts.proofs.ChainLaws.{transact-ready}
+use Rattle.acts.proofs.ManyLaws.{transact-ready}
 use Rattle.theorems.proofs.steps.DoneLaws.{outcome-code}
 use Rattle.theorems.proofs.claims.Reached.{begins}
 use Rattle.theorems.proofs.claims.UnitBooks.{fit-length}

@@ -7,7 +7,7 @@ use native.Mathlib.Omega.{arith}
 use borrow.Author.Tests.{ne-eqb, le-leb, lt-leb}
 use Rattle.model.specs.Bytes.{zeros}
 use Rattle.call_ask.specs.Lent.{lentAll}
-use Rattle.acts.specs.Chains.{fetchCall}
+use Rattle.acts.specs.Many.{fetchCall}
 use Rattle.unit_shared.specs.Unit.{Lent, Left, leaves, judged, fetched, event}
 use Rattle.unit_shared.proofs.UnitLaws.{refusal, readAs, fetching}
 use Rattle.unit_hours_book.specs.Pump.{pumpOf}

@@ -7,7 +7,7 @@ use borrow.Author.Tests.{ne-eqb}
 use Rattle.model.specs.Bytes.{zeros}
 use Rattle.model.specs.Calls.{Outcome}
 use Rattle.call_ask.specs.Lent.{lentAll, leavesAll}
-use Rattle.acts.specs.Chains.{fetchCall, reviseCall, transactCall}
+use Rattle.acts.specs.Many.{fetchCall, reviseCall, transactCall}
 use Rattle.unit_shared.specs.Unit.{Lent, Left, leaves, untouched, leftBy, fetched, revised, transacted, Judged, judged, stored, afterReading, event}
 
 -- what a call that reads is given: its answer and the blocks, all else as it was

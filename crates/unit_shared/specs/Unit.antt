@@ -6,7 +6,7 @@ use mathlib.Core.List.{List, []}
 use lib.Dec.{eqb}
 use Rattle.model.specs.Bytes.{zeros}
 use Rattle.model.specs.Calls.{Outcome}
-use Rattle.acts.specs.Chains.{fetchCall, reviseCall, transactCall}
+use Rattle.acts.specs.Many.{fetchCall, reviseCall, transactCall}
 use Rattle.call_ask.specs.Lent.{lentAll}
 
 -- what a call is lent beside its own numbers; one that only reads is lent no batch

@@ -15,7 +15,7 @@ use Rattle.model.specs.Crash.{Memory, pieces, writeEach, isFence, fences, persi
 use Rattle.model.specs.Demands.{groupWrites}
 use Rattle.model_laws.proofs.bytes.ByteLaws.{puts-append}
 use Rattle.model_laws.proofs.bytes.EmptyLaws.{length-unusedGroup, length-unusedSlots}
-use Rattle.model_laws.proofs.strip.BatchLaws.{AllFormed, formed-append}
+use Rattle.model_laws.proofs.state.BatchLaws.{AllFormed, formed-append}
 use Rattle.model_laws.proofs.trace.CrashLaws.{writeRecords, submits, NoFence, none-append, none-homes, fences-none, fences-append, fences-homes, groupWrites-append, groupWrites-homes, write-append, persist-zero, persist-past, chosen-fence}
 use Rattle.model_laws.proofs.trace.SubmitLaws.{write-group}
 

@@ -10,14 +10,14 @@ use borrow.Author.Tests.{eqb-true, eqb-false, ne-eqb}
 use Rattle.model.specs.Batch.{batchBytes, readBatch, readRecords}
 use Rattle.model.specs.Effects.{Given, Effect, homes}
 use Rattle.model.specs.Calls.{refused, done, outcome, sizeOf}
-use Rattle.acts.specs.Chains.{fetchEffect, fetchAnswer, reviseAnswer, fetchCall, reviseCall, transactEffect, transactAnswer, transactCall}
+use Rattle.acts.specs.Many.{fetchEffect, fetchAnswer, reviseAnswer, fetchCall, reviseCall, transactEffect, transactAnswer, transactCall}
 use Rattle.model.specs.Book.{Book}
 use Rattle.model.specs.History.{Event, World, Formatting, afterFormat, lent, step, after, AllAllowed}
 use Rattle.abstract_store.specs.Store.{Store, newStore}
 use Rattle.acts.specs.Units.{Act, plain, transacts, fetches, revises, transactEnds, fetchEnds, reviseEnds, feedTransact, leftBy, act, acted, ActAllowed, AllActsAllowed, chain, expand, expandAll, ActsExpand}
 use Rattle.theorems.proofs.steps.DoneLaws.{outcome-code}
 use Rattle.theorems.proofs.claims.Reached.{Reached, begins, after-append, allowed-append, goes-on}
-use Rattle.theorems.proofs.claims.ChainRuns.{transact-chain}
+use Rattle.theorems.proofs.claims.ManyRuns.{transact-chain}
 
 -- ---- a refused call, and one that reads only, leaves the world as it is
 

@@ -21,7 +21,7 @@ use Rattle.abstract_store.specs.Store.{Store, listOf, Reply, told, replyService
 use Rattle.abstract_store.specs.Store as store
 use Rattle.theorems.specs.Isolation.{Each, both, more, StoreAlike, CallAlike, equal, stored, followed, Denied, DeniedThroughout, ToldSame, ToldSameThroughout}
 use Rattle.model.specs.Witnesses.{calls}
-use Rattle.model_laws.proofs.strip.QuestionLaws.{ask-passed}
+use Rattle.model_laws.proofs.state.QuestionLaws.{ask-passed}
 use Rattle.model_laws.proofs.trace.TraceLaws.{All}
 use Rattle.theorems.proofs.steps.Footprint.{steady}
 use Rattle.theorems.proofs.invariant.TouchLaws.{CommitFits}

@@ -11,7 +11,7 @@ use Rattle.model.specs.Questions.{areasRight, stateRight, blockRight, stripInOr
 use Rattle.model.specs.Calls.{refused, done, sizeOf, outcome, formatCall, beginCall, reserveCall, abortCall, storeCall, flushCall, confirmCall, settleCall}
 use Rattle.model.specs.Rights.{forHome, storeList}
 use Rattle.model.specs.Facts.{lentWith, leftWith, AsideIn, Aside}
-use Rattle.model_laws.proofs.strip.RightLaws.{shown-by, list-by}
+use Rattle.model_laws.proofs.state.RightLaws.{shown-by, list-by}
 
 -- an effect with other newest positions
 unfoldable effectWith : List ℕ → Effect → Effect

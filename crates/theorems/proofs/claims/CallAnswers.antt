@@ -18,7 +18,7 @@ use Rattle.model.specs.Calls.{sizeOf, beginRoundCall, stepRoundCall}
 use Rattle.model.specs.Demands.{closedBelow, untrimmed, eachContents}
 use Rattle.model.specs.History.{Change, begins, reserves, aborts, stores, commits, flushes, Service, settles, roundBegins, roundSteps, trims, reads, Call, opening, confirm, change, service, World, lent, ends, changeEnds, serviceEnds, isOpening}
 use Rattle.abstract_store.specs.Store.{Store, anyWrote, toStep, askBatch, replyOf, replyChange, replyService, reply}
-use Rattle.model_laws.proofs.strip.BatchLaws.{batch-append, batch-one, length-FN}
+use Rattle.model_laws.proofs.state.BatchLaws.{batch-append, batch-one, length-FN}
 use Rattle.model_laws.proofs.trace.WalkLaws.{closingBelow}
 use Rattle.theorems.proofs.invariant.Invariant.{Sizes, Running}
 use Rattle.theorems.proofs.invariant.LiveLog.{tagsIn, keptIn}

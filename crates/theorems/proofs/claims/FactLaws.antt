@@ -22,8 +22,8 @@ use Rattle.model.specs.Demands.{groupWrites}
 use Rattle.model.specs.Facts.{slotWritten, headerWritten, writtenOnce, FormatOnce, PendingOnce, RowsWritten, homeWritten}
 use Rattle.model.specs.History.{change, service, changeEnds, serviceEnds, Call, opening, store, commit, flush, confirm, settle, trim, Event, call, crash, World, unopened, emptyStore, lent, loaded, ends, isOpening, afterCrash, step, after as along, Allowed, AllAllowed, stepRound}
 use Rattle.model_laws.proofs.bytes.LayoutLaws.{length-groupAt, group-fits, ring}
-use Rattle.model_laws.proofs.strip.BatchLaws.{AllFormed, formed-append}
-use Rattle.model_laws.proofs.strip.QuestionLaws.{and-true, open-ready, store-ready, commit-ready, flush-ready, settle-ready, step-round-ready, trim-ready}
+use Rattle.model_laws.proofs.state.BatchLaws.{AllFormed, formed-append}
+use Rattle.model_laws.proofs.state.QuestionLaws.{and-true, open-ready, store-ready, commit-ready, flush-ready, settle-ready, step-round-ready, trim-ready}
 use Rattle.theorems.proofs.steps.Rows.{ends-row}
 use Rattle.theorems.proofs.steps.Footprint.{writes, Touch, records-open, records-store, records-commit, records-flush, records-settle, records-step, records-trim, Spares, frame}
 use Rattle.theorems.proofs.steps.LogRuns.{logged-records, logged-log}
@@ -39,7 +39,7 @@ use Rattle.theorems.proofs.claims.DemandThree.{keeps}
 use Rattle.theorems.proofs.claims.Yields.{rows-pending}
 use Rattle.theorems.proofs.claims.OnceLaws.{once-fence, once-end, once-more, once-append, avoids-submits, slot-homes, once-marked, once-blanks, once-formatted, Avoids, avoids-mixed, avoids-homes, once-group, slot-group, home-group, slot-header, home-header, home-homes}
 use Rattle.theorems.proofs.invariant.Invariant.{Sizes, Closed, Running, Invariant}
-use Rattle.model_laws.proofs.strip.LoggingLaws.{fits, length-entered}
+use Rattle.model_laws.proofs.state.LoggingLaws.{fits, length-entered}
 
 abbrev pub Once : World → Type 0
 Once w = writtenOnce (w .pending) ≡ true

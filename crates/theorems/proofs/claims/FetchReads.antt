@@ -16,16 +16,16 @@ use Rattle.model.specs.Effects.{Given, homes, newestOwn, blockOr, ownElse, isTh
 use Rattle.model.specs.Rights.{forHome, readList, readRight}
 use Rattle.model.specs.Questions.{areasRight, stateRight, newestRight, blockRight, stripInOrder, writerKnown, homeKnown, readAllowed, askBoth, readAnswer}
 use Rattle.model.specs.Calls.{done, outcome, readCall}
-use Rattle.acts.specs.Chains.{blocksLent, blocksRead, fetchEffect, mayReadAll, fetchAnswer, reviseAnswer, fetchCall, reviseCall}
+use Rattle.acts.specs.Many.{blocksLent, blocksRead, fetchEffect, mayReadAll, fetchAnswer, reviseAnswer, fetchCall, reviseCall}
 use Rattle.model.specs.Book.{reads as readBy}
 use Rattle.model.specs.Demands.{Live}
 use Rattle.model.specs.History.{read, World, afterFormat, lent, ends, serviceEnds}
 use Rattle.abstract_store.specs.Store.{newStore}
 use Rattle.acts.specs.Units.{fetchEnds, reviseEnds, acted, readsFrom, ReadTogether, ActsRead}
 use Rattle.model_laws.proofs.bytes.ByteLaws.{length-zeros}
-use Rattle.model_laws.proofs.strip.QuestionLaws.{ask-yes}
-use Rattle.model_laws.proofs.strip.RightLaws.{list-by}
-use Rattle.acts.proofs.ChainLaws.{HomesReady, each-of, fetch-ready, revise-ready}
+use Rattle.model_laws.proofs.state.QuestionLaws.{ask-yes}
+use Rattle.model_laws.proofs.state.RightLaws.{list-by}
+use Rattle.acts.proofs.ManyLaws.{HomesReady, each-of, fetch-ready, revise-ready}
 use Rattle.theorems.proofs.steps.DoneLaws.{outcome-code, outcome-done}
 use Rattle.theorems.proofs.claims.Reached.{begins, live-then}
 use Rattle.theorems.proofs.claims.ListRights.{shown-at}

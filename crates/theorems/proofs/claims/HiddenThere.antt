@@ -21,7 +21,7 @@ use Rattle.model.specs.Witnesses.{calls}
 use Rattle.theorems.specs.Hidden.{rangeOf, firstWriters, nextWriters, unformatted, firstOpening, listing, listedBefore, bothAtWork, fourth}
 use Rattle.model_laws.proofs.bytes.ByteLaws.{length-zeros}
 use Rattle.theorems.proofs.steps.FormatRuns.{after-format}
-use Rattle.model.proofs.answers.Computing.{all-definitions}
+use Rattle.model.proofs.examples.Computing.{all-definitions}
 use Rattle.theorems.proofs.claims.AlikeFollows.{reply-keeps-alike}
 use Rattle.theorems.proofs.claims.AlikeHistories.{ready-on}
 use Rattle.theorems.proofs.claims.IsolationHolds.{isolation}

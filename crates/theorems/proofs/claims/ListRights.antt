@@ -19,8 +19,8 @@ use Rattle.model.specs.Book.{homesAfter}
 use Rattle.model.specs.History.{World, lent}
 use Rattle.model.specs.NewestTrue.{NewestTrue}
 use Rattle.abstract_store.specs.Store.{Store, listOf}
-use Rattle.model_laws.proofs.strip.RightLaws.{shown-by, list-part}
-use Rattle.model_laws.proofs.strip.SignLaws.{store-agrees, store-none}
+use Rattle.model_laws.proofs.state.RightLaws.{shown-by, list-part}
+use Rattle.model_laws.proofs.state.SignLaws.{store-agrees, store-none}
 
 -- ---- blocks one behind the other
 

@@ -14,13 +14,13 @@ use Rattle.model.specs.Newest.{keptFor}
 use Rattle.model.specs.Effects.{Given, Effect, homes, newState, logClosing, openEffect, abortEffect, keptCommit, commitHeld, commitEffect, trimStart, trimTo, trimEffect}
 use Rattle.model.specs.History.{Call, opening, confirm, change, service, commit, trim, Event, call, crash, World, lent, loaded, ends, isOpening, afterDone, afterCrash, step, Allowed}
 use Rattle.model_laws.proofs.bytes.LayoutLaws.{homes-in}
-use Rattle.model_laws.proofs.strip.StateLaws.{length-setStart, length-setFenced, length-setLast}
-use Rattle.model_laws.proofs.strip.WriterLaws.{length-setWriter}
-use Rattle.model_laws.proofs.strip.PromiseLaws.{length-setPromise}
-use Rattle.model_laws.proofs.strip.NewestLaws.{length-entries, length-forget, kept-nothing}
-use Rattle.model_laws.proofs.strip.ListedLaws.{listed-carry}
-use Rattle.model_laws.proofs.strip.SignLaws.{listed-keepList, listed-fresh}
-use Rattle.model_laws.proofs.strip.QuestionLaws.{commit-ready}
+use Rattle.model_laws.proofs.state.StateLaws.{length-setStart, length-setFenced, length-setLast}
+use Rattle.model_laws.proofs.state.WriterLaws.{length-setWriter}
+use Rattle.model_laws.proofs.state.PromiseLaws.{length-setPromise}
+use Rattle.model_laws.proofs.state.NewestLaws.{length-entries, length-forget, kept-nothing}
+use Rattle.model_laws.proofs.state.ListedLaws.{listed-carry}
+use Rattle.model_laws.proofs.state.SignLaws.{listed-keepList, listed-fresh}
+use Rattle.model_laws.proofs.state.QuestionLaws.{commit-ready}
 use Rattle.theorems.proofs.invariant.Invariant.{Sizes, Running, Closed, Invariant}
 use Rattle.theorems.proofs.invariant.LiveLog.{lent-homes}
 use Rattle.theorems.proofs.steps.LogRuns.{logged-writers}

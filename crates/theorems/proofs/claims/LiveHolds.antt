@@ -23,8 +23,8 @@ use Rattle.model.specs.Book.{Entry, Commit, Task, homesAfter, newestEntry, held
 use Rattle.model.specs.Demands.{foundIn, untrimmed, closedBelow, Live}
 use Rattle.model.specs.History.{World, lent, ends, read, serviceEnds}
 use Rattle.model_laws.proofs.bytes.LayoutLaws.{groups-in}
-use Rattle.model_laws.proofs.strip.OrderLaws.{order-in}
-use Rattle.model_laws.proofs.strip.QuestionLaws.{read-ready}
+use Rattle.model_laws.proofs.state.OrderLaws.{order-in}
+use Rattle.model_laws.proofs.state.QuestionLaws.{read-ready}
 use Rattle.theorems.proofs.steps.DoneLaws.{outcome-code, outcome-done}
 use Rattle.model_laws.proofs.trace.Trace.{Ev, mine, hist, tagAt, homeOn, blockOn, surviving, closerOf, oldestOf, closingFrom, allLanded}
 use Rattle.model_laws.proofs.trace.TraceLaws.{All, all-map, Rising, done-rising, logs-own}

@@ -23,8 +23,8 @@ use Rattle.abstract_store.specs.Store.{Store, newStore, numbered, follow}
 use Rattle.abstract_store.specs.Store as store
 use Rattle.model.specs.History.{commits, Call, opening, confirm, change, service, commit, trim, Event, call, crash, World, emptyStore, unopened, lent, loaded, ends, changeEnds, serviceEnds, feed, feedChange, isOpening, afterDone, afterCrash, step, Allowed}
 use Rattle.model_laws.proofs.bytes.LayoutLaws.{homes-in}
-use Rattle.model_laws.proofs.strip.NewestLaws.{Keepable, kept-else, kept-entries, kept-forget, kept-nothing}
-use Rattle.model_laws.proofs.strip.QuestionLaws.{Roomy, room-true, CommitReady, commit-ready}
+use Rattle.model_laws.proofs.state.NewestLaws.{Keepable, kept-else, kept-entries, kept-forget, kept-nothing}
+use Rattle.model_laws.proofs.state.QuestionLaws.{Roomy, room-true, CommitReady, commit-ready}
 use Rattle.model_laws.proofs.trace.Trace.{hist, closerOf, oldestOf, closingFrom}
 use Rattle.model_laws.proofs.trace.TraceLaws.{All}
 use Rattle.model_laws.proofs.trace.WholeLaws.{closingFrom-snoc}

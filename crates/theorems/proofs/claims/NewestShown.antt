@@ -20,7 +20,7 @@ use Rattle.model.specs.Effects.{Given, liveTags, liveBase, newestCommitted, cur
 use Rattle.model.specs.Rights.{readList}
 use Rattle.model.specs.Book.{homesAfter}
 use Rattle.model.specs.History.{World, lent}
-use Rattle.model_laws.proofs.strip.RightLaws.{list-by, list-part}
+use Rattle.model_laws.proofs.state.RightLaws.{list-by, list-part}
 use Rattle.model_laws.proofs.trace.Trace.{blockOn}
 use Rattle.model_laws.proofs.trace.TraceLaws.{All}
 use Rattle.theorems.proofs.invariant.Invariant.{Sizes, Running}

@@ -10,7 +10,7 @@ use Rattle.model.specs.Layout.{homeAt}
 use Rattle.model.specs.Batch.{Record, GW, HW, KW, FN}
 use Rattle.model.specs.Effects.{marked, homeWrites, blankWrites, zeroHomes, formatted}
 use Rattle.model.specs.Facts.{slotWritten, homeWritten, headerWritten, writtenOnce}
-use Rattle.model_laws.proofs.strip.QuestionLaws.{and-true}
+use Rattle.model_laws.proofs.state.QuestionLaws.{and-true}
 use Rattle.model_laws.proofs.trace.HomeLaws.{In, marked-below}
 use Rattle.model_laws.proofs.trace.CrashLaws.{submits}
 use Rattle.model_laws.proofs.trace.MixLaws.{Mixed, groupPart, homePart}

@@ -23,7 +23,7 @@ use Rattle.model.specs.History.{Change, begins, reserves, aborts, stores, commi
 use Rattle.abstract_store.specs.Store.{Store, newStore, firstGroup, nextGroup, nextOf, placesLeft, promisedTo, mayFlush, isIdle, manyHomes, toSettle, mayStart, nextStart, Reply, told, askBatch, replyChange, replyService, reply, replyOf, numbered, inRound, fencedAfter, trimmedTo, afterService, afterReply, follow}
 use Rattle.abstract_store.specs.Store as store
 use Rattle.abstract_store.specs.Places.{Fate, liesAt, anyAt, taskAt, enter, enterCall, enterEvent, Accounted, AllIdle, Drained, drained, HeldBack, Told, AccountedThroughout, PlacesAccounted}
-use Rattle.model_laws.proofs.strip.QuestionLaws.{ask-passed, and-true, store-ready}
+use Rattle.model_laws.proofs.state.QuestionLaws.{ask-passed, and-true, store-ready}
 use Rattle.model_laws.proofs.trace.Trace.{Ev, hist, closerOf, Apart}
 use Rattle.model_laws.proofs.trace.TraceLaws.{Rising, done-rising}
 use Rattle.theorems.proofs.invariant.Invariant.{Sizes, TaskOk, Running, Closed, Invariant}

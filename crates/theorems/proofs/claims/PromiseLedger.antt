@@ -19,12 +19,12 @@ use Rattle.model.specs.Book.{Entry, Held, Task, idle, opened, Book, withTask, f
 use Rattle.model.specs.Book as book
 use Rattle.model.specs.History.{Change, begins, reserves, aborts, stores, commits, flushes, Service, Call, opening, confirm, change, service, Event, call, crash, World, lent, loaded, ends, changeEnds, feed, feedChange, isOpening, afterDone, afterCall, step, Allowed}
 use Rattle.model.specs.Reserved.{none as nothing, grantTo, grantChange, grantDone, grantCall, grant, entriesOf}
-use Rattle.model_laws.proofs.strip.PromiseLaws.{promise-setNext, promise-setFilled, promise-setFenced, promise-setLast, promise-setWriter, promise-setHeld, promise-setPromise, promise-setPromise-other, promise-most}
-use Rattle.model_laws.proofs.strip.WriterLaws.{length-setWriter, length-setHeld}
-use Rattle.model_laws.proofs.strip.StateLaws.{length-setLast}
-use Rattle.model_laws.proofs.strip.SignLaws.{promise-keepList}
-use Rattle.model_laws.proofs.strip.OrderLaws.{promise-fresh}
-use Rattle.model_laws.proofs.strip.QuestionLaws.{begin-ready, reserve-ready, may-promise, abort-ready, StoreReady, store-ready, CommitReady, commit-ready}
+use Rattle.model_laws.proofs.state.PromiseLaws.{promise-setNext, promise-setFilled, promise-setFenced, promise-setLast, promise-setWriter, promise-setHeld, promise-setPromise, promise-setPromise-other, promise-most}
+use Rattle.model_laws.proofs.state.WriterLaws.{length-setWriter, length-setHeld}
+use Rattle.model_laws.proofs.state.StateLaws.{length-setLast}
+use Rattle.model_laws.proofs.state.SignLaws.{promise-keepList}
+use Rattle.model_laws.proofs.state.OrderLaws.{promise-fresh}
+use Rattle.model_laws.proofs.state.QuestionLaws.{begin-ready, reserve-ready, may-promise, abort-ready, StoreReady, store-ready, CommitReady, commit-ready}
 use Rattle.model_laws.proofs.trace.Trace.{Ev}
 use Rattle.theorems.proofs.steps.Footprint.{shares, Touch, Spares, frame}
 use Rattle.theorems.proofs.invariant.Invariant.{Sizes, TaskOk, entriesFor, Running, Invariant}

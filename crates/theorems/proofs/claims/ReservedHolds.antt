@@ -20,15 +20,15 @@ use Rattle.model.specs.Book.{Task, idle, opened}
 use Rattle.model.specs.History.{reserve, store, commit, flush, Event, World, lent, ends, changeEnds, step, AllAllowed, unopened, emptyStore}
 use Rattle.model.specs.Reserved.{none, grant, entriesOf, Promised, PromisedThroughout, ReservedKept, filling, busyLog}
 use Rattle.model_laws.proofs.bytes.LayoutLaws.{groups-in, homes-in, log-length-right, data-length-right}
-use Rattle.model_laws.proofs.strip.OrderLaws.{InOrder, order-in, tests}
-use Rattle.model_laws.proofs.strip.QuestionLaws.{ask-no, ask-yes, ask-passed, keeps-promises}
+use Rattle.model_laws.proofs.state.OrderLaws.{InOrder, order-in, tests}
+use Rattle.model_laws.proofs.state.QuestionLaws.{ask-no, ask-yes, ask-passed, keeps-promises}
 use Rattle.model_laws.proofs.trace.Trace.{Ev}
 use Rattle.theorems.proofs.invariant.Invariant.{Sizes, TaskOk, Running, Invariant}
 use Rattle.theorems.proofs.steps.DoneLaws.{outcome-code}
 use Rattle.theorems.proofs.steps.Beginning.{format-closed}
 use Rattle.theorems.proofs.steps.FormatRuns.{from-format}
 use Rattle.theorems.proofs.claims.DemandThree.{keeps}
-use Rattle.model.proofs.answers.Computing.{all-definitions}
+use Rattle.model.proofs.examples.Computing.{all-definitions}
 use Rattle.theorems.proofs.claims.PromiseLedger.{Agree, Ledger, ledger-keeps}
 
 -- ---- chains of questions

@@ -14,8 +14,8 @@ use Rattle.model.specs.Book.{Book, homesAfter}
 use Rattle.model.specs.History.{Change, begins, reserves, aborts, stores, commits, flushes, Service, settles, roundBegins, roundSteps, trims, reads, Call, opening, confirm, change, service, World, lent}
 use Rattle.abstract_store.specs.Store.{Store, listOf}
 use Rattle.model.specs.NewestTrue.{NewestTrue}
-use Rattle.model_laws.proofs.strip.RightLaws.{shown-by, list-by, list-part}
-use Rattle.model_laws.proofs.strip.SignLaws.{store-agrees, read-agrees, store-none, read-none}
+use Rattle.model_laws.proofs.state.RightLaws.{shown-by, list-by, list-part}
+use Rattle.model_laws.proofs.state.SignLaws.{store-agrees, read-agrees, store-none, read-none}
 use Rattle.theorems.proofs.invariant.Invariant.{Sizes, Running}
 use Rattle.theorems.proofs.invariant.LiveLog.{lent-homes}
 use Rattle.theorems.proofs.claims.StoreAnswers.{Agrees}

@@ -13,7 +13,7 @@ use Rattle.model.specs.Questions.{beginRoundAnswer, stepRoundAnswer}
 use Rattle.model.specs.Calls.{Outcome, done, sizeOf, beginRoundCall, stepRoundCall}
 use Rattle.model.specs.History.{roundBegins, roundSteps, service, World, lent, ends, serviceEnds}
 use Rattle.abstract_store.specs.Store.{Store, numbered, inRound, roundOver, afterService}
-use Rattle.model_laws.proofs.strip.QuestionLaws.{begin-round-ready, step-round-ready}
+use Rattle.model_laws.proofs.state.QuestionLaws.{begin-round-ready, step-round-ready}
 use Rattle.theorems.proofs.invariant.Invariant.{Sizes, Running}
 use Rattle.theorems.proofs.steps.DoneLaws.{outcome-code}
 use Rattle.theorems.proofs.steps.RoundRuns.{lent-out, lent-within, begun-numbers, remaining, stepped, step-effect, ended-numbers, moved-numbers}

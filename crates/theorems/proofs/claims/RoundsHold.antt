@@ -21,9 +21,9 @@ use Rattle.model.specs.Demands.{closedBelow, SettledHomes}
 use Rattle.model.specs.History.{Service, settles, roundBegins, roundSteps, trims, reads, Call, opening, confirm, change, service, settle, beginRound, stepRound, Event, call, crash, World, emptyStore, lent, loaded, ends, serviceEnds, isOpening, afterCall, afterDone, step, Allowed, AllAllowed}
 use Rattle.abstract_store.specs.Rounds.{homesLeft, homesLeftBy, Moved, Ended, ServiceRaises, Raises, RaisesAt, mayCome, StaysAt, RoundsThroughout, RoundsKept}
 use Rattle.abstract_store.specs.Store.{Store, newStore, follow}
-use Rattle.model_laws.proofs.strip.OrderLaws.{state-fresh}
-use Rattle.model_laws.proofs.strip.StateLaws.{withCursor}
-use Rattle.model_laws.proofs.strip.QuestionLaws.{settle-ready, begin-round-ready, step-round-ready}
+use Rattle.model_laws.proofs.state.OrderLaws.{state-fresh}
+use Rattle.model_laws.proofs.state.StateLaws.{withCursor}
+use Rattle.model_laws.proofs.state.QuestionLaws.{settle-ready, begin-round-ready, step-round-ready}
 use Rattle.theorems.proofs.invariant.Invariant.{Sizes, Closed, Running, Invariant}
 use Rattle.theorems.proofs.invariant.OpenLaws.{newStart}
 use Rattle.theorems.proofs.invariant.SettledLaws.{settled-none}

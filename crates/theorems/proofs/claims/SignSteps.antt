@@ -17,9 +17,9 @@ use Rattle.model.specs.Calls.{Outcome, done}
 use Rattle.model.specs.Book.{homesAfter, withCommits}
 use Rattle.model.specs.Book as book
 use Rattle.model.specs.History.{commits, Call, opening, confirm, change, service, commit, trim, Event, call, crash, World, lent, loaded, ends, feed, feedChange, isOpening, afterDone, afterCrash, step, Allowed}
-use Rattle.model_laws.proofs.strip.ListedLaws.{listed-setStart, listed-setFenced, listed-setLast, listed-setWriter, listed-setPromise}
-use Rattle.model_laws.proofs.strip.NewestLaws.{length-entries, length-forget}
-use Rattle.model_laws.proofs.strip.SignLaws.{sign-fresh, sign-listed, sign-carry, sign-stays, sign-moves, none-moved, list-numbers, sign-faithful, state-keepList}
+use Rattle.model_laws.proofs.state.ListedLaws.{listed-setStart, listed-setFenced, listed-setLast, listed-setWriter, listed-setPromise}
+use Rattle.model_laws.proofs.state.NewestLaws.{length-entries, length-forget}
+use Rattle.model_laws.proofs.state.SignLaws.{sign-fresh, sign-listed, sign-carry, sign-stays, sign-moves, none-moved, list-numbers, sign-faithful, state-keepList}
 use Rattle.theorems.proofs.invariant.Invariant.{Sizes, Running, Closed, Invariant}
 use Rattle.theorems.proofs.invariant.LiveLog.{lent-homes}
 use Rattle.theorems.proofs.steps.DoneLaws.{after}

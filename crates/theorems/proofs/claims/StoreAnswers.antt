@@ -26,9 +26,9 @@ use Rattle.model.specs.History.{Change, begins, reserves, aborts, stores, commi
 use Rattle.model.specs.Demands.{eachContents, untrimmed, closedBelow, free, firstGroup as groupOfRow, Trimmed}
 use Rattle.abstract_store.specs.Store.{Store, firstGroup, nextGroup, nextOf, placesLeft, promisedTo, freeLeft, hasRoom, mayFlush, entryBytes, isIdle, storeMustLog, commitMustLog, anyWrote, manyHomes, toSettle, mayStart, nextStart, listOf, Reply, told, askBatch, replyChange, replyService, reply, replyOf, foundInMemory}
 use Rattle.model_laws.proofs.bytes.LayoutLaws.{groups-in, homes-in, log-length-right, data-length-right, length-groupAt, group-fits, length-header}
-use Rattle.model_laws.proofs.strip.BatchLaws.{length-GW, length-KW, length-FN, batch-append, batch-one}
-use Rattle.model_laws.proofs.strip.OrderLaws.{InOrder, order-in}
-use Rattle.model_laws.proofs.strip.QuestionLaws.{ask-yes, ask-passed}
+use Rattle.model_laws.proofs.state.BatchLaws.{length-GW, length-KW, length-FN, batch-append, batch-one}
+use Rattle.model_laws.proofs.state.OrderLaws.{InOrder, order-in}
+use Rattle.model_laws.proofs.state.QuestionLaws.{ask-yes, ask-passed}
 use Rattle.model_laws.proofs.trace.Trace.{Ev, hist, closingFrom}
 use Rattle.model_laws.proofs.trace.WalkLaws.{closingBelow}
 use Rattle.theorems.proofs.invariant.Invariant.{Sizes, TaskOk, Copies, Commits, Running, Closed, Opens}
@@ -44,7 +44,7 @@ use Rattle.theorems.proofs.steps.Beginning.{header-fits}
 use Rattle.theorems.proofs.steps.TrimRuns.{MayMove, trim-may}
 use Rattle.theorems.proofs.claims.TrimYields.{first-group, trimmed}
 use Rattle.theorems.proofs.claims.StoreLaws.{answers, ask-same, found-any-wrote, length-contents, marked-same, bytes-homes, bytes-opening}
-use Rattle.model_laws.proofs.strip.LoggingLaws.{length-entered}
+use Rattle.model_laws.proofs.state.LoggingLaws.{length-entered}
 
 -- the strip's numbers are the abstract store's
 pub record Numbers (s : Store) (st : State) : Type 0 where

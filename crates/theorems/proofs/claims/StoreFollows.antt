@@ -25,14 +25,14 @@ use Rattle.model.specs.History.{Change, begins, reserves, aborts, stores, commi
 use Rattle.abstract_store.specs.Store.{Store, newStore, firstGroup, nextGroup, replyOf, storeMustLog, lastAfter, fencedAfter, setFor, promisesAfter, numbered, trimmedTo, afterService, afterReply, follow, foundInMemory, inRound}
 use Rattle.abstract_store.specs.Store as store
 use Rattle.model_laws.proofs.bytes.LayoutLaws.{groups-in, homes-in}
-use Rattle.model_laws.proofs.strip.StateLaws.{withStart, withFenced, withSettled, withLast, withDurable, withNext, withFilled, length-setNext, length-setFilled, state-setNext, state-setFilled, state-setFenced, state-setDurable, state-setLast, length-setLast}
-use Rattle.model_laws.proofs.strip.WriterLaws.{length-setWriter, length-setHeld, state-setWriter, state-setHeld}
-use Rattle.model_laws.proofs.strip.PromiseLaws.{promise-setLast, promise-setWriter, promise-setHeld, state-setPromise, promise-setPromise, promise-setPromise-other, promise-most}
-use Rattle.model_laws.proofs.strip.ListedLaws.{state-carry}
-use Rattle.model_laws.proofs.strip.SignLaws.{state-keepList, promise-keepList}
-use Rattle.model_laws.proofs.strip.OrderLaws.{InOrder, state-fresh, promise-fresh}
-use Rattle.model_laws.proofs.strip.NewestLaws.{length-nothing}
-use Rattle.model_laws.proofs.strip.QuestionLaws.{reserve-ready, may-promise, abort-ready, store-ready, commit-ready, trim-ready, open-ready}
+use Rattle.model_laws.proofs.state.StateLaws.{withStart, withFenced, withSettled, withLast, withDurable, withNext, withFilled, length-setNext, length-setFilled, state-setNext, state-setFilled, state-setFenced, state-setDurable, state-setLast, length-setLast}
+use Rattle.model_laws.proofs.state.WriterLaws.{length-setWriter, length-setHeld, state-setWriter, state-setHeld}
+use Rattle.model_laws.proofs.state.PromiseLaws.{promise-setLast, promise-setWriter, promise-setHeld, state-setPromise, promise-setPromise, promise-setPromise-other, promise-most}
+use Rattle.model_laws.proofs.state.ListedLaws.{state-carry}
+use Rattle.model_laws.proofs.state.SignLaws.{state-keepList, promise-keepList}
+use Rattle.model_laws.proofs.state.OrderLaws.{InOrder, state-fresh, promise-fresh}
+use Rattle.model_laws.proofs.state.NewestLaws.{length-nothing}
+use Rattle.model_laws.proofs.state.QuestionLaws.{reserve-ready, may-promise, abort-ready, store-ready, commit-ready, trim-ready, open-ready}
 use Rattle.theorems.proofs.invariant.Invariant.{Sizes, Running, Closed, Invariant, ImageOk}
 use Rattle.theorems.proofs.invariant.OpenLaws.{newStart}
 use Rattle.theorems.proofs.invariant.LateOpens.{late-found}

@@ -21,8 +21,8 @@ use Rattle.model.specs.Demands.{contents, eachContents}
 use Rattle.abstract_store.specs.Store.{Reply, told, replyOf, wrote, anyWrote}
 use Rattle.model_laws.proofs.bytes.ByteLaws.{length-part}
 use Rattle.model_laws.proofs.bytes.EmptyLaws.{length-unusedGroup}
-use Rattle.model_laws.proofs.strip.BatchLaws.{length-GW, length-HW, length-KW, length-FN, batch-append, batch-one}
-use Rattle.model_laws.proofs.strip.QuestionLaws.{ask-passed}
+use Rattle.model_laws.proofs.state.BatchLaws.{length-GW, length-HW, length-KW, length-FN, batch-append, batch-one}
+use Rattle.model_laws.proofs.state.QuestionLaws.{ask-passed}
 use Rattle.model_laws.proofs.trace.HomeLaws.{In}
 use Rattle.theorems.proofs.invariant.LiveLog.{found-else}
 

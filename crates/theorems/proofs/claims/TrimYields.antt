@@ -20,9 +20,9 @@ use Rattle.model.specs.Calls.{Outcome, outcome, done, sizeOf, trimCall}
 use Rattle.model.specs.Book.{Landing, row, persisted, Entry, Commit, Task, idle, opened}
 use Rattle.model.specs.Demands.{firstGroup, landsBefore, someBefore, across, anyAcross, openBefore, anyOpenBefore, free, Trimmed}
 use Rattle.model.specs.History.{Call, trim, World, lent, ends, serviceEnds}
-use Rattle.model_laws.proofs.strip.StateLaws.{withStart, withFenced, withLast, state-setStart, length-setStart, state-setFenced, length-setFenced, state-setLast}
-use Rattle.model_laws.proofs.strip.ListedLaws.{state-carry}
-use Rattle.model_laws.proofs.strip.QuestionLaws.{and-true, trim-ready}
+use Rattle.model_laws.proofs.state.StateLaws.{withStart, withFenced, withLast, state-setStart, length-setStart, state-setFenced, length-setFenced, state-setLast}
+use Rattle.model_laws.proofs.state.ListedLaws.{state-carry}
+use Rattle.model_laws.proofs.state.QuestionLaws.{and-true, trim-ready}
 use Rattle.model_laws.proofs.trace.Trace.{Ev, hist, firstOf, closerOf, oldestOf, Apart}
 use Rattle.model_laws.proofs.trace.TraceLaws.{All, Falling, Long, firstOf-inside, open-falling, done-falling, done-long}
 use Rattle.theorems.proofs.steps.DoneLaws.{outcome-code, outcome-done}

@@ -20,7 +20,7 @@ use Rattle.abstract_store.specs.Store.{Store, firstGroup, nextOf, storeMustLog,
 use Rattle.abstract_store.specs.Places.{Fate, held, kept, aborted, passed, settleOne, settleAll, enter, enterCall, enterEvent, Class, live, dead, free, classOf, fateOn, classAt, sameClass, many, liesAt, anyAt, taskAt, commitAt, isHeld, isKept, Accounted}
 use Rattle.abstract_store.specs.Usage.{noHolder, holdsLower, holderOf}
 use Rattle.model.specs.declared.Holder.{Holder}
-use Rattle.model_laws.proofs.strip.QuestionLaws.{store-ready}
+use Rattle.model_laws.proofs.state.QuestionLaws.{store-ready}
 use Rattle.model_laws.proofs.trace.Trace.{Ev, firstOf, oldestOf}
 use Rattle.model_laws.proofs.trace.TraceLaws.{All, Falling, Long, firstOf-inside}
 use Rattle.abstract_store.proofs.PlaceCounts.{oneIf, one-true, one-false, times, timesIn, tally}

@@ -16,12 +16,12 @@ use Rattle.model.specs.NewestTrue.{NewestThroughout}
 use Rattle.model.specs.History.{Call, Event, call, crash, World, Formatting, afterFormat, emptyStore, ends, isOpening, afterCall, step, Allowed, AllAllowed}
 use Rattle.model.specs.Trials.{answerOf}
 use Rattle.model.specs.Witnesses.{usedBefore, usedCopies, alike, allowed, history, answered, goesTo, goesSo, goesAsListed}
-use Rattle.model_laws.proofs.strip.QuestionLaws.{and-true}
+use Rattle.model_laws.proofs.state.QuestionLaws.{and-true}
 use Rattle.model_laws.proofs.bytes.ByteLaws.{length-puts}
 use Rattle.model_laws.proofs.bytes.LayoutLaws.{three}
 use Rattle.theorems.proofs.steps.FormatRuns.{after-format}
-use Rattle.model.proofs.answers.Computing.{all-definitions}
-use Rattle.model.proofs.answers.HistoryHolds.{goes-as-listed}
+use Rattle.model.proofs.examples.Computing.{all-definitions}
+use Rattle.model.proofs.examples.HistoryHolds.{goes-as-listed}
 use Rattle.theorems.proofs.claims.DemandThree.{demand3}
 use Rattle.theorems.proofs.claims.DemandTwo.{demand2}
 use Rattle.theorems.proofs.claims.NewestHolds.{newest-kept}

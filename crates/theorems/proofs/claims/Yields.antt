@@ -20,7 +20,7 @@ use Rattle.model.specs.Book.{row, Entry, Commit, homesAfter, owedBy}
 use Rattle.model.specs.Demands.{closedBelow, groupWrites, fencedRows, rowsFenced, landsBelow, allBelow, owedRows, SettledHomes}
 use Rattle.model.specs.History.{confirm, settle, World, lent, ends, serviceEnds, beginRound, stepRound}
 use Rattle.model_laws.proofs.bytes.LayoutLaws.{groups-in}
-use Rattle.model_laws.proofs.strip.OrderLaws.{order-in}
+use Rattle.model_laws.proofs.state.OrderLaws.{order-in}
 use Rattle.model_laws.proofs.trace.CrashLaws.{NoFence, fences-append, fences-none, groupWrites-append, groupWrites-fence}
 use Rattle.model_laws.proofs.trace.MixLaws.{none-mixed}
 use Rattle.theorems.proofs.steps.FenceRuns.{tail-groups}
@@ -31,8 +31,8 @@ use Rattle.theorems.proofs.steps.DoneLaws.{outcome-code, outcome-done}
 use Rattle.theorems.proofs.steps.SettleRuns as settles
 use Rattle.theorems.proofs.steps.FenceRuns.{lasting-groups}
 use Rattle.theorems.proofs.steps.RoundRuns.{lent-out, lent-within, begun-numbers, step-yields}
-use Rattle.model_laws.proofs.strip.QuestionLaws.{begin-round-ready, step-round-ready}
-use Rattle.model_laws.proofs.strip.StateLaws.{withRound, withCursor}
+use Rattle.model_laws.proofs.state.QuestionLaws.{begin-round-ready, step-round-ready}
+use Rattle.model_laws.proofs.state.StateLaws.{withRound, withCursor}
 use Rattle.theorems.proofs.invariant.Invariant.{Sizes, entryFor, entriesFor, Matches, OldCommits, Commits, Running}
 
 -- an answer of 0 is a done call

@@ -17,7 +17,7 @@ use Rattle.model.specs.Book.{Commit, Task, idle, opened, Book, filledUp, withTa
 use Rattle.model.specs.Book as book
 use Rattle.model.specs.Demands.{Live, Yields, ServiceYields, YieldsAt}
 use Rattle.model.specs.History.{commits, Service, settles, trims, reads, Call, opening, confirm, change, service, commit, Event, call, crash, World, unopened, emptyStore, lent, ends, changeEnds, feed, feedChange, isOpening, afterDone, afterCall, afterCrash, step, Allowed, roundBegins, roundSteps}
-use Rattle.model_laws.proofs.strip.QuestionLaws.{commit-ready}
+use Rattle.model_laws.proofs.state.QuestionLaws.{commit-ready}
 use Rattle.theorems.proofs.steps.RefusalLaws.{left-as-lent}
 use Rattle.theorems.proofs.steps.DoneLaws.{outcome-code}
 use Rattle.model_laws.proofs.trace.Trace.{Ev}

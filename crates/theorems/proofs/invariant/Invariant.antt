@@ -22,7 +22,7 @@ use Rattle.model.specs.Book.{Landing, row, persisted, Entry, Commit, Held, Task
 use Rattle.model.specs.Demands.{closedBelow, SettledHomes, groupWrites}
 use Rattle.model.specs.History.{World}
 use Rattle.model.specs.declared.Tag.{Tag}
-use Rattle.model_laws.proofs.strip.OrderLaws.{InOrder}
+use Rattle.model_laws.proofs.state.OrderLaws.{InOrder}
 use Rattle.model_laws.proofs.trace.CrashLaws.{writeRecords, submits}
 use Rattle.model_laws.proofs.trace.HomeLaws.{In}
 use Rattle.model_laws.proofs.trace.MixLaws.{Mixed, groupPart, homePart}

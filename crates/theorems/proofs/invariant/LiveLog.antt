@@ -17,7 +17,7 @@ use Rattle.model.specs.State.{stateOf, nextPosition}
 use Rattle.model.specs.Effects.{groups, homes, tagsOf, liveTags, liveBase}
 use Rattle.model.specs.History.{World, lent}
 use Rattle.model_laws.proofs.bytes.LayoutLaws.{groups-in, homes-in}
-use Rattle.model_laws.proofs.strip.OrderLaws.{next-within}
+use Rattle.model_laws.proofs.state.OrderLaws.{next-within}
 use Rattle.theorems.proofs.invariant.GrowLaws.{used-inside, holds-at}
 use Rattle.model_laws.proofs.trace.Trace.{Ev, hist, tagAt, homeOn, blockOn, firstIn, surviving, closerOf, oldestOf, closingFrom}
 use Rattle.model_laws.proofs.trace.TraceLaws.{All, all-map, Names, Named, tagAt-back, tagAt-home, open-named, done-named}

@@ -11,7 +11,7 @@ use Rattle.model.specs.declared.State.{State}
 use Rattle.model.specs.Book.{Commit}
 use Rattle.model.specs.Demands.{settledFor, SettledHomes}
 use Rattle.model.specs.History.{World}
-use Rattle.model_laws.proofs.strip.OrderLaws.{InOrder}
+use Rattle.model_laws.proofs.state.OrderLaws.{InOrder}
 use Rattle.model_laws.proofs.trace.Trace.{Ev}
 use Rattle.theorems.proofs.invariant.Invariant.{HeldHome, Copies}
 

@@ -22,9 +22,9 @@ use Rattle.model.specs.Book.{Task, opened, idle, Book, withTask}
 use Rattle.model.specs.Book as book
 use Rattle.model.specs.History.{Call, begin, reserve, abort, store, commit, flush, confirm, read, Event, call, World, lent, ends, feed, isConfirm, step, changeEnds, feedChange, serviceEnds}
 use Rattle.model_laws.proofs.bytes.LayoutLaws.{groups-in, homes-in, length-groupAt, group-fits}
-use Rattle.model_laws.proofs.strip.BatchLaws.{AllFormed}
+use Rattle.model_laws.proofs.state.BatchLaws.{AllFormed}
 use Rattle.theorems.proofs.steps.RefusalLaws.{step-refused}
-use Rattle.model_laws.proofs.strip.QuestionLaws.{StoreReady, CommitReady, Roomy, room-true, begin-ready, abort-ready, store-ready, commit-ready, flush-ready, keeps-promises, confirm-ready, read-ready}
+use Rattle.model_laws.proofs.state.QuestionLaws.{StoreReady, CommitReady, Roomy, room-true, begin-ready, abort-ready, store-ready, commit-ready, flush-ready, keeps-promises, confirm-ready, read-ready}
 use Rattle.theorems.proofs.steps.DoneLaws.{outcome-code, outcome-done, step-done, after}
 use Rattle.theorems.proofs.steps.LogRuns.{logged-records, logged-log}
 use Rattle.theorems.proofs.steps.WriterSteps.{begin-runs, reserve-runs, abort-runs, store-first-runs, store-again-runs}
@@ -33,7 +33,7 @@ use Rattle.theorems.proofs.steps.FlushRuns.{flush-none-runs, flush-part
 use Rattle.theorems.proofs.steps.NumberRuns.{confirm-runs}
 use Rattle.model_laws.proofs.trace.Trace.{Ev, hist}
 use Rattle.theorems.proofs.invariant.Invariant.{Sizes, Copies, TaskOk, Running}
-use Rattle.model_laws.proofs.strip.LoggingLaws.{fits, length-entered}
+use Rattle.model_laws.proofs.state.LoggingLaws.{fits, length-entered}
 
 -- what a done call shows: its records can be read back, and the world after it is as it should be
 pub record Done (P : World → Type 0) (w : World) (c : Call) (g : Given) (e : Effect) : Type 0 where

@@ -14,7 +14,7 @@ use Rattle.model.specs.Questions.{batchFits}
 use Rattle.model.specs.Calls.{Outcome, refused, done, sizeOf, outcome}
 use Rattle.model.specs.Crash.{fences}
 use Rattle.model.specs.History.{Call, Event, call, World, ends, feed, isConfirm, afterDone, afterCall, step}
-use Rattle.model_laws.proofs.strip.BatchLaws.{AllFormed, read-batch, taken}
+use Rattle.model_laws.proofs.state.BatchLaws.{AllFormed, read-batch, taken}
 
 -- the answer's number is the verdict
 pub outcome-code : (g : Given) (a : ℕ) (e : Effect) → outcome g a e .code ≡ a

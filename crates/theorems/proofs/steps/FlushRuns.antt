@@ -20,9 +20,9 @@ use Rattle.model.specs.Book.{Commit, Task, Book, submit, fateAt, homesAfter}
 use Rattle.model.specs.Book as book
 use Rattle.model.specs.Demands.{closedBelow, groupWrites}
 use Rattle.model.specs.History.{Call, World, lent, feed, isConfirm, flush, feedChange}
-use Rattle.model_laws.proofs.strip.StateLaws.{withFenced, withNext, withFilled, state-setFenced, length-setFenced, writer-setFenced, held-setFenced, state-setNext, length-setNext, writer-setNext, held-setNext, state-setFilled, length-setFilled, writer-setFilled, held-setFilled}
-use Rattle.model_laws.proofs.strip.OrderLaws.{InOrder, WriterInOrder, Reserved}
-use Rattle.model_laws.proofs.strip.PromiseLaws.{promise-setFenced, promise-setNext, promise-setFilled, promised-agree}
+use Rattle.model_laws.proofs.state.StateLaws.{withFenced, withNext, withFilled, state-setFenced, length-setFenced, writer-setFenced, held-setFenced, state-setNext, length-setNext, writer-setNext, held-setNext, state-setFilled, length-setFilled, writer-setFilled, held-setFilled}
+use Rattle.model_laws.proofs.state.OrderLaws.{InOrder, WriterInOrder, Reserved}
+use Rattle.model_laws.proofs.state.PromiseLaws.{promise-setFenced, promise-setNext, promise-setFilled, promised-agree}
 use Rattle.model_laws.proofs.trace.CrashLaws.{writeRecords, submits, NoFence, trues, groupWrites-fence}
 use Rattle.model_laws.proofs.trace.HomeLaws.{In}
 use Rattle.model_laws.proofs.trace.MixLaws.{mixed-append}

@@ -16,10 +16,10 @@ use Rattle.model.specs.Book.{Task, idle, opened, Book, withTask, storeTask, ent
 use Rattle.model.specs.Book as book
 use Rattle.model.specs.History.{begins, reserves, aborts, stores, commits, flushes, Service, settles, roundBegins, roundSteps, trims, reads, Call, opening, confirm, change, service, World, ends, feed, feedChange, isOpening}
 use Rattle.abstract_store.specs.Store.{Store, numbered, inRound, roundOver, trimmedTo, toStep, nextStart, promisesAfter, afterService, afterDone}
-use Rattle.model_laws.proofs.strip.ListedLaws.{listed-setNext, listed-setFilled, listed-setSettled, listed-setFenced, listed-setDurable, listed-setRound, listed-setCursor, listed-setWriter, listed-setHeld, listed-setPromise}
-use Rattle.model_laws.proofs.strip.ListedLaws.{promise-carry}
-use Rattle.model_laws.proofs.strip.PromiseLaws.{promise-setStart, promise-setNext, promise-setFilled, promise-setSettled, promise-setFenced, promise-setDurable, promise-setLast, promise-setRound, promise-setCursor, promise-setWriter}
-use Rattle.model_laws.proofs.strip.QuestionLaws.{begin-ready, reserve-ready, abort-ready, store-ready}
+use Rattle.model_laws.proofs.state.ListedLaws.{listed-setNext, listed-setFilled, listed-setSettled, listed-setFenced, listed-setDurable, listed-setRound, listed-setCursor, listed-setWriter, listed-setHeld, listed-setPromise}
+use Rattle.model_laws.proofs.state.ListedLaws.{promise-carry}
+use Rattle.model_laws.proofs.state.PromiseLaws.{promise-setStart, promise-setNext, promise-setFilled, promise-setSettled, promise-setFenced, promise-setDurable, promise-setLast, promise-setRound, promise-setCursor, promise-setWriter}
+use Rattle.model_laws.proofs.state.QuestionLaws.{begin-ready, reserve-ready, abort-ready, store-ready}
 use Rattle.theorems.proofs.steps.HeldLogs.{filled-commits}
 use Rattle.theorems.proofs.steps.Rows.{rowOf, row-lent, row-answer, row-state, row-newest}
 

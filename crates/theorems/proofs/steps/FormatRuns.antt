@@ -20,13 +20,13 @@ use Rattle.model.specs.History.{World, Event, Formatting, formatRecords, landed
 use Rattle.model_laws.proofs.bytes.ByteLaws.{length-puts, length-zeros, puts-append, puts-nil, puts-whole, puts-front, part-below, part-inside}
 use Rattle.model_laws.proofs.bytes.EmptyLaws.{length-unusedSlots}
 use Rattle.model_laws.proofs.bytes.LayoutLaws.{length-header, log-length, data-length, groups-in, homes-in, log-length-right, data-length-right}
-use Rattle.model_laws.proofs.strip.BatchLaws.{AllFormed, formed-append}
-use Rattle.model_laws.proofs.strip.QuestionLaws.{and-true, format-ready}
+use Rattle.model_laws.proofs.state.BatchLaws.{AllFormed, formed-append}
+use Rattle.model_laws.proofs.state.QuestionLaws.{and-true, format-ready}
 use Rattle.model_laws.proofs.trace.CrashLaws.{writeRecords, write-append, NoFence, none-append, fences-none, fences-append, chosen-fence, persist-zero, persist-past}
 use Rattle.model_laws.proofs.trace.OpeningLaws.{none-blanks, formed-blanks, write-blanks}
 use Rattle.theorems.proofs.steps.DoneLaws.{outcome-code, outcome-done, records-read}
 use Rattle.theorems.proofs.invariant.Invariant.{Sizes}
-use Rattle.model_laws.proofs.strip.LoggingLaws.{fits}
+use Rattle.model_laws.proofs.state.LoggingLaws.{fits}
 
 -- ---- a done format's records
 

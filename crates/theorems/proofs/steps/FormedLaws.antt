@@ -15,9 +15,9 @@ use Rattle.model.specs.declared.Writer.{Writer}
 use Rattle.model.specs.Effects.{Given, groups, homes, newState, entered, submitted, logged, logHeld, logClosing, storeFirst, storeAgain, storeOther, storeEffect, commitHeld, abortEffect, commitEffect}
 use Rattle.model.specs.Questions.{areasRight, stateRight, newestRight, blockRight, stripInOrder, askBlock, askNewest, storeAnswer, commitAnswer}
 use Rattle.model_laws.proofs.bytes.LayoutLaws.{log-length, length-groupAt, group-fits}
-use Rattle.model_laws.proofs.strip.BatchLaws.{AllFormed}
-use Rattle.model_laws.proofs.strip.QuestionLaws.{ask-passed, and-true}
-use Rattle.model_laws.proofs.strip.LoggingLaws.{length-entered}
+use Rattle.model_laws.proofs.state.BatchLaws.{AllFormed}
+use Rattle.model_laws.proofs.state.QuestionLaws.{ask-passed, and-true}
+use Rattle.model_laws.proofs.state.LoggingLaws.{length-entered}
 
 -- the log is as long as its groups are many, and the strip has their number
 record Sized (g : Given) : Type 0 where

@@ -16,7 +16,7 @@ use Rattle.model.specs.Effects.{linkFrom}
 use Rattle.model.specs.Book.{Landing, row, Entry, Commit, Held, Task, opened, idle, Book, entryOf, submit, grown, filledUp}
 use Rattle.model.specs.History.{World}
 use Rattle.model_laws.proofs.bytes.ByteLaws.{length-part}
-use Rattle.model_laws.proofs.strip.OrderLaws.{InOrder, WriterInOrder}
+use Rattle.model_laws.proofs.state.OrderLaws.{InOrder, WriterInOrder}
 use Rattle.model_laws.proofs.trace.Trace.{Ev, Hist, mine, hist, firstOf, closerOf, oldestOf, LinkOk}
 use Rattle.model_laws.proofs.trace.TraceLaws.{done-rising, Rising}
 use Rattle.model_laws.proofs.trace.LinkLaws.{lastFrom, Below, below-last}

@@ -17,17 +17,17 @@ use Rattle.model.specs.Effects.{entered, submitted, logged}
 use Rattle.model.specs.Book.{row, Task, opened, Book, submit, grown, filledUp}
 use Rattle.model.specs.Demands.{closedBelow, settledFor}
 use Rattle.model.specs.History.{World}
-use Rattle.model_laws.proofs.strip.OrderLaws.{WriterInOrder, Reserved}
-use Rattle.model_laws.proofs.strip.QuestionLaws.{Roomy}
-use Rattle.model_laws.proofs.strip.PromiseLaws.{promised-change}
+use Rattle.model_laws.proofs.state.OrderLaws.{WriterInOrder, Reserved}
+use Rattle.model_laws.proofs.state.QuestionLaws.{Roomy}
+use Rattle.model_laws.proofs.state.PromiseLaws.{promised-change}
 use Rattle.model_laws.proofs.trace.Trace.{Ev, mine, hist, tagAt, Apart, Linked}
 use Rattle.theorems.proofs.invariant.GrowLaws.{sound-grow, open-other, open-below, entries-older}
 use Rattle.theorems.proofs.invariant.LogStep.{log-groups}
 use Rattle.theorems.proofs.invariant.Invariant.{Sizes, SoundAt, Holds, plainOf, entriesFor, TaskOk, Copies, LastOk, lastCloser}
 use Rattle.theorems.proofs.invariant.SettledLaws.{settled-same, settled-most}
 use Rattle.theorems.proofs.steps.WriterSteps.{each-writer}
-use Rattle.model_laws.proofs.strip.LoggingLaws.{length-entered}
-pub use Rattle.model_laws.proofs.strip.LoggingLaws.{Advance, SameWriters, advance-position, logged-numbers, logged-writers, logged-log, logged-records}
+use Rattle.model_laws.proofs.state.LoggingLaws.{length-entered}
+pub use Rattle.model_laws.proofs.state.LoggingLaws.{Advance, SameWriters, advance-position, logged-numbers, logged-writers, logged-log, logged-records}
 
 -- the book's row is filled and submitted along with the log's group
 pub row-moves : (b : ℕ) (k : Book) (st st′ : State) (last : ℕ) → Advance st st′ last → b ≤ st .next → k .rows ≡ st .next - b → k .filled ≡ st .filled

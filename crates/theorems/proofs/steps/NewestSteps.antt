@@ -12,7 +12,7 @@ use Rattle.model.specs.Newest.{nothingKept}
 use Rattle.model.specs.Questions.{openAnswer}
 use Rattle.model.specs.Calls.{Outcome, done, sizeOf, outcome, openCall}
 use Rattle.model.specs.History.{Call, opening, commit, trim, World, lent, loaded, ends, isOpening}
-use Rattle.model_laws.proofs.strip.NewestLaws.{length-entries, length-forget}
+use Rattle.model_laws.proofs.state.NewestLaws.{length-entries, length-forget}
 use Rattle.theorems.proofs.steps.DoneLaws.{outcome-code, outcome-done}
 use Rattle.theorems.proofs.steps.Rows.{rowOf, row-newest}
 use Rattle.theorems.proofs.steps.Footprint.{lists, Touch, lists-open, lists-commit, lists-trim, Spares, frame}

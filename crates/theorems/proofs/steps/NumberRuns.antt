@@ -18,9 +18,9 @@ use Rattle.model.specs.Book.{Commit, Entry, Book, homesAfter, writeCommits, owe
 use Rattle.model.specs.Book as book
 use Rattle.model.specs.Demands.{closedBelow, settledFor, SettledHomes, groupWrites}
 use Rattle.model.specs.History.{Call, World, lent, feed, isConfirm, flush, confirm, feedChange}
-use Rattle.model_laws.proofs.strip.StateLaws.{withDurable, state-setFenced, length-setFenced, writer-setFenced, held-setFenced, state-setDurable, length-setDurable, writer-setDurable, held-setDurable}
-use Rattle.model_laws.proofs.strip.OrderLaws.{InOrder, WriterInOrder, Reserved}
-use Rattle.model_laws.proofs.strip.PromiseLaws.{promise-setDurable, promised-agree}
+use Rattle.model_laws.proofs.state.StateLaws.{withDurable, state-setFenced, length-setFenced, writer-setFenced, held-setFenced, state-setDurable, length-setDurable, writer-setDurable, held-setDurable}
+use Rattle.model_laws.proofs.state.OrderLaws.{InOrder, WriterInOrder, Reserved}
+use Rattle.model_laws.proofs.state.PromiseLaws.{promise-setDurable, promised-agree}
 use Rattle.model_laws.proofs.trace.CrashLaws.{fences-append, fences-none, groupWrites-fence}
 use Rattle.model_laws.proofs.trace.MixLaws.{none-mixed}
 use Rattle.model_laws.proofs.trace.Trace.{Ev, Hist, hist, tagAt, Apart, Linked}

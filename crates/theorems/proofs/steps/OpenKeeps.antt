@@ -17,8 +17,8 @@ use Rattle.model.specs.Demands.{Opened}
 use Rattle.model.specs.History.{Call, opening, Event, call, World, loaded, ends, step}
 use Rattle.model_laws.proofs.bytes.ByteLaws.{length-part}
 use Rattle.model_laws.proofs.bytes.LayoutLaws.{groups-in, length-header}
-use Rattle.model_laws.proofs.strip.BatchLaws.{AllFormed, formed-append}
-use Rattle.model_laws.proofs.strip.QuestionLaws.{open-ready}
+use Rattle.model_laws.proofs.state.BatchLaws.{AllFormed, formed-append}
+use Rattle.model_laws.proofs.state.QuestionLaws.{open-ready}
 use Rattle.model_laws.proofs.trace.HomeLaws.{In}
 use Rattle.model_laws.proofs.trace.OpeningLaws.{formed-blanks}
 use Rattle.theorems.proofs.steps.DoneLaws.{outcome-code, outcome-done}
@@ -27,7 +27,7 @@ use Rattle.theorems.proofs.steps.OpenStep.{opens-with, open-effect, ope
 use Rattle.theorems.proofs.steps.Beginning.{open-answers}
 use Rattle.theorems.proofs.steps.CallRuns.{Done, by-answer}
 use Rattle.theorems.proofs.invariant.Invariant.{Sizes, Closed, Running, Invariant}
-use Rattle.model_laws.proofs.strip.LoggingLaws.{fits}
+use Rattle.model_laws.proofs.state.LoggingLaws.{fits}
 
 pub homes-formed : (D : ℕ) (area hs : List ℕ) → D ≤ 65535 → length area ≡ 64 * D → ((h : ℕ) → In h hs → h < D) → AllFormed (homeWrites area hs)
 unfolding homeWrites homeAt

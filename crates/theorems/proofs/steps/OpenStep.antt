@@ -28,8 +28,8 @@ use Rattle.model_laws.proofs.bytes.ByteLaws.{puts-whole}
 use Rattle.model_laws.proofs.bytes.LayoutLaws.{length-header, groups-in, homes-in}
 use Rattle.model_laws.proofs.bytes.BlockLaws.{blockIn, same-mark, same-number}
 use Rattle.model_laws.proofs.bytes.EmptyLaws.{length-unusedGroup, unused-mark, unused-opposite, length-emptyLog, emptyLog-start, emptyLog-right, emptyLog-group}
-use Rattle.model_laws.proofs.strip.OrderLaws.{in-order, length-fresh, state-fresh, writer-fresh, in-order-fresh}
-use Rattle.model_laws.proofs.strip.QuestionLaws.{open-ready}
+use Rattle.model_laws.proofs.state.OrderLaws.{in-order, length-fresh, state-fresh, writer-fresh, in-order-fresh}
+use Rattle.model_laws.proofs.state.QuestionLaws.{open-ready}
 use Rattle.model_laws.proofs.trace.CrashLaws.{writeRecords, submits, NoFence, write-append, write-FN, groupWrites-fence, write-nil}
 use Rattle.model_laws.proofs.trace.HomeLaws.{log-homes, log-homes-wrote, log-header, area-header, log-header-wrote, area-header-wrote}
 use Rattle.model_laws.proofs.trace.SubmitLaws.{area-submits, length-submits, headerStart-submits, headerRight-submits, meta-submits}

@@ -22,10 +22,10 @@ use Rattle.model.specs.Book.{homesAfter}
 use Rattle.model.specs.Demands.{closedBelow, settledFor, SettledHomes}
 use Rattle.model.specs.History.{World, lent, feed, isConfirm, beginRound, stepRound, feedChange}
 use Rattle.model.specs.declared.Tag.{Tag}
-use Rattle.model_laws.proofs.strip.BatchLaws.{AllFormed, formed-append}
-use Rattle.model_laws.proofs.strip.PromiseLaws.{promise-setSettled, promise-setFenced, promise-setRound, promise-setCursor}
-use Rattle.model_laws.proofs.strip.StateLaws.{withSettled, withFenced, withRound, withCursor, length-setSettled, length-setFenced, length-setRound, length-setCursor, state-setSettled, state-setFenced, state-setRound, state-setCursor, writer-setSettled, writer-setFenced, writer-setRound, writer-setCursor, held-setSettled, held-setFenced, held-setRound, held-setCursor}
-use Rattle.model_laws.proofs.strip.QuestionLaws.{and-true, out-of-round, within-round}
+use Rattle.model_laws.proofs.state.BatchLaws.{AllFormed, formed-append}
+use Rattle.model_laws.proofs.state.PromiseLaws.{promise-setSettled, promise-setFenced, promise-setRound, promise-setCursor}
+use Rattle.model_laws.proofs.state.StateLaws.{withSettled, withFenced, withRound, withCursor, length-setSettled, length-setFenced, length-setRound, length-setCursor, state-setSettled, state-setFenced, state-setRound, state-setCursor, writer-setSettled, writer-setFenced, writer-setRound, writer-setCursor, held-setSettled, held-setFenced, held-setRound, held-setCursor}
+use Rattle.model_laws.proofs.state.QuestionLaws.{and-true, out-of-round, within-round}
 use Rattle.model_laws.proofs.trace.CrashLaws.{writeRecords, write-append}
 use Rattle.model_laws.proofs.trace.HomeLaws.{In, in-cases, in-marked, marked-in, marked-below}
 use Rattle.model_laws.proofs.trace.MixLaws.{groupPart, homePart, mixed-append, mixed-homes, groupPart-append, homePart-append, groupPart-homes, homePart-homes}

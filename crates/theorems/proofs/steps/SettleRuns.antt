@@ -20,9 +20,9 @@ use Rattle.model.specs.Demands.{closedBelow, settledFor}
 use Rattle.model.specs.History.{World, lent, feed, isConfirm, settle, feedChange}
 use Rattle.model.specs.declared.Tag.{Tag}
 use Rattle.model_laws.proofs.bytes.ByteLaws.{length-part}
-use Rattle.model_laws.proofs.strip.BatchLaws.{AllFormed, formed-append}
-use Rattle.model_laws.proofs.strip.PromiseLaws.{promise-setSettled, promise-setFenced}
-use Rattle.model_laws.proofs.strip.StateLaws.{withSettled, withFenced, length-setSettled, length-setFenced, state-setSettled, state-setFenced, writer-setSettled, writer-setFenced, held-setSettled, held-setFenced}
+use Rattle.model_laws.proofs.state.BatchLaws.{AllFormed, formed-append}
+use Rattle.model_laws.proofs.state.PromiseLaws.{promise-setSettled, promise-setFenced}
+use Rattle.model_laws.proofs.state.StateLaws.{withSettled, withFenced, length-setSettled, length-setFenced, state-setSettled, state-setFenced, writer-setSettled, writer-setFenced, held-setSettled, held-setFenced}
 use Rattle.model_laws.proofs.trace.HomeLaws.{In, in-marked, marked-in, marked-below}
 use Rattle.model_laws.proofs.trace.Trace.{Ev, hist, homeOn, closerOf, closingFrom}
 use Rattle.model_laws.proofs.trace.TraceLaws.{Rising, done-rising}

@@ -22,12 +22,12 @@ use Rattle.model.specs.Book.{Landing, row, Entry, Commit, Held, Task, opened, B
 use Rattle.model.specs.Book as book
 use Rattle.model.specs.Demands.{closedBelow}
 use Rattle.model.specs.History.{Call, World, lent, feed, isConfirm, store, commit, feedChange}
-use Rattle.model_laws.proofs.strip.StateLaws.{state-setLast, length-setLast, writer-setLast, held-setLast}
-use Rattle.model_laws.proofs.strip.WriterLaws.{length-setWriter, length-setHeld, state-setWriter, writer-setWriter, writer-setWriter-other, held-setWriter, state-setHeld, writer-setHeld, held-setHeld, held-setHeld-other, fits-idle, fits-logging}
-use Rattle.model_laws.proofs.strip.SignLaws.{length-keepList, state-keepList, writer-keepList, held-keepList, promise-keepList}
-use Rattle.model_laws.proofs.strip.OrderLaws.{InOrder, WriterInOrder, Reserved, place-below}
-use Rattle.model_laws.proofs.strip.QuestionLaws.{Roomy}
-use Rattle.model_laws.proofs.strip.PromiseLaws.{promise-setLast, promise-setWriter, promise-setHeld, length-setPromise, state-setPromise, writer-setPromise, held-setPromise, promise-setPromise, promise-setPromise-other, promise-most}
+use Rattle.model_laws.proofs.state.StateLaws.{state-setLast, length-setLast, writer-setLast, held-setLast}
+use Rattle.model_laws.proofs.state.WriterLaws.{length-setWriter, length-setHeld, state-setWriter, writer-setWriter, writer-setWriter-other, held-setWriter, state-setHeld, writer-setHeld, held-setHeld, held-setHeld-other, fits-idle, fits-logging}
+use Rattle.model_laws.proofs.state.SignLaws.{length-keepList, state-keepList, writer-keepList, held-keepList, promise-keepList}
+use Rattle.model_laws.proofs.state.OrderLaws.{InOrder, WriterInOrder, Reserved, place-below}
+use Rattle.model_laws.proofs.state.QuestionLaws.{Roomy}
+use Rattle.model_laws.proofs.state.PromiseLaws.{promise-setLast, promise-setWriter, promise-setHeld, length-setPromise, state-setPromise, writer-setPromise, held-setPromise, promise-setPromise, promise-setPromise-other, promise-most}
 use Rattle.model_laws.proofs.trace.Trace.{Ev, Hist, mine, hist, firstOf, blockOn, tagAt, tagOf, linkIn, closerOf, oldestOf, Apart, LinkOk, Linked}
 use Rattle.model_laws.proofs.trace.TraceLaws.{tagAt-here, blockOn-older, done-rising, all-map}
 use Rattle.model_laws.proofs.trace.LinkLaws.{linked-more, linked-ext, lastFrom}
@@ -39,7 +39,7 @@ use Rattle.theorems.proofs.steps.LogRuns.{Advance, advance-position, Sa
 use Rattle.theorems.proofs.steps.LogSubmits.{submitted-logged, confirmed-more, owed-snoc}
 use Rattle.theorems.proofs.steps.HeldLogs.{filled-tasks, filled-commits, event, soFar, Logging, logging-task, mine-event, last-closes, link-ok}
 use Rattle.theorems.proofs.invariant.Invariant.{Sizes, SoundAt, plainOf, entriesFor, TaskOk, Copies, Submitted, Confirmed, Commits, Running, ImageOk, LastOk, lastCloser, OwedBelow}
-use Rattle.model_laws.proofs.strip.LoggingLaws.{Bounds, bounds, held-size, link-small}
+use Rattle.model_laws.proofs.state.LoggingLaws.{Bounds, bounds, held-size, link-small}
 
 -- a commit that logs, and the transaction that it closes: in the trace, in the log copy and in the book
 pub record Closing (G D : ℕ) (w : World) (R : Running G D w) (v : ℕ) (u : World) : Type 0 where

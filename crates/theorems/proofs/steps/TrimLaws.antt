@@ -10,7 +10,7 @@ use lib.Dec.{leb, ltb}
 use borrow.Author.Tests.{leb-true, leb-false, lt-leb, ltb-false, le-ltb}
 use Rattle.model.specs.State.{writerOf, hasLogged}
 use Rattle.model.specs.Effects.{noneAcross, noneOpenBefore, largest}
-use Rattle.model_laws.proofs.strip.QuestionLaws.{and-true}
+use Rattle.model_laws.proofs.state.QuestionLaws.{and-true}
 use Rattle.model_laws.proofs.trace.Trace.{closerOf, oldestOf, closingFrom, Apart}
 use Rattle.model_laws.proofs.trace.CountLaws.{spanOf, spansOf}
 

@@ -22,11 +22,11 @@ use Rattle.model.specs.Demands.{groupWrites}
 use Rattle.model.specs.History.{World, lent, feed, isConfirm, trim, feedChange}
 use Rattle.model_laws.proofs.bytes.ByteLaws.{length-puts}
 use Rattle.model_laws.proofs.bytes.LayoutLaws.{length-header, group-header}
-use Rattle.model_laws.proofs.strip.BatchLaws.{AllFormed}
-use Rattle.model_laws.proofs.strip.StateLaws.{withStart, withFenced, withLast, state-setStart, length-setStart, writer-setStart, held-setStart, state-setFenced, length-setFenced, writer-setFenced, held-setFenced, state-setLast, length-setLast, writer-setLast, held-setLast}
-use Rattle.model_laws.proofs.strip.PromiseLaws.{promise-setStart, promise-setFenced, promise-setLast}
-use Rattle.model_laws.proofs.strip.ListedLaws.{length-carry, state-carry, writer-carry, held-carry, promise-carry}
-use Rattle.model_laws.proofs.strip.QuestionLaws.{and-true}
+use Rattle.model_laws.proofs.state.BatchLaws.{AllFormed}
+use Rattle.model_laws.proofs.state.StateLaws.{withStart, withFenced, withLast, state-setStart, length-setStart, writer-setStart, held-setStart, state-setFenced, length-setFenced, writer-setFenced, held-setFenced, state-setLast, length-setLast, writer-setLast, held-setLast}
+use Rattle.model_laws.proofs.state.PromiseLaws.{promise-setStart, promise-setFenced, promise-setLast}
+use Rattle.model_laws.proofs.state.ListedLaws.{length-carry, state-carry, writer-carry, held-carry, promise-carry}
+use Rattle.model_laws.proofs.state.QuestionLaws.{and-true}
 use Rattle.model_laws.proofs.trace.CrashLaws.{writeRecords, write-append}
 use Rattle.model_laws.proofs.trace.HomeLaws.{In, area-header-wrote}
 use Rattle.model_laws.proofs.trace.Trace.{hist, tagAt, Apart}

@@ -17,11 +17,11 @@ use Rattle.model.specs.Effects.{beginEffect, reserveEffect, abortEffect, storeF
 use Rattle.model.specs.Questions.{beginAnswer, reserveAnswer, writerKnown, writerOpen}
 use Rattle.model.specs.Book.{Entry, Task, opened, idle as idle′, Book, Commit, withTask, setTask, begin as book-begin, store as book-store, storeTask as book-storeTask, hold as book-hold}
 use Rattle.model.specs.History.{Call, World, lent, feed, isConfirm, begin, reserve, store, feedChange}
-use Rattle.model_laws.proofs.strip.QuestionLaws.{begin-ready, reserve-ready, may-promise}
-use Rattle.model_laws.proofs.strip.WriterLaws.{length-setWriter, length-setHeld, state-setWriter, writer-setWriter, writer-setWriter-other, held-setWriter, state-setHeld, writer-setHeld, held-setHeld, held-setHeld-other, fits-begun, fits-idle, fits-holding}
-use Rattle.model_laws.proofs.strip.PromiseLaws.{promise-setWriter, promise-setHeld, length-setPromise, state-setPromise, writer-setPromise, held-setPromise, promise-setPromise, promise-setPromise-other, promised-change}
+use Rattle.model_laws.proofs.state.QuestionLaws.{begin-ready, reserve-ready, may-promise}
+use Rattle.model_laws.proofs.state.WriterLaws.{length-setWriter, length-setHeld, state-setWriter, writer-setWriter, writer-setWriter-other, held-setWriter, state-setHeld, writer-setHeld, held-setHeld, held-setHeld-other, fits-begun, fits-idle, fits-holding}
+use Rattle.model_laws.proofs.state.PromiseLaws.{promise-setWriter, promise-setHeld, length-setPromise, state-setPromise, writer-setPromise, held-setPromise, promise-setPromise, promise-setPromise-other, promised-change}
 use Rattle.theorems.proofs.steps.DoneLaws.{after}
-use Rattle.model_laws.proofs.strip.OrderLaws.{InOrder, WriterInOrder, Reserved}
+use Rattle.model_laws.proofs.state.OrderLaws.{InOrder, WriterInOrder, Reserved}
 use Rattle.model_laws.proofs.trace.Trace.{Ev, Hist, hist}
 use Rattle.theorems.proofs.invariant.Invariant.{Copies, Submitted, Confirmed, Commits, Running, TaskOk, entriesFor}
 

@@ -2,7 +2,7 @@
 use borrow.Author.Needs.{needs}
 use mathlib.Core.Path.{sym}
 use native.Mathlib.Omega.{arith}
-use Rattle.model_laws.proofs.strip.OrderLaws.{order-writer}
+use Rattle.model_laws.proofs.state.OrderLaws.{order-writer}
 use Rattle.base_order.proofs.OrderTests.{writer-refused}
 use Rattle.base_order.proofs.whole.writer_in_order.Statement.{statement}
 use Rattle.base_order.proofs.whole.writer_in_order.Tie as tie

@@ -3,7 +3,7 @@ use mathlib.Core.Path.{_≡_}
 use mathlib.Core.Bool.{true}
 use Prim.Native.Nat.{_+_, _-_, _≤_}
 use native.Mathlib.Omega.{arith}
-use Rattle.acts.specs.Chains.{allOf}
+use Rattle.acts.specs.Many.{allOf}
 use Rattle.call_many_fetch.proofs.AllowedLaws.{all-none, all-more, all-refused, all-done, storeTest, store-test}
 use Rattle.call_many_fetch.proofs.allowed.may_store_all.Statement.{statement}
 use Rattle.call_many_fetch.proofs.allowed.may_store_all.Tie as tie

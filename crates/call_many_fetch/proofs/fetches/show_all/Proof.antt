@@ -6,7 +6,7 @@ use native.Mathlib.Omega.{arith}
 use lib.ListN.{length}
 use Rattle.model.specs.Bytes.{puts}
 use Rattle.call_ask.specs.Lent.{lentAll}
-use Rattle.acts.specs.Chains.{blocksRead}
+use Rattle.acts.specs.Many.{blocksRead}
 use Rattle.call_many_fetch.proofs.FetchLaws.{read-none, read-more, read-all}
 use Rattle.call_many_fetch.proofs.fetches.show_all.Statement.{statement}
 use Rattle.call_many_fetch.proofs.fetches.show_all.Tie as tie

@@ -7,7 +7,7 @@ use Rattle.call_store.proofs.LogLaws.{may-read, held-lent, kept, handed
 use borrow.Author.Needs.{needs}
 use Rattle.call_store.proofs.entry.log_entry.Statement.{statement}
 use Rattle.call_store.proofs.entry.log_entry.Tie as tie
-use Rattle.model_laws.proofs.strip.LoggingLaws.{held-size, length-entered}
+use Rattle.model_laws.proofs.state.LoggingLaws.{held-size, length-entered}
 
 state-requires : tie.Need-state-requires
 state-requires c κs = search needs

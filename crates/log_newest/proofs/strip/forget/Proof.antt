@@ -4,7 +4,7 @@ use Prim.Native.Nat.{_-_, _≤_}
 use native.Mathlib.Omega.{arith}
 use lib.ListN.{length}
 use Rattle.model.specs.Newest.{forget}
-use Rattle.model_laws.proofs.strip.NewestLaws.{length-forget}
+use Rattle.model_laws.proofs.state.NewestLaws.{length-forget}
 use Rattle.log_newest.proofs.StripLaws.{forget-more}
 use Rattle.log_newest.proofs.strip.forget.Statement.{statement}
 use Rattle.log_newest.proofs.strip.forget.Tie as tie

@@ -5,7 +5,7 @@ use borrow.Author.Needs.{needs}
 use Rattle.unit_bands_table.specs.Rows.{rows}
 use Rattle.unit_bands_table.proofs.RowLaws.{sound-whole, sound-fit}
 use Rattle.unit_bands_table.proofs.LoopLaws.{Covered, covered-none}
-use Rattle.unit_bands_table.proofs.ChainLaws.{Parted, parted-none, chain-room, chain-further, chain-covered, chain-parted, chain-broken, chain-whole}
+use Rattle.unit_bands_table.proofs.RowWalkLaws.{Parted, parted-none, chain-room, chain-further, chain-covered, chain-parted, chain-broken, chain-whole}
 use Rattle.unit_bands_table.proofs.judging.chained.Statement.{statement}
 use Rattle.unit_bands_table.proofs.judging.chained.Tie as tie
 

@@ -6,7 +6,7 @@ use borrow.Author.Needs.{needs}
 use lib.ListN.{length}
 use Rattle.unit_bands_table.specs.Rows.{rows}
 use Rattle.unit_bands_table.specs.Sweep.{rest, starting}
-use Rattle.unit_bands_table.proofs.ChainLaws.{starting-here, starting-later, starting-ended, starting-all}
+use Rattle.unit_bands_table.proofs.RowWalkLaws.{starting-here, starting-later, starting-ended, starting-all}
 use Rattle.unit_bands_table.proofs.rows.starter.Statement.{statement}
 use Rattle.unit_bands_table.proofs.rows.starter.Tie as tie
 

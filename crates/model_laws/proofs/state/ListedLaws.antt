@@ -14,9 +14,9 @@ use Rattle.model.specs.declared.Writer.{Writer}
 use Rattle.model.specs.State.{stateOf, setStart, setNext, setFilled, setSettled, setFenced, setDurable, setLast, setRound, setCursor, modeOffset, writerOffset, writerOf, setWriter, heldOffset, heldOf, setHeld, promiseOffset, promiseOf, setPromise, listHome, listedOf, setListed}
 use Rattle.model.specs.Newest.{noPosition, keptFor, carryListed}
 use Rattle.model_laws.proofs.bytes.ByteLaws.{length-puts, length-part, part-below, number-same-part, number-put-above, number-part, number-inside}
-use Rattle.model_laws.proofs.strip.StateLaws.{state-agree, writer-agree}
-use Rattle.model_laws.proofs.strip.WriterLaws.{part-setWriter, part-setHeld}
-use Rattle.model_laws.proofs.strip.NewestLaws.{number-ones}
+use Rattle.model_laws.proofs.state.StateLaws.{state-agree, writer-agree}
+use Rattle.model_laws.proofs.state.WriterLaws.{part-setWriter, part-setHeld}
+use Rattle.model_laws.proofs.state.NewestLaws.{number-ones}
 
 -- ---- the positions after the other setters
 

@@ -2,7 +2,7 @@
 use mathlib.Core.Path.{_≡_, refl}
 use mathlib.Core.Bool.{Bool, true}
 use Rattle.model.specs.Witnesses.{formatsSo}
-use Rattle.model.proofs.answers.Computing.{all-definitions}
+use Rattle.model.proofs.examples.Computing.{all-definitions}
 
 pub formats-so : formatsSo ≡ true
 unfolding all-definitions

@@ -18,7 +18,7 @@ use Rattle.model.specs.Commit.{writeAll, newestIn, orElse}
 use Rattle.model.specs.declared.Tag.{Tag}
 use Rattle.model.specs.Newest.{noPosition, keptAs, keptFor, keep, nothingKept, keepEntry, keepEntries, forget}
 use Rattle.model_laws.proofs.bytes.ByteLaws.{length-putNumber, number-same}
-use Rattle.model_laws.proofs.strip.StateLaws.{number-put-apart}
+use Rattle.model_laws.proofs.state.StateLaws.{number-put-apart}
 
 -- ---- lengths
 

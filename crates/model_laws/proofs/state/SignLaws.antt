@@ -16,9 +16,9 @@ use Rattle.model.specs.Newest.{noPosition, keptFor, carryListed}
 use Rattle.model.specs.Given.{Given, homes, tagsOf, liveBase, liveTags, blockOr, isThere}
 use Rattle.model.specs.Rights.{forHome, shownAt, listBy, readList, inRanges, isList, mayStore, mayRead, listMoved, signFor, openSign, signIf, keepList, sameListed, signedList, storeRight, readRight, Faithful}
 use Rattle.model_laws.proofs.bytes.ByteLaws.{length-zeros, length-putNumber, length-part, part-put-below, number-same-part, number-put-below, number-put-above, number-above}
-use Rattle.model_laws.proofs.strip.StateLaws.{length-laws, state-agree, writer-agree, number-back}
-use Rattle.model_laws.proofs.strip.RightLaws.{list-by}
-use Rattle.model_laws.proofs.strip.ListedLaws.{length-setListed, listed-ones, length-carry, state-carry, writer-carry, held-carry, promise-carry, listed-carry}
+use Rattle.model_laws.proofs.state.StateLaws.{length-laws, state-agree, writer-agree, number-back}
+use Rattle.model_laws.proofs.state.RightLaws.{list-by}
+use Rattle.model_laws.proofs.state.ListedLaws.{length-setListed, listed-ones, length-carry, state-carry, writer-carry, held-carry, promise-carry, listed-carry}
 
 and-left : (a b : Bool) → (a && b) ≡ true → a ≡ true
 and-left true b e = refl

@@ -4,7 +4,7 @@ use mathlib.Core.Bool.{Bool, true}
 use mathlib.Core.List.{List, [], _∷_}
 use Rattle.model.specs.Bytes.{same}
 use Rattle.model.specs.Witnesses.{goesAsListed, opensLarger}
-use Rattle.model.proofs.answers.Computing.{all-definitions}
+use Rattle.model.proofs.examples.Computing.{all-definitions}
 
 pub goes-as-listed : goesAsListed ≡ true
 unfolding all-definitions

@@ -9,8 +9,8 @@ use borrow.Author.Tests.{leb-true, eqb-true, eqb-false}
 use Rattle.model.specs.State.{freePlaces}
 use Rattle.model.specs.Effects.{Given, homes}
 use Rattle.model.specs.Questions.{areasRight, stateRight, newestRight, blockRight, stripInOrder, writerKnown, homeKnown, storeAllowed, writerOpen, storeLogs, commitLogs, room, batchFits, askBlock, askNewest, storeAnswer, commitAnswer}
-use Rattle.acts.specs.Chains.{blocksLent, blocksRight, homesKnown, allOf, mayStoreAll, mayReadAll, roomForAll, askHomes, fetchAnswer, reviseAnswer, transactAnswer}
-use Rattle.model_laws.proofs.strip.QuestionLaws.{ask-passed, and-true}
+use Rattle.acts.specs.Many.{blocksLent, blocksRight, homesKnown, allOf, mayStoreAll, mayReadAll, roomForAll, askHomes, fetchAnswer, reviseAnswer, transactAnswer}
+use Rattle.model_laws.proofs.state.QuestionLaws.{ask-passed, and-true}
 
 -- what every call on several homes has been lent when it is done
 pub record HomesReady (g : Given) : Type 0 where

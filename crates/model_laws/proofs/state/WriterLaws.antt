@@ -12,7 +12,7 @@ use Rattle.model.specs.Bytes.{part, number, putNumber}
 use Rattle.model.specs.declared.Writer.{Writer}
 use Rattle.model.specs.State.{stateOf, modeOffset, writerOffset, lessOne, oneMore, writerOf, setWriter, heldOffset, heldOf, setHeld, idle, begun, holding, logging}
 use Rattle.model_laws.proofs.bytes.ByteLaws.{length-puts, length-putNumber, number-same, number-put-below, number-lt, part-same, part-below, part-above, part-put-below, part-put-above}
-use Rattle.model_laws.proofs.strip.StateLaws.{number-back, Spare, state-agree, writer-agree, byte-agree}
+use Rattle.model_laws.proofs.state.StateLaws.{number-back, Spare, state-agree, writer-agree, byte-agree}
 
 -- ---- each number of a writer's record is below 2 ^ 64, and the mode a byte
 

@@ -2,7 +2,7 @@
 use mathlib.Core.Path.{_≡_, refl}
 use mathlib.Core.Bool.{true}
 use Rattle.model.specs.Trials.{stored, trials, allMatch}
-use Rattle.model.proofs.answers.Computing.{all-definitions}
+use Rattle.model.proofs.examples.Computing.{all-definitions}
 
 pub trials-hold : allMatch trials ≡ true
 unfolding all-definitions stored trials allMatch

@@ -14,7 +14,7 @@ use Rattle.model.specs.Effects.{Given, Effect, homes, newState, tagsOf, liveBas
 use Rattle.model.specs.Rights.{mayStore, storeRight, readList}
 use Rattle.model.specs.Questions.{ask, areasRight, stateRight, stripInOrder, writerKnown, writerOpen, mayPromise, askState, beginAnswer, reserveAnswer, storeAnswer, commitAnswer}
 use Rattle.model.specs.Calls.{Outcome, done, outcome, sizeOf, beginCall, reserveCall, storeCall, commitCall}
-use Rattle.acts.specs.Chains.{blocksLent, lentOn, andThen, storedFirst, transactEffect, mayStoreAll, transactAnswer, transactCall}
+use Rattle.acts.specs.Many.{blocksLent, lentOn, andThen, storedFirst, transactEffect, mayStoreAll, transactAnswer, transactCall}
 use Rattle.model.specs.Book.{Book}
 use Rattle.model.specs.Book as book
 use Rattle.model.specs.History.{Call, begin, reserve, store, commit, Event, call, World, lent, ends, changeEnds, feed, feedChange, isOpening, isConfirm, step, after as played, Allowed, AllAllowed}
@@ -22,15 +22,15 @@ use Rattle.abstract_store.specs.Store.{Store, listOf, afterReply, replyOf, foll
 use Rattle.abstract_store.specs.Store as abstract
 use Rattle.acts.specs.Units.{transacts, transactEnds, feedStores, feedTransact, leftBy, act, roomy, storesFrom, chain}
 use Rattle.model_laws.proofs.bytes.ByteLaws.{length-part}
-use Rattle.model_laws.proofs.strip.BatchLaws.{AllFormed, formed-append}
-use Rattle.model_laws.proofs.strip.QuestionLaws.{ask-yes}
-use Rattle.acts.proofs.ChainLaws.{each-of, TransactReady, transact-ready, store-fits, commit-fits}
+use Rattle.model_laws.proofs.state.BatchLaws.{AllFormed, formed-append}
+use Rattle.model_laws.proofs.state.QuestionLaws.{ask-yes}
+use Rattle.acts.proofs.ManyLaws.{each-of, TransactReady, transact-ready, store-fits, commit-fits}
 use Rattle.theorems.proofs.steps.DoneLaws.{outcome-code, outcome-done, records-read, after, step-done}
 use Rattle.theorems.proofs.steps.FormedLaws.{store-formed, commit-formed}
 use Rattle.theorems.proofs.claims.Reached.{Reached, after-append, allowed-append, goes-on, call-code, kept-then, same-book, same-homes}
-use Rattle.theorems.proofs.claims.StoreChains.{Along, store-replies, commit-replies, store-along, reserved-room, begin-along}
+use Rattle.theorems.proofs.claims.StoreMany.{Along, store-replies, commit-replies, store-along, reserved-room, begin-along}
 use Rattle.theorems.proofs.claims.ListRights.{lent-homes, rights-same}
-use Rattle.model_laws.proofs.strip.LoggingLaws.{fits}
+use Rattle.model_laws.proofs.state.LoggingLaws.{fits}
 
 -- the world with what an effect leaves, and a book
 abbrev stepped : World → Effect → Book → World

@@ -2,7 +2,7 @@
 use mathlib.Core.Path.{_≡_, refl}
 use mathlib.Core.Bool.{Bool, true}
 use Rattle.model.specs.TwoRounds.{firstRound, between, secondRound, rounds, roundAnswers, roundsGo}
-use Rattle.model.proofs.answers.Computing.{all-definitions}
+use Rattle.model.proofs.examples.Computing.{all-definitions}
 
 pub rounds-go : roundsGo ≡ true
 unfolding all-definitions firstRound between secondRound rounds roundAnswers roundsGo

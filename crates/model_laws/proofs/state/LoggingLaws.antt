@@ -18,9 +18,9 @@ use Rattle.model.specs.Effects.{Given, linkFrom, entered, submitted, logged}
 use Rattle.model.specs.Questions.{batchFits}
 use Rattle.model_laws.proofs.bytes.ByteLaws.{length-part}
 use Rattle.model_laws.proofs.bytes.LayoutLaws.{length-putBlank, length-putEntry}
-use Rattle.model_laws.proofs.strip.StateLaws.{state-setNext, state-setFilled, length-setNext, length-setFilled, writer-setNext, writer-setFilled, held-setNext, held-setFilled}
-use Rattle.model_laws.proofs.strip.PromiseLaws.{promise-setNext, promise-setFilled}
-use Rattle.model_laws.proofs.strip.OrderLaws.{WriterInOrder}
+use Rattle.model_laws.proofs.state.StateLaws.{state-setNext, state-setFilled, length-setNext, length-setFilled, writer-setNext, writer-setFilled, held-setNext, held-setFilled}
+use Rattle.model_laws.proofs.state.PromiseLaws.{promise-setNext, promise-setFilled}
+use Rattle.model_laws.proofs.state.OrderLaws.{WriterInOrder}
 
 -- where a transaction's first position and count stand
 pub record Bounds (st : State) (r : Writer) (p : ℕ) : Type 0 where

@@ -15,10 +15,10 @@ use Rattle.model.specs.declared.State.{State}
 use Rattle.model.specs.declared.Writer.{Writer}
 use Rattle.model.specs.State.{stateOf, writerOf, oneMore, idle, isOpen, promiseOf, promised, places, freshNumbers, freshState, nextPosition, numbersInOrder, writerInOrder, promiseInOrder, writerAtInOrder, writersInOrder, inOrder}
 use Rattle.model_laws.proofs.bytes.ByteLaws.{length-zeros, number-none, number-more}
-use Rattle.model_laws.proofs.strip.StateLaws.{length-laws, state-laws, writer-laws}
-use Rattle.model_laws.proofs.strip.PromiseLaws.{promise-laws, promise-zeros, promised-none, promise-most}
-use Rattle.model_laws.proofs.strip.ListedLaws.{length-setListed, state-setListed, writer-setListed, promise-setListed}
-use Rattle.model_laws.proofs.strip.SignLaws.{length-setListSign, state-setListSign, writer-setListSign, promise-setListSign}
+use Rattle.model_laws.proofs.state.StateLaws.{length-laws, state-laws, writer-laws}
+use Rattle.model_laws.proofs.state.PromiseLaws.{promise-laws, promise-zeros, promised-none, promise-most}
+use Rattle.model_laws.proofs.state.ListedLaws.{length-setListed, state-setListed, writer-setListed, promise-setListed}
+use Rattle.model_laws.proofs.state.SignLaws.{length-setListSign, state-setListSign, writer-setListSign, promise-setListSign}
 use Rattle.model_laws.proofs.bytes.LayoutLaws.{number-zeros}
 
 -- ---- tests and what they tell: simp by the set turns a chain of tests into its facts, and back

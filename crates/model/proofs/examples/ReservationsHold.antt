@@ -2,7 +2,7 @@
 use mathlib.Core.Path.{_≡_, refl}
 use mathlib.Core.Bool.{true, _&&_}
 use Rattle.model.specs.Reservations.{promising, givingBack, closing, reserving, answeredSo, reservesSo, tagsSo}
-use Rattle.model.proofs.answers.Computing.{all-definitions}
+use Rattle.model.proofs.examples.Computing.{all-definitions}
 
 pub reserves-so : (reservesSo && tagsSo) ≡ true
 unfolding all-definitions promising givingBack closing reserving answeredSo reservesSo tagsSo

@@ -16,7 +16,7 @@ use Rattle.abstract_store.specs.Store.{Store, firstGroup, nextGroup, nextOf, pl
 use Rattle.abstract_store.specs.Store as abstract
 use Rattle.acts.specs.Units.{roomy, feedStores}
 use Rattle.model_laws.proofs.bytes.ByteLaws.{length-zeros}
-use Rattle.model_laws.proofs.strip.QuestionLaws.{ask-yes, ask-passed, and-true}
+use Rattle.model_laws.proofs.state.QuestionLaws.{ask-yes, ask-passed, and-true}
 use Rattle.theorems.proofs.claims.TransactBooks.{Chained, chained-store, chained}
 
 -- ---- a reply's number

@@ -11,8 +11,8 @@ use Rattle.model.specs.declared.Writer.{Writer}
 use Rattle.model.specs.State.{stateOf, setGroups, setHomes, setStart, setNext, setFilled, setSettled, setFenced, setDurable, setLast, setRound, setCursor, modeOffset, writerOffset, writerOf, setWriter, heldOffset, heldOf, setHeld, promiseOffset, promiseOf, setPromise, promised}
 use Rattle.model_laws.proofs.bytes.ByteLaws.{length-putNumber, number-same, number-put-below, number-put-above, number-same-part, number-lt, part-put-below, part-put-above}
 use Rattle.model_laws.proofs.bytes.LayoutLaws.{number-zeros}
-use Rattle.model_laws.proofs.strip.StateLaws.{Spare, state-agree, writer-agree, byte-agree}
-use Rattle.model_laws.proofs.strip.WriterLaws.{part-setWriter, part-setHeld}
+use Rattle.model_laws.proofs.state.StateLaws.{Spare, state-agree, writer-agree, byte-agree}
+use Rattle.model_laws.proofs.state.WriterLaws.{part-setWriter, part-setHeld}
 
 -- ---- the promises after the other setters
 
