@@ -52,7 +52,7 @@ pub fn lengths_right(log: &[u8], area: &[u8], state: &[u8]) -> bool
 }
 
 // Questions 1 and 2: 0 if the lengths are right and the strip is in order, else the number of the refusal.
-pub fn in_use(log: &[u8], area: &[u8], state: &[u8]) -> u64
+pub fn state_answer(log: &[u8], area: &[u8], state: &[u8]) -> u64
     ensures { λ r. ⌜ r ≡ askState (lent (now (log .entry)) (now (area .entry)) (now (state .entry)) [] [] 0 0) 0 ⌝ }
 {
     if !lengths_right(log, area, state) {
@@ -70,7 +70,7 @@ pub fn in_use(log: &[u8], area: &[u8], state: &[u8]) -> u64
 }
 
 // The same for a call that is lent a block.
-pub fn in_use_block(log: &[u8], area: &[u8], state: &[u8], block: &[u8]) -> u64
+pub fn block_answer(log: &[u8], area: &[u8], state: &[u8], block: &[u8]) -> u64
     ensures { λ r. ⌜ r ≡ askBlock (lent (now (log .entry)) (now (area .entry)) (now (state .entry)) (now (block .entry)) [] 0 0) 0 ⌝ }
 {
     if !lengths_right(log, area, state) {
@@ -91,21 +91,21 @@ pub fn in_use_block(log: &[u8], area: &[u8], state: &[u8], block: &[u8]) -> u64
 }
 
 // Questions 1 and 2 of a call that is lent the newest positions, eight bytes for each home.
-pub fn in_use_newest(log: &[u8], area: &[u8], state: &[u8], newest: &[u8]) -> u64
+pub fn newest_answer(log: &[u8], area: &[u8], state: &[u8], newest: &[u8]) -> u64
     ensures { λ r. ⌜ r ≡ askNewest (lentAll (now (log .entry)) (now (area .entry)) (now (state .entry)) (now (newest .entry)) [] [] 0 0) 0 ⌝ }
 {
     if newest.len() as u64 != 8 * base_areas::data_homes(area.len()) {
         return 1;
     }
-    in_use(log, area, state)
+    state_answer(log, area, state)
 }
 
 // The same for a call that is lent a block too.
-pub fn in_use_both(log: &[u8], area: &[u8], state: &[u8], newest: &[u8], block: &[u8]) -> u64
+pub fn both_answer(log: &[u8], area: &[u8], state: &[u8], newest: &[u8], block: &[u8]) -> u64
     ensures { λ r. ⌜ r ≡ askBoth (lentAll (now (log .entry)) (now (area .entry)) (now (state .entry)) (now (newest .entry)) (now (block .entry)) [] 0 0) 0 ⌝ }
 {
     if newest.len() as u64 != 8 * base_areas::data_homes(area.len()) {
         return 1;
     }
-    in_use_block(log, area, state, block)
+    block_answer(log, area, state, block)
 }

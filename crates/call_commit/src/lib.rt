@@ -1,8 +1,8 @@
 // Commit: the held block is logged as the closing entry.
 use call_ask::Reply;
 use call_store::closing_word;
+use call_store::log_answer;
 use call_store::log_entry;
-use call_store::may_log;
 use model::State;
 use model::Writer;
 ghost use mathlib.Core.Path.{_≡_};
@@ -109,7 +109,7 @@ pub fn commit_next(
 }
 
 // The answer of a commit: 0, or the number of the question that refuses it.
-fn commit_verdict(
+fn commit_answer(
     log: &[u8],
     area: &[u8],
     state: &[u8],
@@ -119,7 +119,7 @@ fn commit_verdict(
 ) -> u64
     ensures { λ r. ⌜ r ≡ commitAnswer (lentAll (now (log .entry)) (now (area .entry)) (now (state .entry)) (now (newest .entry)) [] (now (batch .entry)) writer 0) (sizeOf (commitEffect (lentAll (now (log .entry)) (now (area .entry)) (now (state .entry)) (now (newest .entry)) [] (now (batch .entry)) writer 0))) ⌝ }
 {
-    let asked = call_ask::in_use_newest(log, area, state, newest);
+    let asked = call_ask::newest_answer(log, area, state, newest);
     if asked != 0 {
         return asked;
     }
@@ -133,7 +133,7 @@ fn commit_verdict(
     if !base_state::holds(r) {
         return 0;
     }
-    may_log(state, writer as usize, batch.len())
+    log_answer(state, writer as usize, batch.len())
 }
 
 // Commits a writer's open transaction: its held block is logged as the closing entry, whose position + 1 is the ticket, and for each home that it
@@ -148,7 +148,7 @@ pub fn commit(
 ) -> Reply
     ensures { λ r. ⌜ leavesAll (r .code) (r .figure) (r .size) (now (log .exit)) (now (area .entry)) (now (state .exit)) (now (newest .exit)) [] (now (batch .exit)) ≡ commitCall (lentAll (now (log .entry)) (now (area .entry)) (now (state .entry)) (now (newest .entry)) [] (now (batch .entry)) writer 0) ⌝ }
 {
-    let code = commit_verdict(log, area, state, newest, batch, writer);
+    let code = commit_answer(log, area, state, newest, batch, writer);
     if code != 0 {
         return call_ask::refused(code);
     }

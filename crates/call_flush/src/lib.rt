@@ -52,10 +52,10 @@ fn flush_size(st: State) -> usize
 }
 
 // The answer of a flush: 0, or the number of the question that refuses it.
-fn flush_verdict(log: &[u8], area: &[u8], state: &[u8], batch: &[u8]) -> u64
+fn flush_answer(log: &[u8], area: &[u8], state: &[u8], batch: &[u8]) -> u64
     ensures { λ r. ⌜ r ≡ flushAnswer (lent (now (log .entry)) (now (area .entry)) (now (state .entry)) [] (now (batch .entry)) 0 0) (sizeOf (flushEffect (lent (now (log .entry)) (now (area .entry)) (now (state .entry)) [] (now (batch .entry)) 0 0))) ⌝ }
 {
-    let asked = call_ask::in_use(log, area, state);
+    let asked = call_ask::state_answer(log, area, state);
     if asked != 0 {
         return asked;
     }
@@ -73,7 +73,7 @@ fn flush_verdict(log: &[u8], area: &[u8], state: &[u8], batch: &[u8]) -> u64
 pub fn flush(log: &[u8], area: &[u8], state: &mut [u8], batch: &mut [u8]) -> Reply
     ensures { λ r. ⌜ leaves (r .code) (r .figure) (r .size) (now (log .entry)) (now (area .entry)) (now (state .exit)) [] (now (batch .exit)) ≡ flushCall (lent (now (log .entry)) (now (area .entry)) (now (state .entry)) [] (now (batch .entry)) 0 0) ⌝ }
 {
-    let code = flush_verdict(log, area, state, batch);
+    let code = flush_answer(log, area, state, batch);
     if code != 0 {
         return call_ask::refused(code);
     }

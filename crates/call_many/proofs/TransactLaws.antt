@@ -29,7 +29,7 @@ use Rattle.acts.specs.Many.{blocksLent, blocksRight, homesKnown, lentOn, andThe
 use Rattle.call_many.specs.Steps.{Several, BatchRoom, Moved, Stored, Reached}
 use Rattle.call_many_fetch.proofs.AllowedLaws.{read-list-same, storeTest}
 use Rattle.call_many.proofs.StoredLaws.{sizes-more, may-log, moves, moved-more, bytes-more, stored}
-use Rattle.call_many_fetch.proofs.VerdictLaws.{HomesLent, homes-refuse, homes-pass, homes-first, homes-lent}
+use Rattle.call_many_fetch.proofs.QuestionLaws.{HomesLent, homes-refuse, homes-pass, homes-first, homes-lent}
 
 -- ---- what the questions let through
 

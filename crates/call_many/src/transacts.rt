@@ -1,6 +1,6 @@
 // Transact: begin, a store for each lent block, and commit, under one verdict.
+use crate::questions::transact_answer;
 use crate::steps::store_all;
-use crate::verdicts::transact_verdict;
 use call_ask::Reply;
 ghost use mathlib.Core.Path.{_≡_};
 ghost use Rattle.call_ask.specs.Lent.{lentAll, leavesAll};
@@ -21,7 +21,7 @@ pub fn transact(
     ensures { λ r. ⌜ leavesAll (r .code) (r .figure) (r .size) (now (log .exit)) (now (area .entry)) (now (state .exit)) (now (newest .exit)) (now (blocks .entry)) (now (batch .exit))
         ≡ transactCall (lentAll (now (log .entry)) (now (area .entry)) (now (state .entry)) (now (newest .entry)) (now (blocks .entry)) (now (batch .entry)) writer home) ⌝ }
 {
-    let code = transact_verdict(log, area, state, newest, blocks, batch, writer, home);
+    let code = transact_answer(log, area, state, newest, blocks, batch, writer, home);
     if code != 0 {
         return call_ask::refused(code);
     }

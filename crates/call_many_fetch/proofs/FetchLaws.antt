@@ -25,7 +25,7 @@ use Rattle.call_read.specs.Shown.{readBlock}
 use Rattle.model.specs.Rights.{forHome}
 use Rattle.acts.specs.Many.{blocksLent, blocksRead, fetchEffect, askHomes, allOf, mayStoreAll, mayReadAll, fetchAnswer, reviseAnswer, fetchCall, reviseCall}
 use Rattle.call_many_fetch.proofs.AllowedLaws.{block-same, read-list-same, storeTest, readTest}
-use Rattle.call_many_fetch.proofs.VerdictLaws.{HomesLent, homes-refuse, homes-pass, homes-first, homes-lent}
+use Rattle.call_many_fetch.proofs.QuestionLaws.{HomesLent, homes-refuse, homes-pass, homes-first, homes-lent}
 
 -- ---- one block in its place
 

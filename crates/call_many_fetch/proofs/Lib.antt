@@ -1,3 +1,3 @@
 pub mod AllowedLaws
 pub mod FetchLaws
-pub mod VerdictLaws
+pub mod QuestionLaws

@@ -1,6 +1,6 @@
 // Fetch and revise: the blocks of several homes in a row as a writer sees them.
-use crate::verdicts::fetch_verdict;
-use crate::verdicts::revise_verdict;
+use crate::questions::fetch_answer;
+use crate::questions::revise_answer;
 use call_ask::Reply;
 ghost use mathlib.Core.Path.{_≡_};
 ghost use mathlib.Core.List.{[]};
@@ -82,7 +82,7 @@ pub fn fetch(
     ensures { λ r. ⌜ leavesAll (r .code) (r .figure) (r .size) (now (log .entry)) (now (area .entry)) (now (state .entry)) (now (newest .entry)) (now (blocks .exit)) []
         ≡ fetchCall (lentAll (now (log .entry)) (now (area .entry)) (now (state .entry)) (now (newest .entry)) (now (blocks .entry)) [] writer home) ⌝ }
 {
-    let code = fetch_verdict(log, area, state, newest, blocks, writer, home);
+    let code = fetch_answer(log, area, state, newest, blocks, writer, home);
     if code != 0 {
         return call_ask::refused(code);
     }
@@ -103,7 +103,7 @@ pub fn revise(
     ensures { λ r. ⌜ leavesAll (r .code) (r .figure) (r .size) (now (log .entry)) (now (area .entry)) (now (state .entry)) (now (newest .entry)) (now (blocks .exit)) []
         ≡ reviseCall (lentAll (now (log .entry)) (now (area .entry)) (now (state .entry)) (now (newest .entry)) (now (blocks .entry)) [] writer home) ⌝ }
 {
-    let code = revise_verdict(log, area, state, newest, blocks, writer, home);
+    let code = revise_answer(log, area, state, newest, blocks, writer, home);
     if code != 0 {
         return call_ask::refused(code);
     }

@@ -10,7 +10,7 @@ ghost use Rattle.model.specs.Calls.{sizeOf, formatCall};
 ghost use Rattle.call_ask.specs.Lent.{lent, leaves};
 
 // The questions of format: 0, or the number of the refusal.
-fn may_format(log: &[u8], area: &[u8], batch: &[u8]) -> u64
+fn format_answer(log: &[u8], area: &[u8], batch: &[u8]) -> u64
     ensures { λ r. ⌜ r ≡ formatAnswer (lent (now (log .entry)) (now (area .entry)) [] [] (now (batch .entry)) 0 0) (sizeOf (formatEffect (lent (now (log .entry)) (now (area .entry)) [] [] (now (batch .entry)) 0 0))) ⌝ }
 {
     if !base_areas::log_right(log.len()) {
@@ -39,7 +39,7 @@ fn format_area(area: &mut [u8])
 pub fn format(log: &mut [u8], area: &mut [u8], batch: &mut [u8]) -> Reply
     ensures { λ r. ⌜ leaves (r .code) (r .figure) (r .size) (now (log .exit)) (now (area .exit)) [] [] (now (batch .exit)) ≡ formatCall (lent (now (log .entry)) (now (area .entry)) [] [] (now (batch .entry)) 0 0) ⌝ }
 {
-    let code = may_format(log, area, batch);
+    let code = format_answer(log, area, batch);
     if code != 0 {
         return call_ask::refused(code);
     }

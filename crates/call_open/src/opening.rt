@@ -40,7 +40,7 @@ fn measure(log: &[u8], area: &[u8]) -> Shape
 }
 
 // The questions of open but the last: 0, or the number of the refusal.
-fn may_open(log: &[u8], area: &[u8], state: &[u8], newest: &[u8]) -> u64
+fn open_answer(log: &[u8], area: &[u8], state: &[u8], newest: &[u8]) -> u64
     ensures { λ r. ⌜ r ≡ askOpen (lentAll (now (log .entry)) (now (area .entry)) (now (state .entry)) (now (newest .entry)) [] [] 0 0) 0 ⌝ }
 {
     if !call_ask::lengths_right(log, area, state) {
@@ -118,7 +118,7 @@ pub fn reopen(
 ) -> Reply
     ensures { λ r. ⌜ leavesAll (r .code) (r .figure) (r .size) (now (log .exit)) (now (area .exit)) (now (state .exit)) (now (newest .exit)) [] (now (batch .exit)) ≡ openCall (lentAll (now (log .entry)) (now (area .entry)) (now (state .entry)) (now (newest .entry)) [] (now (batch .entry)) 0 0) ⌝ }
 {
-    let code = may_open(log, area, state, newest);
+    let code = open_answer(log, area, state, newest);
     if code != 0 {
         return call_ask::refused(code);
     }

@@ -11,7 +11,7 @@ ghost use Rattle.model.specs.Calls.{readCall};
 ghost use Rattle.call_ask.specs.Lent.{lentAll, leavesAll};
 
 // The questions of a read: 0 if none refuses it, else the number of the refusal.
-fn judge(
+fn read_answer(
     log: &[u8],
     area: &[u8],
     state: &[u8],
@@ -22,7 +22,7 @@ fn judge(
 ) -> u64
     ensures { λ r. ⌜ r ≡ readAnswer (lentAll (now (log .entry)) (now (area .entry)) (now (state .entry)) (now (newest .entry)) (now (block .entry)) [] writer home) ⌝ }
 {
-    let code = call_ask::in_use_both(log, area, state, newest, block);
+    let code = call_ask::both_answer(log, area, state, newest, block);
     if code != 0 {
         return code;
     }
@@ -52,7 +52,7 @@ pub fn read(
     ensures { λ r. ⌜ leavesAll (r .code) (r .figure) (r .size) (now (log .entry)) (now (area .entry)) (now (state .entry)) (now (newest .entry)) (now (block .exit)) []
         ≡ readCall (lentAll (now (log .entry)) (now (area .entry)) (now (state .entry)) (now (newest .entry)) (now (block .entry)) [] writer home) ⌝ }
 {
-    let code = judge(log, area, state, newest, block, writer, home);
+    let code = read_answer(log, area, state, newest, block, writer, home);
     if code != 0 {
         return call_ask::refused(code);
     }

@@ -14,7 +14,7 @@ ghost use Rattle.call_ask.specs.Lent.{lent, leaves};
 pub fn begin_round(log: &[u8], area: &[u8], state: &mut [u8]) -> Reply
     ensures { λ r. ⌜ leaves (r .code) (r .figure) (r .size) (now (log .entry)) (now (area .entry)) (now (state .exit)) [] [] ≡ beginRoundCall (lent (now (log .entry)) (now (area .entry)) (now (state .entry)) [] [] 0 0) ⌝ }
 {
-    let code = call_ask::in_use(log, area, state);
+    let code = call_ask::state_answer(log, area, state);
     if code != 0 {
         return call_ask::refused(code);
     }
@@ -49,7 +49,7 @@ pub fn step_round(
 ) -> Reply
     ensures { λ r. ⌜ leaves (r .code) (r .figure) (r .size) (now (log .entry)) (now (area .exit)) (now (state .exit)) [] (now (batch .exit)) ≡ stepRoundCall (lent (now (log .entry)) (now (area .entry)) (now (state .entry)) [] (now (batch .entry)) 0 0) homes ⌝ }
 {
-    let code = call_ask::in_use(log, area, state);
+    let code = call_ask::state_answer(log, area, state);
     if code != 0 {
         return call_ask::refused(code);
     }

@@ -23,7 +23,7 @@ fn settle_state(state: &mut [u8], st: State)
 pub fn settle(log: &[u8], area: &mut [u8], state: &mut [u8], batch: &mut [u8]) -> Reply
     ensures { λ r. ⌜ leaves (r .code) (r .figure) (r .size) (now (log .entry)) (now (area .exit)) (now (state .exit)) [] (now (batch .exit)) ≡ settleCall (lent (now (log .entry)) (now (area .entry)) (now (state .entry)) [] (now (batch .entry)) 0 0) ⌝ }
 {
-    let code = call_ask::in_use(log, area, state);
+    let code = call_ask::state_answer(log, area, state);
     if code != 0 {
         return call_ask::refused(code);
     }

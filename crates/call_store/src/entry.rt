@@ -14,7 +14,7 @@ ghost use Rattle.base_state.specs.Order.{GroupsInOrder};
 ghost use Rattle.call_store.specs.Logs.{MayLog, Fits, Wrote};
 
 // Questions 8 and 10 of a call that logs an entry of writer `w`: 0 if the log has room for it, and the batch for the group that it may fill.
-pub fn may_log(state: &[u8], w: usize, batch: usize) -> u64
+pub fn log_answer(state: &[u8], w: usize, batch: usize) -> u64
     requires { ⌜ (length (now state) ≡ 1024) × (w < 8) × GroupsInOrder (stateOf (now state)) ⌝ }
     ensures { λ r. ⌜ r ≡ ask (roomFor (now (state .entry)) w) 8 (ask (leb (cond (eqb (stateOf (now (state .entry)) .filled) 6) 516 0) batch) 9 0) ⌝ }
 {

@@ -3,8 +3,8 @@ mod entry;
 mod stores;
 
 pub use entry::closing_word;
+pub use entry::log_answer;
 pub use entry::log_entry;
-pub use entry::may_log;
 pub use stores::store;
 pub use stores::store_first;
 pub use stores::store_next;

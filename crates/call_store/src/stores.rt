@@ -1,6 +1,6 @@
 // Store: the writer holds one block; a block for another home first logs the held one.
+use crate::entry::log_answer;
 use crate::entry::log_entry;
-use crate::entry::may_log;
 use crate::entry::store_word;
 use call_ask::Reply;
 use model::State;
@@ -87,7 +87,7 @@ pub fn store_next(
 }
 
 // The answer of a store: 0, or the number of the question that refuses it.
-fn store_verdict(
+fn store_answer(
     log: &[u8],
     area: &[u8],
     state: &[u8],
@@ -98,7 +98,7 @@ fn store_verdict(
 ) -> u64
     ensures { λ r. ⌜ r ≡ storeAnswer (lent (now (log .entry)) (now (area .entry)) (now (state .entry)) (now (block .entry)) (now (batch .entry)) writer home) (sizeOf (storeEffect (lent (now (log .entry)) (now (area .entry)) (now (state .entry)) (now (block .entry)) (now (batch .entry)) writer home))) ⌝ }
 {
-    let asked = call_ask::in_use_block(log, area, state, block);
+    let asked = call_ask::block_answer(log, area, state, block);
     if asked != 0 {
         return asked;
     }
@@ -121,7 +121,7 @@ fn store_verdict(
     if r.home == home {
         return 0;
     }
-    may_log(state, writer as usize, batch.len())
+    log_answer(state, writer as usize, batch.len())
 }
 
 // Holds a block for a home in a writer's open transaction; a block held for another home is logged first.
@@ -136,7 +136,7 @@ pub fn store(
 ) -> Reply
     ensures { λ r. ⌜ leaves (r .code) (r .figure) (r .size) (now (log .exit)) (now (area .entry)) (now (state .exit)) (now (block .entry)) (now (batch .exit)) ≡ storeCall (lent (now (log .entry)) (now (area .entry)) (now (state .entry)) (now (block .entry)) (now (batch .entry)) writer home) ⌝ }
 {
-    let code = store_verdict(log, area, state, block, batch, writer, home);
+    let code = store_answer(log, area, state, block, batch, writer, home);
     if code != 0 {
         return call_ask::refused(code);
     }

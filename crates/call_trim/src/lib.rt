@@ -25,7 +25,7 @@ pub fn trim(
     ensures { λ r. ⌜ leavesAll (r .code) (r .figure) (r .size) (now (log .exit)) (now (area .entry)) (now (state .exit)) (now (newest .exit)) [] (now (batch .exit))
         ≡ trimCall (lentAll (now (log .entry)) (now (area .entry)) (now (state .entry)) (now (newest .entry)) [] (now (batch .entry)) 0 0) ⌝ }
 {
-    let code = call_ask::in_use_newest(log, area, state, newest);
+    let code = call_ask::newest_answer(log, area, state, newest);
     if code != 0 {
         return call_ask::refused(code);
     }

@@ -76,7 +76,7 @@ fn told(log: &[u8], area: &[u8], state: &[u8]) -> Usage
 pub fn usage(log: &[u8], area: &[u8], state: &[u8]) -> Usage
     ensures { λ r. ⌜ r ≡ usageCall (lent (now (log .entry)) (now (area .entry)) (now (state .entry)) [] [] 0 0) ⌝ }
 {
-    let code = call_ask::in_use(log, area, state);
+    let code = call_ask::state_answer(log, area, state);
     if code != 0 {
         return refused(code);
     }

@@ -11,7 +11,7 @@ ghost use Rattle.call_writer.specs.Writers.{askWriter};
 fn writer_answer(log: &[u8], area: &[u8], state: &[u8], writer: u64) -> u64
     ensures { λ r. ⌜ r ≡ askWriter (lent (now (log .entry)) (now (area .entry)) (now (state .entry)) [] [] writer 0) 0 ⌝ }
 {
-    let first = call_ask::in_use(log, area, state);
+    let first = call_ask::state_answer(log, area, state);
     if first != 0 {
         return first;
     }
@@ -105,7 +105,7 @@ pub fn abort(log: &[u8], area: &[u8], state: &mut [u8], writer: u64) -> Reply
 pub fn confirm(log: &[u8], area: &[u8], state: &mut [u8]) -> Reply
     ensures { λ r. ⌜ leaves (r .code) (r .figure) (r .size) (now (log .entry)) (now (area .entry)) (now (state .exit)) [] [] ≡ confirmCall (lent (now (log .entry)) (now (area .entry)) (now (state .entry)) [] [] 0 0) ⌝ }
 {
-    let answer = call_ask::in_use(log, area, state);
+    let answer = call_ask::state_answer(log, area, state);
     if answer != 0 {
         return call_ask::refused(answer);
     }

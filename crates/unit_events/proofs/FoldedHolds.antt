@@ -27,7 +27,7 @@ use Rattle.theorems.proofs.claims.ActsHold.{refused-stays, revise-stays, Somewh
 use Rattle.theorems.proofs.claims.FetchReads.{read-at}
 use Rattle.theorems.proofs.claims.UnitsHold.{act-homes, unit-kept}
 use Rattle.unit_events.specs.Offered.{heldAfter, AcceptedFrom}
-use Rattle.unit_events.specs.Folded.{Step, acts, offers, sets, first, noted, AllFit, noteOf, readFor, verdict, storing, actsOf, answered, stepped, ran, notesFrom, notes, StepAllowed, AllStepsAllowed, SparedByAct, SparedByStep, SparedBySteps, JudgedFrom, Folded, EventsFolded, Recorded, Growing, EventsRecorded}
+use Rattle.unit_events.specs.Folded.{Step, acts, offers, sets, first, noted, AllFit, noteOf, readFor, eventAnswer, storing, actsOf, answered, stepped, ran, notesFrom, notes, StepAllowed, AllStepsAllowed, SparedByAct, SparedByStep, SparedBySteps, JudgedFrom, Folded, EventsFolded, Recorded, Growing, EventsRecorded}
 
 first-zero : (a b : ℕ) → first a b ≡ 0 → (a ≡ 0) × (b ≡ 0)
 unfolding first
@@ -204,10 +204,10 @@ module _ {E : Type 0} (home n : ℕ) (judge : List ℕ → E → ℕ) (apply : L
           (subst (λ (c : List ℕ). Agree blank (ns ++ (some e ∷ [])) (g .labels ++ (unit home c ∷ []))) (sym q)
           (agree-event blank ns (g .labels) e (g .agree) f j))
 
-      event-goes : verdict home n judge apply w v e ≡ 0
+      event-goes : eventAnswer home n judge apply w v e ≡ 0
           → Going (act w (transacts v home (apply (readFor home n judge apply w v .block) e) batch))
           (relabel (act w (transacts v home (apply (readFor home n judge apply w v .block) e) batch)) ns (some e))
-      unfolding verdict
+      unfolding eventAnswer
       event-goes z =
           let k = first-zero (readFor home n judge apply w v .code) (judge (readFor home n judge apply w v .block) e) z in
           let q : readFor home n judge apply w v .block ≡ heldAfter apply blank (noted ns) = read-blocks v ready (k .0) in
@@ -228,7 +228,7 @@ module _ {E : Type 0} (home n : ℕ) (judge : List ℕ → E → ℕ) (apply : L
         → Going (stepped home n judge apply w s) (relabel (stepped home n judge apply w s) ns (noteOf s))
     unfolding stepped actsOf noteOf
     step-goes w ns (acts a) g ok f = subst (λ (u : World). Going u (relabel u ns none)) (sym (one-act w a)) (act-goes w ns g a p ok f)
-    step-goes w ns (offers v e batch) g ok f = go (eqb (verdict home n judge apply w v e) 0) refl
+    step-goes w ns (offers v e batch) g ok f = go (eqb (eventAnswer home n judge apply w v e) 0) refl
       where
         look : Act
         look = revises v home (zeros (64 * n))
@@ -236,7 +236,7 @@ module _ {E : Type 0} (home n : ℕ) (judge : List ℕ → E → ℕ) (apply : L
         same : act w look ≡ w
         same = revise-stays w v home (zeros (64 * n))
 
-        go : (d : Bool) → eqb (verdict home n judge apply w v e) 0 ≡ d
+        go : (d : Bool) → eqb (eventAnswer home n judge apply w v e) 0 ≡ d
             → Going (acted w (look ∷ cond d (storing home n judge apply v (readFor home n judge apply w v .block) e batch) []))
             (relabel (acted w (look ∷ cond d (storing home n judge apply v (readFor home n judge apply w v .block) e batch) [])) ns (some e))
         go true q =
@@ -244,7 +244,7 @@ module _ {E : Type 0} (home n : ℕ) (judge : List ℕ → E → ℕ) (apply : L
             let u : acted w (look ∷ storing home n judge apply v (readFor home n judge apply w v .block) e batch) ≡ act w a =
             (unfold storing in two-acts w look a ∙ ap (λ (x : World). act x a) same) in
             subst (λ (x : World). Going x (relabel x ns (some e))) (sym u)
-            (event-goes w ns g p sized ok v e batch f (eqb-true (verdict home n judge apply w v e) 0 q))
+            (event-goes w ns g p sized ok v e batch f (eqb-true (eventAnswer home n judge apply w v e) 0 q))
         go false q = stays-by w ns g (acted w (look ∷ [])) (some e) (one-act w look ∙ same)
     step-goes w ns (sets v e batch) g ok f =
         let a : Act = transacts v home (apply blank e) batch in
@@ -263,7 +263,7 @@ module _ {E : Type 0} (home n : ℕ) (judge : List ℕ → E → ℕ) (apply : L
   answered-is : (w : World) (v : ℕ) (e : E) (batch : List ℕ) → readFor home n judge apply w v .code ≡ 0
       → answered home n judge apply w v e batch
       ≡ first (judge (readFor home n judge apply w v .block) e) (transactEnds w v home (apply (readFor home n judge apply w v .block) e) batch .code)
-  unfolding answered verdict first
+  unfolding answered eventAnswer first
   answered-is w v e batch z = rw (eq-eqb (readFor home n judge apply w v .code) 0 z)
 
   going-folded : (w : World) (ns : List (Option E)) → Going w ns → Folded home n judge apply Fit w ns

@@ -46,8 +46,8 @@ module _ {E : Type 0} (home n : ℕ) (judge : List ℕ → E → ℕ) (apply : L
   unfoldable pub readFor : World → ℕ → Outcome
   readFor w writer = reviseEnds w writer home (zeros (64 * n))
 
-  unfoldable pub verdict : World → ℕ → E → ℕ
-  verdict w writer e = first (readFor w writer .code) (judge (readFor w writer .block) e)
+  unfoldable pub eventAnswer : World → ℕ → E → ℕ
+  eventAnswer w writer e = first (readFor w writer .code) (judge (readFor w writer .block) e)
 
   unfoldable pub storing : ℕ → List ℕ → E → List ℕ → List Act
   storing writer blocks e batch = transacts writer home (apply blocks e) batch ∷ []
@@ -55,12 +55,12 @@ module _ {E : Type 0} (home n : ℕ) (judge : List ℕ → E → ℕ) (apply : L
   unfoldable pub actsOf : World → Step E → List Act
   actsOf w (acts a) = a ∷ []
   actsOf w (offers writer e batch) =
-      revises writer home (zeros (64 * n)) ∷ cond (eqb (verdict w writer e) 0) (storing writer (readFor w writer .block) e batch) []
+      revises writer home (zeros (64 * n)) ∷ cond (eqb (eventAnswer w writer e) 0) (storing writer (readFor w writer .block) e batch) []
   actsOf w (sets writer e batch) = storing writer (zeros (64 * n)) e batch
 
   -- what the call answers: the read's refusal, the blocks' answer, the transaction's refusal
   unfoldable pub answered : World → ℕ → E → List ℕ → ℕ
-  answered w writer e batch = first (verdict w writer e) (transactEnds w writer home (apply (readFor w writer .block) e) batch .code)
+  answered w writer e batch = first (eventAnswer w writer e) (transactEnds w writer home (apply (readFor w writer .block) e) batch .code)
 
   unfoldable pub stepped : World → Step E → World
   stepped w s = acted w (actsOf w s)

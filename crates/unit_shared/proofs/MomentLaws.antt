@@ -13,7 +13,7 @@ use Rattle.model.specs.Calls.{Outcome}
 use Rattle.model.specs.History.{World, lent}
 use Rattle.acts.specs.Units.{Act, revises, transacts, transactEnds, reviseEnds, act, acted, leftBy as left-in}
 use Rattle.theorems.proofs.claims.ActsHold.{revise-stays}
-use Rattle.unit_events.specs.Folded.{offers, sets, first, readFor, verdict, storing, actsOf, answered, stepped}
+use Rattle.unit_events.specs.Folded.{offers, sets, first, readFor, eventAnswer, storing, actsOf, answered, stepped}
 use Rattle.unit_shared.specs.Unit.{Lent, Left, Judged, judged, untouched, leftBy, revised, transacted, stored, afterReading, event}
 use Rattle.unit_shared.specs.Moments.{lentIn, Leaves, EventStands, SetStands}
 
@@ -51,19 +51,19 @@ module _ {E : Type 0} (home n : ℕ) (judge : List ℕ → E → ℕ) (apply : L
 
   -- the read comes first, and leaves the world
   step-is : stepped home n judge apply w (offers writer e batch)
-      ≡ acted w (cond (eqb (verdict home n judge apply w writer e) 0) (storing home n judge apply writer (o .block) e batch) [])
+      ≡ acted w (cond (eqb (eventAnswer home n judge apply w writer e) 0) (storing home n judge apply writer (o .block) e batch) [])
   unfolding stepped actsOf acted
-  step-is = ap (λ (v : World). acted v (cond (eqb (verdict home n judge apply w writer e) 0) (storing home n judge apply writer (o .block) e batch) [])) (revise-stays w writer home (zeros (64 * n)))
+  step-is = ap (λ (v : World). acted v (cond (eqb (eventAnswer home n judge apply w writer e) 0) (storing home n judge apply writer (o .block) e batch) [])) (revise-stays w writer home (zeros (64 * n)))
 
   call-is : call ≡ afterReading (lentIn w batch) writer home rule o
   unfolding event revised readFor reviseEnds lent
   call-is = refl
 
-  refused-step : (k : ℕ) → verdict home n judge apply w writer e ≡ suc k → stepped home n judge apply w (offers writer e batch) ≡ w
+  refused-step : (k : ℕ) → eventAnswer home n judge apply w writer e ≡ suc k → stepped home n judge apply w (offers writer e batch) ≡ w
   unfolding acted
   refused-step k h = step-is ∙ rw (h, ne-eqb (suc k) 0 (λ z. omega arith))
 
-  done-step : verdict home n judge apply w writer e ≡ 0
+  done-step : eventAnswer home n judge apply w writer e ≡ 0
       → stepped home n judge apply w (offers writer e batch) ≡ act w (transacts writer home (apply (o .block) e) batch)
   unfolding acted storing
   done-step h = step-is ∙ rw h
@@ -72,19 +72,19 @@ module _ {E : Type 0} (home n : ℕ) (judge : List ℕ → E → ℕ) (apply : L
   unfolding transacted leftBy transactEnds lent
   transact-code = refl
 
-  answered-refused : (k : ℕ) → verdict home n judge apply w writer e ≡ suc k
+  answered-refused : (k : ℕ) → eventAnswer home n judge apply w writer e ≡ suc k
       → untouched (lentIn w batch) (suc k) 0 .code ≡ answered home n judge apply w writer e batch
   unfolding untouched answered first
   answered-refused k h = rw (h, ne-eqb (suc k) 0 (λ z. omega arith))
 
-  answered-done : verdict home n judge apply w writer e ≡ 0
+  answered-done : eventAnswer home n judge apply w writer e ≡ 0
       → transacted (lentIn w batch) writer home (apply (o .block) e) .code ≡ answered home n judge apply w writer e batch
   unfolding answered first
   answered-done h = transact-code ∙ rw h
 
   unread : (k : ℕ) → o .code ≡ suc k → EventStands home n judge apply w writer e batch
   unread k h =
-      let v : verdict home n judge apply w writer e ≡ suc k = unfold verdict first in rw (h, ne-eqb (suc k) 0 (λ z. omega arith)) in
+      let v : eventAnswer home n judge apply w writer e ≡ suc k = unfold eventAnswer first in rw (h, ne-eqb (suc k) 0 (λ z. omega arith)) in
       let c : call ≡ untouched (lentIn w batch) (suc k) 0 = call-is ∙ (unfold afterReading in rw (h, ne-eqb (suc k) 0 (λ z. omega arith))) in
       record {
         leaves = subst (Leaves w (stepped home n judge apply w (offers writer e batch))) (sym c) (leaves-none w _ batch (suc k) (refused-step k v));
@@ -93,7 +93,7 @@ module _ {E : Type 0} (home n : ℕ) (judge : List ℕ → E → ℕ) (apply : L
 
   turned-down : (k : ℕ) → o .code ≡ 0 → judge (o .block) e ≡ suc k → EventStands home n judge apply w writer e batch
   turned-down k h j =
-      let v : verdict home n judge apply w writer e ≡ suc k = unfold verdict first in rw (h, j) in
+      let v : eventAnswer home n judge apply w writer e ≡ suc k = unfold eventAnswer first in rw (h, j) in
       let c : call ≡ untouched (lentIn w batch) (suc k) 0 = call-is ∙ (unfold afterReading stored in rw (h, j, ne-eqb (suc k) 0 (λ z. omega arith))) in
       record {
         leaves = subst (Leaves w (stepped home n judge apply w (offers writer e batch))) (sym c) (leaves-none w _ batch (suc k) (refused-step k v));
@@ -102,7 +102,7 @@ module _ {E : Type 0} (home n : ℕ) (judge : List ℕ → E → ℕ) (apply : L
 
   taken : o .code ≡ 0 → judge (o .block) e ≡ 0 → EventStands home n judge apply w writer e batch
   taken h j =
-      let v : verdict home n judge apply w writer e ≡ 0 = unfold verdict first in rw (h, j) in
+      let v : eventAnswer home n judge apply w writer e ≡ 0 = unfold eventAnswer first in rw (h, j) in
       let c : call ≡ transacted (lentIn w batch) writer home (apply (o .block) e) = call-is ∙ (unfold afterReading stored in rw (h, j)) in
       record {
         leaves =

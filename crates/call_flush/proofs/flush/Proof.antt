@@ -4,8 +4,8 @@ use borrow.Author.Needs.{needs}
 use Rattle.call_flush.proofs.flush.Statement.{statement}
 use Rattle.call_flush.proofs.flush.Tie as tie
 
-flush-verdict-requires : tie.Need-flush-verdict-requires
-flush-verdict-requires c κs = search needs
+flush-answer-requires : tie.Need-flush-answer-requires
+flush-answer-requires c κs = search needs
 
 refused-requires : tie.Need-refused-requires
 refused-requires c κs = search needs
@@ -17,10 +17,10 @@ same-length-2 : tie.Need-same-length-2
 same-length-2 c = search needs
 
 returns : tie.Need-returns
-returns c = ends-refused _ _ _ _ _ _ _ _ (c .before .before .flush-verdict .ensures) (c .before .if1 .taken) (c .refused .ensures)
+returns c = ends-refused _ _ _ _ _ _ _ _ (c .before .before .flush-answer .ensures) (c .before .if1 .taken) (c .refused .ensures)
 
 state-requires : tie.Need-state-requires
-state-requires c κs = sized _ _ _ _ _ (c .before .before .flush-verdict .ensures) (c .before .if1 .left)
+state-requires c κs = sized _ _ _ _ _ (c .before .before .flush-answer .ensures) (c .before .if1 .left)
 
 flush-none-requires : tie.Need-flush-none-requires
 flush-none-requires c κs =
@@ -28,8 +28,8 @@ flush-none-requires c κs =
     let c3 = c4 .before .before in
     let c2 = c3 .before .before in
     let c1 = c2 .before in
-    let k = known _ _ _ _ _ _ (c1 .flush-verdict .ensures) (c2 .if1 .left) (c3 .state .ensures) in
-    let f = fits-none _ _ _ _ _ _ (c1 .flush-verdict .ensures) (c2 .if1 .left) (c3 .state .ensures) (c4 .if2 .taken) in
+    let k = known _ _ _ _ _ _ (c1 .flush-answer .ensures) (c2 .if1 .left) (c3 .state .ensures) in
+    let f = fits-none _ _ _ _ _ _ (c1 .flush-answer .ensures) (c2 .if1 .left) (c3 .state .ensures) (c4 .if2 .taken) in
     (k .strip, f, k .next)
 
 done-requires : tie.Need-done-requires
@@ -48,7 +48,7 @@ returns-2 c =
     let c3 = c4 .before .before in
     let c2 = c3 .before .before in
     let c1 = c2 .before in
-    ends-none _ _ _ _ _ _ _ _ _ _ _ (c1 .flush-verdict .ensures) (c2 .if1 .left) (c3 .state .ensures) (c4 .if2 .taken)
+    ends-none _ _ _ _ _ _ _ _ _ _ _ (c1 .flush-answer .ensures) (c2 .if1 .left) (c3 .state .ensures) (c4 .if2 .taken)
     (c5 .flush-none .ensures .0) (c5 .flush-none .ensures .1) (c .done .ensures)
 
 flush-part-requires : tie.Need-flush-part-requires
@@ -57,8 +57,8 @@ flush-part-requires c κs =
     let c3 = c4 .before .before in
     let c2 = c3 .before .before in
     let c1 = c2 .before in
-    let k = known _ _ _ _ _ _ (c1 .flush-verdict .ensures) (c2 .if1 .left) (c3 .state .ensures) in
-    let f = fits-part _ _ _ _ _ _ (c1 .flush-verdict .ensures) (c2 .if1 .left) (c3 .state .ensures) (c4 .if2 .left) in
+    let k = known _ _ _ _ _ _ (c1 .flush-answer .ensures) (c2 .if1 .left) (c3 .state .ensures) in
+    let f = fits-part _ _ _ _ _ _ (c1 .flush-answer .ensures) (c2 .if1 .left) (c3 .state .ensures) (c4 .if2 .left) in
     (k .strip, f, k .some, k .log, k .next)
 
 add-done : tie.Need-add-done
@@ -80,14 +80,14 @@ returns-3 c =
     let c3 = c4 .before .before in
     let c2 = c3 .before .before in
     let c1 = c2 .before in
-    ends-part _ _ _ _ _ _ _ _ _ _ _ (c1 .flush-verdict .ensures) (c2 .if1 .left) (c3 .state .ensures) (c4 .if2 .left)
+    ends-part _ _ _ _ _ _ _ _ _ _ _ (c1 .flush-answer .ensures) (c2 .if1 .left) (c3 .state .ensures) (c4 .if2 .left)
     (c5 .flush-part .ensures .0) (c5 .flush-part .ensures .1) (c .done2 .ensures)
 
 pub flush-spec : {M : Type 1} → statement M
 flush-spec =
     tie.close
     (tie.spec
-    flush-verdict-requires
+    flush-answer-requires
     refused-requires
     same-length
     same-length-2

@@ -4,8 +4,8 @@ use borrow.Author.Needs.{needs}
 use Rattle.call_writer.proofs.confirm.Statement.{statement}
 use Rattle.call_writer.proofs.confirm.Tie as tie
 
-in-use-requires : tie.Need-in-use-requires
-in-use-requires c κs = search needs
+state-answer-requires : tie.Need-state-answer-requires
+state-answer-requires c κs = search needs
 
 refused-requires : tie.Need-refused-requires
 refused-requires c κs = search needs
@@ -16,14 +16,14 @@ same-length c = search needs
 returns : tie.Need-returns
 returns c =
     let d = c .refused .ensures in
-    confirm-refused _ _ _ _ _ (c .before .before .in-use .ensures) (c .before .if1 .taken) (d .0) (d .1) (d .2)
+    confirm-refused _ _ _ _ _ (c .before .before .state-answer .ensures) (c .before .if1 .taken) (d .0) (d .1) (d .2)
 
 state-requires : tie.Need-state-requires
-state-requires c κs = confirm-fits _ _ (c .before .before .in-use .ensures) (c .before .if1 .left)
+state-requires c κs = confirm-fits _ _ (c .before .before .state-answer .ensures) (c .before .if1 .left)
 
 set-durable-requires : tie.Need-set-durable-requires
 set-durable-requires c κs =
-    confirm-fits _ _ (c .before .before .before .before .in-use .ensures) (c .before .before .before .if1 .left)
+    confirm-fits _ _ (c .before .before .before .before .state-answer .ensures) (c .before .before .before .if1 .left)
 
 done-requires : tie.Need-done-requires
 done-requires c κs = search needs
@@ -36,7 +36,7 @@ returns-2 c =
     let k = c .before .before .before in
     let m = k .before .before in
     let d = c .done .ensures in
-    confirm-done _ _ _ _ _ _ _ (m .before .before .before .in-use .ensures) (m .before .before .if1 .left) (m .state .ensures)
+    confirm-done _ _ _ _ _ _ _ (m .before .before .before .state-answer .ensures) (m .before .before .if1 .left) (m .state .ensures)
     (k .set-durable .ensures)
     (d .0)
     (d .1)
@@ -46,7 +46,7 @@ pub confirm-spec : {M : Type 1} → statement M
 confirm-spec =
     tie.close
     (tie.spec
-    in-use-requires
+    state-answer-requires
     refused-requires
     same-length
     returns

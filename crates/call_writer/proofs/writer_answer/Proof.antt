@@ -4,18 +4,18 @@ use Rattle.call_writer.proofs.SessionLaws.{writer-first, writer-unknown
 use Rattle.call_writer.proofs.writer_answer.Statement.{statement}
 use Rattle.call_writer.proofs.writer_answer.Tie as tie
 
-in-use-requires : tie.Need-in-use-requires
-in-use-requires c κs = search needs
+state-answer-requires : tie.Need-state-answer-requires
+state-answer-requires c κs = search needs
 
 returns : tie.Need-returns
-returns c = writer-first _ _ _ _ _ (c .before .in-use .ensures) (c .if1 .taken)
+returns c = writer-first _ _ _ _ _ (c .before .state-answer .ensures) (c .if1 .taken)
 
 returns-2 : tie.Need-returns-2
-returns-2 c = writer-unknown _ _ _ _ _ (c .before .before .in-use .ensures) (c .before .if1 .left) (c .if2 .taken)
+returns-2 c = writer-unknown _ _ _ _ _ (c .before .before .state-answer .ensures) (c .before .if1 .left) (c .if2 .taken)
 
 returns-3 : tie.Need-returns-3
-returns-3 c = writer-known _ _ _ _ _ (c .before .before .in-use .ensures) (c .before .if1 .left) (c .if2 .left)
+returns-3 c = writer-known _ _ _ _ _ (c .before .before .state-answer .ensures) (c .before .if1 .left) (c .if2 .left)
 
 pub writer-answer-spec : {M : Type 1} → statement M
 writer-answer-spec =
-    tie.close (tie.spec in-use-requires returns returns-2 returns-3)
+    tie.close (tie.spec state-answer-requires returns returns-2 returns-3)

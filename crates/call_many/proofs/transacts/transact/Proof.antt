@@ -7,8 +7,8 @@ use borrow.Author.Needs.{needs}
 use Rattle.call_many.proofs.transacts.transact.Statement.{statement}
 use Rattle.call_many.proofs.transacts.transact.Tie as tie
 
-transact-verdict-requires : tie.Need-transact-verdict-requires
-transact-verdict-requires c κs = search needs
+transact-answer-requires : tie.Need-transact-answer-requires
+transact-answer-requires c κs = search needs
 
 refused-requires : tie.Need-refused-requires
 refused-requires c κs = search needs
@@ -27,35 +27,35 @@ same-length-4 c = search needs
 
 returns : tie.Need-returns
 returns c =
-    transact-refused _ _ _ _ _ _ _ _ _ (c .before .before .transact-verdict .ensures) _ _ _ (c .before .if1 .taken) (c .refused .ensures)
+    transact-refused _ _ _ _ _ _ _ _ _ (c .before .before .transact-answer .ensures) _ _ _ (c .before .if1 .taken) (c .refused .ensures)
 
 store-all-requires : tie.Need-store-all-requires
 store-all-requires c κs =
-    (chain-is _ _ _ _ _ _ _ _ _ (c .before .before .before .before .transact-verdict .ensures) (c .before .before .before .if1 .left), room-is _ _ _ _ _ _ _ _ _ (c .before .before .before .before .transact-verdict .ensures) (c .before .before .before .if1 .left))
+    (chain-is _ _ _ _ _ _ _ _ _ (c .before .before .before .before .transact-answer .ensures) (c .before .before .before .if1 .left), room-is _ _ _ _ _ _ _ _ _ (c .before .before .before .before .transact-answer .ensures) (c .before .before .before .if1 .left))
 
 state-requires : tie.Need-state-requires
 state-requires c κs =
-    let k = chain-is _ _ _ _ _ _ _ _ _ (c .before .before .before .before .before .before .before .before .before .before .before .before .transact-verdict .ensures) (c .before .before .before .before .before .before .before .before .before .before .before .if1 .left) in omega (arith, k .strip, c .before .before .before .before .before .before .before .store-all .kept)
+    let k = chain-is _ _ _ _ _ _ _ _ _ (c .before .before .before .before .before .before .before .before .before .before .before .before .transact-answer .ensures) (c .before .before .before .before .before .before .before .before .before .before .before .if1 .left) in omega (arith, k .strip, c .before .before .before .before .before .before .before .store-all .kept)
 
 next-position-requires : tie.Need-next-position-requires
 next-position-requires c κs =
-    let k = held _ _ _ _ _ _ _ _ _ (c .before .before .before .before .before .before .before .before .before .before .before .before .before .transact-verdict .ensures) (c .before .before .before .before .before .before .before .before .before .before .before .before .if1 .left) _ _ _ _ _ _ (c .before .before .before .before .before .before .before .before .store-all .ensures) (c .state2 .ensures) refl in
+    let k = held _ _ _ _ _ _ _ _ _ (c .before .before .before .before .before .before .before .before .before .before .before .before .before .transact-answer .ensures) (c .before .before .before .before .before .before .before .before .before .before .before .before .if1 .left) _ _ _ _ _ _ (c .before .before .before .before .before .before .before .before .store-all .ensures) (c .state2 .ensures) refl in
     let m = k .0 in
     omega (arith, m .high, m .room, m .few, m .filled)
 
 add-ticket : tie.Need-add-ticket
 add-ticket c =
-    let k = held _ _ _ _ _ _ _ _ _ (c .before .before .before .before .before .before .before .before .before .before .before .before .before .before .transact-verdict .ensures) (c .before .before .before .before .before .before .before .before .before .before .before .before .before .if1 .left) _ _ _ _ _ _ (c .before .before .before .before .before .before .before .before .before .store-all .ensures) (c .before .state2 .ensures) refl in
+    let k = held _ _ _ _ _ _ _ _ _ (c .before .before .before .before .before .before .before .before .before .before .before .before .before .before .transact-answer .ensures) (c .before .before .before .before .before .before .before .before .before .before .before .before .before .if1 .left) _ _ _ _ _ _ (c .before .before .before .before .before .before .before .before .before .store-all .ensures) (c .before .state2 .ensures) refl in
     omega (arith, k .1 .high, c .next-position .ensures)
 
 commit-next-requires : tie.Need-commit-next-requires
 commit-next-requires c κs =
     closing-own _ _ _ (c .before .before .before .before .before .before .before .before .before .before .before .before .before .before .before .before .before .before .before .before .before .before .before .before .before .before .before .before .before .args .newest .now) (c .before .before .before .before .before .before .before .before .before .before .before .before .before .before .before .before .before .before .before .before .before .before .before .before .before .before .before .before .before .args .area .now) _ _ _ (c .before .before .before .before .before .state2 .ensures) refl
-    (held _ _ _ _ _ _ _ _ _ (c .before .before .before .before .before .before .before .before .before .before .before .before .before .before .before .before .before .before .transact-verdict .ensures) (c .before .before .before .before .before .before .before .before .before .before .before .before .before .before .before .before .before .if1 .left) _ _ _ _ _ _ (c .before .before .before .before .before .before .before .before .before .before .before .before .before .store-all .ensures) (c .before .before .before .before .before .state2 .ensures) refl)
+    (held _ _ _ _ _ _ _ _ _ (c .before .before .before .before .before .before .before .before .before .before .before .before .before .before .before .before .before .before .transact-answer .ensures) (c .before .before .before .before .before .before .before .before .before .before .before .before .before .before .before .before .before .if1 .left) _ _ _ _ _ _ (c .before .before .before .before .before .before .before .before .before .before .before .before .before .store-all .ensures) (c .before .before .before .before .before .state2 .ensures) refl)
 
 add-done : tie.Need-add-done
 add-done c =
-    omega (arith, stored-size _ _ _ _ _ _ _ _ _ (c .before .before .before .before .before .before .before .before .before .before .before .before .before .before .before .before .before .before .before .before .before .before .before .before .before .before .before .transact-verdict .ensures) (c .before .before .before .before .before .before .before .before .before .before .before .before .before .before .before .before .before .before .before .before .before .before .before .before .before .before .if1 .left) _ _ _ _ _ _ (c .before .before .before .before .before .before .before .before .before .before .before .before .before .before .before .before .before .before .before .before .before .before .store-all .ensures) (c .before .before .before .before .before .before .before .before .before .before .before .before .before .before .state2 .ensures) refl _ _ _ _ _ (committed-own _ _ _ _ _ _ _ _ (c .before .before .before .before .before .before .before .before .before .before .before .before .before .before .state2 .ensures) refl _ _ _ _ _ (c .before .before .before .before .before .before .before .before .commit-next .ensures)))
+    omega (arith, stored-size _ _ _ _ _ _ _ _ _ (c .before .before .before .before .before .before .before .before .before .before .before .before .before .before .before .before .before .before .before .before .before .before .before .before .before .before .before .transact-answer .ensures) (c .before .before .before .before .before .before .before .before .before .before .before .before .before .before .before .before .before .before .before .before .before .before .before .before .before .before .if1 .left) _ _ _ _ _ _ (c .before .before .before .before .before .before .before .before .before .before .before .before .before .before .before .before .before .before .before .before .before .before .store-all .ensures) (c .before .before .before .before .before .before .before .before .before .before .before .before .before .before .state2 .ensures) refl _ _ _ _ _ (committed-own _ _ _ _ _ _ _ _ (c .before .before .before .before .before .before .before .before .before .before .before .before .before .before .state2 .ensures) refl _ _ _ _ _ (c .before .before .before .before .before .before .before .before .commit-next .ensures)))
 
 done-requires : tie.Need-done-requires
 done-requires c κs = search needs
@@ -74,7 +74,7 @@ same-length-8 c = search needs
 
 returns-2 : tie.Need-returns-2
 returns-2 c =
-    transact-done _ _ _ _ _ _ _ _ _ (c .before .before .before .before .before .before .before .before .before .before .before .before .before .before .before .before .before .before .before .before .before .before .before .before .before .before .before .before .transact-verdict .ensures) (c .before .before .before .before .before .before .before .before .before .before .before .before .before .before .before .before .before .before .before .before .before .before .before .before .before .before .before .if1 .left) _ _ _ _ _ _ (c .before .before .before .before .before .before .before .before .before .before .before .before .before .before .before .before .before .before .before .before .before .before .before .store-all .ensures) (c .before .before .before .before .before .before .before .before .before .before .before .before .before .before .before .state2 .ensures) refl _ _ _ _ _ _ _ _ _ (c .before .before .before .before .before .before .before .before .before .before .before .before .before .before .next-position .ensures) (committed-own _ _ _ _ _ _ _ _ (c .before .before .before .before .before .before .before .before .before .before .before .before .before .before .before .state2 .ensures) refl _ _ _ _ _ (c .before .before .before .before .before .before .before .before .before .commit-next .ensures)) (c .done .ensures)
+    transact-done _ _ _ _ _ _ _ _ _ (c .before .before .before .before .before .before .before .before .before .before .before .before .before .before .before .before .before .before .before .before .before .before .before .before .before .before .before .before .transact-answer .ensures) (c .before .before .before .before .before .before .before .before .before .before .before .before .before .before .before .before .before .before .before .before .before .before .before .before .before .before .before .if1 .left) _ _ _ _ _ _ (c .before .before .before .before .before .before .before .before .before .before .before .before .before .before .before .before .before .before .before .before .before .before .before .store-all .ensures) (c .before .before .before .before .before .before .before .before .before .before .before .before .before .before .before .state2 .ensures) refl _ _ _ _ _ _ _ _ _ (c .before .before .before .before .before .before .before .before .before .before .before .before .before .before .next-position .ensures) (committed-own _ _ _ _ _ _ _ _ (c .before .before .before .before .before .before .before .before .before .before .before .before .before .before .before .state2 .ensures) refl _ _ _ _ _ (c .before .before .before .before .before .before .before .before .before .commit-next .ensures)) (c .done .ensures)
 
 pub transact-spec : {M : Type 1} → statement M
-transact-spec = tie.close (tie.spec transact-verdict-requires refused-requires same-length same-length-2 same-length-3 same-length-4 returns store-all-requires state-requires next-position-requires add-ticket commit-next-requires add-done done-requires same-length-5 same-length-6 same-length-7 same-length-8 returns-2)
+transact-spec = tie.close (tie.spec transact-answer-requires refused-requires same-length same-length-2 same-length-3 same-length-4 returns store-all-requires state-requires next-position-requires add-ticket commit-next-requires add-done done-requires same-length-5 same-length-6 same-length-7 same-length-8 returns-2)

@@ -4,8 +4,8 @@ use borrow.Author.Needs.{needs}
 use Rattle.call_many_fetch.proofs.fetches.revise.Statement.{statement}
 use Rattle.call_many_fetch.proofs.fetches.revise.Tie as tie
 
-revise-verdict-requires : tie.Need-revise-verdict-requires
-revise-verdict-requires c κs = search needs
+revise-answer-requires : tie.Need-revise-answer-requires
+revise-answer-requires c κs = search needs
 
 refused-requires : tie.Need-refused-requires
 refused-requires c κs = search needs
@@ -15,11 +15,11 @@ same-length c = search needs
 
 returns : tie.Need-returns
 returns c =
-    revise-refused _ _ _ _ _ _ _ _ (c .before .before .revise-verdict .ensures) _ _ _ (c .before .if1 .taken) (c .refused .ensures)
+    revise-refused _ _ _ _ _ _ _ _ (c .before .before .revise-answer .ensures) _ _ _ (c .before .if1 .taken) (c .refused .ensures)
 
 show-all-requires : tie.Need-show-all-requires
 show-all-requires c κs =
-    revise-lent _ _ _ _ _ _ _ _ (c .before .before .revise-verdict .ensures) (c .before .if1 .left)
+    revise-lent _ _ _ _ _ _ _ _ (c .before .before .revise-answer .ensures) (c .before .if1 .left)
 
 done-requires : tie.Need-done-requires
 done-requires c κs = search needs
@@ -29,13 +29,13 @@ same-length-2 c = search needs
 
 returns-2 : tie.Need-returns-2
 returns-2 c =
-    revise-done _ _ _ _ _ _ _ _ (c .before .before .before .before .before .before .revise-verdict .ensures) _ _ _ _ (c .before .before .before .before .before .if1 .left) (c .before .before .before .show-all .ensures) (c .done .ensures)
+    revise-done _ _ _ _ _ _ _ _ (c .before .before .before .before .before .before .revise-answer .ensures) _ _ _ _ (c .before .before .before .before .before .if1 .left) (c .before .before .before .show-all .ensures) (c .done .ensures)
 
 pub revise-spec : {M : Type 1} → statement M
 revise-spec =
     tie.close
     (tie.spec
-    revise-verdict-requires
+    revise-answer-requires
     refused-requires
     same-length
     returns

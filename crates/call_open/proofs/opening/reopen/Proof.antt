@@ -7,8 +7,8 @@ use borrow.Author.Needs.{needs}
 use Rattle.call_open.proofs.opening.reopen.Statement.{statement}
 use Rattle.call_open.proofs.opening.reopen.Tie as tie
 
-may-open-requires : tie.Need-may-open-requires
-may-open-requires c κs = search needs
+open-answer-requires : tie.Need-open-answer-requires
+open-answer-requires c κs = search needs
 
 refused-requires : tie.Need-refused-requires
 refused-requires c κs = search needs
@@ -26,23 +26,23 @@ same-length-4 : tie.Need-same-length-4
 same-length-4 c = search needs
 
 returns : tie.Need-returns
-returns c = open-refused _ _ _ _ _ _ _ _ _ (c .before .before .may-open .ensures) (c .before .if1 .taken) (c .refused .ensures)
+returns c = open-refused _ _ _ _ _ _ _ _ _ (c .before .before .open-answer .ensures) (c .before .if1 .taken) (c .refused .ensures)
 
 measure-requires : tie.Need-measure-requires
-measure-requires c κs = omega (arith, (openable _ _ _ _ _ (c .before .before .before .may-open .ensures) (c .before .before .if1 .left)))
+measure-requires c κs = omega (arith, (openable _ _ _ _ _ (c .before .before .before .open-answer .ensures) (c .before .before .if1 .left)))
 
 mul-more : tie.Need-mul-more
-mul-more c = omega (arith, openable _ _ _ _ _ (c .before .before .before .before .may-open .ensures) (c .before .before .before .if1 .left), c .measure .ensures .0)
+mul-more c = omega (arith, openable _ _ _ _ _ (c .before .before .before .before .open-answer .ensures) (c .before .before .before .if1 .left), c .measure .ensures .0)
 
 add-more : tie.Need-add-more
-add-more c = omega (arith, openable _ _ _ _ _ (c .before .before .before .before .may-open .ensures) (c .before .before .before .if1 .left), c .measure .ensures .0)
+add-more c = omega (arith, openable _ _ _ _ _ (c .before .before .before .before .open-answer .ensures) (c .before .before .before .if1 .left), c .measure .ensures .0)
 
 mul-bring-back : tie.Need-mul-bring-back
-mul-bring-back c = omega (arith, openable _ _ _ _ _ (c .before .before .before .before .before .before .before .may-open .ensures) (c .before .before .before .before .before .before .if1 .left), c .before .before .before .measure .ensures .0)
+mul-bring-back c = omega (arith, openable _ _ _ _ _ (c .before .before .before .before .before .before .before .open-answer .ensures) (c .before .before .before .before .before .before .if1 .left), c .before .before .before .measure .ensures .0)
 
 bring-back-requires : tie.Need-bring-back-requires
 bring-back-requires c κs =
-    let o = openable _ _ _ _ _ (c .before .before .before .before .before .before .before .may-open .ensures) (c .before .before .before .before .before .before .if1 .left) in
+    let o = openable _ _ _ _ _ (c .before .before .before .before .before .before .before .open-answer .ensures) (c .before .before .before .before .before .before .if1 .left) in
     let s = open-searchable _ _ _ _ _ _ _ o (c .before .before .before .measure .ensures) in
     (record { long = s .long; least = s .least; most = s .most; homes-most = s .homes-most; low = s .low; within = omega arith }, area-homes _ _ _ _ _ o (c .before .before .before .measure .ensures .1), omega (arith, s .most))
 
@@ -66,10 +66,10 @@ same-length-9 c = search needs
 
 returns-2 : tie.Need-returns-2
 returns-2 c =
-    let s = open-searchable _ _ _ _ _ _ _ (openable _ _ _ _ _ (c .before .before .before .before .before .before .before .before .before .before .before .before .before .before .may-open .ensures) (c .before .before .before .before .before .before .before .before .before .before .before .before .before .if1 .left)) (c .before .before .before .before .before .before .before .before .before .before .measure .ensures) in
+    let s = open-searchable _ _ _ _ _ _ _ (openable _ _ _ _ _ (c .before .before .before .before .before .before .before .before .before .before .before .before .before .before .open-answer .ensures) (c .before .before .before .before .before .before .before .before .before .before .before .before .before .if1 .left)) (c .before .before .before .before .before .before .before .before .before .before .measure .ensures) in
     let b = c .before .before .before .before .before .before .bring-back in
     let p = planned _ _ _ _ _ _ _ _ s (b .ensures .0 .ends) (b .ensures .0 .numbered) refl in
-    open-short _ _ _ _ _ _ _ _ _ _ _ _ (c .before .before .before .before .before .before .before .before .before .before .before .before .before .before .may-open .ensures) (c .before .before .before .before .before .before .before .before .before .before .before .before .before .if1 .left) (c .before .before .before .before .before .before .before .before .before .before .measure .ensures) p _ _ _ _ _
+    open-short _ _ _ _ _ _ _ _ _ _ _ _ (c .before .before .before .before .before .before .before .before .before .before .before .before .before .before .open-answer .ensures) (c .before .before .before .before .before .before .before .before .before .before .before .before .before .if1 .left) (c .before .before .before .before .before .before .before .before .before .before .measure .ensures) p _ _ _ _ _
     (omega (arith, c .before .if2 .taken, b .ensures .1 .0, b .kept)) (c .refused2 .ensures) (b .ensures .1 .1 .same-area (omega (arith, c .before .if2 .taken, b .kept)))
     (b .ensures .1 .1 .same-batch (omega (arith, c .before .if2 .taken, b .kept)))
 
@@ -78,20 +78,20 @@ sub-open-records c = omega (arith, c .before .before .before .before .before .be
 
 add-open-records : tie.Need-add-open-records
 add-open-records c =
-    omega (arith, (openable _ _ _ _ _ (c .before .before .before .before .before .before .before .before .before .before .before .before .before .before .may-open .ensures) (c .before .before .before .before .before .before .before .before .before .before .before .before .before .if1 .left)), c .before .before .before .before .before .before .before .before .before .before .measure .ensures)
+    omega (arith, (openable _ _ _ _ _ (c .before .before .before .before .before .before .before .before .before .before .before .before .before .before .open-answer .ensures) (c .before .before .before .before .before .before .before .before .before .before .before .before .before .if1 .left)), c .before .before .before .before .before .before .before .before .before .before .measure .ensures)
 
 open-records-requires : tie.Need-open-records-requires
 open-records-requires c κs =
-    (omega (arith, c .before .if2 .left, c .before .before .before .before .before .before .bring-back .ensures .1 .0), omega (arith, openable _ _ _ _ _ (c .before .before .before .before .before .before .before .before .before .before .before .before .before .before .may-open .ensures) (c .before .before .before .before .before .before .before .before .before .before .before .before .before .if1 .left), c .before .before .before .before .before .before .before .before .before .before .measure .ensures .0))
+    (omega (arith, c .before .if2 .left, c .before .before .before .before .before .before .bring-back .ensures .1 .0), omega (arith, openable _ _ _ _ _ (c .before .before .before .before .before .before .before .before .before .before .before .before .before .before .open-answer .ensures) (c .before .before .before .before .before .before .before .before .before .before .before .before .before .if1 .left), c .before .before .before .before .before .before .before .before .before .before .measure .ensures .0))
 
 add-open-copies : tie.Need-add-open-copies
 add-open-copies c =
-    omega (arith, (openable _ _ _ _ _ (c .before .before .before .before .before .before .before .before .before .before .before .before .before .before .before .before .before .before .before .before .before .may-open .ensures) (c .before .before .before .before .before .before .before .before .before .before .before .before .before .before .before .before .before .before .before .before .if1 .left)), c .before .before .before .before .before .before .before .before .before .before .before .before .before .before .before .before .before .measure .ensures)
+    omega (arith, (openable _ _ _ _ _ (c .before .before .before .before .before .before .before .before .before .before .before .before .before .before .before .before .before .before .before .before .before .open-answer .ensures) (c .before .before .before .before .before .before .before .before .before .before .before .before .before .before .before .before .before .before .before .before .if1 .left)), c .before .before .before .before .before .before .before .before .before .before .before .before .before .before .before .before .before .measure .ensures)
 
 open-copies-requires : tie.Need-open-copies-requires
 open-copies-requires c κs =
     let b = c .before .before .before .before .before .before .before .before .before .before .before .before .before .bring-back in
-    let o = (openable _ _ _ _ _ (c .before .before .before .before .before .before .before .before .before .before .before .before .before .before .before .before .before .before .before .before .before .may-open .ensures) (c .before .before .before .before .before .before .before .before .before .before .before .before .before .before .before .before .before .before .before .before .if1 .left)) in
+    let o = (openable _ _ _ _ _ (c .before .before .before .before .before .before .before .before .before .before .before .before .before .before .before .before .before .before .before .before .before .open-answer .ensures) (c .before .before .before .before .before .before .before .before .before .before .before .before .before .before .before .before .before .before .before .before .if1 .left)) in
     omega (arith, o, b .kept, area-homes _ _ _ _ _ o (c .before .before .before .before .before .before .before .before .before .before .before .before .before .before .before .before .before .measure .ensures .1), newest-homes _ _ _ _ _ o (c .before .before .before .before .before .before .before .before .before .before .before .before .before .before .before .before .before .measure .ensures .1), c .before .before .before .before .before .before .before .before .before .before .before .before .before .before .before .before .before .measure .ensures .0, c .before .before .before .before .before .before .before .before .before .before .before .before .before .before .before .before .before .measure .ensures .2)
 
 done-requires : tie.Need-done-requires
@@ -114,12 +114,12 @@ same-length-14 c = search needs
 
 returns-3 : tie.Need-returns-3
 returns-3 c =
-    let s = open-searchable _ _ _ _ _ _ _ (openable _ _ _ _ _ (c .before .before .before .before .before .before .before .before .before .before .before .before .before .before .before .before .before .before .before .before .before .before .before .before .before .before .before .before .before .may-open .ensures) (c .before .before .before .before .before .before .before .before .before .before .before .before .before .before .before .before .before .before .before .before .before .before .before .before .before .before .before .before .if1 .left)) (c .before .before .before .before .before .before .before .before .before .before .before .before .before .before .before .before .before .before .before .before .before .before .before .before .before .measure .ensures) in
+    let s = open-searchable _ _ _ _ _ _ _ (openable _ _ _ _ _ (c .before .before .before .before .before .before .before .before .before .before .before .before .before .before .before .before .before .before .before .before .before .before .before .before .before .before .before .before .before .open-answer .ensures) (c .before .before .before .before .before .before .before .before .before .before .before .before .before .before .before .before .before .before .before .before .before .before .before .before .before .before .before .before .if1 .left)) (c .before .before .before .before .before .before .before .before .before .before .before .before .before .before .before .before .before .before .before .before .before .before .before .before .before .measure .ensures) in
     let b = c .before .before .before .before .before .before .before .before .before .before .before .before .before .before .before .before .before .before .before .before .before .bring-back in
     let d = c .done .ensures in
     let p = planned _ _ _ _ _ _ _ _ s (b .ensures .0 .ends) (b .ensures .0 .numbered) refl in
     let k = c .before .before .before .before .before .before .before .open-copies .ensures in
-    open-done _ _ _ _ _ _ _ _ _ _ _ _ (c .before .before .before .before .before .before .before .before .before .before .before .before .before .before .before .before .before .before .before .before .before .before .before .before .before .before .before .before .before .may-open .ensures) (c .before .before .before .before .before .before .before .before .before .before .before .before .before .before .before .before .before .before .before .before .before .before .before .before .before .before .before .before .if1 .left) (c .before .before .before .before .before .before .before .before .before .before .before .before .before .before .before .before .before .before .before .before .before .before .before .before .before .measure .ensures) p _ _ _ _ _ _ _ _ _ _
+    open-done _ _ _ _ _ _ _ _ _ _ _ _ (c .before .before .before .before .before .before .before .before .before .before .before .before .before .before .before .before .before .before .before .before .before .before .before .before .before .before .before .before .before .open-answer .ensures) (c .before .before .before .before .before .before .before .before .before .before .before .before .before .before .before .before .before .before .before .before .before .before .before .before .before .before .before .before .if1 .left) (c .before .before .before .before .before .before .before .before .before .before .before .before .before .before .before .before .before .before .before .before .before .before .before .before .before .measure .ensures) p _ _ _ _ _ _ _ _ _ _
     (omega (arith, c .before .before .before .before .before .before .before .before .before .before .before .before .before .before .before .before .if2 .left, b .ensures .1 .0, b .kept)) (d .0, d .1, d .2 ∙ b .ensures .1 .0)
     (b .ensures .1 .1 .copied (omega (arith, c .before .before .before .before .before .before .before .before .before .before .before .before .before .before .before .before .if2 .left, b .kept))) (b .ensures .1 .1 .written (omega (arith, c .before .before .before .before .before .before .before .before .before .before .before .before .before .before .before .before .if2 .left, b .kept)))
     (c .before .before .before .before .before .before .before .before .before .before .before .before .before .before .open-records .ensures) (omega (arith, b .ensures .1 .0)) (k .0) (k .1) (k .2)
@@ -128,7 +128,7 @@ pub reopen-spec : {M : Type 1} → statement M
 reopen-spec =
     tie.close
     (tie.spec
-    may-open-requires
+    open-answer-requires
     refused-requires
     same-length
     same-length-2

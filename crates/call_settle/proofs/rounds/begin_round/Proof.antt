@@ -7,8 +7,8 @@ use borrow.Author.Needs.{needs}
 use Rattle.call_settle.proofs.rounds.begin_round.Statement.{statement}
 use Rattle.call_settle.proofs.rounds.begin_round.Tie as tie
 
-in-use-requires : tie.Need-in-use-requires
-in-use-requires c κs = search needs
+state-answer-requires : tie.Need-state-answer-requires
+state-answer-requires c κs = search needs
 
 refused-requires : tie.Need-refused-requires
 refused-requires c κs = search needs
@@ -17,10 +17,10 @@ same-length : tie.Need-same-length
 same-length c = search needs
 
 returns : tie.Need-returns
-returns c = begin-refused _ _ _ _ _ _ _ (c .before .before .in-use .ensures) (c .before .if1 .taken) (c .refused .ensures)
+returns c = begin-refused _ _ _ _ _ _ _ (c .before .before .state-answer .ensures) (c .before .if1 .taken) (c .refused .ensures)
 
 state-requires : tie.Need-state-requires
-state-requires c κs = omega (arith, state-length _ _ _ _ (c .before .before .in-use .ensures) (c .before .if1 .left))
+state-requires c κs = omega (arith, state-length _ _ _ _ (c .before .before .state-answer .ensures) (c .before .if1 .left))
 
 refused-requires-2 : tie.Need-refused-requires-2
 refused-requires-2 c κs = search needs
@@ -29,16 +29,16 @@ same-length-2 : tie.Need-same-length-2
 same-length-2 c = search needs
 
 returns-2 : tie.Need-returns-2
-returns-2 c = begin-busy _ _ _ _ _ (c .before .before .before .before .before .before .in-use .ensures) (c .before .before .before .before .before .if1 .left) (c .before .before .before .state .ensures) _ _ _ (c .before .if2 .taken) (c .refused2 .ensures)
+returns-2 c = begin-busy _ _ _ _ _ (c .before .before .before .before .before .before .state-answer .ensures) (c .before .before .before .before .before .if1 .left) (c .before .before .before .state .ensures) _ _ _ (c .before .if2 .taken) (c .refused2 .ensures)
 
 add-set-round : tie.Need-add-set-round
-add-set-round c = omega (arith, numbers _ _ _ _ _ (c .before .before .before .before .before .before .before .in-use .ensures) (c .before .before .before .before .before .before .if1 .left) (c .before .before .before .before .state .ensures))
+add-set-round c = omega (arith, numbers _ _ _ _ _ (c .before .before .before .before .before .before .before .state-answer .ensures) (c .before .before .before .before .before .before .if1 .left) (c .before .before .before .before .state .ensures))
 
 set-round-requires : tie.Need-set-round-requires
-set-round-requires c κs = omega (arith, state-length _ _ _ _ (c .before .before .before .before .before .before .before .in-use .ensures) (c .before .before .before .before .before .before .if1 .left))
+set-round-requires c κs = omega (arith, state-length _ _ _ _ (c .before .before .before .before .before .before .before .state-answer .ensures) (c .before .before .before .before .before .before .if1 .left))
 
 set-cursor-requires : tie.Need-set-cursor-requires
-set-cursor-requires c κs = omega (arith, state-length _ _ _ _ (c .before .before .before .before .before .before .before .before .before .before .before .in-use .ensures) (c .before .before .before .before .before .before .before .before .before .before .if1 .left))
+set-cursor-requires c κs = omega (arith, state-length _ _ _ _ (c .before .before .before .before .before .before .before .before .before .before .before .state-answer .ensures) (c .before .before .before .before .before .before .before .before .before .before .if1 .left))
 
 done-requires : tie.Need-done-requires
 done-requires c κs = search needs
@@ -48,14 +48,14 @@ same-length-3 c = search needs
 
 returns-3 : tie.Need-returns-3
 returns-3 c =
-    begin-done _ _ _ _ _ (c .before .before .before .before .before .before .before .before .before .before .before .before .before .before .before .in-use .ensures) (c .before .before .before .before .before .before .before .before .before .before .before .before .before .before .if1 .left) (c .before .before .before .before .before .before .before .before .before .before .before .before .state .ensures) _ _ _ _ (c .before .before .before .before .before .before .before .before .before .before .if2 .left) (c .done .ensures)
+    begin-done _ _ _ _ _ (c .before .before .before .before .before .before .before .before .before .before .before .before .before .before .before .state-answer .ensures) (c .before .before .before .before .before .before .before .before .before .before .before .before .before .before .if1 .left) (c .before .before .before .before .before .before .before .before .before .before .before .before .state .ensures) _ _ _ _ (c .before .before .before .before .before .before .before .before .before .before .if2 .left) (c .done .ensures)
     (c .before .before .before .set-cursor .ensures ∙ rw (c .before .before .before .before .before .before .before .set-round .ensures))
 
 pub begin-round-spec : {M : Type 1} → statement M
 begin-round-spec =
     tie.close
     (tie.spec
-    in-use-requires
+    state-answer-requires
     refused-requires
     same-length
     returns

@@ -10,8 +10,8 @@ use borrow.Author.Needs.{needs}
 use Rattle.call_settle.proofs.rounds.step_round.Statement.{statement}
 use Rattle.call_settle.proofs.rounds.step_round.Tie as tie
 
-in-use-requires : tie.Need-in-use-requires
-in-use-requires c κs = search needs
+state-answer-requires : tie.Need-state-answer-requires
+state-answer-requires c κs = search needs
 
 refused-requires : tie.Need-refused-requires
 refused-requires c κs = search needs
@@ -23,10 +23,10 @@ same-length-2 : tie.Need-same-length-2
 same-length-2 c = search needs
 
 returns : tie.Need-returns
-returns c = step-refused _ _ _ _ _ _ _ _ _ (c .before .before .in-use .ensures) (c .before .if1 .taken) (c .refused .ensures)
+returns c = step-refused _ _ _ _ _ _ _ _ _ (c .before .before .state-answer .ensures) (c .before .if1 .taken) (c .refused .ensures)
 
 state-requires : tie.Need-state-requires
-state-requires c κs = omega (arith, state-length _ _ _ _ (c .before .before .in-use .ensures) (c .before .if1 .left))
+state-requires c κs = omega (arith, state-length _ _ _ _ (c .before .before .state-answer .ensures) (c .before .if1 .left))
 
 refused-requires-2 : tie.Need-refused-requires-2
 refused-requires-2 c κs = search needs
@@ -38,7 +38,7 @@ same-length-4 : tie.Need-same-length-4
 same-length-4 c = search needs
 
 returns-2 : tie.Need-returns-2
-returns-2 c = step-none _ _ _ _ _ _ _ (c .before .before .before .before .before .before .in-use .ensures) (c .before .before .before .before .before .if1 .left) (c .before .before .before .state .ensures) _ _ _ (c .before .if2 .taken) (c .refused2 .ensures)
+returns-2 c = step-none _ _ _ _ _ _ _ (c .before .before .before .before .before .before .state-answer .ensures) (c .before .before .before .before .before .if1 .left) (c .before .before .before .state .ensures) _ _ _ (c .before .if2 .taken) (c .refused2 .ensures)
 
 refused-requires-3 : tie.Need-refused-requires-3
 refused-requires-3 c κs = search needs
@@ -51,20 +51,20 @@ same-length-6 c = search needs
 
 returns-3 : tie.Need-returns-3
 returns-3 c =
-    step-zero _ _ _ _ _ _ _ (c .before .before .before .before .before .before .before .in-use .ensures) (c .before .before .before .before .before .before .if1 .left) (c .before .before .before .before .state .ensures) _ _ _ (c .before .before .if2 .left) (c .before .if3 .taken) (c .refused3 .ensures)
+    step-zero _ _ _ _ _ _ _ (c .before .before .before .before .before .before .before .state-answer .ensures) (c .before .before .before .before .before .before .if1 .left) (c .before .before .before .before .state .ensures) _ _ _ (c .before .before .if2 .left) (c .before .if3 .taken) (c .refused3 .ensures)
 
 sub-n : tie.Need-sub-n
 sub-n c = omega (arith, c .before .before .if2 .left)
 
 mul-n : tie.Need-mul-n
-mul-n c = omega (arith, numbers _ _ _ _ _ (c .before .before .before .before .before .before .before .before .in-use .ensures) (c .before .before .before .before .before .before .before .if1 .left) (c .before .before .before .before .before .state .ensures))
+mul-n c = omega (arith, numbers _ _ _ _ _ (c .before .before .before .before .before .before .before .before .state-answer .ensures) (c .before .before .before .before .before .before .before .if1 .left) (c .before .before .before .before .before .state .ensures))
 
 sub-n-2 : tie.Need-sub-n-2
-sub-n-2 c = let n = numbers _ _ _ _ _ (c .before .before .before .before .before .before .before .before .in-use .ensures) (c .before .before .before .before .before .before .before .if1 .left) (c .before .before .before .before .before .state .ensures) in omega (arith, n .start-round (c .before .before .before .if2 .left))
+sub-n-2 c = let n = numbers _ _ _ _ _ (c .before .before .before .before .before .before .before .before .state-answer .ensures) (c .before .before .before .before .before .before .before .if1 .left) (c .before .before .before .before .before .state .ensures) in omega (arith, n .start-round (c .before .before .before .if2 .left))
 
 step-requires : tie.Need-step-requires
 step-requires c κs =
-    let n = numbers _ _ _ _ _ (c .before .before .before .before .before .before .before .before .before .before .in-use .ensures) (c .before .before .before .before .before .before .before .before .before .if1 .left) (c .before .before .before .before .before .before .before .state .ensures) in
+    let n = numbers _ _ _ _ _ (c .before .before .before .before .before .before .before .before .before .before .state-answer .ensures) (c .before .before .before .before .before .before .before .before .before .if1 .left) (c .before .before .before .before .before .before .before .state .ensures) in
     (round-searchable _ _ _ _ n, n .area-length, omega (arith, c .before .before .before .before .if3 .left))
 
 refused-requires-4 : tie.Need-refused-requires-4
@@ -82,11 +82,11 @@ same-length-9 c = search needs
 returns-4 : tie.Need-returns-4
 returns-4 c =
     let b = below-end _ _ _ _ _ _ (c .before .before .before .before .before .before .step .ensures .0 .ends) in
-    step-short _ _ _ _ _ _ _ (c .before .before .before .before .before .before .before .before .before .before .before .before .before .before .before .before .before .in-use .ensures) (c .before .before .before .before .before .before .before .before .before .before .before .before .before .before .before .before .if1 .left) (c .before .before .before .before .before .before .before .before .before .before .before .before .before .before .state .ensures) _ _ _ _ _ _ (c .before .before .before .before .before .before .before .before .before .before .before .before .if2 .left) (c .before .before .before .before .before .before .before .before .before .before .before .if3 .left) b (c .before .before .before .before .before .before .step .ensures .1)
+    step-short _ _ _ _ _ _ _ (c .before .before .before .before .before .before .before .before .before .before .before .before .before .before .before .before .before .state-answer .ensures) (c .before .before .before .before .before .before .before .before .before .before .before .before .before .before .before .before .if1 .left) (c .before .before .before .before .before .before .before .before .before .before .before .before .before .before .state .ensures) _ _ _ _ _ _ (c .before .before .before .before .before .before .before .before .before .before .before .before .if2 .left) (c .before .before .before .before .before .before .before .before .before .before .before .if3 .left) b (c .before .before .before .before .before .before .step .ensures .1)
     _ _ _ _ _ (omega (arith, c .before .if4 .taken, c .before .before .before .before .before .before .step .kept)) (c .refused4 .ensures) refl refl
 
 set-cursor-requires : tie.Need-set-cursor-requires
-set-cursor-requires c κs = omega (arith, state-length _ _ _ _ (c .before .before .before .before .before .before .before .before .before .before .before .before .before .before .before .before .before .before .in-use .ensures) (c .before .before .before .before .before .before .before .before .before .before .before .before .before .before .before .before .before .if1 .left))
+set-cursor-requires c κs = omega (arith, state-length _ _ _ _ (c .before .before .before .before .before .before .before .before .before .before .before .before .before .before .before .before .before .before .state-answer .ensures) (c .before .before .before .before .before .before .before .before .before .before .before .before .before .before .before .before .before .if1 .left))
 
 done-requires : tie.Need-done-requires
 done-requires c κs = search needs
@@ -103,7 +103,7 @@ same-length-12 c = search needs
 returns-5 : tie.Need-returns-5
 returns-5 c =
     let b = below-end _ _ _ _ _ _ (c .before .before .before .before .before .before .before .before .before .before .before .step .ensures .0 .ends) in
-    step-moved _ _ _ _ _ _ _ (c .before .before .before .before .before .before .before .before .before .before .before .before .before .before .before .before .before .before .before .before .before .before .in-use .ensures) (c .before .before .before .before .before .before .before .before .before .before .before .before .before .before .before .before .before .before .before .before .before .if1 .left) (c .before .before .before .before .before .before .before .before .before .before .before .before .before .before .before .before .before .before .before .state .ensures) _ _ _ _ _ _ (c .before .before .before .before .before .before .before .before .before .before .before .before .before .before .before .before .before .if2 .left) (c .before .before .before .before .before .before .before .before .before .before .before .before .before .before .before .before .if3 .left) b (c .before .before .before .before .before .before .before .before .before .before .before .step .ensures .1)
+    step-moved _ _ _ _ _ _ _ (c .before .before .before .before .before .before .before .before .before .before .before .before .before .before .before .before .before .before .before .before .before .before .state-answer .ensures) (c .before .before .before .before .before .before .before .before .before .before .before .before .before .before .before .before .before .before .before .before .before .if1 .left) (c .before .before .before .before .before .before .before .before .before .before .before .before .before .before .before .before .before .before .before .state .ensures) _ _ _ _ _ _ (c .before .before .before .before .before .before .before .before .before .before .before .before .before .before .before .before .before .if2 .left) (c .before .before .before .before .before .before .before .before .before .before .before .before .before .before .before .before .if3 .left) b (c .before .before .before .before .before .before .before .before .before .before .before .step .ensures .1)
     _ _ _ _ _ _ (omega (arith, c .before .before .before .before .before .before .if4 .left, c .before .before .before .before .before .before .before .before .before .before .before .step .kept)) (c .before .before .before .before .before .if5 .taken) (c .done .ensures) refl (c .before .before .before .set-cursor .ensures) refl
 
 sub-fence : tie.Need-sub-fence
@@ -117,7 +117,7 @@ fence-requires c κs = omega (arith, c .before .before .if4 .left, ended-two _ _
 
 end-round-requires : tie.Need-end-round-requires
 end-round-requires c κs =
-    let n = numbers _ _ _ _ _ (c .before .before .before .before .before .before .before .before .before .before .before .before .before .before .before .before .before .before .before .before .before .before .in-use .ensures) (c .before .before .before .before .before .before .before .before .before .before .before .before .before .before .before .before .before .before .before .before .before .if1 .left) (c .before .before .before .before .before .before .before .before .before .before .before .before .before .before .before .before .before .before .before .state .ensures) in
+    let n = numbers _ _ _ _ _ (c .before .before .before .before .before .before .before .before .before .before .before .before .before .before .before .before .before .before .before .before .before .before .state-answer .ensures) (c .before .before .before .before .before .before .before .before .before .before .before .before .before .before .before .before .before .before .before .before .before .if1 .left) (c .before .before .before .before .before .before .before .before .before .before .before .before .before .before .before .before .before .before .before .state .ensures) in
     (n .state-length, omega (arith, n), omega (arith, c .before .before .before .before .before .before .before .before .before .before .before .before .before .before .before .before .before .if2 .left))
 
 done-requires-2 : tie.Need-done-requires-2
@@ -135,7 +135,7 @@ same-length-15 c = search needs
 returns-6 : tie.Need-returns-6
 returns-6 c =
     let b = below-end _ _ _ _ _ _ (c .before .before .before .before .before .before .before .before .before .before .before .before .before .before .before .step .ensures .0 .ends) in
-    step-ended _ _ _ _ _ _ _ (c .before .before .before .before .before .before .before .before .before .before .before .before .before .before .before .before .before .before .before .before .before .before .before .before .before .before .in-use .ensures) (c .before .before .before .before .before .before .before .before .before .before .before .before .before .before .before .before .before .before .before .before .before .before .before .before .before .if1 .left) (c .before .before .before .before .before .before .before .before .before .before .before .before .before .before .before .before .before .before .before .before .before .before .before .state .ensures) _ _ _ _ _ _ (c .before .before .before .before .before .before .before .before .before .before .before .before .before .before .before .before .before .before .before .before .before .if2 .left) (c .before .before .before .before .before .before .before .before .before .before .before .before .before .before .before .before .before .before .before .before .if3 .left) b (c .before .before .before .before .before .before .before .before .before .before .before .before .before .before .before .step .ensures .1)
+    step-ended _ _ _ _ _ _ _ (c .before .before .before .before .before .before .before .before .before .before .before .before .before .before .before .before .before .before .before .before .before .before .before .before .before .before .state-answer .ensures) (c .before .before .before .before .before .before .before .before .before .before .before .before .before .before .before .before .before .before .before .before .before .before .before .before .before .if1 .left) (c .before .before .before .before .before .before .before .before .before .before .before .before .before .before .before .before .before .before .before .before .before .before .before .state .ensures) _ _ _ _ _ _ (c .before .before .before .before .before .before .before .before .before .before .before .before .before .before .before .before .before .before .before .before .before .if2 .left) (c .before .before .before .before .before .before .before .before .before .before .before .before .before .before .before .before .before .before .before .before .if3 .left) b (c .before .before .before .before .before .before .before .before .before .before .before .before .before .before .before .step .ensures .1)
     _ _ _ _ _ _ _ (omega (arith, c .before .before .before .before .before .before .before .before .before .before .if4 .left, c .before .before .before .before .before .before .before .before .before .before .before .before .before .before .before .step .kept)) (c .before .before .before .before .before .before .before .before .before .if5 .left) (c .done2 .ensures) refl (c .before .before .before .end-round .ensures) (c .before .before .before .before .before .before .before .fence .ensures .1)
     (omega (arith, ended-two _ _ _ _ _ _ _ _ _ _ _ _ _ _ (c .before .before .before .before .before .before .before .before .before .before .before .before .before .before .before .step .ensures .1) (c .before .before .before .before .before .before .before .before .before .if5 .left)))
 
@@ -143,7 +143,7 @@ pub step-round-spec : {M : Type 1} → statement M
 step-round-spec =
     tie.close
     (tie.spec
-    in-use-requires
+    state-answer-requires
     refused-requires
     same-length
     same-length-2

@@ -6,8 +6,8 @@ use borrow.Author.Needs.{needs}
 use Rattle.call_store.proofs.stores.store.Statement.{statement}
 use Rattle.call_store.proofs.stores.store.Tie as tie
 
-store-verdict-requires : tie.Need-store-verdict-requires
-store-verdict-requires c κs = search needs
+store-answer-requires : tie.Need-store-answer-requires
+store-answer-requires c κs = search needs
 
 refused-requires : tie.Need-refused-requires
 refused-requires c κs = search needs
@@ -22,10 +22,10 @@ same-length-3 : tie.Need-same-length-3
 same-length-3 c = search needs
 
 returns : tie.Need-returns
-returns c = ends-refused _ _ _ _ _ _ _ _ (c .before .before .store-verdict .ensures) _ _ _ (c .before .if1 .taken) (c .refused .ensures)
+returns c = ends-refused _ _ _ _ _ _ _ _ (c .before .before .store-answer .ensures) _ _ _ (c .before .if1 .taken) (c .refused .ensures)
 
 writer-requires : tie.Need-writer-requires
-writer-requires c κs = let k = known _ _ _ _ _ _ _ _ (c .before .before .store-verdict .ensures) (c .before .if1 .left) in (k .0, k .1)
+writer-requires c κs = let k = known _ _ _ _ _ _ _ _ (c .before .before .store-answer .ensures) (c .before .if1 .left) in (k .0, k .1)
 
 holds-requires : tie.Need-holds-requires
 holds-requires c κs = search needs
@@ -36,7 +36,7 @@ store-first-requires c κs =
     let c3 = c4 .before in
     let c2 = c3 .before .before .before in
     let c1 = c2 .before in
-    firsts _ _ _ _ _ _ _ _ (c1 .store-verdict .ensures) (c2 .if1 .left) _ _ (c3 .holds .ensures) (c4 .if2 .taken)
+    firsts _ _ _ _ _ _ _ _ (c1 .store-answer .ensures) (c2 .if1 .left) _ _ (c3 .holds .ensures) (c4 .if2 .taken)
 
 done-requires : tie.Need-done-requires
 done-requires c κs = search needs
@@ -58,14 +58,14 @@ returns-2 c =
     let c3 = c4 .before in
     let c2 = c3 .before .before in
     let c1 = c2 .before in
-    ends-first _ _ _ _ _ _ _ _ (c1 .store-verdict .ensures) (c2 .if1 .left) _ _ _ _ _ _ (c3 .writer .ensures) (c4 .holds .ensures)
+    ends-first _ _ _ _ _ _ _ _ (c1 .store-answer .ensures) (c2 .if1 .left) _ _ _ _ _ _ (c3 .writer .ensures) (c4 .holds .ensures)
     (c5 .if2 .taken) (c6 .store-first .ensures) (c .done .ensures)
 
 set-held-requires : tie.Need-set-held-requires
 set-held-requires c κs =
     let c2 = c .before .before .before .before .before .before .before in
     let c1 = c2 .before in
-    let k = known _ _ _ _ _ _ _ _ (c1 .store-verdict .ensures) (c2 .if1 .left) in (k .0, k .1, k .2)
+    let k = known _ _ _ _ _ _ _ _ (c1 .store-answer .ensures) (c2 .if1 .left) in (k .0, k .1, k .2)
 
 done-requires-2 : tie.Need-done-requires-2
 done-requires-2 c κs = search needs
@@ -88,7 +88,7 @@ returns-3 c =
     let c3 = c4 .before in
     let c2 = c3 .before .before in
     let c1 = c2 .before in
-    ends-again _ _ _ _ _ _ _ _ (c1 .store-verdict .ensures) (c2 .if1 .left) _ _ _ _ _ _ (c3 .writer .ensures) (c4 .holds .ensures)
+    ends-again _ _ _ _ _ _ _ _ (c1 .store-answer .ensures) (c2 .if1 .left) _ _ _ _ _ _ (c3 .writer .ensures) (c4 .holds .ensures)
     (c5 .if2 .left) (c6 .if3 .taken) (c7 .set-held .ensures) (c .done2 .ensures)
 
 store-next-requires : tie.Need-store-next-requires
@@ -100,7 +100,7 @@ store-next-requires c κs =
     let c2 = c3 .before .before in
     let c1 = c2 .before in
     next-own _ _ _ (c1 .before .before .before .before .before .before .before .before .before .args .block .now) _ _ _ _ refl (c3 .writer .ensures)
-    (others _ _ _ _ _ _ _ _ (c1 .store-verdict .ensures) (c2 .if1 .left) _ _ _ (c3 .writer .ensures) (c4 .holds .ensures)
+    (others _ _ _ _ _ _ _ _ (c1 .store-answer .ensures) (c2 .if1 .left) _ _ _ (c3 .writer .ensures) (c4 .holds .ensures)
     (c5 .if2 .left) (c6 .if3 .left) refl)
 
 done-requires-3 : tie.Need-done-requires-3
@@ -124,7 +124,7 @@ returns-4 c =
     let c3 = c4 .before in
     let c2 = c3 .before .before in
     let c1 = c2 .before in
-    ends-other _ _ _ _ _ _ _ _ (c1 .store-verdict .ensures) (c2 .if1 .left) _ _ _ _ _ _ _ _ _ _ (c3 .writer .ensures)
+    ends-other _ _ _ _ _ _ _ _ (c1 .store-answer .ensures) (c2 .if1 .left) _ _ _ _ _ _ _ _ _ _ (c3 .writer .ensures)
     (c4 .holds .ensures) (c5 .if2 .left) (c6 .if3 .left) refl
     (stored-own _ _ _ _ _ _ _ _ _ _ _ _ refl (c3 .writer .ensures) (c8 .store-next .ensures)) (c .done3 .ensures)
 
@@ -132,7 +132,7 @@ pub store-spec : {M : Type 1} → statement M
 store-spec =
     tie.close
     (tie.spec
-    store-verdict-requires
+    store-answer-requires
     refused-requires
     same-length
     same-length-2
