@@ -161,15 +161,15 @@ Drains w s =
 abbrev pub HeldBack : Store → Type 0
 HeldBack s = (writer p : ℕ) → writer < 8 → taskAt (firstGroup s) p (s .book .tasks writer) ≡ true → 7 * nextStart s ≤ p
 
-pub record Told (w : World) (s : Store) (fs : List Fate) : Type 0 where
+pub record PlacesTold (w : World) (s : Store) (fs : List Fate) : Type 0 where
   pub accounted : Accounted s fs
   pub drains : Drains w s
   pub heldBack : HeldBack s
 
 abbrev pub AccountedThroughout : World → Store → List Fate → List Event → Type 0
-AccountedThroughout w s fs [] = w .ready ≡ true → Told w s fs
+AccountedThroughout w s fs [] = w .ready ≡ true → PlacesTold w s fs
 AccountedThroughout w s fs (e ∷ es) =
-    (w .ready ≡ true → Told w s fs) × AccountedThroughout (step w e) (follow s w e) (enterEvent s w e fs) es
+    (w .ready ≡ true → PlacesTold w s fs) × AccountedThroughout (step w e) (follow s w e) (enterEvent s w e fs) es
 
 abbrev pub PlacesAccounted : Type 0
 PlacesAccounted =

@@ -275,8 +275,8 @@ numbered s start settled fenced durable last promises b =
     }
 
 -- the store with another round and cursor
-unfoldable pub inRound : Store → ℕ → ℕ → Store
-inRound s round cursor =
+unfoldable pub withRound : Store → ℕ → ℕ → Store
+withRound s round cursor =
     record {
       groups = s .groups;
       homes = s .homes;
@@ -296,7 +296,7 @@ inRound s round cursor =
 
 -- the round's last step: "only then raises the settled position to the F fixed"
 unfoldable pub roundOver : Store → Store
-roundOver s = inRound (numbered s (s .start) (s .round - 1) (7 * nextGroup s) (s .durable) (s .last) (s .promises) (s .book)) 0 0
+roundOver s = withRound (numbered s (s .start) (s .round - 1) (7 * nextGroup s) (s .durable) (s .last) (s .promises) (s .book)) 0 0
 
 -- a trim that moves
 unfoldable pub trimmedTo : Store → ℕ → Store
@@ -305,17 +305,17 @@ trimmedTo s start =
 
 unfoldable pub afterService : Store → Service → Store
 afterService s (settles batch) = numbered s (s .start) (s .fenced) (7 * nextGroup s) (s .durable) (s .last) (s .promises) (s .book)
-afterService s roundBegins = inRound s (s .fenced + 1) 0
+afterService s roundBegins = withRound s (s .fenced + 1) 0
 afterService s (roundSteps homes batch) =
     let due : List ℕ = toStep s in
-    cond (leb (length due) homes) (roundOver s) (inRound s (s .round) (getD due (homes - 1) 0 + 1))
+    cond (leb (length due) homes) (roundOver s) (withRound s (s .round) (getD due (homes - 1) 0 + 1))
 afterService s (trims batch) = let moved : Store = trimmedTo s (nextStart s) in cond (eqb (nextStart s) (s .start)) s moved
 afterService s (reads writer home block) = s
 
 unfoldable pub afterDone : Store → Call → ℕ → Store
 afterDone s (opening state newest batch) figure =
     let first : ℕ = firstGroup s in
-    inRound (numbered s first (7 * first) (7 * first) (7 * first) 0 (λ v. 0) (feed (s .book) (opening state newest batch) figure)) 0 0
+    withRound (numbered s first (7 * first) (7 * first) (7 * first) 0 (λ v. 0) (feed (s .book) (opening state newest batch) figure)) 0 0
 afterDone s confirm figure = numbered s (s .start) (s .settled) (s .fenced) figure (s .last) (s .promises) (feed (s .book) confirm figure)
 afterDone s (change c) figure =
     numbered s (s .start) (s .settled) (fencedAfter s c) (s .durable) (lastAfter (s .last) c figure) (promisesAfter s c)

@@ -47,14 +47,14 @@ below-end log groups homes start n end e =
     rw e (ap (eachEntries (entryAt log groups homes start) (7 * start)) (sym (committed-closings (entryAt log groups homes start) (7 * start) n)))
 
 -- a walk has found what is committed, and its tables hold the chains
-abbrev pub Told : List ℕ → ℕ → ℕ → ℕ → ℕ → Progress → List ℕ → List ℕ → List ℕ → Type 0
-Told log groups homes start n found last heads links =
+abbrev pub TablesFilled : List ℕ → ℕ → ℕ → ℕ → ℕ → Progress → List ℕ → List ℕ → List ℕ → Type 0
+TablesFilled log groups homes start n found last heads links =
     (found .end ≡ endOf (committed (entryAt log groups homes start) (7 * start) n))
     × (found .number ≡ length (committed (entryAt log groups homes start) (7 * start) n))
     × Chained log groups homes start (found .end) last heads links
 
 pub told-by : (log : List ℕ) (groups homes start n : ℕ) (found f : Progress) (last heads links a b d : List ℕ) → last ≡ a → heads ≡ b → links ≡ d → found ≡ f
-    → Told log groups homes start n f a b d → Told log groups homes start n found last heads links
+    → TablesFilled log groups homes start n f a b d → TablesFilled log groups homes start n found last heads links
 told-by log groups homes start n found f last heads links a b d x y z w t = rw (x, y, z, w) t
 
 pub planned : (log : List ℕ) (groups homes start n end number count : ℕ) → Searchable log groups homes start n

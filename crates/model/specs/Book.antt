@@ -176,5 +176,5 @@ unfoldable pub ownOr : ℕ → Task → List ℕ → List ℕ
 ownOr home idle other = other
 ownOr home (opened es held) other = heldOr home held (newestEntry home es other)
 
-unfoldable pub reads : ℕ → Book → ℕ → ℕ → List ℕ
-reads homes b w home = ownOr home (b .tasks w) (homeAt (homesAfter homes (b .commits)) home)
+unfoldable pub readBy : ℕ → Book → ℕ → ℕ → List ℕ
+readBy homes b w home = ownOr home (b .tasks w) (homeAt (homesAfter homes (b .commits)) home)

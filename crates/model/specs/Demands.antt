@@ -16,7 +16,7 @@ use Rattle.model.specs.Effects.{Given, groups, liveTags, liveBase}
 use Rattle.model.specs.declared.Tag.{Tag}
 use Rattle.model.specs.Calls.{Outcome}
 use Rattle.model.specs.Crash.{fences}
-use Rattle.model.specs.Book.{Landing, row, persisted, Entry, Commit, Held, Task, idle, opened, Book, run, homesAfter, reads as readBy, owedBy}
+use Rattle.model.specs.Book.{Landing, row, persisted, Entry, Commit, Held, Task, idle, opened, Book, run, homesAfter, readBy, owedBy}
 use Rattle.model.specs.History.{Service, settles, trims, reads, Call, opening, confirm, change, service, read, Event, call, crash, World, lent, ends, rowFates, step, Always, roundBegins, roundSteps}
 
 -- Demand 3
@@ -111,8 +111,8 @@ owedRows rows (c ∷ cs) =
     record { entries = c .entries; ticket = c .ticket; owed = c .owed || allBelow rows (c .entries) } ∷ owedRows rows cs
 
 -- trim: the positions of a transaction's entries, by the rows they are in; row 0 is the group at which the last opening let the log start
-unfoldable pub firstGroup : World → ℕ
-firstGroup w = headerStart (w .memory .log) + groupsIn (length (w .log))
+unfoldable pub firstRowGroup : World → ℕ
+firstRowGroup w = headerStart (w .memory .log) + groupsIn (length (w .log))
 
 unfoldable pub landsBefore : ℕ → ℕ → Landing → Bool
 landsBefore first position (row number index) = ltb (7 * (first + number) + index) position
@@ -138,15 +138,15 @@ anyOpenBefore first position tasks zero = false
 anyOpenBefore first position tasks (suc n) = openBefore first position (tasks n) || anyOpenBefore first position tasks n
 
 -- the log may start at a group: no open or committed transaction lies on both sides of it
-unfoldable pub free : World → ℕ → Bool
-free w start =
-    not (anyAcross (firstGroup w) (7 * start) (w .book .commits)) && not (anyOpenBefore (firstGroup w) (7 * start) (w .book .tasks) 8)
+unfoldable pub mayStartAt : World → ℕ → Bool
+mayStartAt w start =
+    not (anyAcross (firstRowGroup w) (7 * start) (w .book .commits)) && not (anyOpenBefore (firstRowGroup w) (7 * start) (w .book .tasks) 8)
 
 -- the start that a trim leaves is the largest at most the settled position at which the log may start
 pub record Trimmed (w : World) (start : ℕ) : Type 0 where
-  pub reached : free w start ≡ true
+  pub reached : mayStartAt w start ≡ true
   pub settled : 7 * start ≤ stateOf (w .state) .settled
-  pub furthest : (s : ℕ) → 7 * s ≤ stateOf (w .state) .settled → free w s ≡ true → s ≤ start
+  pub furthest : (s : ℕ) → 7 * s ≤ stateOf (w .state) .settled → mayStartAt w s ≡ true → s ≤ start
 
 -- Rounds: a home of the data copy holds what the commits below a position wrote: the F that the round under way has fixed where the home is below
 -- its cursor, else the settled position

@@ -39,8 +39,8 @@ runs w (c ∷ cs) =
     let r : Run = runs (afterCall w c o (o .code)) cs in
     record { numbers = o .code ∷ r .numbers; world = r .world }
 
-unfoldable pub reads : ℕ → ℕ → Call
-reads writer home = read writer home (zeros 64)
+unfoldable pub asksRead : ℕ → ℕ → Call
+asksRead writer home = read writer home (zeros 64)
 
 unfoldable pub writes : ℕ → ℕ → Call
 writes writer home = store writer home (fill 9) room
@@ -60,7 +60,7 @@ unguarded = step (emptyStore 4 13) reopening
 -- list that writer 0 holds, and one it has logged, does not count yet.
 unfoldable pub beforeList : List Call
 beforeList =
-    begin 1 ∷ writes 1 5 ∷ writes 1 8 ∷ writes 2 11 ∷ writes 2 3 ∷ reads 2 3 ∷ begin 0 ∷ store 0 8 firstList room ∷ reads 0 4 ∷ store 0 9 (zeros 64) room ∷ reads 0 4
+    begin 1 ∷ writes 1 5 ∷ writes 1 8 ∷ writes 2 11 ∷ writes 2 3 ∷ asksRead 2 3 ∷ begin 0 ∷ store 0 8 firstList room ∷ asksRead 0 4 ∷ store 0 9 (zeros 64) room ∷ asksRead 0 4
     ∷ writes 1 5 ∷ commit 0 room ∷ []
 
 unfoldable pub begun : Run
@@ -73,8 +73,8 @@ guarded = begun .world
 -- the list do not count yet
 unfoldable pub underList : List Call
 underList =
-    reads 1 5 ∷ writes 1 3 ∷ writes 1 4 ∷ writes 1 6 ∷ writes 2 3 ∷ reads 1 3 ∷ reads 1 4 ∷ reads 1 6 ∷ reads 1 9 ∷ reads 2 3 ∷ reads 0 4 ∷ writes 0 3 ∷ begin 0
-    ∷ writes 0 3 ∷ writes 0 2 ∷ commit 1 room ∷ store 0 8 (zeros 64) room ∷ reads 0 2 ∷ []
+    asksRead 1 5 ∷ writes 1 3 ∷ writes 1 4 ∷ writes 1 6 ∷ writes 2 3 ∷ asksRead 1 3 ∷ asksRead 1 4 ∷ asksRead 1 6 ∷ asksRead 1 9 ∷ asksRead 2 3 ∷ asksRead 0 4 ∷ writes 0 3 ∷ begin 0
+    ∷ writes 0 3 ∷ writes 0 2 ∷ commit 1 room ∷ store 0 8 (zeros 64) room ∷ asksRead 0 2 ∷ []
 
 unfoldable pub denying : Run
 denying = runs guarded underList
@@ -84,7 +84,7 @@ replaced = goes (denying .world) (store 0 8 nextList room ∷ commit 0 room ∷ 
 
 -- under the next one; the transactions of both writers are closed, so that 7 is what a store meets that it has the right to
 unfoldable pub underNext : List Call
-underNext = writes 1 4 ∷ writes 1 3 ∷ reads 1 4 ∷ reads 1 3 ∷ reads 1 6 ∷ writes 1 11 ∷ writes 0 11 ∷ []
+underNext = writes 1 4 ∷ writes 1 3 ∷ asksRead 1 4 ∷ asksRead 1 3 ∷ asksRead 1 6 ∷ writes 1 11 ∷ writes 0 11 ∷ []
 
 -- the log trimmed, with all of it in the data copy; another commit of the first list, a crash after it has persisted, and an opening
 unfoldable pub trimmed : World → World
@@ -94,7 +94,7 @@ unfoldable pub openedAgain : World → World
 openedAgain w = step (step (goes w (begin 0 ∷ store 0 8 firstList room ∷ commit 0 room ∷ flush room ∷ [])) (crash 7 (λ i. false))) reopening
 
 unfoldable pub underFirst : List Call
-underFirst = writes 1 3 ∷ writes 1 4 ∷ reads 1 3 ∷ reads 1 4 ∷ reads 1 6 ∷ []
+underFirst = writes 1 3 ∷ writes 1 4 ∷ asksRead 1 3 ∷ asksRead 1 4 ∷ asksRead 1 6 ∷ []
 
 unfoldable pub laidDown : World
 laidDown = trimmed replaced
@@ -113,13 +113,13 @@ unfoldable pub again : World
 again = recommitted withdrawn firstList
 
 unfoldable pub ofOthers : List Call
-ofOthers = reads 1 4 ∷ writes 1 4 ∷ []
+ofOthers = asksRead 1 4 ∷ writes 1 4 ∷ []
 
 -- D 11 is too small for a list: homes 8 to 10 are writer 0's alone to store to, and all else is open
 unfoldable pub tooSmall : List ℕ
 tooSmall =
     runs (step (emptyStore 4 11) (call (opening (zeros 1024) (zeros 88) lane)))
-    (begin 0 ∷ store 0 8 firstList room ∷ commit 0 room ∷ begin 1 ∷ writes 1 4 ∷ writes 1 7 ∷ writes 1 8 ∷ writes 1 10 ∷ writes 1 11 ∷ reads 2 3 ∷ reads 1 10 ∷ [])
+    (begin 0 ∷ store 0 8 firstList room ∷ commit 0 room ∷ begin 1 ∷ writes 1 4 ∷ writes 1 7 ∷ writes 1 8 ∷ writes 1 10 ∷ writes 1 11 ∷ asksRead 2 3 ∷ asksRead 1 10 ∷ [])
     .numbers
 
 -- what is kept of the list, and what every call answers

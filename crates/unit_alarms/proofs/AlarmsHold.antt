@@ -10,7 +10,7 @@ use Rattle.model.specs.History.{World, afterFormat}
 use Rattle.unit_events.specs.Offered.{heldAfter}
 use Rattle.unit_events.specs.Folded.{noted, offers, ran, notes, stepped, Folded, Recorded}
 use Rattle.unit_events.proofs.FoldedHolds.{events-folded}
-use Rattle.unit_shared.specs.Unit.{Left, judged as judges, event}
+use Rattle.unit_shared.specs.Unit.{Left, asJudged as judges, event}
 use Rattle.unit_shared.specs.Moments.{lentIn, Leaves}
 use Rattle.unit_shared.proofs.MomentLaws.{event-stands}
 use Rattle.unit_shared.proofs.MomentShown.{shown-there, first-there, kept-there, event-alike}

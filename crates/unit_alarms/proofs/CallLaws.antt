@@ -8,19 +8,19 @@ use borrow.Author.Tests.{ne-eqb, not-true, not-false}
 use Rattle.model.specs.Bytes.{zeros}
 use Rattle.call_ask.specs.Lent.{lentAll}
 use Rattle.acts.specs.Many.{fetchCall}
-use Rattle.unit_shared.specs.Unit.{Lent, Left, leaves, judged, fetched, event}
+use Rattle.unit_shared.specs.Unit.{Lent, Left, leaves, asJudged, fetched, event}
 use Rattle.unit_shared.proofs.UnitLaws.{refusal, readAs, fetching}
 use Rattle.unit_alarms_list.specs.Alarm.{classKnown}
 use Rattle.unit_alarms_list.specs.declared.Alarm.{Alarm}
 use Rattle.unit_alarms_list.specs.OpenAlarms.{keptOf}
 use Rattle.unit_alarms_list.specs.Events.{Event, arrival, clearing, applied, leaves as outputLeft}
-use Rattle.unit_alarms.specs.Calls.{alarmHome, judge, arriveCall, clearCall, Told, tells, alarmTells, gravestIn, gravestCall}
+use Rattle.unit_alarms.specs.Calls.{alarmHome, judge, arriveCall, clearCall, GravestTold, tells, alarmTells, gravestIn, gravestCall}
 
 -- what the blocks answer an event, and the new blocks in a buffer of zeros
 pub judging : (e : Event) (blocks given : List ℕ) {answer : ℕ} {next : List ℕ} → given ≡ zeros 384 → outputLeft answer next ≡ applied blocks given e
-    → judged answer next ≡ judge e blocks
+    → asJudged answer next ≡ judge e blocks
 unfolding judge
-judging e blocks given z q = ap (λ o. judged (o .code) (o .output)) (q ∙ ap (λ b. applied blocks b e) z)
+judging e blocks given z q = ap (λ o. asJudged (o .code) (o .output)) (q ∙ ap (λ b. applied blocks b e) z)
 
 module _ (l : Lent) (writer : ℕ) where
   -- ---- events

@@ -12,7 +12,7 @@ use Rattle.unit_shared.specs.Shown.{Shown}
 use Rattle.unit_bands_table.specs.Rows.{rows}
 use Rattle.unit_bands_table.specs.Judge.{judgement}
 use Rattle.unit_bands_table.specs.Packed.{pack, found, lookUp}
-use Rattle.unit_bands_table.specs.Guarantees.{Told}
+use Rattle.unit_bands_table.specs.Guarantees.{RowTold}
 use Rattle.unit_bands_table.specs.Stored.{lastOf}
 use Rattle.unit_bands.specs.Calls.{tableHome, setCall, lookUpCall}
 
@@ -31,7 +31,7 @@ pub record Claim (l : Lent) (writer : ℕ) (ts : List (List ℕ)) : Type 0 where
   -- "a cut leaves, whole, the last table of demand 3's run, if any": a lookup answers 11 if there is no table, else a row of the last one
   pub lookup : (mm : ℕ) → mm ≤ 9999 → fetched l writer tableHome 3 .code ≡ 0 → lookUpCall l writer mm ≡ found mm (lastOf ts)
   -- "Every millimetre from 0 to 9,999 must lie in exactly one row; a lookup gives that row."
-  pub row : (strip : List ℕ) → lastOf ts ≡ some strip → (mm : ℕ) → mm ≤ 9999 → Told (rows strip) mm
+  pub row : (strip : List ℕ) → lastOf ts ≡ some strip → (mm : ℕ) → mm ≤ 9999 → RowTold (rows strip) mm
   -- a table is set or refused by its rows
   pub refused :
       (strip : List ℕ) → judgement strip .code ≢ 0 → setCall l writer strip ≡ untouched l (judgement strip .code) (judgement strip .millimetre)

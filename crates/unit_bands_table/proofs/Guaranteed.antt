@@ -12,7 +12,7 @@ use lib.Seq.{take-at}
 use Rattle.unit_bands_table.specs.Rows.{Row, rows, place, lookup}
 use Rattle.unit_bands_table.specs.Judge.{Verdict, verdict, fit, allFit, sound, uncovered, doubled, coverage, judgement}
 use Rattle.unit_bands_table.specs.Packed.{pack, held, acceptable, unpack, lookUp, found}
-use Rattle.unit_bands_table.specs.Guarantees.{rowOf, InSome, InOne, Fit, Sound, Judged, accepted, unsound, gap, double, Told, Guarantee, Blank}
+use Rattle.unit_bands_table.specs.Guarantees.{rowOf, InSome, InOne, Fit, Sound, Judged, accepted, unsound, gap, double, RowTold, Guarantee, Blank}
 use Rattle.unit_bands_table.proofs.RowLaws.{rows-whole, fit-pumps, fit-ordered, fit-shallow, fit-few, all-nil, all-first, all-rest, all-cons, sound-some, sound-short, sound-whole, sound-fit, sized-whole, sound-rest}
 use Rattle.unit_bands_table.proofs.LowestLaws.{uncovered-is, uncovered-passed, uncovered-here, doubled-is, doubled-passed, doubled-here}
 use Rattle.unit_bands_table.proofs.JudgeLaws.{coverage-gap, coverage-double, coverage-one, judged-unsound, judged-sound, accepted-sound, accepted-short}
@@ -105,7 +105,7 @@ module _ (strip : List ℕ) where
     one-of v e (gap s a b d) = absurd (omega arith)
     one-of v e (double s a b d f) = absurd (omega arith)
 
-    told-as : (mm : ℕ) → mm ≤ 9999 → Told (rows strip) mm
+    told-as : (mm : ℕ) → mm ≤ 9999 → RowTold (rows strip) mm
     unfolding lookup
     told-as mm l =
         let o = one-of (judgement strip) h judged-as mm l in

@@ -56,7 +56,7 @@ pub data Judged (strip : List ℕ) : Verdict → Type 0 where
       → ((k : ℕ) → k < mm → InTwo (rows strip) k → ⊥) → Judged strip (verdict 13 mm)
 
 -- "a lookup gives that row": the one row that holds the millimetre
-pub record Told (rs : List Row) (mm : ℕ) : Type 0 where
+pub record RowTold (rs : List Row) (mm : ℕ) : Type 0 where
   pub one : InOne rs mm
   pub row : lookup mm rs ≡ rowOf rs (one .at)
 
@@ -64,7 +64,7 @@ pub record Told (rs : List Row) (mm : ℕ) : Type 0 where
 pub record Guarantee (strip : List ℕ) : Type 0 where
   pub judged : Judged strip (judgement strip)
   pub taken : Sound strip → ((mm : ℕ) → mm ≤ 9999 → InOne (rows strip) mm) → judgement strip ≡ verdict 0 0
-  pub told : judgement strip .code ≡ 0 → (mm : ℕ) → mm ≤ 9999 → Told (rows strip) mm
+  pub told : judgement strip .code ≡ 0 → (mm : ℕ) → mm ≤ 9999 → RowTold (rows strip) mm
   pub room : judgement strip .code ≡ 0 → length (pack strip) ≡ 192
   pub kept : judgement strip .code ≡ 0 → unpack (pack strip) ≡ some strip
   pub found : judgement strip .code ≡ 0 → (mm : ℕ) → lookUp (pack strip) mm ≡ record { code = 0; row = lookup mm (rows strip) }

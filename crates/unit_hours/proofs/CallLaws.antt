@@ -8,7 +8,7 @@ use borrow.Author.Tests.{ne-eqb, le-leb, lt-leb}
 use Rattle.model.specs.Bytes.{zeros}
 use Rattle.call_ask.specs.Lent.{lentAll}
 use Rattle.acts.specs.Many.{fetchCall}
-use Rattle.unit_shared.specs.Unit.{Lent, Left, leaves, judged, fetched, event}
+use Rattle.unit_shared.specs.Unit.{Lent, Left, leaves, asJudged, fetched, event}
 use Rattle.unit_shared.proofs.UnitLaws.{refusal, readAs, fetching}
 use Rattle.unit_hours_book.specs.Pump.{pumpOf}
 use Rattle.unit_hours_book.specs.declared.Pump.{Pump}
@@ -18,9 +18,9 @@ use Rattle.unit_hours_book.specs.declared.Due.{Due}
 use Rattle.unit_hours.specs.Calls.{pumpHome, known, judge, eventCall, Hours, hoursTold, pumpTells, hoursIn, hoursCall, Services, servicesTold, dueTells, servicesOf, servicesCall}
 
 -- what the pump's block answers an event and holds then
-pub judging : (e : Event) (block : List ℕ) {answer : ℕ} {next : List ℕ} → blockLeft answer next ≡ applied block e → judged answer next ≡ judge e block
+pub judging : (e : Event) (block : List ℕ) {answer : ℕ} {next : List ℕ} → blockLeft answer next ≡ applied block e → asJudged answer next ≡ judge e block
 unfolding judge
-judging e block q = ap (λ o. judged (o .code) (o .block)) q
+judging e block q = ap (λ o. asJudged (o .code) (o .block)) q
 
 module _ (l : Lent) (writer pump : ℕ) where
   -- ---- events

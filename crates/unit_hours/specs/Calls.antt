@@ -5,7 +5,7 @@ use mathlib.Core.Bool.{Bool, cond}
 use mathlib.Core.List.{List}
 use lib.Dec.{eqb, leb}
 use Rattle.model.specs.Calls.{Outcome}
-use Rattle.unit_shared.specs.Unit.{Lent, Left, untouched, Judged, judged, fetched, event}
+use Rattle.unit_shared.specs.Unit.{Lent, Left, untouched, Judged, asJudged, fetched, event}
 use Rattle.unit_hours_book.specs.Pump.{pumpOf}
 use Rattle.unit_hours_book.specs.declared.Pump.{Pump}
 use Rattle.unit_hours_book.specs.Events.{Event, applied}
@@ -23,7 +23,7 @@ known pump = leb pump 7
 
 -- "15 start while running or stop while idle; 16 a second before the pump's last event, or a total or start count past 32 bits"
 unfoldable pub judge : Event → List ℕ → Judged
-judge e block = judged (applied block e .code) (applied block e .block)
+judge e block = asJudged (applied block e .code) (applied block e .block)
 
 -- "14 comes before the store's questions, 15 and 16 after its 1, 2, 4 and 5 and before the rest"
 unfoldable pub eventCall : Lent → ℕ → ℕ → Event → Left

@@ -14,7 +14,7 @@ use Rattle.model.specs.History.{World, lent}
 use Rattle.acts.specs.Units.{Act, revises, transacts, transactEnds, reviseEnds, act, acted, leftBy as left-in}
 use Rattle.theorems.proofs.claims.ActsHold.{revise-stays}
 use Rattle.unit_events.specs.Folded.{offers, sets, first, readFor, eventAnswer, storing, actsOf, answered, stepped}
-use Rattle.unit_shared.specs.Unit.{Lent, Left, Judged, judged, untouched, leftBy, revised, transacted, stored, afterReading, event}
+use Rattle.unit_shared.specs.Unit.{Lent, Left, Judged, asJudged, untouched, leftBy, revised, transacted, stored, afterReading, event}
 use Rattle.unit_shared.specs.Moments.{lentIn, Leaves, EventStands, SetStands}
 
 none-read : (w : World) (batch : List ℕ) → w .pending ++ readBatch (take 0 batch) ≡ w .pending
@@ -44,7 +44,7 @@ module _ {E : Type 0} (home n : ℕ) (judge : List ℕ → E → ℕ) (apply : L
   o = readFor home n judge apply w writer
 
   abbrev rule : List ℕ → Judged
-  rule blocks = judged (judge blocks e) (apply blocks e)
+  rule blocks = asJudged (judge blocks e) (apply blocks e)
 
   abbrev call : Left
   call = event (lentIn w batch) writer home n rule

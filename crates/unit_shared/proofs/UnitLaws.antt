@@ -8,7 +8,7 @@ use Rattle.model.specs.Bytes.{zeros}
 use Rattle.model.specs.Calls.{Outcome}
 use Rattle.call_ask.specs.Lent.{lentAll, leavesAll}
 use Rattle.acts.specs.Many.{fetchCall, reviseCall, transactCall}
-use Rattle.unit_shared.specs.Unit.{Lent, Left, leaves, untouched, leftBy, fetched, revised, transacted, Judged, judged, stored, afterReading, event}
+use Rattle.unit_shared.specs.Unit.{Lent, Left, leaves, untouched, leftBy, fetched, revised, transacted, Judged, asJudged, stored, afterReading, event}
 
 -- what a call that reads is given: its answer and the blocks, all else as it was
 abbrev pub readAs : Lent → ℕ → ℕ → ℕ → List ℕ → Outcome
@@ -32,14 +32,14 @@ module _ (l : Lent) where
 
     -- an event that is judged
     pub not-stored : (answer : ℕ) (next : List ℕ) {code figure size : ℕ} → answer ≢ 0 → code ≡ answer → figure ≡ 0 → size ≡ 0
-        → leaves code figure size (l .log) (l .area) (l .state) (l .newest) (l .batch) ≡ stored l writer home (judged answer next)
+        → leaves code figure size (l .log) (l .area) (l .state) (l .newest) (l .batch) ≡ stored l writer home (asJudged answer next)
     unfolding stored
     not-stored answer next h ec ef es = rw (ne-eqb answer 0 h) (refusal answer 0 ec ef es)
 
     pub is-stored : (answer : ℕ) (next : List ℕ) {code figure size : ℕ} {log state newest batch : List ℕ} → answer ≡ 0
         → leavesAll code figure size log (l .area) state newest next batch
         ≡ transactCall (lentAll (l .log) (l .area) (l .state) (l .newest) next (l .batch) writer home)
-        → leaves code figure size log (l .area) state newest batch ≡ stored l writer home (judged answer next)
+        → leaves code figure size log (l .area) state newest batch ≡ stored l writer home (asJudged answer next)
     unfolding stored
     is-stored answer next h t = rw h (transaction next t)
 
@@ -66,7 +66,7 @@ module _ (l : Lent) where
           event-unread h ec ef es = rw (← reading, ne-eqb code 0 h) (refusal code 0 ec ef es)
 
           -- it is read, and ends by its own answer
-          pub event-read : code ≡ 0 → (answer : ℕ) (next : List ℕ) → judged answer next ≡ judge blocks → {x : Left}
-              → x ≡ stored l writer home (judged answer next) → x ≡ event l writer home n judge
+          pub event-read : code ≡ 0 → (answer : ℕ) (next : List ℕ) → asJudged answer next ≡ judge blocks → {x : Left}
+              → x ≡ stored l writer home (asJudged answer next) → x ≡ event l writer home n judge
           unfolding event afterReading
           event-read done answer next j q = rw (← reading, done, ← j) q

@@ -7,7 +7,7 @@ use Rattle.model.specs.Bytes.{zeros}
 use Rattle.model.specs.Batch.{readBatch}
 use Rattle.model.specs.History.{World}
 use Rattle.unit_events.specs.Folded.{offers, sets, answered, stepped}
-use Rattle.unit_shared.specs.Unit.{Lent, lentTo, Left, judged, transacted, event}
+use Rattle.unit_shared.specs.Unit.{Lent, lentTo, Left, asJudged, transacted, event}
 
 -- strip, newest positions and copies as the program has them, and a batch buffer
 abbrev pub lentIn : World → List ℕ → Lent
@@ -25,9 +25,9 @@ pub record Leaves (w next : World) (l : Left) : Type 0 where
 pub record EventStands {E : Type 0} (home n : ℕ) (judge : List ℕ → E → ℕ) (apply : List ℕ → E → List ℕ) (w : World) (writer : ℕ) (e : E) (batch : List ℕ) : Type 0 where
   pub leaves :
       Leaves w (stepped home n judge apply w (offers writer e batch))
-      (event (lentIn w batch) writer home n (λ blocks. judged (judge blocks e) (apply blocks e)))
+      (event (lentIn w batch) writer home n (λ blocks. asJudged (judge blocks e) (apply blocks e)))
   pub code :
-      event (lentIn w batch) writer home n (λ blocks. judged (judge blocks e) (apply blocks e)) .code ≡ answered home n judge apply w writer e batch
+      event (lentIn w batch) writer home n (λ blocks. asJudged (judge blocks e) (apply blocks e)) .code ≡ answered home n judge apply w writer e batch
 
 -- a call that stores without reading is its step
 abbrev pub SetStands : {E : Type 0} → ℕ → ℕ → (List ℕ → E → ℕ) → (List ℕ → E → List ℕ) → World → ℕ → E → List ℕ → Type 0

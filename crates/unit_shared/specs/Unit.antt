@@ -61,8 +61,8 @@ pub record Judged : Type 0 where
   pub code : ℕ
   pub blocks : List ℕ
 
-abbrev pub judged : ℕ → List ℕ → Judged
-judged code blocks = record { code = code; blocks = blocks }
+abbrev pub asJudged : ℕ → List ℕ → Judged
+asJudged code blocks = record { code = code; blocks = blocks }
 
 unfoldable pub stored : Lent → ℕ → ℕ → Judged → Left
 stored l writer home j = cond (eqb (j .code) 0) (transacted l writer home (j .blocks)) (untouched l (j .code) 0)

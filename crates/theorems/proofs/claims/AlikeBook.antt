@@ -9,7 +9,7 @@ use lib.ListN.{length}
 use borrow.Author.Tests.{eqb-true}
 use Rattle.model.specs.Bytes.{zeros}
 use Rattle.model.specs.Layout.{homeAt}
-use Rattle.model.specs.Book.{Entry, Commit, Held, Task, opened, Book, setTask, withTask, begin, abort, entryOf, submit, grown, filledUp, hold, storeTask, store, addCommit, commitTask, commit, flush, owedBy, withCommits, writeEntries, writeCommits, homesAfter, newestEntry, heldOr, ownOr, reads}
+use Rattle.model.specs.Book.{Entry, Commit, Held, Task, opened, Book, setTask, withTask, begin, abort, entryOf, submit, grown, filledUp, hold, storeTask, store, addCommit, commitTask, commit, flush, owedBy, withCommits, writeEntries, writeCommits, homesAfter, newestEntry, heldOr, ownOr, readBy}
 use Rattle.model.specs.History.{Change, begins, reserves, aborts, stores, commits, flushes, Call, opening, confirm, change, service, feed, feedChange, isOpening}
 use Rattle.theorems.specs.Isolation.{Each, both, more, EntryAlike, CommitAlike, HeldAlike, TaskAlike, idles, empties, holds, CallAlike, equal, stored}
 use Rattle.model_laws.proofs.bytes.ByteLaws.{length-zeros}
@@ -174,6 +174,6 @@ module _ (hidden : ℕ → Bool) where
 
       -- a writer reads it the same
       pub reads-alike : {b d : Book} (w : ℕ) → BookAlike b d → All (CommitFits D) (b .commits) → All (CommitFits D) (d .commits)
-          → reads D b w h ≡ reads D d w h
-      unfolding reads
+          → readBy D b w h ≡ readBy D d w h
+      unfolding readBy
       reads-alike w a f g = own-alike (a .tasks w) (homes-alike (a .commits) f g)

@@ -6,7 +6,7 @@ use lib.Dec.{eqb, leb}
 use lib.ListN.{length, getD}
 use Rattle.model.specs.Book.{Book}
 use Rattle.model.specs.History.{Change, begins, reserves, aborts, stores, commits, flushes, Service, settles, trims, reads, roundBegins, roundSteps, Call, opening, confirm, change, service, isOpening}
-use Rattle.abstract_store.specs.Store.{Store, nextGroup, nextStart, toStep, storeMustLog, lastAfter, fencedAfter, setFor, promisesAfter, numbered, inRound, roundOver, trimmedTo, afterService, afterDone, Reply, afterReply}
+use Rattle.abstract_store.specs.Store.{Store, nextGroup, nextStart, toStep, storeMustLog, lastAfter, fencedAfter, setFor, promisesAfter, numbered, withRound, roundOver, trimmedTo, afterService, afterDone, Reply, afterReply}
 use Rattle.theorems.specs.Isolation.{StoreAlike, CallAlike, equal, stored}
 use Rattle.theorems.proofs.claims.AlikeBook.{BookAlike, feed-alike, flush-alike}
 use Rattle.theorems.proofs.claims.AlikeReplies.{first-alike, group-alike, start-alike, step-alike, store-logs-alike}
@@ -48,8 +48,8 @@ module _ (hidden : ℕ → Bool) where
       }
 
   round-alike : {s t : Store} (round cursor round′ cursor′ : ℕ) → round ≡ round′ → cursor ≡ cursor′ → StoreAlike hidden s t
-      → StoreAlike hidden (inRound s round cursor) (inRound t round′ cursor′)
-  unfolding inRound
+      → StoreAlike hidden (withRound s round cursor) (withRound t round′ cursor′)
+  unfolding withRound
   round-alike round cursor round′ cursor′ e f a =
       record {
         groups = a .groups;

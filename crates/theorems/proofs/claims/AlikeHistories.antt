@@ -13,7 +13,7 @@ use Rattle.model.specs.Effects.{Given, Effect, readEffect}
 use Rattle.model.specs.Rights.{mayRead}
 use Rattle.model.specs.Questions.{ask, readAnswer}
 use Rattle.model.specs.Calls.{Outcome, refused, done, outcome, readCall}
-use Rattle.model.specs.Book.{Commit, Book, reads as readBy}
+use Rattle.model.specs.Book.{Commit, Book, readBy}
 use Rattle.model.specs.Book as book
 use Rattle.model.specs.History.{Call, read, Event, call, crash, World, lent, ends, serviceEnds, isOpening, afterDone, afterRefused, afterCall, afterCrash, rowFates, feed, step, after, AllAllowed}
 use Rattle.model.specs.Demands.{LiveThroughout}

@@ -17,7 +17,7 @@ use Rattle.model.specs.Rights.{forHome, readList, readRight}
 use Rattle.model.specs.Questions.{areasRight, stateRight, newestRight, blockRight, stripInOrder, writerKnown, homeKnown, readAllowed, askBoth, readAnswer}
 use Rattle.model.specs.Calls.{done, outcome, readCall}
 use Rattle.acts.specs.Many.{blocksLent, blocksRead, fetchEffect, mayReadAll, fetchAnswer, reviseAnswer, fetchCall, reviseCall}
-use Rattle.model.specs.Book.{reads as readBy}
+use Rattle.model.specs.Book.{readBy}
 use Rattle.model.specs.Demands.{Live}
 use Rattle.model.specs.History.{read, World, afterFormat, lent, ends, serviceEnds}
 use Rattle.abstract_store.specs.Store.{newStore}

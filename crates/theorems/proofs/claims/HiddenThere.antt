@@ -14,7 +14,7 @@ use Rattle.model.specs.Trials.{fill}
 use mathlib.Core.Option.{none, some}
 use Rattle.model.specs.Book.{Entry, Commit, Task, idle, opened}
 use Rattle.model.specs.History.{Call, Event, call, World, Formatting, afterFormat, emptyStore, unopened, ends, isOpening, step, after, AllAllowed}
-use Rattle.abstract_store.specs.Store.{Store, newStore, firstGroup, numbered, inRound, listOf, lastAfter, fencedAfter, setFor, promisesAfter, storeMustLog, Reply, replyOf, afterService, afterReply, follow}
+use Rattle.abstract_store.specs.Store.{Store, newStore, firstGroup, numbered, withRound, listOf, lastAfter, fencedAfter, setFor, promisesAfter, storeMustLog, Reply, replyOf, afterService, afterReply, follow}
 use Rattle.abstract_store.specs.Store as abstract-store
 use Rattle.theorems.specs.Isolation.{Each, both, more, EntryAlike, CommitAlike, TaskAlike, idles, empties, holds, StoreAlike, CallAlike, equal, stored, followed, Denied, DeniedThroughout, ToldSameThroughout}
 use Rattle.model.specs.Witnesses.{calls}
@@ -182,7 +182,7 @@ stores-alike =
     listing-answers listing-alike (store-self fourth first)
 
 never-four : neverFour (followed (newStore 4 12) (emptyStore 4 12) (calls (listedBefore 1))) (after (emptyStore 4 12) (calls (listedBefore 1))) (calls (bothAtWork 2)) ≡ true
-unfolding all-definitions listedOf setListed freshNumbers carryListed listSign setListSign sameListed listMoved signFor signIf keepList signedList storeRight readRight forHome shownAt listBy storeList readList ofList isList inRange inRanges mayStore mayRead storeAllowed readAllowed rangeOf firstWriters nextWriters firstOpening listing listedBefore bothAtWork newStore firstGroup numbered inRound listOf lastAfter fencedAfter setFor promisesAfter storeMustLog replyOf afterReply follow followed calls afterService abstract-store.afterDone neverFour
+unfolding all-definitions listedOf setListed freshNumbers carryListed listSign setListSign sameListed listMoved signFor signIf keepList signedList storeRight readRight forHome shownAt listBy storeList readList ofList isList inRange inRanges mayStore mayRead storeAllowed readAllowed rangeOf firstWriters nextWriters firstOpening listing listedBefore bothAtWork newStore firstGroup numbered withRound listOf lastAfter fencedAfter setFor promisesAfter storeMustLog replyOf afterReply follow followed calls afterService abstract-store.afterDone neverFour
 never-four = refl
 
 -- ---- so writer 1 is told the same

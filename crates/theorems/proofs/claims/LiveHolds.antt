@@ -19,7 +19,7 @@ use Rattle.model.specs.declared.Writer.{Writer}
 use Rattle.model.specs.Effects.{Given, groups, homes, replayed, liveTags, liveBase, newestOwn, newestCommitted, blockOr, current, ownElse, visible, shown, readEffect}
 use Rattle.model.specs.Questions.{writerKnown, homeKnown, readAnswer}
 use Rattle.model.specs.Calls.{Outcome, done, readCall}
-use Rattle.model.specs.Book.{Entry, Commit, Task, homesAfter, newestEntry, heldOr, ownOr, reads}
+use Rattle.model.specs.Book.{Entry, Commit, Task, homesAfter, newestEntry, heldOr, ownOr, readBy}
 use Rattle.model.specs.Demands.{foundIn, untrimmed, closedBelow, Live}
 use Rattle.model.specs.History.{World, lent, ends, read, serviceEnds}
 use Rattle.model_laws.proofs.bytes.LayoutLaws.{groups-in}
@@ -207,8 +207,8 @@ module _ (G D b : ℕ) (tr : List Ev) (old : List Commit) (w : World) (z : Sizes
             (unfold lent in newest-entries g b tr h (hist (7 * b) tr .openOf v) other
             (all-map (Shown G D b tr w) (Seen g b tr) seen (hist (7 * b) tr .openOf v) (open-shown G D b tr w z c v o))))
 
-    visible-is : v < 8 → h < D → visible g ≡ reads D (w .book) v h
-    unfolding visible ownElse reads lent
+    visible-is : v < 8 → h < D → visible g ≡ readBy D (w .book) v h
+    unfolding visible ownElse readBy lent
     visible-is l d = rw (current-is d) (own-is l (homeAt (homesAfter D (w .book .commits)) h))
 
 -- a read shows what the commit rule finds (proofs/claims/KeptHolds)
@@ -224,20 +224,20 @@ module _ (G D : ℕ) (z : Sizes G D) (w : World) (r : Running G D w)
   home-below v h block d = ltb-true h D (rw (lent-homes G D (r .b) (r .tr) w z (r .copies) block [] v h) at d)
 
   read-is : (v h : ℕ) (block : List ℕ) → writerKnown (lent w block [] v h) ≡ true → h < D
-      → ownElse (lent w block [] v h) (shown (lent w block [] v h)) ≡ reads D (w .book) v h
+      → ownElse (lent w block [] v h) (shown (lent w block [] v h)) ≡ readBy D (w .book) v h
   unfolding writerKnown
   read-is v h block l d =
       ap (ownElse (lent w block [] v h)) (shows block v h d)
       ∙ (unfold visible lent in visible-is G D (r .b) (r .tr) (r .old) w z (r .commits) (r .copies) block v h (ltb-true v 8 l) d)
 
-  pub read-yields : (v h : ℕ) (block : List ℕ) → ends w (read v h block) .code ≡ 0 → ends w (read v h block) .block ≡ reads (w .homes) (w .book) v h
+  pub read-yields : (v h : ℕ) (block : List ℕ) → ends w (read v h block) .code ≡ 0 → ends w (read v h block) .block ≡ readBy (w .homes) (w .book) v h
   unfolding ends serviceEnds readCall done readEffect
   read-yields v h block e =
       let g : Given = lent w block [] v h in
       let a : readAnswer g ≡ 0 = sym (outcome-code g (readAnswer g) (readEffect g)) ∙ e in
       let k = read-ready g a in
       ap (λ (o : Outcome). o .block) (outcome-done g (readAnswer g) (readEffect g) a) ∙ read-is v h block (k .2) (home-below v h block (k .3))
-      ∙ ap (λ (n : ℕ). reads n (w .book) v h) (sym (r .copies .homes))
+      ∙ ap (λ (n : ℕ). readBy n (w .book) v h) (sym (r .copies .homes))
 
   pub live-holds : Live w
   live-holds =

@@ -18,11 +18,11 @@ use Rattle.model.specs.Calls.{Outcome, sizeOf, storeCall}
 use mathlib.Core.Option.{Option}
 use Rattle.model.specs.Book.{Landing, row, persisted, Entry, Held, Task, idle, opened, Book}
 use Rattle.model.specs.Book as book
-use Rattle.model.specs.Demands.{free as mayBe, landsBefore, someBefore, openBefore, anyOpenBefore, anyAcross}
+use Rattle.model.specs.Demands.{mayStartAt as mayBe, landsBefore, someBefore, openBefore, anyOpenBefore, anyAcross}
 use Rattle.model.specs.History.{Change, begins, reserves, aborts, stores, commits, flushes, Service, settles, trims, Call, opening, confirm, change, service, flush, settle, trim, Event, call, crash, World, unopened, emptyStore, lent, ends, changeEnds, feed, feedChange, isOpening, afterDone, afterCall, afterCrash, step, Allowed, AllAllowed}
-use Rattle.abstract_store.specs.Store.{Store, newStore, firstGroup, nextGroup, nextOf, placesLeft, promisedTo, mayFlush, isIdle, manyHomes, toSettle, mayStart, nextStart, Reply, told, askBatch, replyChange, replyService, reply, replyOf, numbered, inRound, fencedAfter, trimmedTo, afterService, afterReply, follow}
+use Rattle.abstract_store.specs.Store.{Store, newStore, firstGroup, nextGroup, nextOf, placesLeft, promisedTo, mayFlush, isIdle, manyHomes, toSettle, mayStart, nextStart, Reply, told, askBatch, replyChange, replyService, reply, replyOf, numbered, withRound, fencedAfter, trimmedTo, afterService, afterReply, follow}
 use Rattle.abstract_store.specs.Store as store
-use Rattle.abstract_store.specs.Places.{Fate, liesAt, anyAt, taskAt, enter, enterCall, enterEvent, Accounted, AllIdle, Drained, drained, HeldBack, Told, AccountedThroughout, PlacesAccounted}
+use Rattle.abstract_store.specs.Places.{Fate, liesAt, anyAt, taskAt, enter, enterCall, enterEvent, Accounted, AllIdle, Drained, drained, HeldBack, PlacesTold, AccountedThroughout, PlacesAccounted}
 use Rattle.model_laws.proofs.state.QuestionLaws.{ask-passed, and-true, store-ready}
 use Rattle.model_laws.proofs.trace.Trace.{Ev, hist, closerOf, Apart}
 use Rattle.model_laws.proofs.trace.TraceLaws.{Rising, done-rising}
@@ -210,7 +210,7 @@ module _ (G D : ℕ) (z : Sizes G D) (w : World) (r : Running G D w) (s : Store)
 
 led-opening : (G D : ℕ) (z : Sizes G D) (w : World) → Closed G D w → (s : Store) → Agrees G D w s → (state newest batch : List ℕ) → (fs : List Fate)
     → ends w (opening state newest batch) .code ≡ 0 → LedBy (store.afterDone s (opening state newest batch) (ends w (opening state newest batch) .figure)) (enterCall s (opening state newest batch) fs)
-unfolding store.afterDone numbered enterCall feed firstGroup inRound
+unfolding store.afterDone numbered enterCall feed firstGroup withRound
 led-opening G D z w k s a state newest batch fs h =
     subst (λ (b : Book). Led (s .head + s .groups) (book.withCommits b (book.owedAll (b .commits))) []) (sym (a .book))
     (opened-led D (s .head + s .groups) (w .book) (k .rows) (k .filled) (k .tasks) (k .past))
@@ -563,7 +563,7 @@ module _ (G D : ℕ) (z : Sizes G D) (w : World) (r : Running G D w) (s : Store)
 -- ---- every history
 
 module _ (G D : ℕ) (z : Sizes G D) where
-  told-all : (w : World) → Invariant G D w → (s : Store) → Agrees G D w s → (fs : List Fate) → (w .ready ≡ true → LedBy s fs) → w .ready ≡ true → Told w s fs
+  told-all : (w : World) → Invariant G D w → (s : Store) → Agrees G D w s → (fs : List Fate) → (w .ready ≡ true → LedBy s fs) → w .ready ≡ true → PlacesTold w s fs
   told-all w (inl k) s a fs l h = absurd (false≢true (sym (k .ready) ∙ h))
   told-all w (inr r) s a fs l h =
       record {

@@ -12,7 +12,7 @@ use Rattle.model.specs.Effects.{Given, Effect, newState, beginRoundEffect, step
 use Rattle.model.specs.Questions.{beginRoundAnswer, stepRoundAnswer}
 use Rattle.model.specs.Calls.{Outcome, done, sizeOf, beginRoundCall, stepRoundCall}
 use Rattle.model.specs.History.{roundBegins, roundSteps, service, World, lent, ends, serviceEnds}
-use Rattle.abstract_store.specs.Store.{Store, numbered, inRound, roundOver, afterService}
+use Rattle.abstract_store.specs.Store.{Store, numbered, withRound, roundOver, afterService}
 use Rattle.model_laws.proofs.state.QuestionLaws.{begin-round-ready, step-round-ready}
 use Rattle.theorems.proofs.invariant.Invariant.{Sizes, Running}
 use Rattle.theorems.proofs.steps.DoneLaws.{outcome-code}
@@ -44,7 +44,7 @@ module _ (G D : ℕ) (z : Sizes G D) (w : World) (r : Running G D w) (s : Store)
     begun-none = lent-out w [] (begin-round-ready g (sym (outcome-code g (beginRoundAnswer g) (beginRoundEffect g)) ∙ h) .1)
 
     pub begin-round-numbers : Numbers (afterService s roundBegins) (stateOf (ends w (service roundBegins) .state))
-    unfolding afterService inRound
+    unfolding afterService withRound
     begin-round-numbers =
         rw (begun-state)
         (unfold beginRoundEffect newState lent in
@@ -90,10 +90,10 @@ module _ (G D : ℕ) (z : Sizes G D) (w : World) (r : Running G D w) (s : Store)
     step-round-numbers = rw (step-state, ← remaining-is G D z w r s a under) (go (leb (length rest) k) refl)
       where
         go : (d : Bool) → leb (length rest) k ≡ d
-            → Numbers (cond d (roundOver s) (inRound s (s .round) (getD rest (k - 1) 0 + 1))) (stateOf (stepped G D z w r under k d .state))
+            → Numbers (cond d (roundOver s) (withRound s (s .round) (getD rest (k - 1) 0 + 1))) (stateOf (stepped G D z w r under k d .state))
         go true e =
             rw (ended-numbers G D z w r under)
-            (unfold roundOver inRound numbered in
+            (unfold roundOver withRound numbered in
             (record {
               start = n .start;
               settled = unfold fixedIn in ap (λ (x : ℕ). x - 1) (n .round);
@@ -105,7 +105,7 @@ module _ (G D : ℕ) (z : Sizes G D) (w : World) (r : Running G D w) (s : Store)
             }))
         go false e =
             rw (moved-numbers G D z w r under k one (leb-false (length rest) k e))
-            (unfold inRound in
+            (unfold withRound in
             (record {
               start = n .start;
               settled = n .settled;

@@ -22,7 +22,7 @@ use Rattle.model.specs.Book.{Book, homesAfter, run}
 use Rattle.model.specs.Book as book
 use Rattle.model.specs.Demands.{untrimmed}
 use Rattle.model.specs.History.{Change, begins, reserves, aborts, stores, commits, flushes, Service, settles, trims, reads, Call, opening, confirm, change, service, Event, call, crash, World, unopened, emptyStore, lent, loaded, ends, changeEnds, serviceEnds, feed, isOpening, afterDone, afterCall, afterCrash, step, Allowed, rowFates, roundBegins, roundSteps, reserve, abort, store, commit}
-use Rattle.abstract_store.specs.Store.{Store, newStore, firstGroup, nextGroup, replyOf, storeMustLog, lastAfter, fencedAfter, setFor, promisesAfter, numbered, trimmedTo, afterService, afterReply, follow, foundInMemory, inRound}
+use Rattle.abstract_store.specs.Store.{Store, newStore, firstGroup, nextGroup, replyOf, storeMustLog, lastAfter, fencedAfter, setFor, promisesAfter, numbered, trimmedTo, afterService, afterReply, follow, foundInMemory, withRound}
 use Rattle.abstract_store.specs.Store as store
 use Rattle.model_laws.proofs.bytes.LayoutLaws.{groups-in, homes-in}
 use Rattle.model_laws.proofs.state.StateLaws.{withStart, withFenced, withSettled, withLast, withDurable, withNext, withFilled, length-setNext, length-setFilled, state-setNext, state-setFilled, state-setFenced, state-setDurable, state-setLast, length-setLast}
@@ -589,7 +589,7 @@ module _ (G D : ℕ) (z : Sizes G D) (w : World) (c : Closed G D w) (s : Store) 
   opened-numbers =
       let m : b ≤ 2 ^ 47 = opened-small in
       rw (opened-state, state-fresh G D b _ (omega (arith, z .high)) (omega (arith, z .homes)) (omega arith))
-      (unfold inRound numbered in
+      (unfold withRound numbered in
       (record {
         start = opened-first;
         settled = omega (arith, opened-first);
@@ -610,14 +610,14 @@ module _ (G D : ℕ) (z : Sizes G D) (w : World) (c : Closed G D w) (s : Store) 
   unfolding afterDone
   opened-agrees =
       record {
-        groups = unfold store.afterDone inRound numbered in a .groups;
-        homes = unfold store.afterDone inRound numbered in a .homes;
-        head = unfold store.afterDone inRound numbered in a .head;
-        found = unfold store.afterDone inRound numbered in a .found;
-        book = unfold store.afterDone inRound numbered in ap (λ (x : Book). feed x (opening state newest batch) (ends w (opening state newest batch) .figure)) (a .book);
+        groups = unfold store.afterDone withRound numbered in a .groups;
+        homes = unfold store.afterDone withRound numbered in a .homes;
+        head = unfold store.afterDone withRound numbered in a .head;
+        found = unfold store.afterDone withRound numbered in a .found;
+        book = unfold store.afterDone withRound numbered in ap (λ (x : Book). feed x (opening state newest batch) (ends w (opening state newest batch) .figure)) (a .book);
         numbers = λ k. opened-numbers;
         newest = λ k. opened-newest;
-        promises = λ k x l. unfold store.afterDone inRound numbered in sym (ap (λ (t : List ℕ). promiseOf t x) opened-state ∙ promise-fresh G D b _ x l);
+        promises = λ k x l. unfold store.afterDone withRound numbered in sym (ap (λ (t : List ℕ). promiseOf t x) opened-state ∙ promise-fresh G D b _ x l);
       }
 
 -- ---- a call, done or refused

@@ -18,7 +18,7 @@ use Rattle.model.specs.Effects.{Given, Effect, groups, homes, newState, trimSta
 use Rattle.model.specs.Questions.{trimAnswer, startFits}
 use Rattle.model.specs.Calls.{Outcome, outcome, done, sizeOf, trimCall}
 use Rattle.model.specs.Book.{Landing, row, persisted, Entry, Commit, Task, idle, opened}
-use Rattle.model.specs.Demands.{firstGroup, landsBefore, someBefore, across, anyAcross, openBefore, anyOpenBefore, free, Trimmed}
+use Rattle.model.specs.Demands.{firstRowGroup, landsBefore, someBefore, across, anyAcross, openBefore, anyOpenBefore, mayStartAt, Trimmed}
 use Rattle.model.specs.History.{Call, trim, World, lent, ends, serviceEnds}
 use Rattle.model_laws.proofs.state.StateLaws.{withStart, withFenced, withLast, state-setStart, length-setStart, state-setFenced, length-setFenced, state-setLast}
 use Rattle.model_laws.proofs.state.ListedLaws.{state-carry}
@@ -168,16 +168,16 @@ module _ (b q : ℕ) (tr : List Ev) (r : Writer) (held : List ℕ) (high : ℕ) 
 
 module _ (G D : ℕ) (z : Sizes G D) (w : World) (r : Running G D w) where
   -- the group of the book's row 0
-  pub first-group : firstGroup w ≡ r .b
-  unfolding firstGroup
+  pub first-group : firstRowGroup w ≡ r .b
+  unfolding firstRowGroup
   first-group = rw (groups-are G D z w r) (sym (r .since))
 
   across-are : (q : ℕ) → anyAcross (r .b) q (w .book .commits) ≡ anyAcross (r .b) q (r .commits .new)
   across-are q = ap (anyAcross (r .b) q) (r .commits .split) ∙ across-old D (r .b) q (r .old) (r .commits .new) (r .commits .past)
 
   -- the log may start at s, by the book, just if it may by the trace
-  pub may-free : (s : ℕ) → MayMove G D w r s → free w s ≡ true
-  unfolding free
+  pub may-free : (s : ℕ) → MayMove G D w r s → mayStartAt w s ≡ true
+  unfolding mayStartAt
   may-free s t =
       rw (
         first-group,
@@ -189,8 +189,8 @@ module _ (G D : ℕ) (z : Sizes G D) (w : World) (r : Running G D w) where
             (hist (7 * r .b) (r .tr) .openOf x) (open-falling (7 * r .b) (r .tr) x) (w .book .tasks x) (r .copies .tasks x l) (t .opens x l)),
       )
 
-  pub free-may : (s : ℕ) → stateOf (w .state) .start ≤ s → 7 * s ≤ stateOf (w .state) .settled → free w s ≡ true → MayMove G D w r s
-  unfolding free
+  pub free-may : (s : ℕ) → stateOf (w .state) .start ≤ s → 7 * s ≤ stateOf (w .state) .settled → mayStartAt w s ≡ true → MayMove G D w r s
+  unfolding mayStartAt
   free-may s l u h =
       let k = and-true (not (anyAcross (r .b) (7 * s) (w .book .commits))) (not (anyOpenBefore (r .b) (7 * s) (w .book .tasks) 8)) (rw first-group at h) in
       record {
@@ -215,7 +215,7 @@ module _ (G D : ℕ) (z : Sizes G D) (w : World) (r : Running G D w) where
         furthest = λ s u h. go s u h (decLt s (stateOf (w .state) .start)) (t .from);
       }
     where
-      go : (s : ℕ) → 7 * s ≤ stateOf (w .state) .settled → free w s ≡ true → Dec (s < stateOf (w .state) .start)
+      go : (s : ℕ) → 7 * s ≤ stateOf (w .state) .settled → mayStartAt w s ≡ true → Dec (s < stateOf (w .state) .start)
           → stateOf (w .state) .start ≤ trimStart (lent w [] batch 0 0) → s ≤ trimStart (lent w [] batch 0 0)
       go s u h (yes l) f = omega arith
       go s u h (no l) f = trim-most G D z w r batch s (free-may s (omega arith) u h)

@@ -18,7 +18,7 @@ use Rattle.model.specs.Questions.{askState}
 use Rattle.model.specs.Book.{Commit, Task, idle, opened, Book}
 use Rattle.model.specs.History.{Event, World, emptyStore, unopened, lent, step, AllAllowed}
 use Rattle.abstract_store.specs.Store.{Store, newStore, firstGroup, placesLeft, promisedTo, follow}
-use Rattle.abstract_store.specs.Places.{Fate, live, dead, free, many, anyAt, taskAt, commitAt, enterEvent, Accounted, HeldBack, Told, AccountedThroughout}
+use Rattle.abstract_store.specs.Places.{Fate, live, dead, free, many, anyAt, taskAt, commitAt, enterEvent, Accounted, HeldBack, PlacesTold, AccountedThroughout}
 use Rattle.abstract_store.specs.Usage.{entriesIn, committedEntries, openEntries, holderOf, usageOf, usageIf, usageCall, Usages, UsageThroughout, UsageTold}
 use Rattle.model.specs.declared.Usage.{Usage}
 use Rattle.model.specs.declared.Holder.{Holder}
@@ -227,7 +227,7 @@ module _ (G D : ℕ) (z : Sizes G D) (w : World) (r : Running G D w) where
 -- ---- every history
 
 module _ (G D : ℕ) (z : Sizes G D) where
-  told : (w : World) → Invariant G D w → (s : Store) → Agrees G D w s → (fs : List Fate) → All Known fs → (w .ready ≡ true → Told w s fs)
+  told : (w : World) → Invariant G D w → (s : Store) → Agrees G D w s → (fs : List Fate) → All Known fs → (w .ready ≡ true → PlacesTold w s fs)
       → w .ready ≡ true → Usages w s fs
   told w (inl k) s a fs n t h = absurd (false≢true (sym (k .ready) ∙ h))
   told w (inr r) s a fs n t h = usages G D z w r s a fs (t h .accounted) n (t h .heldBack)

@@ -15,7 +15,7 @@ use Rattle.model.specs.Questions.{blockRight, writerKnown}
 use Rattle.model.specs.Book.{Task, idle, opened, Book, withTask, storeTask, entryOf, filledUp, submit}
 use Rattle.model.specs.Book as book
 use Rattle.model.specs.History.{begins, reserves, aborts, stores, commits, flushes, Service, settles, roundBegins, roundSteps, trims, reads, Call, opening, confirm, change, service, World, ends, feed, feedChange, isOpening}
-use Rattle.abstract_store.specs.Store.{Store, numbered, inRound, roundOver, trimmedTo, toStep, nextStart, promisesAfter, afterService, afterDone}
+use Rattle.abstract_store.specs.Store.{Store, numbered, withRound, roundOver, trimmedTo, toStep, nextStart, promisesAfter, afterService, afterDone}
 use Rattle.model_laws.proofs.state.ListedLaws.{listed-setNext, listed-setFilled, listed-setSettled, listed-setFenced, listed-setDurable, listed-setRound, listed-setCursor, listed-setWriter, listed-setHeld, listed-setPromise}
 use Rattle.model_laws.proofs.state.ListedLaws.{promise-carry}
 use Rattle.model_laws.proofs.state.PromiseLaws.{promise-setStart, promise-setNext, promise-setFilled, promise-setSettled, promise-setFenced, promise-setDurable, promise-setLast, promise-setRound, promise-setCursor, promise-setWriter}
@@ -204,7 +204,7 @@ frame-committed (service c) = inr (λ b f. refl)
 -- ---- the start, and the round, of the abstract store
 
 frame-start : (c : Call) → Touch logStart c ⊎ Spares logStart c
-unfolding afterDone afterService numbered inRound roundOver
+unfolding afterDone afterService numbered withRound roundOver
 frame-start (opening state newest batch) = inl (start-open state newest batch)
 frame-start confirm = inr (λ s f. refl)
 frame-start (change c) = inr (λ s f. refl)
@@ -212,7 +212,7 @@ frame-start (service (settles batch)) = inr (λ s f. refl)
 frame-start (service roundBegins) = inr (λ s f. refl)
 frame-start (service (roundSteps k batch)) = inr (λ s f. go s (leb (length (toStep s)) k))
   where
-    go : (s : Store) (d : Bool) → cond d (roundOver s) (inRound s (s .round) (getD (toStep s) (k - 1) 0 + 1)) .start ≡ s .start
+    go : (s : Store) (d : Bool) → cond d (roundOver s) (withRound s (s .round) (getD (toStep s) (k - 1) 0 + 1)) .start ≡ s .start
     go s true = refl
     go s false = refl
 frame-start (service (trims batch)) = inl (start-trim batch)
@@ -258,12 +258,12 @@ abbrev Same : Store → Store → Type 0
 Same t s = (t .groups ≡ s .groups) × (t .homes ≡ s .homes) × (t .head ≡ s .head) × (t .back ≡ s .back) × (t .book ≡ s .book) × (t .promises ≡ s .promises)
 
 service-same : (s : Store) (c : Service) → Same (afterService s c) s
-unfolding afterService numbered inRound roundOver trimmedTo
+unfolding afterService numbered withRound roundOver trimmedTo
 service-same s (settles batch) = (refl, refl, refl, refl, refl, refl)
 service-same s roundBegins = (refl, refl, refl, refl, refl, refl)
 service-same s (roundSteps k batch) = go (leb (length (toStep s)) k)
   where
-    go : (d : Bool) → Same (cond d (roundOver s) (inRound s (s .round) (getD (toStep s) (k - 1) 0 + 1))) s
+    go : (d : Bool) → Same (cond d (roundOver s) (withRound s (s .round) (getD (toStep s) (k - 1) 0 + 1))) s
     go true = (refl, refl, refl, refl, refl, refl)
     go false = (refl, refl, refl, refl, refl, refl)
 service-same s (trims batch) = go (eqb (nextStart s) (s .start))
@@ -344,7 +344,7 @@ pub record Steady (s : Store) (c : Call) (figure : ℕ) : Type 0 where
   pub book : afterDone s c figure .book ≡ feed (s .book) c figure
 
 pub steady : (s : Store) (c : Call) (figure : ℕ) → Steady s c figure
-unfolding afterDone numbered inRound
+unfolding afterDone numbered withRound
 steady s (opening state newest batch) figure = record { groups = refl; homes = refl; head = refl; back = refl; book = refl }
 steady s confirm figure = record { groups = refl; homes = refl; head = refl; back = refl; book = refl }
 steady s (change c) figure = record { groups = refl; homes = refl; head = refl; back = refl; book = refl }
