@@ -1,7 +1,7 @@
 -- The places of specs/Counted are counted so, by computation.
 use mathlib.Core.Path.{_≡_, refl}
 use mathlib.Core.Bool.{true, _&&_}
-use Rattle.model.specs.Demands.{landsBefore, someBefore, across, anyAcross, openBefore, anyOpenBefore}
+use Rattle.model.specs.DemandTwo.{landsBefore, someBefore, across, anyAcross, openBefore, anyOpenBefore}
 use Rattle.model.specs.Reservations.{promising, givingBack, closing, reserving}
 use Rattle.model.proofs.examples.Computing.{all-definitions}
 use Rattle.abstract_store.specs.Store as store

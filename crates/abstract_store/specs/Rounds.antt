@@ -12,7 +12,7 @@ use Rattle.model.specs.State.{stateOf, underWay, fixedIn}
 use Rattle.model.specs.Effects.{roundHomes}
 use Rattle.model.specs.Calls.{Outcome}
 use Rattle.model.specs.Book.{homesAfter}
-use Rattle.model.specs.Demands.{closedBelow, SettledHomes}
+use Rattle.model.specs.DemandTwo.{closedBelow, SettledHomes}
 use Rattle.model.specs.History.{Service, settles, roundBegins, roundSteps, trims, reads, Call, opening, confirm, change, service, begin, store, commit, flush, settle, beginRound, stepRound, trim, read, Event, call, crash, World, emptyStore, lent, ends, feed, step, Always}
 use Rattle.abstract_store.specs.Store.{Store, toStep, afterDone}
 

@@ -20,7 +20,7 @@ use Rattle.model.specs.Crash.{Memory, persist}
 use Rattle.model.specs.Book.{Held, Commit, Task, idle, opened, Book, run}
 use Rattle.model.specs.Book as book
 use Rattle.model.specs.History.{Change, begins, reserves, aborts, stores, commits, flushes, Service, settles, trims, reads, Call, opening, confirm, change, service, Event, call, crash, World, Formatting, afterFormat, ends, feed, rowFates, step, AllAllowed, roundBegins, roundSteps}
-use Rattle.model.specs.Demands.{eachContents, untrimmed, closedBelow, anyAcross, anyOpenBefore}
+use Rattle.model.specs.DemandTwo.{eachContents, untrimmed, closedBelow, anyAcross, anyOpenBefore}
 
 -- G and D; whether an opening is done since the last crash; the start that the header in lasting memory says, as the last crash (or format) left
 -- it, and what the run's commits that this header has not trimmed wrote: the next opening, or the last, brings these back. Then the numbers since the

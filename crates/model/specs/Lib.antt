@@ -14,7 +14,8 @@ pub mod Refusals
 pub mod Crash
 pub mod Book
 pub mod History
-pub mod Demands
+pub mod DemandThree
+pub mod DemandTwo
 pub mod Trials
 pub mod Witnesses
 pub mod Reservations

@@ -11,7 +11,7 @@ use lib.ListN.{take, drop}
 use Rattle.model.specs.Batch.{Record, FN}
 use Rattle.model.specs.Crash.{Memory, isFence, fences as fencesIn, persist, persistChosen, groupFate, fates, fatesChosen}
 use Rattle.model.specs.Book.{run, homesAfter}
-use Rattle.model.specs.Demands.{groupWrites}
+use Rattle.model.specs.DemandTwo.{groupWrites}
 use Rattle.model.specs.History.{World, rowFates}
 use Rattle.model_laws.proofs.trace.CrashLaws.{writeRecords, NoFence, trues, fences-append, fences-none, persist-zero, persist-stop, fates-zero, fates-stop, fates-past, fate-fence}
 use Rattle.model_laws.proofs.trace.MixLaws.{none-mixed}

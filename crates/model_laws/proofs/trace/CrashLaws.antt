@@ -14,7 +14,7 @@ use Rattle.model.specs.Batch.{Record, GW, HW, KW, FN}
 use Rattle.model.specs.Effects.{homeWrites}
 use Rattle.model.specs.Crash.{Memory, Piece, toLog, toArea, blocks, pieces, write, writeEach, writeIf, writeChosen, many, isFence, fences, persistChosen, persist, groupFate, fatesChosen, fates}
 use Rattle.model.specs.Book.{fateAt}
-use Rattle.model.specs.Demands.{groupWrites}
+use Rattle.model.specs.DemandTwo.{groupWrites}
 use Rattle.model_laws.proofs.bytes.ByteLaws.{length-puts}
 
 -- ---- what the laws speak of

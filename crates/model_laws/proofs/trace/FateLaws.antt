@@ -9,7 +9,7 @@ use lib.ListN.{length, drop}
 use Rattle.model.specs.Batch.{Record}
 use Rattle.model.specs.Crash.{fates}
 use Rattle.model.specs.Book.{fateAt}
-use Rattle.model.specs.Demands.{groupWrites}
+use Rattle.model.specs.DemandTwo.{groupWrites}
 use Rattle.model_laws.proofs.trace.CrashLaws.{trues, length-fates}
 
 pub fateAt-drop : (n : ℕ) (fs : List (ℕ → Bool)) (r k : ℕ) → fateAt (drop n fs) r k ≡ fateAt fs (n + r) k

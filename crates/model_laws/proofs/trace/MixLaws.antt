@@ -13,7 +13,7 @@ use Rattle.model.specs.Layout.{groupOffset}
 use Rattle.model.specs.Batch.{Record, GW, HW, KW, FN}
 use Rattle.model.specs.Effects.{homeWrites}
 use Rattle.model.specs.Crash.{Memory, Piece, toLog, toArea, blocks, pieces, write, writeIf, writeChosen, many, isFence, persistChosen, groupFate, fatesChosen}
-use Rattle.model.specs.Demands.{groupWrites}
+use Rattle.model.specs.DemandTwo.{groupWrites}
 use Rattle.model_laws.proofs.trace.CrashLaws.{writeRecords, NoFence, pieceCount, pieceCount-append, none-append, chosen-append, fate-append, chosen-all}
 
 -- ---- what the laws speak of

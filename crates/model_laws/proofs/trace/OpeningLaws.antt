@@ -12,7 +12,7 @@ use Rattle.model.specs.Layout.{groupOffset, unusedGroup, unusedSlots}
 use Rattle.model.specs.Batch.{Record, KW, FN}
 use Rattle.model.specs.Effects.{blankWrites, homeWrites}
 use Rattle.model.specs.Crash.{Memory, pieces, writeEach, isFence, fences, persistChosen, persist}
-use Rattle.model.specs.Demands.{groupWrites}
+use Rattle.model.specs.DemandTwo.{groupWrites}
 use Rattle.model_laws.proofs.bytes.ByteLaws.{puts-append}
 use Rattle.model_laws.proofs.bytes.EmptyLaws.{length-unusedGroup, length-unusedSlots}
 use Rattle.model_laws.proofs.state.BatchLaws.{AllFormed, formed-append}

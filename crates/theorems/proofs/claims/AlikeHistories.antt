@@ -16,7 +16,7 @@ use Rattle.model.specs.Calls.{Outcome, refused, done, outcome, readCall}
 use Rattle.model.specs.Book.{Commit, Book, readBy}
 use Rattle.model.specs.Book as book
 use Rattle.model.specs.History.{Call, read, Event, call, crash, World, lent, ends, serviceEnds, isOpening, afterDone, afterRefused, afterCall, afterCrash, rowFates, feed, step, after, AllAllowed}
-use Rattle.model.specs.Demands.{LiveThroughout}
+use Rattle.model.specs.DemandTwo.{LiveThroughout}
 use Rattle.abstract_store.specs.Store.{Store, listOf, Reply, told, replyService, reply, replyOf, afterReply, follow, AnswersThroughout}
 use Rattle.abstract_store.specs.Store as store
 use Rattle.theorems.specs.Isolation.{Each, both, more, StoreAlike, CallAlike, equal, stored, followed, Denied, DeniedThroughout, ToldSame, ToldSameThroughout}

@@ -14,7 +14,7 @@ use Rattle.model.specs.State.{listHome}
 use Rattle.model.specs.Effects.{largest}
 use Rattle.model.specs.Rights.{ofList, isList, mayStore, mayRead}
 use Rattle.model.specs.Book.{Entry, Commit, Task, homesAfter}
-use Rattle.model.specs.Demands.{heldEntries, untrimmed, closedBelow, someBefore, across, anyAcross, openBefore, anyOpenBefore}
+use Rattle.model.specs.DemandTwo.{heldEntries, untrimmed, closedBelow, someBefore, across, anyAcross, openBefore, anyOpenBefore}
 use Rattle.model.specs.History.{Change, begins, reserves, aborts, stores, commits, flushes, Service, settles, trims, reads, roundBegins, roundSteps, Call, opening, confirm, change, service, isOpening}
 use Rattle.abstract_store.specs.Store.{Store, firstGroup, nextGroup, nextOf, placesLeft, promisedTo, freeLeft, hasRoom, mayFlush, entryBytes, isIdle, storeMustLog, commitMustLog, wrote, anyWrote, manyHomes, toSettle, toStep, mayStart, nextStart, listOf, replyChange, replyService, reply}
 use Rattle.theorems.specs.Isolation.{Each, both, more, EntryAlike, CommitAlike, TaskAlike, idles, empties, holds, StoreAlike, CallAlike, equal, stored, Denied}

@@ -15,7 +15,7 @@ use Rattle.model.specs.declared.State.{State}
 use Rattle.model.specs.Effects.{Given, Effect, newState, marked, homeWrites, beginRoundEffect, stepRoundEffect}
 use Rattle.model.specs.Questions.{ask, batchFits, inRound, beginRoundAnswer, stepRoundAnswer}
 use Rattle.model.specs.Calls.{sizeOf, beginRoundCall, stepRoundCall}
-use Rattle.model.specs.Demands.{closedBelow, untrimmed, eachContents}
+use Rattle.model.specs.DemandTwo.{closedBelow, untrimmed, eachContents}
 use Rattle.model.specs.History.{Change, begins, reserves, aborts, stores, commits, flushes, Service, settles, roundBegins, roundSteps, trims, reads, Call, opening, confirm, change, service, World, lent, ends, changeEnds, serviceEnds, isOpening}
 use Rattle.abstract_store.specs.Store.{Store, anyWrote, toStep, askBatch, replyOf, replyChange, replyService, reply}
 use Rattle.model_laws.proofs.state.BatchLaws.{batch-append, batch-one, length-FN}

@@ -13,7 +13,7 @@ use Rattle.model.specs.Questions.{settleAnswer, beginRoundAnswer, stepRoundAnsw
 use Rattle.model.specs.Calls.{sizeOf, settleCall, beginRoundCall, stepRoundCall, trimCall}
 use Rattle.model.specs.Crash.{fences, persist, fates}
 use Rattle.model.specs.Book.{Commit, Book, run, ended, crash}
-use Rattle.model.specs.Demands.{Opened, Crashed, NoneOwed, lost, Holds, AllHold, CallHolds, Demand3}
+use Rattle.model.specs.DemandThree.{Opened, Crashed, NoneOwed, lost, Holds, AllHold, CallHolds, Demand3}
 use Rattle.model.specs.History.{Change, begins, reserves, aborts, stores, commits, flushes, Service, settles, roundBegins, roundSteps, trims, reads, Call, opening, confirm, change, service, settle, beginRound, stepRound, trim, Event, call, crash as cut, World, emptyStore, lent, ends, serviceEnds, isOpening, step, afterCrash, Allowed, AllAllowed}
 use Rattle.model_laws.proofs.state.QuestionLaws.{settle-ready, begin-round-ready, step-round-ready, trim-ready}
 use Rattle.theorems.proofs.steps.DoneLaws.{after}

@@ -5,7 +5,7 @@ use mathlib.Core.Logic.{inl, inr}
 use mathlib.Core.Bool.{true, false≢true}
 use mathlib.Core.List.{List, [], _∷_}
 use Prim.Native.Nat.{ℕ}
-use Rattle.model.specs.Demands.{Live, LiveThroughout, Demand2}
+use Rattle.model.specs.DemandTwo.{Live, LiveThroughout, Demand2}
 use Rattle.model.specs.History.{Event, World, emptyStore, step, AllAllowed}
 use Rattle.theorems.proofs.invariant.Invariant.{Sizes, Invariant}
 use Rattle.theorems.proofs.steps.FormatRuns.{from-format}

@@ -18,7 +18,7 @@ use Rattle.model.specs.State.{stateOf, nextPosition, writerOf, holds}
 use Rattle.model.specs.Effects.{Given, Effect, groups, homes, newState, marked, touched, blankWrites, homeWrites, openEffect, openStart, abortEffect, logged, logHeld, logClosing, storeFirst, storeAgain, storeOther, storeEffect, commitHeld, commitEffect, flushNone, flushPart, flushEffect, settleEffect, trimStart, trimTo, trimEffect, stepRoundEffect}
 use Rattle.model.specs.Questions.{openAnswer, storeAnswer, commitAnswer, flushAnswer, settleAnswer, trimAnswer, stepRoundAnswer}
 use Rattle.model.specs.Calls.{outcome, sizeOf, openCall, storeCall, commitCall, flushCall, settleCall, trimCall, stepRoundCall}
-use Rattle.model.specs.Demands.{groupWrites}
+use Rattle.model.specs.DemandTwo.{groupWrites}
 use Rattle.model.specs.Facts.{slotWritten, headerWritten, writtenOnce, FormatOnce, PendingOnce, RowsWritten, homeWritten}
 use Rattle.model.specs.History.{change, service, changeEnds, serviceEnds, Call, opening, store, commit, flush, confirm, settle, trim, Event, call, crash, World, unopened, emptyStore, lent, loaded, ends, isOpening, afterCrash, step, after as along, Allowed, AllAllowed, stepRound}
 use Rattle.model_laws.proofs.bytes.LayoutLaws.{length-groupAt, group-fits, ring}

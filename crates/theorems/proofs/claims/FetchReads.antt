@@ -18,7 +18,7 @@ use Rattle.model.specs.Questions.{areasRight, stateRight, newestRight, blockRig
 use Rattle.model.specs.Calls.{done, outcome, readCall}
 use Rattle.acts.specs.Many.{blocksLent, blocksRead, fetchEffect, mayReadAll, fetchAnswer, reviseAnswer, fetchCall, reviseCall}
 use Rattle.model.specs.Book.{readBy}
-use Rattle.model.specs.Demands.{Live}
+use Rattle.model.specs.DemandTwo.{Live}
 use Rattle.model.specs.History.{read, World, afterFormat, lent, ends, serviceEnds}
 use Rattle.abstract_store.specs.Store.{newStore}
 use Rattle.acts.specs.Units.{fetchEnds, reviseEnds, acted, readsFrom, ReadTogether, ActsRead}

@@ -20,7 +20,7 @@ use Rattle.model.specs.Effects.{Given, groups, homes, replayed, liveTags, liveB
 use Rattle.model.specs.Questions.{writerKnown, homeKnown, readAnswer}
 use Rattle.model.specs.Calls.{Outcome, done, readCall}
 use Rattle.model.specs.Book.{Entry, Commit, Task, homesAfter, newestEntry, heldOr, ownOr, readBy}
-use Rattle.model.specs.Demands.{foundIn, untrimmed, closedBelow, Live}
+use Rattle.model.specs.DemandTwo.{foundIn, untrimmed, closedBelow, Live}
 use Rattle.model.specs.History.{World, lent, ends, read, serviceEnds}
 use Rattle.model_laws.proofs.bytes.LayoutLaws.{groups-in}
 use Rattle.model_laws.proofs.state.OrderLaws.{order-in}

@@ -18,7 +18,7 @@ use Rattle.model.specs.Calls.{Outcome, sizeOf, storeCall}
 use mathlib.Core.Option.{Option}
 use Rattle.model.specs.Book.{Landing, row, persisted, Entry, Held, Task, idle, opened, Book}
 use Rattle.model.specs.Book as book
-use Rattle.model.specs.Demands.{mayStartAt as mayBe, landsBefore, someBefore, openBefore, anyOpenBefore, anyAcross}
+use Rattle.model.specs.DemandTwo.{mayStartAt as mayBe, landsBefore, someBefore, openBefore, anyOpenBefore, anyAcross}
 use Rattle.model.specs.History.{Change, begins, reserves, aborts, stores, commits, flushes, Service, settles, trims, Call, opening, confirm, change, service, flush, settle, trim, Event, call, crash, World, unopened, emptyStore, lent, ends, changeEnds, feed, feedChange, isOpening, afterDone, afterCall, afterCrash, step, Allowed, AllAllowed}
 use Rattle.abstract_store.specs.Store.{Store, newStore, firstGroup, nextGroup, nextOf, placesLeft, promisedTo, mayFlush, isIdle, manyHomes, toSettle, mayStart, nextStart, Reply, told, askBatch, replyChange, replyService, reply, replyOf, numbered, withRound, fencedAfter, trimmedTo, afterService, afterReply, follow}
 use Rattle.abstract_store.specs.Store as store

@@ -6,7 +6,7 @@ use mathlib.Core.List.{List, [], _∷_, _++_}
 use lib.Dec.{eqb}
 use native.Mathlib.Omega.{arith}
 use borrow.Author.Tests.{ne-eqb}
-use Rattle.model.specs.Demands.{Live, LiveThroughout}
+use Rattle.model.specs.DemandTwo.{Live, LiveThroughout}
 use Rattle.model.specs.NewestTrue.{NewestTrue, NewestThroughout}
 use Rattle.model.specs.History.{Call, Event, call, crash, World, unopened, Formatting, afterFormat, ends, feed, isOpening, afterCall, afterDone, afterRefused, afterCrash, step, after, Allowed, AllAllowed}
 use Rattle.abstract_store.specs.Store.{Store, newStore, Reply, afterReply, reply, replyOf, follow, AnswersAt, AnswersThroughout}

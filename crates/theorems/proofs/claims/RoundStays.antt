@@ -9,7 +9,7 @@ use native.Mathlib.Omega.{arith}
 use lib.ListN.{length}
 use Rattle.model.specs.State.{stateOf, fixedIn, nextPosition}
 use Rattle.model.specs.Book.{Book, Task, idle, opened, commitTask, withTask, homesAfter}
-use Rattle.model.specs.Demands.{closedBelow}
+use Rattle.model.specs.DemandTwo.{closedBelow}
 use Rattle.model.specs.Book as book
 use Rattle.model.specs.History.{Change, commits, Call, opening, confirm, change, service, commit, call, World, ends, afterCall, afterDone, step, feed, feedChange, isOpening}
 use Rattle.abstract_store.specs.Store.{Store, Reply, told, reply, replyOf, replyChange, commitMustLog, nextOf, toStep, afterReply, follow}

@@ -12,7 +12,7 @@ use borrow.Author.Tests.{ltb-true, lt-ltb}
 use Rattle.model.specs.Effects.{marked}
 use Rattle.model.specs.Book.{Commit, Book, Task, idle, opened, commitTask, withTask, addCommit, filledUp, owedBy, withCommits, writeCommits, homesAfter}
 use Rattle.model.specs.Book as book
-use Rattle.model.specs.Demands.{untrimmed, closedBelow, heldEntries}
+use Rattle.model.specs.DemandTwo.{untrimmed, closedBelow, heldEntries}
 use Rattle.model.specs.History.{Change, commits, Service, trims, Call, opening, confirm, change, service, feed, feedChange}
 use Rattle.abstract_store.specs.Store.{Store, wrote, anyWrote, toStep, nextStart, numbered, trimmedTo, afterService, afterDone}
 use Rattle.abstract_store.specs.Rounds.{mayCome, TicketAbove, StepsShrink}

@@ -17,7 +17,7 @@ use Rattle.model.specs.Effects.{Given, Effect, newState, beginRoundEffect, step
 use Rattle.model.specs.Questions.{settleAnswer, beginRoundAnswer, stepRoundAnswer, openAnswer}
 use Rattle.model.specs.Calls.{Outcome, done, outcome, sizeOf, settleCall, beginRoundCall, stepRoundCall, openCall}
 use Rattle.model.specs.Book.{homesAfter}
-use Rattle.model.specs.Demands.{closedBelow, SettledHomes}
+use Rattle.model.specs.DemandTwo.{closedBelow, SettledHomes}
 use Rattle.model.specs.History.{Service, settles, roundBegins, roundSteps, trims, reads, Call, opening, confirm, change, service, settle, beginRound, stepRound, Event, call, crash, World, emptyStore, lent, loaded, ends, serviceEnds, isOpening, afterCall, afterDone, step, Allowed, AllAllowed}
 use Rattle.abstract_store.specs.Rounds.{homesLeft, homesLeftBy, Moved, Ended, ServiceRaises, Raises, RaisesAt, mayCome, StaysAt, RoundsThroughout, RoundsKept}
 use Rattle.abstract_store.specs.Store.{Store, newStore, follow}

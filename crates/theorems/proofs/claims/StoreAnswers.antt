@@ -23,7 +23,7 @@ use Rattle.model.specs.Questions.{ask, areasRight, stateRight, blockRight, stri
 use Rattle.model.specs.Calls.{Outcome, outcome, sizeOf, openCall, beginCall, reserveCall, abortCall, storeCall, commitCall, flushCall, confirmCall, settleCall, trimCall, readCall}
 use Rattle.model.specs.Book.{Held, Task, idle, opened, Book, homesAfter}
 use Rattle.model.specs.History.{Change, begins, reserves, aborts, stores, commits, flushes, Service, settles, trims, reads, Call, opening, confirm, change, service, World, lent, loaded, ends, changeEnds, serviceEnds, isOpening}
-use Rattle.model.specs.Demands.{eachContents, untrimmed, closedBelow, mayStartAt, firstRowGroup as groupOfRow, Trimmed}
+use Rattle.model.specs.DemandTwo.{eachContents, untrimmed, closedBelow, mayStartAt, firstRowGroup as groupOfRow, Trimmed}
 use Rattle.abstract_store.specs.Store.{Store, firstGroup, nextGroup, nextOf, placesLeft, promisedTo, freeLeft, hasRoom, mayFlush, entryBytes, isIdle, storeMustLog, commitMustLog, anyWrote, manyHomes, toSettle, mayStart, nextStart, listOf, Reply, told, askBatch, replyChange, replyService, reply, replyOf, foundInMemory}
 use Rattle.model_laws.proofs.bytes.LayoutLaws.{groups-in, homes-in, log-length-right, data-length-right, length-groupAt, group-fits, length-header}
 use Rattle.model_laws.proofs.state.BatchLaws.{length-GW, length-KW, length-FN, batch-append, batch-one}

@@ -20,7 +20,7 @@ use Rattle.model.specs.Calls.{Outcome, done, outcome, sizeOf, openCall, beginCa
 use Rattle.model.specs.Crash.{Memory, fences, persist}
 use Rattle.model.specs.Book.{Book, homesAfter, run}
 use Rattle.model.specs.Book as book
-use Rattle.model.specs.Demands.{untrimmed}
+use Rattle.model.specs.DemandTwo.{untrimmed}
 use Rattle.model.specs.History.{Change, begins, reserves, aborts, stores, commits, flushes, Service, settles, trims, reads, Call, opening, confirm, change, service, Event, call, crash, World, unopened, emptyStore, lent, loaded, ends, changeEnds, serviceEnds, feed, isOpening, afterDone, afterCall, afterCrash, step, Allowed, rowFates, roundBegins, roundSteps, reserve, abort, store, commit}
 use Rattle.abstract_store.specs.Store.{Store, newStore, firstGroup, nextGroup, replyOf, storeMustLog, lastAfter, fencedAfter, setFor, promisesAfter, numbered, trimmedTo, afterService, afterReply, follow, foundInMemory, withRound}
 use Rattle.abstract_store.specs.Store as store

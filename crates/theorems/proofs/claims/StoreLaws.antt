@@ -17,7 +17,7 @@ use Rattle.model.specs.Effects.{Given, Effect, marked, blankWrites, homeWrites}
 use Rattle.model.specs.Questions.{ask}
 use Rattle.model.specs.Calls.{Outcome, refused, done, sizeOf, outcome}
 use Rattle.model.specs.Book.{Held}
-use Rattle.model.specs.Demands.{contents, eachContents}
+use Rattle.model.specs.DemandTwo.{contents, eachContents}
 use Rattle.abstract_store.specs.Store.{Reply, told, replyOf, wrote, anyWrote}
 use Rattle.model_laws.proofs.bytes.ByteLaws.{length-part}
 use Rattle.model_laws.proofs.bytes.EmptyLaws.{length-unusedGroup}

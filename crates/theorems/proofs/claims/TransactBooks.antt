@@ -11,7 +11,7 @@ use borrow.Author.Tests.{ne-eqb}
 use Rattle.model.specs.Bytes.{part}
 use Rattle.model.specs.Book.{Entry, Commit, Held, Task, idle, opened, Book, withTask, entryOf, submit, grown, filledUp, hold, storeTask, addCommit, commitTask}
 use Rattle.model.specs.Book as book
-use Rattle.model.specs.Demands.{heldEntries}
+use Rattle.model.specs.DemandTwo.{heldEntries}
 use Rattle.acts.specs.Units.{feedStores, feedTransact}
 use Rattle.theorems.proofs.steps.WriterSteps.{task-here, task-other}
 use Rattle.theorems.proofs.steps.HeldLogs.{filled-commits}

@@ -18,7 +18,7 @@ use Rattle.model.specs.Effects.{Given, Effect, groups, homes, newState, trimSta
 use Rattle.model.specs.Questions.{trimAnswer, startFits}
 use Rattle.model.specs.Calls.{Outcome, outcome, done, sizeOf, trimCall}
 use Rattle.model.specs.Book.{Landing, row, persisted, Entry, Commit, Task, idle, opened}
-use Rattle.model.specs.Demands.{firstRowGroup, landsBefore, someBefore, across, anyAcross, openBefore, anyOpenBefore, mayStartAt, Trimmed}
+use Rattle.model.specs.DemandTwo.{firstRowGroup, landsBefore, someBefore, across, anyAcross, openBefore, anyOpenBefore, mayStartAt, Trimmed}
 use Rattle.model.specs.History.{Call, trim, World, lent, ends, serviceEnds}
 use Rattle.model_laws.proofs.state.StateLaws.{withStart, withFenced, withLast, state-setStart, length-setStart, state-setFenced, length-setFenced, state-setLast}
 use Rattle.model_laws.proofs.state.ListedLaws.{state-carry}

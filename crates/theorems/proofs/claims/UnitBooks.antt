@@ -12,7 +12,7 @@ use borrow.Author.Tests.{eq-eqb, ne-eqb}
 use Rattle.model.specs.Bytes.{part, puts}
 use Rattle.model.specs.Layout.{putHome}
 use Rattle.model.specs.Book.{Entry, Commit, Held, writeEntries, writeCommits}
-use Rattle.model.specs.Demands.{heldEntries}
+use Rattle.model.specs.DemandTwo.{heldEntries}
 use Rattle.acts.specs.Units.{Label, other, unit, lastUnit, Apart}
 use Rattle.model_laws.proofs.bytes.ByteLaws.{puts-append, puts-nil}
 use Rattle.model_laws.proofs.bytes.LayoutLaws.{part-apart, part-written, length-putHome}

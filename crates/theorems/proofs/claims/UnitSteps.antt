@@ -17,7 +17,7 @@ use Rattle.model.specs.Calls.{sizeOf, storeCall}
 use Rattle.acts.specs.Many.{blocksLent, transactEffect, transactAnswer, transactCall}
 use Rattle.model.specs.Book.{Entry, Commit, Held, Task, idle, opened, Book, setTask, withTask, entryOf, submit, filledUp, hold, storeTask, addCommit, commitTask, owedBy, owedAll, withCommits, allSurvive, run, persistedEntries, ended, empty}
 use Rattle.model.specs.Book as book
-use Rattle.model.specs.Demands.{heldEntries}
+use Rattle.model.specs.DemandTwo.{heldEntries}
 use Rattle.model.specs.History.{Change, begins, reserves, aborts, stores, commits, flushes, Call, opening, confirm, change, service, Event, call, crash, World, lent, ends, changeEnds, feed, feedChange, afterDone, afterRefused, afterCall, afterCrash, rowFates, step}
 use Rattle.acts.specs.Units.{Act, plain, transacts, fetches, revises, transactEnds, feedTransact, leftBy, act, acted, relabel, Label, other, unit, labelOf, labelsFrom, Apart, SparedByChange, SparedByCall, SparedByEvent, Spared, Reserved}
 use Rattle.model_laws.proofs.bytes.ByteLaws.{length-part}

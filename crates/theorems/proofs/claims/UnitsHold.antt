@@ -13,7 +13,7 @@ use borrow.Author.Tests.{ne-eqb}
 use Rattle.model.specs.Bytes.{part, zeros}
 use Rattle.model.specs.Layout.{homeAt}
 use Rattle.model.specs.Book.{Entry, Commit, Held, Task, idle, opened, Book, homesAfter, newestEntry, heldOr, ownOr, readBy}
-use Rattle.model.specs.Demands.{heldEntries}
+use Rattle.model.specs.DemandTwo.{heldEntries}
 use Rattle.model.specs.Calls.{Outcome}
 use Rattle.model.specs.History.{Call, Event, call, crash, World, unopened, afterFormat, ends, afterDone, afterRefused, afterCall, afterCrash, step}
 use Rattle.abstract_store.specs.Store.{newStore}

@@ -11,7 +11,8 @@ use Rattle.model.specs.Bytes.{same}
 use Rattle.model.specs.Layout.{header}
 use Rattle.model.specs.Calls.{formatCall}
 use Rattle.model.specs.Crash.{fences}
-use Rattle.model.specs.Demands.{AllHold, LiveThroughout}
+use Rattle.model.specs.DemandThree.{AllHold}
+use Rattle.model.specs.DemandTwo.{LiveThroughout}
 use Rattle.model.specs.NewestTrue.{NewestThroughout}
 use Rattle.model.specs.History.{Call, Event, call, crash, World, Formatting, afterFormat, emptyStore, ends, isOpening, afterCall, step, Allowed, AllAllowed}
 use Rattle.model.specs.Trials.{answerOf}

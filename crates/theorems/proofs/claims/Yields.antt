@@ -17,7 +17,7 @@ use Rattle.model.specs.Questions.{confirmAnswer, settleAnswer, beginRoundAnswer
 use Rattle.model.specs.Calls.{Outcome, outcome, done, sizeOf, confirmCall, settleCall, beginRoundCall, stepRoundCall}
 use Rattle.model.specs.Crash.{isFence, fences}
 use Rattle.model.specs.Book.{row, Entry, Commit, homesAfter, owedBy}
-use Rattle.model.specs.Demands.{closedBelow, groupWrites, fencedRows, rowsFenced, landsBelow, allBelow, owedRows, SettledHomes}
+use Rattle.model.specs.DemandTwo.{closedBelow, groupWrites, fencedRows, rowsFenced, landsBelow, allBelow, owedRows, SettledHomes}
 use Rattle.model.specs.History.{confirm, settle, World, lent, ends, serviceEnds, beginRound, stepRound}
 use Rattle.model_laws.proofs.bytes.LayoutLaws.{groups-in}
 use Rattle.model_laws.proofs.state.OrderLaws.{order-in}

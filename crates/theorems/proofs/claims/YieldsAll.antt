@@ -15,7 +15,7 @@ use Rattle.model.specs.Questions.{writerKnown, commitAnswer}
 use Rattle.model.specs.Calls.{Outcome, done, sizeOf, commitCall}
 use Rattle.model.specs.Book.{Commit, Task, idle, opened, Book, filledUp, withTask, addCommit, entryOf, commitTask, owedBy, owedAll, withCommits}
 use Rattle.model.specs.Book as book
-use Rattle.model.specs.Demands.{Live, Yields, ServiceYields, YieldsAt}
+use Rattle.model.specs.DemandTwo.{Live, Yields, ServiceYields, YieldsAt}
 use Rattle.model.specs.History.{commits, Service, settles, trims, reads, Call, opening, confirm, change, service, commit, Event, call, crash, World, unopened, emptyStore, lent, ends, changeEnds, feed, feedChange, isOpening, afterDone, afterCall, afterCrash, step, Allowed, roundBegins, roundSteps}
 use Rattle.model_laws.proofs.state.QuestionLaws.{commit-ready}
 use Rattle.theorems.proofs.steps.RefusalLaws.{left-as-lent}

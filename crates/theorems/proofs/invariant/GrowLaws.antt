@@ -10,7 +10,7 @@ use lib.ListN.{length}
 use borrow.Author.Tests.{eq-eqb, ne-eqb, eqb-true, eqb-false, leb-true, leb-false, lt-leb}
 use Rattle.model.specs.Layout.{groupBlock, turnOf, withTopBit}
 use Rattle.model.specs.Book.{Entry, Commit, row, fateAt, survives, allSurvive, run}
-use Rattle.model.specs.Demands.{closedBelow}
+use Rattle.model.specs.DemandTwo.{closedBelow}
 use Rattle.model_laws.proofs.trace.Trace.{Ev, mine, setOpen, advance, hist, blockOn, closerOf, oldestOf}
 use Rattle.model_laws.proofs.trace.TraceLaws.{at-here, All, all-map, Falling, firstOf-inside, mine-holds, homeOn-older, blockOn-older, homeOn-here, blockOn-here, open-falling, done-inside, open-inside}
 use Rattle.theorems.proofs.invariant.Invariant.{wordOf, wordAt, usedAt, SoundAt, Sound, Holds, HoldsAt, entryFor, entriesFor, Matches, Commits}

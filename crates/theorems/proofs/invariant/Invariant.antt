@@ -19,7 +19,7 @@ use Rattle.model.specs.declared.Writer.{Writer}
 use Rattle.model.specs.Effects.{replayed, homeWrites}
 use Rattle.model.specs.Crash.{Memory, fences, persist, fates}
 use Rattle.model.specs.Book.{Landing, row, persisted, Entry, Commit, Held, Task, idle, opened, Book, fateAt, run, homesAfter}
-use Rattle.model.specs.Demands.{closedBelow, SettledHomes, groupWrites}
+use Rattle.model.specs.DemandTwo.{closedBelow, SettledHomes, groupWrites}
 use Rattle.model.specs.History.{World}
 use Rattle.model.specs.declared.Tag.{Tag}
 use Rattle.model_laws.proofs.state.OrderLaws.{InOrder}

@@ -18,7 +18,7 @@ use Rattle.model.specs.Commit.{transactions, replay}
 use Rattle.model.specs.Effects.{restore, replayed}
 use Rattle.model.specs.Crash.{Memory}
 use Rattle.model.specs.Book.{Commit, fateAt, run, writeCommits, homesAfter}
-use Rattle.model.specs.Demands.{eachContents, untrimmed, closedBelow}
+use Rattle.model.specs.DemandTwo.{eachContents, untrimmed, closedBelow}
 use Rattle.abstract_store.specs.Store.{foundInMemory}
 use Rattle.model_laws.proofs.bytes.ByteLaws.{length-zeros}
 use Rattle.model_laws.proofs.trace.Trace.{Ev, hist, tagAt, homeOn, blockOn, firstIn, surviving, closerOf, oldestOf, closingFrom, allLanded, whole, Apart}

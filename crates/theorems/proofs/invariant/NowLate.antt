@@ -17,7 +17,7 @@ use Rattle.model.specs.Batch.{KW, Record}
 use Rattle.model.specs.Effects.{homeWrites}
 use Rattle.model.specs.Crash.{Memory, persistChosen, fatesChosen}
 use Rattle.model.specs.Book.{Commit, fateAt, run, homesAfter}
-use Rattle.model.specs.Demands.{closedBelow}
+use Rattle.model.specs.DemandTwo.{closedBelow}
 use Rattle.model.specs.declared.Tag.{Tag}
 use Rattle.model_laws.proofs.bytes.ByteLaws.{length-puts}
 use Rattle.model_laws.proofs.bytes.TurnLaws.{turnOf-lt}

@@ -17,7 +17,7 @@ use Rattle.model.specs.Batch.{Record, HW, KW, FN}
 use Rattle.model.specs.Effects.{replayed, marked, touched, homeWrites}
 use Rattle.model.specs.Crash.{Memory, persistChosen}
 use Rattle.model.specs.Book.{Commit, fateAt, homesAfter, run}
-use Rattle.model.specs.Demands.{closedBelow}
+use Rattle.model.specs.DemandTwo.{closedBelow}
 use Rattle.model.specs.declared.Tag.{Tag}
 use Rattle.model_laws.proofs.bytes.LayoutLaws.{length-header, header-start, header-right, group-header, area-ext}
 use Rattle.model_laws.proofs.bytes.ByteLaws.{length-puts}

@@ -10,7 +10,7 @@ use Rattle.model.specs.Tag.{homeOf}
 use Rattle.model.specs.declared.Tag.{Tag}
 use Rattle.model.specs.Layout.{blockAt}
 use Rattle.model.specs.Book.{Entry, Commit}
-use Rattle.model.specs.Demands.{contents, eachContents, heldEntries, untrimmed}
+use Rattle.model.specs.DemandTwo.{contents, eachContents, heldEntries, untrimmed}
 use Rattle.model_laws.proofs.trace.Trace.{Ev, homeOn, blockOn, closerOf, closingFrom}
 use Rattle.model_laws.proofs.trace.TraceLaws.{All}
 use Rattle.theorems.proofs.invariant.Invariant.{entryFor, entriesFor, Matches, OldCommits}

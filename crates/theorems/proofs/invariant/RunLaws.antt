@@ -7,7 +7,7 @@ use native.Mathlib.Omega.{arith}
 use lib.Dec.{leb, ltb}
 use borrow.Author.Tests.{leb-true, leb-false, le-leb, lt-ltb, le-ltb}
 use Rattle.model.specs.Book.{Entry, Commit, fateAt, survives, allSurvive, run}
-use Rattle.model.specs.Demands.{closedBelow}
+use Rattle.model.specs.DemandTwo.{closedBelow}
 use Rattle.model_laws.proofs.trace.Trace.{Ev, closerOf, closingFrom, allLanded, whole}
 use Rattle.model_laws.proofs.trace.TraceLaws.{All, Rising}
 use Rattle.model_laws.proofs.trace.WholeLaws.{closingFrom-all}

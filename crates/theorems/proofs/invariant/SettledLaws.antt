@@ -9,7 +9,7 @@ use borrow.Author.Tests.{leb-true, le-leb, lt-leb, lt-ltb, le-ltb}
 use Rattle.model.specs.State.{stateOf, underWay, fixedIn}
 use Rattle.model.specs.declared.State.{State}
 use Rattle.model.specs.Book.{Commit}
-use Rattle.model.specs.Demands.{settledFor, SettledHomes}
+use Rattle.model.specs.DemandTwo.{settledFor, SettledHomes}
 use Rattle.model.specs.History.{World}
 use Rattle.model_laws.proofs.state.OrderLaws.{InOrder}
 use Rattle.model_laws.proofs.trace.Trace.{Ev}

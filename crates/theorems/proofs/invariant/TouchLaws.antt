@@ -11,7 +11,7 @@ use borrow.Author.Tests.{eqb-true, eqb-false, leb-true, leb-false, ltb-true, lt-
 use Rattle.model.specs.Tag.{present}
 use Rattle.model.specs.Layout.{homeAt, putHome}
 use Rattle.model.specs.Book.{Entry, Commit, allSurvive, run, writeEntries, writeCommits, homesAfter, newestEntry}
-use Rattle.model.specs.Demands.{closedBelow}
+use Rattle.model.specs.DemandTwo.{closedBelow}
 use Rattle.model_laws.proofs.bytes.ByteLaws.{length-zeros}
 use Rattle.model_laws.proofs.bytes.LayoutLaws.{home-same, home-other, length-putHome}
 use Rattle.model_laws.proofs.trace.Trace.{Ev, hist, tagAt, closerOf, oldestOf, allLanded}

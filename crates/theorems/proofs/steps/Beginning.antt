@@ -16,7 +16,7 @@ use Rattle.model.specs.Effects.{Given, replayed}
 use Rattle.model.specs.Questions.{ask, areasRight, stateRight, headerFits, startFits, batchFits, openAnswer, newestRight}
 use Rattle.model.specs.Book.{homesAfter, writeCommits, empty}
 use Rattle.model.specs.History.{World, unopened, emptyStore, loaded}
-use Rattle.model.specs.Demands.{eachContents}
+use Rattle.model.specs.DemandTwo.{eachContents}
 use Rattle.abstract_store.specs.Store.{foundInMemory}
 use Rattle.model.specs.declared.Tag.the-variants.{Nothing}
 use Rattle.model_laws.proofs.bytes.ByteLaws.{length-zeros}

@@ -14,7 +14,8 @@ use Rattle.model.specs.State.{stateOf}
 use Rattle.model.specs.Crash.{Memory, fences, persist, persistChosen, fates, fatesChosen}
 use Rattle.model.specs.Book.{Landing, persisted, Entry, Commit, Book, fateAt, survives, allSurvive, run, persistedEntries, ended, homesAfter, writeEntries, writeCommits}
 use Rattle.model.specs.Book as book
-use Rattle.model.specs.Demands.{groupWrites, lost, NoneOwed, Crashed}
+use Rattle.model.specs.DemandThree.{lost, NoneOwed, Crashed}
+use Rattle.model.specs.DemandTwo.{groupWrites}
 use Rattle.model.specs.History.{World, rowFates, afterCrash}
 use Rattle.model_laws.proofs.trace.CrashLaws.{trues, writeRecords, fences-append, groupWrites-fence, persist-stop, fates-stop, persist-last, fates-last, fates-fenced, fateAt-trues, fences-none}
 use Rattle.model_laws.proofs.trace.FateLaws.{fateAt-drop, drop-trues}

@@ -15,7 +15,7 @@ use Rattle.model.specs.Batch.{Record, FN}
 use Rattle.model.specs.Effects.{homeWrites}
 use Rattle.model.specs.Crash.{Memory, fences, persist, persistChosen, fates, fatesChosen}
 use Rattle.model.specs.Book.{Commit, fateAt}
-use Rattle.model.specs.Demands.{groupWrites}
+use Rattle.model.specs.DemandTwo.{groupWrites}
 use Rattle.model.specs.History.{World}
 use Rattle.model_laws.proofs.bytes.LayoutLaws.{groups-in}
 use Rattle.model_laws.proofs.trace.CrashLaws.{writeRecords, trues, NoFence, submits, fences-append, fences-fence, fences-none, none-append, groupWrites-append, groupWrites-fence, groupWrites-submits, write-append, write-fence, length-write, persist-stop, fates-stop, persist-last, fates-last, chosen-fence, fate-fence, write-nil}

@@ -18,7 +18,7 @@ use Rattle.model.specs.Batch.{Record, GW, FN}
 use Rattle.model.specs.Crash.{Memory, fences, persist, persistChosen, fates, fatesChosen}
 use Rattle.model.specs.Book.{Commit, Task, Book, submit, fateAt, homesAfter}
 use Rattle.model.specs.Book as book
-use Rattle.model.specs.Demands.{closedBelow, groupWrites}
+use Rattle.model.specs.DemandTwo.{closedBelow, groupWrites}
 use Rattle.model.specs.History.{Call, World, lent, feed, isConfirm, flush, feedChange}
 use Rattle.model_laws.proofs.state.StateLaws.{withFenced, withNext, withFilled, state-setFenced, length-setFenced, writer-setFenced, held-setFenced, state-setNext, length-setNext, writer-setNext, held-setNext, state-setFilled, length-setFilled, writer-setFilled, held-setFilled}
 use Rattle.model_laws.proofs.state.OrderLaws.{InOrder, WriterInOrder, Reserved}

@@ -15,7 +15,7 @@ use Rattle.model.specs.declared.State.{State}
 use Rattle.model.specs.declared.Writer.{Writer}
 use Rattle.model.specs.Effects.{entered, submitted, logged}
 use Rattle.model.specs.Book.{row, Task, opened, Book, submit, grown, filledUp}
-use Rattle.model.specs.Demands.{closedBelow, settledFor}
+use Rattle.model.specs.DemandTwo.{closedBelow, settledFor}
 use Rattle.model.specs.History.{World}
 use Rattle.model_laws.proofs.state.OrderLaws.{WriterInOrder, Reserved}
 use Rattle.model_laws.proofs.state.QuestionLaws.{Roomy}

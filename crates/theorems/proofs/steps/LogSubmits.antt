@@ -16,7 +16,7 @@ use Rattle.model.specs.declared.State.{State}
 use Rattle.model.specs.Batch.{Record, GW, FN}
 use Rattle.model.specs.Crash.{Memory, fences, persist, fates}
 use Rattle.model.specs.Book.{Commit, fateAt}
-use Rattle.model.specs.Demands.{closedBelow, groupWrites}
+use Rattle.model.specs.DemandTwo.{closedBelow, groupWrites}
 use Rattle.model.specs.History.{World}
 use Rattle.model_laws.proofs.trace.CrashLaws.{submits, fateAt-none, groupWrites-fence, writeRecords, write-append}
 use Rattle.model_laws.proofs.trace.FateLaws.{fateAt-drop}

@@ -16,7 +16,7 @@ use Rattle.model.specs.Batch.{Record, FN}
 use Rattle.model.specs.Crash.{Memory, fences, persistChosen}
 use Rattle.model.specs.Book.{Commit, Entry, Book, homesAfter, writeCommits, owedBy, withCommits, run, allSurvive}
 use Rattle.model.specs.Book as book
-use Rattle.model.specs.Demands.{closedBelow, settledFor, SettledHomes, groupWrites}
+use Rattle.model.specs.DemandTwo.{closedBelow, settledFor, SettledHomes, groupWrites}
 use Rattle.model.specs.History.{Call, World, lent, feed, isConfirm, flush, confirm, feedChange}
 use Rattle.model_laws.proofs.state.StateLaws.{withDurable, state-setFenced, length-setFenced, writer-setFenced, held-setFenced, state-setDurable, length-setDurable, writer-setDurable, held-setDurable}
 use Rattle.model_laws.proofs.state.OrderLaws.{InOrder, WriterInOrder, Reserved}

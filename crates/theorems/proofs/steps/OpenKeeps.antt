@@ -13,7 +13,7 @@ use Rattle.model.specs.Effects.{Given, Effect, openEffect, openStart, blankWrit
 use Rattle.model.specs.Questions.{openAnswer, startFits}
 use Rattle.model.specs.Calls.{Outcome, outcome, done, sizeOf, openCall}
 use Rattle.model.specs.Book.{homesAfter}
-use Rattle.model.specs.Demands.{Opened}
+use Rattle.model.specs.DemandThree.{Opened}
 use Rattle.model.specs.History.{Call, opening, Event, call, World, loaded, ends, step}
 use Rattle.model_laws.proofs.bytes.ByteLaws.{length-part}
 use Rattle.model_laws.proofs.bytes.LayoutLaws.{groups-in, length-header}

@@ -22,7 +22,7 @@ use Rattle.model.specs.Questions.{openAnswer, startFits}
 use Rattle.model.specs.Newest.{nothingKept}
 use Rattle.model.specs.Crash.{Memory, fences, persist, persistChosen, fates}
 use Rattle.model.specs.Book.{Commit, Book, homesAfter, writeCommits, owedAll, withCommits, fateAt, run}
-use Rattle.model.specs.Demands.{closedBelow, settledFor, groupWrites}
+use Rattle.model.specs.DemandTwo.{closedBelow, settledFor, groupWrites}
 use Rattle.model.specs.History.{Call, opening, World, loaded, feed, isConfirm, feedChange}
 use Rattle.model_laws.proofs.bytes.ByteLaws.{puts-whole}
 use Rattle.model_laws.proofs.bytes.LayoutLaws.{length-header, groups-in, homes-in}

@@ -19,7 +19,7 @@ use Rattle.model.specs.Questions.{inRound}
 use Rattle.model.specs.Batch.{Record, FN}
 use Rattle.model.specs.Crash.{Memory}
 use Rattle.model.specs.Book.{homesAfter}
-use Rattle.model.specs.Demands.{closedBelow, settledFor, SettledHomes}
+use Rattle.model.specs.DemandTwo.{closedBelow, settledFor, SettledHomes}
 use Rattle.model.specs.History.{World, lent, feed, isConfirm, beginRound, stepRound, feedChange}
 use Rattle.model.specs.declared.Tag.{Tag}
 use Rattle.model_laws.proofs.state.BatchLaws.{AllFormed, formed-append}

@@ -16,7 +16,7 @@ use Rattle.model.specs.declared.State.{State}
 use Rattle.model.specs.Effects.{Given, groups, homes, Effect, restore, replayed, touched, homeWrites, liveTags, liveBase, settleEffect}
 use Rattle.model.specs.Batch.{FN}
 use Rattle.model.specs.Book.{Commit, writeCommits, homesAfter}
-use Rattle.model.specs.Demands.{closedBelow, settledFor}
+use Rattle.model.specs.DemandTwo.{closedBelow, settledFor}
 use Rattle.model.specs.History.{World, lent, feed, isConfirm, settle, feedChange}
 use Rattle.model.specs.declared.Tag.{Tag}
 use Rattle.model_laws.proofs.bytes.ByteLaws.{length-part}

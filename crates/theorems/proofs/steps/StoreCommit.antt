@@ -20,7 +20,7 @@ use Rattle.model.specs.Batch.{Record, GW, FN}
 use Rattle.model.specs.Crash.{Memory}
 use Rattle.model.specs.Book.{Landing, row, Entry, Commit, Held, Task, opened, Book, fateAt, homesAfter, entryOf, filledUp, withTask, addCommit}
 use Rattle.model.specs.Book as book
-use Rattle.model.specs.Demands.{closedBelow}
+use Rattle.model.specs.DemandTwo.{closedBelow}
 use Rattle.model.specs.History.{Call, World, lent, feed, isConfirm, store, commit, feedChange}
 use Rattle.model_laws.proofs.state.StateLaws.{state-setLast, length-setLast, writer-setLast, held-setLast}
 use Rattle.model_laws.proofs.state.WriterLaws.{length-setWriter, length-setHeld, state-setWriter, writer-setWriter, writer-setWriter-other, held-setWriter, state-setHeld, writer-setHeld, held-setHeld, held-setHeld-other, fits-idle, fits-logging}

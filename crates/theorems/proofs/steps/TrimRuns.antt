@@ -18,7 +18,7 @@ use Rattle.model.specs.declared.State.{State}
 use Rattle.model.specs.Newest.{forget, carryListed}
 use Rattle.model.specs.Effects.{Given, groups, homes, newState, mayStart, largest, noneAcross, noneOpenBefore, trimStart, trimTo, trimEffect}
 use Rattle.model.specs.Crash.{Memory, isFence}
-use Rattle.model.specs.Demands.{groupWrites}
+use Rattle.model.specs.DemandTwo.{groupWrites}
 use Rattle.model.specs.History.{World, lent, feed, isConfirm, trim, feedChange}
 use Rattle.model_laws.proofs.bytes.ByteLaws.{length-puts}
 use Rattle.model_laws.proofs.bytes.LayoutLaws.{length-header, group-header}

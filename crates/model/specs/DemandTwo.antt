@@ -1,12 +1,10 @@
--- Demands 2 and 3 as statements over all histories.
+-- Demand 2, and what each done call yields in the book's terms, as statements over all histories.
 use Prim.Native.Nat.{ℕ, zero, suc, _+_, _-_, _*_, _≤_, _<_}
 use mathlib.Core.Path.{_≡_}
-use mathlib.Core.Logic.{_⊎_}
 use mathlib.Core.Bool.{Bool, true, false, cond, not, _&&_, _||_}
 use mathlib.Core.List.{List, [], _∷_, _++_}
-use mathlib.Core.Option.{Option, none, some}
-use lib.Dec.{eqb, leb, ltb}
-use lib.ListN.{length, drop}
+use lib.Dec.{leb, ltb}
+use lib.ListN.{length}
 use Rattle.model.specs.Tag.{homeOf}
 use Rattle.model.specs.Layout.{groupsIn, headerStart, blockAt, homeAt}
 use Rattle.model.specs.Commit.{transactions}
@@ -16,30 +14,8 @@ use Rattle.model.specs.Effects.{Given, groups, liveTags, liveBase}
 use Rattle.model.specs.declared.Tag.{Tag}
 use Rattle.model.specs.Calls.{Outcome}
 use Rattle.model.specs.Crash.{fences}
-use Rattle.model.specs.Book.{Landing, row, persisted, Entry, Commit, Held, Task, idle, opened, Book, run, homesAfter, readBy, owedBy}
-use Rattle.model.specs.History.{Service, settles, trims, reads, Call, opening, confirm, change, service, read, Event, call, crash, World, lent, ends, rowFates, step, Always, roundBegins, roundSteps}
-
--- Demand 3
-
--- "every opening that does not answer 1, 9 or 10 is done, and leaves a data copy equal byte for byte to the homes after the longest run of commits,
--- from the first on, whose entries had all landed, by 01's book." At a crash the book's list is cut to that run.
-pub record Opened (w : World) (o : Outcome) : Type 0 where
-  pub answer : (o .code ≡ 0) ⊎ ((o .code ≡ 1) ⊎ ((o .code ≡ 9) ⊎ (o .code ≡ 10)))
-  pub restored : o .code ≡ 0 → o .area ≡ homesAfter (w .homes) (w .book .commits)
-
--- the commits that a crash takes off the list
-unfoldable pub lost : List (ℕ → Bool) → List Commit → List Commit
-lost fs cs = drop (length (run fs cs)) cs
-
-abbrev pub NoneOwed : List Commit → Type 0
-NoneOwed [] = Unit {0}
-NoneOwed (c ∷ cs) = (c .owed ≡ false) × NoneOwed cs
-
--- "In that run is every commit confirmed durable before, and all that an earlier opening brought back"
-abbrev pub Crashed : World → ℕ → (ℕ → Bool) → Type 0
-Crashed w passed chosen = NoneOwed (lost (rowFates w passed chosen) (w .book .commits))
-
--- Demand 2
+use Rattle.model.specs.Book.{Landing, row, persisted, Entry, Commit, Held, Task, idle, opened, homesAfter, readBy, owedBy}
+use Rattle.model.specs.History.{Service, settles, trims, reads, Call, opening, confirm, change, service, read, Event, call, crash, World, lent, ends, step, Always, roundBegins, roundSteps}
 
 -- the entries at some positions of a log, newest first, as homes and blocks, oldest first
 unfoldable pub contents : (ℕ → Tag) → List ℕ → ℕ → List ℕ → List Held
@@ -170,21 +146,6 @@ Yields w confirm o = owedBy (o .figure) (w .book .commits) ≡ owedRows (rowsFen
 Yields w (change c) o = Unit {0}
 Yields w (service c) o = ServiceYields w c o
 
--- at each event
-abbrev pub CallHolds : World → Call → Outcome → Type 0
-CallHolds w (opening state newest batch) o = Opened w o
-CallHolds w confirm o = Unit {0}
-CallHolds w (change c) o = Unit {0}
-CallHolds w (service c) o = Unit {0}
-
-abbrev pub Holds : World → Event → Type 0
-Holds w (call c) = CallHolds w c (ends w c)
-Holds w (crash passed chosen) = Crashed w passed chosen
-
-abbrev pub AllHold : World → List Event → Type 0
-AllHold w [] = Unit {0}
-AllHold w (e ∷ es) = Holds w e × AllHold (step w e) es
-
 abbrev pub YieldsAt : World → Event → Type 0
 YieldsAt w (call c) = ends w c .code ≡ 0 → Yields w c (ends w c)
 YieldsAt w (crash passed chosen) = Unit {0}
@@ -193,9 +154,6 @@ abbrev pub LiveThroughout : World → List Event → Type 0
 LiveThroughout w [] = w .ready ≡ true → Live w
 LiveThroughout w (e ∷ es) = (w .ready ≡ true → Live w) × YieldsAt w e × LiveThroughout (step w e) es
 
--- The demands, for every G and D, every done format and every list of events after it under the premises
-abbrev pub Demand3 : Type 0
-Demand3 = Always AllHold
-
+-- Demand 2, for the same histories
 abbrev pub Demand2 : Type 0
 Demand2 = Always LiveThroughout
