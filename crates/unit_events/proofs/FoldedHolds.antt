@@ -20,12 +20,12 @@ use Rattle.acts.specs.Units.{Act, plain, transacts, fetches, revises, transactE
 use Rattle.model_laws.proofs.bytes.ByteLaws.{length-zeros}
 use Rattle.acts.proofs.ManyLaws.{transact-ready}
 use Rattle.theorems.proofs.steps.DoneLaws.{outcome-code}
-use Rattle.theorems.proofs.claims.Reached.{begins}
-use Rattle.theorems.proofs.claims.UnitBooks.{fit-length}
-use Rattle.theorems.proofs.claims.UnitSteps.{Labelled, apart-home, act-labelled, empty-labelled}
-use Rattle.theorems.proofs.claims.ActsHold.{refused-stays, revise-stays, Somewhere, act-somewhere}
-use Rattle.theorems.proofs.claims.FetchReads.{read-at}
-use Rattle.theorems.proofs.claims.UnitsHold.{act-homes, unit-kept}
+use Rattle.theorems.proofs.store.Reached.{begins}
+use Rattle.theorems.proofs.many.UnitBooks.{fit-length}
+use Rattle.theorems.proofs.many.UnitSteps.{Labelled, apart-home, act-labelled, empty-labelled}
+use Rattle.theorems.proofs.many.ActsHold.{refused-stays, revise-stays, Somewhere, act-somewhere}
+use Rattle.theorems.proofs.many.FetchReads.{read-at}
+use Rattle.theorems.proofs.many.UnitsHold.{act-homes, unit-kept}
 use Rattle.unit_events.specs.Offered.{heldAfter, AcceptedFrom}
 use Rattle.unit_events.specs.Folded.{Step, acts, offers, sets, first, noted, AllFit, noteOf, readFor, eventAnswer, storing, actsOf, answered, stepped, ran, notesFrom, notes, StepAllowed, AllStepsAllowed, SparedByAct, SparedByStep, SparedBySteps, JudgedFrom, Folded, EventsFolded, Recorded, Growing, EventsRecorded}
 

@@ -12,7 +12,7 @@ use Rattle.model.specs.Batch.{readBatch, readRecords}
 use Rattle.model.specs.Calls.{Outcome}
 use Rattle.model.specs.History.{World, lent}
 use Rattle.acts.specs.Units.{Act, revises, transacts, transactEnds, reviseEnds, act, acted, leftBy as left-in}
-use Rattle.theorems.proofs.claims.ActsHold.{revise-stays}
+use Rattle.theorems.proofs.many.ActsHold.{revise-stays}
 use Rattle.unit_events.specs.Folded.{offers, sets, first, readFor, eventAnswer, storing, actsOf, answered, stepped}
 use Rattle.unit_shared.specs.Unit.{Lent, Left, Judged, asJudged, untouched, leftBy, revised, transacted, stored, afterReading, event}
 use Rattle.unit_shared.specs.Moments.{lentIn, Leaves, EventStands, SetStands}
