@@ -2,7 +2,7 @@
 use mathlib.Core.Path.{_≡_, refl}
 use mathlib.Core.Bool.{true, _&&_}
 use Rattle.model.specs.DemandTwo.{landsBefore, someBefore, across, anyAcross, openBefore, anyOpenBefore}
-use Rattle.model.specs.Reservations.{promising, givingBack, closing, reserving}
+use Rattle.model.specs.examples.Reservations.{promising, givingBack, closing, reservingLines, reserving}
 use Rattle.model.proofs.examples.Computing.{all-definitions}
 use Rattle.abstract_store.specs.Store as store
 use Rattle.abstract_store.specs.Store.{newStore, firstGroup, nextGroup, nextOf, storeMustLog, commitMustLog, lastAfter, fencedAfter, setFor, promisesAfter, numbered, withRound, afterReply, replyOf, follow, placesLeft, nextStart, trimmedTo, afterService, roundOver}
@@ -12,5 +12,5 @@ use Rattle.abstract_store.specs.Usage.{entriesIn, committedEntries, open
 use Rattle.abstract_store.specs.Counted.{counts, countsSo, usageAfter, numbersOf, usageSo, drainsAt, drainsSo}
 
 pub counted-so : (countsSo && usageSo && drainsSo) ≡ true
-unfolding all-definitions promising givingBack closing reserving counts countsSo newStore firstGroup nextGroup nextOf storeMustLog commitMustLog lastAfter fencedAfter setFor promisesAfter numbered withRound store.afterDone afterReply replyOf follow settleOne settleAll enter enterCall enterEvent classOf fateOn classAt sameClass places.many usageAfter numbersOf usageSo entriesIn committedEntries openEntries noHolder holdsLower holderOf usageOf usageRefused usageIf usageCall drainsAt drainsSo placesLeft nextStart trimmedTo afterService roundOver store.mayStart landsBefore someBefore across anyAcross openBefore anyOpenBefore places.drained
+unfolding all-definitions promising givingBack closing reservingLines reserving counts countsSo newStore firstGroup nextGroup nextOf storeMustLog commitMustLog lastAfter fencedAfter setFor promisesAfter numbered withRound store.afterDone afterReply replyOf follow settleOne settleAll enter enterCall enterEvent classOf fateOn classAt sameClass places.many usageAfter numbersOf usageSo entriesIn committedEntries openEntries noHolder holdsLower holderOf usageOf usageRefused usageIf usageCall drainsAt drainsSo placesLeft nextStart trimmedTo afterService roundOver store.mayStart landsBefore someBefore across anyAcross openBefore anyOpenBefore places.drained
 counted-so = refl

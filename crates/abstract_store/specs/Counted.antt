@@ -6,9 +6,10 @@ use mathlib.Core.List.{List, [], _∷_}
 use lib.ListN.{length}
 use Rattle.model.specs.Bytes.{same}
 use Rattle.model.specs.History.{begin, store, commit, Event, World, emptyStore, step}
-use Rattle.model.specs.Trials.{room, fill}
-use Rattle.model.specs.Witnesses.{calls, reopen}
-use Rattle.model.specs.Reservations.{reserving}
+use Rattle.model.specs.examples.Trials.{room, fill}
+use Rattle.model.specs.History.{calls}
+use Rattle.model.specs.examples.Witnesses.{reopen}
+use Rattle.model.specs.examples.Reservations.{reserving}
 use Rattle.abstract_store.specs.Store.{Store, newStore, follow, placesLeft, nextOf}
 use Rattle.abstract_store.specs.Places.{Fate, live, dead, free, enterEvent, many, drained}
 use Rattle.abstract_store.specs.Usage.{Usage, toldAt}

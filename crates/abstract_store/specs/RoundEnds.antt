@@ -10,7 +10,7 @@ use lib.ListN.{length}
 use Rattle.model.specs.Layout.{homeAt}
 use Rattle.model.specs.State.{stateOf}
 use Rattle.model.specs.History.{Service, settles, roundBegins, roundSteps, trims, reads, Call, opening, confirm, change, service, settle, beginRound, stepRound, Event, call, World, Formatting, afterFormat, ends, step, after, AllAllowed}
-use Rattle.model.specs.Witnesses.{calls}
+use Rattle.model.specs.History.{calls}
 use Rattle.abstract_store.specs.Rounds.{homesLeft, mayCome}
 
 -- a step of k homes

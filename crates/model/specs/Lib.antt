@@ -16,12 +16,7 @@ pub mod Book
 pub mod History
 pub mod DemandThree
 pub mod DemandTwo
-pub mod Trials
-pub mod Witnesses
-pub mod Reservations
-pub mod Tears
 pub mod Reserved
 pub mod NewestTrue
-pub mod Guarded
-pub mod TwoRounds
 pub mod Facts
+pub mod examples

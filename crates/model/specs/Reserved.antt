@@ -9,7 +9,7 @@ use lib.ListN.{length}
 use Rattle.model.specs.State.{State, stateOf, promiseOf, promised, places, freePlaces}
 use Rattle.model.specs.Book.{Task, idle, opened}
 use Rattle.model.specs.History.{Change, begins, reserves, aborts, stores, commits, flushes, Call, opening, confirm, change, service, begin, reserve, store, commit, flush, Event, call, crash, World, ends, step, Always}
-use Rattle.model.specs.Trials.{room, fill, goes, fresh}
+use Rattle.model.specs.examples.Trials.{room, fill, goes, fresh}
 
 -- What each writer's open transaction was granted, by the calls and their answers alone: n by a reserve, nothing by a begin. "Commit and abort give
 -- unused ones back." "Opening forgets them all."

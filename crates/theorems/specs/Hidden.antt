@@ -8,8 +8,8 @@ use Rattle.model.specs.Bytes.{zeros, bytes, same}
 use Rattle.model.specs.Effects.{Given}
 use Rattle.model.specs.Calls.{Outcome}
 use Rattle.model.specs.History.{Service, settles, roundBegins, roundSteps, trims, reads, Call, opening, confirm, change, service, begin, store, commit, read, call, World, emptyStore, ends, step}
-use Rattle.model.specs.Trials.{room, lane, fill, goes, answers}
-use Rattle.model.specs.Witnesses.{plain}
+use Rattle.model.specs.examples.Trials.{room, lane, fill, goes, answers}
+use Rattle.model.specs.examples.Witnesses.{plain}
 
 -- one range of homes, and three empty ones
 unfoldable pub rangeOf : ℕ → ℕ → List ℕ

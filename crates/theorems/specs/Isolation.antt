@@ -12,7 +12,7 @@ use Rattle.model.specs.Rights.{mayRead}
 use Rattle.model.specs.Book.{Entry, Commit, Held, Task, idle, opened}
 use Rattle.model.specs.History.{Call, store, read, Event, call, World, Formatting, afterFormat, ends, step, after, AllAllowed}
 use Rattle.abstract_store.specs.Store.{Store, newStore, listOf, replyOf, follow}
-use Rattle.model.specs.Witnesses.{calls}
+use Rattle.model.specs.History.{calls}
 
 -- two lists of one length, element by element
 pub data Each {A : Type 0} (Alike : A → A → Type 0) : List A → List A → Type 0 where

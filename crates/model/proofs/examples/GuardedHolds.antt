@@ -1,8 +1,8 @@
--- Who may touch what in the histories of specs/Guarded, by computation.
+-- Who may touch what in the histories of specs/examples/Guarded, by computation.
 use mathlib.Core.Path.{_≡_, refl}
 use mathlib.Core.Bool.{true}
-use Rattle.model.specs.Trials.{allMatch}
-use Rattle.model.specs.Guarded.{laidDown, reopened, again, moments}
+use Rattle.model.specs.examples.Trials.{allMatch}
+use Rattle.model.specs.examples.Guarded.{laidDown, reopened, again, moments}
 use Rattle.model.proofs.examples.Computing.{all-definitions}
 
 pub guarded-so : allMatch moments ≡ true

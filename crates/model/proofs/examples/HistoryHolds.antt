@@ -1,9 +1,9 @@
--- The history of specs/Witnesses goes as listed, by computation.
+-- The history of specs/examples/Witnesses goes as listed, by computation.
 use mathlib.Core.Path.{_≡_, refl}
 use mathlib.Core.Bool.{Bool, true}
 use mathlib.Core.List.{List, [], _∷_}
 use Rattle.model.specs.Bytes.{same}
-use Rattle.model.specs.Witnesses.{goesAsListed, opensLarger}
+use Rattle.model.specs.examples.Witnesses.{goesAsListed, opensLarger}
 use Rattle.model.proofs.examples.Computing.{all-definitions}
 
 pub goes-as-listed : goesAsListed ≡ true

@@ -1,4 +1,4 @@
--- The history of specs/Witnesses meets the premises of demands 2 and 3, which therefore say something of it.
+-- The history of specs/examples/Witnesses meets the premises of demands 2 and 3, which therefore say something of it.
 use mathlib.Core.Path.{_≡_, refl, sym, ap, _∙_}
 use mathlib.Core.Bool.{Bool, true, false, not, _&&_, false≢true}
 use mathlib.Core.List.{List, [], _∷_}
@@ -15,8 +15,8 @@ use Rattle.model.specs.DemandThree.{AllHold}
 use Rattle.model.specs.DemandTwo.{LiveThroughout}
 use Rattle.model.specs.NewestTrue.{NewestThroughout}
 use Rattle.model.specs.History.{Call, Event, call, crash, World, Formatting, afterFormat, emptyStore, ends, isOpening, afterCall, step, Allowed, AllAllowed}
-use Rattle.model.specs.Trials.{answerOf}
-use Rattle.model.specs.Witnesses.{usedBefore, usedCopies, alike, allowed, history, answered, goesTo, goesSo, goesAsListed}
+use Rattle.model.specs.examples.Trials.{answerOf}
+use Rattle.model.specs.examples.Witnesses.{usedBefore, usedCopies, alike, allowed, history, answered, goesTo, goesSo, goesAsListed}
 use Rattle.model_laws.proofs.state.QuestionLaws.{and-true}
 use Rattle.model_laws.proofs.bytes.ByteLaws.{length-puts}
 use Rattle.model_laws.proofs.bytes.LayoutLaws.{three}

@@ -20,7 +20,7 @@ use Rattle.model.specs.DemandTwo.{LiveThroughout}
 use Rattle.abstract_store.specs.Store.{Store, listOf, Reply, told, replyService, reply, replyOf, afterReply, follow, AnswersThroughout}
 use Rattle.abstract_store.specs.Store as store
 use Rattle.theorems.specs.Isolation.{Each, both, more, StoreAlike, CallAlike, equal, stored, followed, Denied, DeniedThroughout, ToldSame, ToldSameThroughout}
-use Rattle.model.specs.Witnesses.{calls}
+use Rattle.model.specs.History.{calls}
 use Rattle.model_laws.proofs.state.QuestionLaws.{ask-passed}
 use Rattle.model_laws.proofs.trace.TraceLaws.{All}
 use Rattle.theorems.proofs.steps.Footprint.{steady}

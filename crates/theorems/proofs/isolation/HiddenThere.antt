@@ -10,14 +10,14 @@ use Rattle.model.specs.Newest.{carryListed}
 use Rattle.model.specs.Rights.{forHome, shownAt, listBy, storeList, readList, ofList, isList, inRange, inRanges, mayStore, mayRead, sameListed, listMoved, signFor, signIf, keepList, signedList, storeRight, readRight}
 use Rattle.model.specs.Questions.{storeAllowed, readAllowed}
 use Rattle.model.specs.Calls.{formatCall}
-use Rattle.model.specs.Trials.{fill}
+use Rattle.model.specs.examples.Trials.{fill}
 use mathlib.Core.Option.{none, some}
 use Rattle.model.specs.Book.{Entry, Commit, Task, idle, opened}
 use Rattle.model.specs.History.{Call, Event, call, World, Formatting, afterFormat, emptyStore, unopened, ends, isOpening, step, after, AllAllowed}
 use Rattle.abstract_store.specs.Store.{Store, newStore, firstGroup, numbered, withRound, listOf, lastAfter, fencedAfter, setFor, promisesAfter, storeMustLog, Reply, replyOf, afterService, afterReply, follow}
 use Rattle.abstract_store.specs.Store as abstract-store
 use Rattle.theorems.specs.Isolation.{Each, both, more, EntryAlike, CommitAlike, TaskAlike, idles, empties, holds, StoreAlike, CallAlike, equal, stored, followed, Denied, DeniedThroughout, ToldSameThroughout}
-use Rattle.model.specs.Witnesses.{calls}
+use Rattle.model.specs.History.{calls}
 use Rattle.theorems.specs.Hidden.{rangeOf, firstWriters, nextWriters, unformatted, firstOpening, listing, listedBefore, bothAtWork, fourth}
 use Rattle.model_laws.proofs.bytes.ByteLaws.{length-zeros}
 use Rattle.theorems.proofs.steps.FormatRuns.{after-format}

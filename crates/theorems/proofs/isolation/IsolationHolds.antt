@@ -8,7 +8,7 @@ use mathlib.Core.List.{List, [], _∷_, _++_}
 use Rattle.model.specs.History.{Event, World, unopened, Formatting, afterFormat, emptyStore, step, after, AllAllowed}
 use Rattle.abstract_store.specs.Store.{newStore}
 use Rattle.theorems.specs.Isolation.{followed, Isolation}
-use Rattle.model.specs.Witnesses.{calls}
+use Rattle.model.specs.History.{calls}
 use Rattle.model_laws.proofs.trace.TraceLaws.{All}
 use Rattle.theorems.proofs.invariant.Invariant.{Sizes, Invariant}
 use Rattle.theorems.proofs.invariant.TouchLaws.{CommitFits, commits-fit}

@@ -17,7 +17,7 @@ use Rattle.model.specs.Calls.{Outcome}
 use Rattle.model.specs.Book.{Book, homesAfter}
 use Rattle.model.specs.DemandTwo.{closedBelow, LiveThroughout}
 use Rattle.model.specs.History.{Service, settles, roundBegins, roundSteps, trims, reads, Call, opening, confirm, change, service, settle, beginRound, stepRound, Event, call, World, Formatting, afterFormat, lent, ends, feed, isOpening, afterDone, afterRefused, afterCall, step, after, AllAllowed}
-use Rattle.model.specs.Witnesses.{calls}
+use Rattle.model.specs.History.{calls}
 use Rattle.abstract_store.specs.Rounds.{homesLeft, homesLeftBy, Moved, Ended, mayCome, RaisesAt, StaysAt, RoundsThroughout}
 use Rattle.abstract_store.specs.RoundEnds.{isStep, AllCome, stepped, UnderWay, RoundGoes, RoundsEnd}
 use Rattle.theorems.proofs.steps.RefusalLaws.{step-refused}

@@ -11,7 +11,8 @@ use Rattle.model.specs.Effects.{Given}
 use Rattle.model.specs.Calls.{Outcome, formatCall, openCall}
 use Rattle.model.specs.Crash.{Memory, fences, persist}
 use Rattle.model.specs.History.{Call, opening, begin, abort, store, commit, flush, confirm, settle, trim, read, Event, call, crash, World, unopened, emptyStore, loaded, ends, isOpening, afterCall, step}
-use Rattle.model.specs.Trials.{room, lane, fill, answerOf, positions}
+use Rattle.model.specs.examples.Lines.{Line, cut, does, gives, refuses, eventsOf, answersOf}
+use Rattle.model.specs.examples.Trials.{room, lane, fill, answerOf, positions}
 
 -- A format over a store in use, with copies of the same: a header that opens, bytes of 255 elsewhere.
 unfoldable pub usedBefore : Memory
@@ -49,55 +50,60 @@ unfoldable pub allowed : World → Event → Bool
 allowed w (call c) = alike (isOpening c) (not (w .ready))
 allowed w (crash passed chosen) = leb (w .passed) passed && leb passed (fences (w .pending))
 
-unfoldable pub calls : List Call → List Event
-calls [] = []
-calls (c ∷ cs) = call c ∷ calls cs
+unfoldable pub openAgain : Call
+openAgain = opening (zeros 1024) positions lane
 
 unfoldable pub reopen : Event
-reopen = call (opening (zeros 1024) positions lane)
+reopen = call openAgain
 
 -- Two eras with every call of document 01, every refusal number of it that a history can meet (1 and 4 to 9; strip and header stay in order, and 10
 -- needs 2^47 groups), a confirm, settles, trims, a ring that wraps, a crash that loses one group of two, and a crash inside an opening. Promised
--- places are in specs/Reservations, torn groups in specs/Tears.
+-- places are in specs/examples/Reservations, torn groups in specs/examples/Tears.
 
 -- two refused openings and a done one; refusals
-unfoldable pub refusals : List Event
+unfoldable pub refusals : List Line
 refusals =
-    call (opening [] positions lane) ∷ call (opening (zeros 1024) positions []) ∷ reopen
-    ∷ calls (begin 8 ∷ begin 0 ∷ begin 0 ∷ store 0 8 (fill 1) room ∷ store 1 0 (fill 1) room ∷ store 0 0 [] room ∷ read 0 0 (zeros 64) ∷ [])
+    refuses (opening [] positions lane) 1 ∷ refuses (opening (zeros 1024) positions []) 9 ∷ gives openAgain 0 2136 ∷ refuses (begin 8) 4 ∷ does (begin 0)
+    ∷ refuses (begin 0) 6 ∷ refuses (store 0 8 (fill 1) room) 5 ∷ refuses (store 1 0 (fill 1) room) 7 ∷ refuses (store 0 0 [] room) 1
+    ∷ does (read 0 0 (zeros 64)) ∷ []
 
 -- writer 0 fills group 4, which is not fenced yet: nothing to settle, nothing to trim
-unfoldable pub seven : List Event
+unfoldable pub seven : List Line
 seven =
-    calls (store 0 0 (fill 9) room ∷ store 0 1 (fill 9) room ∷ store 0 2 (fill 9) room ∷ store 0 3 (fill 9) room ∷ store 0 4 (fill 9) room
-    ∷ store 0 5 (fill 9) room ∷ store 0 6 (fill 9) room ∷ commit 0 room ∷ settle room ∷ trim room ∷ [])
+    does (store 0 0 (fill 9) room) ∷ does (store 0 1 (fill 9) room) ∷ does (store 0 2 (fill 9) room) ∷ does (store 0 3 (fill 9) room)
+    ∷ does (store 0 4 (fill 9) room) ∷ does (store 0 5 (fill 9) room) ∷ does (store 0 6 (fill 9) room) ∷ gives (commit 0 room) 35 516
+    ∷ gives (settle room) 0 2 ∷ does (trim room) ∷ []
 
--- a commit in a group of its own
-unfoldable pub alone : ℕ → ℕ → List Event
-alone home byte = calls (begin 0 ∷ store 0 home (fill byte) room ∷ commit 0 room ∷ flush room ∷ [])
+-- a commit in a group of its own, and its ticket
+unfoldable pub alone : ℕ → ℕ → ℕ → List Line
+alone home byte ticket =
+    does (begin 0) ∷ does (store 0 home (fill byte) room) ∷ gives (commit 0 room) ticket 0 ∷ gives (flush room) 0 518 ∷ []
 
 -- the log is full, until it is settled and trimmed; writer 1's commit then takes the first ring slot again
-unfoldable pub wraps : List Event
+unfoldable pub wraps : List Line
 wraps =
-    calls (begin 1 ∷ store 1 4 (fill 14) room ∷ commit 1 room ∷ confirm ∷ settle [] ∷ settle room ∷ trim room ∷ commit 1 room ∷ [])
+    does (begin 1) ∷ does (store 1 4 (fill 14) room) ∷ refuses (commit 1 room) 8 ∷ gives confirm 56 0 ∷ refuses (settle []) 9 ∷ gives (settle room) 0 478
+    ∷ gives (trim room) 0 68 ∷ gives (commit 1 room) 57 0 ∷ []
 
 -- writer 0's commit lies in two groups, of which the crash loses the second
-unfoldable pub loses : List Event
+unfoldable pub loses : List Line
 loses =
-    calls (begin 0 ∷ store 0 0 (fill 7) room ∷ store 0 1 (fill 7) room ∷ store 0 2 (fill 7) room ∷ store 0 3 (fill 7) room
-    ∷ store 0 4 (fill 7) room ∷ store 0 5 (fill 7) room ∷ store 0 6 (fill 7) (zeros 515) ∷ store 0 6 (fill 7) room ∷ store 0 7 (fill 7) room
-    ∷ commit 0 room ∷ flush room ∷ abort 0 ∷ [])
-    ++ (crash 9 (λ i. ltb i 8) ∷ [])
+    does (begin 0) ∷ does (store 0 0 (fill 7) room) ∷ does (store 0 1 (fill 7) room) ∷ does (store 0 2 (fill 7) room) ∷ does (store 0 3 (fill 7) room)
+    ∷ does (store 0 4 (fill 7) room) ∷ does (store 0 5 (fill 7) room) ∷ refuses (store 0 6 (fill 7) (zeros 515)) 9 ∷ gives (store 0 6 (fill 7) room) 0 516
+    ∷ does (store 0 7 (fill 7) room) ∷ gives (commit 0 room) 65 0 ∷ gives (flush room) 0 518 ∷ refuses (abort 0) 7 ∷ cut 9 (λ i. ltb i 8) ∷ []
 
 -- a refused opening, one whose header is lost, and the second era
-unfoldable pub again : List Event
+unfoldable pub again : List Line
 again =
-    call (opening (zeros 1024) positions []) ∷ reopen ∷ crash 1 (λ i. false) ∷ reopen
-    ∷ calls (begin 2 ∷ abort 2 ∷ begin 0 ∷ store 0 4 (fill 20) room ∷ commit 0 room ∷ flush room ∷ confirm ∷ [])
-    ++ (crash 4 (λ i. false) ∷ reopen ∷ [])
+    refuses (opening (zeros 1024) positions []) 9 ∷ gives openAgain 1 2204 ∷ cut 1 (λ i. false) ∷ gives openAgain 1 2204 ∷ does (begin 2) ∷ does (abort 2)
+    ∷ does (begin 0) ∷ does (store 0 4 (fill 20) room) ∷ gives (commit 0 room) 85 0 ∷ gives (flush room) 0 518 ∷ gives confirm 91 0 ∷ cut 4 (λ i. false)
+    ∷ gives openAgain 1 2204 ∷ []
+
+unfoldable pub historyLines : List Line
+historyLines = refusals ++ (seven ++ (alone 0 10 36 ++ (alone 1 11 43 ++ (alone 2 12 50 ++ (wraps ++ (loses ++ again))))))
 
 unfoldable pub history : List Event
-history = refusals ++ (seven ++ (alone 0 10 ++ (alone 1 11 ++ (alone 2 12 ++ (wraps ++ (loses ++ again))))))
+history = eventsOf historyLines
 
 -- those of a call without figure and batch
 unfoldable pub plain : List ℕ → List ℕ
@@ -106,16 +112,7 @@ plain (n ∷ ns) = n ∷ 0 ∷ 0 ∷ plain ns
 
 -- what its calls answer
 unfoldable pub answered : List ℕ
-answered =
-    plain (1 ∷ 9 ∷ []) ++ (0 ∷ 0 ∷ 2136 ∷ plain (4 ∷ 0 ∷ 6 ∷ 5 ∷ 7 ∷ 1 ∷ 0 ∷ []))
-    ++ (plain (0 ∷ 0 ∷ 0 ∷ 0 ∷ 0 ∷ 0 ∷ 0 ∷ []) ++ (0 ∷ 35 ∷ 516 ∷ 0 ∷ 0 ∷ 2 ∷ 0 ∷ 0 ∷ 0 ∷ []))
-    ++ (plain (0 ∷ 0 ∷ []) ++ (0 ∷ 36 ∷ 0 ∷ 0 ∷ 0 ∷ 518 ∷ []))
-    ++ (plain (0 ∷ 0 ∷ []) ++ (0 ∷ 43 ∷ 0 ∷ 0 ∷ 0 ∷ 518 ∷ []))
-    ++ (plain (0 ∷ 0 ∷ []) ++ (0 ∷ 50 ∷ 0 ∷ 0 ∷ 0 ∷ 518 ∷ []))
-    ++ (plain (0 ∷ 0 ∷ 8 ∷ []) ++ (0 ∷ 56 ∷ 0 ∷ 9 ∷ 0 ∷ 0 ∷ 0 ∷ 0 ∷ 478 ∷ 0 ∷ 0 ∷ 68 ∷ 0 ∷ 57 ∷ 0 ∷ []))
-    ++ (plain (0 ∷ 0 ∷ 0 ∷ 0 ∷ 0 ∷ 0 ∷ 0 ∷ 9 ∷ []) ++ (0 ∷ 0 ∷ 516 ∷ 0 ∷ 0 ∷ 0 ∷ 0 ∷ 65 ∷ 0 ∷ 0 ∷ 0 ∷ 518 ∷ 7 ∷ 0 ∷ 0 ∷ []))
-    ++ (9 ∷ 0 ∷ 0 ∷ 0 ∷ 1 ∷ 2204 ∷ 0 ∷ 1 ∷ 2204 ∷ plain (0 ∷ 0 ∷ 0 ∷ 0 ∷ []))
-    ++ (0 ∷ 85 ∷ 0 ∷ 0 ∷ 0 ∷ 518 ∷ 0 ∷ 91 ∷ 0 ∷ 0 ∷ 1 ∷ 2204 ∷ [])
+answered = answersOf historyLines
 
 -- eight homes, each of one byte throughout
 unfoldable pub filledWith : List ℕ → List ℕ

@@ -8,7 +8,7 @@ use Rattle.model.specs.State.{listHome, listedOf, listSign}
 use Rattle.model.specs.Newest.{noPosition, keptFor}
 use Rattle.model.specs.Calls.{Outcome}
 use Rattle.model.specs.History.{Call, opening, begin, store, commit, flush, settle, trim, read, Event, call, crash, World, emptyStore, ends, afterCall, step}
-use Rattle.model.specs.Trials.{room, lane, fill, goes, Trial}
+use Rattle.model.specs.examples.Trials.{room, lane, fill, goes, Trial}
 
 -- numbers of 16 bits; two ranges of a writer's four, each first home and number of homes
 unfoldable pub sixteens : List ℕ → List ℕ

@@ -6,12 +6,16 @@ use mathlib.Core.Bool.{Bool, false, _&&_}
 use mathlib.Core.List.{List, [], _∷_, _++_}
 use lib.Dec.{eqb, leb, ltb}
 use Rattle.model.specs.Bytes.{zeros}
-use Rattle.model.specs.History.{opening, begin, store, commit, flush, settle, trim, Event, call, crash, World, emptyStore}
-use Rattle.model.specs.Trials.{room, lane, fill}
-use Rattle.model.specs.Witnesses.{calls, alone, endsSo, goesTo, goesSo}
+use Rattle.model.specs.History.{calls, opening, begin, store, commit, flush, settle, trim, Event, call, crash, World, emptyStore}
+use Rattle.model.specs.examples.Trials.{room, lane, fill}
+use Rattle.model.specs.examples.Witnesses.{endsSo, goesTo, goesSo}
 
 unfoldable pub reopen : Event
 reopen = call (opening (zeros 1024) (zeros 32) lane)
+
+-- a commit in a group of its own
+unfoldable pub alone : ℕ → ℕ → List Event
+alone home byte = calls (begin 0 ∷ store 0 home (fill byte) room ∷ commit 0 room ∷ flush room ∷ [])
 
 -- a commit of two homes in a group of its own: metadata and data blocks 0 and 1, pieces 0 to 2
 unfoldable pub both : ℕ → ℕ → List Event
