@@ -40,7 +40,7 @@ use Rattle.theorems.proofs.demands.Yields.{ends-done}
 use Rattle.theorems.proofs.demands.TrimYields.{trim-leaves}
 use Rattle.theorems.proofs.demands.YieldsAll.{step-by}
 use Rattle.theorems.proofs.steps.Footprint.{lists, committed, logStart, Touch, lists-open, lists-commit, lists-trim, committed-open, committed-confirm, committed-commit, start-open, start-trim, Spares, frame}
-use Rattle.theorems.proofs.store.StoreAnswers.{Agrees}
+use Rattle.theorems.proofs.store.StoreAgrees.{Agrees}
 use Rattle.theorems.proofs.store.StoreFollows.{done-agrees, follows, empty-agrees}
 
 -- what is kept for each home is what the book says of it

@@ -30,7 +30,7 @@ use Rattle.theorems.proofs.invariant.LiveLog.{tagsIn, baseOf, endOf, ke
 use Rattle.theorems.proofs.steps.Beginning.{format-closed}
 use Rattle.theorems.proofs.steps.FormatRuns.{sizes, after-format}
 use Rattle.theorems.proofs.demands.DemandThree.{keeps}
-use Rattle.theorems.proofs.store.StoreAnswers.{Agrees, first-is, asked, promised-is, places-are}
+use Rattle.theorems.proofs.store.StoreAgrees.{Agrees, first-is, asked, promised-is, places-are}
 use Rattle.theorems.proofs.store.StoreFollows.{follows, empty-agrees}
 use Rattle.theorems.proofs.places.PlaceLedgerLaws.{commits-append, old-at}
 use Rattle.theorems.proofs.places.PlacesHold.{places-accounted}

@@ -18,7 +18,7 @@ use Rattle.model_laws.proofs.state.RightLaws.{shown-by, list-by, list-part}
 use Rattle.model_laws.proofs.state.SignLaws.{store-agrees, read-agrees, store-none, read-none}
 use Rattle.theorems.proofs.invariant.Invariant.{Sizes, Running}
 use Rattle.theorems.proofs.invariant.LiveLog.{lent-homes}
-use Rattle.theorems.proofs.store.StoreAnswers.{Agrees}
+use Rattle.theorems.proofs.store.StoreAgrees.{Agrees}
 
 -- store and read are asked for rights, and the answer is that of the abstract store's list
 abbrev pub ChangeRights : World → Store → Change → Type 0

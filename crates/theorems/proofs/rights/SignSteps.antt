@@ -26,7 +26,7 @@ use Rattle.theorems.proofs.steps.DoneLaws.{after}
 use Rattle.theorems.proofs.steps.OpenStep.{open-effect, homes-owed}
 use Rattle.theorems.proofs.steps.NumberRuns.{owed-writes}
 use Rattle.theorems.proofs.steps.StoreCommit.{left-by, c-state-is, left-size, commit-held-runs, commit-older}
-use Rattle.theorems.proofs.store.StoreAnswers.{Agrees}
+use Rattle.theorems.proofs.store.StoreAgrees.{Agrees}
 use Rattle.theorems.proofs.demands.YieldsAll.{step-by}
 use Rattle.theorems.proofs.steps.Rows.{rowOf, row-state}
 use Rattle.theorems.proofs.steps.Footprint.{lists, committed, Touch, lists-open, lists-commit, lists-trim, committed-open, committed-confirm, committed-commit, Spares, frame, logged-listed, abort-leaves}

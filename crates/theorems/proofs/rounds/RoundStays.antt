@@ -17,7 +17,7 @@ use Rattle.abstract_store.specs.Store as store
 use Rattle.abstract_store.specs.Rounds.{homesLeft, mayCome, TicketAbove}
 use Rattle.theorems.proofs.invariant.Invariant.{Sizes, Running}
 use Rattle.theorems.proofs.steps.RoundRuns.{remaining-are}
-use Rattle.theorems.proofs.store.StoreAnswers.{Agrees, position-is}
+use Rattle.theorems.proofs.store.StoreAgrees.{Agrees, position-is}
 use Rattle.theorems.proofs.store.CallAnswers.{remaining-is, call-answers}
 use Rattle.theorems.proofs.steps.Footprint.{committed, rounds, Touch, committed-commit, round-open, round-begin, round-step, Spares, frame}
 use Rattle.theorems.proofs.rounds.RoundSteps.{homes-same, steps-shrink}

@@ -33,7 +33,7 @@ use Rattle.theorems.proofs.steps.OpenStep.{open-effect}
 use Rattle.theorems.proofs.steps.FormatRuns.{from-format}
 use Rattle.theorems.proofs.steps.Beginning.{format-closed}
 use Rattle.theorems.proofs.demands.DemandThree.{keeps}
-use Rattle.theorems.proofs.store.StoreAnswers.{Agrees}
+use Rattle.theorems.proofs.store.StoreAgrees.{Agrees}
 use Rattle.theorems.proofs.store.StoreFollows.{follows, empty-agrees}
 use Rattle.theorems.proofs.rounds.RoundStays.{stays}
 use Rattle.theorems.proofs.rounds.RoundCounts.{homes-fewer}

@@ -11,7 +11,8 @@ use Rattle.theorems.proofs.invariant.Invariant.{Sizes, Closed, Invarian
 use Rattle.theorems.proofs.steps.FormatRuns.{sizes, after-format}
 use Rattle.theorems.proofs.steps.Beginning.{format-closed}
 use Rattle.theorems.proofs.demands.DemandThree.{keeps}
-use Rattle.theorems.proofs.store.StoreAnswers.{Agrees, open-answers}
+use Rattle.theorems.proofs.store.StoreAgrees.{Agrees}
+use Rattle.theorems.proofs.store.ServiceAnswers.{open-answers}
 use Rattle.theorems.proofs.rights.RightsHold.{rights-at}
 use Rattle.theorems.proofs.store.CallAnswers.{call-answers}
 use Rattle.theorems.proofs.store.StoreFollows.{follows, empty-agrees}

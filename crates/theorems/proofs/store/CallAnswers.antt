@@ -25,7 +25,9 @@ use Rattle.theorems.proofs.invariant.LiveLog.{tagsIn, keptIn}
 use Rattle.theorems.proofs.steps.RoundRuns.{isDue, remaining, broughtUp, stepped, step-effect, step-size, step-inside, step-now, nextCursor, cursor-upto}
 use Rattle.theorems.proofs.store.StoreLaws.{answers, marked-same, found-any-wrote, bytes-homes}
 use Rattle.theorems.proofs.rights.RightsHold.{ChangeRights, ServiceRights, RightsAt}
-use Rattle.theorems.proofs.store.StoreAnswers.{Numbers, Agrees, size-none, asked, batch-is, no-round, below-contents, begin-answers, reserve-answers, abort-answers, store-answers, commit-answers, flush-answers, confirm-answers, settle-answers, trim-answers, read-answers}
+use Rattle.theorems.proofs.store.StoreAgrees.{Numbers, Agrees, size-none, asked}
+use Rattle.theorems.proofs.store.ChangeAnswers.{batch-is, begin-answers, reserve-answers, abort-answers, store-answers, commit-answers, flush-answers, confirm-answers, read-answers}
+use Rattle.theorems.proofs.store.ServiceAnswers.{no-round, below-contents, settle-answers, trim-answers}
 
 no-records : length (batchBytes []) ≡ 0
 unfolding batchBytes

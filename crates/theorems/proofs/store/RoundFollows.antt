@@ -18,7 +18,7 @@ use Rattle.theorems.proofs.invariant.Invariant.{Sizes, Running}
 use Rattle.theorems.proofs.steps.DoneLaws.{outcome-code}
 use Rattle.theorems.proofs.steps.RoundRuns.{lent-out, lent-within, begun-numbers, remaining, stepped, step-effect, ended-numbers, moved-numbers}
 use Rattle.theorems.proofs.demands.Yields.{ends-done}
-use Rattle.theorems.proofs.store.StoreAnswers.{Numbers, Agrees, next-is}
+use Rattle.theorems.proofs.store.StoreAgrees.{Numbers, Agrees, next-is}
 use Rattle.theorems.proofs.store.CallAnswers.{remaining-is}
 
 module _ (G D : ℕ) (z : Sizes G D) (w : World) (r : Running G D w) (s : Store) (a : Agrees G D w s) where
