@@ -45,7 +45,7 @@ pub block-stops : (g : Given) (k v : ℕ) → askBlock g 0 ≡ suc k → askBloc
 unfolding askBlock
 block-stops g k v e = stops (areasRight g && stateRight g && blockRight g) (stripInOrder g) k v e
 
--- the same from what `in_use` and `in_use_block` give
+-- the same from what `state_answer` and `block_answer` give
 pub state-refuses : (g : Given) (r v : ℕ) → r ≡ askState g 0 → r ≢ 0 → r ≡ askState g v
 state-refuses g zero v e h = absurd (h refl)
 state-refuses g (suc k) v e h = sym (state-stops g k v (sym e))

@@ -1,5 +1,5 @@
 // Commit's pass at one position: it is kept if an entry of the transaction stands there.
-use crate::strip::keep;
+use crate::positions::keep;
 use model::Tag;
 ghost use mathlib.Core.Path.{_≡_};
 ghost use mathlib.Core.Bool.{true, false};

@@ -1,4 +1,4 @@
--- `call_writer::begin` meets its contract: refused by the verdict, or done by the one change of the strip. Assumes nothing.
+-- `call_writer::begin` meets its contract: refused by its answer, or done by the one change of the strip. Assumes nothing.
 use native.Mathlib.Omega.{arith}
 use Rattle.call_writer.proofs.SessionLaws.{begin-fits, begin-refused, begin-done}
 use borrow.Author.Needs.{needs}

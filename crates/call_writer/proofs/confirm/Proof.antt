@@ -1,4 +1,4 @@
--- `call_writer::confirm` meets its contract: refused by the verdict, or done by the one change of the strip. Assumes nothing.
+-- `call_writer::confirm` meets its contract: refused by its answer, or done by the one change of the strip. Assumes nothing.
 use Rattle.call_writer.proofs.SessionLaws.{confirm-fits, confirm-refused, confirm-done}
 use borrow.Author.Needs.{needs}
 use Rattle.call_writer.proofs.confirm.Statement.{statement}

@@ -1,5 +1,5 @@
 -- Between two calls of an era: the strip is in order, what the calls wrote reads back as the book's commits that are not trimmed, and a read gives the
--- writer's own newest block, else the newest committed one. That the newest positions show the latter comes from KeptHolds.
+-- writer's own newest block, else the newest committed one. That the newest positions show the latter comes from NewestHolds.
 use Prim.Native.Nat.{ℕ, suc, _+_, _-_, _*_, _≤_, _<_}
 use mathlib.Core.Path.{_≡_, refl, sym, ap, _∙_}
 use mathlib.Core.Logic.{inl, inr}
@@ -211,7 +211,7 @@ module _ (G D b : ℕ) (tr : List Ev) (old : List Commit) (w : World) (z : Sizes
     unfolding visible ownElse readBy lent
     visible-is l d = rw (current-is d) (own-is l (homeAt (homesAfter D (w .book .commits)) h))
 
--- a read shows what the commit rule finds (proofs/claims/KeptHolds)
+-- a read shows what the commit rule finds (proofs/newest/NewestHolds)
 module _ (G D : ℕ) (z : Sizes G D) (w : World) (r : Running G D w)
     (shows : (block : List ℕ) (v h : ℕ) → h < D → shown (lent w block [] v h) ≡ current (lent w block [] v h)) where
   strip-holds : inOrder (w .state) (groupsIn (length (w .log))) (w .homes) ≡ true

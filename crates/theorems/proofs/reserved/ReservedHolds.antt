@@ -1,4 +1,4 @@
--- Places promised beforehand (specs/Promises), for every history. Assumes nothing.
+-- Places promised beforehand (specs/Reserved), for every history. Assumes nothing.
 use Prim.Native.Nat.{ℕ, zero, suc, _+_, _-_, _*_, _≤_, _<_}
 use mathlib.Core.Path.{_≡_, refl, sym, ap, _∙_}
 use mathlib.Core.Logic.{_⊎_, inl, inr, _↔_, _≢_}

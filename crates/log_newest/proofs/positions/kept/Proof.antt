@@ -1,8 +1,8 @@
 -- `log_newest::kept` meets its contract. Assumes nothing.
 use borrow.Author.Needs.{needs}
 use Rattle.log_newest.proofs.StripLaws.{kept-read}
-use Rattle.log_newest.proofs.strip.kept.Statement.{statement}
-use Rattle.log_newest.proofs.strip.kept.Tie as tie
+use Rattle.log_newest.proofs.positions.kept.Statement.{statement}
+use Rattle.log_newest.proofs.positions.kept.Tie as tie
 
 mul-number : tie.Need-mul-number
 mul-number c = search needs

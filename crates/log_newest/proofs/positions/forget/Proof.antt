@@ -6,8 +6,8 @@ use lib.ListN.{length}
 use Rattle.model.specs.Newest.{forget}
 use Rattle.model_laws.proofs.state.NewestLaws.{length-forget}
 use Rattle.log_newest.proofs.StripLaws.{forget-more}
-use Rattle.log_newest.proofs.strip.forget.Statement.{statement}
-use Rattle.log_newest.proofs.strip.forget.Tie as tie
+use Rattle.log_newest.proofs.positions.forget.Statement.{statement}
+use Rattle.log_newest.proofs.positions.forget.Tie as tie
 
 abbrev Inv-loop : tie.InvT-loop
 Inv-loop newest₀ bound homes home₀ newest home = (newest ≡ forget newest₀ bound home) × (home ≤ homes) × (length newest ≡ length newest₀)

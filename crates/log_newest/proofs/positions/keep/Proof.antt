@@ -1,8 +1,8 @@
 -- `log_newest::keep` meets its contract. Assumes nothing.
 use borrow.Author.Needs.{needs}
 use Rattle.log_newest.proofs.StripLaws.{keep-written}
-use Rattle.log_newest.proofs.strip.keep.Statement.{statement}
-use Rattle.log_newest.proofs.strip.keep.Tie as tie
+use Rattle.log_newest.proofs.positions.keep.Statement.{statement}
+use Rattle.log_newest.proofs.positions.keep.Tie as tie
 
 mul-put-number : tie.Need-mul-put-number
 mul-put-number c = search needs

@@ -2,8 +2,8 @@
 use borrow.Author.Needs.{needs}
 use native.Mathlib.Omega.{arith}
 use Rattle.log_newest.proofs.StripLaws.{forgotten, remembered}
-use Rattle.log_newest.proofs.strip.forget_one.Statement.{statement}
-use Rattle.log_newest.proofs.strip.forget_one.Tie as tie
+use Rattle.log_newest.proofs.positions.forget_one.Statement.{statement}
+use Rattle.log_newest.proofs.positions.forget_one.Tie as tie
 
 kept-requires : tie.Need-kept-requires
 kept-requires c κs = search needs

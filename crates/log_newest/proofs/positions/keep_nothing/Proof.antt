@@ -6,8 +6,8 @@ use native.Mathlib.Omega.{arith}
 use lib.ListN.{length, replicate, length-set}
 use Rattle.model.specs.Bytes.{puts}
 use Rattle.log_newest.proofs.StripLaws.{ones-turn, ones-end}
-use Rattle.log_newest.proofs.strip.keep_nothing.Statement.{statement}
-use Rattle.log_newest.proofs.strip.keep_nothing.Tie as tie
+use Rattle.log_newest.proofs.positions.keep_nothing.Statement.{statement}
+use Rattle.log_newest.proofs.positions.keep_nothing.Tie as tie
 
 abbrev Inv-loop : tie.InvT-loop
 Inv-loop newest₀ homes i₀ left₀ newest i left =
