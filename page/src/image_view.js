@@ -87,7 +87,7 @@ class ImageView {
       part("Depth bands", bandsPart(homes)),
       part("Alarms", alarmsPart(homes)),
       part("Rights", rightsPart(told)),
-      part("Homes", el("p", null, plural(told.homes.length, "home") + ", " + told.homes.filter(home => /^0*$/.test(home.block)).length.toLocaleString("en") + " of them zeros."), homesTable(told, homes)),
+      part("Homes", homesTable(told, homes)),
       part("Damage", told.damage.length ? el("ul", { id: "damage" }, told.damage.map(note => el("li", null, note))) : el("p", null, "None.")),
       part("What inspect prints", this.printed("text", text, this.name + ".txt"), this.printed("JSON", json, this.name + ".json")));
   }
@@ -95,8 +95,9 @@ class ImageView {
   /* inspect's lines on the image and its header, in its words. */
   headerList(told) {
     const { header, places } = told, last = header.start + header.groups - 1;
+    const shape = `start ${header.start} ${header.start_from}, ${header.groups} groups, ${header.homes} homes`;
     const rows = [["image", this.name + ", " + told.bytes.toLocaleString("en") + " bytes"],
-      ["header", (header.fits ? "fits" : "DAMAGED") + "; start " + header.start + " " + header.start_from + ", " + header.groups + " groups, " + header.homes + " homes"],
+      ["header", (header.fits ? "fits" : "DAMAGED") + "; " + shape],
       ["live", "groups " + header.start + " to " + last + ", positions " + 7 * header.start + " to " + (7 * last + 6)]];
     if (header.worn_out) rows.push(["worn", "out: an opening would move the start past 2^47 and is refused; homes as it would leave them"]);
     rows.push(["places", 7 * header.groups + ": " + places.committed + " with entries that come back, " + places.others + " with others, "
@@ -119,8 +120,9 @@ class ImageView {
   /* Filled when it is opened: it can be long. */
   printed(kind, text, name) {
     const place = el("pre", { tabindex: "0", "aria-label": "inspect, " + kind });
+    const save = el("button", { type: "button", on: { click: () => saveFile(name, text) } }, "Save as " + name);
     return el("details", { class: "printed", "data-kind": kind, on: { toggle: () => {
       place.textContent = text.length > MOST_SHOWN ? text.slice(0, MOST_SHOWN) + "\n… the file has all of it\n" : text;
-    } } }, el("summary", null, "inspect, " + kind), el("button", { type: "button", on: { click: () => saveFile(name, text) } }, "Save as " + name), place);
+    } } }, el("summary", null, "inspect, " + kind), save, place);
   }
 }

@@ -15,8 +15,8 @@ import look_checks
 import station_checks
 from browser import Browser, installed
 
-def saves(browser, folder):
-    """The station's memory as a file is the image that the page inspects."""
+def saves(browser, programs, folder):
+    """The station's memory as a file is the image that the page inspects, and the inspector reads it."""
     browser.send("Browser.setDownloadBehavior", session=None, behavior="allow", downloadPath=str(folder))
     browser.click("from-station")
     browser.wait("document.getElementById('proved')")
@@ -28,6 +28,7 @@ def saves(browser, folder):
             break
         time.sleep(0.05)
     assert len((folder / "station.img").read_bytes()) == 64 + 8 * 512 + 40 * 64
+    image_checks.same_words(browser, programs, folder, "station.img")
 
 
 def check(browser, address, programs, folder, shots):
@@ -54,7 +55,7 @@ def check(browser, address, programs, folder, shots):
     tell("FRAM dumps, an image inside a file, empty and huge files, wear sheet")
     look_checks.theme(browser)
     look_checks.keys(browser, address)
-    saves(browser, folder)
+    saves(browser, programs, folder)
     browser.click("many")
     browser.wait(station_checks.READY, 60)
     tell("%d controls and pictures with names; keys, theme, saved files" % look_checks.names(browser))
