@@ -4,9 +4,9 @@
 # page-check      tests it in headless Chromium, and that the kept file is the one that is made; page/packages.sh installs what that needs
 
 PAGE = docs/page/index.html
-# The proved program's C, and the inspector's own sources: what they say is what the page says.
+# The proved program's C; the inspector's own sources, so that the page says what it says; the FRAM driver. By name, wherever they lie in c/.
 PAGE_PROVED = dist/kagutin.c dist/kagutin_bands.c dist/kagutin_hours.c dist/kagutin_alarms.c
-PAGE_INSPECTOR = $(wildcard c/inspect*.c c/inspect/*.c c/rule.c c/common/rule.c) c/store/fram.c
+PAGE_INSPECTOR = $(shell find c -name 'inspect*.c' -o -path 'c/inspect/*.c' -o -name rule.c -o -name fram.c | LC_ALL=C sort)
 
 .PHONY: page page-check
 

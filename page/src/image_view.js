@@ -16,6 +16,20 @@ async function imageOfDump(bytes) {
   return image;
 }
 
+/* Do the proved calls above the store tell what the tables show? Only homes that hold what they should are asked for. */
+function unitsAgree(store, homes) {
+  const same = (told, ...wants) => told.code !== 0 || wants.every((want, i) => want === told.figures[i]);
+  const part = (home, count) => homes.subarray(BLOCK * home, BLOCK * (home + count));
+  const interval = 500 * 3600;
+  const pumps = pumpsOf(homes).filter(pump => pump.fits).every(({ pump, starts, seconds }) =>
+    same(store.askAny("pump_hours", [pump], 2), starts, seconds)
+    && same(store.askAny("pump_services", [pump, interval], 2), Math.floor(seconds / interval), seconds % interval));
+  if (homes.length < BLOCK * (ALARM_HOME + ALARM_HOMES)) return pumps;
+  const { gravest, fits } = readAlarms(part(ALARM_HOME, ALARM_HOMES)), bands = readBands(part(BAND_HOME, BAND_HOMES));
+  return pumps && (!fits || same(store.askAny("alarm_gravest", [], 3), gravest.identity, gravest.class, gravest.second))
+    && (!bands.fits || bands.rows.every(row => same(store.askAny("bands_look_up", [row.from], 3), row.from, row.to, row.pumps)));
+}
+
 class ImageView {
   say(text, bad = false) {
     byId("image-said").textContent = text;
@@ -112,8 +126,9 @@ class ImageView {
     whole.set(image.subarray(0, whole.length));
     const reply = store.openImage(whole);
     if (reply.code) return "The proved program refuses to open this image: " + reply.code + ", " + store.answerText(reply.code) + ".";
-    const { area } = store, same = reply.figure === told.commits.length && homes.every((byte, i) => byte === area[i]);
-    return "The proved program opens this image and brings back " + plural(reply.figure, "transaction") + ". Its homes are "
+    const { area } = store;
+    const same = reply.figure === told.commits.length && homes.every((byte, i) => byte === area[i]) && unitsAgree(store, homes);
+    return "The proved program opens this image and brings back " + plural(reply.figure, "transaction") + ". Its homes, pumps, alarms and bands are "
       + (same ? "the same, byte for byte." : "NOT the same: please report this image.");
   }
 
