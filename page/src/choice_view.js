@@ -54,7 +54,7 @@ class ChoiceView {
     select.value = String(this.fences);
     const blocks = this.blocks(), focus = document.activeElement && document.activeElement.dataset.block;
     byId("choice-told").textContent = blocks.length
-      ? this.chosen.filter(Boolean).length + " of " + plural(blocks.length, "block") + " land."
+      ? "Chosen to land: " + this.chosen.filter(Boolean).length + " of " + plural(blocks.length, "block") + "."
       : "No block is on its way between these fences.";
     fill(byId("choice-blocks"), this.records(blocks).map(list => this.record(list)));
     if (focus !== undefined && focus !== null) byId("choice-blocks").querySelector('[data-block="' + focus + '"]')?.focus();

@@ -34,7 +34,8 @@ function table(caption, heads, items, row, most = 100) {
     for (let i = body.childElementCount; i < Math.min(upTo, items.length); i++) body.append(el("tr", null, row(items[i]).map(cell)));
   };
   add(most);
-  const made = el("table", null, el("caption", null, caption), el("thead", null, el("tr", null, heads.map(head => el("th", { scope: "col" }, head)))), body);
+  const top = el("thead", null, el("tr", null, heads.map(head => el("th", { scope: "col" }, head))));
+  const made = el("table", null, el("caption", null, caption), top, body);
   const frame = el("div", { class: "wide", tabindex: "0", role: "region", "aria-label": caption }, made);
   if (items.length <= most) return frame;
   const more = el("button", { type: "button", on: { click: () => {

@@ -3,12 +3,17 @@ const MOST_MOMENTS = 1500;
 
 /* The commits since the last cut, and what is known of each. */
 function commitsOf(station) {
-  const short = (commit, fate) => ({ number: commit.number, writer: commit.writer, homes: [...new Set(commit.entries.map(entry => entry.home))], fate });
+  const { book } = station;
+  const short = (commit, fate) => {
+    const homes = [...new Set(commit.entries.map(entry => entry.home))];
+    return { number: commit.number, writer: commit.writer, homes, fate };
+  };
+  const now = commit => commit.owed ? "owed" : commit.entries.every(entry => book.hasLanded(entry)) ? "landed" : "going";
   if (station.phase !== "on" || station.opening) {
     const { back = [], gone = [] } = station.result || {};
     return [...back.map(commit => short(commit, "back")), ...gone.map(commit => short(commit, "gone"))];
   }
-  return station.book.commits.map(commit => short(commit, commit.owed ? "owed" : commit.entries.every(entry => station.book.hasLanded(entry)) ? "landed" : "going"));
+  return book.commits.map(commit => short(commit, now(commit)));
 }
 
 function momentOf(session) {
@@ -17,7 +22,7 @@ function momentOf(session) {
     said: station.said,
     image: station.lasting.bytes.slice(),
     waiting: station.lasting.waiting.map(stretch => stretch.slice()),
-    writers: station.book.writers.map(writer => ({ open: writer.open, logged: writer.entries.length, held: writer.held ? writer.held.home : -1 })),
+    writers: station.book.writers.map(({ open, entries, held }) => ({ open, logged: entries.length, held: held ? held.home : -1 })),
     byBook: station.phase === "on" && !station.opening ? station.book.newest.slice() : station.book.kept.slice(),
     usage: station.phase === "off" ? null : station.kagutin.ask("usage", [], 5).figures,
     commits: commitsOf(station),

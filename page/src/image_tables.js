@@ -12,7 +12,8 @@ function linkWords(entry) {
 
 /* Each slot: its group's entries, or why it is a hole. */
 function entriesTable(told) {
-  return table("Groups and entries", ["slot", "group", "position", "entry", "home", "first", "closes", "what an opening makes of it"], entryRows(told), row => {
+  const heads = ["slot", "group", "position", "entry", "home", "first", "closes", "what an opening makes of it"];
+  return table("Groups and entries", heads, entryRows(told), row => {
     if (row.hole) return [row.slot, row.group === undefined ? "–" : row.group, "", "", "", "", "", row.hole];
     const known = row.home !== undefined;
     return [row.slot, row.group, row.position, row.torn ? "torn" : row.kind, known ? row.home : "", known ? row.first : "", linkWords(row),
@@ -22,8 +23,9 @@ function entriesTable(told) {
 
 function commitsTable(told) {
   if (!told.commits.length) return el("p", null, "No commit comes back.");
-  return table("Commits that come back, in commit order", ["commit", "positions", "entries", "homes"], told.commits.map((commit, i) => ({ ...commit, i })),
-    commit => [commit.i + 1, commit.first + " to " + commit.closing, commit.entries, commit.homes.join(" ")]);
+  const rows = told.commits.map((commit, i) => ({ ...commit, rank: i + 1 }));
+  return table("Commits that come back, in commit order", ["commit", "positions", "entries", "homes"], rows,
+    commit => [commit.rank, commit.first + " to " + commit.closing, commit.entries, commit.homes.join(" ")]);
 }
 
 /* The data area as an opening leaves it. */
@@ -36,8 +38,10 @@ function openedHomes(told) {
 }
 
 function homesTable(told, homes) {
-  const rows = told.homes.filter(home => !/^0*$/.test(home.block));
-  return table("Homes that are not zeros, as an opening leaves them", ["home", "for", "value", "from position", "bytes"], rows, ({ home, from, block }) =>
+  const rows = told.homes.filter(home => !/^0*$/.test(home.block)), zeros = told.homes.length - rows.length;
+  const heads = ["home", "for", "value", "from position", "bytes"];
+  const caption = `${plural(told.homes.length, "home")}, as an opening leaves them; ${zeros} are zeros and left out`;
+  return table(caption, heads, rows, ({ home, from, block }) =>
     [home, homeName(home), blockText(home, homeBlock(homes, home)), from === null ? "its own block" : from,
       el("code", null, block.replace(/(00)+$/, "").replace(/(.{8})/g, "$1 "))]);
 }
@@ -67,7 +71,7 @@ function alarmsPart(homes) {
   const { list, gravest, fits } = readAlarms(homes.subarray(BLOCK * ALARM_HOME, BLOCK * (ALARM_HOME + ALARM_HOMES)));
   if (!fits) return el("p", null, "Homes 24 to 29 hold something else than alarms.");
   if (!list.length) return el("p", null, "No alarm is open.");
-  return el("div", null, el("p", null, "Gravest: alarm " + gravest.identity + ", class " + gravest.class + ", since second " + gravest.second.toLocaleString("en") + "."),
+  return el("div", null, el("p", null, `Gravest: alarm ${gravest.identity}, class ${gravest.class}, since second ${gravest.second}.`),
     table("Open alarms", ["identity", "class", "arrival second"], list, alarm => [alarm.identity, alarm.class, alarm.second]));
 }
 
@@ -78,7 +82,9 @@ function hoursText(seconds) {
 
 function pumpsOf(homes) {
   const pumps = [];
-  for (let p = 0; p < PUMPS && homes.length >= BLOCK * (PUMP_HOME + p + 1); p++) pumps.push({ pump: p, ...readPump(homeBlock(homes, PUMP_HOME + p)) });
+  for (let p = 0; p < PUMPS && homes.length >= BLOCK * (PUMP_HOME + p + 1); p++) {
+    pumps.push({ pump: p, ...readPump(homeBlock(homes, PUMP_HOME + p)) });
+  }
   return pumps;
 }
 
@@ -86,7 +92,8 @@ function wearBar(pump, interval, most) {
   const due = Math.floor(pump.seconds / interval) * interval, share = value => (100 * value / most).toFixed(2);
   return svg("svg", { viewBox: "0 0 100 10", preserveAspectRatio: "none", class: "bar", role: "img",
     "aria-label": hoursText(pump.seconds) + " run hours, " + Math.floor(pump.seconds / interval) + " services due" },
-  svg("rect", { class: "due", width: share(due), height: 10 }), svg("rect", { class: "left", x: share(due), width: share(pump.seconds - due), height: 10 }));
+  svg("rect", { class: "due", width: share(due), height: 10 }),
+  svg("rect", { class: "left", x: share(due), width: share(pump.seconds - due), height: 10 }));
 }
 
 /* The wear sheet of one image: the pump to open first at the top. */
@@ -97,17 +104,21 @@ function wearTable(pumps, interval) {
   return table("Wear of the pumps, the pump to open first at the top",
     ["pump", "starts", "run hours", "hours a start", "services due", "hours to next", "run hours as a bar"], ran, pump => {
       const left = pump.seconds % interval;
-      return [el("span", null, pump.pump + (pump.running ? " (running)" : "")), pump.starts, hoursText(pump.seconds), hoursText(Math.floor(pump.seconds / pump.starts)),
-        Math.floor(pump.seconds / interval), hoursText(interval - left), wearBar(pump, interval, most)];
+      return [pump.pump + (pump.running ? " (running)" : ""), pump.starts, hoursText(pump.seconds),
+        hoursText(Math.floor(pump.seconds / pump.starts)), Math.floor(pump.seconds / interval), hoursText(interval - left),
+        wearBar(pump, interval, most)];
     });
 }
 
 function wearPart(homes) {
   const pumps = pumpsOf(homes), place = el("div");
   const wrong = pumps.filter(pump => !pump.fits).map(pump => pump.pump);
-  const draw = hours => fill(place, wearTable(pumps, 3600 * hours), wrong.length ? el("p", null, "Homes of pumps " + wrong.join(", ") + " hold something else.") : null);
+  const note = wrong.length ? el("p", null, "Homes of pumps " + wrong.join(", ") + " hold something else.") : null;
+  const draw = hours => fill(place, wearTable(pumps, 3600 * hours), note);
   if (!pumps.length) return el("p", null, "There are too few homes for pumps.");
   draw(500);
-  return el("div", null, el("label", { class: "field" }, "Service interval in hours", el("input", { type: "number", min: 1, max: 100000, value: 500, id: "interval",
-    on: { input: event => { if (event.target.checkValidity() && event.target.value) draw(Number(event.target.value)); } } })), place);
+  const field = el("input", { type: "number", min: 1, max: 100000, value: 500, id: "interval", on: { input: ({ target }) => {
+    if (target.checkValidity() && target.value) draw(Number(target.value));
+  } } });
+  return el("div", null, el("label", { class: "field" }, "Service interval in hours", field), place);
 }

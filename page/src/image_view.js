@@ -16,6 +16,20 @@ async function imageOfDump(bytes) {
   return image;
 }
 
+/* Do the proved calls above the store tell what the tables show? Only homes that hold what they should are asked for. */
+function unitsAgree(store, homes) {
+  const same = (told, ...wants) => told.code !== 0 || wants.every((want, i) => want === told.figures[i]);
+  const part = (home, count) => homes.subarray(BLOCK * home, BLOCK * (home + count));
+  const interval = 500 * 3600;
+  const pumps = pumpsOf(homes).filter(pump => pump.fits).every(({ pump, starts, seconds }) =>
+    same(store.askAny("pump_hours", [pump], 2), starts, seconds)
+    && same(store.askAny("pump_services", [pump, interval], 2), Math.floor(seconds / interval), seconds % interval));
+  if (homes.length < BLOCK * (ALARM_HOME + ALARM_HOMES)) return pumps;
+  const { gravest, fits } = readAlarms(part(ALARM_HOME, ALARM_HOMES)), bands = readBands(part(BAND_HOME, BAND_HOMES));
+  return pumps && (!fits || same(store.askAny("alarm_gravest", [], 3), gravest.identity, gravest.class, gravest.second))
+    && (!bands.fits || bands.rows.every(row => same(store.askAny("bands_look_up", [row.from], 3), row.from, row.to, row.pumps)));
+}
+
 class ImageView {
   say(text, bad = false) {
     byId("image-said").textContent = text;
@@ -87,7 +101,7 @@ class ImageView {
       part("Depth bands", bandsPart(homes)),
       part("Alarms", alarmsPart(homes)),
       part("Rights", rightsPart(told)),
-      part("Homes", el("p", null, plural(told.homes.length, "home") + ", " + told.homes.filter(home => /^0*$/.test(home.block)).length.toLocaleString("en") + " of them zeros."), homesTable(told, homes)),
+      part("Homes", homesTable(told, homes)),
       part("Damage", told.damage.length ? el("ul", { id: "damage" }, told.damage.map(note => el("li", null, note))) : el("p", null, "None.")),
       part("What inspect prints", this.printed("text", text, this.name + ".txt"), this.printed("JSON", json, this.name + ".json")));
   }
@@ -95,8 +109,9 @@ class ImageView {
   /* inspect's lines on the image and its header, in its words. */
   headerList(told) {
     const { header, places } = told, last = header.start + header.groups - 1;
+    const shape = `start ${header.start} ${header.start_from}, ${header.groups} groups, ${header.homes} homes`;
     const rows = [["image", this.name + ", " + told.bytes.toLocaleString("en") + " bytes"],
-      ["header", (header.fits ? "fits" : "DAMAGED") + "; start " + header.start + " " + header.start_from + ", " + header.groups + " groups, " + header.homes + " homes"],
+      ["header", (header.fits ? "fits" : "DAMAGED") + "; " + shape],
       ["live", "groups " + header.start + " to " + last + ", positions " + 7 * header.start + " to " + (7 * last + 6)]];
     if (header.worn_out) rows.push(["worn", "out: an opening would move the start past 2^47 and is refused; homes as it would leave them"]);
     rows.push(["places", 7 * header.groups + ": " + places.committed + " with entries that come back, " + places.others + " with others, "
@@ -111,16 +126,18 @@ class ImageView {
     whole.set(image.subarray(0, whole.length));
     const reply = store.openImage(whole);
     if (reply.code) return "The proved program refuses to open this image: " + reply.code + ", " + store.answerText(reply.code) + ".";
-    const { area } = store, same = reply.figure === told.commits.length && homes.every((byte, i) => byte === area[i]);
-    return "The proved program opens this image and brings back " + plural(reply.figure, "transaction") + ". Its homes are "
+    const { area } = store;
+    const same = reply.figure === told.commits.length && homes.every((byte, i) => byte === area[i]) && unitsAgree(store, homes);
+    return "The proved program opens this image and brings back " + plural(reply.figure, "transaction") + ". Its homes, pumps, alarms and bands are "
       + (same ? "the same, byte for byte." : "NOT the same: please report this image.");
   }
 
   /* Filled when it is opened: it can be long. */
   printed(kind, text, name) {
     const place = el("pre", { tabindex: "0", "aria-label": "inspect, " + kind });
+    const save = el("button", { type: "button", on: { click: () => saveFile(name, text) } }, "Save as " + name);
     return el("details", { class: "printed", "data-kind": kind, on: { toggle: () => {
       place.textContent = text.length > MOST_SHOWN ? text.slice(0, MOST_SHOWN) + "\n… the file has all of it\n" : text;
-    } } }, el("summary", null, "inspect, " + kind), el("button", { type: "button", on: { click: () => saveFile(name, text) } }, "Save as " + name), place);
+    } } }, el("summary", null, "inspect, " + kind), save, place);
   }
 }

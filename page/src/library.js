@@ -138,6 +138,17 @@ class Store {
     return { code, figures: Array.from({ length: count }, (_, i) => this.program.figure(i)) };
   }
 
+  /* The same, by the first writer whom the list of rights lets read; words follow the writer. */
+  askAny(name, words, count) {
+    const NO_READ = 20;
+    let told;
+    for (let writer = WRITERS - 1; writer >= 0; writer--) {
+      told = this.ask(name, [writer, ...words], count);
+      if (told.code !== NO_READ) break;
+    }
+    return told;
+  }
+
   store(writer, home, block) {
     this.block.set(block);
     return this.call("store", writer, home);

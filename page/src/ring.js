@@ -96,7 +96,8 @@ function ringPicture(told, states, over = []) {
 
 function legend(states, more = []) {
   const counts = countStates(states);
-  const sign = state => svg("svg", { viewBox: "0 0 18 18", class: "sign", "aria-hidden": "true" }, svg("rect", { x: 1, y: 1, width: 16, height: 16, class: "cell " + state }));
+  const sign = state => svg("svg", { viewBox: "0 0 18 18", class: "sign", "aria-hidden": "true" },
+    svg("rect", { x: 1, y: 1, width: 16, height: 16, class: "cell " + state }));
   return el("ul", { class: "legend" }, Object.keys(STATES).filter(state => state !== "damaged" || counts.damaged)
     .map(state => el("li", null, sign(state), STATES[state] + " (" + (counts[state] || 0).toLocaleString("en") + ")")),
   more.map(([state, text]) => el("li", null, sign(state), text)));

@@ -6,6 +6,9 @@ const STATION_GROUPS = 8, STATION_HOMES = 40, CROWD = 96;
 const PROGRAMS = ["as proved", "no fence", "blanking first", "replay by position"];
 const NO_FENCE = 1;
 
+const OPENED_RIGHT = "The opening's own writes are still on their way: cut now, and the cut falls inside the opening.";
+const OPENED_WRONG = "Opened: what is found is NOT the book's run. Go back through the history to see how, or start again.";
+
 /* Who makes a call that is no task's. */
 const DRIVER = -1;
 
@@ -151,7 +154,8 @@ class Station {
   flush() {
     const reply = this.kagutin.call("flush");
     if (this.take(reply, "flush")) this.book.flush();
-    return this.tell(reply, DRIVER, "flush", reply.records.some(record => record.kind === "GW") ? ": the part-filled group is handed on, then a fence" : ": a fence");
+    const group = reply.records.some(record => record.kind === "GW");
+    return this.tell(reply, DRIVER, "flush", group ? ": the part-filled group is handed on, then a fence" : ": a fence");
   }
 
   /* The driver waits for every fence, then says so. */
@@ -169,7 +173,8 @@ class Station {
     this.take(reply, name);
     const homes = reply.records.filter(record => record.kind === "HW").length;
     const moved = reply.records.some(record => record.kind === "KW");
-    return this.tell(reply, DRIVER, name, name === "settle" ? ": " + plural(homes, "home") + " written" : moved ? ": old groups are free, a new header" : ": nothing to free");
+    const freed = moved ? ": old groups are free, a new header" : ": nothing to free";
+    return this.tell(reply, DRIVER, name, name === "settle" ? ": " + plural(homes, "home") + " written" : freed);
   }
 
   beginRound() {
@@ -230,8 +235,8 @@ class Station {
     if (broken) this.counts.differences += 1;
     this.phase = broken ? "broken" : "on";
     this.tasks.reset();
-    this.said = { code: reply.code, text: broken ? "Opened: what is found is NOT the book's run. Go back through the history to see how, or start again."
-      : "Opened: " + plural(reply.figure, "transaction") + " brought back. All " + this.homes + " homes are as the book says." };
+    this.said = { code: reply.code, text: broken ? OPENED_WRONG
+      : "Opened: " + plural(reply.figure, "transaction") + " brought back. All " + this.homes + " homes are as the book says. " + OPENED_RIGHT };
     return !broken;
   }
 

@@ -1,6 +1,9 @@
 /* The station as it is seen: buttons, the ring, tasks, what is on its way, homes beside the book. */
 const SPEEDS = { slow: 1400, steady: 500, quick: 120 };
-const FATES = { owed: "confirmed durable", landed: "all its blocks have landed", going: "not all its blocks have landed", back: "in the run", gone: "not in the run" };
+const FATES = {
+  owed: "confirmed durable", landed: "all its blocks have landed", going: "not all its blocks have landed",
+  back: "in the run", gone: "not in the run",
+};
 const MOST_LISTED = 8;
 const COUNTS = [["cuts", "cuts tried"], ["inside", "of them inside an opening"], ["commits", "commits made"], ["back", "came back after a cut"],
   ["gone", "gone: an entry had not landed"], ["refused", "calls refused"], ["differences", "differences"]];
@@ -168,8 +171,8 @@ class StationView {
   draw() {
     const moment = this.moment();
     if (!moment) return;
-    const { said } = moment;
-    this.say(said.who >= 0 ? "Task " + said.who + ", " + TASKS[said.who] + ": " + said.text + "." : said.who === DRIVER ? "Driver: " + said.text + "." : said.text);
+    const { who, text } = moment.said;
+    this.say(who >= 0 ? `Task ${who}, ${TASKS[who]}: ${text}.` : who === DRIVER ? `Driver: ${text}.` : text);
     this.drawButtons();
     this.drawCounts(moment);
     this.drawTasks(moment);
@@ -207,9 +210,10 @@ class StationView {
   }
 
   drawTasks(moment) {
-    const state = writer => !writer.open ? "idle" : writer.held < 0 ? "begun" : "holds home " + writer.held + (writer.logged ? ", " + writer.logged + " logged" : "");
+    const holds = ({ held, logged }) => held < 0 ? "begun" : "holds home " + held + (logged ? ", " + logged + " logged" : "");
+    const state = writer => moment.phase === "off" ? "no power" : writer.open ? holds(writer) : "idle";
     fill(byId("tasks"), moment.writers.map((writer, w) => el("tr", { class: moment.said.who === w ? "acts" : null },
-      el("td", { class: "number" }, String(w)), el("th", { scope: "row" }, TASKS[w]), el("td", null, moment.phase === "off" ? "no power" : state(writer)))));
+      el("td", { class: "number" }, String(w)), el("th", { scope: "row" }, TASKS[w]), el("td", null, state(writer)))));
     const names = ["live", "dead", "free"];
     byId("usage").textContent = moment.usage ? "Places of the log: " + names.map((name, i) => moment.usage[i] + " " + name).join(", ")
       + (moment.usage[3] ? " (" + moment.usage[3] + " promised)" : "") + "." : "The power is off. Only lasting memory is left.";
@@ -221,8 +225,8 @@ class StationView {
       return lists.length > 14 ? lists.slice(0, 12).join(", ") + " and " + (lists.length - 12) + " more" : lists.join(", ") || "nothing";
     };
     const total = moment.waiting.reduce((sum, stretch) => sum + stretch.length, 0);
-    byId("waiting-told").textContent = total ? plural(total, "block") + " on the way, " + plural(moment.waiting.length - 1, "fence") + " between or behind them."
-      : "Nothing is on its way.";
+    const fences = plural(moment.waiting.length - 1, "fence");
+    byId("waiting-told").textContent = total ? `${plural(total, "block")} on the way, ${fences} between or behind them.` : "Nothing is on its way.";
     fill(byId("waiting"), moment.waiting.flatMap((stretch, i) => [
       stretch.length || i < moment.waiting.length - 1 ? el("li", null, words(stretch)) : null,
       i < moment.waiting.length - 1 ? el("li", { class: "fence" }, "fence") : null]));
@@ -232,8 +236,8 @@ class StationView {
     const shown = commits.slice(-MOST_LISTED), more = commits.length - shown.length;
     fill(byId("commits"), shown.map(commit => el("li", { class: commit.fate }, el("b", null, "commit " + commit.number + " "), TASKS[commit.writer]
       + ", " + (commit.homes.length === 1 ? "home " : "homes ") + commit.homes.join(" ") + ": ", el("span", null, FATES[commit.fate]))));
-    byId("commits-told").textContent = commits.length === 0 ? "No commit since the last cut." : more ? "The last " + shown.length + " of " + commits.length + " since the last cut."
-      : plural(commits.length, "commit") + " since the last cut.";
+    const which = more ? `The last ${shown.length} of ${commits.length}` : commits.length ? plural(commits.length, "commit") : "No commit";
+    byId("commits-told").textContent = which + " since the last cut.";
   }
 
   drawHomes(moment) {
@@ -263,7 +267,8 @@ class StationView {
     const told = JSON.parse(output), states = blockStates(told, moment.image);
     fill(byId("ring"), ringPicture(told, states, this.onTheWay(moment)));
     fill(byId("legend"), legend(states, [["going", "on its way"], ...(this.choice.open ? [["going lands", "chosen to land"]] : [])]));
-    byId("walk").textContent = "An opening would now find " + plural(told.commits.length, "commit") + " in the log; those of trimmed groups are home. The walk stopped: " + told.stop.why + ".";
+    byId("walk").textContent = `An opening would now find ${plural(told.commits.length, "commit")} in the log; those of trimmed groups are home. `
+      + `The walk stopped: ${told.stop.why}.`;
   }
 
   /* Group blocks on their way; at a cut those before a fence that has passed land, the next ones can be picked. */
@@ -272,6 +277,7 @@ class StationView {
       : svg("path", { d: cellPath(block.place, block.part, STATION_GROUPS), class: "going" + name, on: act ? { click: act } : {} });
     if (!choice.open) return moment.waiting[0].map(block => outline(block, "")).filter(Boolean);
     const sure = moment.waiting.slice(0, choice.fences).flat().map(block => outline(block, " lands"));
-    return [...sure, ...choice.blocks().map((block, i) => outline(block, choice.chosen[i] ? " lands pick" : " pick", () => choice.toggle(i)))].filter(Boolean);
+    const open = choice.blocks().map((block, i) => outline(block, choice.chosen[i] ? " lands pick" : " pick", () => choice.toggle(i)));
+    return [...sure, ...open].filter(Boolean);
   }
 }

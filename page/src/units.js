@@ -128,7 +128,10 @@ function blockText(home, block) {
     const pump = readPump(block);
     if (pump.fits) return pump.starts + (pump.starts === 1 ? " start, " : " starts, ") + clockText(pump.seconds) + (pump.running ? ", running" : "");
   }
-  if (home >= RIGHTS_HOME && home < RIGHTS_HOME + RIGHTS_HOMES) return "list of writers " + 2 * (home - RIGHTS_HOME) + " and " + (2 * (home - RIGHTS_HOME) + 1);
+  if (home >= RIGHTS_HOME && home < RIGHTS_HOME + RIGHTS_HOMES) {
+    const writer = 2 * (home - RIGHTS_HOME);
+    return `list of writers ${writer} and ${writer + 1}`;
+  }
   if (home === ALARM_HOME && block[0] <= MOST_ALARMS) return block[0] + " open, gravest " + number(block, 1, 2) + " class " + block[3];
   if (home === BAND_HOME && block[0] <= 32) return block[0] + " rows, " + block[5] + " pumps at 0 mm";
   const text = String.fromCharCode(...block.subarray(0, WORDS)).replace(/\0+$/, "");

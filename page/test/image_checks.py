@@ -42,6 +42,18 @@ def same_words(browser, programs, folder, name, plain=None, words=()):
         assert browser.run(PRINTED % kind) == wants, "%s: the page's %s is not the inspector's" % (name, kind)
 
 
+def ring(browser, name):
+    """The picture counts the blocks as the inspector counts places; a group that the file's end cuts off is damaged in it."""
+    if "cut off by the end of the file" in browser.text("image-out"):
+        return
+    told = browser.run("""const label = document.querySelector("#image-out .ring").getAttribute("aria-label");
+        const count = words => Number((new RegExp("(\\\\d+) " + words).exec(label) || [0, 0])[1]);
+        return [count("landed, comes back"), count("landed, will not"), count("torn"), label]""")
+    places = browser.run("return /places(.*?)unused/.exec(document.querySelector('#image-out .lines').textContent)[1]")
+    back, others, torn = (int(places.split(word)[0].split(" ")[-2]) for word in ("with entries", "with others", "torn"))
+    assert told[:2] == [back, others] and told[2] >= torn, "%s: %s / %s" % (name, told[3], places)
+
+
 def every_image(browser, programs, folder, files):
     """Sound, torn and damaged images; where the inspector gives up the page tells its reasons. Returns how many were shown and refused."""
     shown = refused = 0
@@ -53,6 +65,7 @@ def every_image(browser, programs, folder, files):
         if output:
             browser.wait("document.getElementById('proved')")
             same_words(browser, programs, folder, name)
+            ring(browser, name)
             assert ("sound" in said) == (status == 0), name + ": " + said
             assert "NOT the same" not in browser.text("proved"), name + ": " + browser.text("proved")
             shown += 1
@@ -96,9 +109,11 @@ def wear(browser, programs, folder):
     choose(browser, folder / "plain.img")
     browser.wait("document.getElementById('interval')")
     browser.run("const field = document.getElementById('interval'); field.value = 1; field.dispatchEvent(new Event('input'))")
-    rows = browser.run("""const part = [...document.querySelectorAll(".part")].find(one => one.querySelector("h3").textContent === "Wear of the pumps");
+    rows = browser.run("""const titled = one => one.querySelector("h3").textContent === "Wear of the pumps";
+        const part = [...document.querySelectorAll(".part")].find(titled);
         return [...part.querySelectorAll("tbody tr")].map(row => [...row.cells].map(cell => cell.textContent))""")
-    sheet = subprocess.run([programs / "wear", "--interval", "1", "--writer", "7", "--csv", folder / "plain.img"], check=True, capture_output=True, text=True).stdout
+    words = [programs / "wear", "--interval", "1", "--writer", "7", "--csv", folder / "plain.img"]
+    sheet = subprocess.run(words, check=True, capture_output=True, text=True).stdout
     wants = list(csv.DictReader(io.StringIO(sheet)))
     assert len(rows) == len(wants) > 3, "%d pumps in the page, %d on the sheet" % (len(rows), len(wants))
     for row, want in zip(rows, wants):

@@ -15,12 +15,15 @@ import look_checks
 import station_checks
 from browser import Browser, installed
 
-def saves(browser, folder):
-    """The station's memory as a file is the image that the page inspects."""
+def saves(browser, address, programs, folder):
+    """The station's memory after long work: pumps, bands and alarms by the proved calls; as a file the inspector reads it."""
+    browser.go(address + "#seed=77&program=0&moves=k200")
     browser.send("Browser.setDownloadBehavior", session=None, behavior="allow", downloadPath=str(folder))
     browser.click("from-station")
     browser.wait("document.getElementById('proved')")
-    assert "byte for byte" in browser.text("proved")
+    assert "the same, byte for byte" in browser.text("proved"), browser.text("proved")
+    for words in ("Pumps that run at each depth", "Who may touch which home", "the pump to open first at the top", "Gravest: alarm"):
+        assert words in browser.text("image-out"), "not shown: " + words
     (folder / "station.img").unlink(missing_ok=True)
     browser.click("save-station")
     for _ in range(100):
@@ -28,6 +31,7 @@ def saves(browser, folder):
             break
         time.sleep(0.05)
     assert len((folder / "station.img").read_bytes()) == 64 + 8 * 512 + 40 * 64
+    image_checks.same_words(browser, programs, folder, "station.img")
 
 
 def check(browser, address, programs, folder, shots):
@@ -54,9 +58,7 @@ def check(browser, address, programs, folder, shots):
     tell("FRAM dumps, an image inside a file, empty and huge files, wear sheet")
     look_checks.theme(browser)
     look_checks.keys(browser, address)
-    saves(browser, folder)
-    browser.click("many")
-    browser.wait(station_checks.READY, 60)
+    saves(browser, address, programs, folder)
     tell("%d controls and pictures with names; keys, theme, saved files" % look_checks.names(browser))
     image_checks.choose(browser, folder / "cut.img")
     browser.wait("document.getElementById('proved')")

@@ -41,7 +41,6 @@ TO_PAGE(lend) bool page_lend(size_t groups, size_t homes)
 TO_PAGE(choose_program) void page_choose_program(enum program chosen) { program = chosen; }
 TO_PAGE(log) uint8_t *page_log(void) { return lent.log; }
 TO_PAGE(area) uint8_t *page_area(void) { return lent.area; }
-TO_PAGE(state) uint8_t *page_state(void) { return lent.state; }
 TO_PAGE(batch) uint8_t *page_batch(void) { return lent.batch; }
 TO_PAGE(block) uint8_t *page_block(void) { return lent.block; }
 
