@@ -1,4 +1,7 @@
-/* docs/DRIVERS.md: a task that leaves room to another. That one comes at its third wait, in vain if the log is held, or never (TRY_LEFT). */
+/*
+ * docs/DRIVERS.md: a task that leaves room to another. That one comes at its
+ * third wait, in vain if the log is held, or never (TRY_LEFT).
+ */
 #include "tries.h"
 
 #include "kagutin_rights.h"
