@@ -6,8 +6,8 @@
  * numbers of its own, is not among them. Other lists follow this one:
  * rust/reference/src/kinds.rs, which its test holds to it, and port/report.py.
  */
-#ifndef CALLS_LIST_H
-#define CALLS_LIST_H
+#ifndef TESTS_CALLS_H
+#define TESTS_CALLS_H
 
 #define KAGUTIN_CALLS(CALL) \
     CALL(FORMAT, format, (AREAS, BATCH)) \
