@@ -32,6 +32,7 @@ function startStation(view) {
   click("all-land", () => view.choice.all(true));
   click("none-lands", () => view.choice.all(false));
   click("by-chance", () => view.choice.again());
+  byId("choice").addEventListener("keydown", event => { if (event.key === "Escape") view.choice.end(null); });
   byId("fences").addEventListener("change", event => {
     const fences = Number(event.target.value);
     view.choice.set({ fences, chosen: view.station.lasting.stretch(fences).map(() => false) });
@@ -51,14 +52,16 @@ function startStation(view) {
 }
 
 function startImage(view, station) {
-  const drop = byId("drop");
+  const drop = byId("drop"), over = is => drop.classList.toggle("over", is);
   byId("file").addEventListener("change", event => { if (event.target.files[0]) view.take(event.target.files[0]); event.target.value = ""; });
-  for (const event of ["dragover", "dragenter"]) drop.addEventListener(event, e => { e.preventDefault(); drop.classList.add("over"); });
-  drop.addEventListener("dragleave", () => drop.classList.remove("over"));
-  drop.addEventListener("drop", event => {
+  for (const name of ["dragover", "dragenter"]) addEventListener(name, event => { event.preventDefault(); over(true); });
+  addEventListener("dragleave", event => { if (!event.relatedTarget) over(false); });
+  addEventListener("drop", event => { /* anywhere on the page: else the browser would leave it for the file */
     event.preventDefault();
-    drop.classList.remove("over");
-    if (event.dataTransfer.files[0]) view.take(event.dataTransfer.files[0]);
+    over(false);
+    if (!event.dataTransfer.files[0]) return;
+    byId("image").scrollIntoView();
+    view.take(event.dataTransfer.files[0]);
   });
   byId("read-again").addEventListener("click", () => view.bytes && view.show(view.bytes, view.name));
   byId("from-station").addEventListener("click", () => {

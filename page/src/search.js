@@ -1,5 +1,5 @@
 /* A run of the station as a list of moves, so that it can be told in a link and played again. */
-const MOST_STEPS = 50000, MOST_CUTS = 200000;
+const MOST_STEPS = 50000, MOST_CUTS = 20000;
 
 class Session {
   /* seen(session) is told after each move that is to be shown. */
@@ -54,7 +54,7 @@ class Session {
   async play(seed, program, moves) {
     this.start(seed, program);
     for (const move of moves) {
-      if (move.kind === "chance") await this.chanceCuts(move.count);
+      if (move.kind === "chance") await this.chanceCuts(move.count, breathe);
       else if (!this.make(move)) break;
     }
   }

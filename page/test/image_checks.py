@@ -17,10 +17,11 @@ def choose(browser, path):
     return browser.text("image-said")
 
 
-def drop(browser, path):
-    """Drops a file from outside on the page."""
-    browser.run('document.getElementById("image-said").textContent = ""; document.getElementById("drop").scrollIntoView({ behavior: "instant" })')
-    box = browser.run("const box = document.getElementById('drop').getBoundingClientRect(); return { x: box.x + 40, y: box.y + 40 }")
+def drop(browser, path, target="drop"):
+    """Drops a file from outside on an element of the page."""
+    browser.run("""document.getElementById("image-said").textContent = "";
+        document.getElementById("%s").scrollIntoView({ behavior: "instant" })""" % target)
+    box = browser.run("const box = document.getElementById('%s').getBoundingClientRect(); return { x: box.x + 40, y: box.y + 20 }" % target)
     for kind in ("dragEnter", "dragOver", "drop"):
         browser.send("Input.dispatchDragEvent", type=kind, data={"items": [], "files": [str(path)], "dragOperationsMask": 1}, **box)
     browser.wait('document.getElementById("image-said").textContent')
@@ -83,6 +84,7 @@ def dumps(browser, programs, folder):
         assert "dump of a FRAM" in drop(browser, folder / name)
         browser.wait("document.getElementById('proved')")
         same_words(browser, programs, folder, name, plain="cut.img")
+    assert "sound" in drop(browser, folder / "cut.img", "homes"), "a file dropped elsewhere on the page is not opened"
     choose(browser, folder / "inside.bin")
     browser.run("document.getElementById('at-begin').value = 1000; document.getElementById('image-options').open = true")
     browser.click("read-again")

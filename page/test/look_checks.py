@@ -44,9 +44,13 @@ def keys(browser, address):
     assert browser.run("return getComputedStyle(document.activeElement).outlineStyle") == "solid", "focus is not to be seen"
     browser.key("Enter", 13, "\r")
     assert browser.text("moment") == "Moment 2 of 2", browser.text("moment")
-    browser.run("document.getElementById('cut').focus()")
-    browser.key("Enter", 13, "\r")
-    assert browser.run("return document.activeElement.id") == "cut-now"
+    for last in ("Escape", "Enter"):
+        browser.run("document.getElementById('cut').focus()")
+        browser.key("Enter", 13, "\r")
+        assert browser.run("return document.activeElement.id") == "cut-now"
+        if last == "Escape":
+            browser.key("Escape", 27)
+            assert browser.run("return document.activeElement.id") == "cut"
     browser.key("Enter", 13, "\r")
     assert browser.run("return document.activeElement.id") == "open"
     browser.key("Enter", 13, "\r")
