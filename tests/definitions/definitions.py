@@ -28,7 +28,7 @@ use lib.ListN.{replicate}
 use Rattle.model.specs.Bytes.{same}
 use Rattle.model.specs.Effects.{Given}
 use Rattle.model.specs.Calls.{Outcome, formatCall, openCall, beginCall, reserveCall, abortCall, storeCall, commitCall, flushCall, confirmCall, settleCall, beginRoundCall, stepRoundCall, trimCall, readCall}
-use Rattle.acts.specs.Chains.{SEVERAL}
+use Rattle.acts.specs.Many.{SEVERAL}
 use Rattle.model.specs.declared.Usage.{Usage}
 use Rattle.abstract_store.specs.Usage.{USAGES}
 use Rattle.model.proofs.Computing.{all-definitions}

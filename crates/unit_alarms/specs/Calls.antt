@@ -27,20 +27,20 @@ unfoldable pub clearCall : Lent → ℕ → ℕ → Left
 clearCall l writer identity = event l writer alarmHome 6 (judge (clearing identity))
 
 -- "The panel shows the gravest open alarm"; "With none open the gravest is none, told as three zeros." It is kept in the first home.
-pub record GravestTold : Type 0 where
+pub record GravestReply : Type 0 where
   pub code : ℕ
   pub identity : ℕ
   pub class : ℕ
   pub second : ℕ
 
-abbrev pub tells : ℕ → ℕ → ℕ → ℕ → GravestTold
+abbrev pub tells : ℕ → ℕ → ℕ → ℕ → GravestReply
 tells code identity class second = record { code = code; identity = identity; class = class; second = second }
 
-unfoldable pub alarmTells : Alarm → GravestTold
+unfoldable pub alarmTells : Alarm → GravestReply
 alarmTells a = tells 0 (a .identity) (a .class) (a .second)
 
-unfoldable pub gravestIn : Outcome → GravestTold
+unfoldable pub gravestIn : Outcome → GravestReply
 gravestIn o = cond (eqb (o .code) 0) (alarmTells (keptOf (o .block))) (tells (o .code) 0 0 0)
 
-unfoldable pub gravestCall : Lent → ℕ → GravestTold
+unfoldable pub gravestCall : Lent → ℕ → GravestReply
 gravestCall l writer = gravestIn (fetched l writer alarmHome 1)
