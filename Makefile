@@ -82,9 +82,8 @@ bench-docs:
 	python3 rust/bench/plot.py target/bench/bench.tsv docs/ring-cost.svg
 	python3 rust/bench/report.py target/bench/bench.tsv target/bench/peers.tsv docs/PERFORMANCE.md
 
-# For the edit loop: what needs no prover and little time. The generator's longer tests run where the proved program is there.
-quick: all c-quick
-	$(MAKE) --no-print-directory $(if $(wildcard target/rlib/$(EXPORTS).rlib),generator-check,forms-check)
+# For the edit loop: what needs no prover and little time.
+quick: all c-quick generator-quick
 	@if command -v cargo > /dev/null; then echo "cargo test"; cd rust && cargo test --offline --quiet > ../target/quick.log 2>&1 \
 	    && echo "reference: tests passed" || { cat ../target/quick.log; exit 1; }; \
 	else echo "skipped the reference implementation: no cargo"; fi

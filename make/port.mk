@@ -24,7 +24,7 @@ GENERATE_inflow = $(GENERATOR) --export alone_inflow --header kagutin_inflow.h -
 STANDALONE = gauges inflow
 DIST_FILES = $(DIST_C) $(STANDALONE:%=dist/kagutin_%.c)
 
-.PHONY: dist dist-check generator-check forms-check port-check port-compare
+.PHONY: dist dist-check generator-check generator-quick port-check port-compare
 
 dist:
 	@mkdir -p $(PORT_OUT)
@@ -42,15 +42,17 @@ dist-check:
 	@echo "dist: $(DIST_FILES): what the proved program gives"
 	@$(MAKE) --no-print-directory units-dist-check
 
-# Tests of the generator itself; forms-check needs no proved program.
-generator-check: forms-check
+# Tests of the generator itself. generator-quick: those that take seconds, and where nothing is proved only the one that needs no proved program.
+generator-check:
+	python3 tests/generator/forms.py
 	python3 tests/generator/generator.py $(GENERATE_WORDS)
 	python3 tests/generator/imports.py
 	python3 tests/generator/translated.py
 	python3 tests/generator/buffers.py
 
-forms-check:
+generator-quick:
 	python3 tests/generator/forms.py
+	@if [ -d target/rlib/kagutin.rlib ]; then python3 tests/generator/imports.py && python3 tests/generator/buffers.py; fi
 
 # Shared objects that compare loads. no-passes.c is the same program without the generator's passes, gcc-plain without quicker helpers.
 PORT_SHARED = -std=c99 -Iinclude -fPIC -shared

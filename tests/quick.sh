@@ -15,7 +15,12 @@ gives 0 "store: settling in small steps" "$out/round_check"
 gives 0 "store: the list of rights" "$out/rights_check"
 gives 0 "files: written and mapped" "$out/file_check" "$tmp"
 gives 0 "FRAM: power gone after every 13 bytes" "$out/fram_check" 13
+gives 0 "format: over a damaged header" "$out/format_check" 9
+gives 0 "reopening: a driver that fails at each call in turn" "$out/reopen_check" 2000
 gives 0 "units: events and cuts" "$out/units_check" 4
+gives 0 "replies: no field misleads" "$out/replies_check"
+gives 0 "a lock refused at each taking" "$out/lock_check"
+gives 0 "calls before init, a refused format" "$out/misuse_check"
 gives 0 "stack: built" "$cc" -std=c99 -D_GNU_SOURCE -O2 -Iinclude tests/stack/stack.c "$lib" ${C_LIBS:-} -o "$tmp/stack"
 gives 0 "stack: every call within its bound" "$tmp/stack"
 
