@@ -55,7 +55,7 @@ endef
 $(foreach crate,$(ARCHIVES:target/staticlib/lib%.a=%),$(eval $(call ARCHIVE_OF,$(crate))))
 
 run: station
-	target/c/station --seed $(SEED) --cuts $(CUTS)
+	$(C_OUT)/station --seed $(SEED) --cuts $(CUTS)
 
 reference:
 	cd rust && cargo build --release --offline --quiet
