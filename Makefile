@@ -57,7 +57,7 @@ endef
 $(foreach name,$(ARCHIVES:target/staticlib/lib%.a=%),$(eval $(call ARCHIVE_OF,$(name))))
 
 run: station
-	target/c/station --seed $(SEED) --cuts $(CUTS)
+	$(C_OUT)/station --seed $(SEED) --cuts $(CUTS)
 
 reference:
 	cd rust && cargo build --release --offline --quiet

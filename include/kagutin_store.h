@@ -27,8 +27,8 @@
  * the ticket, the mark reaches no ticket, more is false, numbers are
  * KGT_NOT_TOLD. So `kgt_sync(&store).mark >= ticket` is true only of a commit
  * that is durable (a commit of nothing has ticket 0, and nothing to lose). A
- * ticket is one of its opening: after the next, drop it. Marks go on rising, and
- * what was not durable may be gone.
+ * ticket belongs to its opening: after the next, drop it. Marks go on rising,
+ * and what was not durable may be gone.
  *
  * Tasks. Every call but kgt_init, kgt_set_lock and kgt_set_room takes the lock,
  * if one is set, once, and gives it back before it returns; without a lock all

@@ -190,12 +190,13 @@ $(eval $(call C_ARCHIVE,kagutin_units,c/store/units))
 
 # Every C example of README, docs and headers, and every command there.
 SNIPPET_LIBS = $(C_UNITS_LIB) $(UNITS_LIBS) $(STORE_LIB) $(LIB)
-SNIPPET_SANITIZED = $(patsubst %,$(C_OUT)/sanitize/obj/%.o,c/store/units $(C_STORE)) $(patsubst $(C_OUT)/%,$(C_OUT)/sanitize/%,$(UNITS_LIBS) $(LIB))
+SNIPPET_SANITIZED = $(SNIPPET_LIBS:$(C_OUT)/%=$(C_OUT)/sanitize/%)
 SNIPPET_PROGRAMS = $(patsubst %,$(C_OUT)/%,quickstart station bands wear gauges inflow)
 
 .PHONY: snippets-check links-check
 snippets-check: $(SNIPPET_LIBS) $(SNIPPET_SANITIZED) $(SNIPPET_PROGRAMS)
-	@if command -v python3 > /dev/null; then python3 tests/docs/snippets.py $(C_OUT) $(SNIPPET_LIBS) $(C_LIBS) --sanitized $(SNIPPET_SANITIZED) $(C_LIBS); \
+	@if command -v python3 > /dev/null; then \
+	    CC="$(CC)" python3 tests/docs/snippets.py $(C_OUT) $(SNIPPET_LIBS) $(C_LIBS) --sanitized $(SNIPPET_SANITIZED) $(C_LIBS); \
 	else echo "skipped the examples of the documents: python3 is not installed"; fi
 
 # Every path that the documents name.

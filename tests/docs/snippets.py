@@ -33,6 +33,7 @@ PROGRAMS = "target/c"  # as the pages name it
 
 STRICT = "-Wall -Wextra -pedantic -Wshadow -Wconversion -Werror -O1".split()
 SANITIZE = "-g -fno-omit-frame-pointer -fsanitize=address,undefined -fno-sanitize-recover=all".split()
+CC = os.environ.get("CC", "cc").split()  # made the libraries
 BUILDS = [(family, standard) for family in ("gcc", "clang") for standard in ("c99", "c11", "c++17")]
 
 ELSEWHERE = {"make test": "it is the gate, and runs this test", "make quick": "its tests are part of the gate"}
@@ -237,25 +238,25 @@ def jobs(found, libraries, sanitized, tmp):
     for family, standard in BUILDS:
         tool = compiler(family, standard)
         if not shutil.which(tool[0]):
-            print("skipped %s as %s: no %s" % ("snippets", standard, tool[0]))
+            print("skipped the examples as %s by %s: not installed" % (standard, tool[0]))
             continue
         for name in sorted(found):
             add("%s (%s): %s, %s" % (name, found[name][0], tool[0], standard), True, name, tool + ["-std=" + standard] + STRICT, libraries)
     for name in sorted(found) if sanitized else []:
-        add("%s: under sanitizers" % name, True, name, ["gcc", "-std=c99"] + STRICT + SANITIZE, sanitized)
+        add("%s: under sanitizers" % name, True, name, CC + ["-std=c99"] + STRICT + SANITIZE, sanitized)
     for number, (name, there, instead) in enumerate(WRONG, 1):
         text = found[name][2].replace(there, instead) if name in found else None
         if text is None or text == found[name][2]:
             report(False, "wrong example %d of %s: '%s' is not in the text" % (number, name, there))
             continue
         change = " ".join(instead.split()) or "without " + there.strip()
-        add("%s: a judge refuses '%s'" % (name, change), False, name, ["gcc", "-std=c99", "-O1"], libraries, text)
+        add("%s: a judge refuses '%s'" % (name, change), False, name, CC + ["-std=c99", "-O1"], libraries, text)
     return made
 
 
 def shared_object(tmp, flags, name):
     output = "%s/%s" % (tmp, name)
-    status, log = run(["gcc", "-std=c99", *STRICT, *flags, *INCLUDE, "-c", SHARED, "-o", output])
+    status, log = run([*CC, "-std=c99", *STRICT, *flags, *INCLUDE, "-c", SHARED, "-o", output])
     report(status == 0, "%s compiles%s" % (SHARED, " with sanitizers" if flags else ""), log)
     return output
 
