@@ -12,6 +12,8 @@
 # make install    headers, libraries and pkg-config file, under DESTDIR and PREFIX; make uninstall takes them away
 # make inspect    the inspector, target/c/inspect; make station, quickstart, gauges, inflow, bands and wear the other programs
 # make c-check    tests of the C side alone; make c-kills KILLS=N kills a process at work N times
+# make page       docs/page/index.html, a page that opens an image and lets anyone cut the power
+# make lint       layout and lint, as far as the tools are installed
 # make clean      removes all that was built and proved
 # make help       this list
 
@@ -44,6 +46,7 @@ help:
 
 include make/c.mk
 include page/page.mk
+include make/lint.mk
 
 # Archives are made from proved crates only; rt proves what has changed, and a changed definition or proof counts as well.
 library: $(ARCHIVE)
