@@ -43,15 +43,18 @@ help:
 	@sed -n '/^#/!q; s/^# //p' Makefile
 
 include make/c.mk
+include page/page.mk
 
 # Archives are made from proved crates only; rt proves what has changed, and a changed definition or proof counts as well.
 library: $(ARCHIVE)
 
+# Archive and the crate that it is of: the standalone ones have a prefix.
+crate_of = $(if $(filter $(1),$(STANDALONE)),alone_)$(1)
 define ARCHIVE_OF
-target/staticlib/lib$(1).a: crates.txt $$(shell find crates.txt $(addprefix crates/,$(shell scripts/library.sh --crates $(1))) -name '*.rt' -o -name '*.antt')
-	@scripts/library.sh $(1)
+target/staticlib/lib$(1).a: crates.txt $$(shell find crates.txt $(addprefix crates/,$(shell scripts/library.sh --crates $(call crate_of,$(1)))) -name '*.rt' -o -name '*.antt')
+	@scripts/library.sh $(call crate_of,$(1)) $(1)
 endef
-$(foreach crate,$(ARCHIVES:target/staticlib/lib%.a=%),$(eval $(call ARCHIVE_OF,$(crate))))
+$(foreach name,$(ARCHIVES:target/staticlib/lib%.a=%),$(eval $(call ARCHIVE_OF,$(name))))
 
 run: station
 	target/c/station --seed $(SEED) --cuts $(CUTS)

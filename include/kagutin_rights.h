@@ -7,10 +7,18 @@
  * writer 0. 256 zeros, or fewer than 12 homes, is no list: every other home is
  * then open to all. docs/HOMES.md has the bytes.
  *
- *     kgt_rights_clear(&list);
- *     kgt_rights_allow_store(&list, 3, 24, 6);      writer 3, homes 24 to 29
- *     kgt_rights_allow_read(&list, 3, 0, 65535);    and it may read all
- *     kgt_set_rights(&store, &list);                counts from now on
+ *     static bool give_rights(void)                              // true: no power cut takes the list away
+ *     {
+ *         struct kgt_rights list;
+ *         struct kgt_ticket set;
+ *
+ *         kgt_rights_clear(&list);
+ *         if (!kgt_rights_allow_store(&list, 3, 24, 6)           // writer 3, homes 24 to 29
+ *             || !kgt_rights_allow_read(&list, 3, 0, 65535))     // and it may read all
+ *             return false;
+ *         set = kgt_set_rights(&store, &list);                   // done: it counts from now on
+ *         return kgt_sync(&store).mark >= set.ticket;
+ *     }
  */
 #ifndef KAGUTIN_RIGHTS_H
 #define KAGUTIN_RIGHTS_H

@@ -7,6 +7,7 @@
 # c-sanitize                     the same with address and undefined-behaviour sanitizers, in target/c/sanitize
 # c-check                        tests of all of these
 # c-quick                        the quick ones of them, without sanitizers
+# snippets-check                 the examples and commands of README, docs and headers: built, run and judged
 # rights-cost                    what questions 19 and 20 cost, by callgrind
 # question-cost                  what question 2 costs; with LIB the archive it is a function of its own
 # c-kills                        longer: KILLS kills of a process at work, on this disk
@@ -186,6 +187,22 @@ endef
 $(foreach part,kagutin $(patsubst %,kagutin_%,$(STANDALONE) $(UNITS)),$(eval $(call C_ARCHIVE,$(part),dist/$(part))))
 $(eval $(call C_ARCHIVE,kagutin_store,$(C_STORE)))
 $(eval $(call C_ARCHIVE,kagutin_units,c/store/units))
+
+# Every C example of README, docs and headers, and every command there.
+SNIPPET_LIBS = $(C_UNITS_LIB) $(UNITS_LIBS) $(STORE_LIB) $(LIB)
+SNIPPET_SANITIZED = $(patsubst %,$(C_OUT)/sanitize/obj/%.o,c/store/units $(C_STORE)) $(patsubst $(C_OUT)/%,$(C_OUT)/sanitize/%,$(UNITS_LIBS) $(LIB))
+SNIPPET_PROGRAMS = $(patsubst %,$(C_OUT)/%,quickstart station bands wear gauges inflow)
+
+.PHONY: snippets-check links-check
+snippets-check: $(SNIPPET_LIBS) $(SNIPPET_SANITIZED) $(SNIPPET_PROGRAMS)
+	@if command -v python3 > /dev/null; then python3 tests/docs/snippets.py $(C_OUT) $(SNIPPET_LIBS) $(C_LIBS) --sanitized $(SNIPPET_SANITIZED) $(C_LIBS); \
+	else echo "skipped the examples of the documents: python3 is not installed"; fi
+
+# Every path that the documents name.
+links-check:
+	@if command -v python3 > /dev/null; then python3 tests/docs/links.py; else echo "skipped the links of the documents: python3 is not installed"; fi
+
+c-check: snippets-check links-check
 
 c-clean:
 	rm -rf $(C_OUT)

@@ -1,12 +1,12 @@
 #!/usr/bin/env bash
-# library.sh [CRATE]: proves the crates of a library, by default kagutin, and writes target/staticlib/libCRATE.a. Prints one
-# line for each crate that is proved now; what the prover says goes to target/library.log.
+# library.sh [CRATE [NAME]]: proves the crates of a library, by default kagutin, and writes target/staticlib/libNAME.a, by default
+# libCRATE.a. Prints one line for each crate that is proved now; what the prover says goes to target/library.log.
 # library.sh --crates CRATE: prints the crates of that library.
 set -uo pipefail
 cd "$(dirname "$0")/.." || exit
 if [ "${1:-}" = --crates ]; then only_names=1; shift; else only_names=; fi
 crate=${1:-kagutin}
-archive=target/staticlib/lib$crate.a
+archive=target/staticlib/lib${2:-$crate}.a
 log=target/library.log
 pinned=$(sed -n 's/^RATTLE = //p' Makefile)
 
@@ -57,5 +57,6 @@ if [ "$status" -ne 0 ]; then
     echo "library: not proved or not built; all of it is in $log" >&2
     exit "$status"
 fi
-touch "$archive"
+made=target/staticlib/lib$crate.a
+if [ "$made" != "$archive" ]; then cp "$made" "$archive"; else touch "$archive"; fi
 echo "library: $total crate$([ "$total" -eq 1 ] || echo s) proved, $archive written, $(clock)"
