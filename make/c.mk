@@ -32,7 +32,7 @@ C_HEADERS = $(wildcard include/*.h c/*/*.h tests/*/*.h)
 C_STORE = $(addprefix c/store/,store room usage rights batch) $(addprefix c/drivers/,memory file file_io fram)
 C_STATION_PARTS = main options power tasks wear rights calls event_calls refusals report station events book driver driver_file
 C_STATION = $(C_STATION_PARTS:%=c/station/%) c/common/rule $(C_STORE)
-C_INSPECT = $(addprefix c/inspect/,main image fate rights text json) c/common/rule
+C_INSPECT = $(addprefix c/inspect/,main image fate rights text json) c/common/rule c/common/image_file
 C_DRIVER_CHECK = tests/programs/driver_check c/station/driver c/station/driver_file $(C_STORE)
 C_QUICKSTART = c/examples/quickstart $(C_STORE)
 C_STORE_CHECK = tests/store/store_check tests/common/play $(C_STORE)
@@ -42,6 +42,7 @@ C_RIGHTS_CHECK = tests/store/rights_check $(C_STORE)
 C_FILE_CHECK = tests/drivers/file_check tests/common/play $(C_STORE)
 C_KILL_CHECK = tests/drivers/kill_check tests/common/play $(C_STORE)
 C_FRAM_CHECK = tests/drivers/fram_check tests/common/play $(C_STORE)
+C_DUMP_CHECK = tests/drivers/dump_check tests/common/play c/common/homes c/common/copy c/common/image_file c/common/rule $(C_STORE)
 C_FORMAT_CHECK = tests/drivers/format_check tests/common/play $(C_STORE)
 C_REOPEN_CHECK = tests/drivers/reopen_check tests/common/play $(C_STORE)
 C_DISK_CHECK = tests/drivers/disk_check tests/common/play $(C_STORE)
@@ -50,7 +51,7 @@ C_GAUGES_COST = tests/costs/gauges_cost
 C_RIGHTS_COST = tests/costs/rights_cost
 C_QUESTION_COST = tests/costs/question_cost
 C_INFLOW = c/inflow/main
-C_PROGRAMS = inspect quickstart driver_check store_check reserve_check round_check rights_check file_check kill_check fram_check format_check reopen_check disk_check gauges gauges_cost rights_cost question_cost inflow
+C_PROGRAMS = inspect quickstart driver_check store_check reserve_check round_check rights_check file_check kill_check fram_check dump_check format_check reopen_check disk_check gauges gauges_cost rights_cost question_cost inflow
 
 .PHONY: station inspect quickstart gauges inflow c-sanitize c-check c-kills c-dist install uninstall c-clean
 
@@ -99,6 +100,7 @@ $(eval $(call C_PROGRAM,rights_check,$(C_RIGHTS_CHECK),$(LIB)))
 $(eval $(call C_PROGRAM,file_check,$(C_FILE_CHECK),$(LIB)))
 $(eval $(call C_PROGRAM,kill_check,$(C_KILL_CHECK),$(LIB)))
 $(eval $(call C_PROGRAM,fram_check,$(C_FRAM_CHECK),$(LIB)))
+$(eval $(call C_PROGRAM,dump_check,$(C_DUMP_CHECK),$(LIB)))
 $(eval $(call C_PROGRAM,format_check,$(C_FORMAT_CHECK),$(LIB)))
 $(eval $(call C_PROGRAM,reopen_check,$(C_REOPEN_CHECK),$(LIB)))
 $(eval $(call C_PROGRAM,disk_check,$(C_DISK_CHECK),$(LIB)))

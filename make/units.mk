@@ -34,8 +34,8 @@ units-dist-check:
 	@echo "dist: $(UNITS_DIST): what the proved program gives"
 
 C_UNITS = station bands wear units_check units_cost replies_check lock_check misuse_check
-C_BANDS = c/bands/main c/bands/table c/common/text_line c/common/copy c/store/units $(C_STORE)
-C_WEAR = $(addprefix c/wear/,main text page) c/common/page_file c/common/copy c/store/units $(C_STORE)
+C_BANDS = c/bands/main c/bands/table c/common/text_line c/common/copy c/common/image_file c/store/units $(C_STORE)
+C_WEAR = $(addprefix c/wear/,main text page) c/common/page_file c/common/copy c/common/image_file c/store/units $(C_STORE)
 C_UNITS_CHECK = tests/store/units_check c/store/units $(C_STORE)
 C_UNITS_COST = tests/costs/units_cost $(C_STORE)
 C_REPLIES_CHECK = tests/store/replies_check tests/common/operations c/store/units $(C_STORE)

@@ -90,6 +90,7 @@ gives 0 "store: the list of rights, its ranges and the moment it counts" "$san/r
 gives 0 "files: written and mapped, stopped inside writes, locks, failures" "$san/file_check" "$fast"
 gives 0 "FRAM: power gone after every byte, at work and inside a format" "$out/fram_check" 1
 gives 0 "FRAM: under sanitizers" "$san/fram_check" 13
+gives 0 "FRAM: dumps by the tools' readers, against the driver" "$san/dump_check" "$fast" 300
 gives 0 "format: over a damaged header, cut with every choice of words or blocks" "$out/format_check" 1
 gives 0 "format: the same under sanitizers" "$san/format_check" 5
 gives 0 "reopening: a driver that fails at each call in turn, any choice landed" "$out/reopen_check" 20000

@@ -22,6 +22,9 @@ struct image {
     const char *path;
     uint8_t *bytes;     /* both areas; what the file lacks is zeros */
     uint64_t file_size; /* of the whole file */
+    bool dump;          /* of a serial FRAM: the header stands in two copies */
+    unsigned copy;      /* of a dump: the copy that counts */
+    bool other_whole;
     bool mark_fits, header_fits;
     struct rule_log log;
     const char *start_from; /* where the start was taken from */

@@ -166,9 +166,10 @@ void print_json(const struct image *image, const struct rule_walk *walk, const s
 
     fputs("{\"image\":", stdout);
     json_string(image->path);
-    printf(",\"bytes\":%llu,\n \"header\":{\"fits\":%s,\"start\":%llu,\"start_from\":\"%s\",\"groups\":%lu,\"homes\":%lu,"
+    printf(",\"bytes\":%llu,\"dump\":%s,\n \"header\":{\"fits\":%s,\"start\":%llu,\"start_from\":\"%s\",\"groups\":%lu,\"homes\":%lu,"
            "\"worn_out\":%s},\n \"places\":{\"committed\":%lu,\"others\":%lu,\"torn\":%lu,\"unused\":%lu},\n \"slots\":[",
-           (number)image->file_size, image->header_fits ? "true" : "false",
+           (number)image->file_size, image->dump ? image->copy ? "{\"header_at\":32}" : "{\"header_at\":0}" : "null",
+           image->header_fits ? "true" : "false",
            (number)log->start, image->start_from, (unsigned long)log->groups, (unsigned long)log->homes,
            image_worn_out(image) ? "true" : "false", (unsigned long)fates->committed, (unsigned long)fates->others,
            (unsigned long)fates->torn,
