@@ -138,6 +138,18 @@ bool image_worn_out(const struct image *image)
     return image->log.start + image->log.groups > MAX_START;
 }
 
+size_t image_slots(const struct image *image)
+{
+    uint64_t slots = image->file_size > HEADER ? (image->file_size - HEADER + GROUP - 1) / GROUP : 0;
+
+    return slots < image->log.groups ? (size_t)slots : image->log.groups;
+}
+
+bool image_has_home(const struct image *image, const struct fates *fates, size_t home)
+{
+    return fates->newest[home] || image->file_size > HEADER + GROUP * image->log.groups + BLOCK * home;
+}
+
 const char *image_hole(const struct image *image, size_t slot)
 {
     if (image->file_size < HEADER + GROUP * (slot + 1))

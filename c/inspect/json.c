@@ -134,7 +134,7 @@ static void json_commit(const struct image *image, const struct rule_commit *com
 }
 
 /* The value that an opening gives a home; text: each byte that is no printable ASCII is a dot. */
-static void json_home(const struct image *image, const struct fates *fates, size_t home)
+static void json_home(const struct image *image, const struct fates *fates, size_t home, bool *comma)
 {
     uint8_t block[64];
     char text[65];
@@ -145,7 +145,8 @@ static void json_home(const struct image *image, const struct fates *fates, size
     for (i = 0; i < 64; i++)
         text[i] = block[i] >= 0x20 && block[i] < 0x7f ? (char)block[i] : '.';
     text[64] = '\0';
-    printf("%s\n  {\"home\":%lu,\"from\":", home ? "," : "", (unsigned long)home);
+    printf("%s\n  {\"home\":%lu,\"from\":", *comma ? "," : "", (unsigned long)home);
+    *comma = true;
     if (fates->newest[home])
         printf("%llu", (number)(fates->newest[home] - 1));
     else
@@ -161,6 +162,7 @@ void print_json(const struct image *image, const struct rule_walk *walk, const s
 {
     static const char *const stops[] = {"end", "incomplete", "link"};
     const struct rule_log *log = &image->log;
+    bool comma = false;
     char stop[200];
     size_t i;
 
@@ -174,7 +176,7 @@ void print_json(const struct image *image, const struct rule_walk *walk, const s
            image_worn_out(image) ? "true" : "false", (unsigned long)fates->committed, (unsigned long)fates->others,
            (unsigned long)fates->torn,
            (unsigned long)(7 * log->groups - fates->committed - fates->others - fates->torn));
-    for (i = 0; i < log->groups; i++)
+    for (i = 0; i < image_slots(image); i++)
         json_slot(image, fates, i);
     fputs("],\n \"commits\":[", stdout);
     for (i = 0; i < walk->commit_count; i++)
@@ -189,8 +191,11 @@ void print_json(const struct image *image, const struct rule_walk *walk, const s
     json_string(stop);
     printf(",\"unreached\":%lu},\n \"homes\":[", (unsigned long)walk->unreached);
     for (i = 0; i < log->homes; i++)
-        json_home(image, fates, i);
-    fputs("],\n \"rights\":", stdout);
+        if (image_has_home(image, fates, i))
+            json_home(image, fates, i, &comma);
+    fputs("],\n ", stdout);
+    json_units(image, fates);
+    fputs(",\n \"rights\":", stdout);
     json_rights(image, fates);
     fputs(",\n \"damage\":[", stdout);
     for (i = 0; i < image->note_count; i++) {

@@ -7,6 +7,7 @@
 
 #include "common/copy.h"
 #include "common/page_file.h"
+#include "kagutin/programs.h"
 #include "kagutin_units.h"
 #include "sheet.h"
 
@@ -217,7 +218,7 @@ static bool write_page(const struct wear_sheet *sheet, const char *path)
     return true;
 }
 
-int main(int count, char **words)
+int wear_main(int count, char **words)
 {
     struct options options = read_options(count, words);
     struct wear_sheet sheet = {NULL, 0, 0, 0, 0};

@@ -1,0 +1,90 @@
+"""Runs the command lines of documents and manual pages and holds what they print against what stands there.
+
+documents.py FOLDER-OF-THE-PROGRAM FILE..
+
+A session is an indented block of a document, or a literal one of a manual page, in which lines begin with "$ ". What follows
+a command up to the next is what it prints, messages included. The sessions of a file share a folder, new for each file.
+"cat NAME" of a file that is not there yet makes it.
+"""
+import os
+import re
+import subprocess
+import sys
+import tempfile
+
+
+def blocks_of(path):
+    """The lines of each block of code, as a reader sees them."""
+    block, literal = [], False
+    for line in open(path, encoding='utf-8').read().split('\n') + ['']:
+        if path.endswith('.md'):
+            inside = line.startswith('    ') or (not line.strip() and block)
+            text = line[4:]
+        else:
+            if line.startswith('.Bd -literal'):
+                literal = True
+                continue
+            inside = literal = literal and not line.startswith('.Ed')
+            text = line.replace('\\e', '\\')
+        if inside:
+            block.append(text)
+        elif block:
+            yield block
+            block = []
+    if block:
+        yield block
+
+
+def sessions_of(path):
+    """Pairs of a command and the lines that it prints."""
+    for block in blocks_of(path):
+        if not any(line.startswith('$ ') for line in block):
+            continue
+        while block and not block[-1].strip():
+            block.pop()
+        command, printed = None, []
+        for line in block:
+            if line.startswith('$ '):
+                if command:
+                    yield command, printed
+                command, printed = line[2:], []
+            elif command:
+                printed.append(line)
+        yield command, printed
+
+
+def run(path, programs, folder):
+    environment = dict(os.environ, PATH=programs + os.pathsep + os.environ['PATH'], LC_ALL='C.UTF-8')
+    count, wrong = 0, 0
+    for command, printed in sessions_of(path):
+        count += 1
+        shown = re.fullmatch(r'cat ([\w.-]+)', command)
+        if shown and not os.path.exists(os.path.join(folder, shown[1])):
+            open(os.path.join(folder, shown[1]), 'w', encoding='utf-8').write('\n'.join(printed) + '\n')
+        done = subprocess.run(command, shell=True, cwd=folder, env=environment, stdout=subprocess.PIPE, stderr=subprocess.STDOUT, timeout=60)
+        got = done.stdout.decode('utf-8', 'replace').rstrip('\n').split('\n') if done.stdout else []
+        if got != printed:
+            wrong += 1
+            print(f'{path}: $ {command}', file=sys.stderr)
+            for line in printed:
+                print(f'  - {line}', file=sys.stderr)
+            for line in got:
+                print(f'  + {line}', file=sys.stderr)
+    return count, wrong
+
+
+def main():
+    programs, paths = os.path.abspath(sys.argv[1]), sys.argv[2:]
+    total = wrong = 0
+    for path in paths:
+        with tempfile.TemporaryDirectory() as folder:
+            count, bad = run(path, programs, folder)
+        if count == 0 and not path.endswith('kagutin-wear.1'):
+            print(f'{path}: no command line', file=sys.stderr)
+            wrong += 1
+        total, wrong = total + count, wrong + bad
+    print(f'documents: {total} command lines, {wrong} wrong')
+    return wrong != 0
+
+
+sys.exit(main())
