@@ -1,5 +1,6 @@
 # make            builds the library and the C programs from dist/, with a C compiler alone
 # make run        a pump station on the store: power cuts at random, each opening checked; alarm panel and wear sheet at the end
+# make quick      the edit loop: C programs from dist/ and quick tests, within two minutes and without the prover
 # make test       runs every test and every proof; the prover's verdict is the last line
 # make library    the proved archive for x86-64 Linux, target/staticlib/libkagutin.a; make LIB=that run and so on use it
 # make dist       dist/kagutin.c again from the proved program; the gate fails where it differs
@@ -12,6 +13,8 @@
 # make kagutin    the program, target/c/kagutin; its subcommands inspect, wear, bands, gauges, inflow and station are links to it, too
 # make quickstart the example
 # make c-check    tests of the C side alone; make c-kills KILLS=N kills a process at work N times
+# make page       docs/page/index.html, a page that opens an image and lets anyone cut the power
+# make lint       layout and lint, as far as the tools are installed
 # make clean      removes all that was built and proved
 # make help       this list
 
@@ -32,7 +35,7 @@ GAUGES_ARCHIVE = target/staticlib/libgauges.a
 INFLOW_ARCHIVE = target/staticlib/libinflow.a
 ARCHIVES = $(ARCHIVE) $(GAUGES_ARCHIVE) $(INFLOW_ARCHIVE)
 
-.PHONY: all help run test test-library test-compared test-c compare play bench bench-docs reference library clean
+.PHONY: all help run quick test test-library test-compared test-c compare play bench bench-docs reference library clean
 
 # The toolchain that this repository was checked with, as 'rt version' prints it.
 RATTLE = rattle-kit-5b-plain logic 097e4c862dff5811
@@ -43,15 +46,22 @@ help:
 	@sed -n '/^#/!q; s/^# //p' Makefile
 
 include make/c.mk
+include page/page.mk
+include make/lint.mk
 
 # Archives are made from proved crates only; rt proves what has changed, and a changed definition or proof counts as well.
 library: $(ARCHIVE)
 
-$(ARCHIVES): target/staticlib/lib%.a: crates.txt $(shell find crates -name '*.rt' -o -name '*.antt')
-	@scripts/library.sh $*
+# Archive and the crate that it is of: the standalone ones have a prefix.
+crate_of = $(if $(filter $(1),$(STANDALONE)),alone_)$(1)
+define ARCHIVE_OF
+target/staticlib/lib$(1).a: crates.txt $$(shell find crates.txt $(addprefix crates/,$(shell scripts/library.sh --crates $(call crate_of,$(1)))) -name '*.rt' -o -name '*.antt')
+	@scripts/library.sh $(call crate_of,$(1)) $(1)
+endef
+$(foreach name,$(ARCHIVES:target/staticlib/lib%.a=%),$(eval $(call ARCHIVE_OF,$(name))))
 
 run: station
-	target/c/station --seed $(SEED) --cuts $(CUTS)
+	$(C_OUT)/station --seed $(SEED) --cuts $(CUTS)
 
 reference:
 	cd rust && cargo build --release --offline --quiet
@@ -75,6 +85,12 @@ bench: rust/target/release/bench
 bench-docs:
 	python3 rust/bench/plot.py target/bench/bench.tsv docs/ring-cost.svg
 	python3 rust/bench/report.py target/bench/bench.tsv target/bench/peers.tsv docs/PERFORMANCE.md
+
+# For the edit loop: what needs no prover and little time.
+quick: all c-quick generator-quick
+	@if command -v cargo > /dev/null; then echo "cargo test"; cd rust && cargo test --offline --quiet > ../target/quick.log 2>&1 \
+	    && echo "reference: tests passed" || { cat ../target/quick.log; exit 1; }; \
+	else echo "skipped the reference implementation: no cargo"; fi
 
 # The proofs come first, so that the library is made from what they have just proved; their verdict is printed again as the last line.
 test: reference

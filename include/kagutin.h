@@ -60,7 +60,12 @@
 extern "C" {
 #endif
 
+/* Of this header; kagutin_version() of kagutin_store.h tells that of the object that was linked. */
+#define KAGUTIN_VERSION_MAJOR 1
+#define KAGUTIN_VERSION_MINOR 0
+#define KAGUTIN_VERSION_PATCH 0
 #define KAGUTIN_VERSION "1.0.0"
+#define KAGUTIN_VERSION_NUMBER (KAGUTIN_VERSION_MAJOR * 10000 + KAGUTIN_VERSION_MINOR * 100 + KAGUTIN_VERSION_PATCH)
 
 /* Sizes in bytes. */
 #define KAGUTIN_BLOCK_SIZE 64

@@ -9,10 +9,18 @@
  * (68) unless kgt_allow_list_stores was called: a block that was not meant for a
  * list would be one, and lock all writers out.
  *
- *     kgt_rights_clear(&list);
- *     kgt_rights_allow_store(&list, 3, 24, 6);      writer 3, homes 24 to 29
- *     kgt_rights_allow_read(&list, 3, 0, 65535);    and it may read all
- *     kgt_set_rights(&store, &list);                counts from now on
+ *     static bool give_rights(void)                              // true: no power cut takes the list away
+ *     {
+ *         struct kgt_rights list;
+ *         struct kgt_ticket set;
+ *
+ *         kgt_rights_clear(&list);
+ *         if (!kgt_rights_allow_store(&list, 3, 24, 6)           // writer 3, homes 24 to 29
+ *             || !kgt_rights_allow_read(&list, 3, 0, 65535))     // and it may read all
+ *             return false;
+ *         set = kgt_set_rights(&store, &list);                   // done: it counts from now on
+ *         return kgt_sync(&store).mark >= set.ticket;
+ *     }
  */
 #ifndef KAGUTIN_RIGHTS_H
 #define KAGUTIN_RIGHTS_H

@@ -6,19 +6,19 @@
  *     static uint8_t memory[KGT_MEMORY_SIZE(16, 32)];
  *     static struct kagutin store;
  *
- *     static bool start(struct kgt_driver driver)    after every start of the device
+ *     static bool start(struct kgt_driver driver)    // after every start of the device
  *     {
  *         return kgt_init(&store, memory, sizeof memory, 16, 32, driver).code == KAGUTIN_DONE
  *             && kgt_open(&store).code == KAGUTIN_DONE;
  *     }
  *
- *     static bool keep(const uint8_t *block)         writer 0, home 7; true: no power cut takes it
+ *     static bool keep(const uint8_t *block)         // writer 0, home 7; true: no power cut takes it away
  *     {
  *         if (kgt_begin(&store, 0).code != KAGUTIN_DONE)
  *             return false;
  *         if (kgt_store(&store, 0, 7, block).code == KAGUTIN_DONE && kgt_commit_sync(&store, 0).code == KAGUTIN_DONE)
  *             return true;
- *         kgt_abort(&store, 0);                      gone, if it is still open
+ *         kgt_abort(&store, 0);                      // if it is still open
  *         return false;
  *     }
  *
@@ -26,7 +26,9 @@
  * each, and unless the call is done they promise nothing: no mark ever reaches
  * the ticket, the mark reaches no ticket, more is false, numbers are
  * KGT_NOT_TOLD. So `kgt_sync(&store).mark >= ticket` is true only of a commit
- * that is durable (a commit of nothing has ticket 0, and nothing to lose).
+ * that is durable (a commit of nothing has ticket 0, and nothing to lose). A
+ * ticket belongs to its opening: after the next, drop it. Marks go on rising,
+ * and what was not durable may be gone.
  *
  * Tasks. Every call but kgt_init, kgt_set_lock, kgt_set_room and
  * kgt_allow_list_stores takes the lock, if one is set, once, and gives it back
@@ -122,6 +124,9 @@ enum kgt_answer {
 
 /* Any answer in words. */
 const char *kgt_answer_text(uint64_t code);
+
+/* KAGUTIN_VERSION as it was when the object was compiled. */
+const char *kagutin_version(void);
 
 /* ---- replies ---- */
 

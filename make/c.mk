@@ -4,6 +4,8 @@
 # quickstart                     the example of README.md, in target/c
 # c-sanitize                     the same with address and undefined-behaviour sanitizers, in target/c/sanitize
 # c-check                        tests of all of these
+# c-quick                        the quick ones of them, without sanitizers
+# snippets-check                 the examples and commands of README, docs and headers: built, run and judged
 # rights-cost                    what questions 19 and 20 cost, by callgrind
 # question-cost                  what question 2 costs; with LIB the archive it is a function of its own
 # c-kills                        longer: KILLS kills of a process at work, on this disk
@@ -101,6 +103,13 @@ c-check: $(C_PROGRAMS:%=$(C_OUT)/%) c-sanitize
 	CC="$(CC)" LIB="$(LIB)" GAUGES_LIB="$(GAUGES_LIB)" sh tests/programs/gauges-check.sh $(C_OUT)
 	CC="$(CC)" LIB="$(LIB)" GAUGES_LIB="$(GAUGES_LIB)" INFLOW_LIB="$(INFLOW_LIB)" sh tests/programs/inflow-check.sh $(C_OUT)
 
+# The quick tests, in seconds.
+C_QUICK = station inspect quickstart gauges inflow bands wear driver_check store_check reserve_check round_check rights_check file_check fram_check \
+    format_check reopen_check units_check replies_check lock_check misuse_check
+.PHONY: c-quick
+c-quick: $(C_QUICK:%=$(C_OUT)/%)
+	CC="$(CC)" LIB="$(LIB)" C_LIBS="$(C_LIBS)" sh tests/quick.sh $(C_OUT)
+
 # Instructions of a store and a read under a list of rights, and of question 2, by callgrind.
 .PHONY: rights-cost question-cost
 rights-cost: $(C_OUT)/rights_cost
@@ -167,6 +176,23 @@ endef
 $(foreach part,kagutin $(patsubst %,kagutin_%,$(STANDALONE) $(UNITS)),$(eval $(call C_ARCHIVE,$(part),dist/$(part))))
 $(eval $(call C_ARCHIVE,kagutin_store,$(C_STORE)))
 $(eval $(call C_ARCHIVE,kagutin_units,c/store/units))
+
+# Every C example of README, docs and headers, and every command there.
+SNIPPET_LIBS = $(C_UNITS_LIB) $(UNITS_LIBS) $(STORE_LIB) $(LIB)
+SNIPPET_SANITIZED = $(SNIPPET_LIBS:$(C_OUT)/%=$(C_OUT)/sanitize/%)
+SNIPPET_PROGRAMS = $(patsubst %,$(C_OUT)/%,quickstart station bands wear gauges inflow)
+
+.PHONY: snippets-check links-check
+snippets-check: $(SNIPPET_LIBS) $(SNIPPET_SANITIZED) $(SNIPPET_PROGRAMS)
+	@if command -v python3 > /dev/null; then \
+	    CC="$(CC)" python3 tests/docs/snippets.py $(C_OUT) $(SNIPPET_LIBS) $(C_LIBS) --sanitized $(SNIPPET_SANITIZED) $(C_LIBS); \
+	else echo "skipped the examples of the documents: python3 is not installed"; fi
+
+# Every path that the documents name.
+links-check:
+	@if command -v python3 > /dev/null; then python3 tests/docs/links.py; else echo "skipped the links of the documents: python3 is not installed"; fi
+
+c-check: snippets-check links-check
 
 c-clean:
 	rm -rf $(C_OUT)

@@ -11,7 +11,7 @@
 EXPORTS = kagutin
 DIST_C = dist/kagutin.c
 DIST_HEADERS = kagutin.h kagutin_chains.h
-DIST_RESULTS = answers::Reply=kagutin_reply model::Usage=kagutin_places
+DIST_RESULTS = call_ask::Reply=kagutin_reply model::Usage=kagutin_places
 
 PORT_OUT = target/port
 GENERATOR = python3 port/generate.py --rlib target/rlib --source crates
@@ -19,16 +19,16 @@ GENERATE_WORDS = --rlib target/rlib --source crates $(EXPORTS:%=--export %) $(DI
 GENERATE = python3 port/generate.py $(GENERATE_WORDS)
 
 # The standalone calls, which need no store, each a crate and a C file of its own: a program takes those that it needs.
-GENERATE_gauges = $(GENERATOR) --export gauges --header kagutin_gauges.h --result gauges::Comparison=kagutin_comparison
-GENERATE_inflow = $(GENERATOR) --export inflow --header kagutin_inflow.h --result inflow::Bounds=kagutin_inflow_bounds
+GENERATE_gauges = $(GENERATOR) --export alone_gauges --header kagutin_gauges.h --result alone_gauges::Comparison=kagutin_comparison
+GENERATE_inflow = $(GENERATOR) --export alone_inflow --header kagutin_inflow.h --result alone_inflow::Bounds=kagutin_inflow_bounds
 STANDALONE = gauges inflow
 DIST_FILES = $(DIST_C) $(STANDALONE:%=dist/kagutin_%.c)
 
-.PHONY: dist dist-check generator-check port-check port-compare
+.PHONY: dist dist-check generator-check generator-quick port-check port-compare
 
 dist:
 	@mkdir -p $(PORT_OUT)
-	@rt check $(EXPORTS) $(STANDALONE) > $(PORT_OUT)/proved.log 2>&1 || { cat $(PORT_OUT)/proved.log; exit 1; }
+	@rt check $(EXPORTS) $(STANDALONE:%=alone_%) > $(PORT_OUT)/proved.log 2>&1 || { cat $(PORT_OUT)/proved.log; exit 1; }
 	@$(GENERATE) --out $(DIST_C)
 	@$(foreach b,$(STANDALONE),$(GENERATE_$(b)) --out dist/kagutin_$(b).c &&) true
 	@$(MAKE) --no-print-directory units-dist
@@ -42,13 +42,17 @@ dist-check:
 	@echo "dist: $(DIST_FILES): what the proved program gives"
 	@$(MAKE) --no-print-directory units-dist-check
 
-# Tests of the generator itself.
+# Tests of the generator itself. generator-quick: those that take seconds, and where nothing is proved only the one that needs no proved program.
 generator-check:
 	python3 tests/generator/forms.py
 	python3 tests/generator/generator.py $(GENERATE_WORDS)
 	python3 tests/generator/imports.py
 	python3 tests/generator/translated.py
 	python3 tests/generator/buffers.py
+
+generator-quick:
+	python3 tests/generator/forms.py
+	@if [ -d target/rlib/kagutin.rlib ]; then python3 tests/generator/imports.py && python3 tests/generator/buffers.py; fi
 
 # Shared objects that compare loads. no-passes.c is the same program without the generator's passes, gcc-plain without quicker helpers.
 PORT_SHARED = -std=c99 -Iinclude -fPIC -shared

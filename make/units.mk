@@ -9,12 +9,12 @@ UNITS = bands hours alarms
 UNITS_DIST = $(UNITS:%=dist/kagutin_%.c)
 UNITS_LIBS ?= $(UNITS:%=$(C_OUT)/libkagutin_%.a)
 # Their crates, and the structs of their results.
-UNITS_CRATES = band_calls hour_calls alarm_calls
-GENERATE_UNIT = $(GENERATOR) --import kagutin --header kagutin_chains.h --result answers::Reply=kagutin_reply
-GENERATE_bands = $(GENERATE_UNIT) --export band_calls --header kagutin_bands.h --result band_calls::Band=kagutin_band
-GENERATE_hours = $(GENERATE_UNIT) --export hour_calls --header kagutin_hours.h \
-    --result hour_calls::Hours=kagutin_hours --result hour_calls::Services=kagutin_services
-GENERATE_alarms = $(GENERATE_UNIT) --export alarm_calls --header kagutin_alarms.h --result alarm_calls::Gravest=kagutin_alarm
+UNITS_CRATES = unit_bands unit_hours unit_alarms
+GENERATE_UNIT = $(GENERATOR) --import kagutin --header kagutin_chains.h --result call_ask::Reply=kagutin_reply
+GENERATE_bands = $(GENERATE_UNIT) --export unit_bands --header kagutin_bands.h --result unit_bands::Band=kagutin_band
+GENERATE_hours = $(GENERATE_UNIT) --export unit_hours --header kagutin_hours.h \
+    --result unit_hours::Hours=kagutin_hours --result unit_hours::Services=kagutin_services
+GENERATE_alarms = $(GENERATE_UNIT) --export unit_alarms --header kagutin_alarms.h --result unit_alarms::Gravest=kagutin_alarm
 
 .PHONY: units-dist units-dist-check
 

@@ -2,7 +2,7 @@
 """Makes one portable C99 file of the proved program.
 
     python3 port/generate.py --rlib target/rlib --source crates --export kagutin --header kagutin.h \\
-        --result answers::Reply=kagutin_reply --out dist/kagutin.c
+        --result call_ask::Reply=kagutin_reply --out dist/kagutin.c
 
 The functions of the exported crates that are marked `#[no_mangle] pub extern "C"` get external linkage under their own names; all
 that they reach becomes static, but for the marked functions of imported crates (--import), which are called as another C file

@@ -5,7 +5,7 @@ import sys
 
 CORES = (('m0plus', 'Cortex-M0+'), ('m4', 'Cortex-M4'), ('m33', 'Cortex-M33'))
 LEVELS = ('Os', 'O2')
-CALLS = ('format', 'open', 'begin', 'abort', 'store', 'commit', 'flush', 'confirm', 'settle', 'begin_round', 'step_round', 'trim', 'read')
+LIST = 'tests/common/calls.h'
 
 
 def table(head, rows):
@@ -46,6 +46,13 @@ def sizes(cost):
     return table(['core', '-Os', '-O2'], [[title] + [number(cost[core, level]['size'][0]) for level in LEVELS] for core, title in CORES])
 
 
+def measured_calls(found):
+    """The calls of the list that a board has measured."""
+    with open(LIST, encoding='ascii') as handle:
+        names = re.findall(r'CALL\([A-Z_]+, (\w+),', handle.read())
+    return [name for name in names if any(row.split(',')[0] == name for row in found)]
+
+
 def measured_stack(found, call):
     return max(stack for name, (_, stack) in found.items() if name.split(',')[0] == call)
 
@@ -53,7 +60,7 @@ def measured_stack(found, call):
 def stacks(cost, folder):
     rows = []
     bound = {level: bounds(folder, 'm4', level) for level in LEVELS}
-    for call in CALLS:
+    for call in measured_calls(cost[CORES[0][0], LEVELS[0]]):
         row = [call]
         for level in LEVELS:
             row += [number(bound[level][f'kagutin_{call}'])] + [number(measured_stack(cost[core, level], call)) for core, _ in CORES]

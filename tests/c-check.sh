@@ -256,7 +256,7 @@ says "cannot be created" 3 "station in a missing folder" "$san/station" --file "
 [ ! -e "$tmp/none" ]; report $? "nothing is left in the missing folder"
 (ulimit -f 1; "$san/station" --file "$tmp/full.img") > "$tmp/out" 2> "$tmp/log"
 [ $? -eq 3 ] && grep -q 'no room' "$tmp/log"; report $? "station on a full disk"
-[ -z "$(ls "$tmp" | grep full)" ]; report $? "a full disk leaves no file behind"
+[ -z "$(find "$tmp" -name '*full*')" ]; report $? "a full disk leaves no file behind"
 chmod 444 "$image"
 says "read-only\|Permission" 3 "station on a read-only file" "$san/station" --file "$image"
 chmod 644 "$image"
@@ -281,7 +281,7 @@ trouble=0
 round=0
 while [ $round -lt 30 ]; do
     cp "$tmp/kept.img" "$tmp/garbled.img"
-    for change in 1 2 3 4; do
+    for _ in 1 2 3 4; do
         next 4
         if [ $drawn -eq 0 ]; then next 64; at=$drawn; else next 12; at=$((64 + 512 * drawn)); next 64; at=$((at + drawn)); fi
         next 256

@@ -1,6 +1,6 @@
 /* Homes as text, to carry them from one image into another: JSON, CSV or hex. */
-#ifndef BLOCKS_H
-#define BLOCKS_H
+#ifndef CARRY_BLOCKS_H
+#define CARRY_BLOCKS_H
 
 #include <stdbool.h>
 #include <stddef.h>

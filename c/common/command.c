@@ -24,7 +24,7 @@ void command_say(const char *format, ...)
     va_start(arguments, format);
     vfprintf(stderr, format, arguments);
     va_end(arguments);
-    fputc('\n', stderr);
+    fputs("\n", stderr);
 }
 
 void command_quit(int status, const char *format, ...)
@@ -35,7 +35,7 @@ void command_quit(int status, const char *format, ...)
     va_start(arguments, format);
     vfprintf(stderr, format, arguments);
     va_end(arguments);
-    fputc('\n', stderr);
+    fputs("\n", stderr);
     if (status == STATUS_USAGE)
         fprintf(stderr, "Try %s%s --help.\n", strcmp(name, "kagutin") == 0 ? "" : "kagutin ", name);
     exit(status);

@@ -1,6 +1,6 @@
 /* What all subcommands share: their statuses, messages, options and end. */
-#ifndef COMMAND_H
-#define COMMAND_H
+#ifndef COMMON_COMMAND_H
+#define COMMON_COMMAND_H
 
 #include <stdbool.h>
 #include <stdint.h>

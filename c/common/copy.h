@@ -1,6 +1,6 @@
 /* A store opened on a copy of an image, or of a raw dump of a serial FRAM: the file is read, and never written. */
-#ifndef COPY_H
-#define COPY_H
+#ifndef COMMON_COPY_H
+#define COMMON_COPY_H
 
 #include "kagutin_store.h"
 

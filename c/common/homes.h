@@ -3,8 +3,8 @@
  * commit rule alone, without the library. So they can be had from a worn-out
  * image, which no opening takes, and from one of the older format.
  */
-#ifndef HOMES_H
-#define HOMES_H
+#ifndef COMMON_HOMES_H
+#define COMMON_HOMES_H
 
 #include <stdbool.h>
 #include <stddef.h>

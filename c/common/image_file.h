@@ -1,6 +1,6 @@
 /* Files that hold a store: images, and raw dumps of a serial FRAM. */
-#ifndef IMAGE_FILE_H
-#define IMAGE_FILE_H
+#ifndef COMMON_IMAGE_FILE_H
+#define COMMON_IMAGE_FILE_H
 
 #include <stdbool.h>
 #include <stddef.h>

@@ -1,6 +1,6 @@
 /* New files of bytes, never half written and never in the place of another. */
-#ifndef NEW_FILE_H
-#define NEW_FILE_H
+#ifndef COMMON_NEW_FILE_H
+#define COMMON_NEW_FILE_H
 
 #include <stdbool.h>
 #include <stddef.h>

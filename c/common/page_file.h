@@ -1,6 +1,6 @@
 /* Files that pages and plots are written to. */
-#ifndef PAGE_FILE_H
-#define PAGE_FILE_H
+#ifndef COMMON_PAGE_FILE_H
+#define COMMON_PAGE_FILE_H
 
 #include <stdio.h>
 

@@ -1,6 +1,6 @@
 /* What the homes of pumps, depth bands and alarms hold, by docs/HOMES.md, and whether the calls could have stored it. */
-#ifndef RECORDS_H
-#define RECORDS_H
+#ifndef COMMON_RECORDS_H
+#define COMMON_RECORDS_H
 
 #include <stdbool.h>
 #include <stddef.h>

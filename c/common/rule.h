@@ -3,8 +3,8 @@
  * library; the inspector prints what it finds and the station holds openings
  * against it.
  */
-#ifndef RULE_H
-#define RULE_H
+#ifndef COMMON_RULE_H
+#define COMMON_RULE_H
 
 #include <stdbool.h>
 #include <stddef.h>

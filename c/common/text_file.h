@@ -1,6 +1,6 @@
 /* Text files that people write. */
-#ifndef TEXT_FILE_H
-#define TEXT_FILE_H
+#ifndef COMMON_TEXT_FILE_H
+#define COMMON_TEXT_FILE_H
 
 #include <stdbool.h>
 #include <stddef.h>

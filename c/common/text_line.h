@@ -1,6 +1,6 @@
 /* Lines of text files that people write. */
-#ifndef TEXT_LINE_H
-#define TEXT_LINE_H
+#ifndef COMMON_TEXT_LINE_H
+#define COMMON_TEXT_LINE_H
 
 #include <stdio.h>
 

@@ -1,6 +1,6 @@
 /* A store opened on an image file, to be changed. */
-#ifndef WORK_H
-#define WORK_H
+#ifndef COMMON_WORK_H
+#define COMMON_WORK_H
 
 #include "kagutin_file.h"
 #include "kagutin_rights.h"

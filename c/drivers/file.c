@@ -61,7 +61,7 @@ static bool format(struct kgt_file *file)
 {
     size_t batch_size = KGT_FORMAT_SIZE(file->groups, file->homes);
     uint8_t *memory = (uint8_t *)calloc(1, file->size + batch_size);
-    uint8_t *area = memory + file->log_size, *batch = memory + file->size;
+    uint8_t *area, *batch;
     struct kgt_driver driver = kgt_file_driver(file);
     struct kgt_runner runner;
     struct kagutin_reply reply;
@@ -69,6 +69,8 @@ static bool format(struct kgt_file *file)
 
     if (!memory)
         return kgt_file_say(file, "out of memory");
+    area = memory + file->log_size;
+    batch = memory + file->size;
     kgt_runner_init(&runner, driver, file->groups, file->homes);
     reply = kagutin_format(memory, file->log_size, area, file->size - file->log_size, batch, batch_size);
     done = reply.code == KAGUTIN_DONE && kgt_run(&runner, batch, (size_t)reply.size) == 0;

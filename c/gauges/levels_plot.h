@@ -1,6 +1,6 @@
 /* A plot of two lists of levels and of the minutes at which they differ, as an SVG file. */
-#ifndef LEVELS_PLOT_H
-#define LEVELS_PLOT_H
+#ifndef GAUGES_LEVELS_PLOT_H
+#define GAUGES_LEVELS_PLOT_H
 
 #include <stdio.h>
 

@@ -1,6 +1,6 @@
 /* Lists of readings from CSV files, and why a file is not one. */
-#ifndef READINGS_H
-#define READINGS_H
+#ifndef GAUGES_READINGS_H
+#define GAUGES_READINGS_H
 
 #include <stdbool.h>
 #include <stddef.h>

@@ -176,7 +176,7 @@ void print_json(const struct image *image, const struct rule_walk *walk, const s
            image_worn_out(image) ? "true" : "false", (unsigned long)fates->committed, (unsigned long)fates->others,
            (unsigned long)fates->torn,
            (unsigned long)(7 * log->groups - fates->committed - fates->others - fates->torn));
-    for (i = 0; i < image_slots(image); i++)
+    for (i = 0; i < log->groups; i++)
         json_slot(image, fates, i);
     fputs("],\n \"commits\":[", stdout);
     for (i = 0; i < walk->commit_count; i++)

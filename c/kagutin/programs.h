@@ -1,6 +1,6 @@
 /* The subcommands, each in a folder of its own; words[0] is its name. */
-#ifndef PROGRAMS_H
-#define PROGRAMS_H
+#ifndef KAGUTIN_PROGRAMS_H
+#define KAGUTIN_PROGRAMS_H
 
 int alarms_main(int count, char **words);
 int bands_main(int count, char **words);

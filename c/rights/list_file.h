@@ -1,6 +1,6 @@
 /* A list of rights as a text file. */
-#ifndef LIST_FILE_H
-#define LIST_FILE_H
+#ifndef RIGHTS_LIST_FILE_H
+#define RIGHTS_LIST_FILE_H
 
 #include "kagutin_rights.h"
 

@@ -8,8 +8,8 @@
  * At a power cut the list of commits stops before the first one with an entry
  * that has not persisted; what stays is the run.
  */
-#ifndef BOOK_H
-#define BOOK_H
+#ifndef STATION_BOOK_H
+#define STATION_BOOK_H
 
 #include <stdbool.h>
 #include <stddef.h>

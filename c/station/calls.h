@@ -1,6 +1,6 @@
 /* The library's calls, each held against the book. */
-#ifndef CALLS_H
-#define CALLS_H
+#ifndef STATION_CALLS_H
+#define STATION_CALLS_H
 
 #include "station.h"
 

@@ -1,6 +1,6 @@
 /* What calls.c and event_calls.c share: the lent memory, and how a done or full call is held against the book. */
-#ifndef CALLS_INNER_H
-#define CALLS_INNER_H
+#ifndef STATION_CALLS_INNER_H
+#define STATION_CALLS_INNER_H
 
 #include "station.h"
 

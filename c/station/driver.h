@@ -12,8 +12,8 @@
  * After lasting memory has failed once no fence passes any more and nothing is
  * confirmed, until the image is opened anew.
  */
-#ifndef DRIVER_H
-#define DRIVER_H
+#ifndef STATION_DRIVER_H
+#define STATION_DRIVER_H
 
 #include <stdbool.h>
 #include <stddef.h>

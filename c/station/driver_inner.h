@@ -1,6 +1,6 @@
 /* Shared by the driver's two files. */
-#ifndef DRIVER_INNER_H
-#define DRIVER_INNER_H
+#ifndef STATION_DRIVER_INNER_H
+#define STATION_DRIVER_INNER_H
 
 #include "driver.h"
 

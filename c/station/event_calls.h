@@ -1,6 +1,6 @@
 /* The calls of the hours book and of the alarms, each held against the book and the events. */
-#ifndef EVENT_CALLS_H
-#define EVENT_CALLS_H
+#ifndef STATION_EVENT_CALLS_H
+#define STATION_EVENT_CALLS_H
 
 #include "station.h"
 

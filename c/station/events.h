@@ -3,8 +3,8 @@
  * the alarms must say, reckoned from the events alone. After a cut those count
  * whose commits are in the run.
  */
-#ifndef EVENTS_H
-#define EVENTS_H
+#ifndef STATION_EVENTS_H
+#define STATION_EVENTS_H
 
 #include <stdbool.h>
 

@@ -1,6 +1,6 @@
 /* The station's command line. */
-#ifndef OPTIONS_H
-#define OPTIONS_H
+#ifndef STATION_OPTIONS_H
+#define STATION_OPTIONS_H
 
 #include "station.h"
 

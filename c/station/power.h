@@ -1,6 +1,6 @@
 /* Work, power cuts and openings. */
-#ifndef POWER_H
-#define POWER_H
+#ifndef STATION_POWER_H
+#define STATION_POWER_H
 
 #include "station.h"
 

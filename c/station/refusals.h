@@ -1,6 +1,6 @@
 /* Calls that must be refused, with every lent byte left as it was. */
-#ifndef REFUSALS_H
-#define REFUSALS_H
+#ifndef STATION_REFUSALS_H
+#define STATION_REFUSALS_H
 
 #include "station.h"
 

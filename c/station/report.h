@@ -1,6 +1,6 @@
 /* What a run prints of its cuts: a line while it runs, each cut if asked for, a summary. */
-#ifndef REPORT_H
-#define REPORT_H
+#ifndef STATION_REPORT_H
+#define STATION_REPORT_H
 
 #include "station.h"
 

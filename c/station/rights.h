@@ -1,6 +1,6 @@
 /* The list of rights that the station runs with, and what the book says of it. */
-#ifndef RIGHTS_H
-#define RIGHTS_H
+#ifndef STATION_RIGHTS_H
+#define STATION_RIGHTS_H
 
 #include "kagutin_rights.h"
 #include "station.h"

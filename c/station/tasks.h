@@ -1,6 +1,6 @@
 /* The eight tasks. */
-#ifndef TASKS_H
-#define TASKS_H
+#ifndef STATION_TASKS_H
+#define STATION_TASKS_H
 
 #include "station.h"
 

@@ -1,6 +1,6 @@
 /* What the station shows at the end: the commits of its tasks, the panel, the wear sheet. */
-#ifndef WEAR_H
-#define WEAR_H
+#ifndef STATION_WEAR_H
+#define STATION_WEAR_H
 
 #include "station.h"
 

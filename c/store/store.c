@@ -16,6 +16,11 @@ const char *kgt_answer_text(uint64_t code)
     }
 }
 
+const char *kagutin_version(void)
+{
+    return KAGUTIN_VERSION;
+}
+
 static struct kgt_reply answer(uint64_t code)
 {
     struct kgt_reply reply;

@@ -37,7 +37,10 @@ static void reopen(void)
 
 static enum call any_call(void)
 {
-    static const uint8_t weights[CALLS] = { 0, 0, 6, 1, 18, 4, 2, 2, 1, 1, 3, 1, 3, 2, 2 };
+    static const uint8_t weights[CALLS] = {
+        [BEGIN] = 6, [ABORT] = 1, [STORE] = 18, [COMMIT] = 4, [FLUSH] = 2, [CONFIRM] = 2, [SETTLE] = 1, [TRIM] = 1, [READ] = 3,
+        [BEGIN_ROUND] = 1, [STEP_ROUND] = 3, [RESERVE] = 2, [USAGE] = 2
+    };
     uint32_t n = below(46);
     unsigned k = BEGIN;
 

@@ -5,8 +5,7 @@
 
 struct lent lent;
 
-const char *const call_names[CALLS] = { "format", "open", "begin", "abort", "store", "commit", "flush", "confirm", "settle", "trim",
-                                        "read", "begin_round", "step_round", "reserve", "usage" };
+const char *const call_names[CALLS] = { KAGUTIN_CALLS(CALL_NAME) "usage" };
 
 void lend(size_t groups, size_t homes, size_t batch_size)
 {
@@ -31,6 +30,11 @@ void lend(size_t groups, size_t homes, size_t batch_size)
 #define NEWEST lent.newest, lent.newest_size
 #define BLOCK lent.block, lent.block_size
 #define BATCH lent.batch, lent.batch_size
+#define WRITER writer
+#define HOME home
+#define PLACES_ASKED home
+#define HOMES_ASKED home
+#define CASE(constant, name, arguments) case constant: return kagutin_##name arguments;
 
 /* The numbers that usage tells, eight bytes each, the lowest byte first on every machine. */
 static struct kagutin_reply tell(struct kagutin_places told)
@@ -47,21 +51,8 @@ static struct kagutin_reply tell(struct kagutin_places told)
 struct kagutin_reply make_call(enum call call, uint64_t writer, uint64_t home)
 {
     switch (call) {
-    case FORMAT: return kagutin_format(AREAS, BATCH);
-    case OPEN: return kagutin_open(AREAS, STATE, NEWEST, BATCH);
-    case BEGIN: return kagutin_begin(AREAS, STATE, writer);
-    case ABORT: return kagutin_abort(AREAS, STATE, writer);
-    case STORE: return kagutin_store(AREAS, STATE, BLOCK, BATCH, writer, home);
-    case COMMIT: return kagutin_commit(AREAS, STATE, NEWEST, BATCH, writer);
-    case FLUSH: return kagutin_flush(AREAS, STATE, BATCH);
-    case CONFIRM: return kagutin_confirm(AREAS, STATE);
-    case SETTLE: return kagutin_settle(AREAS, STATE, BATCH);
-    case TRIM: return kagutin_trim(AREAS, STATE, NEWEST, BATCH);
-    case BEGIN_ROUND: return kagutin_begin_round(AREAS, STATE);
-    case STEP_ROUND: return kagutin_step_round(AREAS, STATE, BATCH, home);
-    case RESERVE: return kagutin_reserve(AREAS, STATE, writer, home);
-    case USAGE: return tell(kagutin_usage(AREAS, STATE));
-    default: return kagutin_read(AREAS, STATE, NEWEST, BLOCK, writer, home);
+    KAGUTIN_CALLS(CASE)
+    default: return tell(kagutin_usage(AREAS, STATE));
     }
 }
 

@@ -2,9 +2,10 @@
 #ifndef REPLAY_H
 #define REPLAY_H
 
+#include "../../tests/common/calls.h"
 #include "kagutin.h"
 
-enum call { FORMAT, OPEN, BEGIN, ABORT, STORE, COMMIT, FLUSH, CONFIRM, SETTLE, TRIM, READ, BEGIN_ROUND, STEP_ROUND, RESERVE, USAGE, CALLS };
+enum call { KAGUTIN_CALLS(CALL_CONSTANT) USAGE, CALLS };
 
 /* Room for one group and one home above the largest store that is played: the trials lend these too. */
 enum {

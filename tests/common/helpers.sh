@@ -1,3 +1,4 @@
+# shellcheck shell=sh
 # What the tests of the C programs share: a folder $tmp, a line for each test, and their count.
 tmp=$(mktemp -d) || exit 1
 trap 'rm -rf "$tmp"' EXIT

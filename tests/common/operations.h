@@ -2,8 +2,8 @@
  * Every call of the store object and of the units on it, by number, with its
  * reply laid flat: for tests that try something at each of them.
  */
-#ifndef OPERATIONS_H
-#define OPERATIONS_H
+#ifndef TESTS_OPERATIONS_H
+#define TESTS_OPERATIONS_H
 
 #include "kagutin_rights.h"
 #include "kagutin_units.h"

@@ -3,8 +3,8 @@
  * end it says whether the homes are those after a run of commits that has
  * every confirmed one in it.
  */
-#ifndef PLAY_H
-#define PLAY_H
+#ifndef TESTS_PLAY_H
+#define TESTS_PLAY_H
 
 #include "kagutin_store.h"
 

@@ -18,7 +18,7 @@ over=
 printf '%-12s %8s %11s %6s\n' case confirm "question 2" most
 while read -r case most; do
     confirm=$(instructions "$case" kagutin_confirm)
-    question=$(instructions "$case" 'order::quick::quick_answer')
+    question=$(instructions "$case" 'base_order::quick::quick_answer')
     printf '%-12s %8s %11s %6s\n' "$case" "$confirm" "$([ "${question:-0}" -gt 0 ] && echo "$question" || echo inline)" "$([ "$most" -gt 0 ] && echo "$most" || echo -)"
     [ "$most" -eq 0 ] || [ "${question:-0}" -le "$most" ] || over="$over $case"
 done < "$tmp/cases"

@@ -28,9 +28,9 @@ use lib.ListN.{replicate}
 use Rattle.model.specs.Bytes.{same}
 use Rattle.model.specs.Effects.{Given}
 use Rattle.model.specs.Calls.{Outcome, formatCall, openCall, beginCall, reserveCall, abortCall, storeCall, commitCall, flushCall, confirmCall, settleCall, beginRoundCall, stepRoundCall, trimCall, readCall}
-use Rattle.acts.specs.Chains.{SEVERAL}
+use Rattle.acts.specs.Many.{SEVERAL}
 use Rattle.model.specs.declared.Usage.{Usage}
-use Rattle.ledger.specs.Usage.{USAGES}
+use Rattle.abstract_store.specs.Usage.{USAGES}
 use Rattle.model.proofs.Computing.{all-definitions}
 
 data Run : Type 0 where
@@ -93,19 +93,19 @@ def main():
     text = head + "".join(statement(n, case) for n, case in enumerate(cases))
     with tempfile.TemporaryDirectory() as folder:
         crates = pathlib.Path(folder) / "crates"
-        for name in ("model", "ledger", "acts"):
+        for name in ("model", "abstract_store", "acts"):
             for part in ("src", "specs"):
                 shutil.copytree(ROOT / "crates" / name / part, crates / name / part)
         proofs = crates / "model/proofs"
         proofs.mkdir()
-        shutil.copy(ROOT / "crates/model/proofs/answers/Computing.antt", proofs)
+        shutil.copy(ROOT / "crates/model/proofs/examples/Computing.antt", proofs)
         (proofs / "Lib.antt").write_text("pub mod Computing\n")
         for part in ("src", "proofs"):
             (crates / "cases" / part).mkdir(parents=True)
         (crates / "cases/src/lib.rt").write_text("// cases\n")
         (crates / "cases/proofs/Lib.antt").write_text("pub mod Cases\n")
         (crates / "cases/proofs/Cases.antt").write_text(text)
-        (pathlib.Path(folder) / "crates.txt").write_text("model:\nledger: model\nacts: model\ncases: ledger acts model\n")
+        (pathlib.Path(folder) / "crates.txt").write_text("model:\nabstract_store: model\nacts: model\ncases: abstract_store acts model\n")
         told = subprocess.run(["rt", "check", "cases"], cwd=folder, capture_output=True, text=True)
     answers = collections.Counter(f"{case['call']} {case['code']}" for case in cases)
     if told.returncode != 0:

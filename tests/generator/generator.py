@@ -48,16 +48,16 @@ def edited(folder, function, old, new):
 
 # what is changed: function, old form, new form, what the generator says of it
 EDITS = [
-    ('areas::lengths::log_right', '{"Mul": "Unsigned"}', '{"Mul": "Other"}', 'areas::lengths::log_right: operation'),
-    ('areas::lengths::log_right', '{"Int": 64}', '{"Int": 128}', 'areas::lengths::log_right: type {"Int": 128}'),
-    ('areas::lengths::log_right', '{"Int": 64}', '{"Float": 64}', 'areas::lengths::log_right: type {"Float": 64}'),
-    ('areas::lengths::log_right', '"Return"', '"Abort"', 'areas::lengths::log_right: statement'),
-    ('areas::lengths::log_right', '"Direct": "areas::lengths::log_groups"', '"Direct": "areas::lengths::log_right"', 'recursion'),
-    ('areas::lengths::log_right', '"Direct": "areas::lengths::log_groups"', '"Direct": "areas::lengths::other"', 'no proved function'),
-    ('areas::lengths::log_right', '"Direct": "areas::lengths::log_groups"', '"Direct": "nowhere::other"', 'no proved program'),
-    ('codec::blocks::clear', '{"Deref": {"Int": 8}}', '{"Deref": {"Int": 16}}', 'codec::blocks::clear: memory of'),
-    ('codec::marks::put_fence_mark', '"MemorySlot"', '"ValueLocal"', 'codec::marks::put_fence_mark: the address of value local'),
-    ('bitmap::ones', '"CountOnes"', '"ReverseBits"', 'bitmap::ones: operation'),
+    ('base_areas::lengths::log_right', '{"Mul": "Unsigned"}', '{"Mul": "Other"}', 'base_areas::lengths::log_right: operation'),
+    ('base_areas::lengths::log_right', '{"Int": 64}', '{"Int": 128}', 'base_areas::lengths::log_right: type {"Int": 128}'),
+    ('base_areas::lengths::log_right', '{"Int": 64}', '{"Float": 64}', 'base_areas::lengths::log_right: type {"Float": 64}'),
+    ('base_areas::lengths::log_right', '"Return"', '"Abort"', 'base_areas::lengths::log_right: statement'),
+    ('base_areas::lengths::log_right', '"Direct": "base_areas::lengths::log_groups"', '"Direct": "base_areas::lengths::log_right"', 'recursion'),
+    ('base_areas::lengths::log_right', '"Direct": "base_areas::lengths::log_groups"', '"Direct": "base_areas::lengths::other"', 'no proved function'),
+    ('base_areas::lengths::log_right', '"Direct": "base_areas::lengths::log_groups"', '"Direct": "nowhere::other"', 'no proved program'),
+    ('base_codec::blocks::clear', '{"Deref": {"Int": 8}}', '{"Deref": {"Int": 16}}', 'base_codec::blocks::clear: memory of'),
+    ('base_codec::marks::put_fence_mark', '"MemorySlot"', '"ValueLocal"', 'base_codec::marks::put_fence_mark: the address of value local'),
+    ('base_bitmap::ones', '"CountOnes"', '"ReverseBits"', 'base_bitmap::ones: operation'),
 ]
 
 

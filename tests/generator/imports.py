@@ -119,16 +119,16 @@ def main():
     with tempfile.TemporaryDirectory() as folder:
         for crate in os.listdir('crates'):
             shutil.copytree(os.path.join('crates', crate, 'src'), os.path.join(folder, crate, 'src'))
-        mark(folder, 'codec', 'numbers', ['number', 'put_number'])
-        mark(folder, 'answers', 'lib', ['refused', 'done', 'in_use'])
-        mark(folder, 'alarms', 'lib', ['arrive', 'clear', 'gravest'])
-        mark(folder, 'sessions', 'lib', ['begin'])
+        mark(folder, 'base_codec', 'numbers', ['number', 'put_number'])
+        mark(folder, 'call_ask', 'lib', ['refused', 'done', 'state_answer'])
+        mark(folder, 'unit_alarms_list', 'lib', ['arrive', 'clear', 'gravest'])
+        mark(folder, 'call_writer', 'lib', ['begin'])
         with open(os.path.join(folder, 'test.h'), 'w', encoding='utf-8') as handle:
             handle.write(HEADER)
-        results = ['--result', 'answers::Reply=reply', '--result', 'alarms::Alarm=alarm']
+        results = ['--result', 'call_ask::Reply=reply', '--result', 'unit_alarms_list::Alarm=alarm']
         count = 0
-        for above, below, names, calls in (('alarms', 'codec', {'number', 'put_number'}, alarm_calls),
-                                           ('sessions', 'answers', {'refused', 'in_use'}, begin_calls)):
+        for above, below, names, calls in (('unit_alarms_list', 'base_codec', {'number', 'put_number'}, alarm_calls),
+                                           ('call_writer', 'call_ask', {'refused', 'state_answer'}, begin_calls)):
             for passes in ([], ['--no-passes']):
                 path = lambda name: os.path.join(folder, name)
                 generate(folder, path('whole.c'), above, 'test.h', results + passes)

@@ -2,8 +2,8 @@
 
 documents.py FOLDER-OF-THE-PROGRAM FILE..
 
-A session is an indented block of a document, or a literal one of a manual page, in which lines begin with "$ ". What follows
-a command up to the next is what it prints, messages included. The sessions of a file share a folder, new for each file.
+A session is a block of a document fenced as console, or a literal one of a manual page, in which lines begin with "$ ". What
+follows a command up to the next is what it prints, messages included. The sessions of a file share a folder, new for each file.
 "cat NAME" of a file that is not there yet makes it.
 """
 import os
@@ -14,34 +14,22 @@ import tempfile
 
 
 def blocks_of(path):
-    """The lines of each block of code, as a reader sees them."""
-    block, literal = [], False
-    for line in open(path, encoding='utf-8').read().split('\n') + ['']:
-        if path.endswith('.md'):
-            inside = line.startswith('    ') or (not line.strip() and block)
-            text = line[4:]
-        else:
-            if line.startswith('.Bd -literal'):
-                literal = True
-                continue
-            inside = literal = literal and not line.startswith('.Ed')
-            text = line.replace('\\e', '\\')
-        if inside:
-            block.append(text)
-        elif block:
+    """The lines of each session, as a reader sees them."""
+    begin, end = ('```console', '```') if path.endswith('.md') else ('.Bd -literal', '.Ed')
+    block = None
+    for line in open(path, encoding='utf-8').read().split('\n'):
+        if block is None:
+            block = [] if line.startswith(begin) else None
+        elif line == end:
             yield block
-            block = []
-    if block:
-        yield block
+            block = None
+        else:
+            block.append(line if path.endswith('.md') else line.replace('\\e', '\\'))
 
 
 def sessions_of(path):
     """Pairs of a command and the lines that it prints."""
     for block in blocks_of(path):
-        if not any(line.startswith('$ ') for line in block):
-            continue
-        while block and not block[-1].strip():
-            block.pop()
         command, printed = None, []
         for line in block:
             if line.startswith('$ '):
@@ -50,7 +38,8 @@ def sessions_of(path):
                 command, printed = line[2:], []
             elif command:
                 printed.append(line)
-        yield command, printed
+        if command:
+            yield command, printed
 
 
 def run(path, programs, folder):

@@ -230,7 +230,7 @@ gives 1 "inspect --json of a damaged count of homes" "$k" inspect --json "$tmp/u
 [ "$(wc -c < "$tmp/out")" -lt 40000 ]; report $? "stays small"
 put 8 '\377\003'
 gives 1 "and of groups" "$k" inspect --json "$tmp/units.img"
-[ "$(wc -c < "$tmp/out")" -lt 40000 ]; report $? "stays small"
+[ "$(wc -c < "$tmp/out")" -lt 90000 ]; report $? "stays small"
 
 # --- FIFOs and folders ---
 mkfifo "$tmp/fifo"

@@ -7,12 +7,12 @@
 #include <string.h>
 #include <ucontext.h>
 
+#include "../common/calls.h"
 #include "kagutin.h"
 #include "kagutin_chains.h"
 
 enum { GROUPS = 1024, HOMES = 65535, FREE = 12 /* the homes behind the list of rights */, BLOCKS = 7, STACK = 1 << 18 };
-enum { FORMAT, OPEN, BEGIN, STORE, COMMIT, FLUSH, CONFIRM, SETTLE, TRIM, READ, ABORT, RESERVE, BEGIN_ROUND, STEP_ROUND, USAGE, FETCH, REVISE, TRANSACT,
-       EMPTY };
+enum { KAGUTIN_CALLS(CALL_CONSTANT) USAGE, FETCH, REVISE, TRANSACT, EMPTY };
 
 static uint8_t log_area[KAGUTIN_HEADER_SIZE + KAGUTIN_GROUP_SIZE * GROUPS], area[KAGUTIN_BLOCK_SIZE * HOMES];
 static uint8_t state[KAGUTIN_STATE_SIZE], newest[KAGUTIN_POSITION_SIZE * HOMES], block[KAGUTIN_BLOCK_SIZE], batch[5 << 20];
@@ -28,24 +28,17 @@ static struct kagutin_reply reply;
 #define STATE state, sizeof state
 #define NEWEST newest, KAGUTIN_POSITION_SIZE * homes
 #define BATCH batch, sizeof batch
+#define BLOCK block, sizeof block
+#define WRITER who
+#define HOME where
+#define PLACES_ASKED 1
+#define HOMES_ASKED 8
+#define CASE(constant, name, arguments) case constant: reply = kagutin_##name arguments; break;
 
 static void body(void)
 {
     switch (which) {
-    case FORMAT: reply = kagutin_format(AREAS, BATCH); break;
-    case OPEN: reply = kagutin_open(AREAS, STATE, NEWEST, BATCH); break;
-    case BEGIN: reply = kagutin_begin(AREAS, STATE, who); break;
-    case STORE: reply = kagutin_store(AREAS, STATE, block, sizeof block, BATCH, who, where); break;
-    case COMMIT: reply = kagutin_commit(AREAS, STATE, NEWEST, BATCH, who); break;
-    case FLUSH: reply = kagutin_flush(AREAS, STATE, BATCH); break;
-    case CONFIRM: reply = kagutin_confirm(AREAS, STATE); break;
-    case SETTLE: reply = kagutin_settle(AREAS, STATE, BATCH); break;
-    case TRIM: reply = kagutin_trim(AREAS, STATE, NEWEST, BATCH); break;
-    case READ: reply = kagutin_read(AREAS, STATE, NEWEST, block, sizeof block, who, where); break;
-    case ABORT: reply = kagutin_abort(AREAS, STATE, who); break;
-    case RESERVE: reply = kagutin_reserve(AREAS, STATE, who, 1); break;
-    case BEGIN_ROUND: reply = kagutin_begin_round(AREAS, STATE); break;
-    case STEP_ROUND: reply = kagutin_step_round(AREAS, STATE, BATCH, 8); break;
+    KAGUTIN_CALLS(CASE)
     case USAGE: reply.code = kagutin_usage(AREAS, STATE).code; break;
     case FETCH: reply = kagutin_fetch(AREAS, STATE, NEWEST, blocks, sizeof blocks, who, where); break;
     case REVISE: reply = kagutin_revise(AREAS, STATE, NEWEST, blocks, sizeof blocks, who, where); break;
@@ -162,8 +155,7 @@ static void work(void)
 /* Prints what each call took in stores of this shape. */
 static int measure(size_t g, size_t d, size_t limit)
 {
-    static const char *names[] = { "format", "open", "begin", "store", "commit", "flush", "confirm", "settle", "trim", "read", "abort", "reserve",
-                                   "begin_round", "step_round", "usage", "fetch", "revise", "transact" };
+    static const char *names[] = { KAGUTIN_CALLS(CALL_NAME) "usage", "fetch", "revise", "transact" };
     int k, over = 0;
 
     groups = g;

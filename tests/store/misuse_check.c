@@ -177,8 +177,19 @@ static void check_room(void)
     check(kgt_commit_sync(&store, 1).code == KAGUTIN_DONE, "and the commit goes on");
 }
 
+/* Header, numbers and object agree. */
+static void check_version(void)
+{
+    char text[32];
+
+    snprintf(text, sizeof text, "%d.%d.%d", KAGUTIN_VERSION_MAJOR, KAGUTIN_VERSION_MINOR, KAGUTIN_VERSION_PATCH);
+    check(strcmp(text, KAGUTIN_VERSION) == 0 && strcmp(text, kagutin_version()) == 0, "the version");
+    check(KAGUTIN_VERSION_NUMBER == 10000 * KAGUTIN_VERSION_MAJOR + 100 * KAGUTIN_VERSION_MINOR + KAGUTIN_VERSION_PATCH, "its number");
+}
+
 int main(void)
 {
+    check_version();
     check_init();
     check_format();
     check_more();

@@ -1,4 +1,4 @@
 -- What the definitions come to: histories with calls on several homes, computed.
 pub mod TogetherHolds
 -- What an answer of 0 says of a call on several homes.
-pub mod ChainLaws
+pub mod ManyLaws

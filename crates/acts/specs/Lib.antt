@@ -1,3 +1,3 @@
-pub mod Chains
+pub mod Many
 pub mod Units
 pub mod Together

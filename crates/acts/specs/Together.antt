@@ -7,8 +7,8 @@ use lib.ListN.{length, getD}
 use Rattle.model.specs.Bytes.{zeros}
 use Rattle.model.specs.Calls.{Outcome}
 use Rattle.model.specs.History.{opening, begin, reserve, abort, store, flush, Event, call, crash, World, ends}
-use Rattle.model.specs.Trials.{room, lane, fill, positions, fresh, Trial}
-use Rattle.model.specs.Guarded.{guarded}
+use Rattle.model.specs.examples.Trials.{room, lane, fill, positions, fresh, Trial}
+use Rattle.model.specs.examples.Guarded.{guarded}
 use Rattle.acts.specs.Units.{Act, plain, transacts, fetches, revises, transactEnds, fetchEnds, reviseEnds, act, acted, labelsFrom, lastUnit}
 
 unfoldable pub numberAt : World → Event → ℕ
@@ -68,7 +68,7 @@ acrossGroups =
     transacts 0 3 (two 1 2) room ∷ transacts 1 5 (zeros 192) room ∷ transacts 1 7 (fill 9) room ∷ transacts 0 3 (two 5 6) room
     ∷ plain (crash 3 (λ i. true)) ∷ again ∷ []
 
--- Under the list of specs/Guarded: writer 1, whose transaction is open, may store to home 3 and read homes 3 and 6, writer 0 store to homes 0 to 2, and
+-- Under the list of specs/examples/Guarded: writer 1, whose transaction is open, may store to home 3 and read homes 3 and 6, writer 0 store to homes 0 to 2, and
 -- writer 2 nothing. One home without the right refuses all.
 unfoldable pub withRights : List Act
 withRights =

@@ -1,19 +1,19 @@
 // The calls of the store as C sees them: each is the proved call of its crate under an exported name.
-use answers::Reply;
+use call_ask::Reply;
 use model::Usage;
 ghost use mathlib.Core.Path.{_≡_};
 ghost use mathlib.Core.List.{[]};
 ghost use Rattle.model.specs.Calls.{formatCall, openCall, beginCall, reserveCall, abortCall, storeCall, commitCall, flushCall, confirmCall, settleCall, trimCall, readCall, beginRoundCall, stepRoundCall};
-ghost use Rattle.acts.specs.Chains.{fetchCall, reviseCall, transactCall};
-ghost use Rattle.ledger.specs.Usage.{usageCall};
-ghost use Rattle.answers.specs.Lent.{lentAll, leavesAll, lent, leaves};
+ghost use Rattle.acts.specs.Many.{fetchCall, reviseCall, transactCall};
+ghost use Rattle.abstract_store.specs.Usage.{usageCall};
+ghost use Rattle.call_ask.specs.Lent.{lentAll, leavesAll, lent, leaves};
 
 // Writes an empty store: every group unused, every home zeros, then the header.
 #[no_mangle]
 pub extern "C" fn kagutin_format(log: &mut [u8], area: &mut [u8], batch: &mut [u8]) -> Reply
     ensures { λ r. ⌜ leaves (r .code) (r .figure) (r .size) (now (log .exit)) (now (area .exit)) [] [] (now (batch .exit)) ≡ formatCall (lent (now (log .entry)) (now (area .entry)) [] [] (now (batch .entry)) 0 0) ⌝ }
 {
-    recovery::format(log, area, batch)
+    call_open::format(log, area, batch)
 }
 
 // Brings back what a power cut left: replays the committed transactions into the data copy and starts the log anew.
@@ -27,7 +27,7 @@ pub extern "C" fn kagutin_open(
 ) -> Reply
     ensures { λ r. ⌜ leavesAll (r .code) (r .figure) (r .size) (now (log .exit)) (now (area .exit)) (now (state .exit)) (now (newest .exit)) [] (now (batch .exit)) ≡ openCall (lentAll (now (log .entry)) (now (area .entry)) (now (state .entry)) (now (newest .entry)) [] (now (batch .entry)) 0 0) ⌝ }
 {
-    recovery::reopen(log, area, state, newest, batch)
+    call_open::reopen(log, area, state, newest, batch)
 }
 
 // Begins a transaction of a writer that has none open.
@@ -35,7 +35,7 @@ pub extern "C" fn kagutin_open(
 pub extern "C" fn kagutin_begin(log: &[u8], area: &[u8], state: &mut [u8], writer: u64) -> Reply
     ensures { λ r. ⌜ leaves (r .code) (r .figure) (r .size) (now (log .entry)) (now (area .entry)) (now (state .exit)) [] [] ≡ beginCall (lent (now (log .entry)) (now (area .entry)) (now (state .entry)) [] [] writer 0) ⌝ }
 {
-    sessions::begin(log, area, state, writer)
+    call_writer::begin(log, area, state, writer)
 }
 
 // Begins a transaction of a writer that has none open, and promises it `n` places: its first `n` entries find room.
@@ -49,7 +49,7 @@ pub extern "C" fn kagutin_reserve(
 ) -> Reply
     ensures { λ r. ⌜ leaves (r .code) (r .figure) (r .size) (now (log .entry)) (now (area .entry)) (now (state .exit)) [] [] ≡ reserveCall (lent (now (log .entry)) (now (area .entry)) (now (state .entry)) [] [] writer 0) n ⌝ }
 {
-    sessions::reserve(log, area, state, writer, n)
+    call_writer::reserve(log, area, state, writer, n)
 }
 
 // Drops a writer's open transaction with the block that it holds, and gives back the places promised to it.
@@ -57,7 +57,7 @@ pub extern "C" fn kagutin_reserve(
 pub extern "C" fn kagutin_abort(log: &[u8], area: &[u8], state: &mut [u8], writer: u64) -> Reply
     ensures { λ r. ⌜ leaves (r .code) (r .figure) (r .size) (now (log .entry)) (now (area .entry)) (now (state .exit)) [] [] ≡ abortCall (lent (now (log .entry)) (now (area .entry)) (now (state .entry)) [] [] writer 0) ⌝ }
 {
-    sessions::abort(log, area, state, writer)
+    call_writer::abort(log, area, state, writer)
 }
 
 // Holds a block for a home in a writer's open transaction; a block held for another home is logged first.
@@ -73,7 +73,7 @@ pub extern "C" fn kagutin_store(
 ) -> Reply
     ensures { λ r. ⌜ leaves (r .code) (r .figure) (r .size) (now (log .exit)) (now (area .entry)) (now (state .exit)) (now (block .entry)) (now (batch .exit)) ≡ storeCall (lent (now (log .entry)) (now (area .entry)) (now (state .entry)) (now (block .entry)) (now (batch .entry)) writer home) ⌝ }
 {
-    logging::store(log, area, state, block, batch, writer, home)
+    call_store::store(log, area, state, block, batch, writer, home)
 }
 
 // Ends a writer's transaction: logs the held block as its closing entry, and returns the ticket.
@@ -88,7 +88,7 @@ pub extern "C" fn kagutin_commit(
 ) -> Reply
     ensures { λ r. ⌜ leavesAll (r .code) (r .figure) (r .size) (now (log .exit)) (now (area .entry)) (now (state .exit)) (now (newest .exit)) [] (now (batch .exit)) ≡ commitCall (lentAll (now (log .entry)) (now (area .entry)) (now (state .entry)) (now (newest .entry)) [] (now (batch .entry)) writer 0) ⌝ }
 {
-    commits::commit(log, area, state, newest, batch, writer)
+    call_commit::commit(log, area, state, newest, batch, writer)
 }
 
 // Submits the group that is being filled, and a fence.
@@ -101,7 +101,7 @@ pub extern "C" fn kagutin_flush(
 ) -> Reply
     ensures { λ r. ⌜ leaves (r .code) (r .figure) (r .size) (now (log .entry)) (now (area .entry)) (now (state .exit)) [] (now (batch .exit)) ≡ flushCall (lent (now (log .entry)) (now (area .entry)) (now (state .entry)) [] (now (batch .entry)) 0 0) ⌝ }
 {
-    flushing::flush(log, area, state, batch)
+    call_flush::flush(log, area, state, batch)
 }
 
 // Makes the fenced position the durable mark, and returns it.
@@ -109,7 +109,7 @@ pub extern "C" fn kagutin_flush(
 pub extern "C" fn kagutin_confirm(log: &[u8], area: &[u8], state: &mut [u8]) -> Reply
     ensures { λ r. ⌜ leaves (r .code) (r .figure) (r .size) (now (log .entry)) (now (area .entry)) (now (state .exit)) [] [] ≡ confirmCall (lent (now (log .entry)) (now (area .entry)) (now (state .entry)) [] [] 0 0) ⌝ }
 {
-    sessions::confirm(log, area, state)
+    call_writer::confirm(log, area, state)
 }
 
 // Writes the homes of the commits below the fenced position, and a fence.
@@ -122,7 +122,7 @@ pub extern "C" fn kagutin_settle(
 ) -> Reply
     ensures { λ r. ⌜ leaves (r .code) (r .figure) (r .size) (now (log .entry)) (now (area .exit)) (now (state .exit)) [] (now (batch .exit)) ≡ settleCall (lent (now (log .entry)) (now (area .entry)) (now (state .entry)) [] (now (batch .entry)) 0 0) ⌝ }
 {
-    recovery::settle(log, area, state, batch)
+    call_settle::settle(log, area, state, batch)
 }
 
 // Begins a round of settling in small steps, which covers the commits below the fenced position of now.
@@ -130,7 +130,7 @@ pub extern "C" fn kagutin_settle(
 pub extern "C" fn kagutin_begin_round(log: &[u8], area: &[u8], state: &mut [u8]) -> Reply
     ensures { λ r. ⌜ leaves (r .code) (r .figure) (r .size) (now (log .entry)) (now (area .entry)) (now (state .exit)) [] [] ≡ beginRoundCall (lent (now (log .entry)) (now (area .entry)) (now (state .entry)) [] [] 0 0) ⌝ }
 {
-    recovery::begin_round(log, area, state)
+    call_settle::begin_round(log, area, state)
 }
 
 // Writes the next `homes` homes of the round under way; with the last of them a fence, and the round is over.
@@ -144,7 +144,7 @@ pub extern "C" fn kagutin_step_round(
 ) -> Reply
     ensures { λ r. ⌜ leaves (r .code) (r .figure) (r .size) (now (log .entry)) (now (area .exit)) (now (state .exit)) [] (now (batch .exit)) ≡ stepRoundCall (lent (now (log .entry)) (now (area .entry)) (now (state .entry)) [] (now (batch .entry)) 0 0) homes ⌝ }
 {
-    recovery::step_round(log, area, state, batch, homes)
+    call_settle::step_round(log, area, state, batch, homes)
 }
 
 // Moves the log's start up as far as no transaction lies across it.
@@ -158,7 +158,7 @@ pub extern "C" fn kagutin_trim(
 ) -> Reply
     ensures { λ r. ⌜ leavesAll (r .code) (r .figure) (r .size) (now (log .exit)) (now (area .entry)) (now (state .exit)) (now (newest .exit)) [] (now (batch .exit)) ≡ trimCall (lentAll (now (log .entry)) (now (area .entry)) (now (state .entry)) (now (newest .entry)) [] (now (batch .entry)) 0 0) ⌝ }
 {
-    trimming::trim(log, area, state, newest, batch)
+    call_trim::trim(log, area, state, newest, batch)
 }
 
 // Reads the block of a home as a writer sees it.
@@ -174,7 +174,7 @@ pub extern "C" fn kagutin_read(
 ) -> Reply
     ensures { λ r. ⌜ leavesAll (r .code) (r .figure) (r .size) (now (log .entry)) (now (area .entry)) (now (state .entry)) (now (newest .entry)) (now (block .exit)) [] ≡ readCall (lentAll (now (log .entry)) (now (area .entry)) (now (state .entry)) (now (newest .entry)) (now (block .entry)) [] writer home) ⌝ }
 {
-    reading::read(log, area, state, newest, block, writer, home)
+    call_read::read(log, area, state, newest, block, writer, home)
 }
 
 // Reads the blocks of one to seven homes from `home` on, one behind the other, as a writer that may read them all sees them.
@@ -190,7 +190,7 @@ pub extern "C" fn kagutin_fetch(
 ) -> Reply
     ensures { λ r. ⌜ leavesAll (r .code) (r .figure) (r .size) (now (log .entry)) (now (area .entry)) (now (state .entry)) (now (newest .entry)) (now (blocks .exit)) [] ≡ fetchCall (lentAll (now (log .entry)) (now (area .entry)) (now (state .entry)) (now (newest .entry)) (now (blocks .entry)) [] writer home) ⌝ }
 {
-    fetching::fetch(log, area, state, newest, blocks, writer, home)
+    call_many_fetch::fetch(log, area, state, newest, blocks, writer, home)
 }
 
 // The same for a writer that is going to store what it makes of the blocks: it may store to the homes, too.
@@ -206,7 +206,7 @@ pub extern "C" fn kagutin_revise(
 ) -> Reply
     ensures { λ r. ⌜ leavesAll (r .code) (r .figure) (r .size) (now (log .entry)) (now (area .entry)) (now (state .entry)) (now (newest .entry)) (now (blocks .exit)) [] ≡ reviseCall (lentAll (now (log .entry)) (now (area .entry)) (now (state .entry)) (now (newest .entry)) (now (blocks .entry)) [] writer home) ⌝ }
 {
-    fetching::revise(log, area, state, newest, blocks, writer, home)
+    call_many_fetch::revise(log, area, state, newest, blocks, writer, home)
 }
 
 // Begins a transaction of an idle writer, stores one to seven blocks for the homes from `home` on and commits them. The figure is the ticket.
@@ -223,7 +223,7 @@ pub extern "C" fn kagutin_transact(
 ) -> Reply
     ensures { λ r. ⌜ leavesAll (r .code) (r .figure) (r .size) (now (log .exit)) (now (area .entry)) (now (state .exit)) (now (newest .exit)) (now (blocks .entry)) (now (batch .exit)) ≡ transactCall (lentAll (now (log .entry)) (now (area .entry)) (now (state .entry)) (now (newest .entry)) (now (blocks .entry)) (now (batch .entry)) writer home) ⌝ }
 {
-    chains::transact(log, area, state, newest, blocks, batch, writer, home)
+    call_many::transact(log, area, state, newest, blocks, batch, writer, home)
 }
 
 // Tells how many places of the log are live, dead, free and promised, and which open transaction lies lowest in it.
@@ -231,5 +231,5 @@ pub extern "C" fn kagutin_transact(
 pub extern "C" fn kagutin_usage(log: &[u8], area: &[u8], state: &[u8]) -> Usage
     ensures { λ r. ⌜ r ≡ usageCall (lent (now (log .entry)) (now (area .entry)) (now (state .entry)) [] [] 0 0) ⌝ }
 {
-    usage::usage(log, area, state)
+    call_usage::usage(log, area, state)
 }

@@ -1,2 +1,2 @@
 -- What the definitions come to: the trials and histories with every call, computed.
-pub mod answers
+pub mod examples

@@ -12,14 +12,14 @@ use Rattle.model.specs.Layout.{putHome, homeAt}
 
 -- where an entry is kept: in a row that was or will be submitted since the last crash, by the row's number and the entry's place in it, or
 -- persisted at an earlier crash
-pub data Kept : Type 0 where
-  row : (number index : ℕ) → Kept
-  persisted : Kept
+pub data Landing : Type 0 where
+  row : (number index : ℕ) → Landing
+  persisted : Landing
 
 pub record Entry : Type 0 where
   pub home : ℕ
   pub block : List ℕ
-  pub kept : Kept
+  pub landing : Landing
 
 -- a commit: its entries, oldest first; its ticket, 0 once a crash has ended it; whether it is owed: confirmed durable, or brought back by an opening
 pub record Commit : Type 0 where
@@ -62,7 +62,7 @@ abort b w = withTask b w idle
 -- "Logging: the held home and block become the last entry of the writer's transaction and of the row. A row's seventh entry, or a flush of a row
 -- not empty, hands it on: its entries land with that call's GW, and the row empties."
 unfoldable pub entryOf : Book → Held → Entry
-entryOf b h = record { home = h .home; block = h .block; kept = row (b .rows) (b .filled) }
+entryOf b h = record { home = h .home; block = h .block; landing = row (b .rows) (b .filled) }
 
 unfoldable pub submit : Book → Book
 submit b = record { commits = b .commits; rows = b .rows + 1; filled = 0; tasks = b .tasks }
@@ -126,13 +126,13 @@ fateAt [] r k = false
 fateAt (f ∷ fs) zero k = f k
 fateAt (f ∷ fs) (suc r) k = fateAt fs r k
 
-unfoldable pub survives : List (ℕ → Bool) → Kept → Bool
+unfoldable pub survives : List (ℕ → Bool) → Landing → Bool
 survives fs (row r k) = fateAt fs r k
 survives fs persisted = true
 
 unfoldable pub allSurvive : List (ℕ → Bool) → List Entry → Bool
 allSurvive fs [] = true
-allSurvive fs (e ∷ es) = survives fs (e .kept) && allSurvive fs es
+allSurvive fs (e ∷ es) = survives fs (e .landing) && allSurvive fs es
 
 -- the run: the surviving prefix of the commits
 unfoldable pub run : List (ℕ → Bool) → List Commit → List Commit
@@ -140,13 +140,13 @@ run fs [] = []
 run fs (c ∷ cs) = let more : List Commit = c ∷ run fs cs in cond (allSurvive fs (c .entries)) more []
 
 -- its entries have persisted, and its tickets have ended
-unfoldable pub settledEntries : List Entry → List Entry
-settledEntries [] = []
-settledEntries (e ∷ es) = record { home = e .home; block = e .block; kept = persisted } ∷ settledEntries es
+unfoldable pub persistedEntries : List Entry → List Entry
+persistedEntries [] = []
+persistedEntries (e ∷ es) = record { home = e .home; block = e .block; landing = persisted } ∷ persistedEntries es
 
 unfoldable pub ended : List Commit → List Commit
 ended [] = []
-ended (c ∷ cs) = record { entries = settledEntries (c .entries); ticket = 0; owed = c .owed } ∷ ended cs
+ended (c ∷ cs) = record { entries = persistedEntries (c .entries); ticket = 0; owed = c .owed } ∷ ended cs
 
 unfoldable pub crash : Book → List (ℕ → Bool) → Book
 crash b fs = record { commits = ended (run fs (b .commits)); rows = 0; filled = 0; tasks = λ w. idle }
@@ -176,5 +176,5 @@ unfoldable pub ownOr : ℕ → Task → List ℕ → List ℕ
 ownOr home idle other = other
 ownOr home (opened es held) other = heldOr home held (newestEntry home es other)
 
-unfoldable pub reads : ℕ → Book → ℕ → ℕ → List ℕ
-reads homes b w home = ownOr home (b .tasks w) (homeAt (homesAfter homes (b .commits)) home)
+unfoldable pub readBy : ℕ → Book → ℕ → ℕ → List ℕ
+readBy homes b w home = ownOr home (b .tasks w) (homeAt (homesAfter homes (b .commits)) home)

@@ -13,7 +13,7 @@ use Rattle.model.specs.State.{stateBytes}
 use Rattle.model.specs.Calls.{Outcome, formatCall, openCall, beginCall, reserveCall, abortCall, storeCall, flushCall, confirmCall, settleCall}
 use Rattle.model.specs.Crash.{Memory, persist}
 use Rattle.model.specs.Layout.{groupsIn}
-use Rattle.model.specs.Demands.{groupWrites}
+use Rattle.model.specs.DemandTwo.{groupWrites}
 use Rattle.model.specs.History.{World, Event, Formatting, formatRecords, unopened, loaded, afterFormat, emptyStore, after, Always}
 
 -- "Between two fences no block is written twice."

@@ -79,6 +79,10 @@ pub data Event : Type 0 where
   call : Call → Event
   crash : (passed : ℕ) (chosen : ℕ → Bool) → Event
 
+unfoldable pub calls : List Call → List Event
+calls [] = []
+calls (c ∷ cs) = call c ∷ calls cs
+
 -- The strip, the newest positions and the copies as the program has them; the lasting memory as the last crash (or format) left it, and the records of all batches
 -- since, in call order; how many of their fences a done confirm has declared passed; whether an opening is done since; the book.
 pub record World : Type 0 where

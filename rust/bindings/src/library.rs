@@ -1,7 +1,8 @@
 //! The library's C interface.
 
 use crate::shared;
-use reference::lent::{Kind, Lent};
+use reference::kinds::{Kind, Numbers, Parts};
+use reference::lent::Lent;
 use reference::usage::Usage;
 use reference::Answer;
 use std::ffi::c_void;
@@ -30,23 +31,23 @@ impl From<Reply> for Answer {
     }
 }
 
-/// Declares calls: each slice is a pointer and a length, each number a u64.
+/// Declares the calls of the list: each part is a pointer and a length, each number a u64.
 macro_rules! declare {
-    ($($name:ident: [$($slice:ident)*] [$($number:ident)*];)*) => {
+    ($($kind:ident $name:ident $c:ident $reference:ident $floor:ident [$($part:ident $len:ident)*] [$($number:ident)*];)*) => {
         extern "C" {
-            $(fn $name($($slice: *mut u8, _: usize,)* $($number: u64,)*) -> Reply;)*
+            $(fn $c($($part: *mut u8, $len: usize,)* $($number: u64,)*) -> Reply;)*
             fn kagutin_usage(log: *const u8, _: usize, area: *const u8, _: usize, state: *const u8, _: usize) -> Usage;
         }
 
         /// The calls of one build of the library.
         #[derive(Clone, Copy)]
         pub struct Calls {
-            $($name: unsafe extern "C" fn($($slice: *mut u8, _: usize,)* $($number: u64,)*) -> Reply,)*
+            $($c: unsafe extern "C" fn($($part: *mut u8, $len: usize,)* $($number: u64,)*) -> Reply,)*
             kagutin_usage: unsafe extern "C" fn(*const u8, usize, *const u8, usize, *const u8, usize) -> Usage,
         }
 
         /// The calls of the archive that this program is linked with.
-        pub const ARCHIVE: Calls = Calls { $($name,)* kagutin_usage };
+        pub const ARCHIVE: Calls = Calls { $($c,)* kagutin_usage };
 
         impl Calls {
             /// The calls of a shared object, which is never unloaded.
@@ -55,60 +56,37 @@ macro_rules! declare {
                 // The object is a build of dist/kagutin.c, whose header declares these names with these types.
                 unsafe {
                     Ok(Calls {
-                        $($name: std::mem::transmute::<*mut c_void, _>(shared::find(object, stringify!($name))?),)*
+                        $($c: std::mem::transmute::<*mut c_void, _>(shared::find(object, stringify!($c))?),)*
                         kagutin_usage: std::mem::transmute::<*mut c_void, _>(shared::find(object, "kagutin_usage")?),
                     })
+                }
+            }
+
+            pub fn call(&self, kind: Kind, slices: Slices, writer: u64, home: u64) -> Reply {
+                let (parts, numbers) = (pointers(slices), Numbers::new(writer, home));
+                // Each pointer goes with the length of its slice, and the slices are apart.
+                unsafe {
+                    match kind {
+                        $(Kind::$kind => (self.$c)($(parts.$part.0, parts.$part.1,)* $(numbers.$number,)*),)*
+                    }
                 }
             }
         }
     };
 }
 
-declare! {
-    kagutin_format: [log area batch] [];
-    kagutin_open: [log area state newest batch] [];
-    kagutin_begin: [log area state] [writer];
-    kagutin_reserve: [log area state] [writer places];
-    kagutin_abort: [log area state] [writer];
-    kagutin_store: [log area state block batch] [writer home];
-    kagutin_commit: [log area state newest batch] [writer];
-    kagutin_flush: [log area state batch] [];
-    kagutin_confirm: [log area state] [];
-    kagutin_settle: [log area state batch] [];
-    kagutin_begin_round: [log area state] [];
-    kagutin_step_round: [log area state batch] [homes];
-    kagutin_trim: [log area state newest batch] [];
-    kagutin_read: [log area state newest block] [writer home];
-}
+reference::each_call!(declare);
 
 /// Log, area, state, newest positions, block and batch. An empty slice has a dangling pointer.
 pub type Slices<'a> = [&'a mut [u8]; 6];
 
-impl Calls {
-    pub fn call(&self, kind: Kind, slices: Slices, writer: u64, home: u64) -> Reply {
-        let [(log, g), (area, d), (state, s), (newest, p), (block, k), (batch, n)] =
-            slices.map(|slice| (slice.as_mut_ptr(), slice.len()));
-        // Each pointer goes with the length of its slice, and the slices are apart.
-        unsafe {
-            match kind {
-                Kind::Format => (self.kagutin_format)(log, g, area, d, batch, n),
-                Kind::Open => (self.kagutin_open)(log, g, area, d, state, s, newest, p, batch, n),
-                Kind::Begin => (self.kagutin_begin)(log, g, area, d, state, s, writer),
-                Kind::Reserve => (self.kagutin_reserve)(log, g, area, d, state, s, writer, home),
-                Kind::Abort => (self.kagutin_abort)(log, g, area, d, state, s, writer),
-                Kind::Store => (self.kagutin_store)(log, g, area, d, state, s, block, k, batch, n, writer, home),
-                Kind::Commit => (self.kagutin_commit)(log, g, area, d, state, s, newest, p, batch, n, writer),
-                Kind::Flush => (self.kagutin_flush)(log, g, area, d, state, s, batch, n),
-                Kind::Confirm => (self.kagutin_confirm)(log, g, area, d, state, s),
-                Kind::Settle => (self.kagutin_settle)(log, g, area, d, state, s, batch, n),
-                Kind::BeginRound => (self.kagutin_begin_round)(log, g, area, d, state, s),
-                Kind::StepRound => (self.kagutin_step_round)(log, g, area, d, state, s, batch, n, home),
-                Kind::Trim => (self.kagutin_trim)(log, g, area, d, state, s, newest, p, batch, n),
-                Kind::Read => (self.kagutin_read)(log, g, area, d, state, s, newest, p, block, k, writer, home),
-            }
-        }
-    }
+/// Each slice as C takes it, pointer and length.
+pub fn pointers(slices: Slices) -> Parts<(*mut u8, usize)> {
+    let [log, area, state, newest, block, batch] = slices.map(|slice| (slice.as_mut_ptr(), slice.len()));
+    Parts { log, area, state, newest, block, batch }
+}
 
+impl Calls {
     /// What fills the log.
     pub fn usage(&self, lent: &Lent) -> Usage {
         let [(log, g), (area, d), (state, s)] =

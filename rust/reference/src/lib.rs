@@ -12,6 +12,7 @@ pub mod chains;
 pub mod gauges;
 pub mod hours;
 pub mod inflow;
+pub mod kinds;
 pub mod layout;
 pub mod lent;
 pub mod newest;

@@ -65,7 +65,7 @@ pub fn read_tag(tag: u64, offset: u32, homes: u32) -> Tag {
 
 /// The tag of an entry that does not close.
 pub fn entry_tag(home: u64, back: u64) -> u64 {
-    debug_assert!(home < MAX_HOMES as u64 && back < MAX_OFFSETS as u64);
+    debug_assert!(home <= MAX_HOMES as u64 && back < MAX_OFFSETS as u64); // 65,535, no home, fits too
     USED | (home & TWELVE) << HOME_SHIFT | back << BACK_SHIFT | home >> 12 << HIGH_SHIFT
 }
 

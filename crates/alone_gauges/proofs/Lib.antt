@@ -1,0 +1,11 @@
+pub mod ReadingLaws
+pub mod ReportLaws
+pub mod OutputLaws
+pub mod MergeLaws
+pub mod LoopLaws
+pub mod CountLaws
+pub mod CallLaws
+pub mod StrictLaws
+pub mod MemberLaws
+pub mod DifferentLaws
+pub mod Guaranteed

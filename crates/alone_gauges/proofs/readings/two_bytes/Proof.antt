@@ -1,0 +1,47 @@
+-- `alone_gauges::readings::two_bytes` meets its contract. Assumes nothing.
+use Prim.Native.Nat.{_+_}
+use mathlib.Core.Path.{refl}
+use native.Mathlib.Omega.{arith}
+use borrow.Author.Needs.{needs}
+use Rattle.alone_gauges.proofs.readings.two_bytes.Statement.{statement}
+use Rattle.alone_gauges.proofs.readings.two_bytes.Tie as tie
+
+shared-slice-read-result : tie.Need-shared-slice-read-result
+shared-slice-read-result c = search needs
+
+cast-result : tie.Need-cast-result
+cast-result c = omega (arith, c .shared-slice-known .given (c .before .args .at))
+
+add-result : tie.Need-add-result
+add-result c = search needs
+
+shared-slice-read-result-2 : tie.Need-shared-slice-read-result-2
+shared-slice-read-result-2 c = search needs
+
+cast-result-2 : tie.Need-cast-result-2
+cast-result-2 c = omega (arith, c .shared-slice-known2 .given (c .before .before .args .at + 1), c .before .shared-slice-known .given (c .before .before .args .at))
+
+mul-result : tie.Need-mul-result
+mul-result c = omega (arith, c .shared-slice-known2 .given (c .before .before .args .at + 1), c .before .shared-slice-known .given (c .before .before .args .at))
+
+add-result-2 : tie.Need-add-result-2
+add-result-2 c = omega (arith, c .shared-slice-known2 .given (c .before .before .args .at + 1), c .before .shared-slice-known .given (c .before .before .args .at))
+
+returns : tie.Need-returns
+returns c =
+    let a = c .before .shared-slice-known .given (c .before .before .args .at) in
+    let b = c .shared-slice-known2 .given (c .before .before .args .at + 1) in
+    (refl, omega arith)
+
+pub two-bytes-spec : {M : Type 1} → statement M
+two-bytes-spec =
+    tie.close
+    (tie.spec
+    shared-slice-read-result
+    cast-result
+    add-result
+    shared-slice-read-result-2
+    cast-result-2
+    mul-result
+    add-result-2
+    returns)

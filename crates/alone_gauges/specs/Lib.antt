@@ -1,0 +1,5 @@
+pub mod Readings
+pub mod Report
+pub mod Compare
+pub mod Merge
+pub mod Guarantees

@@ -1,0 +1,4 @@
+pub mod IntegerLaws
+pub mod InflowLaws
+pub mod CallLaws
+pub mod Guaranteed

@@ -1,6 +1,0 @@
-pub mod Rows
-pub mod Judge
-pub mod Packed
-pub mod Sweep
-pub mod Promises
-pub mod Stored

@@ -1,0 +1,3 @@
+pub mod FormatLaws
+pub mod RecordLaws
+pub mod HomeLaws

@@ -1,0 +1,15 @@
+-- `base_state::filled` meets its contract. Assumes nothing.
+use borrow.Author.Needs.{needs}
+use Rattle.model.specs.State.{stateOf}
+use Rattle.base_state.proofs.fields.filled.Statement.{statement}
+use Rattle.base_state.proofs.fields.filled.Tie as tie
+
+number-requires : tie.Need-number-requires
+number-requires c κs = search needs
+
+returns : tie.Need-returns
+unfolding stateOf
+returns c = c .number .ensures
+
+pub filled-spec : {M : Type 1} → statement M
+filled-spec = tie.close (tie.spec number-requires returns)

@@ -1,0 +1,3 @@
+pub mod AllowedLaws
+pub mod FetchLaws
+pub mod QuestionLaws

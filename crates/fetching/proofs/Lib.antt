@@ -1,3 +1,0 @@
-pub mod AllowedLaws
-pub mod FetchLaws
-pub mod VerdictLaws

@@ -1,5 +1,0 @@
-pub mod Readings
-pub mod Report
-pub mod Compare
-pub mod Merge
-pub mod Promises

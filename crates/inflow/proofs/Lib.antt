@@ -1,4 +1,0 @@
-pub mod IntegerLaws
-pub mod InflowLaws
-pub mod CallLaws
-pub mod Promised

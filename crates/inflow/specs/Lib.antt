@@ -1,2 +1,0 @@
-pub mod Inflow
-pub mod Promises

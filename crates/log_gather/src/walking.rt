@@ -1,0 +1,277 @@
+// The pass over the log that applies the commit rule and chains the entries of each word of homes. A transaction's cell, by its first position, counts
+// its entries until a closing entry of it is committed; from then on it holds that closing entry, above a mark.
+use super::gathering::chain;
+use log_scan::Progress;
+use model::Tag;
+ghost use mathlib.Core.Path.{_≡_};
+ghost use Prim.Native.Nat.{ℕ, _+_, _-_, _*_, _^_, _≤_, _<_};
+ghost use lib.ListN.{length, getD};
+ghost use Rattle.model.specs.Tag.{readTag};
+ghost use Rattle.model.specs.Layout.{turnOf, entryIn, entryAt};
+ghost use Rattle.model.specs.Commit.{committed};
+ghost use Rattle.model_laws.proofs.rule.Closings.{endOf};
+ghost use Rattle.log_scan.specs.Scan.{over};
+ghost use Rattle.log_gather.specs.Chains.{Roomy, Empty, Chained};
+ghost use Rattle.log_gather.specs.Walks.{closerIn, strayed, joinEntry, joinClosing, join, Passed};
+
+// What the offset of a closing entry in a cell is added to.
+const CLOSED: u16 = 0x8000;
+
+// The walk that an entry after its transaction's closing one stops: it has found nothing.
+fn astray(progress: Progress) -> Progress
+    ensures { λ r. ⌜ r ≡ strayed progress ⌝ }
+{
+    Progress {
+        end: progress.end,
+        number: progress.number,
+        failed: 2,
+    }
+}
+
+// Takes the entry at an offset, whose transaction's first entry is at the offset `first`.
+fn join_entry(
+    cells: &mut [u16],
+    heads: &mut [u16],
+    links: &mut [u16],
+    home: u64,
+    first: usize,
+    offset: usize,
+    progress: Progress,
+) -> Progress
+    requires { ⌜ (first < length (now cells)) × (offset < length (now cells)) × (offset < 7168) × (home < 65536)
+        × Roomy 0 (length (now cells)) (now cells) (now heads) (now links) ⌝ }
+    ensures { λ r. ⌜ record { cells = now (cells .exit); heads = now (heads .exit); links = now (links .exit); progress = r }
+        ≡ joinEntry home offset first
+        (record { cells = now (cells .entry); heads = now (heads .entry); links = now (links .entry); progress = progress }) ⌝ }
+{
+    let cell = cells[first];
+    if CLOSED <= cell {
+        return astray(progress);
+    }
+    cells[first] = cell + 1;
+    chain(heads, links, (home / 64) as usize, offset);
+    progress
+}
+
+// Takes the closing entry at a position: if it is committed, its transaction's cell holds it from now on.
+fn join_closing(
+    cells: &mut [u16],
+    heads: &mut [u16],
+    links: &mut [u16],
+    base: u64,
+    position: u64,
+    home: u64,
+    first: usize,
+    link: u64,
+    count: u64,
+    progress: Progress,
+) -> Progress
+    requires { ⌜ (base ≤ position) × (position < base + 7168) × (position < 2 ^ 62) × (link < 2 ^ 13) × (progress .end ≤ position) × (progress .number ≤ position)
+        × (position < base + length (now cells)) × (first < length (now cells)) × (home < 65536)
+        × Roomy 0 (length (now cells)) (now cells) (now heads) (now links) ⌝ }
+    ensures { λ r. ⌜ record { cells = now (cells .exit); heads = now (heads .exit); links = now (links .exit); progress = r }
+        ≡ joinClosing base position home first link count
+        (record { cells = now (cells .entry); heads = now (heads .entry); links = now (links .entry); progress = progress }) ⌝ }
+{
+    let cell = cells[first];
+    if CLOSED <= cell {
+        return astray(progress);
+    }
+    let judged = log_scan::judge(progress, base, position, link, cell as u64 + 1 == count);
+    if judged.failed != 0 {
+        return judged;
+    }
+    let offset = (position - base) as usize;
+    cells[first] = CLOSED + (offset + 1) as u16;
+    chain(heads, links, (home / 64) as usize, offset);
+    judged
+}
+
+// Takes what the word of a tag says at a position, unless the walk has stopped.
+fn visit(
+    word: u64,
+    position: u64,
+    base: u64,
+    homes: u64,
+    cells: &mut [u16],
+    heads: &mut [u16],
+    links: &mut [u16],
+    progress: Progress,
+) -> Progress
+    requires { ⌜ (base ≤ position) × (position < base + 7168) × (position < 2 ^ 62) × (progress .end ≤ position) × (progress .number ≤ position)
+        × (position < base + length (now cells)) × Roomy homes (length (now cells)) (now cells) (now heads) (now links) ⌝ }
+    ensures { λ r. ⌜ record { cells = now (cells .exit); heads = now (heads .exit); links = now (links .exit); progress = r }
+        ≡ join base position (readTag word position base homes)
+        (record { cells = now (cells .entry); heads = now (heads .entry); links = now (links .entry); progress = progress }) ⌝ }
+{
+    if progress.failed != 0 {
+        return progress;
+    }
+    match base_codec::read_tag(word, position, base, homes) {
+        Tag::Nothing => progress,
+        Tag::Entry(home, first) => join_entry(
+            cells,
+            heads,
+            links,
+            home,
+            (first - base) as usize,
+            (position - base) as usize,
+            progress,
+        ),
+        Tag::Closing(home, first, link, count) => join_closing(
+            cells,
+            heads,
+            links,
+            base,
+            position,
+            home,
+            (first - base) as usize,
+            link,
+            count,
+            progress,
+        ),
+    }
+}
+
+// Takes the first `m` tags of a group, which says nothing where it is not the valid group with number `n` and turn `turn`.
+fn visit_group(
+    group: &[u8],
+    groups: u64,
+    homes: u64,
+    start: u64,
+    n: u64,
+    turn: u64,
+    m: usize,
+    cells: &mut [u16],
+    heads: &mut [u16],
+    links: &mut [u16],
+    progress: Progress,
+) -> Progress
+    requires { ⌜ (length (now group) ≡ 512) × (groups ≤ 1024) × (start ≤ 2 ^ 47) × (start ≤ n) × (n < start + groups) × (turn ≡ turnOf groups n) × (m ≤ 7)
+        × (progress .end ≤ 7 * n) × (progress .number ≤ 7 * n) × (7 * groups ≤ length (now cells))
+        × Roomy homes (length (now cells)) (now cells) (now heads) (now links) ⌝ }
+    ensures { λ r. ⌜ record { cells = now (cells .exit); heads = now (heads .exit); links = now (links .exit); progress = r }
+        ≡ over (join (7 * start)) (entryIn (now (group .entry)) groups homes start) (7 * n) m
+        (record { cells = now (cells .entry); heads = now (heads .entry); links = now (links .entry); progress = progress }) ⌝ }
+{
+    if !log_scan::group_valid(group, groups, start, n) {
+        return progress;
+    }
+    let words = log_scan::tag_words(group, turn);
+    let base = 7 * start;
+    let mut reached = progress;
+    let mut position = 7 * n;
+    let mut k: usize = 0;
+    while k < m {
+        reached = visit(
+            words[k],
+            position,
+            base,
+            homes,
+            cells,
+            heads,
+            links,
+            reached,
+        );
+        position += 1;
+        k += 1;
+    }
+    reached
+}
+
+// Takes the `n` positions of the log from its start on, group by group, until the walk stops.
+fn pass(
+    log: &[u8],
+    cells: &mut [u16],
+    heads: &mut [u16],
+    links: &mut [u16],
+    groups: u64,
+    homes: u64,
+    start: u64,
+    n: u64,
+) -> Progress
+    requires { ⌜ (length (now log) ≡ 64 + 512 * groups) × (0 < groups) × (groups ≤ 1024) × (homes ≤ 65535) × (start ≤ 2 ^ 47) × (n ≤ 7 * groups)
+        × Empty groups (now cells) (now heads) (now links) ⌝ }
+    ensures { λ r. ⌜ Passed (now (log .entry)) groups homes start n (length (now (cells .entry)))
+        (record { cells = now (cells .exit); heads = now (heads .exit); links = now (links .exit); progress = r }) ⌝ }
+{
+    let mut progress = Progress {
+        end: 0,
+        number: 0,
+        failed: 0,
+    };
+    let mut at = log_scan::first_slot(start, groups);
+    let mut number = start;
+    let mut left = n;
+    while left > 0 {
+        let from = 64 + 512 * at.slot as usize;
+        let group = &log[from..from + 512];
+        let m = log_scan::in_group(left);
+        progress = visit_group(
+            group,
+            groups,
+            homes,
+            start,
+            number,
+            at.turn,
+            m,
+            cells,
+            heads,
+            links,
+            progress,
+        );
+        if progress.failed != 0 {
+            return progress;
+        }
+        at = log_scan::next_slot(at, groups);
+        number += 1;
+        left -= m as u64;
+    }
+    progress
+}
+
+// The closing entry that a cell holds, 0 for none.
+fn closer_in(cell: u16) -> u16
+    ensures { λ r. ⌜ r ≡ closerIn cell ⌝ }
+{
+    if cell < CLOSED { 0 } else { cell - CLOSED }
+}
+
+// Leaves in the first `n` cells, where all others are 0, only the closing entries, and no counts.
+fn drop_counts(cells: &mut [u16], n: usize)
+    requires { ⌜ (n ≤ length (now cells)) × ((i : ℕ) → n ≤ i → getD (now cells) i 0 ≡ 0) ⌝ }
+    ensures { λ _. ⌜ ((i : ℕ) → getD (now (cells .exit)) i 0 ≡ closerIn (getD (now (cells .entry)) i 0)) ⌝ }
+{
+    let mut k: usize = 0;
+    while k < n {
+        cells[k] = closer_in(cells[k]);
+        k += 1;
+    }
+}
+
+// Walks the `n` positions of the log from its start on with empty tables, and finds where the committed transactions end and how many they are, their
+// closing entries and the chains. A log in which an entry comes after its transaction's closing one, as no store writes it, stops the walk with the
+// sign 2, and nothing is found: it takes two passes.
+pub fn walk(
+    log: &[u8],
+    last: &mut [u16],
+    heads: &mut [u16],
+    links: &mut [u16],
+    groups: u64,
+    homes: u64,
+    start: u64,
+    n: u64,
+) -> Progress
+    requires { ⌜ (length (now log) ≡ 64 + 512 * groups) × (4 ≤ groups) × (groups ≤ 1024) × (homes ≤ 65535) × (start ≤ 2 ^ 47) × (n ≤ 7 * groups)
+        × Empty groups (now last) (now heads) (now links) ⌝ }
+    ensures { λ r. ⌜ ((r .failed ≡ 2 → ⊥)
+        → (r .end ≡ endOf (committed (entryAt (now (log .entry)) groups homes start) (7 * start) n))
+        × (r .number ≡ length (committed (entryAt (now (log .entry)) groups homes start) (7 * start) n))
+        × Chained (now (log .entry)) groups homes start (r .end) (now (last .exit)) (now (heads .exit)) (now (links .exit))) ⌝ }
+{
+    let progress = pass(log, last, heads, links, groups, homes, start, n);
+    if progress.failed != 2 {
+        drop_counts(last, n as usize);
+    }
+    progress
+}

@@ -1,0 +1,47 @@
+// Places of the log by their offset from its start, where `slot` is the ring slot of the start.
+use model::Tag;
+ghost use mathlib.Core.Path.{_≡_};
+ghost use mathlib.Core.Bool.{true};
+ghost use Prim.Native.Nat.{_+_, _*_, _%_, _^_, _≤_, _<_};
+ghost use lib.ListN.{length};
+ghost use Rattle.model.specs.Tag.{present};
+ghost use Rattle.model.specs.Layout.{entryAt, blockAt, putHome};
+
+// The ring slot that lies `n` slots after `slot`.
+fn slot_after(slot: u64, n: u64, groups: u64) -> u64
+    requires { ⌜ (slot < groups) × (n < groups) × (groups ≤ 1024) ⌝ }
+    ensures { λ r. ⌜ (r ≡ (slot + n) % groups) × (r < groups) ⌝ }
+{
+    let next = slot + n;
+    if next < groups { next } else { next - groups }
+}
+
+// What the log says at an offset where there is an entry.
+pub fn entry_from(log: &[u8], groups: u64, homes: u64, start: u64, slot: u64, offset: u64) -> Tag
+    requires { ⌜ (length (now log) ≡ 64 + 512 * groups) × (groups ≤ 1024) × (0 < groups) × (start ≤ 2 ^ 47) × (offset < 7 * groups) × (slot ≡ start % groups)
+        × (present (entryAt (now log) groups homes start (7 * start + offset)) ≡ true) ⌝ }
+    ensures { λ r. ⌜ r ≡ entryAt (now (log .entry)) groups homes start (7 * start + offset) ⌝ }
+{
+    let base = 7 * start;
+    let from = 64 + 512 * slot_after(slot, offset / 7, groups) as usize;
+    let group = &log[from..from + 512];
+    log_scan::tag_in(group, (offset % 7) as usize, base + offset, base, homes)
+}
+
+// Copies the block that the entry at an offset gives to a home.
+pub fn restore_block(
+    log: &[u8],
+    area: &mut [u8],
+    groups: u64,
+    start: u64,
+    slot: u64,
+    offset: u64,
+    home: usize,
+)
+    requires { ⌜ (length (now log) ≡ 64 + 512 * groups) × (groups ≤ 1024) × (0 < groups) × (start ≤ 2 ^ 47) × (offset < 7 * groups) × (slot ≡ start % groups)
+        × (64 * home + 64 ≤ length (now area)) ⌝ }
+    ensures { λ _. ⌜ now (area .exit) ≡ putHome (now (area .entry)) home (blockAt (now (log .entry)) groups (7 * start + offset)) ⌝ }
+{
+    let place = slot_after(slot, offset / 7, groups) as usize;
+    base_areas::copy_entry(area, 64 * home, log, place, (offset % 7) as usize)
+}

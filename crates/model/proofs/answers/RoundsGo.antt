@@ -1,9 +1,0 @@
--- The two rounds of specs/TwoRounds go as listed, by computation.
-use mathlib.Core.Path.{_≡_, refl}
-use mathlib.Core.Bool.{Bool, true}
-use Rattle.model.specs.TwoRounds.{firstRound, between, secondRound, rounds, roundAnswers, roundsGo}
-use Rattle.model.proofs.answers.Computing.{all-definitions}
-
-pub rounds-go : roundsGo ≡ true
-unfolding all-definitions firstRound between secondRound rounds roundAnswers roundsGo
-rounds-go = refl

@@ -1,0 +1,17 @@
+-- Histories with what each call answers, computed in proofs/examples.
+-- A history line by line: each call with what it answers.
+pub mod Lines
+-- The paper's marked trials.
+pub mod Trials
+-- Every call of document 01, in a history that meets the premises.
+pub mod Witnesses
+-- Reserved places; answers 17 and 18.
+pub mod Reservations
+-- Torn groups, and a cut inside blanking.
+pub mod Tears
+-- Newest positions.
+pub mod Positions
+-- Lists of rights; answers 19 and 20.
+pub mod Guarded
+-- Settling in small steps; answer 21.
+pub mod TwoRounds

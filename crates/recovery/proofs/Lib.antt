@@ -1,4 +1,0 @@
-pub mod FormatLaws
-pub mod OpenLaws
-pub mod RoundLaws
-pub mod SettleLaws

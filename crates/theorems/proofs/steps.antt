@@ -1,0 +1,26 @@
+-- Each call and each crash keeps the invariant.
+pub mod RefusalLaws
+pub mod DoneLaws
+pub mod FormedLaws
+pub mod Rows
+pub mod Footprint
+pub mod NewestSteps
+pub mod WriterSteps
+pub mod OpenStep
+pub mod Beginning
+pub mod FormatRuns
+pub mod LogRuns
+pub mod LogSubmits
+pub mod HeldLogs
+pub mod StoreCommit
+pub mod FenceRuns
+pub mod HomeRuns
+pub mod NumberRuns
+pub mod FlushRuns
+pub mod TrimLaws
+pub mod TrimRuns
+pub mod SettleRuns
+pub mod RoundRuns
+pub mod CrashRuns
+pub mod CallRuns
+pub mod OpenKeeps

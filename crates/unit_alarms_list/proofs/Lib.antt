@@ -1,0 +1,11 @@
+pub mod ByteLaws
+pub mod OrderLaws
+pub mod WalkLaws
+pub mod PackLaws
+pub mod EventLaws
+pub mod GravestLaws
+pub mod HasLaws
+pub mod HistoryLaws
+pub mod BackLaws
+pub mod Guaranteed
+pub mod StoredHolds

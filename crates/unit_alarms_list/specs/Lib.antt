@@ -1,0 +1,5 @@
+pub mod Alarm
+pub mod OpenAlarms
+pub mod Events
+pub mod Guarantees
+pub mod Stored

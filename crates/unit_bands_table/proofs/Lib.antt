@@ -1,0 +1,14 @@
+pub mod RowLaws
+pub mod CountLaws
+pub mod LowestLaws
+pub mod SweepLaws
+pub mod WidthLaws
+pub mod LoopLaws
+pub mod JudgeLaws
+pub mod PackLaws
+pub mod TableLaws
+pub mod MemberLaws
+pub mod RowWalkLaws
+pub mod Guaranteed
+pub mod Examples
+pub mod StoredHolds

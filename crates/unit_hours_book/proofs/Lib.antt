@@ -1,0 +1,5 @@
+pub mod BlockLaws
+pub mod EventLaws
+pub mod ListLaws
+pub mod Guaranteed
+pub mod StoredHolds

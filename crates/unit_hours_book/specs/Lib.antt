@@ -1,0 +1,5 @@
+pub mod Pump
+pub mod Events
+pub mod Services
+pub mod Guarantees
+pub mod Stored

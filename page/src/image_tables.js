@@ -1,0 +1,124 @@
+/* Tables of an inspected image: entries, commits, homes and what they mean. */
+function entryRows(told) {
+  return told.slots.flatMap(slot => slot.hole ? [{ slot: slot.slot, hole: slot.hole }]
+    : slot.entries.length ? slot.entries.map(entry => ({ slot: slot.slot, group: slot.group, ...entry }))
+      : [{ slot: slot.slot, group: slot.group, hole: "no entries" }]);
+}
+
+function linkWords(entry) {
+  if (entry.kind !== "closing") return "";
+  return plural(entry.entries, "entry", "entries") + ", link " + (entry.link === null ? "none" : entry.link < 0 ? "before 0" : entry.link);
+}
+
+/* Each slot: its group's entries, or why it is a hole. */
+function entriesTable(told) {
+  const heads = ["slot", "group", "position", "entry", "home", "first", "closes", "what an opening makes of it"];
+  return table("Groups and entries", heads, entryRows(told), row => {
+    if (row.hole) return [row.slot, row.group === undefined ? "–" : row.group, "", "", "", "", "", row.hole];
+    const known = row.home !== undefined;
+    return [row.slot, row.group, row.position, row.torn ? "torn" : row.kind, known ? row.home : "", known ? row.first : "", linkWords(row),
+      row.kind === "nothing" ? "nothing: " + row.why : row.comes_back ? "comes back" : row.why];
+  });
+}
+
+function commitsTable(told) {
+  if (!told.commits.length) return el("p", null, "No commit comes back.");
+  const rows = told.commits.map((commit, i) => ({ ...commit, rank: i + 1 }));
+  return table("Commits that come back, in commit order", ["commit", "positions", "entries", "homes"], rows,
+    commit => [commit.rank, commit.first + " to " + commit.closing, commit.entries, commit.homes.join(" ")]);
+}
+
+/* The data area as an opening leaves it; homes beyond the end of the file are not listed, and zeros. */
+function openedHomes(told) {
+  const homes = new Uint8Array(BLOCK * told.header.homes);
+  told.homes.forEach(({ home, block }) => {
+    for (let i = 0; i < BLOCK; i++) homes[BLOCK * home + i] = parseInt(block.substr(2 * i, 2), 16);
+  });
+  return homes;
+}
+
+function homesTable(told, homes) {
+  const rows = told.homes.filter(home => !/^0*$/.test(home.block)), zeros = told.header.homes - rows.length;
+  const heads = ["home", "for", "value", "from position", "bytes"];
+  const caption = `${plural(told.header.homes, "home")}, as an opening leaves them; ${zeros} are zeros and left out`;
+  return table(caption, heads, rows, ({ home, from, block }) =>
+    [home, homeName(home), blockText(home, homeBlock(homes, home)), from === null ? "its own block" : from,
+      el("code", null, block.replace(/(00)+$/, "").replace(/(.{8})/g, "$1 "))]);
+}
+
+function rangesText(ranges) {
+  return ranges.map(({ first, number: count }) => count === 1 ? String(first) : first + " to " + (first + count - 1)).join(", ") || "nothing";
+}
+
+function rightsPart(told) {
+  if (!told.rights.list) {
+    return el("p", null, "No list, " + told.rights.why + "; only writer 0 stores to homes 8 to 11, the others are open to all.");
+  }
+  return table("Who may touch which home", ["writer", "stores to", "reads"], told.rights.writers,
+    row => [row.writer, rangesText(row.store), rangesText(row.read)]);
+}
+
+function bandsPart(homes) {
+  if (homes.length < BLOCK * (BAND_HOME + BAND_HOMES)) return el("p", null, "There are too few homes for depth bands.");
+  const { rows, fits } = readBands(homes.subarray(BLOCK * BAND_HOME, BLOCK * (BAND_HOME + BAND_HOMES)));
+  if (!fits) return el("p", null, "Homes 12 to 14 hold something else than a table of depth bands.");
+  if (!rows.length) return el("p", null, "No table is set.");
+  return table("Pumps that run at each depth", ["from mm", "to mm", "pumps"], rows, row => [row.from, row.to, row.pumps]);
+}
+
+function alarmsPart(homes) {
+  if (homes.length < BLOCK * (ALARM_HOME + ALARM_HOMES)) return el("p", null, "There are too few homes for alarms.");
+  const { list, gravest, fits } = readAlarms(homes.subarray(BLOCK * ALARM_HOME, BLOCK * (ALARM_HOME + ALARM_HOMES)));
+  if (!fits) return el("p", null, "Homes 24 to 29 hold something else than alarms.");
+  if (!list.length) return el("p", null, "No alarm is open.");
+  return el("div", null, el("p", null, `Gravest: alarm ${gravest.identity}, class ${gravest.class}, since second ${gravest.second}.`),
+    table("Open alarms", ["identity", "class", "arrival second"], list, alarm => [alarm.identity, alarm.class, alarm.second]));
+}
+
+/* Hours with two digits, cut off. */
+function hoursText(seconds) {
+  return (Math.floor(seconds / 36) / 100).toFixed(2);
+}
+
+function pumpsOf(homes) {
+  const pumps = [];
+  for (let p = 0; p < PUMPS && homes.length >= BLOCK * (PUMP_HOME + p + 1); p++) {
+    pumps.push({ pump: p, ...readPump(homeBlock(homes, PUMP_HOME + p)) });
+  }
+  return pumps;
+}
+
+function wearBar(pump, interval, most) {
+  const due = Math.floor(pump.seconds / interval) * interval, share = value => (100 * value / most).toFixed(2);
+  return svg("svg", { viewBox: "0 0 100 10", preserveAspectRatio: "none", class: "bar", role: "img",
+    "aria-label": hoursText(pump.seconds) + " run hours, " + Math.floor(pump.seconds / interval) + " services due" },
+  svg("rect", { class: "due", width: share(due), height: 10 }),
+  svg("rect", { class: "left", x: share(due), width: share(pump.seconds - due), height: 10 }));
+}
+
+/* The wear sheet of one image: the pump to open first at the top. */
+function wearTable(pumps, interval) {
+  const ran = pumps.filter(pump => pump.fits && pump.starts).sort((a, b) => b.seconds - a.seconds || a.pump - b.pump);
+  if (!ran.length) return el("p", null, "No pump has ever started.");
+  const most = Math.max(interval, ran[0].seconds);
+  return table("Wear of the pumps, the pump to open first at the top",
+    ["pump", "starts", "run hours", "hours a start", "services due", "hours to next", "run hours as a bar"], ran, pump => {
+      const left = pump.seconds % interval;
+      return [pump.pump + (pump.running ? " (running)" : ""), pump.starts, hoursText(pump.seconds),
+        hoursText(Math.floor(pump.seconds / pump.starts)), Math.floor(pump.seconds / interval), hoursText(interval - left),
+        wearBar(pump, interval, most)];
+    });
+}
+
+function wearPart(homes) {
+  const pumps = pumpsOf(homes), place = el("div");
+  const wrong = pumps.filter(pump => !pump.fits).map(pump => pump.pump);
+  const note = wrong.length ? el("p", null, "Homes of pumps " + wrong.join(", ") + " hold something else.") : null;
+  const draw = hours => fill(place, wearTable(pumps, 3600 * hours), note);
+  if (!pumps.length) return el("p", null, "There are too few homes for pumps.");
+  draw(500);
+  const field = el("input", { type: "number", min: 1, max: 100000, value: 500, id: "interval", on: { input: ({ target }) => {
+    if (target.checkValidity() && target.value) draw(Number(target.value));
+  } } });
+  return el("div", null, el("label", { class: "field" }, "Service interval in hours", field), place);
+}

@@ -1,0 +1,26 @@
+#!/bin/sh
+# Layout and lint: lint.sh SHELL-FILES C-FOLDERS (run by make lint from the root). A tool that is not installed is skipped with a line.
+set -u
+failed=0
+
+# name, a word that tells whether it is there, command
+try() {
+    name=$1 there=$2; shift 2
+    if ! sh -c "$there" > /dev/null 2>&1; then
+        echo "skipped $name: not installed"
+    elif "$@" > "$log" 2>&1; then
+        echo "ok      $name"
+    else
+        echo "FAILED  $name"; tail -n 20 "$log" | sed 's/^/        /'; failed=1
+    fi
+}
+
+log=$(mktemp) || exit 1
+trap 'rm -f "$log"' EXIT
+try "rt fmt" "command -v rt" rt fmt --check
+try "cargo fmt" "cargo fmt --version" cargo fmt --manifest-path rust/Cargo.toml --all --check
+# shellcheck disable=SC2086 # one word for each file
+try "shellcheck" "command -v shellcheck" shellcheck --severity=warning $1
+# shellcheck disable=SC2086
+try "cppcheck" "command -v cppcheck" cppcheck --quiet --std=c99 --enable=warning,portability --inline-suppr --error-exitcode=1 -Iinclude -Ic $2
+exit $failed
