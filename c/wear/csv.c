@@ -61,7 +61,9 @@ static void put_row(const struct wear_sheet *sheet, size_t at, const char *day, 
     put_field(sheet->stations[row->station].path, file);
     fprintf(file, ",%u,%" PRIu64 ",%" PRIu64 ",%" PRIu64 ",%" PRIu64 ",%" PRIu64 ",%" PRIu64, row->pump, row->starts, row->seconds,
             sheet->interval, row->services, row->left, sheet->interval - row->left);
-    fprintf(file, ",%s,%" PRIu64 ",", row->running ? "running" : row->starts ? "stopped" : "never started", row->second);
+    fprintf(file, ",%s,%" PRIu64 ",", row->running ? "running" : row->starts ? "stopped"
+                                                                             : "never started",
+            row->second);
     if (row->running)
         fprintf(file, "%" PRIu64 ",%" PRIu64 ",%s", row->run, row->counted_to, wear_bound_name(row->run_bound));
     else

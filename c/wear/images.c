@@ -8,7 +8,8 @@
 #include "sheet.h"
 
 /* Bytes of a pump's home; docs/HOMES.md. */
-enum { LAST_EVENT = 8, RUNNING = 12 };
+enum { LAST_EVENT = 8,
+       RUNNING = 12 };
 
 static uint64_t number32(const uint8_t *bytes)
 {
@@ -194,7 +195,8 @@ static void count_runs(struct wear_sheet *sheet, const struct wear_options *opti
     if (now && now->second < latest) {
         wear_remark(sheet, WEAR_NOTE, sheet->stations[station].path, WEAR_NO_PUMP,
                     "--now %" PRIu64 " lies before its last event, at second %" PRIu64
-                    "; pumps that run are counted up to that event only", now->second, latest);
+                    "; pumps that run are counted up to that event only",
+                    now->second, latest);
         now = NULL;
     }
     for (i = 0; i < sheet->count; i++) {

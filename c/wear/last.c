@@ -9,10 +9,27 @@
 enum { DAY_SECONDS = 86400 };
 
 /* Columns by their names in the heading; those from STATE on may be missing, as in sheets of earlier versions. */
-enum column { IMAGE, PUMP, STARTS, RUN_SECONDS, STATE, LAST_EVENT, RUNNING_SECONDS, RUN_BOUND, SHEET_DATE, COLUMNS };
+enum column { IMAGE,
+              PUMP,
+              STARTS,
+              RUN_SECONDS,
+              STATE,
+              LAST_EVENT,
+              RUNNING_SECONDS,
+              RUN_BOUND,
+              SHEET_DATE,
+              COLUMNS };
 
 static const char *const column_names[COLUMNS] = {
-    "image", "pump", "starts", "run_seconds", "state", "last_event", "running_seconds", "run_bound", "sheet_date",
+    "image",
+    "pump",
+    "starts",
+    "run_seconds",
+    "state",
+    "last_event",
+    "running_seconds",
+    "run_bound",
+    "sheet_date",
 };
 
 struct past {

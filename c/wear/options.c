@@ -135,8 +135,12 @@ static void take_value(struct wear_options *options, const char *name, char *val
 static const char *value_missing(const char *name)
 {
     static const char *const options[][2] = {
-        {"--interval", "%s takes a number"}, {"--writer", "%s takes a number"},  {"--now", "%s takes a number"},
-        {"--date", "%s takes a day"},        {"--html", "%s takes a file name"}, {"--done", "%s takes a file name"},
+        {"--interval", "%s takes a number"},
+        {"--writer", "%s takes a number"},
+        {"--now", "%s takes a number"},
+        {"--date", "%s takes a day"},
+        {"--html", "%s takes a file name"},
+        {"--done", "%s takes a file name"},
         {"--since", "%s takes a file name"},
     };
     size_t i;
@@ -170,7 +174,7 @@ static void take_plain(struct wear_options *options, const char *name, const cha
 static bool is_plain(const char *name)
 {
     return strcmp(name, "--csv") == 0 || strcmp(name, "--all") == 0 || strcmp(name, "--help") == 0 || strcmp(name, "-h") == 0
-           || strcmp(name, "--version") == 0;
+        || strcmp(name, "--version") == 0;
 }
 
 /* One option; next is the word behind it. True if it was taken as the value. */

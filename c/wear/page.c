@@ -5,7 +5,8 @@
 
 #include "page_parts.h"
 
-enum { MOST_LINES = 12, MOST_LABELS = 5 };
+enum { MOST_LINES = 12,
+       MOST_LABELS = 5 };
 
 /* The axis: whole intervals, a line at every step of them, and a number at some. */
 struct axis {
@@ -131,7 +132,9 @@ static void put_axis(const struct axis *axis, const char *title, FILE *file)
     fprintf(file, "<span>%s</span><svg class=\"axis\" aria-hidden=\"true\">", title);
     for (i = 0; i <= axis->intervals; i += axis->labels)
         fprintf(file, "<text x=\"%.2f%%\" y=\"14\" text-anchor=\"%s\">%" PRIu64 "%s</text>", percent(axis, i * axis->interval),
-                i == 0 ? "start" : i == axis->intervals ? "end" : "middle", i * axis->interval / 3600, i ? "" : " h");
+                i == 0 ? "start" : i == axis->intervals ? "end"
+                                                        : "middle",
+                i * axis->interval / 3600, i ? "" : " h");
     fputs("</svg>", file);
 }
 
@@ -149,7 +152,8 @@ static void put_bar(const struct axis *axis, const struct wear_row *row, FILE *f
     fprintf(file, "<rect class=\"left\" x=\"%.2f%%\" y=\"3\" width=\"%.2f%%\" height=\"14\"/>", due, end - due);
     if (row->running)
         fprintf(file, "<rect class=\"run\" x=\"%.2f%%\" y=\"3\" width=\"%.2f%%\" height=\"14\"/><svg x=\"%.2f%%\" y=\"3\">"
-                      "<path class=\"on\" d=\"M2 1 L9 7 L2 13 Z\"/></svg>", end - run, run, end);
+                      "<path class=\"on\" d=\"M2 1 L9 7 L2 13 Z\"/></svg>",
+                end - run, run, end);
     fputs("</svg>", file);
 }
 
@@ -160,21 +164,25 @@ static void put_head(const struct wear_sheet *sheet, const struct axis *axis, FI
     fputs("<table id=\"pumps\" role=\"table\">\n<caption>Hours to the next are those to the next whole interval since the last "
           "service known, or since the station was formatted.</caption>\n<thead role=\"rowgroup\"><tr role=\"row\">"
           "<th scope=\"col\" role=\"columnheader\" class=\"order\">order</th>"
-          "<th scope=\"col\" role=\"columnheader\" class=\"name\">", file);
+          "<th scope=\"col\" role=\"columnheader\" class=\"name\">",
+          file);
     put_axis(axis, sheet->serviced ? "station, pump; run hours since the last service" : "station, pump; run hours", file);
     fputs("</th><th scope=\"col\" role=\"columnheader\">run hours</th>", file);
     if (sheet->serviced)
         fputs("<th scope=\"col\" role=\"columnheader\">since service</th>", file);
     fputs("<th scope=\"col\" role=\"columnheader\">services due</th><th scope=\"col\" role=\"columnheader\">hours to next</th>"
-          "<th scope=\"col\" role=\"columnheader\">starts</th><th scope=\"col\" role=\"columnheader\">hours a start</th>", file);
+          "<th scope=\"col\" role=\"columnheader\">starts</th><th scope=\"col\" role=\"columnheader\">hours a start</th>",
+          file);
     if (sheet->compared)
-        fputs("<th scope=\"col\" role=\"columnheader\">new hours</th><th scope=\"col\" role=\"columnheader\">new starts</th>", file);
+        fputs("<th scope=\"col\" role=\"columnheader\">new hours</th><th scope=\"col\" role=\"columnheader\">new starts</th>",
+              file);
     fputs("</tr></thead>\n", file);
 }
 
 static void put_foot(const struct wear_sheet *sheet, const struct axis *axis, FILE *file)
 {
-    fputs("</tbody>\n<tfoot role=\"rowgroup\"><tr role=\"row\"><td class=\"order\" role=\"cell\"></td><td class=\"name\" role=\"cell\">",
+    fputs("</tbody>\n<tfoot role=\"rowgroup\"><tr role=\"row\"><td class=\"order\" role=\"cell\"></td>"
+          "<td class=\"name\" role=\"cell\">",
           file);
     put_axis(axis, "", file);
     fprintf(file, "</td><td colspan=\"%d\" role=\"cell\"></td></tr></tfoot>\n</table>\n",
@@ -234,15 +242,25 @@ static void put_figures(const struct wear_sheet *sheet, const struct wear_row *r
         put_comparison(row, file);
 }
 
+/* A number by which the page is sorted or filtered. */
+static void put_data(const char *name, uint64_t number, FILE *file)
+{
+    fprintf(file, " data-%s=\"%" PRIu64 "\"", name, number);
+}
+
 static void put_row(const struct wear_sheet *sheet, const struct axis *axis, size_t at, FILE *file)
 {
     const struct wear_row *row = &sheet->rows[at];
 
-    fprintf(file, "<tr role=\"row\"%s data-order=\"%lu\" data-pump=\"%u\" data-due=\"%" PRIu64 "\" data-hours=\"%" PRIu64
-                  "\" data-worn=\"%" PRIu64 "\" data-starts=\"%" PRIu64 "\" data-each=\"%" PRIu64 "\" data-state=\"%s %s\" data-station=\"",
-            row->services ? " class=\"due\"" : "", (unsigned long)at + 1, row->pump, row->services, wear_total(row), row->worn,
-            row->starts, row->starts ? wear_total(row) / row->starts : 0, row->running ? "running" : "",
-            row->change == WEAR_RESET ? "reset" : "");
+    fprintf(file, "<tr role=\"row\"%s", row->services ? " class=\"due\"" : "");
+    put_data("order", at + 1, file);
+    put_data("pump", row->pump, file);
+    put_data("due", row->services, file);
+    put_data("hours", wear_total(row), file);
+    put_data("worn", row->worn, file);
+    put_data("starts", row->starts, file);
+    put_data("each", row->starts ? wear_total(row) / row->starts : 0, file);
+    fprintf(file, " data-state=\"%s%s\" data-station=\"", row->running ? "running " : "", row->change == WEAR_RESET ? "reset" : "");
     put_text(sheet->stations[row->station].path, file);
     fprintf(file, "\"><td class=\"order\" role=\"cell\" data-label=\"order\">%lu</td>", (unsigned long)at + 1);
     put_name(sheet, axis, row, file);
@@ -258,8 +276,9 @@ void wear_page(const struct wear_sheet *sheet, FILE *file)
 
     day_write(sheet->day, day);
     fprintf(file, WEAR_PAGE_MARK " -->\n<html lang=\"en\">\n<head>\n<meta charset=\"utf-8\">\n"
-                  "<meta name=\"viewport\" content=\"width=device-width, initial-scale=1\">\n"
-                  "<title>Wear sheet of %s</title>\n<style>\n", day);
+                                 "<meta name=\"viewport\" content=\"width=device-width, initial-scale=1\">\n"
+                                 "<title>Wear sheet of %s</title>\n<style>\n",
+            day);
     put_pieces(wear_page_style, file);
     fputs("</style>\n</head>\n<body>\n<main>\n", file);
     put_summary(sheet, day, file);
@@ -270,7 +289,8 @@ void wear_page(const struct wear_sheet *sheet, FILE *file)
     fputs("<p class=\"legend\"><span><svg aria-hidden=\"true\"><rect class=\"due\" width=\"12\" height=\"12\"/></svg>whole services "
           "due</span><span><svg aria-hidden=\"true\"><rect class=\"left\" width=\"12\" height=\"12\"/></svg>left over</span><span>"
           "<svg aria-hidden=\"true\"><path class=\"on\" d=\"M2 0 L9 6 L2 12 Z\"/></svg>runs, and wears on</span><span>a dashed line "
-          "where a service falls due</span></p>\n", file);
+          "where a service falls due</span></p>\n",
+          file);
     put_head(sheet, &axis, file);
     fputs("<tbody role=\"rowgroup\">\n", file);
     for (i = 0; i < sheet->count; i++)

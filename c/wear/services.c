@@ -77,40 +77,49 @@ static struct service read_service(struct csv *csv)
     return service;
 }
 
-/* What is worn if this was the last service; false, with a remark, if it contradicts the book. */
-static bool worn_since(struct wear_sheet *sheet, const struct csv *csv, const struct wear_row *row,
-                       const struct service *service, uint64_t *worn, enum wear_bound *bound)
+/* Whether a service contradicts the book, or may: then a remark says so. */
+static bool is_refused(struct wear_sheet *sheet, const struct csv *csv, const struct wear_row *row, const struct service *service)
 {
     const char *path = sheet->stations[row->station].path;
+
+    if (!service->by_day && row->change == WEAR_RESET)
+        wear_remark(sheet, WEAR_NOTE, path, row->pump,
+                    "exchanged or reset since the last sheet: the service at %s (%s:%lu) may be of the book before and does not count; its "
+                    "day would",
+                    service->text, csv->path, csv->line);
+    else if (!service->by_day && service->seconds > wear_total(row))
+        wear_remark(sheet, WEAR_NOTE, path, row->pump,
+                    "the service at %s (%s:%lu) lies beyond its run hours and does not count: exchanged or reset since, or mistyped",
+                    service->text, csv->path, csv->line);
+    else if (service->by_day && service->day > sheet->day)
+        wear_remark(sheet, WEAR_NOTE, path, row->pump,
+                    "the service of %s (%s:%lu) lies behind the day of this sheet and does not count", service->text, csv->path, csv->line);
+    else
+        return false;
+    return true;
+}
+
+/*
+ * What is worn if this was the last service. By its day alone it is the most that can be: no more than the days since
+ * have seconds, nor than the pump ran since the last sheet, if the service came later.
+ */
+static uint64_t worn_since(const struct wear_sheet *sheet, const struct wear_row *row, const struct service *service)
+{
     uint64_t total = wear_total(row), most;
 
-    *bound = row->run_bound;
-    if (!service->by_day && row->change == WEAR_RESET) {
-        wear_remark(sheet, WEAR_NOTE, path, row->pump, "exchanged or reset since the last sheet: the service at %s (%s:%lu) may be "
-                    "of the book before and does not count; its day would", service->text, csv->path, csv->line);
-        return false;
-    }
-    if (!service->by_day && service->seconds > total) {
-        wear_remark(sheet, WEAR_NOTE, path, row->pump, "the service at %s (%s:%lu) lies beyond its run hours and does not count: "
-                    "exchanged or reset since, or mistyped", service->text, csv->path, csv->line);
-        return false;
-    }
-    if (service->by_day && service->day > sheet->day) {
-        wear_remark(sheet, WEAR_NOTE, path, row->pump, "the service of %s (%s:%lu) lies behind the day of this sheet and does not "
-                    "count", service->text, csv->path, csv->line);
-        return false;
-    }
-    if (!service->by_day) {
-        *worn = total - service->seconds;
-        return true;
-    }
-    /* No more than the days since have seconds; nor than it ran since the last sheet, if the service came later. */
+    if (!service->by_day)
+        return total - service->seconds;
     most = (uint64_t)(sheet->day - service->day + 1) * DAY_SECONDS;
     if (row->change == WEAR_COMPARED && sheet->last_day >= 0 && sheet->last_day <= service->day && row->more_seconds < most)
         most = row->more_seconds;
-    *worn = total < most ? total : most;
-    *bound = row->run_bound == WEAR_EXACT ? WEAR_AT_MOST : WEAR_ABOUT;
-    return true;
+    return total < most ? total : most;
+}
+
+static enum wear_bound bound_since(const struct wear_row *row, const struct service *service)
+{
+    if (!service->by_day)
+        return row->run_bound;
+    return row->run_bound == WEAR_EXACT ? WEAR_AT_MOST : WEAR_ABOUT;
 }
 
 /* Of several services of a pump, the one that leaves least is the last. */
@@ -120,14 +129,12 @@ static void take_service(struct wear_sheet *sheet, const struct csv *csv, const 
 
     for (i = 0; i < sheet->count; i++) {
         struct wear_row *row = &sheet->rows[i];
-        enum wear_bound bound;
-        uint64_t worn;
 
-        if (row->station != service->station || row->pump != service->pump
-            || !worn_since(sheet, csv, row, service, &worn, &bound) || (row->serviced[0] && worn > row->worn))
+        if (row->station != service->station || row->pump != service->pump || is_refused(sheet, csv, row, service)
+            || (row->serviced[0] && worn_since(sheet, row, service) > row->worn))
             continue;
-        row->worn = worn;
-        row->bound = bound;
+        row->worn = worn_since(sheet, row, service);
+        row->bound = bound_since(row, service);
         snprintf(row->serviced, sizeof row->serviced, "%s", service->text);
     }
 }
@@ -136,7 +143,7 @@ static void take_service(struct wear_sheet *sheet, const struct csv *csv, const 
 static bool is_heading(const struct csv *csv)
 {
     return csv->count >= 2 && (strcmp(csv->fields[0], "station") == 0 || strcmp(csv->fields[0], "image") == 0)
-           && strcmp(csv->fields[1], "pump") == 0;
+        && strcmp(csv->fields[1], "pump") == 0;
 }
 
 static void read_done(struct wear_sheet *sheet, const char *path)
@@ -156,7 +163,8 @@ static void read_done(struct wear_sheet *sheet, const char *path)
         service.station = wear_find(sheet, csv.fields[0]);
         if (service.station == sheet->station_count)
             wear_remark(sheet, WEAR_NOTE, csv.fields[0], service.pump, "has a service in %s:%lu and is none of the images, or "
-                        "more than one", path, csv.line);
+                                                                       "more than one",
+                        path, csv.line);
         else
             take_service(sheet, &csv, &service);
     }

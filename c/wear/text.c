@@ -88,7 +88,8 @@ static void put_running(const struct wear_sheet *sheet, FILE *file)
     if (running)
         fprintf(file, "%lu pump%s running", (unsigned long)running, running == 1 ? " is" : "s are");
     if (open)
-        fprintf(file, "; %lu counted up to the station's last event only, at least (>=): --now SECOND counts on", (unsigned long)open);
+        fprintf(file, "; %lu counted up to the station's last event only, at least (>=): --now SECOND counts on",
+                (unsigned long)open);
     if (running)
         fputs("\n\n", file);
 }

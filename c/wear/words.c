@@ -31,7 +31,8 @@ const char *wear_bound_sign(enum wear_bound bound)
 
 enum wear_bound wear_bound_left(enum wear_bound bound)
 {
-    return bound == WEAR_AT_LEAST ? WEAR_AT_MOST : bound == WEAR_AT_MOST ? WEAR_AT_LEAST : bound;
+    return bound == WEAR_AT_LEAST ? WEAR_AT_MOST : bound == WEAR_AT_MOST ? WEAR_AT_LEAST
+                                                                         : bound;
 }
 
 const char *wear_bounded(uint64_t seconds, enum wear_bound bound, char text[WEAR_HOURS])
