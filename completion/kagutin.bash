@@ -3,7 +3,7 @@
 _kagutin_options() {
     case $1 in
         inspect) echo "--json --groups --homes --start" ;;
-        wear) kagutin wear --help 2> /dev/null | grep -o -e '^  *--[a-z-]*' ;;
+        wear) echo "--interval --now --done --since --csv --html --date --all --writer" ;;
         bands) echo "--writer" ;;
         alarms) echo "--csv" ;;
         gauges) echo "--tolerance --brief --plot" ;;

@@ -1,6 +1,6 @@
 # The units on the store: depth bands, pump hours, alarms. Included by make/c.mk.
 #
-# units-check   tests of the programs on them and of the calls on the store object
+# units-check   tests of the programs on them and of the calls on the store object; wear-check the wear sheet's alone
 # units-dist    makes dist/kagutin_UNIT.c again from the proved crates; units-dist-check fails if a byte of them differs
 # units-compare the calls against the reference implementation: histories with cuts, damaged images, homes, strips and lengths
 
@@ -30,20 +30,22 @@ units-dist-check:
 	    || { echo "$$file is not what the proved program gives; make units-dist makes it again" >&2; exit 1; }; done
 	@echo "dist: $(UNITS_DIST): what the proved program gives"
 
-C_UNITS = units_check units_cost replies_check lock_check misuse_check
-C_WEAR = $(addprefix c/wear/,main text page)
+C_UNITS = units_check pump_image units_cost replies_check lock_check misuse_check
+C_WEAR = $(addprefix c/wear/,wear options images services last words text csv page page_parts) $(addprefix c/common/,page_file csv day)
 C_UNITS_CHECK = tests/store/units_check c/store/units $(C_STORE)
+C_PUMP_IMAGE = tests/programs/pump_image c/store/units $(C_STORE)
 C_UNITS_COST = tests/costs/units_cost $(C_STORE)
 C_REPLIES_CHECK = tests/store/replies_check tests/common/operations c/store/units $(C_STORE)
 C_LOCK_CHECK = tests/store/lock_check tests/common/operations c/store/units $(C_STORE)
 C_MISUSE_CHECK = tests/store/misuse_check tests/common/operations c/store/units $(C_STORE)
 C_UNITS_PROGRAMS = $(C_UNITS:%=$(C_OUT)/%) $(C_UNITS:%=$(C_OUT)/sanitize/%)
 
-.PHONY: units-check units-compare
+.PHONY: units-check wear-check units-compare
 
 c-sanitize: $(C_UNITS:%=$(C_OUT)/sanitize/%)
 
 $(eval $(call C_PROGRAM,units_check,$(C_UNITS_CHECK),$(UNITS_LIBS) $(LIB)))
+$(eval $(call C_PROGRAM,pump_image,$(C_PUMP_IMAGE),$(UNITS_LIBS) $(LIB)))
 $(eval $(call C_PROGRAM,units_cost,$(C_UNITS_COST),$(UNITS_LIBS) $(LIB)))
 $(eval $(call C_PROGRAM,replies_check,$(C_REPLIES_CHECK),$(UNITS_LIBS) $(LIB)))
 $(eval $(call C_PROGRAM,lock_check,$(C_LOCK_CHECK),$(UNITS_LIBS) $(LIB)))
@@ -79,6 +81,10 @@ c-dist: c-dist-units
 
 units-check: $(C_UNITS_PROGRAMS) $(C_OUT)/object_stack program
 	CC="$(CC)" LIB="$(LIB)" sh tests/programs/units-check.sh $(C_OUT)
+	sh tests/programs/wear-check.sh $(C_OUT)
+
+wear-check: $(foreach program,wear station pump_image,$(C_OUT)/$(program) $(C_OUT)/sanitize/$(program))
+	sh tests/programs/wear-check.sh $(C_OUT)
 
 c-check: units-check
 

@@ -154,7 +154,8 @@ void levels_plot_write(const struct levels_plot *plot, FILE *file)
     struct scale minutes = scale_of(first->minute, first->count, second->minute, second->count, LEFT, WIDTH - RIGHT);
     struct scale levels = scale_of(first->level, first->count, second->level, second->count, HEIGHT - BOTTOM, TOP);
 
-    fprintf(file, "<svg xmlns='http://www.w3.org/2000/svg' width='%d' height='%d' viewBox='0 0 %d %d' font-family='sans-serif' "
+    fprintf(file, LEVELS_PLOT_MARK " -->\n"
+                  "<svg xmlns='http://www.w3.org/2000/svg' width='%d' height='%d' viewBox='0 0 %d %d' font-family='sans-serif' "
                   "font-size='12'>\n<title>Two lists of levels and the minutes at which they differ</title>\n"
                   "<rect width='100%%' height='100%%' fill='white'/>\n",
             WIDTH, HEIGHT, WIDTH, HEIGHT);

@@ -6,6 +6,9 @@
 
 #include "readings.h"
 
+/* What a plot begins with, by which gauges knows its own. */
+#define LEVELS_PLOT_MARK "<!-- Kagutin levels plot"
+
 struct levels_plot {
     const struct readings *first, *second;
     const uint8_t *report; /* lines as the library writes them */

@@ -91,14 +91,13 @@ static void print_report(const struct readings *lists, const uint8_t *report, si
 static void draw(const struct options *options, const struct readings *lists, const uint8_t *report, size_t lines)
 {
     struct levels_plot plot = {&lists[0], &lists[1], report, lines, options->tolerance};
-    const char *why;
-    FILE *file = page_create(options->plot, &why);
+    struct page_file page;
 
-    if (!file)
-        command_quit(STATUS_TROUBLE, "%s: cannot be created: %s", options->plot, why);
-    levels_plot_write(&plot, file);
-    if (ferror(file) | (fclose(file) != 0))
-        command_quit(STATUS_TROUBLE, "%s: cannot be written: %s", options->plot, strerror(errno));
+    if (!page_create(&page, options->plot, LEVELS_PLOT_MARK))
+        command_quit(STATUS_TROUBLE, "%s: cannot be created: %s", options->plot, page.why);
+    levels_plot_write(&plot, page.file);
+    if (!page_finish(&page))
+        command_quit(STATUS_TROUBLE, "%s: cannot be written: %s", options->plot, page.why);
 }
 
 int gauges_main(int count, char **words)

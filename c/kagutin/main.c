@@ -13,11 +13,11 @@
 static const struct program {
     const char *name, *what;
     int (*run)(int count, char **words);
-    const char *flags; /* options without a value, each followed by a blank */
+    const char *flags; /* options without a value, each followed by a blank; null: it takes "--option=value" itself */
 } programs[] = {
     {"make", "makes an empty image", make_main, ""},
     {"inspect", "prints what an image holds, down to its entries", inspect_main, "--json "},
-    {"wear", "prints the wear sheet of images", wear_main, "--csv --all "},
+    {"wear", "prints the wear sheet of images", wear_main, NULL},
     {"bands", "sets, shows and looks up the table of depth bands", bands_main, ""},
     {"alarms", "lists the open alarms and the gravest", alarms_main, "--csv "},
     {"rights", "shows, sets and clears the list of rights", rights_main, ""},
@@ -80,7 +80,7 @@ static int run(const struct program *program, int count, char **words)
     split[filled++] = words[0];
     for (i = 1; i < count; i++) {
         size_t size = strcspn(words[i], "=");
-        bool both = strncmp(words[i], "--", 2) == 0 && words[i][size];
+        bool both = program->flags && strncmp(words[i], "--", 2) == 0 && words[i][size];
 
         if (both && is_flag(program, words[i], size))
             command_quit(STATUS_USAGE, "%.*s takes no value", (int)size, words[i]);

@@ -2,6 +2,8 @@
 #ifndef KAGUTIN_PROGRAMS_H
 #define KAGUTIN_PROGRAMS_H
 
+#include "wear/wear.h"
+
 int alarms_main(int count, char **words);
 int bands_main(int count, char **words);
 int convert_main(int count, char **words);
@@ -13,6 +15,5 @@ int inspect_main(int count, char **words);
 int make_main(int count, char **words);
 int rights_main(int count, char **words);
 int station_main(int count, char **words);
-int wear_main(int count, char **words);
 
 #endif

@@ -3,19 +3,15 @@
 
 #include <inttypes.h>
 
-enum { WIDTH = 960, LEFT = 230, RIGHT = 220, TOP = 34, ROW = 26, BAR = 16, BOTTOM = 44, MOST_LINES = 24 };
+#include "page_parts.h"
 
-static const char head[] =
-    "<!DOCTYPE html>\n<html lang=\"en\">\n<head>\n<meta charset=\"utf-8\">\n<title>Wear sheet</title>\n<style>\n"
-    "body { font: 15px/1.45 system-ui, sans-serif; color: #1d2733; background: #fff; margin: 2rem auto; max-width: 960px; padding: 0 1rem; }\n"
-    "h1 { font-size: 1.5rem; margin: 0 0 .3rem; }\np { margin: .3rem 0 1.2rem; color: #4a5866; }\n"
-    "svg .figure { paint-order: stroke; stroke: #fff; stroke-width: 4px; }\n"
-    "svg { display: block; max-width: 100%; height: auto; margin-bottom: 1.6rem; }\n"
-    "table { border-collapse: collapse; width: 100%; }\n"
-    "th, td { text-align: right; padding: .35rem .6rem; border-bottom: 1px solid #dde3e9; font-variant-numeric: tabular-nums; }\n"
-    "th { font-weight: 600; border-bottom: 2px solid #8899a8; }\nth.name, td.name { text-align: left; overflow-wrap: anywhere; }\n"
-    "tr.due td { background: #fdf1e7; }\n"
-    "@media print { body { margin: 0; max-width: none; } tr { break-inside: avoid; } }\n</style>\n</head>\n<body>\n";
+enum { MOST_LINES = 12,
+       MOST_LABELS = 5 };
+
+/* The axis: whole intervals, a line at every step of them, and a number at some. */
+struct axis {
+    uint64_t interval, intervals, step, labels;
+};
 
 static void put_text(const char *text, FILE *file)
 {
@@ -31,120 +27,276 @@ static void put_text(const char *text, FILE *file)
     }
 }
 
-/* The first so many bytes of a name, no part of a character at the end. */
-static void put_short(const char *name, FILE *file)
+static void put_pieces(const char *const *pieces, FILE *file)
 {
-    char text[29];
-    size_t length = 0;
-
-    while (name[length] && length < sizeof text - 1) {
-        text[length] = name[length];
-        length++;
-    }
-    if (name[length])
-        while (length > 0 && ((unsigned char)name[length] & 0xc0) == 0x80)
-            length--;
-    text[length] = '\0';
-    put_text(text, file);
-    if (name[length])
-        fputs("…", file);
+    for (; *pieces; pieces++)
+        fputs(*pieces, file);
 }
 
-static double place(double seconds, double most)
+static const char *sign(enum wear_bound bound)
 {
-    return LEFT + (WIDTH - LEFT - RIGHT) * seconds / most;
+    static const char *const signs[] = {"", "≥&nbsp;", "≤&nbsp;", "≈&nbsp;"};
+
+    return signs[bound];
 }
 
-/* Lines where services fall due; fewer if there would be too many. */
-static void put_lines(const struct wear_sheet *sheet, double most, int bottom, FILE *file)
+static void put_hours(uint64_t seconds, enum wear_bound bound, FILE *file)
 {
-    uint64_t lines = (uint64_t)(most / (double)sheet->interval), step = 1 + lines / MOST_LINES, i;
-
-    for (i = 0; i <= lines; i += step) {
-        double x = place((double)(i * sheet->interval), most);
-
-        fprintf(file, "<line x1=\"%.1f\" y1=\"%d\" x2=\"%.1f\" y2=\"%d\" stroke=\"#c3ccd5\"%s/>\n", x, TOP - 6, x, bottom,
-                i ? " stroke-dasharray=\"3 3\"" : "");
-        if (lines / step <= 8 || i % (step * (1 + lines / step / 8)) == 0)
-            fprintf(file, "<text x=\"%.1f\" y=\"%d\" text-anchor=\"middle\" fill=\"#4a5866\">%" PRIu64 "</text>\n", x,
-                    bottom + 17, i * sheet->interval / 3600);
-    }
-}
-
-static void put_bar(const struct wear_sheet *sheet, const struct wear_row *row, double most, int y, FILE *file)
-{
-    double due = place((double)(row->seconds - row->left), most), end = place((double)row->seconds, most);
     char hours[WEAR_HOURS];
 
-    fputs("<g><title>", file);
-    put_text(row->image, file);
-    fprintf(file, ", pump %u: %s run hours, %" PRIu64 " services due</title>\n<text x=\"%d\" y=\"%d\" text-anchor=\"end\">",
-            row->pump, wear_hours(row->seconds, hours), row->services, LEFT - 10, y + BAR - 3);
-    if (sheet->images > 1) {
-        put_short(wear_name(row->image), file);
-        fputs(", ", file);
+    fprintf(file, "%s%s", sign(bound), wear_hours(seconds, hours));
+}
+
+/* ---- what is told before the pumps ---- */
+
+static void put_remarks(const struct wear_sheet *sheet, enum wear_kind kind, const char *name, const char *heading, FILE *file)
+{
+    size_t i, count = 0;
+
+    for (i = 0; i < sheet->remark_count; i++) {
+        const struct wear_remark *remark = &sheet->remarks[i];
+
+        if (remark->kind != kind)
+            continue;
+        if (count++ == 0)
+            fprintf(file, "<section class=\"told %s\">\n<h2>%s</h2>\n<ul>\n", name, heading);
+        fputs("<li>", file);
+        if (remark->image) {
+            fputs("<b>", file);
+            put_text(remark->image, file);
+            if (remark->pump != WEAR_NO_PUMP)
+                fprintf(file, ", pump %u", remark->pump);
+            fputs("</b>: ", file);
+        }
+        put_text(remark->text, file);
+        fputs("</li>\n", file);
     }
-    fprintf(file, "pump %u</text>\n", row->pump);
-    fprintf(file, "<rect class=\"due\" x=\"%d\" y=\"%d\" width=\"%.1f\" height=\"%d\" fill=\"#d9822b\"/>\n", LEFT, y, due - LEFT, BAR);
-    fprintf(file, "<rect class=\"left\" x=\"%.1f\" y=\"%d\" width=\"%.1f\" height=\"%d\" fill=\"#5b8db8\"/>\n", due, y, end - due, BAR);
-    fprintf(file, "<text class=\"figure\" x=\"%.1f\" y=\"%d\">%s h", end + 8, y + BAR - 3, wear_hours(row->seconds, hours));
-    if (row->services)
-        fprintf(file, ", %" PRIu64 " due", row->services);
-    fputs("</text></g>\n", file);
+    if (count)
+        fputs("</ul>\n</section>\n", file);
 }
 
-static void put_plot(const struct wear_sheet *sheet, FILE *file)
+static void put_summary(const struct wear_sheet *sheet, const char *day, FILE *file)
 {
-    double most = sheet->count && sheet->rows[0].seconds > sheet->interval ? (double)sheet->rows[0].seconds
-                                                                         : (double)sheet->interval;
-    int bottom = TOP + ROW * (int)sheet->count, height = bottom + BOTTOM;
-    size_t i;
+    size_t due = 0, running = 0, open = 0, i;
+    char last[DAY_TEXT] = "last sheet";
 
-    fprintf(file, "<svg xmlns=\"http://www.w3.org/2000/svg\" width=\"%d\" height=\"%d\" viewBox=\"0 0 %d %d\" "
-                  "font-family=\"system-ui, sans-serif\" font-size=\"13\" fill=\"#1d2733\" role=\"img\">\n"
-                  "<title>Run hours of each pump, and where services fall due</title>\n",
-            WIDTH, height, WIDTH, height);
-    put_lines(sheet, most, bottom, file);
-    for (i = 0; i < sheet->count; i++)
-        put_bar(sheet, &sheet->rows[i], most, TOP + ROW * (int)i + (ROW - BAR) / 2, file);
-    fprintf(file, "<rect x=\"%d\" y=\"4\" width=\"12\" height=\"12\" fill=\"#d9822b\"/><text x=\"%d\" y=\"15\">hours of services "
-                  "due</text>\n<rect x=\"%d\" y=\"4\" width=\"12\" height=\"12\" fill=\"#5b8db8\"/><text x=\"%d\" y=\"15\">hours left "
-                  "over</text>\n<text x=\"%d\" y=\"%d\" text-anchor=\"middle\" fill=\"#4a5866\">run hours; a dashed line where a "
-                  "service falls due</text>\n</svg>\n",
-            LEFT, LEFT + 18, LEFT + 180, LEFT + 198, (LEFT + WIDTH - RIGHT) / 2, height - 6);
-}
-
-static void put_table(const struct wear_sheet *sheet, FILE *file)
-{
-    char hours[WEAR_HOURS], each[WEAR_HOURS], next[WEAR_HOURS];
-    size_t i;
-
-    fputs("<table>\n<thead><tr><th>order</th><th class=\"name\">image</th><th>pump</th><th>starts</th><th>run hours</th>"
-          "<th>hours a start</th><th>services due</th><th>hours to next</th></tr></thead>\n<tbody>\n", file);
     for (i = 0; i < sheet->count; i++) {
-        const struct wear_row *row = &sheet->rows[i];
-
-        fprintf(file, "<tr%s><td>%lu</td><td class=\"name\">", row->services ? " class=\"due\"" : "", (unsigned long)i + 1);
-        put_text(row->image, file);
-        fprintf(file, "</td><td>%u</td><td>%" PRIu64 "</td><td>%s</td><td>%s</td><td>%" PRIu64 "</td><td>%s</td></tr>\n",
-                row->pump, row->starts, wear_hours(row->seconds, hours),
-                wear_hours(row->starts ? row->seconds / row->starts : 0, each), row->services,
-                wear_hours(sheet->interval - row->left, next));
+        due += sheet->rows[i].services > 0;
+        running += sheet->rows[i].running;
+        open += sheet->rows[i].run_bound == WEAR_AT_LEAST;
     }
-    fputs("</tbody>\n</table>\n", file);
+    fprintf(file, "<h1>Wear sheet of <time datetime=\"%s\">%s</time></h1>\n<p>", day, day);
+    wear_put_stations(sheet, file);
+    fprintf(file, ", %lu pump%s, %lu with a service due, %lu running; a service each %" PRIu64 " run hours. The pump to open first "
+                  "stands at the top.",
+            (unsigned long)sheet->count, sheet->count == 1 ? "" : "s", (unsigned long)due, (unsigned long)running,
+            sheet->interval / 3600);
+    if (open)
+        fprintf(file, " %lu of those that run %s counted up to the last event of their station only: at least (≥).",
+                (unsigned long)open, open == 1 ? "is" : "are");
+    if (sheet->last_day >= 0)
+        day_write(sheet->last_day, last);
+    if (sheet->compared)
+        fprintf(file, " New hours and starts are those since the %s%s.", sheet->last_day >= 0 ? "sheet of " : "", last);
+    if (sheet->idle)
+        fprintf(file, " %lu that never started %s left out.", (unsigned long)sheet->idle, sheet->idle == 1 ? "is" : "are");
+    fputs("</p>\n", file);
+}
+
+/* ---- plot ---- */
+
+static struct axis axis_of(const struct wear_sheet *sheet)
+{
+    struct axis axis = {sheet->interval, 1, 1, 1};
+    uint64_t steps;
+    size_t i;
+
+    for (i = 0; i < sheet->count; i++)
+        if (sheet->rows[i].worn / sheet->interval >= axis.intervals)
+            axis.intervals = sheet->rows[i].worn / sheet->interval + (sheet->rows[i].left > 0);
+    axis.step = (axis.intervals + MOST_LINES - 1) / MOST_LINES;
+    steps = axis.intervals / axis.step;
+    axis.labels = axis.step * ((steps + MOST_LABELS - 1) / MOST_LABELS);
+    return axis;
+}
+
+static double percent(const struct axis *axis, uint64_t seconds)
+{
+    return 100.0 * (double)seconds / ((double)axis->interval * (double)axis->intervals);
+}
+
+static void put_axis(const struct axis *axis, const char *title, FILE *file)
+{
+    uint64_t i;
+
+    fprintf(file, "<span>%s</span><svg class=\"axis\" aria-hidden=\"true\">", title);
+    for (i = 0; i <= axis->intervals; i += axis->labels)
+        fprintf(file, "<text x=\"%.2f%%\" y=\"14\" text-anchor=\"%s\">%" PRIu64 "%s</text>", percent(axis, i * axis->interval),
+                i == 0 ? "start" : i == axis->intervals ? "end"
+                                                        : "middle",
+                i * axis->interval / 3600, i ? "" : " h");
+    fputs("</svg>", file);
+}
+
+static void put_bar(const struct axis *axis, const struct wear_row *row, FILE *file)
+{
+    double due = percent(axis, row->worn - row->left), end = percent(axis, row->worn);
+    double run = percent(axis, row->run < row->worn ? row->run : row->worn);
+    uint64_t i;
+
+    fputs("<svg class=\"bar\" aria-hidden=\"true\">", file);
+    for (i = 0; i <= axis->intervals; i += axis->step)
+        fprintf(file, "<line%s x1=\"%.2f%%\" y1=\"0\" x2=\"%.2f%%\" y2=\"20\"/>", i ? "" : " class=\"zero\"",
+                percent(axis, i * axis->interval), percent(axis, i * axis->interval));
+    fprintf(file, "<rect class=\"due\" x=\"0\" y=\"3\" width=\"%.2f%%\" height=\"14\"/>", due);
+    fprintf(file, "<rect class=\"left\" x=\"%.2f%%\" y=\"3\" width=\"%.2f%%\" height=\"14\"/>", due, end - due);
+    if (row->running)
+        fprintf(file, "<rect class=\"run\" x=\"%.2f%%\" y=\"3\" width=\"%.2f%%\" height=\"14\"/><svg x=\"%.2f%%\" y=\"3\">"
+                      "<path class=\"on\" d=\"M2 1 L9 7 L2 13 Z\"/></svg>",
+                end - run, run, end);
+    fputs("</svg>", file);
+}
+
+/* ---- table ---- */
+
+static void put_head(const struct wear_sheet *sheet, const struct axis *axis, FILE *file)
+{
+    fputs("<table id=\"pumps\" role=\"table\">\n<caption>Hours to the next are those to the next whole interval since the last "
+          "service known, or since the station was formatted.</caption>\n<thead role=\"rowgroup\"><tr role=\"row\">"
+          "<th scope=\"col\" role=\"columnheader\" class=\"order\">order</th>"
+          "<th scope=\"col\" role=\"columnheader\" class=\"name\">",
+          file);
+    put_axis(axis, sheet->serviced ? "station, pump; run hours since the last service" : "station, pump; run hours", file);
+    fputs("</th><th scope=\"col\" role=\"columnheader\">run hours</th>", file);
+    if (sheet->serviced)
+        fputs("<th scope=\"col\" role=\"columnheader\">since service</th>", file);
+    fputs("<th scope=\"col\" role=\"columnheader\">services due</th><th scope=\"col\" role=\"columnheader\">hours to next</th>"
+          "<th scope=\"col\" role=\"columnheader\">starts</th><th scope=\"col\" role=\"columnheader\">hours a start</th>",
+          file);
+    if (sheet->compared)
+        fputs("<th scope=\"col\" role=\"columnheader\">new hours</th><th scope=\"col\" role=\"columnheader\">new starts</th>",
+              file);
+    fputs("</tr></thead>\n", file);
+}
+
+static void put_foot(const struct wear_sheet *sheet, const struct axis *axis, FILE *file)
+{
+    fputs("</tbody>\n<tfoot role=\"rowgroup\"><tr role=\"row\"><td class=\"order\" role=\"cell\"></td>"
+          "<td class=\"name\" role=\"cell\">",
+          file);
+    put_axis(axis, "", file);
+    fprintf(file, "</td><td colspan=\"%d\" role=\"cell\"></td></tr></tfoot>\n</table>\n",
+            5 + sheet->serviced + 2 * sheet->compared);
+}
+
+static void put_name(const struct wear_sheet *sheet, const struct axis *axis, const struct wear_row *row, FILE *file)
+{
+    char state[WEAR_STATE];
+
+    fputs("<th scope=\"row\" role=\"rowheader\" class=\"name\">", file);
+    put_text(sheet->stations[row->station].path, file);
+    fprintf(file, ", pump&nbsp;%u", row->pump);
+    wear_state(row, state);
+    if (*state) {
+        bool grave = row->running || row->change == WEAR_RESET;
+
+        fprintf(file, "<span class=\"state\">%s", grave ? "<b>" : "");
+        put_text(state, file);
+        fprintf(file, "%s</span>", grave ? "</b>" : "");
+    }
+    put_bar(axis, row, file);
+    fputs("</th>", file);
+}
+
+static void put_comparison(const struct wear_row *row, FILE *file)
+{
+    fputs("<td class=\"figure\" role=\"cell\" data-label=\"new hours\">", file);
+    if (row->change == WEAR_COMPARED)
+        put_hours(row->more_seconds, row->more_bound, file);
+    else
+        fputs("–", file);
+    fputs("</td><td class=\"figure\" role=\"cell\" data-label=\"new starts\">", file);
+    if (row->change == WEAR_COMPARED)
+        fprintf(file, "%" PRIu64 "</td>", row->more_starts);
+    else
+        fputs("–</td>", file);
+}
+
+static void put_figures(const struct wear_sheet *sheet, const struct wear_row *row, FILE *file)
+{
+    fputs("<td class=\"figure\" role=\"cell\" data-label=\"run hours\">", file);
+    put_hours(wear_total(row), row->run_bound, file);
+    if (sheet->serviced) {
+        fputs("</td><td class=\"figure\" role=\"cell\" data-label=\"since service\">", file);
+        put_hours(row->worn, row->bound, file);
+    }
+    fprintf(file, "</td><td class=\"figure services\" role=\"cell\" data-label=\"services due\">%s%" PRIu64 "</td>",
+            sign(row->bound), row->services);
+    fputs("<td class=\"figure\" role=\"cell\" data-label=\"hours to next\">", file);
+    put_hours(sheet->interval - row->left, wear_bound_left(row->bound), file);
+    fprintf(file, "</td><td class=\"figure\" role=\"cell\" data-label=\"starts\">%" PRIu64 "</td>", row->starts);
+    fputs("<td class=\"figure\" role=\"cell\" data-label=\"hours a start\">", file);
+    put_hours(row->starts ? wear_total(row) / row->starts : 0, row->run_bound, file);
+    fputs("</td>", file);
+    if (sheet->compared)
+        put_comparison(row, file);
+}
+
+/* A number by which the page is sorted or filtered. */
+static void put_data(const char *name, uint64_t number, FILE *file)
+{
+    fprintf(file, " data-%s=\"%" PRIu64 "\"", name, number);
+}
+
+static void put_row(const struct wear_sheet *sheet, const struct axis *axis, size_t at, FILE *file)
+{
+    const struct wear_row *row = &sheet->rows[at];
+
+    fprintf(file, "<tr role=\"row\"%s", row->services ? " class=\"due\"" : "");
+    put_data("order", at + 1, file);
+    put_data("pump", row->pump, file);
+    put_data("due", row->services, file);
+    put_data("hours", wear_total(row), file);
+    put_data("worn", row->worn, file);
+    put_data("starts", row->starts, file);
+    put_data("each", row->starts ? wear_total(row) / row->starts : 0, file);
+    fprintf(file, " data-state=\"%s%s\" data-station=\"", row->running ? "running " : "", row->change == WEAR_RESET ? "reset" : "");
+    put_text(sheet->stations[row->station].path, file);
+    fprintf(file, "\"><td class=\"order\" role=\"cell\" data-label=\"order\">%lu</td>", (unsigned long)at + 1);
+    put_name(sheet, axis, row, file);
+    put_figures(sheet, row, file);
+    fputs("</tr>\n", file);
 }
 
 void wear_page(const struct wear_sheet *sheet, FILE *file)
 {
-    fputs(head, file);
-    fprintf(file, "<h1>Wear sheet</h1>\n<p>%lu image%s, %lu pump%s, service interval %" PRIu64 " h. The pump to open first "
-                  "stands at the top.",
-            (unsigned long)sheet->images, sheet->images == 1 ? "" : "s", (unsigned long)sheet->count,
-            sheet->count == 1 ? "" : "s", sheet->interval / 3600);
-    if (sheet->idle)
-        fprintf(file, " %lu that never started %s left out.", (unsigned long)sheet->idle, sheet->idle == 1 ? "is" : "are");
-    fputs("</p>\n", file);
-    put_plot(sheet, file);
-    put_table(sheet, file);
+    struct axis axis = axis_of(sheet);
+    char day[DAY_TEXT];
+    size_t i;
+
+    day_write(sheet->day, day);
+    fprintf(file, WEAR_PAGE_MARK " -->\n<html lang=\"en\">\n<head>\n<meta charset=\"utf-8\">\n"
+                                 "<meta name=\"viewport\" content=\"width=device-width, initial-scale=1\">\n"
+                                 "<title>Wear sheet of %s</title>\n<style>\n",
+            day);
+    put_pieces(wear_page_style, file);
+    fputs("</style>\n</head>\n<body>\n<main>\n", file);
+    put_summary(sheet, day, file);
+    put_remarks(sheet, WEAR_UNREAD, "unread", "Not read, and missing below", file);
+    put_remarks(sheet, WEAR_GONE, "gone", "Gone since the last sheet", file);
+    put_remarks(sheet, WEAR_NOTE, "note", "Note", file);
+    put_pieces(wear_page_controls, file);
+    fputs("<p class=\"legend\"><span><svg aria-hidden=\"true\"><rect class=\"due\" width=\"12\" height=\"12\"/></svg>whole services "
+          "due</span><span><svg aria-hidden=\"true\"><rect class=\"left\" width=\"12\" height=\"12\"/></svg>left over</span><span>"
+          "<svg aria-hidden=\"true\"><path class=\"on\" d=\"M2 0 L9 6 L2 12 Z\"/></svg>runs, and wears on</span><span>a dashed line "
+          "where a service falls due</span></p>\n",
+          file);
+    put_head(sheet, &axis, file);
+    fputs("<tbody role=\"rowgroup\">\n", file);
+    for (i = 0; i < sheet->count; i++)
+        put_row(sheet, &axis, i, file);
+    put_foot(sheet, &axis, file);
+    fputs("</main>\n", file);
+    put_pieces(wear_page_script, file);
     fputs("</body>\n</html>\n", file);
 }

@@ -9,9 +9,9 @@ example as "NAME.snippet". Each is built by gcc and clang, those that are there,
 examples, made by one change: the judge must refuse them.
 
 Commands. Every line of a block fenced as sh is run here, in a folder for each page with the files that the page shows
-(<!-- file: NAME -->) and those of inputs(); what stands under <!-- printed --> must have been printed. Sessions, fenced as console,
-are run by tests/programs/documents.py. ELSEWHERE names those that
-are not run here, and why. make builds into OUT as it was told to; the rest runs in the folder.
+(<!-- file: NAME -->) and those of inputs(); what stands under <!-- printed --> must have been printed. ELSEWHERE and
+OTHER_TEST name those that are not run here, and why. make builds into OUT as it was told to; the rest runs in the folder.
+Sessions, fenced as console, are run by tests/programs/documents.py.
 
 Prints a line for each test; the last line counts them. Status 1 if one failed.
 """
@@ -38,6 +38,9 @@ CC = os.environ.get("CC", "cc").split()  # made the libraries
 BUILDS = [(family, standard) for family in ("gcc", "clang") for standard in ("c99", "c11", "c++17")]
 
 ELSEWHERE = {"make test": "it is the gate, and runs this test", "make quick": "its tests are part of the gate"}
+
+# Pages whose commands another test runs, all that they print compared.
+OTHER_TEST = {"docs/WEAR.md": "tests/programs/wear-check.sh"}
 
 # Snippet, what stands there, what is put in its place: each misreads a reply, or leaves something undone.
 WRONG = [
@@ -276,6 +279,9 @@ def inputs(out, folder):
 def commands(out, pages, tmp):
     for page in sorted(pages):
         lines = [line for block in pages[page] if block.kind == "sh" for line in block.lines if line.strip() and not line.startswith("#")]
+        if page in OTHER_TEST:
+            report(True, "%s: its commands are run by %s" % (page, OTHER_TEST[page]))
+            continue
         if not lines:
             continue
         folder = os.path.join(tmp, page.replace("/", "-"))

@@ -254,8 +254,7 @@ fi
 for command in $commands; do
     page=man/kagutin-$command.1
     [ -r "$page" ]; report $? "$page is there"
-    [ "$command" = wear ] && continue
-    for option in $("$k" "$command" --help | grep -o -e '--[a-z-]*' | sort -u); do
+    for option in $("$k" "$command" --help | grep -o -e '--[a-z][a-z-]*' | grep -v -x -e --option | sort -u); do
         grep -q -e "Fl ${option#-}" "$page"; report $? "$page: $option"
         grep -q -e "$option" completion/kagutin.bash; report $? "completion: $option"
     done

@@ -95,73 +95,15 @@ gives 0 "--help" "$san/bands" --help
 gives 0 "--version" "$san/bands" --version
 shows '^bands (Kagutin) [0-9]'
 
-# --- wear ---
-gives 0 "a second image" "$out/units_check" --image "$tmp/depot, \"old\".img" 30 2
-cp "$tmp/north.img" "$tmp/before.img"
-gives 0 "one image" "$san/wear" --interval 100 "$tmp/north.img"
-shows '^Wear sheet: 1 image, service interval 100 h'
-gives 0 "the image stays" cmp "$tmp/north.img" "$tmp/before.img"
-gives 0 "a fleet as CSV" "$san/wear" --csv --all --interval 100 "$tmp/north.img" "$tmp/depot, \"old\".img"
-cp "$tmp/out" "$tmp/fleet.csv"
-[ "$(wc -l < "$tmp/out")" -eq 17 ]; report $? "16 pumps"
-shows 'depot, ""old"".img"'
-if command -v python3 > /dev/null; then
-    gives 0 "services x interval + left over is the total, and the order falls" python3 - "$tmp/fleet.csv" << 'END'
-import csv, sys
-rows = list(csv.DictReader(open(sys.argv[1])))
-for row in rows:
-    total, interval, due, left, to_next = (int(row[n]) for n in ('run_seconds', 'interval_seconds', 'services_due', 'seconds_left_over', 'seconds_to_next'))
-    assert due * interval + left == total and left < interval and left + to_next == interval, row
-totals = [int(row['run_seconds']) for row in rows]
-assert totals == sorted(totals, reverse=True) and totals[0] > 0
-assert [int(row['order']) for row in rows] == list(range(1, 17))
-END
-    gives 0 "a page" "$san/wear" --html "$tmp/page.html" --interval 100 "$tmp/north.img" "$tmp/depot, \"old\".img"
-    gives 0 "the page is well formed and asks for nothing else" python3 - "$tmp/page.html" << 'END'
-import re, sys, xml.dom.minidom
-text = open(sys.argv[1]).read()
-svg = text[text.index('<svg'):text.index('</svg>') + 6]
-xml.dom.minidom.parseString(svg)
-table = text[text.index('<table'):text.index('</table>') + 8]
-rows = xml.dom.minidom.parseString(table).getElementsByTagName('tr')
-assert len(rows) - 1 == svg.count('class="left"') > 2
-assert not re.search(r'(src|href)=|url\(|@import|<script', text)
-assert '&quot;old&quot;' in text
-END
-fi
+# --- the station's image, and images that hold something else ---
 gives 0 "a station's image" "$san/station" --cuts 40 --csv --file "$tmp/station.img"
 grep -q '^Panel: ' "$tmp/log"; report $? "its panel"
-sed 1d "$tmp/out" | cut -d, -f1-3,5- > "$tmp/sheet"
-gives 0 "its pumps by the wear sheet" "$san/wear" --csv --all --interval 50 --writer 7 "$tmp/station.img"
-sed 1d "$tmp/out" | cut -d, -f3-5,7,8 | sort | cmp - "$tmp/sheet" > "$tmp/log" 2>&1; report $? "the same starts, seconds and services"
-gives 0 "an image without events" "$out/units_check" --image "$tmp/new.img" 0 4
-gives 0 "a page of nothing" "$san/wear" --html "$tmp/none.html" --interval 1000000 "$tmp/new.img"
-gives 0 "a sheet of nothing" "$san/wear" "$tmp/new.img"
-shows '^8 pumps never started'
-cp "$tmp/new.img" "$tmp/other.img"
+gives 0 "an image without events" "$out/units_check" --image "$tmp/other.img" 0 4
 printf 'x' | dd of="$tmp/other.img" bs=1 seek=$((64 + 512 * 16 + 64 * 19 + 20)) conv=notrunc 2> /dev/null
-says "home 19 holds no record of pump 3" 3 "a pump's home with other bytes" "$san/wear" "$tmp/other.img" "$tmp/north.img"
-shows '^Wear sheet: 2 images'
 cp "$tmp/other.img" "$tmp/before.img"
 says "no station's list of rights; with --go-on" 3 "the station on an image of another's" "$san/station" --file "$tmp/north.img"
 says "hold something else" 3 "the station on one with other bytes for a pump" "$san/station" --go-on --file "$tmp/other.img"
 gives 0 "the image stays" cmp "$tmp/other.img" "$tmp/before.img"
-says "cannot be opened" 3 "a missing image among others" "$san/wear" "$tmp/missing.img" "$tmp/north.img"
-shows '^.*north.img  *[0-3]  '
-says "an image is expected" 2 "no image" "$san/wear"
-says "whole hours from 1 to 1000000" 2 "--interval 0" "$san/wear" --interval 0 x
-says "whole hours from 1 to 1000000" 2 "--interval 1.5" "$san/wear" --interval 1.5 x
-says "takes a number" 2 "--interval at the end" "$san/wear" x --interval
-says "two sheets" 2 "--csv and --html" "$san/wear" --csv --html a x
-cp "$tmp/north.img" "$tmp/before.img"
-says "holds something else" 3 "a page over an image" "$san/wear" --html "$tmp/north.img" "$tmp/new.img"
-gives 0 "the image stays" cmp "$tmp/north.img" "$tmp/before.img"
-gives 0 "a page of one image" "$san/wear" --html "$tmp/one.html" "$tmp/north.img"
-cp "$tmp/one.html" "$tmp/before.html"
-says "cannot be opened" 3 "a page of a missing image" "$san/wear" --html "$tmp/one.html" "$tmp/missing.img"
-gives 0 "the page from before stays" cmp "$tmp/one.html" "$tmp/before.html"
-says "writer 0 has no right to read the pumps' homes; --writer W" 3 "a writer without rights" "$san/wear" "$tmp/station.img"
-[ ! -s "$tmp/out" ] && [ "$(wc -l < "$tmp/log")" -eq 1 ]; report $? "and nothing else"
 says "no table is set" 1 "bands by the writer that has the right" "$san/bands" show "$tmp/station.img"
 says "writer 2 has no right to read homes 12 to 14; writer 1 has" 1 "bands, a writer without rights" "$san/bands" show --writer 2 "$tmp/station.img"
 says "writer 0 has no right to store to homes 12 to 14; writer 1 has" 1 "set, a writer without rights" "$san/bands" set --writer 0 "$tmp/station.img" "$tmp/table.txt"
@@ -171,10 +113,6 @@ gives 0 "and the table stays" "$san/bands" at "$tmp/station.img" 899
 shows '^899 mm: 1 pump, as from 300 to 899 mm$'
 printf '\364\377\377\377\377\177' | dd of="$tmp/other.img" bs=1 seek=2 conv=notrunc 2> /dev/null
 says "worn out" 3 "bands set in a worn-out image" "$san/bands" set "$tmp/other.img" "$tmp/table.txt"
-says "cannot be created" 3 "a page in a missing folder" "$san/wear" --html "$tmp/no/page.html" "$tmp/north.img"
-gives 0 "--help" "$san/wear" --help
-gives 0 "--version" "$san/wear" --version
-shows '^wear (Kagutin) [0-9]'
 
 # --- cost: the last call of each case, with no list of rights and with one in the log ---
 if command -v valgrind > /dev/null; then

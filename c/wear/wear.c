@@ -1,0 +1,193 @@
+/* Makes the wear sheet of images: starts, run hours and services due of each pump. */
+#include "wear.h"
+
+#include <stdarg.h>
+#include <stdlib.h>
+#include <string.h>
+
+#include "common/page_file.h"
+#include "kagutin_hours.h"
+#include "sheet.h"
+
+void *wear_room(void *old, size_t count, size_t size)
+{
+    void *room = count > SIZE_MAX / size ? NULL : realloc(old, count * size + 1);
+
+    if (!room)
+        wear_quit("out of memory");
+    return room;
+}
+
+static char *copy_of(const char *text)
+{
+    return strcpy((char *)wear_room(NULL, strlen(text) + 1, 1), text);
+}
+
+void wear_remark(struct wear_sheet *sheet, enum wear_kind kind, const char *image, unsigned pump, const char *format, ...)
+{
+    struct wear_remark remark;
+    va_list arguments;
+    char text[1024], *at;
+
+    va_start(arguments, format);
+    vsnprintf(text, sizeof text, format, arguments);
+    va_end(arguments);
+    for (at = text; *at; at++)
+        if ((unsigned char)*at < 0x20 || *at == 0x7f)
+            *at = '?';
+    remark.kind = kind;
+    remark.image = image ? copy_of(image) : NULL;
+    remark.pump = pump;
+    remark.text = copy_of(text);
+    sheet->remarks = (struct wear_remark *)wear_room(sheet->remarks, sheet->remark_count + 1, sizeof *sheet->remarks);
+    sheet->remarks[sheet->remark_count++] = remark;
+}
+
+size_t wear_find(const struct wear_sheet *sheet, const char *name)
+{
+    int closest = WEAR_NO_MATCH;
+    size_t found = sheet->station_count, i;
+
+    for (i = 0; i < sheet->station_count; i++) {
+        int match = sheet->stations[i].doubled ? WEAR_NO_MATCH : wear_match(sheet->stations[i].path, name);
+
+        if (match == WEAR_NO_MATCH || match > closest)
+            continue;
+        found = match < closest ? i : sheet->station_count; /* two that match as closely: neither */
+        closest = match;
+    }
+    return found;
+}
+
+/* Remarks by what they are: what could not be read first. */
+static void sort_remarks(struct wear_sheet *sheet)
+{
+    size_t i, j;
+
+    for (i = 1; i < sheet->remark_count; i++) {
+        struct wear_remark remark = sheet->remarks[i];
+
+        for (j = i; j > 0 && sheet->remarks[j - 1].kind > remark.kind; j--)
+            sheet->remarks[j] = sheet->remarks[j - 1];
+        sheet->remarks[j] = remark;
+    }
+}
+
+/* Says on standard error what the sheet says before the pumps: what could not be read always, the rest if no text is printed. */
+static bool complain_of(const struct wear_sheet *sheet, bool text_follows)
+{
+    bool all_read = true;
+    size_t i;
+
+    for (i = 0; i < sheet->remark_count; i++) {
+        const struct wear_remark *remark = &sheet->remarks[i];
+
+        all_read = all_read && remark->kind != WEAR_UNREAD;
+        if (text_follows && remark->kind != WEAR_UNREAD)
+            continue;
+        if (remark->image && remark->pump != WEAR_NO_PUMP)
+            wear_complain("%s: pump %u: %s", remark->image, remark->pump, remark->text);
+        else
+            wear_complain("%s%s%s", remark->image ? remark->image : "", remark->image ? ": " : "", remark->text);
+    }
+    return all_read;
+}
+
+static bool write_file(const struct wear_sheet *sheet, const char *path, const char *mark,
+                       void (*write)(const struct wear_sheet *, FILE *))
+{
+    struct page_file page;
+
+    if (!page_create(&page, path, mark)) {
+        wear_complain("%s: cannot be created: %s", path, page.why);
+        return false;
+    }
+    write(sheet, page.file);
+    if (!page_finish(&page)) {
+        wear_complain("%s: cannot be written: %s", path, page.why);
+        return false;
+    }
+    return true;
+}
+
+static bool write_sheet(const struct wear_sheet *sheet, const struct wear_options *options)
+{
+    bool done = true;
+
+    if (options->html)
+        done = write_file(sheet, options->html, WEAR_PAGE_MARK, wear_page);
+    if (options->csv)
+        done = write_file(sheet, options->csv, WEAR_CSV_MARK, wear_csv) && done;
+    if (options->print_csv)
+        wear_csv(sheet, stdout);
+    else if (!options->html && !options->csv)
+        wear_text(sheet, stdout);
+    if (fflush(stdout) != 0 || ferror(stdout)) {
+        wear_complain("cannot write the output");
+        return false;
+    }
+    return done;
+}
+
+/* The stations that were asked for. */
+static size_t count_stations(const struct wear_sheet *sheet)
+{
+    size_t count = 0, i;
+
+    for (i = 0; i < sheet->station_count; i++)
+        count += !sheet->stations[i].doubled;
+    return count;
+}
+
+static struct wear_sheet new_sheet(const struct wear_options *options)
+{
+    struct wear_sheet sheet;
+    size_t i;
+
+    memset(&sheet, 0, sizeof sheet);
+    sheet.interval = 3600 * options->hours;
+    sheet.day = options->day;
+    sheet.last_day = -1;
+    sheet.station_count = options->count;
+    sheet.stations = (struct wear_station *)calloc(options->count, sizeof *sheet.stations);
+    sheet.rows = (struct wear_row *)calloc(KAGUTIN_PUMPS * options->count + 1, sizeof *sheet.rows);
+    if (!sheet.stations || !sheet.rows)
+        wear_quit("out of memory");
+    for (i = 0; i < options->count; i++)
+        sheet.stations[i].path = options->images[i];
+    return sheet;
+}
+
+static void free_sheet(struct wear_sheet *sheet)
+{
+    size_t i;
+
+    for (i = 0; i < sheet->remark_count; i++) {
+        free(sheet->remarks[i].image);
+        free(sheet->remarks[i].text);
+    }
+    free(sheet->remarks);
+    free(sheet->stations);
+    free(sheet->rows);
+}
+
+int wear_main(int count, char **words)
+{
+    struct wear_options options = wear_read_options(count, words);
+    struct wear_sheet sheet = new_sheet(&options);
+    bool done;
+
+    wear_read_images(&sheet, &options);
+    sheet.asked_count = count_stations(&sheet);
+    if (options.since)
+        wear_compare(&sheet, options.since);
+    wear_services(&sheet, options.done);
+    wear_order(&sheet, options.all);
+    sort_remarks(&sheet);
+    done = complain_of(&sheet, !options.html && !options.csv && !options.print_csv);
+    if (sheet.read_count)
+        done = write_sheet(&sheet, &options) && done;
+    free_sheet(&sheet);
+    free(options.now);
+    return done ? WEAR_STATUS_DONE : WEAR_STATUS_TROUBLE;
+}
