@@ -9,8 +9,9 @@
 # make play       random histories on the reference implementation alone
 # make bench      instructions and times of each call against the reference implementation; other stores, if installed
 # make bench-docs tables of docs/PERFORMANCE.md and docs/ring-cost.svg from the last bench
-# make install    headers, libraries and pkg-config file, under DESTDIR and PREFIX; make uninstall takes them away
-# make inspect    the inspector, target/c/inspect; make station, quickstart, gauges, inflow, bands and wear the other programs
+# make install    program, manual pages, headers, libraries and pkg-config file, under DESTDIR and PREFIX; make uninstall takes them away
+# make kagutin    the program, target/c/kagutin; its subcommands inspect, wear, bands, gauges, inflow and station are links to it, too
+# make quickstart the example
 # make c-check    tests of the C side alone; make c-kills KILLS=N kills a process at work N times
 # make page       docs/page/index.html, a page that opens an image and lets anyone cut the power
 # make lint       layout and lint, as far as the tools are installed
@@ -39,7 +40,7 @@ ARCHIVES = $(ARCHIVE) $(GAUGES_ARCHIVE) $(INFLOW_ARCHIVE)
 # The toolchain that this repository was checked with, as 'rt version' prints it.
 RATTLE = rattle-kit-5b-plain logic 097e4c862dff5811
 
-all: station inspect quickstart gauges inflow bands wear
+all: kagutin station inspect quickstart gauges inflow bands wear
 
 help:
 	@sed -n '/^#/!q; s/^# //p' Makefile

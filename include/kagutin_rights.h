@@ -5,7 +5,9 @@
  * writer the list has four ranges of homes to store to and four to read. From
  * the commit of a list on a store elsewhere is answered 19, a read 20, also for
  * writer 0. 256 zeros, or fewer than 12 homes, is no list: every other home is
- * then open to all. docs/HOMES.md has the bytes.
+ * then open to all. docs/HOMES.md has the bytes. kgt_store refuses these homes
+ * (68) unless kgt_allow_list_stores was called: a block that was not meant for a
+ * list would be one, and lock all writers out.
  *
  *     static bool give_rights(void)                              // true: no power cut takes the list away
  *     {

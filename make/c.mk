@@ -1,9 +1,7 @@
 # The C side: header, driver, station, inspector. Included by the Makefile; from the root also
 # make -f make/c.mk LIB=path/to/libkagutin.a station; without LIB the library is built from dist/kagutin.c
 #
-# station, inspect, quickstart   programs in target/c
-# gauges                         two CSV files of levels compared; a program over libkagutin_gauges.a alone
-# inflow                         least and most inflow of a pit; a program over libkagutin_inflow.a alone
+# quickstart                     the example of README.md, in target/c
 # c-sanitize                     the same with address and undefined-behaviour sanitizers, in target/c/sanitize
 # c-check                        tests of all of these
 # c-quick                        the quick ones of them, without sanitizers
@@ -12,7 +10,7 @@
 # question-cost                  what question 2 costs; with LIB the archive it is a function of its own
 # c-kills                        longer: KILLS kills of a process at work, on this disk
 # c-dist                         headers and sources of the store object and its drivers into DIST
-# install, uninstall             headers, libraries and kagutin.pc, under DESTDIR and PREFIX
+# install, uninstall             headers, libraries, kagutin.pc, the program and its manual pages, under DESTDIR and PREFIX
 
 LIB ?= $(C_OUT)/libkagutin.a
 GAUGES_LIB ?= $(C_OUT)/libkagutin_gauges.a
@@ -32,9 +30,6 @@ C_HEADERS = $(wildcard include/*.h c/*/*.h tests/*/*.h)
 
 # Programs by their sources, from the root and without their ending.
 C_STORE = $(addprefix c/store/,store room usage rights batch) $(addprefix c/drivers/,memory file file_io fram)
-C_STATION_PARTS = main options power tasks wear rights calls event_calls refusals report station events book driver driver_file
-C_STATION = $(C_STATION_PARTS:%=c/station/%) c/common/rule $(C_STORE)
-C_INSPECT = $(addprefix c/inspect/,main image fate rights text json) c/common/rule
 C_DRIVER_CHECK = tests/programs/driver_check c/station/driver c/station/driver_file $(C_STORE)
 C_QUICKSTART = c/examples/quickstart $(C_STORE)
 C_STORE_CHECK = tests/store/store_check tests/common/play $(C_STORE)
@@ -44,23 +39,18 @@ C_RIGHTS_CHECK = tests/store/rights_check $(C_STORE)
 C_FILE_CHECK = tests/drivers/file_check tests/common/play $(C_STORE)
 C_KILL_CHECK = tests/drivers/kill_check tests/common/play $(C_STORE)
 C_FRAM_CHECK = tests/drivers/fram_check tests/common/play $(C_STORE)
+C_DUMP_CHECK = tests/drivers/dump_check tests/common/play c/common/homes c/common/copy c/common/image_file c/common/rule $(C_STORE)
 C_FORMAT_CHECK = tests/drivers/format_check tests/common/play $(C_STORE)
 C_REOPEN_CHECK = tests/drivers/reopen_check tests/common/play $(C_STORE)
 C_DISK_CHECK = tests/drivers/disk_check tests/common/play $(C_STORE)
-C_GAUGES = $(addprefix c/gauges/,main readings levels_plot) c/common/text_line c/common/page_file
 C_GAUGES_COST = tests/costs/gauges_cost
 C_RIGHTS_COST = tests/costs/rights_cost
 C_QUESTION_COST = tests/costs/question_cost
-C_INFLOW = c/inflow/main
-C_PROGRAMS = inspect quickstart driver_check store_check reserve_check round_check rights_check file_check kill_check fram_check format_check reopen_check disk_check gauges gauges_cost rights_cost question_cost inflow
+C_PROGRAMS = quickstart driver_check store_check reserve_check round_check rights_check file_check kill_check fram_check dump_check format_check reopen_check disk_check gauges_cost rights_cost question_cost
 
-.PHONY: station inspect quickstart gauges inflow c-sanitize c-check c-kills c-dist install uninstall c-clean
+.PHONY: quickstart c-sanitize c-check c-kills c-dist install uninstall c-clean
 
-station: $(C_OUT)/station
-inspect: $(C_OUT)/inspect
 quickstart: $(C_OUT)/quickstart
-gauges: $(C_OUT)/gauges
-inflow: $(C_OUT)/inflow
 c-sanitize: $(C_PROGRAMS:%=$(C_OUT)/sanitize/%)
 
 $(C_OBJECTS)/%.o: %.c $(C_HEADERS)
@@ -91,7 +81,6 @@ $(C_OUT)/sanitize/$(1): $(2:%=$(C_OUT)/sanitize/obj/%.o) $(3:$(C_OUT)/%=$(C_OUT)
 	$$(CC) $$(C_SANITIZE) $$(filter-out $(C_LINKED),$$^) $(if $(3),$$(C_LIBS)) -o $$@
 endef
 
-$(eval $(call C_PROGRAM,inspect,$(C_INSPECT),))
 $(eval $(call C_PROGRAM,quickstart,$(C_QUICKSTART),$(LIB)))
 $(eval $(call C_PROGRAM,driver_check,$(C_DRIVER_CHECK),$(LIB)))
 $(eval $(call C_PROGRAM,store_check,$(C_STORE_CHECK),$(LIB)))
@@ -101,14 +90,13 @@ $(eval $(call C_PROGRAM,rights_check,$(C_RIGHTS_CHECK),$(LIB)))
 $(eval $(call C_PROGRAM,file_check,$(C_FILE_CHECK),$(LIB)))
 $(eval $(call C_PROGRAM,kill_check,$(C_KILL_CHECK),$(LIB)))
 $(eval $(call C_PROGRAM,fram_check,$(C_FRAM_CHECK),$(LIB)))
+$(eval $(call C_PROGRAM,dump_check,$(C_DUMP_CHECK),$(LIB)))
 $(eval $(call C_PROGRAM,format_check,$(C_FORMAT_CHECK),$(LIB)))
 $(eval $(call C_PROGRAM,reopen_check,$(C_REOPEN_CHECK),$(LIB)))
 $(eval $(call C_PROGRAM,disk_check,$(C_DISK_CHECK),$(LIB)))
-$(eval $(call C_PROGRAM,gauges,$(C_GAUGES),$(GAUGES_LIB)))
 $(eval $(call C_PROGRAM,gauges_cost,$(C_GAUGES_COST),$(GAUGES_LIB)))
 $(eval $(call C_PROGRAM,rights_cost,$(C_RIGHTS_COST),$(LIB)))
 $(eval $(call C_PROGRAM,question_cost,$(C_QUESTION_COST),$(LIB)))
-$(eval $(call C_PROGRAM,inflow,$(C_INFLOW),$(INFLOW_LIB)))
 
 c-check: $(C_PROGRAMS:%=$(C_OUT)/%) c-sanitize
 	CC="$(CC)" LIB="$(LIB)" C_LIBS="$(C_LIBS)" sh tests/c-check.sh $(C_OUT)
@@ -171,6 +159,7 @@ uninstall:
 
 include make/port.mk
 include make/units.mk
+include make/program.mk
 
 # One archive in both builds: its name, its objects.
 define C_ARCHIVE

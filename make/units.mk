@@ -1,9 +1,6 @@
 # The units on the store: depth bands, pump hours, alarms. Included by make/c.mk.
 #
-# station       the simulated pump station, which keeps hours and alarms
-# bands         sets, shows and looks up the table of depth bands of an image
-# wear          the wear sheet of images: text, CSV or one HTML page
-# units-check   tests of these and of the calls on the store object; wear-check the wear sheet's alone
+# units-check   tests of the programs on them and of the calls on the store object; wear-check the wear sheet's alone
 # units-dist    makes dist/kagutin_UNIT.c again from the proved crates; units-dist-check fails if a byte of them differs
 # units-compare the calls against the reference implementation: histories with cuts, damaged images, homes, strips and lengths
 
@@ -33,11 +30,8 @@ units-dist-check:
 	    || { echo "$$file is not what the proved program gives; make units-dist makes it again" >&2; exit 1; }; done
 	@echo "dist: $(UNITS_DIST): what the proved program gives"
 
-C_UNITS = station bands wear units_check pump_image units_cost replies_check lock_check misuse_check
-C_BANDS = c/bands/main c/bands/table c/common/text_line c/common/copy c/store/units $(C_STORE)
-C_WEAR_PARTS = $(addprefix c/wear/,wear options images services last words text csv page page_parts) \
-    $(addprefix c/common/,page_file csv day text_line copy)
-C_WEAR = c/wear/main $(C_WEAR_PARTS) c/store/units $(C_STORE)
+C_UNITS = units_check pump_image units_cost replies_check lock_check misuse_check
+C_WEAR = $(addprefix c/wear/,wear options images services last words text csv page page_parts) $(addprefix c/common/,page_file csv day)
 C_UNITS_CHECK = tests/store/units_check c/store/units $(C_STORE)
 C_PUMP_IMAGE = tests/programs/pump_image c/store/units $(C_STORE)
 C_UNITS_COST = tests/costs/units_cost $(C_STORE)
@@ -46,15 +40,10 @@ C_LOCK_CHECK = tests/store/lock_check tests/common/operations c/store/units $(C_
 C_MISUSE_CHECK = tests/store/misuse_check tests/common/operations c/store/units $(C_STORE)
 C_UNITS_PROGRAMS = $(C_UNITS:%=$(C_OUT)/%) $(C_UNITS:%=$(C_OUT)/sanitize/%)
 
-.PHONY: bands wear units-check wear-check units-compare
+.PHONY: units-check wear-check units-compare
 
-bands: $(C_OUT)/bands
-wear: $(C_OUT)/wear
 c-sanitize: $(C_UNITS:%=$(C_OUT)/sanitize/%)
 
-$(eval $(call C_PROGRAM,station,$(C_STATION),$(UNITS_LIBS) $(LIB)))
-$(eval $(call C_PROGRAM,bands,$(C_BANDS),$(UNITS_LIBS) $(LIB)))
-$(eval $(call C_PROGRAM,wear,$(C_WEAR),$(UNITS_LIBS) $(LIB)))
 $(eval $(call C_PROGRAM,units_check,$(C_UNITS_CHECK),$(UNITS_LIBS) $(LIB)))
 $(eval $(call C_PROGRAM,pump_image,$(C_PUMP_IMAGE),$(UNITS_LIBS) $(LIB)))
 $(eval $(call C_PROGRAM,units_cost,$(C_UNITS_COST),$(UNITS_LIBS) $(LIB)))
@@ -90,7 +79,7 @@ install: install-units
 uninstall: uninstall-units
 c-dist: c-dist-units
 
-units-check: $(C_UNITS_PROGRAMS) $(C_OUT)/object_stack
+units-check: $(C_UNITS_PROGRAMS) $(C_OUT)/object_stack program
 	CC="$(CC)" LIB="$(LIB)" sh tests/programs/units-check.sh $(C_OUT)
 	sh tests/programs/wear-check.sh $(C_OUT)
 

@@ -27,7 +27,7 @@ mkdir -p "$work" "$(dirname "$page")"
 # No host header is seen: the compiler's own, those of page/wasm and the repository's. Names and paths do not reach the file.
 flags="--target=wasm32 -std=c99 -Os -nostdinc -isystem $("$clang" -print-resource-dir)/include
     -Ipage/wasm/include -Ipage/wasm -Iinclude -Ic -Wall -Wextra -pedantic -Wshadow -Wconversion -fvisibility=hidden
-    -Dmain=inspect_main $(for source in $sources; do echo "-I${source%/*}"; done | sort -u)"
+    $(for source in $sources; do echo "-I${source%/*}"; done | sort -u)"
 link="-nostdlib -Wl,--no-entry -Wl,--strip-all -Wl,-z,stack-size=131072"
 
 # Without -fno-builtin a memcpy in a loop would become a call of itself.

@@ -6,7 +6,7 @@
 PAGE = docs/page/index.html
 # The proved program's C, and the inspector's own sources: what they say is what the page says.
 PAGE_PROVED = dist/kagutin.c dist/kagutin_bands.c dist/kagutin_hours.c dist/kagutin_alarms.c
-PAGE_INSPECTOR = $(sort $(wildcard c/inspect/*.c)) c/common/rule.c c/drivers/fram.c
+PAGE_INSPECTOR = $(sort $(wildcard c/inspect/*.c)) $(addprefix c/common/,command.c image_file.c records.c rule.c) c/drivers/fram.c
 
 .PHONY: page page-check
 

@@ -90,6 +90,7 @@ gives 0 "store: the list of rights, its ranges and the moment it counts" "$san/r
 gives 0 "files: written and mapped, stopped inside writes, locks, failures" "$san/file_check" "$fast"
 gives 0 "FRAM: power gone after every byte, at work and inside a format" "$out/fram_check" 1
 gives 0 "FRAM: under sanitizers" "$san/fram_check" 13
+gives 0 "FRAM: dumps by the tools' readers, against the driver" "$san/dump_check" "$fast" 300
 gives 0 "format: over a damaged header, cut with every choice of words or blocks" "$out/format_check" 1
 gives 0 "format: the same under sanitizers" "$san/format_check" 5
 gives 0 "reopening: a driver that fails at each call in turn, any choice landed" "$out/reopen_check" 20000
@@ -160,9 +161,9 @@ says "from 4 to" 2 "station --groups 3" "$san/station" --groups 3
 says "from 4 to" 2 "station --groups 12x" "$san/station" --groups 12x
 says "from 30 to" 2 "station --homes 65536" "$san/station" --homes 65536
 says "goes with --file" 2 "station --keep-cut without a file" "$san/station" --keep-cut
-says "no image" 2 "inspect without an image" "$san/inspect"
+says "an image is expected" 2 "inspect without an image" "$san/inspect"
 says "unknown option" 2 "inspect --frob" "$san/inspect" --frob x
-says "takes a number" 2 "inspect --groups without a number" "$san/inspect" "$tmp/none" --groups
+says "takes a value" 2 "inspect --groups without a number" "$san/inspect" "$tmp/none" --groups
 says "from 4 to" 2 "inspect --groups 1025" "$san/inspect" --groups 1025 x
 says "one image" 2 "inspect with two images" "$san/inspect" a b
 says "cannot be opened" 3 "inspect of a missing file" "$san/inspect" "$tmp/none"
@@ -316,6 +317,10 @@ gives 0 "run it" "$tmp/from-dist" "$tmp/from-dist.img"
 
 # --- install, and a program outside built against it ---
 gives 0 "make install" "${MAKE:-make}" -f make/c.mk LIB="$lib" C_LIBS="${C_LIBS:-}" DESTDIR="$tmp/root" PREFIX=/opt/kagutin install
+gives 0 "the installed program" "$tmp/root/opt/kagutin/bin/kagutin" make "$tmp/installed.img" 4 30
+gives 0 "by an older name" "$tmp/root/opt/kagutin/bin/inspect" "$tmp/installed.img"
+[ -r "$tmp/root/opt/kagutin/share/man/man1/kagutin-bands.1" ] && [ -r "$tmp/root/opt/kagutin/share/bash-completion/completions/bands" ]
+report $? "manual pages and completion are there"
 if command -v pkg-config > /dev/null; then
     cp c/examples/quickstart.c "$tmp/outside.c"
     flags=$(PKG_CONFIG_PATH="$tmp/root/opt/kagutin/lib/pkgconfig" PKG_CONFIG_SYSROOT_DIR="$tmp/root" pkg-config --cflags --libs kagutin)
@@ -325,7 +330,7 @@ else
     echo "skipped the build outside: no pkg-config"
 fi
 gives 0 "make uninstall" "${MAKE:-make}" -f make/c.mk DESTDIR="$tmp/root" PREFIX=/opt/kagutin uninstall
-[ -z "$(find "$tmp/root" -type f)" ]; report $? "and nothing is left"
+[ -z "$(find "$tmp/root" ! -type d)" ]; report $? "and nothing is left"
 
 echo "c-check: $passed passed, $failed failed"
 [ $failed -eq 0 ]

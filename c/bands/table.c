@@ -7,6 +7,7 @@
 #include <stdlib.h>
 #include <string.h>
 
+#include "common/text_file.h"
 #include "common/text_line.h"
 
 #define LINE_SIZE 256
@@ -105,13 +106,14 @@ static bool read_rows(struct table *table, FILE *file)
 
 bool table_read(struct table *table, const char *path)
 {
-    FILE *file = fopen(path, "r");
+    FILE *file;
     bool done;
 
     memset(table, 0, sizeof *table);
     table->path = path;
+    file = text_file_open(path, table->message, sizeof table->message);
     if (!file)
-        return say(table, "%s: cannot be opened: %s", path, strerror(errno));
+        return false;
     done = read_rows(table, file);
     fclose(file);
     return done;

@@ -1,17 +1,12 @@
-/* A store opened on a copy of an image: its driver loads what was read, and drops what is written. */
-#define _DEFAULT_SOURCE 1
-
+/* A store opened on a copy of an image or a dump: its driver loads what was read, and drops what is written. */
 #include "copy.h"
 
-#include <errno.h>
-#include <fcntl.h>
 #include <stdarg.h>
 #include <stdio.h>
 #include <stdlib.h>
 #include <string.h>
-#include <sys/file.h>
-#include <sys/stat.h>
-#include <unistd.h>
+
+#include "image_file.h"
 
 static bool say(struct copy *copy, const char *format, ...)
 {
@@ -43,47 +38,18 @@ static int pass(void *context)
     return 0;
 }
 
-/* Reads all of a file of this size, and not a byte less. */
-static bool read_all(struct copy *copy, const char *path, int file, size_t size)
-{
-    size_t done = 0;
-
-    copy->image = (uint8_t *)malloc(size);
-    if (!copy->image)
-        return say(copy, "%s: out of memory", path);
-    while (done < size) {
-        ssize_t count = read(file, copy->image + done, size - done);
-
-        if (count < 0 && errno == EINTR)
-            continue;
-        if (count <= 0)
-            return say(copy, "%s: cannot be read: %s", path, count ? strerror(errno) : "it has shrunk");
-        done += (size_t)count;
-    }
-    return true;
-}
-
 static size_t number16(const uint8_t *bytes)
 {
     return (size_t)bytes[0] | (size_t)bytes[1] << 8;
 }
 
-static bool read_image(struct copy *copy, const char *path, int file)
+/* Finds the shape, and holds the size against it; a dump may have more behind. */
+static bool check_shape(struct copy *copy, const char *path, const struct image_file *file)
 {
-    struct stat status;
     size_t size;
 
-    if (fstat(file, &status) != 0)
-        return say(copy, "%s: cannot be looked at: %s", path, strerror(errno));
-    if (!S_ISREG(status.st_mode))
-        return say(copy, "%s: not a regular file", path);
-    if (flock(file, LOCK_SH | LOCK_NB) != 0 && errno == EWOULDBLOCK)
-        return say(copy, "%s: in use", path);
-    size = KGT_LOG_SIZE(KAGUTIN_MAX_GROUPS) + KGT_HOMES_SIZE(KAGUTIN_MAX_HOMES);
-    if (status.st_size < KAGUTIN_HEADER_SIZE || (uint64_t)status.st_size > size)
-        return say(copy, "%s: no image: it has %lld bytes", path, (long long)status.st_size);
-    if (!read_all(copy, path, file, (size_t)status.st_size))
-        return false;
+    if (file->size < KAGUTIN_HEADER_SIZE)
+        return say(copy, "%s: no image: it has %llu bytes", path, (unsigned long long)file->size);
     if (copy->image[0] == 0x50 && copy->image[1] == 0x48)
         return say(copy, "%s: an image of an older format: the header's mark is 50 48, not 50 54", path);
     if (copy->image[0] != 0x50 || copy->image[1] != 0x54)
@@ -91,8 +57,8 @@ static bool read_image(struct copy *copy, const char *path, int file)
     copy->groups = number16(copy->image + 8);
     copy->homes = number16(copy->image + 10);
     size = KGT_LOG_SIZE(copy->groups) + KGT_HOMES_SIZE(copy->homes);
-    if ((size_t)status.st_size != size)
-        return say(copy, "%s: %lld bytes; %lu groups and %lu homes take %lu", path, (long long)status.st_size,
+    if (file->dump ? file->size < size : file->size != size)
+        return say(copy, "%s: %llu bytes; %lu groups and %lu homes take %lu", path, (unsigned long long)file->size,
                    (unsigned long)copy->groups, (unsigned long)copy->homes, (unsigned long)size);
     return true;
 }
@@ -117,15 +83,13 @@ static bool open_store(struct copy *copy, const char *path)
 
 bool copy_open(struct copy *copy, const char *path)
 {
-    int file = open(path, O_RDONLY | O_NONBLOCK | O_CLOEXEC);
-    bool done;
+    struct image_file file;
 
     memset(copy, 0, sizeof *copy);
-    if (file < 0)
-        return say(copy, "%s: cannot be opened: %s", path, strerror(errno));
-    done = read_image(copy, path, file);
-    close(file);
-    if (done && open_store(copy, path))
+    if (!image_file_read(&file, path, 0, IMAGE_FILE_FREE))
+        return say(copy, "%s", file.message);
+    copy->image = file.bytes;
+    if (check_shape(copy, path, &file) && open_store(copy, path))
         return true;
     copy_close(copy);
     return false;

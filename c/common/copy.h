@@ -1,4 +1,4 @@
-/* A store opened on a copy of an image: the file is read, and never written. */
+/* A store opened on a copy of an image, or of a raw dump of a serial FRAM: the file is read, and never written. */
 #ifndef COMMON_COPY_H
 #define COMMON_COPY_H
 
@@ -12,7 +12,7 @@ struct copy {
     char message[320];
 };
 
-/* Reads the image and opens a store on the copy; false leaves a message. */
+/* Reads the file and opens a store on the copy; false leaves a message. */
 bool copy_open(struct copy *copy, const char *path);
 
 void copy_close(struct copy *copy);

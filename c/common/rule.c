@@ -67,6 +67,8 @@ static const char *tag_fault(const struct rule_log *log, uint64_t position, uint
 {
     if (word >> 58)
         return "one of bits 58 to 63 is set";
+    if (log->older && word >> 57)
+        return "bit 57 is set, which the older format had not";
     if (!(word & 2) && (word >> 27 & 0x3FFFFFF))
         return "not closing, but one of bits 27 to 52 is set";
     if (tag->home >= log->homes)
@@ -101,13 +103,15 @@ static uint64_t tag_word(const struct rule_log *log, uint64_t position)
 void rule_block(const struct rule_log *log, uint64_t position, uint8_t *block)
 {
     memcpy(block, data_block(log, position), 64);
+    if (log->older)
+        return;
     block[63] = (uint8_t)((block[63] & 0x7F) | (tag_word(log, position) >> 57 & 1) << 7);
 }
 
 /* Is the turn bit of the block at a position that of its group's round of the ring? */
 static bool turn_fits(const struct rule_log *log, uint64_t position)
 {
-    return data_block(log, position)[63] >> 7 == position / 7 / log->groups % 2;
+    return log->older || data_block(log, position)[63] >> 7 == position / 7 / log->groups % 2;
 }
 
 struct tag rule_tag(const struct rule_log *log, uint64_t position)

@@ -15,6 +15,7 @@ struct rule_log {
     const uint8_t *bytes; /* 64 + 512 x groups of them */
     size_t groups, homes;
     uint64_t start;
+    bool older; /* the format before turn bits: groups landed whole, and a data block is the entry's own */
 };
 
 enum slot_kind {

@@ -7,6 +7,7 @@
 #include <stdlib.h>
 #include <string.h>
 
+#include "common/text_file.h"
 #include "common/text_line.h"
 
 #define LINE_SIZE 256
@@ -104,8 +105,6 @@ static bool read_rows(struct source *source, FILE *file, struct readings *readin
         source->line++;
         if (read != TEXT_LINE)
             return refuse(source, read == TEXT_LONG ? "the line is too long for a row" : "a zero byte, no text");
-        if (source->line == 1 && strncmp(line, "\xef\xbb\xbf", 3) == 0)
-            text += 3;
         text = past_blanks(text);
         if (*text == '\0' || *text == '#')
             continue;
@@ -123,13 +122,13 @@ static bool read_rows(struct source *source, FILE *file, struct readings *readin
 bool readings_load(struct readings *readings, const char *path, char *trouble, size_t trouble_size)
 {
     struct source source = {path, 0, trouble, trouble_size};
-    FILE *file = fopen(path, "rb");
+    FILE *file = text_file_open(path, trouble, trouble_size);
     bool done;
 
     memset(readings, 0, sizeof *readings);
     readings->path = path;
     if (!file)
-        return refuse(&source, "cannot be opened: %s", strerror(errno));
+        return false;
     done = read_rows(&source, file, readings);
     fclose(file);
     return done;

@@ -1,15 +1,13 @@
 /* Prints the least and the most inflow of a pit from its float switches. */
 #include <errno.h>
 #include <inttypes.h>
-#include <stdarg.h>
 #include <stdio.h>
 #include <stdlib.h>
 #include <string.h>
 
-#include "kagutin.h"
+#include "common/command.h"
+#include "kagutin/programs.h"
 #include "kagutin_inflow.h"
-
-enum { STATUS_DONE = 0, STATUS_REFUSED = 1, STATUS_USAGE = 2, STATUS_TROUBLE = 3 };
 
 struct range {
     uint64_t low, high;
@@ -20,27 +18,16 @@ struct options {
     struct range before, after, pumped;
 };
 
-static const char usage[] =
-    "usage: inflow --area CM2 [--pumped VOLUME] [-h, --help] [--version] BEFORE AFTER\n"
+static const char help[] =
+    "usage: kagutin inflow --area CM2 [--pumped VOLUME] BEFORE AFTER\n"
     "Prints the least and the most inflow of a pit between two moments: area × change of depth + pumped.\n"
     "  BEFORE, AFTER      the depth at both moments in mm, 0 to 65535: LOW..HIGH, such as two floats give, or one value\n"
     "  --area CM2         the pit's area in cm², 1 to 1000000\n"
     "  --pumped VOLUME    what was pumped in between: LOW..HIGH or one value, in cm² × mm, 0 to 4294967295 (0);\n"
     "                     10000 are one litre\n"
+    "  -h, --help, --version\n"
     "Status: 0 done, 1 a range has its low end above its high end, or the area is out of range, 2 wrong options,\n"
     "3 the output cannot be written.\n";
-
-static void quit(int status, const char *format, ...)
-{
-    va_list arguments;
-
-    fputs("inflow: ", stderr);
-    va_start(arguments, format);
-    vfprintf(stderr, format, arguments);
-    va_end(arguments);
-    fputs(status == STATUS_USAGE ? "\nTry inflow --help.\n" : "\n", stderr);
-    exit(status);
-}
 
 /* One whole number from 0 to `most`, up to where `end` then points. */
 static uint64_t read_number(const char *what, const char *text, const char **end, uint64_t most)
@@ -51,7 +38,7 @@ static uint64_t read_number(const char *what, const char *text, const char **end
     errno = 0;
     number = strtoull(text, &rest, 10);
     if (text[0] < '0' || text[0] > '9' || errno || number > most)
-        quit(STATUS_USAGE, "%s: whole numbers from 0 to %" PRIu64 " are expected, not '%s'", what, most, text);
+        command_quit(STATUS_USAGE, "%s: whole numbers from 0 to %" PRIu64 " are expected, not '%s'", what, most, text);
     *end = rest;
     return number;
 }
@@ -65,7 +52,7 @@ static struct range read_range(const char *what, const char *text, uint64_t most
     if (strncmp(end, "..", 2) == 0)
         range.high = read_number(what, end + 2, &end, most);
     if (*end)
-        quit(STATUS_USAGE, "%s: LOW..HIGH or one value is expected, not '%s'", what, text);
+        command_quit(STATUS_USAGE, "%s: LOW..HIGH or one value is expected, not '%s'", what, text);
     return range;
 }
 
@@ -77,21 +64,8 @@ static uint64_t read_area(const char *text)
     errno = 0;
     area = strtoull(text, &end, 10);
     if (text[0] < '0' || text[0] > '9' || *end || errno)
-        quit(STATUS_USAGE, "--area: a whole number from 1 to %d is expected, not '%s'", KAGUTIN_MAX_AREA, text);
+        command_quit(STATUS_USAGE, "--area: a whole number from 1 to %d is expected, not '%s'", KAGUTIN_MAX_AREA, text);
     return area;
-}
-
-static const char *value_of(const char *name, const char *text)
-{
-    if (!text)
-        quit(STATUS_USAGE, "%s takes a value", name);
-    return text;
-}
-
-static void print_and_end(const char *text)
-{
-    fputs(text, stdout);
-    exit(fflush(stdout) == 0 ? STATUS_DONE : STATUS_TROUBLE);
 }
 
 static struct options read_options(int count, char **words)
@@ -101,35 +75,31 @@ static struct options read_options(int count, char **words)
     unsigned has_area = 0;
 
     for (i = 1; i < count; i++) {
-        if (strcmp(words[i], "--help") == 0 || strcmp(words[i], "-h") == 0)
-            print_and_end(usage);
-        if (strcmp(words[i], "--version") == 0)
-            print_and_end("inflow (Kagutin) " KAGUTIN_VERSION "\n");
         if (strcmp(words[i], "--area") == 0) {
             i++;
-            options.area = read_area(value_of("--area", words[i]));
+            options.area = read_area(command_value("--area", words[i]));
             has_area = 1;
         } else if (strcmp(words[i], "--pumped") == 0) {
             i++;
-            options.pumped = read_range("--pumped", value_of("--pumped", words[i]), UINT32_MAX);
-        } else if (words[i][0] == '-') {
-            quit(STATUS_USAGE, "unknown option '%s'", words[i]);
+            options.pumped = read_range("--pumped", command_value("--pumped", words[i]), UINT32_MAX);
+        } else if (command_option(words[i])) {
+            continue;
         } else if (depths == 2) {
-            quit(STATUS_USAGE, "two depth ranges are expected; '%s' is a third", words[i]);
+            command_quit(STATUS_USAGE, "two depth ranges are expected; '%s' is a third", words[i]);
         } else {
             *(depths ? &options.after : &options.before) = read_range(depths ? "AFTER" : "BEFORE", words[i], UINT16_MAX);
             depths++;
         }
     }
     if (!has_area || depths != 2)
-        quit(STATUS_USAGE, "%s", has_area ? "two depth ranges are expected, before and after" : "the pit's area is missing: --area");
+        command_quit(STATUS_USAGE, "%s", has_area ? "two depth ranges are expected, before and after" : "the pit's area is missing: --area");
     return options;
 }
 
 static void refuse_range(const char *what, struct range range)
 {
     if (range.low > range.high)
-        quit(STATUS_REFUSED, "%s: the low end %" PRIu64 " is above the high end %" PRIu64, what, range.low, range.high);
+        command_quit(STATUS_REFUSED, "%s: the low end %" PRIu64 " is above the high end %" PRIu64, what, range.low, range.high);
 }
 
 /* Litres with four digits behind the point: a volume exactly. */
@@ -143,24 +113,26 @@ static void print_volume(const char *name, int64_t volume)
     printf("%-5s inflow %14s litres %14" PRId64 " cm² × mm\n", name, litres, volume);
 }
 
-int main(int count, char **words)
+int inflow_main(int count, char **words)
 {
-    struct options options = read_options(count, words);
-    struct kagutin_inflow_bounds bounds =
+    struct kagutin_inflow_bounds bounds;
+    struct options options;
+
+    command_start("inflow", help);
+    options = read_options(count, words);
+    bounds =
         kagutin_inflow(options.area, (uint16_t)options.before.low, (uint16_t)options.before.high, (uint16_t)options.after.low,
                        (uint16_t)options.after.high, (uint32_t)options.pumped.low, (uint32_t)options.pumped.high);
 
     if (bounds.code) {
         if (options.area == 0 || options.area > KAGUTIN_MAX_AREA)
-            quit(STATUS_REFUSED, "the area is from 1 to %d cm², not %" PRIu64, KAGUTIN_MAX_AREA, options.area);
+            command_quit(STATUS_REFUSED, "the area is from 1 to %d cm², not %" PRIu64, KAGUTIN_MAX_AREA, options.area);
         refuse_range("depth before", options.before);
         refuse_range("depth after", options.after);
         refuse_range("pumped volume", options.pumped);
-        quit(STATUS_REFUSED, "the call answers %" PRIu64, bounds.code);
+        command_quit(STATUS_REFUSED, "the call answers %" PRIu64, bounds.code);
     }
     print_volume("least", bounds.least);
     print_volume("most", bounds.most);
-    if (fflush(stdout) != 0 || ferror(stdout))
-        quit(STATUS_TROUBLE, "cannot write the output");
-    return STATUS_DONE;
+    return command_end(STATUS_DONE);
 }

@@ -1,19 +1,15 @@
 /* An image file: reading it, finding its shape, noting what is damaged. */
 #include "inspect.h"
 
-#include <errno.h>
-#include <fcntl.h>
 #include <stdarg.h>
 #include <stdio.h>
-#include <stdlib.h>
 #include <string.h>
-#include <sys/stat.h>
-#include <unistd.h>
+
+#include "common/image_file.h"
 
 #define HEADER 64u
 #define GROUP 512u
 #define BLOCK 64u
-#define MAX_IMAGE (HEADER + GROUP * MAX_GROUPS + BLOCK * MAX_HOMES)
 
 void image_note(struct image *image, const char *format, ...)
 {
@@ -28,44 +24,26 @@ void image_note(struct image *image, const char *format, ...)
     va_end(arguments);
 }
 
-/* As much of the file as the largest image has. */
-static void read_bytes(struct image *image, int file)
-{
-    size_t most = image->file_size < MAX_IMAGE ? (size_t)image->file_size : MAX_IMAGE, done = 0;
-
-    while (done < most) {
-        ssize_t count = read(file, image->bytes + done, most - done);
-
-        if (count < 0 && errno == EINTR)
-            continue;
-        if (count < 0)
-            inspect_quit(STATUS_TROUBLE, "%s: cannot be read: %s", image->path, strerror(errno));
-        if (count == 0) { /* it has shrunk meanwhile */
-            image->file_size = done;
-            break;
-        }
-        done += (size_t)count;
-    }
-}
-
 void image_read(struct image *image, const char *path)
 {
-    int file = open(path, O_RDONLY | O_NONBLOCK); /* does not wait at a FIFO */
-    struct stat status;
+    struct image_file file;
 
+    if (!image_file_read(&file, path, 0, IMAGE_FILE_IN_USE))
+        inspect_quit(STATUS_TROUBLE, "%s", file.message);
     image->path = path;
-    if (file < 0 || fstat(file, &status) != 0)
-        inspect_quit(STATUS_TROUBLE, "%s: cannot be opened: %s", path, strerror(errno));
-    if (!S_ISREG(status.st_mode))
-        inspect_quit(STATUS_TROUBLE, "%s: not a regular file", path);
-    image->bytes = calloc(1, MAX_IMAGE);
-    if (!image->bytes)
-        inspect_quit(STATUS_TROUBLE, "out of memory");
-    image->file_size = (uint64_t)status.st_size;
-    read_bytes(image, file);
-    close(file);
+    image->bytes = file.bytes;
+    image->file_size = file.size;
+    image->dump = file.dump;
+    image->copy = file.copy;
+    image->other_whole = file.other_whole;
     if (image->file_size == 0)
         inspect_quit(STATUS_DAMAGED, "%s: the file is empty", path);
+}
+
+/* The format before turn bits; all else in its header is as now. */
+static bool is_older(const struct image *image)
+{
+    return image->file_size >= HEADER && image->bytes[0] == 0x50 && image->bytes[1] == 0x48;
 }
 
 /* Notes what is wrong with the header. */
@@ -82,7 +60,7 @@ void image_check_header(struct image *image)
         image_note(image, "header: the file ends inside it, after %lu bytes", (unsigned long)image->file_size);
     else if (set == 0)
         image_note(image, "header: zeros, a format that has not finished");
-    else if (header[0] == 0x50 && header[1] == 0x48)
+    else if (is_older(image))
         image_note(image, "header: mark 50 48, an older format, whose groups landed whole; not 50 54");
     else if (!image->mark_fits)
         image_note(image, "header: mark %02X %02X, not 50 54", header[0], header[1]);
@@ -119,7 +97,7 @@ static uint64_t guess_start(const struct image *image)
 void image_choose_shape(struct image *image, const struct options *options)
 {
     uint64_t groups = rule_number(image->bytes + 8, 2), homes = rule_number(image->bytes + 10, 2);
-    bool known = image->mark_fits && groups >= 4 && groups <= MAX_GROUPS;
+    bool known = (image->mark_fits || is_older(image)) && groups >= 4 && groups <= MAX_GROUPS;
 
     if (options->groups != NOT_GIVEN) {
         known = known && groups == options->groups;
@@ -142,13 +120,14 @@ void image_choose_shape(struct image *image, const struct options *options)
     image->log.bytes = image->bytes;
     image->log.groups = (size_t)groups;
     image->log.homes = (size_t)homes;
+    image->log.older = is_older(image);
     image->image_size = (size_t)(HEADER + GROUP * groups + BLOCK * homes);
     image->log.start = rule_number(image->bytes + 2, 6);
     image->start_from = "from the header";
     if (options->start != NOT_GIVEN) {
         image->log.start = options->start;
         image->start_from = "as given";
-    } else if (!image->mark_fits || image->log.start > MAX_START) {
+    } else if (!(image->mark_fits || is_older(image)) || image->log.start > MAX_START) {
         image->log.start = guess_start(image);
         image->start_from = "guessed from the highest group";
     }
@@ -157,6 +136,18 @@ void image_choose_shape(struct image *image, const struct options *options)
 bool image_worn_out(const struct image *image)
 {
     return image->log.start + image->log.groups > MAX_START;
+}
+
+size_t image_slots(const struct image *image)
+{
+    uint64_t slots = image->file_size > HEADER ? (image->file_size - HEADER + GROUP - 1) / GROUP : 0;
+
+    return slots < image->log.groups ? (size_t)slots : image->log.groups;
+}
+
+bool image_has_home(const struct image *image, const struct fates *fates, size_t home)
+{
+    return fates->newest[home] || image->file_size > HEADER + GROUP * image->log.groups + BLOCK * home;
 }
 
 const char *image_hole(const struct image *image, size_t slot)
@@ -199,7 +190,7 @@ static void check_slots(struct image *image)
 
 static void check_size(struct image *image)
 {
-    if (image->file_size != image->image_size)
+    if (image->dump ? image->file_size < image->image_size : image->file_size != image->image_size)
         image_note(image, "file: %llu bytes, %s than the %lu of %lu groups and %lu homes",
                    (unsigned long long)image->file_size, image->file_size < image->image_size ? "fewer" : "more",
                    (unsigned long)image->image_size, (unsigned long)image->log.groups,

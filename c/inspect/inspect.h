@@ -2,6 +2,7 @@
 #ifndef INSPECT_H
 #define INSPECT_H
 
+#include "common/command.h"
 #include "common/rule.h"
 
 #define MAX_NOTES 200
@@ -10,7 +11,7 @@
 #define MAX_START ((uint64_t)1 << 47)
 #define NOT_GIVEN UINT64_MAX
 
-enum { STATUS_SOUND = 0, STATUS_DAMAGED = 1, STATUS_USAGE = 2, STATUS_TROUBLE = 3 };
+enum { STATUS_DAMAGED = STATUS_REFUSED };
 
 struct options {
     const char *path;
@@ -22,6 +23,9 @@ struct image {
     const char *path;
     uint8_t *bytes;     /* both areas; what the file lacks is zeros */
     uint64_t file_size; /* of the whole file */
+    bool dump;          /* of a serial FRAM: the header stands in two copies */
+    unsigned copy;      /* of a dump: the copy that counts */
+    bool other_whole;
     bool mark_fits, header_fits;
     struct rule_log log;
     const char *start_from; /* where the start was taken from */
@@ -77,6 +81,14 @@ const char *fate_text(enum fate fate);
 
 void print_text(const struct image *image, const struct rule_walk *walk, const struct fates *fates);
 void print_json(const struct image *image, const struct rule_walk *walk, const struct fates *fates);
+
+/* Depth bands, pumps and alarms, as an opening leaves them; what lies there and is none of them is marked. */
+void text_units(const struct image *image, const struct fates *fates);
+void json_units(const struct image *image, const struct fates *fates);
+
+/* Slots and homes that the file has bytes of; a home may also get its block from the log. */
+size_t image_slots(const struct image *image);
+bool image_has_home(const struct image *image, const struct fates *fates, size_t home);
 
 /* The list of rights, as an opening leaves it, or why there is none. */
 void text_rights(const struct image *image, const struct fates *fates);

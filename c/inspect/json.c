@@ -134,7 +134,7 @@ static void json_commit(const struct image *image, const struct rule_commit *com
 }
 
 /* The value that an opening gives a home; text: each byte that is no printable ASCII is a dot. */
-static void json_home(const struct image *image, const struct fates *fates, size_t home)
+static void json_home(const struct image *image, const struct fates *fates, size_t home, bool *comma)
 {
     uint8_t block[64];
     char text[65];
@@ -145,7 +145,8 @@ static void json_home(const struct image *image, const struct fates *fates, size
     for (i = 0; i < 64; i++)
         text[i] = block[i] >= 0x20 && block[i] < 0x7f ? (char)block[i] : '.';
     text[64] = '\0';
-    printf("%s\n  {\"home\":%lu,\"from\":", home ? "," : "", (unsigned long)home);
+    printf("%s\n  {\"home\":%lu,\"from\":", *comma ? "," : "", (unsigned long)home);
+    *comma = true;
     if (fates->newest[home])
         printf("%llu", (number)(fates->newest[home] - 1));
     else
@@ -161,14 +162,16 @@ void print_json(const struct image *image, const struct rule_walk *walk, const s
 {
     static const char *const stops[] = {"end", "incomplete", "link"};
     const struct rule_log *log = &image->log;
+    bool comma = false;
     char stop[200];
     size_t i;
 
     fputs("{\"image\":", stdout);
     json_string(image->path);
-    printf(",\"bytes\":%llu,\n \"header\":{\"fits\":%s,\"start\":%llu,\"start_from\":\"%s\",\"groups\":%lu,\"homes\":%lu,"
+    printf(",\"bytes\":%llu,\"dump\":%s,\n \"header\":{\"fits\":%s,\"start\":%llu,\"start_from\":\"%s\",\"groups\":%lu,\"homes\":%lu,"
            "\"worn_out\":%s},\n \"places\":{\"committed\":%lu,\"others\":%lu,\"torn\":%lu,\"unused\":%lu},\n \"slots\":[",
-           (number)image->file_size, image->header_fits ? "true" : "false",
+           (number)image->file_size, image->dump ? image->copy ? "{\"header_at\":32}" : "{\"header_at\":0}" : "null",
+           image->header_fits ? "true" : "false",
            (number)log->start, image->start_from, (unsigned long)log->groups, (unsigned long)log->homes,
            image_worn_out(image) ? "true" : "false", (unsigned long)fates->committed, (unsigned long)fates->others,
            (unsigned long)fates->torn,
@@ -188,8 +191,11 @@ void print_json(const struct image *image, const struct rule_walk *walk, const s
     json_string(stop);
     printf(",\"unreached\":%lu},\n \"homes\":[", (unsigned long)walk->unreached);
     for (i = 0; i < log->homes; i++)
-        json_home(image, fates, i);
-    fputs("],\n \"rights\":", stdout);
+        if (image_has_home(image, fates, i))
+            json_home(image, fates, i, &comma);
+    fputs("],\n ", stdout);
+    json_units(image, fates);
+    fputs(",\n \"rights\":", stdout);
     json_rights(image, fates);
     fputs(",\n \"damage\":[", stdout);
     for (i = 0; i < image->note_count; i++) {

@@ -131,6 +131,10 @@ void print_text(const struct image *image, const struct rule_walk *walk, const s
     size_t i;
 
     printf("image   %s, %llu bytes\n", image->path, (number)image->file_size);
+    if (image->dump)
+        printf("dump    of a serial FRAM: the header's copy at %u counts, the one at %u is %s; %llu bytes behind are left out\n",
+               32 * image->copy, 32 * (1 - image->copy), image->other_whole ? "older" : "not whole",
+               (number)(image->file_size > image->image_size ? image->file_size - image->image_size : 0));
     printf("header  %s; start %llu %s, %lu groups, %lu homes\n", image->header_fits ? "fits" : "DAMAGED",
            (number)log->start, image->start_from, (unsigned long)log->groups, (unsigned long)log->homes);
     printf("live    groups %llu to %llu, positions %llu to %llu\n", (number)log->start,
@@ -141,8 +145,10 @@ void print_text(const struct image *image, const struct rule_walk *walk, const s
     printf("places  %lu: %lu with entries that come back, %lu with others, %lu torn, %lu unused\n\ngroups\n",
            (unsigned long)(7 * log->groups), (unsigned long)fates->committed, (unsigned long)fates->others,
            (unsigned long)fates->torn, (unsigned long)(7 * log->groups - fates->committed - fates->others - fates->torn));
-    for (i = 0; i < log->groups; i++)
+    for (i = 0; i < image_slots(image); i++)
         text_slot(image, fates, i);
+    if (i < log->groups)
+        printf("  slots %lu to %lu  cut off by the end of the file\n", (unsigned long)i, (unsigned long)log->groups - 1);
     printf("\ncommits (%lu)\n", (unsigned long)walk->commit_count);
     for (i = 0; i < walk->commit_count; i++)
         text_commit(image, &walk->commits[i], i);
@@ -151,6 +157,7 @@ void print_text(const struct image *image, const struct rule_walk *walk, const s
     if (walk->unreached)
         printf("closing entries after that: %lu\n", (unsigned long)walk->unreached);
     text_homes(image, fates);
+    text_units(image, fates);
     text_rights(image, fates);
     printf("\ndamage (%lu)\n", (unsigned long)image->note_count);
     for (i = 0; i < image->note_count; i++)

@@ -155,7 +155,7 @@ void call_formatted(struct station *station)
 void call_open(struct station *station)
 {
     struct driver *driver = &station->driver;
-    struct rule_log log = {driver->log, driver->groups, driver->homes, rule_number(driver->log + 2, 6)};
+    struct rule_log log = {driver->log, driver->groups, driver->homes, rule_number(driver->log + 2, 6), false};
     struct kagutin_reply reply;
     struct rule_walk walk;
     uint64_t start;

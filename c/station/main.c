@@ -4,18 +4,41 @@
  */
 #include <signal.h>
 #include <stdlib.h>
+#include <string.h>
 #include <unistd.h>
 
 #include "calls.h"
+#include "common/homes.h"
+#include "kagutin/programs.h"
 #include "options.h"
 #include "power.h"
 #include "report.h"
+#include "rights.h"
 #include "wear.h"
 
 static void on_persisted(void *context, const struct kgt_record *record, uint64_t number, unsigned blocks)
 {
     if (record->kind == KGT_GW && record->bytes[0]) /* a blank group is no row */
         book_persisted(context, number, blocks);
+}
+
+/* Has a station made this image? It then has the station's list of rights, or nothing in it yet. */
+static bool is_own(const struct station *station)
+{
+    struct kgt_rights mine;
+    struct homes homes;
+    size_t i = 0;
+    bool own;
+
+    if (!homes_read(&homes, station->path, 0, true))
+        return true; /* the opening says why */
+    rights_make(&mine);
+    own = memcmp(homes.blocks + kagutin_area_size(KGT_RIGHTS_HOME), mine.bytes, sizeof mine.bytes) == 0;
+    while (i < kagutin_area_size(homes.homes) && !homes.blocks[i])
+        i++;
+    own = own || i == kagutin_area_size(homes.homes);
+    homes_free(&homes);
+    return own;
 }
 
 /* A foreign image is refused before anything in it is changed. */
@@ -28,6 +51,8 @@ static void check_old_image(struct station *station)
     if ((station->groups && station->groups != driver->groups)
         || (station->homes && station->homes != driver->homes))
         power_refuse_image(station, "it has other numbers of groups and homes; leave --groups and --homes out");
+    if (!station->go_on && !is_own(station))
+        power_refuse_image(station, "it holds something, and no station's list of rights; with --go-on its homes are written over");
 }
 
 static void attach_image(struct station *station)
@@ -67,7 +92,7 @@ static int status_of(const struct station *station)
     return station_interrupted() ? EXIT_INTERRUPTED : EXIT_FINE;
 }
 
-int main(int count, char **words)
+int station_main(int count, char **words)
 {
     static struct station station;
 

@@ -2,6 +2,8 @@
 
 #include <string.h>
 
+#include "kagutin_bands.h"
+
 enum { ALL = 65535 };
 
 /* To store and to read. */
@@ -20,6 +22,7 @@ void rights_make(struct kgt_rights *list)
         allow(list, task, STATION_OWN(task), 1);
         allow(list, task, STATION_NOTES, ALL - STATION_NOTES);
     }
+    allow(list, SWITCHING, KAGUTIN_BANDS_HOME, KAGUTIN_BANDS_HOMES);
     allow(list, RUN_HOURS, KAGUTIN_PUMP_HOME, KAGUTIN_PUMPS);
     allow(list, ALARMS, KAGUTIN_ALARMS_HOME, KAGUTIN_ALARMS_HOMES);
     kgt_rights_allow_read(list, SERVICE, 0, ALL);

@@ -5,8 +5,9 @@
 #include "kagutin_rights.h"
 #include "station.h"
 
-/* The tasks that make the events of pumps and of alarms; the one that shows both, which may read every home. */
-enum { RUN_HOURS = 2, ALARMS = 3, SERVICE = 7 };
+/* The task that switches pumps by the table of depth bands, those that make the events of pumps and of alarms, and the one
+ * that shows all of it, which may read every home. */
+enum { SWITCHING = 1, RUN_HOURS = 2, ALARMS = 3, SERVICE = 7 };
 
 /* The list: every task may touch its own home and the notes, and the homes of its events. */
 void rights_make(struct kgt_rights *list);

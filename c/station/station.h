@@ -51,6 +51,7 @@ struct station {
     size_t groups, homes;
     const char *path;
     bool csv, keep_cut, verbose, progress;
+    bool go_on; /* also with an image that no station has made */
     bool opened;   /* the store is open */
     bool worn_out; /* the log's start can move no further */
     FILE *report;  /* what was cut and what came back */

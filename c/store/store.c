@@ -1,6 +1,7 @@
 /* The store object: every call takes the lock once, calls the library and runs its batch. */
 #include <string.h>
 
+#include "kagutin_rights.h"
 #include "kagutin_store_inner.h"
 
 const char *kgt_answer_text(uint64_t code)
@@ -10,6 +11,7 @@ const char *kgt_answer_text(uint64_t code)
     case KGT_DRIVER_FAILED: return "the driver has failed; open the store again";
     case KGT_LOCK_FAILED: return "the lock was not given";
     case KGT_NOT_INIT: return "kgt_init was not called, or was refused";
+    case KGT_LIST_GUARDED: return "homes 8 to 11 are stored by kgt_set_rights";
     default: return kagutin_answer_text(code);
     }
 }
@@ -83,6 +85,14 @@ struct kgt_reply kgt_set_room(struct kagutin *store, enum kgt_room room)
     if (store->condition == KGT_IS_UNUSABLE)
         return answer(KGT_NOT_INIT);
     store->room = room;
+    return answer(KAGUTIN_DONE);
+}
+
+struct kgt_reply kgt_allow_list_stores(struct kagutin *store)
+{
+    if (store->condition == KGT_IS_UNUSABLE)
+        return answer(KGT_NOT_INIT);
+    store->list_stores = true;
     return answer(KAGUTIN_DONE);
 }
 
@@ -264,6 +274,13 @@ static struct kagutin_reply store_once(struct kagutin *store, uint64_t writer, u
                                               KGT_BATCH(store), writer, home));
 }
 
+/* Would this store become a list of rights, or a part of one, unasked? */
+static bool guarded(const struct kagutin *store, uint64_t writer, uint64_t home)
+{
+    return writer == 0 && home >= KGT_RIGHTS_HOME && home < KGT_RIGHTS_HOME + KGT_RIGHTS_HOMES && !store->list_stores
+        && store->runner.homes >= KGT_RIGHTS_HOME + KGT_RIGHTS_HOMES;
+}
+
 struct kgt_reply kgt_store(struct kagutin *store, uint64_t writer, uint64_t home, const uint8_t *block)
 {
     struct kgt_reply reply = kgt_inner_enter(store);
@@ -271,6 +288,8 @@ struct kgt_reply kgt_store(struct kagutin *store, uint64_t writer, uint64_t home
 
     if (reply.code != KAGUTIN_DONE)
         return reply;
+    if (guarded(store, writer, home))
+        return kgt_inner_leave(store, kgt_inner_answer(KGT_LIST_GUARDED));
     stored = store_once(store, writer, home, block);
     if (stored.code == KAGUTIN_FULL && kgt_inner_make_room(store, &stored))
         stored = store_once(store, writer, home, block);

@@ -28,19 +28,19 @@ function commitsTable(told) {
     commit => [commit.rank, commit.first + " to " + commit.closing, commit.entries, commit.homes.join(" ")]);
 }
 
-/* The data area as an opening leaves it. */
+/* The data area as an opening leaves it; homes beyond the end of the file are not listed, and zeros. */
 function openedHomes(told) {
-  const homes = new Uint8Array(BLOCK * told.homes.length);
-  told.homes.forEach((home, h) => {
-    for (let i = 0; i < BLOCK; i++) homes[BLOCK * h + i] = parseInt(home.block.substr(2 * i, 2), 16);
+  const homes = new Uint8Array(BLOCK * told.header.homes);
+  told.homes.forEach(({ home, block }) => {
+    for (let i = 0; i < BLOCK; i++) homes[BLOCK * home + i] = parseInt(block.substr(2 * i, 2), 16);
   });
   return homes;
 }
 
 function homesTable(told, homes) {
-  const rows = told.homes.filter(home => !/^0*$/.test(home.block)), zeros = told.homes.length - rows.length;
+  const rows = told.homes.filter(home => !/^0*$/.test(home.block)), zeros = told.header.homes - rows.length;
   const heads = ["home", "for", "value", "from position", "bytes"];
-  const caption = `${plural(told.homes.length, "home")}, as an opening leaves them; ${zeros} are zeros and left out`;
+  const caption = `${plural(told.header.homes, "home")}, as an opening leaves them; ${zeros} are zeros and left out`;
   return table(caption, heads, rows, ({ home, from, block }) =>
     [home, homeName(home), blockText(home, homeBlock(homes, home)), from === null ? "its own block" : from,
       el("code", null, block.replace(/(00)+$/, "").replace(/(.{8})/g, "$1 "))]);

@@ -6,15 +6,16 @@
 #include <stdio.h>
 #include <stdlib.h>
 #include <string.h>
+#include <sys/file.h>
 #include <sys/stat.h>
 #include <unistd.h>
 
+#include "kagutin/programs.h"
 #include "kagutin_fram.h"
 
 enum { THE_FILE = 3, DIGITS = 10 };
 
 int errno;
-static size_t file_at;
 
 char *strerror(int error)
 {
@@ -35,7 +36,6 @@ int open(const char *path, int flags, ...)
 {
     (void)path;
     (void)flags;
-    file_at = 0;
     return THE_FILE;
 }
 
@@ -47,15 +47,21 @@ int fstat(int file, struct stat *status)
     return 0;
 }
 
-ssize_t read(int file, void *bytes, size_t size)
+int flock(int file, int operation)
 {
-    double left = host_file_size() - (double)file_at;
+    (void)file;
+    (void)operation;
+    return 0;
+}
+
+ssize_t pread(int file, void *bytes, size_t size, off_t from)
+{
+    double left = host_file_size() - (double)from;
 
     (void)file;
     if (left < (double)size)
-        size = (size_t)left;
-    host_file_read(bytes, file_at, size);
-    file_at += size;
+        size = left > 0 ? (size_t)left : 0;
+    host_file_read(bytes, (size_t)from, size);
     return (ssize_t)size;
 }
 
@@ -110,8 +116,6 @@ TO_PAGE(room) void *page_room(size_t size)
 {
     return calloc(1, size);
 }
-
-int inspect_main(int count, char **words); /* the inspector's main */
 
 TO_PAGE(inspect) int page_inspect(int count, char **words)
 {

@@ -76,7 +76,7 @@ static void replay(const struct rule_log *log, const struct rule_walk *walk, uin
 
 struct kagutin_reply wrong_open_by_position(struct lent *lent)
 {
-    struct rule_log log = {lent->log, lent->groups, lent->homes, rule_number(lent->log + 2, 6)};
+    struct rule_log log = {lent->log, lent->groups, lent->homes, rule_number(lent->log + 2, 6), false};
     struct kagutin_reply reply;
     struct rule_walk walk;
     uint8_t *area = lent->batch + lent->batch_size; /* as much room as the homes take lies behind the batch */

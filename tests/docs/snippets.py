@@ -11,6 +11,7 @@ examples, made by one change: the judge must refuse them.
 Commands. Every line of a block fenced as sh is run here, in a folder for each page with the files that the page shows
 (<!-- file: NAME -->) and those of inputs(); what stands under <!-- printed --> must have been printed. ELSEWHERE and
 OTHER_TEST name those that are not run here, and why. make builds into OUT as it was told to; the rest runs in the folder.
+Sessions, fenced as console, are run by tests/programs/documents.py.
 
 Prints a line for each test; the last line counts them. Status 1 if one failed.
 """
@@ -113,8 +114,8 @@ def fenced(page, text):
             blocks.append(inside)
             if inside.kind == "c" and not inside.named("snippet"):
                 wrong.append("%s:%d: a C block without the name of a snippet" % (page, number))
-            if inside.kind not in ("c", "sh", "text"):
-                wrong.append("%s:%d: a block of kind '%s'; c, sh and text are known" % (page, number, inside.kind))
+            if inside.kind not in ("c", "sh", "text", "console"):
+                wrong.append("%s:%d: a block of kind '%s'; c, sh, text and console are known" % (page, number, inside.kind))
         elif re.match(r" {4}\S", line) and not last.strip():
             wrong.append("%s:%d: an indented block; fence it as c, sh or text" % (page, number))
         elif marker.startswith("<!-- snippet"):

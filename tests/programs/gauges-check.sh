@@ -75,8 +75,8 @@ says "one is given" 2 "one list" "$san/gauges" "$tmp/cell.csv"
 says "is a third" 2 "three lists" "$san/gauges" a b c
 says "from 0 to 65535" 2 "--tolerance 65536" "$san/gauges" --tolerance 65536 a b
 says "from 0 to 65535" 2 "--tolerance -1" "$san/gauges" --tolerance -1 a b
-says "takes a number" 2 "--tolerance at the end" "$san/gauges" a b --tolerance
-says "takes a file name" 2 "--plot at the end" "$san/gauges" a b --plot
+says "takes a value" 2 "--tolerance at the end" "$san/gauges" a b --tolerance
+says "takes a value" 2 "--plot at the end" "$san/gauges" a b --plot
 
 # --- bad rows: what the file holds, and the message ---
 bad() {

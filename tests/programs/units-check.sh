@@ -48,7 +48,7 @@ shows '^899 mm: 1 pump, as from 300 to 899 mm$'
 gives 0 "at 9999, another writer" "$san/bands" at --writer 7 "$tmp/north.img" 9999
 shows '^9999 mm: 4 pumps, as from 1500 to 9999 mm$'
 says "depths go from 0 to 9999" 1 "at 10000" "$san/bands" at "$tmp/north.img" 10000
-says "no such writer" 1 "writer 8" "$san/bands" at --writer 8 "$tmp/north.img" 5
+says "from 0 to 7" 2 "writer 8" "$san/bands" at --writer 8 "$tmp/north.img" 5
 gives 0 "the image stays" cmp "$tmp/north.img" "$tmp/before.img"
 gives 0 "what show prints can be set" "$san/bands" set "$tmp/north.img" "$tmp/again.txt"
 
@@ -85,7 +85,7 @@ says "set takes an image and a table" 2 "set without a table" "$san/bands" set x
 says "set, show or at" 2 "no command" "$san/bands"
 says "unknown option" 2 "--frob" "$san/bands" show --frob
 says "one word too many" 2 "four words" "$san/bands" set a b c
-says "a whole number is expected" 2 "at x" "$san/bands" at "$tmp/north.img" x
+says "MM takes a whole number" 2 "at x" "$san/bands" at "$tmp/north.img" x
 says "cannot be opened" 3 "a missing image" "$san/bands" show "$tmp/missing.img"
 says "cannot be opened" 3 "a missing table" "$san/bands" set "$tmp/north.img" "$tmp/missing.txt"
 says "no image" 3 "no image" "$san/bands" show "$tmp/table.txt"
@@ -98,14 +98,21 @@ shows '^bands (Kagutin) [0-9]'
 # --- the station's image, and images that hold something else ---
 gives 0 "a station's image" "$san/station" --cuts 40 --csv --file "$tmp/station.img"
 grep -q '^Panel: ' "$tmp/log"; report $? "its panel"
-says "writer 0 has no right to read homes 12 to 14; --writer W" 1 "bands, a writer without rights" "$san/bands" show "$tmp/station.img"
 gives 0 "an image without events" "$out/units_check" --image "$tmp/other.img" 0 4
 printf 'x' | dd of="$tmp/other.img" bs=1 seek=$((64 + 512 * 16 + 64 * 19 + 20)) conv=notrunc 2> /dev/null
 cp "$tmp/other.img" "$tmp/before.img"
-says "hold something else" 3 "the station on such an image" "$san/station" --file "$tmp/other.img"
+says "no station's list of rights; with --go-on" 3 "the station on an image of another's" "$san/station" --file "$tmp/north.img"
+says "hold something else" 3 "the station on one with other bytes for a pump" "$san/station" --go-on --file "$tmp/other.img"
 gives 0 "the image stays" cmp "$tmp/other.img" "$tmp/before.img"
+says "no table is set" 1 "bands by the writer that has the right" "$san/bands" show "$tmp/station.img"
+says "writer 2 has no right to read homes 12 to 14; writer 1 has" 1 "bands, a writer without rights" "$san/bands" show --writer 2 "$tmp/station.img"
+says "writer 0 has no right to store to homes 12 to 14; writer 1 has" 1 "set, a writer without rights" "$san/bands" set --writer 0 "$tmp/station.img" "$tmp/table.txt"
+gives 0 "set in the station's image" "$san/bands" set "$tmp/station.img" "$tmp/table.txt"
+gives 0 "the station goes on with it" "$san/station" --cuts 5 --file "$tmp/station.img"
+gives 0 "and the table stays" "$san/bands" at "$tmp/station.img" 899
+shows '^899 mm: 1 pump, as from 300 to 899 mm$'
 printf '\364\377\377\377\377\177' | dd of="$tmp/other.img" bs=1 seek=2 conv=notrunc 2> /dev/null
-says "cannot be opened: " 3 "bands set in a worn-out image" "$san/bands" set "$tmp/other.img" "$tmp/table.txt"
+says "worn out" 3 "bands set in a worn-out image" "$san/bands" set "$tmp/other.img" "$tmp/table.txt"
 
 # --- cost: the last call of each case, with no list of rights and with one in the log ---
 if command -v valgrind > /dev/null; then

@@ -177,6 +177,7 @@ static void check_moment(void)
     uint64_t i;
 
     start(HOMES);
+    gives(kgt_allow_list_stores(&store).code, KAGUTIN_DONE, "stores to the list allowed");
     make_list(&list);
     gives(kgt_begin(&store, 0).code, KAGUTIN_DONE, "begin");
     for (i = 0; i < KGT_RIGHTS_HOMES; i++)
@@ -196,6 +197,33 @@ static void check_moment(void)
     gives(kgt_maintain(&store, 0).code, KAGUTIN_DONE, "maintain");
     store_one(3, 20, KAGUTIN_STORE_DENIED, "settled and trimmed, too");
     read_one(1, 20, KAGUTIN_READ_DENIED, "and for reads");
+}
+
+/* An ordinary store does not become a list, and its transaction goes on. */
+static void check_guard(void)
+{
+    struct kgt_rights found;
+    uint64_t home;
+
+    start(HOMES);
+    memset(block, 1, sizeof block);
+    gives(kgt_begin(&store, 0).code, KAGUTIN_DONE, "begin");
+    for (home = 8; home < 12; home++) {
+        gives(kgt_store(&store, 0, home, block).code, KGT_LIST_GUARDED, "a store of writer 0 to the list");
+        gives(kgt_store(&store, 1, home, block).code, KAGUTIN_STORE_DENIED, "of another writer");
+    }
+    gives(kgt_store(&store, 0, 7, block).code, KAGUTIN_DONE, "to the home before");
+    gives(kgt_store(&store, 0, 12, block).code, KAGUTIN_DONE, "to the home behind");
+    gives(kgt_commit(&store, 0).code, KAGUTIN_DONE, "commit");
+    gives(kgt_get_rights(&store, 0, &found).code, KAGUTIN_DONE, "get");
+    check(!kgt_rights_is_list(&found), "no list");
+    gives(kgt_allow_list_stores(&store).code, KAGUTIN_DONE, "stores to the list allowed");
+    store_one(0, 8, KAGUTIN_DONE, "a store to the list");
+    store_one(0, 7, KAGUTIN_STORE_DENIED, "locks all out");
+    start(HOMES);
+    store_one(0, 8, KGT_LIST_GUARDED, "init forgets the setting");
+    store.condition = KGT_IS_UNUSABLE;
+    gives(kgt_allow_list_stores(&store).code, KGT_NOT_INIT, "the setting before init");
 }
 
 static void check_room(void)
@@ -228,6 +256,7 @@ int main(void)
     check_edges();
     check_object();
     check_moment();
+    check_guard();
     check_room();
     printf("rights_check: right, %lu checks\n", checks);
     return 0;

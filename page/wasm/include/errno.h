@@ -4,6 +4,7 @@
 extern int errno;
 
 #define EINTR 4
+#define EWOULDBLOCK 11
 #define ERANGE 34
 
 #endif

@@ -1,0 +1,42 @@
+/* Files that hold a store: images, and raw dumps of a serial FRAM. */
+#ifndef COMMON_IMAGE_FILE_H
+#define COMMON_IMAGE_FILE_H
+
+#include <stdbool.h>
+#include <stddef.h>
+#include <stdint.h>
+
+/* The largest image, in bytes. */
+#define IMAGE_FILE_MOST (64u + 512u * 1024u + 64u * 65535u)
+
+/*
+ * A file as it was read. In a dump the first twelve bytes of the header stand
+ * twice, at 0 and at 32, each time followed by their complements; bytes has
+ * the header of the copy that counts, the whole one with the higher start, as
+ * the driver takes it. A chip is mostly larger than what it holds: a dump may
+ * have more bytes behind.
+ */
+struct image_file {
+    uint8_t *bytes; /* IMAGE_FILE_MOST of them; what the file lacks is zeros */
+    uint64_t size;  /* of the whole file, from the base on */
+    bool dump;
+    unsigned copy;    /* of a dump: the copy that counts, 0 or 1 */
+    bool other_whole; /* of a dump: the other copy is whole, too */
+    char message[320];
+};
+
+/* Whether a file that a station has open is read all the same. */
+enum image_file_use { IMAGE_FILE_FREE, IMAGE_FILE_IN_USE };
+
+/*
+ * Reads a regular file from an offset on; false leaves a message. Files of any
+ * size are read, up to the largest image; what the bytes are is not asked.
+ */
+bool image_file_read(struct image_file *file, const char *path, uint64_t base, enum image_file_use use);
+
+void image_file_free(struct image_file *file);
+
+/* The 64 bytes of a dump's header, the first copy the one that counts. */
+void image_file_split_header(const uint8_t header[64], uint8_t copies[64]);
+
+#endif

@@ -1,0 +1,15 @@
+/* New files of bytes, never half written and never in the place of another. */
+#ifndef COMMON_NEW_FILE_H
+#define COMMON_NEW_FILE_H
+
+#include <stdbool.h>
+#include <stddef.h>
+#include <stdint.h>
+
+/*
+ * Writes the bytes under a temporary name in the same folder, syncs, and gives
+ * the file its name, which must be free. False leaves a message and no file.
+ */
+bool new_file_write(const char *path, const uint8_t *bytes, size_t size, char *message, size_t message_size);
+
+#endif

@@ -1,6 +1,0 @@
-#include "wear.h"
-
-int main(int count, char **words)
-{
-    return wear_main(count, words);
-}

@@ -1,0 +1,290 @@
+#!/bin/sh
+# Tests of the program kagutin: program-check.sh FOLDER-OF-THE-PROGRAMS (run by make program-check from the root).
+# Prints one line per test; the last line counts them. Status 1 if one failed.
+set -u
+out=$1
+san=$out/sanitize
+k=$san/kagutin
+. tests/common/helpers.sh
+
+shows() {
+    grep -q -e "$1" "$tmp/out"; report $? "output: '$1'"
+}
+
+commands="make inspect wear bands alarms rights gauges inflow convert export import station"
+
+# --- the program ---
+gives 0 "--help" "$k" --help
+for command in $commands; do
+    shows "^  $command  *[a-z]"
+done
+gives 0 "--version" "$k" --version
+shows '^kagutin [0-9]'
+says "a command is expected" 2 "no command" "$k"
+says "unknown command 'frob'" 2 "a wrong command" "$k" frob
+says "unknown option '--frob'" 2 "a wrong option" "$k" --frob
+says "unknown command 'frob'" 2 "help of a wrong command" "$k" help frob
+for command in $commands; do
+    gives 0 "help $command" "$k" help "$command"
+    cp "$tmp/out" "$tmp/help"
+    gives 0 "$command -h" "$k" "$command" -h
+    cmp -s "$tmp/out" "$tmp/help"; report $? "the same"
+    gives 0 "$command --version" "$k" "$command" --version
+    shows "^$command (Kagutin) [0-9]"
+    says "unknown option '--frob'" 2 "$command --frob" "$k" "$command" --frob=1
+done
+
+# --- make ---
+gives 0 "make" "$k" make "$tmp/north.img" 16 32
+says "exists already" 3 "make over an image" "$k" make "$tmp/north.img" 16 32
+says "GROUPS takes a whole number from 4 to 1024" 2 "make with 3 groups" "$k" make "$tmp/x.img" 3 32
+says "HOMES takes a whole number from 1 to 65535" 2 "make with 65536 homes" "$k" make "$tmp/x.img" 4 65536
+says "groups and its homes are expected" 2 "make without a shape" "$k" make "$tmp/x.img"
+says "cannot be created" 3 "make in a missing folder" "$k" make "$tmp/no/x.img" 4 1
+gives 0 "the smallest" "$k" make "$tmp/small.img" 4 1
+gives 0 "inspect it" "$k" inspect "$tmp/small.img"
+gives 0 "inspect the other" "$k" inspect "$tmp/north.img"
+shows '^bands: no table$'
+shows '^  pump 7  never started$'
+shows '^alarms: none open$'
+
+# --- rights ---
+says "no list is set" 1 "rights show without a list" "$k" rights show "$tmp/north.img"
+cat > "$tmp/list.txt" << 'LIST'
+# all but 5
+0 store all
+0 read all
+1 store 1,12..14
+1 read 0..65534
+2 read 2
+3 read 3
+4 read 4
+5 nothing
+6 read 6
+7 read all
+LIST
+gives 0 "rights set" "$k" rights set "$tmp/north.img" "$tmp/list.txt"
+gives 0 "rights show" "$k" rights show "$tmp/north.img"
+cp "$tmp/out" "$tmp/shown.txt"
+shows '^1 store 1 12..14$'
+shows '^5 nothing$'
+gives 0 "what show prints can be set" "$k" rights set "$tmp/north.img" "$tmp/shown.txt"
+cp "$tmp/north.img" "$tmp/before.img"
+# What a list holds, the status, and the message; the image stays.
+bad() {
+    printf "$1" > "$tmp/bad.txt"
+    says "bad.txt:*$3" "$2" "a list: $4" "$k" rights set "$tmp/north.img" "$tmp/bad.txt"
+}
+bad '' 1 ' it gives nobody anything' "empty"
+bad '0 store all\n' 1 ' writer 1 could touch no home' "writers left out"
+bad '0 read all\n1 store 8..11\n' 1 ' writer 1 could touch no home' "nothing but the list's homes"
+bad '0 read all\n1 store 32..40\n' 1 ' writer 1 could touch no home below 32' "homes beyond D"
+bad '8 read all\n' 3 "1: a writer from 0 to 7 is expected, not '8'" "writer 8"
+bad 'one read all\n' 3 "1: a writer from 0 to 7" "a word"
+bad '0 write all\n' 3 '1: a line is: W store HOMES' "write"
+bad '0 store\n' 3 '1: homes are expected' "no homes"
+bad '0 store 5..4\n' 3 "1: '5..4': homes go up to" "from above to"
+bad '0 store 70000\n' 3 "1: '70000': homes go up to" "a large home"
+bad '0 store 5-9\n' 3 "1: '5-9' is neither" "a dash"
+bad '0 nothing at all\n' 3 '1: a line is' "words behind nothing"
+bad '0 store 1 2 3 4 5\n' 3 '1: writer 0 has four ranges' "five ranges"
+bad '0 store 1\n\0\n' 3 '2: a zero byte' "a zero byte"
+gives 0 "the image stays" cmp "$tmp/north.img" "$tmp/before.img"
+printf '\357\273\2770 read all\n0 store 0\n1 nothing\n2 nothing\n3 nothing\n4 nothing\n5 nothing\n6 nothing\n7 nothing\n' > "$tmp/bom.txt"
+says "note: no writer may store to homes 16 to 23, the pumps" 0 "a list that leaves the pumps to nobody, with a byte order mark" "$k" rights set "$tmp/north.img" "$tmp/bom.txt"
+printf '0 9999 1\n' > "$tmp/table.txt"
+says "no writer has the right to store to homes 12 to 14" 1 "bands under it" "$k" bands set "$tmp/north.img" "$tmp/table.txt"
+says "a list takes homes 8 to 11; the image has 1 homes" 1 "a list in a small image" "$k" rights set "$tmp/small.img" "$tmp/list.txt"
+gives 0 "rights clear" "$k" rights clear "$tmp/north.img"
+gives 0 "bands" "$k" bands set --writer=3 "$tmp/north.img" "$tmp/table.txt"
+says "show, set or clear" 2 "rights alone" "$k" rights
+says "unknown command" 2 "rights frob" "$k" rights frob x
+says "set takes an image and a list" 2 "rights set without a list" "$k" rights set x
+
+# --- dumps ---
+gives 0 "a station's image" "$k" station --cuts 12 --groups 9 --homes 40 --file "$tmp/station.img"
+gives 0 "convert" "$k" convert "$tmp/station.img" "$tmp/station.bin"
+gives 0 "and back" "$k" convert "$tmp/station.bin" "$tmp/again.img"
+gives 0 "the same image" cmp "$tmp/station.img" "$tmp/again.img"
+gives 0 "into a chip" "$k" convert --base 300 --size=16384 "$tmp/station.img" "$tmp/chip.bin"
+[ "$(wc -c < "$tmp/chip.bin")" -eq 16384 ]; report $? "of 16384 bytes"
+says "no image" 3 "a chip without its base" "$k" convert "$tmp/chip.bin" "$tmp/none.img"
+gives 0 "back from the chip" "$k" convert --base 300 "$tmp/chip.bin" "$tmp/chip.img"
+gives 0 "the same image" cmp "$tmp/station.img" "$tmp/chip.img"
+says "do not fit in 7000" 1 "a small chip" "$k" convert --size 7000 "$tmp/station.img" "$tmp/none.bin"
+says "exists already" 3 "convert over a file" "$k" convert "$tmp/station.img" "$tmp/chip.bin"
+says "image or dump" 2 "--to frob" "$k" convert --to frob a b
+[ ! -e "$tmp/none.bin" ] && [ ! -e "$tmp/none.img" ] && [ -z "$(find "$tmp" -name '*.bin.*')" ]; report $? "nothing is left of what was refused"
+for command in inspect alarms "rights show" export "wear --writer 7"; do
+    gives 0 "$command of the image" "$k" $command "$tmp/station.img"
+    sed -e 's/station\.img/station.xxx/' -e '/^dump /d' "$tmp/out" > "$tmp/image.out"
+    gives 0 "$command of the dump" "$k" $command "$tmp/station.bin"
+    sed -e 's/station\.bin/station.xxx/' -e '/^dump /d' "$tmp/out" | cmp - "$tmp/image.out" > "$tmp/log" 2>&1; report $? "the same"
+done
+says "is not changed in place" 3 "bands set in a dump" "$k" bands set "$tmp/station.bin" "$tmp/table.txt"
+says "is not changed in place" 3 "rights set in a dump" "$k" rights set "$tmp/station.bin" "$tmp/list.txt"
+
+# --- homes as text ---
+for kind in json csv hex; do
+    gives 0 "export as $kind" "$k" export --as "$kind" "$tmp/station.img"
+    cp "$tmp/out" "$tmp/homes.$kind"
+    gives 0 "import it" "$k" import "$tmp/homes.$kind" "$tmp/$kind.img"
+    gives 0 "export again" "$k" export --as "$kind" "$tmp/$kind.img"
+    cmp -s "$tmp/out" "$tmp/homes.$kind"; report $? "the same homes, the list of rights among them"
+    gives 0 "the station goes on with it" "$k" station --cuts 3 --file "$tmp/$kind.img"
+done
+says "exists already" 3 "import over an image" "$k" import "$tmp/homes.csv" "$tmp/csv.img"
+says "does not fit in an image of 30 homes" 1 "import into fewer homes" "$k" import --homes 30 "$tmp/homes.csv" "$tmp/none.img"
+gives 0 "import into more" "$k" import --groups 4 --homes 65535 "$tmp/homes.hex" "$tmp/large.img"
+if command -v python3 > /dev/null; then
+    gives 0 "JSON laid out otherwise" python3 -c 'import json, sys
+json.dump(dict(note="x", **json.load(open(sys.argv[1]))), open(sys.argv[2], "w"), indent=3, sort_keys=True)' "$tmp/homes.json" "$tmp/other.json"
+    gives 0 "import it" "$k" import "$tmp/other.json" "$tmp/other.img"
+    gives 0 "export again" "$k" export "$tmp/other.img"
+    cmp -s "$tmp/out" "$tmp/homes.json"; report $? "the same homes"
+fi
+# What a text holds, and the message.
+text() {
+    printf "$1" > "$tmp/bad.txt"
+    says "$2" 3 "homes: $3" "$k" import --groups 4 --homes 8 "$tmp/bad.txt" "$tmp/none.img"
+}
+text '{"blocks":[' 'bad.txt:1: a home in braces' "JSON cut off"
+text '{"blocks":[{"home":1}]}' 'bad.txt:1: a home has "home" and "block"' "no block"
+text '{"blocks":[{"home":1,"block":"00"}]}' 'bad.txt:1: 64 bytes in hex' "a short block"
+text '{"blocks":[]}\n\nx' 'bad.txt:3: the end is expected' "words behind"
+text '{"groups":x}' 'bad.txt:1: a whole number' "no number"
+text 'home,block\n1,00\n' 'bad.txt:2: home 1: 64 bytes' "a short row"
+text 'x\n' 'bad.txt:1: a row is' "a word"
+row=1,$(printf '%0128d' 0)
+text "$row\n$row\n" 'bad.txt:2: home 1 stands here a second time' "twice"
+text "99999$row\n" 'bad.txt:1: home 999991: homes go' "a large home"
+text '\0' 'a zero byte' "a zero byte"
+[ ! -e "$tmp/none.img" ]; report $? "none of them makes an image"
+printf '%s\n' "$row" > "$tmp/plain.txt"
+says "does not say how many groups" 3 "no shape" "$k" import "$tmp/plain.txt" "$tmp/none.img"
+says "json, csv or hex" 2 "--as frob" "$k" export --as frob x
+
+# --- worn-out and older images: 9 groups, so a start of 2^47 - 8 ---
+"$k" export "$tmp/station.img" > "$tmp/station.json" 2> /dev/null
+printf '\370\377\377\377\377\177' | dd of="$tmp/station.img" bs=1 seek=2 conv=notrunc 2> /dev/null
+says "worn out" 3 "bands set in a worn-out image" "$k" bands set "$tmp/station.img" "$tmp/table.txt"
+gives 0 "export it" "$k" export "$tmp/station.img"
+cp "$tmp/out" "$tmp/worn.json"
+gives 0 "alarms of it" "$k" alarms "$tmp/station.img"
+gives 0 "import it" "$k" import "$tmp/worn.json" "$tmp/new.img"
+gives 0 "the station goes on with it" "$k" station --cuts 3 --file "$tmp/new.img"
+if command -v python3 > /dev/null; then
+    # One group of the older format: entries of homes 3 and 5, the second closing, and blocks of FF, as no turn bit displaces theirs.
+    gives 0 "an image of the older format" python3 - "$tmp/older.img" << 'END'
+import struct, sys
+groups, homes, start = 4, 8, 6
+image = bytearray(64 + 512 * groups + 64 * homes)
+image[:12] = b'PH' + start.to_bytes(6, 'little') + struct.pack('<HH', groups, homes)
+number = 6
+at = 64 + 512 * (number % groups)
+group = bytearray(512)
+group[:8] = b'PG' + number.to_bytes(6, 'little')
+group[8:16] = (1 | 3 << 2).to_bytes(8, 'little')
+group[16:24] = (3 | 5 << 2 | 1 << 14 | 2 << 40).to_bytes(8, 'little')
+group[64:128] = b'\xff' * 64
+group[128:192] = b'\x7f' * 64
+image[at:at + 512] = group
+image[64 + 512 * groups + 64 * 2:64 + 512 * groups + 64 * 3] = b'\x81' * 64
+open(sys.argv[1], 'wb').write(image)
+END
+    gives 0 "export it" "$k" export --as csv "$tmp/older.img"
+    [ "$(sed 1,2d "$tmp/out" | cut -c1-6 | tr '\n' ' ')" = "2,8181 3,ffff 5,7f7f " ]; report $? "its homes"
+    grep -q "^3,$(printf '%0128d' 0 | tr 0 f)\$" "$tmp/out"; report $? "whole, to the last bit"
+    cp "$tmp/out" "$tmp/older.csv"
+    gives 1 "inspect names the format" "$k" inspect "$tmp/older.img"
+    shows 'mark 50 48, an older format'
+    gives 0 "import it" "$k" import "$tmp/older.csv" "$tmp/newer.img"
+    gives 0 "inspect the new one" "$k" inspect "$tmp/newer.img"
+fi
+
+# --- alarms, and what lies in the homes of units and is none ---
+gives 0 "alarms as CSV" "$k" alarms --csv "$tmp/new.img"
+shows '^image,rank,identity,class,second$'
+says "fewer than 30 homes" 1 "alarms of a small image" "$k" alarms "$tmp/small.img"
+says "cannot be opened" 3 "alarms of a missing image" "$k" alarms "$tmp/missing.img" "$tmp/new.img"
+shows 'alarm.* open'
+gives 0 "an image" "$k" make "$tmp/units.img" 4 30
+homes=$((64 + 512 * 4))
+put() { printf "$2" | dd of="$tmp/units.img" bs=1 seek="$1" conv=notrunc 2> /dev/null; }
+put $((homes + 64 * 12)) '\001'
+put $((homes + 64 * 19 + 5)) '\001'
+put $((homes + 64 * 24)) '\061'
+gives 0 "inspect homes that hold something else" "$k" inspect "$tmp/units.img"
+shows '^bands: ! homes 12 to 14 hold no table: a millimetre lies in no row'
+shows '^  pump 3  ! home 19 holds no record of a pump: no starts, but seconds$'
+shows '^alarms: ! homes 24 to 29 hold no list of alarms: more than 48 alarms$'
+says "hold no list of alarms: more than 48" 1 "alarms there" "$k" alarms "$tmp/units.img"
+if command -v python3 > /dev/null; then
+    gives 0 "inspect --json" "$k" inspect --json "$tmp/units.img"
+    cp "$tmp/out" "$tmp/units.json"
+    gives 0 "bands, pumps and alarms as JSON" python3 -c 'import json, sys; v = json.load(open(sys.argv[1]))
+assert "no row" in v["bands"]["why"] and v["pumps"][3]["why"] and v["pumps"][2]["starts"] == 0 and v["alarms"]["why"] and v["dump"] is None' "$tmp/units.json"
+fi
+put 10 '\377\377'
+gives 1 "inspect --json of a damaged count of homes" "$k" inspect --json "$tmp/units.img"
+[ "$(wc -c < "$tmp/out")" -lt 40000 ]; report $? "stays small"
+put 8 '\377\003'
+gives 1 "and of groups" "$k" inspect --json "$tmp/units.img"
+[ "$(wc -c < "$tmp/out")" -lt 90000 ]; report $? "stays small"
+
+# --- FIFOs and folders ---
+mkfifo "$tmp/fifo"
+mkdir "$tmp/folder"
+for file in "$tmp/fifo" "$tmp/folder"; do
+    for words in "inspect $file" "alarms $file" "rights show $file" "rights set $tmp/new.img $file" "bands show $file" "bands set $tmp/new.img $file" \
+        "convert $file $tmp/x" "export $file" "import $file $tmp/x" "gauges $file $file" "wear $file" "station --file $file"; do
+        says "regular file\|irectory" 3 "$words" timeout 10 "$k" $words
+    done
+done
+
+# --- the output cannot be written ---
+if [ -w /dev/full ]; then
+    for words in "--help" "inspect $tmp/new.img" "alarms $tmp/new.img" "rights show $tmp/new.img" "export $tmp/new.img" "inflow --area 5 1 2"; do
+        "$k" $words > /dev/full 2> "$tmp/log"
+        [ $? -eq 3 ] && grep -q 'cannot write the output' "$tmp/log"; report $? "$words, the output full"
+    done
+fi
+
+# --- manual pages and completion ---
+for command in $commands; do
+    page=man/kagutin-$command.1
+    [ -r "$page" ]; report $? "$page is there"
+    for option in $("$k" "$command" --help | grep -o -e '--[a-z][a-z-]*' | grep -v -x -e --option | sort -u); do
+        grep -q -e "Fl ${option#-}" "$page"; report $? "$page: $option"
+        grep -q -e "$option" completion/kagutin.bash; report $? "completion: $option"
+    done
+done
+if command -v mandoc > /dev/null; then
+    for page in man/*.1; do
+        gives 0 "mandoc: $page" mandoc -Tlint -Wwarning "$page"
+    done
+else
+    echo "skipped the form of manual pages: no mandoc"
+fi
+if command -v bash > /dev/null; then
+    # What is expected, then the words up to the one to complete.
+    completes() {
+        want=$1; shift
+        got=$(bash -c '. completion/kagutin.bash; COMP_WORDS=("$@"); COMP_CWORD=$(($# - 1)); _kagutin; echo "${COMPREPLY[*]}"' bash "$@" 2> "$tmp/log")
+        [ "$got" = "$want" ]; report $? "completion: $* gives $want"
+    }
+    completes "inspect inflow" kagutin in
+    completes "import" kagutin imp
+    completes "set show" kagutin bands s
+    completes "show set" kagutin rights s
+    completes "image dump" kagutin convert --to ''
+    completes "--json" inspect --j
+    completes "--keep-cut" kagutin station --k
+fi
+
+# --- documents: every command line is run, and prints what stands there ---
+if command -v python3 > /dev/null; then
+    gives 0 "command lines of the documents" python3 tests/programs/documents.py "$san" docs/BANDS.md docs/GAUGES.md docs/INFLOW.md docs/ALARMS.md docs/HOMES.md man/*.1
+fi
+
+count program-check
