@@ -4,6 +4,7 @@
 # make test       runs every test and every proof; the prover's verdict is the last line
 # make library    the proved archive for x86-64 Linux, target/staticlib/libkagutin.a; make LIB=that run and so on use it
 # make dist       dist/kagutin.c again from the proved program; the gate fails where it differs
+# make all-in-one dist/kagutin_all.c and .h, one file and one header to drop in; make sizes tells what they take on a Cortex-M4
 # make compare    a long comparison of the library, built in many ways, with the reference implementation, call by call
 # make arm        the C file on an emulated Cortex-M board and other machines; port/packages.sh installs what it needs
 # make play       random histories on the reference implementation alone

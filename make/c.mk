@@ -160,6 +160,7 @@ uninstall:
 include make/port.mk
 include make/units.mk
 include make/program.mk
+include make/all_in_one.mk
 
 # One archive in both builds: its name, its objects.
 define C_ARCHIVE
@@ -192,7 +193,7 @@ snippets-check: $(SNIPPET_LIBS) $(SNIPPET_SANITIZED) $(SNIPPET_PROGRAMS)
 links-check:
 	@if command -v python3 > /dev/null; then python3 tests/docs/links.py; else echo "skipped the links of the documents: python3 is not installed"; fi
 
-c-check: snippets-check links-check
+c-check: snippets-check links-check all-in-one-check
 
 c-clean:
 	rm -rf $(C_OUT)
