@@ -488,9 +488,9 @@ struct kagutin_reply kagutin_transact(
  * ticket belongs to its opening: after the next, drop it. Marks go on rising,
  * and what was not durable may be gone.
  *
- * Tasks. Every call but kgt_init, kgt_set_lock and kgt_set_room takes the lock,
- * if one is set, once, and gives it back before it returns; without a lock all
- * calls must come from one task. Begin, reserve, store, commit, abort, read,
+ * Tasks. Every call but kgt_init, kgt_set_lock, kgt_set_room and
+ * kgt_allow_list_stores takes the lock, if one is set, once, and gives it back
+ * before it returns; without a lock all calls must come from one task. Begin, reserve, store, commit, abort, read,
  * sync, maintain and usage may come from any task at any time; a writer belongs
  * to one task at a time. Format and open come from one task before the others
  * start, or after a failure. No call may come from an interrupt or a signal
@@ -575,7 +575,8 @@ enum kgt_answer {
     KGT_CLOSED = 64,        /* the store has not been opened */
     KGT_DRIVER_FAILED = 65, /* in this or an earlier call. Open again. */
     KGT_LOCK_FAILED = 66,   /* the lock was not given; nothing was done */
-    KGT_NOT_INIT = 67       /* kgt_init was not called, or was refused */
+    KGT_NOT_INIT = 67,      /* kgt_init was not called, or was refused */
+    KGT_LIST_GUARDED = 68   /* a store to homes 8 to 11, which kgt_set_rights stores; nothing was done */
 };
 
 /* Any answer in words. */
@@ -678,6 +679,7 @@ struct kagutin {
     size_t log_size, area_size, newest_size, batch_size;
     enum kgt_condition condition;
     enum kgt_room room;
+    bool list_stores; /* kgt_store may store to the list of rights */
     int error; /* of the driver, once it has failed */
     int (*lock)(void *context);
     void (*unlock)(void *context);
@@ -687,7 +689,7 @@ struct kagutin {
 /*
  * Takes KGT_MEMORY_SIZE(groups, homes) bytes of memory or more, and a driver;
  * both stay lent to the store. Touches no lasting memory. Forgets an earlier
- * lock and room setting. Answer 1: a size is wrong, groups or homes are out of
+ * lock and earlier settings. Answer 1: a size is wrong, groups or homes are out of
  * range, or a function of the driver is null; every call then answers 67.
  */
 struct kgt_reply kgt_init(struct kagutin *store, uint8_t *memory, size_t size, size_t groups, size_t homes,
@@ -708,6 +710,15 @@ struct kgt_reply kgt_set_lock(struct kagutin *store, int (*lock)(void *context),
  * the stack of a settle. After kgt_init and before the tasks start. Answer 67.
  */
 struct kgt_reply kgt_set_room(struct kagutin *store, enum kgt_room room);
+
+/*
+ * Lets kgt_store of writer 0 store to homes 8 to 11, block by block. Where D is
+ * 12 or more any byte there that is not zero is a list of rights, and one that
+ * was not meant so locks every writer out of all other homes: so without this
+ * such a store is answered 68, and kgt_set_rights is the way to a list. After
+ * kgt_init and before the tasks start. Answer 67.
+ */
+struct kgt_reply kgt_allow_list_stores(struct kagutin *store);
 
 /*
  * Makes lasting memory an empty store with all homes zero. Once in a device's
@@ -735,7 +746,9 @@ struct kgt_opened kgt_open(struct kagutin *store);
  * answer 8, and holder is the writer whose open transaction holds the log's
  * oldest groups: commit or abort that one; if it is this writer itself, its
  * transaction is too long for the log. The transaction stays open and as it
- * was. 19 and 20 come from the list of rights; kagutin_rights.h.
+ * was. 19 and 20 come from the list of rights; kagutin_rights.h. 68 comes before
+ * all others: a store of writer 0 to homes 8 to 11 where D is 12 or more, unless
+ * kgt_allow_list_stores was called; the transaction goes on.
  */
 struct kgt_reply kgt_begin(struct kagutin *store, uint64_t writer);
 struct kgt_reply kgt_store(struct kagutin *store, uint64_t writer, uint64_t home, const uint8_t *block);
@@ -801,7 +814,9 @@ struct kgt_reply kgt_usage(struct kagutin *store, struct kagutin_places *places)
  * writer the list has four ranges of homes to store to and four to read. From
  * the commit of a list on a store elsewhere is answered 19, a read 20, also for
  * writer 0. 256 zeros, or fewer than 12 homes, is no list: every other home is
- * then open to all. docs/HOMES.md has the bytes.
+ * then open to all. docs/HOMES.md has the bytes. kgt_store refuses these homes
+ * (68) unless kgt_allow_list_stores was called: a block that was not meant for a
+ * list would be one, and lock all writers out.
  *
  *     static bool give_rights(void)                              // true: no power cut takes the list away
  *     {
