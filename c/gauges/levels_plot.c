@@ -1,5 +1,7 @@
 #include "levels_plot.h"
 
+#include <stdlib.h>
+
 enum { WIDTH = 960, HEIGHT = 460, LEFT = 70, RIGHT = 20, TOP = 60, BOTTOM = 90 };
 
 static const char *const first_colour = "#1f5fa8", *const second_colour = "#b85c00", *const differing_colour = "#d22";
@@ -12,6 +14,17 @@ struct scale {
 static double place(const struct scale *scale, unsigned value)
 {
     return scale->start + (scale->end - scale->start) * ((double)value - scale->from) / ((double)scale->to - scale->from);
+}
+
+/* Steps of the clock that make at most nine marks. */
+static unsigned clock_step(unsigned range)
+{
+    static const unsigned steps[] = {1, 2, 5, 10, 15, 30, 60, 120, 180};
+    size_t i = 0;
+
+    while (i + 1 < sizeof steps / sizeof *steps && range / steps[i] > 8)
+        i++;
+    return steps[i];
 }
 
 /* A step of 1, 2 or 5 times a power of ten that makes at most eight marks. */
@@ -28,11 +41,9 @@ static unsigned step_of(unsigned range)
     return step;
 }
 
-/* Widens the scale to the marks around it. */
-static void round_out(struct scale *scale)
+/* Widens the scale to the marks around it, so many apart. */
+static void round_out(struct scale *scale, unsigned step)
 {
-    unsigned step = step_of(scale->to - scale->from);
-
     scale->from -= scale->from % step;
     scale->to += (step - scale->to % step) % step;
     if (scale->from == scale->to)
@@ -60,7 +71,6 @@ static struct scale scale_of(const uint16_t *first, size_t firsts, const uint16_
     widen(&scale, second, seconds);
     if (scale.from > scale.to)
         scale.from = scale.to = 0;
-    round_out(&scale);
     return scale;
 }
 
@@ -79,15 +89,22 @@ static void put_text(const char *text, FILE *file)
     }
 }
 
-static void put_axes(const struct scale *minutes, const struct scale *levels, FILE *file)
+static unsigned time_step(enum time_kind kind, const struct scale *minutes)
 {
-    unsigned step = step_of(minutes->to - minutes->from), value;
+    return (kind == TIME_MINUTE ? step_of : clock_step)(minutes->to - minutes->from);
+}
+
+static void put_axes(enum time_kind kind, const struct scale *minutes, const struct scale *levels, FILE *file)
+{
+    unsigned step = time_step(kind, minutes), value;
+    char time[TIME_TEXT];
 
     for (value = minutes->from; value <= minutes->to; value += step) {
         double x = place(minutes, value);
 
+        time_write(kind, value, time);
         fprintf(file, "<line x1='%.1f' y1='%d' x2='%.1f' y2='%d' stroke='#e3e3e3'/>\n", x, TOP, x, HEIGHT - BOTTOM);
-        fprintf(file, "<text x='%.1f' y='%d' text-anchor='middle'>%u</text>\n", x, HEIGHT - BOTTOM + 18, value);
+        fprintf(file, "<text x='%.1f' y='%d' text-anchor='middle'>%s</text>\n", x, HEIGHT - BOTTOM + 18, time);
     }
     step = step_of(levels->to - levels->from);
     for (value = levels->from; value <= levels->to; value += step) {
@@ -96,7 +113,8 @@ static void put_axes(const struct scale *minutes, const struct scale *levels, FI
         fprintf(file, "<line x1='%d' y1='%.1f' x2='%d' y2='%.1f' stroke='#e3e3e3'/>\n", LEFT, y, WIDTH - RIGHT, y);
         fprintf(file, "<text x='%d' y='%.1f' text-anchor='end'>%u</text>\n", LEFT - 8, y + 4, value);
     }
-    fprintf(file, "<text x='%d' y='%d' text-anchor='middle'>minute</text>\n", (LEFT + WIDTH - RIGHT) / 2, HEIGHT - BOTTOM + 38);
+    fprintf(file, "<text x='%d' y='%d' text-anchor='middle'>%s</text>\n", (LEFT + WIDTH - RIGHT) / 2, HEIGHT - BOTTOM + 38,
+            kind == TIME_MINUTE ? "minute" : "time");
     fprintf(file, "<text x='18' y='%d' text-anchor='middle' transform='rotate(-90 18 %d)'>millimetres</text>\n",
             (TOP + HEIGHT - BOTTOM) / 2, (TOP + HEIGHT - BOTTOM) / 2);
 }
@@ -122,23 +140,49 @@ static void put_report(const struct levels_plot *plot, const struct scale *minut
     }
 }
 
+static int compare_steps(const void *one, const void *other)
+{
+    return *(const uint16_t *)one - *(const uint16_t *)other;
+}
+
+/* The step that half of a list's steps do not exceed. */
+static unsigned usual_step(const struct readings *readings)
+{
+    uint16_t steps[KAGUTIN_MAX_READINGS];
+    size_t i;
+
+    for (i = 1; i < readings->count; i++)
+        steps[i - 1] = (uint16_t)(readings->minute[i] - readings->minute[i - 1]);
+    if (readings->count < 2)
+        return 1;
+    qsort(steps, readings->count - 1, sizeof *steps, compare_steps);
+    return steps[(readings->count - 2) / 2];
+}
+
+/* A line for each stretch without a gap; readings that stand alone, and all of a short list, as points. */
 static void put_levels(const struct readings *readings, const char *name, const char *colour, const struct scale *minutes,
                        const struct scale *levels, FILE *file)
 {
-    size_t i;
+    unsigned usual = usual_step(readings);
+    size_t from, to, i;
 
-    fprintf(file, "<polyline class='%s' fill='none' stroke='%s' stroke-width='1.5' points='", name, colour);
-    for (i = 0; i < readings->count; i++)
-        fprintf(file, "%s%.1f,%.1f", i ? " " : "", place(minutes, readings->minute[i]), place(levels, readings->level[i]));
-    fputs("'/>\n", file);
-    for (i = 0; i < readings->count && readings->count <= 120; i++)
-        fprintf(file, "<circle cx='%.1f' cy='%.1f' r='2.5' fill='%s'/>\n", place(minutes, readings->minute[i]),
-                place(levels, readings->level[i]), colour);
+    for (from = 0; from < readings->count; from = to) {
+        for (to = from + 1; to < readings->count && (unsigned)(readings->minute[to] - readings->minute[to - 1]) <= usual; to++)
+            ;
+        fprintf(file, "<polyline class='%s' fill='none' stroke='%s' stroke-width='1.5' points='", name, colour);
+        for (i = from; i < to; i++)
+            fprintf(file, "%s%.1f,%.1f", i > from ? " " : "", place(minutes, readings->minute[i]), place(levels, readings->level[i]));
+        fputs("'/>\n", file);
+        for (i = from; i < to && (readings->count <= 120 || to == from + 1); i++)
+            fprintf(file, "<circle cx='%.1f' cy='%.1f' r='2.5' fill='%s'/>\n", place(minutes, readings->minute[i]),
+                    place(levels, readings->level[i]), colour);
+    }
 }
 
 static void put_legend(const struct levels_plot *plot, FILE *file)
 {
-    fprintf(file, "<text x='%d' y='24' font-size='16'>Levels, tolerance %u mm</text>\n", LEFT, plot->tolerance);
+    fprintf(file, "<text x='%d' y='24' font-size='16'>Levels%s%s, tolerance %u mm</text>\n", LEFT, *plot->day ? " of " : "", plot->day,
+            plot->tolerance);
     fprintf(file, "<text x='%d' y='46' fill='%s'>first: ", LEFT, first_colour);
     put_text(plot->first->path, file);
     fprintf(file, "</text>\n<text x='%d' y='46' fill='%s'>second: ", (LEFT + WIDTH) / 2, second_colour);
@@ -154,12 +198,14 @@ void levels_plot_write(const struct levels_plot *plot, FILE *file)
     struct scale minutes = scale_of(first->minute, first->count, second->minute, second->count, LEFT, WIDTH - RIGHT);
     struct scale levels = scale_of(first->level, first->count, second->level, second->count, HEIGHT - BOTTOM, TOP);
 
+    round_out(&minutes, time_step(first->kind, &minutes));
+    round_out(&levels, step_of(levels.to - levels.from));
     fprintf(file, LEVELS_PLOT_MARK " -->\n"
                   "<svg xmlns='http://www.w3.org/2000/svg' width='%d' height='%d' viewBox='0 0 %d %d' font-family='sans-serif' "
                   "font-size='12'>\n<title>Two lists of levels and the minutes at which they differ</title>\n"
                   "<rect width='100%%' height='100%%' fill='white'/>\n",
             WIDTH, HEIGHT, WIDTH, HEIGHT);
-    put_axes(&minutes, &levels, file);
+    put_axes(first->kind, &minutes, &levels, file);
     put_report(plot, &minutes, file);
     put_levels(first, "first", first_colour, &minutes, &levels, file);
     put_levels(second, "second", second_colour, &minutes, &levels, file);

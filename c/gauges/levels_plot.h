@@ -14,9 +14,10 @@ struct levels_plot {
     const uint8_t *report; /* lines as the library writes them */
     size_t lines;
     unsigned tolerance;
+    const char *day; /* empty: none */
 };
 
-/* Writes the plot; the caller looks for errors of the file. */
+/* Writes the plot; a step of a list longer than its usual one is a gap in its line. The caller looks for errors of the file. */
 void levels_plot_write(const struct levels_plot *plot, FILE *file);
 
 #endif
