@@ -7,6 +7,7 @@
 # c-sanitize                     the same with address and undefined-behaviour sanitizers, in target/c/sanitize
 # c-check                        tests of all of these
 # c-quick                        the quick ones of them, without sanitizers
+# wrapper-check                  tests of the C++ wrapper
 # snippets-check                 the examples and commands of README, docs and headers: built, run and judged
 # rights-cost                    what questions 19 and 20 cost, by callgrind
 # question-cost                  what question 2 costs; with LIB the archive it is a function of its own
@@ -140,6 +141,7 @@ c-kills: $(C_OUT)/kill_check
 # The store object as an archive of its own; it calls the library.
 STORE_LIB = $(C_OUT)/libkagutin_store.a
 
+C_WRAPPER = include/kagutin.hpp
 C_PUBLIC = kagutin kagutin_store kagutin_rights kagutin_file kagutin_memory kagutin_fram
 
 # NAME.c of c/store and c/drivers becomes kagutin_NAME.c there; all headers and sources of dist/ stand in one folder.
@@ -153,9 +155,9 @@ c-dist: $(C_PUBLIC:%=include/%.h) $(C_PRIVATE) $(C_STORE:%=%.c)
 # Standalone calls, each a header and an archive.
 C_STANDALONE = kagutin_gauges kagutin_inflow
 
-install: $(LIB) $(STORE_LIB) $(GAUGES_LIB) $(INFLOW_LIB) $(C_PUBLIC:%=include/%.h) $(C_STANDALONE:%=include/%.h) kagutin.pc.in
+install: $(LIB) $(STORE_LIB) $(GAUGES_LIB) $(INFLOW_LIB) $(C_PUBLIC:%=include/%.h) $(C_WRAPPER) $(C_STANDALONE:%=include/%.h) kagutin.pc.in
 	install -d $(DESTDIR)$(PREFIX)/include $(DESTDIR)$(PREFIX)/lib/pkgconfig
-	install -m 644 $(C_PUBLIC:%=include/%.h) $(C_STANDALONE:%=include/%.h) $(DESTDIR)$(PREFIX)/include
+	install -m 644 $(C_PUBLIC:%=include/%.h) $(C_WRAPPER) $(C_STANDALONE:%=include/%.h) $(DESTDIR)$(PREFIX)/include
 	install -m 644 $(LIB) $(DESTDIR)$(PREFIX)/lib/libkagutin.a
 	install -m 644 $(STORE_LIB) $(DESTDIR)$(PREFIX)/lib/libkagutin_store.a
 	install -m 644 $(GAUGES_LIB) $(DESTDIR)$(PREFIX)/lib/libkagutin_gauges.a
@@ -165,7 +167,7 @@ install: $(LIB) $(STORE_LIB) $(GAUGES_LIB) $(INFLOW_LIB) $(C_PUBLIC:%=include/%.
 	chmod 644 $(DESTDIR)$(PREFIX)/lib/pkgconfig/kagutin.pc
 
 uninstall:
-	rm -f $(C_PUBLIC:%=$(DESTDIR)$(PREFIX)/include/%.h) $(DESTDIR)$(PREFIX)/lib/libkagutin.a
+	rm -f $(C_PUBLIC:%=$(DESTDIR)$(PREFIX)/include/%.h) $(C_WRAPPER:%=$(DESTDIR)$(PREFIX)/%) $(DESTDIR)$(PREFIX)/lib/libkagutin.a
 	rm -f $(C_STANDALONE:%=$(DESTDIR)$(PREFIX)/include/%.h) $(C_STANDALONE:%=$(DESTDIR)$(PREFIX)/lib/lib%.a)
 	rm -f $(DESTDIR)$(PREFIX)/lib/libkagutin_store.a $(DESTDIR)$(PREFIX)/lib/pkgconfig/kagutin.pc
 
@@ -204,7 +206,12 @@ snippets-check: $(SNIPPET_LIBS) $(SNIPPET_SANITIZED) $(SNIPPET_PROGRAMS)
 links-check:
 	@if command -v python3 > /dev/null; then python3 tests/docs/links.py; else echo "skipped the links of the documents: python3 is not installed"; fi
 
-c-check: snippets-check links-check all-in-one-check
+# The C++ wrapper.
+.PHONY: wrapper-check
+wrapper-check: $(STORE_LIB) $(LIB)
+	@sh tests/programs/wrapper-check.sh $(STORE_LIB) $(LIB) $(C_LIBS)
+
+c-check: snippets-check links-check all-in-one-check wrapper-check
 
 c-clean:
 	rm -rf $(C_OUT)
