@@ -10,7 +10,7 @@
 # make play       random histories on the reference implementation alone
 # make bench      instructions and times of each call against the reference implementation; other stores, if installed
 # make bench-docs tables of docs/PERFORMANCE.md and docs/ring-cost.svg from the last bench
-# make install    headers, libraries and pkg-config file, under DESTDIR and PREFIX; make uninstall takes them away
+# make install    headers, libraries and pkg-config files, under DESTDIR and PREFIX; make uninstall takes them away; make arduino a library for it
 # make inspect    the inspector, target/c/inspect; make station, quickstart, gauges, inflow, bands and wear the other programs
 # make c-check    tests of the C side alone; make c-kills KILLS=N kills a process at work N times
 # make page       docs/page/index.html, a page that opens an image and lets anyone cut the power
