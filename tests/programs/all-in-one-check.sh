@@ -53,7 +53,6 @@ int main(int count, char **words)
 }
 END
 } > "$there/example.c"
-sed -i 's/"kagutin_file\.h"/"kagutin_all.h"/' "$there/example.c"
 gives 0 "README's example" "${CC:-cc}" -std=c99 $strict -DKAGUTIN_FILE "$there/example.c" "$there/kagutin_all.c" -o "$tmp/example"
 for start in 1 2 3; do
     gives $start "run $start of it brings back run $((start - 1))" "$tmp/example" "$tmp/example.img"
