@@ -13,7 +13,11 @@ void command_start(const char *name, const char *help);
 
 /* "name: message" on standard error; quit ends the program, and after STATUS_USAGE points to --help. */
 void command_say(const char *format, ...);
-void command_quit(int status, const char *format, ...);
+void command_quit(int status, const char *format, ...)
+#if defined(__GNUC__)
+    __attribute__((noreturn, format(printf, 2, 3)))
+#endif
+    ;
 
 /* --help, -h and --version end the program; a word that begins with '-' and is none of them is refused. False: no option. */
 bool command_option(const char *word);
