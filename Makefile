@@ -41,6 +41,7 @@ help:
 	@sed -n '/^#/!q; s/^# //p' Makefile
 
 include c.mk
+include validate.mk
 
 # The archive is made from proved crates only; rt proves what has changed, and a changed definition or proof counts as well.
 library $(ARCHIVE): crates.txt $(shell find crates -name '*.rt' -o -name '*.antt')
