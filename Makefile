@@ -3,6 +3,7 @@
 # make test       runs every test and every proof; the prover's verdict is the last line
 # make library    the proved archive for x86-64 Linux, target/staticlib/libkagutin.a; make LIB=that run and so on use it
 # make dist       dist/kagutin.c again from the proved program; the gate fails where it differs
+# make validate   the files of dist/ shown equal to the proved program, for all inputs; make validate-check tests the validator, long
 # make compare    a long comparison of the library, built in many ways, with the second implementation, call by call
 # make arm        the C file on an emulated Cortex-M board and other machines; port/packages.sh installs what it needs
 # make play       random histories on the second implementation alone
@@ -97,6 +98,8 @@ test-library: bench/target/release/bench
 
 test-compared:
 	$(MAKE) --no-print-directory dist-check
+	$(MAKE) --no-print-directory validate
+	$(MAKE) --no-print-directory validate-quick-check
 	$(MAKE) --no-print-directory generator-check
 	$(MAKE) --no-print-directory port-check
 	$(MAKE) --no-print-directory above-compare

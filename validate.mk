@@ -16,3 +16,11 @@ VALIDATED = --include include --file $(DIST_C) $(GENERATE_WORDS) \
 validate:
 	@[ -n "$(VALIDATE_PYTHON)" ] || { echo "validate: apt-get install python3-z3 python3-pycparser" >&2; exit 1; }
 	$(VALIDATE_PYTHON) validate/validate.py --solver $(SOLVER) $(VALIDATED)
+
+.PHONY: validate-check validate-quick-check
+
+validate-check:
+	$(VALIDATE_PYTHON) tests/validator/check.py $(VALIDATED)
+
+validate-quick-check:
+	$(VALIDATE_PYTHON) tests/validator/check.py --quick $(VALIDATED)

@@ -3,20 +3,21 @@ after `return`, or as all that is assigned to a variable; so C's order of evalua
 import z3
 from pycparser import c_ast
 
-from c_text import C_BOOL, C_VOID, U64, U8, CArray, CInt, CPointer, CStruct
+from c_text import C_BOOL, C_VOID, U64, CStruct
 from c_values import CValues, Value
 from helpers import HELPERS
-from terms import (FALSE, Head, Mem, Refused, State, called, filled, known, leaves_of, merge, negation, number, resized, shaped,
+from terms import (FALSE, Head, Mem, Refused, State, called, filled, leaves_of, merge, negation, number, resized, same_shape, shaped,
                    simple, sorts_of, symbols)
 
 
 class CRun(CValues):
     """`parameters`: the program's local for each parameter; `locals_of`: for each variable, a hint; `callees`: for each function that
-    may be called, the program's, and its literal arguments by place; `dead`: (loop, variable) that is not taken to be equal at the head."""
+    may be called, the program's, and its literal arguments by place; `shapes`: of the program's locals that lie in memory; `dead`: (loop,
+    variable) that is not taken to be equal at the head."""
 
-    def __init__(self, c, name, parameters, locals_of, callees, dead=frozenset()):
+    def __init__(self, c, name, parameters, locals_of, callees, shapes=None, dead=frozenset()):
         super().__init__(c)
-        self.locals_of, self.callees, self.dead = locals_of, callees, dead
+        self.locals_of, self.callees, self.shapes, self.dead = locals_of, callees, shapes or {}, dead
         f = c.functions[name]
         self.result = c.result(f)
         given = c.parameters(f)
@@ -82,6 +83,9 @@ class CRun(CValues):
         if s.name in self.types or s.storage or not isinstance(s.type, (c_ast.TypeDecl, c_ast.PtrDecl)):
             raise Refused(f'declaration of {s.name}')
         self.types[s.name] = self.c.type(s.type)
+        local = self.locals_of.get(s.name)
+        if s.name in self.memory and not (local in self.shapes and same_shape(self.c.shape(self.types[s.name]), self.shapes[local])):
+            raise Refused(f'{s.name} lies in memory, and is not what the program has there')
         state.locals[s.name] = None
         if s.init is not None:
             self.assign(state, c_ast.ID(s.name), s.init)

@@ -5,7 +5,6 @@ from headers import Headers, declared_calls
 from helpers_check import check_helper
 from match import Matcher, c_name
 from sources import exported
-from terms import Refused
 from wrappers import validate_export, validate_import
 
 
@@ -29,7 +28,7 @@ class File:
         self.c = CFile(preprocessed(words.path, include, target), words.path, target)
         exports = {name: export for crate in words.all('--export') for name, export in exported(source, crate).items()}
         self.imports = {export.path: export for crate in words.all('--import') for export in exported(source, crate).values()}
-        self.matcher = Matcher(program, self.c)
+        self.matcher = Matcher(program, self.c, source)
         self.headers = Headers(program, self.c, source, exports, {export.name: export for export in self.imports.values()})
         self.exports = exports
 
@@ -52,8 +51,8 @@ class File:
         if name in self.matcher.exported:
             export = self.exports[name]
             compare = validate_export(self.matcher, solver, export, c_name(export.path))
-        elif self.matcher.chosen[name].name in self.imports:
-            compare = validate_import(self.matcher, solver, name, self.imports[self.matcher.chosen[name].name].name)
+        elif self.matcher.copies[name].name in self.imports:
+            compare = validate_import(self.matcher, solver, name, self.imports[self.matcher.copies[name].name].name)
         else:
             compare = validate_copy(self.matcher, solver, name)
         return compare.by_form, compare.by_solver

@@ -21,26 +21,18 @@ def called_in(body):
 
 
 def validate_copy(matcher, solver, name):
-    """Tries the ways to take a copy's literals; the last refusal counts."""
-    for k, way in enumerate(matcher.copies[name]):
-        matcher.chosen[name] = way
-        try:
-            return validate_way(matcher, solver, name, way)
-        except Refused:
-            if k == len(matcher.copies[name]) - 1:
-                raise
-
-
-def validate_way(matcher, solver, name, way):
-    c, program = matcher.c, matcher.program
+    """Variables that turn out not to be the program's at a loop's head are taken as not written there, and all is tried again."""
+    c, program, way = matcher.c, matcher.program, matcher.copies[name]
     called = called_in(c.functions[name].body)
 
     def in_place(callee, literals):
         return not matcher.has_call(called, callee, literals)
     ours = ProgramRun(program, way.name, in_place, way.fixed, c.target.size_bits)
     locals_of, callees, dead = matcher.locals_of(name, way), matcher.callees(called), frozenset()
+    f = program.get(way.name)
+    shapes = {i: program.shape(t) for i, t in enumerate(f.types) if f.in_memory(i)}
     for _ in range(TURNS):
-        theirs = CRun(c, name, way.parameters, locals_of, callees, dead)
+        theirs = CRun(c, name, way.parameters, locals_of, callees, shapes, dead)
         compare = Compare(solver, ours, theirs)
         try:
             compare.run()

@@ -3,7 +3,7 @@ import z3
 
 from c_text import C_VOID, U32, U64, CInt
 from c_values import Value
-from terms import (count_ones, known, leading_zeros, number, read, resized, signed_quotient, signed_remainder, simple, trailing_zeros,
+from terms import (count_ones, leading_zeros, number, read, signed_quotient, signed_remainder, simple, trailing_zeros,
                    widened, written)
 
 

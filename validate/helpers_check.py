@@ -7,7 +7,8 @@ from c_text import C_VOID, CInt
 from c_values import Value
 from helpers import HELPERS
 from solver import abstracted
-from terms import FUNCTIONS, Mem, Refused, Run, State, conjunction, known, merge, number, read, resized, simple, symbols, widened, written
+from terms import (FUNCTIONS, Mem, Refused, Run, State, conjunction, known, merge, number, read, resized, sign_extended, signed_order, simple,
+                   symbols, widened, written)
 
 
 # ---- the definitions of what is not interpreted elsewhere
@@ -61,6 +62,15 @@ def defined(term):
             return DEFINITIONS[name](*parts)
     changed = [pair for pair in zip(term.children(), parts) if not pair[0].eq(pair[1])]
     return z3.substitute(term, *changed) if changed else term
+
+
+def check_forms(solver):
+    """The forms in terms.py that stand for an extension by the sign and for signed comparison are these."""
+    for width in (8, 16, 32, 64):
+        x, y = z3.BitVec('x', width), z3.BitVec('y', width)
+        for wrong in (sign_extended(x, 64) != widened(x, 64, True), signed_order(z3.ULT, x, y) != (x < y), signed_order(z3.ULE, x, y) != (x <= y)):
+            if solver.contradict([wrong]) != 'unsat':
+                raise Refused('a form of signed numbers')
 
 
 # ---- the text of one helper

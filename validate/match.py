@@ -1,11 +1,10 @@
-"""Which function of the program each function of the C file came from: by name, a hint that the comparison then proves or refuses."""
+"""Which function of the program each function of the C file came from: by names, a hint that the comparison then proves or refuses."""
 import itertools
 import re
 
 from helpers import HELPERS
+from sources import parameter_names
 from terms import Refused, number, same_shape, sorts_of
-
-TRIED = 12          # ways to take a copy's literals
 
 
 class Match:
@@ -22,33 +21,42 @@ def c_name(name):
 class Matcher:
     """Names of the C file's own functions: `copies` of the program's, `exported` ones, and `helpers`."""
 
-    def __init__(self, program, c):
-        self.program, self.c = program, c
+    def __init__(self, program, c, source):
+        self.program, self.c, self.source = program, c, source
         self.by_name, self.copies, self.exported, self.helpers = {}, {}, [], []
         for name in program.functions:
             if self.by_name.setdefault(c_name(name), name) != name:
                 raise Refused(f'{name}: two functions of this name in C')
+        if any(name in HELPERS and name not in c.own for name in c.functions):
+            raise Refused('a helper that is defined in a header')
         for name in c.own:
             if name in HELPERS:
                 self.helpers.append(name)
             elif not c.is_static(name):
                 self.exported.append(name)
             else:
-                self.copies[name] = self.ways(name)
-        self.chosen = {name: ways[0] for name, ways in self.copies.items()}
+                self.copies[name] = self.copied(name)
 
-    def ways(self, name):
-        """The ways to take a function: the one of that name, or copies for the literals at the end of the name."""
+    def copied(self, name):
+        """The program's function of that name, or of the name without literals at its end, which some parameters then are."""
         base, numbers = name, []
         while base not in self.by_name:
             if not re.fullmatch(r'.+_\d+', base):
                 raise Refused(f'{name}: no function of the program has this name')
             base, numbers = self.cut(base, numbers)
         f = self.program.get(self.by_name[base])
-        ways = list(itertools.islice(self.with_literals(f, name, numbers), TRIED))
-        if not ways:
-            raise Refused(f'{name}: its parameters are not those of {f.name}')
-        return ways
+        ways = list(self.with_literals(f, name, numbers))
+        if len(ways) > 1:
+            ways = [way for way in ways if self.same_names(f, name, way)]
+        if len(ways) != 1:
+            raise Refused(f'{name}: which parameters of {f.name} it has is not clear')
+        return ways[0]
+
+    def same_names(self, f, name, way):
+        """Whether the parameters that are left have the names of the source, or p3 for the third."""
+        given = [variable for variable, _ in self.c.parameters(self.c.functions[name])]
+        names = parameter_names(self.source, f.name) or []
+        return given in ([f'p{i}' for i in way.parameters], [names[i - 1] for i in way.parameters if i <= len(names)])
 
     def cut(self, base, numbers):
         """Takes the last literal off a name: `_7`, or `_p2_7` for one of parameter 2."""
@@ -72,7 +80,7 @@ class Matcher:
 
     def callees(self, called):
         """C name -> (the program's function, the literal leaves by their place), of those that are called."""
-        return {name: (self.chosen[name].name, self.literal_leaves(self.chosen[name])) for name in called if name in self.chosen}
+        return {name: (self.copies[name].name, self.literal_leaves(self.copies[name])) for name in called if name in self.copies}
 
     def literal_leaves(self, match):
         f, at, out = self.program.get(match.name), 0, {}
@@ -94,5 +102,5 @@ class Matcher:
 
     def has_call(self, called, name, literals):
         """Whether C has a copy of the function among those that it calls that fits these literal arguments."""
-        return any(self.chosen[c].name == name and all(literals[i - 1] == value for i, value in self.chosen[c].fixed.items())
-                   for c in called if c in self.chosen)
+        return any(self.copies[c].name == name and all(literals[i - 1] == value for i, value in self.copies[c].fixed.items())
+                   for c in called if c in self.copies)

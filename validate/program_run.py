@@ -8,8 +8,8 @@ import z3
 
 from program import bodies, literal, only
 from terms import (BOOL, Head, Refused, Run, State, bytes_of, called, count_ones, either, filled, array_sort, known, leading_zeros,
-                   leaves_of, literal_of, merge, negation, number, read, read_array, resized, same_shape, shaped, signed_quotient, signed_remainder,
-                   simple, sorts_of, symbols, trailing_zeros, widened, Mem)
+                   leaves_of, literal_of, merge, negation, number, read, read_array, resized, same_shape, shaped, sign_extended, signed_order,
+                   signed_quotient, signed_remainder, simple, sorts_of, symbols, trailing_zeros, widened, Mem)
 
 DEEPEST = 12        # functions put in place of their calls inside each other
 
@@ -217,7 +217,7 @@ class ProgramRun(Run):
         return state
 
     def assign_array(self, state, place, shape, kind, content):
-        (at, pointer), (_, item, count) = self.locate(state, place)[0][:2], shape
+        (at, pointer), (_, _, count) = self.locate(state, place)[0][:2], shape
         if at != 'memory':
             raise Refused('the program has an array as a value')
         if kind == 'Repeat' and content[1] == count:
@@ -282,7 +282,7 @@ class ProgramRun(Run):
         signed = source == to == 'Signed'
         if width < x.size():
             self.fact(state, widened(resized(x, width), x.size(), signed) == x)
-        return resized(x, width, signed)
+        return sign_extended(x, width) if signed and width > x.size() else resized(x, width)
 
     def binary(self, state, op, x, y):
         name, sign = (op, None) if isinstance(op, str) else only(op)
@@ -298,9 +298,11 @@ class ProgramRun(Run):
             return either(x, y) if name == 'Or' else x & y if name == 'And' else x ^ y
         if name in ('Shl', 'Shr'):
             self.fact(state, z3.ULT(y, number(x.size(), x.size())))
-            return x << y if name == 'Shl' else x >> y if sign == 'Signed' else z3.LShR(x, y)
+            if sign == 'Signed':
+                return resized(sign_extended(x, 64) >> (widened(y, 64, False) & number(63)), x.size())
+            return x << y if name == 'Shl' else z3.LShR(x, y)
         if name in ('Lt', 'Le') and sign == 'Signed':
-            return x < y if name == 'Lt' else x <= y
+            return signed_order(z3.ULT if name == 'Lt' else z3.ULE, x, y)
         if name in ('Lt', 'Le'):
             return z3.ULT(x, y) if name == 'Lt' else z3.ULE(x, y)
         if name in ('Div', 'Rem'):
@@ -313,7 +315,7 @@ class ProgramRun(Run):
         self.fact(state, y != 0)
         if sign == 'Signed':
             of = signed_quotient if name == 'Div' else signed_remainder
-            return resized(of(widened(x, 64, True), widened(y, 64, True)), x.size())
+            return resized(of(sign_extended(x, 64), sign_extended(y, 64)), x.size())
         return z3.UDiv(x, y) if name == 'Div' else z3.URem(x, y)
 
     def sum(self, state, name, sign, x, y):

@@ -8,7 +8,7 @@ import z3
 
 from terms import function
 
-SECONDS = 60        # for one question
+SECONDS = 30        # for one question
 
 
 class Solver:
@@ -63,7 +63,7 @@ def abstracted_anew(term):
         return term
     kind = term.decl().kind()
     if kind == z3.Z3_OP_BMUL and sum(not z3.is_bv_value(part) for part in parts) > 1:
-        return uninterpreted('product', parts)
+        return product(parts)
     if kind in (z3.Z3_OP_BUDIV, z3.Z3_OP_BUDIV_I) and not power_of_two(parts[1]):
         return uninterpreted('quotient', parts)
     if kind in (z3.Z3_OP_BUREM, z3.Z3_OP_BUREM_I) and not power_of_two(parts[1]):
@@ -74,6 +74,15 @@ def abstracted_anew(term):
 def uninterpreted(name, parts):
     sorts = [part.sort() for part in parts]
     return function(name, *sorts, sorts[0])(*parts)
+
+
+def product(parts):
+    """Of the lesser and the greater factor, so that their order does not matter."""
+    out = parts[0]
+    for part in parts[1:]:
+        swapped = z3.ULT(part, out)
+        out = uninterpreted('product', [z3.If(swapped, part, out), z3.If(swapped, out, part)])
+    return out
 
 
 def rebuilt(term, parts):

@@ -42,6 +42,18 @@ def exported(folder, crate):
     return out
 
 
+def parameter_names(folder, path):
+    """The names of a function's parameters, or None: a hint for copies that lack some."""
+    *module, name = path.split('::')
+    if not os.path.isdir(os.path.join(folder, module[0], 'src')):
+        return None
+    for found, text in source_files(folder, module[0]):
+        match = re.search(rf'\bfn {name}\s*(?:<[^>]*>)?\s*\(([^)]*)\)', text) if found == '::'.join(module) else None
+        if match:
+            return re.findall(r'(\w+)\s*:', match[1])
+    return None
+
+
 def fields(folder, path):
     """(name, type) of each field of a struct, in order."""
     *module, name = path.split('::')

@@ -139,7 +139,37 @@ def widened(x, width, signed):
 
 
 def resized(x, width, signed=False):
-    return z3.Extract(width - 1, 0, x) if x.size() > width else widened(x, width, signed)
+    return low_bits(simple(x), width) if x.size() > width else widened(x, width, signed)
+
+
+LOW_BITS = {z3.Z3_OP_BADD: lambda a, b: a + b, z3.Z3_OP_BMUL: lambda a, b: a * b, z3.Z3_OP_BAND: lambda a, b: a & b,
+            z3.Z3_OP_BXOR: lambda a, b: a ^ b}
+
+
+def low_bits(x, width):
+    """The low bits of a term; of a sum, a product and so on those of the parts, on which alone they depend: so narrow numbers that C
+    computes in wider ones have the form that they have in the program."""
+    of = LOW_BITS.get(x.decl().kind())
+    if of is None:
+        return z3.Extract(width - 1, 0, x)
+    parts = [low_bits(part, width) for part in x.children()]
+    out = parts[0]
+    for part in parts[1:]:
+        out = of(out, part)
+    return simple(out)
+
+
+def sign_extended(x, width):
+    """A signed number in more bits, in the form that C text has it: the sign bit flipped, and taken off again. helpers_check.py proves
+    it to be the extension."""
+    half = number(1 << x.size() - 1, width)
+    return x if x.size() == width else (z3.ZeroExt(width - x.size(), x) ^ half) - half
+
+
+def signed_order(op, x, y):
+    """Signed numbers compare as naturals with the sign bit flipped."""
+    flip = number(1 << 63)
+    return op(sign_extended(x, 64) ^ flip, sign_extended(y, 64) ^ flip)
 
 
 # ---- values: a leaf is (term, whether it is written), or None if never written; a struct is a list of values
@@ -175,7 +205,7 @@ def same_shape(a, b):
     if isinstance(a, list) or isinstance(b, list):
         return isinstance(a, list) and isinstance(b, list) and len(a) == len(b) and all(same_shape(x, y) for x, y in zip(a, b))
     if isinstance(a, tuple) or isinstance(b, tuple):
-        return isinstance(a, tuple) and isinstance(b, tuple) and a[2] == b[2] and a[1] == b[1]
+        return isinstance(a, tuple) and isinstance(b, tuple) and a[2:] == b[2:] and same_shape(a[1], b[1])
     return a == b
 
 

@@ -12,6 +12,7 @@ import sys
 import time
 
 from files import File, Words
+from helpers_check import check_forms
 from program import Program
 from solver import Solver
 from targets import targets
@@ -90,6 +91,7 @@ def main():
     options, all_words = read_words(sys.argv[1:])
     only = options.get('--only')
     SHARED.update(program=Program(all_words[0].one('--rlib')), include=options.get('--include', 'include'), solver=options.get('--solver', 'z3'))
+    check_forms(Solver(SHARED['solver']))
     todo, refused = pieces(all_words, only)
     jobs = int(options.get('--jobs', os.cpu_count() or 1))
     with multiprocessing.get_context('fork').Pool(jobs) as pool:

@@ -3,7 +3,7 @@ import z3
 from c_run import CRun
 from c_text import CInt
 from compare import Compare
-from terms import Mem, Refused, Run, State, called, known, leaves_of, merge, number, shaped, simple, sorts_of, symbols, widened
+from terms import Mem, Refused, Run, State, called, leaves_of, number, shaped, simple, sorts_of, symbols, widened
 
 
 class Expected(Run):
@@ -31,6 +31,8 @@ def validate_export(matcher, solver, export, inner):
             raise Refused('another number of parameters')
         term = given.pop(0)
         leaves.append(simple(widened(term, 64, False) if z3.is_bv(term) and sort == z3.BitVecSort(64) else term))
+    if given:
+        raise Refused('another number of parameters')
     return held_to(solver, Expected(matcher.program, export.path, leaves), run)
 
 
@@ -58,7 +60,7 @@ class ImportRun(CRun):
 
 def validate_import(matcher, solver, name, extern):
     """The function of the file that stands for one of another file."""
-    way = matcher.chosen[name]
+    way = matcher.copies[name]
     f = matcher.program.get(way.name)
     if way.fixed or extern not in matcher.c.declared or extern in matcher.c.functions:
         raise Refused(f'{extern} is not declared, or is defined here')
