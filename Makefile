@@ -5,6 +5,7 @@
 # make library    the proved archive for x86-64 Linux, target/staticlib/libkagutin.a; make LIB=that run and so on use it
 # make dist       dist/kagutin.c again from the proved program; the gate fails where it differs
 # make all-in-one dist/kagutin_all.c and .h, one file and one header to drop in; make sizes tells what they take on a Cortex-M4
+# make validate   the files of dist/ shown equal to the proved program, for all inputs; make validate-check tests the validator, long
 # make compare    a long comparison of the library, built in many ways, with the reference implementation, call by call
 # make arm        the C file on an emulated Cortex-M board and other machines; port/packages.sh installs what it needs
 # make play       random histories on the reference implementation alone
@@ -49,6 +50,7 @@ help:
 include make/c.mk
 include page/page.mk
 include make/lint.mk
+include make/validate.mk
 
 # Archives are made from proved crates only; rt proves what has changed, and a changed definition or proof counts as well.
 library: $(ARCHIVE)
@@ -111,6 +113,8 @@ test-library: rust/target/release/bench
 
 test-compared:
 	$(MAKE) --no-print-directory dist-check
+	$(MAKE) --no-print-directory validate
+	$(MAKE) --no-print-directory validate-quick-check
 	$(MAKE) --no-print-directory generator-check
 	$(MAKE) --no-print-directory port-check
 	$(MAKE) --no-print-directory units-compare
