@@ -149,7 +149,7 @@ def check_helper(solver, c, name):
     for what, goal in goals:
         wrong = [defined(a) for a in [*(test for _, _, test in wanted.duties), z3.Not(goal)]]
         if solver.contradict([abstracted(a) for a in wrong]) != 'unsat' and solver.contradict(wrong) != 'unsat':
-            raise Refused(f'{name}: {what} differs from the definition')
+            raise Refused(f'{name}: {what} differs from the definition, or could not be decided')
     if {(kind, width, p.get_id()) for _, kind, width, p in run.accesses} != {(kind, width, p.get_id()) for _, kind, width, p in wanted.accesses}:
         raise Refused(f'{name}: reaches other memory')
     reached = {p.get_id() for _, _, _, p in wanted.accesses}
