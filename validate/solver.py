@@ -8,7 +8,7 @@ import z3
 
 from terms import function
 
-SECONDS = 30        # for one question
+SECONDS = 120       # for one question, by the clock: the machine may have other work
 
 
 class Solver:

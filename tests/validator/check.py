@@ -232,7 +232,7 @@ def main():
     print(f'validate-check: new random programs from seed {fresh} (--seed repeats them)', flush=True)
     random_programs([1, 2, fresh] if quick else [*range(1, 21), *range(fresh, fresh + 10)], 8 if quick else 40)
     dist_mutants(options['--include'], all_words, 24 if quick else 300, 1)
-    faults(options['--include'], all_words, range(1, 9), FAULTS[::5] if quick else FAULTS)
+    faults(options['--include'], all_words, range(1, 3), FAULTS[::6] if quick else FAULTS)
 
 
 if __name__ == '__main__':
