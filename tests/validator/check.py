@@ -22,6 +22,7 @@ sys.path[:0] = [os.path.join(ROOT, 'validate'), HERE]
 from c_text import CFile, preprocessed  # noqa: E402
 from faults import FAULTS  # noqa: E402
 from files import File, Words  # noqa: E402
+from helpers import HELPERS  # noqa: E402
 from mutations import functions, mutant  # noqa: E402
 from program import Program  # noqa: E402
 from programs import EXPORTED, LEAST, write_program  # noqa: E402
@@ -132,7 +133,8 @@ def random_program(seed, mutants):
 def random_programs(seeds, mutants):
     counts = [random_program(seed, mutants) for seed in seeds]
     functions_, refused, same = (sum(column) for column in zip(*counts))
-    print(f'validate-check: {len(seeds)} random programs accepted, {functions_} functions; of {refused + same} wrong edits {refused} refused, {same} do the same')
+    print(f'validate-check: {len(seeds)} random programs accepted, {functions_} functions; of {refused + same} wrong edits {refused} refused, '
+          f'{same} do the same')
 
 
 # ---- wrong edits of dist/
@@ -172,7 +174,8 @@ def differing(right, wrong, include, target):
     """The functions and helpers of the wrong file whose text is another than in the right one."""
     files = [CFile(preprocessed(path, include, target), path, target) for path in (right, wrong)]
     changed = [name for name in files[1].own if name not in files[0].own or files[0].text(name) != files[1].text(name)]
-    return [name for name in changed if '__' in name or not files[1].is_static(name)], [name for name in changed if '__' not in name and files[1].is_static(name)]
+    helpers = [name for name in changed if name in HELPERS]
+    return [name for name in changed if name not in helpers], helpers
 
 
 def refused_somewhere(subject, right, wrong, include, program, words):
@@ -232,7 +235,7 @@ def main():
     print(f'validate-check: new random programs from seed {fresh} (--seed repeats them)', flush=True)
     random_programs([1, 2, fresh] if quick else [*range(1, 21), *range(fresh, fresh + 10)], 8 if quick else 40)
     dist_mutants(options['--include'], all_words, 24 if quick else 300, 1)
-    faults(options['--include'], all_words, range(1, 9), FAULTS[::5] if quick else FAULTS)
+    faults(options['--include'], all_words, range(1, 3), FAULTS[::6] if quick else FAULTS)
 
 
 if __name__ == '__main__':

@@ -8,9 +8,8 @@ FAULTS = [
     ('fold.py', 'if to is None or to.base == local or to.base in read:', 'if to is None or to.base == local:', 'random'),
     ('fold.py', 'return not memory or not (', 'return True or not (', 'random'),
     ('inline.py', 'return Bool(value.left == value.right)', 'return Bool(value.left != value.right)', 'random'),
-    ('inline.py', 'isinstance(arg, Copy) and arg.place.base not in in_memory and not derefs(arg.place.steps)', 'isinstance(arg, Copy)', 'random'),
-    ('inline.py', "found - assigned(function)", "found - assigned(function) - {1}", 'random'),
-    ('words.py', 'return a[:2] == b[:2] and a[2] + distance == b[2]', 'return a[:2] == b[:2]', 'random'),
+    ('inline.py', 'arg = call.args[i - 1] if', 'arg = call.args[i - 1 if callee.types[1:3] != [callee.types[0]] * 2 else 2 - i] if', 'random'),
+    ('inline.py', 'renamed_body(function.body, known))', 'renamed_body(function.body, {i: Int(v.width, v.value + 1) for i, v in known.items()}))', 'random'),
     ('words.py', 'return Load(2 * low.size, low.pointer)', 'return Load(2 * low.size, high.pointer)', 'random'),
     ('words.py', 'return Store(2 * first.size, first.pointer, first.value)', 'return Store(2 * first.size, first.pointer, second.value)', 'random'),
     # values
@@ -24,7 +23,6 @@ FAULTS = [
     ('c_values.py', "return f'({self.types.c(t)})((uint32_t){x} {SIGNS[op]} {y})', t", "return f'((uint32_t){x} {SIGNS[op]} {y})', t", 'random'),
     # statements and functions
     ('c_functions.py', "self.line(depth, 'continue;')", "self.line(depth, 'break;')", 'random'),
-    ('c_functions.py', "            return text[1:]\n", "            return text\n", 'random'),
     ('c_functions.py', "' || '.join(f'{text} == {key}u'", "' || '.join(f'{text} == {key + 1}u'", 'random'),
     ('c_functions.py', "return '0'\n", "return '1'\n", 'random'),
     ('c_functions.py', "params.append(f'{c} {n}')\n                args.append(n ", "params.insert(0, f'{c} {n}')\n                args.append(n ", 'random'),

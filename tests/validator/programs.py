@@ -277,6 +277,20 @@ def branch(rng):
     return w.form()
 
 
+def crossed(rng):
+    """Values that are computed before what they read is written, and used after it: of a variable, and of a byte."""
+    w = Writer(rng, U64, [BYTES, U64, U64])
+    x = w.local(U64)
+    w.out.append(('Assign', place(x), {'Op2': ['And', copy(2), number(255)]}))
+    before = w.binary('Xor', copy(x), number(1))
+    w.out.append(('Assign', place(x), {'Op2': ['And', copy(3), number(255)]}))
+    one, other = (w.let('Ptr', {'Op2': ['Offset', copy(1, {'Field': 0}), w.masked(copy(3), LEAST - 1)]})['Copy']['local'] for _ in range(2))
+    byte = w.cast(copy(one, {'Deref': U8}), 'Unsigned', 'Unsigned', 64)
+    w.out.append(('Assign', place(other, {'Deref': U8}), {'Opd': number(7, 8)}))
+    w.give(w.binary('Or', w.binary('Or', before, w.binary('Shl', copy(x), number(8))), w.binary('Shl', byte, number(16))))
+    return w.form()
+
+
 def by_width(rng):
     """Compares two of its parameters with literals: copies are made for them."""
     w = Writer(rng, U64, [U64, U64, U64])
@@ -299,6 +313,7 @@ def exported(rng):
         w.out.append(('Assign', place(w.array), {'Repeat': [number(0, 16), 8]}))
     w.statements(0, 8)
     w.out.append(('Assign', place(w.variables[2]), {'Opd': w.call('branch', [copy(w.variables[1])])}))
+    w.out.append(('Assign', place(w.variables[3]), {'Opd': w.call('crossed', [copy(3), copy(1), copy(w.variables[0])])}))
     for local in w.variables[1:]:
         w.out.append(('Assign', place(w.variables[0]), {'Op2': ['Xor', copy(w.variables[0]), copy(local)]}))
     w.give(copy(w.variables[0]))
@@ -309,7 +324,7 @@ def write_program(folder, seed):
     """A crate `random` as the prover would leave it, its source and its header. Gives the generator's words for it."""
     rng = random.Random(seed)
     forms = [[f'random::get_{size}', getter(rng, size)] for size in (1, 2, 4, 8)] + [[f'random::put_{size}', putter(rng, size)] for size in (1, 2, 4, 8)]
-    forms += [['random::short', short(rng)], ['random::branch', branch(rng)], ['random::by_width', by_width(rng)]]
+    forms += [['random::short', short(rng)], ['random::branch', branch(rng)], ['random::crossed', crossed(rng)], ['random::by_width', by_width(rng)]]
     forms += [[f'random::call_{k}', exported(rng)] for k in range(EXPORTED)]
     for part in ('rlib/random.rlib/toolchain', 'crates/random/src'):
         os.makedirs(os.path.join(folder, part), exist_ok=True)
