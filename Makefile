@@ -4,12 +4,14 @@
 # make test       runs every test and every proof; the prover's verdict is the last line
 # make library    the proved archive for x86-64 Linux, target/staticlib/libkagutin.a; make LIB=that run and so on use it
 # make dist       dist/kagutin.c again from the proved program; the gate fails where it differs
+# make all-in-one dist/kagutin_all.c and .h, one file and one header to drop in; make sizes tells what they take on a Cortex-M4
+# make validate   the files of dist/ shown equal to the proved program, for all inputs; make validate-check tests the validator, long
 # make compare    a long comparison of the library, built in many ways, with the reference implementation, call by call
 # make arm        the C file on an emulated Cortex-M board and other machines; port/packages.sh installs what it needs
 # make play       random histories on the reference implementation alone
 # make bench      instructions and times of each call against the reference implementation; other stores, if installed
 # make bench-docs tables of docs/PERFORMANCE.md and docs/ring-cost.svg from the last bench
-# make install    program, manual pages, headers, libraries and pkg-config file, under DESTDIR and PREFIX; make uninstall takes them away
+# make install    program, manual pages, headers, libraries and pkg-config files, under DESTDIR and PREFIX; make uninstall takes them away; make arduino a library for it
 # make kagutin    the program, target/c/kagutin; its subcommands inspect, wear, bands, gauges, inflow and station are links to it, too
 # make quickstart the example
 # make c-check    tests of the C side alone; make c-kills KILLS=N kills a process at work N times
@@ -48,6 +50,7 @@ help:
 include make/c.mk
 include page/page.mk
 include make/lint.mk
+include make/validate.mk
 
 # Archives are made from proved crates only; rt proves what has changed, and a changed definition or proof counts as well.
 library: $(ARCHIVE)
@@ -110,6 +113,8 @@ test-library: rust/target/release/bench
 
 test-compared:
 	$(MAKE) --no-print-directory dist-check
+	$(MAKE) --no-print-directory validate
+	$(MAKE) --no-print-directory validate-quick-check
 	$(MAKE) --no-print-directory generator-check
 	$(MAKE) --no-print-directory port-check
 	$(MAKE) --no-print-directory units-compare
@@ -117,6 +122,7 @@ test-compared:
 	rust/target/release/bench --seed $(SEED) --no-counts --out target/bench-test > /dev/null && echo "bench: the same answers on both sides"
 
 test-c:
+	$(MAKE) --no-print-directory lint
 	$(MAKE) --no-print-directory c-check
 	$(MAKE) --no-print-directory c-check LIB=$(ARCHIVE) GAUGES_LIB=$(GAUGES_ARCHIVE) INFLOW_LIB=$(INFLOW_ARCHIVE) C_OUT=target/c-archive
 

@@ -50,13 +50,13 @@ struct slice_mut_u8 {
     size_t len;
 };
 
-struct answers__Reply {
+struct call_ask__Reply {
     uint64_t code;
     uint64_t figure;
     uint64_t size;
 };
 
-struct scan__slots__RingSlot {
+struct log_scan__slots__RingSlot {
     uint64_t slot;
     uint64_t turn;
 };
@@ -73,20 +73,20 @@ struct model__Tag {
     uint64_t u64_3;
 };
 
-struct positions__commits__Pass {
+struct log_newest__commits__Pass {
     uint64_t number;
-    struct scan__slots__RingSlot at;
+    struct log_scan__slots__RingSlot at;
     uint64_t done;
 };
 
-struct shown__ring__RingPlace {
+struct log_shown__ring__RingPlace {
     uint64_t number;
     uint64_t slot;
     uint64_t turn;
     uint64_t k;
 };
 
-struct recovery__opening__Shape {
+struct call_open__opening__Shape {
     uint64_t groups;
     uint64_t homes;
     uint64_t start;
@@ -96,7 +96,7 @@ struct array_u64_7 {
     uint64_t at[7];
 };
 
-struct scan__commits__Progress {
+struct log_scan__commits__Progress {
     uint64_t end;
     uint64_t number;
     uint64_t failed;
@@ -107,7 +107,7 @@ struct slice_mut_u16 {
     size_t len;
 };
 
-struct scan__commits__Found {
+struct log_scan__commits__Found {
     uint64_t end;
     uint64_t number;
 };
@@ -130,7 +130,7 @@ struct array_u16_64 {
     uint16_t at[64];
 };
 
-struct planning__tables__Replay {
+struct log_tables__tables__Replay {
     uint64_t end;
     uint64_t number;
     uint64_t size;
@@ -154,12 +154,12 @@ struct array_u8_32 {
     uint8_t at[32];
 };
 
-struct replay__stepping__Reached {
+struct log_replay__stepping__Reached {
     uint64_t home;
     uint64_t done;
 };
 
-struct planning__steps__Made {
+struct log_tables__steps__Made {
     uint64_t size;
     uint64_t next;
     bool more;
@@ -363,7 +363,7 @@ static inline uint32_t trailing_zeros(uint64_t x)
 }
 
 /* The number of groups in a log area of `len` bytes. */
-static inline uint64_t areas__lengths__log_groups(uint64_t len)
+static inline uint64_t base_areas__lengths__log_groups(uint64_t len)
 {
     if (len < 64u) {
         return 0u;
@@ -372,11 +372,11 @@ static inline uint64_t areas__lengths__log_groups(uint64_t len)
 }
 
 /* Whether a log area may have `len` bytes: a header and 4 to 1,024 whole groups. */
-static inline bool areas__lengths__log_right(uint64_t len)
+static inline bool base_areas__lengths__log_right(uint64_t len)
 {
     uint64_t t2;
 
-    t2 = areas__lengths__log_groups(len);
+    t2 = base_areas__lengths__log_groups(len);
     if (t2 < 4u) {
         return false;
     }
@@ -387,7 +387,7 @@ static inline bool areas__lengths__log_right(uint64_t len)
 }
 
 /* Whether a data area may have `len` bytes: 1 to 65,535 whole homes. */
-static inline bool areas__lengths__data_right(uint64_t len)
+static inline bool base_areas__lengths__data_right(uint64_t len)
 {
     uint64_t t2;
 
@@ -402,15 +402,15 @@ static inline bool areas__lengths__data_right(uint64_t len)
 }
 
 /* Whether the lengths of both copies and of the strip are right. */
-static inline bool answers__lengths_right(struct slice_u8 log, struct slice_u8 area, struct slice_u8 state)
+static inline bool call_ask__lengths_right(struct slice_u8 log, struct slice_u8 area, struct slice_u8 state)
 {
     bool t4;
 
-    t4 = areas__lengths__log_right((uint64_t)log.len);
+    t4 = base_areas__lengths__log_right((uint64_t)log.len);
     if (!t4) {
         return false;
     }
-    t4 = areas__lengths__data_right((uint64_t)area.len);
+    t4 = base_areas__lengths__data_right((uint64_t)area.len);
     if (!t4) {
         return false;
     }
@@ -418,7 +418,7 @@ static inline bool answers__lengths_right(struct slice_u8 log, struct slice_u8 a
 }
 
 /* How far `x` lies above `low`, modulo 2^64: one test of it tells whether `x` lies between `low` and a number above it. */
-static inline uint64_t order__distances__distance(uint64_t x, uint64_t low)
+static inline uint64_t base_order__distances__distance(uint64_t x, uint64_t low)
 {
     uint64_t t4;
 
@@ -431,7 +431,7 @@ static inline uint64_t order__distances__distance(uint64_t x, uint64_t low)
 }
 
 /* Whether the numbers of groups and homes are `groups` and `homes`, and the group numbers and the places filled are in order. */
-static inline bool order__numbers__groups_in_order(struct slice_u8 s, uint64_t groups, uint64_t homes)
+static inline bool base_order__numbers__groups_in_order(struct slice_u8 s, uint64_t groups, uint64_t homes)
 {
     uint64_t t4, t5, t6;
 
@@ -449,7 +449,7 @@ static inline bool order__numbers__groups_in_order(struct slice_u8 s, uint64_t g
     if (6u < t5) {
         return false;
     }
-    t6 = order__distances__distance(load_8(s.ptr + 24u), t4);
+    t6 = base_order__distances__distance(load_8(s.ptr + 24u), t4);
     if (t6 < groups) {
         return true;
     }
@@ -461,7 +461,7 @@ static inline bool order__numbers__groups_in_order(struct slice_u8 s, uint64_t g
 
 /* Whether the other numbers but the round are in order, where the log has `whole` positions from position `low` to the next
    group, and `all` with those filled. What lies between two others is compared once, by its distance from the lower one. */
-static inline bool order__numbers__bounds_in_order(struct slice_u8 s, uint64_t low, uint64_t whole, uint64_t all)
+static inline bool base_order__numbers__bounds_in_order(struct slice_u8 s, uint64_t low, uint64_t whole, uint64_t all)
 {
     uint64_t t5, t6, t7;
 
@@ -469,11 +469,11 @@ static inline bool order__numbers__bounds_in_order(struct slice_u8 s, uint64_t l
     if (t5 < load_8(s.ptr + 56u)) {
         return false;
     }
-    t6 = order__distances__distance(t5, low);
+    t6 = base_order__distances__distance(t5, low);
     if (whole < t6) {
         return false;
     }
-    t7 = order__distances__distance(load_8(s.ptr + 40u), low);
+    t7 = base_order__distances__distance(load_8(s.ptr + 40u), low);
     if (t6 < t7) {
         return false;
     }
@@ -481,7 +481,7 @@ static inline bool order__numbers__bounds_in_order(struct slice_u8 s, uint64_t l
 }
 
 /* The count that is kept as `less`. */
-static inline uint64_t strip__writers__one_more(uint64_t less)
+static inline uint64_t base_state__writers__one_more(uint64_t less)
 {
     if (less == UINT64_C(0xffffffffffffffff)) {
         return 0u;
@@ -490,7 +490,7 @@ static inline uint64_t strip__writers__one_more(uint64_t less)
 }
 
 /* Reads the four numbers of writer `w`. */
-static inline struct model__Writer strip__writers__writer(struct slice_u8 s, uint64_t w)
+static inline struct model__Writer base_state__writers__writer(struct slice_u8 s, uint64_t w)
 {
     uint64_t t3, t4, t5, t6, t7;
 
@@ -498,41 +498,41 @@ static inline struct model__Writer strip__writers__writer(struct slice_u8 s, uin
     t4 = (uint64_t)s.ptr[(size_t)(104u + w)];
     t5 = load_8(s.ptr + (size_t)t3);
     t6 = load_8(s.ptr + (size_t)(t3 + 8u));
-    t7 = strip__writers__one_more(load_8(s.ptr + (size_t)(t3 + 16u)));
+    t7 = base_state__writers__one_more(load_8(s.ptr + (size_t)(t3 + 16u)));
     return (struct model__Writer){.mode = t4, .home = t5, .first = t6, .count = t7};
 }
 
 /* Whether the record of a writer that holds a block for a home below D and has logged entries is in order: the positions since
    its first one are among those of the log, and hold its entries. */
-static inline bool order__quick__logged_in_order(struct model__State st, uint64_t low, uint64_t all, struct model__Writer r)
+static inline bool base_order__quick__logged_in_order(struct model__State st, uint64_t low, uint64_t all, struct model__Writer r)
 {
     uint64_t t5, t6;
     (void)st;
 
-    t5 = order__distances__distance(low + all, r.first);
+    t5 = base_order__distances__distance(low + all, r.first);
     if (all < t5) {
         return false;
     }
-    t6 = order__distances__distance(r.count, 1u);
+    t6 = base_order__distances__distance(r.count, 1u);
     return t6 < t5;
 }
 
 /* Whether the record of a writer that is neither idle nor without a block is in order in a strip whose group numbers and places
    filled are. */
-static inline bool order__quick__record_in_order(struct model__State st, uint64_t low, uint64_t all, struct model__Writer r)
+static inline bool base_order__quick__record_in_order(struct model__State st, uint64_t low, uint64_t all, struct model__Writer r)
 {
     if (st.homes <= r.home) {
         return false;
     }
     if (r.mode == 3u) {
-        return order__quick__logged_in_order(st, low, all, r);
+        return base_order__quick__logged_in_order(st, low, all, r);
     }
     return r.mode < 3u;
 }
 
 /* Whether the records of all eight writers are in order where nothing is promised. Their modes are read as one word, and only
    writers are visited of whose mode a bit but the lowest is set. */
-static inline bool order__quick__records_in_order(struct slice_u8 s, struct model__State st, uint64_t low, uint64_t all)
+static inline bool base_order__quick__records_in_order(struct slice_u8 s, struct model__State st, uint64_t low, uint64_t all)
 {
     uint64_t t5;
     bool t8;
@@ -540,8 +540,8 @@ static inline bool order__quick__records_in_order(struct slice_u8 s, struct mode
 
     t5 = load_8(s.ptr + 104u) & UINT64_C(0xfefefefefefefefe);
     while (t5 != 0u) {
-        t10 = strip__writers__writer(s, (uint64_t)trailing_zeros(t5) / 8u);
-        t8 = order__quick__record_in_order(st, low, all, t10);
+        t10 = base_state__writers__writer(s, (uint64_t)trailing_zeros(t5) / 8u);
+        t8 = base_order__quick__record_in_order(st, low, all, t10);
         if (!t8) {
             return false;
         }
@@ -552,7 +552,7 @@ static inline bool order__quick__records_in_order(struct slice_u8 s, struct mode
 
 /* Question 2 for a log of `groups` groups and `homes` homes: 0 if the strip is seen to be in order, else 2, which
    `whole_in_order` may still deny. */
-static inline uint64_t order__quick__quick_answer(struct slice_u8 s, uint64_t groups, uint64_t homes)
+static inline uint64_t base_order__quick__quick_answer(struct slice_u8 s, uint64_t groups, uint64_t homes)
 {
     uint64_t t4, t5, t6, t7, t638, t639;
     bool t8;
@@ -560,7 +560,7 @@ static inline uint64_t order__quick__quick_answer(struct slice_u8 s, uint64_t gr
     if (!(((load_8(s.ptr + 88u) | load_8(s.ptr + 72u)) | load_8(s.ptr + 80u)) == 0u)) {
         return 2u;
     }
-    t8 = order__numbers__groups_in_order(s, groups, homes);
+    t8 = base_order__numbers__groups_in_order(s, groups, homes);
     if (!t8) {
         return 2u;
     }
@@ -568,13 +568,13 @@ static inline uint64_t order__quick__quick_answer(struct slice_u8 s, uint64_t gr
     t5 = 7u * t4;
     t6 = 7u * (load_8(s.ptr + 24u) - t4);
     t7 = t6 + load_8(s.ptr + 32u);
-    t8 = order__numbers__bounds_in_order(s, t5, t6, t7);
+    t8 = base_order__numbers__bounds_in_order(s, t5, t6, t7);
     if (!t8) {
         return 2u;
     }
     t638 = load_8(s.ptr);
     t639 = load_8(s.ptr + 8u);
-    t8 = order__quick__records_in_order(s, (struct model__State){.groups = t638, .homes = t639, .start = load_8(s.ptr + 16u),
+    t8 = base_order__quick__records_in_order(s, (struct model__State){.groups = t638, .homes = t639, .start = load_8(s.ptr + 16u),
             .next = load_8(s.ptr + 24u), .filled = load_8(s.ptr + 32u), .settled = load_8(s.ptr + 40u), .fenced = load_8(s.ptr
             + 48u), .durable = load_8(s.ptr + 56u), .last = load_8(s.ptr + 64u), .round = load_8(s.ptr + 88u),
             .cursor = load_8(s.ptr + 96u)}, t5, t7);
@@ -585,7 +585,7 @@ static inline uint64_t order__quick__quick_answer(struct slice_u8 s, uint64_t gr
 }
 
 /* Whether the position that a round has fixed lies from the settled to the fenced one, or there is no round. */
-static inline bool order__whole__round_in_order(struct model__State st)
+static inline bool base_order__whole__round_in_order(struct model__State st)
 {
     if (st.round == 0u) {
         return true;
@@ -597,7 +597,7 @@ static inline bool order__whole__round_in_order(struct model__State st)
 }
 
 /* Whether nothing is promised to any writer: the eight promises are zero as two words. */
-static inline bool strip__promises__none_promised(struct slice_u8 s)
+static inline bool base_state__promises__none_promised(struct slice_u8 s)
 {
     if (load_8(s.ptr + 72u) != 0u) {
         return false;
@@ -606,7 +606,7 @@ static inline bool strip__promises__none_promised(struct slice_u8 s)
 }
 
 /* How many places are promised to the eight writers together, one after the other. */
-static inline uint64_t strip__promises__promised_each(struct slice_u8 s)
+static inline uint64_t base_state__promises__promised_each(struct slice_u8 s)
 {
     uint64_t t2, t3;
 
@@ -620,19 +620,19 @@ static inline uint64_t strip__promises__promised_each(struct slice_u8 s)
 }
 
 /* How many places are promised to the eight writers together, mostly none. */
-static inline uint64_t strip__promises__promised(struct slice_u8 s)
+static inline uint64_t base_state__promises__promised(struct slice_u8 s)
 {
     bool t2;
 
-    t2 = strip__promises__none_promised(s);
+    t2 = base_state__promises__none_promised(s);
     if (t2) {
         return 0u;
     }
-    return strip__promises__promised_each(s);
+    return base_state__promises__promised_each(s);
 }
 
 /* Whether a writer's record is in order in a strip with the numbers `st`. */
-static inline bool order__whole__writer_in_order(struct model__State st, struct model__Writer r)
+static inline bool base_order__whole__writer_in_order(struct model__State st, struct model__Writer r)
 {
     uint64_t t3;
 
@@ -666,13 +666,13 @@ static inline bool order__whole__writer_in_order(struct model__State st, struct 
 
 /* Whether the record of writer `w` is in order in the strip `s` with the numbers `st`, and nothing is promised to it while it is
    idle. */
-static inline bool order__whole__writer_at_in_order(struct slice_u8 s, struct model__State st, uint64_t w)
+static inline bool base_order__whole__writer_at_in_order(struct slice_u8 s, struct model__State st, uint64_t w)
 {
     struct model__Writer t4;
     bool t5;
 
-    t4 = strip__writers__writer(s, w);
-    t5 = order__whole__writer_in_order(st, t4);
+    t4 = base_state__writers__writer(s, w);
+    t5 = base_order__whole__writer_in_order(st, t4);
     if (!t5) {
         return false;
     }
@@ -683,14 +683,14 @@ static inline bool order__whole__writer_at_in_order(struct slice_u8 s, struct mo
 }
 
 /* Whether the records of all eight writers are in order in the strip `s` with the numbers `st`. */
-static inline bool order__whole__writers_in_order(struct slice_u8 s, struct model__State st)
+static inline bool base_order__whole__writers_in_order(struct slice_u8 s, struct model__State st)
 {
     uint64_t t3;
     bool t4;
 
     t3 = 0u;
     while (t3 < 8u) {
-        t4 = order__whole__writer_at_in_order(s, st, t3);
+        t4 = base_order__whole__writer_at_in_order(s, st, t3);
         if (!t4) {
             return false;
         }
@@ -700,63 +700,63 @@ static inline bool order__whole__writers_in_order(struct slice_u8 s, struct mode
 }
 
 /* The rest of question 2 where the numbers but the round are in order: the round, the promises and the writers. */
-static inline bool order__whole__rest_in_order(struct slice_u8 s, struct model__State st)
+static inline bool base_order__whole__rest_in_order(struct slice_u8 s, struct model__State st)
 {
     bool t3;
     uint64_t t6;
 
-    t3 = order__whole__round_in_order(st);
+    t3 = base_order__whole__round_in_order(st);
     if (!t3) {
         return false;
     }
-    t6 = strip__promises__promised(s);
+    t6 = base_state__promises__promised(s);
     if (((7u * (st.start + st.groups)) - ((7u * st.next) + st.filled)) < t6) {
         return false;
     }
-    return order__whole__writers_in_order(s, st);
+    return base_order__whole__writers_in_order(s, st);
 }
 
 /* Question 2 for a log of `groups` groups and `homes` homes, whatever is promised and whether a round is under way. */
-static inline bool order__whole__whole_in_order(struct slice_u8 s, uint64_t groups, uint64_t homes)
+static inline bool base_order__whole__whole_in_order(struct slice_u8 s, uint64_t groups, uint64_t homes)
 {
     uint64_t t4, t6, t323, t324;
     bool t8;
 
-    t8 = order__numbers__groups_in_order(s, groups, homes);
+    t8 = base_order__numbers__groups_in_order(s, groups, homes);
     if (!t8) {
         return false;
     }
     t4 = load_8(s.ptr + 16u);
     t6 = 7u * (load_8(s.ptr + 24u) - t4);
-    t8 = order__numbers__bounds_in_order(s, 7u * t4, t6, t6 + load_8(s.ptr + 32u));
+    t8 = base_order__numbers__bounds_in_order(s, 7u * t4, t6, t6 + load_8(s.ptr + 32u));
     if (!t8) {
         return false;
     }
     t323 = load_8(s.ptr);
     t324 = load_8(s.ptr + 8u);
-    return order__whole__rest_in_order(s, (struct model__State){.groups = t323, .homes = t324, .start = load_8(s.ptr + 16u),
+    return base_order__whole__rest_in_order(s, (struct model__State){.groups = t323, .homes = t324, .start = load_8(s.ptr + 16u),
             .next = load_8(s.ptr + 24u), .filled = load_8(s.ptr + 32u), .settled = load_8(s.ptr + 40u), .fenced = load_8(s.ptr
             + 48u), .durable = load_8(s.ptr + 56u), .last = load_8(s.ptr + 64u), .round = load_8(s.ptr + 88u),
             .cursor = load_8(s.ptr + 96u)});
 }
 
 /* Questions 1 and 2: 0 if the lengths are right and the strip is in order, else the number of the refusal. */
-static inline uint64_t answers__in_use(struct slice_u8 log, struct slice_u8 area, struct slice_u8 state)
+static inline uint64_t call_ask__state_answer(struct slice_u8 log, struct slice_u8 area, struct slice_u8 state)
 {
     uint64_t t4, t5, t9;
     bool t6, t7;
 
-    t6 = answers__lengths_right(log, area, state);
+    t6 = call_ask__lengths_right(log, area, state);
     if (!t6) {
         return 1u;
     }
-    t4 = areas__lengths__log_groups((uint64_t)log.len);
+    t4 = base_areas__lengths__log_groups((uint64_t)log.len);
     t5 = (uint64_t)area.len / 64u;
-    t9 = order__quick__quick_answer(state, t4, t5);
+    t9 = base_order__quick__quick_answer(state, t4, t5);
     if (t9 == 0u) {
         return 0u;
     }
-    t7 = order__whole__whole_in_order(state, t4, t5);
+    t7 = base_order__whole__whole_in_order(state, t4, t5);
     if (!t7) {
         return 2u;
     }
@@ -764,11 +764,12 @@ static inline uint64_t answers__in_use(struct slice_u8 log, struct slice_u8 area
 }
 
 /* Questions 1, 2 and 4, which a call that names a writer puts first: 0, or the number of the refusal. */
-static inline uint64_t sessions__writer_answer(struct slice_u8 log, struct slice_u8 area, struct slice_u8 state, uint64_t writer)
+static inline uint64_t call_writer__writer_answer(struct slice_u8 log, struct slice_u8 area, struct slice_u8 state,
+        uint64_t writer)
 {
     uint64_t t5;
 
-    t5 = answers__in_use(log, area, state);
+    t5 = call_ask__state_answer(log, area, state);
     if (t5 != 0u) {
         return t5;
     }
@@ -779,16 +780,17 @@ static inline uint64_t sessions__writer_answer(struct slice_u8 log, struct slice
 }
 
 /* Whether a writer may abort: 0, or the number of the refusal. */
-static inline uint64_t sessions__abort_answer(struct slice_u8 log, struct slice_u8 area, struct slice_u8 state, uint64_t writer)
+static inline uint64_t call_writer__abort_answer(struct slice_u8 log, struct slice_u8 area, struct slice_u8 state,
+        uint64_t writer)
 {
     uint64_t t5;
     struct model__Writer t7;
 
-    t5 = sessions__writer_answer(log, area, state, writer);
+    t5 = call_writer__writer_answer(log, area, state, writer);
     if (t5 != 0u) {
         return t5;
     }
-    t7 = strip__writers__writer(state, writer);
+    t7 = base_state__writers__writer(state, writer);
     if (!(1u <= t7.mode)) {
         return 7u;
     }
@@ -796,7 +798,7 @@ static inline uint64_t sessions__abort_answer(struct slice_u8 log, struct slice_
 }
 
 /* The record `r`, changed at its place by `abort_at`. */
-static inline struct model__Writer writers__places__aborted(struct model__Writer r)
+static inline struct model__Writer base_writers__places__aborted(struct model__Writer r)
 {
     struct model__Writer t2;
 
@@ -806,7 +808,7 @@ static inline struct model__Writer writers__places__aborted(struct model__Writer
 }
 
 /* A count as it is kept: less one, modulo 2^64. */
-static inline uint64_t strip__writers__less_one(uint64_t count)
+static inline uint64_t base_state__writers__less_one(uint64_t count)
 {
     if (count == 0u) {
         return UINT64_C(0xffffffffffffffff);
@@ -815,7 +817,7 @@ static inline uint64_t strip__writers__less_one(uint64_t count)
 }
 
 /* Stores `r` as the four numbers of writer `w`, and leaves the rest of the strip as it was. */
-static inline void strip__writers__set_writer(struct slice_mut_u8 s, uint64_t w, struct model__Writer r)
+static inline void base_state__writers__set_writer(struct slice_mut_u8 s, uint64_t w, struct model__Writer r)
 {
     uint64_t t4, t15;
 
@@ -823,53 +825,54 @@ static inline void strip__writers__set_writer(struct slice_mut_u8 s, uint64_t w,
     s.ptr[(size_t)(104u + w)] = (uint8_t)(r.mode % 256u);
     store_8(s.ptr + (size_t)t4, r.home);
     store_8(s.ptr + (size_t)(t4 + 8u), r.first);
-    t15 = strip__writers__less_one(r.count);
+    t15 = base_state__writers__less_one(r.count);
     store_8(s.ptr + (size_t)(t4 + 16u), t15);
 }
 
 /* Ends the transaction in the record of writer `w`. */
-static inline void writers__abort(struct slice_mut_u8 s, uint64_t w)
+static inline void base_writers__abort(struct slice_mut_u8 s, uint64_t w)
 {
     struct model__Writer t3, t9;
 
-    t3 = strip__writers__writer((struct slice_u8){s.ptr, s.len}, w);
-    t9 = writers__places__aborted(t3);
-    strip__writers__set_writer(s, w, t9);
+    t3 = base_state__writers__writer((struct slice_u8){s.ptr, s.len}, w);
+    t9 = base_writers__places__aborted(t3);
+    base_state__writers__set_writer(s, w, t9);
 }
 
 /* Drops a writer's open transaction with the block that it holds, and gives back the places promised to it. */
-static inline struct answers__Reply sessions__abort(struct slice_u8 log, struct slice_u8 area, struct slice_mut_u8 state,
+static inline struct call_ask__Reply call_writer__abort(struct slice_u8 log, struct slice_u8 area, struct slice_mut_u8 state,
         uint64_t writer)
 {
     uint64_t t5;
 
-    t5 = sessions__abort_answer(log, area, (struct slice_u8){state.ptr, state.len}, writer);
+    t5 = call_writer__abort_answer(log, area, (struct slice_u8){state.ptr, state.len}, writer);
     if (t5 != 0u) {
-        return (struct answers__Reply){.code = t5, .figure = 0u, .size = 0u};
+        return (struct call_ask__Reply){.code = t5, .figure = 0u, .size = 0u};
     }
-    writers__abort(state, writer);
+    base_writers__abort(state, writer);
     store_2(state.ptr + (size_t)(72u + (2u * writer)), 0u);
-    return (struct answers__Reply){.code = 0u, .figure = 0u, .size = 0u};
+    return (struct call_ask__Reply){.code = 0u, .figure = 0u, .size = 0u};
 }
 
 /* Drops a writer's open transaction with the block that it holds, and gives back the places promised to it. */
-static inline struct answers__Reply kagutin__kagutin_abort(struct slice_u8 log, struct slice_u8 area, struct slice_mut_u8 state,
+static inline struct call_ask__Reply kagutin__kagutin_abort(struct slice_u8 log, struct slice_u8 area, struct slice_mut_u8 state,
         uint64_t writer)
 {
-    return sessions__abort(log, area, state, writer);
+    return call_writer__abort(log, area, state, writer);
 }
 
 /* Whether a writer may begin: 0, or the number of the refusal. */
-static inline uint64_t sessions__begin_answer(struct slice_u8 log, struct slice_u8 area, struct slice_u8 state, uint64_t writer)
+static inline uint64_t call_writer__begin_answer(struct slice_u8 log, struct slice_u8 area, struct slice_u8 state,
+        uint64_t writer)
 {
     uint64_t t5;
     struct model__Writer t8;
 
-    t5 = sessions__writer_answer(log, area, state, writer);
+    t5 = call_writer__writer_answer(log, area, state, writer);
     if (t5 != 0u) {
         return t5;
     }
-    t8 = strip__writers__writer(state, writer);
+    t8 = base_state__writers__writer(state, writer);
     if (1u <= t8.mode) {
         return 6u;
     }
@@ -877,7 +880,7 @@ static inline uint64_t sessions__begin_answer(struct slice_u8 log, struct slice_
 }
 
 /* The record `r`, changed at its place by `begin_at`. */
-static inline struct model__Writer writers__places__begun(struct model__Writer r)
+static inline struct model__Writer base_writers__places__begun(struct model__Writer r)
 {
     struct model__Writer t2;
 
@@ -887,46 +890,46 @@ static inline struct model__Writer writers__places__begun(struct model__Writer r
 }
 
 /* Begins a transaction in the record of writer `w`. */
-static inline void writers__begin(struct slice_mut_u8 s, uint64_t w)
+static inline void base_writers__begin(struct slice_mut_u8 s, uint64_t w)
 {
     struct model__Writer t3, t9;
 
-    t3 = strip__writers__writer((struct slice_u8){s.ptr, s.len}, w);
-    t9 = writers__places__begun(t3);
-    strip__writers__set_writer(s, w, t9);
+    t3 = base_state__writers__writer((struct slice_u8){s.ptr, s.len}, w);
+    t9 = base_writers__places__begun(t3);
+    base_state__writers__set_writer(s, w, t9);
 }
 
 /* Begins a transaction of a writer that has none open. */
-static inline struct answers__Reply sessions__begin(struct slice_u8 log, struct slice_u8 area, struct slice_mut_u8 state,
+static inline struct call_ask__Reply call_writer__begin(struct slice_u8 log, struct slice_u8 area, struct slice_mut_u8 state,
         uint64_t writer)
 {
     uint64_t t5;
 
-    t5 = sessions__begin_answer(log, area, (struct slice_u8){state.ptr, state.len}, writer);
+    t5 = call_writer__begin_answer(log, area, (struct slice_u8){state.ptr, state.len}, writer);
     if (t5 != 0u) {
-        return (struct answers__Reply){.code = t5, .figure = 0u, .size = 0u};
+        return (struct call_ask__Reply){.code = t5, .figure = 0u, .size = 0u};
     }
-    writers__begin(state, writer);
-    return (struct answers__Reply){.code = 0u, .figure = 0u, .size = 0u};
+    base_writers__begin(state, writer);
+    return (struct call_ask__Reply){.code = 0u, .figure = 0u, .size = 0u};
 }
 
 /* Begins a transaction of a writer that has none open. */
-static inline struct answers__Reply kagutin__kagutin_begin(struct slice_u8 log, struct slice_u8 area, struct slice_mut_u8 state,
+static inline struct call_ask__Reply kagutin__kagutin_begin(struct slice_u8 log, struct slice_u8 area, struct slice_mut_u8 state,
         uint64_t writer)
 {
-    return sessions__begin(log, area, state, writer);
+    return call_writer__begin(log, area, state, writer);
 }
 
 /* Begins a round that covers what is fenced now. */
-static inline struct answers__Reply recovery__rounds__begin_round(struct slice_u8 log, struct slice_u8 area,
+static inline struct call_ask__Reply call_settle__rounds__begin_round(struct slice_u8 log, struct slice_u8 area,
         struct slice_mut_u8 state)
 {
     uint64_t t4, t19, t20;
     struct model__State t5;
 
-    t4 = answers__in_use(log, area, (struct slice_u8){state.ptr, state.len});
+    t4 = call_ask__state_answer(log, area, (struct slice_u8){state.ptr, state.len});
     if (t4 != 0u) {
-        return (struct answers__Reply){.code = t4, .figure = 0u, .size = 0u};
+        return (struct call_ask__Reply){.code = t4, .figure = 0u, .size = 0u};
     }
     t19 = load_8(state.ptr);
     t20 = load_8(state.ptr + 8u);
@@ -935,50 +938,50 @@ static inline struct answers__Reply recovery__rounds__begin_round(struct slice_u
             .durable = load_8(state.ptr + 56u), .last = load_8(state.ptr + 64u), .round = load_8(state.ptr + 88u),
             .cursor = load_8(state.ptr + 96u)};
     if (t5.round != 0u) {
-        return (struct answers__Reply){.code = 21u, .figure = 0u, .size = 0u};
+        return (struct call_ask__Reply){.code = 21u, .figure = 0u, .size = 0u};
     }
     store_8(state.ptr + 88u, t5.fenced + 1u);
     store_8(state.ptr + 96u, 0u);
-    return (struct answers__Reply){.code = 0u, .figure = 0u, .size = 0u};
+    return (struct call_ask__Reply){.code = 0u, .figure = 0u, .size = 0u};
 }
 
 /* Begins a round of settling in small steps, which covers the commits below the fenced position of now. */
-static inline struct answers__Reply kagutin__kagutin_begin_round(struct slice_u8 log, struct slice_u8 area,
+static inline struct call_ask__Reply kagutin__kagutin_begin_round(struct slice_u8 log, struct slice_u8 area,
         struct slice_mut_u8 state)
 {
-    return recovery__rounds__begin_round(log, area, state);
+    return call_settle__rounds__begin_round(log, area, state);
 }
 
 /* Questions 1 and 2 of a call that is lent the newest positions, eight bytes for each home. */
-static inline uint64_t answers__in_use_newest(struct slice_u8 log, struct slice_u8 area, struct slice_u8 state,
+static inline uint64_t call_ask__newest_answer(struct slice_u8 log, struct slice_u8 area, struct slice_u8 state,
         struct slice_u8 newest)
 {
     if ((uint64_t)newest.len != (8u * ((uint64_t)area.len / 64u))) {
         return 1u;
     }
-    return answers__in_use(log, area, state);
+    return call_ask__state_answer(log, area, state);
 }
 
 /* Whether an entry of writer `w` finds a place: one that is promised to it, or one that is promised to nobody. */
-static inline bool strip__promises__room_for(struct slice_u8 s, struct model__State st, uint64_t w)
+static inline bool base_state__promises__room_for(struct slice_u8 s, struct model__State st, uint64_t w)
 {
     bool t4;
     uint64_t t6;
 
-    t4 = strip__promises__none_promised(s);
+    t4 = base_state__promises__none_promised(s);
     if (t4) {
         return st.next < (st.start + st.groups);
     }
     if (load_2(s.ptr + (size_t)(72u + (2u * w))) != 0u) {
         return true;
     }
-    t6 = strip__promises__promised_each(s);
+    t6 = base_state__promises__promised_each(s);
     return t6 < ((7u * (st.start + st.groups)) - ((7u * st.next) + st.filled));
 }
 
 /* Questions 8 and 10 of a call that logs an entry of writer `w`: 0 if the log has room for it, and the batch for the group that
    it may fill. */
-static inline uint64_t logging__entry__may_log(struct slice_u8 state, uint64_t w, uint64_t batch)
+static inline uint64_t call_store__entry__log_answer(struct slice_u8 state, uint64_t w, uint64_t batch)
 {
     struct model__State t4;
     bool t5;
@@ -990,7 +993,7 @@ static inline uint64_t logging__entry__may_log(struct slice_u8 state, uint64_t w
             .filled = load_8(state.ptr + 32u), .settled = load_8(state.ptr + 40u), .fenced = load_8(state.ptr + 48u),
             .durable = load_8(state.ptr + 56u), .last = load_8(state.ptr + 64u), .round = load_8(state.ptr + 88u),
             .cursor = load_8(state.ptr + 96u)};
-    t5 = strip__promises__room_for(state, t4, w);
+    t5 = base_state__promises__room_for(state, t4, w);
     if (!t5) {
         return 8u;
     }
@@ -1004,38 +1007,38 @@ static inline uint64_t logging__entry__may_log(struct slice_u8 state, uint64_t w
 }
 
 /* The answer of a commit: 0, or the number of the question that refuses it. */
-static inline uint64_t commits__commit_verdict(struct slice_u8 log, struct slice_u8 area, struct slice_u8 state,
+static inline uint64_t call_commit__commit_answer(struct slice_u8 log, struct slice_u8 area, struct slice_u8 state,
         struct slice_u8 newest, struct slice_u8 batch, uint64_t writer)
 {
     uint64_t t7;
     struct model__Writer t8;
 
-    t7 = answers__in_use_newest(log, area, state, newest);
+    t7 = call_ask__newest_answer(log, area, state, newest);
     if (t7 != 0u) {
         return t7;
     }
     if (8u <= writer) {
         return 4u;
     }
-    t8 = strip__writers__writer(state, writer);
+    t8 = base_state__writers__writer(state, writer);
     if (!(1u <= t8.mode)) {
         return 7u;
     }
     if (!(2u <= t8.mode)) {
         return 0u;
     }
-    return logging__entry__may_log(state, writer, (uint64_t)batch.len);
+    return call_store__entry__log_answer(state, writer, (uint64_t)batch.len);
 }
 
 /* Ends the transaction of a writer that holds nothing, and gives back the places promised to it. */
-static inline void commits__commit_none(struct slice_mut_u8 state, uint64_t w)
+static inline void call_commit__commit_none(struct slice_mut_u8 state, uint64_t w)
 {
-    writers__abort(state, w);
+    base_writers__abort(state, w);
     store_2(state.ptr + (size_t)(72u + (2u * w)), 0u);
 }
 
 /* The position of the first entry of a writer's transaction whose next entry goes to `position`. */
-static inline uint64_t strip__writers__first_for(struct model__Writer r, uint64_t position)
+static inline uint64_t base_state__writers__first_for(struct model__Writer r, uint64_t position)
 {
     uint64_t t4;
 
@@ -1048,7 +1051,7 @@ static inline uint64_t strip__writers__first_for(struct model__Writer r, uint64_
 }
 
 /* The distance from `position` back to the last closing entry, 0 if there is none since the start. */
-static inline uint64_t logging__entry__link_from(uint64_t position, struct model__State st)
+static inline uint64_t call_store__entry__link_from(uint64_t position, struct model__State st)
 {
     if (st.last <= (7u * st.start)) {
         return 0u;
@@ -1057,7 +1060,7 @@ static inline uint64_t logging__entry__link_from(uint64_t position, struct model
 }
 
 /* How many entries a writer's transaction has logged. */
-static inline uint64_t strip__writers__count_for(struct model__Writer r)
+static inline uint64_t base_state__writers__count_for(struct model__Writer r)
 {
     uint64_t t3;
 
@@ -1070,20 +1073,20 @@ static inline uint64_t strip__writers__count_for(struct model__Writer r)
 }
 
 /* The tag of a held block that is logged at `position` and commits its transaction. */
-static inline uint64_t logging__entry__closing_word(struct model__State st, struct model__Writer r, uint64_t position)
+static inline uint64_t call_store__entry__closing_word(struct model__State st, struct model__Writer r, uint64_t position)
 {
     uint64_t t4, t5, t6;
 
-    t6 = strip__writers__first_for(r, position);
+    t6 = base_state__writers__first_for(r, position);
     t4 = position - t6;
-    t5 = logging__entry__link_from(position, st);
-    t6 = strip__writers__count_for(r);
+    t5 = call_store__entry__link_from(position, st);
+    t6 = base_state__writers__count_for(r);
     return ((((3u | ((r.home & 4095u) << 2u)) | (t4 << 14u)) | (t5 << 27u)) | ((t6 + 1u) << 40u)) | ((r.home >> 12u) << 53u);
 }
 
 /* The same for any group, as the first of a pass: a small machine divides numbers of 64 bits by a library call, and few logs get
    that far. */
-static inline struct scan__slots__RingSlot scan__slots__first_slot(uint64_t n, uint64_t groups)
+static inline struct log_scan__slots__RingSlot log_scan__slots__first_slot(uint64_t n, uint64_t groups)
 {
     uint32_t t11, t12;
 
@@ -1091,15 +1094,15 @@ static inline struct scan__slots__RingSlot scan__slots__first_slot(uint64_t n, u
         if (groups <= UINT64_C(0xffffffff)) {
             t11 = (uint32_t)n;
             t12 = (uint32_t)groups;
-            return (struct scan__slots__RingSlot){.slot = (uint64_t)(uint32_t)((uint32_t)t11 % t12),
+            return (struct log_scan__slots__RingSlot){.slot = (uint64_t)(uint32_t)((uint32_t)t11 % t12),
                     .turn = (uint64_t)(uint32_t)((uint32_t)(uint32_t)((uint32_t)t11 / t12) % 2u)};
         }
     }
-    return (struct scan__slots__RingSlot){.slot = n % groups, .turn = (n / groups) % 2u};
+    return (struct log_scan__slots__RingSlot){.slot = n % groups, .turn = (n / groups) % 2u};
 }
 
 /* Writes the mark of a group at index `at`. */
-static inline void codec__marks__put_group_mark(struct slice_mut_u8 dst, uint64_t at)
+static inline void base_codec__marks__put_group_mark(struct slice_mut_u8 dst, uint64_t at)
 {
     struct array_u8_2 t3;
     struct slice_u8 t10;
@@ -1111,7 +1114,7 @@ static inline void codec__marks__put_group_mark(struct slice_mut_u8 dst, uint64_
 }
 
 /* Writes `n` zeros from index `at` on, and leaves the other bytes as they were. */
-static inline void codec__blocks__clear(struct slice_mut_u8 dst, uint64_t at, uint64_t n)
+static inline void base_codec__blocks__clear(struct slice_mut_u8 dst, uint64_t at, uint64_t n)
 {
     uint64_t t4, t5;
 
@@ -1125,7 +1128,7 @@ static inline void codec__blocks__clear(struct slice_mut_u8 dst, uint64_t at, ui
 }
 
 /* Writes seven data blocks of zeros but for the turn bit `bit` from index `at` on. */
-static inline void areas__turns__put_turn_blocks(struct slice_mut_u8 dst, uint64_t at, uint64_t bit)
+static inline void base_areas__turns__put_turn_blocks(struct slice_mut_u8 dst, uint64_t at, uint64_t bit)
 {
     uint8_t t4;
     uint64_t t5, t6;
@@ -1134,7 +1137,7 @@ static inline void areas__turns__put_turn_blocks(struct slice_mut_u8 dst, uint64
     t5 = at;
     t6 = 7u;
     while (0u < t6) {
-        codec__blocks__clear(dst, t5, 63u);
+        base_codec__blocks__clear(dst, t5, 63u);
         dst.ptr[(size_t)(t5 + 63u)] = t4;
         t5 = t5 + 64u;
         t6 = t6 - 1u;
@@ -1142,21 +1145,21 @@ static inline void areas__turns__put_turn_blocks(struct slice_mut_u8 dst, uint64
 }
 
 /* Writes the blank group of number `n`, which has the turn `turn`, into a ring slot. */
-static inline void areas__groups__put_blank(struct slice_mut_u8 log, uint64_t slot, uint64_t n, uint64_t turn)
+static inline void base_areas__groups__put_blank(struct slice_mut_u8 log, uint64_t slot, uint64_t n, uint64_t turn)
 {
     uint64_t t5, t17;
 
     t5 = 64u + (512u * slot);
-    codec__marks__put_group_mark(log, t5);
+    base_codec__marks__put_group_mark(log, t5);
     t17 = t5 + 2u;
     store_4(log.ptr + (size_t)t17, n);
     store_2(log.ptr + (size_t)(t17 + 4u), n / UINT64_C(0x100000000));
-    codec__blocks__clear(log, t5 + 8u, 56u);
-    areas__turns__put_turn_blocks(log, t5 + 64u, turn);
+    base_codec__blocks__clear(log, t5 + 8u, 56u);
+    base_areas__turns__put_turn_blocks(log, t5 + 64u, turn);
 }
 
 /* Writes the bytes of `src` from index `at` on, and leaves the other bytes as they were. */
-static inline void codec__blocks__copy(struct slice_mut_u8 dst, uint64_t at, struct slice_u8 src)
+static inline void base_codec__blocks__copy(struct slice_mut_u8 dst, uint64_t at, struct slice_u8 src)
 {
     uint64_t t4, t5, t19;
 
@@ -1178,17 +1181,17 @@ static inline void codec__blocks__copy(struct slice_mut_u8 dst, uint64_t at, str
 }
 
 /* Writes the block that stands in `src` from index `from` on, with the top bit `bit`, into `dst` from index `at` on. */
-static inline void codec__turns__copy_with_top_bit(struct slice_mut_u8 dst, uint64_t at, struct slice_u8 src, uint64_t from,
+static inline void base_codec__turns__copy_with_top_bit(struct slice_mut_u8 dst, uint64_t at, struct slice_u8 src, uint64_t from,
         uint64_t bit)
 {
-    codec__blocks__copy(dst, at, (struct slice_u8){src.ptr + (size_t)from, (size_t)((from + 64u) - from)});
+    base_codec__blocks__copy(dst, at, (struct slice_u8){src.ptr + (size_t)from, (size_t)((from + 64u) - from)});
     dst.ptr[(size_t)(at + 63u)] = (uint8_t)((uint32_t)(uint8_t)((uint32_t)src.ptr[(size_t)(from + 63u)] % 128u)
             + (uint8_t)((uint32_t)128u * (uint8_t)bit));
 }
 
 /* Writes an entry's tag and its block at index `k` of the group in a ring slot: the block gets the turn bit, and the tag the bit
    that it displaces. */
-static inline void areas__groups__put_entry(struct slice_mut_u8 log, uint64_t slot, uint64_t turn, uint64_t k, uint64_t word,
+static inline void base_areas__groups__put_entry(struct slice_mut_u8 log, uint64_t slot, uint64_t turn, uint64_t k, uint64_t word,
         struct slice_u8 block)
 {
     uint64_t t7;
@@ -1196,25 +1199,25 @@ static inline void areas__groups__put_entry(struct slice_mut_u8 log, uint64_t sl
     t7 = 64u + (512u * slot);
     store_8(log.ptr + (size_t)(t7 + (8u + (8u * k))), word | ((uint64_t)(uint8_t)((uint32_t)block.ptr[(size_t)((uint64_t)0u
             + 63u)] >> 7u) << 57u));
-    codec__turns__copy_with_top_bit(log, t7 + (64u + (64u * k)), block, 0u, turn);
+    base_codec__turns__copy_with_top_bit(log, t7 + (64u + (64u * k)), block, 0u, turn);
 }
 
 /* Writes an entry's tag and block at the next position, whose group has the turn `turn`, and a blank group first where the
    position is a group's first. */
-static inline void areas__groups__enter(struct slice_mut_u8 log, uint64_t slot, uint64_t turn, struct model__State st,
+static inline void base_areas__groups__enter(struct slice_mut_u8 log, uint64_t slot, uint64_t turn, struct model__State st,
         uint64_t word, struct slice_u8 block)
 {
     uint64_t t7;
 
     t7 = st.filled;
     if (t7 == 0u) {
-        areas__groups__put_blank(log, slot, st.next, turn);
+        base_areas__groups__put_blank(log, slot, st.next, turn);
     }
-    areas__groups__put_entry(log, slot, turn, t7, word, block);
+    base_areas__groups__put_entry(log, slot, turn, t7, word, block);
 }
 
 /* Writes the mark of a group write at index `at`. */
-static inline void codec__marks__put_group_write_mark(struct slice_mut_u8 dst, uint64_t at)
+static inline void base_codec__marks__put_group_write_mark(struct slice_mut_u8 dst, uint64_t at)
 {
     struct array_u8_2 t3;
     struct slice_u8 t10;
@@ -1226,23 +1229,24 @@ static inline void codec__marks__put_group_write_mark(struct slice_mut_u8 dst, u
 }
 
 /* Appends the write of the group that the log holds in a ring slot. */
-static inline uint64_t batch__records__group_write(struct slice_mut_u8 batch, uint64_t at, uint64_t slot, struct slice_u8 log)
+static inline uint64_t base_batch__records__group_write(struct slice_mut_u8 batch, uint64_t at, uint64_t slot,
+        struct slice_u8 log)
 {
     uint64_t t5;
 
-    codec__marks__put_group_write_mark(batch, at);
+    base_codec__marks__put_group_write_mark(batch, at);
     store_2(batch.ptr + (size_t)(at + 2u), slot);
     t5 = 64u + (512u * slot);
-    codec__blocks__copy(batch, at + 4u, (struct slice_u8){log.ptr + (size_t)t5, (size_t)((t5 + 512u) - t5)});
+    base_codec__blocks__copy(batch, at + 4u, (struct slice_u8){log.ptr + (size_t)t5, (size_t)((t5 + 512u) - t5)});
     return at + 516u;
 }
 
 /* Logs the held block of writer `w` with the tag `word` at the next position; the seventh place of a group hands it on. */
-static inline uint64_t logging__entry__log_entry(struct slice_mut_u8 log, struct slice_mut_u8 state, struct slice_mut_u8 batch,
+static inline uint64_t call_store__entry__log_entry(struct slice_mut_u8 log, struct slice_mut_u8 state, struct slice_mut_u8 batch,
         uint64_t word, uint64_t w)
 {
     struct model__State t6;
-    struct scan__slots__RingSlot t7;
+    struct log_scan__slots__RingSlot t7;
     uint64_t t8, t9, t12, t35, t36;
 
     t35 = load_8(state.ptr);
@@ -1251,36 +1255,36 @@ static inline uint64_t logging__entry__log_entry(struct slice_mut_u8 log, struct
             .filled = load_8(state.ptr + 32u), .settled = load_8(state.ptr + 40u), .fenced = load_8(state.ptr + 48u),
             .durable = load_8(state.ptr + 56u), .last = load_8(state.ptr + 64u), .round = load_8(state.ptr + 88u),
             .cursor = load_8(state.ptr + 96u)};
-    t7 = scan__slots__first_slot(t6.next, t6.groups);
+    t7 = log_scan__slots__first_slot(t6.next, t6.groups);
     t8 = t7.slot;
     t9 = 320u + (64u * w);
-    areas__groups__enter(log, t8, t7.turn, t6, word, (struct slice_u8){state.ptr + (size_t)t9, (size_t)((t9 + 64u) - t9)});
+    base_areas__groups__enter(log, t8, t7.turn, t6, word, (struct slice_u8){state.ptr + (size_t)t9, (size_t)((t9 + 64u) - t9)});
     if (t6.filled != 6u) {
         store_8(state.ptr + 32u, t6.filled + 1u);
         return 0u;
     }
     store_8(state.ptr + 24u, t6.next + 1u);
     store_8(state.ptr + 32u, 0u);
-    t12 = batch__records__group_write(batch, 0u, t8, (struct slice_u8){log.ptr, log.len});
+    t12 = base_batch__records__group_write(batch, 0u, t8, (struct slice_u8){log.ptr, log.len});
     return t12;
 }
 
 /* Logs the held block as the closing entry and ends the transaction. */
-static inline uint64_t commits__close_held(struct slice_mut_u8 log, struct slice_mut_u8 state, struct slice_mut_u8 batch,
+static inline uint64_t call_commit__close_held(struct slice_mut_u8 log, struct slice_mut_u8 state, struct slice_mut_u8 batch,
         struct model__State st, struct model__Writer r, uint64_t w)
 {
     uint64_t t7, t8, t9;
 
     t7 = (7u * st.next) + st.filled;
-    t8 = logging__entry__closing_word(st, r, t7);
-    t9 = logging__entry__log_entry(log, state, batch, t8, w);
+    t8 = call_store__entry__closing_word(st, r, t7);
+    t9 = call_store__entry__log_entry(log, state, batch, t8, w);
     store_8(state.ptr + 64u, t7 + 1u);
-    writers__abort(state, w);
+    base_writers__abort(state, w);
     return t9;
 }
 
 /* Whether the 512 bytes of a ring slot are a valid group with number `n`, in a log of `groups` groups from number `start` on. */
-static inline bool scan__groups__group_valid(struct slice_u8 group, uint64_t groups, uint64_t start, uint64_t n)
+static inline bool log_scan__groups__group_valid(struct slice_u8 group, uint64_t groups, uint64_t start, uint64_t n)
 {
     if (!(load_8(group.ptr) == (((n % UINT64_C(0x1000000000000)) * UINT64_C(0x10000)) + 18256u))) {
         return false;
@@ -1292,7 +1296,7 @@ static inline bool scan__groups__group_valid(struct slice_u8 group, uint64_t gro
 }
 
 /* The word of tag `k` of a group if its data block has the turn of the group, else that of no entry. */
-static inline uint64_t scan__groups__word_there(struct slice_u8 group, uint64_t turn, uint64_t k)
+static inline uint64_t log_scan__groups__word_there(struct slice_u8 group, uint64_t turn, uint64_t k)
 {
     if ((uint64_t)(uint8_t)((uint32_t)group.ptr[(size_t)((64u + (64u * k)) + 63u)] >> 7u) != turn) {
         return 0u;
@@ -1301,7 +1305,7 @@ static inline uint64_t scan__groups__word_there(struct slice_u8 group, uint64_t 
 }
 
 /* What a word says at a position of a log that starts at position `base` and has `homes` homes. */
-static inline struct model__Tag codec__tags__read_tag(uint64_t word, uint64_t position, uint64_t base, uint64_t homes)
+static inline struct model__Tag base_codec__tags__read_tag(uint64_t word, uint64_t position, uint64_t base, uint64_t homes)
 {
     uint64_t t5, t6, t7, t8;
 
@@ -1338,7 +1342,7 @@ static inline struct model__Tag codec__tags__read_tag(uint64_t word, uint64_t po
 
 /* Keeps a position if `word`, that of its tag, is an entry of the transaction with first position `first`, whatever kind of
    entry. Its distance back is compared before all else. */
-static inline void positions__words__keep_word(struct slice_mut_u8 newest, uint64_t word, uint64_t position, uint64_t base,
+static inline void log_newest__words__keep_word(struct slice_mut_u8 newest, uint64_t word, uint64_t position, uint64_t base,
         uint64_t homes, uint64_t first)
 {
     struct model__Tag t12;
@@ -1346,7 +1350,7 @@ static inline void positions__words__keep_word(struct slice_mut_u8 newest, uint6
     if (((word >> 14u) & 8191u) != (position - first)) {
         return;
     }
-    t12 = codec__tags__read_tag(word, position, base, homes);
+    t12 = base_codec__tags__read_tag(word, position, base, homes);
     if (t12.tag == 0u) {
     } else if (t12.tag == 1u) {
         store_8(newest.ptr + (size_t)(8u * t12.u64_0), position);
@@ -1356,38 +1360,38 @@ static inline void positions__words__keep_word(struct slice_mut_u8 newest, uint6
 }
 
 /* The same for tag `k` alone, the only one of its transaction. */
-static inline void positions__groups__keep_alone(struct slice_u8 group, uint64_t groups, uint64_t homes, uint64_t start,
+static inline void log_newest__groups__keep_alone(struct slice_u8 group, uint64_t groups, uint64_t homes, uint64_t start,
         uint64_t n, uint64_t turn, uint64_t k, struct slice_mut_u8 newest)
 {
     uint64_t t9, t10;
     bool t11;
 
-    t11 = scan__groups__group_valid(group, groups, start, n);
+    t11 = log_scan__groups__group_valid(group, groups, start, n);
     if (!t11) {
         return;
     }
-    t9 = scan__groups__word_there(group, turn, k);
+    t9 = log_scan__groups__word_there(group, turn, k);
     t10 = (7u * n) + k;
-    positions__words__keep_word(newest, t9, t10, 7u * start, homes, t10);
+    log_newest__words__keep_word(newest, t9, t10, 7u * start, homes, t10);
 }
 
 /* The same for a transaction of its closing entry alone, at index `k` of the group with number `number`. */
-static inline void positions__commits__keep_one(struct slice_u8 log, uint64_t groups, uint64_t homes, uint64_t start,
+static inline void log_newest__commits__keep_one(struct slice_u8 log, uint64_t groups, uint64_t homes, uint64_t start,
         uint64_t number, uint64_t k, struct slice_mut_u8 newest)
 {
-    struct scan__slots__RingSlot t8;
+    struct log_scan__slots__RingSlot t8;
     uint64_t t9;
 
-    t8 = scan__slots__first_slot(number, groups);
+    t8 = log_scan__slots__first_slot(number, groups);
     t9 = 64u + (512u * t8.slot);
-    positions__groups__keep_alone((struct slice_u8){log.ptr + (size_t)t9, (size_t)((t9 + 512u) - t9)}, groups, homes, start,
+    log_newest__groups__keep_alone((struct slice_u8){log.ptr + (size_t)t9, (size_t)((t9 + 512u) - t9)}, groups, homes, start,
             number, t8.turn, k, newest);
 }
 
 /* The same for tag `k` of a group, where it is the transaction's entry that does not close it, which is `plain` but for its home,
    or has another distance back; returns whether it is one of these. Only an entry of the transaction has its block's turn bit
    looked at. */
-static inline bool positions__words__keep_plain(struct slice_u8 group, uint64_t turn, uint64_t k, uint64_t plain,
+static inline bool log_newest__words__keep_plain(struct slice_u8 group, uint64_t turn, uint64_t k, uint64_t plain,
         uint64_t position, uint64_t homes, struct slice_mut_u8 newest)
 {
     uint64_t t8, t9, t136;
@@ -1409,69 +1413,69 @@ static inline bool positions__words__keep_plain(struct slice_u8 group, uint64_t 
 }
 
 /* The same for every tag. */
-static inline void positions__words__keep_entry(struct slice_u8 group, uint64_t turn, uint64_t k, uint64_t position,
+static inline void log_newest__words__keep_entry(struct slice_u8 group, uint64_t turn, uint64_t k, uint64_t position,
         uint64_t base, uint64_t homes, uint64_t first, struct slice_mut_u8 newest)
 {
     uint64_t t10;
     bool t12;
 
-    t12 = positions__words__keep_plain(group, turn, k, ((1u | (((uint64_t)0u & 4095u) << 2u)) | ((position - first) << 14u))
+    t12 = log_newest__words__keep_plain(group, turn, k, ((1u | (((uint64_t)0u & 4095u) << 2u)) | ((position - first) << 14u))
             | (((uint64_t)0u >> 12u) << 53u), position, homes, newest);
     if (t12) {
         return;
     }
-    t10 = scan__groups__word_there(group, turn, k);
-    positions__words__keep_word(newest, t10, position, base, homes, first);
+    t10 = log_scan__groups__word_there(group, turn, k);
+    log_newest__words__keep_word(newest, t10, position, base, homes, first);
 }
 
 /* Keeps the transaction's entries from tag `done` of a group to below tag `m`, where those before are taken. The group says
    nothing where it is not the valid group with number `n` and turn `turn`. */
-static inline void positions__groups__keep_between(struct slice_u8 group, uint64_t groups, uint64_t homes, uint64_t start,
+static inline void log_newest__groups__keep_between(struct slice_u8 group, uint64_t groups, uint64_t homes, uint64_t start,
         uint64_t n, uint64_t turn, uint64_t done, uint64_t m, uint64_t first, struct slice_mut_u8 newest)
 {
     uint64_t t11, t12;
     bool t13;
 
-    t13 = scan__groups__group_valid(group, groups, start, n);
+    t13 = log_scan__groups__group_valid(group, groups, start, n);
     if (!t13) {
         return;
     }
     t11 = 7u * start;
     t12 = done;
     while (t12 < m) {
-        positions__words__keep_entry(group, turn, t12, (7u * n) + t12, t11, homes, first, newest);
+        log_newest__words__keep_entry(group, turn, t12, (7u * n) + t12, t11, homes, first, newest);
         t12 = t12 + 1u;
     }
 }
 
 /* Keeps the transaction's entries of the pass's group that are left below its tag `m`. */
-static inline void positions__commits__keep_rest(struct slice_u8 log, uint64_t groups, uint64_t homes, uint64_t start,
-        uint64_t first, struct positions__commits__Pass pass, uint64_t m, struct slice_mut_u8 newest)
+static inline void log_newest__commits__keep_rest(struct slice_u8 log, uint64_t groups, uint64_t homes, uint64_t start,
+        uint64_t first, struct log_newest__commits__Pass pass, uint64_t m, struct slice_mut_u8 newest)
 {
-    struct scan__slots__RingSlot t9;
+    struct log_scan__slots__RingSlot t9;
     uint64_t t10;
 
     t9 = pass.at;
     t10 = 64u + (512u * t9.slot);
-    positions__groups__keep_between((struct slice_u8){log.ptr + (size_t)t10, (size_t)((t10 + 512u) - t10)}, groups, homes, start,
+    log_newest__groups__keep_between((struct slice_u8){log.ptr + (size_t)t10, (size_t)((t10 + 512u) - t10)}, groups, homes, start,
             pass.number, t9.turn, pass.done, m, first, newest);
 }
 
 /* Those of the group after: the turn changes where the slots begin again. */
-static inline struct scan__slots__RingSlot scan__slots__next_slot(struct scan__slots__RingSlot at, uint64_t groups)
+static inline struct log_scan__slots__RingSlot log_scan__slots__next_slot(struct log_scan__slots__RingSlot at, uint64_t groups)
 {
     uint64_t t3;
 
     t3 = at.slot + 1u;
     if (t3 == groups) {
-        return (struct scan__slots__RingSlot){.slot = 0u, .turn = 1u - at.turn};
+        return (struct log_scan__slots__RingSlot){.slot = 0u, .turn = 1u - at.turn};
     }
-    return (struct scan__slots__RingSlot){.slot = t3, .turn = at.turn};
+    return (struct log_scan__slots__RingSlot){.slot = t3, .turn = at.turn};
 }
 
 /* Keeps the transaction's entries of a valid group one after the other, as long as they are plain; returns how many tags it has
    taken. */
-static inline uint64_t positions__groups__keep_seven(struct slice_u8 group, uint64_t homes, uint64_t n, uint64_t turn,
+static inline uint64_t log_newest__groups__keep_seven(struct slice_u8 group, uint64_t homes, uint64_t n, uint64_t turn,
         uint64_t first, struct slice_mut_u8 newest)
 {
     uint64_t t7, t8, t9;
@@ -1481,7 +1485,7 @@ static inline uint64_t positions__groups__keep_seven(struct slice_u8 group, uint
     t8 = ((1u | (((uint64_t)0u & 4095u) << 2u)) | ((t7 - first) << 14u)) | (((uint64_t)0u >> 12u) << 53u);
     t9 = 0u;
     while (t9 < 7u) {
-        t11 = positions__words__keep_plain(group, turn, t9, t8, t7, homes, newest);
+        t11 = log_newest__words__keep_plain(group, turn, t9, t8, t7, homes, newest);
         if (!t11) {
             return t9;
         }
@@ -1493,7 +1497,7 @@ static inline uint64_t positions__groups__keep_seven(struct slice_u8 group, uint
 }
 
 /* The same for a group of the log's range, none where it is not the valid group with number `n`: its head is asked once. */
-static inline uint64_t positions__groups__keep_whole(struct slice_u8 group, uint64_t groups, uint64_t homes, uint64_t start,
+static inline uint64_t log_newest__groups__keep_whole(struct slice_u8 group, uint64_t groups, uint64_t homes, uint64_t start,
         uint64_t n, uint64_t turn, uint64_t first, struct slice_mut_u8 newest)
 {
     (void)groups;
@@ -1502,76 +1506,76 @@ static inline uint64_t positions__groups__keep_whole(struct slice_u8 group, uint
     if (!(load_8(group.ptr) == (((n % UINT64_C(0x1000000000000)) * UINT64_C(0x10000)) + 18256u))) {
         return 0u;
     }
-    return positions__groups__keep_seven(group, homes, n, turn, first, newest);
+    return log_newest__groups__keep_seven(group, homes, n, turn, first, newest);
 }
 
 /* Keeps the transaction's entries of the groups from number `from` on that lie whole below position `end`, as long as their tags
    are plain. */
-static inline struct positions__commits__Pass positions__commits__keep_groups(struct slice_u8 log, uint64_t groups,
-        uint64_t homes, uint64_t start, uint64_t first, uint64_t end, uint64_t from, struct scan__slots__RingSlot ring,
+static inline struct log_newest__commits__Pass log_newest__commits__keep_groups(struct slice_u8 log, uint64_t groups,
+        uint64_t homes, uint64_t start, uint64_t first, uint64_t end, uint64_t from, struct log_scan__slots__RingSlot ring,
         struct slice_mut_u8 newest)
 {
     uint64_t t10, t12, t14;
-    struct scan__slots__RingSlot t11;
+    struct log_scan__slots__RingSlot t11;
 
     t10 = from;
     t11 = ring;
     while (((7u * t10) + 7u) <= end) {
         t12 = 64u + (512u * t11.slot);
-        t14 = positions__groups__keep_whole((struct slice_u8){log.ptr + (size_t)t12, (size_t)((t12 + 512u) - t12)}, groups, homes,
-                start, t10, t11.turn, first, newest);
+        t14 = log_newest__groups__keep_whole((struct slice_u8){log.ptr + (size_t)t12, (size_t)((t12 + 512u) - t12)}, groups,
+                homes, start, t10, t11.turn, first, newest);
         if (t14 != 7u) {
-            return (struct positions__commits__Pass){.number = t10, .at = t11, .done = t14};
+            return (struct log_newest__commits__Pass){.number = t10, .at = t11, .done = t14};
         }
-        t11 = scan__slots__next_slot(t11, groups);
+        t11 = log_scan__slots__next_slot(t11, groups);
         t10 = t10 + 1u;
     }
-    return (struct positions__commits__Pass){.number = t10, .at = t11, .done = 0u};
+    return (struct log_newest__commits__Pass){.number = t10, .at = t11, .done = 0u};
 }
 
 /* Keeps the position of each entry of the transaction from position `first` to the closing one, so that the later position wins.
    */
-static inline void positions__commits__keep_entries(struct slice_u8 log, uint64_t groups, uint64_t homes, uint64_t start,
+static inline void log_newest__commits__keep_entries(struct slice_u8 log, uint64_t groups, uint64_t homes, uint64_t start,
         uint64_t first, uint64_t closing, struct slice_mut_u8 newest)
 {
     uint64_t t8, t10, t13;
-    struct scan__slots__RingSlot t9, t12;
-    struct positions__commits__Pass t11;
+    struct log_scan__slots__RingSlot t9, t12;
+    struct log_newest__commits__Pass t11;
 
     t8 = first / 7u;
-    t9 = scan__slots__first_slot(t8, groups);
+    t9 = log_scan__slots__first_slot(t8, groups);
     t10 = closing + 1u;
-    t11 = (struct positions__commits__Pass){.number = t8, .at = t9, .done = first - (7u * t8)};
+    t11 = (struct log_newest__commits__Pass){.number = t8, .at = t9, .done = first - (7u * t8)};
     while (((7u * t11.number) + 7u) <= t10) {
-        positions__commits__keep_rest(log, groups, homes, start, first, t11, 7u, newest);
-        t12 = scan__slots__next_slot(t11.at, groups);
-        t11 = positions__commits__keep_groups(log, groups, homes, start, first, t10, t11.number + 1u, t12, newest);
+        log_newest__commits__keep_rest(log, groups, homes, start, first, t11, 7u, newest);
+        t12 = log_scan__slots__next_slot(t11.at, groups);
+        t11 = log_newest__commits__keep_groups(log, groups, homes, start, first, t10, t11.number + 1u, t12, newest);
     }
     t13 = t10 - (7u * t11.number);
     if (t13 == 0u) {
         return;
     }
-    positions__commits__keep_rest(log, groups, homes, start, first, t11, t13, newest);
+    log_newest__commits__keep_rest(log, groups, homes, start, first, t11, t13, newest);
 }
 
 /* Keeps the position of each entry of the transaction that was closed at the next position; where nothing was logged before, that
    is one position. */
-static inline void commits__keep_newest(struct slice_u8 log, struct slice_mut_u8 newest, struct model__State st,
+static inline void call_commit__keep_newest(struct slice_u8 log, struct slice_mut_u8 newest, struct model__State st,
         struct model__Writer r)
 {
     uint64_t t5, t6;
 
     if (!(3u <= r.mode)) {
-        positions__commits__keep_one(log, st.groups, st.homes, st.start, st.next, st.filled, newest);
+        log_newest__commits__keep_one(log, st.groups, st.homes, st.start, st.next, st.filled, newest);
         return;
     }
     t5 = (7u * st.next) + st.filled;
-    t6 = strip__writers__first_for(r, t5);
-    positions__commits__keep_entries(log, st.groups, st.homes, st.start, t6, t5, newest);
+    t6 = base_state__writers__first_for(r, t5);
+    log_newest__commits__keep_entries(log, st.groups, st.homes, st.start, t6, t5, newest);
 }
 
 /* The same for all four. */
-static inline bool rights__keep__same_listed(struct slice_u8 state, struct slice_u8 newest)
+static inline bool call_rights__keep__same_listed(struct slice_u8 state, struct slice_u8 newest)
 {
     if (!(load_8(state.ptr + (size_t)(896u + ((uint64_t)8u * 0u))) == load_8(newest.ptr + (size_t)(64u + ((uint64_t)8u * 0u))))) {
         return false;
@@ -1586,36 +1590,36 @@ static inline bool rights__keep__same_listed(struct slice_u8 state, struct slice
 }
 
 /* Stores the four positions, and leaves the rest of the strip as it was. */
-static inline void strip__listed__set_listed(struct slice_mut_u8 s, struct slice_u8 positions)
+static inline void base_state__listed__set_listed(struct slice_mut_u8 s, struct slice_u8 positions)
 {
-    codec__blocks__copy(s, 896u, positions);
+    base_codec__blocks__copy(s, 896u, positions);
 }
 
 /* Carries the four positions over from the newest positions of `homes` homes, where the list has its homes. */
-static inline void strip__listed__carry_listed(struct slice_mut_u8 s, struct slice_u8 newest, uint64_t homes)
+static inline void base_state__listed__carry_listed(struct slice_mut_u8 s, struct slice_u8 newest, uint64_t homes)
 {
     if (homes < 12u) {
         return;
     }
-    strip__listed__set_listed(s, (struct slice_u8){newest.ptr + 64u, (size_t)((uint64_t)96u - 64u)});
+    base_state__listed__set_listed(s, (struct slice_u8){newest.ptr + 64u, (size_t)((uint64_t)96u - 64u)});
 }
 
 /* The ring place of the position that lies `after` positions behind the log's start. */
-static inline struct shown__ring__RingPlace shown__ring__ring_place(struct model__State st, uint64_t after)
+static inline struct log_shown__ring__RingPlace log_shown__ring__ring_place(struct model__State st, uint64_t after)
 {
     uint64_t t3, t4;
-    struct scan__slots__RingSlot t5;
+    struct log_scan__slots__RingSlot t5;
 
     t3 = (after * 9363u) >> 16u;
     t4 = st.start + t3;
-    t5 = scan__slots__first_slot(t4, st.groups);
-    return (struct shown__ring__RingPlace){.number = t4, .slot = t5.slot, .turn = t5.turn, .k = after - (7u * t3)};
+    t5 = log_scan__slots__first_slot(t4, st.groups);
+    return (struct log_shown__ring__RingPlace){.number = t4, .slot = t5.slot, .turn = t5.turn, .k = after - (7u * t3)};
 }
 
 /* Whether a word says `after` positions behind the log's start that an entry for a home is there. Its lowest bits and its
    highest, next to each other, are those of the home, with 2 more where it closes a transaction and 2^18 more where it displaced
    a bit. */
-static inline bool shown__tags__fields_for(uint64_t word, uint64_t home, uint64_t after)
+static inline bool log_shown__tags__fields_for(uint64_t word, uint64_t home, uint64_t after)
 {
     uint64_t t4, t5;
 
@@ -1641,18 +1645,18 @@ static inline bool shown__tags__fields_for(uint64_t word, uint64_t home, uint64_
 
 /* The same. The word of an entry that does not close its transaction and displaced no bit has nothing above the distance back:
    that and its low bits are all that is compared. */
-static inline bool shown__tags__is_entry_for(uint64_t word, uint64_t home, uint64_t after)
+static inline bool log_shown__tags__is_entry_for(uint64_t word, uint64_t home, uint64_t after)
 {
     if ((word >> 14u) <= after) {
         return (word % 16384u) == ((4u * home) + 1u);
     }
-    return shown__tags__fields_for(word, home, after);
+    return log_shown__tags__fields_for(word, home, after);
 }
 
 /* Whether an entry for a home stands `after` positions behind the log's start, which is at a place of the ring: its group's
    number is in range. */
-static inline bool shown__entry_there(struct slice_u8 log, struct model__State st, uint64_t home, uint64_t after,
-        struct shown__ring__RingPlace at)
+static inline bool log_shown__entry_there(struct slice_u8 log, struct model__State st, uint64_t home, uint64_t after,
+        struct log_shown__ring__RingPlace at)
 {
     uint64_t t6, t8;
     struct slice_u8 t7;
@@ -1663,15 +1667,15 @@ static inline bool shown__entry_there(struct slice_u8 log, struct model__State s
     if (!(load_8(t7.ptr) == (((at.number % UINT64_C(0x1000000000000)) * UINT64_C(0x10000)) + 18256u))) {
         return false;
     }
-    t8 = scan__groups__word_there(t7, at.turn, at.k);
-    return shown__tags__is_entry_for(t8, home, after);
+    t8 = log_scan__groups__word_there(t7, at.turn, at.k);
+    return log_shown__tags__is_entry_for(t8, home, after);
 }
 
 /* Where the block of the entry for a home lies in the log, if one is at the position kept for it; else 0. */
-static inline uint64_t shown__place_by(struct slice_u8 log, struct model__State st, uint64_t home, uint64_t position)
+static inline uint64_t log_shown__place_by(struct slice_u8 log, struct model__State st, uint64_t home, uint64_t position)
 {
     uint64_t t5, t6;
-    struct shown__ring__RingPlace t7;
+    struct log_shown__ring__RingPlace t7;
     bool t8;
 
     t5 = 7u * st.start;
@@ -1682,8 +1686,8 @@ static inline uint64_t shown__place_by(struct slice_u8 log, struct model__State 
         return 0u;
     }
     t6 = position - t5;
-    t7 = shown__ring__ring_place(st, t6);
-    t8 = shown__entry_there(log, st, home, t6, t7);
+    t7 = log_shown__ring__ring_place(st, t6);
+    t8 = log_shown__entry_there(log, st, home, t6, t7);
     if (!t8) {
         return 0u;
     }
@@ -1691,28 +1695,28 @@ static inline uint64_t shown__place_by(struct slice_u8 log, struct model__State 
 }
 
 /* The same by the strip. Called by one name from everywhere, so that of its numbers only those that are compared are read. */
-static inline uint64_t shown__place(struct slice_u8 log, struct slice_u8 state, uint64_t home, uint64_t position)
+static inline uint64_t log_shown__place(struct slice_u8 log, struct slice_u8 state, uint64_t home, uint64_t position)
 {
     uint64_t t7, t8;
 
     t7 = load_8(state.ptr);
     t8 = load_8(state.ptr + 8u);
-    return shown__place_by(log, (struct model__State){.groups = t7, .homes = t8, .start = load_8(state.ptr + 16u),
+    return log_shown__place_by(log, (struct model__State){.groups = t7, .homes = t8, .start = load_8(state.ptr + 16u),
             .next = load_8(state.ptr + 24u), .filled = load_8(state.ptr + 32u), .settled = load_8(state.ptr + 40u),
             .fenced = load_8(state.ptr + 48u), .durable = load_8(state.ptr + 56u), .last = load_8(state.ptr + 64u),
             .round = load_8(state.ptr + 88u), .cursor = load_8(state.ptr + 96u)}, home, position);
 }
 
 /* Where the block of the list's home 8 + `i` lies in the log, 0 where the data copy has it. */
-static inline uint64_t rights__list__place(struct slice_u8 log, struct slice_u8 state, struct slice_u8 kept, uint64_t from,
+static inline uint64_t call_rights__list__place(struct slice_u8 log, struct slice_u8 state, struct slice_u8 kept, uint64_t from,
         uint64_t i)
 {
-    return shown__place(log, state, 8u + i, load_8(kept.ptr + (size_t)(from + (8u * i))));
+    return log_shown__place(log, state, 8u + i, load_8(kept.ptr + (size_t)(from + (8u * i))));
 }
 
 /* Whether the block that the entry with its block at index `place` of the log gives is all zeros: the turn bit is shifted out of
    its last word, and the bit that it displaced counts instead. */
-static inline bool rights__zeros__zero_entry(struct slice_u8 log, uint64_t place)
+static inline bool call_rights__zeros__zero_entry(struct slice_u8 log, uint64_t place)
 {
     uint64_t t3, t431, t954;
 
@@ -1729,7 +1733,7 @@ static inline bool rights__zeros__zero_entry(struct slice_u8 log, uint64_t place
 }
 
 /* Whether block `i` of the list, which has the place `found`, is all zeros. */
-static inline bool rights__list__is_zero(struct slice_u8 log, struct slice_u8 area, uint64_t found, uint64_t i)
+static inline bool call_rights__list__is_zero(struct slice_u8 log, struct slice_u8 area, uint64_t found, uint64_t i)
 {
     uint64_t t9, t10, t434;
 
@@ -1741,11 +1745,11 @@ static inline bool rights__list__is_zero(struct slice_u8 log, struct slice_u8 ar
         return (t10 | (load_8(area.ptr + (size_t)t434) | (load_8(area.ptr + (size_t)(t434 + 8u)) | (load_8(area.ptr
                 + (size_t)(t434 + 16u)) | load_8(area.ptr + (size_t)(t434 + 24u)))))) == 0u;
     }
-    return rights__zeros__zero_entry(log, found);
+    return call_rights__zeros__zero_entry(log, found);
 }
 
 /* The same for block `i`, where block `own` is known to be all zeros. */
-static inline bool rights__list__other_zero(struct slice_u8 log, struct slice_u8 area, struct slice_u8 state,
+static inline bool call_rights__list__other_zero(struct slice_u8 log, struct slice_u8 area, struct slice_u8 state,
         struct slice_u8 kept, uint64_t from, uint64_t own, uint64_t i)
 {
     uint64_t t8;
@@ -1753,20 +1757,20 @@ static inline bool rights__list__other_zero(struct slice_u8 log, struct slice_u8
     if (i == own) {
         return true;
     }
-    t8 = rights__list__place(log, state, kept, from, i);
-    return rights__list__is_zero(log, area, t8, i);
+    t8 = call_rights__list__place(log, state, kept, from, i);
+    return call_rights__list__is_zero(log, area, t8, i);
 }
 
 /* Whether the whole list is all zeros, where block `own` is. */
-static inline bool rights__list__no_list(struct slice_u8 log, struct slice_u8 area, struct slice_u8 state, struct slice_u8 kept,
-        uint64_t from, uint64_t own)
+static inline bool call_rights__list__no_list(struct slice_u8 log, struct slice_u8 area, struct slice_u8 state,
+        struct slice_u8 kept, uint64_t from, uint64_t own)
 {
     uint64_t t7;
     bool t8;
 
     t7 = 0u;
     while (t7 < 4u) {
-        t8 = rights__list__other_zero(log, area, state, kept, from, own, t7);
+        t8 = call_rights__list__other_zero(log, area, state, kept, from, own, t7);
         if (!t8) {
             return false;
         }
@@ -1776,27 +1780,27 @@ static inline bool rights__list__no_list(struct slice_u8 log, struct slice_u8 ar
 }
 
 /* Whether the whole list is all zeros. */
-static inline bool rights__list__all_zeros(struct slice_u8 log, struct slice_u8 area, struct slice_u8 state, struct slice_u8 kept,
-        uint64_t from)
+static inline bool call_rights__list__all_zeros(struct slice_u8 log, struct slice_u8 area, struct slice_u8 state,
+        struct slice_u8 kept, uint64_t from)
 {
     uint64_t t6;
     bool t7;
 
-    t6 = rights__list__place(log, state, kept, from, 0u);
-    t7 = rights__list__is_zero(log, area, t6, 0u);
+    t6 = call_rights__list__place(log, state, kept, from, 0u);
+    t7 = call_rights__list__is_zero(log, area, t6, 0u);
     if (!t7) {
         return false;
     }
-    return rights__list__no_list(log, area, state, kept, from, 0u);
+    return call_rights__list__no_list(log, area, state, kept, from, 0u);
 }
 
 /* Sets the sign of the list that the newest positions show. */
-static inline void rights__keep__sign_list(struct slice_u8 log, struct slice_u8 area, struct slice_mut_u8 state,
+static inline void call_rights__keep__sign_list(struct slice_u8 log, struct slice_u8 area, struct slice_mut_u8 state,
         struct slice_u8 newest)
 {
     bool t5;
 
-    t5 = rights__list__all_zeros(log, area, (struct slice_u8){state.ptr, state.len}, newest, 64u);
+    t5 = call_rights__list__all_zeros(log, area, (struct slice_u8){state.ptr, state.len}, newest, 64u);
     if (t5) {
         store_8(state.ptr + 928u, 1u);
         return;
@@ -1805,7 +1809,7 @@ static inline void rights__keep__sign_list(struct slice_u8 log, struct slice_u8 
 }
 
 /* Keeps the list's part of the strip after a commit that has left log, strip and newest positions. */
-static inline void rights__keep__keep_list(struct slice_u8 log, struct slice_u8 area, struct slice_mut_u8 state,
+static inline void call_rights__keep__keep_list(struct slice_u8 log, struct slice_u8 area, struct slice_mut_u8 state,
         struct slice_u8 newest)
 {
     uint64_t t5;
@@ -1815,30 +1819,30 @@ static inline void rights__keep__keep_list(struct slice_u8 log, struct slice_u8 
     if (t5 < 12u) {
         return;
     }
-    t6 = rights__keep__same_listed((struct slice_u8){state.ptr, state.len}, newest);
-    strip__listed__carry_listed(state, newest, t5);
+    t6 = call_rights__keep__same_listed((struct slice_u8){state.ptr, state.len}, newest);
+    base_state__listed__carry_listed(state, newest, t5);
     if (t6) {
         return;
     }
-    rights__keep__sign_list(log, area, state, newest);
+    call_rights__keep__sign_list(log, area, state, newest);
 }
 
 /* The closing entry, with the places promised to the writer given back, the newest positions kept, and with them the state
    strip's part of the list of rights. */
-static inline uint64_t commits__commit_held(struct slice_mut_u8 log, struct slice_u8 area, struct slice_mut_u8 state,
+static inline uint64_t call_commit__commit_held(struct slice_mut_u8 log, struct slice_u8 area, struct slice_mut_u8 state,
         struct slice_mut_u8 newest, struct slice_mut_u8 batch, struct model__State st, struct model__Writer r, uint64_t w)
 {
     uint64_t t9;
 
-    t9 = commits__close_held(log, state, batch, st, r, w);
+    t9 = call_commit__close_held(log, state, batch, st, r, w);
     store_2(state.ptr + (size_t)(72u + (2u * w)), 0u);
-    commits__keep_newest((struct slice_u8){log.ptr, log.len}, newest, st, r);
-    rights__keep__keep_list((struct slice_u8){log.ptr, log.len}, area, state, (struct slice_u8){newest.ptr, newest.len});
+    call_commit__keep_newest((struct slice_u8){log.ptr, log.len}, newest, st, r);
+    call_rights__keep__keep_list((struct slice_u8){log.ptr, log.len}, area, state, (struct slice_u8){newest.ptr, newest.len});
     return t9;
 }
 
 /* The same by the numbers and the record that stand in the strip. */
-static inline uint64_t commits__commit_next(struct slice_mut_u8 log, struct slice_u8 area, struct slice_mut_u8 state,
+static inline uint64_t call_commit__commit_next(struct slice_mut_u8 log, struct slice_u8 area, struct slice_mut_u8 state,
         struct slice_mut_u8 newest, struct slice_mut_u8 batch, uint64_t w)
 {
     struct model__State t7;
@@ -1851,29 +1855,29 @@ static inline uint64_t commits__commit_next(struct slice_mut_u8 log, struct slic
             .filled = load_8(state.ptr + 32u), .settled = load_8(state.ptr + 40u), .fenced = load_8(state.ptr + 48u),
             .durable = load_8(state.ptr + 56u), .last = load_8(state.ptr + 64u), .round = load_8(state.ptr + 88u),
             .cursor = load_8(state.ptr + 96u)};
-    t8 = strip__writers__writer((struct slice_u8){state.ptr, state.len}, w);
-    return commits__commit_held(log, area, state, newest, batch, t7, t8, w);
+    t8 = base_state__writers__writer((struct slice_u8){state.ptr, state.len}, w);
+    return call_commit__commit_held(log, area, state, newest, batch, t7, t8, w);
 }
 
 /* Commits a writer's open transaction: its held block is logged as the closing entry, whose position + 1 is the ticket, and for
    each home that it wrote the last entry's position is kept. */
-static inline struct answers__Reply commits__commit(struct slice_mut_u8 log, struct slice_u8 area, struct slice_mut_u8 state,
+static inline struct call_ask__Reply call_commit__commit(struct slice_mut_u8 log, struct slice_u8 area, struct slice_mut_u8 state,
         struct slice_mut_u8 newest, struct slice_mut_u8 batch, uint64_t writer)
 {
     uint64_t t7, t8, t12, t43, t44;
     struct model__Writer t9;
     struct model__State t10;
 
-    t7 = commits__commit_verdict((struct slice_u8){log.ptr, log.len}, area, (struct slice_u8){state.ptr, state.len},
+    t7 = call_commit__commit_answer((struct slice_u8){log.ptr, log.len}, area, (struct slice_u8){state.ptr, state.len},
             (struct slice_u8){newest.ptr, newest.len}, (struct slice_u8){batch.ptr, batch.len}, writer);
     if (t7 != 0u) {
-        return (struct answers__Reply){.code = t7, .figure = 0u, .size = 0u};
+        return (struct call_ask__Reply){.code = t7, .figure = 0u, .size = 0u};
     }
     t8 = writer;
-    t9 = strip__writers__writer((struct slice_u8){state.ptr, state.len}, t8);
+    t9 = base_state__writers__writer((struct slice_u8){state.ptr, state.len}, t8);
     if (!(2u <= t9.mode)) {
-        commits__commit_none(state, t8);
-        return (struct answers__Reply){.code = 0u, .figure = 0u, .size = 0u};
+        call_commit__commit_none(state, t8);
+        return (struct call_ask__Reply){.code = 0u, .figure = 0u, .size = 0u};
     }
     t43 = load_8(state.ptr);
     t44 = load_8(state.ptr + 8u);
@@ -1881,26 +1885,26 @@ static inline struct answers__Reply commits__commit(struct slice_mut_u8 log, str
             .filled = load_8(state.ptr + 32u), .settled = load_8(state.ptr + 40u), .fenced = load_8(state.ptr + 48u),
             .durable = load_8(state.ptr + 56u), .last = load_8(state.ptr + 64u), .round = load_8(state.ptr + 88u),
             .cursor = load_8(state.ptr + 96u)};
-    t12 = commits__commit_next(log, area, state, newest, batch, t8);
-    return (struct answers__Reply){.code = 0u, .figure = ((7u * t10.next) + t10.filled) + 1u, .size = t12};
+    t12 = call_commit__commit_next(log, area, state, newest, batch, t8);
+    return (struct call_ask__Reply){.code = 0u, .figure = ((7u * t10.next) + t10.filled) + 1u, .size = t12};
 }
 
 /* Ends a writer's transaction: logs the held block as its closing entry, and returns the ticket. */
-static inline struct answers__Reply kagutin__kagutin_commit(struct slice_mut_u8 log, struct slice_u8 area,
+static inline struct call_ask__Reply kagutin__kagutin_commit(struct slice_mut_u8 log, struct slice_u8 area,
         struct slice_mut_u8 state, struct slice_mut_u8 newest, struct slice_mut_u8 batch, uint64_t writer)
 {
-    return commits__commit(log, area, state, newest, batch, writer);
+    return call_commit__commit(log, area, state, newest, batch, writer);
 }
 
 /* Makes the fenced position the durable mark, and returns it: all fences so far have passed. */
-static inline struct answers__Reply sessions__confirm(struct slice_u8 log, struct slice_u8 area, struct slice_mut_u8 state)
+static inline struct call_ask__Reply call_writer__confirm(struct slice_u8 log, struct slice_u8 area, struct slice_mut_u8 state)
 {
     uint64_t t4, t5, t17, t18;
     struct model__State t9;
 
-    t4 = answers__in_use(log, area, (struct slice_u8){state.ptr, state.len});
+    t4 = call_ask__state_answer(log, area, (struct slice_u8){state.ptr, state.len});
     if (t4 != 0u) {
-        return (struct answers__Reply){.code = t4, .figure = 0u, .size = 0u};
+        return (struct call_ask__Reply){.code = t4, .figure = 0u, .size = 0u};
     }
     t17 = load_8(state.ptr);
     t18 = load_8(state.ptr + 8u);
@@ -1910,17 +1914,18 @@ static inline struct answers__Reply sessions__confirm(struct slice_u8 log, struc
             .cursor = load_8(state.ptr + 96u)};
     t5 = t9.fenced;
     store_8(state.ptr + 56u, t5);
-    return (struct answers__Reply){.code = 0u, .figure = t5, .size = 0u};
+    return (struct call_ask__Reply){.code = 0u, .figure = t5, .size = 0u};
 }
 
 /* Makes the fenced position the durable mark, and returns it. */
-static inline struct answers__Reply kagutin__kagutin_confirm(struct slice_u8 log, struct slice_u8 area, struct slice_mut_u8 state)
+static inline struct call_ask__Reply kagutin__kagutin_confirm(struct slice_u8 log, struct slice_u8 area,
+        struct slice_mut_u8 state)
 {
-    return sessions__confirm(log, area, state);
+    return call_writer__confirm(log, area, state);
 }
 
 /* Whether a strip of home blocks may have `len` bytes: one to seven whole blocks. */
-static inline bool fetching__verdicts__blocks_right(uint64_t len)
+static inline bool call_many_fetch__questions__blocks_right(uint64_t len)
 {
     if ((len % 64u) != 0u) {
         return false;
@@ -1932,7 +1937,7 @@ static inline bool fetching__verdicts__blocks_right(uint64_t len)
 }
 
 /* Whether the `n` homes from `home` on are all below `homes`. */
-static inline bool fetching__verdicts__homes_known(uint64_t homes, uint64_t home, uint64_t n)
+static inline bool call_many_fetch__questions__homes_known(uint64_t homes, uint64_t home, uint64_t n)
 {
     if (homes < home) {
         return false;
@@ -1941,24 +1946,24 @@ static inline bool fetching__verdicts__homes_known(uint64_t homes, uint64_t home
 }
 
 /* Questions 1, 2, 4 and 5, which each call on several homes puts first: 0 if none refuses it, else the number of the refusal. */
-static inline uint64_t fetching__verdicts__homes_answer(struct slice_u8 log, struct slice_u8 area, struct slice_u8 state,
+static inline uint64_t call_many_fetch__questions__homes_answer(struct slice_u8 log, struct slice_u8 area, struct slice_u8 state,
         struct slice_u8 newest, struct slice_u8 blocks, uint64_t writer, uint64_t home)
 {
     uint64_t t8;
     bool t9;
 
-    t9 = fetching__verdicts__blocks_right((uint64_t)blocks.len);
+    t9 = call_many_fetch__questions__blocks_right((uint64_t)blocks.len);
     if (!t9) {
         return 1u;
     }
-    t8 = answers__in_use_newest(log, area, state, newest);
+    t8 = call_ask__newest_answer(log, area, state, newest);
     if (t8 != 0u) {
         return t8;
     }
     if (8u <= writer) {
         return 4u;
     }
-    t9 = fetching__verdicts__homes_known((uint64_t)area.len / 64u, home, (uint64_t)blocks.len / 64u);
+    t9 = call_many_fetch__questions__homes_known((uint64_t)area.len / 64u, home, (uint64_t)blocks.len / 64u);
     if (!t9) {
         return 5u;
     }
@@ -1966,7 +1971,7 @@ static inline uint64_t fetching__verdicts__homes_answer(struct slice_u8 log, str
 }
 
 /* Whether a home is one of the list's own. */
-static inline bool rights__ranges__of_list(uint64_t home)
+static inline bool call_rights__ranges__of_list(uint64_t home)
 {
     if (home < 8u) {
         return false;
@@ -1975,7 +1980,7 @@ static inline bool rights__ranges__of_list(uint64_t home)
 }
 
 /* A home less the first of a range, modulo 2^64. */
-static inline uint64_t rights__ranges__wrapped_difference(uint64_t home, uint64_t first)
+static inline uint64_t call_rights__ranges__wrapped_difference(uint64_t home, uint64_t first)
 {
     if (first <= home) {
         return home - first;
@@ -1984,38 +1989,38 @@ static inline uint64_t rights__ranges__wrapped_difference(uint64_t home, uint64_
 }
 
 /* Whether a home lies in the range at index `at`: a home before it wraps to a difference that no range has. */
-static inline bool rights__ranges__in_range(struct slice_u8 s, uint64_t at, uint64_t home)
+static inline bool call_rights__ranges__in_range(struct slice_u8 s, uint64_t at, uint64_t home)
 {
     uint64_t t5, t7;
 
     t5 = load_2(s.ptr + (size_t)(at + 2u));
-    t7 = rights__ranges__wrapped_difference(home, load_2(s.ptr + (size_t)at));
+    t7 = call_rights__ranges__wrapped_difference(home, load_2(s.ptr + (size_t)at));
     return t7 < t5;
 }
 
 /* Whether a home lies in one of the four ranges from index `at` on. */
-static inline bool rights__ranges__in_ranges(struct slice_u8 s, uint64_t at, uint64_t home)
+static inline bool call_rights__ranges__in_ranges(struct slice_u8 s, uint64_t at, uint64_t home)
 {
     bool t4, t5, t7;
 
-    t4 = rights__ranges__in_range(s, at, home);
+    t4 = call_rights__ranges__in_range(s, at, home);
     if (t4) {
         return true;
     }
-    t5 = rights__ranges__in_range(s, at + 4u, home);
+    t5 = call_rights__ranges__in_range(s, at + 4u, home);
     if (t5) {
         return true;
     }
-    t7 = rights__ranges__in_range(s, at + 8u, home);
+    t7 = call_rights__ranges__in_range(s, at + 8u, home);
     if (t7) {
         return true;
     }
-    return rights__ranges__in_range(s, at + 12u, home);
+    return call_rights__ranges__in_range(s, at + 12u, home);
 }
 
 /* Whether a home lies in the last range of the block that the entry with its block at index `place` of the log gives: it ends
    with the turn bit. */
-static inline bool rights__ranges__in_last(struct slice_u8 log, uint64_t place, uint64_t home)
+static inline bool call_rights__ranges__in_last(struct slice_u8 log, uint64_t place, uint64_t home)
 {
     uint64_t t4, t5, t219;
 
@@ -2034,50 +2039,51 @@ static inline bool rights__ranges__in_last(struct slice_u8 log, uint64_t place, 
 
 /* Whether a home lies in one of the four ranges from index `o` on of that block: all but a block's last range stand in the log as
    they are. */
-static inline bool rights__ranges__in_entry(struct slice_u8 log, uint64_t place, uint64_t o, uint64_t home)
+static inline bool call_rights__ranges__in_entry(struct slice_u8 log, uint64_t place, uint64_t o, uint64_t home)
 {
     bool t5, t7, t9;
 
-    t5 = rights__ranges__in_range(log, place + o, home);
+    t5 = call_rights__ranges__in_range(log, place + o, home);
     if (t5) {
         return true;
     }
-    t7 = rights__ranges__in_range(log, place + (o + 4u), home);
+    t7 = call_rights__ranges__in_range(log, place + (o + 4u), home);
     if (t7) {
         return true;
     }
-    t9 = rights__ranges__in_range(log, place + (o + 8u), home);
+    t9 = call_rights__ranges__in_range(log, place + (o + 8u), home);
     if (t9) {
         return true;
     }
     if (o < 48u) {
-        return rights__ranges__in_range(log, place + (o + 12u), home);
+        return call_rights__ranges__in_range(log, place + (o + 12u), home);
     }
-    return rights__ranges__in_last(log, place, home);
+    return call_rights__ranges__in_last(log, place, home);
 }
 
 /* Whether a home lies in one of the four ranges from byte `at` of the list on, whose block has the place `found`. Two ask it, so
    that it stays a function of its own and `open_listed` is short enough to stand in the questions themselves. */
-static inline bool rights__list__own_ranges(struct slice_u8 log, struct slice_u8 area, uint64_t found, uint64_t at, uint64_t home)
+static inline bool call_rights__list__own_ranges(struct slice_u8 log, struct slice_u8 area, uint64_t found, uint64_t at,
+        uint64_t home)
 {
     if (found == 0u) {
-        return rights__ranges__in_ranges(area, (64u * (8u + (at / 64u))) + (at % 64u), home);
+        return call_rights__ranges__in_ranges(area, (64u * (8u + (at / 64u))) + (at % 64u), home);
     }
-    return rights__ranges__in_entry(log, found, at % 64u, home);
+    return call_rights__ranges__in_entry(log, found, at % 64u, home);
 }
 
 /* Whether the ranges from byte `at` of the list on open a home: only the writer's own block is looked up. */
-static inline bool rights__list__open_listed(struct slice_u8 log, struct slice_u8 area, struct slice_u8 state,
+static inline bool call_rights__list__open_listed(struct slice_u8 log, struct slice_u8 area, struct slice_u8 state,
         struct slice_u8 kept, uint64_t from, uint64_t at, uint64_t home)
 {
     uint64_t t8;
 
-    t8 = rights__list__place(log, state, kept, from, at / 64u);
-    return rights__list__own_ranges(log, area, t8, at, home);
+    t8 = call_rights__list__place(log, state, kept, from, at / 64u);
+    return call_rights__list__own_ranges(log, area, t8, at, home);
 }
 
 /* Whether no position is kept for any of the list's homes: the whole list lies in the data copy. */
-static inline bool rights__list__none_kept(struct slice_u8 kept, uint64_t from)
+static inline bool call_rights__list__none_kept(struct slice_u8 kept, uint64_t from)
 {
     if (load_8(kept.ptr + (size_t)from) != UINT64_C(0xffffffffffffffff)) {
         return false;
@@ -2092,22 +2098,22 @@ static inline bool rights__list__none_kept(struct slice_u8 kept, uint64_t from)
 }
 
 /* The same, or there is no list, by its blocks alone. The writer's own block is asked first. */
-static inline bool rights__list__open_kept(struct slice_u8 log, struct slice_u8 area, struct slice_u8 state, struct slice_u8 kept,
-        uint64_t from, uint64_t at, uint64_t home)
+static inline bool call_rights__list__open_kept(struct slice_u8 log, struct slice_u8 area, struct slice_u8 state,
+        struct slice_u8 kept, uint64_t from, uint64_t at, uint64_t home)
 {
     uint64_t t8;
     bool t10;
 
-    t8 = rights__list__place(log, state, kept, from, at / 64u);
-    t10 = rights__list__own_ranges(log, area, t8, at, home);
+    t8 = call_rights__list__place(log, state, kept, from, at / 64u);
+    t10 = call_rights__list__own_ranges(log, area, t8, at, home);
     if (t10) {
         return true;
     }
-    return rights__list__all_zeros(log, area, state, kept, from);
+    return call_rights__list__all_zeros(log, area, state, kept, from);
 }
 
 /* Whether all four blocks of the list are zeros in the data copy. */
-static inline bool rights__list__none_in_copy(struct slice_u8 area)
+static inline bool call_rights__list__none_in_copy(struct slice_u8 area)
 {
     uint64_t t5, t429, t849, t1273, t1693, t2117, t2537, t2961;
 
@@ -2140,30 +2146,30 @@ static inline bool rights__list__none_in_copy(struct slice_u8 area)
 }
 
 /* The same by the list's sign, where that says nothing. The data copy is looked at without the log if no position is kept. */
-static inline bool rights__list__open_unsigned(struct slice_u8 log, struct slice_u8 area, struct slice_u8 state,
+static inline bool call_rights__list__open_unsigned(struct slice_u8 log, struct slice_u8 area, struct slice_u8 state,
         struct slice_u8 kept, uint64_t from, uint64_t at, uint64_t home)
 {
     bool t8, t10;
 
-    t8 = rights__list__none_kept(kept, from);
+    t8 = call_rights__list__none_kept(kept, from);
     if (!t8) {
-        return rights__list__open_kept(log, area, state, kept, from, at, home);
+        return call_rights__list__open_kept(log, area, state, kept, from, at, home);
     }
-    t10 = rights__ranges__in_ranges(area, 512u + at, home);
+    t10 = call_rights__ranges__in_ranges(area, 512u + at, home);
     if (t10) {
         return true;
     }
-    return rights__list__none_in_copy(area);
+    return call_rights__list__none_in_copy(area);
 }
 
 /* Whether a writer may read a home. The list is found by the newest positions. */
-static inline bool rights__may_read(struct slice_u8 log, struct slice_u8 area, struct slice_u8 state, struct slice_u8 newest,
+static inline bool call_rights__may_read(struct slice_u8 log, struct slice_u8 area, struct slice_u8 state, struct slice_u8 newest,
         uint64_t writer, uint64_t home)
 {
     uint64_t t7, t8;
     bool t9;
 
-    t9 = rights__ranges__of_list(home);
+    t9 = call_rights__ranges__of_list(home);
     if (t9) {
         return true;
     }
@@ -2176,13 +2182,13 @@ static inline bool rights__may_read(struct slice_u8 log, struct slice_u8 area, s
         return true;
     }
     if (t8 == 2u) {
-        return rights__list__open_listed(log, area, state, newest, 64u, t7, home);
+        return call_rights__list__open_listed(log, area, state, newest, 64u, t7, home);
     }
-    return rights__list__open_unsigned(log, area, state, newest, 64u, t7, home);
+    return call_rights__list__open_unsigned(log, area, state, newest, 64u, t7, home);
 }
 
 /* Whether a writer may read each of `n` homes from `home` on. */
-static inline bool fetching__allowed__may_read_all(struct slice_u8 log, struct slice_u8 area, struct slice_u8 state,
+static inline bool call_many_fetch__allowed__may_read_all(struct slice_u8 log, struct slice_u8 area, struct slice_u8 state,
         struct slice_u8 newest, uint64_t writer, uint64_t home, uint64_t n)
 {
     uint64_t t8;
@@ -2190,7 +2196,7 @@ static inline bool fetching__allowed__may_read_all(struct slice_u8 log, struct s
 
     t8 = 0u;
     while (t8 < n) {
-        t9 = rights__may_read(log, area, state, newest, writer, home + t8);
+        t9 = call_rights__may_read(log, area, state, newest, writer, home + t8);
         if (!t9) {
             return false;
         }
@@ -2200,17 +2206,17 @@ static inline bool fetching__allowed__may_read_all(struct slice_u8 log, struct s
 }
 
 /* The answer of a fetch: 0, or the number of the question that refuses it. */
-static inline uint64_t fetching__verdicts__fetch_verdict(struct slice_u8 log, struct slice_u8 area, struct slice_u8 state,
+static inline uint64_t call_many_fetch__questions__fetch_answer(struct slice_u8 log, struct slice_u8 area, struct slice_u8 state,
         struct slice_u8 newest, struct slice_u8 blocks, uint64_t writer, uint64_t home)
 {
     uint64_t t8;
     bool t9;
 
-    t8 = fetching__verdicts__homes_answer(log, area, state, newest, blocks, writer, home);
+    t8 = call_many_fetch__questions__homes_answer(log, area, state, newest, blocks, writer, home);
     if (t8 != 0u) {
         return t8;
     }
-    t9 = fetching__allowed__may_read_all(log, area, state, newest, writer, home, (uint64_t)blocks.len / 64u);
+    t9 = call_many_fetch__allowed__may_read_all(log, area, state, newest, writer, home, (uint64_t)blocks.len / 64u);
     if (!t9) {
         return 20u;
     }
@@ -2218,7 +2224,7 @@ static inline uint64_t fetching__verdicts__fetch_verdict(struct slice_u8 log, st
 }
 
 /* Whether a writer holds a block for a home. */
-static inline bool reading__blocks__holds_home(struct model__Writer r, uint64_t home)
+static inline bool call_read__blocks__holds_home(struct model__Writer r, uint64_t home)
 {
     if (!(2u <= r.mode)) {
         return false;
@@ -2227,19 +2233,19 @@ static inline bool reading__blocks__holds_home(struct model__Writer r, uint64_t 
 }
 
 /* Writes the block that stands in `src` from index `from` on into `dst` from index `at` on. */
-static inline void areas__blocks__copy_block(struct slice_mut_u8 dst, uint64_t at, struct slice_u8 src, uint64_t from)
+static inline void base_areas__blocks__copy_block(struct slice_mut_u8 dst, uint64_t at, struct slice_u8 src, uint64_t from)
 {
-    codec__blocks__copy(dst, at, (struct slice_u8){src.ptr + (size_t)from, (size_t)((from + 64u) - from)});
+    base_codec__blocks__copy(dst, at, (struct slice_u8){src.ptr + (size_t)from, (size_t)((from + 64u) - from)});
 }
 
 /* Copies the block that a writer holds. */
-static inline void reading__blocks__show_held(struct slice_mut_u8 block, struct slice_u8 state, uint64_t w)
+static inline void call_read__blocks__show_held(struct slice_mut_u8 block, struct slice_u8 state, uint64_t w)
 {
-    areas__blocks__copy_block(block, 0u, state, 320u + (64u * w));
+    base_areas__blocks__copy_block(block, 0u, state, 320u + (64u * w));
 }
 
 /* How many of the `left` positions the next group has. */
-static inline uint64_t scan__commits__in_group(uint64_t left)
+static inline uint64_t log_scan__commits__in_group(uint64_t left)
 {
     uint64_t t3;
 
@@ -2252,7 +2258,7 @@ static inline uint64_t scan__commits__in_group(uint64_t left)
 }
 
 /* How many positions from `position` on lie before another. */
-static inline uint64_t scan__commits__skipped(uint64_t position, uint64_t first)
+static inline uint64_t log_scan__commits__skipped(uint64_t position, uint64_t first)
 {
     if (first < position) {
         return 0u;
@@ -2262,26 +2268,26 @@ static inline uint64_t scan__commits__skipped(uint64_t position, uint64_t first)
 
 /* The distance back to its first entry that tag `k` of a group holds, used or not, if its data block has the turn of the group:
    what belongs to a transaction has it, so it is compared first. */
-static inline uint64_t scan__groups__back_in(struct slice_u8 group, uint64_t turn, uint64_t k)
+static inline uint64_t log_scan__groups__back_in(struct slice_u8 group, uint64_t turn, uint64_t k)
 {
     uint64_t t4;
 
-    t4 = scan__groups__word_there(group, turn, k);
+    t4 = log_scan__groups__word_there(group, turn, k);
     return (t4 >> 14u) & 8191u;
 }
 
 /* What tag `k` of a group says if its data block has the turn of the group. */
-static inline struct model__Tag scan__groups__tag_there(struct slice_u8 group, uint64_t turn, uint64_t k, uint64_t position,
+static inline struct model__Tag log_scan__groups__tag_there(struct slice_u8 group, uint64_t turn, uint64_t k, uint64_t position,
         uint64_t base, uint64_t homes)
 {
     uint64_t t7;
 
-    t7 = scan__groups__word_there(group, turn, k);
-    return codec__tags__read_tag(t7, position, base, homes);
+    t7 = log_scan__groups__word_there(group, turn, k);
+    return base_codec__tags__read_tag(t7, position, base, homes);
 }
 
 /* The newest entry once one for a home is seen at a position. */
-static inline uint64_t search__own__note(uint64_t written, uint64_t home, uint64_t position, uint64_t newest)
+static inline uint64_t log_search__own__note(uint64_t written, uint64_t home, uint64_t position, uint64_t newest)
 {
     if (written != home) {
         return newest;
@@ -2291,45 +2297,45 @@ static inline uint64_t search__own__note(uint64_t written, uint64_t home, uint64
 
 /* The same if tag `k` of a group with turn `turn` is an entry of the transaction with first position `first`. Its distance back
    is compared before all else. */
-static inline uint64_t search__own__note_entry(struct slice_u8 group, uint64_t turn, uint64_t k, uint64_t position, uint64_t base,
-        uint64_t homes, uint64_t first, uint64_t home, uint64_t newest)
+static inline uint64_t log_search__own__note_entry(struct slice_u8 group, uint64_t turn, uint64_t k, uint64_t position,
+        uint64_t base, uint64_t homes, uint64_t first, uint64_t home, uint64_t newest)
 {
     uint64_t t12, t16;
     struct model__Tag t15;
 
-    t12 = scan__groups__back_in(group, turn, k);
+    t12 = log_scan__groups__back_in(group, turn, k);
     if (t12 != (position - first)) {
         return newest;
     }
-    t15 = scan__groups__tag_there(group, turn, k, position, base, homes);
+    t15 = log_scan__groups__tag_there(group, turn, k, position, base, homes);
     if (t15.tag == 0u) {
         t16 = newest;
     } else if (t15.tag == 1u) {
-        t16 = search__own__note(t15.u64_0, home, position, newest);
+        t16 = log_search__own__note(t15.u64_0, home, position, newest);
     } else {
-        t16 = search__own__note(t15.u64_0, home, position, newest);
+        t16 = log_search__own__note(t15.u64_0, home, position, newest);
     }
     return t16;
 }
 
 /* The same for the transaction's entries among the first `m` of a group, which says nothing where it is not the valid group with
    number `n` and turn `turn`. */
-static inline uint64_t search__own__note_group(struct slice_u8 group, uint64_t groups, uint64_t homes, uint64_t start, uint64_t n,
-        uint64_t turn, uint64_t m, uint64_t first, uint64_t home, uint64_t newest)
+static inline uint64_t log_search__own__note_group(struct slice_u8 group, uint64_t groups, uint64_t homes, uint64_t start,
+        uint64_t n, uint64_t turn, uint64_t m, uint64_t first, uint64_t home, uint64_t newest)
 {
     uint64_t t11, t12, t13, t14;
     bool t15;
 
-    t15 = scan__groups__group_valid(group, groups, start, n);
+    t15 = log_scan__groups__group_valid(group, groups, start, n);
     if (!t15) {
         return newest;
     }
     t11 = 7u * start;
     t12 = newest;
-    t13 = scan__commits__skipped(7u * n, first);
+    t13 = log_scan__commits__skipped(7u * n, first);
     t14 = (7u * n) + t13;
     while (t13 < m) {
-        t12 = search__own__note_entry(group, turn, t13, t14, t11, homes, first, home, t12);
+        t12 = log_search__own__note_entry(group, turn, t13, t14, t11, homes, first, home, t12);
         t14 = t14 + 1u;
         t13 = t13 + 1u;
     }
@@ -2338,22 +2344,22 @@ static inline uint64_t search__own__note_group(struct slice_u8 group, uint64_t g
 
 /* The newest entry for a home, as its position + 1, 0 for none, of the open transaction with first position `first`, below
    position `end`. */
-static inline uint64_t search__own__newest_own(struct slice_u8 log, uint64_t groups, uint64_t homes, uint64_t start,
+static inline uint64_t log_search__own__newest_own(struct slice_u8 log, uint64_t groups, uint64_t homes, uint64_t start,
         uint64_t first, uint64_t end, uint64_t home)
 {
     uint64_t t8, t9, t11, t12, t14;
-    struct scan__slots__RingSlot t10;
+    struct log_scan__slots__RingSlot t10;
 
     t8 = 0u;
     t9 = first / 7u;
-    t10 = scan__slots__first_slot(t9, groups);
+    t10 = log_scan__slots__first_slot(t9, groups);
     t11 = end - (7u * t9);
     while (0u < t11) {
         t12 = 64u + (512u * t10.slot);
-        t14 = scan__commits__in_group(t11);
-        t8 = search__own__note_group((struct slice_u8){log.ptr + (size_t)t12, (size_t)((t12 + 512u) - t12)}, groups, homes, start,
-                t9, t10.turn, t14, first, home, t8);
-        t10 = scan__slots__next_slot(t10, groups);
+        t14 = log_scan__commits__in_group(t11);
+        t8 = log_search__own__note_group((struct slice_u8){log.ptr + (size_t)t12, (size_t)((t12 + 512u) - t12)}, groups, homes,
+                start, t9, t10.turn, t14, first, home, t8);
+        t10 = log_scan__slots__next_slot(t10, groups);
         t9 = t9 + 1u;
         t11 = t11 - t14;
     }
@@ -2361,23 +2367,23 @@ static inline uint64_t search__own__newest_own(struct slice_u8 log, uint64_t gro
 }
 
 /* The newest entry for a home in a writer's open transaction. */
-static inline uint64_t reading__newest__own_entry(struct slice_u8 log, struct model__State st, struct model__Writer r,
+static inline uint64_t call_read__newest__own_entry(struct slice_u8 log, struct model__State st, struct model__Writer r,
         uint64_t home)
 {
     if (!(3u <= r.mode)) {
         return 0u;
     }
-    return search__own__newest_own(log, st.groups, st.homes, st.start, r.first, (7u * st.next) + st.filled, home);
+    return log_search__own__newest_own(log, st.groups, st.homes, st.start, r.first, (7u * st.next) + st.filled, home);
 }
 
 /* The entry for a home at the position kept for it. */
-static inline uint64_t reading__newest__kept_entry(struct slice_u8 log, struct slice_u8 state, struct slice_u8 newest,
+static inline uint64_t call_read__newest__kept_entry(struct slice_u8 log, struct slice_u8 state, struct slice_u8 newest,
         uint64_t home)
 {
     uint64_t t5, t6;
 
     t5 = load_8(newest.ptr + (size_t)(8u * home));
-    t6 = shown__place(log, state, home, t5);
+    t6 = log_shown__place(log, state, home, t5);
     if (t6 == 0u) {
         return 0u;
     }
@@ -2385,44 +2391,45 @@ static inline uint64_t reading__newest__kept_entry(struct slice_u8 log, struct s
 }
 
 /* The entry for a home that a writer sees: its newest own one, else that at the kept position. */
-static inline uint64_t reading__newest__seen(struct slice_u8 log, struct slice_u8 state, struct slice_u8 newest,
+static inline uint64_t call_read__newest__seen(struct slice_u8 log, struct slice_u8 state, struct slice_u8 newest,
         struct model__State st, struct model__Writer r, uint64_t home)
 {
     uint64_t t7;
 
-    t7 = reading__newest__own_entry(log, st, r, home);
+    t7 = call_read__newest__own_entry(log, st, r, home);
     if (t7 != 0u) {
         return t7;
     }
-    return reading__newest__kept_entry(log, state, newest, home);
+    return call_read__newest__kept_entry(log, state, newest, home);
 }
 
 /* Reads a home into a block buffer. */
-static inline void areas__homes__get_home(struct slice_mut_u8 block, struct slice_u8 area, uint64_t home)
+static inline void base_areas__homes__get_home(struct slice_mut_u8 block, struct slice_u8 area, uint64_t home)
 {
-    areas__blocks__copy_block(block, 0u, area, 64u * home);
+    base_areas__blocks__copy_block(block, 0u, area, 64u * home);
 }
 
 /* Writes the block that the entry at index `k` of the group in a ring slot gives, with the displaced bit back in its place, from
    index `at` on. */
-static inline void areas__groups__copy_entry(struct slice_mut_u8 dst, uint64_t at, struct slice_u8 log, uint64_t slot, uint64_t k)
+static inline void base_areas__groups__copy_entry(struct slice_mut_u8 dst, uint64_t at, struct slice_u8 log, uint64_t slot,
+        uint64_t k)
 {
     uint64_t t6;
 
     t6 = 64u + (512u * slot);
-    codec__turns__copy_with_top_bit(dst, at, log, t6 + (64u + (64u * k)), (load_8(log.ptr + (size_t)(t6 + (8u
+    base_codec__turns__copy_with_top_bit(dst, at, log, t6 + (64u + (64u * k)), (load_8(log.ptr + (size_t)(t6 + (8u
             + (8u * k)))) >> 57u) & 1u);
 }
 
 /* Copies the block that the entry at a position gives. */
-static inline void shown__show_entry(struct slice_mut_u8 block, struct slice_u8 log, uint64_t groups, uint64_t position)
+static inline void log_shown__show_entry(struct slice_mut_u8 block, struct slice_u8 log, uint64_t groups, uint64_t position)
 {
-    areas__groups__copy_entry(block, 0u, log, (position / 7u) % groups, position % 7u);
+    base_areas__groups__copy_entry(block, 0u, log, (position / 7u) % groups, position % 7u);
 }
 
 /* Copies the block of a home that a writer sees. */
-static inline void reading__blocks__show(struct slice_u8 log, struct slice_u8 area, struct slice_u8 state, struct slice_u8 newest,
-        struct slice_mut_u8 block, uint64_t writer, uint64_t home)
+static inline void call_read__blocks__show(struct slice_u8 log, struct slice_u8 area, struct slice_u8 state,
+        struct slice_u8 newest, struct slice_mut_u8 block, uint64_t writer, uint64_t home)
 {
     struct model__State t8;
     uint64_t t9, t11, t26, t27;
@@ -2436,30 +2443,30 @@ static inline void reading__blocks__show(struct slice_u8 log, struct slice_u8 ar
             .durable = load_8(state.ptr + 56u), .last = load_8(state.ptr + 64u), .round = load_8(state.ptr + 88u),
             .cursor = load_8(state.ptr + 96u)};
     t9 = writer;
-    t10 = strip__writers__writer(state, t9);
-    t12 = reading__blocks__holds_home(t10, home);
+    t10 = base_state__writers__writer(state, t9);
+    t12 = call_read__blocks__holds_home(t10, home);
     if (t12) {
-        reading__blocks__show_held(block, state, t9);
+        call_read__blocks__show_held(block, state, t9);
         return;
     }
-    t11 = reading__newest__seen(log, state, newest, t8, t10, home);
+    t11 = call_read__newest__seen(log, state, newest, t8, t10, home);
     if (t11 == 0u) {
-        areas__homes__get_home(block, area, home);
+        base_areas__homes__get_home(block, area, home);
         return;
     }
-    shown__show_entry(block, log, t8.groups, t11 - 1u);
+    log_shown__show_entry(block, log, t8.groups, t11 - 1u);
 }
 
 /* Copies the block of a home that a writer sees to the index `at`. */
-static inline void fetching__fetches__show_at(struct slice_u8 log, struct slice_u8 area, struct slice_u8 state,
+static inline void call_many_fetch__fetches__show_at(struct slice_u8 log, struct slice_u8 area, struct slice_u8 state,
         struct slice_u8 newest, struct slice_mut_u8 blocks, uint64_t at, uint64_t writer, uint64_t home)
 {
-    reading__blocks__show(log, area, state, newest, (struct slice_mut_u8){blocks.ptr + (size_t)at, (size_t)((at + 64u) - at)},
+    call_read__blocks__show(log, area, state, newest, (struct slice_mut_u8){blocks.ptr + (size_t)at, (size_t)((at + 64u) - at)},
             writer, home);
 }
 
 /* Copies the blocks that a writer sees of the homes from `home` on, one behind the other. */
-static inline void fetching__fetches__show_all(struct slice_u8 log, struct slice_u8 area, struct slice_u8 state,
+static inline void call_many_fetch__fetches__show_all(struct slice_u8 log, struct slice_u8 area, struct slice_u8 state,
         struct slice_u8 newest, struct slice_mut_u8 blocks, uint64_t writer, uint64_t home)
 {
     uint64_t t8, t9;
@@ -2467,46 +2474,47 @@ static inline void fetching__fetches__show_all(struct slice_u8 log, struct slice
     t8 = (uint64_t)blocks.len / 64u;
     t9 = 0u;
     while (t9 < t8) {
-        fetching__fetches__show_at(log, area, state, newest, blocks, 64u * t9, writer, home + t9);
+        call_many_fetch__fetches__show_at(log, area, state, newest, blocks, 64u * t9, writer, home + t9);
         t9 = t9 + 1u;
     }
 }
 
 /* Reads the blocks of one to seven homes from `home` on, one behind the other, as a writer that may read them all sees them. */
-static inline struct answers__Reply fetching__fetches__fetch(struct slice_u8 log, struct slice_u8 area, struct slice_u8 state,
-        struct slice_u8 newest, struct slice_mut_u8 blocks, uint64_t writer, uint64_t home)
+static inline struct call_ask__Reply call_many_fetch__fetches__fetch(struct slice_u8 log, struct slice_u8 area,
+        struct slice_u8 state, struct slice_u8 newest, struct slice_mut_u8 blocks, uint64_t writer, uint64_t home)
 {
     uint64_t t8;
 
-    t8 = fetching__verdicts__fetch_verdict(log, area, state, newest, (struct slice_u8){blocks.ptr, blocks.len}, writer, home);
+    t8 = call_many_fetch__questions__fetch_answer(log, area, state, newest, (struct slice_u8){blocks.ptr, blocks.len}, writer,
+            home);
     if (t8 != 0u) {
-        return (struct answers__Reply){.code = t8, .figure = 0u, .size = 0u};
+        return (struct call_ask__Reply){.code = t8, .figure = 0u, .size = 0u};
     }
-    fetching__fetches__show_all(log, area, state, newest, blocks, writer, home);
-    return (struct answers__Reply){.code = 0u, .figure = 0u, .size = 0u};
+    call_many_fetch__fetches__show_all(log, area, state, newest, blocks, writer, home);
+    return (struct call_ask__Reply){.code = 0u, .figure = 0u, .size = 0u};
 }
 
 /* Reads the blocks of one to seven homes from `home` on, one behind the other, as a writer that may read them all sees them. */
-static inline struct answers__Reply kagutin__kagutin_fetch(struct slice_u8 log, struct slice_u8 area, struct slice_u8 state,
+static inline struct call_ask__Reply kagutin__kagutin_fetch(struct slice_u8 log, struct slice_u8 area, struct slice_u8 state,
         struct slice_u8 newest, struct slice_mut_u8 blocks, uint64_t writer, uint64_t home)
 {
-    return fetching__fetches__fetch(log, area, state, newest, blocks, writer, home);
+    return call_many_fetch__fetches__fetch(log, area, state, newest, blocks, writer, home);
 }
 
 /* Whether a flush leaves as many places as are promised. */
-static inline bool strip__promises__keeps_promises(struct slice_u8 s, struct model__State st)
+static inline bool base_state__promises__keeps_promises(struct slice_u8 s, struct model__State st)
 {
     uint64_t t4;
 
     if (st.filled == 0u) {
         return true;
     }
-    t4 = strip__promises__promised(s);
+    t4 = base_state__promises__promised(s);
     return t4 <= ((7u * (st.start + st.groups)) - (7u * (st.next + 1u)));
 }
 
 /* How many bytes a flush writes: a fence, and a part-filled group before it. */
-static inline uint64_t flushing__flush_size(struct model__State st)
+static inline uint64_t call_flush__flush_size(struct model__State st)
 {
     if (st.filled == 0u) {
         return 2u;
@@ -2515,14 +2523,14 @@ static inline uint64_t flushing__flush_size(struct model__State st)
 }
 
 /* The answer of a flush: 0, or the number of the question that refuses it. */
-static inline uint64_t flushing__flush_verdict(struct slice_u8 log, struct slice_u8 area, struct slice_u8 state,
+static inline uint64_t call_flush__flush_answer(struct slice_u8 log, struct slice_u8 area, struct slice_u8 state,
         struct slice_u8 batch)
 {
     uint64_t t5, t10, t12, t13;
     struct model__State t6;
     bool t7;
 
-    t5 = answers__in_use(log, area, state);
+    t5 = call_ask__state_answer(log, area, state);
     if (t5 != 0u) {
         return t5;
     }
@@ -2532,11 +2540,11 @@ static inline uint64_t flushing__flush_verdict(struct slice_u8 log, struct slice
             .filled = load_8(state.ptr + 32u), .settled = load_8(state.ptr + 40u), .fenced = load_8(state.ptr + 48u),
             .durable = load_8(state.ptr + 56u), .last = load_8(state.ptr + 64u), .round = load_8(state.ptr + 88u),
             .cursor = load_8(state.ptr + 96u)};
-    t7 = strip__promises__keeps_promises(state, t6);
+    t7 = base_state__promises__keeps_promises(state, t6);
     if (!t7) {
         return 18u;
     }
-    t10 = flushing__flush_size(t6);
+    t10 = call_flush__flush_size(t6);
     if ((uint64_t)batch.len < t10) {
         return 9u;
     }
@@ -2544,7 +2552,7 @@ static inline uint64_t flushing__flush_verdict(struct slice_u8 log, struct slice
 }
 
 /* Writes the mark of a fence at index `at`. */
-static inline void codec__marks__put_fence_mark(struct slice_mut_u8 dst, uint64_t at)
+static inline void base_codec__marks__put_fence_mark(struct slice_mut_u8 dst, uint64_t at)
 {
     struct array_u8_2 t3;
     struct slice_u8 t10;
@@ -2556,29 +2564,29 @@ static inline void codec__marks__put_fence_mark(struct slice_mut_u8 dst, uint64_
 }
 
 /* Appends a fence. */
-static inline uint64_t batch__records__fence(struct slice_mut_u8 batch, uint64_t at)
+static inline uint64_t base_batch__records__fence(struct slice_mut_u8 batch, uint64_t at)
 {
-    codec__marks__put_fence_mark(batch, at);
+    base_codec__marks__put_fence_mark(batch, at);
     return at + 2u;
 }
 
 /* Writes a fence where no group is part-filled. */
-static inline void flushing__flush_none(struct slice_mut_u8 state, struct slice_mut_u8 batch, struct model__State st)
+static inline void call_flush__flush_none(struct slice_mut_u8 state, struct slice_mut_u8 batch, struct model__State st)
 {
-    (void)batch__records__fence(batch, 0u);
+    (void)base_batch__records__fence(batch, 0u);
     store_8(state.ptr + 48u, 7u * st.next);
 }
 
 /* Hands on the part-filled group and writes a fence. */
-static inline void flushing__flush_part(struct slice_u8 log, struct slice_mut_u8 state, struct slice_mut_u8 batch,
+static inline void call_flush__flush_part(struct slice_u8 log, struct slice_mut_u8 state, struct slice_mut_u8 batch,
         struct model__State st)
 {
     uint64_t t6, t7;
-    struct scan__slots__RingSlot t8;
+    struct log_scan__slots__RingSlot t8;
 
-    t8 = scan__slots__first_slot(st.next, st.groups);
-    t6 = batch__records__group_write(batch, 0u, t8.slot, log);
-    (void)batch__records__fence(batch, t6);
+    t8 = log_scan__slots__first_slot(st.next, st.groups);
+    t6 = base_batch__records__group_write(batch, 0u, t8.slot, log);
+    (void)base_batch__records__fence(batch, t6);
     t7 = st.next + 1u;
     store_8(state.ptr + 24u, t7);
     store_8(state.ptr + 32u, 0u);
@@ -2586,15 +2594,15 @@ static inline void flushing__flush_part(struct slice_u8 log, struct slice_mut_u8
 }
 
 /* Hands on a part-filled group, if there is one, and writes a fence. */
-static inline struct answers__Reply flushing__flush(struct slice_u8 log, struct slice_u8 area, struct slice_mut_u8 state,
+static inline struct call_ask__Reply call_flush__flush(struct slice_u8 log, struct slice_u8 area, struct slice_mut_u8 state,
         struct slice_mut_u8 batch)
 {
     uint64_t t5, t27, t28;
     struct model__State t6;
 
-    t5 = flushing__flush_verdict(log, area, (struct slice_u8){state.ptr, state.len}, (struct slice_u8){batch.ptr, batch.len});
+    t5 = call_flush__flush_answer(log, area, (struct slice_u8){state.ptr, state.len}, (struct slice_u8){batch.ptr, batch.len});
     if (t5 != 0u) {
-        return (struct answers__Reply){.code = t5, .figure = 0u, .size = 0u};
+        return (struct call_ask__Reply){.code = t5, .figure = 0u, .size = 0u};
     }
     t27 = load_8(state.ptr);
     t28 = load_8(state.ptr + 8u);
@@ -2603,35 +2611,35 @@ static inline struct answers__Reply flushing__flush(struct slice_u8 log, struct 
             .durable = load_8(state.ptr + 56u), .last = load_8(state.ptr + 64u), .round = load_8(state.ptr + 88u),
             .cursor = load_8(state.ptr + 96u)};
     if (t6.filled == 0u) {
-        flushing__flush_none(state, batch, t6);
-        return (struct answers__Reply){.code = 0u, .figure = 0u, .size = 2u};
+        call_flush__flush_none(state, batch, t6);
+        return (struct call_ask__Reply){.code = 0u, .figure = 0u, .size = 2u};
     }
-    flushing__flush_part(log, state, batch, t6);
-    return (struct answers__Reply){.code = 0u, .figure = 0u, .size = (uint64_t)516u + 2u};
+    call_flush__flush_part(log, state, batch, t6);
+    return (struct call_ask__Reply){.code = 0u, .figure = 0u, .size = (uint64_t)516u + 2u};
 }
 
 /* Submits the group that is being filled, and a fence. */
-static inline struct answers__Reply kagutin__kagutin_flush(struct slice_u8 log, struct slice_u8 area, struct slice_mut_u8 state,
+static inline struct call_ask__Reply kagutin__kagutin_flush(struct slice_u8 log, struct slice_u8 area, struct slice_mut_u8 state,
         struct slice_mut_u8 batch)
 {
-    return flushing__flush(log, area, state, batch);
+    return call_flush__flush(log, area, state, batch);
 }
 
 /* The questions of format: 0, or the number of the refusal. */
-static inline uint64_t recovery__formatting__may_format(struct slice_u8 log, struct slice_u8 area, struct slice_u8 batch)
+static inline uint64_t call_open__formatting__format_answer(struct slice_u8 log, struct slice_u8 area, struct slice_u8 batch)
 {
     uint64_t t4;
     bool t6;
 
-    t6 = areas__lengths__log_right((uint64_t)log.len);
+    t6 = base_areas__lengths__log_right((uint64_t)log.len);
     if (!t6) {
         return 1u;
     }
-    t6 = areas__lengths__data_right((uint64_t)area.len);
+    t6 = base_areas__lengths__data_right((uint64_t)area.len);
     if (!t6) {
         return 1u;
     }
-    t4 = areas__lengths__log_groups((uint64_t)log.len);
+    t4 = base_areas__lengths__log_groups((uint64_t)log.len);
     if ((uint64_t)batch.len < ((138u + (516u * t4)) + (68u * ((uint64_t)area.len / 64u)))) {
         return 9u;
     }
@@ -2639,7 +2647,7 @@ static inline uint64_t recovery__formatting__may_format(struct slice_u8 log, str
 }
 
 /* Writes the mark of the log's header at index `at`. */
-static inline void codec__marks__put_header_mark(struct slice_mut_u8 dst, uint64_t at)
+static inline void base_codec__marks__put_header_mark(struct slice_mut_u8 dst, uint64_t at)
 {
     struct array_u8_2 t3;
     struct slice_u8 t10;
@@ -2651,23 +2659,23 @@ static inline void codec__marks__put_header_mark(struct slice_mut_u8 dst, uint64
 }
 
 /* Writes a header of 64 bytes from index `at` on, and leaves the other bytes as they were. */
-static inline void areas__header__put_header(struct slice_mut_u8 dst, uint64_t at, uint64_t start, uint64_t groups,
+static inline void base_areas__header__put_header(struct slice_mut_u8 dst, uint64_t at, uint64_t start, uint64_t groups,
         uint64_t homes)
 {
     uint64_t t19;
 
-    codec__marks__put_header_mark(dst, at);
+    base_codec__marks__put_header_mark(dst, at);
     t19 = at + 2u;
     store_4(dst.ptr + (size_t)t19, start);
     store_2(dst.ptr + (size_t)(t19 + 4u), start / UINT64_C(0x100000000));
     store_2(dst.ptr + (size_t)(at + 8u), groups);
     store_2(dst.ptr + (size_t)(at + 10u), homes);
-    codec__blocks__clear(dst, at + 12u, 52u);
+    base_codec__blocks__clear(dst, at + 12u, 52u);
 }
 
 /* The turn bit of an unused ring slot: opposite to that of the group which it gets next, in a log whose start lies in the slot
    `first` and has the turn `turn`. The slots before the start's get a group of the next turn. */
-static inline uint64_t areas__unused__unused_bit(uint64_t slot, uint64_t first, uint64_t turn)
+static inline uint64_t base_areas__unused__unused_bit(uint64_t slot, uint64_t first, uint64_t turn)
 {
     uint64_t t5;
 
@@ -2680,36 +2688,36 @@ static inline uint64_t areas__unused__unused_bit(uint64_t slot, uint64_t first, 
 }
 
 /* Writes an unused group, whose data blocks have the turn bit `bit`, from index `at` on. */
-static inline void areas__unused__put_unused(struct slice_mut_u8 dst, uint64_t at, uint64_t bit)
+static inline void base_areas__unused__put_unused(struct slice_mut_u8 dst, uint64_t at, uint64_t bit)
 {
-    codec__blocks__clear(dst, at, 64u);
-    areas__turns__put_turn_blocks(dst, at + 64u, bit);
+    base_codec__blocks__clear(dst, at, 64u);
+    base_areas__turns__put_turn_blocks(dst, at + 64u, bit);
 }
 
 /* Makes a log copy empty, with its start at group `start`. */
-static inline void areas__unused__put_empty_log(struct slice_mut_u8 log, uint64_t start, uint64_t groups, uint64_t homes)
+static inline void base_areas__unused__put_empty_log(struct slice_mut_u8 log, uint64_t start, uint64_t groups, uint64_t homes)
 {
     uint64_t t5, t6, t7, t19;
 
-    areas__header__put_header(log, 0u, start, groups, homes);
+    base_areas__header__put_header(log, 0u, start, groups, homes);
     t5 = start % groups;
     t6 = (start / groups) % 2u;
     t7 = 0u;
     while (t7 < groups) {
-        t19 = areas__unused__unused_bit(t7, t5, t6);
-        areas__unused__put_unused(log, 64u + (512u * t7), t19);
+        t19 = base_areas__unused__unused_bit(t7, t5, t6);
+        base_areas__unused__put_unused(log, 64u + (512u * t7), t19);
         t7 = t7 + 1u;
     }
 }
 
 /* Makes every byte of the data copy zero. */
-static inline void recovery__formatting__format_area(struct slice_mut_u8 area)
+static inline void call_open__formatting__format_area(struct slice_mut_u8 area)
 {
-    codec__blocks__clear(area, 0u, (uint64_t)area.len);
+    base_codec__blocks__clear(area, 0u, (uint64_t)area.len);
 }
 
 /* Writes the mark of a header write at index `at`. */
-static inline void codec__marks__put_header_write_mark(struct slice_mut_u8 dst, uint64_t at)
+static inline void base_codec__marks__put_header_write_mark(struct slice_mut_u8 dst, uint64_t at)
 {
     struct array_u8_2 t3;
     struct slice_u8 t10;
@@ -2721,24 +2729,24 @@ static inline void codec__marks__put_header_write_mark(struct slice_mut_u8 dst, 
 }
 
 /* Appends the write of zeros to the header. */
-static inline uint64_t batch__records__zero_header_write(struct slice_mut_u8 batch, uint64_t at)
+static inline uint64_t base_batch__records__zero_header_write(struct slice_mut_u8 batch, uint64_t at)
 {
-    codec__marks__put_header_write_mark(batch, at);
-    codec__blocks__clear(batch, at + 2u, 64u);
+    base_codec__marks__put_header_write_mark(batch, at);
+    base_codec__blocks__clear(batch, at + 2u, 64u);
     return at + 66u;
 }
 
 /* Appends the write of an unused group, whose data blocks have the turn bit `bit`, to a ring slot. */
-static inline uint64_t batch__records__unused_write(struct slice_mut_u8 batch, uint64_t at, uint64_t slot, uint64_t bit)
+static inline uint64_t base_batch__records__unused_write(struct slice_mut_u8 batch, uint64_t at, uint64_t slot, uint64_t bit)
 {
-    codec__marks__put_group_write_mark(batch, at);
+    base_codec__marks__put_group_write_mark(batch, at);
     store_2(batch.ptr + (size_t)(at + 2u), slot);
-    areas__unused__put_unused(batch, at + 4u, bit);
+    base_areas__unused__put_unused(batch, at + 4u, bit);
     return at + 516u;
 }
 
 /* Appends the writes of all ring slots as unused, rising, for a log that starts at group `start`. */
-static inline uint64_t batch__format__all_groups(struct slice_mut_u8 batch, uint64_t at, uint64_t start, uint64_t groups)
+static inline uint64_t base_batch__format__all_groups(struct slice_mut_u8 batch, uint64_t at, uint64_t start, uint64_t groups)
 {
     uint64_t t5, t6, t7, t8, t13;
 
@@ -2747,15 +2755,15 @@ static inline uint64_t batch__format__all_groups(struct slice_mut_u8 batch, uint
     t7 = at;
     t8 = 0u;
     while (t8 < groups) {
-        t13 = areas__unused__unused_bit(t8, t5, t6);
-        t7 = batch__records__unused_write(batch, t7, t8, t13);
+        t13 = base_areas__unused__unused_bit(t8, t5, t6);
+        t7 = base_batch__records__unused_write(batch, t7, t8, t13);
         t8 = t8 + 1u;
     }
     return t7;
 }
 
 /* Writes the mark of a home write at index `at`. */
-static inline void codec__marks__put_home_write_mark(struct slice_mut_u8 dst, uint64_t at)
+static inline void base_codec__marks__put_home_write_mark(struct slice_mut_u8 dst, uint64_t at)
 {
     struct array_u8_2 t3;
     struct slice_u8 t10;
@@ -2767,89 +2775,89 @@ static inline void codec__marks__put_home_write_mark(struct slice_mut_u8 dst, ui
 }
 
 /* Appends the write of zeros to a home. */
-static inline uint64_t batch__records__zero_home_write(struct slice_mut_u8 batch, uint64_t at, uint64_t home)
+static inline uint64_t base_batch__records__zero_home_write(struct slice_mut_u8 batch, uint64_t at, uint64_t home)
 {
-    codec__marks__put_home_write_mark(batch, at);
+    base_codec__marks__put_home_write_mark(batch, at);
     store_2(batch.ptr + (size_t)(at + 2u), home);
-    codec__blocks__clear(batch, at + 4u, 64u);
+    base_codec__blocks__clear(batch, at + 4u, 64u);
     return at + 68u;
 }
 
 /* Appends the writes of zeros to the first `homes` homes, rising. */
-static inline uint64_t batch__format__all_homes(struct slice_mut_u8 batch, uint64_t at, uint64_t homes)
+static inline uint64_t base_batch__format__all_homes(struct slice_mut_u8 batch, uint64_t at, uint64_t homes)
 {
     uint64_t t4, t5;
 
     t4 = at;
     t5 = 0u;
     while (t5 < homes) {
-        t4 = batch__records__zero_home_write(batch, t4, t5);
+        t4 = base_batch__records__zero_home_write(batch, t4, t5);
         t5 = t5 + 1u;
     }
     return t4;
 }
 
 /* Appends the write of the header with a start and the numbers of groups and homes. */
-static inline uint64_t batch__records__header_write(struct slice_mut_u8 batch, uint64_t at, uint64_t start, uint64_t groups,
+static inline uint64_t base_batch__records__header_write(struct slice_mut_u8 batch, uint64_t at, uint64_t start, uint64_t groups,
         uint64_t homes)
 {
-    codec__marks__put_header_write_mark(batch, at);
-    areas__header__put_header(batch, at + 2u, start, groups, homes);
+    base_codec__marks__put_header_write_mark(batch, at);
+    base_areas__header__put_header(batch, at + 2u, start, groups, homes);
     return at + 66u;
 }
 
 /* Writes the whole batch of format from the buffer's first byte on. */
-static inline uint64_t batch__format__format_batch(struct slice_mut_u8 batch, uint64_t groups, uint64_t homes)
+static inline uint64_t base_batch__format__format_batch(struct slice_mut_u8 batch, uint64_t groups, uint64_t homes)
 {
     uint64_t t4;
 
-    t4 = batch__records__zero_header_write(batch, 0u);
-    t4 = batch__records__fence(batch, t4);
-    t4 = batch__format__all_groups(batch, t4, 0u, groups);
-    t4 = batch__format__all_homes(batch, t4, homes);
-    t4 = batch__records__fence(batch, t4);
-    t4 = batch__records__header_write(batch, t4, 0u, groups, homes);
-    return batch__records__fence(batch, t4);
+    t4 = base_batch__records__zero_header_write(batch, 0u);
+    t4 = base_batch__records__fence(batch, t4);
+    t4 = base_batch__format__all_groups(batch, t4, 0u, groups);
+    t4 = base_batch__format__all_homes(batch, t4, homes);
+    t4 = base_batch__records__fence(batch, t4);
+    t4 = base_batch__records__header_write(batch, t4, 0u, groups, homes);
+    return base_batch__records__fence(batch, t4);
 }
 
 /* Formats both copies, and writes the batch that formats the areas. */
-static inline struct answers__Reply recovery__formatting__format(struct slice_mut_u8 log, struct slice_mut_u8 area,
+static inline struct call_ask__Reply call_open__formatting__format(struct slice_mut_u8 log, struct slice_mut_u8 area,
         struct slice_mut_u8 batch)
 {
     uint64_t t4, t5, t6, t7;
 
-    t4 = recovery__formatting__may_format((struct slice_u8){log.ptr, log.len}, (struct slice_u8){area.ptr, area.len},
+    t4 = call_open__formatting__format_answer((struct slice_u8){log.ptr, log.len}, (struct slice_u8){area.ptr, area.len},
             (struct slice_u8){batch.ptr, batch.len});
     if (t4 != 0u) {
-        return (struct answers__Reply){.code = t4, .figure = 0u, .size = 0u};
+        return (struct call_ask__Reply){.code = t4, .figure = 0u, .size = 0u};
     }
-    t5 = areas__lengths__log_groups((uint64_t)log.len);
+    t5 = base_areas__lengths__log_groups((uint64_t)log.len);
     t6 = (uint64_t)area.len / 64u;
-    areas__unused__put_empty_log(log, 0u, t5, t6);
-    recovery__formatting__format_area(area);
-    t7 = batch__format__format_batch(batch, t5, t6);
-    return (struct answers__Reply){.code = 0u, .figure = 0u, .size = t7};
+    base_areas__unused__put_empty_log(log, 0u, t5, t6);
+    call_open__formatting__format_area(area);
+    t7 = base_batch__format__format_batch(batch, t5, t6);
+    return (struct call_ask__Reply){.code = 0u, .figure = 0u, .size = t7};
 }
 
 /* Writes an empty store: every group unused, every home zeros, then the header. */
-static inline struct answers__Reply kagutin__kagutin_format(struct slice_mut_u8 log, struct slice_mut_u8 area,
+static inline struct call_ask__Reply kagutin__kagutin_format(struct slice_mut_u8 log, struct slice_mut_u8 area,
         struct slice_mut_u8 batch)
 {
-    return recovery__formatting__format(log, area, batch);
+    return call_open__formatting__format(log, area, batch);
 }
 
 /* Reads the shape of a log copy and a data copy. */
-static inline struct recovery__opening__Shape recovery__opening__measure(struct slice_u8 log, struct slice_u8 area)
+static inline struct call_open__opening__Shape call_open__opening__measure(struct slice_u8 log, struct slice_u8 area)
 {
     uint64_t t3;
 
-    t3 = areas__lengths__log_groups((uint64_t)log.len);
-    return (struct recovery__opening__Shape){.groups = t3, .homes = (uint64_t)area.len / 64u, .start = load_4(log.ptr + 2u)
+    t3 = base_areas__lengths__log_groups((uint64_t)log.len);
+    return (struct call_open__opening__Shape){.groups = t3, .homes = (uint64_t)area.len / 64u, .start = load_4(log.ptr + 2u)
             | (load_2(log.ptr + (size_t)((uint64_t)2u + 4u)) << 32u)};
 }
 
 /* Whether the two bytes of `mark` stand at index `at`. */
-static inline bool codec__marks__has_mark(struct slice_u8 s, uint64_t at, struct slice_u8 mark)
+static inline bool base_codec__marks__has_mark(struct slice_u8 s, uint64_t at, struct slice_u8 mark)
 {
     if (s.ptr[(size_t)at] != mark.ptr[0u]) {
         return false;
@@ -2861,16 +2869,16 @@ static inline bool codec__marks__has_mark(struct slice_u8 s, uint64_t at, struct
 }
 
 /* Whether the mark of the log's header stands at index `at`. */
-static inline bool codec__marks__has_header_mark(struct slice_u8 s, uint64_t at)
+static inline bool base_codec__marks__has_header_mark(struct slice_u8 s, uint64_t at)
 {
     struct array_u8_2 t3;
 
     t3 = (struct array_u8_2){{80u, 84u}};
-    return codec__marks__has_mark(s, at, (struct slice_u8){t3.at, 2u});
+    return base_codec__marks__has_mark(s, at, (struct slice_u8){t3.at, 2u});
 }
 
 /* Whether the `n` bytes from index `at` on are all zero. */
-static inline bool codec__blocks__all_zero(struct slice_u8 s, uint64_t at, uint64_t n)
+static inline bool base_codec__blocks__all_zero(struct slice_u8 s, uint64_t at, uint64_t n)
 {
     uint64_t t4, t5;
 
@@ -2894,11 +2902,11 @@ static inline bool codec__blocks__all_zero(struct slice_u8 s, uint64_t at, uint6
 }
 
 /* Whether the log begins with a header's mark, these numbers of groups and homes, and a header's zeros. */
-static inline bool areas__header__header_right(struct slice_u8 log, uint64_t groups, uint64_t homes)
+static inline bool base_areas__header__header_right(struct slice_u8 log, uint64_t groups, uint64_t homes)
 {
     bool t4;
 
-    t4 = codec__marks__has_header_mark(log, 0u);
+    t4 = base_codec__marks__has_header_mark(log, 0u);
     if (!t4) {
         return false;
     }
@@ -2908,25 +2916,25 @@ static inline bool areas__header__header_right(struct slice_u8 log, uint64_t gro
     if (load_2(log.ptr + 10u) != homes) {
         return false;
     }
-    return codec__blocks__all_zero(log, 12u, 52u);
+    return base_codec__blocks__all_zero(log, 12u, 52u);
 }
 
 /* The questions of open but the last: 0, or the number of the refusal. */
-static inline uint64_t recovery__opening__may_open(struct slice_u8 log, struct slice_u8 area, struct slice_u8 state,
+static inline uint64_t call_open__opening__open_answer(struct slice_u8 log, struct slice_u8 area, struct slice_u8 state,
         struct slice_u8 newest)
 {
-    struct recovery__opening__Shape t5;
+    struct call_open__opening__Shape t5;
     bool t6, t7;
 
-    t6 = answers__lengths_right(log, area, state);
+    t6 = call_ask__lengths_right(log, area, state);
     if (!t6) {
         return 1u;
     }
-    t5 = recovery__opening__measure(log, area);
+    t5 = call_open__opening__measure(log, area);
     if ((uint64_t)newest.len != (8u * t5.homes)) {
         return 1u;
     }
-    t7 = areas__header__header_right(log, t5.groups, t5.homes);
+    t7 = base_areas__header__header_right(log, t5.groups, t5.homes);
     if (!t7) {
         return 3u;
     }
@@ -2940,7 +2948,7 @@ static inline uint64_t recovery__opening__may_open(struct slice_u8 log, struct s
 }
 
 /* The words of a group's seven tags that are there, read in a row; `turn` is the group's. */
-static inline struct array_u64_7 scan__groups__tag_words(struct slice_u8 group, uint64_t turn)
+static inline struct array_u64_7 log_scan__groups__tag_words(struct slice_u8 group, uint64_t turn)
 {
     struct array_u64_7 t3;
     uint64_t t4, t6;
@@ -2948,7 +2956,7 @@ static inline struct array_u64_7 scan__groups__tag_words(struct slice_u8 group, 
     memset(&t3, 0, sizeof t3);
     t4 = 0u;
     while (t4 < 7u) {
-        t6 = scan__groups__word_there(group, turn, t4);
+        t6 = log_scan__groups__word_there(group, turn, t4);
         t3.at[(size_t)t4] = t6;
         t4 = t4 + 1u;
     }
@@ -2956,16 +2964,16 @@ static inline struct array_u64_7 scan__groups__tag_words(struct slice_u8 group, 
 }
 
 /* Takes the entry at an offset, whose transaction's first entry is at the offset `first`. */
-static inline struct scan__commits__Progress gathering__walking__join_entry(struct slice_mut_u16 cells,
+static inline struct log_scan__commits__Progress log_gather__walking__join_entry(struct slice_mut_u16 cells,
         struct slice_mut_u16 heads, struct slice_mut_u16 links, uint64_t home, uint64_t first, uint64_t offset,
-        struct scan__commits__Progress progress)
+        struct log_scan__commits__Progress progress)
 {
     uint16_t t8;
     uint64_t t22;
 
     t8 = cells.ptr[(size_t)first];
     if (32768u <= t8) {
-        return (struct scan__commits__Progress){.end = progress.end, .number = progress.number, .failed = 2u};
+        return (struct log_scan__commits__Progress){.end = progress.end, .number = progress.number, .failed = 2u};
     }
     cells.ptr[(size_t)first] = (uint16_t)((uint32_t)t8 + 1u);
     t22 = home / 64u;
@@ -2976,7 +2984,7 @@ static inline struct scan__commits__Progress gathering__walking__join_entry(stru
 
 /* Whether a closing entry at a position is linked, by its distance back, to the last one, which ends at `end`, or where there is
    none (0) to a position before the start or to none. */
-static inline bool scan__commits__is_linked(uint64_t end, uint64_t base, uint64_t position, uint64_t link)
+static inline bool log_scan__commits__is_linked(uint64_t end, uint64_t base, uint64_t position, uint64_t link)
 {
     if (end != 0u) {
         return (position + 1u) == (end + link);
@@ -2988,43 +2996,43 @@ static inline bool scan__commits__is_linked(uint64_t end, uint64_t base, uint64_
 }
 
 /* Takes a closing entry, complete or not, at a position: it is committed, or the first that fails. */
-static inline struct scan__commits__Progress scan__commits__judge(struct scan__commits__Progress progress, uint64_t base,
-        uint64_t position, uint64_t link, bool complete)
+static inline struct log_scan__commits__Progress log_scan__commits__judge(struct log_scan__commits__Progress progress,
+        uint64_t base, uint64_t position, uint64_t link, bool complete)
 {
     uint64_t t6, t7;
-    struct scan__commits__Progress t8;
+    struct log_scan__commits__Progress t8;
     bool t9;
 
     t6 = progress.end;
     t7 = progress.number;
-    t8 = (struct scan__commits__Progress){.end = t6, .number = t7, .failed = 1u};
+    t8 = (struct log_scan__commits__Progress){.end = t6, .number = t7, .failed = 1u};
     if (progress.failed != 0u) {
         return t8;
     }
-    t9 = scan__commits__is_linked(t6, base, position, link);
+    t9 = log_scan__commits__is_linked(t6, base, position, link);
     if (!t9) {
         return t8;
     }
     if (!complete) {
         return t8;
     }
-    return (struct scan__commits__Progress){.end = position + 1u, .number = t7 + 1u, .failed = 0u};
+    return (struct log_scan__commits__Progress){.end = position + 1u, .number = t7 + 1u, .failed = 0u};
 }
 
 /* Takes the closing entry at a position: if it is committed, its transaction's cell holds it from now on. */
-static inline struct scan__commits__Progress gathering__walking__join_closing(struct slice_mut_u16 cells,
+static inline struct log_scan__commits__Progress log_gather__walking__join_closing(struct slice_mut_u16 cells,
         struct slice_mut_u16 heads, struct slice_mut_u16 links, uint64_t base, uint64_t position, uint64_t home, uint64_t first,
-        uint64_t link, uint64_t count, struct scan__commits__Progress progress)
+        uint64_t link, uint64_t count, struct log_scan__commits__Progress progress)
 {
     uint16_t t11;
-    struct scan__commits__Progress t12;
+    struct log_scan__commits__Progress t12;
     uint64_t t13, t30;
 
     t11 = cells.ptr[(size_t)first];
     if (32768u <= t11) {
-        return (struct scan__commits__Progress){.end = progress.end, .number = progress.number, .failed = 2u};
+        return (struct log_scan__commits__Progress){.end = progress.end, .number = progress.number, .failed = 2u};
     }
-    t12 = scan__commits__judge(progress, base, position, link, ((uint64_t)t11 + 1u) == count);
+    t12 = log_scan__commits__judge(progress, base, position, link, ((uint64_t)t11 + 1u) == count);
     if (t12.failed != 0u) {
         return t12;
     }
@@ -3037,50 +3045,50 @@ static inline struct scan__commits__Progress gathering__walking__join_closing(st
 }
 
 /* Takes what the word of a tag says at a position, unless the walk has stopped. */
-static inline struct scan__commits__Progress gathering__walking__visit(uint64_t word, uint64_t position, uint64_t base,
+static inline struct log_scan__commits__Progress log_gather__walking__visit(uint64_t word, uint64_t position, uint64_t base,
         uint64_t homes, struct slice_mut_u16 cells, struct slice_mut_u16 heads, struct slice_mut_u16 links,
-        struct scan__commits__Progress progress)
+        struct log_scan__commits__Progress progress)
 {
     struct model__Tag t16;
-    struct scan__commits__Progress t17;
+    struct log_scan__commits__Progress t17;
 
     if (progress.failed != 0u) {
         return progress;
     }
-    t16 = codec__tags__read_tag(word, position, base, homes);
+    t16 = base_codec__tags__read_tag(word, position, base, homes);
     if (t16.tag == 0u) {
         t17 = progress;
     } else if (t16.tag == 1u) {
-        t17 = gathering__walking__join_entry(cells, heads, links, t16.u64_0, t16.u64_1 - base, position - base, progress);
+        t17 = log_gather__walking__join_entry(cells, heads, links, t16.u64_0, t16.u64_1 - base, position - base, progress);
     } else {
-        t17 = gathering__walking__join_closing(cells, heads, links, base, position, t16.u64_0, t16.u64_1 - base, t16.u64_2,
+        t17 = log_gather__walking__join_closing(cells, heads, links, base, position, t16.u64_0, t16.u64_1 - base, t16.u64_2,
                 t16.u64_3, progress);
     }
     return t17;
 }
 
 /* Takes the first `m` tags of a group, which says nothing where it is not the valid group with number `n` and turn `turn`. */
-static inline struct scan__commits__Progress gathering__walking__visit_group(struct slice_u8 group, uint64_t groups,
+static inline struct log_scan__commits__Progress log_gather__walking__visit_group(struct slice_u8 group, uint64_t groups,
         uint64_t homes, uint64_t start, uint64_t n, uint64_t turn, uint64_t m, struct slice_mut_u16 cells,
-        struct slice_mut_u16 heads, struct slice_mut_u16 links, struct scan__commits__Progress progress)
+        struct slice_mut_u16 heads, struct slice_mut_u16 links, struct log_scan__commits__Progress progress)
 {
     struct array_u64_7 t12, t19;
     uint64_t t13, t15, t16;
-    struct scan__commits__Progress t14;
+    struct log_scan__commits__Progress t14;
     bool t17;
 
-    t17 = scan__groups__group_valid(group, groups, start, n);
+    t17 = log_scan__groups__group_valid(group, groups, start, n);
     if (!t17) {
         return progress;
     }
-    t19 = scan__groups__tag_words(group, turn);
+    t19 = log_scan__groups__tag_words(group, turn);
     t12 = t19;
     t13 = 7u * start;
     t14 = progress;
     t15 = 7u * n;
     t16 = 0u;
     while (t16 < m) {
-        t14 = gathering__walking__visit(t12.at[(size_t)t16], t15, t13, homes, cells, heads, links, t14);
+        t14 = log_gather__walking__visit(t12.at[(size_t)t16], t15, t13, homes, cells, heads, links, t14);
         t15 = t15 + 1u;
         t16 = t16 + 1u;
     }
@@ -3088,26 +3096,26 @@ static inline struct scan__commits__Progress gathering__walking__visit_group(str
 }
 
 /* Takes the `n` positions of the log from its start on, group by group, until the walk stops. */
-static inline struct scan__commits__Progress gathering__walking__pass(struct slice_u8 log, struct slice_mut_u16 cells,
+static inline struct log_scan__commits__Progress log_gather__walking__pass(struct slice_u8 log, struct slice_mut_u16 cells,
         struct slice_mut_u16 heads, struct slice_mut_u16 links, uint64_t groups, uint64_t homes, uint64_t start, uint64_t n)
 {
-    struct scan__commits__Progress t9;
-    struct scan__slots__RingSlot t10;
+    struct log_scan__commits__Progress t9;
+    struct log_scan__slots__RingSlot t10;
     uint64_t t11, t12, t13, t15;
 
-    t9 = (struct scan__commits__Progress){.end = 0u, .number = 0u, .failed = 0u};
-    t10 = scan__slots__first_slot(start, groups);
+    t9 = (struct log_scan__commits__Progress){.end = 0u, .number = 0u, .failed = 0u};
+    t10 = log_scan__slots__first_slot(start, groups);
     t11 = start;
     t12 = n;
     while (0u < t12) {
         t13 = 64u + (512u * t10.slot);
-        t15 = scan__commits__in_group(t12);
-        t9 = gathering__walking__visit_group((struct slice_u8){log.ptr + (size_t)t13, (size_t)((t13 + 512u) - t13)}, groups,
+        t15 = log_scan__commits__in_group(t12);
+        t9 = log_gather__walking__visit_group((struct slice_u8){log.ptr + (size_t)t13, (size_t)((t13 + 512u) - t13)}, groups,
                 homes, start, t11, t10.turn, t15, cells, heads, links, t9);
         if (t9.failed != 0u) {
             return t9;
         }
-        t10 = scan__slots__next_slot(t10, groups);
+        t10 = log_scan__slots__next_slot(t10, groups);
         t11 = t11 + 1u;
         t12 = t12 - t15;
     }
@@ -3115,7 +3123,7 @@ static inline struct scan__commits__Progress gathering__walking__pass(struct sli
 }
 
 /* The closing entry that a cell holds, 0 for none. */
-static inline uint16_t gathering__walking__closer_in(uint16_t cell)
+static inline uint16_t log_gather__walking__closer_in(uint16_t cell)
 {
     uint16_t t3;
 
@@ -3128,14 +3136,14 @@ static inline uint16_t gathering__walking__closer_in(uint16_t cell)
 }
 
 /* Leaves in the first `n` cells, where all others are 0, only the closing entries, and no counts. */
-static inline void gathering__walking__drop_counts(struct slice_mut_u16 cells, uint64_t n)
+static inline void log_gather__walking__drop_counts(struct slice_mut_u16 cells, uint64_t n)
 {
     uint64_t t3;
     uint16_t t5;
 
     t3 = 0u;
     while (t3 < n) {
-        t5 = gathering__walking__closer_in(cells.ptr[(size_t)t3]);
+        t5 = log_gather__walking__closer_in(cells.ptr[(size_t)t3]);
         cells.ptr[(size_t)t3] = t5;
         t3 = t3 + 1u;
     }
@@ -3144,20 +3152,20 @@ static inline void gathering__walking__drop_counts(struct slice_mut_u16 cells, u
 /* Walks the `n` positions of the log from its start on with empty tables, and finds where the committed transactions end and how
    many they are, their closing entries and the chains. A log in which an entry comes after its transaction's closing one, as no
    store writes it, stops the walk with the sign 2, and nothing is found: it takes two passes. */
-static inline struct scan__commits__Progress gathering__walking__walk(struct slice_u8 log, struct slice_mut_u16 last,
+static inline struct log_scan__commits__Progress log_gather__walking__walk(struct slice_u8 log, struct slice_mut_u16 last,
         struct slice_mut_u16 heads, struct slice_mut_u16 links, uint64_t groups, uint64_t homes, uint64_t start, uint64_t n)
 {
-    struct scan__commits__Progress t9;
+    struct log_scan__commits__Progress t9;
 
-    t9 = gathering__walking__pass(log, last, heads, links, groups, homes, start, n);
+    t9 = log_gather__walking__pass(log, last, heads, links, groups, homes, start, n);
     if (t9.failed != 2u) {
-        gathering__walking__drop_counts(last, n);
+        log_gather__walking__drop_counts(last, n);
     }
     return t9;
 }
 
 /* Makes a table empty. */
-static inline void gathering__twice__clear(struct slice_mut_u16 table)
+static inline void log_gather__twice__clear(struct slice_mut_u16 table)
 {
     uint64_t t2, t3;
 
@@ -3172,8 +3180,8 @@ static inline void gathering__twice__clear(struct slice_mut_u16 table)
 
 /* Takes the word of an entry that does not close its transaction, at index `index` of the log; `above` is the word of an entry
    for the first home that there is not. */
-static inline struct scan__commits__Progress scan__commits__visit_plain(uint64_t word, uint64_t above, uint64_t base,
-        uint64_t index, struct slice_mut_u16 counts, struct scan__commits__Progress progress)
+static inline struct log_scan__commits__Progress log_scan__commits__visit_plain(uint64_t word, uint64_t above, uint64_t base,
+        uint64_t index, struct slice_mut_u16 counts, struct log_scan__commits__Progress progress)
 {
     uint64_t t7, t20;
     (void)base;
@@ -3191,8 +3199,8 @@ static inline struct scan__commits__Progress scan__commits__visit_plain(uint64_t
 }
 
 /* The same for the word of a closing entry. */
-static inline struct scan__commits__Progress scan__commits__visit_closing(uint64_t word, uint64_t above, uint64_t base,
-        uint64_t index, struct slice_mut_u16 counts, struct scan__commits__Progress progress)
+static inline struct log_scan__commits__Progress log_scan__commits__visit_closing(uint64_t word, uint64_t above, uint64_t base,
+        uint64_t index, struct slice_mut_u16 counts, struct log_scan__commits__Progress progress)
 {
     uint64_t t7, t8, t24;
     uint16_t t25;
@@ -3211,30 +3219,30 @@ static inline struct scan__commits__Progress scan__commits__visit_closing(uint64
     t24 = index - t7;
     t25 = (uint16_t)((uint32_t)counts.ptr[(size_t)t24] + 1u);
     counts.ptr[(size_t)t24] = t25;
-    return scan__commits__judge(progress, base, base + index, (word >> 27u) & 8191u, (uint64_t)t25 == t8);
+    return log_scan__commits__judge(progress, base, base + index, (word >> 27u) & 8191u, (uint64_t)t25 == t8);
 }
 
 /* Takes what the word of a tag says at index `index` of the log. */
-static inline struct scan__commits__Progress scan__commits__visit(uint64_t word, uint64_t above, uint64_t base, uint64_t index,
-        struct slice_mut_u16 counts, struct scan__commits__Progress progress)
+static inline struct log_scan__commits__Progress log_scan__commits__visit(uint64_t word, uint64_t above, uint64_t base,
+        uint64_t index, struct slice_mut_u16 counts, struct log_scan__commits__Progress progress)
 {
     if ((word & UINT64_C(0xfc1ffffff8000003)) == 1u) {
-        return scan__commits__visit_plain(word, above, base, index, counts, progress);
+        return log_scan__commits__visit_plain(word, above, base, index, counts, progress);
     }
     if ((word & UINT64_C(0xfc00000000000003)) == 3u) {
-        return scan__commits__visit_closing(word, above, base, index, counts, progress);
+        return log_scan__commits__visit_closing(word, above, base, index, counts, progress);
     }
     return progress;
 }
 
 /* Takes the first `m` tags of a group, or those up to the first closing entry that fails. The group says nothing where it is not
    the valid group with number `n` and turn `turn`. */
-static inline struct scan__commits__Progress scan__commits__visit_group(struct slice_u8 group, uint64_t groups, uint64_t homes,
-        uint64_t start, uint64_t n, uint64_t turn, uint64_t m, struct slice_mut_u16 counts,
-        struct scan__commits__Progress progress)
+static inline struct log_scan__commits__Progress log_scan__commits__visit_group(struct slice_u8 group, uint64_t groups,
+        uint64_t homes, uint64_t start, uint64_t n, uint64_t turn, uint64_t m, struct slice_mut_u16 counts,
+        struct log_scan__commits__Progress progress)
 {
     uint64_t t10, t11, t12, t14, t19;
-    struct scan__commits__Progress t13;
+    struct log_scan__commits__Progress t13;
     (void)groups;
 
     if (!(load_8(group.ptr) == (((n % UINT64_C(0x1000000000000)) * UINT64_C(0x10000)) + 18256u))) {
@@ -3246,8 +3254,8 @@ static inline struct scan__commits__Progress scan__commits__visit_group(struct s
     t13 = progress;
     t14 = 0u;
     while (t14 < m) {
-        t19 = scan__groups__word_there(group, turn, t14);
-        t13 = scan__commits__visit(t19, t10, t11, t12 + t14, counts, t13);
+        t19 = log_scan__groups__word_there(group, turn, t14);
+        t13 = log_scan__commits__visit(t19, t10, t11, t12 + t14, counts, t13);
         if (t13.failed != 0u) {
             return t13;
         }
@@ -3258,41 +3266,41 @@ static inline struct scan__commits__Progress scan__commits__visit_group(struct s
 
 /* Walks the `n` positions of the log from its start on, group by group, with empty counters, and finds where the committed
    transactions end and how many they are. */
-static inline struct scan__commits__Found scan__commits__walk_with(struct slice_u8 log, struct slice_mut_u16 counts,
+static inline struct log_scan__commits__Found log_scan__commits__walk_with(struct slice_u8 log, struct slice_mut_u16 counts,
         uint64_t groups, uint64_t homes, uint64_t start, uint64_t n)
 {
-    struct scan__commits__Progress t7;
-    struct scan__slots__RingSlot t8;
+    struct log_scan__commits__Progress t7;
+    struct log_scan__slots__RingSlot t8;
     uint64_t t9, t10, t11, t13;
 
-    t7 = (struct scan__commits__Progress){.end = 0u, .number = 0u, .failed = 0u};
-    t8 = scan__slots__first_slot(start, groups);
+    t7 = (struct log_scan__commits__Progress){.end = 0u, .number = 0u, .failed = 0u};
+    t8 = log_scan__slots__first_slot(start, groups);
     t9 = start;
     t10 = n;
     while (0u < t10) {
         t11 = 64u + (512u * t8.slot);
-        t13 = scan__commits__in_group(t10);
-        t7 = scan__commits__visit_group((struct slice_u8){log.ptr + (size_t)t11, (size_t)((t11 + 512u) - t11)}, groups, homes,
+        t13 = log_scan__commits__in_group(t10);
+        t7 = log_scan__commits__visit_group((struct slice_u8){log.ptr + (size_t)t11, (size_t)((t11 + 512u) - t11)}, groups, homes,
                 start, t9, t8.turn, t13, counts, t7);
         if (t7.failed != 0u) {
-            return (struct scan__commits__Found){.end = t7.end, .number = t7.number};
+            return (struct log_scan__commits__Found){.end = t7.end, .number = t7.number};
         }
-        t8 = scan__slots__next_slot(t8, groups);
+        t8 = log_scan__slots__next_slot(t8, groups);
         t9 = t9 + 1u;
         t10 = t10 - t13;
     }
-    return (struct scan__commits__Found){.end = t7.end, .number = t7.number};
+    return (struct log_scan__commits__Found){.end = t7.end, .number = t7.number};
 }
 
 /* Takes what the word of a tag says at a position. */
-static inline void gathering__gathering__visit(uint64_t word, uint64_t position, uint64_t base, uint64_t homes,
+static inline void log_gather__gathering__visit(uint64_t word, uint64_t position, uint64_t base, uint64_t homes,
         struct slice_mut_u16 last, struct slice_mut_u16 heads, struct slice_mut_u16 links)
 {
     uint64_t t8, t33, t41;
     struct model__Tag t13;
 
     t8 = position - base;
-    t13 = codec__tags__read_tag(word, position, base, homes);
+    t13 = base_codec__tags__read_tag(word, position, base, homes);
     if (t13.tag == 0u) {
     } else if (t13.tag == 1u) {
         t33 = t13.u64_0 / 64u;
@@ -3307,35 +3315,35 @@ static inline void gathering__gathering__visit(uint64_t word, uint64_t position,
 }
 
 /* Takes the first `m` tags of a group, which says nothing where it is not the valid group with number `n` and turn `turn`. */
-static inline void gathering__gathering__visit_group(struct slice_u8 group, uint64_t groups, uint64_t homes, uint64_t start,
+static inline void log_gather__gathering__visit_group(struct slice_u8 group, uint64_t groups, uint64_t homes, uint64_t start,
         uint64_t n, uint64_t turn, uint64_t m, struct slice_mut_u16 last, struct slice_mut_u16 heads, struct slice_mut_u16 links)
 {
     struct array_u64_7 t11, t17;
     uint64_t t12, t13, t14;
     bool t15;
 
-    t15 = scan__groups__group_valid(group, groups, start, n);
+    t15 = log_scan__groups__group_valid(group, groups, start, n);
     if (!t15) {
         return;
     }
-    t17 = scan__groups__tag_words(group, turn);
+    t17 = log_scan__groups__tag_words(group, turn);
     t11 = t17;
     t12 = 7u * start;
     t13 = 7u * n;
     t14 = 0u;
     while (t14 < m) {
-        gathering__gathering__visit(t11.at[(size_t)t14], t13, t12, homes, last, heads, links);
+        log_gather__gathering__visit(t11.at[(size_t)t14], t13, t12, homes, last, heads, links);
         t13 = t13 + 1u;
         t14 = t14 + 1u;
     }
 }
 
 /* Finds in empty tables the last closing entries and the chains of all entries below `end`. */
-static inline void gathering__gathering__gather(struct slice_u8 log, struct slice_mut_u16 last, struct slice_mut_u16 heads,
+static inline void log_gather__gathering__gather(struct slice_u8 log, struct slice_mut_u16 last, struct slice_mut_u16 heads,
         struct slice_mut_u16 links, uint64_t groups, uint64_t homes, uint64_t start, uint64_t end)
 {
     uint64_t t9, t10, t11, t13, t15;
-    struct scan__slots__RingSlot t12;
+    struct log_scan__slots__RingSlot t12;
 
     t9 = 7u * start;
     if (end <= t9) {
@@ -3343,13 +3351,13 @@ static inline void gathering__gathering__gather(struct slice_u8 log, struct slic
     }
     t10 = end - t9;
     t11 = start;
-    t12 = scan__slots__first_slot(start, groups);
+    t12 = log_scan__slots__first_slot(start, groups);
     while (0u < t10) {
         t13 = 64u + (512u * t12.slot);
-        t15 = scan__commits__in_group(t10);
-        gathering__gathering__visit_group((struct slice_u8){log.ptr + (size_t)t13, (size_t)((t13 + 512u) - t13)}, groups, homes,
+        t15 = log_scan__commits__in_group(t10);
+        log_gather__gathering__visit_group((struct slice_u8){log.ptr + (size_t)t13, (size_t)((t13 + 512u) - t13)}, groups, homes,
                 start, t11, t12.turn, t15, last, heads, links);
-        t12 = scan__slots__next_slot(t12, groups);
+        t12 = log_scan__slots__next_slot(t12, groups);
         t11 = t11 + 1u;
         t10 = t10 - t15;
     }
@@ -3357,22 +3365,22 @@ static inline void gathering__gathering__gather(struct slice_u8 log, struct slic
 
 /* Walks the `n` positions of the log from its start on in two passes with tables that may hold anything; the first counts entries
    in `last`. */
-static inline struct scan__commits__Progress gathering__twice__walk_twice(struct slice_u8 log, struct slice_mut_u16 last,
+static inline struct log_scan__commits__Progress log_gather__twice__walk_twice(struct slice_u8 log, struct slice_mut_u16 last,
         struct slice_mut_u16 heads, struct slice_mut_u16 links, uint64_t groups, uint64_t homes, uint64_t start, uint64_t n)
 {
-    struct scan__commits__Found t9;
+    struct log_scan__commits__Found t9;
 
-    gathering__twice__clear(last);
-    t9 = scan__commits__walk_with(log, last, groups, homes, start, n);
-    gathering__twice__clear(last);
-    gathering__twice__clear(heads);
-    gathering__twice__clear(links);
-    gathering__gathering__gather(log, last, heads, links, groups, homes, start, t9.end);
-    return (struct scan__commits__Progress){.end = t9.end, .number = t9.number, .failed = 0u};
+    log_gather__twice__clear(last);
+    t9 = log_scan__commits__walk_with(log, last, groups, homes, start, n);
+    log_gather__twice__clear(last);
+    log_gather__twice__clear(heads);
+    log_gather__twice__clear(links);
+    log_gather__gathering__gather(log, last, heads, links, groups, homes, start, t9.end);
+    return (struct log_scan__commits__Progress){.end = t9.end, .number = t9.number, .failed = 0u};
 }
 
 /* The lesser of two numbers. */
-static inline uint64_t planning__whole__least(uint64_t a, uint64_t b)
+static inline uint64_t log_tables__whole__least(uint64_t a, uint64_t b)
 {
     uint64_t t4;
 
@@ -3385,7 +3393,7 @@ static inline uint64_t planning__whole__least(uint64_t a, uint64_t b)
 }
 
 /* The ring slot that lies `n` slots after `slot`. */
-static inline uint64_t replay__places__slot_after(uint64_t slot, uint64_t n, uint64_t groups)
+static inline uint64_t log_replay__places__slot_after(uint64_t slot, uint64_t n, uint64_t groups)
 {
     uint64_t t4, t6;
 
@@ -3399,28 +3407,28 @@ static inline uint64_t replay__places__slot_after(uint64_t slot, uint64_t n, uin
 }
 
 /* What tag `k` of a group says at a position of a log that starts at position `base` and has `homes` homes. */
-static inline struct model__Tag scan__groups__tag_in(struct slice_u8 group, uint64_t k, uint64_t position, uint64_t base,
+static inline struct model__Tag log_scan__groups__tag_in(struct slice_u8 group, uint64_t k, uint64_t position, uint64_t base,
         uint64_t homes)
 {
-    return codec__tags__read_tag(load_8(group.ptr + (size_t)(8u + (8u * k))), position, base, homes);
+    return base_codec__tags__read_tag(load_8(group.ptr + (size_t)(8u + (8u * k))), position, base, homes);
 }
 
 /* What the log says at an offset where there is an entry. */
-static inline struct model__Tag replay__places__entry_from(struct slice_u8 log, uint64_t groups, uint64_t homes, uint64_t start,
-        uint64_t slot, uint64_t offset)
+static inline struct model__Tag log_replay__places__entry_from(struct slice_u8 log, uint64_t groups, uint64_t homes,
+        uint64_t start, uint64_t slot, uint64_t offset)
 {
     uint64_t t7, t8, t10;
 
     t7 = 7u * start;
-    t10 = replay__places__slot_after(slot, offset / 7u, groups);
+    t10 = log_replay__places__slot_after(slot, offset / 7u, groups);
     t8 = 64u + (512u * t10);
-    return scan__groups__tag_in((struct slice_u8){log.ptr + (size_t)t8, (size_t)((t8 + 512u) - t8)}, offset % 7u, t7 + offset, t7,
-            homes);
+    return log_scan__groups__tag_in((struct slice_u8){log.ptr + (size_t)t8, (size_t)((t8 + 512u) - t8)}, offset % 7u, t7 + offset,
+            t7, homes);
 }
 
 /* Takes an entry as the newest of its home, the one with index `k` in its word, if its transaction closes later than that of the
    newest so far. */
-static inline void replay__words__offer(struct slice_mut_u16 closers, struct slice_mut_u16 table, struct slice_mut_u64 map,
+static inline void log_replay__words__offer(struct slice_mut_u16 closers, struct slice_mut_u16 table, struct slice_mut_u64 map,
         uint64_t k, uint16_t closer, uint16_t code)
 {
     uint64_t *t23;
@@ -3434,19 +3442,19 @@ static inline void replay__words__offer(struct slice_mut_u16 closers, struct sli
 }
 
 /* Takes the entry at an offset if its transaction, with its first entry at the offset `first`, is closed from there on. */
-static inline void replay__words__take_entry(struct slice_u16 last, struct slice_mut_u16 closers, struct slice_mut_u16 table,
+static inline void log_replay__words__take_entry(struct slice_u16 last, struct slice_mut_u16 closers, struct slice_mut_u16 table,
         struct slice_mut_u64 map, uint64_t home, uint64_t first, uint64_t offset)
 {
     uint16_t t8;
 
     t8 = last.ptr[(size_t)first];
     if (offset < (uint64_t)t8) {
-        replay__words__offer(closers, table, map, home % 64u, t8, (uint16_t)(offset + 1u));
+        log_replay__words__offer(closers, table, map, home % 64u, t8, (uint16_t)(offset + 1u));
     }
 }
 
 /* Takes what the log says at an offset where there is an entry. */
-static inline void replay__words__take_at(struct slice_u8 log, struct slice_u16 last, struct slice_mut_u16 closers,
+static inline void log_replay__words__take_at(struct slice_u8 log, struct slice_u16 last, struct slice_mut_u16 closers,
         struct slice_mut_u16 table, struct slice_mut_u64 map, uint64_t groups, uint64_t homes, uint64_t start, uint64_t slot,
         uint64_t offset)
 {
@@ -3454,18 +3462,18 @@ static inline void replay__words__take_at(struct slice_u8 log, struct slice_u16 
     struct model__Tag t16;
 
     t11 = 7u * start;
-    t16 = replay__places__entry_from(log, groups, homes, start, slot, offset);
+    t16 = log_replay__places__entry_from(log, groups, homes, start, slot, offset);
     if (t16.tag == 0u) {
     } else if (t16.tag == 1u) {
-        replay__words__take_entry(last, closers, table, map, t16.u64_0, t16.u64_1 - t11, offset);
+        log_replay__words__take_entry(last, closers, table, map, t16.u64_0, t16.u64_1 - t11, offset);
     } else {
-        replay__words__take_entry(last, closers, table, map, t16.u64_0, t16.u64_1 - t11, offset);
+        log_replay__words__take_entry(last, closers, table, map, t16.u64_0, t16.u64_1 - t11, offset);
     }
 }
 
 /* Finds the newest committed entries of the homes of word `w` in an empty table, and returns the word that marks the homes that
    have one. */
-static inline uint64_t replay__words__newest_in(struct slice_u8 log, struct slice_u16 last, struct slice_u16 heads,
+static inline uint64_t log_replay__words__newest_in(struct slice_u8 log, struct slice_u16 last, struct slice_u16 heads,
         struct slice_u16 links, struct slice_mut_u16 table, uint64_t w, uint64_t groups, uint64_t homes, uint64_t start,
         uint64_t end, uint64_t slot)
 {
@@ -3480,15 +3488,15 @@ static inline uint64_t replay__words__newest_in(struct slice_u8 log, struct slic
     t14 = heads.ptr[(size_t)w];
     while (t14 != 0u) {
         t15 = (uint64_t)t14 - 1u;
-        replay__words__take_at(log, last, (struct slice_mut_u16){t12.at, 64u}, table, (struct slice_mut_u64){t13.at, 1u}, groups,
-                homes, start, slot, t15);
+        log_replay__words__take_at(log, last, (struct slice_mut_u16){t12.at, 64u}, table, (struct slice_mut_u64){t13.at, 1u},
+                groups, homes, start, slot, t15);
         t14 = links.ptr[(size_t)t15];
     }
     return t13.at[0u];
 }
 
 /* How many homes of word `w` the transactions of all closing entries below `end` touch. */
-static inline uint64_t replay__words__count_word(struct slice_u8 log, struct slice_u16 last, struct slice_u16 heads,
+static inline uint64_t log_replay__words__count_word(struct slice_u8 log, struct slice_u16 last, struct slice_u16 heads,
         struct slice_u16 links, uint64_t w, uint64_t groups, uint64_t homes, uint64_t start, uint64_t end, uint64_t slot)
 {
     struct array_u16_64 t11;
@@ -3498,25 +3506,25 @@ static inline uint64_t replay__words__count_word(struct slice_u8 log, struct sli
         return 0u;
     }
     memset(&t11, 0, sizeof t11);
-    t12 = replay__words__newest_in(log, last, heads, links, (struct slice_mut_u16){t11.at, 64u}, w, groups, homes, start, end,
+    t12 = log_replay__words__newest_in(log, last, heads, links, (struct slice_mut_u16){t11.at, 64u}, w, groups, homes, start, end,
             slot);
     return (uint64_t)count_ones(t12);
 }
 
 /* How many homes the transactions of all closing entries below `end` touch. */
-static inline uint64_t replay__words__count(struct slice_u8 log, struct slice_u16 last, struct slice_u16 heads,
+static inline uint64_t log_replay__words__count(struct slice_u8 log, struct slice_u16 last, struct slice_u16 heads,
         struct slice_u16 links, uint64_t groups, uint64_t homes, uint64_t start, uint64_t end)
 {
     uint64_t t9, t10, t11, t12, t17;
-    struct scan__slots__RingSlot t13;
+    struct log_scan__slots__RingSlot t13;
 
-    t13 = scan__slots__first_slot(start, groups);
+    t13 = log_scan__slots__first_slot(start, groups);
     t9 = t13.slot;
     t10 = (homes + 63u) / 64u;
     t11 = 0u;
     t12 = 0u;
     while (t12 < t10) {
-        t17 = replay__words__count_word(log, last, heads, links, t12, groups, homes, start, end, t9);
+        t17 = log_replay__words__count_word(log, last, heads, links, t12, groups, homes, start, end, t9);
         t11 = t11 + t17;
         t12 = t12 + 1u;
     }
@@ -3524,18 +3532,18 @@ static inline uint64_t replay__words__count(struct slice_u8 log, struct slice_u1
 }
 
 /* Copies the block that the entry at an offset gives to a home. */
-static inline void replay__places__restore_block(struct slice_u8 log, struct slice_mut_u8 area, uint64_t groups, uint64_t start,
-        uint64_t slot, uint64_t offset, uint64_t home)
+static inline void log_replay__places__restore_block(struct slice_u8 log, struct slice_mut_u8 area, uint64_t groups,
+        uint64_t start, uint64_t slot, uint64_t offset, uint64_t home)
 {
     uint64_t t9;
     (void)start;
 
-    t9 = replay__places__slot_after(slot, offset / 7u, groups);
-    areas__groups__copy_entry(area, 64u * home, log, t9, offset % 7u);
+    t9 = log_replay__places__slot_after(slot, offset / 7u, groups);
+    base_areas__groups__copy_entry(area, 64u * home, log, t9, offset % 7u);
 }
 
 /* Copies to each home that one word marks, whose first home is `base`, the block of its newest entry. */
-static inline void replay__restore__restore_word(struct slice_u8 log, struct slice_mut_u8 area, struct slice_u16 table,
+static inline void log_replay__restore__restore_word(struct slice_u8 log, struct slice_mut_u8 area, struct slice_u16 table,
         uint64_t groups, uint64_t start, uint64_t slot, uint64_t word, uint64_t base)
 {
     uint64_t t9, t10;
@@ -3543,22 +3551,23 @@ static inline void replay__restore__restore_word(struct slice_u8 log, struct sli
     t9 = word;
     while (t9 != 0u) {
         t10 = (uint64_t)trailing_zeros(t9);
-        replay__places__restore_block(log, area, groups, start, slot, (uint64_t)table.ptr[(size_t)t10] - 1u, base + t10);
+        log_replay__places__restore_block(log, area, groups, start, slot, (uint64_t)table.ptr[(size_t)t10] - 1u, base + t10);
         t9 = t9 & (t9 - 1u);
     }
 }
 
 /* Appends the write of the block that the data area holds in a home. */
-static inline uint64_t batch__records__home_write(struct slice_mut_u8 batch, uint64_t at, uint64_t home, struct slice_u8 area)
+static inline uint64_t base_batch__records__home_write(struct slice_mut_u8 batch, uint64_t at, uint64_t home,
+        struct slice_u8 area)
 {
-    codec__marks__put_home_write_mark(batch, at);
+    base_codec__marks__put_home_write_mark(batch, at);
     store_2(batch.ptr + (size_t)(at + 2u), home);
-    areas__blocks__copy_block(batch, at + 4u, area, 64u * home);
+    base_areas__blocks__copy_block(batch, at + 4u, area, 64u * home);
     return at + 68u;
 }
 
 /* Writes the records of the homes that one word marks, whose first home is `base`, rising, and returns the index past them. */
-static inline uint64_t homes__emit_word(struct slice_mut_u8 batch, uint64_t at, uint64_t word, uint64_t base,
+static inline uint64_t base_batch__marked__emit_word(struct slice_mut_u8 batch, uint64_t at, uint64_t word, uint64_t base,
         struct slice_u8 area)
 {
     uint64_t t6, t7;
@@ -3566,7 +3575,7 @@ static inline uint64_t homes__emit_word(struct slice_mut_u8 batch, uint64_t at, 
     t6 = at;
     t7 = word;
     while (t7 != 0u) {
-        t6 = batch__records__home_write(batch, t6, base + (uint64_t)trailing_zeros(t7), area);
+        t6 = base_batch__records__home_write(batch, t6, base + (uint64_t)trailing_zeros(t7), area);
         t7 = t7 & (t7 - 1u);
     }
     return t6;
@@ -3574,7 +3583,7 @@ static inline uint64_t homes__emit_word(struct slice_mut_u8 batch, uint64_t at, 
 
 /* Brings the touched homes of word `w` back into the data copy, and writes their records at an index of the batch; returns the
    index past them. */
-static inline uint64_t replay__restore__bring_word(struct slice_u8 log, struct slice_mut_u8 area, struct slice_mut_u8 batch,
+static inline uint64_t log_replay__restore__bring_word(struct slice_u8 log, struct slice_mut_u8 area, struct slice_mut_u8 batch,
         uint64_t at, struct slice_u16 last, struct slice_u16 heads, struct slice_u16 links, uint64_t w, uint64_t groups,
         uint64_t homes, uint64_t start, uint64_t end, uint64_t slot)
 {
@@ -3585,28 +3594,28 @@ static inline uint64_t replay__restore__bring_word(struct slice_u8 log, struct s
         return at;
     }
     memset(&t14, 0, sizeof t14);
-    t15 = replay__words__newest_in(log, last, heads, links, (struct slice_mut_u16){t14.at, 64u}, w, groups, homes, start, end,
+    t15 = log_replay__words__newest_in(log, last, heads, links, (struct slice_mut_u16){t14.at, 64u}, w, groups, homes, start, end,
             slot);
-    replay__restore__restore_word(log, area, (struct slice_u16){t14.at, 64u}, groups, start, slot, t15, 64u * w);
-    return homes__emit_word(batch, at, t15, 64u * w, (struct slice_u8){area.ptr, area.len});
+    log_replay__restore__restore_word(log, area, (struct slice_u16){t14.at, 64u}, groups, start, slot, t15, 64u * w);
+    return base_batch__marked__emit_word(batch, at, t15, 64u * w, (struct slice_u8){area.ptr, area.len});
 }
 
 /* Replays the transactions that close below `end` into the data copy, and writes the records of the homes that they touch at the
    batch's beginning. */
-static inline uint64_t replay__restore__bring_back(struct slice_u8 log, struct slice_mut_u8 area, struct slice_mut_u8 batch,
+static inline uint64_t log_replay__restore__bring_back(struct slice_u8 log, struct slice_mut_u8 area, struct slice_mut_u8 batch,
         struct slice_u16 last, struct slice_u16 heads, struct slice_u16 links, uint64_t groups, uint64_t homes, uint64_t start,
         uint64_t end)
 {
     uint64_t t11, t12, t13, t14;
-    struct scan__slots__RingSlot t15;
+    struct log_scan__slots__RingSlot t15;
 
-    t15 = scan__slots__first_slot(start, groups);
+    t15 = log_scan__slots__first_slot(start, groups);
     t11 = t15.slot;
     t12 = (homes + 63u) / 64u;
     t13 = 0u;
     t14 = 0u;
     while (t14 < t12) {
-        t13 = replay__restore__bring_word(log, area, batch, t13, last, heads, links, t14, groups, homes, start, end, t11);
+        t13 = log_replay__restore__bring_word(log, area, batch, t13, last, heads, links, t14, groups, homes, start, end, t11);
         t14 = t14 + 1u;
     }
     return t13;
@@ -3616,107 +3625,107 @@ static inline uint64_t replay__restore__bring_back(struct slice_u8 log, struct s
    `more`. If the batch has them, those transactions are replayed into the data copy, and the homes' records stand at the batch's
    beginning; else nothing is changed. The homes are counted first only where the batch may have no room: not for all homes, nor
    for as many as there can be entries. */
-static inline uint64_t planning__whole__bring_all(struct slice_u8 log, struct slice_mut_u8 area, struct slice_mut_u8 batch,
+static inline uint64_t log_tables__whole__bring_all(struct slice_u8 log, struct slice_mut_u8 area, struct slice_mut_u8 batch,
         struct slice_u16 last, struct slice_u16 heads, struct slice_u16 links, uint64_t groups, uint64_t homes, uint64_t start,
         uint64_t end, uint64_t more)
 {
     uint64_t t12, t13, t14, t16, t21;
 
     t12 = (uint64_t)batch.len;
-    t16 = planning__whole__least(homes, 7u * groups);
+    t16 = log_tables__whole__least(homes, 7u * groups);
     if (t12 < ((68u * t16) + more)) {
-        t21 = replay__words__count(log, last, heads, links, groups, homes, start, end);
+        t21 = log_replay__words__count(log, last, heads, links, groups, homes, start, end);
         t13 = (68u * t21) + more;
         if (t12 < t13) {
             return t13;
         }
     }
-    t14 = replay__restore__bring_back(log, area, batch, last, heads, links, groups, homes, start, end);
+    t14 = log_replay__restore__bring_back(log, area, batch, last, heads, links, groups, homes, start, end);
     return t14 + more;
 }
 
 /* Finds what is committed among the `n` positions from the start on, and brings it back: all homes where `limit` is 0, else at
    most `limit` from the cursor on. For a log of up to 64 groups. */
-static APART struct planning__tables__Replay planning__tables__bring_small_0(struct slice_u8 log, struct slice_mut_u8 area,
+static APART struct log_tables__tables__Replay log_tables__tables__bring_small_0(struct slice_u8 log, struct slice_mut_u8 area,
         struct slice_mut_u8 batch, uint64_t groups, uint64_t homes, uint64_t start, uint64_t n, uint64_t cursor, uint64_t more)
 {
     struct array_u16_448 t11, t13;
     struct array_u16_1024 t12;
-    struct scan__commits__Progress t14;
+    struct log_scan__commits__Progress t14;
     uint64_t t15, t16;
 
     memset(&t11, 0, sizeof t11);
     memset(&t12, 0, sizeof t12);
     memset(&t13, 0, sizeof t13);
-    t14 = gathering__walking__walk(log, (struct slice_mut_u16){t11.at, 448u}, (struct slice_mut_u16){t12.at, 1024u},
+    t14 = log_gather__walking__walk(log, (struct slice_mut_u16){t11.at, 448u}, (struct slice_mut_u16){t12.at, 1024u},
             (struct slice_mut_u16){t13.at, 448u}, groups, homes, start, n);
     if (t14.failed == 2u) {
-        t14 = gathering__twice__walk_twice(log, (struct slice_mut_u16){t11.at, 448u}, (struct slice_mut_u16){t12.at, 1024u},
+        t14 = log_gather__twice__walk_twice(log, (struct slice_mut_u16){t11.at, 448u}, (struct slice_mut_u16){t12.at, 1024u},
                 (struct slice_mut_u16){t13.at, 448u}, groups, homes, start, n);
     }
     t15 = t14.end;
-    t16 = planning__whole__bring_all(log, area, batch, (struct slice_u16){t11.at, 448u}, (struct slice_u16){t12.at, 1024u},
+    t16 = log_tables__whole__bring_all(log, area, batch, (struct slice_u16){t11.at, 448u}, (struct slice_u16){t12.at, 1024u},
             (struct slice_u16){t13.at, 448u}, groups, homes, start, t15, more);
-    return (struct planning__tables__Replay){.end = t15, .number = t14.number, .size = t16, .next = cursor, .more = false};
+    return (struct log_tables__tables__Replay){.end = t15, .number = t14.number, .size = t16, .next = cursor, .more = false};
 }
 
 /* The same for any log. Both serve two calls each, and so stay functions of their own: a small log never takes the large tables.
    */
-static APART struct planning__tables__Replay planning__tables__bring_large_0(struct slice_u8 log, struct slice_mut_u8 area,
+static APART struct log_tables__tables__Replay log_tables__tables__bring_large_0(struct slice_u8 log, struct slice_mut_u8 area,
         struct slice_mut_u8 batch, uint64_t groups, uint64_t homes, uint64_t start, uint64_t n, uint64_t cursor, uint64_t more)
 {
     struct array_u16_7168 t11, t13;
     struct array_u16_1024 t12;
-    struct scan__commits__Progress t14;
+    struct log_scan__commits__Progress t14;
     uint64_t t15, t16;
 
     memset(&t11, 0, sizeof t11);
     memset(&t12, 0, sizeof t12);
     memset(&t13, 0, sizeof t13);
-    t14 = gathering__walking__walk(log, (struct slice_mut_u16){t11.at, 7168u}, (struct slice_mut_u16){t12.at, 1024u},
+    t14 = log_gather__walking__walk(log, (struct slice_mut_u16){t11.at, 7168u}, (struct slice_mut_u16){t12.at, 1024u},
             (struct slice_mut_u16){t13.at, 7168u}, groups, homes, start, n);
     if (t14.failed == 2u) {
-        t14 = gathering__twice__walk_twice(log, (struct slice_mut_u16){t11.at, 7168u}, (struct slice_mut_u16){t12.at, 1024u},
+        t14 = log_gather__twice__walk_twice(log, (struct slice_mut_u16){t11.at, 7168u}, (struct slice_mut_u16){t12.at, 1024u},
                 (struct slice_mut_u16){t13.at, 7168u}, groups, homes, start, n);
     }
     t15 = t14.end;
-    t16 = planning__whole__bring_all(log, area, batch, (struct slice_u16){t11.at, 7168u}, (struct slice_u16){t12.at, 1024u},
+    t16 = log_tables__whole__bring_all(log, area, batch, (struct slice_u16){t11.at, 7168u}, (struct slice_u16){t12.at, 1024u},
             (struct slice_u16){t13.at, 7168u}, groups, homes, start, t15, more);
-    return (struct planning__tables__Replay){.end = t15, .number = t14.number, .size = t16, .next = cursor, .more = false};
+    return (struct log_tables__tables__Replay){.end = t15, .number = t14.number, .size = t16, .next = cursor, .more = false};
 }
 
 /* Replay of all homes, for settle and open, by the committed transactions among the `n` positions from the start on. */
-static inline struct planning__tables__Replay planning__planning__bring_back(struct slice_u8 log, struct slice_mut_u8 area,
+static inline struct log_tables__tables__Replay log_tables__planning__bring_back(struct slice_u8 log, struct slice_mut_u8 area,
         struct slice_mut_u8 batch, uint64_t groups, uint64_t homes, uint64_t start, uint64_t n, uint64_t more)
 {
     if (groups <= 64u) {
-        return planning__tables__bring_small_0(log, area, batch, groups, homes, start, n, 0u, more);
+        return log_tables__tables__bring_small_0(log, area, batch, groups, homes, start, n, 0u, more);
     }
-    return planning__tables__bring_large_0(log, area, batch, groups, homes, start, n, 0u, more);
+    return log_tables__tables__bring_large_0(log, area, batch, groups, homes, start, n, 0u, more);
 }
 
 /* Writes a fence, the header with a new start, another fence, all groups as unused, and a last fence at an index of the batch. */
-static inline void recovery__opening__open_records(struct slice_mut_u8 batch, uint64_t at, uint64_t start, uint64_t groups,
+static inline void call_open__opening__open_records(struct slice_mut_u8 batch, uint64_t at, uint64_t start, uint64_t groups,
         uint64_t homes)
 {
     uint64_t t6;
 
-    t6 = batch__records__fence(batch, at);
-    t6 = batch__records__header_write(batch, t6, start, groups, homes);
-    t6 = batch__records__fence(batch, t6);
-    t6 = batch__format__all_groups(batch, t6, start, groups);
-    (void)batch__records__fence(batch, t6);
+    t6 = base_batch__records__fence(batch, at);
+    t6 = base_batch__records__header_write(batch, t6, start, groups, homes);
+    t6 = base_batch__records__fence(batch, t6);
+    t6 = base_batch__format__all_groups(batch, t6, start, groups);
+    (void)base_batch__records__fence(batch, t6);
 }
 
 /* The sign of the list of rights in the data copy. */
-static inline uint64_t recovery__opening__open_sign(struct slice_u8 area, uint64_t homes)
+static inline uint64_t call_open__opening__open_sign(struct slice_u8 area, uint64_t homes)
 {
     bool t4;
 
     if (homes < 12u) {
         return 0u;
     }
-    t4 = codec__blocks__all_zero(area, 512u, 256u);
+    t4 = base_codec__blocks__all_zero(area, 512u, 256u);
     if (t4) {
         return 1u;
     }
@@ -3724,17 +3733,17 @@ static inline uint64_t recovery__opening__open_sign(struct slice_u8 area, uint64
 }
 
 /* Makes every byte of the strip zero. */
-static inline void strip__fields__clear(struct slice_mut_u8 s)
+static inline void base_state__fields__clear(struct slice_mut_u8 s)
 {
-    codec__blocks__clear(s, 0u, 1024u);
+    base_codec__blocks__clear(s, 0u, 1024u);
 }
 
 /* Makes `s` the numbers of an opened store whose log is empty at the group number `start`, and else zeros. */
-static inline void strip__fields__fresh_numbers(struct slice_mut_u8 s, uint64_t groups, uint64_t homes, uint64_t start)
+static inline void base_state__fields__fresh_numbers(struct slice_mut_u8 s, uint64_t groups, uint64_t homes, uint64_t start)
 {
     uint64_t t5;
 
-    strip__fields__clear(s);
+    base_state__fields__clear(s);
     store_8(s.ptr, groups);
     store_8(s.ptr + 8u, homes);
     store_8(s.ptr + 16u, start);
@@ -3747,18 +3756,19 @@ static inline void strip__fields__fresh_numbers(struct slice_mut_u8 s, uint64_t 
 
 /* Makes `s` the strip of an opened store whose log is empty at the group number `start`: no position of the list of rights is
    kept, and `sign` is its sign. */
-static inline void strip__fields__fresh(struct slice_mut_u8 s, uint64_t groups, uint64_t homes, uint64_t start, uint64_t sign)
+static inline void base_state__fields__fresh(struct slice_mut_u8 s, uint64_t groups, uint64_t homes, uint64_t start,
+        uint64_t sign)
 {
     struct array_u8_32 t6;
 
     memset(&t6, 255u, sizeof t6);
-    strip__fields__fresh_numbers(s, groups, homes, start);
-    strip__listed__set_listed(s, (struct slice_u8){t6.at, 32u});
+    base_state__fields__fresh_numbers(s, groups, homes, start);
+    base_state__listed__set_listed(s, (struct slice_u8){t6.at, 32u});
     store_8(s.ptr + 928u, sign);
 }
 
 /* Keeps no position for any home. */
-static inline void positions__strip__keep_nothing(struct slice_mut_u8 newest, uint64_t homes)
+static inline void log_newest__positions__keep_nothing(struct slice_mut_u8 newest, uint64_t homes)
 {
     uint64_t t3, t4;
     (void)homes;
@@ -3773,73 +3783,73 @@ static inline void positions__strip__keep_nothing(struct slice_mut_u8 newest, ui
 }
 
 /* Makes the log copy empty from a new start on, the strip that of an empty log, and keeps no position. */
-static inline void recovery__opening__open_copies(struct slice_mut_u8 log, struct slice_u8 area, struct slice_mut_u8 state,
+static inline void call_open__opening__open_copies(struct slice_mut_u8 log, struct slice_u8 area, struct slice_mut_u8 state,
         struct slice_mut_u8 newest, uint64_t groups, uint64_t homes, uint64_t start)
 {
     uint64_t t13;
 
-    areas__unused__put_empty_log(log, start, groups, homes);
-    t13 = recovery__opening__open_sign(area, homes);
-    strip__fields__fresh(state, groups, homes, start, t13);
-    positions__strip__keep_nothing(newest, homes);
+    base_areas__unused__put_empty_log(log, start, groups, homes);
+    t13 = call_open__opening__open_sign(area, homes);
+    base_state__fields__fresh(state, groups, homes, start, t13);
+    log_newest__positions__keep_nothing(newest, homes);
 }
 
 /* Brings the committed transactions back, and empties the log; returns how many they are. */
-static inline struct answers__Reply recovery__opening__reopen(struct slice_mut_u8 log, struct slice_mut_u8 area,
+static inline struct call_ask__Reply call_open__opening__reopen(struct slice_mut_u8 log, struct slice_mut_u8 area,
         struct slice_mut_u8 state, struct slice_mut_u8 newest, struct slice_mut_u8 batch)
 {
     uint64_t t6, t8, t9, t10, t11, t13;
-    struct recovery__opening__Shape t7;
-    struct planning__tables__Replay t12;
+    struct call_open__opening__Shape t7;
+    struct log_tables__tables__Replay t12;
 
-    t6 = recovery__opening__may_open((struct slice_u8){log.ptr, log.len}, (struct slice_u8){area.ptr, area.len},
+    t6 = call_open__opening__open_answer((struct slice_u8){log.ptr, log.len}, (struct slice_u8){area.ptr, area.len},
             (struct slice_u8){state.ptr, state.len}, (struct slice_u8){newest.ptr, newest.len});
     if (t6 != 0u) {
-        return (struct answers__Reply){.code = t6, .figure = 0u, .size = 0u};
+        return (struct call_ask__Reply){.code = t6, .figure = 0u, .size = 0u};
     }
-    t7 = recovery__opening__measure((struct slice_u8){log.ptr, log.len}, (struct slice_u8){area.ptr, area.len});
+    t7 = call_open__opening__measure((struct slice_u8){log.ptr, log.len}, (struct slice_u8){area.ptr, area.len});
     t8 = t7.groups;
     t9 = t7.homes;
     t10 = t7.start;
     t11 = 72u + (516u * t8);
-    t12 = planning__planning__bring_back((struct slice_u8){log.ptr, log.len}, area, batch, t8, t9, t10, 7u * t8, t11);
+    t12 = log_tables__planning__bring_back((struct slice_u8){log.ptr, log.len}, area, batch, t8, t9, t10, 7u * t8, t11);
     t13 = t12.size;
     if ((uint64_t)batch.len < t13) {
-        return (struct answers__Reply){.code = 9u, .figure = 0u, .size = 0u};
+        return (struct call_ask__Reply){.code = 9u, .figure = 0u, .size = 0u};
     }
-    recovery__opening__open_records(batch, t13 - t11, t10 + t8, t8, t9);
-    recovery__opening__open_copies(log, (struct slice_u8){area.ptr, area.len}, state, newest, t8, t9, t10 + t8);
-    return (struct answers__Reply){.code = 0u, .figure = t12.number, .size = t13};
+    call_open__opening__open_records(batch, t13 - t11, t10 + t8, t8, t9);
+    call_open__opening__open_copies(log, (struct slice_u8){area.ptr, area.len}, state, newest, t8, t9, t10 + t8);
+    return (struct call_ask__Reply){.code = 0u, .figure = t12.number, .size = t13};
 }
 
 /* Brings back what a power cut left: replays the committed transactions into the data copy and starts the log anew. */
-static inline struct answers__Reply kagutin__kagutin_open(struct slice_mut_u8 log, struct slice_mut_u8 area,
+static inline struct call_ask__Reply kagutin__kagutin_open(struct slice_mut_u8 log, struct slice_mut_u8 area,
         struct slice_mut_u8 state, struct slice_mut_u8 newest, struct slice_mut_u8 batch)
 {
-    return recovery__opening__reopen(log, area, state, newest, batch);
+    return call_open__opening__reopen(log, area, state, newest, batch);
 }
 
 /* The same for a call that is lent a block. */
-static inline uint64_t answers__in_use_block(struct slice_u8 log, struct slice_u8 area, struct slice_u8 state,
+static inline uint64_t call_ask__block_answer(struct slice_u8 log, struct slice_u8 area, struct slice_u8 state,
         struct slice_u8 block)
 {
     uint64_t t5, t6, t10;
     bool t7;
 
-    t7 = answers__lengths_right(log, area, state);
+    t7 = call_ask__lengths_right(log, area, state);
     if (!t7) {
         return 1u;
     }
     if ((uint64_t)block.len != 64u) {
         return 1u;
     }
-    t5 = areas__lengths__log_groups((uint64_t)log.len);
+    t5 = base_areas__lengths__log_groups((uint64_t)log.len);
     t6 = (uint64_t)area.len / 64u;
-    t10 = order__quick__quick_answer(state, t5, t6);
+    t10 = base_order__quick__quick_answer(state, t5, t6);
     if (t10 == 0u) {
         return 0u;
     }
-    t7 = order__whole__whole_in_order(state, t5, t6);
+    t7 = base_order__whole__whole_in_order(state, t5, t6);
     if (!t7) {
         return 2u;
     }
@@ -3847,23 +3857,23 @@ static inline uint64_t answers__in_use_block(struct slice_u8 log, struct slice_u
 }
 
 /* The same for a call that is lent a block too. */
-static inline uint64_t answers__in_use_both(struct slice_u8 log, struct slice_u8 area, struct slice_u8 state,
+static inline uint64_t call_ask__both_answer(struct slice_u8 log, struct slice_u8 area, struct slice_u8 state,
         struct slice_u8 newest, struct slice_u8 block)
 {
     if ((uint64_t)newest.len != (8u * ((uint64_t)area.len / 64u))) {
         return 1u;
     }
-    return answers__in_use_block(log, area, state, block);
+    return call_ask__block_answer(log, area, state, block);
 }
 
 /* The questions of a read: 0 if none refuses it, else the number of the refusal. */
-static inline uint64_t reading__judge(struct slice_u8 log, struct slice_u8 area, struct slice_u8 state, struct slice_u8 newest,
-        struct slice_u8 block, uint64_t writer, uint64_t home)
+static inline uint64_t call_read__read_answer(struct slice_u8 log, struct slice_u8 area, struct slice_u8 state,
+        struct slice_u8 newest, struct slice_u8 block, uint64_t writer, uint64_t home)
 {
     uint64_t t8;
     bool t9;
 
-    t8 = answers__in_use_both(log, area, state, newest, block);
+    t8 = call_ask__both_answer(log, area, state, newest, block);
     if (t8 != 0u) {
         return t8;
     }
@@ -3873,7 +3883,7 @@ static inline uint64_t reading__judge(struct slice_u8 log, struct slice_u8 area,
     if (((uint64_t)area.len / 64u) <= home) {
         return 5u;
     }
-    t9 = rights__may_read(log, area, state, newest, writer, home);
+    t9 = call_rights__may_read(log, area, state, newest, writer, home);
     if (!t9) {
         return 20u;
     }
@@ -3882,33 +3892,33 @@ static inline uint64_t reading__judge(struct slice_u8 log, struct slice_u8 area,
 
 /* Reads the block of a home as a writer sees it: the held one, else its newest own entry, else that at the position kept for the
    home, else the data copy. */
-static inline struct answers__Reply reading__read(struct slice_u8 log, struct slice_u8 area, struct slice_u8 state,
+static inline struct call_ask__Reply call_read__read(struct slice_u8 log, struct slice_u8 area, struct slice_u8 state,
         struct slice_u8 newest, struct slice_mut_u8 block, uint64_t writer, uint64_t home)
 {
     uint64_t t8;
 
-    t8 = reading__judge(log, area, state, newest, (struct slice_u8){block.ptr, block.len}, writer, home);
+    t8 = call_read__read_answer(log, area, state, newest, (struct slice_u8){block.ptr, block.len}, writer, home);
     if (t8 != 0u) {
-        return (struct answers__Reply){.code = t8, .figure = 0u, .size = 0u};
+        return (struct call_ask__Reply){.code = t8, .figure = 0u, .size = 0u};
     }
-    reading__blocks__show(log, area, state, newest, block, writer, home);
-    return (struct answers__Reply){.code = 0u, .figure = 0u, .size = 0u};
+    call_read__blocks__show(log, area, state, newest, block, writer, home);
+    return (struct call_ask__Reply){.code = 0u, .figure = 0u, .size = 0u};
 }
 
 /* Reads the block of a home as a writer sees it. */
-static inline struct answers__Reply kagutin__kagutin_read(struct slice_u8 log, struct slice_u8 area, struct slice_u8 state,
+static inline struct call_ask__Reply kagutin__kagutin_read(struct slice_u8 log, struct slice_u8 area, struct slice_u8 state,
         struct slice_u8 newest, struct slice_mut_u8 block, uint64_t writer, uint64_t home)
 {
-    return reading__read(log, area, state, newest, block, writer, home);
+    return call_read__read(log, area, state, newest, block, writer, home);
 }
 
 /* The places that are promised to nobody. */
-static inline uint64_t strip__promises__free_places(struct slice_u8 s, struct model__State st)
+static inline uint64_t base_state__promises__free_places(struct slice_u8 s, struct model__State st)
 {
     uint64_t t3, t4;
 
     t3 = (7u * (st.start + st.groups)) - ((7u * st.next) + st.filled);
-    t4 = strip__promises__promised(s);
+    t4 = base_state__promises__promised(s);
     if (t3 < t4) {
         return 0u;
     }
@@ -3916,32 +3926,32 @@ static inline uint64_t strip__promises__free_places(struct slice_u8 s, struct mo
 }
 
 /* Whether `n` places may be promised: at least one, and no more than are free. */
-static inline bool strip__promises__may_promise(struct slice_u8 s, struct model__State st, uint64_t n)
+static inline bool base_state__promises__may_promise(struct slice_u8 s, struct model__State st, uint64_t n)
 {
     uint64_t t5;
 
     if (n == 0u) {
         return false;
     }
-    t5 = strip__promises__free_places(s, st);
+    t5 = base_state__promises__free_places(s, st);
     return n <= t5;
 }
 
 /* Whether a writer may begin with `n` places promised to it: 0, or the number of the refusal. */
-static inline uint64_t sessions__reserve_answer(struct slice_u8 log, struct slice_u8 area, struct slice_u8 state, uint64_t writer,
-        uint64_t n)
+static inline uint64_t call_writer__reserve_answer(struct slice_u8 log, struct slice_u8 area, struct slice_u8 state,
+        uint64_t writer, uint64_t n)
 {
     uint64_t t6, t11, t12;
     bool t7;
 
-    t6 = sessions__begin_answer(log, area, state, writer);
+    t6 = call_writer__begin_answer(log, area, state, writer);
     if (t6 != 0u) {
         return t6;
     }
     t11 = load_8(state.ptr);
     t12 = load_8(state.ptr + 8u);
-    t7 = strip__promises__may_promise(state, (struct model__State){.groups = t11, .homes = t12, .start = load_8(state.ptr + 16u),
-            .next = load_8(state.ptr + 24u), .filled = load_8(state.ptr + 32u), .settled = load_8(state.ptr + 40u),
+    t7 = base_state__promises__may_promise(state, (struct model__State){.groups = t11, .homes = t12, .start = load_8(state.ptr
+            + 16u), .next = load_8(state.ptr + 24u), .filled = load_8(state.ptr + 32u), .settled = load_8(state.ptr + 40u),
             .fenced = load_8(state.ptr + 48u), .durable = load_8(state.ptr + 56u), .last = load_8(state.ptr + 64u),
             .round = load_8(state.ptr + 88u), .cursor = load_8(state.ptr + 96u)}, n);
     if (!t7) {
@@ -3951,35 +3961,35 @@ static inline uint64_t sessions__reserve_answer(struct slice_u8 log, struct slic
 }
 
 /* Begins a transaction of a writer that has none open, and promises it `n` places: its first `n` entries find room. */
-static inline struct answers__Reply sessions__reserve(struct slice_u8 log, struct slice_u8 area, struct slice_mut_u8 state,
+static inline struct call_ask__Reply call_writer__reserve(struct slice_u8 log, struct slice_u8 area, struct slice_mut_u8 state,
         uint64_t writer, uint64_t n)
 {
     uint64_t t6;
 
-    t6 = sessions__reserve_answer(log, area, (struct slice_u8){state.ptr, state.len}, writer, n);
+    t6 = call_writer__reserve_answer(log, area, (struct slice_u8){state.ptr, state.len}, writer, n);
     if (t6 != 0u) {
-        return (struct answers__Reply){.code = t6, .figure = 0u, .size = 0u};
+        return (struct call_ask__Reply){.code = t6, .figure = 0u, .size = 0u};
     }
-    writers__begin(state, writer);
+    base_writers__begin(state, writer);
     store_2(state.ptr + (size_t)(72u + (2u * writer)), n);
-    return (struct answers__Reply){.code = 0u, .figure = 0u, .size = 0u};
+    return (struct call_ask__Reply){.code = 0u, .figure = 0u, .size = 0u};
 }
 
 /* Begins a transaction of a writer that has none open, and promises it `n` places: its first `n` entries find room. */
-static inline struct answers__Reply kagutin__kagutin_reserve(struct slice_u8 log, struct slice_u8 area, struct slice_mut_u8 state,
-        uint64_t writer, uint64_t n)
+static inline struct call_ask__Reply kagutin__kagutin_reserve(struct slice_u8 log, struct slice_u8 area,
+        struct slice_mut_u8 state, uint64_t writer, uint64_t n)
 {
-    return sessions__reserve(log, area, state, writer, n);
+    return call_writer__reserve(log, area, state, writer, n);
 }
 
 /* Whether a writer may store to a home, for a call that is lent the newest positions: the list is found by those. */
-static inline bool rights__may_store_newest(struct slice_u8 log, struct slice_u8 area, struct slice_u8 state,
+static inline bool call_rights__may_store_newest(struct slice_u8 log, struct slice_u8 area, struct slice_u8 state,
         struct slice_u8 newest, uint64_t writer, uint64_t home)
 {
     uint64_t t7, t8;
     bool t9;
 
-    t9 = rights__ranges__of_list(home);
+    t9 = call_rights__ranges__of_list(home);
     if (t9) {
         return writer == 0u;
     }
@@ -3992,13 +4002,13 @@ static inline bool rights__may_store_newest(struct slice_u8 log, struct slice_u8
         return true;
     }
     if (t8 == 2u) {
-        return rights__list__open_listed(log, area, state, newest, 64u, t7, home);
+        return call_rights__list__open_listed(log, area, state, newest, 64u, t7, home);
     }
-    return rights__list__open_unsigned(log, area, state, newest, 64u, t7, home);
+    return call_rights__list__open_unsigned(log, area, state, newest, 64u, t7, home);
 }
 
 /* Whether a writer may store to each of `n` homes from `home` on. */
-static inline bool fetching__allowed__may_store_all(struct slice_u8 log, struct slice_u8 area, struct slice_u8 state,
+static inline bool call_many_fetch__allowed__may_store_all(struct slice_u8 log, struct slice_u8 area, struct slice_u8 state,
         struct slice_u8 newest, uint64_t writer, uint64_t home, uint64_t n)
 {
     uint64_t t8;
@@ -4006,7 +4016,7 @@ static inline bool fetching__allowed__may_store_all(struct slice_u8 log, struct 
 
     t8 = 0u;
     while (t8 < n) {
-        t9 = rights__may_store_newest(log, area, state, newest, writer, home + t8);
+        t9 = call_rights__may_store_newest(log, area, state, newest, writer, home + t8);
         if (!t9) {
             return false;
         }
@@ -4016,22 +4026,22 @@ static inline bool fetching__allowed__may_store_all(struct slice_u8 log, struct 
 }
 
 /* The answer of a revise: that of a fetch, which asks for the right to store too. */
-static inline uint64_t fetching__verdicts__revise_verdict(struct slice_u8 log, struct slice_u8 area, struct slice_u8 state,
+static inline uint64_t call_many_fetch__questions__revise_answer(struct slice_u8 log, struct slice_u8 area, struct slice_u8 state,
         struct slice_u8 newest, struct slice_u8 blocks, uint64_t writer, uint64_t home)
 {
     uint64_t t8, t9;
     bool t10;
 
-    t8 = fetching__verdicts__homes_answer(log, area, state, newest, blocks, writer, home);
+    t8 = call_many_fetch__questions__homes_answer(log, area, state, newest, blocks, writer, home);
     if (t8 != 0u) {
         return t8;
     }
     t9 = (uint64_t)blocks.len / 64u;
-    t10 = fetching__allowed__may_store_all(log, area, state, newest, writer, home, t9);
+    t10 = call_many_fetch__allowed__may_store_all(log, area, state, newest, writer, home, t9);
     if (!t10) {
         return 19u;
     }
-    t10 = fetching__allowed__may_read_all(log, area, state, newest, writer, home, t9);
+    t10 = call_many_fetch__allowed__may_read_all(log, area, state, newest, writer, home, t9);
     if (!t10) {
         return 20u;
     }
@@ -4039,37 +4049,38 @@ static inline uint64_t fetching__verdicts__revise_verdict(struct slice_u8 log, s
 }
 
 /* The same for a writer that is going to store what it makes of them: it may store to them all, too. */
-static inline struct answers__Reply fetching__fetches__revise(struct slice_u8 log, struct slice_u8 area, struct slice_u8 state,
-        struct slice_u8 newest, struct slice_mut_u8 blocks, uint64_t writer, uint64_t home)
+static inline struct call_ask__Reply call_many_fetch__fetches__revise(struct slice_u8 log, struct slice_u8 area,
+        struct slice_u8 state, struct slice_u8 newest, struct slice_mut_u8 blocks, uint64_t writer, uint64_t home)
 {
     uint64_t t8;
 
-    t8 = fetching__verdicts__revise_verdict(log, area, state, newest, (struct slice_u8){blocks.ptr, blocks.len}, writer, home);
+    t8 = call_many_fetch__questions__revise_answer(log, area, state, newest, (struct slice_u8){blocks.ptr, blocks.len}, writer,
+            home);
     if (t8 != 0u) {
-        return (struct answers__Reply){.code = t8, .figure = 0u, .size = 0u};
+        return (struct call_ask__Reply){.code = t8, .figure = 0u, .size = 0u};
     }
-    fetching__fetches__show_all(log, area, state, newest, blocks, writer, home);
-    return (struct answers__Reply){.code = 0u, .figure = 0u, .size = 0u};
+    call_many_fetch__fetches__show_all(log, area, state, newest, blocks, writer, home);
+    return (struct call_ask__Reply){.code = 0u, .figure = 0u, .size = 0u};
 }
 
 /* The same for a writer that is going to store what it makes of the blocks: it may store to the homes, too. */
-static inline struct answers__Reply kagutin__kagutin_revise(struct slice_u8 log, struct slice_u8 area, struct slice_u8 state,
+static inline struct call_ask__Reply kagutin__kagutin_revise(struct slice_u8 log, struct slice_u8 area, struct slice_u8 state,
         struct slice_u8 newest, struct slice_mut_u8 blocks, uint64_t writer, uint64_t home)
 {
-    return fetching__fetches__revise(log, area, state, newest, blocks, writer, home);
+    return call_many_fetch__fetches__revise(log, area, state, newest, blocks, writer, home);
 }
 
 /* Brings the data copy and the data area up to the fenced position. */
-static inline struct answers__Reply recovery__settling__settle(struct slice_u8 log, struct slice_mut_u8 area,
+static inline struct call_ask__Reply call_settle__settling__settle(struct slice_u8 log, struct slice_mut_u8 area,
         struct slice_mut_u8 state, struct slice_mut_u8 batch)
 {
     uint64_t t5, t8, t22, t32, t33;
     struct model__State t6;
-    struct planning__tables__Replay t17;
+    struct log_tables__tables__Replay t17;
 
-    t5 = answers__in_use(log, (struct slice_u8){area.ptr, area.len}, (struct slice_u8){state.ptr, state.len});
+    t5 = call_ask__state_answer(log, (struct slice_u8){area.ptr, area.len}, (struct slice_u8){state.ptr, state.len});
     if (t5 != 0u) {
-        return (struct answers__Reply){.code = t5, .figure = 0u, .size = 0u};
+        return (struct call_ask__Reply){.code = t5, .figure = 0u, .size = 0u};
     }
     t32 = load_8(state.ptr);
     t33 = load_8(state.ptr + 8u);
@@ -4078,29 +4089,29 @@ static inline struct answers__Reply recovery__settling__settle(struct slice_u8 l
             .durable = load_8(state.ptr + 56u), .last = load_8(state.ptr + 64u), .round = load_8(state.ptr + 88u),
             .cursor = load_8(state.ptr + 96u)};
     if (t6.round != 0u) {
-        return (struct answers__Reply){.code = 21u, .figure = 0u, .size = 0u};
+        return (struct call_ask__Reply){.code = 21u, .figure = 0u, .size = 0u};
     }
-    t17 = planning__planning__bring_back(log, area, batch, t6.groups, t6.homes, t6.start, t6.fenced - (7u * t6.start), 2u);
+    t17 = log_tables__planning__bring_back(log, area, batch, t6.groups, t6.homes, t6.start, t6.fenced - (7u * t6.start), 2u);
     t8 = t17.size;
     t22 = (uint64_t)batch.len;
     if (t22 < t8) {
-        return (struct answers__Reply){.code = 9u, .figure = 0u, .size = 0u};
+        return (struct call_ask__Reply){.code = 9u, .figure = 0u, .size = 0u};
     }
-    t22 = batch__records__fence(batch, t8 - 2u);
+    t22 = base_batch__records__fence(batch, t8 - 2u);
     store_8(state.ptr + 40u, t6.fenced);
     store_8(state.ptr + 48u, 7u * t6.next);
-    return (struct answers__Reply){.code = 0u, .figure = 0u, .size = t8};
+    return (struct call_ask__Reply){.code = 0u, .figure = 0u, .size = t8};
 }
 
 /* Writes the homes of the commits below the fenced position, and a fence. */
-static inline struct answers__Reply kagutin__kagutin_settle(struct slice_u8 log, struct slice_mut_u8 area,
+static inline struct call_ask__Reply kagutin__kagutin_settle(struct slice_u8 log, struct slice_mut_u8 area,
         struct slice_mut_u8 state, struct slice_mut_u8 batch)
 {
-    return recovery__settling__settle(log, area, state, batch);
+    return call_settle__settling__settle(log, area, state, batch);
 }
 
 /* The end of the homes of the word that a home is in, or of all homes. */
-static inline uint64_t replay__stepping__word_end(uint64_t home, uint64_t homes)
+static inline uint64_t log_replay__stepping__word_end(uint64_t home, uint64_t homes)
 {
     uint64_t t3, t7;
 
@@ -4114,7 +4125,7 @@ static inline uint64_t replay__stepping__word_end(uint64_t home, uint64_t homes)
 }
 
 /* 1 if a code of the table says that its home has a newest entry, 0 if not. */
-static inline uint64_t replay__stepping__one_if(uint16_t code)
+static inline uint64_t log_replay__stepping__one_if(uint16_t code)
 {
     uint64_t t3;
 
@@ -4127,7 +4138,7 @@ static inline uint64_t replay__stepping__one_if(uint16_t code)
 }
 
 /* How many of the homes from `from` to below `upto`, all of word `w`, are touched. */
-static inline uint64_t replay__stepping__count_part(struct slice_u8 log, struct slice_u16 last, struct slice_u16 heads,
+static inline uint64_t log_replay__stepping__count_part(struct slice_u8 log, struct slice_u16 last, struct slice_u16 heads,
         struct slice_u16 links, uint64_t w, uint64_t from, uint64_t upto, uint64_t groups, uint64_t homes, uint64_t start,
         uint64_t end, uint64_t slot)
 {
@@ -4138,14 +4149,14 @@ static inline uint64_t replay__stepping__count_part(struct slice_u8 log, struct 
         return 0u;
     }
     memset(&t13, 0, sizeof t13);
-    t21 = replay__words__newest_in(log, last, heads, links, (struct slice_mut_u16){t13.at, 64u}, w, groups, homes, start, end,
+    t21 = log_replay__words__newest_in(log, last, heads, links, (struct slice_mut_u16){t13.at, 64u}, w, groups, homes, start, end,
             slot);
     t21 = w;
     t14 = 64u * t21;
     t15 = 0u;
     t16 = from;
     while (t16 < upto) {
-        t25 = replay__stepping__one_if(t13.at[(size_t)(t16 - t14)]);
+        t25 = log_replay__stepping__one_if(t13.at[(size_t)(t16 - t14)]);
         t15 = t15 + t25;
         t16 = t16 + 1u;
     }
@@ -4154,13 +4165,13 @@ static inline uint64_t replay__stepping__count_part(struct slice_u8 log, struct 
 
 /* How many homes from the cursor on the transactions of all closing entries below `end` touch, if they are at most `limit`; else
    more than that. */
-static inline uint64_t replay__stepping__count_from(struct slice_u8 log, struct slice_u16 last, struct slice_u16 heads,
+static inline uint64_t log_replay__stepping__count_from(struct slice_u8 log, struct slice_u16 last, struct slice_u16 heads,
         struct slice_u16 links, uint64_t groups, uint64_t homes, uint64_t start, uint64_t end, uint64_t cursor, uint64_t limit)
 {
     uint64_t t11, t12, t13, t14, t17;
-    struct scan__slots__RingSlot t15;
+    struct log_scan__slots__RingSlot t15;
 
-    t15 = scan__slots__first_slot(start, groups);
+    t15 = log_scan__slots__first_slot(start, groups);
     t11 = t15.slot;
     t12 = 0u;
     t13 = cursor;
@@ -4168,8 +4179,8 @@ static inline uint64_t replay__stepping__count_from(struct slice_u8 log, struct 
         if (limit < t12) {
             return t12;
         }
-        t14 = replay__stepping__word_end(t13, homes);
-        t17 = replay__stepping__count_part(log, last, heads, links, t13 / 64u, t13, t14, groups, homes, start, end, t11);
+        t14 = log_replay__stepping__word_end(t13, homes);
+        t17 = log_replay__stepping__count_part(log, last, heads, links, t13 / 64u, t13, t14, groups, homes, start, end, t11);
         t12 = t12 + t17;
         t13 = t14;
     }
@@ -4177,7 +4188,7 @@ static inline uint64_t replay__stepping__count_from(struct slice_u8 log, struct 
 }
 
 /* The bytes of the last step's fence, if the homes found are within the limit. */
-static inline uint64_t planning__steps__fence_size(uint64_t found, uint64_t limit)
+static inline uint64_t log_tables__steps__fence_size(uint64_t found, uint64_t limit)
 {
     uint64_t t4;
 
@@ -4191,19 +4202,19 @@ static inline uint64_t planning__steps__fence_size(uint64_t found, uint64_t limi
 
 /* Brings a home back whose newest entry is said by a code of the table, and writes its record as the one after `done` others;
    returns how many it then are. A code of 0 leaves all as it is. */
-static inline uint64_t replay__stepping__bring_home(struct slice_u8 log, struct slice_mut_u8 area, struct slice_mut_u8 batch,
+static inline uint64_t log_replay__stepping__bring_home(struct slice_u8 log, struct slice_mut_u8 area, struct slice_mut_u8 batch,
         uint16_t code, uint64_t groups, uint64_t start, uint64_t slot, uint64_t home, uint64_t done)
 {
     if (code == 0u) {
         return done;
     }
-    replay__places__restore_block(log, area, groups, start, slot, (uint64_t)code - 1u, home);
-    (void)batch__records__home_write(batch, 68u * done, home, (struct slice_u8){area.ptr, area.len});
+    log_replay__places__restore_block(log, area, groups, start, slot, (uint64_t)code - 1u, home);
+    (void)base_batch__records__home_write(batch, 68u * done, home, (struct slice_u8){area.ptr, area.len});
     return done + 1u;
 }
 
 /* Brings the touched homes from `from` to below `upto` back, all of word `w`, until `limit` are done in all. */
-static inline struct replay__stepping__Reached replay__stepping__bring_part(struct slice_u8 log, struct slice_mut_u8 area,
+static inline struct log_replay__stepping__Reached log_replay__stepping__bring_part(struct slice_u8 log, struct slice_mut_u8 area,
         struct slice_mut_u8 batch, struct slice_u16 last, struct slice_u16 heads, struct slice_u16 links, uint64_t w,
         uint64_t from, uint64_t upto, uint64_t groups, uint64_t homes, uint64_t start, uint64_t end, uint64_t slot, uint64_t done,
         uint64_t limit)
@@ -4212,10 +4223,10 @@ static inline struct replay__stepping__Reached replay__stepping__bring_part(stru
     uint64_t t18, t19, t20, t26;
 
     if (heads.ptr[(size_t)w] == 0u) {
-        return (struct replay__stepping__Reached){.home = upto, .done = done};
+        return (struct log_replay__stepping__Reached){.home = upto, .done = done};
     }
     memset(&t17, 0, sizeof t17);
-    t26 = replay__words__newest_in(log, last, heads, links, (struct slice_mut_u16){t17.at, 64u}, w, groups, homes, start, end,
+    t26 = log_replay__words__newest_in(log, last, heads, links, (struct slice_mut_u16){t17.at, 64u}, w, groups, homes, start, end,
             slot);
     t26 = w;
     t18 = 64u * t26;
@@ -4223,25 +4234,25 @@ static inline struct replay__stepping__Reached replay__stepping__bring_part(stru
     t20 = from;
     while (t20 < upto) {
         if (t19 == limit) {
-            return (struct replay__stepping__Reached){.home = t20, .done = t19};
+            return (struct log_replay__stepping__Reached){.home = t20, .done = t19};
         }
-        t19 = replay__stepping__bring_home(log, area, batch, t17.at[(size_t)(t20 - t18)], groups, start, slot, t20, t19);
+        t19 = log_replay__stepping__bring_home(log, area, batch, t17.at[(size_t)(t20 - t18)], groups, start, slot, t20, t19);
         t20 = t20 + 1u;
     }
-    return (struct replay__stepping__Reached){.home = t20, .done = t19};
+    return (struct log_replay__stepping__Reached){.home = t20, .done = t19};
 }
 
 /* Brings the first `limit` touched homes from the cursor on back into the data copy, and writes their records at the batch's
    beginning; returns the home after the last of them, if there is one. */
-static inline uint64_t replay__stepping__bring_from(struct slice_u8 log, struct slice_mut_u8 area, struct slice_mut_u8 batch,
+static inline uint64_t log_replay__stepping__bring_from(struct slice_u8 log, struct slice_mut_u8 area, struct slice_mut_u8 batch,
         struct slice_u16 last, struct slice_u16 heads, struct slice_u16 links, uint64_t groups, uint64_t homes, uint64_t start,
         uint64_t end, uint64_t cursor, uint64_t limit)
 {
     uint64_t t13, t14, t15, t16;
-    struct replay__stepping__Reached t17;
-    struct scan__slots__RingSlot t18;
+    struct log_replay__stepping__Reached t17;
+    struct log_scan__slots__RingSlot t18;
 
-    t18 = scan__slots__first_slot(start, groups);
+    t18 = log_scan__slots__first_slot(start, groups);
     t13 = t18.slot;
     t14 = 0u;
     t15 = cursor;
@@ -4249,9 +4260,9 @@ static inline uint64_t replay__stepping__bring_from(struct slice_u8 log, struct 
         if (t14 == limit) {
             return t15;
         }
-        t16 = replay__stepping__word_end(t15, homes);
-        t17 = replay__stepping__bring_part(log, area, batch, last, heads, links, t15 / 64u, t15, t16, groups, homes, start, end,
-                t13, t14, limit);
+        t16 = log_replay__stepping__word_end(t15, homes);
+        t17 = log_replay__stepping__bring_part(log, area, batch, last, heads, links, t15 / 64u, t15, t16, groups, homes, start,
+                end, t13, t14, limit);
         t14 = t17.done;
         t15 = t17.home;
     }
@@ -4260,112 +4271,112 @@ static inline uint64_t replay__stepping__bring_from(struct slice_u8 log, struct 
 
 /* Finds the bytes that a step of at most `limit` homes from the cursor on takes. If the batch has them, those homes are brought
    back into the data copy, and their records stand at the batch's beginning. */
-static inline struct planning__steps__Made planning__steps__bring_some(struct slice_u8 log, struct slice_mut_u8 area,
+static inline struct log_tables__steps__Made log_tables__steps__bring_some(struct slice_u8 log, struct slice_mut_u8 area,
         struct slice_mut_u8 batch, struct slice_u16 last, struct slice_u16 heads, struct slice_u16 links, uint64_t groups,
         uint64_t homes, uint64_t start, uint64_t end, uint64_t cursor, uint64_t limit)
 {
     uint64_t t13, t14, t15, t17, t19;
     bool t16;
 
-    t13 = replay__stepping__count_from(log, last, heads, links, groups, homes, start, end, cursor, limit);
-    t14 = planning__whole__least(t13, limit);
-    t19 = planning__steps__fence_size(t13, limit);
+    t13 = log_replay__stepping__count_from(log, last, heads, links, groups, homes, start, end, cursor, limit);
+    t14 = log_tables__whole__least(t13, limit);
+    t19 = log_tables__steps__fence_size(t13, limit);
     t15 = (68u * t14) + t19;
     t16 = limit < t13;
     if ((uint64_t)batch.len < t15) {
-        return (struct planning__steps__Made){.size = t15, .next = cursor, .more = t16};
+        return (struct log_tables__steps__Made){.size = t15, .next = cursor, .more = t16};
     }
-    t17 = replay__stepping__bring_from(log, area, batch, last, heads, links, groups, homes, start, end, cursor, t14);
-    return (struct planning__steps__Made){.size = t15, .next = t17, .more = t16};
+    t17 = log_replay__stepping__bring_from(log, area, batch, last, heads, links, groups, homes, start, end, cursor, t14);
+    return (struct log_tables__steps__Made){.size = t15, .next = t17, .more = t16};
 }
 
 /* Finds what is committed among the `n` positions from the start on, and brings it back: all homes where `limit` is 0, else at
    most `limit` from the cursor on. For a log of up to 64 groups. */
-static APART struct planning__tables__Replay planning__tables__bring_small(struct slice_u8 log, struct slice_mut_u8 area,
+static APART struct log_tables__tables__Replay log_tables__tables__bring_small(struct slice_u8 log, struct slice_mut_u8 area,
         struct slice_mut_u8 batch, uint64_t groups, uint64_t homes, uint64_t start, uint64_t n, uint64_t cursor, uint64_t limit,
         uint64_t more)
 {
     struct array_u16_448 t11, t13;
     struct array_u16_1024 t12;
-    struct scan__commits__Progress t14;
+    struct log_scan__commits__Progress t14;
     uint64_t t15, t16;
-    struct planning__steps__Made t17;
+    struct log_tables__steps__Made t17;
 
     memset(&t11, 0, sizeof t11);
     memset(&t12, 0, sizeof t12);
     memset(&t13, 0, sizeof t13);
-    t14 = gathering__walking__walk(log, (struct slice_mut_u16){t11.at, 448u}, (struct slice_mut_u16){t12.at, 1024u},
+    t14 = log_gather__walking__walk(log, (struct slice_mut_u16){t11.at, 448u}, (struct slice_mut_u16){t12.at, 1024u},
             (struct slice_mut_u16){t13.at, 448u}, groups, homes, start, n);
     if (t14.failed == 2u) {
-        t14 = gathering__twice__walk_twice(log, (struct slice_mut_u16){t11.at, 448u}, (struct slice_mut_u16){t12.at, 1024u},
+        t14 = log_gather__twice__walk_twice(log, (struct slice_mut_u16){t11.at, 448u}, (struct slice_mut_u16){t12.at, 1024u},
                 (struct slice_mut_u16){t13.at, 448u}, groups, homes, start, n);
     }
     t15 = t14.end;
     if (limit == 0u) {
-        t16 = planning__whole__bring_all(log, area, batch, (struct slice_u16){t11.at, 448u}, (struct slice_u16){t12.at, 1024u},
+        t16 = log_tables__whole__bring_all(log, area, batch, (struct slice_u16){t11.at, 448u}, (struct slice_u16){t12.at, 1024u},
                 (struct slice_u16){t13.at, 448u}, groups, homes, start, t15, more);
-        return (struct planning__tables__Replay){.end = t15, .number = t14.number, .size = t16, .next = cursor, .more = false};
+        return (struct log_tables__tables__Replay){.end = t15, .number = t14.number, .size = t16, .next = cursor, .more = false};
     }
-    t17 = planning__steps__bring_some(log, area, batch, (struct slice_u16){t11.at, 448u}, (struct slice_u16){t12.at, 1024u},
+    t17 = log_tables__steps__bring_some(log, area, batch, (struct slice_u16){t11.at, 448u}, (struct slice_u16){t12.at, 1024u},
             (struct slice_u16){t13.at, 448u}, groups, homes, start, t15, cursor, limit);
-    return (struct planning__tables__Replay){.end = t15, .number = t14.number, .size = t17.size, .next = t17.next,
+    return (struct log_tables__tables__Replay){.end = t15, .number = t14.number, .size = t17.size, .next = t17.next,
             .more = t17.more};
 }
 
 /* The same for any log. Both serve two calls each, and so stay functions of their own: a small log never takes the large tables.
    */
-static APART struct planning__tables__Replay planning__tables__bring_large(struct slice_u8 log, struct slice_mut_u8 area,
+static APART struct log_tables__tables__Replay log_tables__tables__bring_large(struct slice_u8 log, struct slice_mut_u8 area,
         struct slice_mut_u8 batch, uint64_t groups, uint64_t homes, uint64_t start, uint64_t n, uint64_t cursor, uint64_t limit,
         uint64_t more)
 {
     struct array_u16_7168 t11, t13;
     struct array_u16_1024 t12;
-    struct scan__commits__Progress t14;
+    struct log_scan__commits__Progress t14;
     uint64_t t15, t16;
-    struct planning__steps__Made t17;
+    struct log_tables__steps__Made t17;
 
     memset(&t11, 0, sizeof t11);
     memset(&t12, 0, sizeof t12);
     memset(&t13, 0, sizeof t13);
-    t14 = gathering__walking__walk(log, (struct slice_mut_u16){t11.at, 7168u}, (struct slice_mut_u16){t12.at, 1024u},
+    t14 = log_gather__walking__walk(log, (struct slice_mut_u16){t11.at, 7168u}, (struct slice_mut_u16){t12.at, 1024u},
             (struct slice_mut_u16){t13.at, 7168u}, groups, homes, start, n);
     if (t14.failed == 2u) {
-        t14 = gathering__twice__walk_twice(log, (struct slice_mut_u16){t11.at, 7168u}, (struct slice_mut_u16){t12.at, 1024u},
+        t14 = log_gather__twice__walk_twice(log, (struct slice_mut_u16){t11.at, 7168u}, (struct slice_mut_u16){t12.at, 1024u},
                 (struct slice_mut_u16){t13.at, 7168u}, groups, homes, start, n);
     }
     t15 = t14.end;
     if (limit == 0u) {
-        t16 = planning__whole__bring_all(log, area, batch, (struct slice_u16){t11.at, 7168u}, (struct slice_u16){t12.at, 1024u},
+        t16 = log_tables__whole__bring_all(log, area, batch, (struct slice_u16){t11.at, 7168u}, (struct slice_u16){t12.at, 1024u},
                 (struct slice_u16){t13.at, 7168u}, groups, homes, start, t15, more);
-        return (struct planning__tables__Replay){.end = t15, .number = t14.number, .size = t16, .next = cursor, .more = false};
+        return (struct log_tables__tables__Replay){.end = t15, .number = t14.number, .size = t16, .next = cursor, .more = false};
     }
-    t17 = planning__steps__bring_some(log, area, batch, (struct slice_u16){t11.at, 7168u}, (struct slice_u16){t12.at, 1024u},
+    t17 = log_tables__steps__bring_some(log, area, batch, (struct slice_u16){t11.at, 7168u}, (struct slice_u16){t12.at, 1024u},
             (struct slice_u16){t13.at, 7168u}, groups, homes, start, t15, cursor, limit);
-    return (struct planning__tables__Replay){.end = t15, .number = t14.number, .size = t17.size, .next = t17.next,
+    return (struct log_tables__tables__Replay){.end = t15, .number = t14.number, .size = t17.size, .next = t17.next,
             .more = t17.more};
 }
 
 /* A step of at most `limit` homes from the cursor on, by the same. */
-static inline struct planning__tables__Replay planning__planning__step(struct slice_u8 log, struct slice_mut_u8 area,
+static inline struct log_tables__tables__Replay log_tables__planning__step(struct slice_u8 log, struct slice_mut_u8 area,
         struct slice_mut_u8 batch, uint64_t groups, uint64_t homes, uint64_t start, uint64_t n, uint64_t cursor, uint64_t limit)
 {
     if (groups <= 64u) {
-        return planning__tables__bring_small(log, area, batch, groups, homes, start, n, cursor, limit, 0u);
+        return log_tables__tables__bring_small(log, area, batch, groups, homes, start, n, cursor, limit, 0u);
     }
-    return planning__tables__bring_large(log, area, batch, groups, homes, start, n, cursor, limit, 0u);
+    return log_tables__tables__bring_large(log, area, batch, groups, homes, start, n, cursor, limit, 0u);
 }
 
 /* Moves the round on by the next `homes` homes, or all that remain: then it is over. */
-static inline struct answers__Reply recovery__rounds__step_round(struct slice_u8 log, struct slice_mut_u8 area,
+static inline struct call_ask__Reply call_settle__rounds__step_round(struct slice_u8 log, struct slice_mut_u8 area,
         struct slice_mut_u8 state, struct slice_mut_u8 batch, uint64_t homes)
 {
     uint64_t t6, t10, t24, t37, t38;
     struct model__State t7;
-    struct planning__tables__Replay t9;
+    struct log_tables__tables__Replay t9;
 
-    t6 = answers__in_use(log, (struct slice_u8){area.ptr, area.len}, (struct slice_u8){state.ptr, state.len});
+    t6 = call_ask__state_answer(log, (struct slice_u8){area.ptr, area.len}, (struct slice_u8){state.ptr, state.len});
     if (t6 != 0u) {
-        return (struct answers__Reply){.code = t6, .figure = 0u, .size = 0u};
+        return (struct call_ask__Reply){.code = t6, .figure = 0u, .size = 0u};
     }
     t37 = load_8(state.ptr);
     t38 = load_8(state.ptr + 8u);
@@ -4374,45 +4385,45 @@ static inline struct answers__Reply recovery__rounds__step_round(struct slice_u8
             .durable = load_8(state.ptr + 56u), .last = load_8(state.ptr + 64u), .round = load_8(state.ptr + 88u),
             .cursor = load_8(state.ptr + 96u)};
     if (t7.round == 0u) {
-        return (struct answers__Reply){.code = 21u, .figure = 0u, .size = 0u};
+        return (struct call_ask__Reply){.code = 21u, .figure = 0u, .size = 0u};
     }
     if (homes == 0u) {
-        return (struct answers__Reply){.code = 21u, .figure = 0u, .size = 0u};
+        return (struct call_ask__Reply){.code = 21u, .figure = 0u, .size = 0u};
     }
-    t9 = planning__planning__step(log, area, batch, t7.groups, t7.homes, t7.start, (t7.round - 1u) - (7u * t7.start), t7.cursor,
+    t9 = log_tables__planning__step(log, area, batch, t7.groups, t7.homes, t7.start, (t7.round - 1u) - (7u * t7.start), t7.cursor,
             homes);
     t10 = t9.size;
     t24 = (uint64_t)batch.len;
     if (t24 < t10) {
-        return (struct answers__Reply){.code = 9u, .figure = 0u, .size = 0u};
+        return (struct call_ask__Reply){.code = 9u, .figure = 0u, .size = 0u};
     }
     if (t9.more) {
         store_8(state.ptr + 96u, t9.next);
-        return (struct answers__Reply){.code = 0u, .figure = 0u, .size = t10};
+        return (struct call_ask__Reply){.code = 0u, .figure = 0u, .size = t10};
     }
-    t24 = batch__records__fence(batch, t10 - 2u);
+    t24 = base_batch__records__fence(batch, t10 - 2u);
     store_8(state.ptr + 40u, t7.round - 1u);
     store_8(state.ptr + 48u, 7u * t7.next);
     store_8(state.ptr + 88u, 0u);
     store_8(state.ptr + 96u, 0u);
-    return (struct answers__Reply){.code = 0u, .figure = 0u, .size = t10};
+    return (struct call_ask__Reply){.code = 0u, .figure = 0u, .size = t10};
 }
 
 /* Writes the next `homes` homes of the round under way; with the last of them a fence, and the round is over. */
-static inline struct answers__Reply kagutin__kagutin_step_round(struct slice_u8 log, struct slice_mut_u8 area,
+static inline struct call_ask__Reply kagutin__kagutin_step_round(struct slice_u8 log, struct slice_mut_u8 area,
         struct slice_mut_u8 state, struct slice_mut_u8 batch, uint64_t homes)
 {
-    return recovery__rounds__step_round(log, area, state, batch, homes);
+    return call_settle__rounds__step_round(log, area, state, batch, homes);
 }
 
 /* Whether a writer may store to a home. The list is found by the positions of its homes in the state strip. */
-static inline bool rights__may_store(struct slice_u8 log, struct slice_u8 area, struct slice_u8 state, uint64_t writer,
+static inline bool call_rights__may_store(struct slice_u8 log, struct slice_u8 area, struct slice_u8 state, uint64_t writer,
         uint64_t home)
 {
     uint64_t t6, t7;
     bool t8;
 
-    t8 = rights__ranges__of_list(home);
+    t8 = call_rights__ranges__of_list(home);
     if (t8) {
         return writer == 0u;
     }
@@ -4425,20 +4436,20 @@ static inline bool rights__may_store(struct slice_u8 log, struct slice_u8 area, 
         return true;
     }
     if (t7 == 2u) {
-        return rights__list__open_listed(log, area, state, state, 896u, t6, home);
+        return call_rights__list__open_listed(log, area, state, state, 896u, t6, home);
     }
-    return rights__list__open_unsigned(log, area, state, state, 896u, t6, home);
+    return call_rights__list__open_unsigned(log, area, state, state, 896u, t6, home);
 }
 
 /* The answer of a store: 0, or the number of the question that refuses it. */
-static inline uint64_t logging__stores__store_verdict(struct slice_u8 log, struct slice_u8 area, struct slice_u8 state,
+static inline uint64_t call_store__stores__store_answer(struct slice_u8 log, struct slice_u8 area, struct slice_u8 state,
         struct slice_u8 block, struct slice_u8 batch, uint64_t writer, uint64_t home)
 {
     uint64_t t8;
     struct model__Writer t9;
     bool t10;
 
-    t8 = answers__in_use_block(log, area, state, block);
+    t8 = call_ask__block_answer(log, area, state, block);
     if (t8 != 0u) {
         return t8;
     }
@@ -4448,11 +4459,11 @@ static inline uint64_t logging__stores__store_verdict(struct slice_u8 log, struc
     if (((uint64_t)area.len / 64u) <= home) {
         return 5u;
     }
-    t10 = rights__may_store(log, area, state, writer, home);
+    t10 = call_rights__may_store(log, area, state, writer, home);
     if (!t10) {
         return 19u;
     }
-    t9 = strip__writers__writer(state, writer);
+    t9 = base_state__writers__writer(state, writer);
     if (!(1u <= t9.mode)) {
         return 7u;
     }
@@ -4462,11 +4473,11 @@ static inline uint64_t logging__stores__store_verdict(struct slice_u8 log, struc
     if (t9.home == home) {
         return 0u;
     }
-    return logging__entry__may_log(state, writer, (uint64_t)batch.len);
+    return call_store__entry__log_answer(state, writer, (uint64_t)batch.len);
 }
 
 /* The record `r` once its writer holds a block for `home`; a block that it held for another home was logged at `position`. */
-static inline struct model__Writer writers__records__hold(struct model__Writer r, uint64_t home, uint64_t position)
+static inline struct model__Writer base_writers__records__hold(struct model__Writer r, uint64_t home, uint64_t position)
 {
     uint64_t t4, t7;
 
@@ -4476,56 +4487,56 @@ static inline struct model__Writer writers__records__hold(struct model__Writer r
     if (r.home == home) {
         return r;
     }
-    t4 = strip__writers__first_for(r, position);
-    t7 = strip__writers__count_for(r);
+    t4 = base_state__writers__first_for(r, position);
+    t7 = base_state__writers__count_for(r);
     return (struct model__Writer){.mode = 3u, .home = home, .first = t4, .count = t7 + 1u};
 }
 
 /* Makes the record at `p` that of a writer that holds a block for `home`. */
-static inline void writers__places__hold_at(struct model__Writer *p, uint64_t home, uint64_t position)
+static inline void base_writers__places__hold_at(struct model__Writer *p, uint64_t home, uint64_t position)
 {
     struct model__Writer t4;
 
-    t4 = writers__records__hold(*p, home, position);
+    t4 = base_writers__records__hold(*p, home, position);
     (*p) = t4;
 }
 
 /* The record `r`, changed at its place by `hold_at`. */
-static inline struct model__Writer writers__places__held(struct model__Writer r, uint64_t home, uint64_t position)
+static inline struct model__Writer base_writers__places__held(struct model__Writer r, uint64_t home, uint64_t position)
 {
     struct model__Writer t4;
 
     t4 = r;
-    writers__places__hold_at(&t4, home, position);
+    base_writers__places__hold_at(&t4, home, position);
     return t4;
 }
 
 /* Stores what becomes of `r`, the record of writer `w`, once it holds a block for `home`; a block that it held for another home
    is logged at `position`. */
-static inline void writers__hold(struct slice_mut_u8 s, uint64_t w, struct model__Writer r, uint64_t home, uint64_t position)
+static inline void base_writers__hold(struct slice_mut_u8 s, uint64_t w, struct model__Writer r, uint64_t home, uint64_t position)
 {
     struct model__Writer t9;
 
-    t9 = writers__places__held(r, home, position);
-    strip__writers__set_writer(s, w, t9);
+    t9 = base_writers__places__held(r, home, position);
+    base_state__writers__set_writer(s, w, t9);
 }
 
 /* Stores `block` as the held block of writer `w`, and leaves the rest of the strip as it was. */
-static inline void strip__writers__set_held(struct slice_mut_u8 s, uint64_t w, struct slice_u8 block)
+static inline void base_state__writers__set_held(struct slice_mut_u8 s, uint64_t w, struct slice_u8 block)
 {
-    codec__blocks__copy(s, 320u + (64u * w), block);
+    base_codec__blocks__copy(s, 320u + (64u * w), block);
 }
 
 /* Holds the first block of a transaction. */
-static inline void logging__stores__store_first(struct slice_mut_u8 state, struct slice_u8 block, struct model__Writer r,
+static inline void call_store__stores__store_first(struct slice_mut_u8 state, struct slice_u8 block, struct model__Writer r,
         uint64_t w, uint64_t home)
 {
-    writers__hold(state, w, r, home, 0u);
-    strip__writers__set_held(state, w, block);
+    base_writers__hold(state, w, r, home, 0u);
+    base_state__writers__set_held(state, w, block);
 }
 
 /* How many places are promised to writer `w` once an entry of it has used one up. */
-static inline uint64_t strip__promises__promise_left(struct slice_u8 s, uint64_t w)
+static inline uint64_t base_state__promises__promise_left(struct slice_u8 s, uint64_t w)
 {
     uint64_t t3;
 
@@ -4537,44 +4548,44 @@ static inline uint64_t strip__promises__promise_left(struct slice_u8 s, uint64_t
 }
 
 /* The tag of a held block that is logged at `position` and does not close its transaction. */
-static inline uint64_t logging__entry__store_word(struct model__State st, struct model__Writer r, uint64_t position)
+static inline uint64_t call_store__entry__store_word(struct model__State st, struct model__Writer r, uint64_t position)
 {
     uint64_t t4;
     (void)st;
 
-    t4 = strip__writers__first_for(r, position);
+    t4 = base_state__writers__first_for(r, position);
     return ((1u | ((r.home & 4095u) << 2u)) | ((position - t4) << 14u)) | ((r.home >> 12u) << 53u);
 }
 
 /* Logs the held block and holds the next one, for another home. The record is changed first: the numbers and the block that are
    logged stay. */
-static inline uint64_t logging__stores__hold_next(struct slice_mut_u8 log, struct slice_mut_u8 state, struct slice_u8 block,
+static inline uint64_t call_store__stores__hold_next(struct slice_mut_u8 log, struct slice_mut_u8 state, struct slice_u8 block,
         struct slice_mut_u8 batch, struct model__State st, struct model__Writer r, uint64_t w, uint64_t home)
 {
     uint64_t t9, t10, t11;
 
     t9 = (7u * st.next) + st.filled;
-    t10 = logging__entry__store_word(st, r, t9);
-    writers__hold(state, w, r, home, t9);
-    t11 = logging__entry__log_entry(log, state, batch, t10, w);
-    strip__writers__set_held(state, w, (struct slice_u8){block.ptr, (size_t)((uint64_t)64u - 0u)});
+    t10 = call_store__entry__store_word(st, r, t9);
+    base_writers__hold(state, w, r, home, t9);
+    t11 = call_store__entry__log_entry(log, state, batch, t10, w);
+    base_state__writers__set_held(state, w, (struct slice_u8){block.ptr, (size_t)((uint64_t)64u - 0u)});
     return t11;
 }
 
 /* The same, and the entry uses up one of the places promised to the writer, if any is left. */
-static inline uint64_t logging__stores__store_other(struct slice_mut_u8 log, struct slice_mut_u8 state, struct slice_u8 block,
+static inline uint64_t call_store__stores__store_other(struct slice_mut_u8 log, struct slice_mut_u8 state, struct slice_u8 block,
         struct slice_mut_u8 batch, struct model__State st, struct model__Writer r, uint64_t w, uint64_t home)
 {
     uint64_t t9, t10;
 
-    t9 = strip__promises__promise_left((struct slice_u8){state.ptr, state.len}, w);
-    t10 = logging__stores__hold_next(log, state, block, batch, st, r, w, home);
+    t9 = base_state__promises__promise_left((struct slice_u8){state.ptr, state.len}, w);
+    t10 = call_store__stores__hold_next(log, state, block, batch, st, r, w, home);
     store_2(state.ptr + (size_t)(72u + (2u * w)), t9);
     return t10;
 }
 
 /* The same by the numbers and the record that stand in the strip. */
-static inline uint64_t logging__stores__store_next(struct slice_mut_u8 log, struct slice_mut_u8 state, struct slice_u8 block,
+static inline uint64_t call_store__stores__store_next(struct slice_mut_u8 log, struct slice_mut_u8 state, struct slice_u8 block,
         struct slice_mut_u8 batch, uint64_t w, uint64_t home)
 {
     struct model__State t7;
@@ -4587,50 +4598,51 @@ static inline uint64_t logging__stores__store_next(struct slice_mut_u8 log, stru
             .filled = load_8(state.ptr + 32u), .settled = load_8(state.ptr + 40u), .fenced = load_8(state.ptr + 48u),
             .durable = load_8(state.ptr + 56u), .last = load_8(state.ptr + 64u), .round = load_8(state.ptr + 88u),
             .cursor = load_8(state.ptr + 96u)};
-    t8 = strip__writers__writer((struct slice_u8){state.ptr, state.len}, w);
-    return logging__stores__store_other(log, state, block, batch, t7, t8, w, home);
+    t8 = base_state__writers__writer((struct slice_u8){state.ptr, state.len}, w);
+    return call_store__stores__store_other(log, state, block, batch, t7, t8, w, home);
 }
 
 /* Holds a block for a home in a writer's open transaction; a block held for another home is logged first. */
-static inline struct answers__Reply logging__stores__store(struct slice_mut_u8 log, struct slice_u8 area,
+static inline struct call_ask__Reply call_store__stores__store(struct slice_mut_u8 log, struct slice_u8 area,
         struct slice_mut_u8 state, struct slice_u8 block, struct slice_mut_u8 batch, uint64_t writer, uint64_t home)
 {
     uint64_t t8, t9, t11;
     struct model__Writer t10;
 
-    t8 = logging__stores__store_verdict((struct slice_u8){log.ptr, log.len}, area, (struct slice_u8){state.ptr, state.len}, block,
-            (struct slice_u8){batch.ptr, batch.len}, writer, home);
+    t8 = call_store__stores__store_answer((struct slice_u8){log.ptr, log.len}, area, (struct slice_u8){state.ptr, state.len},
+            block, (struct slice_u8){batch.ptr, batch.len}, writer, home);
     if (t8 != 0u) {
-        return (struct answers__Reply){.code = t8, .figure = 0u, .size = 0u};
+        return (struct call_ask__Reply){.code = t8, .figure = 0u, .size = 0u};
     }
     t9 = writer;
-    t10 = strip__writers__writer((struct slice_u8){state.ptr, state.len}, t9);
+    t10 = base_state__writers__writer((struct slice_u8){state.ptr, state.len}, t9);
     if (!(2u <= t10.mode)) {
-        logging__stores__store_first(state, block, t10, t9, home);
-        return (struct answers__Reply){.code = 0u, .figure = 0u, .size = 0u};
+        call_store__stores__store_first(state, block, t10, t9, home);
+        return (struct call_ask__Reply){.code = 0u, .figure = 0u, .size = 0u};
     }
     if (t10.home == home) {
-        strip__writers__set_held(state, t9, block);
-        return (struct answers__Reply){.code = 0u, .figure = 0u, .size = 0u};
+        base_state__writers__set_held(state, t9, block);
+        return (struct call_ask__Reply){.code = 0u, .figure = 0u, .size = 0u};
     }
-    t11 = logging__stores__store_next(log, state, block, batch, t9, home);
-    return (struct answers__Reply){.code = 0u, .figure = 0u, .size = t11};
+    t11 = call_store__stores__store_next(log, state, block, batch, t9, home);
+    return (struct call_ask__Reply){.code = 0u, .figure = 0u, .size = t11};
 }
 
 /* Holds a block for a home in a writer's open transaction; a block held for another home is logged first. */
-static inline struct answers__Reply kagutin__kagutin_store(struct slice_mut_u8 log, struct slice_u8 area,
+static inline struct call_ask__Reply kagutin__kagutin_store(struct slice_mut_u8 log, struct slice_u8 area,
         struct slice_mut_u8 state, struct slice_u8 block, struct slice_mut_u8 batch, uint64_t writer, uint64_t home)
 {
-    return logging__stores__store(log, area, state, block, batch, writer, home);
+    return call_store__stores__store(log, area, state, block, batch, writer, home);
 }
 
 /* Questions 8 and 10 of a call that logs `n` entries of an idle writer: 0 if the log has room for them, and the batch for the
    group that they may fill. */
-static inline uint64_t chains__verdicts__may_log_all(struct slice_u8 state, struct model__State st, uint64_t n, uint64_t batch)
+static inline uint64_t call_many__questions__log_all_answer(struct slice_u8 state, struct model__State st, uint64_t n,
+        uint64_t batch)
 {
     bool t5;
 
-    t5 = strip__promises__may_promise(state, st, n);
+    t5 = base_state__promises__may_promise(state, st, n);
     if (!t5) {
         return 8u;
     }
@@ -4644,46 +4656,47 @@ static inline uint64_t chains__verdicts__may_log_all(struct slice_u8 state, stru
 }
 
 /* The answer of a transact: 0, or the number of the question that refuses it. */
-static inline uint64_t chains__verdicts__transact_verdict(struct slice_u8 log, struct slice_u8 area, struct slice_u8 state,
+static inline uint64_t call_many__questions__transact_answer(struct slice_u8 log, struct slice_u8 area, struct slice_u8 state,
         struct slice_u8 newest, struct slice_u8 blocks, struct slice_u8 batch, uint64_t writer, uint64_t home)
 {
     uint64_t t9, t10, t20, t21;
     bool t11;
     struct model__Writer t16;
 
-    t9 = fetching__verdicts__homes_answer(log, area, state, newest, blocks, writer, home);
+    t9 = call_many_fetch__questions__homes_answer(log, area, state, newest, blocks, writer, home);
     if (t9 != 0u) {
         return t9;
     }
     t10 = (uint64_t)blocks.len / 64u;
-    t11 = fetching__allowed__may_store_all(log, area, state, newest, writer, home, t10);
+    t11 = call_many_fetch__allowed__may_store_all(log, area, state, newest, writer, home, t10);
     if (!t11) {
         return 19u;
     }
-    t16 = strip__writers__writer(state, writer);
+    t16 = base_state__writers__writer(state, writer);
     if (1u <= t16.mode) {
         return 6u;
     }
     t20 = load_8(state.ptr);
     t21 = load_8(state.ptr + 8u);
-    return chains__verdicts__may_log_all(state, (struct model__State){.groups = t20, .homes = t21, .start = load_8(state.ptr
-            + 16u), .next = load_8(state.ptr + 24u), .filled = load_8(state.ptr + 32u), .settled = load_8(state.ptr + 40u),
-            .fenced = load_8(state.ptr + 48u), .durable = load_8(state.ptr + 56u), .last = load_8(state.ptr + 64u),
-            .round = load_8(state.ptr + 88u), .cursor = load_8(state.ptr + 96u)}, t10, (uint64_t)batch.len);
+    return call_many__questions__log_all_answer(state, (struct model__State){.groups = t20, .homes = t21,
+            .start = load_8(state.ptr + 16u), .next = load_8(state.ptr + 24u), .filled = load_8(state.ptr + 32u),
+            .settled = load_8(state.ptr + 40u), .fenced = load_8(state.ptr + 48u), .durable = load_8(state.ptr + 56u),
+            .last = load_8(state.ptr + 64u), .round = load_8(state.ptr + 88u), .cursor = load_8(state.ptr + 96u)}, t10,
+            (uint64_t)batch.len);
 }
 
 /* Begins a transaction of the writer `w`, which holds the first of the lent blocks. */
-static inline void chains__steps__hold_first(struct slice_mut_u8 state, struct slice_u8 blocks, uint64_t w, uint64_t home)
+static inline void call_many__steps__hold_first(struct slice_mut_u8 state, struct slice_u8 blocks, uint64_t w, uint64_t home)
 {
     struct model__Writer t5;
 
-    writers__begin(state, w);
-    t5 = strip__writers__writer((struct slice_u8){state.ptr, state.len}, w);
-    logging__stores__store_first(state, (struct slice_u8){blocks.ptr, (size_t)((uint64_t)64u - 0u)}, t5, w, home);
+    base_writers__begin(state, w);
+    t5 = base_state__writers__writer((struct slice_u8){state.ptr, state.len}, w);
+    call_store__stores__store_first(state, (struct slice_u8){blocks.ptr, (size_t)((uint64_t)64u - 0u)}, t5, w, home);
 }
 
 /* Stores the lent blocks but the first, which is held, by rising home. Returns how many bytes of the batch are written. */
-static inline uint64_t chains__steps__store_rest(struct slice_mut_u8 log, struct slice_mut_u8 state, struct slice_u8 blocks,
+static inline uint64_t call_many__steps__store_rest(struct slice_mut_u8 log, struct slice_mut_u8 state, struct slice_u8 blocks,
         struct slice_mut_u8 batch, uint64_t w, uint64_t home)
 {
     uint64_t t7, t8, t9, t10, t13;
@@ -4693,7 +4706,7 @@ static inline uint64_t chains__steps__store_rest(struct slice_mut_u8 log, struct
     t9 = 1u;
     while (t9 < t7) {
         t10 = 64u * t9;
-        t13 = logging__stores__store_next(log, state, (struct slice_u8){blocks.ptr + (size_t)t10, (size_t)((t10 + 64u) - t10)},
+        t13 = call_store__stores__store_next(log, state, (struct slice_u8){blocks.ptr + (size_t)t10, (size_t)((t10 + 64u) - t10)},
                 batch, w, home + t9);
         t8 = t8 + t13;
         t9 = t9 + 1u;
@@ -4703,50 +4716,50 @@ static inline uint64_t chains__steps__store_rest(struct slice_mut_u8 log, struct
 
 /* Begins a transaction of the writer `w` and stores the lent blocks in it by rising home. Returns how many bytes of the batch are
    written. */
-static inline uint64_t chains__steps__store_all(struct slice_mut_u8 log, struct slice_mut_u8 state, struct slice_u8 blocks,
+static inline uint64_t call_many__steps__store_all(struct slice_mut_u8 log, struct slice_mut_u8 state, struct slice_u8 blocks,
         struct slice_mut_u8 batch, uint64_t w, uint64_t home)
 {
-    chains__steps__hold_first(state, blocks, w, home);
-    return chains__steps__store_rest(log, state, blocks, batch, w, home);
+    call_many__steps__hold_first(state, blocks, w, home);
+    return call_many__steps__store_rest(log, state, blocks, batch, w, home);
 }
 
 /* Commits one to seven blocks for the homes from `home` on, in one transaction of a writer that has none open and may store to
    them all. The figure is the ticket. */
-static inline struct answers__Reply chains__transacts__transact(struct slice_mut_u8 log, struct slice_u8 area,
+static inline struct call_ask__Reply call_many__transacts__transact(struct slice_mut_u8 log, struct slice_u8 area,
         struct slice_mut_u8 state, struct slice_mut_u8 newest, struct slice_u8 blocks, struct slice_mut_u8 batch, uint64_t writer,
         uint64_t home)
 {
     uint64_t t9, t10, t11, t14, t43, t44;
     struct model__State t12;
 
-    t9 = chains__verdicts__transact_verdict((struct slice_u8){log.ptr, log.len}, area, (struct slice_u8){state.ptr, state.len},
+    t9 = call_many__questions__transact_answer((struct slice_u8){log.ptr, log.len}, area, (struct slice_u8){state.ptr, state.len},
             (struct slice_u8){newest.ptr, newest.len}, blocks, (struct slice_u8){batch.ptr, batch.len}, writer, home);
     if (t9 != 0u) {
-        return (struct answers__Reply){.code = t9, .figure = 0u, .size = 0u};
+        return (struct call_ask__Reply){.code = t9, .figure = 0u, .size = 0u};
     }
     t10 = writer;
-    t11 = chains__steps__store_all(log, state, blocks, batch, t10, home);
+    t11 = call_many__steps__store_all(log, state, blocks, batch, t10, home);
     t43 = load_8(state.ptr);
     t44 = load_8(state.ptr + 8u);
     t12 = (struct model__State){.groups = t43, .homes = t44, .start = load_8(state.ptr + 16u), .next = load_8(state.ptr + 24u),
             .filled = load_8(state.ptr + 32u), .settled = load_8(state.ptr + 40u), .fenced = load_8(state.ptr + 48u),
             .durable = load_8(state.ptr + 56u), .last = load_8(state.ptr + 64u), .round = load_8(state.ptr + 88u),
             .cursor = load_8(state.ptr + 96u)};
-    t14 = commits__commit_next(log, area, state, newest, batch, t10);
-    return (struct answers__Reply){.code = 0u, .figure = ((7u * t12.next) + t12.filled) + 1u, .size = t11 + t14};
+    t14 = call_commit__commit_next(log, area, state, newest, batch, t10);
+    return (struct call_ask__Reply){.code = 0u, .figure = ((7u * t12.next) + t12.filled) + 1u, .size = t11 + t14};
 }
 
 /* Begins a transaction of an idle writer, stores one to seven blocks for the homes from `home` on and commits them. The figure is
    the ticket. */
-static inline struct answers__Reply kagutin__kagutin_transact(struct slice_mut_u8 log, struct slice_u8 area,
+static inline struct call_ask__Reply kagutin__kagutin_transact(struct slice_mut_u8 log, struct slice_u8 area,
         struct slice_mut_u8 state, struct slice_mut_u8 newest, struct slice_u8 blocks, struct slice_mut_u8 batch, uint64_t writer,
         uint64_t home)
 {
-    return chains__transacts__transact(log, area, state, newest, blocks, batch, writer, home);
+    return call_many__transacts__transact(log, area, state, newest, blocks, batch, writer, home);
 }
 
 /* A limit lowered to the group in which a writer's open transaction begins, if it has logged entries. */
-static inline uint64_t limits__writers__writer_limit(struct slice_u8 state, uint64_t w, uint64_t limit)
+static inline uint64_t log_limits__writers__writer_limit(struct slice_u8 state, uint64_t w, uint64_t limit)
 {
     uint64_t t5;
 
@@ -4761,112 +4774,113 @@ static inline uint64_t limits__writers__writer_limit(struct slice_u8 state, uint
 }
 
 /* The highest start up to `limit` with no entry of an open transaction before it. */
-static inline uint64_t limits__writers__open_limit(struct slice_u8 state, uint64_t limit)
+static inline uint64_t log_limits__writers__open_limit(struct slice_u8 state, uint64_t limit)
 {
     uint64_t t3, t4;
 
     t3 = limit;
     t4 = 0u;
     while (t4 < 8u) {
-        t3 = limits__writers__writer_limit(state, t4, t3);
+        t3 = log_limits__writers__writer_limit(state, t4, t3);
         t4 = t4 + 1u;
     }
     return t3;
 }
 
 /* The same with counters of its own, for a log of up to 64 groups. */
-static APART struct scan__commits__Found scan__commits__walk_small(struct slice_u8 log, uint64_t groups, uint64_t homes,
+static APART struct log_scan__commits__Found log_scan__commits__walk_small(struct slice_u8 log, uint64_t groups, uint64_t homes,
         uint64_t start, uint64_t n)
 {
     struct array_u16_448 t6;
 
     memset(&t6, 0, sizeof t6);
-    return scan__commits__walk_with(log, (struct slice_mut_u16){t6.at, 448u}, groups, homes, start, n);
+    return log_scan__commits__walk_with(log, (struct slice_mut_u16){t6.at, 448u}, groups, homes, start, n);
 }
 
 /* The same for a log of up to 128 groups, 256, 512 and 1,024: at most half of the counters are made empty for nothing. */
-static APART struct scan__commits__Found scan__commits__walk_to_128(struct slice_u8 log, uint64_t groups, uint64_t homes,
+static APART struct log_scan__commits__Found log_scan__commits__walk_to_128(struct slice_u8 log, uint64_t groups, uint64_t homes,
         uint64_t start, uint64_t n)
 {
     struct array_u16_896 t6;
 
     memset(&t6, 0, sizeof t6);
-    return scan__commits__walk_with(log, (struct slice_mut_u16){t6.at, 896u}, groups, homes, start, n);
+    return log_scan__commits__walk_with(log, (struct slice_mut_u16){t6.at, 896u}, groups, homes, start, n);
 }
 
-static APART struct scan__commits__Found scan__commits__walk_to_256(struct slice_u8 log, uint64_t groups, uint64_t homes,
+static APART struct log_scan__commits__Found log_scan__commits__walk_to_256(struct slice_u8 log, uint64_t groups, uint64_t homes,
         uint64_t start, uint64_t n)
 {
     struct array_u16_1792 t6;
 
     memset(&t6, 0, sizeof t6);
-    return scan__commits__walk_with(log, (struct slice_mut_u16){t6.at, 1792u}, groups, homes, start, n);
+    return log_scan__commits__walk_with(log, (struct slice_mut_u16){t6.at, 1792u}, groups, homes, start, n);
 }
 
-static APART struct scan__commits__Found scan__commits__walk_to_512(struct slice_u8 log, uint64_t groups, uint64_t homes,
+static APART struct log_scan__commits__Found log_scan__commits__walk_to_512(struct slice_u8 log, uint64_t groups, uint64_t homes,
         uint64_t start, uint64_t n)
 {
     struct array_u16_3584 t6;
 
     memset(&t6, 0, sizeof t6);
-    return scan__commits__walk_with(log, (struct slice_mut_u16){t6.at, 3584u}, groups, homes, start, n);
+    return log_scan__commits__walk_with(log, (struct slice_mut_u16){t6.at, 3584u}, groups, homes, start, n);
 }
 
-static APART struct scan__commits__Found scan__commits__walk_to_1024(struct slice_u8 log, uint64_t groups, uint64_t homes,
+static APART struct log_scan__commits__Found log_scan__commits__walk_to_1024(struct slice_u8 log, uint64_t groups, uint64_t homes,
         uint64_t start, uint64_t n)
 {
     struct array_u16_7168 t6;
 
     memset(&t6, 0, sizeof t6);
-    return scan__commits__walk_with(log, (struct slice_mut_u16){t6.at, 7168u}, groups, homes, start, n);
+    return log_scan__commits__walk_with(log, (struct slice_mut_u16){t6.at, 7168u}, groups, homes, start, n);
 }
 
 /* The same for any log. This and `walk_small` serve two calls each, and so stay functions of their own: a small log never takes
    the counters of a large one. */
-static inline struct scan__commits__Found scan__commits__walk_large(struct slice_u8 log, uint64_t groups, uint64_t homes,
+static inline struct log_scan__commits__Found log_scan__commits__walk_large(struct slice_u8 log, uint64_t groups, uint64_t homes,
         uint64_t start, uint64_t n)
 {
     if (groups <= 128u) {
-        return scan__commits__walk_to_128(log, groups, homes, start, n);
+        return log_scan__commits__walk_to_128(log, groups, homes, start, n);
     }
     if (groups <= 256u) {
-        return scan__commits__walk_to_256(log, groups, homes, start, n);
+        return log_scan__commits__walk_to_256(log, groups, homes, start, n);
     }
     if (groups <= 512u) {
-        return scan__commits__walk_to_512(log, groups, homes, start, n);
+        return log_scan__commits__walk_to_512(log, groups, homes, start, n);
     }
-    return scan__commits__walk_to_1024(log, groups, homes, start, n);
+    return log_scan__commits__walk_to_1024(log, groups, homes, start, n);
 }
 
 /* Where the committed transactions end among the `n` positions of the log from its start on, or 0 for none. */
-static inline uint64_t trimming__start__committed_end(struct slice_u8 log, uint64_t groups, uint64_t homes, uint64_t start,
+static inline uint64_t call_trim__start__committed_end(struct slice_u8 log, uint64_t groups, uint64_t homes, uint64_t start,
         uint64_t n)
 {
-    struct scan__commits__Found t6, t7;
+    struct log_scan__commits__Found t6, t7;
 
     if (groups <= 64u) {
-        t6 = scan__commits__walk_small(log, groups, homes, start, n);
+        t6 = log_scan__commits__walk_small(log, groups, homes, start, n);
         return t6.end;
     }
-    t7 = scan__commits__walk_large(log, groups, homes, start, n);
+    t7 = log_scan__commits__walk_large(log, groups, homes, start, n);
     return t7.end;
 }
 
 /* Those of the group before. */
-static inline struct scan__slots__RingSlot scan__slots__previous_slot(struct scan__slots__RingSlot at, uint64_t groups)
+static inline struct log_scan__slots__RingSlot log_scan__slots__previous_slot(struct log_scan__slots__RingSlot at,
+        uint64_t groups)
 {
     uint64_t t3, t4;
 
     t3 = at.slot;
     t4 = at.turn;
     if (t3 == 0u) {
-        return (struct scan__slots__RingSlot){.slot = groups - 1u, .turn = 1u - t4};
+        return (struct log_scan__slots__RingSlot){.slot = groups - 1u, .turn = 1u - t4};
     }
-    return (struct scan__slots__RingSlot){.slot = t3 - 1u, .turn = t4};
+    return (struct log_scan__slots__RingSlot){.slot = t3 - 1u, .turn = t4};
 }
 
 /* Whether the word of a tag, if it closes a transaction at a position, closes one that begins in group `limit` or after. */
-static inline bool limits__spans__begins_after(uint64_t word, uint64_t position, uint64_t limit)
+static inline bool log_limits__spans__begins_after(uint64_t word, uint64_t position, uint64_t limit)
 {
     uint64_t t4;
 
@@ -4881,12 +4895,13 @@ static inline bool limits__spans__begins_after(uint64_t word, uint64_t position,
 }
 
 /* A limit lowered to the group in which the transaction begins that the word of a tag closes, if it closes one. */
-static inline uint64_t limits__spans__word_limit(uint64_t word, uint64_t position, uint64_t base, uint64_t homes, uint64_t limit)
+static inline uint64_t log_limits__spans__word_limit(uint64_t word, uint64_t position, uint64_t base, uint64_t homes,
+        uint64_t limit)
 {
     uint64_t t7, t9, t11;
     struct model__Tag t8;
 
-    t8 = codec__tags__read_tag(word, position, base, homes);
+    t8 = base_codec__tags__read_tag(word, position, base, homes);
     if (t8.tag == 0u) {
         t9 = limit;
     } else if (t8.tag == 1u) {
@@ -4905,7 +4920,7 @@ static inline uint64_t limits__spans__word_limit(uint64_t word, uint64_t positio
 
 /* The same for tag `k` of a group with turn `turn`. A tag that closes nothing, or a transaction that begins at the limit or after
    it, is passed whatever its data block is. */
-static inline uint64_t limits__spans__tag_limit(struct slice_u8 group, uint64_t turn, uint64_t k, uint64_t position,
+static inline uint64_t log_limits__spans__tag_limit(struct slice_u8 group, uint64_t turn, uint64_t k, uint64_t position,
         uint64_t base, uint64_t homes, uint64_t limit)
 {
     uint64_t t8, t11;
@@ -4915,23 +4930,23 @@ static inline uint64_t limits__spans__tag_limit(struct slice_u8 group, uint64_t 
     if ((t8 & 2u) == 0u) {
         return limit;
     }
-    t13 = limits__spans__begins_after(t8, position, limit);
+    t13 = log_limits__spans__begins_after(t8, position, limit);
     if (t13) {
         return limit;
     }
-    t11 = scan__groups__word_there(group, turn, k);
-    return limits__spans__word_limit(t11, position, base, homes, limit);
+    t11 = log_scan__groups__word_there(group, turn, k);
+    return log_limits__spans__word_limit(t11, position, base, homes, limit);
 }
 
 /* A limit lowered by the first `m` tags of a group, which says nothing where it is not the valid group with number `n` and turn
    `turn`. */
-static inline uint64_t limits__spans__group_limit(struct slice_u8 group, uint64_t groups, uint64_t homes, uint64_t start,
+static inline uint64_t log_limits__spans__group_limit(struct slice_u8 group, uint64_t groups, uint64_t homes, uint64_t start,
         uint64_t n, uint64_t turn, uint64_t m, uint64_t limit)
 {
     uint64_t t9, t10, t11, t12;
     bool t13;
 
-    t13 = scan__groups__group_valid(group, groups, start, n);
+    t13 = log_scan__groups__group_valid(group, groups, start, n);
     if (!t13) {
         return limit;
     }
@@ -4940,7 +4955,7 @@ static inline uint64_t limits__spans__group_limit(struct slice_u8 group, uint64_
     t11 = 7u * n;
     t12 = 0u;
     while (t12 < m) {
-        t10 = limits__spans__tag_limit(group, turn, t12, t11, t9, homes, t10);
+        t10 = log_limits__spans__tag_limit(group, turn, t12, t11, t9, homes, t10);
         t11 = t11 + 1u;
         t12 = t12 + 1u;
     }
@@ -4948,21 +4963,21 @@ static inline uint64_t limits__spans__group_limit(struct slice_u8 group, uint64_
 }
 
 /* The highest start up to `limit` that no transaction of a closing entry below `end` lies across. */
-static inline uint64_t limits__spans__closed_limit(struct slice_u8 log, uint64_t groups, uint64_t homes, uint64_t start,
+static inline uint64_t log_limits__spans__closed_limit(struct slice_u8 log, uint64_t groups, uint64_t homes, uint64_t start,
         uint64_t end, uint64_t limit)
 {
     uint64_t t7, t8, t10, t12;
-    struct scan__slots__RingSlot t9;
+    struct log_scan__slots__RingSlot t9;
 
     t7 = limit;
     t8 = (end + 6u) / 7u;
-    t9 = scan__slots__first_slot(t8, groups);
+    t9 = log_scan__slots__first_slot(t8, groups);
     while (t7 < t8) {
         t8 = t8 - 1u;
-        t9 = scan__slots__previous_slot(t9, groups);
+        t9 = log_scan__slots__previous_slot(t9, groups);
         t10 = 64u + (512u * t9.slot);
-        t12 = scan__commits__in_group(end - (7u * t8));
-        t7 = limits__spans__group_limit((struct slice_u8){log.ptr + (size_t)t10, (size_t)((t10 + 512u) - t10)}, groups, homes,
+        t12 = log_scan__commits__in_group(end - (7u * t8));
+        t7 = log_limits__spans__group_limit((struct slice_u8){log.ptr + (size_t)t10, (size_t)((t10 + 512u) - t10)}, groups, homes,
                 start, t8, t9.turn, t12, t7);
     }
     return t7;
@@ -4970,13 +4985,13 @@ static inline uint64_t limits__spans__closed_limit(struct slice_u8 log, uint64_t
 
 /* The highest start up to the settled position that no open or committed transaction lies across. The log is not looked at where
    open transactions leave no start but its own, or where the highest that they leave lies past all entries. */
-static inline uint64_t trimming__start__new_start(struct slice_u8 log, struct slice_u8 area, struct slice_u8 state,
+static inline uint64_t call_trim__start__new_start(struct slice_u8 log, struct slice_u8 area, struct slice_u8 state,
         struct model__State st)
 {
     uint64_t t5, t6, t8;
     (void)area;
 
-    t5 = limits__writers__open_limit(state, st.settled / 7u);
+    t5 = log_limits__writers__open_limit(state, st.settled / 7u);
     if (t5 == st.start) {
         return t5;
     }
@@ -4984,21 +4999,21 @@ static inline uint64_t trimming__start__new_start(struct slice_u8 log, struct sl
     if (t6 <= (7u * t5)) {
         return t5;
     }
-    t8 = trimming__start__committed_end(log, st.groups, st.homes, st.start, t6 - (7u * st.start));
-    return limits__spans__closed_limit(log, st.groups, st.homes, st.start, t8, t5);
+    t8 = call_trim__start__committed_end(log, st.groups, st.homes, st.start, t6 - (7u * st.start));
+    return log_limits__spans__closed_limit(log, st.groups, st.homes, st.start, t8, t5);
 }
 
 /* Writes the new header and a fence into the batch. */
-static inline void trimming__moves__write_header(struct slice_mut_u8 batch, uint64_t groups, uint64_t homes, uint64_t start)
+static inline void call_trim__moves__write_header(struct slice_mut_u8 batch, uint64_t groups, uint64_t homes, uint64_t start)
 {
     uint64_t t5;
 
-    t5 = batch__records__header_write(batch, 0u, start, groups, homes);
-    (void)batch__records__fence(batch, t5);
+    t5 = base_batch__records__header_write(batch, 0u, start, groups, homes);
+    (void)base_batch__records__fence(batch, t5);
 }
 
 /* The last closing entry that is left in a log from a start on, 0 for none. */
-static inline uint64_t trimming__moves__kept_last(uint64_t last, uint64_t start)
+static inline uint64_t call_trim__moves__kept_last(uint64_t last, uint64_t start)
 {
     uint64_t t5;
 
@@ -5011,18 +5026,18 @@ static inline uint64_t trimming__moves__kept_last(uint64_t last, uint64_t start)
 }
 
 /* Puts the new start, the fenced position and the last closing entry into the strip. */
-static inline void trimming__moves__move_strip(struct slice_mut_u8 state, struct model__State st, uint64_t start)
+static inline void call_trim__moves__move_strip(struct slice_mut_u8 state, struct model__State st, uint64_t start)
 {
     uint64_t t4;
 
     store_8(state.ptr + 16u, start);
     store_8(state.ptr + 48u, 7u * st.next);
-    t4 = trimming__moves__kept_last(st.last, start);
+    t4 = call_trim__moves__kept_last(st.last, start);
     store_8(state.ptr + 64u, t4);
 }
 
 /* Keeps no position any more for a home where it lies before a bound. */
-static inline void positions__strip__forget_one(struct slice_mut_u8 newest, uint64_t bound, uint64_t home)
+static inline void log_newest__positions__forget_one(struct slice_mut_u8 newest, uint64_t bound, uint64_t home)
 {
     if (bound <= load_8(newest.ptr + (size_t)(8u * home))) {
         return;
@@ -5031,41 +5046,41 @@ static inline void positions__strip__forget_one(struct slice_mut_u8 newest, uint
 }
 
 /* The same for the first `homes` homes. */
-static inline void positions__strip__forget(struct slice_mut_u8 newest, uint64_t bound, uint64_t homes)
+static inline void log_newest__positions__forget(struct slice_mut_u8 newest, uint64_t bound, uint64_t homes)
 {
     uint64_t t4;
 
     t4 = 0u;
     while (t4 < homes) {
-        positions__strip__forget_one(newest, bound, t4);
+        log_newest__positions__forget_one(newest, bound, t4);
         t4 = t4 + 1u;
     }
 }
 
 /* Moves the start: the batch, the header in the log copy, the strip, and the newest positions, with those of the list of rights
    carried over. */
-static inline void trimming__moves__move_start(struct slice_mut_u8 log, struct slice_mut_u8 state, struct slice_mut_u8 newest,
+static inline void call_trim__moves__move_start(struct slice_mut_u8 log, struct slice_mut_u8 state, struct slice_mut_u8 newest,
         struct slice_mut_u8 batch, struct model__State st, uint64_t start)
 {
-    trimming__moves__write_header(batch, st.groups, st.homes, start);
-    areas__header__put_header(log, 0u, start, st.groups, st.homes);
-    trimming__moves__move_strip(state, st, start);
-    positions__strip__forget(newest, 7u * start, st.homes);
-    strip__listed__carry_listed(state, (struct slice_u8){newest.ptr, newest.len}, st.homes);
+    call_trim__moves__write_header(batch, st.groups, st.homes, start);
+    base_areas__header__put_header(log, 0u, start, st.groups, st.homes);
+    call_trim__moves__move_strip(state, st, start);
+    log_newest__positions__forget(newest, 7u * start, st.homes);
+    base_state__listed__carry_listed(state, (struct slice_u8){newest.ptr, newest.len}, st.homes);
 }
 
 /* Moves the log's start up as far as no open or committed transaction lies across it, and writes the new header and a fence if it
    moves. Kept positions before the new start become none. */
-static inline struct answers__Reply trimming__trim(struct slice_mut_u8 log, struct slice_u8 area, struct slice_mut_u8 state,
+static inline struct call_ask__Reply call_trim__trim(struct slice_mut_u8 log, struct slice_u8 area, struct slice_mut_u8 state,
         struct slice_mut_u8 newest, struct slice_mut_u8 batch)
 {
     uint64_t t6, t8, t34, t35;
     struct model__State t7;
 
-    t6 = answers__in_use_newest((struct slice_u8){log.ptr, log.len}, area, (struct slice_u8){state.ptr, state.len},
+    t6 = call_ask__newest_answer((struct slice_u8){log.ptr, log.len}, area, (struct slice_u8){state.ptr, state.len},
             (struct slice_u8){newest.ptr, newest.len});
     if (t6 != 0u) {
-        return (struct answers__Reply){.code = t6, .figure = 0u, .size = 0u};
+        return (struct call_ask__Reply){.code = t6, .figure = 0u, .size = 0u};
     }
     t34 = load_8(state.ptr);
     t35 = load_8(state.ptr + 8u);
@@ -5073,48 +5088,49 @@ static inline struct answers__Reply trimming__trim(struct slice_mut_u8 log, stru
             .filled = load_8(state.ptr + 32u), .settled = load_8(state.ptr + 40u), .fenced = load_8(state.ptr + 48u),
             .durable = load_8(state.ptr + 56u), .last = load_8(state.ptr + 64u), .round = load_8(state.ptr + 88u),
             .cursor = load_8(state.ptr + 96u)};
-    t8 = trimming__start__new_start((struct slice_u8){log.ptr, log.len}, area, (struct slice_u8){state.ptr, state.len}, t7);
+    t8 = call_trim__start__new_start((struct slice_u8){log.ptr, log.len}, area, (struct slice_u8){state.ptr, state.len}, t7);
     if (UINT64_C(0x800000000000) < t8) {
-        return (struct answers__Reply){.code = 10u, .figure = 0u, .size = 0u};
+        return (struct call_ask__Reply){.code = 10u, .figure = 0u, .size = 0u};
     }
     if (t8 == t7.start) {
-        return (struct answers__Reply){.code = 0u, .figure = 0u, .size = 0u};
+        return (struct call_ask__Reply){.code = 0u, .figure = 0u, .size = 0u};
     }
     if ((uint64_t)batch.len < 68u) {
-        return (struct answers__Reply){.code = 9u, .figure = 0u, .size = 0u};
+        return (struct call_ask__Reply){.code = 9u, .figure = 0u, .size = 0u};
     }
-    trimming__moves__move_start(log, state, newest, batch, t7, t8);
-    return (struct answers__Reply){.code = 0u, .figure = 0u, .size = 68u};
+    call_trim__moves__move_start(log, state, newest, batch, t7, t8);
+    return (struct call_ask__Reply){.code = 0u, .figure = 0u, .size = 68u};
 }
 
 /* Moves the log's start up as far as no transaction lies across it. */
-static inline struct answers__Reply kagutin__kagutin_trim(struct slice_mut_u8 log, struct slice_u8 area,
+static inline struct call_ask__Reply kagutin__kagutin_trim(struct slice_mut_u8 log, struct slice_u8 area,
         struct slice_mut_u8 state, struct slice_mut_u8 newest, struct slice_mut_u8 batch)
 {
-    return trimming__trim(log, area, state, newest, batch);
+    return call_trim__trim(log, area, state, newest, batch);
 }
 
 /* Where the committed transactions end among the `n` positions of the log from its start on, or 0 for none. */
-static inline uint64_t usage__entries__committed_end(struct slice_u8 log, uint64_t groups, uint64_t homes, uint64_t start,
+static inline uint64_t call_usage__entries__committed_end(struct slice_u8 log, uint64_t groups, uint64_t homes, uint64_t start,
         uint64_t n)
 {
-    struct scan__commits__Found t6, t7;
+    struct log_scan__commits__Found t6, t7;
 
     if (groups <= 64u) {
-        t6 = scan__commits__walk_small(log, groups, homes, start, n);
+        t6 = log_scan__commits__walk_small(log, groups, homes, start, n);
         return t6.end;
     }
-    t7 = scan__commits__walk_large(log, groups, homes, start, n);
+    t7 = log_scan__commits__walk_large(log, groups, homes, start, n);
     return t7.end;
 }
 
 /* A sum with the number of entries that the word of a tag counts, if it closes a transaction. */
-static inline uint64_t usage__entries__word_entries(uint64_t word, uint64_t position, uint64_t base, uint64_t homes, uint64_t sum)
+static inline uint64_t call_usage__entries__word_entries(uint64_t word, uint64_t position, uint64_t base, uint64_t homes,
+        uint64_t sum)
 {
     struct model__Tag t7;
     uint64_t t8;
 
-    t7 = codec__tags__read_tag(word, position, base, homes);
+    t7 = base_codec__tags__read_tag(word, position, base, homes);
     if (t7.tag == 0u) {
         t8 = sum;
     } else if (t7.tag == 1u) {
@@ -5127,25 +5143,25 @@ static inline uint64_t usage__entries__word_entries(uint64_t word, uint64_t posi
 
 /* A sum with those of the first `m` tags of a group, which says nothing where it is not the valid group with number `n` and turn
    `turn`. */
-static inline uint64_t usage__entries__group_entries(struct slice_u8 group, uint64_t groups, uint64_t homes, uint64_t start,
+static inline uint64_t call_usage__entries__group_entries(struct slice_u8 group, uint64_t groups, uint64_t homes, uint64_t start,
         uint64_t n, uint64_t turn, uint64_t m, uint64_t sum)
 {
     struct array_u64_7 t9, t16;
     uint64_t t10, t11, t12, t13;
     bool t14;
 
-    t14 = scan__groups__group_valid(group, groups, start, n);
+    t14 = log_scan__groups__group_valid(group, groups, start, n);
     if (!t14) {
         return sum;
     }
-    t16 = scan__groups__tag_words(group, turn);
+    t16 = log_scan__groups__tag_words(group, turn);
     t9 = t16;
     t10 = 7u * start;
     t11 = sum;
     t12 = 7u * n;
     t13 = 0u;
     while (t13 < m) {
-        t11 = usage__entries__word_entries(t9.at[(size_t)t13], t12, t10, homes, t11);
+        t11 = call_usage__entries__word_entries(t9.at[(size_t)t13], t12, t10, homes, t11);
         t12 = t12 + 1u;
         t13 = t13 + 1u;
     }
@@ -5153,11 +5169,11 @@ static inline uint64_t usage__entries__group_entries(struct slice_u8 group, uint
 }
 
 /* The entries that all closing entries below `end` count. */
-static inline uint64_t usage__entries__closed_entries(struct slice_u8 log, uint64_t groups, uint64_t homes, uint64_t start,
+static inline uint64_t call_usage__entries__closed_entries(struct slice_u8 log, uint64_t groups, uint64_t homes, uint64_t start,
         uint64_t end)
 {
     uint64_t t6, t7, t8, t9, t11, t13;
-    struct scan__slots__RingSlot t10;
+    struct log_scan__slots__RingSlot t10;
 
     t6 = 7u * start;
     if (end <= t6) {
@@ -5166,13 +5182,13 @@ static inline uint64_t usage__entries__closed_entries(struct slice_u8 log, uint6
     t7 = 0u;
     t8 = end - t6;
     t9 = start;
-    t10 = scan__slots__first_slot(start, groups);
+    t10 = log_scan__slots__first_slot(start, groups);
     while (0u < t8) {
         t11 = 64u + (512u * t10.slot);
-        t13 = scan__commits__in_group(t8);
-        t7 = usage__entries__group_entries((struct slice_u8){log.ptr + (size_t)t11, (size_t)((t11 + 512u) - t11)}, groups, homes,
-                start, t9, t10.turn, t13, t7);
-        t10 = scan__slots__next_slot(t10, groups);
+        t13 = log_scan__commits__in_group(t8);
+        t7 = call_usage__entries__group_entries((struct slice_u8){log.ptr + (size_t)t11, (size_t)((t11 + 512u) - t11)}, groups,
+                homes, start, t9, t10.turn, t13, t7);
+        t10 = log_scan__slots__next_slot(t10, groups);
         t9 = t9 + 1u;
         t8 = t8 - t13;
     }
@@ -5180,33 +5196,33 @@ static inline uint64_t usage__entries__closed_entries(struct slice_u8 log, uint6
 }
 
 /* The entries of the transactions that are committed among the `n` positions of the log from its start on. */
-static inline uint64_t usage__entries__committed_entries(struct slice_u8 log, uint64_t groups, uint64_t homes, uint64_t start,
-        uint64_t n)
+static inline uint64_t call_usage__entries__committed_entries(struct slice_u8 log, uint64_t groups, uint64_t homes,
+        uint64_t start, uint64_t n)
 {
     uint64_t t6;
 
-    t6 = usage__entries__committed_end(log, groups, homes, start, n);
-    return usage__entries__closed_entries(log, groups, homes, start, t6);
+    t6 = call_usage__entries__committed_end(log, groups, homes, start, n);
+    return call_usage__entries__closed_entries(log, groups, homes, start, t6);
 }
 
 /* How many entries writer `w` has logged in an open transaction. */
-static inline uint64_t usage__writers__logged(struct slice_u8 state, uint64_t w)
+static inline uint64_t call_usage__writers__logged(struct slice_u8 state, uint64_t w)
 {
     struct model__Writer t3;
 
-    t3 = strip__writers__writer(state, w);
-    return strip__writers__count_for(t3);
+    t3 = base_state__writers__writer(state, w);
+    return base_state__writers__count_for(t3);
 }
 
 /* How many entries the eight writers have logged in open transactions. */
-static inline uint64_t usage__writers__open_entries(struct slice_u8 state)
+static inline uint64_t call_usage__writers__open_entries(struct slice_u8 state)
 {
     uint64_t t2, t3, t5;
 
     t2 = 0u;
     t3 = 0u;
     while (t3 < 8u) {
-        t5 = usage__writers__logged(state, t3);
+        t5 = call_usage__writers__logged(state, t3);
         t2 = t2 + t5;
         t3 = t3 + 1u;
     }
@@ -5214,19 +5230,20 @@ static inline uint64_t usage__writers__open_entries(struct slice_u8 state)
 }
 
 /* The places that are live: entries of committed transactions in the log copy, and those that open transactions have logged. */
-static inline uint64_t usage__live_entries(struct slice_u8 log, struct slice_u8 area, struct slice_u8 state,
+static inline uint64_t call_usage__live_entries(struct slice_u8 log, struct slice_u8 area, struct slice_u8 state,
         struct model__State st)
 {
     uint64_t t6, t7;
     (void)area;
 
-    t6 = usage__entries__committed_entries(log, st.groups, st.homes, st.start, ((7u * st.next) + st.filled) - (7u * st.start));
-    t7 = usage__writers__open_entries(state);
+    t6 = call_usage__entries__committed_entries(log, st.groups, st.homes, st.start, ((7u * st.next)
+            + st.filled) - (7u * st.start));
+    t7 = call_usage__writers__open_entries(state);
     return t6 + t7;
 }
 
 /* What is left of some places, none if there are fewer. */
-static inline uint64_t usage__rest(uint64_t places, uint64_t used)
+static inline uint64_t call_usage__rest(uint64_t places, uint64_t used)
 {
     if (places < used) {
         return 0u;
@@ -5235,11 +5252,11 @@ static inline uint64_t usage__rest(uint64_t places, uint64_t used)
 }
 
 /* The holder of the writers up to `w`, where `h` is that of those before it. */
-static inline struct model__Holder usage__writers__lower(struct slice_u8 state, uint64_t w, struct model__Holder h)
+static inline struct model__Holder call_usage__writers__lower(struct slice_u8 state, uint64_t w, struct model__Holder h)
 {
     struct model__Writer t4;
 
-    t4 = strip__writers__writer(state, w);
+    t4 = base_state__writers__writer(state, w);
     if (!(3u <= t4.mode)) {
         return h;
     }
@@ -5252,7 +5269,7 @@ static inline struct model__Holder usage__writers__lower(struct slice_u8 state, 
 }
 
 /* The writer whose logged entries begin lowest, with the position where they do; 8 and 0 if no writer has any. */
-static inline struct model__Holder usage__writers__holder(struct slice_u8 state)
+static inline struct model__Holder call_usage__writers__holder(struct slice_u8 state)
 {
     struct model__Holder t2;
     uint64_t t3;
@@ -5260,14 +5277,14 @@ static inline struct model__Holder usage__writers__holder(struct slice_u8 state)
     t2 = (struct model__Holder){.writer = 8u, .first = 0u};
     t3 = 0u;
     while (t3 < 8u) {
-        t2 = usage__writers__lower(state, t3, t2);
+        t2 = call_usage__writers__lower(state, t3, t2);
         t3 = t3 + 1u;
     }
     return t2;
 }
 
 /* What a done call tells. */
-static inline struct model__Usage usage__told(struct slice_u8 log, struct slice_u8 area, struct slice_u8 state)
+static inline struct model__Usage call_usage__told(struct slice_u8 log, struct slice_u8 area, struct slice_u8 state)
 {
     struct model__State t4;
     uint64_t t5, t6, t7, t8, t13, t14;
@@ -5279,38 +5296,38 @@ static inline struct model__Usage usage__told(struct slice_u8 log, struct slice_
             .filled = load_8(state.ptr + 32u), .settled = load_8(state.ptr + 40u), .fenced = load_8(state.ptr + 48u),
             .durable = load_8(state.ptr + 56u), .last = load_8(state.ptr + 64u), .round = load_8(state.ptr + 88u),
             .cursor = load_8(state.ptr + 96u)};
-    t5 = usage__live_entries(log, area, state, t4);
+    t5 = call_usage__live_entries(log, area, state, t4);
     t6 = (7u * (t4.start + t4.groups)) - ((7u * t4.next) + t4.filled);
-    t7 = usage__rest((7u * t4.groups) - t6, t5);
-    t8 = strip__promises__promised(state);
-    t9 = usage__writers__holder(state);
+    t7 = call_usage__rest((7u * t4.groups) - t6, t5);
+    t8 = base_state__promises__promised(state);
+    t9 = call_usage__writers__holder(state);
     return (struct model__Usage){.code = 0u, .live = t5, .dead = t7, .free = t6, .promised = t8, .holder = t9.writer,
             .first = t9.first};
 }
 
 /* Tells how many places of the log are live, dead, free and promised, and which open transaction lies lowest in it. */
-static inline struct model__Usage usage__usage(struct slice_u8 log, struct slice_u8 area, struct slice_u8 state)
+static inline struct model__Usage call_usage__usage(struct slice_u8 log, struct slice_u8 area, struct slice_u8 state)
 {
     uint64_t t4;
 
-    t4 = answers__in_use(log, area, state);
+    t4 = call_ask__state_answer(log, area, state);
     if (t4 != 0u) {
         return (struct model__Usage){.code = t4, .live = 0u, .dead = 0u, .free = 0u, .promised = 0u, .holder = 0u, .first = 0u};
     }
-    return usage__told(log, area, state);
+    return call_usage__told(log, area, state);
 }
 
 /* Tells how many places of the log are live, dead, free and promised, and which open transaction lies lowest in it. */
 static inline struct model__Usage kagutin__kagutin_usage(struct slice_u8 log, struct slice_u8 area, struct slice_u8 state)
 {
-    return usage__usage(log, area, state);
+    return call_usage__usage(log, area, state);
 }
 
 struct kagutin_reply kagutin_abort(const uint8_t *log, size_t log_size, const uint8_t *area, size_t area_size, uint8_t *state,
         size_t state_size, uint64_t writer)
 {
     ASK_BUFFERS(kagutin_reply, {log, log_size}, {area, area_size}, {state, state_size})
-    struct answers__Reply r = kagutin__kagutin_abort((struct slice_u8){log, log_size}, (struct slice_u8){area, area_size},
+    struct call_ask__Reply r = kagutin__kagutin_abort((struct slice_u8){log, log_size}, (struct slice_u8){area, area_size},
             (struct slice_mut_u8){state, state_size}, writer);
 
     return (struct kagutin_reply){.code = r.code, .figure = r.figure, .size = r.size};
@@ -5320,7 +5337,7 @@ struct kagutin_reply kagutin_begin(const uint8_t *log, size_t log_size, const ui
         size_t state_size, uint64_t writer)
 {
     ASK_BUFFERS(kagutin_reply, {log, log_size}, {area, area_size}, {state, state_size})
-    struct answers__Reply r = kagutin__kagutin_begin((struct slice_u8){log, log_size}, (struct slice_u8){area, area_size},
+    struct call_ask__Reply r = kagutin__kagutin_begin((struct slice_u8){log, log_size}, (struct slice_u8){area, area_size},
             (struct slice_mut_u8){state, state_size}, writer);
 
     return (struct kagutin_reply){.code = r.code, .figure = r.figure, .size = r.size};
@@ -5330,7 +5347,7 @@ struct kagutin_reply kagutin_begin_round(const uint8_t *log, size_t log_size, co
         uint8_t *state, size_t state_size)
 {
     ASK_BUFFERS(kagutin_reply, {log, log_size}, {area, area_size}, {state, state_size})
-    struct answers__Reply r = kagutin__kagutin_begin_round((struct slice_u8){log, log_size}, (struct slice_u8){area, area_size},
+    struct call_ask__Reply r = kagutin__kagutin_begin_round((struct slice_u8){log, log_size}, (struct slice_u8){area, area_size},
             (struct slice_mut_u8){state, state_size});
 
     return (struct kagutin_reply){.code = r.code, .figure = r.figure, .size = r.size};
@@ -5341,7 +5358,7 @@ struct kagutin_reply kagutin_commit(uint8_t *log, size_t log_size, const uint8_t
 {
     ASK_BUFFERS(kagutin_reply, {log, log_size}, {area, area_size}, {state, state_size}, {newest, newest_size}, {batch,
             batch_size})
-    struct answers__Reply r = kagutin__kagutin_commit((struct slice_mut_u8){log, log_size}, (struct slice_u8){area, area_size},
+    struct call_ask__Reply r = kagutin__kagutin_commit((struct slice_mut_u8){log, log_size}, (struct slice_u8){area, area_size},
             (struct slice_mut_u8){state, state_size}, (struct slice_mut_u8){newest, newest_size}, (struct slice_mut_u8){batch,
             batch_size}, writer);
 
@@ -5352,7 +5369,7 @@ struct kagutin_reply kagutin_confirm(const uint8_t *log, size_t log_size, const 
         size_t state_size)
 {
     ASK_BUFFERS(kagutin_reply, {log, log_size}, {area, area_size}, {state, state_size})
-    struct answers__Reply r = kagutin__kagutin_confirm((struct slice_u8){log, log_size}, (struct slice_u8){area, area_size},
+    struct call_ask__Reply r = kagutin__kagutin_confirm((struct slice_u8){log, log_size}, (struct slice_u8){area, area_size},
             (struct slice_mut_u8){state, state_size});
 
     return (struct kagutin_reply){.code = r.code, .figure = r.figure, .size = r.size};
@@ -5364,7 +5381,7 @@ struct kagutin_reply kagutin_fetch(const uint8_t *log, size_t log_size, const ui
 {
     ASK_BUFFERS(kagutin_reply, {log, log_size}, {area, area_size}, {state, state_size}, {newest, newest_size}, {blocks,
             blocks_size})
-    struct answers__Reply r = kagutin__kagutin_fetch((struct slice_u8){log, log_size}, (struct slice_u8){area, area_size},
+    struct call_ask__Reply r = kagutin__kagutin_fetch((struct slice_u8){log, log_size}, (struct slice_u8){area, area_size},
             (struct slice_u8){state, state_size}, (struct slice_u8){newest, newest_size}, (struct slice_mut_u8){blocks,
             blocks_size}, writer, home);
 
@@ -5375,7 +5392,7 @@ struct kagutin_reply kagutin_flush(const uint8_t *log, size_t log_size, const ui
         size_t state_size, uint8_t *batch, size_t batch_size)
 {
     ASK_BUFFERS(kagutin_reply, {log, log_size}, {area, area_size}, {state, state_size}, {batch, batch_size})
-    struct answers__Reply r = kagutin__kagutin_flush((struct slice_u8){log, log_size}, (struct slice_u8){area, area_size},
+    struct call_ask__Reply r = kagutin__kagutin_flush((struct slice_u8){log, log_size}, (struct slice_u8){area, area_size},
             (struct slice_mut_u8){state, state_size}, (struct slice_mut_u8){batch, batch_size});
 
     return (struct kagutin_reply){.code = r.code, .figure = r.figure, .size = r.size};
@@ -5385,7 +5402,7 @@ struct kagutin_reply kagutin_format(uint8_t *log, size_t log_size, uint8_t *area
         size_t batch_size)
 {
     ASK_BUFFERS(kagutin_reply, {log, log_size}, {area, area_size}, {batch, batch_size})
-    struct answers__Reply r = kagutin__kagutin_format((struct slice_mut_u8){log, log_size}, (struct slice_mut_u8){area,
+    struct call_ask__Reply r = kagutin__kagutin_format((struct slice_mut_u8){log, log_size}, (struct slice_mut_u8){area,
             area_size}, (struct slice_mut_u8){batch, batch_size});
 
     return (struct kagutin_reply){.code = r.code, .figure = r.figure, .size = r.size};
@@ -5396,7 +5413,7 @@ struct kagutin_reply kagutin_open(uint8_t *log, size_t log_size, uint8_t *area, 
 {
     ASK_BUFFERS(kagutin_reply, {log, log_size}, {area, area_size}, {state, state_size}, {newest, newest_size}, {batch,
             batch_size})
-    struct answers__Reply r = kagutin__kagutin_open((struct slice_mut_u8){log, log_size}, (struct slice_mut_u8){area, area_size},
+    struct call_ask__Reply r = kagutin__kagutin_open((struct slice_mut_u8){log, log_size}, (struct slice_mut_u8){area, area_size},
             (struct slice_mut_u8){state, state_size}, (struct slice_mut_u8){newest, newest_size}, (struct slice_mut_u8){batch,
             batch_size});
 
@@ -5409,7 +5426,7 @@ struct kagutin_reply kagutin_read(const uint8_t *log, size_t log_size, const uin
 {
     ASK_BUFFERS(kagutin_reply, {log, log_size}, {area, area_size}, {state, state_size}, {newest, newest_size}, {block,
             block_size})
-    struct answers__Reply r = kagutin__kagutin_read((struct slice_u8){log, log_size}, (struct slice_u8){area, area_size},
+    struct call_ask__Reply r = kagutin__kagutin_read((struct slice_u8){log, log_size}, (struct slice_u8){area, area_size},
             (struct slice_u8){state, state_size}, (struct slice_u8){newest, newest_size}, (struct slice_mut_u8){block,
             block_size}, writer, home);
 
@@ -5420,7 +5437,7 @@ struct kagutin_reply kagutin_reserve(const uint8_t *log, size_t log_size, const 
         size_t state_size, uint64_t writer, uint64_t n)
 {
     ASK_BUFFERS(kagutin_reply, {log, log_size}, {area, area_size}, {state, state_size})
-    struct answers__Reply r = kagutin__kagutin_reserve((struct slice_u8){log, log_size}, (struct slice_u8){area, area_size},
+    struct call_ask__Reply r = kagutin__kagutin_reserve((struct slice_u8){log, log_size}, (struct slice_u8){area, area_size},
             (struct slice_mut_u8){state, state_size}, writer, n);
 
     return (struct kagutin_reply){.code = r.code, .figure = r.figure, .size = r.size};
@@ -5432,7 +5449,7 @@ struct kagutin_reply kagutin_revise(const uint8_t *log, size_t log_size, const u
 {
     ASK_BUFFERS(kagutin_reply, {log, log_size}, {area, area_size}, {state, state_size}, {newest, newest_size}, {blocks,
             blocks_size})
-    struct answers__Reply r = kagutin__kagutin_revise((struct slice_u8){log, log_size}, (struct slice_u8){area, area_size},
+    struct call_ask__Reply r = kagutin__kagutin_revise((struct slice_u8){log, log_size}, (struct slice_u8){area, area_size},
             (struct slice_u8){state, state_size}, (struct slice_u8){newest, newest_size}, (struct slice_mut_u8){blocks,
             blocks_size}, writer, home);
 
@@ -5443,7 +5460,7 @@ struct kagutin_reply kagutin_settle(const uint8_t *log, size_t log_size, uint8_t
         size_t state_size, uint8_t *batch, size_t batch_size)
 {
     ASK_BUFFERS(kagutin_reply, {log, log_size}, {area, area_size}, {state, state_size}, {batch, batch_size})
-    struct answers__Reply r = kagutin__kagutin_settle((struct slice_u8){log, log_size}, (struct slice_mut_u8){area, area_size},
+    struct call_ask__Reply r = kagutin__kagutin_settle((struct slice_u8){log, log_size}, (struct slice_mut_u8){area, area_size},
             (struct slice_mut_u8){state, state_size}, (struct slice_mut_u8){batch, batch_size});
 
     return (struct kagutin_reply){.code = r.code, .figure = r.figure, .size = r.size};
@@ -5453,7 +5470,7 @@ struct kagutin_reply kagutin_step_round(const uint8_t *log, size_t log_size, uin
         size_t state_size, uint8_t *batch, size_t batch_size, uint64_t homes)
 {
     ASK_BUFFERS(kagutin_reply, {log, log_size}, {area, area_size}, {state, state_size}, {batch, batch_size})
-    struct answers__Reply r = kagutin__kagutin_step_round((struct slice_u8){log, log_size}, (struct slice_mut_u8){area,
+    struct call_ask__Reply r = kagutin__kagutin_step_round((struct slice_u8){log, log_size}, (struct slice_mut_u8){area,
             area_size}, (struct slice_mut_u8){state, state_size}, (struct slice_mut_u8){batch, batch_size}, homes);
 
     return (struct kagutin_reply){.code = r.code, .figure = r.figure, .size = r.size};
@@ -5464,7 +5481,7 @@ struct kagutin_reply kagutin_store(uint8_t *log, size_t log_size, const uint8_t 
         uint64_t home)
 {
     ASK_BUFFERS(kagutin_reply, {log, log_size}, {area, area_size}, {state, state_size}, {block, block_size}, {batch, batch_size})
-    struct answers__Reply r = kagutin__kagutin_store((struct slice_mut_u8){log, log_size}, (struct slice_u8){area, area_size},
+    struct call_ask__Reply r = kagutin__kagutin_store((struct slice_mut_u8){log, log_size}, (struct slice_u8){area, area_size},
             (struct slice_mut_u8){state, state_size}, (struct slice_u8){block, block_size}, (struct slice_mut_u8){batch,
             batch_size}, writer, home);
 
@@ -5477,7 +5494,7 @@ struct kagutin_reply kagutin_transact(uint8_t *log, size_t log_size, const uint8
 {
     ASK_BUFFERS(kagutin_reply, {log, log_size}, {area, area_size}, {state, state_size}, {newest, newest_size}, {blocks,
             blocks_size}, {batch, batch_size})
-    struct answers__Reply r = kagutin__kagutin_transact((struct slice_mut_u8){log, log_size}, (struct slice_u8){area, area_size},
+    struct call_ask__Reply r = kagutin__kagutin_transact((struct slice_mut_u8){log, log_size}, (struct slice_u8){area, area_size},
             (struct slice_mut_u8){state, state_size}, (struct slice_mut_u8){newest, newest_size}, (struct slice_u8){blocks,
             blocks_size}, (struct slice_mut_u8){batch, batch_size}, writer, home);
 
@@ -5489,7 +5506,7 @@ struct kagutin_reply kagutin_trim(uint8_t *log, size_t log_size, const uint8_t *
 {
     ASK_BUFFERS(kagutin_reply, {log, log_size}, {area, area_size}, {state, state_size}, {newest, newest_size}, {batch,
             batch_size})
-    struct answers__Reply r = kagutin__kagutin_trim((struct slice_mut_u8){log, log_size}, (struct slice_u8){area, area_size},
+    struct call_ask__Reply r = kagutin__kagutin_trim((struct slice_mut_u8){log, log_size}, (struct slice_u8){area, area_size},
             (struct slice_mut_u8){state, state_size}, (struct slice_mut_u8){newest, newest_size}, (struct slice_mut_u8){batch,
             batch_size});
 

@@ -29,13 +29,13 @@ struct slice_mut_u8 {
     size_t len;
 };
 
-struct answers__Reply {
+struct call_ask__Reply {
     uint64_t code;
     uint64_t figure;
     uint64_t size;
 };
 
-struct alarms__Alarm {
+struct unit_alarms_list__Alarm {
     uint64_t identity;
     uint64_t class;
     uint64_t second;
@@ -45,7 +45,7 @@ struct array_u8_384 {
     uint8_t at[384];
 };
 
-struct alarm_calls__Gravest {
+struct unit_alarms__Gravest {
     uint64_t code;
     uint64_t identity;
     uint64_t alarm_class;
@@ -172,7 +172,7 @@ static inline void store_8(uint8_t *p, uint64_t v)
 }
 
 /* Whether a class is from 1 to 9. */
-static inline bool alarms__fields__class_known(uint64_t class)
+static inline bool unit_alarms_list__fields__class_known(uint64_t class)
 {
     if (class < 1u) {
         return false;
@@ -180,17 +180,17 @@ static inline bool alarms__fields__class_known(uint64_t class)
     return class <= 9u;
 }
 
-static inline struct answers__Reply kagutin__kagutin_revise(struct slice_u8 log, struct slice_u8 area, struct slice_u8 state,
+static inline struct call_ask__Reply kagutin__kagutin_revise(struct slice_u8 log, struct slice_u8 area, struct slice_u8 state,
         struct slice_u8 newest, struct slice_mut_u8 blocks, uint64_t writer, uint64_t home)
 {
     struct kagutin_reply r = kagutin_revise(log.ptr, log.len, area.ptr, area.len, state.ptr, state.len, newest.ptr, newest.len,
             blocks.ptr, blocks.len, writer, home);
 
-    return (struct answers__Reply){.code = (uint64_t)r.code, .figure = (uint64_t)r.figure, .size = (uint64_t)r.size};
+    return (struct call_ask__Reply){.code = (uint64_t)r.code, .figure = (uint64_t)r.figure, .size = (uint64_t)r.size};
 }
 
 /* The number that the `k` bytes from index `at` on make, read byte by byte. */
-static inline uint64_t codec__numbers__each_byte(struct slice_u8 s, uint64_t at, uint64_t k)
+static inline uint64_t base_codec__numbers__each_byte(struct slice_u8 s, uint64_t at, uint64_t k)
 {
     uint64_t t4, t5, t6;
 
@@ -206,17 +206,17 @@ static inline uint64_t codec__numbers__each_byte(struct slice_u8 s, uint64_t at,
 }
 
 /* The number that the `k` bytes from index `at` on make; it fits `k` bytes. The widths in use compile to one load or two. */
-static inline uint64_t codec__numbers__number_1(struct slice_u8 s, uint64_t at)
+static inline uint64_t base_codec__numbers__number_1(struct slice_u8 s, uint64_t at)
 {
-    return codec__numbers__each_byte(s, at, 1u);
+    return base_codec__numbers__each_byte(s, at, 1u);
 }
 
 /* How many are open. */
-static inline uint64_t alarms__list__open_count(struct slice_u8 s)
+static inline uint64_t unit_alarms_list__list__open_count(struct slice_u8 s)
 {
     uint64_t t2, t4;
 
-    t2 = codec__numbers__number_1(s, 0u);
+    t2 = base_codec__numbers__number_1(s, 0u);
     if (t2 <= 48u) {
         t4 = t2;
     } else {
@@ -226,7 +226,7 @@ static inline uint64_t alarms__list__open_count(struct slice_u8 s)
 }
 
 /* The place of the first alarm of that identity, or `n` if none of the `n` has it. */
-static inline uint64_t alarms__list__find(struct slice_u8 s, uint64_t n, uint64_t identity)
+static inline uint64_t unit_alarms_list__list__find(struct slice_u8 s, uint64_t n, uint64_t identity)
 {
     uint64_t t4, t5;
 
@@ -243,7 +243,7 @@ static inline uint64_t alarms__list__find(struct slice_u8 s, uint64_t n, uint64_
 }
 
 /* Writes `n` zeros from index `at` on, and leaves the other bytes as they were. */
-static inline void codec__blocks__clear(struct slice_mut_u8 dst, uint64_t at, uint64_t n)
+static inline void base_codec__blocks__clear(struct slice_mut_u8 dst, uint64_t at, uint64_t n)
 {
     uint64_t t4, t5;
 
@@ -257,7 +257,7 @@ static inline void codec__blocks__clear(struct slice_mut_u8 dst, uint64_t at, ui
 }
 
 /* Writes the bytes of `src` from index `at` on, and leaves the other bytes as they were. */
-static inline void codec__blocks__copy(struct slice_mut_u8 dst, uint64_t at, struct slice_u8 src)
+static inline void base_codec__blocks__copy(struct slice_mut_u8 dst, uint64_t at, struct slice_u8 src)
 {
     uint64_t t4, t5, t19;
 
@@ -279,13 +279,14 @@ static inline void codec__blocks__copy(struct slice_mut_u8 dst, uint64_t at, str
 }
 
 /* Writes `n` bytes of `src` from index `from` on into `dst` from index `at` on. */
-static inline void alarms__list__keep(struct slice_mut_u8 dst, uint64_t at, struct slice_u8 src, uint64_t from, uint64_t n)
+static inline void unit_alarms_list__list__keep(struct slice_mut_u8 dst, uint64_t at, struct slice_u8 src, uint64_t from,
+        uint64_t n)
 {
-    codec__blocks__copy(dst, at, (struct slice_u8){src.ptr + (size_t)from, (size_t)((from + n) - from)});
+    base_codec__blocks__copy(dst, at, (struct slice_u8){src.ptr + (size_t)from, (size_t)((from + n) - from)});
 }
 
 /* Writes `v` as `k` bytes from index `at` on, byte by byte. */
-static inline void codec__numbers__put_each_byte(struct slice_mut_u8 s, uint64_t at, uint64_t k, uint64_t v)
+static inline void base_codec__numbers__put_each_byte(struct slice_mut_u8 s, uint64_t at, uint64_t k, uint64_t v)
 {
     uint64_t t5, t6, t7;
 
@@ -302,28 +303,28 @@ static inline void codec__numbers__put_each_byte(struct slice_mut_u8 s, uint64_t
 
 /* Writes `v` as `k` bytes from index `at` on, and leaves the other bytes as they were. The widths in use compile to one store or
    two. */
-static inline void codec__numbers__put_number_1(struct slice_mut_u8 s, uint64_t at, uint64_t v)
+static inline void base_codec__numbers__put_number_1(struct slice_mut_u8 s, uint64_t at, uint64_t v)
 {
-    codec__numbers__put_each_byte(s, at, 1u, v);
+    base_codec__numbers__put_each_byte(s, at, 1u, v);
 }
 
 /* Writes `v` as `k` bytes from index `at` on, and leaves the other bytes as they were. The widths in use compile to one store or
    two. */
-static inline void codec__numbers__put_number_4(struct slice_mut_u8 s, uint64_t at, uint64_t v)
+static inline void base_codec__numbers__put_number_4(struct slice_mut_u8 s, uint64_t at, uint64_t v)
 {
-    codec__numbers__put_each_byte(s, at, 4u, v);
+    base_codec__numbers__put_each_byte(s, at, 4u, v);
 }
 
 /* Writes an alarm's bytes from index `at` on. */
-static inline void alarms__fields__put_alarm(struct slice_mut_u8 s, uint64_t at, struct alarms__Alarm a)
+static inline void unit_alarms_list__fields__put_alarm(struct slice_mut_u8 s, uint64_t at, struct unit_alarms_list__Alarm a)
 {
     store_2(s.ptr + (size_t)at, a.identity);
-    codec__numbers__put_number_1(s, at + 2u, a.class);
-    codec__numbers__put_number_4(s, at + 3u, a.second);
+    base_codec__numbers__put_number_1(s, at + 2u, a.class);
+    base_codec__numbers__put_number_4(s, at + 3u, a.second);
 }
 
 /* Whether `a` goes before `b`: by class, then second, then identity. */
-static inline bool alarms__fields__goes_before(struct alarms__Alarm a, struct alarms__Alarm b)
+static inline bool unit_alarms_list__fields__goes_before(struct unit_alarms_list__Alarm a, struct unit_alarms_list__Alarm b)
 {
     if (a.class != b.class) {
         return a.class < b.class;
@@ -334,12 +335,13 @@ static inline bool alarms__fields__goes_before(struct alarms__Alarm a, struct al
     return a.identity < b.identity;
 }
 
-static inline struct alarms__Alarm alarms__fields__graver(struct alarms__Alarm a, struct alarms__Alarm b)
+static inline struct unit_alarms_list__Alarm unit_alarms_list__fields__graver(struct unit_alarms_list__Alarm a,
+        struct unit_alarms_list__Alarm b)
 {
     bool t3;
-    struct alarms__Alarm t4;
+    struct unit_alarms_list__Alarm t4;
 
-    t3 = alarms__fields__goes_before(b, a);
+    t3 = unit_alarms_list__fields__goes_before(b, a);
     if (t3) {
         t4 = b;
     } else {
@@ -349,22 +351,22 @@ static inline struct alarms__Alarm alarms__fields__graver(struct alarms__Alarm a
 }
 
 /* The gravest of the `n` alarms, three zeros if there is none. */
-static inline struct alarms__Alarm alarms__list__gravest_of(struct slice_u8 s, uint64_t n)
+static inline struct unit_alarms_list__Alarm unit_alarms_list__list__gravest_of(struct slice_u8 s, uint64_t n)
 {
-    struct alarms__Alarm t3;
+    struct unit_alarms_list__Alarm t3;
     uint64_t t4, t5, t10, t119;
 
     if (n == 0u) {
-        return (struct alarms__Alarm){.identity = 0u, .class = 0u, .second = 0u};
+        return (struct unit_alarms_list__Alarm){.identity = 0u, .class = 0u, .second = 0u};
     }
     t10 = load_8(s.ptr + 8u);
-    t3 = (struct alarms__Alarm){.identity = t10 % UINT64_C(0x10000), .class = (t10 / UINT64_C(0x10000)) % 256u,
+    t3 = (struct unit_alarms_list__Alarm){.identity = t10 % UINT64_C(0x10000), .class = (t10 / UINT64_C(0x10000)) % 256u,
             .second = (t10 / UINT64_C(0x1000000)) % UINT64_C(0x100000000)};
     t4 = 1u;
     t5 = 15u;
     while (t4 < n) {
         t119 = load_8(s.ptr + (size_t)t5);
-        t3 = alarms__fields__graver(t3, (struct alarms__Alarm){.identity = t119 % UINT64_C(0x10000),
+        t3 = unit_alarms_list__fields__graver(t3, (struct unit_alarms_list__Alarm){.identity = t119 % UINT64_C(0x10000),
                 .class = (t119 / UINT64_C(0x10000)) % 256u, .second = (t119 / UINT64_C(0x1000000)) % UINT64_C(0x100000000)});
         t4 = t4 + 1u;
         t5 = t5 + 7u;
@@ -373,123 +375,124 @@ static inline struct alarms__Alarm alarms__list__gravest_of(struct slice_u8 s, u
 }
 
 /* Puts the number and the gravest in front of the `n` alarms of `s`. */
-static inline void alarms__list__seal(struct slice_mut_u8 s, uint64_t n)
+static inline void unit_alarms_list__list__seal(struct slice_mut_u8 s, uint64_t n)
 {
-    struct alarms__Alarm t3;
+    struct unit_alarms_list__Alarm t3;
 
-    t3 = alarms__list__gravest_of((struct slice_u8){s.ptr, s.len}, n);
-    codec__numbers__put_number_1(s, 0u, n);
-    alarms__fields__put_alarm(s, 1u, t3);
+    t3 = unit_alarms_list__list__gravest_of((struct slice_u8){s.ptr, s.len}, n);
+    base_codec__numbers__put_number_1(s, 0u, n);
+    unit_alarms_list__fields__put_alarm(s, 1u, t3);
 }
 
 /* Makes `output` the bytes of the `n` alarms of `s` and one more behind them. */
-static inline void alarms__list__with_one(struct slice_mut_u8 output, struct slice_u8 s, uint64_t n, struct alarms__Alarm a)
+static inline void unit_alarms_list__list__with_one(struct slice_mut_u8 output, struct slice_u8 s, uint64_t n,
+        struct unit_alarms_list__Alarm a)
 {
-    codec__blocks__clear(output, 0u, 384u);
-    alarms__list__keep(output, 8u, s, 8u, 7u * n);
-    alarms__fields__put_alarm(output, 8u + (7u * n), a);
-    alarms__list__seal(output, n + 1u);
+    base_codec__blocks__clear(output, 0u, 384u);
+    unit_alarms_list__list__keep(output, 8u, s, 8u, 7u * n);
+    unit_alarms_list__fields__put_alarm(output, 8u + (7u * n), a);
+    unit_alarms_list__list__seal(output, n + 1u);
 }
 
 /* An arrival: 0 for done, 24 or 25. `output` gets the blocks of the new list; a refusal leaves it as it was. */
-static inline uint64_t alarms__arrive(struct slice_u8 list, struct slice_mut_u8 output, uint16_t identity, uint64_t class,
-        uint32_t second)
+static inline uint64_t unit_alarms_list__arrive(struct slice_u8 list, struct slice_mut_u8 output, uint16_t identity,
+        uint64_t class, uint32_t second)
 {
     uint64_t t6, t9;
     bool t7;
 
-    t7 = alarms__fields__class_known(class);
+    t7 = unit_alarms_list__fields__class_known(class);
     if (!t7) {
         return 24u;
     }
-    t6 = alarms__list__open_count(list);
-    t9 = alarms__list__find(list, t6, (uint64_t)identity);
+    t6 = unit_alarms_list__list__open_count(list);
+    t9 = unit_alarms_list__list__find(list, t6, (uint64_t)identity);
     if (t9 < t6) {
         return 24u;
     }
     if (48u <= t6) {
         return 25u;
     }
-    alarms__list__with_one(output, list, t6, (struct alarms__Alarm){.identity = (uint64_t)identity, .class = class,
-            .second = (uint64_t)second});
+    unit_alarms_list__list__with_one(output, list, t6, (struct unit_alarms_list__Alarm){.identity = (uint64_t)identity,
+            .class = class, .second = (uint64_t)second});
     return 0u;
 }
 
-static inline struct answers__Reply kagutin__kagutin_transact(struct slice_mut_u8 log, struct slice_u8 area,
+static inline struct call_ask__Reply kagutin__kagutin_transact(struct slice_mut_u8 log, struct slice_u8 area,
         struct slice_mut_u8 state, struct slice_mut_u8 newest, struct slice_u8 blocks, struct slice_mut_u8 batch, uint64_t writer,
         uint64_t home)
 {
     struct kagutin_reply r = kagutin_transact(log.ptr, log.len, area.ptr, area.len, state.ptr, state.len, newest.ptr, newest.len,
             blocks.ptr, blocks.len, batch.ptr, batch.len, writer, home);
 
-    return (struct answers__Reply){.code = (uint64_t)r.code, .figure = (uint64_t)r.figure, .size = (uint64_t)r.size};
+    return (struct call_ask__Reply){.code = (uint64_t)r.code, .figure = (uint64_t)r.figure, .size = (uint64_t)r.size};
 }
 
 /* Ends an event by its own answer: refused, or the unit's new blocks stored as one transaction. */
-static inline struct answers__Reply units__finish(struct slice_mut_u8 log, struct slice_u8 area, struct slice_mut_u8 state,
+static inline struct call_ask__Reply unit_shared__finish(struct slice_mut_u8 log, struct slice_u8 area, struct slice_mut_u8 state,
         struct slice_mut_u8 newest, struct slice_u8 blocks, struct slice_mut_u8 batch, uint64_t writer, uint64_t home,
         uint64_t code)
 {
     if (code != 0u) {
-        return (struct answers__Reply){.code = code, .figure = 0u, .size = 0u};
+        return (struct call_ask__Reply){.code = code, .figure = 0u, .size = 0u};
     }
     return kagutin__kagutin_transact(log, area, state, newest, blocks, batch, writer, home);
 }
 
 /* An alarm arrives; the figure is the ticket of its commit. */
-static inline struct answers__Reply alarm_calls__kagutin_alarm_arrive(struct slice_mut_u8 log, struct slice_u8 area,
+static inline struct call_ask__Reply unit_alarms__kagutin_alarm_arrive(struct slice_mut_u8 log, struct slice_u8 area,
         struct slice_mut_u8 state, struct slice_mut_u8 newest, struct slice_mut_u8 batch, uint64_t writer, uint16_t identity,
         uint64_t class, uint32_t second)
 {
     struct array_u8_384 t10, t11;
-    struct answers__Reply t12;
+    struct call_ask__Reply t12;
     uint64_t t13;
     bool t14;
 
-    t14 = alarms__fields__class_known(class);
+    t14 = unit_alarms_list__fields__class_known(class);
     if (!t14) {
-        return (struct answers__Reply){.code = 24u, .figure = 0u, .size = 0u};
+        return (struct call_ask__Reply){.code = 24u, .figure = 0u, .size = 0u};
     }
     memset(&t10, 0u, sizeof t10);
     memset(&t11, 0u, sizeof t11);
     t12 = kagutin__kagutin_revise((struct slice_u8){log.ptr, log.len}, area, (struct slice_u8){state.ptr, state.len},
             (struct slice_u8){newest.ptr, newest.len}, (struct slice_mut_u8){t10.at, 384u}, writer, 24u);
     if (t12.code != 0u) {
-        return (struct answers__Reply){.code = t12.code, .figure = 0u, .size = 0u};
+        return (struct call_ask__Reply){.code = t12.code, .figure = 0u, .size = 0u};
     }
-    t13 = alarms__arrive((struct slice_u8){t10.at, 384u}, (struct slice_mut_u8){t11.at, 384u}, identity, class, second);
-    return units__finish(log, area, state, newest, (struct slice_u8){t11.at, 384u}, batch, writer, 24u, t13);
+    t13 = unit_alarms_list__arrive((struct slice_u8){t10.at, 384u}, (struct slice_mut_u8){t11.at, 384u}, identity, class, second);
+    return unit_shared__finish(log, area, state, newest, (struct slice_u8){t11.at, 384u}, batch, writer, 24u, t13);
 }
 
 /* Makes `output` the bytes of the `n` alarms of `s` but the one at place `i`. */
-static inline void alarms__list__without_one(struct slice_mut_u8 output, struct slice_u8 s, uint64_t n, uint64_t i)
+static inline void unit_alarms_list__list__without_one(struct slice_mut_u8 output, struct slice_u8 s, uint64_t n, uint64_t i)
 {
-    codec__blocks__clear(output, 0u, 384u);
-    alarms__list__keep(output, 8u, s, 8u, 7u * i);
-    alarms__list__keep(output, 8u + (7u * i), s, 15u + (7u * i), 7u * ((n - 1u) - i));
-    alarms__list__seal(output, n - 1u);
+    base_codec__blocks__clear(output, 0u, 384u);
+    unit_alarms_list__list__keep(output, 8u, s, 8u, 7u * i);
+    unit_alarms_list__list__keep(output, 8u + (7u * i), s, 15u + (7u * i), 7u * ((n - 1u) - i));
+    unit_alarms_list__list__seal(output, n - 1u);
 }
 
 /* A clearing: 0 for done, or 24. `output` gets the blocks of the new list; a refusal leaves it as it was. */
-static inline uint64_t alarms__clear(struct slice_u8 list, struct slice_mut_u8 output, uint16_t identity)
+static inline uint64_t unit_alarms_list__clear(struct slice_u8 list, struct slice_mut_u8 output, uint16_t identity)
 {
     uint64_t t4, t5;
 
-    t4 = alarms__list__open_count(list);
-    t5 = alarms__list__find(list, t4, (uint64_t)identity);
+    t4 = unit_alarms_list__list__open_count(list);
+    t5 = unit_alarms_list__list__find(list, t4, (uint64_t)identity);
     if (t4 <= t5) {
         return 24u;
     }
-    alarms__list__without_one(output, list, t4, t5);
+    unit_alarms_list__list__without_one(output, list, t4, t5);
     return 0u;
 }
 
 /* An alarm clears; the figure is the ticket of its commit. */
-static inline struct answers__Reply alarm_calls__kagutin_alarm_clear(struct slice_mut_u8 log, struct slice_u8 area,
+static inline struct call_ask__Reply unit_alarms__kagutin_alarm_clear(struct slice_mut_u8 log, struct slice_u8 area,
         struct slice_mut_u8 state, struct slice_mut_u8 newest, struct slice_mut_u8 batch, uint64_t writer, uint16_t identity)
 {
     struct array_u8_384 t8, t9;
-    struct answers__Reply t10;
+    struct call_ask__Reply t10;
     uint64_t t11;
 
     memset(&t8, 0u, sizeof t8);
@@ -497,41 +500,41 @@ static inline struct answers__Reply alarm_calls__kagutin_alarm_clear(struct slic
     t10 = kagutin__kagutin_revise((struct slice_u8){log.ptr, log.len}, area, (struct slice_u8){state.ptr, state.len},
             (struct slice_u8){newest.ptr, newest.len}, (struct slice_mut_u8){t8.at, 384u}, writer, 24u);
     if (t10.code != 0u) {
-        return (struct answers__Reply){.code = t10.code, .figure = 0u, .size = 0u};
+        return (struct call_ask__Reply){.code = t10.code, .figure = 0u, .size = 0u};
     }
-    t11 = alarms__clear((struct slice_u8){t8.at, 384u}, (struct slice_mut_u8){t9.at, 384u}, identity);
-    return units__finish(log, area, state, newest, (struct slice_u8){t9.at, 384u}, batch, writer, 24u, t11);
+    t11 = unit_alarms_list__clear((struct slice_u8){t8.at, 384u}, (struct slice_mut_u8){t9.at, 384u}, identity);
+    return unit_shared__finish(log, area, state, newest, (struct slice_u8){t9.at, 384u}, batch, writer, 24u, t11);
 }
 
-static inline struct answers__Reply kagutin__kagutin_fetch(struct slice_u8 log, struct slice_u8 area, struct slice_u8 state,
+static inline struct call_ask__Reply kagutin__kagutin_fetch(struct slice_u8 log, struct slice_u8 area, struct slice_u8 state,
         struct slice_u8 newest, struct slice_mut_u8 blocks, uint64_t writer, uint64_t home)
 {
     struct kagutin_reply r = kagutin_fetch(log.ptr, log.len, area.ptr, area.len, state.ptr, state.len, newest.ptr, newest.len,
             blocks.ptr, blocks.len, writer, home);
 
-    return (struct answers__Reply){.code = (uint64_t)r.code, .figure = (uint64_t)r.figure, .size = (uint64_t)r.size};
+    return (struct call_ask__Reply){.code = (uint64_t)r.code, .figure = (uint64_t)r.figure, .size = (uint64_t)r.size};
 }
 
 /* The gravest open alarm, as it is kept in the first home. */
-static inline struct alarm_calls__Gravest alarm_calls__kagutin_alarm_gravest(struct slice_u8 log, struct slice_u8 area,
+static inline struct unit_alarms__Gravest unit_alarms__kagutin_alarm_gravest(struct slice_u8 log, struct slice_u8 area,
         struct slice_u8 state, struct slice_u8 newest, uint64_t writer)
 {
     struct array_u8_64 t6;
-    struct answers__Reply t7;
-    struct alarms__Alarm t8;
+    struct call_ask__Reply t7;
+    struct unit_alarms_list__Alarm t8;
     struct slice_u8 t15;
     uint64_t t17;
 
     memset(&t6, 0u, sizeof t6);
     t7 = kagutin__kagutin_fetch(log, area, state, newest, (struct slice_mut_u8){t6.at, 64u}, writer, 24u);
     if (t7.code != 0u) {
-        return (struct alarm_calls__Gravest){.code = t7.code, .identity = 0u, .alarm_class = 0u, .second = 0u};
+        return (struct unit_alarms__Gravest){.code = t7.code, .identity = 0u, .alarm_class = 0u, .second = 0u};
     }
     t15 = (struct slice_u8){t6.at, 64u};
     t17 = load_8(t15.ptr + 1u);
-    t8 = (struct alarms__Alarm){.identity = t17 % UINT64_C(0x10000), .class = (t17 / UINT64_C(0x10000)) % 256u,
+    t8 = (struct unit_alarms_list__Alarm){.identity = t17 % UINT64_C(0x10000), .class = (t17 / UINT64_C(0x10000)) % 256u,
             .second = (t17 / UINT64_C(0x1000000)) % UINT64_C(0x100000000)};
-    return (struct alarm_calls__Gravest){.code = 0u, .identity = t8.identity, .alarm_class = t8.class, .second = t8.second};
+    return (struct unit_alarms__Gravest){.code = 0u, .identity = t8.identity, .alarm_class = t8.class, .second = t8.second};
 }
 
 struct kagutin_reply kagutin_alarm_arrive(uint8_t *log, size_t log_size, const uint8_t *area, size_t area_size, uint8_t *state,
@@ -540,7 +543,7 @@ struct kagutin_reply kagutin_alarm_arrive(uint8_t *log, size_t log_size, const u
 {
     ASK_BUFFERS(kagutin_reply, {log, log_size}, {area, area_size}, {state, state_size}, {newest, newest_size}, {batch,
             batch_size})
-    struct answers__Reply r = alarm_calls__kagutin_alarm_arrive((struct slice_mut_u8){log, log_size}, (struct slice_u8){area,
+    struct call_ask__Reply r = unit_alarms__kagutin_alarm_arrive((struct slice_mut_u8){log, log_size}, (struct slice_u8){area,
             area_size}, (struct slice_mut_u8){state, state_size}, (struct slice_mut_u8){newest, newest_size},
             (struct slice_mut_u8){batch, batch_size}, writer, identity, class, second);
 
@@ -553,7 +556,7 @@ struct kagutin_reply kagutin_alarm_clear(uint8_t *log, size_t log_size, const ui
 {
     ASK_BUFFERS(kagutin_reply, {log, log_size}, {area, area_size}, {state, state_size}, {newest, newest_size}, {batch,
             batch_size})
-    struct answers__Reply r = alarm_calls__kagutin_alarm_clear((struct slice_mut_u8){log, log_size}, (struct slice_u8){area,
+    struct call_ask__Reply r = unit_alarms__kagutin_alarm_clear((struct slice_mut_u8){log, log_size}, (struct slice_u8){area,
             area_size}, (struct slice_mut_u8){state, state_size}, (struct slice_mut_u8){newest, newest_size},
             (struct slice_mut_u8){batch, batch_size}, writer, identity);
 
@@ -564,7 +567,7 @@ struct kagutin_alarm kagutin_alarm_gravest(const uint8_t *log, size_t log_size, 
         const uint8_t *state, size_t state_size, const uint8_t *newest, size_t newest_size, uint64_t writer)
 {
     ASK_BUFFERS(kagutin_alarm, {log, log_size}, {area, area_size}, {state, state_size}, {newest, newest_size})
-    struct alarm_calls__Gravest r = alarm_calls__kagutin_alarm_gravest((struct slice_u8){log, log_size}, (struct slice_u8){area,
+    struct unit_alarms__Gravest r = unit_alarms__kagutin_alarm_gravest((struct slice_u8){log, log_size}, (struct slice_u8){area,
             area_size}, (struct slice_u8){state, state_size}, (struct slice_u8){newest, newest_size}, writer);
 
     return (struct kagutin_alarm){.code = r.code, .identity = r.identity, .alarm_class = r.alarm_class, .second = r.second};

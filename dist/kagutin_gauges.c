@@ -23,14 +23,14 @@ struct slice_u8 {
     size_t len;
 };
 
-struct gauges__merge__Step {
+struct alone_gauges__merge__Step {
     uint64_t minute;
     uint64_t kind;
     uint64_t first;
     uint64_t second;
 };
 
-struct gauges__merge__Counts {
+struct alone_gauges__merge__Counts {
     uint64_t agreeing;
     uint64_t differing;
     uint64_t only_first;
@@ -42,7 +42,7 @@ struct slice_mut_u8 {
     size_t len;
 };
 
-struct gauges__Comparison {
+struct alone_gauges__Comparison {
     uint64_t code;
     uint64_t agreeing;
     uint64_t differing;
@@ -114,7 +114,7 @@ static inline void store_2(uint8_t *p, uint64_t v)
 }
 
 /* Whether the minutes of whole rows rise strictly. */
-static inline bool gauges__readings__rises(struct slice_u8 s)
+static inline bool alone_gauges__readings__rises(struct slice_u8 s)
 {
     uint64_t t2, t3, t4;
 
@@ -132,7 +132,7 @@ static inline bool gauges__readings__rises(struct slice_u8 s)
 }
 
 /* Whether a strip holds whole rows, no more than 1,440, whose minutes rise strictly. */
-static inline bool gauges__readings__acceptable(struct slice_u8 s)
+static inline bool alone_gauges__readings__acceptable(struct slice_u8 s)
 {
     if (((uint64_t)s.len % 4u) != 0u) {
         return false;
@@ -140,11 +140,11 @@ static inline bool gauges__readings__acceptable(struct slice_u8 s)
     if (((uint64_t)4u * 1440u) < (uint64_t)s.len) {
         return false;
     }
-    return gauges__readings__rises(s);
+    return alone_gauges__readings__rises(s);
 }
 
 /* The kind of a minute that both lists have. */
-static inline uint64_t gauges__merge__judge(uint64_t a, uint64_t b, uint64_t tolerance)
+static inline uint64_t alone_gauges__merge__judge(uint64_t a, uint64_t b, uint64_t tolerance)
 {
     uint64_t t6, t7;
 
@@ -162,35 +162,35 @@ static inline uint64_t gauges__merge__judge(uint64_t a, uint64_t b, uint64_t tol
 }
 
 /* The next line of the rows from byte `i` of the first strip and byte `j` of the second on. */
-static inline struct gauges__merge__Step gauges__merge__next_line(struct slice_u8 first, struct slice_u8 second, uint64_t i,
-        uint64_t j, uint64_t tolerance)
+static inline struct alone_gauges__merge__Step alone_gauges__merge__next_line(struct slice_u8 first, struct slice_u8 second,
+        uint64_t i, uint64_t j, uint64_t tolerance)
 {
     uint64_t t7, t8, t9, t47, t57;
 
     if ((uint64_t)second.len <= j) {
-        return (struct gauges__merge__Step){.minute = (uint64_t)first.ptr[(size_t)i] + (256u * (uint64_t)first.ptr[(size_t)(i
-                + 1u)]), .kind = 3u, .first = i + 4u, .second = j};
+        return (struct alone_gauges__merge__Step){.minute = (uint64_t)first.ptr[(size_t)i]
+                + (256u * (uint64_t)first.ptr[(size_t)(i + 1u)]), .kind = 3u, .first = i + 4u, .second = j};
     }
     t7 = (uint64_t)second.ptr[(size_t)j] + (256u * (uint64_t)second.ptr[(size_t)(j + 1u)]);
     if ((uint64_t)first.len <= i) {
-        return (struct gauges__merge__Step){.minute = t7, .kind = 4u, .first = i, .second = j + 4u};
+        return (struct alone_gauges__merge__Step){.minute = t7, .kind = 4u, .first = i, .second = j + 4u};
     }
     t8 = (uint64_t)first.ptr[(size_t)i] + (256u * (uint64_t)first.ptr[(size_t)(i + 1u)]);
     if (t8 < t7) {
-        return (struct gauges__merge__Step){.minute = t8, .kind = 3u, .first = i + 4u, .second = j};
+        return (struct alone_gauges__merge__Step){.minute = t8, .kind = 3u, .first = i + 4u, .second = j};
     }
     if (t7 < t8) {
-        return (struct gauges__merge__Step){.minute = t7, .kind = 4u, .first = i, .second = j + 4u};
+        return (struct alone_gauges__merge__Step){.minute = t7, .kind = 4u, .first = i, .second = j + 4u};
     }
     t47 = i + 2u;
     t57 = j + 2u;
-    t9 = gauges__merge__judge((uint64_t)first.ptr[(size_t)t47] + (256u * (uint64_t)first.ptr[(size_t)(t47 + 1u)]),
+    t9 = alone_gauges__merge__judge((uint64_t)first.ptr[(size_t)t47] + (256u * (uint64_t)first.ptr[(size_t)(t47 + 1u)]),
             (uint64_t)second.ptr[(size_t)t57] + (256u * (uint64_t)second.ptr[(size_t)(t57 + 1u)]), tolerance);
-    return (struct gauges__merge__Step){.minute = t8, .kind = t9, .first = i + 4u, .second = j + 4u};
+    return (struct alone_gauges__merge__Step){.minute = t8, .kind = t9, .first = i + 4u, .second = j + 4u};
 }
 
 /* 1 if a line is of the kind asked for, else 0. */
-static inline uint64_t gauges__merge__hit(uint64_t kind, uint64_t wanted)
+static inline uint64_t alone_gauges__merge__hit(uint64_t kind, uint64_t wanted)
 {
     uint64_t t4;
 
@@ -203,10 +203,11 @@ static inline uint64_t gauges__merge__hit(uint64_t kind, uint64_t wanted)
 }
 
 /* The lines of each kind. */
-static inline struct gauges__merge__Counts gauges__merge__tally(struct slice_u8 first, struct slice_u8 second, uint64_t tolerance)
+static inline struct alone_gauges__merge__Counts alone_gauges__merge__tally(struct slice_u8 first, struct slice_u8 second,
+        uint64_t tolerance)
 {
     uint64_t t4, t5, t6, t7, t8, t9, t10, t16;
-    struct gauges__merge__Step t11;
+    struct alone_gauges__merge__Step t11;
 
     t4 = (uint64_t)first.len + (uint64_t)second.len;
     t5 = 0u;
@@ -216,34 +217,34 @@ static inline struct gauges__merge__Counts gauges__merge__tally(struct slice_u8 
     t9 = 0u;
     t10 = 0u;
     while ((t9 + t10) < t4) {
-        t11 = gauges__merge__next_line(first, second, t9, t10, tolerance);
-        t16 = gauges__merge__hit(t11.kind, 1u);
+        t11 = alone_gauges__merge__next_line(first, second, t9, t10, tolerance);
+        t16 = alone_gauges__merge__hit(t11.kind, 1u);
         t5 = t5 + t16;
-        t16 = gauges__merge__hit(t11.kind, 2u);
+        t16 = alone_gauges__merge__hit(t11.kind, 2u);
         t6 = t6 + t16;
-        t16 = gauges__merge__hit(t11.kind, 3u);
+        t16 = alone_gauges__merge__hit(t11.kind, 3u);
         t7 = t7 + t16;
-        t16 = gauges__merge__hit(t11.kind, 4u);
+        t16 = alone_gauges__merge__hit(t11.kind, 4u);
         t8 = t8 + t16;
         t9 = t11.first;
         t10 = t11.second;
     }
-    return (struct gauges__merge__Counts){.agreeing = t5, .differing = t6, .only_first = t7, .only_second = t8};
+    return (struct alone_gauges__merge__Counts){.agreeing = t5, .differing = t6, .only_first = t7, .only_second = t8};
 }
 
 /* Writes the lines, and leaves the bytes past them as they were. */
-static inline void gauges__merge__write_lines(struct slice_mut_u8 output, struct slice_u8 first, struct slice_u8 second,
+static inline void alone_gauges__merge__write_lines(struct slice_mut_u8 output, struct slice_u8 first, struct slice_u8 second,
         uint64_t tolerance)
 {
     uint64_t t5, t6, t7, t8;
-    struct gauges__merge__Step t9;
+    struct alone_gauges__merge__Step t9;
 
     t5 = (uint64_t)first.len + (uint64_t)second.len;
     t6 = 0u;
     t7 = 0u;
     t8 = 0u;
     while ((t6 + t7) < t5) {
-        t9 = gauges__merge__next_line(first, second, t6, t7, tolerance);
+        t9 = alone_gauges__merge__next_line(first, second, t6, t7, tolerance);
         store_2(output.ptr + (size_t)t8, t9.minute);
         output.ptr[(size_t)(t8 + 2u)] = (uint8_t)(t9.kind % 256u);
         t6 = t9.first;
@@ -253,26 +254,29 @@ static inline void gauges__merge__write_lines(struct slice_mut_u8 output, struct
 }
 
 /* Reports every minute of either list once, rising, as agreeing, differing or in one list only. */
-static inline struct gauges__Comparison gauges__kagutin_compare_gauges(struct slice_u8 first, struct slice_u8 second,
+static inline struct alone_gauges__Comparison alone_gauges__kagutin_compare_gauges(struct slice_u8 first, struct slice_u8 second,
         struct slice_mut_u8 report, uint16_t tolerance)
 {
-    struct gauges__merge__Counts t5;
+    struct alone_gauges__merge__Counts t5;
     bool t7;
 
-    t7 = gauges__readings__acceptable(first);
+    t7 = alone_gauges__readings__acceptable(first);
     if (!t7) {
-        return (struct gauges__Comparison){.code = 22u, .agreeing = 0u, .differing = 0u, .only_first = 0u, .only_second = 0u};
+        return (struct alone_gauges__Comparison){.code = 22u, .agreeing = 0u, .differing = 0u, .only_first = 0u,
+                .only_second = 0u};
     }
-    t7 = gauges__readings__acceptable(second);
+    t7 = alone_gauges__readings__acceptable(second);
     if (!t7) {
-        return (struct gauges__Comparison){.code = 22u, .agreeing = 0u, .differing = 0u, .only_first = 0u, .only_second = 0u};
+        return (struct alone_gauges__Comparison){.code = 22u, .agreeing = 0u, .differing = 0u, .only_first = 0u,
+                .only_second = 0u};
     }
-    t5 = gauges__merge__tally(first, second, (uint64_t)tolerance);
+    t5 = alone_gauges__merge__tally(first, second, (uint64_t)tolerance);
     if ((uint64_t)report.len < (3u * (((t5.agreeing + t5.differing) + t5.only_first) + t5.only_second))) {
-        return (struct gauges__Comparison){.code = 22u, .agreeing = 0u, .differing = 0u, .only_first = 0u, .only_second = 0u};
+        return (struct alone_gauges__Comparison){.code = 22u, .agreeing = 0u, .differing = 0u, .only_first = 0u,
+                .only_second = 0u};
     }
-    gauges__merge__write_lines(report, first, second, (uint64_t)tolerance);
-    return (struct gauges__Comparison){.code = 0u, .agreeing = t5.agreeing, .differing = t5.differing,
+    alone_gauges__merge__write_lines(report, first, second, (uint64_t)tolerance);
+    return (struct alone_gauges__Comparison){.code = 0u, .agreeing = t5.agreeing, .differing = t5.differing,
             .only_first = t5.only_first, .only_second = t5.only_second};
 }
 
@@ -280,8 +284,8 @@ struct kagutin_comparison kagutin_compare_gauges(const uint8_t *first, size_t fi
         size_t second_size, uint8_t *report, size_t report_size, uint16_t tolerance)
 {
     ASK_BUFFERS(kagutin_comparison, {first, first_size}, {second, second_size}, {report, report_size})
-    struct gauges__Comparison r = gauges__kagutin_compare_gauges((struct slice_u8){first, first_size}, (struct slice_u8){second,
-            second_size}, (struct slice_mut_u8){report, report_size}, tolerance);
+    struct alone_gauges__Comparison r = alone_gauges__kagutin_compare_gauges((struct slice_u8){first, first_size},
+            (struct slice_u8){second, second_size}, (struct slice_mut_u8){report, report_size}, tolerance);
 
     return (struct kagutin_comparison){.code = r.code, .agreeing = r.agreeing, .differing = r.differing,
             .only_first = r.only_first, .only_second = r.only_second};

@@ -18,7 +18,7 @@
 #pragma GCC diagnostic ignored "-Waggressive-loop-optimizations"
 #endif
 
-struct inflow__Bounds {
+struct alone_inflow__Bounds {
     uint64_t code;
     uint64_t least;
     uint64_t most;
@@ -32,25 +32,25 @@ static inline int64_t to_signed(uint64_t x)
 
 /* The least and the most inflow between two moments, from the depth range at each, the pit's area and the range of pumped volume.
    */
-static inline struct inflow__Bounds inflow__kagutin_inflow(uint64_t area, uint16_t low_before, uint16_t high_before,
+static inline struct alone_inflow__Bounds alone_inflow__kagutin_inflow(uint64_t area, uint16_t low_before, uint16_t high_before,
         uint16_t low_after, uint16_t high_after, uint32_t low_pumped, uint32_t high_pumped)
 {
     if (area < 1u) {
-        return (struct inflow__Bounds){.code = 23u, .least = 0u, .most = 0u};
+        return (struct alone_inflow__Bounds){.code = 23u, .least = 0u, .most = 0u};
     }
     if (UINT64_C(0xf4240) < area) {
-        return (struct inflow__Bounds){.code = 23u, .least = 0u, .most = 0u};
+        return (struct alone_inflow__Bounds){.code = 23u, .least = 0u, .most = 0u};
     }
     if (high_before < low_before) {
-        return (struct inflow__Bounds){.code = 23u, .least = 0u, .most = 0u};
+        return (struct alone_inflow__Bounds){.code = 23u, .least = 0u, .most = 0u};
     }
     if (high_after < low_after) {
-        return (struct inflow__Bounds){.code = 23u, .least = 0u, .most = 0u};
+        return (struct alone_inflow__Bounds){.code = 23u, .least = 0u, .most = 0u};
     }
     if (high_pumped < low_pumped) {
-        return (struct inflow__Bounds){.code = 23u, .least = 0u, .most = 0u};
+        return (struct alone_inflow__Bounds){.code = 23u, .least = 0u, .most = 0u};
     }
-    return (struct inflow__Bounds){.code = 0u, .least = ((area * (uint64_t)low_after)
+    return (struct alone_inflow__Bounds){.code = 0u, .least = ((area * (uint64_t)low_after)
             + (uint64_t)low_pumped) - (area * (uint64_t)high_before), .most = ((area * (uint64_t)high_after)
             + (uint64_t)high_pumped) - (area * (uint64_t)low_before)};
 }
@@ -58,7 +58,7 @@ static inline struct inflow__Bounds inflow__kagutin_inflow(uint64_t area, uint16
 struct kagutin_inflow_bounds kagutin_inflow(uint64_t area, uint16_t low_before, uint16_t high_before, uint16_t low_after,
         uint16_t high_after, uint32_t low_pumped, uint32_t high_pumped)
 {
-    struct inflow__Bounds r = inflow__kagutin_inflow(area, low_before, high_before, low_after, high_after, low_pumped,
+    struct alone_inflow__Bounds r = alone_inflow__kagutin_inflow(area, low_before, high_before, low_after, high_after, low_pumped,
             high_pumped);
 
     return (struct kagutin_inflow_bounds){.code = r.code, .least = to_signed(r.least), .most = to_signed(r.most)};

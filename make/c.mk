@@ -5,12 +5,13 @@
 # c-sanitize                     the same with address and undefined-behaviour sanitizers, in target/c/sanitize
 # c-check                        tests of all of these
 # c-quick                        the quick ones of them, without sanitizers
+# wrapper-check                  tests of the C++ wrapper
 # snippets-check                 the examples and commands of README, docs and headers: built, run and judged
 # rights-cost                    what questions 19 and 20 cost, by callgrind
 # question-cost                  what question 2 costs; with LIB the archive it is a function of its own
 # c-kills                        longer: KILLS kills of a process at work, on this disk
 # c-dist                         headers and sources of the store object and its drivers into DIST
-# install, uninstall             headers, libraries, kagutin.pc, the program and its manual pages, under DESTDIR and PREFIX
+# install, uninstall             headers, libraries, pkg-config files, the program and its manual pages, under DESTDIR and PREFIX, or LIBDIR and INCLUDEDIR
 
 LIB ?= $(C_OUT)/libkagutin.a
 GAUGES_LIB ?= $(C_OUT)/libkagutin_gauges.a
@@ -130,6 +131,7 @@ c-kills: $(C_OUT)/kill_check
 # The store object as an archive of its own; it calls the library.
 STORE_LIB = $(C_OUT)/libkagutin_store.a
 
+C_WRAPPER = include/kagutin.hpp
 C_PUBLIC = kagutin kagutin_store kagutin_rights kagutin_file kagutin_memory kagutin_fram kagutin_seal
 
 # NAME.c of c/store and c/drivers becomes kagutin_NAME.c there; all headers and sources of dist/ stand in one folder.
@@ -143,26 +145,39 @@ c-dist: $(C_PUBLIC:%=include/%.h) $(C_PRIVATE) $(C_STORE:%=%.c)
 # Standalone calls, each a header and an archive.
 C_STANDALONE = kagutin_gauges kagutin_inflow
 
-install: $(LIB) $(STORE_LIB) $(GAUGES_LIB) $(INFLOW_LIB) $(C_PUBLIC:%=include/%.h) $(C_STANDALONE:%=include/%.h) kagutin.pc.in
-	install -d $(DESTDIR)$(PREFIX)/include $(DESTDIR)$(PREFIX)/lib/pkgconfig
-	install -m 644 $(C_PUBLIC:%=include/%.h) $(C_STANDALONE:%=include/%.h) $(DESTDIR)$(PREFIX)/include
-	install -m 644 $(LIB) $(DESTDIR)$(PREFIX)/lib/libkagutin.a
-	install -m 644 $(STORE_LIB) $(DESTDIR)$(PREFIX)/lib/libkagutin_store.a
-	install -m 644 $(GAUGES_LIB) $(DESTDIR)$(PREFIX)/lib/libkagutin_gauges.a
-	install -m 644 $(INFLOW_LIB) $(DESTDIR)$(PREFIX)/lib/libkagutin_inflow.a
-	sed -e 's|@PREFIX@|$(PREFIX)|' -e 's|@VERSION@|$(VERSION)|' -e 's|@LIBS@|$(C_LIBS)|' -e 's/ *$$//' kagutin.pc.in \
-	    > $(DESTDIR)$(PREFIX)/lib/pkgconfig/kagutin.pc
-	chmod 644 $(DESTDIR)$(PREFIX)/lib/pkgconfig/kagutin.pc
+# Where things go. A prefix without a slash in front is one below this folder; spaces are allowed.
+PREFIX_HERE = $(if $(filter /%,$(firstword $(PREFIX))),$(PREFIX),$(CURDIR)/$(PREFIX))
+LIBDIR ?= $(PREFIX_HERE)/lib
+INCLUDEDIR ?= $(PREFIX_HERE)/include
+TO_LIB = $(DESTDIR)$(LIBDIR)
+TO_INCLUDE = $(DESTDIR)$(INCLUDEDIR)
+
+C_INSTALLED = $(C_PUBLIC:%=include/%.h) $(C_WRAPPER) $(C_STANDALONE:%=include/%.h)
+C_INSTALLED_LIBS = libkagutin.a libkagutin_store.a $(C_STANDALONE:%=lib%.a)
+PC_FILES = kagutin.pc kagutin-units.pc
+
+install: $(LIB) $(STORE_LIB) $(GAUGES_LIB) $(INFLOW_LIB) $(C_INSTALLED) $(PC_FILES:%=%.in)
+	install -d "$(TO_INCLUDE)" "$(TO_LIB)/pkgconfig"
+	install -m 644 $(C_INSTALLED) "$(TO_INCLUDE)"
+	install -m 644 $(LIB) "$(TO_LIB)/libkagutin.a"
+	install -m 644 $(STORE_LIB) "$(TO_LIB)/libkagutin_store.a"
+	install -m 644 $(GAUGES_LIB) "$(TO_LIB)/libkagutin_gauges.a"
+	install -m 644 $(INFLOW_LIB) "$(TO_LIB)/libkagutin_inflow.a"
+	for file in $(PC_FILES); do \
+	    sed -e 's|@PREFIX@|$(PREFIX_HERE)|' -e 's|@LIBDIR@|$(LIBDIR)|' -e 's|@INCLUDEDIR@|$(INCLUDEDIR)|' -e 's|@VERSION@|$(VERSION)|' \
+	        -e 's|@LIBS@|$(C_LIBS)|' -e 's/ *$$//' $$file.in > "$(TO_LIB)/pkgconfig/$$file" && chmod 644 "$(TO_LIB)/pkgconfig/$$file" || exit 1; \
+	done
 
 uninstall:
-	rm -f $(C_PUBLIC:%=$(DESTDIR)$(PREFIX)/include/%.h) $(DESTDIR)$(PREFIX)/lib/libkagutin.a
-	rm -f $(C_STANDALONE:%=$(DESTDIR)$(PREFIX)/include/%.h) $(C_STANDALONE:%=$(DESTDIR)$(PREFIX)/lib/lib%.a)
-	rm -f $(DESTDIR)$(PREFIX)/lib/libkagutin_store.a $(DESTDIR)$(PREFIX)/lib/pkgconfig/kagutin.pc
+	for name in $(notdir $(C_INSTALLED)); do rm -f "$(TO_INCLUDE)/$$name"; done
+	for name in $(C_INSTALLED_LIBS) $(PC_FILES:%=pkgconfig/%); do rm -f "$(TO_LIB)/$$name"; done
 
 include make/port.mk
 include make/units.mk
 include make/program.mk
 include make/fuzz.mk
+include make/all_in_one.mk
+include make/build_systems.mk
 
 # One archive in both builds: its name, its objects.
 define C_ARCHIVE
@@ -195,7 +210,12 @@ snippets-check: $(SNIPPET_LIBS) $(SNIPPET_SANITIZED) $(SNIPPET_PROGRAMS)
 links-check:
 	@if command -v python3 > /dev/null; then python3 tests/docs/links.py; else echo "skipped the links of the documents: python3 is not installed"; fi
 
-c-check: snippets-check links-check
+# The C++ wrapper.
+.PHONY: wrapper-check
+wrapper-check: $(STORE_LIB) $(LIB)
+	@sh tests/programs/wrapper-check.sh $(STORE_LIB) $(LIB) $(C_LIBS)
+
+c-check: snippets-check links-check all-in-one-check wrapper-check build-check
 
 c-clean:
 	rm -rf $(C_OUT)

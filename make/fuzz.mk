@@ -34,7 +34,8 @@ fuzz-quick:
 .PHONY: fuzz-quick-run
 fuzz-quick-run: fuzz-seeds $(FUZZERS:%=$(FUZZ_OUT)/%_fuzz)
 	@for name in $(FUZZERS); do rm -rf $(FUZZ_OUT)/quick && mkdir -p $(FUZZ_OUT)/quick && \
-	    $(FUZZ_OUT)/$${name}_fuzz -seed=$(SEED) -max_len=20000 -runs=6000 -artifact_prefix=$(FUZZ_OUT)/ $(FUZZ_OUT)/quick $(FUZZ_OUT)/seeds/$$name \
+	    if [ $$name = image ]; then runs=1500; else runs=15000; fi; \
+	    $(FUZZ_OUT)/$${name}_fuzz -seed=$(SEED) -max_len=20000 -runs=$$runs -artifact_prefix=$(FUZZ_OUT)/ $(FUZZ_OUT)/quick $(FUZZ_OUT)/seeds/$$name \
 	        > $(FUZZ_OUT)/$$name.log 2>&1 || { tail -n 40 $(FUZZ_OUT)/$$name.log; exit 1; }; \
 	    echo "fuzz: $$name, $$(sed -n 's/^Done \([0-9]*\) runs.*/\1/p' $(FUZZ_OUT)/$$name.log) inputs, nothing found"; done
 

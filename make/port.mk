@@ -31,7 +31,7 @@ dist:
 	@rt check $(EXPORTS) $(STANDALONE:%=alone_%) > $(PORT_OUT)/proved.log 2>&1 || { cat $(PORT_OUT)/proved.log; exit 1; }
 	@$(GENERATE) --out $(DIST_C)
 	@$(foreach b,$(STANDALONE),$(GENERATE_$(b)) --out dist/kagutin_$(b).c &&) true
-	@$(MAKE) --no-print-directory units-dist
+	@$(MAKE) --no-print-directory units-dist all-in-one
 
 dist-check:
 	@rm -rf $(PORT_OUT)/again && mkdir -p $(PORT_OUT)/again

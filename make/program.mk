@@ -35,27 +35,28 @@ $(C_LINKS:%=$(C_OUT)/sanitize/%): $(C_OUT)/sanitize/kagutin
 
 # ---- installing ----
 
-BIN = $(DESTDIR)$(PREFIX)/bin
-MAN = $(DESTDIR)$(PREFIX)/share/man/man1
-COMPLETION = $(DESTDIR)$(PREFIX)/share/bash-completion/completions
+BIN = $(DESTDIR)$(PREFIX_HERE)/bin
+MAN = $(DESTDIR)$(PREFIX_HERE)/share/man/man1
+COMPLETION = $(DESTDIR)$(PREFIX_HERE)/share/bash-completion/completions
 MAN_PAGES = $(wildcard man/*.1)
 
 .PHONY: install-program uninstall-program program-check
 
 install-program: $(C_OUT)/kagutin $(MAN_PAGES) completion/kagutin.bash
-	install -d $(BIN) $(MAN) $(COMPLETION)
-	install -m 755 $(C_OUT)/kagutin $(BIN)/kagutin
-	install -m 644 $(MAN_PAGES) $(MAN)
-	install -m 644 completion/kagutin.bash $(COMPLETION)/kagutin
-	for name in $(C_LINKS); do for folder in $(BIN) $(COMPLETION); do \
-	    if [ ! -e $$folder/$$name ] && [ ! -L $$folder/$$name ]; then ln -s kagutin $$folder/$$name; \
-	    elif [ "$$(readlink $$folder/$$name)" != kagutin ]; then echo "$$folder/$$name is another program and stays"; fi; done; done
+	install -d "$(BIN)" "$(MAN)" "$(COMPLETION)"
+	install -m 755 $(C_OUT)/kagutin "$(BIN)/kagutin"
+	install -m 644 $(MAN_PAGES) "$(MAN)"
+	install -m 644 completion/kagutin.bash "$(COMPLETION)/kagutin"
+	for name in $(C_LINKS); do for folder in "$(BIN)" "$(COMPLETION)"; do \
+	    if [ ! -e "$$folder/$$name" ] && [ ! -L "$$folder/$$name" ]; then ln -s kagutin "$$folder/$$name"; \
+	    elif [ "$$(readlink "$$folder/$$name")" != kagutin ]; then echo "$$folder/$$name is another program and stays"; fi; done; done
 
 # A link of ours is one to kagutin; another program of that name stays.
 uninstall-program:
-	rm -f $(BIN)/kagutin $(MAN_PAGES:man/%=$(MAN)/%) $(COMPLETION)/kagutin
-	for name in $(C_LINKS); do for folder in $(BIN) $(COMPLETION); do \
-	    if [ "$$(readlink $$folder/$$name)" = kagutin ]; then rm $$folder/$$name; fi; done; done
+	rm -f "$(BIN)/kagutin" "$(COMPLETION)/kagutin"
+	for page in $(notdir $(MAN_PAGES)); do rm -f "$(MAN)/$$page"; done
+	for name in $(C_LINKS); do for folder in "$(BIN)" "$(COMPLETION)"; do \
+	    if [ "$$(readlink "$$folder/$$name")" = kagutin ]; then rm "$$folder/$$name"; fi; done; done
 
 install: install-program
 uninstall: uninstall-program

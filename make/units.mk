@@ -63,12 +63,13 @@ UNITS_INSTALLED = $(notdir $(C_UNITS_LIB) $(UNITS_LIBS))
 .PHONY: install-units uninstall-units c-dist-units
 
 install-units: $(C_UNITS_LIB) $(UNITS_LIBS) $(UNITS_HEADERS)
-	install -d $(DESTDIR)$(PREFIX)/include $(DESTDIR)$(PREFIX)/lib
-	install -m 644 $(UNITS_HEADERS) $(DESTDIR)$(PREFIX)/include
-	install -m 644 $(C_UNITS_LIB) $(UNITS_LIBS) $(DESTDIR)$(PREFIX)/lib
+	install -d "$(TO_INCLUDE)" "$(TO_LIB)"
+	install -m 644 $(UNITS_HEADERS) "$(TO_INCLUDE)"
+	install -m 644 $(C_UNITS_LIB) $(UNITS_LIBS) "$(TO_LIB)"
 
 uninstall-units:
-	rm -f $(UNITS_HEADERS:include/%=$(DESTDIR)$(PREFIX)/include/%) $(UNITS_INSTALLED:%=$(DESTDIR)$(PREFIX)/lib/%)
+	for name in $(notdir $(UNITS_HEADERS)); do rm -f "$(TO_INCLUDE)/$$name"; done
+	for name in $(UNITS_INSTALLED); do rm -f "$(TO_LIB)/$$name"; done
 
 c-dist-units: $(UNITS_HEADERS) $(UNITS_DIST) c/store/units.c
 	install -d $(DIST)

@@ -22,5 +22,5 @@ try "cargo fmt" "cargo fmt --version" cargo fmt --manifest-path rust/Cargo.toml 
 # shellcheck disable=SC2086 # one word for each file
 try "shellcheck" "command -v shellcheck" shellcheck --severity=warning $1
 # shellcheck disable=SC2086
-try "cppcheck" "command -v cppcheck" cppcheck --quiet --std=c99 --enable=warning,portability --inline-suppr --error-exitcode=1 -Iinclude -Ic $2
+try "cppcheck" "command -v cppcheck" cppcheck --quiet --std=c99 --enable=warning,portability -D__GNUC__ --inline-suppr --error-exitcode=1 -Iinclude -Ic $2
 exit $failed

@@ -11,16 +11,13 @@ enum status { STATUS_DONE = 0, STATUS_REFUSED = 1, STATUS_USAGE = 2, STATUS_TROU
 /* Names the subcommand in messages; its help is printed by --help and -h. Comes first. */
 void command_start(const char *name, const char *help);
 
-/* Does not return; for compilers and checkers that know the word. */
-#if defined(__GNUC__)
-#define COMMAND_ENDS __attribute__((noreturn))
-#else
-#define COMMAND_ENDS
-#endif
-
 /* "name: message" on standard error; quit ends the program, and after STATUS_USAGE points to --help. */
 void command_say(const char *format, ...);
-COMMAND_ENDS void command_quit(int status, const char *format, ...);
+void command_quit(int status, const char *format, ...)
+#if defined(__GNUC__)
+    __attribute__((noreturn, format(printf, 2, 3)))
+#endif
+    ;
 
 /* --help, -h and --version end the program; a word that begins with '-' and is none of them is refused. False: no option. */
 bool command_option(const char *word);

@@ -4,9 +4,9 @@
 
 static const char colours[] =
     ":root { color-scheme: light dark; --ink: #1d2733; --paper: #fff; --soft: #4a5866; --line: #dde3e9; --rule: #8899a8;\n"
-    "  --due: #c4680f; --left: #4c7ea8; --due-row: #fdf1e7; --alarm: #b3261e; --alarm-row: #fdecea; --note-row: #eef3f7; }\n"
+    "  --due: #c4680f; --due-text: #8f4a08; --left: #4c7ea8; --due-row: #fdf1e7; --alarm: #b3261e; --alarm-row: #fdecea; --note-row: #eef3f7; }\n"
     "@media screen and (prefers-color-scheme: dark) { :root { --ink: #e4e9ee; --paper: #14191f; --soft: #a9b5c1; --line: #2c3640;\n"
-    "  --rule: #66788a; --due: #e8963c; --left: #6aa0cf; --due-row: #2e2318; --alarm: #ff8a80; --alarm-row: #3a1f1e;\n"
+    "  --rule: #66788a; --due: #e8963c; --due-text: #e8963c; --left: #6aa0cf; --due-row: #2e2318; --alarm: #ff8a80; --alarm-row: #3a1f1e;\n"
     "  --note-row: #1d2630; } }\n";
 
 static const char blocks[] =
@@ -43,7 +43,7 @@ static const char table[] =
     "svg.bar, svg.axis { display: block; width: 100%; height: 20px; overflow: visible; }\n"
     ".state { display: block; font-size: .87em; color: var(--soft); }\n.state b { color: var(--alarm); }\n"
     "td.figure { white-space: nowrap; }\n"
-    "tr.due td, tr.due th { background: var(--due-row); }\ntr.due td.services { font-weight: 700; color: var(--due); }\n"
+    "tr.due td, tr.due th { background: var(--due-row); }\ntr.due td.services { font-weight: 700; color: var(--due-text); }\n"
     "tr.later { display: none; }\n.visually-hidden { position: absolute; width: 1px; height: 1px; overflow: hidden;\n"
     "  clip-path: inset(50%); white-space: nowrap; }\n";
 
@@ -65,7 +65,8 @@ static const char paper[] =
     "@page { size: A4; margin: 12mm; }\n"
     "@media print { body { margin: 0; padding: 0; max-width: none; font-size: 9pt; print-color-adjust: exact;\n"
     "    -webkit-print-color-adjust: exact; }\n"
-    "  .controls { display: none; }\n  .told, tbody tr { break-inside: avoid; }\n  .told { padding: .2rem .6rem; margin-bottom: .5rem; }\n"
+    "  .controls { display: none; }\n  .told, tbody tr { break-inside: avoid; }\n"
+    "  .told { padding: .2rem .6rem; margin-bottom: .5rem; }\n"
     "  th, td { padding: .15rem .25rem; }\n  thead { display: table-header-group; }\n  tfoot { display: table-footer-group; }\n"
     "  svg.bar, svg.axis { height: 18px; }\n  svg text { font-size: 10px; } }\n";
 

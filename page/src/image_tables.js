@@ -89,23 +89,35 @@ function pumpsOf(homes) {
 }
 
 function wearBar(pump, interval, most) {
-  const due = Math.floor(pump.seconds / interval) * interval, share = value => (100 * value / most).toFixed(2);
+  const due = Math.floor(pump.worn / interval) * interval, share = value => (100 * value / most).toFixed(2);
   return svg("svg", { viewBox: "0 0 100 10", preserveAspectRatio: "none", class: "bar", role: "img",
-    "aria-label": hoursText(pump.seconds) + " run hours, " + Math.floor(pump.seconds / interval) + " services due" },
+    "aria-label": hoursText(pump.worn) + " run hours, " + Math.floor(pump.worn / interval) + " services due" },
   svg("rect", { class: "due", width: share(due), height: 10 }),
-  svg("rect", { class: "left", x: share(due), width: share(pump.seconds - due), height: 10 }));
+  svg("rect", { class: "left", x: share(due), width: share(pump.worn - due), height: 10 }));
+}
+
+/* Pumps that ever started, with what they are worn: a run under way counts up to the last event of the station's pumps, so that is the least. */
+function wornPumps(pumps) {
+  const fitting = pumps.filter(pump => pump.fits), last = Math.max(0, ...fitting.map(pump => pump.last));
+  return fitting.filter(pump => pump.starts).map(pump => ({ ...pump, worn: pump.seconds + (pump.running ? last - pump.last : 0) }));
+}
+
+/* As the wear sheet has it: services due first, then pumps that run, then the others; each by what it is worn, then by starts. */
+function wearOrder(interval) {
+  const rank = pump => pump.worn >= interval ? 0 : pump.running ? 1 : 2;
+  return (a, b) => rank(a) - rank(b) || b.worn - a.worn || b.starts - a.starts || a.pump - b.pump;
 }
 
 /* The wear sheet of one image: the pump to open first at the top. */
 function wearTable(pumps, interval) {
-  const ran = pumps.filter(pump => pump.fits && pump.starts).sort((a, b) => b.seconds - a.seconds || a.pump - b.pump);
+  const ran = wornPumps(pumps).sort(wearOrder(interval));
   if (!ran.length) return el("p", null, "No pump has ever started.");
-  const most = Math.max(interval, ran[0].seconds);
+  const most = Math.max(interval, ...ran.map(pump => pump.worn));
   return table("Wear of the pumps, the pump to open first at the top",
     ["pump", "starts", "run hours", "hours a start", "services due", "hours to next", "run hours as a bar"], ran, pump => {
-      const left = pump.seconds % interval;
-      return [pump.pump + (pump.running ? " (running)" : ""), pump.starts, hoursText(pump.seconds),
-        hoursText(Math.floor(pump.seconds / pump.starts)), Math.floor(pump.seconds / interval), hoursText(interval - left),
+      const left = pump.worn % interval, least = pump.running ? ">=" : "", atMost = pump.running ? "<=" : "";
+      return [pump.pump + (pump.running ? " (running since second " + pump.last + ")" : ""), pump.starts, least + hoursText(pump.worn),
+        least + hoursText(Math.floor(pump.worn / pump.starts)), least + Math.floor(pump.worn / interval), atMost + hoursText(interval - left),
         wearBar(pump, interval, most)];
     });
 }

@@ -56,20 +56,20 @@ class Tree:
 
     def missing(self, word, base):
         """Whether a word of a document is a path that leads nowhere."""
-        if not PATH.fullmatch(word) or word.startswith(MADE):
+        if not PATH.fullmatch(word) or word.startswith(MADE) or example(word):
             return False
         parts = expand(word)
         name, _, ending = word.rpartition('.')
         if '/' in word.rstrip('/'):
             if word.split('/')[0] in self.tops:
                 return not all(self.has(part, base) for part in parts)
-            return ending in ENDINGS and not example(word) and not self.has(word, base) and not any(file.endswith('/' + word) for file in self.files)
-        return bool(name) and ending in ENDINGS and '*' not in word and word not in self.names and not word[0].isdigit() and not example(word)
+            return ending in ENDINGS and not self.has(word, base) and not any(file.endswith('/' + word) for file in self.files)
+        return bool(name) and ending in ENDINGS and '*' not in word and word not in self.names and not word[0].isdigit()
 
 
 def example(word):
-    """Files of a user's, which the texts make up, and those of the kit."""
-    return word.startswith(('Mir/', 'Prog/')) or word in ('program.c', 'table.txt', 'mode.txt', 'TABLE.txt', 'mir.json', 'page.html', 'crates.txt')
+    """Files of a user's, which the texts make up, names with a part left open, and files of the kit."""
+    return word.startswith(('Mir/', 'Prog/')) or 'NAME' in word or 'UNIT' in word or word in ('program.c', 'table.txt', 'mode.txt', 'TABLE.txt', 'mir.json', 'page.html', 'crates.txt')
 
 
 def words(file, text):

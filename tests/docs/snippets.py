@@ -29,7 +29,7 @@ DOCUMENTS = ["README.md"] + sorted(glob.glob("docs/*.md"))
 HEADERS = sorted(glob.glob("include/*.h"))
 FRAMES = "tests/docs/snippets"
 SHARED = FRAMES + "/tries.c"
-INCLUDE = ["-Iinclude", "-I" + FRAMES]
+INCLUDE = ["-Iinclude", "-Idist", "-I" + FRAMES]
 PROGRAMS = "target/c"  # as the pages name it
 
 STRICT = "-Wall -Wextra -pedantic -Wshadow -Wconversion -Werror -O1".split()
@@ -47,11 +47,11 @@ WRONG = [
     ("readme_store", "kgt_commit_sync(", "kgt_commit("),
     ("readme_store", "        && kgt_open(&store).code == KAGUTIN_DONE)", "        && kgt_open(&store).code < 99)"),
     ("readme_store", "    kgt_abort(&store, 0);", "    "),
-    ("readme_bare", "    if (!done(kagutin_flush(AREAS, STATE, BATCH)))\n        return false;\n",
+    ("using_bare", "    if (!done(kagutin_flush(AREAS, STATE, BATCH)))\n        return false;\n",
      "    done(kagutin_flush(AREAS, STATE, BATCH));\n"),
-    ("readme_bare", "return reply.code == KAGUTIN_DONE && run(batch, reply.size);",
+    ("using_bare", "return reply.code == KAGUTIN_DONE && run(batch, reply.size);",
      "run(batch, reply.size);\n    return reply.code == KAGUTIN_DONE;"),
-    ("readme_bare", "        kagutin_abort(AREAS, STATE, 0);", "        "),
+    ("using_bare", "        kagutin_abort(AREAS, STATE, 0);", "        "),
     ("kagutin_store", "kgt_commit_sync(", "kgt_commit("),
     ("kagutin_store", "kgt_abort(&store, 0);", ""),
     ("kagutin_rights", "return kgt_sync(&store).mark >= set.ticket;", "return kgt_sync(&store).code + 1 > 0 && set.ticket > 0;"),

@@ -12,6 +12,7 @@ import sys
 import tempfile
 
 BAD_BUFFERS = 63
+DIST = sorted(set(glob.glob('dist/*.c')) - {'dist/kagutin_all.c'})  # that one joins the others
 SIZE = 40                   # of each buffer; no call of the store is done with it
 NUMBERS = {'uint64_t': ctypes.c_uint64, 'uint32_t': ctypes.c_uint32, 'uint16_t': ctypes.c_uint16, 'uint8_t': ctypes.c_uint8,
            'int64_t': ctypes.c_int64, 'size_t': ctypes.c_size_t}
@@ -46,7 +47,7 @@ def read_headers(defined):
 def build(folder, words):
     """The shared object of all files of dist/, and the names that it defines."""
     out = os.path.join(folder, 'lent.so')
-    subprocess.run([os.environ.get('CC', 'cc'), '-std=c99', '-O1', '-fPIC', '-shared', '-Iinclude', *words, *sorted(glob.glob('dist/*.c')), '-o', out],
+    subprocess.run([os.environ.get('CC', 'cc'), '-std=c99', '-O1', '-fPIC', '-shared', '-Iinclude', *words, *DIST, '-o', out],
                    check=True)
     said = subprocess.run(['nm', '-D', '--defined-only', out], capture_output=True, text=True, check=True).stdout
     return ctypes.CDLL(out), {line.split()[-1] for line in said.splitlines() if ' T ' in line}
@@ -131,7 +132,7 @@ def check(library, structs, calls):
 
 def not_asked_otherwise():
     """Without the option the text that the compiler sees has nothing of it."""
-    for path in sorted(glob.glob('dist/*.c')):
+    for path in DIST:
         text = subprocess.run([os.environ.get('CC', 'cc'), '-std=c99', '-E', '-P', '-Iinclude', path], capture_output=True, text=True, check=True).stdout
         if re.search(r'are_apart|ASK_BUFFERS', text):
             fail(f'{path} asks without the option')

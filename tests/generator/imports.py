@@ -59,7 +59,7 @@ uint64_t number(const uint8_t *s, size_t s_size, size_t at, size_t k);
 void put_number(uint8_t *s, size_t s_size, size_t at, size_t k, uint64_t v);
 struct reply refused(uint64_t code);
 struct reply done(uint64_t figure, uint64_t size);
-uint64_t in_use(const uint8_t *log, size_t log_size, const uint8_t *area, size_t area_size, const uint8_t *state, size_t state_size);
+uint64_t state_answer(const uint8_t *log, size_t log_size, const uint8_t *area, size_t area_size, const uint8_t *state, size_t state_size);
 uint64_t arrive(const uint8_t *list, size_t list_size, uint8_t *output, size_t output_size, uint16_t identity, uint64_t class, uint32_t second);
 uint64_t clear(const uint8_t *list, size_t list_size, uint8_t *output, size_t output_size, uint16_t identity);
 struct alarm gravest(const uint8_t *block, size_t block_size);

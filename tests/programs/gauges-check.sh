@@ -104,7 +104,7 @@ gives 1 "days" "$san/gauges" --plot "$tmp/days.svg" "$tmp/days.csv" "$tmp/days2.
 shows '^2026-11-16$'
 shows '^ 00:00  differing  *100  *130  *30$'
 shows '^all days: agreeing 0, differing 1, only first 2, only second 1; 4 different minutes'
-[ -s "$tmp/days-2026-11-16.svg" ] && [ -s "$tmp/days-2026-11-17.svg" ] && [ -s "$tmp/days-2026-11-18.svg" ] && [ ! -e "$tmp/days.svg" ]; report $? "a plot for each day"
+[ "$(find "$tmp" -maxdepth 1 -name 'days-2026-11-1[678].svg' | wc -l)" -eq 3 ] && [ ! -e "$tmp/days.svg" ]; report $? "a plot for each day"
 gives 0 "one day" "$san/gauges" --plot "$tmp/one.svg" --tolerance 30 "$tmp/days2.csv" "$tmp/days2.csv"
 says "has clock times, .* days and times" 3 "times of two kinds" "$san/gauges" "$tmp/clock.csv" "$tmp/days.csv"
 

@@ -327,6 +327,7 @@ long='Wastewater works at the old harbour, pump house 17 <reserve> & "spare", Kl
 cp "$tmp/depot, \"old\".img" "$tmp/$long"
 pages=$out/pages
 mkdir -p "$pages"
+rm -f "$pages"/page* "$pages"/look.html
 printf 'north.img,0,4000h\n' > "$tmp/done.csv"
 gives 3 "a page with everything" "$wear" --html "$pages/page.html" --interval 500 --date 2026-11-17 --now year.img=31536000 --done "$tmp/done.csv" \
     --since "$tmp/last.csv" "$tmp/north.img" "$tmp/$long" "$tmp/year.img" "$tmp/two.img" "$tmp/now/a.img" "$tmp/missing.img" "$tmp/north.img"
@@ -349,8 +350,8 @@ fi
 browser=$(command -v chromium || command -v chromium-browser || command -v google-chrome || true)
 visit() { # address, what to do
     address=$1; shift
-    timeout 120 "$browser" --headless --no-sandbox --disable-gpu --hide-scrollbars --user-data-dir="$tmp/browser" --enable-logging=stderr \
-        --allow-file-access-from-files --no-pdf-header-footer "$@" "file://$address" 2> "$tmp/visit"
+    timeout 120 "$browser" --headless --no-sandbox --disable-gpu --disable-dev-shm-usage --hide-scrollbars --user-data-dir="$tmp/browser" \
+        --enable-logging=stderr --allow-file-access-from-files --no-pdf-header-footer "$@" "file://$address" 2> "$tmp/visit"
     grep 'CONSOLE' "$tmp/visit" > "$tmp/log"
     [ ! -s "$tmp/log" ]
 }
@@ -364,7 +365,7 @@ if [ -n "$browser" ]; then
         visit "$pages/look.html#$width" --screenshot="$pages/page-$width.png" --window-size="$((width < 500 ? 500 : width)),3000" > "$tmp/out"
         [ "$(wc -c < "$pages/page-$width.png")" -gt 20000 ]; report $? "page at $width px: a picture in pages/page-$width.png"
     done
-    visit "$pages/page.html" --print-to-pdf="$pages/page.pdf" > "$tmp/out"; report $? "page on paper"
+    visit "$pages/page.html" --print-to-pdf="$pages/page.pdf" > "$tmp/out" && [ -s "$pages/page.pdf" ]; report $? "page on paper"
     if command -v pdftotext > /dev/null; then
         pdftotext -layout "$pages/page.pdf" "$tmp/page.txt"
         awk 'BEGIN { RS = "\f" } NF > 0 || !/^$/ { n++; print n ": " gsub(/pump [0-7]/, "") }' "$tmp/page.txt" > "$tmp/log"

@@ -9,3 +9,5 @@ pub mod TearsHold
 pub mod PositionsHold
 pub mod GuardedHolds
 pub mod RoundsGo
+pub mod LandingsHold
+pub mod OwedHolds

@@ -19,4 +19,5 @@ pub mod DemandTwo
 pub mod Reserved
 pub mod NewestTrue
 pub mod Facts
+pub mod FormatDone
 pub mod examples

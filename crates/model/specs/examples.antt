@@ -15,3 +15,7 @@ pub mod Positions
 pub mod Guarded
 -- Settling in small steps; answer 21.
 pub mod TwoRounds
+-- Which writes persist at a crash.
+pub mod Landings
+-- Which commits are owed.
+pub mod Owed

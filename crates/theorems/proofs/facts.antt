@@ -7,3 +7,5 @@ pub mod FactLaws
 pub mod AsideHolds
 -- The history of specs/Witnesses meets the premises of demands 2 and 3, which therefore say something of it.
 pub mod WitnessHolds
+-- The first opening after a done format is done.
+pub mod FirstOpens

@@ -1,2 +1,3 @@
 pub mod Isolation
 pub mod Hidden
+pub mod FirstOpening

@@ -7,7 +7,7 @@ use lib.Dec.{eqb, ltb}
 use lib.ListN.{length, getD, drop, replicate}
 use Rattle.model.specs.Bytes.{puts, zeros, same}
 use Rattle.model.specs.Tag.{closingWord}
-use Rattle.model.specs.Layout.{header, emptyLog, groupAt, groupTag, groupBlock, slotOf, indexOf, homeAt}
+use Rattle.model.specs.Layout.{header, emptyLog, groupAt, groupTag, groupBlock, slotOf, indexOf, homeAt, turnOf}
 use Rattle.model.specs.State.{State, stateOf, nextPosition}
 use Rattle.model.specs.Effects.{Given}
 use Rattle.model.specs.Calls.{Outcome, formatCall, openCall}
@@ -195,6 +195,28 @@ markedWith mark =
 unfoldable pub headMarks : List ℕ
 headMarks = openCall (markedWith (0x50 ∷ 0x54 ∷ [])) .code ∷ openCall (markedWith (0x50 ∷ 0x48 ∷ [])) .code ∷ []
 
+-- "a turn bit, equal to (group number ÷ G, rounded down) mod 2": the turns of groups 3, 4, 7 and 8 of four and of groups 9 and 10 of five. Of each of four
+-- ring slots byte 127, the last of its group's first data block: 80 hex in a new format, where groups 0 to 3 would come next, 0 once it is opened and
+-- groups 4 to 7 come next. Then bytes 127 and 511 of slot 0 with a block of byte 1 logged there in group 4, and so in group 8 after a trim.
+unfoldable pub turnBytes : List ℕ → ℕ → List ℕ
+turnBytes log zero = []
+turnBytes log (suc n) = turnBytes log n ++ (getD (groupAt log n) 127 0 ∷ [])
+
+unfoldable pub turns : List ℕ
+turns = turnOf 4 3 ∷ turnOf 4 4 ∷ turnOf 4 7 ∷ turnOf 4 8 ∷ turnOf 5 9 ∷ turnOf 5 10 ∷ []
+
+unfoldable pub slot0 : World → List ℕ
+slot0 w = getD (groupAt (w .log) 0) 127 0 ∷ getD (groupAt (w .log) 0) 511 0 ∷ []
+
+unfoldable pub loggedOnce : World → World
+loggedOnce w = goes w (begin 0 ∷ store 0 1 (fill 1) room ∷ commit 0 room ∷ flush room ∷ [])
+
+unfoldable pub turnTrial : List ℕ
+turnTrial =
+    let four : World = loggedOnce fresh in
+    let seven : World = goes (loggedOnce (loggedOnce (loggedOnce four))) (settle room ∷ trim room ∷ []) in
+    turnBytes (formatCall unformatted .log) 4 ++ (turnBytes (fresh .log) 4 ++ (slot0 four ++ slot0 (loggedOnce seven)))
+
 -- the table: what a trial yields, and what the paper says. An answer is the number, the figure and the batch length.
 pub record Trial : Type 0 where
   pub yields : List ℕ
@@ -213,7 +235,8 @@ trials =
     }
     ∷ record { yields = trial8; paper = 0 ∷ 0 ∷ 0 ∷ 0 ∷ 0 ∷ 0 ∷ 0 ∷ [] } ∷ record { yields = trial9; paper = 0 ∷ 0 ∷ 0 ∷ 0 ∷ [] }
     ∷ record { yields = trial10; paper = 0 ∷ 0 ∷ 2136 ∷ 0 ∷ 0 ∷ 2746 ∷ [] } ∷ record { yields = trial13; paper = 0 ∷ 10 ∷ 10 ∷ [] }
-    ∷ record { yields = headMarks; paper = 0 ∷ 3 ∷ [] } ∷ []
+    ∷ record { yields = headMarks; paper = 0 ∷ 3 ∷ [] } ∷ record { yields = turns; paper = 0 ∷ 1 ∷ 1 ∷ 0 ∷ 1 ∷ 0 ∷ [] }
+    ∷ record { yields = turnTrial; paper = 0x80 ∷ 0x80 ∷ 0x80 ∷ 0x80 ∷ 0 ∷ 0 ∷ 0 ∷ 0 ∷ 0x81 ∷ 0x80 ∷ 1 ∷ 0 ∷ [] } ∷ []
 
 unfoldable pub allMatch : List Trial → Bool
 allMatch [] = true

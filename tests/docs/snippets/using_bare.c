@@ -1,4 +1,4 @@
-/* README.md: the bare calls, with run and load on a driver. */
+/* docs/USING.md: the bare calls, with run and load on a driver. */
 #include "tries.h"
 
 static struct kgt_runner runner;
@@ -21,7 +21,7 @@ static bool load(uint8_t *log_bytes, uint8_t *home_bytes)
     return !run_failed;
 }
 
-#include "readme_bare.snippet"
+#include "using_bare.snippet"
 
 static uint8_t before[KAGUTIN_BLOCK_SIZE], after[KAGUTIN_BLOCK_SIZE];
 
@@ -115,5 +115,5 @@ int main(void)
     try_all(in_keep);
     try_all(in_format);
     try_all(in_start);
-    return try_end("readme_bare");
+    return try_end("using_bare");
 }

@@ -1,0 +1,9037 @@
+/*
+ * Kagutin in one C99 file: store, object and units, and the drivers that are asked for.
+ * Made by scripts/all_in_one.py from dist/ and c/; do not edit: run `make all-in-one`.
+ *
+ * Needs kagutin_all.h, memcpy, memmove, memset and memcmp; no heap. Drivers by macro:
+ *     -DKAGUTIN_FRAM    serial FRAM or MRAM
+ *     -DKAGUTIN_FILE    image files, on POSIX
+ *     -DKAGUTIN_MEMORY  for tests: plain memory in which power cuts are played
+ * A driver of your own is three functions; kgt_driver says what they owe.
+ */
+#ifdef KAGUTIN_FILE /* before the first header */
+#ifndef _DEFAULT_SOURCE
+#define _DEFAULT_SOURCE 1
+#endif
+#ifndef _POSIX_C_SOURCE
+#define _POSIX_C_SOURCE 200809L
+#endif
+#endif
+
+#include "kagutin_all.h"
+
+/* ==== dist/kagutin.c ==== */
+
+/*
+ * Kagutin as one C99 file, made by port/generate.py from the proved program.
+ * Do not edit: change the sources under crates/ and run `make dist`.
+ *
+ * Needs kagutin.h and kagutin_chains.h, memcpy and memset; no heap, no other library, no state
+ * of its own. All that is not declared there is static. Where a compiler is
+ * known, some helpers have a quicker form; -DKAGUTIN_PLAIN_C leaves them out.
+ */
+#include <stdbool.h>
+#include <stddef.h>
+#include <stdint.h>
+#include <string.h>
+
+
+#if defined(__GNUC__) && !defined(__clang__) && SIZE_MAX < UINT64_MAX
+/* Counts are 64 bits wide and proved to stay in memory; gcc warns of turns that they never reach. */
+#pragma GCC diagnostic ignored "-Waggressive-loop-optimizations"
+#endif
+
+struct core_slice_u8 {
+    const uint8_t *ptr;
+    size_t len;
+};
+
+struct model__Writer {
+    uint64_t mode;
+    uint64_t home;
+    uint64_t first;
+    uint64_t count;
+};
+
+struct model__State {
+    uint64_t groups;
+    uint64_t homes;
+    uint64_t start;
+    uint64_t next;
+    uint64_t filled;
+    uint64_t settled;
+    uint64_t fenced;
+    uint64_t durable;
+    uint64_t last;
+    uint64_t round;
+    uint64_t cursor;
+};
+
+struct core_slice_mut_u8 {
+    uint8_t *ptr;
+    size_t len;
+};
+
+struct core_call_ask__Reply {
+    uint64_t code;
+    uint64_t figure;
+    uint64_t size;
+};
+
+struct log_scan__slots__RingSlot {
+    uint64_t slot;
+    uint64_t turn;
+};
+
+struct array_u8_2 {
+    uint8_t at[2];
+};
+
+struct model__Tag {
+    uint8_t tag;
+    uint64_t u64_0;
+    uint64_t u64_1;
+    uint64_t u64_2;
+    uint64_t u64_3;
+};
+
+struct log_newest__commits__Pass {
+    uint64_t number;
+    struct log_scan__slots__RingSlot at;
+    uint64_t done;
+};
+
+struct log_shown__ring__RingPlace {
+    uint64_t number;
+    uint64_t slot;
+    uint64_t turn;
+    uint64_t k;
+};
+
+struct call_open__opening__Shape {
+    uint64_t groups;
+    uint64_t homes;
+    uint64_t start;
+};
+
+struct array_u64_7 {
+    uint64_t at[7];
+};
+
+struct log_scan__commits__Progress {
+    uint64_t end;
+    uint64_t number;
+    uint64_t failed;
+};
+
+struct slice_mut_u16 {
+    uint16_t *ptr;
+    size_t len;
+};
+
+struct log_scan__commits__Found {
+    uint64_t end;
+    uint64_t number;
+};
+
+struct slice_mut_u64 {
+    uint64_t *ptr;
+    size_t len;
+};
+
+struct slice_u16 {
+    const uint16_t *ptr;
+    size_t len;
+};
+
+struct array_u64_1 {
+    uint64_t at[1];
+};
+
+struct array_u16_64 {
+    uint16_t at[64];
+};
+
+struct log_tables__tables__Replay {
+    uint64_t end;
+    uint64_t number;
+    uint64_t size;
+    uint64_t next;
+    bool more;
+};
+
+struct array_u16_448 {
+    uint16_t at[448];
+};
+
+struct array_u16_1024 {
+    uint16_t at[1024];
+};
+
+struct array_u16_7168 {
+    uint16_t at[7168];
+};
+
+struct array_u8_32 {
+    uint8_t at[32];
+};
+
+struct log_replay__stepping__Reached {
+    uint64_t home;
+    uint64_t done;
+};
+
+struct log_tables__steps__Made {
+    uint64_t size;
+    uint64_t next;
+    bool more;
+};
+
+struct array_u16_896 {
+    uint16_t at[896];
+};
+
+struct array_u16_1792 {
+    uint16_t at[1792];
+};
+
+struct array_u16_3584 {
+    uint16_t at[3584];
+};
+
+struct model__Holder {
+    uint64_t writer;
+    uint64_t first;
+};
+
+struct model__Usage {
+    uint64_t code;
+    uint64_t live;
+    uint64_t dead;
+    uint64_t free;
+    uint64_t promised;
+    uint64_t holder;
+    uint64_t first;
+};
+
+#if defined(__GNUC__) && !defined(KAGUTIN_PLAIN_C)
+#define QUICK_C 1
+#else
+#define QUICK_C 0
+#endif
+
+#if QUICK_C && defined(__BYTE_ORDER__) && defined(__ORDER_LITTLE_ENDIAN__) && __BYTE_ORDER__ == __ORDER_LITTLE_ENDIAN__ \
+    && (defined(__x86_64__) || defined(__i386__) || defined(__ARM_FEATURE_UNALIGNED))
+#define WHOLE_WORDS 1
+#else
+#define WHOLE_WORDS 0
+#endif
+
+#if QUICK_C && !defined(__clang__) && !defined(__OPTIMIZE_SIZE__) && __GNUC__ >= 8
+#define UNROLL _Pragma("GCC unroll 4")
+#else
+#define UNROLL
+#endif
+
+#if QUICK_C
+#define APART __attribute__((noinline))
+#else
+#define APART
+#endif
+
+/* With -DKAGUTIN_CHECK_BUFFERS every call answers 63 (KAGUTIN_BAD_BUFFERS), with zeros in all other fields, if a lent pointer is null or
+   two lent buffers share a byte. Without it nothing is asked. */
+#ifdef KAGUTIN_CHECK_BUFFERS
+struct core_lent {
+    const void *ptr;
+    size_t size;
+};
+
+static bool core_are_apart(const struct core_lent *core_lent, size_t count)
+{
+    size_t i, j;
+
+    for (i = 0; i < count; i++) {
+        uintptr_t a = (uintptr_t)core_lent[i].ptr;
+
+        if (core_lent[i].ptr == NULL || core_lent[i].size > UINTPTR_MAX - a)
+            return false;
+        for (j = 0; j < i; j++) {
+            uintptr_t b = (uintptr_t)core_lent[j].ptr;
+
+            if (core_lent[i].size != 0 && core_lent[j].size != 0 && a < b + core_lent[j].size && b < a + core_lent[i].size)
+                return false;
+        }
+    }
+    return true;
+}
+
+#define ASK_BUFFERS(result, ...) \
+    do { \
+        const struct core_lent all_lent[] = {__VA_ARGS__}; \
+        if (!core_are_apart(all_lent, sizeof all_lent / sizeof all_lent[0])) \
+            return (struct result){.code = 63u}; \
+    } while (0);
+#else
+#define ASK_BUFFERS(result, ...)
+#endif
+
+/* The number that 2 bytes make, lowest byte first. */
+static inline uint64_t core_load_2(const uint8_t *p)
+{
+#if WHOLE_WORDS
+    uint16_t x;
+
+    memcpy(&x, p, 2);
+    return x;
+#else
+    return p[0] | (uint64_t)p[1] << 8;
+#endif
+}
+
+/* The number that 4 bytes make, lowest byte first. */
+static inline uint64_t load_4(const uint8_t *p)
+{
+#if WHOLE_WORDS
+    uint32_t x;
+
+    memcpy(&x, p, 4);
+    return x;
+#else
+    return p[0] | (uint64_t)p[1] << 8 | (uint64_t)p[2] << 16 | (uint64_t)p[3] << 24;
+#endif
+}
+
+/* The number that 8 bytes make, lowest byte first. */
+static inline uint64_t core_load_8(const uint8_t *p)
+{
+#if WHOLE_WORDS
+    uint64_t x;
+
+    memcpy(&x, p, 8);
+    return x;
+#else
+    return p[0] | (uint64_t)p[1] << 8 | (uint64_t)p[2] << 16 | (uint64_t)p[3] << 24
+        | (uint64_t)p[4] << 32 | (uint64_t)p[5] << 40 | (uint64_t)p[6] << 48 | (uint64_t)p[7] << 56;
+#endif
+}
+
+/* Writes the low 2 bytes of a number, lowest byte first. */
+static inline void core_store_2(uint8_t *p, uint64_t v)
+{
+#if WHOLE_WORDS
+    uint16_t x = (uint16_t)v;
+
+    memcpy(p, &x, 2);
+#else
+    p[0] = (uint8_t)v;
+    p[1] = (uint8_t)(v >> 8);
+#endif
+}
+
+/* Writes the low 4 bytes of a number, lowest byte first. */
+static inline void store_4(uint8_t *p, uint64_t v)
+{
+#if WHOLE_WORDS
+    uint32_t x = (uint32_t)v;
+
+    memcpy(p, &x, 4);
+#else
+    p[0] = (uint8_t)v;
+    p[1] = (uint8_t)(v >> 8);
+    p[2] = (uint8_t)(v >> 16);
+    p[3] = (uint8_t)(v >> 24);
+#endif
+}
+
+/* Writes the low 8 bytes of a number, lowest byte first. */
+static inline void core_store_8(uint8_t *p, uint64_t v)
+{
+#if WHOLE_WORDS
+    uint64_t x = (uint64_t)v;
+
+    memcpy(p, &x, 8);
+#else
+    p[0] = (uint8_t)v;
+    p[1] = (uint8_t)(v >> 8);
+    p[2] = (uint8_t)(v >> 16);
+    p[3] = (uint8_t)(v >> 24);
+    p[4] = (uint8_t)(v >> 32);
+    p[5] = (uint8_t)(v >> 40);
+    p[6] = (uint8_t)(v >> 48);
+    p[7] = (uint8_t)(v >> 56);
+#endif
+}
+
+/* How many bits are set. */
+static inline uint32_t count_ones(uint64_t x)
+{
+    if (x == 0u)
+        return 0u;
+    x = x - (x >> 1 & UINT64_C(0x5555555555555555));
+    x = (x & UINT64_C(0x3333333333333333)) + (x >> 2 & UINT64_C(0x3333333333333333));
+    x = (x + (x >> 4)) & UINT64_C(0x0f0f0f0f0f0f0f0f);
+    return (uint32_t)(x * UINT64_C(0x0101010101010101) >> 56);
+}
+
+/* How many bits below the lowest one that is set; 64 of zero. */
+static inline uint32_t trailing_zeros(uint64_t x)
+{
+#if QUICK_C
+    return x == 0u ? 64u : (uint32_t)__builtin_ctzll(x);
+#else
+    return count_ones(~x & (x - 1u));
+#endif
+}
+
+/* The number of groups in a log area of `len` bytes. */
+static inline uint64_t base_areas__lengths__log_groups(uint64_t len)
+{
+    if (len < 64u) {
+        return 0u;
+    }
+    return (len - 64u) / 512u;
+}
+
+/* Whether a log area may have `len` bytes: a header and 4 to 1,024 whole groups. */
+static inline bool base_areas__lengths__log_right(uint64_t len)
+{
+    uint64_t t2;
+
+    t2 = base_areas__lengths__log_groups(len);
+    if (t2 < 4u) {
+        return false;
+    }
+    if (1024u < t2) {
+        return false;
+    }
+    return len == (64u + (512u * t2));
+}
+
+/* Whether a data area may have `len` bytes: 1 to 65,535 whole homes. */
+static inline bool base_areas__lengths__data_right(uint64_t len)
+{
+    uint64_t t2;
+
+    t2 = len / 64u;
+    if (t2 < 1u) {
+        return false;
+    }
+    if (65535u < t2) {
+        return false;
+    }
+    return len == (64u * t2);
+}
+
+/* Whether the lengths of both copies and of the strip are right. */
+static inline bool call_ask__lengths_right(struct core_slice_u8 log, struct core_slice_u8 area, struct core_slice_u8 state)
+{
+    bool t4;
+
+    t4 = base_areas__lengths__log_right((uint64_t)log.len);
+    if (!t4) {
+        return false;
+    }
+    t4 = base_areas__lengths__data_right((uint64_t)area.len);
+    if (!t4) {
+        return false;
+    }
+    return (uint64_t)state.len == 1024u;
+}
+
+/* How far `x` lies above `low`, modulo 2^64: one test of it tells whether `x` lies between `low` and a number above it. */
+static inline uint64_t base_order__distances__distance(uint64_t x, uint64_t low)
+{
+    uint64_t t4;
+
+    if (low <= x) {
+        t4 = x - low;
+    } else {
+        t4 = (x + (UINT64_C(0xffffffffffffffff) - low)) + 1u;
+    }
+    return t4;
+}
+
+/* Whether the numbers of groups and homes are `groups` and `homes`, and the group numbers and the places filled are in order. */
+static inline bool base_order__numbers__groups_in_order(struct core_slice_u8 s, uint64_t groups, uint64_t homes)
+{
+    uint64_t t4, t5, t6;
+
+    if (core_load_8(s.ptr) != groups) {
+        return false;
+    }
+    if (core_load_8(s.ptr + 8u) != homes) {
+        return false;
+    }
+    t4 = core_load_8(s.ptr + 16u);
+    if (UINT64_C(0x800000000000) < t4) {
+        return false;
+    }
+    t5 = core_load_8(s.ptr + 32u);
+    if (6u < t5) {
+        return false;
+    }
+    t6 = base_order__distances__distance(core_load_8(s.ptr + 24u), t4);
+    if (t6 < groups) {
+        return true;
+    }
+    if (t6 != groups) {
+        return false;
+    }
+    return t5 == 0u;
+}
+
+/* Whether the other numbers but the round are in order, where the log has `whole` positions from position `low` to the next
+   group, and `all` with those filled. What lies between two others is compared once, by its distance from the lower one. */
+static inline bool base_order__numbers__bounds_in_order(struct core_slice_u8 s, uint64_t low, uint64_t whole, uint64_t all)
+{
+    uint64_t t5, t6, t7;
+
+    t5 = core_load_8(s.ptr + 48u);
+    if (t5 < core_load_8(s.ptr + 56u)) {
+        return false;
+    }
+    t6 = base_order__distances__distance(t5, low);
+    if (whole < t6) {
+        return false;
+    }
+    t7 = base_order__distances__distance(core_load_8(s.ptr + 40u), low);
+    if (t6 < t7) {
+        return false;
+    }
+    return core_load_8(s.ptr + 64u) <= (low + all);
+}
+
+/* The count that is kept as `less`. */
+static inline uint64_t base_state__writers__one_more(uint64_t less)
+{
+    if (less == UINT64_C(0xffffffffffffffff)) {
+        return 0u;
+    }
+    return less + 1u;
+}
+
+/* Reads the four numbers of writer `w`. */
+static inline struct model__Writer base_state__writers__writer(struct core_slice_u8 s, uint64_t w)
+{
+    uint64_t t3, t4, t5, t6, t7;
+
+    t3 = 128u + (24u * w);
+    t4 = (uint64_t)s.ptr[(size_t)(104u + w)];
+    t5 = core_load_8(s.ptr + (size_t)t3);
+    t6 = core_load_8(s.ptr + (size_t)(t3 + 8u));
+    t7 = base_state__writers__one_more(core_load_8(s.ptr + (size_t)(t3 + 16u)));
+    return (struct model__Writer){.mode = t4, .home = t5, .first = t6, .count = t7};
+}
+
+/* Whether the record of a writer that holds a block for a home below D and has logged entries is in order: the positions since
+   its first one are among those of the log, and hold its entries. */
+static inline bool base_order__quick__logged_in_order(struct model__State st, uint64_t low, uint64_t all, struct model__Writer r)
+{
+    uint64_t t5, t6;
+    (void)st;
+
+    t5 = base_order__distances__distance(low + all, r.first);
+    if (all < t5) {
+        return false;
+    }
+    t6 = base_order__distances__distance(r.count, 1u);
+    return t6 < t5;
+}
+
+/* Whether the record of a writer that is neither idle nor without a block is in order in a strip whose group numbers and places
+   filled are. */
+static inline bool base_order__quick__record_in_order(struct model__State st, uint64_t low, uint64_t all, struct model__Writer r)
+{
+    if (st.homes <= r.home) {
+        return false;
+    }
+    if (r.mode == 3u) {
+        return base_order__quick__logged_in_order(st, low, all, r);
+    }
+    return r.mode < 3u;
+}
+
+/* Whether the records of all eight writers are in order where nothing is promised. Their modes are read as one word, and only
+   writers are visited of whose mode a bit but the lowest is set. */
+static inline bool base_order__quick__records_in_order(struct core_slice_u8 s, struct model__State st, uint64_t low, uint64_t all)
+{
+    uint64_t t5;
+    bool t8;
+    struct model__Writer t10;
+
+    t5 = core_load_8(s.ptr + 104u) & UINT64_C(0xfefefefefefefefe);
+    while (t5 != 0u) {
+        t10 = base_state__writers__writer(s, (uint64_t)trailing_zeros(t5) / 8u);
+        t8 = base_order__quick__record_in_order(st, low, all, t10);
+        if (!t8) {
+            return false;
+        }
+        t5 = t5 & (t5 - 1u);
+    }
+    return true;
+}
+
+/* Question 2 for a log of `groups` groups and `homes` homes: 0 if the strip is seen to be in order, else 2, which
+   `whole_in_order` may still deny. */
+static inline uint64_t base_order__quick__quick_answer(struct core_slice_u8 s, uint64_t groups, uint64_t homes)
+{
+    uint64_t t4, t5, t6, t7, t638, t639;
+    bool t8;
+
+    if (!(((core_load_8(s.ptr + 88u) | core_load_8(s.ptr + 72u)) | core_load_8(s.ptr + 80u)) == 0u)) {
+        return 2u;
+    }
+    t8 = base_order__numbers__groups_in_order(s, groups, homes);
+    if (!t8) {
+        return 2u;
+    }
+    t4 = core_load_8(s.ptr + 16u);
+    t5 = 7u * t4;
+    t6 = 7u * (core_load_8(s.ptr + 24u) - t4);
+    t7 = t6 + core_load_8(s.ptr + 32u);
+    t8 = base_order__numbers__bounds_in_order(s, t5, t6, t7);
+    if (!t8) {
+        return 2u;
+    }
+    t638 = core_load_8(s.ptr);
+    t639 = core_load_8(s.ptr + 8u);
+    t8 = base_order__quick__records_in_order(s, (struct model__State){.groups = t638, .homes = t639, .start = core_load_8(s.ptr + 16u),
+            .next = core_load_8(s.ptr + 24u), .filled = core_load_8(s.ptr + 32u), .settled = core_load_8(s.ptr + 40u), .fenced = core_load_8(s.ptr
+            + 48u), .durable = core_load_8(s.ptr + 56u), .last = core_load_8(s.ptr + 64u), .round = core_load_8(s.ptr + 88u),
+            .cursor = core_load_8(s.ptr + 96u)}, t5, t7);
+    if (!t8) {
+        return 2u;
+    }
+    return 0u;
+}
+
+/* Whether the position that a round has fixed lies from the settled to the fenced one, or there is no round. */
+static inline bool base_order__whole__round_in_order(struct model__State st)
+{
+    if (st.round == 0u) {
+        return true;
+    }
+    if (st.round <= st.settled) {
+        return false;
+    }
+    return (st.round - 1u) <= st.fenced;
+}
+
+/* Whether nothing is promised to any writer: the eight promises are zero as two words. */
+static inline bool base_state__promises__none_promised(struct core_slice_u8 s)
+{
+    if (core_load_8(s.ptr + 72u) != 0u) {
+        return false;
+    }
+    return core_load_8(s.ptr + 80u) == 0u;
+}
+
+/* How many places are promised to the eight writers together, one after the other. */
+static inline uint64_t base_state__promises__promised_each(struct core_slice_u8 s)
+{
+    uint64_t t2, t3;
+
+    t2 = 0u;
+    t3 = 0u;
+    while (t3 < 8u) {
+        t2 = t2 + core_load_2(s.ptr + (size_t)(72u + (2u * t3)));
+        t3 = t3 + 1u;
+    }
+    return t2;
+}
+
+/* How many places are promised to the eight writers together, mostly none. */
+static inline uint64_t base_state__promises__promised(struct core_slice_u8 s)
+{
+    bool t2;
+
+    t2 = base_state__promises__none_promised(s);
+    if (t2) {
+        return 0u;
+    }
+    return base_state__promises__promised_each(s);
+}
+
+/* Whether a writer's record is in order in a strip with the numbers `st`. */
+static inline bool base_order__whole__writer_in_order(struct model__State st, struct model__Writer r)
+{
+    uint64_t t3;
+
+    if (r.mode < 2u) {
+        return true;
+    }
+    if (3u < r.mode) {
+        return false;
+    }
+    if (st.homes <= r.home) {
+        return false;
+    }
+    if (r.mode < 3u) {
+        return true;
+    }
+    if (r.first < (7u * st.start)) {
+        return false;
+    }
+    t3 = (7u * st.next) + st.filled;
+    if (t3 <= r.first) {
+        return false;
+    }
+    if (r.count == 0u) {
+        return false;
+    }
+    if ((t3 - r.first) < r.count) {
+        return false;
+    }
+    return true;
+}
+
+/* Whether the record of writer `w` is in order in the strip `s` with the numbers `st`, and nothing is promised to it while it is
+   idle. */
+static inline bool base_order__whole__writer_at_in_order(struct core_slice_u8 s, struct model__State st, uint64_t w)
+{
+    struct model__Writer t4;
+    bool t5;
+
+    t4 = base_state__writers__writer(s, w);
+    t5 = base_order__whole__writer_in_order(st, t4);
+    if (!t5) {
+        return false;
+    }
+    if (1u <= t4.mode) {
+        return true;
+    }
+    return core_load_2(s.ptr + (size_t)(72u + (2u * w))) == 0u;
+}
+
+/* Whether the records of all eight writers are in order in the strip `s` with the numbers `st`. */
+static inline bool base_order__whole__writers_in_order(struct core_slice_u8 s, struct model__State st)
+{
+    uint64_t t3;
+    bool t4;
+
+    t3 = 0u;
+    while (t3 < 8u) {
+        t4 = base_order__whole__writer_at_in_order(s, st, t3);
+        if (!t4) {
+            return false;
+        }
+        t3 = t3 + 1u;
+    }
+    return true;
+}
+
+/* The rest of question 2 where the numbers but the round are in order: the round, the promises and the writers. */
+static inline bool base_order__whole__rest_in_order(struct core_slice_u8 s, struct model__State st)
+{
+    bool t3;
+    uint64_t t6;
+
+    t3 = base_order__whole__round_in_order(st);
+    if (!t3) {
+        return false;
+    }
+    t6 = base_state__promises__promised(s);
+    if (((7u * (st.start + st.groups)) - ((7u * st.next) + st.filled)) < t6) {
+        return false;
+    }
+    return base_order__whole__writers_in_order(s, st);
+}
+
+/* Question 2 for a log of `groups` groups and `homes` homes, whatever is promised and whether a round is under way. */
+static inline bool base_order__whole__whole_in_order(struct core_slice_u8 s, uint64_t groups, uint64_t homes)
+{
+    uint64_t t4, t6, t323, t324;
+    bool t8;
+
+    t8 = base_order__numbers__groups_in_order(s, groups, homes);
+    if (!t8) {
+        return false;
+    }
+    t4 = core_load_8(s.ptr + 16u);
+    t6 = 7u * (core_load_8(s.ptr + 24u) - t4);
+    t8 = base_order__numbers__bounds_in_order(s, 7u * t4, t6, t6 + core_load_8(s.ptr + 32u));
+    if (!t8) {
+        return false;
+    }
+    t323 = core_load_8(s.ptr);
+    t324 = core_load_8(s.ptr + 8u);
+    return base_order__whole__rest_in_order(s, (struct model__State){.groups = t323, .homes = t324, .start = core_load_8(s.ptr + 16u),
+            .next = core_load_8(s.ptr + 24u), .filled = core_load_8(s.ptr + 32u), .settled = core_load_8(s.ptr + 40u), .fenced = core_load_8(s.ptr
+            + 48u), .durable = core_load_8(s.ptr + 56u), .last = core_load_8(s.ptr + 64u), .round = core_load_8(s.ptr + 88u),
+            .cursor = core_load_8(s.ptr + 96u)});
+}
+
+/* Questions 1 and 2: 0 if the lengths are right and the strip is in order, else the number of the refusal. */
+static inline uint64_t call_ask__state_answer(struct core_slice_u8 log, struct core_slice_u8 area, struct core_slice_u8 state)
+{
+    uint64_t t4, t5, t9;
+    bool t6, t7;
+
+    t6 = call_ask__lengths_right(log, area, state);
+    if (!t6) {
+        return 1u;
+    }
+    t4 = base_areas__lengths__log_groups((uint64_t)log.len);
+    t5 = (uint64_t)area.len / 64u;
+    t9 = base_order__quick__quick_answer(state, t4, t5);
+    if (t9 == 0u) {
+        return 0u;
+    }
+    t7 = base_order__whole__whole_in_order(state, t4, t5);
+    if (!t7) {
+        return 2u;
+    }
+    return 0u;
+}
+
+/* Questions 1, 2 and 4, which a call that names a writer puts first: 0, or the number of the refusal. */
+static inline uint64_t call_writer__writer_answer(struct core_slice_u8 log, struct core_slice_u8 area, struct core_slice_u8 state,
+        uint64_t writer)
+{
+    uint64_t t5;
+
+    t5 = call_ask__state_answer(log, area, state);
+    if (t5 != 0u) {
+        return t5;
+    }
+    if (8u <= writer) {
+        return 4u;
+    }
+    return 0u;
+}
+
+/* Whether a writer may abort: 0, or the number of the refusal. */
+static inline uint64_t call_writer__abort_answer(struct core_slice_u8 log, struct core_slice_u8 area, struct core_slice_u8 state,
+        uint64_t writer)
+{
+    uint64_t t5;
+    struct model__Writer t7;
+
+    t5 = call_writer__writer_answer(log, area, state, writer);
+    if (t5 != 0u) {
+        return t5;
+    }
+    t7 = base_state__writers__writer(state, writer);
+    if (!(1u <= t7.mode)) {
+        return 7u;
+    }
+    return 0u;
+}
+
+/* The record `r`, changed at its place by `abort_at`. */
+static inline struct model__Writer base_writers__places__aborted(struct model__Writer r)
+{
+    struct model__Writer t2;
+
+    t2 = r;
+    (*&t2) = (struct model__Writer){.mode = 0u, .home = 0u, .first = 0u, .count = 1u};
+    return t2;
+}
+
+/* A count as it is kept: less one, modulo 2^64. */
+static inline uint64_t base_state__writers__less_one(uint64_t count)
+{
+    if (count == 0u) {
+        return UINT64_C(0xffffffffffffffff);
+    }
+    return count - 1u;
+}
+
+/* Stores `r` as the four numbers of writer `w`, and leaves the rest of the strip as it was. */
+static inline void base_state__writers__set_writer(struct core_slice_mut_u8 s, uint64_t w, struct model__Writer r)
+{
+    uint64_t t4, t15;
+
+    t4 = 128u + (24u * w);
+    s.ptr[(size_t)(104u + w)] = (uint8_t)(r.mode % 256u);
+    core_store_8(s.ptr + (size_t)t4, r.home);
+    core_store_8(s.ptr + (size_t)(t4 + 8u), r.first);
+    t15 = base_state__writers__less_one(r.count);
+    core_store_8(s.ptr + (size_t)(t4 + 16u), t15);
+}
+
+/* Ends the transaction in the record of writer `w`. */
+static inline void base_writers__abort(struct core_slice_mut_u8 s, uint64_t w)
+{
+    struct model__Writer t3, t9;
+
+    t3 = base_state__writers__writer((struct core_slice_u8){s.ptr, s.len}, w);
+    t9 = base_writers__places__aborted(t3);
+    base_state__writers__set_writer(s, w, t9);
+}
+
+/* Drops a writer's open transaction with the block that it holds, and gives back the places promised to it. */
+static inline struct core_call_ask__Reply call_writer__abort(struct core_slice_u8 log, struct core_slice_u8 area, struct core_slice_mut_u8 state,
+        uint64_t writer)
+{
+    uint64_t t5;
+
+    t5 = call_writer__abort_answer(log, area, (struct core_slice_u8){state.ptr, state.len}, writer);
+    if (t5 != 0u) {
+        return (struct core_call_ask__Reply){.code = t5, .figure = 0u, .size = 0u};
+    }
+    base_writers__abort(state, writer);
+    core_store_2(state.ptr + (size_t)(72u + (2u * writer)), 0u);
+    return (struct core_call_ask__Reply){.code = 0u, .figure = 0u, .size = 0u};
+}
+
+/* Drops a writer's open transaction with the block that it holds, and gives back the places promised to it. */
+static inline struct core_call_ask__Reply kagutin__kagutin_abort(struct core_slice_u8 log, struct core_slice_u8 area, struct core_slice_mut_u8 state,
+        uint64_t writer)
+{
+    return call_writer__abort(log, area, state, writer);
+}
+
+/* Whether a writer may begin: 0, or the number of the refusal. */
+static inline uint64_t call_writer__begin_answer(struct core_slice_u8 log, struct core_slice_u8 area, struct core_slice_u8 state,
+        uint64_t writer)
+{
+    uint64_t t5;
+    struct model__Writer t8;
+
+    t5 = call_writer__writer_answer(log, area, state, writer);
+    if (t5 != 0u) {
+        return t5;
+    }
+    t8 = base_state__writers__writer(state, writer);
+    if (1u <= t8.mode) {
+        return 6u;
+    }
+    return 0u;
+}
+
+/* The record `r`, changed at its place by `begin_at`. */
+static inline struct model__Writer base_writers__places__begun(struct model__Writer r)
+{
+    struct model__Writer t2;
+
+    t2 = r;
+    (*&t2) = (struct model__Writer){.mode = 1u, .home = 0u, .first = 0u, .count = 1u};
+    return t2;
+}
+
+/* Begins a transaction in the record of writer `w`. */
+static inline void base_writers__begin(struct core_slice_mut_u8 s, uint64_t w)
+{
+    struct model__Writer t3, t9;
+
+    t3 = base_state__writers__writer((struct core_slice_u8){s.ptr, s.len}, w);
+    t9 = base_writers__places__begun(t3);
+    base_state__writers__set_writer(s, w, t9);
+}
+
+/* Begins a transaction of a writer that has none open. */
+static inline struct core_call_ask__Reply call_writer__begin(struct core_slice_u8 log, struct core_slice_u8 area, struct core_slice_mut_u8 state,
+        uint64_t writer)
+{
+    uint64_t t5;
+
+    t5 = call_writer__begin_answer(log, area, (struct core_slice_u8){state.ptr, state.len}, writer);
+    if (t5 != 0u) {
+        return (struct core_call_ask__Reply){.code = t5, .figure = 0u, .size = 0u};
+    }
+    base_writers__begin(state, writer);
+    return (struct core_call_ask__Reply){.code = 0u, .figure = 0u, .size = 0u};
+}
+
+/* Begins a transaction of a writer that has none open. */
+static inline struct core_call_ask__Reply kagutin__kagutin_begin(struct core_slice_u8 log, struct core_slice_u8 area, struct core_slice_mut_u8 state,
+        uint64_t writer)
+{
+    return call_writer__begin(log, area, state, writer);
+}
+
+/* Begins a round that covers what is fenced now. */
+static inline struct core_call_ask__Reply call_settle__rounds__begin_round(struct core_slice_u8 log, struct core_slice_u8 area,
+        struct core_slice_mut_u8 state)
+{
+    uint64_t t4, t19, t20;
+    struct model__State t5;
+
+    t4 = call_ask__state_answer(log, area, (struct core_slice_u8){state.ptr, state.len});
+    if (t4 != 0u) {
+        return (struct core_call_ask__Reply){.code = t4, .figure = 0u, .size = 0u};
+    }
+    t19 = core_load_8(state.ptr);
+    t20 = core_load_8(state.ptr + 8u);
+    t5 = (struct model__State){.groups = t19, .homes = t20, .start = core_load_8(state.ptr + 16u), .next = core_load_8(state.ptr + 24u),
+            .filled = core_load_8(state.ptr + 32u), .settled = core_load_8(state.ptr + 40u), .fenced = core_load_8(state.ptr + 48u),
+            .durable = core_load_8(state.ptr + 56u), .last = core_load_8(state.ptr + 64u), .round = core_load_8(state.ptr + 88u),
+            .cursor = core_load_8(state.ptr + 96u)};
+    if (t5.round != 0u) {
+        return (struct core_call_ask__Reply){.code = 21u, .figure = 0u, .size = 0u};
+    }
+    core_store_8(state.ptr + 88u, t5.fenced + 1u);
+    core_store_8(state.ptr + 96u, 0u);
+    return (struct core_call_ask__Reply){.code = 0u, .figure = 0u, .size = 0u};
+}
+
+/* Begins a round of settling in small steps, which covers the commits below the fenced position of now. */
+static inline struct core_call_ask__Reply kagutin__kagutin_begin_round(struct core_slice_u8 log, struct core_slice_u8 area,
+        struct core_slice_mut_u8 state)
+{
+    return call_settle__rounds__begin_round(log, area, state);
+}
+
+/* Questions 1 and 2 of a call that is lent the newest positions, eight bytes for each home. */
+static inline uint64_t call_ask__newest_answer(struct core_slice_u8 log, struct core_slice_u8 area, struct core_slice_u8 state,
+        struct core_slice_u8 newest)
+{
+    if ((uint64_t)newest.len != (8u * ((uint64_t)area.len / 64u))) {
+        return 1u;
+    }
+    return call_ask__state_answer(log, area, state);
+}
+
+/* Whether an entry of writer `w` finds a place: one that is promised to it, or one that is promised to nobody. */
+static inline bool base_state__promises__room_for(struct core_slice_u8 s, struct model__State st, uint64_t w)
+{
+    bool t4;
+    uint64_t t6;
+
+    t4 = base_state__promises__none_promised(s);
+    if (t4) {
+        return st.next < (st.start + st.groups);
+    }
+    if (core_load_2(s.ptr + (size_t)(72u + (2u * w))) != 0u) {
+        return true;
+    }
+    t6 = base_state__promises__promised_each(s);
+    return t6 < ((7u * (st.start + st.groups)) - ((7u * st.next) + st.filled));
+}
+
+/* Questions 8 and 10 of a call that logs an entry of writer `w`: 0 if the log has room for it, and the batch for the group that
+   it may fill. */
+static inline uint64_t call_store__entry__log_answer(struct core_slice_u8 state, uint64_t w, uint64_t batch)
+{
+    struct model__State t4;
+    bool t5;
+    uint64_t t8, t9;
+
+    t8 = core_load_8(state.ptr);
+    t9 = core_load_8(state.ptr + 8u);
+    t4 = (struct model__State){.groups = t8, .homes = t9, .start = core_load_8(state.ptr + 16u), .next = core_load_8(state.ptr + 24u),
+            .filled = core_load_8(state.ptr + 32u), .settled = core_load_8(state.ptr + 40u), .fenced = core_load_8(state.ptr + 48u),
+            .durable = core_load_8(state.ptr + 56u), .last = core_load_8(state.ptr + 64u), .round = core_load_8(state.ptr + 88u),
+            .cursor = core_load_8(state.ptr + 96u)};
+    t5 = base_state__promises__room_for(state, t4, w);
+    if (!t5) {
+        return 8u;
+    }
+    if (t4.filled != 6u) {
+        return 0u;
+    }
+    if (batch < 516u) {
+        return 9u;
+    }
+    return 0u;
+}
+
+/* The answer of a commit: 0, or the number of the question that refuses it. */
+static inline uint64_t call_commit__commit_answer(struct core_slice_u8 log, struct core_slice_u8 area, struct core_slice_u8 state,
+        struct core_slice_u8 newest, struct core_slice_u8 batch, uint64_t writer)
+{
+    uint64_t t7;
+    struct model__Writer t8;
+
+    t7 = call_ask__newest_answer(log, area, state, newest);
+    if (t7 != 0u) {
+        return t7;
+    }
+    if (8u <= writer) {
+        return 4u;
+    }
+    t8 = base_state__writers__writer(state, writer);
+    if (!(1u <= t8.mode)) {
+        return 7u;
+    }
+    if (!(2u <= t8.mode)) {
+        return 0u;
+    }
+    return call_store__entry__log_answer(state, writer, (uint64_t)batch.len);
+}
+
+/* Ends the transaction of a writer that holds nothing, and gives back the places promised to it. */
+static inline void call_commit__commit_none(struct core_slice_mut_u8 state, uint64_t w)
+{
+    base_writers__abort(state, w);
+    core_store_2(state.ptr + (size_t)(72u + (2u * w)), 0u);
+}
+
+/* The position of the first entry of a writer's transaction whose next entry goes to `position`. */
+static inline uint64_t base_state__writers__first_for(struct model__Writer r, uint64_t position)
+{
+    uint64_t t4;
+
+    if (3u <= r.mode) {
+        t4 = r.first;
+    } else {
+        t4 = position;
+    }
+    return t4;
+}
+
+/* The distance from `position` back to the last closing entry, 0 if there is none since the start. */
+static inline uint64_t call_store__entry__link_from(uint64_t position, struct model__State st)
+{
+    if (st.last <= (7u * st.start)) {
+        return 0u;
+    }
+    return (position + 1u) - st.last;
+}
+
+/* How many entries a writer's transaction has logged. */
+static inline uint64_t base_state__writers__count_for(struct model__Writer r)
+{
+    uint64_t t3;
+
+    if (3u <= r.mode) {
+        t3 = r.count;
+    } else {
+        t3 = 0u;
+    }
+    return t3;
+}
+
+/* The tag of a held block that is logged at `position` and commits its transaction. */
+static inline uint64_t call_store__entry__closing_word(struct model__State st, struct model__Writer r, uint64_t position)
+{
+    uint64_t t4, t5, t6;
+
+    t6 = base_state__writers__first_for(r, position);
+    t4 = position - t6;
+    t5 = call_store__entry__link_from(position, st);
+    t6 = base_state__writers__count_for(r);
+    return ((((3u | ((r.home & 4095u) << 2u)) | (t4 << 14u)) | (t5 << 27u)) | ((t6 + 1u) << 40u)) | ((r.home >> 12u) << 53u);
+}
+
+/* The same for any group, as the first of a pass: a small machine divides numbers of 64 bits by a library call, and few logs get
+   that far. */
+static inline struct log_scan__slots__RingSlot log_scan__slots__first_slot(uint64_t n, uint64_t groups)
+{
+    uint32_t t11, t12;
+
+    if (n <= UINT64_C(0xffffffff)) {
+        if (groups <= UINT64_C(0xffffffff)) {
+            t11 = (uint32_t)n;
+            t12 = (uint32_t)groups;
+            return (struct log_scan__slots__RingSlot){.slot = (uint64_t)(uint32_t)((uint32_t)t11 % t12),
+                    .turn = (uint64_t)(uint32_t)((uint32_t)(uint32_t)((uint32_t)t11 / t12) % 2u)};
+        }
+    }
+    return (struct log_scan__slots__RingSlot){.slot = n % groups, .turn = (n / groups) % 2u};
+}
+
+/* Writes the mark of a group at index `at`. */
+static inline void base_codec__marks__put_group_mark(struct core_slice_mut_u8 dst, uint64_t at)
+{
+    struct array_u8_2 t3;
+    struct core_slice_u8 t10;
+
+    t3 = (struct array_u8_2){{80u, 71u}};
+    t10 = (struct core_slice_u8){t3.at, 2u};
+    dst.ptr[(size_t)at] = t10.ptr[0u];
+    dst.ptr[(size_t)(at + 1u)] = t10.ptr[1u];
+}
+
+/* Writes `n` zeros from index `at` on, and leaves the other bytes as they were. */
+static inline void core_base_codec__blocks__clear(struct core_slice_mut_u8 dst, uint64_t at, uint64_t n)
+{
+    uint64_t t4, t5;
+
+    t4 = at;
+    t5 = n;
+    while (0u < t5) {
+        dst.ptr[(size_t)t4] = 0u;
+        t4 = t4 + 1u;
+        t5 = t5 - 1u;
+    }
+}
+
+/* Writes seven data blocks of zeros but for the turn bit `bit` from index `at` on. */
+static inline void base_areas__turns__put_turn_blocks(struct core_slice_mut_u8 dst, uint64_t at, uint64_t bit)
+{
+    uint8_t t4;
+    uint64_t t5, t6;
+
+    t4 = (uint8_t)((uint32_t)128u * (uint8_t)bit);
+    t5 = at;
+    t6 = 7u;
+    while (0u < t6) {
+        core_base_codec__blocks__clear(dst, t5, 63u);
+        dst.ptr[(size_t)(t5 + 63u)] = t4;
+        t5 = t5 + 64u;
+        t6 = t6 - 1u;
+    }
+}
+
+/* Writes the blank group of number `n`, which has the turn `turn`, into a ring slot. */
+static inline void base_areas__groups__put_blank(struct core_slice_mut_u8 log, uint64_t slot, uint64_t n, uint64_t turn)
+{
+    uint64_t t5, t17;
+
+    t5 = 64u + (512u * slot);
+    base_codec__marks__put_group_mark(log, t5);
+    t17 = t5 + 2u;
+    store_4(log.ptr + (size_t)t17, n);
+    core_store_2(log.ptr + (size_t)(t17 + 4u), n / UINT64_C(0x100000000));
+    core_base_codec__blocks__clear(log, t5 + 8u, 56u);
+    base_areas__turns__put_turn_blocks(log, t5 + 64u, turn);
+}
+
+/* Writes the bytes of `src` from index `at` on, and leaves the other bytes as they were. */
+static inline void core_base_codec__blocks__copy(struct core_slice_mut_u8 dst, uint64_t at, struct core_slice_u8 src)
+{
+    uint64_t t4, t5, t19;
+
+    t4 = at;
+    t5 = 0u;
+    UNROLL
+    while (16u <= ((uint64_t)src.len - t5)) {
+        t19 = core_load_8(src.ptr + (size_t)(t5 + 8u));
+        core_store_8(dst.ptr + (size_t)t4, core_load_8(src.ptr + (size_t)t5));
+        core_store_8(dst.ptr + (size_t)(t4 + 8u), t19);
+        t4 = t4 + 16u;
+        t5 = t5 + 16u;
+    }
+    while (t5 < (uint64_t)src.len) {
+        dst.ptr[(size_t)t4] = src.ptr[(size_t)t5];
+        t4 = t4 + 1u;
+        t5 = t5 + 1u;
+    }
+}
+
+/* Writes the block that stands in `src` from index `from` on, with the top bit `bit`, into `dst` from index `at` on. */
+static inline void base_codec__turns__copy_with_top_bit(struct core_slice_mut_u8 dst, uint64_t at, struct core_slice_u8 src, uint64_t from,
+        uint64_t bit)
+{
+    core_base_codec__blocks__copy(dst, at, (struct core_slice_u8){src.ptr + (size_t)from, (size_t)((from + 64u) - from)});
+    dst.ptr[(size_t)(at + 63u)] = (uint8_t)((uint32_t)(uint8_t)((uint32_t)src.ptr[(size_t)(from + 63u)] % 128u)
+            + (uint8_t)((uint32_t)128u * (uint8_t)bit));
+}
+
+/* Writes an entry's tag and its block at index `k` of the group in a ring slot: the block gets the turn bit, and the tag the bit
+   that it displaces. */
+static inline void base_areas__groups__put_entry(struct core_slice_mut_u8 log, uint64_t slot, uint64_t turn, uint64_t k, uint64_t word,
+        struct core_slice_u8 block)
+{
+    uint64_t t7;
+
+    t7 = 64u + (512u * slot);
+    core_store_8(log.ptr + (size_t)(t7 + (8u + (8u * k))), word | ((uint64_t)(uint8_t)((uint32_t)block.ptr[(size_t)((uint64_t)0u
+            + 63u)] >> 7u) << 57u));
+    base_codec__turns__copy_with_top_bit(log, t7 + (64u + (64u * k)), block, 0u, turn);
+}
+
+/* Writes an entry's tag and block at the next position, whose group has the turn `turn`, and a blank group first where the
+   position is a group's first. */
+static inline void base_areas__groups__enter(struct core_slice_mut_u8 log, uint64_t slot, uint64_t turn, struct model__State st,
+        uint64_t word, struct core_slice_u8 block)
+{
+    uint64_t t7;
+
+    t7 = st.filled;
+    if (t7 == 0u) {
+        base_areas__groups__put_blank(log, slot, st.next, turn);
+    }
+    base_areas__groups__put_entry(log, slot, turn, t7, word, block);
+}
+
+/* Writes the mark of a group write at index `at`. */
+static inline void base_codec__marks__put_group_write_mark(struct core_slice_mut_u8 dst, uint64_t at)
+{
+    struct array_u8_2 t3;
+    struct core_slice_u8 t10;
+
+    t3 = (struct array_u8_2){{71u, 87u}};
+    t10 = (struct core_slice_u8){t3.at, 2u};
+    dst.ptr[(size_t)at] = t10.ptr[0u];
+    dst.ptr[(size_t)(at + 1u)] = t10.ptr[1u];
+}
+
+/* Appends the write of the group that the log holds in a ring slot. */
+static inline uint64_t base_batch__records__group_write(struct core_slice_mut_u8 batch, uint64_t at, uint64_t slot,
+        struct core_slice_u8 log)
+{
+    uint64_t t5;
+
+    base_codec__marks__put_group_write_mark(batch, at);
+    core_store_2(batch.ptr + (size_t)(at + 2u), slot);
+    t5 = 64u + (512u * slot);
+    core_base_codec__blocks__copy(batch, at + 4u, (struct core_slice_u8){log.ptr + (size_t)t5, (size_t)((t5 + 512u) - t5)});
+    return at + 516u;
+}
+
+/* Logs the held block of writer `w` with the tag `word` at the next position; the seventh place of a group hands it on. */
+static inline uint64_t call_store__entry__log_entry(struct core_slice_mut_u8 log, struct core_slice_mut_u8 state, struct core_slice_mut_u8 batch,
+        uint64_t word, uint64_t w)
+{
+    struct model__State t6;
+    struct log_scan__slots__RingSlot t7;
+    uint64_t t8, t9, t12, t35, t36;
+
+    t35 = core_load_8(state.ptr);
+    t36 = core_load_8(state.ptr + 8u);
+    t6 = (struct model__State){.groups = t35, .homes = t36, .start = core_load_8(state.ptr + 16u), .next = core_load_8(state.ptr + 24u),
+            .filled = core_load_8(state.ptr + 32u), .settled = core_load_8(state.ptr + 40u), .fenced = core_load_8(state.ptr + 48u),
+            .durable = core_load_8(state.ptr + 56u), .last = core_load_8(state.ptr + 64u), .round = core_load_8(state.ptr + 88u),
+            .cursor = core_load_8(state.ptr + 96u)};
+    t7 = log_scan__slots__first_slot(t6.next, t6.groups);
+    t8 = t7.slot;
+    t9 = 320u + (64u * w);
+    base_areas__groups__enter(log, t8, t7.turn, t6, word, (struct core_slice_u8){state.ptr + (size_t)t9, (size_t)((t9 + 64u) - t9)});
+    if (t6.filled != 6u) {
+        core_store_8(state.ptr + 32u, t6.filled + 1u);
+        return 0u;
+    }
+    core_store_8(state.ptr + 24u, t6.next + 1u);
+    core_store_8(state.ptr + 32u, 0u);
+    t12 = base_batch__records__group_write(batch, 0u, t8, (struct core_slice_u8){log.ptr, log.len});
+    return t12;
+}
+
+/* Logs the held block as the closing entry and ends the transaction. */
+static inline uint64_t call_commit__close_held(struct core_slice_mut_u8 log, struct core_slice_mut_u8 state, struct core_slice_mut_u8 batch,
+        struct model__State st, struct model__Writer r, uint64_t w)
+{
+    uint64_t t7, t8, t9;
+
+    t7 = (7u * st.next) + st.filled;
+    t8 = call_store__entry__closing_word(st, r, t7);
+    t9 = call_store__entry__log_entry(log, state, batch, t8, w);
+    core_store_8(state.ptr + 64u, t7 + 1u);
+    base_writers__abort(state, w);
+    return t9;
+}
+
+/* Whether the 512 bytes of a ring slot are a valid group with number `n`, in a log of `groups` groups from number `start` on. */
+static inline bool log_scan__groups__group_valid(struct core_slice_u8 group, uint64_t groups, uint64_t start, uint64_t n)
+{
+    if (!(core_load_8(group.ptr) == (((n % UINT64_C(0x1000000000000)) * UINT64_C(0x10000)) + 18256u))) {
+        return false;
+    }
+    if (n < start) {
+        return false;
+    }
+    return n < (start + groups);
+}
+
+/* The word of tag `k` of a group if its data block has the turn of the group, else that of no entry. */
+static inline uint64_t log_scan__groups__word_there(struct core_slice_u8 group, uint64_t turn, uint64_t k)
+{
+    if ((uint64_t)(uint8_t)((uint32_t)group.ptr[(size_t)((64u + (64u * k)) + 63u)] >> 7u) != turn) {
+        return 0u;
+    }
+    return core_load_8(group.ptr + (size_t)(8u + (8u * k)));
+}
+
+/* What a word says at a position of a log that starts at position `base` and has `homes` homes. */
+static inline struct model__Tag base_codec__tags__read_tag(uint64_t word, uint64_t position, uint64_t base, uint64_t homes)
+{
+    uint64_t t5, t6, t7, t8;
+
+    if ((word & 1u) == 0u) {
+        return (struct model__Tag){.tag = 0u};
+    }
+    if ((word >> 58u) != 0u) {
+        return (struct model__Tag){.tag = 0u};
+    }
+    t5 = ((word >> 2u) & 4095u) | (((word >> 53u) & 15u) << 12u);
+    if (homes <= t5) {
+        return (struct model__Tag){.tag = 0u};
+    }
+    t6 = (word >> 14u) & 8191u;
+    if (position < t6) {
+        return (struct model__Tag){.tag = 0u};
+    }
+    t7 = position - t6;
+    if (t7 < base) {
+        return (struct model__Tag){.tag = 0u};
+    }
+    if (((word >> 1u) & 1u) == 0u) {
+        if (((word >> 27u) & UINT64_C(0x3ffffff)) == 0u) {
+            return (struct model__Tag){.tag = 1u, .u64_0 = t5, .u64_1 = t7};
+        }
+        return (struct model__Tag){.tag = 0u};
+    }
+    t8 = (word >> 40u) & 8191u;
+    if (t8 == 0u) {
+        return (struct model__Tag){.tag = 0u};
+    }
+    return (struct model__Tag){.tag = 2u, .u64_0 = t5, .u64_1 = t7, .u64_2 = (word >> 27u) & 8191u, .u64_3 = t8};
+}
+
+/* Keeps a position if `word`, that of its tag, is an entry of the transaction with first position `first`, whatever kind of
+   entry. Its distance back is compared before all else. */
+static inline void log_newest__words__keep_word(struct core_slice_mut_u8 newest, uint64_t word, uint64_t position, uint64_t base,
+        uint64_t homes, uint64_t first)
+{
+    struct model__Tag t12;
+
+    if (((word >> 14u) & 8191u) != (position - first)) {
+        return;
+    }
+    t12 = base_codec__tags__read_tag(word, position, base, homes);
+    if (t12.tag == 0u) {
+    } else if (t12.tag == 1u) {
+        core_store_8(newest.ptr + (size_t)(8u * t12.u64_0), position);
+    } else {
+        core_store_8(newest.ptr + (size_t)(8u * t12.u64_0), position);
+    }
+}
+
+/* The same for tag `k` alone, the only one of its transaction. */
+static inline void log_newest__groups__keep_alone(struct core_slice_u8 group, uint64_t groups, uint64_t homes, uint64_t start,
+        uint64_t n, uint64_t turn, uint64_t k, struct core_slice_mut_u8 newest)
+{
+    uint64_t t9, t10;
+    bool t11;
+
+    t11 = log_scan__groups__group_valid(group, groups, start, n);
+    if (!t11) {
+        return;
+    }
+    t9 = log_scan__groups__word_there(group, turn, k);
+    t10 = (7u * n) + k;
+    log_newest__words__keep_word(newest, t9, t10, 7u * start, homes, t10);
+}
+
+/* The same for a transaction of its closing entry alone, at index `k` of the group with number `number`. */
+static inline void log_newest__commits__keep_one(struct core_slice_u8 log, uint64_t groups, uint64_t homes, uint64_t start,
+        uint64_t number, uint64_t k, struct core_slice_mut_u8 newest)
+{
+    struct log_scan__slots__RingSlot t8;
+    uint64_t t9;
+
+    t8 = log_scan__slots__first_slot(number, groups);
+    t9 = 64u + (512u * t8.slot);
+    log_newest__groups__keep_alone((struct core_slice_u8){log.ptr + (size_t)t9, (size_t)((t9 + 512u) - t9)}, groups, homes, start,
+            number, t8.turn, k, newest);
+}
+
+/* The same for tag `k` of a group, where it is the transaction's entry that does not close it, which is `plain` but for its home,
+   or has another distance back; returns whether it is one of these. Only an entry of the transaction has its block's turn bit
+   looked at. */
+static inline bool log_newest__words__keep_plain(struct core_slice_u8 group, uint64_t turn, uint64_t k, uint64_t plain,
+        uint64_t position, uint64_t homes, struct core_slice_mut_u8 newest)
+{
+    uint64_t t8, t9, t136;
+
+    t8 = core_load_8(group.ptr + (size_t)(8u + (8u * k)));
+    if (!(((t8 ^ plain) & UINT64_C(0xfc1fffffffffc003)) == 0u)) {
+        return ((t8 ^ plain) & UINT64_C(0x7ffc000)) != 0u;
+    }
+    if (128u <= (uint8_t)((uint32_t)group.ptr[(size_t)((64u + (64u * k)) + 63u)] ^ (uint8_t)((uint32_t)128u * (uint8_t)turn))) {
+        return true;
+    }
+    t136 = t8 ^ plain;
+    t9 = ((t136 >> 2u) + (t136 >> 41u)) % UINT64_C(0x10000);
+    if (homes <= t9) {
+        return false;
+    }
+    core_store_8(newest.ptr + (size_t)(8u * t9), position);
+    return true;
+}
+
+/* The same for every tag. */
+static inline void log_newest__words__keep_entry(struct core_slice_u8 group, uint64_t turn, uint64_t k, uint64_t position,
+        uint64_t base, uint64_t homes, uint64_t first, struct core_slice_mut_u8 newest)
+{
+    uint64_t t10;
+    bool t12;
+
+    t12 = log_newest__words__keep_plain(group, turn, k, ((1u | (((uint64_t)0u & 4095u) << 2u)) | ((position - first) << 14u))
+            | (((uint64_t)0u >> 12u) << 53u), position, homes, newest);
+    if (t12) {
+        return;
+    }
+    t10 = log_scan__groups__word_there(group, turn, k);
+    log_newest__words__keep_word(newest, t10, position, base, homes, first);
+}
+
+/* Keeps the transaction's entries from tag `done` of a group to below tag `m`, where those before are taken. The group says
+   nothing where it is not the valid group with number `n` and turn `turn`. */
+static inline void log_newest__groups__keep_between(struct core_slice_u8 group, uint64_t groups, uint64_t homes, uint64_t start,
+        uint64_t n, uint64_t turn, uint64_t done, uint64_t m, uint64_t first, struct core_slice_mut_u8 newest)
+{
+    uint64_t t11, t12;
+    bool t13;
+
+    t13 = log_scan__groups__group_valid(group, groups, start, n);
+    if (!t13) {
+        return;
+    }
+    t11 = 7u * start;
+    t12 = done;
+    while (t12 < m) {
+        log_newest__words__keep_entry(group, turn, t12, (7u * n) + t12, t11, homes, first, newest);
+        t12 = t12 + 1u;
+    }
+}
+
+/* Keeps the transaction's entries of the pass's group that are left below its tag `m`. */
+static inline void log_newest__commits__keep_rest(struct core_slice_u8 log, uint64_t groups, uint64_t homes, uint64_t start,
+        uint64_t first, struct log_newest__commits__Pass pass, uint64_t m, struct core_slice_mut_u8 newest)
+{
+    struct log_scan__slots__RingSlot t9;
+    uint64_t t10;
+
+    t9 = pass.at;
+    t10 = 64u + (512u * t9.slot);
+    log_newest__groups__keep_between((struct core_slice_u8){log.ptr + (size_t)t10, (size_t)((t10 + 512u) - t10)}, groups, homes, start,
+            pass.number, t9.turn, pass.done, m, first, newest);
+}
+
+/* Those of the group after: the turn changes where the slots begin again. */
+static inline struct log_scan__slots__RingSlot log_scan__slots__next_slot(struct log_scan__slots__RingSlot at, uint64_t groups)
+{
+    uint64_t t3;
+
+    t3 = at.slot + 1u;
+    if (t3 == groups) {
+        return (struct log_scan__slots__RingSlot){.slot = 0u, .turn = 1u - at.turn};
+    }
+    return (struct log_scan__slots__RingSlot){.slot = t3, .turn = at.turn};
+}
+
+/* Keeps the transaction's entries of a valid group one after the other, as long as they are plain; returns how many tags it has
+   taken. */
+static inline uint64_t log_newest__groups__keep_seven(struct core_slice_u8 group, uint64_t homes, uint64_t n, uint64_t turn,
+        uint64_t first, struct core_slice_mut_u8 newest)
+{
+    uint64_t t7, t8, t9;
+    bool t11;
+
+    t7 = 7u * n;
+    t8 = ((1u | (((uint64_t)0u & 4095u) << 2u)) | ((t7 - first) << 14u)) | (((uint64_t)0u >> 12u) << 53u);
+    t9 = 0u;
+    while (t9 < 7u) {
+        t11 = log_newest__words__keep_plain(group, turn, t9, t8, t7, homes, newest);
+        if (!t11) {
+            return t9;
+        }
+        t7 = t7 + 1u;
+        t8 = t8 + 16384u;
+        t9 = t9 + 1u;
+    }
+    return t9;
+}
+
+/* The same for a group of the log's range, none where it is not the valid group with number `n`: its head is asked once. */
+static inline uint64_t log_newest__groups__keep_whole(struct core_slice_u8 group, uint64_t groups, uint64_t homes, uint64_t start,
+        uint64_t n, uint64_t turn, uint64_t first, struct core_slice_mut_u8 newest)
+{
+    (void)groups;
+    (void)start;
+
+    if (!(core_load_8(group.ptr) == (((n % UINT64_C(0x1000000000000)) * UINT64_C(0x10000)) + 18256u))) {
+        return 0u;
+    }
+    return log_newest__groups__keep_seven(group, homes, n, turn, first, newest);
+}
+
+/* Keeps the transaction's entries of the groups from number `from` on that lie whole below position `end`, as long as their tags
+   are plain. */
+static inline struct log_newest__commits__Pass log_newest__commits__keep_groups(struct core_slice_u8 log, uint64_t groups,
+        uint64_t homes, uint64_t start, uint64_t first, uint64_t end, uint64_t from, struct log_scan__slots__RingSlot ring,
+        struct core_slice_mut_u8 newest)
+{
+    uint64_t t10, t12, t14;
+    struct log_scan__slots__RingSlot t11;
+
+    t10 = from;
+    t11 = ring;
+    while (((7u * t10) + 7u) <= end) {
+        t12 = 64u + (512u * t11.slot);
+        t14 = log_newest__groups__keep_whole((struct core_slice_u8){log.ptr + (size_t)t12, (size_t)((t12 + 512u) - t12)}, groups,
+                homes, start, t10, t11.turn, first, newest);
+        if (t14 != 7u) {
+            return (struct log_newest__commits__Pass){.number = t10, .at = t11, .done = t14};
+        }
+        t11 = log_scan__slots__next_slot(t11, groups);
+        t10 = t10 + 1u;
+    }
+    return (struct log_newest__commits__Pass){.number = t10, .at = t11, .done = 0u};
+}
+
+/* Keeps the position of each entry of the transaction from position `first` to the closing one, so that the later position wins.
+   */
+static inline void log_newest__commits__keep_entries(struct core_slice_u8 log, uint64_t groups, uint64_t homes, uint64_t start,
+        uint64_t first, uint64_t closing, struct core_slice_mut_u8 newest)
+{
+    uint64_t t8, t10, t13;
+    struct log_scan__slots__RingSlot t9, t12;
+    struct log_newest__commits__Pass t11;
+
+    t8 = first / 7u;
+    t9 = log_scan__slots__first_slot(t8, groups);
+    t10 = closing + 1u;
+    t11 = (struct log_newest__commits__Pass){.number = t8, .at = t9, .done = first - (7u * t8)};
+    while (((7u * t11.number) + 7u) <= t10) {
+        log_newest__commits__keep_rest(log, groups, homes, start, first, t11, 7u, newest);
+        t12 = log_scan__slots__next_slot(t11.at, groups);
+        t11 = log_newest__commits__keep_groups(log, groups, homes, start, first, t10, t11.number + 1u, t12, newest);
+    }
+    t13 = t10 - (7u * t11.number);
+    if (t13 == 0u) {
+        return;
+    }
+    log_newest__commits__keep_rest(log, groups, homes, start, first, t11, t13, newest);
+}
+
+/* Keeps the position of each entry of the transaction that was closed at the next position; where nothing was logged before, that
+   is one position. */
+static inline void call_commit__keep_newest(struct core_slice_u8 log, struct core_slice_mut_u8 newest, struct model__State st,
+        struct model__Writer r)
+{
+    uint64_t t5, t6;
+
+    if (!(3u <= r.mode)) {
+        log_newest__commits__keep_one(log, st.groups, st.homes, st.start, st.next, st.filled, newest);
+        return;
+    }
+    t5 = (7u * st.next) + st.filled;
+    t6 = base_state__writers__first_for(r, t5);
+    log_newest__commits__keep_entries(log, st.groups, st.homes, st.start, t6, t5, newest);
+}
+
+/* The same for all four. */
+static inline bool call_rights__keep__same_listed(struct core_slice_u8 state, struct core_slice_u8 newest)
+{
+    if (!(core_load_8(state.ptr + (size_t)(896u + ((uint64_t)8u * 0u))) == core_load_8(newest.ptr + (size_t)(64u + ((uint64_t)8u * 0u))))) {
+        return false;
+    }
+    if (!(core_load_8(state.ptr + (size_t)(896u + ((uint64_t)8u * 1u))) == core_load_8(newest.ptr + (size_t)(64u + ((uint64_t)8u * 1u))))) {
+        return false;
+    }
+    if (!(core_load_8(state.ptr + (size_t)(896u + ((uint64_t)8u * 2u))) == core_load_8(newest.ptr + (size_t)(64u + ((uint64_t)8u * 2u))))) {
+        return false;
+    }
+    return core_load_8(state.ptr + (size_t)(896u + ((uint64_t)8u * 3u))) == core_load_8(newest.ptr + (size_t)(64u + ((uint64_t)8u * 3u)));
+}
+
+/* Stores the four positions, and leaves the rest of the strip as it was. */
+static inline void base_state__listed__set_listed(struct core_slice_mut_u8 s, struct core_slice_u8 positions)
+{
+    core_base_codec__blocks__copy(s, 896u, positions);
+}
+
+/* Carries the four positions over from the newest positions of `homes` homes, where the list has its homes. */
+static inline void base_state__listed__carry_listed(struct core_slice_mut_u8 s, struct core_slice_u8 newest, uint64_t homes)
+{
+    if (homes < 12u) {
+        return;
+    }
+    base_state__listed__set_listed(s, (struct core_slice_u8){newest.ptr + 64u, (size_t)((uint64_t)96u - 64u)});
+}
+
+/* The ring place of the position that lies `after` positions behind the log's start. */
+static inline struct log_shown__ring__RingPlace log_shown__ring__ring_place(struct model__State st, uint64_t after)
+{
+    uint64_t t3, t4;
+    struct log_scan__slots__RingSlot t5;
+
+    t3 = (after * 9363u) >> 16u;
+    t4 = st.start + t3;
+    t5 = log_scan__slots__first_slot(t4, st.groups);
+    return (struct log_shown__ring__RingPlace){.number = t4, .slot = t5.slot, .turn = t5.turn, .k = after - (7u * t3)};
+}
+
+/* Whether a word says `after` positions behind the log's start that an entry for a home is there. Its lowest bits and its
+   highest, next to each other, are those of the home, with 2 more where it closes a transaction and 2^18 more where it displaced
+   a bit. */
+static inline bool log_shown__tags__fields_for(uint64_t word, uint64_t home, uint64_t after)
+{
+    uint64_t t4, t5;
+
+    if (after < ((word >> 14u) % 8192u)) {
+        return false;
+    }
+    t4 = (word % 16384u) + (16384u * (word >> 53u));
+    t5 = (4u * home) + 1u;
+    if (t4 == (t5 + 2u)) {
+        return 0u < ((word >> 40u) % 8192u);
+    }
+    if (t4 == (t5 + UINT64_C(0x40002))) {
+        return 0u < ((word >> 40u) % 8192u);
+    }
+    if (t4 == t5) {
+        return ((word >> 27u) % UINT64_C(0x4000000)) == 0u;
+    }
+    if (t4 != (t5 + UINT64_C(0x40000))) {
+        return false;
+    }
+    return ((word >> 27u) % UINT64_C(0x4000000)) == 0u;
+}
+
+/* The same. The word of an entry that does not close its transaction and displaced no bit has nothing above the distance back:
+   that and its low bits are all that is compared. */
+static inline bool log_shown__tags__is_entry_for(uint64_t word, uint64_t home, uint64_t after)
+{
+    if ((word >> 14u) <= after) {
+        return (word % 16384u) == ((4u * home) + 1u);
+    }
+    return log_shown__tags__fields_for(word, home, after);
+}
+
+/* Whether an entry for a home stands `after` positions behind the log's start, which is at a place of the ring: its group's
+   number is in range. */
+static inline bool log_shown__entry_there(struct core_slice_u8 log, struct model__State st, uint64_t home, uint64_t after,
+        struct log_shown__ring__RingPlace at)
+{
+    uint64_t t6, t8;
+    struct core_slice_u8 t7;
+    (void)st;
+
+    t6 = 64u + (512u * at.slot);
+    t7 = (struct core_slice_u8){log.ptr + (size_t)t6, (size_t)((t6 + 512u) - t6)};
+    if (!(core_load_8(t7.ptr) == (((at.number % UINT64_C(0x1000000000000)) * UINT64_C(0x10000)) + 18256u))) {
+        return false;
+    }
+    t8 = log_scan__groups__word_there(t7, at.turn, at.k);
+    return log_shown__tags__is_entry_for(t8, home, after);
+}
+
+/* Where the block of the entry for a home lies in the log, if one is at the position kept for it; else 0. */
+static inline uint64_t log_shown__place_by(struct core_slice_u8 log, struct model__State st, uint64_t home, uint64_t position)
+{
+    uint64_t t5, t6;
+    struct log_shown__ring__RingPlace t7;
+    bool t8;
+
+    t5 = 7u * st.start;
+    if (position < t5) {
+        return 0u;
+    }
+    if (((7u * st.next) + st.filled) <= position) {
+        return 0u;
+    }
+    t6 = position - t5;
+    t7 = log_shown__ring__ring_place(st, t6);
+    t8 = log_shown__entry_there(log, st, home, t6, t7);
+    if (!t8) {
+        return 0u;
+    }
+    return (64u + (512u * t7.slot)) + (64u + (64u * t7.k));
+}
+
+/* The same by the strip. Called by one name from everywhere, so that of its numbers only those that are compared are read. */
+static inline uint64_t log_shown__place(struct core_slice_u8 log, struct core_slice_u8 state, uint64_t home, uint64_t position)
+{
+    uint64_t t7, t8;
+
+    t7 = core_load_8(state.ptr);
+    t8 = core_load_8(state.ptr + 8u);
+    return log_shown__place_by(log, (struct model__State){.groups = t7, .homes = t8, .start = core_load_8(state.ptr + 16u),
+            .next = core_load_8(state.ptr + 24u), .filled = core_load_8(state.ptr + 32u), .settled = core_load_8(state.ptr + 40u),
+            .fenced = core_load_8(state.ptr + 48u), .durable = core_load_8(state.ptr + 56u), .last = core_load_8(state.ptr + 64u),
+            .round = core_load_8(state.ptr + 88u), .cursor = core_load_8(state.ptr + 96u)}, home, position);
+}
+
+/* Where the block of the list's home 8 + `i` lies in the log, 0 where the data copy has it. */
+static inline uint64_t call_rights__list__place(struct core_slice_u8 log, struct core_slice_u8 state, struct core_slice_u8 kept, uint64_t from,
+        uint64_t i)
+{
+    return log_shown__place(log, state, 8u + i, core_load_8(kept.ptr + (size_t)(from + (8u * i))));
+}
+
+/* Whether the block that the entry with its block at index `place` of the log gives is all zeros: the turn bit is shifted out of
+   its last word, and the bit that it displaced counts instead. */
+static inline bool call_rights__zeros__zero_entry(struct core_slice_u8 log, uint64_t place)
+{
+    uint64_t t3, t431, t954;
+
+    t3 = core_load_8(log.ptr + (size_t)place) | (core_load_8(log.ptr + (size_t)(place + 8u)) | (core_load_8(log.ptr + (size_t)(place + 16u))
+            | core_load_8(log.ptr + (size_t)(place + 24u))));
+    t431 = place + 24u;
+    if ((t3 | (core_load_8(log.ptr + (size_t)t431) | (core_load_8(log.ptr + (size_t)(t431 + 8u)) | (core_load_8(log.ptr + (size_t)(t431 + 16u))
+            | core_load_8(log.ptr + (size_t)(t431 + 24u)))))) != 0u) {
+        return false;
+    }
+    t954 = place - 64u;
+    return ((core_load_8(log.ptr + (size_t)(place + 56u)) << 1u) | ((core_load_8(log.ptr + (size_t)((64u + ((t954 / 512u) * 512u))
+            + ((t954 % 512u) / 8u))) >> 57u) & 1u)) == 0u;
+}
+
+/* Whether block `i` of the list, which has the place `found`, is all zeros. */
+static inline bool call_rights__list__is_zero(struct core_slice_u8 log, struct core_slice_u8 area, uint64_t found, uint64_t i)
+{
+    uint64_t t9, t10, t434;
+
+    if (found == 0u) {
+        t9 = 64u * (8u + i);
+        t10 = core_load_8(area.ptr + (size_t)t9) | (core_load_8(area.ptr + (size_t)(t9 + 8u)) | (core_load_8(area.ptr + (size_t)(t9 + 16u))
+                | core_load_8(area.ptr + (size_t)(t9 + 24u))));
+        t434 = t9 + 32u;
+        return (t10 | (core_load_8(area.ptr + (size_t)t434) | (core_load_8(area.ptr + (size_t)(t434 + 8u)) | (core_load_8(area.ptr
+                + (size_t)(t434 + 16u)) | core_load_8(area.ptr + (size_t)(t434 + 24u)))))) == 0u;
+    }
+    return call_rights__zeros__zero_entry(log, found);
+}
+
+/* The same for block `i`, where block `own` is known to be all zeros. */
+static inline bool call_rights__list__other_zero(struct core_slice_u8 log, struct core_slice_u8 area, struct core_slice_u8 state,
+        struct core_slice_u8 kept, uint64_t from, uint64_t own, uint64_t i)
+{
+    uint64_t t8;
+
+    if (i == own) {
+        return true;
+    }
+    t8 = call_rights__list__place(log, state, kept, from, i);
+    return call_rights__list__is_zero(log, area, t8, i);
+}
+
+/* Whether the whole list is all zeros, where block `own` is. */
+static inline bool call_rights__list__no_list(struct core_slice_u8 log, struct core_slice_u8 area, struct core_slice_u8 state,
+        struct core_slice_u8 kept, uint64_t from, uint64_t own)
+{
+    uint64_t t7;
+    bool t8;
+
+    t7 = 0u;
+    while (t7 < 4u) {
+        t8 = call_rights__list__other_zero(log, area, state, kept, from, own, t7);
+        if (!t8) {
+            return false;
+        }
+        t7 = t7 + 1u;
+    }
+    return true;
+}
+
+/* Whether the whole list is all zeros. */
+static inline bool call_rights__list__all_zeros(struct core_slice_u8 log, struct core_slice_u8 area, struct core_slice_u8 state,
+        struct core_slice_u8 kept, uint64_t from)
+{
+    uint64_t t6;
+    bool t7;
+
+    t6 = call_rights__list__place(log, state, kept, from, 0u);
+    t7 = call_rights__list__is_zero(log, area, t6, 0u);
+    if (!t7) {
+        return false;
+    }
+    return call_rights__list__no_list(log, area, state, kept, from, 0u);
+}
+
+/* Sets the sign of the list that the newest positions show. */
+static inline void call_rights__keep__sign_list(struct core_slice_u8 log, struct core_slice_u8 area, struct core_slice_mut_u8 state,
+        struct core_slice_u8 newest)
+{
+    bool t5;
+
+    t5 = call_rights__list__all_zeros(log, area, (struct core_slice_u8){state.ptr, state.len}, newest, 64u);
+    if (t5) {
+        core_store_8(state.ptr + 928u, 1u);
+        return;
+    }
+    core_store_8(state.ptr + 928u, 2u);
+}
+
+/* Keeps the list's part of the strip after a commit that has left log, strip and newest positions. */
+static inline void call_rights__keep__keep_list(struct core_slice_u8 log, struct core_slice_u8 area, struct core_slice_mut_u8 state,
+        struct core_slice_u8 newest)
+{
+    uint64_t t5;
+    bool t6;
+
+    t5 = (uint64_t)area.len / 64u;
+    if (t5 < 12u) {
+        return;
+    }
+    t6 = call_rights__keep__same_listed((struct core_slice_u8){state.ptr, state.len}, newest);
+    base_state__listed__carry_listed(state, newest, t5);
+    if (t6) {
+        return;
+    }
+    call_rights__keep__sign_list(log, area, state, newest);
+}
+
+/* The closing entry, with the places promised to the writer given back, the newest positions kept, and with them the state
+   strip's part of the list of rights. */
+static inline uint64_t call_commit__commit_held(struct core_slice_mut_u8 log, struct core_slice_u8 area, struct core_slice_mut_u8 state,
+        struct core_slice_mut_u8 newest, struct core_slice_mut_u8 batch, struct model__State st, struct model__Writer r, uint64_t w)
+{
+    uint64_t t9;
+
+    t9 = call_commit__close_held(log, state, batch, st, r, w);
+    core_store_2(state.ptr + (size_t)(72u + (2u * w)), 0u);
+    call_commit__keep_newest((struct core_slice_u8){log.ptr, log.len}, newest, st, r);
+    call_rights__keep__keep_list((struct core_slice_u8){log.ptr, log.len}, area, state, (struct core_slice_u8){newest.ptr, newest.len});
+    return t9;
+}
+
+/* The same by the numbers and the record that stand in the strip. */
+static inline uint64_t call_commit__commit_next(struct core_slice_mut_u8 log, struct core_slice_u8 area, struct core_slice_mut_u8 state,
+        struct core_slice_mut_u8 newest, struct core_slice_mut_u8 batch, uint64_t w)
+{
+    struct model__State t7;
+    struct model__Writer t8;
+    uint64_t t22, t23;
+
+    t22 = core_load_8(state.ptr);
+    t23 = core_load_8(state.ptr + 8u);
+    t7 = (struct model__State){.groups = t22, .homes = t23, .start = core_load_8(state.ptr + 16u), .next = core_load_8(state.ptr + 24u),
+            .filled = core_load_8(state.ptr + 32u), .settled = core_load_8(state.ptr + 40u), .fenced = core_load_8(state.ptr + 48u),
+            .durable = core_load_8(state.ptr + 56u), .last = core_load_8(state.ptr + 64u), .round = core_load_8(state.ptr + 88u),
+            .cursor = core_load_8(state.ptr + 96u)};
+    t8 = base_state__writers__writer((struct core_slice_u8){state.ptr, state.len}, w);
+    return call_commit__commit_held(log, area, state, newest, batch, t7, t8, w);
+}
+
+/* Commits a writer's open transaction: its held block is logged as the closing entry, whose position + 1 is the ticket, and for
+   each home that it wrote the last entry's position is kept. */
+static inline struct core_call_ask__Reply call_commit__commit(struct core_slice_mut_u8 log, struct core_slice_u8 area, struct core_slice_mut_u8 state,
+        struct core_slice_mut_u8 newest, struct core_slice_mut_u8 batch, uint64_t writer)
+{
+    uint64_t t7, t8, t12, t43, t44;
+    struct model__Writer t9;
+    struct model__State t10;
+
+    t7 = call_commit__commit_answer((struct core_slice_u8){log.ptr, log.len}, area, (struct core_slice_u8){state.ptr, state.len},
+            (struct core_slice_u8){newest.ptr, newest.len}, (struct core_slice_u8){batch.ptr, batch.len}, writer);
+    if (t7 != 0u) {
+        return (struct core_call_ask__Reply){.code = t7, .figure = 0u, .size = 0u};
+    }
+    t8 = writer;
+    t9 = base_state__writers__writer((struct core_slice_u8){state.ptr, state.len}, t8);
+    if (!(2u <= t9.mode)) {
+        call_commit__commit_none(state, t8);
+        return (struct core_call_ask__Reply){.code = 0u, .figure = 0u, .size = 0u};
+    }
+    t43 = core_load_8(state.ptr);
+    t44 = core_load_8(state.ptr + 8u);
+    t10 = (struct model__State){.groups = t43, .homes = t44, .start = core_load_8(state.ptr + 16u), .next = core_load_8(state.ptr + 24u),
+            .filled = core_load_8(state.ptr + 32u), .settled = core_load_8(state.ptr + 40u), .fenced = core_load_8(state.ptr + 48u),
+            .durable = core_load_8(state.ptr + 56u), .last = core_load_8(state.ptr + 64u), .round = core_load_8(state.ptr + 88u),
+            .cursor = core_load_8(state.ptr + 96u)};
+    t12 = call_commit__commit_next(log, area, state, newest, batch, t8);
+    return (struct core_call_ask__Reply){.code = 0u, .figure = ((7u * t10.next) + t10.filled) + 1u, .size = t12};
+}
+
+/* Ends a writer's transaction: logs the held block as its closing entry, and returns the ticket. */
+static inline struct core_call_ask__Reply kagutin__kagutin_commit(struct core_slice_mut_u8 log, struct core_slice_u8 area,
+        struct core_slice_mut_u8 state, struct core_slice_mut_u8 newest, struct core_slice_mut_u8 batch, uint64_t writer)
+{
+    return call_commit__commit(log, area, state, newest, batch, writer);
+}
+
+/* Makes the fenced position the durable mark, and returns it: all fences so far have passed. */
+static inline struct core_call_ask__Reply call_writer__confirm(struct core_slice_u8 log, struct core_slice_u8 area, struct core_slice_mut_u8 state)
+{
+    uint64_t t4, t5, t17, t18;
+    struct model__State t9;
+
+    t4 = call_ask__state_answer(log, area, (struct core_slice_u8){state.ptr, state.len});
+    if (t4 != 0u) {
+        return (struct core_call_ask__Reply){.code = t4, .figure = 0u, .size = 0u};
+    }
+    t17 = core_load_8(state.ptr);
+    t18 = core_load_8(state.ptr + 8u);
+    t9 = (struct model__State){.groups = t17, .homes = t18, .start = core_load_8(state.ptr + 16u), .next = core_load_8(state.ptr + 24u),
+            .filled = core_load_8(state.ptr + 32u), .settled = core_load_8(state.ptr + 40u), .fenced = core_load_8(state.ptr + 48u),
+            .durable = core_load_8(state.ptr + 56u), .last = core_load_8(state.ptr + 64u), .round = core_load_8(state.ptr + 88u),
+            .cursor = core_load_8(state.ptr + 96u)};
+    t5 = t9.fenced;
+    core_store_8(state.ptr + 56u, t5);
+    return (struct core_call_ask__Reply){.code = 0u, .figure = t5, .size = 0u};
+}
+
+/* Makes the fenced position the durable mark, and returns it. */
+static inline struct core_call_ask__Reply kagutin__kagutin_confirm(struct core_slice_u8 log, struct core_slice_u8 area,
+        struct core_slice_mut_u8 state)
+{
+    return call_writer__confirm(log, area, state);
+}
+
+/* Whether a strip of home blocks may have `len` bytes: one to seven whole blocks. */
+static inline bool call_many_fetch__questions__blocks_right(uint64_t len)
+{
+    if ((len % 64u) != 0u) {
+        return false;
+    }
+    if (len < 64u) {
+        return false;
+    }
+    return len <= 448u;
+}
+
+/* Whether the `n` homes from `home` on are all below `homes`. */
+static inline bool call_many_fetch__questions__homes_known(uint64_t homes, uint64_t home, uint64_t n)
+{
+    if (homes < home) {
+        return false;
+    }
+    return n <= (homes - home);
+}
+
+/* Questions 1, 2, 4 and 5, which each call on several homes puts first: 0 if none refuses it, else the number of the refusal. */
+static inline uint64_t call_many_fetch__questions__homes_answer(struct core_slice_u8 log, struct core_slice_u8 area, struct core_slice_u8 state,
+        struct core_slice_u8 newest, struct core_slice_u8 blocks, uint64_t writer, uint64_t home)
+{
+    uint64_t t8;
+    bool t9;
+
+    t9 = call_many_fetch__questions__blocks_right((uint64_t)blocks.len);
+    if (!t9) {
+        return 1u;
+    }
+    t8 = call_ask__newest_answer(log, area, state, newest);
+    if (t8 != 0u) {
+        return t8;
+    }
+    if (8u <= writer) {
+        return 4u;
+    }
+    t9 = call_many_fetch__questions__homes_known((uint64_t)area.len / 64u, home, (uint64_t)blocks.len / 64u);
+    if (!t9) {
+        return 5u;
+    }
+    return 0u;
+}
+
+/* Whether a home is one of the list's own. */
+static inline bool call_rights__ranges__of_list(uint64_t home)
+{
+    if (home < 8u) {
+        return false;
+    }
+    return home < 12u;
+}
+
+/* A home less the first of a range, modulo 2^64. */
+static inline uint64_t call_rights__ranges__wrapped_difference(uint64_t home, uint64_t first)
+{
+    if (first <= home) {
+        return home - first;
+    }
+    return (home + (UINT64_C(0xffffffffffffffff) - first)) + 1u;
+}
+
+/* Whether a home lies in the range at index `at`: a home before it wraps to a difference that no range has. */
+static inline bool call_rights__ranges__in_range(struct core_slice_u8 s, uint64_t at, uint64_t home)
+{
+    uint64_t t5, t7;
+
+    t5 = core_load_2(s.ptr + (size_t)(at + 2u));
+    t7 = call_rights__ranges__wrapped_difference(home, core_load_2(s.ptr + (size_t)at));
+    return t7 < t5;
+}
+
+/* Whether a home lies in one of the four ranges from index `at` on. */
+static inline bool call_rights__ranges__in_ranges(struct core_slice_u8 s, uint64_t at, uint64_t home)
+{
+    bool t4, t5, t7;
+
+    t4 = call_rights__ranges__in_range(s, at, home);
+    if (t4) {
+        return true;
+    }
+    t5 = call_rights__ranges__in_range(s, at + 4u, home);
+    if (t5) {
+        return true;
+    }
+    t7 = call_rights__ranges__in_range(s, at + 8u, home);
+    if (t7) {
+        return true;
+    }
+    return call_rights__ranges__in_range(s, at + 12u, home);
+}
+
+/* Whether a home lies in the last range of the block that the entry with its block at index `place` of the log gives: it ends
+   with the turn bit. */
+static inline bool call_rights__ranges__in_last(struct core_slice_u8 log, uint64_t place, uint64_t home)
+{
+    uint64_t t4, t5, t219;
+
+    t4 = core_load_2(log.ptr + (size_t)(place + 60u));
+    if (home < t4) {
+        return false;
+    }
+    t5 = core_load_2(log.ptr + (size_t)(place + 62u)) % 32768u;
+    if (home < (t4 + t5)) {
+        return true;
+    }
+    t219 = place - 64u;
+    return home < (t4 + (t5 + (32768u * ((core_load_8(log.ptr + (size_t)((64u + ((t219 / 512u) * 512u))
+            + ((t219 % 512u) / 8u))) >> 57u) & 1u))));
+}
+
+/* Whether a home lies in one of the four ranges from index `o` on of that block: all but a block's last range stand in the log as
+   they are. */
+static inline bool call_rights__ranges__in_entry(struct core_slice_u8 log, uint64_t place, uint64_t o, uint64_t home)
+{
+    bool t5, t7, t9;
+
+    t5 = call_rights__ranges__in_range(log, place + o, home);
+    if (t5) {
+        return true;
+    }
+    t7 = call_rights__ranges__in_range(log, place + (o + 4u), home);
+    if (t7) {
+        return true;
+    }
+    t9 = call_rights__ranges__in_range(log, place + (o + 8u), home);
+    if (t9) {
+        return true;
+    }
+    if (o < 48u) {
+        return call_rights__ranges__in_range(log, place + (o + 12u), home);
+    }
+    return call_rights__ranges__in_last(log, place, home);
+}
+
+/* Whether a home lies in one of the four ranges from byte `at` of the list on, whose block has the place `found`. Two ask it, so
+   that it stays a function of its own and `open_listed` is short enough to stand in the questions themselves. */
+static inline bool call_rights__list__own_ranges(struct core_slice_u8 log, struct core_slice_u8 area, uint64_t found, uint64_t at,
+        uint64_t home)
+{
+    if (found == 0u) {
+        return call_rights__ranges__in_ranges(area, (64u * (8u + (at / 64u))) + (at % 64u), home);
+    }
+    return call_rights__ranges__in_entry(log, found, at % 64u, home);
+}
+
+/* Whether the ranges from byte `at` of the list on open a home: only the writer's own block is looked up. */
+static inline bool call_rights__list__open_listed(struct core_slice_u8 log, struct core_slice_u8 area, struct core_slice_u8 state,
+        struct core_slice_u8 kept, uint64_t from, uint64_t at, uint64_t home)
+{
+    uint64_t t8;
+
+    t8 = call_rights__list__place(log, state, kept, from, at / 64u);
+    return call_rights__list__own_ranges(log, area, t8, at, home);
+}
+
+/* Whether no position is kept for any of the list's homes: the whole list lies in the data copy. */
+static inline bool call_rights__list__none_kept(struct core_slice_u8 kept, uint64_t from)
+{
+    if (core_load_8(kept.ptr + (size_t)from) != UINT64_C(0xffffffffffffffff)) {
+        return false;
+    }
+    if (core_load_8(kept.ptr + (size_t)(from + 8u)) != UINT64_C(0xffffffffffffffff)) {
+        return false;
+    }
+    if (core_load_8(kept.ptr + (size_t)(from + 16u)) != UINT64_C(0xffffffffffffffff)) {
+        return false;
+    }
+    return core_load_8(kept.ptr + (size_t)(from + 24u)) == UINT64_C(0xffffffffffffffff);
+}
+
+/* The same, or there is no list, by its blocks alone. The writer's own block is asked first. */
+static inline bool call_rights__list__open_kept(struct core_slice_u8 log, struct core_slice_u8 area, struct core_slice_u8 state,
+        struct core_slice_u8 kept, uint64_t from, uint64_t at, uint64_t home)
+{
+    uint64_t t8;
+    bool t10;
+
+    t8 = call_rights__list__place(log, state, kept, from, at / 64u);
+    t10 = call_rights__list__own_ranges(log, area, t8, at, home);
+    if (t10) {
+        return true;
+    }
+    return call_rights__list__all_zeros(log, area, state, kept, from);
+}
+
+/* Whether all four blocks of the list are zeros in the data copy. */
+static inline bool call_rights__list__none_in_copy(struct core_slice_u8 area)
+{
+    uint64_t t5, t429, t849, t1273, t1693, t2117, t2537, t2961;
+
+    t5 = core_load_8(area.ptr + 512u) | (core_load_8(area.ptr + (size_t)((uint64_t)512u + 8u)) | (core_load_8(area.ptr + (size_t)((uint64_t)512u
+            + 16u)) | core_load_8(area.ptr + (size_t)((uint64_t)512u + 24u))));
+    t429 = (uint64_t)512u + 32u;
+    if (!((t5 | (core_load_8(area.ptr + (size_t)t429) | (core_load_8(area.ptr + (size_t)(t429 + 8u)) | (core_load_8(area.ptr + (size_t)(t429
+            + 16u)) | core_load_8(area.ptr + (size_t)(t429 + 24u)))))) == 0u)) {
+        return false;
+    }
+    t849 = core_load_8(area.ptr + 576u) | (core_load_8(area.ptr + (size_t)((uint64_t)576u + 8u)) | (core_load_8(area.ptr
+            + (size_t)((uint64_t)576u + 16u)) | core_load_8(area.ptr + (size_t)((uint64_t)576u + 24u))));
+    t1273 = (uint64_t)576u + 32u;
+    if (!((t849 | (core_load_8(area.ptr + (size_t)t1273) | (core_load_8(area.ptr + (size_t)(t1273 + 8u)) | (core_load_8(area.ptr + (size_t)(t1273
+            + 16u)) | core_load_8(area.ptr + (size_t)(t1273 + 24u)))))) == 0u)) {
+        return false;
+    }
+    t1693 = core_load_8(area.ptr + 640u) | (core_load_8(area.ptr + (size_t)((uint64_t)640u + 8u)) | (core_load_8(area.ptr
+            + (size_t)((uint64_t)640u + 16u)) | core_load_8(area.ptr + (size_t)((uint64_t)640u + 24u))));
+    t2117 = (uint64_t)640u + 32u;
+    if (!((t1693 | (core_load_8(area.ptr + (size_t)t2117) | (core_load_8(area.ptr + (size_t)(t2117 + 8u)) | (core_load_8(area.ptr
+            + (size_t)(t2117 + 16u)) | core_load_8(area.ptr + (size_t)(t2117 + 24u)))))) == 0u)) {
+        return false;
+    }
+    t2537 = core_load_8(area.ptr + 704u) | (core_load_8(area.ptr + (size_t)((uint64_t)704u + 8u)) | (core_load_8(area.ptr
+            + (size_t)((uint64_t)704u + 16u)) | core_load_8(area.ptr + (size_t)((uint64_t)704u + 24u))));
+    t2961 = (uint64_t)704u + 32u;
+    return (t2537 | (core_load_8(area.ptr + (size_t)t2961) | (core_load_8(area.ptr + (size_t)(t2961 + 8u)) | (core_load_8(area.ptr
+            + (size_t)(t2961 + 16u)) | core_load_8(area.ptr + (size_t)(t2961 + 24u)))))) == 0u;
+}
+
+/* The same by the list's sign, where that says nothing. The data copy is looked at without the log if no position is kept. */
+static inline bool call_rights__list__open_unsigned(struct core_slice_u8 log, struct core_slice_u8 area, struct core_slice_u8 state,
+        struct core_slice_u8 kept, uint64_t from, uint64_t at, uint64_t home)
+{
+    bool t8, t10;
+
+    t8 = call_rights__list__none_kept(kept, from);
+    if (!t8) {
+        return call_rights__list__open_kept(log, area, state, kept, from, at, home);
+    }
+    t10 = call_rights__ranges__in_ranges(area, 512u + at, home);
+    if (t10) {
+        return true;
+    }
+    return call_rights__list__none_in_copy(area);
+}
+
+/* Whether a writer may read a home. The list is found by the newest positions. */
+static inline bool call_rights__may_read(struct core_slice_u8 log, struct core_slice_u8 area, struct core_slice_u8 state, struct core_slice_u8 newest,
+        uint64_t writer, uint64_t home)
+{
+    uint64_t t7, t8;
+    bool t9;
+
+    t9 = call_rights__ranges__of_list(home);
+    if (t9) {
+        return true;
+    }
+    if ((uint64_t)area.len < 768u) {
+        return true;
+    }
+    t7 = (32u * writer) + 16u;
+    t8 = core_load_8(state.ptr + 928u);
+    if (t8 == 1u) {
+        return true;
+    }
+    if (t8 == 2u) {
+        return call_rights__list__open_listed(log, area, state, newest, 64u, t7, home);
+    }
+    return call_rights__list__open_unsigned(log, area, state, newest, 64u, t7, home);
+}
+
+/* Whether a writer may read each of `n` homes from `home` on. */
+static inline bool call_many_fetch__allowed__may_read_all(struct core_slice_u8 log, struct core_slice_u8 area, struct core_slice_u8 state,
+        struct core_slice_u8 newest, uint64_t writer, uint64_t home, uint64_t n)
+{
+    uint64_t t8;
+    bool t9;
+
+    t8 = 0u;
+    while (t8 < n) {
+        t9 = call_rights__may_read(log, area, state, newest, writer, home + t8);
+        if (!t9) {
+            return false;
+        }
+        t8 = t8 + 1u;
+    }
+    return true;
+}
+
+/* The answer of a fetch: 0, or the number of the question that refuses it. */
+static inline uint64_t call_many_fetch__questions__fetch_answer(struct core_slice_u8 log, struct core_slice_u8 area, struct core_slice_u8 state,
+        struct core_slice_u8 newest, struct core_slice_u8 blocks, uint64_t writer, uint64_t home)
+{
+    uint64_t t8;
+    bool t9;
+
+    t8 = call_many_fetch__questions__homes_answer(log, area, state, newest, blocks, writer, home);
+    if (t8 != 0u) {
+        return t8;
+    }
+    t9 = call_many_fetch__allowed__may_read_all(log, area, state, newest, writer, home, (uint64_t)blocks.len / 64u);
+    if (!t9) {
+        return 20u;
+    }
+    return 0u;
+}
+
+/* Whether a writer holds a block for a home. */
+static inline bool call_read__blocks__holds_home(struct model__Writer r, uint64_t home)
+{
+    if (!(2u <= r.mode)) {
+        return false;
+    }
+    return r.home == home;
+}
+
+/* Writes the block that stands in `src` from index `from` on into `dst` from index `at` on. */
+static inline void base_areas__blocks__copy_block(struct core_slice_mut_u8 dst, uint64_t at, struct core_slice_u8 src, uint64_t from)
+{
+    core_base_codec__blocks__copy(dst, at, (struct core_slice_u8){src.ptr + (size_t)from, (size_t)((from + 64u) - from)});
+}
+
+/* Copies the block that a writer holds. */
+static inline void call_read__blocks__show_held(struct core_slice_mut_u8 block, struct core_slice_u8 state, uint64_t w)
+{
+    base_areas__blocks__copy_block(block, 0u, state, 320u + (64u * w));
+}
+
+/* How many of the `left` positions the next group has. */
+static inline uint64_t log_scan__commits__in_group(uint64_t left)
+{
+    uint64_t t3;
+
+    if (left < 7u) {
+        t3 = left;
+    } else {
+        t3 = 7u;
+    }
+    return t3;
+}
+
+/* How many positions from `position` on lie before another. */
+static inline uint64_t log_scan__commits__skipped(uint64_t position, uint64_t first)
+{
+    if (first < position) {
+        return 0u;
+    }
+    return first - position;
+}
+
+/* The distance back to its first entry that tag `k` of a group holds, used or not, if its data block has the turn of the group:
+   what belongs to a transaction has it, so it is compared first. */
+static inline uint64_t log_scan__groups__back_in(struct core_slice_u8 group, uint64_t turn, uint64_t k)
+{
+    uint64_t t4;
+
+    t4 = log_scan__groups__word_there(group, turn, k);
+    return (t4 >> 14u) & 8191u;
+}
+
+/* What tag `k` of a group says if its data block has the turn of the group. */
+static inline struct model__Tag log_scan__groups__tag_there(struct core_slice_u8 group, uint64_t turn, uint64_t k, uint64_t position,
+        uint64_t base, uint64_t homes)
+{
+    uint64_t t7;
+
+    t7 = log_scan__groups__word_there(group, turn, k);
+    return base_codec__tags__read_tag(t7, position, base, homes);
+}
+
+/* The newest entry once one for a home is seen at a position. */
+static inline uint64_t log_search__own__note(uint64_t written, uint64_t home, uint64_t position, uint64_t newest)
+{
+    if (written != home) {
+        return newest;
+    }
+    return position + 1u;
+}
+
+/* The same if tag `k` of a group with turn `turn` is an entry of the transaction with first position `first`. Its distance back
+   is compared before all else. */
+static inline uint64_t log_search__own__note_entry(struct core_slice_u8 group, uint64_t turn, uint64_t k, uint64_t position,
+        uint64_t base, uint64_t homes, uint64_t first, uint64_t home, uint64_t newest)
+{
+    uint64_t t12, t16;
+    struct model__Tag t15;
+
+    t12 = log_scan__groups__back_in(group, turn, k);
+    if (t12 != (position - first)) {
+        return newest;
+    }
+    t15 = log_scan__groups__tag_there(group, turn, k, position, base, homes);
+    if (t15.tag == 0u) {
+        t16 = newest;
+    } else if (t15.tag == 1u) {
+        t16 = log_search__own__note(t15.u64_0, home, position, newest);
+    } else {
+        t16 = log_search__own__note(t15.u64_0, home, position, newest);
+    }
+    return t16;
+}
+
+/* The same for the transaction's entries among the first `m` of a group, which says nothing where it is not the valid group with
+   number `n` and turn `turn`. */
+static inline uint64_t log_search__own__note_group(struct core_slice_u8 group, uint64_t groups, uint64_t homes, uint64_t start,
+        uint64_t n, uint64_t turn, uint64_t m, uint64_t first, uint64_t home, uint64_t newest)
+{
+    uint64_t t11, t12, t13, t14;
+    bool t15;
+
+    t15 = log_scan__groups__group_valid(group, groups, start, n);
+    if (!t15) {
+        return newest;
+    }
+    t11 = 7u * start;
+    t12 = newest;
+    t13 = log_scan__commits__skipped(7u * n, first);
+    t14 = (7u * n) + t13;
+    while (t13 < m) {
+        t12 = log_search__own__note_entry(group, turn, t13, t14, t11, homes, first, home, t12);
+        t14 = t14 + 1u;
+        t13 = t13 + 1u;
+    }
+    return t12;
+}
+
+/* The newest entry for a home, as its position + 1, 0 for none, of the open transaction with first position `first`, below
+   position `end`. */
+static inline uint64_t log_search__own__newest_own(struct core_slice_u8 log, uint64_t groups, uint64_t homes, uint64_t start,
+        uint64_t first, uint64_t end, uint64_t home)
+{
+    uint64_t t8, t9, t11, t12, t14;
+    struct log_scan__slots__RingSlot t10;
+
+    t8 = 0u;
+    t9 = first / 7u;
+    t10 = log_scan__slots__first_slot(t9, groups);
+    t11 = end - (7u * t9);
+    while (0u < t11) {
+        t12 = 64u + (512u * t10.slot);
+        t14 = log_scan__commits__in_group(t11);
+        t8 = log_search__own__note_group((struct core_slice_u8){log.ptr + (size_t)t12, (size_t)((t12 + 512u) - t12)}, groups, homes,
+                start, t9, t10.turn, t14, first, home, t8);
+        t10 = log_scan__slots__next_slot(t10, groups);
+        t9 = t9 + 1u;
+        t11 = t11 - t14;
+    }
+    return t8;
+}
+
+/* The newest entry for a home in a writer's open transaction. */
+static inline uint64_t call_read__newest__own_entry(struct core_slice_u8 log, struct model__State st, struct model__Writer r,
+        uint64_t home)
+{
+    if (!(3u <= r.mode)) {
+        return 0u;
+    }
+    return log_search__own__newest_own(log, st.groups, st.homes, st.start, r.first, (7u * st.next) + st.filled, home);
+}
+
+/* The entry for a home at the position kept for it. */
+static inline uint64_t call_read__newest__kept_entry(struct core_slice_u8 log, struct core_slice_u8 state, struct core_slice_u8 newest,
+        uint64_t home)
+{
+    uint64_t t5, t6;
+
+    t5 = core_load_8(newest.ptr + (size_t)(8u * home));
+    t6 = log_shown__place(log, state, home, t5);
+    if (t6 == 0u) {
+        return 0u;
+    }
+    return t5 + 1u;
+}
+
+/* The entry for a home that a writer sees: its newest own one, else that at the kept position. */
+static inline uint64_t call_read__newest__seen(struct core_slice_u8 log, struct core_slice_u8 state, struct core_slice_u8 newest,
+        struct model__State st, struct model__Writer r, uint64_t home)
+{
+    uint64_t t7;
+
+    t7 = call_read__newest__own_entry(log, st, r, home);
+    if (t7 != 0u) {
+        return t7;
+    }
+    return call_read__newest__kept_entry(log, state, newest, home);
+}
+
+/* Reads a home into a block buffer. */
+static inline void base_areas__homes__get_home(struct core_slice_mut_u8 block, struct core_slice_u8 area, uint64_t home)
+{
+    base_areas__blocks__copy_block(block, 0u, area, 64u * home);
+}
+
+/* Writes the block that the entry at index `k` of the group in a ring slot gives, with the displaced bit back in its place, from
+   index `at` on. */
+static inline void base_areas__groups__copy_entry(struct core_slice_mut_u8 dst, uint64_t at, struct core_slice_u8 log, uint64_t slot,
+        uint64_t k)
+{
+    uint64_t t6;
+
+    t6 = 64u + (512u * slot);
+    base_codec__turns__copy_with_top_bit(dst, at, log, t6 + (64u + (64u * k)), (core_load_8(log.ptr + (size_t)(t6 + (8u
+            + (8u * k)))) >> 57u) & 1u);
+}
+
+/* Copies the block that the entry at a position gives. */
+static inline void log_shown__show_entry(struct core_slice_mut_u8 block, struct core_slice_u8 log, uint64_t groups, uint64_t position)
+{
+    base_areas__groups__copy_entry(block, 0u, log, (position / 7u) % groups, position % 7u);
+}
+
+/* Copies the block of a home that a writer sees. */
+static inline void call_read__blocks__show(struct core_slice_u8 log, struct core_slice_u8 area, struct core_slice_u8 state,
+        struct core_slice_u8 newest, struct core_slice_mut_u8 block, uint64_t writer, uint64_t home)
+{
+    struct model__State t8;
+    uint64_t t9, t11, t26, t27;
+    struct model__Writer t10;
+    bool t12;
+
+    t26 = core_load_8(state.ptr);
+    t27 = core_load_8(state.ptr + 8u);
+    t8 = (struct model__State){.groups = t26, .homes = t27, .start = core_load_8(state.ptr + 16u), .next = core_load_8(state.ptr + 24u),
+            .filled = core_load_8(state.ptr + 32u), .settled = core_load_8(state.ptr + 40u), .fenced = core_load_8(state.ptr + 48u),
+            .durable = core_load_8(state.ptr + 56u), .last = core_load_8(state.ptr + 64u), .round = core_load_8(state.ptr + 88u),
+            .cursor = core_load_8(state.ptr + 96u)};
+    t9 = writer;
+    t10 = base_state__writers__writer(state, t9);
+    t12 = call_read__blocks__holds_home(t10, home);
+    if (t12) {
+        call_read__blocks__show_held(block, state, t9);
+        return;
+    }
+    t11 = call_read__newest__seen(log, state, newest, t8, t10, home);
+    if (t11 == 0u) {
+        base_areas__homes__get_home(block, area, home);
+        return;
+    }
+    log_shown__show_entry(block, log, t8.groups, t11 - 1u);
+}
+
+/* Copies the block of a home that a writer sees to the index `at`. */
+static inline void call_many_fetch__fetches__show_at(struct core_slice_u8 log, struct core_slice_u8 area, struct core_slice_u8 state,
+        struct core_slice_u8 newest, struct core_slice_mut_u8 blocks, uint64_t at, uint64_t writer, uint64_t home)
+{
+    call_read__blocks__show(log, area, state, newest, (struct core_slice_mut_u8){blocks.ptr + (size_t)at, (size_t)((at + 64u) - at)},
+            writer, home);
+}
+
+/* Copies the blocks that a writer sees of the homes from `home` on, one behind the other. */
+static inline void call_many_fetch__fetches__show_all(struct core_slice_u8 log, struct core_slice_u8 area, struct core_slice_u8 state,
+        struct core_slice_u8 newest, struct core_slice_mut_u8 blocks, uint64_t writer, uint64_t home)
+{
+    uint64_t t8, t9;
+
+    t8 = (uint64_t)blocks.len / 64u;
+    t9 = 0u;
+    while (t9 < t8) {
+        call_many_fetch__fetches__show_at(log, area, state, newest, blocks, 64u * t9, writer, home + t9);
+        t9 = t9 + 1u;
+    }
+}
+
+/* Reads the blocks of one to seven homes from `home` on, one behind the other, as a writer that may read them all sees them. */
+static inline struct core_call_ask__Reply call_many_fetch__fetches__fetch(struct core_slice_u8 log, struct core_slice_u8 area,
+        struct core_slice_u8 state, struct core_slice_u8 newest, struct core_slice_mut_u8 blocks, uint64_t writer, uint64_t home)
+{
+    uint64_t t8;
+
+    t8 = call_many_fetch__questions__fetch_answer(log, area, state, newest, (struct core_slice_u8){blocks.ptr, blocks.len}, writer,
+            home);
+    if (t8 != 0u) {
+        return (struct core_call_ask__Reply){.code = t8, .figure = 0u, .size = 0u};
+    }
+    call_many_fetch__fetches__show_all(log, area, state, newest, blocks, writer, home);
+    return (struct core_call_ask__Reply){.code = 0u, .figure = 0u, .size = 0u};
+}
+
+/* Reads the blocks of one to seven homes from `home` on, one behind the other, as a writer that may read them all sees them. */
+static inline struct core_call_ask__Reply core_kagutin__kagutin_fetch(struct core_slice_u8 log, struct core_slice_u8 area, struct core_slice_u8 state,
+        struct core_slice_u8 newest, struct core_slice_mut_u8 blocks, uint64_t writer, uint64_t home)
+{
+    return call_many_fetch__fetches__fetch(log, area, state, newest, blocks, writer, home);
+}
+
+/* Whether a flush leaves as many places as are promised. */
+static inline bool base_state__promises__keeps_promises(struct core_slice_u8 s, struct model__State st)
+{
+    uint64_t t4;
+
+    if (st.filled == 0u) {
+        return true;
+    }
+    t4 = base_state__promises__promised(s);
+    return t4 <= ((7u * (st.start + st.groups)) - (7u * (st.next + 1u)));
+}
+
+/* How many bytes a flush writes: a fence, and a part-filled group before it. */
+static inline uint64_t call_flush__flush_size(struct model__State st)
+{
+    if (st.filled == 0u) {
+        return 2u;
+    }
+    return (uint64_t)516u + 2u;
+}
+
+/* The answer of a flush: 0, or the number of the question that refuses it. */
+static inline uint64_t call_flush__flush_answer(struct core_slice_u8 log, struct core_slice_u8 area, struct core_slice_u8 state,
+        struct core_slice_u8 batch)
+{
+    uint64_t t5, t10, t12, t13;
+    struct model__State t6;
+    bool t7;
+
+    t5 = call_ask__state_answer(log, area, state);
+    if (t5 != 0u) {
+        return t5;
+    }
+    t12 = core_load_8(state.ptr);
+    t13 = core_load_8(state.ptr + 8u);
+    t6 = (struct model__State){.groups = t12, .homes = t13, .start = core_load_8(state.ptr + 16u), .next = core_load_8(state.ptr + 24u),
+            .filled = core_load_8(state.ptr + 32u), .settled = core_load_8(state.ptr + 40u), .fenced = core_load_8(state.ptr + 48u),
+            .durable = core_load_8(state.ptr + 56u), .last = core_load_8(state.ptr + 64u), .round = core_load_8(state.ptr + 88u),
+            .cursor = core_load_8(state.ptr + 96u)};
+    t7 = base_state__promises__keeps_promises(state, t6);
+    if (!t7) {
+        return 18u;
+    }
+    t10 = call_flush__flush_size(t6);
+    if ((uint64_t)batch.len < t10) {
+        return 9u;
+    }
+    return 0u;
+}
+
+/* Writes the mark of a fence at index `at`. */
+static inline void base_codec__marks__put_fence_mark(struct core_slice_mut_u8 dst, uint64_t at)
+{
+    struct array_u8_2 t3;
+    struct core_slice_u8 t10;
+
+    t3 = (struct array_u8_2){{70u, 78u}};
+    t10 = (struct core_slice_u8){t3.at, 2u};
+    dst.ptr[(size_t)at] = t10.ptr[0u];
+    dst.ptr[(size_t)(at + 1u)] = t10.ptr[1u];
+}
+
+/* Appends a fence. */
+static inline uint64_t base_batch__records__fence(struct core_slice_mut_u8 batch, uint64_t at)
+{
+    base_codec__marks__put_fence_mark(batch, at);
+    return at + 2u;
+}
+
+/* Writes a fence where no group is part-filled. */
+static inline void call_flush__flush_none(struct core_slice_mut_u8 state, struct core_slice_mut_u8 batch, struct model__State st)
+{
+    (void)base_batch__records__fence(batch, 0u);
+    core_store_8(state.ptr + 48u, 7u * st.next);
+}
+
+/* Hands on the part-filled group and writes a fence. */
+static inline void call_flush__flush_part(struct core_slice_u8 log, struct core_slice_mut_u8 state, struct core_slice_mut_u8 batch,
+        struct model__State st)
+{
+    uint64_t t6, t7;
+    struct log_scan__slots__RingSlot t8;
+
+    t8 = log_scan__slots__first_slot(st.next, st.groups);
+    t6 = base_batch__records__group_write(batch, 0u, t8.slot, log);
+    (void)base_batch__records__fence(batch, t6);
+    t7 = st.next + 1u;
+    core_store_8(state.ptr + 24u, t7);
+    core_store_8(state.ptr + 32u, 0u);
+    core_store_8(state.ptr + 48u, 7u * t7);
+}
+
+/* Hands on a part-filled group, if there is one, and writes a fence. */
+static inline struct core_call_ask__Reply call_flush__flush(struct core_slice_u8 log, struct core_slice_u8 area, struct core_slice_mut_u8 state,
+        struct core_slice_mut_u8 batch)
+{
+    uint64_t t5, t27, t28;
+    struct model__State t6;
+
+    t5 = call_flush__flush_answer(log, area, (struct core_slice_u8){state.ptr, state.len}, (struct core_slice_u8){batch.ptr, batch.len});
+    if (t5 != 0u) {
+        return (struct core_call_ask__Reply){.code = t5, .figure = 0u, .size = 0u};
+    }
+    t27 = core_load_8(state.ptr);
+    t28 = core_load_8(state.ptr + 8u);
+    t6 = (struct model__State){.groups = t27, .homes = t28, .start = core_load_8(state.ptr + 16u), .next = core_load_8(state.ptr + 24u),
+            .filled = core_load_8(state.ptr + 32u), .settled = core_load_8(state.ptr + 40u), .fenced = core_load_8(state.ptr + 48u),
+            .durable = core_load_8(state.ptr + 56u), .last = core_load_8(state.ptr + 64u), .round = core_load_8(state.ptr + 88u),
+            .cursor = core_load_8(state.ptr + 96u)};
+    if (t6.filled == 0u) {
+        call_flush__flush_none(state, batch, t6);
+        return (struct core_call_ask__Reply){.code = 0u, .figure = 0u, .size = 2u};
+    }
+    call_flush__flush_part(log, state, batch, t6);
+    return (struct core_call_ask__Reply){.code = 0u, .figure = 0u, .size = (uint64_t)516u + 2u};
+}
+
+/* Submits the group that is being filled, and a fence. */
+static inline struct core_call_ask__Reply kagutin__kagutin_flush(struct core_slice_u8 log, struct core_slice_u8 area, struct core_slice_mut_u8 state,
+        struct core_slice_mut_u8 batch)
+{
+    return call_flush__flush(log, area, state, batch);
+}
+
+/* The questions of format: 0, or the number of the refusal. */
+static inline uint64_t call_open__formatting__format_answer(struct core_slice_u8 log, struct core_slice_u8 area, struct core_slice_u8 batch)
+{
+    uint64_t t4;
+    bool t6;
+
+    t6 = base_areas__lengths__log_right((uint64_t)log.len);
+    if (!t6) {
+        return 1u;
+    }
+    t6 = base_areas__lengths__data_right((uint64_t)area.len);
+    if (!t6) {
+        return 1u;
+    }
+    t4 = base_areas__lengths__log_groups((uint64_t)log.len);
+    if ((uint64_t)batch.len < ((138u + (516u * t4)) + (68u * ((uint64_t)area.len / 64u)))) {
+        return 9u;
+    }
+    return 0u;
+}
+
+/* Writes the mark of the log's header at index `at`. */
+static inline void base_codec__marks__put_header_mark(struct core_slice_mut_u8 dst, uint64_t at)
+{
+    struct array_u8_2 t3;
+    struct core_slice_u8 t10;
+
+    t3 = (struct array_u8_2){{80u, 84u}};
+    t10 = (struct core_slice_u8){t3.at, 2u};
+    dst.ptr[(size_t)at] = t10.ptr[0u];
+    dst.ptr[(size_t)(at + 1u)] = t10.ptr[1u];
+}
+
+/* Writes a header of 64 bytes from index `at` on, and leaves the other bytes as they were. */
+static inline void base_areas__header__put_header(struct core_slice_mut_u8 dst, uint64_t at, uint64_t start, uint64_t groups,
+        uint64_t homes)
+{
+    uint64_t t19;
+
+    base_codec__marks__put_header_mark(dst, at);
+    t19 = at + 2u;
+    store_4(dst.ptr + (size_t)t19, start);
+    core_store_2(dst.ptr + (size_t)(t19 + 4u), start / UINT64_C(0x100000000));
+    core_store_2(dst.ptr + (size_t)(at + 8u), groups);
+    core_store_2(dst.ptr + (size_t)(at + 10u), homes);
+    core_base_codec__blocks__clear(dst, at + 12u, 52u);
+}
+
+/* The turn bit of an unused ring slot: opposite to that of the group which it gets next, in a log whose start lies in the slot
+   `first` and has the turn `turn`. The slots before the start's get a group of the next turn. */
+static inline uint64_t base_areas__unused__unused_bit(uint64_t slot, uint64_t first, uint64_t turn)
+{
+    uint64_t t5;
+
+    if (slot < first) {
+        t5 = turn;
+    } else {
+        t5 = 1u - turn;
+    }
+    return t5;
+}
+
+/* Writes an unused group, whose data blocks have the turn bit `bit`, from index `at` on. */
+static inline void base_areas__unused__put_unused(struct core_slice_mut_u8 dst, uint64_t at, uint64_t bit)
+{
+    core_base_codec__blocks__clear(dst, at, 64u);
+    base_areas__turns__put_turn_blocks(dst, at + 64u, bit);
+}
+
+/* Makes a log copy empty, with its start at group `start`. */
+static inline void base_areas__unused__put_empty_log(struct core_slice_mut_u8 log, uint64_t start, uint64_t groups, uint64_t homes)
+{
+    uint64_t t5, t6, t7, t19;
+
+    base_areas__header__put_header(log, 0u, start, groups, homes);
+    t5 = start % groups;
+    t6 = (start / groups) % 2u;
+    t7 = 0u;
+    while (t7 < groups) {
+        t19 = base_areas__unused__unused_bit(t7, t5, t6);
+        base_areas__unused__put_unused(log, 64u + (512u * t7), t19);
+        t7 = t7 + 1u;
+    }
+}
+
+/* Makes every byte of the data copy zero. */
+static inline void call_open__formatting__format_area(struct core_slice_mut_u8 area)
+{
+    core_base_codec__blocks__clear(area, 0u, (uint64_t)area.len);
+}
+
+/* Writes the mark of a header write at index `at`. */
+static inline void base_codec__marks__put_header_write_mark(struct core_slice_mut_u8 dst, uint64_t at)
+{
+    struct array_u8_2 t3;
+    struct core_slice_u8 t10;
+
+    t3 = (struct array_u8_2){{75u, 87u}};
+    t10 = (struct core_slice_u8){t3.at, 2u};
+    dst.ptr[(size_t)at] = t10.ptr[0u];
+    dst.ptr[(size_t)(at + 1u)] = t10.ptr[1u];
+}
+
+/* Appends the write of zeros to the header. */
+static inline uint64_t base_batch__records__zero_header_write(struct core_slice_mut_u8 batch, uint64_t at)
+{
+    base_codec__marks__put_header_write_mark(batch, at);
+    core_base_codec__blocks__clear(batch, at + 2u, 64u);
+    return at + 66u;
+}
+
+/* Appends the write of an unused group, whose data blocks have the turn bit `bit`, to a ring slot. */
+static inline uint64_t base_batch__records__unused_write(struct core_slice_mut_u8 batch, uint64_t at, uint64_t slot, uint64_t bit)
+{
+    base_codec__marks__put_group_write_mark(batch, at);
+    core_store_2(batch.ptr + (size_t)(at + 2u), slot);
+    base_areas__unused__put_unused(batch, at + 4u, bit);
+    return at + 516u;
+}
+
+/* Appends the writes of all ring slots as unused, rising, for a log that starts at group `start`. */
+static inline uint64_t base_batch__format__all_groups(struct core_slice_mut_u8 batch, uint64_t at, uint64_t start, uint64_t groups)
+{
+    uint64_t t5, t6, t7, t8, t13;
+
+    t5 = start % groups;
+    t6 = (start / groups) % 2u;
+    t7 = at;
+    t8 = 0u;
+    while (t8 < groups) {
+        t13 = base_areas__unused__unused_bit(t8, t5, t6);
+        t7 = base_batch__records__unused_write(batch, t7, t8, t13);
+        t8 = t8 + 1u;
+    }
+    return t7;
+}
+
+/* Writes the mark of a home write at index `at`. */
+static inline void base_codec__marks__put_home_write_mark(struct core_slice_mut_u8 dst, uint64_t at)
+{
+    struct array_u8_2 t3;
+    struct core_slice_u8 t10;
+
+    t3 = (struct array_u8_2){{72u, 87u}};
+    t10 = (struct core_slice_u8){t3.at, 2u};
+    dst.ptr[(size_t)at] = t10.ptr[0u];
+    dst.ptr[(size_t)(at + 1u)] = t10.ptr[1u];
+}
+
+/* Appends the write of zeros to a home. */
+static inline uint64_t base_batch__records__zero_home_write(struct core_slice_mut_u8 batch, uint64_t at, uint64_t home)
+{
+    base_codec__marks__put_home_write_mark(batch, at);
+    core_store_2(batch.ptr + (size_t)(at + 2u), home);
+    core_base_codec__blocks__clear(batch, at + 4u, 64u);
+    return at + 68u;
+}
+
+/* Appends the writes of zeros to the first `homes` homes, rising. */
+static inline uint64_t base_batch__format__all_homes(struct core_slice_mut_u8 batch, uint64_t at, uint64_t homes)
+{
+    uint64_t t4, t5;
+
+    t4 = at;
+    t5 = 0u;
+    while (t5 < homes) {
+        t4 = base_batch__records__zero_home_write(batch, t4, t5);
+        t5 = t5 + 1u;
+    }
+    return t4;
+}
+
+/* Appends the write of the header with a start and the numbers of groups and homes. */
+static inline uint64_t base_batch__records__header_write(struct core_slice_mut_u8 batch, uint64_t at, uint64_t start, uint64_t groups,
+        uint64_t homes)
+{
+    base_codec__marks__put_header_write_mark(batch, at);
+    base_areas__header__put_header(batch, at + 2u, start, groups, homes);
+    return at + 66u;
+}
+
+/* Writes the whole batch of format from the buffer's first byte on. */
+static inline uint64_t base_batch__format__format_batch(struct core_slice_mut_u8 batch, uint64_t groups, uint64_t homes)
+{
+    uint64_t t4;
+
+    t4 = base_batch__records__zero_header_write(batch, 0u);
+    t4 = base_batch__records__fence(batch, t4);
+    t4 = base_batch__format__all_groups(batch, t4, 0u, groups);
+    t4 = base_batch__format__all_homes(batch, t4, homes);
+    t4 = base_batch__records__fence(batch, t4);
+    t4 = base_batch__records__header_write(batch, t4, 0u, groups, homes);
+    return base_batch__records__fence(batch, t4);
+}
+
+/* Formats both copies, and writes the batch that formats the areas. */
+static inline struct core_call_ask__Reply call_open__formatting__format(struct core_slice_mut_u8 log, struct core_slice_mut_u8 area,
+        struct core_slice_mut_u8 batch)
+{
+    uint64_t t4, t5, t6, t7;
+
+    t4 = call_open__formatting__format_answer((struct core_slice_u8){log.ptr, log.len}, (struct core_slice_u8){area.ptr, area.len},
+            (struct core_slice_u8){batch.ptr, batch.len});
+    if (t4 != 0u) {
+        return (struct core_call_ask__Reply){.code = t4, .figure = 0u, .size = 0u};
+    }
+    t5 = base_areas__lengths__log_groups((uint64_t)log.len);
+    t6 = (uint64_t)area.len / 64u;
+    base_areas__unused__put_empty_log(log, 0u, t5, t6);
+    call_open__formatting__format_area(area);
+    t7 = base_batch__format__format_batch(batch, t5, t6);
+    return (struct core_call_ask__Reply){.code = 0u, .figure = 0u, .size = t7};
+}
+
+/* Writes an empty store: every group unused, every home zeros, then the header. */
+static inline struct core_call_ask__Reply kagutin__kagutin_format(struct core_slice_mut_u8 log, struct core_slice_mut_u8 area,
+        struct core_slice_mut_u8 batch)
+{
+    return call_open__formatting__format(log, area, batch);
+}
+
+/* Reads the shape of a log copy and a data copy. */
+static inline struct call_open__opening__Shape call_open__opening__measure(struct core_slice_u8 log, struct core_slice_u8 area)
+{
+    uint64_t t3;
+
+    t3 = base_areas__lengths__log_groups((uint64_t)log.len);
+    return (struct call_open__opening__Shape){.groups = t3, .homes = (uint64_t)area.len / 64u, .start = load_4(log.ptr + 2u)
+            | (core_load_2(log.ptr + (size_t)((uint64_t)2u + 4u)) << 32u)};
+}
+
+/* Whether the two bytes of `mark` stand at index `at`. */
+static inline bool base_codec__marks__has_mark(struct core_slice_u8 s, uint64_t at, struct core_slice_u8 mark)
+{
+    if (s.ptr[(size_t)at] != mark.ptr[0u]) {
+        return false;
+    }
+    if (s.ptr[(size_t)(at + 1u)] != mark.ptr[1u]) {
+        return false;
+    }
+    return true;
+}
+
+/* Whether the mark of the log's header stands at index `at`. */
+static inline bool base_codec__marks__has_header_mark(struct core_slice_u8 s, uint64_t at)
+{
+    struct array_u8_2 t3;
+
+    t3 = (struct array_u8_2){{80u, 84u}};
+    return base_codec__marks__has_mark(s, at, (struct core_slice_u8){t3.at, 2u});
+}
+
+/* Whether the `n` bytes from index `at` on are all zero. */
+static inline bool base_codec__blocks__all_zero(struct core_slice_u8 s, uint64_t at, uint64_t n)
+{
+    uint64_t t4, t5;
+
+    t4 = at;
+    t5 = n;
+    while (8u <= t5) {
+        if (core_load_8(s.ptr + (size_t)t4) != 0u) {
+            return false;
+        }
+        t4 = t4 + 8u;
+        t5 = t5 - 8u;
+    }
+    while (0u < t5) {
+        if (s.ptr[(size_t)t4] != 0u) {
+            return false;
+        }
+        t4 = t4 + 1u;
+        t5 = t5 - 1u;
+    }
+    return true;
+}
+
+/* Whether the log begins with a header's mark, these numbers of groups and homes, and a header's zeros. */
+static inline bool base_areas__header__header_right(struct core_slice_u8 log, uint64_t groups, uint64_t homes)
+{
+    bool t4;
+
+    t4 = base_codec__marks__has_header_mark(log, 0u);
+    if (!t4) {
+        return false;
+    }
+    if (core_load_2(log.ptr + 8u) != groups) {
+        return false;
+    }
+    if (core_load_2(log.ptr + 10u) != homes) {
+        return false;
+    }
+    return base_codec__blocks__all_zero(log, 12u, 52u);
+}
+
+/* The questions of open but the last: 0, or the number of the refusal. */
+static inline uint64_t call_open__opening__open_answer(struct core_slice_u8 log, struct core_slice_u8 area, struct core_slice_u8 state,
+        struct core_slice_u8 newest)
+{
+    struct call_open__opening__Shape t5;
+    bool t6, t7;
+
+    t6 = call_ask__lengths_right(log, area, state);
+    if (!t6) {
+        return 1u;
+    }
+    t5 = call_open__opening__measure(log, area);
+    if ((uint64_t)newest.len != (8u * t5.homes)) {
+        return 1u;
+    }
+    t7 = base_areas__header__header_right(log, t5.groups, t5.homes);
+    if (!t7) {
+        return 3u;
+    }
+    if (UINT64_C(0x800000000000) < t5.start) {
+        return 3u;
+    }
+    if (UINT64_C(0x800000000000) < (t5.start + t5.groups)) {
+        return 10u;
+    }
+    return 0u;
+}
+
+/* The words of a group's seven tags that are there, read in a row; `turn` is the group's. */
+static inline struct array_u64_7 log_scan__groups__tag_words(struct core_slice_u8 group, uint64_t turn)
+{
+    struct array_u64_7 t3;
+    uint64_t t4, t6;
+
+    memset(&t3, 0, sizeof t3);
+    t4 = 0u;
+    while (t4 < 7u) {
+        t6 = log_scan__groups__word_there(group, turn, t4);
+        t3.at[(size_t)t4] = t6;
+        t4 = t4 + 1u;
+    }
+    return t3;
+}
+
+/* Takes the entry at an offset, whose transaction's first entry is at the offset `first`. */
+static inline struct log_scan__commits__Progress log_gather__walking__join_entry(struct slice_mut_u16 cells,
+        struct slice_mut_u16 heads, struct slice_mut_u16 links, uint64_t home, uint64_t first, uint64_t offset,
+        struct log_scan__commits__Progress progress)
+{
+    uint16_t t8;
+    uint64_t t22;
+
+    t8 = cells.ptr[(size_t)first];
+    if (32768u <= t8) {
+        return (struct log_scan__commits__Progress){.end = progress.end, .number = progress.number, .failed = 2u};
+    }
+    cells.ptr[(size_t)first] = (uint16_t)((uint32_t)t8 + 1u);
+    t22 = home / 64u;
+    links.ptr[(size_t)offset] = heads.ptr[(size_t)t22];
+    heads.ptr[(size_t)t22] = (uint16_t)(offset + 1u);
+    return progress;
+}
+
+/* Whether a closing entry at a position is linked, by its distance back, to the last one, which ends at `end`, or where there is
+   none (0) to a position before the start or to none. */
+static inline bool log_scan__commits__is_linked(uint64_t end, uint64_t base, uint64_t position, uint64_t link)
+{
+    if (end != 0u) {
+        return (position + 1u) == (end + link);
+    }
+    if (link == 0u) {
+        return true;
+    }
+    return position < (base + link);
+}
+
+/* Takes a closing entry, complete or not, at a position: it is committed, or the first that fails. */
+static inline struct log_scan__commits__Progress log_scan__commits__judge(struct log_scan__commits__Progress progress,
+        uint64_t base, uint64_t position, uint64_t link, bool complete)
+{
+    uint64_t t6, t7;
+    struct log_scan__commits__Progress t8;
+    bool t9;
+
+    t6 = progress.end;
+    t7 = progress.number;
+    t8 = (struct log_scan__commits__Progress){.end = t6, .number = t7, .failed = 1u};
+    if (progress.failed != 0u) {
+        return t8;
+    }
+    t9 = log_scan__commits__is_linked(t6, base, position, link);
+    if (!t9) {
+        return t8;
+    }
+    if (!complete) {
+        return t8;
+    }
+    return (struct log_scan__commits__Progress){.end = position + 1u, .number = t7 + 1u, .failed = 0u};
+}
+
+/* Takes the closing entry at a position: if it is committed, its transaction's cell holds it from now on. */
+static inline struct log_scan__commits__Progress log_gather__walking__join_closing(struct slice_mut_u16 cells,
+        struct slice_mut_u16 heads, struct slice_mut_u16 links, uint64_t base, uint64_t position, uint64_t home, uint64_t first,
+        uint64_t link, uint64_t count, struct log_scan__commits__Progress progress)
+{
+    uint16_t t11;
+    struct log_scan__commits__Progress t12;
+    uint64_t t13, t30;
+
+    t11 = cells.ptr[(size_t)first];
+    if (32768u <= t11) {
+        return (struct log_scan__commits__Progress){.end = progress.end, .number = progress.number, .failed = 2u};
+    }
+    t12 = log_scan__commits__judge(progress, base, position, link, ((uint64_t)t11 + 1u) == count);
+    if (t12.failed != 0u) {
+        return t12;
+    }
+    t13 = position - base;
+    cells.ptr[(size_t)first] = (uint16_t)((uint32_t)32768u + (uint16_t)(t13 + 1u));
+    t30 = home / 64u;
+    links.ptr[(size_t)t13] = heads.ptr[(size_t)t30];
+    heads.ptr[(size_t)t30] = (uint16_t)(t13 + 1u);
+    return t12;
+}
+
+/* Takes what the word of a tag says at a position, unless the walk has stopped. */
+static inline struct log_scan__commits__Progress log_gather__walking__visit(uint64_t word, uint64_t position, uint64_t base,
+        uint64_t homes, struct slice_mut_u16 cells, struct slice_mut_u16 heads, struct slice_mut_u16 links,
+        struct log_scan__commits__Progress progress)
+{
+    struct model__Tag t16;
+    struct log_scan__commits__Progress t17;
+
+    if (progress.failed != 0u) {
+        return progress;
+    }
+    t16 = base_codec__tags__read_tag(word, position, base, homes);
+    if (t16.tag == 0u) {
+        t17 = progress;
+    } else if (t16.tag == 1u) {
+        t17 = log_gather__walking__join_entry(cells, heads, links, t16.u64_0, t16.u64_1 - base, position - base, progress);
+    } else {
+        t17 = log_gather__walking__join_closing(cells, heads, links, base, position, t16.u64_0, t16.u64_1 - base, t16.u64_2,
+                t16.u64_3, progress);
+    }
+    return t17;
+}
+
+/* Takes the first `m` tags of a group, which says nothing where it is not the valid group with number `n` and turn `turn`. */
+static inline struct log_scan__commits__Progress log_gather__walking__visit_group(struct core_slice_u8 group, uint64_t groups,
+        uint64_t homes, uint64_t start, uint64_t n, uint64_t turn, uint64_t m, struct slice_mut_u16 cells,
+        struct slice_mut_u16 heads, struct slice_mut_u16 links, struct log_scan__commits__Progress progress)
+{
+    struct array_u64_7 t12, t19;
+    uint64_t t13, t15, t16;
+    struct log_scan__commits__Progress t14;
+    bool t17;
+
+    t17 = log_scan__groups__group_valid(group, groups, start, n);
+    if (!t17) {
+        return progress;
+    }
+    t19 = log_scan__groups__tag_words(group, turn);
+    t12 = t19;
+    t13 = 7u * start;
+    t14 = progress;
+    t15 = 7u * n;
+    t16 = 0u;
+    while (t16 < m) {
+        t14 = log_gather__walking__visit(t12.at[(size_t)t16], t15, t13, homes, cells, heads, links, t14);
+        t15 = t15 + 1u;
+        t16 = t16 + 1u;
+    }
+    return t14;
+}
+
+/* Takes the `n` positions of the log from its start on, group by group, until the walk stops. */
+static inline struct log_scan__commits__Progress log_gather__walking__pass(struct core_slice_u8 log, struct slice_mut_u16 cells,
+        struct slice_mut_u16 heads, struct slice_mut_u16 links, uint64_t groups, uint64_t homes, uint64_t start, uint64_t n)
+{
+    struct log_scan__commits__Progress t9;
+    struct log_scan__slots__RingSlot t10;
+    uint64_t t11, t12, t13, t15;
+
+    t9 = (struct log_scan__commits__Progress){.end = 0u, .number = 0u, .failed = 0u};
+    t10 = log_scan__slots__first_slot(start, groups);
+    t11 = start;
+    t12 = n;
+    while (0u < t12) {
+        t13 = 64u + (512u * t10.slot);
+        t15 = log_scan__commits__in_group(t12);
+        t9 = log_gather__walking__visit_group((struct core_slice_u8){log.ptr + (size_t)t13, (size_t)((t13 + 512u) - t13)}, groups,
+                homes, start, t11, t10.turn, t15, cells, heads, links, t9);
+        if (t9.failed != 0u) {
+            return t9;
+        }
+        t10 = log_scan__slots__next_slot(t10, groups);
+        t11 = t11 + 1u;
+        t12 = t12 - t15;
+    }
+    return t9;
+}
+
+/* The closing entry that a cell holds, 0 for none. */
+static inline uint16_t log_gather__walking__closer_in(uint16_t cell)
+{
+    uint16_t t3;
+
+    if (cell < 32768u) {
+        t3 = 0u;
+    } else {
+        t3 = (uint16_t)((uint32_t)cell - 32768u);
+    }
+    return t3;
+}
+
+/* Leaves in the first `n` cells, where all others are 0, only the closing entries, and no counts. */
+static inline void log_gather__walking__drop_counts(struct slice_mut_u16 cells, uint64_t n)
+{
+    uint64_t t3;
+    uint16_t t5;
+
+    t3 = 0u;
+    while (t3 < n) {
+        t5 = log_gather__walking__closer_in(cells.ptr[(size_t)t3]);
+        cells.ptr[(size_t)t3] = t5;
+        t3 = t3 + 1u;
+    }
+}
+
+/* Walks the `n` positions of the log from its start on with empty tables, and finds where the committed transactions end and how
+   many they are, their closing entries and the chains. A log in which an entry comes after its transaction's closing one, as no
+   store writes it, stops the walk with the sign 2, and nothing is found: it takes two passes. */
+static inline struct log_scan__commits__Progress log_gather__walking__walk(struct core_slice_u8 log, struct slice_mut_u16 last,
+        struct slice_mut_u16 heads, struct slice_mut_u16 links, uint64_t groups, uint64_t homes, uint64_t start, uint64_t n)
+{
+    struct log_scan__commits__Progress t9;
+
+    t9 = log_gather__walking__pass(log, last, heads, links, groups, homes, start, n);
+    if (t9.failed != 2u) {
+        log_gather__walking__drop_counts(last, n);
+    }
+    return t9;
+}
+
+/* Makes a table empty. */
+static inline void log_gather__twice__clear(struct slice_mut_u16 table)
+{
+    uint64_t t2, t3;
+
+    t2 = 0u;
+    t3 = (uint64_t)table.len;
+    while (0u < t3) {
+        table.ptr[(size_t)t2] = 0u;
+        t2 = t2 + 1u;
+        t3 = t3 - 1u;
+    }
+}
+
+/* Takes the word of an entry that does not close its transaction, at index `index` of the log; `above` is the word of an entry
+   for the first home that there is not. */
+static inline struct log_scan__commits__Progress log_scan__commits__visit_plain(uint64_t word, uint64_t above, uint64_t base,
+        uint64_t index, struct slice_mut_u16 counts, struct log_scan__commits__Progress progress)
+{
+    uint64_t t7, t20;
+    (void)base;
+
+    if (!((word & UINT64_C(0x1e0000000003ffd)) < above)) {
+        return progress;
+    }
+    t7 = (word >> 14u) & 8191u;
+    if (index < t7) {
+        return progress;
+    }
+    t20 = index - t7;
+    counts.ptr[(size_t)t20] = (uint16_t)((uint32_t)counts.ptr[(size_t)t20] + 1u);
+    return progress;
+}
+
+/* The same for the word of a closing entry. */
+static inline struct log_scan__commits__Progress log_scan__commits__visit_closing(uint64_t word, uint64_t above, uint64_t base,
+        uint64_t index, struct slice_mut_u16 counts, struct log_scan__commits__Progress progress)
+{
+    uint64_t t7, t8, t24;
+    uint16_t t25;
+
+    if (!((word & UINT64_C(0x1e0000000003ffd)) < above)) {
+        return progress;
+    }
+    t7 = (word >> 14u) & 8191u;
+    if (index < t7) {
+        return progress;
+    }
+    t8 = (word >> 40u) & 8191u;
+    if (t8 == 0u) {
+        return progress;
+    }
+    t24 = index - t7;
+    t25 = (uint16_t)((uint32_t)counts.ptr[(size_t)t24] + 1u);
+    counts.ptr[(size_t)t24] = t25;
+    return log_scan__commits__judge(progress, base, base + index, (word >> 27u) & 8191u, (uint64_t)t25 == t8);
+}
+
+/* Takes what the word of a tag says at index `index` of the log. */
+static inline struct log_scan__commits__Progress log_scan__commits__visit(uint64_t word, uint64_t above, uint64_t base,
+        uint64_t index, struct slice_mut_u16 counts, struct log_scan__commits__Progress progress)
+{
+    if ((word & UINT64_C(0xfc1ffffff8000003)) == 1u) {
+        return log_scan__commits__visit_plain(word, above, base, index, counts, progress);
+    }
+    if ((word & UINT64_C(0xfc00000000000003)) == 3u) {
+        return log_scan__commits__visit_closing(word, above, base, index, counts, progress);
+    }
+    return progress;
+}
+
+/* Takes the first `m` tags of a group, or those up to the first closing entry that fails. The group says nothing where it is not
+   the valid group with number `n` and turn `turn`. */
+static inline struct log_scan__commits__Progress log_scan__commits__visit_group(struct core_slice_u8 group, uint64_t groups,
+        uint64_t homes, uint64_t start, uint64_t n, uint64_t turn, uint64_t m, struct slice_mut_u16 counts,
+        struct log_scan__commits__Progress progress)
+{
+    uint64_t t10, t11, t12, t14, t19;
+    struct log_scan__commits__Progress t13;
+    (void)groups;
+
+    if (!(core_load_8(group.ptr) == (((n % UINT64_C(0x1000000000000)) * UINT64_C(0x10000)) + 18256u))) {
+        return progress;
+    }
+    t10 = ((1u | ((homes & 4095u) << 2u)) | ((uint64_t)0u << 14u)) | ((homes >> 12u) << 53u);
+    t11 = 7u * start;
+    t12 = (7u * n) - t11;
+    t13 = progress;
+    t14 = 0u;
+    while (t14 < m) {
+        t19 = log_scan__groups__word_there(group, turn, t14);
+        t13 = log_scan__commits__visit(t19, t10, t11, t12 + t14, counts, t13);
+        if (t13.failed != 0u) {
+            return t13;
+        }
+        t14 = t14 + 1u;
+    }
+    return t13;
+}
+
+/* Walks the `n` positions of the log from its start on, group by group, with empty counters, and finds where the committed
+   transactions end and how many they are. */
+static inline struct log_scan__commits__Found log_scan__commits__walk_with(struct core_slice_u8 log, struct slice_mut_u16 counts,
+        uint64_t groups, uint64_t homes, uint64_t start, uint64_t n)
+{
+    struct log_scan__commits__Progress t7;
+    struct log_scan__slots__RingSlot t8;
+    uint64_t t9, t10, t11, t13;
+
+    t7 = (struct log_scan__commits__Progress){.end = 0u, .number = 0u, .failed = 0u};
+    t8 = log_scan__slots__first_slot(start, groups);
+    t9 = start;
+    t10 = n;
+    while (0u < t10) {
+        t11 = 64u + (512u * t8.slot);
+        t13 = log_scan__commits__in_group(t10);
+        t7 = log_scan__commits__visit_group((struct core_slice_u8){log.ptr + (size_t)t11, (size_t)((t11 + 512u) - t11)}, groups, homes,
+                start, t9, t8.turn, t13, counts, t7);
+        if (t7.failed != 0u) {
+            return (struct log_scan__commits__Found){.end = t7.end, .number = t7.number};
+        }
+        t8 = log_scan__slots__next_slot(t8, groups);
+        t9 = t9 + 1u;
+        t10 = t10 - t13;
+    }
+    return (struct log_scan__commits__Found){.end = t7.end, .number = t7.number};
+}
+
+/* Takes what the word of a tag says at a position. */
+static inline void log_gather__gathering__visit(uint64_t word, uint64_t position, uint64_t base, uint64_t homes,
+        struct slice_mut_u16 last, struct slice_mut_u16 heads, struct slice_mut_u16 links)
+{
+    uint64_t t8, t33, t41;
+    struct model__Tag t13;
+
+    t8 = position - base;
+    t13 = base_codec__tags__read_tag(word, position, base, homes);
+    if (t13.tag == 0u) {
+    } else if (t13.tag == 1u) {
+        t33 = t13.u64_0 / 64u;
+        links.ptr[(size_t)t8] = heads.ptr[(size_t)t33];
+        heads.ptr[(size_t)t33] = (uint16_t)(t8 + 1u);
+    } else {
+        last.ptr[(size_t)(t13.u64_1 - base)] = (uint16_t)(t8 + 1u);
+        t41 = t13.u64_0 / 64u;
+        links.ptr[(size_t)t8] = heads.ptr[(size_t)t41];
+        heads.ptr[(size_t)t41] = (uint16_t)(t8 + 1u);
+    }
+}
+
+/* Takes the first `m` tags of a group, which says nothing where it is not the valid group with number `n` and turn `turn`. */
+static inline void log_gather__gathering__visit_group(struct core_slice_u8 group, uint64_t groups, uint64_t homes, uint64_t start,
+        uint64_t n, uint64_t turn, uint64_t m, struct slice_mut_u16 last, struct slice_mut_u16 heads, struct slice_mut_u16 links)
+{
+    struct array_u64_7 t11, t17;
+    uint64_t t12, t13, t14;
+    bool t15;
+
+    t15 = log_scan__groups__group_valid(group, groups, start, n);
+    if (!t15) {
+        return;
+    }
+    t17 = log_scan__groups__tag_words(group, turn);
+    t11 = t17;
+    t12 = 7u * start;
+    t13 = 7u * n;
+    t14 = 0u;
+    while (t14 < m) {
+        log_gather__gathering__visit(t11.at[(size_t)t14], t13, t12, homes, last, heads, links);
+        t13 = t13 + 1u;
+        t14 = t14 + 1u;
+    }
+}
+
+/* Finds in empty tables the last closing entries and the chains of all entries below `end`. */
+static inline void log_gather__gathering__gather(struct core_slice_u8 log, struct slice_mut_u16 last, struct slice_mut_u16 heads,
+        struct slice_mut_u16 links, uint64_t groups, uint64_t homes, uint64_t start, uint64_t end)
+{
+    uint64_t t9, t10, t11, t13, t15;
+    struct log_scan__slots__RingSlot t12;
+
+    t9 = 7u * start;
+    if (end <= t9) {
+        return;
+    }
+    t10 = end - t9;
+    t11 = start;
+    t12 = log_scan__slots__first_slot(start, groups);
+    while (0u < t10) {
+        t13 = 64u + (512u * t12.slot);
+        t15 = log_scan__commits__in_group(t10);
+        log_gather__gathering__visit_group((struct core_slice_u8){log.ptr + (size_t)t13, (size_t)((t13 + 512u) - t13)}, groups, homes,
+                start, t11, t12.turn, t15, last, heads, links);
+        t12 = log_scan__slots__next_slot(t12, groups);
+        t11 = t11 + 1u;
+        t10 = t10 - t15;
+    }
+}
+
+/* Walks the `n` positions of the log from its start on in two passes with tables that may hold anything; the first counts entries
+   in `last`. */
+static inline struct log_scan__commits__Progress log_gather__twice__walk_twice(struct core_slice_u8 log, struct slice_mut_u16 last,
+        struct slice_mut_u16 heads, struct slice_mut_u16 links, uint64_t groups, uint64_t homes, uint64_t start, uint64_t n)
+{
+    struct log_scan__commits__Found t9;
+
+    log_gather__twice__clear(last);
+    t9 = log_scan__commits__walk_with(log, last, groups, homes, start, n);
+    log_gather__twice__clear(last);
+    log_gather__twice__clear(heads);
+    log_gather__twice__clear(links);
+    log_gather__gathering__gather(log, last, heads, links, groups, homes, start, t9.end);
+    return (struct log_scan__commits__Progress){.end = t9.end, .number = t9.number, .failed = 0u};
+}
+
+/* The lesser of two numbers. */
+static inline uint64_t log_tables__whole__least(uint64_t a, uint64_t b)
+{
+    uint64_t t4;
+
+    if (a < b) {
+        t4 = a;
+    } else {
+        t4 = b;
+    }
+    return t4;
+}
+
+/* The ring slot that lies `n` slots after `slot`. */
+static inline uint64_t log_replay__places__slot_after(uint64_t slot, uint64_t n, uint64_t groups)
+{
+    uint64_t t4, t6;
+
+    t4 = slot + n;
+    if (t4 < groups) {
+        t6 = t4;
+    } else {
+        t6 = t4 - groups;
+    }
+    return t6;
+}
+
+/* What tag `k` of a group says at a position of a log that starts at position `base` and has `homes` homes. */
+static inline struct model__Tag log_scan__groups__tag_in(struct core_slice_u8 group, uint64_t k, uint64_t position, uint64_t base,
+        uint64_t homes)
+{
+    return base_codec__tags__read_tag(core_load_8(group.ptr + (size_t)(8u + (8u * k))), position, base, homes);
+}
+
+/* What the log says at an offset where there is an entry. */
+static inline struct model__Tag log_replay__places__entry_from(struct core_slice_u8 log, uint64_t groups, uint64_t homes,
+        uint64_t start, uint64_t slot, uint64_t offset)
+{
+    uint64_t t7, t8, t10;
+
+    t7 = 7u * start;
+    t10 = log_replay__places__slot_after(slot, offset / 7u, groups);
+    t8 = 64u + (512u * t10);
+    return log_scan__groups__tag_in((struct core_slice_u8){log.ptr + (size_t)t8, (size_t)((t8 + 512u) - t8)}, offset % 7u, t7 + offset,
+            t7, homes);
+}
+
+/* Takes an entry as the newest of its home, the one with index `k` in its word, if its transaction closes later than that of the
+   newest so far. */
+static inline void log_replay__words__offer(struct slice_mut_u16 closers, struct slice_mut_u16 table, struct slice_mut_u64 map,
+        uint64_t k, uint16_t closer, uint16_t code)
+{
+    uint64_t *t23;
+
+    if (closers.ptr[(size_t)k] < closer) {
+        closers.ptr[(size_t)k] = closer;
+        table.ptr[(size_t)k] = code;
+        t23 = map.ptr + (size_t)(k >> 6u);
+        (*t23) = (*t23) | ((uint64_t)1u << ((k & 63u) & 63u));
+    }
+}
+
+/* Takes the entry at an offset if its transaction, with its first entry at the offset `first`, is closed from there on. */
+static inline void log_replay__words__take_entry(struct slice_u16 last, struct slice_mut_u16 closers, struct slice_mut_u16 table,
+        struct slice_mut_u64 map, uint64_t home, uint64_t first, uint64_t offset)
+{
+    uint16_t t8;
+
+    t8 = last.ptr[(size_t)first];
+    if (offset < (uint64_t)t8) {
+        log_replay__words__offer(closers, table, map, home % 64u, t8, (uint16_t)(offset + 1u));
+    }
+}
+
+/* Takes what the log says at an offset where there is an entry. */
+static inline void log_replay__words__take_at(struct core_slice_u8 log, struct slice_u16 last, struct slice_mut_u16 closers,
+        struct slice_mut_u16 table, struct slice_mut_u64 map, uint64_t groups, uint64_t homes, uint64_t start, uint64_t slot,
+        uint64_t offset)
+{
+    uint64_t t11;
+    struct model__Tag t16;
+
+    t11 = 7u * start;
+    t16 = log_replay__places__entry_from(log, groups, homes, start, slot, offset);
+    if (t16.tag == 0u) {
+    } else if (t16.tag == 1u) {
+        log_replay__words__take_entry(last, closers, table, map, t16.u64_0, t16.u64_1 - t11, offset);
+    } else {
+        log_replay__words__take_entry(last, closers, table, map, t16.u64_0, t16.u64_1 - t11, offset);
+    }
+}
+
+/* Finds the newest committed entries of the homes of word `w` in an empty table, and returns the word that marks the homes that
+   have one. */
+static inline uint64_t log_replay__words__newest_in(struct core_slice_u8 log, struct slice_u16 last, struct slice_u16 heads,
+        struct slice_u16 links, struct slice_mut_u16 table, uint64_t w, uint64_t groups, uint64_t homes, uint64_t start,
+        uint64_t end, uint64_t slot)
+{
+    struct array_u16_64 t12;
+    struct array_u64_1 t13;
+    uint16_t t14;
+    uint64_t t15;
+    (void)end;
+
+    memset(&t12, 0, sizeof t12);
+    t13 = (struct array_u64_1){{0u}};
+    t14 = heads.ptr[(size_t)w];
+    while (t14 != 0u) {
+        t15 = (uint64_t)t14 - 1u;
+        log_replay__words__take_at(log, last, (struct slice_mut_u16){t12.at, 64u}, table, (struct slice_mut_u64){t13.at, 1u},
+                groups, homes, start, slot, t15);
+        t14 = links.ptr[(size_t)t15];
+    }
+    return t13.at[0u];
+}
+
+/* How many homes of word `w` the transactions of all closing entries below `end` touch. */
+static inline uint64_t log_replay__words__count_word(struct core_slice_u8 log, struct slice_u16 last, struct slice_u16 heads,
+        struct slice_u16 links, uint64_t w, uint64_t groups, uint64_t homes, uint64_t start, uint64_t end, uint64_t slot)
+{
+    struct array_u16_64 t11;
+    uint64_t t12;
+
+    if (heads.ptr[(size_t)w] == 0u) {
+        return 0u;
+    }
+    memset(&t11, 0, sizeof t11);
+    t12 = log_replay__words__newest_in(log, last, heads, links, (struct slice_mut_u16){t11.at, 64u}, w, groups, homes, start, end,
+            slot);
+    return (uint64_t)count_ones(t12);
+}
+
+/* How many homes the transactions of all closing entries below `end` touch. */
+static inline uint64_t log_replay__words__count(struct core_slice_u8 log, struct slice_u16 last, struct slice_u16 heads,
+        struct slice_u16 links, uint64_t groups, uint64_t homes, uint64_t start, uint64_t end)
+{
+    uint64_t t9, t10, t11, t12, t17;
+    struct log_scan__slots__RingSlot t13;
+
+    t13 = log_scan__slots__first_slot(start, groups);
+    t9 = t13.slot;
+    t10 = (homes + 63u) / 64u;
+    t11 = 0u;
+    t12 = 0u;
+    while (t12 < t10) {
+        t17 = log_replay__words__count_word(log, last, heads, links, t12, groups, homes, start, end, t9);
+        t11 = t11 + t17;
+        t12 = t12 + 1u;
+    }
+    return t11;
+}
+
+/* Copies the block that the entry at an offset gives to a home. */
+static inline void log_replay__places__restore_block(struct core_slice_u8 log, struct core_slice_mut_u8 area, uint64_t groups,
+        uint64_t start, uint64_t slot, uint64_t offset, uint64_t home)
+{
+    uint64_t t9;
+    (void)start;
+
+    t9 = log_replay__places__slot_after(slot, offset / 7u, groups);
+    base_areas__groups__copy_entry(area, 64u * home, log, t9, offset % 7u);
+}
+
+/* Copies to each home that one word marks, whose first home is `base`, the block of its newest entry. */
+static inline void log_replay__restore__restore_word(struct core_slice_u8 log, struct core_slice_mut_u8 area, struct slice_u16 table,
+        uint64_t groups, uint64_t start, uint64_t slot, uint64_t word, uint64_t base)
+{
+    uint64_t t9, t10;
+
+    t9 = word;
+    while (t9 != 0u) {
+        t10 = (uint64_t)trailing_zeros(t9);
+        log_replay__places__restore_block(log, area, groups, start, slot, (uint64_t)table.ptr[(size_t)t10] - 1u, base + t10);
+        t9 = t9 & (t9 - 1u);
+    }
+}
+
+/* Appends the write of the block that the data area holds in a home. */
+static inline uint64_t base_batch__records__home_write(struct core_slice_mut_u8 batch, uint64_t at, uint64_t home,
+        struct core_slice_u8 area)
+{
+    base_codec__marks__put_home_write_mark(batch, at);
+    core_store_2(batch.ptr + (size_t)(at + 2u), home);
+    base_areas__blocks__copy_block(batch, at + 4u, area, 64u * home);
+    return at + 68u;
+}
+
+/* Writes the records of the homes that one word marks, whose first home is `base`, rising, and returns the index past them. */
+static inline uint64_t base_batch__marked__emit_word(struct core_slice_mut_u8 batch, uint64_t at, uint64_t word, uint64_t base,
+        struct core_slice_u8 area)
+{
+    uint64_t t6, t7;
+
+    t6 = at;
+    t7 = word;
+    while (t7 != 0u) {
+        t6 = base_batch__records__home_write(batch, t6, base + (uint64_t)trailing_zeros(t7), area);
+        t7 = t7 & (t7 - 1u);
+    }
+    return t6;
+}
+
+/* Brings the touched homes of word `w` back into the data copy, and writes their records at an index of the batch; returns the
+   index past them. */
+static inline uint64_t log_replay__restore__bring_word(struct core_slice_u8 log, struct core_slice_mut_u8 area, struct core_slice_mut_u8 batch,
+        uint64_t at, struct slice_u16 last, struct slice_u16 heads, struct slice_u16 links, uint64_t w, uint64_t groups,
+        uint64_t homes, uint64_t start, uint64_t end, uint64_t slot)
+{
+    struct array_u16_64 t14;
+    uint64_t t15;
+
+    if (heads.ptr[(size_t)w] == 0u) {
+        return at;
+    }
+    memset(&t14, 0, sizeof t14);
+    t15 = log_replay__words__newest_in(log, last, heads, links, (struct slice_mut_u16){t14.at, 64u}, w, groups, homes, start, end,
+            slot);
+    log_replay__restore__restore_word(log, area, (struct slice_u16){t14.at, 64u}, groups, start, slot, t15, 64u * w);
+    return base_batch__marked__emit_word(batch, at, t15, 64u * w, (struct core_slice_u8){area.ptr, area.len});
+}
+
+/* Replays the transactions that close below `end` into the data copy, and writes the records of the homes that they touch at the
+   batch's beginning. */
+static inline uint64_t log_replay__restore__bring_back(struct core_slice_u8 log, struct core_slice_mut_u8 area, struct core_slice_mut_u8 batch,
+        struct slice_u16 last, struct slice_u16 heads, struct slice_u16 links, uint64_t groups, uint64_t homes, uint64_t start,
+        uint64_t end)
+{
+    uint64_t t11, t12, t13, t14;
+    struct log_scan__slots__RingSlot t15;
+
+    t15 = log_scan__slots__first_slot(start, groups);
+    t11 = t15.slot;
+    t12 = (homes + 63u) / 64u;
+    t13 = 0u;
+    t14 = 0u;
+    while (t14 < t12) {
+        t13 = log_replay__restore__bring_word(log, area, batch, t13, last, heads, links, t14, groups, homes, start, end, t11);
+        t14 = t14 + 1u;
+    }
+    return t13;
+}
+
+/* Returns how many bytes the records of the homes that the transactions of all closing entries below `end` touch take, and
+   `more`. If the batch has them, those transactions are replayed into the data copy, and the homes' records stand at the batch's
+   beginning; else nothing is changed. The homes are counted first only where the batch may have no room: not for all homes, nor
+   for as many as there can be entries. */
+static inline uint64_t log_tables__whole__bring_all(struct core_slice_u8 log, struct core_slice_mut_u8 area, struct core_slice_mut_u8 batch,
+        struct slice_u16 last, struct slice_u16 heads, struct slice_u16 links, uint64_t groups, uint64_t homes, uint64_t start,
+        uint64_t end, uint64_t more)
+{
+    uint64_t t12, t13, t14, t16, t21;
+
+    t12 = (uint64_t)batch.len;
+    t16 = log_tables__whole__least(homes, 7u * groups);
+    if (t12 < ((68u * t16) + more)) {
+        t21 = log_replay__words__count(log, last, heads, links, groups, homes, start, end);
+        t13 = (68u * t21) + more;
+        if (t12 < t13) {
+            return t13;
+        }
+    }
+    t14 = log_replay__restore__bring_back(log, area, batch, last, heads, links, groups, homes, start, end);
+    return t14 + more;
+}
+
+/* Finds what is committed among the `n` positions from the start on, and brings it back: all homes where `limit` is 0, else at
+   most `limit` from the cursor on. For a log of up to 64 groups. */
+static APART struct log_tables__tables__Replay log_tables__tables__bring_small_0(struct core_slice_u8 log, struct core_slice_mut_u8 area,
+        struct core_slice_mut_u8 batch, uint64_t groups, uint64_t homes, uint64_t start, uint64_t n, uint64_t cursor, uint64_t more)
+{
+    struct array_u16_448 t11, t13;
+    struct array_u16_1024 t12;
+    struct log_scan__commits__Progress t14;
+    uint64_t t15, t16;
+
+    memset(&t11, 0, sizeof t11);
+    memset(&t12, 0, sizeof t12);
+    memset(&t13, 0, sizeof t13);
+    t14 = log_gather__walking__walk(log, (struct slice_mut_u16){t11.at, 448u}, (struct slice_mut_u16){t12.at, 1024u},
+            (struct slice_mut_u16){t13.at, 448u}, groups, homes, start, n);
+    if (t14.failed == 2u) {
+        t14 = log_gather__twice__walk_twice(log, (struct slice_mut_u16){t11.at, 448u}, (struct slice_mut_u16){t12.at, 1024u},
+                (struct slice_mut_u16){t13.at, 448u}, groups, homes, start, n);
+    }
+    t15 = t14.end;
+    t16 = log_tables__whole__bring_all(log, area, batch, (struct slice_u16){t11.at, 448u}, (struct slice_u16){t12.at, 1024u},
+            (struct slice_u16){t13.at, 448u}, groups, homes, start, t15, more);
+    return (struct log_tables__tables__Replay){.end = t15, .number = t14.number, .size = t16, .next = cursor, .more = false};
+}
+
+/* The same for any log. Both serve two calls each, and so stay functions of their own: a small log never takes the large tables.
+   */
+static APART struct log_tables__tables__Replay log_tables__tables__bring_large_0(struct core_slice_u8 log, struct core_slice_mut_u8 area,
+        struct core_slice_mut_u8 batch, uint64_t groups, uint64_t homes, uint64_t start, uint64_t n, uint64_t cursor, uint64_t more)
+{
+    struct array_u16_7168 t11, t13;
+    struct array_u16_1024 t12;
+    struct log_scan__commits__Progress t14;
+    uint64_t t15, t16;
+
+    memset(&t11, 0, sizeof t11);
+    memset(&t12, 0, sizeof t12);
+    memset(&t13, 0, sizeof t13);
+    t14 = log_gather__walking__walk(log, (struct slice_mut_u16){t11.at, 7168u}, (struct slice_mut_u16){t12.at, 1024u},
+            (struct slice_mut_u16){t13.at, 7168u}, groups, homes, start, n);
+    if (t14.failed == 2u) {
+        t14 = log_gather__twice__walk_twice(log, (struct slice_mut_u16){t11.at, 7168u}, (struct slice_mut_u16){t12.at, 1024u},
+                (struct slice_mut_u16){t13.at, 7168u}, groups, homes, start, n);
+    }
+    t15 = t14.end;
+    t16 = log_tables__whole__bring_all(log, area, batch, (struct slice_u16){t11.at, 7168u}, (struct slice_u16){t12.at, 1024u},
+            (struct slice_u16){t13.at, 7168u}, groups, homes, start, t15, more);
+    return (struct log_tables__tables__Replay){.end = t15, .number = t14.number, .size = t16, .next = cursor, .more = false};
+}
+
+/* Replay of all homes, for settle and open, by the committed transactions among the `n` positions from the start on. */
+static inline struct log_tables__tables__Replay log_tables__planning__bring_back(struct core_slice_u8 log, struct core_slice_mut_u8 area,
+        struct core_slice_mut_u8 batch, uint64_t groups, uint64_t homes, uint64_t start, uint64_t n, uint64_t more)
+{
+    if (groups <= 64u) {
+        return log_tables__tables__bring_small_0(log, area, batch, groups, homes, start, n, 0u, more);
+    }
+    return log_tables__tables__bring_large_0(log, area, batch, groups, homes, start, n, 0u, more);
+}
+
+/* Writes a fence, the header with a new start, another fence, all groups as unused, and a last fence at an index of the batch. */
+static inline void call_open__opening__open_records(struct core_slice_mut_u8 batch, uint64_t at, uint64_t start, uint64_t groups,
+        uint64_t homes)
+{
+    uint64_t t6;
+
+    t6 = base_batch__records__fence(batch, at);
+    t6 = base_batch__records__header_write(batch, t6, start, groups, homes);
+    t6 = base_batch__records__fence(batch, t6);
+    t6 = base_batch__format__all_groups(batch, t6, start, groups);
+    (void)base_batch__records__fence(batch, t6);
+}
+
+/* The sign of the list of rights in the data copy. */
+static inline uint64_t call_open__opening__open_sign(struct core_slice_u8 area, uint64_t homes)
+{
+    bool t4;
+
+    if (homes < 12u) {
+        return 0u;
+    }
+    t4 = base_codec__blocks__all_zero(area, 512u, 256u);
+    if (t4) {
+        return 1u;
+    }
+    return 2u;
+}
+
+/* Makes every byte of the strip zero. */
+static inline void base_state__fields__clear(struct core_slice_mut_u8 s)
+{
+    core_base_codec__blocks__clear(s, 0u, 1024u);
+}
+
+/* Makes `s` the numbers of an opened store whose log is empty at the group number `start`, and else zeros. */
+static inline void base_state__fields__fresh_numbers(struct core_slice_mut_u8 s, uint64_t groups, uint64_t homes, uint64_t start)
+{
+    uint64_t t5;
+
+    base_state__fields__clear(s);
+    core_store_8(s.ptr, groups);
+    core_store_8(s.ptr + 8u, homes);
+    core_store_8(s.ptr + 16u, start);
+    core_store_8(s.ptr + 24u, start);
+    t5 = 7u * start;
+    core_store_8(s.ptr + 40u, t5);
+    core_store_8(s.ptr + 48u, t5);
+    core_store_8(s.ptr + 56u, t5);
+}
+
+/* Makes `s` the strip of an opened store whose log is empty at the group number `start`: no position of the list of rights is
+   kept, and `sign` is its sign. */
+static inline void base_state__fields__fresh(struct core_slice_mut_u8 s, uint64_t groups, uint64_t homes, uint64_t start,
+        uint64_t sign)
+{
+    struct array_u8_32 t6;
+
+    memset(&t6, 255u, sizeof t6);
+    base_state__fields__fresh_numbers(s, groups, homes, start);
+    base_state__listed__set_listed(s, (struct core_slice_u8){t6.at, 32u});
+    core_store_8(s.ptr + 928u, sign);
+}
+
+/* Keeps no position for any home. */
+static inline void log_newest__positions__keep_nothing(struct core_slice_mut_u8 newest, uint64_t homes)
+{
+    uint64_t t3, t4;
+    (void)homes;
+
+    t3 = 0u;
+    t4 = (uint64_t)newest.len;
+    while (0u < t4) {
+        newest.ptr[(size_t)t3] = 255u;
+        t3 = t3 + 1u;
+        t4 = t4 - 1u;
+    }
+}
+
+/* Makes the log copy empty from a new start on, the strip that of an empty log, and keeps no position. */
+static inline void call_open__opening__open_copies(struct core_slice_mut_u8 log, struct core_slice_u8 area, struct core_slice_mut_u8 state,
+        struct core_slice_mut_u8 newest, uint64_t groups, uint64_t homes, uint64_t start)
+{
+    uint64_t t13;
+
+    base_areas__unused__put_empty_log(log, start, groups, homes);
+    t13 = call_open__opening__open_sign(area, homes);
+    base_state__fields__fresh(state, groups, homes, start, t13);
+    log_newest__positions__keep_nothing(newest, homes);
+}
+
+/* Brings the committed transactions back, and empties the log; returns how many they are. */
+static inline struct core_call_ask__Reply call_open__opening__reopen(struct core_slice_mut_u8 log, struct core_slice_mut_u8 area,
+        struct core_slice_mut_u8 state, struct core_slice_mut_u8 newest, struct core_slice_mut_u8 batch)
+{
+    uint64_t t6, t8, t9, t10, t11, t13;
+    struct call_open__opening__Shape t7;
+    struct log_tables__tables__Replay t12;
+
+    t6 = call_open__opening__open_answer((struct core_slice_u8){log.ptr, log.len}, (struct core_slice_u8){area.ptr, area.len},
+            (struct core_slice_u8){state.ptr, state.len}, (struct core_slice_u8){newest.ptr, newest.len});
+    if (t6 != 0u) {
+        return (struct core_call_ask__Reply){.code = t6, .figure = 0u, .size = 0u};
+    }
+    t7 = call_open__opening__measure((struct core_slice_u8){log.ptr, log.len}, (struct core_slice_u8){area.ptr, area.len});
+    t8 = t7.groups;
+    t9 = t7.homes;
+    t10 = t7.start;
+    t11 = 72u + (516u * t8);
+    t12 = log_tables__planning__bring_back((struct core_slice_u8){log.ptr, log.len}, area, batch, t8, t9, t10, 7u * t8, t11);
+    t13 = t12.size;
+    if ((uint64_t)batch.len < t13) {
+        return (struct core_call_ask__Reply){.code = 9u, .figure = 0u, .size = 0u};
+    }
+    call_open__opening__open_records(batch, t13 - t11, t10 + t8, t8, t9);
+    call_open__opening__open_copies(log, (struct core_slice_u8){area.ptr, area.len}, state, newest, t8, t9, t10 + t8);
+    return (struct core_call_ask__Reply){.code = 0u, .figure = t12.number, .size = t13};
+}
+
+/* Brings back what a power cut left: replays the committed transactions into the data copy and starts the log anew. */
+static inline struct core_call_ask__Reply kagutin__kagutin_open(struct core_slice_mut_u8 log, struct core_slice_mut_u8 area,
+        struct core_slice_mut_u8 state, struct core_slice_mut_u8 newest, struct core_slice_mut_u8 batch)
+{
+    return call_open__opening__reopen(log, area, state, newest, batch);
+}
+
+/* The same for a call that is lent a block. */
+static inline uint64_t call_ask__block_answer(struct core_slice_u8 log, struct core_slice_u8 area, struct core_slice_u8 state,
+        struct core_slice_u8 block)
+{
+    uint64_t t5, t6, t10;
+    bool t7;
+
+    t7 = call_ask__lengths_right(log, area, state);
+    if (!t7) {
+        return 1u;
+    }
+    if ((uint64_t)block.len != 64u) {
+        return 1u;
+    }
+    t5 = base_areas__lengths__log_groups((uint64_t)log.len);
+    t6 = (uint64_t)area.len / 64u;
+    t10 = base_order__quick__quick_answer(state, t5, t6);
+    if (t10 == 0u) {
+        return 0u;
+    }
+    t7 = base_order__whole__whole_in_order(state, t5, t6);
+    if (!t7) {
+        return 2u;
+    }
+    return 0u;
+}
+
+/* The same for a call that is lent a block too. */
+static inline uint64_t call_ask__both_answer(struct core_slice_u8 log, struct core_slice_u8 area, struct core_slice_u8 state,
+        struct core_slice_u8 newest, struct core_slice_u8 block)
+{
+    if ((uint64_t)newest.len != (8u * ((uint64_t)area.len / 64u))) {
+        return 1u;
+    }
+    return call_ask__block_answer(log, area, state, block);
+}
+
+/* The questions of a read: 0 if none refuses it, else the number of the refusal. */
+static inline uint64_t call_read__read_answer(struct core_slice_u8 log, struct core_slice_u8 area, struct core_slice_u8 state,
+        struct core_slice_u8 newest, struct core_slice_u8 block, uint64_t writer, uint64_t home)
+{
+    uint64_t t8;
+    bool t9;
+
+    t8 = call_ask__both_answer(log, area, state, newest, block);
+    if (t8 != 0u) {
+        return t8;
+    }
+    if (8u <= writer) {
+        return 4u;
+    }
+    if (((uint64_t)area.len / 64u) <= home) {
+        return 5u;
+    }
+    t9 = call_rights__may_read(log, area, state, newest, writer, home);
+    if (!t9) {
+        return 20u;
+    }
+    return 0u;
+}
+
+/* Reads the block of a home as a writer sees it: the held one, else its newest own entry, else that at the position kept for the
+   home, else the data copy. */
+static inline struct core_call_ask__Reply call_read__read(struct core_slice_u8 log, struct core_slice_u8 area, struct core_slice_u8 state,
+        struct core_slice_u8 newest, struct core_slice_mut_u8 block, uint64_t writer, uint64_t home)
+{
+    uint64_t t8;
+
+    t8 = call_read__read_answer(log, area, state, newest, (struct core_slice_u8){block.ptr, block.len}, writer, home);
+    if (t8 != 0u) {
+        return (struct core_call_ask__Reply){.code = t8, .figure = 0u, .size = 0u};
+    }
+    call_read__blocks__show(log, area, state, newest, block, writer, home);
+    return (struct core_call_ask__Reply){.code = 0u, .figure = 0u, .size = 0u};
+}
+
+/* Reads the block of a home as a writer sees it. */
+static inline struct core_call_ask__Reply kagutin__kagutin_read(struct core_slice_u8 log, struct core_slice_u8 area, struct core_slice_u8 state,
+        struct core_slice_u8 newest, struct core_slice_mut_u8 block, uint64_t writer, uint64_t home)
+{
+    return call_read__read(log, area, state, newest, block, writer, home);
+}
+
+/* The places that are promised to nobody. */
+static inline uint64_t base_state__promises__free_places(struct core_slice_u8 s, struct model__State st)
+{
+    uint64_t t3, t4;
+
+    t3 = (7u * (st.start + st.groups)) - ((7u * st.next) + st.filled);
+    t4 = base_state__promises__promised(s);
+    if (t3 < t4) {
+        return 0u;
+    }
+    return t3 - t4;
+}
+
+/* Whether `n` places may be promised: at least one, and no more than are free. */
+static inline bool base_state__promises__may_promise(struct core_slice_u8 s, struct model__State st, uint64_t n)
+{
+    uint64_t t5;
+
+    if (n == 0u) {
+        return false;
+    }
+    t5 = base_state__promises__free_places(s, st);
+    return n <= t5;
+}
+
+/* Whether a writer may begin with `n` places promised to it: 0, or the number of the refusal. */
+static inline uint64_t call_writer__reserve_answer(struct core_slice_u8 log, struct core_slice_u8 area, struct core_slice_u8 state,
+        uint64_t writer, uint64_t n)
+{
+    uint64_t t6, t11, t12;
+    bool t7;
+
+    t6 = call_writer__begin_answer(log, area, state, writer);
+    if (t6 != 0u) {
+        return t6;
+    }
+    t11 = core_load_8(state.ptr);
+    t12 = core_load_8(state.ptr + 8u);
+    t7 = base_state__promises__may_promise(state, (struct model__State){.groups = t11, .homes = t12, .start = core_load_8(state.ptr
+            + 16u), .next = core_load_8(state.ptr + 24u), .filled = core_load_8(state.ptr + 32u), .settled = core_load_8(state.ptr + 40u),
+            .fenced = core_load_8(state.ptr + 48u), .durable = core_load_8(state.ptr + 56u), .last = core_load_8(state.ptr + 64u),
+            .round = core_load_8(state.ptr + 88u), .cursor = core_load_8(state.ptr + 96u)}, n);
+    if (!t7) {
+        return 17u;
+    }
+    return 0u;
+}
+
+/* Begins a transaction of a writer that has none open, and promises it `n` places: its first `n` entries find room. */
+static inline struct core_call_ask__Reply call_writer__reserve(struct core_slice_u8 log, struct core_slice_u8 area, struct core_slice_mut_u8 state,
+        uint64_t writer, uint64_t n)
+{
+    uint64_t t6;
+
+    t6 = call_writer__reserve_answer(log, area, (struct core_slice_u8){state.ptr, state.len}, writer, n);
+    if (t6 != 0u) {
+        return (struct core_call_ask__Reply){.code = t6, .figure = 0u, .size = 0u};
+    }
+    base_writers__begin(state, writer);
+    core_store_2(state.ptr + (size_t)(72u + (2u * writer)), n);
+    return (struct core_call_ask__Reply){.code = 0u, .figure = 0u, .size = 0u};
+}
+
+/* Begins a transaction of a writer that has none open, and promises it `n` places: its first `n` entries find room. */
+static inline struct core_call_ask__Reply kagutin__kagutin_reserve(struct core_slice_u8 log, struct core_slice_u8 area,
+        struct core_slice_mut_u8 state, uint64_t writer, uint64_t n)
+{
+    return call_writer__reserve(log, area, state, writer, n);
+}
+
+/* Whether a writer may store to a home, for a call that is lent the newest positions: the list is found by those. */
+static inline bool call_rights__may_store_newest(struct core_slice_u8 log, struct core_slice_u8 area, struct core_slice_u8 state,
+        struct core_slice_u8 newest, uint64_t writer, uint64_t home)
+{
+    uint64_t t7, t8;
+    bool t9;
+
+    t9 = call_rights__ranges__of_list(home);
+    if (t9) {
+        return writer == 0u;
+    }
+    if ((uint64_t)area.len < 768u) {
+        return true;
+    }
+    t7 = 32u * writer;
+    t8 = core_load_8(state.ptr + 928u);
+    if (t8 == 1u) {
+        return true;
+    }
+    if (t8 == 2u) {
+        return call_rights__list__open_listed(log, area, state, newest, 64u, t7, home);
+    }
+    return call_rights__list__open_unsigned(log, area, state, newest, 64u, t7, home);
+}
+
+/* Whether a writer may store to each of `n` homes from `home` on. */
+static inline bool call_many_fetch__allowed__may_store_all(struct core_slice_u8 log, struct core_slice_u8 area, struct core_slice_u8 state,
+        struct core_slice_u8 newest, uint64_t writer, uint64_t home, uint64_t n)
+{
+    uint64_t t8;
+    bool t9;
+
+    t8 = 0u;
+    while (t8 < n) {
+        t9 = call_rights__may_store_newest(log, area, state, newest, writer, home + t8);
+        if (!t9) {
+            return false;
+        }
+        t8 = t8 + 1u;
+    }
+    return true;
+}
+
+/* The answer of a revise: that of a fetch, which asks for the right to store too. */
+static inline uint64_t call_many_fetch__questions__revise_answer(struct core_slice_u8 log, struct core_slice_u8 area, struct core_slice_u8 state,
+        struct core_slice_u8 newest, struct core_slice_u8 blocks, uint64_t writer, uint64_t home)
+{
+    uint64_t t8, t9;
+    bool t10;
+
+    t8 = call_many_fetch__questions__homes_answer(log, area, state, newest, blocks, writer, home);
+    if (t8 != 0u) {
+        return t8;
+    }
+    t9 = (uint64_t)blocks.len / 64u;
+    t10 = call_many_fetch__allowed__may_store_all(log, area, state, newest, writer, home, t9);
+    if (!t10) {
+        return 19u;
+    }
+    t10 = call_many_fetch__allowed__may_read_all(log, area, state, newest, writer, home, t9);
+    if (!t10) {
+        return 20u;
+    }
+    return 0u;
+}
+
+/* The same for a writer that is going to store what it makes of them: it may store to them all, too. */
+static inline struct core_call_ask__Reply call_many_fetch__fetches__revise(struct core_slice_u8 log, struct core_slice_u8 area,
+        struct core_slice_u8 state, struct core_slice_u8 newest, struct core_slice_mut_u8 blocks, uint64_t writer, uint64_t home)
+{
+    uint64_t t8;
+
+    t8 = call_many_fetch__questions__revise_answer(log, area, state, newest, (struct core_slice_u8){blocks.ptr, blocks.len}, writer,
+            home);
+    if (t8 != 0u) {
+        return (struct core_call_ask__Reply){.code = t8, .figure = 0u, .size = 0u};
+    }
+    call_many_fetch__fetches__show_all(log, area, state, newest, blocks, writer, home);
+    return (struct core_call_ask__Reply){.code = 0u, .figure = 0u, .size = 0u};
+}
+
+/* The same for a writer that is going to store what it makes of the blocks: it may store to the homes, too. */
+static inline struct core_call_ask__Reply core_kagutin__kagutin_revise(struct core_slice_u8 log, struct core_slice_u8 area, struct core_slice_u8 state,
+        struct core_slice_u8 newest, struct core_slice_mut_u8 blocks, uint64_t writer, uint64_t home)
+{
+    return call_many_fetch__fetches__revise(log, area, state, newest, blocks, writer, home);
+}
+
+/* Brings the data copy and the data area up to the fenced position. */
+static inline struct core_call_ask__Reply call_settle__settling__settle(struct core_slice_u8 log, struct core_slice_mut_u8 area,
+        struct core_slice_mut_u8 state, struct core_slice_mut_u8 batch)
+{
+    uint64_t t5, t8, t22, t32, t33;
+    struct model__State t6;
+    struct log_tables__tables__Replay t17;
+
+    t5 = call_ask__state_answer(log, (struct core_slice_u8){area.ptr, area.len}, (struct core_slice_u8){state.ptr, state.len});
+    if (t5 != 0u) {
+        return (struct core_call_ask__Reply){.code = t5, .figure = 0u, .size = 0u};
+    }
+    t32 = core_load_8(state.ptr);
+    t33 = core_load_8(state.ptr + 8u);
+    t6 = (struct model__State){.groups = t32, .homes = t33, .start = core_load_8(state.ptr + 16u), .next = core_load_8(state.ptr + 24u),
+            .filled = core_load_8(state.ptr + 32u), .settled = core_load_8(state.ptr + 40u), .fenced = core_load_8(state.ptr + 48u),
+            .durable = core_load_8(state.ptr + 56u), .last = core_load_8(state.ptr + 64u), .round = core_load_8(state.ptr + 88u),
+            .cursor = core_load_8(state.ptr + 96u)};
+    if (t6.round != 0u) {
+        return (struct core_call_ask__Reply){.code = 21u, .figure = 0u, .size = 0u};
+    }
+    t17 = log_tables__planning__bring_back(log, area, batch, t6.groups, t6.homes, t6.start, t6.fenced - (7u * t6.start), 2u);
+    t8 = t17.size;
+    t22 = (uint64_t)batch.len;
+    if (t22 < t8) {
+        return (struct core_call_ask__Reply){.code = 9u, .figure = 0u, .size = 0u};
+    }
+    t22 = base_batch__records__fence(batch, t8 - 2u);
+    core_store_8(state.ptr + 40u, t6.fenced);
+    core_store_8(state.ptr + 48u, 7u * t6.next);
+    return (struct core_call_ask__Reply){.code = 0u, .figure = 0u, .size = t8};
+}
+
+/* Writes the homes of the commits below the fenced position, and a fence. */
+static inline struct core_call_ask__Reply kagutin__kagutin_settle(struct core_slice_u8 log, struct core_slice_mut_u8 area,
+        struct core_slice_mut_u8 state, struct core_slice_mut_u8 batch)
+{
+    return call_settle__settling__settle(log, area, state, batch);
+}
+
+/* The end of the homes of the word that a home is in, or of all homes. */
+static inline uint64_t log_replay__stepping__word_end(uint64_t home, uint64_t homes)
+{
+    uint64_t t3, t7;
+
+    t3 = (64u * (home / 64u)) + 64u;
+    if (t3 < homes) {
+        t7 = t3;
+    } else {
+        t7 = homes;
+    }
+    return t7;
+}
+
+/* 1 if a code of the table says that its home has a newest entry, 0 if not. */
+static inline uint64_t log_replay__stepping__one_if(uint16_t code)
+{
+    uint64_t t3;
+
+    if (code == 0u) {
+        t3 = 0u;
+    } else {
+        t3 = 1u;
+    }
+    return t3;
+}
+
+/* How many of the homes from `from` to below `upto`, all of word `w`, are touched. */
+static inline uint64_t log_replay__stepping__count_part(struct core_slice_u8 log, struct slice_u16 last, struct slice_u16 heads,
+        struct slice_u16 links, uint64_t w, uint64_t from, uint64_t upto, uint64_t groups, uint64_t homes, uint64_t start,
+        uint64_t end, uint64_t slot)
+{
+    struct array_u16_64 t13;
+    uint64_t t14, t15, t16, t21, t25;
+
+    if (heads.ptr[(size_t)w] == 0u) {
+        return 0u;
+    }
+    memset(&t13, 0, sizeof t13);
+    t21 = log_replay__words__newest_in(log, last, heads, links, (struct slice_mut_u16){t13.at, 64u}, w, groups, homes, start, end,
+            slot);
+    t21 = w;
+    t14 = 64u * t21;
+    t15 = 0u;
+    t16 = from;
+    while (t16 < upto) {
+        t25 = log_replay__stepping__one_if(t13.at[(size_t)(t16 - t14)]);
+        t15 = t15 + t25;
+        t16 = t16 + 1u;
+    }
+    return t15;
+}
+
+/* How many homes from the cursor on the transactions of all closing entries below `end` touch, if they are at most `limit`; else
+   more than that. */
+static inline uint64_t log_replay__stepping__count_from(struct core_slice_u8 log, struct slice_u16 last, struct slice_u16 heads,
+        struct slice_u16 links, uint64_t groups, uint64_t homes, uint64_t start, uint64_t end, uint64_t cursor, uint64_t limit)
+{
+    uint64_t t11, t12, t13, t14, t17;
+    struct log_scan__slots__RingSlot t15;
+
+    t15 = log_scan__slots__first_slot(start, groups);
+    t11 = t15.slot;
+    t12 = 0u;
+    t13 = cursor;
+    while (t13 < homes) {
+        if (limit < t12) {
+            return t12;
+        }
+        t14 = log_replay__stepping__word_end(t13, homes);
+        t17 = log_replay__stepping__count_part(log, last, heads, links, t13 / 64u, t13, t14, groups, homes, start, end, t11);
+        t12 = t12 + t17;
+        t13 = t14;
+    }
+    return t12;
+}
+
+/* The bytes of the last step's fence, if the homes found are within the limit. */
+static inline uint64_t log_tables__steps__fence_size(uint64_t found, uint64_t limit)
+{
+    uint64_t t4;
+
+    if (limit < found) {
+        t4 = 0u;
+    } else {
+        t4 = 2u;
+    }
+    return t4;
+}
+
+/* Brings a home back whose newest entry is said by a code of the table, and writes its record as the one after `done` others;
+   returns how many it then are. A code of 0 leaves all as it is. */
+static inline uint64_t log_replay__stepping__bring_home(struct core_slice_u8 log, struct core_slice_mut_u8 area, struct core_slice_mut_u8 batch,
+        uint16_t code, uint64_t groups, uint64_t start, uint64_t slot, uint64_t home, uint64_t done)
+{
+    if (code == 0u) {
+        return done;
+    }
+    log_replay__places__restore_block(log, area, groups, start, slot, (uint64_t)code - 1u, home);
+    (void)base_batch__records__home_write(batch, 68u * done, home, (struct core_slice_u8){area.ptr, area.len});
+    return done + 1u;
+}
+
+/* Brings the touched homes from `from` to below `upto` back, all of word `w`, until `limit` are done in all. */
+static inline struct log_replay__stepping__Reached log_replay__stepping__bring_part(struct core_slice_u8 log, struct core_slice_mut_u8 area,
+        struct core_slice_mut_u8 batch, struct slice_u16 last, struct slice_u16 heads, struct slice_u16 links, uint64_t w,
+        uint64_t from, uint64_t upto, uint64_t groups, uint64_t homes, uint64_t start, uint64_t end, uint64_t slot, uint64_t done,
+        uint64_t limit)
+{
+    struct array_u16_64 t17;
+    uint64_t t18, t19, t20, t26;
+
+    if (heads.ptr[(size_t)w] == 0u) {
+        return (struct log_replay__stepping__Reached){.home = upto, .done = done};
+    }
+    memset(&t17, 0, sizeof t17);
+    t26 = log_replay__words__newest_in(log, last, heads, links, (struct slice_mut_u16){t17.at, 64u}, w, groups, homes, start, end,
+            slot);
+    t26 = w;
+    t18 = 64u * t26;
+    t19 = done;
+    t20 = from;
+    while (t20 < upto) {
+        if (t19 == limit) {
+            return (struct log_replay__stepping__Reached){.home = t20, .done = t19};
+        }
+        t19 = log_replay__stepping__bring_home(log, area, batch, t17.at[(size_t)(t20 - t18)], groups, start, slot, t20, t19);
+        t20 = t20 + 1u;
+    }
+    return (struct log_replay__stepping__Reached){.home = t20, .done = t19};
+}
+
+/* Brings the first `limit` touched homes from the cursor on back into the data copy, and writes their records at the batch's
+   beginning; returns the home after the last of them, if there is one. */
+static inline uint64_t log_replay__stepping__bring_from(struct core_slice_u8 log, struct core_slice_mut_u8 area, struct core_slice_mut_u8 batch,
+        struct slice_u16 last, struct slice_u16 heads, struct slice_u16 links, uint64_t groups, uint64_t homes, uint64_t start,
+        uint64_t end, uint64_t cursor, uint64_t limit)
+{
+    uint64_t t13, t14, t15, t16;
+    struct log_replay__stepping__Reached t17;
+    struct log_scan__slots__RingSlot t18;
+
+    t18 = log_scan__slots__first_slot(start, groups);
+    t13 = t18.slot;
+    t14 = 0u;
+    t15 = cursor;
+    while (t15 < homes) {
+        if (t14 == limit) {
+            return t15;
+        }
+        t16 = log_replay__stepping__word_end(t15, homes);
+        t17 = log_replay__stepping__bring_part(log, area, batch, last, heads, links, t15 / 64u, t15, t16, groups, homes, start,
+                end, t13, t14, limit);
+        t14 = t17.done;
+        t15 = t17.home;
+    }
+    return t15;
+}
+
+/* Finds the bytes that a step of at most `limit` homes from the cursor on takes. If the batch has them, those homes are brought
+   back into the data copy, and their records stand at the batch's beginning. */
+static inline struct log_tables__steps__Made log_tables__steps__bring_some(struct core_slice_u8 log, struct core_slice_mut_u8 area,
+        struct core_slice_mut_u8 batch, struct slice_u16 last, struct slice_u16 heads, struct slice_u16 links, uint64_t groups,
+        uint64_t homes, uint64_t start, uint64_t end, uint64_t cursor, uint64_t limit)
+{
+    uint64_t t13, t14, t15, t17, t19;
+    bool t16;
+
+    t13 = log_replay__stepping__count_from(log, last, heads, links, groups, homes, start, end, cursor, limit);
+    t14 = log_tables__whole__least(t13, limit);
+    t19 = log_tables__steps__fence_size(t13, limit);
+    t15 = (68u * t14) + t19;
+    t16 = limit < t13;
+    if ((uint64_t)batch.len < t15) {
+        return (struct log_tables__steps__Made){.size = t15, .next = cursor, .more = t16};
+    }
+    t17 = log_replay__stepping__bring_from(log, area, batch, last, heads, links, groups, homes, start, end, cursor, t14);
+    return (struct log_tables__steps__Made){.size = t15, .next = t17, .more = t16};
+}
+
+/* Finds what is committed among the `n` positions from the start on, and brings it back: all homes where `limit` is 0, else at
+   most `limit` from the cursor on. For a log of up to 64 groups. */
+static APART struct log_tables__tables__Replay log_tables__tables__bring_small(struct core_slice_u8 log, struct core_slice_mut_u8 area,
+        struct core_slice_mut_u8 batch, uint64_t groups, uint64_t homes, uint64_t start, uint64_t n, uint64_t cursor, uint64_t limit,
+        uint64_t more)
+{
+    struct array_u16_448 t11, t13;
+    struct array_u16_1024 t12;
+    struct log_scan__commits__Progress t14;
+    uint64_t t15, t16;
+    struct log_tables__steps__Made t17;
+
+    memset(&t11, 0, sizeof t11);
+    memset(&t12, 0, sizeof t12);
+    memset(&t13, 0, sizeof t13);
+    t14 = log_gather__walking__walk(log, (struct slice_mut_u16){t11.at, 448u}, (struct slice_mut_u16){t12.at, 1024u},
+            (struct slice_mut_u16){t13.at, 448u}, groups, homes, start, n);
+    if (t14.failed == 2u) {
+        t14 = log_gather__twice__walk_twice(log, (struct slice_mut_u16){t11.at, 448u}, (struct slice_mut_u16){t12.at, 1024u},
+                (struct slice_mut_u16){t13.at, 448u}, groups, homes, start, n);
+    }
+    t15 = t14.end;
+    if (limit == 0u) {
+        t16 = log_tables__whole__bring_all(log, area, batch, (struct slice_u16){t11.at, 448u}, (struct slice_u16){t12.at, 1024u},
+                (struct slice_u16){t13.at, 448u}, groups, homes, start, t15, more);
+        return (struct log_tables__tables__Replay){.end = t15, .number = t14.number, .size = t16, .next = cursor, .more = false};
+    }
+    t17 = log_tables__steps__bring_some(log, area, batch, (struct slice_u16){t11.at, 448u}, (struct slice_u16){t12.at, 1024u},
+            (struct slice_u16){t13.at, 448u}, groups, homes, start, t15, cursor, limit);
+    return (struct log_tables__tables__Replay){.end = t15, .number = t14.number, .size = t17.size, .next = t17.next,
+            .more = t17.more};
+}
+
+/* The same for any log. Both serve two calls each, and so stay functions of their own: a small log never takes the large tables.
+   */
+static APART struct log_tables__tables__Replay log_tables__tables__bring_large(struct core_slice_u8 log, struct core_slice_mut_u8 area,
+        struct core_slice_mut_u8 batch, uint64_t groups, uint64_t homes, uint64_t start, uint64_t n, uint64_t cursor, uint64_t limit,
+        uint64_t more)
+{
+    struct array_u16_7168 t11, t13;
+    struct array_u16_1024 t12;
+    struct log_scan__commits__Progress t14;
+    uint64_t t15, t16;
+    struct log_tables__steps__Made t17;
+
+    memset(&t11, 0, sizeof t11);
+    memset(&t12, 0, sizeof t12);
+    memset(&t13, 0, sizeof t13);
+    t14 = log_gather__walking__walk(log, (struct slice_mut_u16){t11.at, 7168u}, (struct slice_mut_u16){t12.at, 1024u},
+            (struct slice_mut_u16){t13.at, 7168u}, groups, homes, start, n);
+    if (t14.failed == 2u) {
+        t14 = log_gather__twice__walk_twice(log, (struct slice_mut_u16){t11.at, 7168u}, (struct slice_mut_u16){t12.at, 1024u},
+                (struct slice_mut_u16){t13.at, 7168u}, groups, homes, start, n);
+    }
+    t15 = t14.end;
+    if (limit == 0u) {
+        t16 = log_tables__whole__bring_all(log, area, batch, (struct slice_u16){t11.at, 7168u}, (struct slice_u16){t12.at, 1024u},
+                (struct slice_u16){t13.at, 7168u}, groups, homes, start, t15, more);
+        return (struct log_tables__tables__Replay){.end = t15, .number = t14.number, .size = t16, .next = cursor, .more = false};
+    }
+    t17 = log_tables__steps__bring_some(log, area, batch, (struct slice_u16){t11.at, 7168u}, (struct slice_u16){t12.at, 1024u},
+            (struct slice_u16){t13.at, 7168u}, groups, homes, start, t15, cursor, limit);
+    return (struct log_tables__tables__Replay){.end = t15, .number = t14.number, .size = t17.size, .next = t17.next,
+            .more = t17.more};
+}
+
+/* A step of at most `limit` homes from the cursor on, by the same. */
+static inline struct log_tables__tables__Replay log_tables__planning__step(struct core_slice_u8 log, struct core_slice_mut_u8 area,
+        struct core_slice_mut_u8 batch, uint64_t groups, uint64_t homes, uint64_t start, uint64_t n, uint64_t cursor, uint64_t limit)
+{
+    if (groups <= 64u) {
+        return log_tables__tables__bring_small(log, area, batch, groups, homes, start, n, cursor, limit, 0u);
+    }
+    return log_tables__tables__bring_large(log, area, batch, groups, homes, start, n, cursor, limit, 0u);
+}
+
+/* Moves the round on by the next `homes` homes, or all that remain: then it is over. */
+static inline struct core_call_ask__Reply call_settle__rounds__step_round(struct core_slice_u8 log, struct core_slice_mut_u8 area,
+        struct core_slice_mut_u8 state, struct core_slice_mut_u8 batch, uint64_t homes)
+{
+    uint64_t t6, t10, t24, t37, t38;
+    struct model__State t7;
+    struct log_tables__tables__Replay t9;
+
+    t6 = call_ask__state_answer(log, (struct core_slice_u8){area.ptr, area.len}, (struct core_slice_u8){state.ptr, state.len});
+    if (t6 != 0u) {
+        return (struct core_call_ask__Reply){.code = t6, .figure = 0u, .size = 0u};
+    }
+    t37 = core_load_8(state.ptr);
+    t38 = core_load_8(state.ptr + 8u);
+    t7 = (struct model__State){.groups = t37, .homes = t38, .start = core_load_8(state.ptr + 16u), .next = core_load_8(state.ptr + 24u),
+            .filled = core_load_8(state.ptr + 32u), .settled = core_load_8(state.ptr + 40u), .fenced = core_load_8(state.ptr + 48u),
+            .durable = core_load_8(state.ptr + 56u), .last = core_load_8(state.ptr + 64u), .round = core_load_8(state.ptr + 88u),
+            .cursor = core_load_8(state.ptr + 96u)};
+    if (t7.round == 0u) {
+        return (struct core_call_ask__Reply){.code = 21u, .figure = 0u, .size = 0u};
+    }
+    if (homes == 0u) {
+        return (struct core_call_ask__Reply){.code = 21u, .figure = 0u, .size = 0u};
+    }
+    t9 = log_tables__planning__step(log, area, batch, t7.groups, t7.homes, t7.start, (t7.round - 1u) - (7u * t7.start), t7.cursor,
+            homes);
+    t10 = t9.size;
+    t24 = (uint64_t)batch.len;
+    if (t24 < t10) {
+        return (struct core_call_ask__Reply){.code = 9u, .figure = 0u, .size = 0u};
+    }
+    if (t9.more) {
+        core_store_8(state.ptr + 96u, t9.next);
+        return (struct core_call_ask__Reply){.code = 0u, .figure = 0u, .size = t10};
+    }
+    t24 = base_batch__records__fence(batch, t10 - 2u);
+    core_store_8(state.ptr + 40u, t7.round - 1u);
+    core_store_8(state.ptr + 48u, 7u * t7.next);
+    core_store_8(state.ptr + 88u, 0u);
+    core_store_8(state.ptr + 96u, 0u);
+    return (struct core_call_ask__Reply){.code = 0u, .figure = 0u, .size = t10};
+}
+
+/* Writes the next `homes` homes of the round under way; with the last of them a fence, and the round is over. */
+static inline struct core_call_ask__Reply kagutin__kagutin_step_round(struct core_slice_u8 log, struct core_slice_mut_u8 area,
+        struct core_slice_mut_u8 state, struct core_slice_mut_u8 batch, uint64_t homes)
+{
+    return call_settle__rounds__step_round(log, area, state, batch, homes);
+}
+
+/* Whether a writer may store to a home. The list is found by the positions of its homes in the state strip. */
+static inline bool call_rights__may_store(struct core_slice_u8 log, struct core_slice_u8 area, struct core_slice_u8 state, uint64_t writer,
+        uint64_t home)
+{
+    uint64_t t6, t7;
+    bool t8;
+
+    t8 = call_rights__ranges__of_list(home);
+    if (t8) {
+        return writer == 0u;
+    }
+    if ((uint64_t)area.len < 768u) {
+        return true;
+    }
+    t6 = 32u * writer;
+    t7 = core_load_8(state.ptr + 928u);
+    if (t7 == 1u) {
+        return true;
+    }
+    if (t7 == 2u) {
+        return call_rights__list__open_listed(log, area, state, state, 896u, t6, home);
+    }
+    return call_rights__list__open_unsigned(log, area, state, state, 896u, t6, home);
+}
+
+/* The answer of a store: 0, or the number of the question that refuses it. */
+static inline uint64_t call_store__stores__store_answer(struct core_slice_u8 log, struct core_slice_u8 area, struct core_slice_u8 state,
+        struct core_slice_u8 block, struct core_slice_u8 batch, uint64_t writer, uint64_t home)
+{
+    uint64_t t8;
+    struct model__Writer t9;
+    bool t10;
+
+    t8 = call_ask__block_answer(log, area, state, block);
+    if (t8 != 0u) {
+        return t8;
+    }
+    if (8u <= writer) {
+        return 4u;
+    }
+    if (((uint64_t)area.len / 64u) <= home) {
+        return 5u;
+    }
+    t10 = call_rights__may_store(log, area, state, writer, home);
+    if (!t10) {
+        return 19u;
+    }
+    t9 = base_state__writers__writer(state, writer);
+    if (!(1u <= t9.mode)) {
+        return 7u;
+    }
+    if (!(2u <= t9.mode)) {
+        return 0u;
+    }
+    if (t9.home == home) {
+        return 0u;
+    }
+    return call_store__entry__log_answer(state, writer, (uint64_t)batch.len);
+}
+
+/* The record `r` once its writer holds a block for `home`; a block that it held for another home was logged at `position`. */
+static inline struct model__Writer base_writers__records__hold(struct model__Writer r, uint64_t home, uint64_t position)
+{
+    uint64_t t4, t7;
+
+    if (!(2u <= r.mode)) {
+        return (struct model__Writer){.mode = 2u, .home = home, .first = 0u, .count = 1u};
+    }
+    if (r.home == home) {
+        return r;
+    }
+    t4 = base_state__writers__first_for(r, position);
+    t7 = base_state__writers__count_for(r);
+    return (struct model__Writer){.mode = 3u, .home = home, .first = t4, .count = t7 + 1u};
+}
+
+/* Makes the record at `p` that of a writer that holds a block for `home`. */
+static inline void base_writers__places__hold_at(struct model__Writer *p, uint64_t home, uint64_t position)
+{
+    struct model__Writer t4;
+
+    t4 = base_writers__records__hold(*p, home, position);
+    (*p) = t4;
+}
+
+/* The record `r`, changed at its place by `hold_at`. */
+static inline struct model__Writer base_writers__places__held(struct model__Writer r, uint64_t home, uint64_t position)
+{
+    struct model__Writer t4;
+
+    t4 = r;
+    base_writers__places__hold_at(&t4, home, position);
+    return t4;
+}
+
+/* Stores what becomes of `r`, the record of writer `w`, once it holds a block for `home`; a block that it held for another home
+   is logged at `position`. */
+static inline void base_writers__hold(struct core_slice_mut_u8 s, uint64_t w, struct model__Writer r, uint64_t home, uint64_t position)
+{
+    struct model__Writer t9;
+
+    t9 = base_writers__places__held(r, home, position);
+    base_state__writers__set_writer(s, w, t9);
+}
+
+/* Stores `block` as the held block of writer `w`, and leaves the rest of the strip as it was. */
+static inline void base_state__writers__set_held(struct core_slice_mut_u8 s, uint64_t w, struct core_slice_u8 block)
+{
+    core_base_codec__blocks__copy(s, 320u + (64u * w), block);
+}
+
+/* Holds the first block of a transaction. */
+static inline void call_store__stores__store_first(struct core_slice_mut_u8 state, struct core_slice_u8 block, struct model__Writer r,
+        uint64_t w, uint64_t home)
+{
+    base_writers__hold(state, w, r, home, 0u);
+    base_state__writers__set_held(state, w, block);
+}
+
+/* How many places are promised to writer `w` once an entry of it has used one up. */
+static inline uint64_t base_state__promises__promise_left(struct core_slice_u8 s, uint64_t w)
+{
+    uint64_t t3;
+
+    t3 = core_load_2(s.ptr + (size_t)(72u + (2u * w)));
+    if (t3 == 0u) {
+        return 0u;
+    }
+    return t3 - 1u;
+}
+
+/* The tag of a held block that is logged at `position` and does not close its transaction. */
+static inline uint64_t call_store__entry__store_word(struct model__State st, struct model__Writer r, uint64_t position)
+{
+    uint64_t t4;
+    (void)st;
+
+    t4 = base_state__writers__first_for(r, position);
+    return ((1u | ((r.home & 4095u) << 2u)) | ((position - t4) << 14u)) | ((r.home >> 12u) << 53u);
+}
+
+/* Logs the held block and holds the next one, for another home. The record is changed first: the numbers and the block that are
+   logged stay. */
+static inline uint64_t call_store__stores__hold_next(struct core_slice_mut_u8 log, struct core_slice_mut_u8 state, struct core_slice_u8 block,
+        struct core_slice_mut_u8 batch, struct model__State st, struct model__Writer r, uint64_t w, uint64_t home)
+{
+    uint64_t t9, t10, t11;
+
+    t9 = (7u * st.next) + st.filled;
+    t10 = call_store__entry__store_word(st, r, t9);
+    base_writers__hold(state, w, r, home, t9);
+    t11 = call_store__entry__log_entry(log, state, batch, t10, w);
+    base_state__writers__set_held(state, w, (struct core_slice_u8){block.ptr, (size_t)((uint64_t)64u - 0u)});
+    return t11;
+}
+
+/* The same, and the entry uses up one of the places promised to the writer, if any is left. */
+static inline uint64_t call_store__stores__store_other(struct core_slice_mut_u8 log, struct core_slice_mut_u8 state, struct core_slice_u8 block,
+        struct core_slice_mut_u8 batch, struct model__State st, struct model__Writer r, uint64_t w, uint64_t home)
+{
+    uint64_t t9, t10;
+
+    t9 = base_state__promises__promise_left((struct core_slice_u8){state.ptr, state.len}, w);
+    t10 = call_store__stores__hold_next(log, state, block, batch, st, r, w, home);
+    core_store_2(state.ptr + (size_t)(72u + (2u * w)), t9);
+    return t10;
+}
+
+/* The same by the numbers and the record that stand in the strip. */
+static inline uint64_t call_store__stores__store_next(struct core_slice_mut_u8 log, struct core_slice_mut_u8 state, struct core_slice_u8 block,
+        struct core_slice_mut_u8 batch, uint64_t w, uint64_t home)
+{
+    struct model__State t7;
+    struct model__Writer t8;
+    uint64_t t20, t21;
+
+    t20 = core_load_8(state.ptr);
+    t21 = core_load_8(state.ptr + 8u);
+    t7 = (struct model__State){.groups = t20, .homes = t21, .start = core_load_8(state.ptr + 16u), .next = core_load_8(state.ptr + 24u),
+            .filled = core_load_8(state.ptr + 32u), .settled = core_load_8(state.ptr + 40u), .fenced = core_load_8(state.ptr + 48u),
+            .durable = core_load_8(state.ptr + 56u), .last = core_load_8(state.ptr + 64u), .round = core_load_8(state.ptr + 88u),
+            .cursor = core_load_8(state.ptr + 96u)};
+    t8 = base_state__writers__writer((struct core_slice_u8){state.ptr, state.len}, w);
+    return call_store__stores__store_other(log, state, block, batch, t7, t8, w, home);
+}
+
+/* Holds a block for a home in a writer's open transaction; a block held for another home is logged first. */
+static inline struct core_call_ask__Reply call_store__stores__store(struct core_slice_mut_u8 log, struct core_slice_u8 area,
+        struct core_slice_mut_u8 state, struct core_slice_u8 block, struct core_slice_mut_u8 batch, uint64_t writer, uint64_t home)
+{
+    uint64_t t8, t9, t11;
+    struct model__Writer t10;
+
+    t8 = call_store__stores__store_answer((struct core_slice_u8){log.ptr, log.len}, area, (struct core_slice_u8){state.ptr, state.len},
+            block, (struct core_slice_u8){batch.ptr, batch.len}, writer, home);
+    if (t8 != 0u) {
+        return (struct core_call_ask__Reply){.code = t8, .figure = 0u, .size = 0u};
+    }
+    t9 = writer;
+    t10 = base_state__writers__writer((struct core_slice_u8){state.ptr, state.len}, t9);
+    if (!(2u <= t10.mode)) {
+        call_store__stores__store_first(state, block, t10, t9, home);
+        return (struct core_call_ask__Reply){.code = 0u, .figure = 0u, .size = 0u};
+    }
+    if (t10.home == home) {
+        base_state__writers__set_held(state, t9, block);
+        return (struct core_call_ask__Reply){.code = 0u, .figure = 0u, .size = 0u};
+    }
+    t11 = call_store__stores__store_next(log, state, block, batch, t9, home);
+    return (struct core_call_ask__Reply){.code = 0u, .figure = 0u, .size = t11};
+}
+
+/* Holds a block for a home in a writer's open transaction; a block held for another home is logged first. */
+static inline struct core_call_ask__Reply kagutin__kagutin_store(struct core_slice_mut_u8 log, struct core_slice_u8 area,
+        struct core_slice_mut_u8 state, struct core_slice_u8 block, struct core_slice_mut_u8 batch, uint64_t writer, uint64_t home)
+{
+    return call_store__stores__store(log, area, state, block, batch, writer, home);
+}
+
+/* Questions 8 and 10 of a call that logs `n` entries of an idle writer: 0 if the log has room for them, and the batch for the
+   group that they may fill. */
+static inline uint64_t call_many__questions__log_all_answer(struct core_slice_u8 state, struct model__State st, uint64_t n,
+        uint64_t batch)
+{
+    bool t5;
+
+    t5 = base_state__promises__may_promise(state, st, n);
+    if (!t5) {
+        return 8u;
+    }
+    if ((st.filled + n) < 7u) {
+        return 0u;
+    }
+    if (batch < 516u) {
+        return 9u;
+    }
+    return 0u;
+}
+
+/* The answer of a transact: 0, or the number of the question that refuses it. */
+static inline uint64_t call_many__questions__transact_answer(struct core_slice_u8 log, struct core_slice_u8 area, struct core_slice_u8 state,
+        struct core_slice_u8 newest, struct core_slice_u8 blocks, struct core_slice_u8 batch, uint64_t writer, uint64_t home)
+{
+    uint64_t t9, t10, t20, t21;
+    bool t11;
+    struct model__Writer t16;
+
+    t9 = call_many_fetch__questions__homes_answer(log, area, state, newest, blocks, writer, home);
+    if (t9 != 0u) {
+        return t9;
+    }
+    t10 = (uint64_t)blocks.len / 64u;
+    t11 = call_many_fetch__allowed__may_store_all(log, area, state, newest, writer, home, t10);
+    if (!t11) {
+        return 19u;
+    }
+    t16 = base_state__writers__writer(state, writer);
+    if (1u <= t16.mode) {
+        return 6u;
+    }
+    t20 = core_load_8(state.ptr);
+    t21 = core_load_8(state.ptr + 8u);
+    return call_many__questions__log_all_answer(state, (struct model__State){.groups = t20, .homes = t21,
+            .start = core_load_8(state.ptr + 16u), .next = core_load_8(state.ptr + 24u), .filled = core_load_8(state.ptr + 32u),
+            .settled = core_load_8(state.ptr + 40u), .fenced = core_load_8(state.ptr + 48u), .durable = core_load_8(state.ptr + 56u),
+            .last = core_load_8(state.ptr + 64u), .round = core_load_8(state.ptr + 88u), .cursor = core_load_8(state.ptr + 96u)}, t10,
+            (uint64_t)batch.len);
+}
+
+/* Begins a transaction of the writer `w`, which holds the first of the lent blocks. */
+static inline void call_many__steps__hold_first(struct core_slice_mut_u8 state, struct core_slice_u8 blocks, uint64_t w, uint64_t home)
+{
+    struct model__Writer t5;
+
+    base_writers__begin(state, w);
+    t5 = base_state__writers__writer((struct core_slice_u8){state.ptr, state.len}, w);
+    call_store__stores__store_first(state, (struct core_slice_u8){blocks.ptr, (size_t)((uint64_t)64u - 0u)}, t5, w, home);
+}
+
+/* Stores the lent blocks but the first, which is held, by rising home. Returns how many bytes of the batch are written. */
+static inline uint64_t call_many__steps__store_rest(struct core_slice_mut_u8 log, struct core_slice_mut_u8 state, struct core_slice_u8 blocks,
+        struct core_slice_mut_u8 batch, uint64_t w, uint64_t home)
+{
+    uint64_t t7, t8, t9, t10, t13;
+
+    t7 = (uint64_t)blocks.len / 64u;
+    t8 = 0u;
+    t9 = 1u;
+    while (t9 < t7) {
+        t10 = 64u * t9;
+        t13 = call_store__stores__store_next(log, state, (struct core_slice_u8){blocks.ptr + (size_t)t10, (size_t)((t10 + 64u) - t10)},
+                batch, w, home + t9);
+        t8 = t8 + t13;
+        t9 = t9 + 1u;
+    }
+    return t8;
+}
+
+/* Begins a transaction of the writer `w` and stores the lent blocks in it by rising home. Returns how many bytes of the batch are
+   written. */
+static inline uint64_t call_many__steps__store_all(struct core_slice_mut_u8 log, struct core_slice_mut_u8 state, struct core_slice_u8 blocks,
+        struct core_slice_mut_u8 batch, uint64_t w, uint64_t home)
+{
+    call_many__steps__hold_first(state, blocks, w, home);
+    return call_many__steps__store_rest(log, state, blocks, batch, w, home);
+}
+
+/* Commits one to seven blocks for the homes from `home` on, in one transaction of a writer that has none open and may store to
+   them all. The figure is the ticket. */
+static inline struct core_call_ask__Reply call_many__transacts__transact(struct core_slice_mut_u8 log, struct core_slice_u8 area,
+        struct core_slice_mut_u8 state, struct core_slice_mut_u8 newest, struct core_slice_u8 blocks, struct core_slice_mut_u8 batch, uint64_t writer,
+        uint64_t home)
+{
+    uint64_t t9, t10, t11, t14, t43, t44;
+    struct model__State t12;
+
+    t9 = call_many__questions__transact_answer((struct core_slice_u8){log.ptr, log.len}, area, (struct core_slice_u8){state.ptr, state.len},
+            (struct core_slice_u8){newest.ptr, newest.len}, blocks, (struct core_slice_u8){batch.ptr, batch.len}, writer, home);
+    if (t9 != 0u) {
+        return (struct core_call_ask__Reply){.code = t9, .figure = 0u, .size = 0u};
+    }
+    t10 = writer;
+    t11 = call_many__steps__store_all(log, state, blocks, batch, t10, home);
+    t43 = core_load_8(state.ptr);
+    t44 = core_load_8(state.ptr + 8u);
+    t12 = (struct model__State){.groups = t43, .homes = t44, .start = core_load_8(state.ptr + 16u), .next = core_load_8(state.ptr + 24u),
+            .filled = core_load_8(state.ptr + 32u), .settled = core_load_8(state.ptr + 40u), .fenced = core_load_8(state.ptr + 48u),
+            .durable = core_load_8(state.ptr + 56u), .last = core_load_8(state.ptr + 64u), .round = core_load_8(state.ptr + 88u),
+            .cursor = core_load_8(state.ptr + 96u)};
+    t14 = call_commit__commit_next(log, area, state, newest, batch, t10);
+    return (struct core_call_ask__Reply){.code = 0u, .figure = ((7u * t12.next) + t12.filled) + 1u, .size = t11 + t14};
+}
+
+/* Begins a transaction of an idle writer, stores one to seven blocks for the homes from `home` on and commits them. The figure is
+   the ticket. */
+static inline struct core_call_ask__Reply core_kagutin__kagutin_transact(struct core_slice_mut_u8 log, struct core_slice_u8 area,
+        struct core_slice_mut_u8 state, struct core_slice_mut_u8 newest, struct core_slice_u8 blocks, struct core_slice_mut_u8 batch, uint64_t writer,
+        uint64_t home)
+{
+    return call_many__transacts__transact(log, area, state, newest, blocks, batch, writer, home);
+}
+
+/* A limit lowered to the group in which a writer's open transaction begins, if it has logged entries. */
+static inline uint64_t log_limits__writers__writer_limit(struct core_slice_u8 state, uint64_t w, uint64_t limit)
+{
+    uint64_t t5;
+
+    if ((uint64_t)state.ptr[(size_t)(104u + w)] < 3u) {
+        return limit;
+    }
+    t5 = core_load_8(state.ptr + (size_t)((128u + (24u * w)) + 8u)) / 7u;
+    if (t5 < limit) {
+        return t5;
+    }
+    return limit;
+}
+
+/* The highest start up to `limit` with no entry of an open transaction before it. */
+static inline uint64_t log_limits__writers__open_limit(struct core_slice_u8 state, uint64_t limit)
+{
+    uint64_t t3, t4;
+
+    t3 = limit;
+    t4 = 0u;
+    while (t4 < 8u) {
+        t3 = log_limits__writers__writer_limit(state, t4, t3);
+        t4 = t4 + 1u;
+    }
+    return t3;
+}
+
+/* The same with counters of its own, for a log of up to 64 groups. */
+static APART struct log_scan__commits__Found log_scan__commits__walk_small(struct core_slice_u8 log, uint64_t groups, uint64_t homes,
+        uint64_t start, uint64_t n)
+{
+    struct array_u16_448 t6;
+
+    memset(&t6, 0, sizeof t6);
+    return log_scan__commits__walk_with(log, (struct slice_mut_u16){t6.at, 448u}, groups, homes, start, n);
+}
+
+/* The same for a log of up to 128 groups, 256, 512 and 1,024: at most half of the counters are made empty for nothing. */
+static APART struct log_scan__commits__Found log_scan__commits__walk_to_128(struct core_slice_u8 log, uint64_t groups, uint64_t homes,
+        uint64_t start, uint64_t n)
+{
+    struct array_u16_896 t6;
+
+    memset(&t6, 0, sizeof t6);
+    return log_scan__commits__walk_with(log, (struct slice_mut_u16){t6.at, 896u}, groups, homes, start, n);
+}
+
+static APART struct log_scan__commits__Found log_scan__commits__walk_to_256(struct core_slice_u8 log, uint64_t groups, uint64_t homes,
+        uint64_t start, uint64_t n)
+{
+    struct array_u16_1792 t6;
+
+    memset(&t6, 0, sizeof t6);
+    return log_scan__commits__walk_with(log, (struct slice_mut_u16){t6.at, 1792u}, groups, homes, start, n);
+}
+
+static APART struct log_scan__commits__Found log_scan__commits__walk_to_512(struct core_slice_u8 log, uint64_t groups, uint64_t homes,
+        uint64_t start, uint64_t n)
+{
+    struct array_u16_3584 t6;
+
+    memset(&t6, 0, sizeof t6);
+    return log_scan__commits__walk_with(log, (struct slice_mut_u16){t6.at, 3584u}, groups, homes, start, n);
+}
+
+static APART struct log_scan__commits__Found log_scan__commits__walk_to_1024(struct core_slice_u8 log, uint64_t groups, uint64_t homes,
+        uint64_t start, uint64_t n)
+{
+    struct array_u16_7168 t6;
+
+    memset(&t6, 0, sizeof t6);
+    return log_scan__commits__walk_with(log, (struct slice_mut_u16){t6.at, 7168u}, groups, homes, start, n);
+}
+
+/* The same for any log. This and `walk_small` serve two calls each, and so stay functions of their own: a small log never takes
+   the counters of a large one. */
+static inline struct log_scan__commits__Found log_scan__commits__walk_large(struct core_slice_u8 log, uint64_t groups, uint64_t homes,
+        uint64_t start, uint64_t n)
+{
+    if (groups <= 128u) {
+        return log_scan__commits__walk_to_128(log, groups, homes, start, n);
+    }
+    if (groups <= 256u) {
+        return log_scan__commits__walk_to_256(log, groups, homes, start, n);
+    }
+    if (groups <= 512u) {
+        return log_scan__commits__walk_to_512(log, groups, homes, start, n);
+    }
+    return log_scan__commits__walk_to_1024(log, groups, homes, start, n);
+}
+
+/* Where the committed transactions end among the `n` positions of the log from its start on, or 0 for none. */
+static inline uint64_t call_trim__start__committed_end(struct core_slice_u8 log, uint64_t groups, uint64_t homes, uint64_t start,
+        uint64_t n)
+{
+    struct log_scan__commits__Found t6, t7;
+
+    if (groups <= 64u) {
+        t6 = log_scan__commits__walk_small(log, groups, homes, start, n);
+        return t6.end;
+    }
+    t7 = log_scan__commits__walk_large(log, groups, homes, start, n);
+    return t7.end;
+}
+
+/* Those of the group before. */
+static inline struct log_scan__slots__RingSlot log_scan__slots__previous_slot(struct log_scan__slots__RingSlot at,
+        uint64_t groups)
+{
+    uint64_t t3, t4;
+
+    t3 = at.slot;
+    t4 = at.turn;
+    if (t3 == 0u) {
+        return (struct log_scan__slots__RingSlot){.slot = groups - 1u, .turn = 1u - t4};
+    }
+    return (struct log_scan__slots__RingSlot){.slot = t3 - 1u, .turn = t4};
+}
+
+/* Whether the word of a tag, if it closes a transaction at a position, closes one that begins in group `limit` or after. */
+static inline bool log_limits__spans__begins_after(uint64_t word, uint64_t position, uint64_t limit)
+{
+    uint64_t t4;
+
+    t4 = (word >> 14u) & 8191u;
+    if (position < t4) {
+        return false;
+    }
+    if (((position - t4) / 7u) < limit) {
+        return false;
+    }
+    return true;
+}
+
+/* A limit lowered to the group in which the transaction begins that the word of a tag closes, if it closes one. */
+static inline uint64_t log_limits__spans__word_limit(uint64_t word, uint64_t position, uint64_t base, uint64_t homes,
+        uint64_t limit)
+{
+    uint64_t t7, t9, t11;
+    struct model__Tag t8;
+
+    t8 = base_codec__tags__read_tag(word, position, base, homes);
+    if (t8.tag == 0u) {
+        t9 = limit;
+    } else if (t8.tag == 1u) {
+        t9 = limit;
+    } else {
+        t7 = t8.u64_1 / 7u;
+        if (t7 < limit) {
+            t11 = t7;
+        } else {
+            t11 = limit;
+        }
+        t9 = t11;
+    }
+    return t9;
+}
+
+/* The same for tag `k` of a group with turn `turn`. A tag that closes nothing, or a transaction that begins at the limit or after
+   it, is passed whatever its data block is. */
+static inline uint64_t log_limits__spans__tag_limit(struct core_slice_u8 group, uint64_t turn, uint64_t k, uint64_t position,
+        uint64_t base, uint64_t homes, uint64_t limit)
+{
+    uint64_t t8, t11;
+    bool t13;
+
+    t8 = core_load_8(group.ptr + (size_t)(8u + (8u * k)));
+    if ((t8 & 2u) == 0u) {
+        return limit;
+    }
+    t13 = log_limits__spans__begins_after(t8, position, limit);
+    if (t13) {
+        return limit;
+    }
+    t11 = log_scan__groups__word_there(group, turn, k);
+    return log_limits__spans__word_limit(t11, position, base, homes, limit);
+}
+
+/* A limit lowered by the first `m` tags of a group, which says nothing where it is not the valid group with number `n` and turn
+   `turn`. */
+static inline uint64_t log_limits__spans__group_limit(struct core_slice_u8 group, uint64_t groups, uint64_t homes, uint64_t start,
+        uint64_t n, uint64_t turn, uint64_t m, uint64_t limit)
+{
+    uint64_t t9, t10, t11, t12;
+    bool t13;
+
+    t13 = log_scan__groups__group_valid(group, groups, start, n);
+    if (!t13) {
+        return limit;
+    }
+    t9 = 7u * start;
+    t10 = limit;
+    t11 = 7u * n;
+    t12 = 0u;
+    while (t12 < m) {
+        t10 = log_limits__spans__tag_limit(group, turn, t12, t11, t9, homes, t10);
+        t11 = t11 + 1u;
+        t12 = t12 + 1u;
+    }
+    return t10;
+}
+
+/* The highest start up to `limit` that no transaction of a closing entry below `end` lies across. */
+static inline uint64_t log_limits__spans__closed_limit(struct core_slice_u8 log, uint64_t groups, uint64_t homes, uint64_t start,
+        uint64_t end, uint64_t limit)
+{
+    uint64_t t7, t8, t10, t12;
+    struct log_scan__slots__RingSlot t9;
+
+    t7 = limit;
+    t8 = (end + 6u) / 7u;
+    t9 = log_scan__slots__first_slot(t8, groups);
+    while (t7 < t8) {
+        t8 = t8 - 1u;
+        t9 = log_scan__slots__previous_slot(t9, groups);
+        t10 = 64u + (512u * t9.slot);
+        t12 = log_scan__commits__in_group(end - (7u * t8));
+        t7 = log_limits__spans__group_limit((struct core_slice_u8){log.ptr + (size_t)t10, (size_t)((t10 + 512u) - t10)}, groups, homes,
+                start, t8, t9.turn, t12, t7);
+    }
+    return t7;
+}
+
+/* The highest start up to the settled position that no open or committed transaction lies across. The log is not looked at where
+   open transactions leave no start but its own, or where the highest that they leave lies past all entries. */
+static inline uint64_t call_trim__start__new_start(struct core_slice_u8 log, struct core_slice_u8 area, struct core_slice_u8 state,
+        struct model__State st)
+{
+    uint64_t t5, t6, t8;
+    (void)area;
+
+    t5 = log_limits__writers__open_limit(state, st.settled / 7u);
+    if (t5 == st.start) {
+        return t5;
+    }
+    t6 = (7u * st.next) + st.filled;
+    if (t6 <= (7u * t5)) {
+        return t5;
+    }
+    t8 = call_trim__start__committed_end(log, st.groups, st.homes, st.start, t6 - (7u * st.start));
+    return log_limits__spans__closed_limit(log, st.groups, st.homes, st.start, t8, t5);
+}
+
+/* Writes the new header and a fence into the batch. */
+static inline void call_trim__moves__write_header(struct core_slice_mut_u8 batch, uint64_t groups, uint64_t homes, uint64_t start)
+{
+    uint64_t t5;
+
+    t5 = base_batch__records__header_write(batch, 0u, start, groups, homes);
+    (void)base_batch__records__fence(batch, t5);
+}
+
+/* The last closing entry that is left in a log from a start on, 0 for none. */
+static inline uint64_t call_trim__moves__kept_last(uint64_t last, uint64_t start)
+{
+    uint64_t t5;
+
+    if (last <= (7u * start)) {
+        t5 = 0u;
+    } else {
+        t5 = last;
+    }
+    return t5;
+}
+
+/* Puts the new start, the fenced position and the last closing entry into the strip. */
+static inline void call_trim__moves__move_strip(struct core_slice_mut_u8 state, struct model__State st, uint64_t start)
+{
+    uint64_t t4;
+
+    core_store_8(state.ptr + 16u, start);
+    core_store_8(state.ptr + 48u, 7u * st.next);
+    t4 = call_trim__moves__kept_last(st.last, start);
+    core_store_8(state.ptr + 64u, t4);
+}
+
+/* Keeps no position any more for a home where it lies before a bound. */
+static inline void log_newest__positions__forget_one(struct core_slice_mut_u8 newest, uint64_t bound, uint64_t home)
+{
+    if (bound <= core_load_8(newest.ptr + (size_t)(8u * home))) {
+        return;
+    }
+    core_store_8(newest.ptr + (size_t)(8u * home), UINT64_C(0xffffffffffffffff));
+}
+
+/* The same for the first `homes` homes. */
+static inline void log_newest__positions__forget(struct core_slice_mut_u8 newest, uint64_t bound, uint64_t homes)
+{
+    uint64_t t4;
+
+    t4 = 0u;
+    while (t4 < homes) {
+        log_newest__positions__forget_one(newest, bound, t4);
+        t4 = t4 + 1u;
+    }
+}
+
+/* Moves the start: the batch, the header in the log copy, the strip, and the newest positions, with those of the list of rights
+   carried over. */
+static inline void call_trim__moves__move_start(struct core_slice_mut_u8 log, struct core_slice_mut_u8 state, struct core_slice_mut_u8 newest,
+        struct core_slice_mut_u8 batch, struct model__State st, uint64_t start)
+{
+    call_trim__moves__write_header(batch, st.groups, st.homes, start);
+    base_areas__header__put_header(log, 0u, start, st.groups, st.homes);
+    call_trim__moves__move_strip(state, st, start);
+    log_newest__positions__forget(newest, 7u * start, st.homes);
+    base_state__listed__carry_listed(state, (struct core_slice_u8){newest.ptr, newest.len}, st.homes);
+}
+
+/* Moves the log's start up as far as no open or committed transaction lies across it, and writes the new header and a fence if it
+   moves. Kept positions before the new start become none. */
+static inline struct core_call_ask__Reply call_trim__trim(struct core_slice_mut_u8 log, struct core_slice_u8 area, struct core_slice_mut_u8 state,
+        struct core_slice_mut_u8 newest, struct core_slice_mut_u8 batch)
+{
+    uint64_t t6, t8, t34, t35;
+    struct model__State t7;
+
+    t6 = call_ask__newest_answer((struct core_slice_u8){log.ptr, log.len}, area, (struct core_slice_u8){state.ptr, state.len},
+            (struct core_slice_u8){newest.ptr, newest.len});
+    if (t6 != 0u) {
+        return (struct core_call_ask__Reply){.code = t6, .figure = 0u, .size = 0u};
+    }
+    t34 = core_load_8(state.ptr);
+    t35 = core_load_8(state.ptr + 8u);
+    t7 = (struct model__State){.groups = t34, .homes = t35, .start = core_load_8(state.ptr + 16u), .next = core_load_8(state.ptr + 24u),
+            .filled = core_load_8(state.ptr + 32u), .settled = core_load_8(state.ptr + 40u), .fenced = core_load_8(state.ptr + 48u),
+            .durable = core_load_8(state.ptr + 56u), .last = core_load_8(state.ptr + 64u), .round = core_load_8(state.ptr + 88u),
+            .cursor = core_load_8(state.ptr + 96u)};
+    t8 = call_trim__start__new_start((struct core_slice_u8){log.ptr, log.len}, area, (struct core_slice_u8){state.ptr, state.len}, t7);
+    if (UINT64_C(0x800000000000) < t8) {
+        return (struct core_call_ask__Reply){.code = 10u, .figure = 0u, .size = 0u};
+    }
+    if (t8 == t7.start) {
+        return (struct core_call_ask__Reply){.code = 0u, .figure = 0u, .size = 0u};
+    }
+    if ((uint64_t)batch.len < 68u) {
+        return (struct core_call_ask__Reply){.code = 9u, .figure = 0u, .size = 0u};
+    }
+    call_trim__moves__move_start(log, state, newest, batch, t7, t8);
+    return (struct core_call_ask__Reply){.code = 0u, .figure = 0u, .size = 68u};
+}
+
+/* Moves the log's start up as far as no transaction lies across it. */
+static inline struct core_call_ask__Reply kagutin__kagutin_trim(struct core_slice_mut_u8 log, struct core_slice_u8 area,
+        struct core_slice_mut_u8 state, struct core_slice_mut_u8 newest, struct core_slice_mut_u8 batch)
+{
+    return call_trim__trim(log, area, state, newest, batch);
+}
+
+/* Where the committed transactions end among the `n` positions of the log from its start on, or 0 for none. */
+static inline uint64_t call_usage__entries__committed_end(struct core_slice_u8 log, uint64_t groups, uint64_t homes, uint64_t start,
+        uint64_t n)
+{
+    struct log_scan__commits__Found t6, t7;
+
+    if (groups <= 64u) {
+        t6 = log_scan__commits__walk_small(log, groups, homes, start, n);
+        return t6.end;
+    }
+    t7 = log_scan__commits__walk_large(log, groups, homes, start, n);
+    return t7.end;
+}
+
+/* A sum with the number of entries that the word of a tag counts, if it closes a transaction. */
+static inline uint64_t call_usage__entries__word_entries(uint64_t word, uint64_t position, uint64_t base, uint64_t homes,
+        uint64_t sum)
+{
+    struct model__Tag t7;
+    uint64_t t8;
+
+    t7 = base_codec__tags__read_tag(word, position, base, homes);
+    if (t7.tag == 0u) {
+        t8 = sum;
+    } else if (t7.tag == 1u) {
+        t8 = sum;
+    } else {
+        t8 = sum + t7.u64_3;
+    }
+    return t8;
+}
+
+/* A sum with those of the first `m` tags of a group, which says nothing where it is not the valid group with number `n` and turn
+   `turn`. */
+static inline uint64_t call_usage__entries__group_entries(struct core_slice_u8 group, uint64_t groups, uint64_t homes, uint64_t start,
+        uint64_t n, uint64_t turn, uint64_t m, uint64_t sum)
+{
+    struct array_u64_7 t9, t16;
+    uint64_t t10, t11, t12, t13;
+    bool t14;
+
+    t14 = log_scan__groups__group_valid(group, groups, start, n);
+    if (!t14) {
+        return sum;
+    }
+    t16 = log_scan__groups__tag_words(group, turn);
+    t9 = t16;
+    t10 = 7u * start;
+    t11 = sum;
+    t12 = 7u * n;
+    t13 = 0u;
+    while (t13 < m) {
+        t11 = call_usage__entries__word_entries(t9.at[(size_t)t13], t12, t10, homes, t11);
+        t12 = t12 + 1u;
+        t13 = t13 + 1u;
+    }
+    return t11;
+}
+
+/* The entries that all closing entries below `end` count. */
+static inline uint64_t call_usage__entries__closed_entries(struct core_slice_u8 log, uint64_t groups, uint64_t homes, uint64_t start,
+        uint64_t end)
+{
+    uint64_t t6, t7, t8, t9, t11, t13;
+    struct log_scan__slots__RingSlot t10;
+
+    t6 = 7u * start;
+    if (end <= t6) {
+        return 0u;
+    }
+    t7 = 0u;
+    t8 = end - t6;
+    t9 = start;
+    t10 = log_scan__slots__first_slot(start, groups);
+    while (0u < t8) {
+        t11 = 64u + (512u * t10.slot);
+        t13 = log_scan__commits__in_group(t8);
+        t7 = call_usage__entries__group_entries((struct core_slice_u8){log.ptr + (size_t)t11, (size_t)((t11 + 512u) - t11)}, groups,
+                homes, start, t9, t10.turn, t13, t7);
+        t10 = log_scan__slots__next_slot(t10, groups);
+        t9 = t9 + 1u;
+        t8 = t8 - t13;
+    }
+    return t7;
+}
+
+/* The entries of the transactions that are committed among the `n` positions of the log from its start on. */
+static inline uint64_t call_usage__entries__committed_entries(struct core_slice_u8 log, uint64_t groups, uint64_t homes,
+        uint64_t start, uint64_t n)
+{
+    uint64_t t6;
+
+    t6 = call_usage__entries__committed_end(log, groups, homes, start, n);
+    return call_usage__entries__closed_entries(log, groups, homes, start, t6);
+}
+
+/* How many entries writer `w` has logged in an open transaction. */
+static inline uint64_t call_usage__writers__logged(struct core_slice_u8 state, uint64_t w)
+{
+    struct model__Writer t3;
+
+    t3 = base_state__writers__writer(state, w);
+    return base_state__writers__count_for(t3);
+}
+
+/* How many entries the eight writers have logged in open transactions. */
+static inline uint64_t call_usage__writers__open_entries(struct core_slice_u8 state)
+{
+    uint64_t t2, t3, t5;
+
+    t2 = 0u;
+    t3 = 0u;
+    while (t3 < 8u) {
+        t5 = call_usage__writers__logged(state, t3);
+        t2 = t2 + t5;
+        t3 = t3 + 1u;
+    }
+    return t2;
+}
+
+/* The places that are live: entries of committed transactions in the log copy, and those that open transactions have logged. */
+static inline uint64_t call_usage__live_entries(struct core_slice_u8 log, struct core_slice_u8 area, struct core_slice_u8 state,
+        struct model__State st)
+{
+    uint64_t t6, t7;
+    (void)area;
+
+    t6 = call_usage__entries__committed_entries(log, st.groups, st.homes, st.start, ((7u * st.next)
+            + st.filled) - (7u * st.start));
+    t7 = call_usage__writers__open_entries(state);
+    return t6 + t7;
+}
+
+/* What is left of some places, none if there are fewer. */
+static inline uint64_t call_usage__rest(uint64_t places, uint64_t used)
+{
+    if (places < used) {
+        return 0u;
+    }
+    return places - used;
+}
+
+/* The holder of the writers up to `w`, where `h` is that of those before it. */
+static inline struct model__Holder call_usage__writers__lower(struct core_slice_u8 state, uint64_t w, struct model__Holder h)
+{
+    struct model__Writer t4;
+
+    t4 = base_state__writers__writer(state, w);
+    if (!(3u <= t4.mode)) {
+        return h;
+    }
+    if (h.writer != 8u) {
+        if (h.first <= t4.first) {
+            return h;
+        }
+    }
+    return (struct model__Holder){.writer = w, .first = t4.first};
+}
+
+/* The writer whose logged entries begin lowest, with the position where they do; 8 and 0 if no writer has any. */
+static inline struct model__Holder call_usage__writers__holder(struct core_slice_u8 state)
+{
+    struct model__Holder t2;
+    uint64_t t3;
+
+    t2 = (struct model__Holder){.writer = 8u, .first = 0u};
+    t3 = 0u;
+    while (t3 < 8u) {
+        t2 = call_usage__writers__lower(state, t3, t2);
+        t3 = t3 + 1u;
+    }
+    return t2;
+}
+
+/* What a done call tells. */
+static inline struct model__Usage call_usage__told(struct core_slice_u8 log, struct core_slice_u8 area, struct core_slice_u8 state)
+{
+    struct model__State t4;
+    uint64_t t5, t6, t7, t8, t13, t14;
+    struct model__Holder t9;
+
+    t13 = core_load_8(state.ptr);
+    t14 = core_load_8(state.ptr + 8u);
+    t4 = (struct model__State){.groups = t13, .homes = t14, .start = core_load_8(state.ptr + 16u), .next = core_load_8(state.ptr + 24u),
+            .filled = core_load_8(state.ptr + 32u), .settled = core_load_8(state.ptr + 40u), .fenced = core_load_8(state.ptr + 48u),
+            .durable = core_load_8(state.ptr + 56u), .last = core_load_8(state.ptr + 64u), .round = core_load_8(state.ptr + 88u),
+            .cursor = core_load_8(state.ptr + 96u)};
+    t5 = call_usage__live_entries(log, area, state, t4);
+    t6 = (7u * (t4.start + t4.groups)) - ((7u * t4.next) + t4.filled);
+    t7 = call_usage__rest((7u * t4.groups) - t6, t5);
+    t8 = base_state__promises__promised(state);
+    t9 = call_usage__writers__holder(state);
+    return (struct model__Usage){.code = 0u, .live = t5, .dead = t7, .free = t6, .promised = t8, .holder = t9.writer,
+            .first = t9.first};
+}
+
+/* Tells how many places of the log are live, dead, free and promised, and which open transaction lies lowest in it. */
+static inline struct model__Usage call_usage__usage(struct core_slice_u8 log, struct core_slice_u8 area, struct core_slice_u8 state)
+{
+    uint64_t t4;
+
+    t4 = call_ask__state_answer(log, area, state);
+    if (t4 != 0u) {
+        return (struct model__Usage){.code = t4, .live = 0u, .dead = 0u, .free = 0u, .promised = 0u, .holder = 0u, .first = 0u};
+    }
+    return call_usage__told(log, area, state);
+}
+
+/* Tells how many places of the log are live, dead, free and promised, and which open transaction lies lowest in it. */
+static inline struct model__Usage kagutin__kagutin_usage(struct core_slice_u8 log, struct core_slice_u8 area, struct core_slice_u8 state)
+{
+    return call_usage__usage(log, area, state);
+}
+
+struct kagutin_reply kagutin_abort(const uint8_t *log, size_t log_size, const uint8_t *area, size_t area_size, uint8_t *state,
+        size_t state_size, uint64_t writer)
+{
+    ASK_BUFFERS(kagutin_reply, {log, log_size}, {area, area_size}, {state, state_size})
+    struct core_call_ask__Reply r = kagutin__kagutin_abort((struct core_slice_u8){log, log_size}, (struct core_slice_u8){area, area_size},
+            (struct core_slice_mut_u8){state, state_size}, writer);
+
+    return (struct kagutin_reply){.code = r.code, .figure = r.figure, .size = r.size};
+}
+
+struct kagutin_reply kagutin_begin(const uint8_t *log, size_t log_size, const uint8_t *area, size_t area_size, uint8_t *state,
+        size_t state_size, uint64_t writer)
+{
+    ASK_BUFFERS(kagutin_reply, {log, log_size}, {area, area_size}, {state, state_size})
+    struct core_call_ask__Reply r = kagutin__kagutin_begin((struct core_slice_u8){log, log_size}, (struct core_slice_u8){area, area_size},
+            (struct core_slice_mut_u8){state, state_size}, writer);
+
+    return (struct kagutin_reply){.code = r.code, .figure = r.figure, .size = r.size};
+}
+
+struct kagutin_reply kagutin_begin_round(const uint8_t *log, size_t log_size, const uint8_t *area, size_t area_size,
+        uint8_t *state, size_t state_size)
+{
+    ASK_BUFFERS(kagutin_reply, {log, log_size}, {area, area_size}, {state, state_size})
+    struct core_call_ask__Reply r = kagutin__kagutin_begin_round((struct core_slice_u8){log, log_size}, (struct core_slice_u8){area, area_size},
+            (struct core_slice_mut_u8){state, state_size});
+
+    return (struct kagutin_reply){.code = r.code, .figure = r.figure, .size = r.size};
+}
+
+struct kagutin_reply kagutin_commit(uint8_t *log, size_t log_size, const uint8_t *area, size_t area_size, uint8_t *state,
+        size_t state_size, uint8_t *newest, size_t newest_size, uint8_t *batch, size_t batch_size, uint64_t writer)
+{
+    ASK_BUFFERS(kagutin_reply, {log, log_size}, {area, area_size}, {state, state_size}, {newest, newest_size}, {batch,
+            batch_size})
+    struct core_call_ask__Reply r = kagutin__kagutin_commit((struct core_slice_mut_u8){log, log_size}, (struct core_slice_u8){area, area_size},
+            (struct core_slice_mut_u8){state, state_size}, (struct core_slice_mut_u8){newest, newest_size}, (struct core_slice_mut_u8){batch,
+            batch_size}, writer);
+
+    return (struct kagutin_reply){.code = r.code, .figure = r.figure, .size = r.size};
+}
+
+struct kagutin_reply kagutin_confirm(const uint8_t *log, size_t log_size, const uint8_t *area, size_t area_size, uint8_t *state,
+        size_t state_size)
+{
+    ASK_BUFFERS(kagutin_reply, {log, log_size}, {area, area_size}, {state, state_size})
+    struct core_call_ask__Reply r = kagutin__kagutin_confirm((struct core_slice_u8){log, log_size}, (struct core_slice_u8){area, area_size},
+            (struct core_slice_mut_u8){state, state_size});
+
+    return (struct kagutin_reply){.code = r.code, .figure = r.figure, .size = r.size};
+}
+
+struct kagutin_reply kagutin_fetch(const uint8_t *log, size_t log_size, const uint8_t *area, size_t area_size,
+        const uint8_t *state, size_t state_size, const uint8_t *newest, size_t newest_size, uint8_t *blocks, size_t blocks_size,
+        uint64_t writer, uint64_t home)
+{
+    ASK_BUFFERS(kagutin_reply, {log, log_size}, {area, area_size}, {state, state_size}, {newest, newest_size}, {blocks,
+            blocks_size})
+    struct core_call_ask__Reply r = core_kagutin__kagutin_fetch((struct core_slice_u8){log, log_size}, (struct core_slice_u8){area, area_size},
+            (struct core_slice_u8){state, state_size}, (struct core_slice_u8){newest, newest_size}, (struct core_slice_mut_u8){blocks,
+            blocks_size}, writer, home);
+
+    return (struct kagutin_reply){.code = r.code, .figure = r.figure, .size = r.size};
+}
+
+struct kagutin_reply kagutin_flush(const uint8_t *log, size_t log_size, const uint8_t *area, size_t area_size, uint8_t *state,
+        size_t state_size, uint8_t *batch, size_t batch_size)
+{
+    ASK_BUFFERS(kagutin_reply, {log, log_size}, {area, area_size}, {state, state_size}, {batch, batch_size})
+    struct core_call_ask__Reply r = kagutin__kagutin_flush((struct core_slice_u8){log, log_size}, (struct core_slice_u8){area, area_size},
+            (struct core_slice_mut_u8){state, state_size}, (struct core_slice_mut_u8){batch, batch_size});
+
+    return (struct kagutin_reply){.code = r.code, .figure = r.figure, .size = r.size};
+}
+
+struct kagutin_reply kagutin_format(uint8_t *log, size_t log_size, uint8_t *area, size_t area_size, uint8_t *batch,
+        size_t batch_size)
+{
+    ASK_BUFFERS(kagutin_reply, {log, log_size}, {area, area_size}, {batch, batch_size})
+    struct core_call_ask__Reply r = kagutin__kagutin_format((struct core_slice_mut_u8){log, log_size}, (struct core_slice_mut_u8){area,
+            area_size}, (struct core_slice_mut_u8){batch, batch_size});
+
+    return (struct kagutin_reply){.code = r.code, .figure = r.figure, .size = r.size};
+}
+
+struct kagutin_reply kagutin_open(uint8_t *log, size_t log_size, uint8_t *area, size_t area_size, uint8_t *state,
+        size_t state_size, uint8_t *newest, size_t newest_size, uint8_t *batch, size_t batch_size)
+{
+    ASK_BUFFERS(kagutin_reply, {log, log_size}, {area, area_size}, {state, state_size}, {newest, newest_size}, {batch,
+            batch_size})
+    struct core_call_ask__Reply r = kagutin__kagutin_open((struct core_slice_mut_u8){log, log_size}, (struct core_slice_mut_u8){area, area_size},
+            (struct core_slice_mut_u8){state, state_size}, (struct core_slice_mut_u8){newest, newest_size}, (struct core_slice_mut_u8){batch,
+            batch_size});
+
+    return (struct kagutin_reply){.code = r.code, .figure = r.figure, .size = r.size};
+}
+
+struct kagutin_reply kagutin_read(const uint8_t *log, size_t log_size, const uint8_t *area, size_t area_size,
+        const uint8_t *state, size_t state_size, const uint8_t *newest, size_t newest_size, uint8_t *block, size_t block_size,
+        uint64_t writer, uint64_t home)
+{
+    ASK_BUFFERS(kagutin_reply, {log, log_size}, {area, area_size}, {state, state_size}, {newest, newest_size}, {block,
+            block_size})
+    struct core_call_ask__Reply r = kagutin__kagutin_read((struct core_slice_u8){log, log_size}, (struct core_slice_u8){area, area_size},
+            (struct core_slice_u8){state, state_size}, (struct core_slice_u8){newest, newest_size}, (struct core_slice_mut_u8){block,
+            block_size}, writer, home);
+
+    return (struct kagutin_reply){.code = r.code, .figure = r.figure, .size = r.size};
+}
+
+struct kagutin_reply kagutin_reserve(const uint8_t *log, size_t log_size, const uint8_t *area, size_t area_size, uint8_t *state,
+        size_t state_size, uint64_t writer, uint64_t n)
+{
+    ASK_BUFFERS(kagutin_reply, {log, log_size}, {area, area_size}, {state, state_size})
+    struct core_call_ask__Reply r = kagutin__kagutin_reserve((struct core_slice_u8){log, log_size}, (struct core_slice_u8){area, area_size},
+            (struct core_slice_mut_u8){state, state_size}, writer, n);
+
+    return (struct kagutin_reply){.code = r.code, .figure = r.figure, .size = r.size};
+}
+
+struct kagutin_reply kagutin_revise(const uint8_t *log, size_t log_size, const uint8_t *area, size_t area_size,
+        const uint8_t *state, size_t state_size, const uint8_t *newest, size_t newest_size, uint8_t *blocks, size_t blocks_size,
+        uint64_t writer, uint64_t home)
+{
+    ASK_BUFFERS(kagutin_reply, {log, log_size}, {area, area_size}, {state, state_size}, {newest, newest_size}, {blocks,
+            blocks_size})
+    struct core_call_ask__Reply r = core_kagutin__kagutin_revise((struct core_slice_u8){log, log_size}, (struct core_slice_u8){area, area_size},
+            (struct core_slice_u8){state, state_size}, (struct core_slice_u8){newest, newest_size}, (struct core_slice_mut_u8){blocks,
+            blocks_size}, writer, home);
+
+    return (struct kagutin_reply){.code = r.code, .figure = r.figure, .size = r.size};
+}
+
+struct kagutin_reply kagutin_settle(const uint8_t *log, size_t log_size, uint8_t *area, size_t area_size, uint8_t *state,
+        size_t state_size, uint8_t *batch, size_t batch_size)
+{
+    ASK_BUFFERS(kagutin_reply, {log, log_size}, {area, area_size}, {state, state_size}, {batch, batch_size})
+    struct core_call_ask__Reply r = kagutin__kagutin_settle((struct core_slice_u8){log, log_size}, (struct core_slice_mut_u8){area, area_size},
+            (struct core_slice_mut_u8){state, state_size}, (struct core_slice_mut_u8){batch, batch_size});
+
+    return (struct kagutin_reply){.code = r.code, .figure = r.figure, .size = r.size};
+}
+
+struct kagutin_reply kagutin_step_round(const uint8_t *log, size_t log_size, uint8_t *area, size_t area_size, uint8_t *state,
+        size_t state_size, uint8_t *batch, size_t batch_size, uint64_t homes)
+{
+    ASK_BUFFERS(kagutin_reply, {log, log_size}, {area, area_size}, {state, state_size}, {batch, batch_size})
+    struct core_call_ask__Reply r = kagutin__kagutin_step_round((struct core_slice_u8){log, log_size}, (struct core_slice_mut_u8){area,
+            area_size}, (struct core_slice_mut_u8){state, state_size}, (struct core_slice_mut_u8){batch, batch_size}, homes);
+
+    return (struct kagutin_reply){.code = r.code, .figure = r.figure, .size = r.size};
+}
+
+struct kagutin_reply kagutin_store(uint8_t *log, size_t log_size, const uint8_t *area, size_t area_size, uint8_t *state,
+        size_t state_size, const uint8_t *block, size_t block_size, uint8_t *batch, size_t batch_size, uint64_t writer,
+        uint64_t home)
+{
+    ASK_BUFFERS(kagutin_reply, {log, log_size}, {area, area_size}, {state, state_size}, {block, block_size}, {batch, batch_size})
+    struct core_call_ask__Reply r = kagutin__kagutin_store((struct core_slice_mut_u8){log, log_size}, (struct core_slice_u8){area, area_size},
+            (struct core_slice_mut_u8){state, state_size}, (struct core_slice_u8){block, block_size}, (struct core_slice_mut_u8){batch,
+            batch_size}, writer, home);
+
+    return (struct kagutin_reply){.code = r.code, .figure = r.figure, .size = r.size};
+}
+
+struct kagutin_reply kagutin_transact(uint8_t *log, size_t log_size, const uint8_t *area, size_t area_size, uint8_t *state,
+        size_t state_size, uint8_t *newest, size_t newest_size, const uint8_t *blocks, size_t blocks_size, uint8_t *batch,
+        size_t batch_size, uint64_t writer, uint64_t home)
+{
+    ASK_BUFFERS(kagutin_reply, {log, log_size}, {area, area_size}, {state, state_size}, {newest, newest_size}, {blocks,
+            blocks_size}, {batch, batch_size})
+    struct core_call_ask__Reply r = core_kagutin__kagutin_transact((struct core_slice_mut_u8){log, log_size}, (struct core_slice_u8){area, area_size},
+            (struct core_slice_mut_u8){state, state_size}, (struct core_slice_mut_u8){newest, newest_size}, (struct core_slice_u8){blocks,
+            blocks_size}, (struct core_slice_mut_u8){batch, batch_size}, writer, home);
+
+    return (struct kagutin_reply){.code = r.code, .figure = r.figure, .size = r.size};
+}
+
+struct kagutin_reply kagutin_trim(uint8_t *log, size_t log_size, const uint8_t *area, size_t area_size, uint8_t *state,
+        size_t state_size, uint8_t *newest, size_t newest_size, uint8_t *batch, size_t batch_size)
+{
+    ASK_BUFFERS(kagutin_reply, {log, log_size}, {area, area_size}, {state, state_size}, {newest, newest_size}, {batch,
+            batch_size})
+    struct core_call_ask__Reply r = kagutin__kagutin_trim((struct core_slice_mut_u8){log, log_size}, (struct core_slice_u8){area, area_size},
+            (struct core_slice_mut_u8){state, state_size}, (struct core_slice_mut_u8){newest, newest_size}, (struct core_slice_mut_u8){batch,
+            batch_size});
+
+    return (struct kagutin_reply){.code = r.code, .figure = r.figure, .size = r.size};
+}
+
+struct kagutin_places kagutin_usage(const uint8_t *log, size_t log_size, const uint8_t *area, size_t area_size,
+        const uint8_t *state, size_t state_size)
+{
+    ASK_BUFFERS(kagutin_places, {log, log_size}, {area, area_size}, {state, state_size})
+    struct model__Usage r = kagutin__kagutin_usage((struct core_slice_u8){log, log_size}, (struct core_slice_u8){area, area_size},
+            (struct core_slice_u8){state, state_size});
+
+    return (struct kagutin_places){.code = r.code, .live = r.live, .dead = r.dead, .free = r.free, .promised = r.promised,
+            .holder = r.holder, .first = r.first};
+}
+
+#undef APART
+#undef ASK_BUFFERS
+#undef QUICK_C
+#undef UNROLL
+#undef WHOLE_WORDS
+
+/* ==== dist/kagutin_bands.c ==== */
+
+/*
+ * Kagutin as one C99 file, made by port/generate.py from the proved program.
+ * Do not edit: change the sources under crates/ and run `make dist`.
+ *
+ * Needs kagutin_chains.h and kagutin_bands.h, memcpy and memset; no heap, no other library but that of kagutin, no state
+ * of its own. All that is not declared there is static. Where a compiler is
+ * known, some helpers have a quicker form; -DKAGUTIN_PLAIN_C leaves them out.
+ */
+#include <stdbool.h>
+#include <stddef.h>
+#include <stdint.h>
+#include <string.h>
+
+
+#if defined(__GNUC__) && !defined(__clang__) && SIZE_MAX < UINT64_MAX
+/* Counts are 64 bits wide and proved to stay in memory; gcc warns of turns that they never reach. */
+#pragma GCC diagnostic ignored "-Waggressive-loop-optimizations"
+#endif
+
+struct bands_slice_u8 {
+    const uint8_t *ptr;
+    size_t len;
+};
+
+struct bands_slice_mut_u8 {
+    uint8_t *ptr;
+    size_t len;
+};
+
+struct bands_call_ask__Reply {
+    uint64_t code;
+    uint64_t figure;
+    uint64_t size;
+};
+
+struct unit_bands_table__rows__Row {
+    uint64_t from;
+    uint64_t to;
+    uint64_t pumps;
+};
+
+struct unit_bands_table__packed__Lookup {
+    uint64_t code;
+    uint64_t from;
+    uint64_t to;
+    uint64_t pumps;
+};
+
+struct unit_bands__Band {
+    uint64_t code;
+    uint64_t from;
+    uint64_t to;
+    uint64_t pumps;
+};
+
+struct array_u8_192 {
+    uint8_t at[192];
+};
+
+struct unit_bands_table__judging__Verdict {
+    uint64_t code;
+    uint64_t millimetre;
+};
+
+#if defined(__GNUC__) && !defined(KAGUTIN_PLAIN_C)
+#define QUICK_C 1
+#else
+#define QUICK_C 0
+#endif
+
+#if QUICK_C && defined(__BYTE_ORDER__) && defined(__ORDER_LITTLE_ENDIAN__) && __BYTE_ORDER__ == __ORDER_LITTLE_ENDIAN__ \
+    && (defined(__x86_64__) || defined(__i386__) || defined(__ARM_FEATURE_UNALIGNED))
+#define WHOLE_WORDS 1
+#else
+#define WHOLE_WORDS 0
+#endif
+
+/* With -DKAGUTIN_CHECK_BUFFERS every call answers 63 (KAGUTIN_BAD_BUFFERS), with zeros in all other fields, if a lent pointer is null or
+   two lent buffers share a byte. Without it nothing is asked. */
+#ifdef KAGUTIN_CHECK_BUFFERS
+struct bands_lent {
+    const void *ptr;
+    size_t size;
+};
+
+static bool bands_are_apart(const struct bands_lent *bands_lent, size_t count)
+{
+    size_t i, j;
+
+    for (i = 0; i < count; i++) {
+        uintptr_t a = (uintptr_t)bands_lent[i].ptr;
+
+        if (bands_lent[i].ptr == NULL || bands_lent[i].size > UINTPTR_MAX - a)
+            return false;
+        for (j = 0; j < i; j++) {
+            uintptr_t b = (uintptr_t)bands_lent[j].ptr;
+
+            if (bands_lent[i].size != 0 && bands_lent[j].size != 0 && a < b + bands_lent[j].size && b < a + bands_lent[i].size)
+                return false;
+        }
+    }
+    return true;
+}
+
+#define ASK_BUFFERS(result, ...) \
+    do { \
+        const struct bands_lent all_lent[] = {__VA_ARGS__}; \
+        if (!bands_are_apart(all_lent, sizeof all_lent / sizeof all_lent[0])) \
+            return (struct result){.code = 63u}; \
+    } while (0);
+#else
+#define ASK_BUFFERS(result, ...)
+#endif
+
+/* The number that 2 bytes make, lowest byte first. */
+static inline uint64_t bands_load_2(const uint8_t *p)
+{
+#if WHOLE_WORDS
+    uint16_t x;
+
+    memcpy(&x, p, 2);
+    return x;
+#else
+    return p[0] | (uint64_t)p[1] << 8;
+#endif
+}
+
+static inline struct bands_call_ask__Reply bands_kagutin__kagutin_fetch(struct bands_slice_u8 log, struct bands_slice_u8 area, struct bands_slice_u8 state,
+        struct bands_slice_u8 newest, struct bands_slice_mut_u8 blocks, uint64_t writer, uint64_t home)
+{
+    struct kagutin_reply r = kagutin_fetch(log.ptr, log.len, area.ptr, area.len, state.ptr, state.len, newest.ptr, newest.len,
+            blocks.ptr, blocks.len, writer, home);
+
+    return (struct bands_call_ask__Reply){.code = (uint64_t)r.code, .figure = (uint64_t)r.figure, .size = (uint64_t)r.size};
+}
+
+/* Whether a strip holds 1 to 32 whole rows. */
+static inline bool unit_bands_table__rows__sized(struct bands_slice_u8 s)
+{
+    if ((uint64_t)s.len == 0u) {
+        return false;
+    }
+    if (((uint64_t)5u * 32u) < (uint64_t)s.len) {
+        return false;
+    }
+    return ((uint64_t)s.len % 5u) == 0u;
+}
+
+/* Whether the row at byte `at` is one that a table may have. */
+static inline bool unit_bands_table__rows__fit(struct bands_slice_u8 s, uint64_t at)
+{
+    uint64_t t3;
+
+    t3 = bands_load_2(s.ptr + (size_t)(at + 2u));
+    if (t3 < bands_load_2(s.ptr + (size_t)at)) {
+        return false;
+    }
+    if (10000u <= t3) {
+        return false;
+    }
+    return s.ptr[(size_t)(at + 4u)] <= 4u;
+}
+
+/* Whether each row is one that a table may have and begins one past the row before it, from 0 to the greatest depth. */
+static inline bool unit_bands_table__judging__tiled(struct bands_slice_u8 s)
+{
+    uint64_t t2, t3;
+    bool t5;
+
+    t2 = 0u;
+    t3 = 0u;
+    while (t3 < (uint64_t)s.len) {
+        if (bands_load_2(s.ptr + (size_t)t3) != t2) {
+            return false;
+        }
+        t5 = unit_bands_table__rows__fit(s, t3);
+        if (!t5) {
+            return false;
+        }
+        t2 = bands_load_2(s.ptr + (size_t)(t3 + 2u)) + 1u;
+        t3 = t3 + 5u;
+    }
+    return t2 == 10000u;
+}
+
+/* Whether all rows of a strip of whole rows are such. */
+static inline bool unit_bands_table__rows__all_fit(struct bands_slice_u8 s)
+{
+    uint64_t t2;
+    bool t4;
+
+    t2 = 0u;
+    while (t2 < (uint64_t)s.len) {
+        t4 = unit_bands_table__rows__fit(s, t2);
+        if (!t4) {
+            return false;
+        }
+        t2 = t2 + 5u;
+    }
+    return true;
+}
+
+/* Whether a strip holds 1 to 32 whole rows that a table may have. */
+static inline bool unit_bands_table__rows__sound(struct bands_slice_u8 s)
+{
+    bool t2;
+
+    t2 = unit_bands_table__rows__sized(s);
+    if (!t2) {
+        return false;
+    }
+    return unit_bands_table__rows__all_fit(s);
+}
+
+/* The millimetres of all rows together. */
+static inline uint64_t unit_bands_table__judging__width(struct bands_slice_u8 s)
+{
+    uint64_t t2, t3;
+
+    t2 = 0u;
+    t3 = 0u;
+    while (t3 < (uint64_t)s.len) {
+        t2 = t2 + ((bands_load_2(s.ptr + (size_t)(t3 + 2u)) + 1u) - bands_load_2(s.ptr + (size_t)t3));
+        t3 = t3 + 5u;
+    }
+    return t2;
+}
+
+/* The byte at which the first row stands that begins at a millimetre; the strip's length if none does. */
+static inline uint64_t unit_bands_table__rows__starter(struct bands_slice_u8 s, uint64_t mm)
+{
+    uint64_t t3;
+
+    t3 = 0u;
+    while (t3 < (uint64_t)s.len) {
+        if (bands_load_2(s.ptr + (size_t)t3) == mm) {
+            return t3;
+        }
+        t3 = t3 + 5u;
+    }
+    return t3;
+}
+
+/* Whether rows of as many millimetres as there are depths follow one another, in any order, from 0 to the greatest depth. */
+static inline bool unit_bands_table__judging__chained(struct bands_slice_u8 s)
+{
+    uint64_t t2, t3;
+
+    t2 = 0u;
+    while (t2 < 10000u) {
+        t3 = unit_bands_table__rows__starter(s, t2);
+        if ((uint64_t)s.len <= t3) {
+            return false;
+        }
+        t2 = bands_load_2(s.ptr + (size_t)(t3 + 2u)) + 1u;
+    }
+    return true;
+}
+
+/* Whether a strip of rows is accepted, with no refusal told. */
+static inline bool unit_bands_table__judging__accepts(struct bands_slice_u8 rows)
+{
+    bool t2, t4;
+    uint64_t t5;
+
+    t2 = unit_bands_table__rows__sized(rows);
+    if (!t2) {
+        return false;
+    }
+    t4 = unit_bands_table__judging__tiled(rows);
+    if (t4) {
+        return true;
+    }
+    t2 = unit_bands_table__rows__sound(rows);
+    if (!t2) {
+        return false;
+    }
+    t5 = unit_bands_table__judging__width(rows);
+    if (t5 != 10000u) {
+        return false;
+    }
+    return unit_bands_table__judging__chained(rows);
+}
+
+/* The number of rows of the table that the blocks hold; 0 if that is no acceptable one. */
+static inline uint64_t unit_bands_table__packed__judge_packed(struct bands_slice_u8 packed)
+{
+    uint64_t t2;
+    bool t5;
+
+    t2 = (uint64_t)packed.ptr[0u];
+    if (32u < t2) {
+        return 0u;
+    }
+    t5 = unit_bands_table__judging__accepts((struct bands_slice_u8){packed.ptr + 1u, (size_t)((1u + (5u * t2)) - 1u)});
+    if (!t5) {
+        return 0u;
+    }
+    return t2;
+}
+
+/* Whether a millimetre lies in the row at byte `at`. */
+static inline bool unit_bands_table__rows__holds(struct bands_slice_u8 s, uint64_t at, uint64_t mm)
+{
+    if (mm < bands_load_2(s.ptr + (size_t)at)) {
+        return false;
+    }
+    return mm <= bands_load_2(s.ptr + (size_t)(at + 2u));
+}
+
+/* The byte at which the first row begins that a millimetre lies in; the strip's length if it lies in none. */
+static inline uint64_t unit_bands_table__rows__holder(struct bands_slice_u8 s, uint64_t mm)
+{
+    uint64_t t3;
+    bool t6;
+
+    t3 = 0u;
+    while (t3 < (uint64_t)s.len) {
+        t6 = unit_bands_table__rows__holds(s, t3, mm);
+        if (t6) {
+            return t3;
+        }
+        t3 = t3 + 5u;
+    }
+    return t3;
+}
+
+/* The first row that a millimetre lies in; zeros if it lies in none. */
+static inline struct unit_bands_table__rows__Row unit_bands_table__rows__find(struct bands_slice_u8 s, uint64_t mm)
+{
+    uint64_t t3;
+
+    t3 = unit_bands_table__rows__holder(s, mm);
+    if ((uint64_t)s.len <= t3) {
+        return (struct unit_bands_table__rows__Row){.from = 0u, .to = 0u, .pumps = 0u};
+    }
+    return (struct unit_bands_table__rows__Row){.from = bands_load_2(s.ptr + (size_t)t3), .to = bands_load_2(s.ptr + (size_t)(t3 + 2u)),
+            .pumps = (uint64_t)s.ptr[(size_t)(t3 + 4u)]};
+}
+
+/* The row that a millimetre lies in, of the table that the blocks hold; 11 if that is no acceptable one. */
+static inline struct unit_bands_table__packed__Lookup unit_bands_table__packed__look_up(struct bands_slice_u8 packed, uint64_t mm)
+{
+    uint64_t t3;
+    struct unit_bands_table__rows__Row t4;
+
+    t3 = unit_bands_table__packed__judge_packed(packed);
+    if (t3 == 0u) {
+        return (struct unit_bands_table__packed__Lookup){.code = 11u, .from = 0u, .to = 0u, .pumps = 0u};
+    }
+    t4 = unit_bands_table__rows__find((struct bands_slice_u8){packed.ptr + 1u, (size_t)((1u + (5u * t3)) - 1u)}, mm);
+    return (struct unit_bands_table__packed__Lookup){.code = 0u, .from = t4.from, .to = t4.to, .pumps = t4.pumps};
+}
+
+/* The row of the table that a depth in millimetres lies in; 11 above 9,999, or where there is no table. */
+static inline struct unit_bands__Band unit_bands__kagutin_bands_look_up(struct bands_slice_u8 log, struct bands_slice_u8 area,
+        struct bands_slice_u8 state, struct bands_slice_u8 newest, uint64_t writer, uint64_t mm)
+{
+    struct array_u8_192 t7;
+    struct bands_call_ask__Reply t8;
+    struct unit_bands_table__packed__Lookup t9;
+
+    if (10000u <= mm) {
+        return (struct unit_bands__Band){.code = 11u, .from = 0u, .to = 0u, .pumps = 0u};
+    }
+    memset(&t7, 0u, sizeof t7);
+    t8 = bands_kagutin__kagutin_fetch(log, area, state, newest, (struct bands_slice_mut_u8){t7.at, 192u}, writer, 12u);
+    if (t8.code != 0u) {
+        return (struct unit_bands__Band){.code = t8.code, .from = 0u, .to = 0u, .pumps = 0u};
+    }
+    t9 = unit_bands_table__packed__look_up((struct bands_slice_u8){t7.at, 192u}, mm);
+    return (struct unit_bands__Band){.code = t9.code, .from = t9.from, .to = t9.to, .pumps = t9.pumps};
+}
+
+/* Whether each row begins one past the row before it, the first at 0, and the last ends at the greatest depth. */
+static inline bool unit_bands_table__judging__rising(struct bands_slice_u8 s)
+{
+    uint64_t t2, t3;
+
+    t2 = 0u;
+    t3 = 0u;
+    while (t3 < (uint64_t)s.len) {
+        if (bands_load_2(s.ptr + (size_t)t3) != t2) {
+            return false;
+        }
+        t2 = bands_load_2(s.ptr + (size_t)(t3 + 2u)) + 1u;
+        t3 = t3 + 5u;
+    }
+    return t2 == 10000u;
+}
+
+/* The lowest millimetre in no row, from row to row; `DEPTHS` if there is none. */
+static inline uint64_t unit_bands_table__judging__walk(struct bands_slice_u8 s)
+{
+    uint64_t t2, t3;
+
+    t2 = 0u;
+    while (t2 < 10000u) {
+        t3 = unit_bands_table__rows__holder(s, t2);
+        if ((uint64_t)s.len <= t3) {
+            return t2;
+        }
+        t2 = bands_load_2(s.ptr + (size_t)(t3 + 2u)) + 1u;
+    }
+    return 10000u;
+}
+
+/* The lowest millimetre in no row; `DEPTHS` if there is none. */
+static inline uint64_t unit_bands_table__judging__uncovered(struct bands_slice_u8 s)
+{
+    bool t2;
+
+    t2 = unit_bands_table__judging__rising(s);
+    if (t2) {
+        return 10000u;
+    }
+    return unit_bands_table__judging__walk(s);
+}
+
+/* The lowest millimetre in two rows; `DEPTHS` if there is none. */
+static inline uint64_t unit_bands_table__judging__common(uint64_t from, uint64_t to, uint64_t other_from, uint64_t other_to)
+{
+    uint64_t t5, t7;
+
+    if (from < other_from) {
+        t7 = other_from;
+    } else {
+        t7 = from;
+    }
+    t5 = t7;
+    if (to < t5) {
+        return 10000u;
+    }
+    if (other_to < t5) {
+        return 10000u;
+    }
+    return t5;
+}
+
+static inline uint64_t unit_bands_table__judging__lesser(uint64_t a, uint64_t b)
+{
+    uint64_t t4;
+
+    if (a < b) {
+        t4 = a;
+    } else {
+        t4 = b;
+    }
+    return t4;
+}
+
+/* The lowest millimetre in the row at byte `at` and in a row behind it. */
+static inline uint64_t unit_bands_table__judging__shared(struct bands_slice_u8 s, uint64_t at)
+{
+    uint64_t t3, t4, t5, t6, t10;
+
+    t3 = bands_load_2(s.ptr + (size_t)at);
+    t4 = bands_load_2(s.ptr + (size_t)(at + 2u));
+    t5 = 10000u;
+    t6 = at + 5u;
+    while (t6 < (uint64_t)s.len) {
+        t10 = unit_bands_table__judging__common(t3, t4, bands_load_2(s.ptr + (size_t)t6), bands_load_2(s.ptr + (size_t)(t6 + 2u)));
+        t5 = unit_bands_table__judging__lesser(t5, t10);
+        t6 = t6 + 5u;
+    }
+    return t5;
+}
+
+/* The lowest millimetre in two rows or more; `DEPTHS` if there is none. */
+static inline uint64_t unit_bands_table__judging__doubled(struct bands_slice_u8 s)
+{
+    uint64_t t2, t3, t6;
+
+    t2 = 10000u;
+    t3 = 0u;
+    while (t3 < (uint64_t)s.len) {
+        t6 = unit_bands_table__judging__shared(s, t3);
+        t2 = unit_bands_table__judging__lesser(t2, t6);
+        t3 = t3 + 5u;
+    }
+    return t2;
+}
+
+/* What a strip of rows is answered. */
+static inline struct unit_bands_table__judging__Verdict unit_bands_table__judging__judge(struct bands_slice_u8 rows)
+{
+    uint64_t t2, t5;
+    bool t3;
+
+    t3 = unit_bands_table__rows__sound(rows);
+    if (!t3) {
+        return (struct unit_bands_table__judging__Verdict){.code = 11u, .millimetre = 0u};
+    }
+    t2 = unit_bands_table__judging__uncovered(rows);
+    if (t2 < 10000u) {
+        return (struct unit_bands_table__judging__Verdict){.code = 12u, .millimetre = t2};
+    }
+    t5 = unit_bands_table__judging__width(rows);
+    if (t5 == 10000u) {
+        return (struct unit_bands_table__judging__Verdict){.code = 0u, .millimetre = 0u};
+    }
+    t5 = unit_bands_table__judging__doubled(rows);
+    return (struct unit_bands_table__judging__Verdict){.code = 13u, .millimetre = t5};
+}
+
+/* The byte `i` of a strip, zero behind it. */
+static inline uint8_t unit_bands_table__packed__byte(struct bands_slice_u8 rows, uint64_t i)
+{
+    uint8_t t5;
+
+    if (i < (uint64_t)rows.len) {
+        t5 = rows.ptr[(size_t)i];
+    } else {
+        t5 = 0u;
+    }
+    return t5;
+}
+
+/* Packs the rows of an accepted table, over whatever the blocks held. */
+static inline void unit_bands_table__packed__pack(struct bands_slice_u8 rows, struct bands_slice_mut_u8 packed)
+{
+    uint64_t t3;
+    uint8_t t10;
+
+    packed.ptr[0u] = (uint8_t)(((uint64_t)rows.len / 5u) % 256u);
+    t3 = 1u;
+    while (t3 < 192u) {
+        t10 = unit_bands_table__packed__byte(rows, t3 - 1u);
+        packed.ptr[(size_t)t3] = t10;
+        t3 = t3 + 1u;
+    }
+}
+
+static inline struct bands_call_ask__Reply bands_kagutin__kagutin_transact(struct bands_slice_mut_u8 log, struct bands_slice_u8 area,
+        struct bands_slice_mut_u8 state, struct bands_slice_mut_u8 newest, struct bands_slice_u8 blocks, struct bands_slice_mut_u8 batch, uint64_t writer,
+        uint64_t home)
+{
+    struct kagutin_reply r = kagutin_transact(log.ptr, log.len, area.ptr, area.len, state.ptr, state.len, newest.ptr, newest.len,
+            blocks.ptr, blocks.len, batch.ptr, batch.len, writer, home);
+
+    return (struct bands_call_ask__Reply){.code = (uint64_t)r.code, .figure = (uint64_t)r.figure, .size = (uint64_t)r.size};
+}
+
+/* Sets the table; the figure is the ticket of its commit, with 12 and 13 the lowest millimetre in no row or in two. */
+static inline struct bands_call_ask__Reply unit_bands__kagutin_bands_set(struct bands_slice_mut_u8 log, struct bands_slice_u8 area,
+        struct bands_slice_mut_u8 state, struct bands_slice_mut_u8 newest, struct bands_slice_mut_u8 batch, struct bands_slice_u8 rows, uint64_t writer)
+{
+    struct unit_bands_table__judging__Verdict t8;
+    struct array_u8_192 t9;
+
+    t8 = unit_bands_table__judging__judge(rows);
+    if (t8.code != 0u) {
+        return (struct bands_call_ask__Reply){.code = t8.code, .figure = t8.millimetre, .size = 0u};
+    }
+    memset(&t9, 0u, sizeof t9);
+    unit_bands_table__packed__pack(rows, (struct bands_slice_mut_u8){t9.at, 192u});
+    return bands_kagutin__kagutin_transact(log, area, state, newest, (struct bands_slice_u8){t9.at, 192u}, batch, writer, 12u);
+}
+
+struct kagutin_band kagutin_bands_look_up(const uint8_t *log, size_t log_size, const uint8_t *area, size_t area_size,
+        const uint8_t *state, size_t state_size, const uint8_t *newest, size_t newest_size, uint64_t writer, uint64_t mm)
+{
+    ASK_BUFFERS(kagutin_band, {log, log_size}, {area, area_size}, {state, state_size}, {newest, newest_size})
+    struct unit_bands__Band r = unit_bands__kagutin_bands_look_up((struct bands_slice_u8){log, log_size}, (struct bands_slice_u8){area,
+            area_size}, (struct bands_slice_u8){state, state_size}, (struct bands_slice_u8){newest, newest_size}, writer, mm);
+
+    return (struct kagutin_band){.code = r.code, .from = r.from, .to = r.to, .pumps = r.pumps};
+}
+
+struct kagutin_reply kagutin_bands_set(uint8_t *log, size_t log_size, const uint8_t *area, size_t area_size, uint8_t *state,
+        size_t state_size, uint8_t *newest, size_t newest_size, uint8_t *batch, size_t batch_size, const uint8_t *rows,
+        size_t rows_size, uint64_t writer)
+{
+    ASK_BUFFERS(kagutin_reply, {log, log_size}, {area, area_size}, {state, state_size}, {newest, newest_size}, {batch,
+            batch_size}, {rows, rows_size})
+    struct bands_call_ask__Reply r = unit_bands__kagutin_bands_set((struct bands_slice_mut_u8){log, log_size}, (struct bands_slice_u8){area,
+            area_size}, (struct bands_slice_mut_u8){state, state_size}, (struct bands_slice_mut_u8){newest, newest_size},
+            (struct bands_slice_mut_u8){batch, batch_size}, (struct bands_slice_u8){rows, rows_size}, writer);
+
+    return (struct kagutin_reply){.code = r.code, .figure = r.figure, .size = r.size};
+}
+
+#undef ASK_BUFFERS
+#undef QUICK_C
+#undef WHOLE_WORDS
+
+/* ==== dist/kagutin_hours.c ==== */
+
+/*
+ * Kagutin as one C99 file, made by port/generate.py from the proved program.
+ * Do not edit: change the sources under crates/ and run `make dist`.
+ *
+ * Needs kagutin_chains.h and kagutin_hours.h, memcpy and memset; no heap, no other library but that of kagutin, no state
+ * of its own. All that is not declared there is static. Where a compiler is
+ * known, some helpers have a quicker form; -DKAGUTIN_PLAIN_C leaves them out.
+ */
+#include <stdbool.h>
+#include <stddef.h>
+#include <stdint.h>
+#include <string.h>
+
+
+#if defined(__GNUC__) && !defined(__clang__) && SIZE_MAX < UINT64_MAX
+/* Counts are 64 bits wide and proved to stay in memory; gcc warns of turns that they never reach. */
+#pragma GCC diagnostic ignored "-Waggressive-loop-optimizations"
+#endif
+
+struct hours_slice_u8 {
+    const uint8_t *ptr;
+    size_t len;
+};
+
+struct hours_slice_mut_u8 {
+    uint8_t *ptr;
+    size_t len;
+};
+
+struct hours_call_ask__Reply {
+    uint64_t code;
+    uint64_t figure;
+    uint64_t size;
+};
+
+struct unit_hours_book__Pump {
+    uint64_t starts;
+    uint64_t total;
+    uint64_t last;
+    bool running;
+};
+
+struct unit_hours__Hours {
+    uint64_t code;
+    uint64_t starts;
+    uint64_t seconds;
+};
+
+struct hours_array_u8_64 {
+    uint8_t at[64];
+};
+
+struct unit_hours__Services {
+    uint64_t code;
+    uint64_t due;
+    uint64_t left;
+};
+
+struct unit_hours_book__Due {
+    uint64_t services;
+    uint64_t left;
+};
+
+/* With -DKAGUTIN_CHECK_BUFFERS every call answers 63 (KAGUTIN_BAD_BUFFERS), with zeros in all other fields, if a lent pointer is null or
+   two lent buffers share a byte. Without it nothing is asked. */
+#ifdef KAGUTIN_CHECK_BUFFERS
+struct hours_lent {
+    const void *ptr;
+    size_t size;
+};
+
+static bool hours_are_apart(const struct hours_lent *hours_lent, size_t count)
+{
+    size_t i, j;
+
+    for (i = 0; i < count; i++) {
+        uintptr_t a = (uintptr_t)hours_lent[i].ptr;
+
+        if (hours_lent[i].ptr == NULL || hours_lent[i].size > UINTPTR_MAX - a)
+            return false;
+        for (j = 0; j < i; j++) {
+            uintptr_t b = (uintptr_t)hours_lent[j].ptr;
+
+            if (hours_lent[i].size != 0 && hours_lent[j].size != 0 && a < b + hours_lent[j].size && b < a + hours_lent[i].size)
+                return false;
+        }
+    }
+    return true;
+}
+
+#define ASK_BUFFERS(result, ...) \
+    do { \
+        const struct hours_lent all_lent[] = {__VA_ARGS__}; \
+        if (!hours_are_apart(all_lent, sizeof all_lent / sizeof all_lent[0])) \
+            return (struct result){.code = 63u}; \
+    } while (0);
+#else
+#define ASK_BUFFERS(result, ...)
+#endif
+
+static inline struct hours_call_ask__Reply hours_kagutin__kagutin_fetch(struct hours_slice_u8 log, struct hours_slice_u8 area, struct hours_slice_u8 state,
+        struct hours_slice_u8 newest, struct hours_slice_mut_u8 blocks, uint64_t writer, uint64_t home)
+{
+    struct kagutin_reply r = kagutin_fetch(log.ptr, log.len, area.ptr, area.len, state.ptr, state.len, newest.ptr, newest.len,
+            blocks.ptr, blocks.len, writer, home);
+
+    return (struct hours_call_ask__Reply){.code = (uint64_t)r.code, .figure = (uint64_t)r.figure, .size = (uint64_t)r.size};
+}
+
+/* The number that the `k` bytes from index `at` on make, read byte by byte. */
+static inline uint64_t hours_base_codec__numbers__each_byte(struct hours_slice_u8 s, uint64_t at, uint64_t k)
+{
+    uint64_t t4, t5, t6;
+
+    t4 = 0u;
+    t5 = at + k;
+    t6 = 0u;
+    while (t6 < k) {
+        t5 = t5 - 1u;
+        t4 = (t4 * 256u) + (uint64_t)s.ptr[(size_t)t5];
+        t6 = t6 + 1u;
+    }
+    return t4;
+}
+
+/* The number that the `k` bytes from index `at` on make; it fits `k` bytes. The widths in use compile to one load or two. */
+static inline uint64_t base_codec__numbers__number_4(struct hours_slice_u8 s, uint64_t at)
+{
+    return hours_base_codec__numbers__each_byte(s, at, 4u);
+}
+
+/* The number that the `k` bytes from index `at` on make; it fits `k` bytes. The widths in use compile to one load or two. */
+static inline uint64_t hours_base_codec__numbers__number_1(struct hours_slice_u8 s, uint64_t at)
+{
+    return hours_base_codec__numbers__each_byte(s, at, 1u);
+}
+
+/* Reads a pump's block. */
+static inline struct unit_hours_book__Pump unit_hours_book__read(struct hours_slice_u8 block)
+{
+    uint64_t t2, t3, t4, t6;
+
+    t2 = base_codec__numbers__number_4(block, 0u);
+    t3 = base_codec__numbers__number_4(block, 4u);
+    t4 = base_codec__numbers__number_4(block, 8u);
+    t6 = hours_base_codec__numbers__number_1(block, 12u);
+    return (struct unit_hours_book__Pump){.starts = t2, .total = t3, .last = t4, .running = t6 != 0u};
+}
+
+/* Starts of a pump and the seconds of its finished runs. */
+static inline struct unit_hours__Hours unit_hours__kagutin_pump_hours(struct hours_slice_u8 log, struct hours_slice_u8 area,
+        struct hours_slice_u8 state, struct hours_slice_u8 newest, uint64_t writer, uint64_t pump)
+{
+    struct hours_array_u8_64 t7;
+    struct hours_call_ask__Reply t8;
+    struct unit_hours_book__Pump t9;
+
+    if (7u < pump) {
+        return (struct unit_hours__Hours){.code = 14u, .starts = 0u, .seconds = 0u};
+    }
+    memset(&t7, 0u, sizeof t7);
+    t8 = hours_kagutin__kagutin_fetch(log, area, state, newest, (struct hours_slice_mut_u8){t7.at, 64u}, writer, 16u + pump);
+    if (t8.code != 0u) {
+        return (struct unit_hours__Hours){.code = t8.code, .starts = 0u, .seconds = 0u};
+    }
+    t9 = unit_hours_book__read((struct hours_slice_u8){t7.at, 64u});
+    return (struct unit_hours__Hours){.code = 0u, .starts = t9.starts, .seconds = t9.total};
+}
+
+/* Whole services due of a pump, one each `interval` seconds of finished runs, and the seconds left over. */
+static inline struct unit_hours__Services unit_hours__kagutin_pump_services(struct hours_slice_u8 log, struct hours_slice_u8 area,
+        struct hours_slice_u8 state, struct hours_slice_u8 newest, uint64_t writer, uint64_t pump, uint64_t interval)
+{
+    struct unit_hours__Hours t8;
+    struct unit_hours_book__Due t9;
+
+    if (interval == 0u) {
+        return (struct unit_hours__Services){.code = 14u, .due = 0u, .left = 0u};
+    }
+    t8 = unit_hours__kagutin_pump_hours(log, area, state, newest, writer, pump);
+    if (t8.code != 0u) {
+        return (struct unit_hours__Services){.code = t8.code, .due = 0u, .left = 0u};
+    }
+    t9 = (struct unit_hours_book__Due){.services = t8.seconds / interval, .left = t8.seconds % interval};
+    return (struct unit_hours__Services){.code = 0u, .due = t9.services, .left = t9.left};
+}
+
+static inline struct hours_call_ask__Reply hours_kagutin__kagutin_revise(struct hours_slice_u8 log, struct hours_slice_u8 area, struct hours_slice_u8 state,
+        struct hours_slice_u8 newest, struct hours_slice_mut_u8 blocks, uint64_t writer, uint64_t home)
+{
+    struct kagutin_reply r = kagutin_revise(log.ptr, log.len, area.ptr, area.len, state.ptr, state.len, newest.ptr, newest.len,
+            blocks.ptr, blocks.len, writer, home);
+
+    return (struct hours_call_ask__Reply){.code = (uint64_t)r.code, .figure = (uint64_t)r.figure, .size = (uint64_t)r.size};
+}
+
+/* 16 for a second before the last event or a figure past 32 bits, else 0. */
+static inline uint64_t unit_hours_book__late(struct unit_hours_book__Pump p, uint64_t second, uint64_t figure)
+{
+    uint64_t t5;
+
+    if (second < p.last) {
+        return 16u;
+    }
+    if (figure < UINT64_C(0x100000000)) {
+        t5 = 0u;
+    } else {
+        t5 = 16u;
+    }
+    return t5;
+}
+
+/* Writes `n` zeros from index `at` on, and leaves the other bytes as they were. */
+static inline void hours_base_codec__blocks__clear(struct hours_slice_mut_u8 dst, uint64_t at, uint64_t n)
+{
+    uint64_t t4, t5;
+
+    t4 = at;
+    t5 = n;
+    while (0u < t5) {
+        dst.ptr[(size_t)t4] = 0u;
+        t4 = t4 + 1u;
+        t5 = t5 - 1u;
+    }
+}
+
+/* Writes `v` as `k` bytes from index `at` on, byte by byte. */
+static inline void hours_base_codec__numbers__put_each_byte(struct hours_slice_mut_u8 s, uint64_t at, uint64_t k, uint64_t v)
+{
+    uint64_t t5, t6, t7;
+
+    t5 = v;
+    t6 = at;
+    t7 = k;
+    while (0u < t7) {
+        s.ptr[(size_t)t6] = (uint8_t)(t5 % 256u);
+        t5 = t5 / 256u;
+        t6 = t6 + 1u;
+        t7 = t7 - 1u;
+    }
+}
+
+/* Writes `v` as `k` bytes from index `at` on, and leaves the other bytes as they were. The widths in use compile to one store or
+   two. */
+static inline void hours_base_codec__numbers__put_number_4(struct hours_slice_mut_u8 s, uint64_t at, uint64_t v)
+{
+    hours_base_codec__numbers__put_each_byte(s, at, 4u, v);
+}
+
+static inline uint64_t unit_hours_book__flag(bool running)
+{
+    uint64_t t3;
+
+    if (running) {
+        t3 = 1u;
+    } else {
+        t3 = 0u;
+    }
+    return t3;
+}
+
+/* Writes `v` as `k` bytes from index `at` on, and leaves the other bytes as they were. The widths in use compile to one store or
+   two. */
+static inline void hours_base_codec__numbers__put_number_1(struct hours_slice_mut_u8 s, uint64_t at, uint64_t v)
+{
+    hours_base_codec__numbers__put_each_byte(s, at, 1u, v);
+}
+
+/* Makes `block` that of the record `p`. */
+static inline void unit_hours_book__write(struct hours_slice_mut_u8 block, struct unit_hours_book__Pump p)
+{
+    uint64_t t14;
+
+    hours_base_codec__blocks__clear(block, 0u, 64u);
+    hours_base_codec__numbers__put_number_4(block, 0u, p.starts);
+    hours_base_codec__numbers__put_number_4(block, 4u, p.total);
+    hours_base_codec__numbers__put_number_4(block, 8u, p.last);
+    t14 = unit_hours_book__flag(p.running);
+    hours_base_codec__numbers__put_number_1(block, 12u, t14);
+}
+
+/* A start of the pump whose block is lent: 0 for done, 15 or 16; a refusal leaves the block as it was. */
+static inline uint64_t unit_hours_book__start(struct hours_slice_mut_u8 block, uint32_t second)
+{
+    struct unit_hours_book__Pump t3;
+    uint64_t t4;
+
+    t3 = unit_hours_book__read((struct hours_slice_u8){block.ptr, block.len});
+    if (t3.running) {
+        return 15u;
+    }
+    t4 = unit_hours_book__late(t3, (uint64_t)second, t3.starts + 1u);
+    if (t4 != 0u) {
+        return t4;
+    }
+    unit_hours_book__write(block, (struct unit_hours_book__Pump){.starts = t3.starts + 1u, .total = t3.total,
+            .last = (uint64_t)second, .running = true});
+    return 0u;
+}
+
+static inline struct hours_call_ask__Reply hours_kagutin__kagutin_transact(struct hours_slice_mut_u8 log, struct hours_slice_u8 area,
+        struct hours_slice_mut_u8 state, struct hours_slice_mut_u8 newest, struct hours_slice_u8 blocks, struct hours_slice_mut_u8 batch, uint64_t writer,
+        uint64_t home)
+{
+    struct kagutin_reply r = kagutin_transact(log.ptr, log.len, area.ptr, area.len, state.ptr, state.len, newest.ptr, newest.len,
+            blocks.ptr, blocks.len, batch.ptr, batch.len, writer, home);
+
+    return (struct hours_call_ask__Reply){.code = (uint64_t)r.code, .figure = (uint64_t)r.figure, .size = (uint64_t)r.size};
+}
+
+/* Ends an event by its own answer: refused, or the unit's new blocks stored as one transaction. */
+static inline struct hours_call_ask__Reply hours_unit_shared__finish(struct hours_slice_mut_u8 log, struct hours_slice_u8 area, struct hours_slice_mut_u8 state,
+        struct hours_slice_mut_u8 newest, struct hours_slice_u8 blocks, struct hours_slice_mut_u8 batch, uint64_t writer, uint64_t home,
+        uint64_t code)
+{
+    if (code != 0u) {
+        return (struct hours_call_ask__Reply){.code = code, .figure = 0u, .size = 0u};
+    }
+    return hours_kagutin__kagutin_transact(log, area, state, newest, blocks, batch, writer, home);
+}
+
+/* A start of a pump at a second; the figure is the ticket of its commit. */
+static inline struct hours_call_ask__Reply unit_hours__kagutin_pump_start(struct hours_slice_mut_u8 log, struct hours_slice_u8 area,
+        struct hours_slice_mut_u8 state, struct hours_slice_mut_u8 newest, struct hours_slice_mut_u8 batch, uint64_t writer, uint64_t pump,
+        uint32_t second)
+{
+    struct hours_array_u8_64 t9;
+    uint64_t t10, t12;
+    struct hours_call_ask__Reply t11;
+
+    if (7u < pump) {
+        return (struct hours_call_ask__Reply){.code = 14u, .figure = 0u, .size = 0u};
+    }
+    memset(&t9, 0u, sizeof t9);
+    t10 = 16u + pump;
+    t11 = hours_kagutin__kagutin_revise((struct hours_slice_u8){log.ptr, log.len}, area, (struct hours_slice_u8){state.ptr, state.len},
+            (struct hours_slice_u8){newest.ptr, newest.len}, (struct hours_slice_mut_u8){t9.at, 64u}, writer, t10);
+    if (t11.code != 0u) {
+        return (struct hours_call_ask__Reply){.code = t11.code, .figure = 0u, .size = 0u};
+    }
+    t12 = unit_hours_book__start((struct hours_slice_mut_u8){t9.at, 64u}, second);
+    return hours_unit_shared__finish(log, area, state, newest, (struct hours_slice_u8){t9.at, 64u}, batch, writer, t10, t12);
+}
+
+/* The total with a run that ends now. */
+static inline uint64_t unit_hours_book__total_at(struct unit_hours_book__Pump p, uint64_t second)
+{
+    if (p.last < second) {
+        return p.total + (second - p.last);
+    }
+    return p.total;
+}
+
+/* A stop of the pump whose block is lent, answered as a start is. */
+static inline uint64_t unit_hours_book__stop(struct hours_slice_mut_u8 block, uint32_t second)
+{
+    struct unit_hours_book__Pump t3;
+    uint64_t t4, t5;
+
+    t3 = unit_hours_book__read((struct hours_slice_u8){block.ptr, block.len});
+    if (!t3.running) {
+        return 15u;
+    }
+    t4 = unit_hours_book__total_at(t3, (uint64_t)second);
+    t5 = unit_hours_book__late(t3, (uint64_t)second, t4);
+    if (t5 != 0u) {
+        return t5;
+    }
+    unit_hours_book__write(block, (struct unit_hours_book__Pump){.starts = t3.starts, .total = t4, .last = (uint64_t)second,
+            .running = false});
+    return 0u;
+}
+
+/* A stop of a pump at a second, answered as a start is. */
+static inline struct hours_call_ask__Reply unit_hours__kagutin_pump_stop(struct hours_slice_mut_u8 log, struct hours_slice_u8 area,
+        struct hours_slice_mut_u8 state, struct hours_slice_mut_u8 newest, struct hours_slice_mut_u8 batch, uint64_t writer, uint64_t pump,
+        uint32_t second)
+{
+    struct hours_array_u8_64 t9;
+    uint64_t t10, t12;
+    struct hours_call_ask__Reply t11;
+
+    if (7u < pump) {
+        return (struct hours_call_ask__Reply){.code = 14u, .figure = 0u, .size = 0u};
+    }
+    memset(&t9, 0u, sizeof t9);
+    t10 = 16u + pump;
+    t11 = hours_kagutin__kagutin_revise((struct hours_slice_u8){log.ptr, log.len}, area, (struct hours_slice_u8){state.ptr, state.len},
+            (struct hours_slice_u8){newest.ptr, newest.len}, (struct hours_slice_mut_u8){t9.at, 64u}, writer, t10);
+    if (t11.code != 0u) {
+        return (struct hours_call_ask__Reply){.code = t11.code, .figure = 0u, .size = 0u};
+    }
+    t12 = unit_hours_book__stop((struct hours_slice_mut_u8){t9.at, 64u}, second);
+    return hours_unit_shared__finish(log, area, state, newest, (struct hours_slice_u8){t9.at, 64u}, batch, writer, t10, t12);
+}
+
+struct kagutin_hours kagutin_pump_hours(const uint8_t *log, size_t log_size, const uint8_t *area, size_t area_size,
+        const uint8_t *state, size_t state_size, const uint8_t *newest, size_t newest_size, uint64_t writer, uint64_t pump)
+{
+    ASK_BUFFERS(kagutin_hours, {log, log_size}, {area, area_size}, {state, state_size}, {newest, newest_size})
+    struct unit_hours__Hours r = unit_hours__kagutin_pump_hours((struct hours_slice_u8){log, log_size}, (struct hours_slice_u8){area,
+            area_size}, (struct hours_slice_u8){state, state_size}, (struct hours_slice_u8){newest, newest_size}, writer, pump);
+
+    return (struct kagutin_hours){.code = r.code, .starts = r.starts, .seconds = r.seconds};
+}
+
+struct kagutin_services kagutin_pump_services(const uint8_t *log, size_t log_size, const uint8_t *area, size_t area_size,
+        const uint8_t *state, size_t state_size, const uint8_t *newest, size_t newest_size, uint64_t writer, uint64_t pump,
+        uint64_t interval)
+{
+    ASK_BUFFERS(kagutin_services, {log, log_size}, {area, area_size}, {state, state_size}, {newest, newest_size})
+    struct unit_hours__Services r = unit_hours__kagutin_pump_services((struct hours_slice_u8){log, log_size}, (struct hours_slice_u8){area,
+            area_size}, (struct hours_slice_u8){state, state_size}, (struct hours_slice_u8){newest, newest_size}, writer, pump, interval);
+
+    return (struct kagutin_services){.code = r.code, .due = r.due, .left = r.left};
+}
+
+struct kagutin_reply kagutin_pump_start(uint8_t *log, size_t log_size, const uint8_t *area, size_t area_size, uint8_t *state,
+        size_t state_size, uint8_t *newest, size_t newest_size, uint8_t *batch, size_t batch_size, uint64_t writer, uint64_t pump,
+        uint32_t second)
+{
+    ASK_BUFFERS(kagutin_reply, {log, log_size}, {area, area_size}, {state, state_size}, {newest, newest_size}, {batch,
+            batch_size})
+    struct hours_call_ask__Reply r = unit_hours__kagutin_pump_start((struct hours_slice_mut_u8){log, log_size}, (struct hours_slice_u8){area,
+            area_size}, (struct hours_slice_mut_u8){state, state_size}, (struct hours_slice_mut_u8){newest, newest_size},
+            (struct hours_slice_mut_u8){batch, batch_size}, writer, pump, second);
+
+    return (struct kagutin_reply){.code = r.code, .figure = r.figure, .size = r.size};
+}
+
+struct kagutin_reply kagutin_pump_stop(uint8_t *log, size_t log_size, const uint8_t *area, size_t area_size, uint8_t *state,
+        size_t state_size, uint8_t *newest, size_t newest_size, uint8_t *batch, size_t batch_size, uint64_t writer, uint64_t pump,
+        uint32_t second)
+{
+    ASK_BUFFERS(kagutin_reply, {log, log_size}, {area, area_size}, {state, state_size}, {newest, newest_size}, {batch,
+            batch_size})
+    struct hours_call_ask__Reply r = unit_hours__kagutin_pump_stop((struct hours_slice_mut_u8){log, log_size}, (struct hours_slice_u8){area,
+            area_size}, (struct hours_slice_mut_u8){state, state_size}, (struct hours_slice_mut_u8){newest, newest_size},
+            (struct hours_slice_mut_u8){batch, batch_size}, writer, pump, second);
+
+    return (struct kagutin_reply){.code = r.code, .figure = r.figure, .size = r.size};
+}
+
+#undef ASK_BUFFERS
+
+/* ==== dist/kagutin_alarms.c ==== */
+
+/*
+ * Kagutin as one C99 file, made by port/generate.py from the proved program.
+ * Do not edit: change the sources under crates/ and run `make dist`.
+ *
+ * Needs kagutin_chains.h and kagutin_alarms.h, memcpy and memset; no heap, no other library but that of kagutin, no state
+ * of its own. All that is not declared there is static. Where a compiler is
+ * known, some helpers have a quicker form; -DKAGUTIN_PLAIN_C leaves them out.
+ */
+#include <stdbool.h>
+#include <stddef.h>
+#include <stdint.h>
+#include <string.h>
+
+
+#if defined(__GNUC__) && !defined(__clang__) && SIZE_MAX < UINT64_MAX
+/* Counts are 64 bits wide and proved to stay in memory; gcc warns of turns that they never reach. */
+#pragma GCC diagnostic ignored "-Waggressive-loop-optimizations"
+#endif
+
+struct alarms_slice_u8 {
+    const uint8_t *ptr;
+    size_t len;
+};
+
+struct alarms_slice_mut_u8 {
+    uint8_t *ptr;
+    size_t len;
+};
+
+struct alarms_call_ask__Reply {
+    uint64_t code;
+    uint64_t figure;
+    uint64_t size;
+};
+
+struct unit_alarms_list__Alarm {
+    uint64_t identity;
+    uint64_t class;
+    uint64_t second;
+};
+
+struct array_u8_384 {
+    uint8_t at[384];
+};
+
+struct unit_alarms__Gravest {
+    uint64_t code;
+    uint64_t identity;
+    uint64_t alarm_class;
+    uint64_t second;
+};
+
+struct alarms_array_u8_64 {
+    uint8_t at[64];
+};
+
+#if defined(__GNUC__) && !defined(KAGUTIN_PLAIN_C)
+#define QUICK_C 1
+#else
+#define QUICK_C 0
+#endif
+
+#if QUICK_C && defined(__BYTE_ORDER__) && defined(__ORDER_LITTLE_ENDIAN__) && __BYTE_ORDER__ == __ORDER_LITTLE_ENDIAN__ \
+    && (defined(__x86_64__) || defined(__i386__) || defined(__ARM_FEATURE_UNALIGNED))
+#define WHOLE_WORDS 1
+#else
+#define WHOLE_WORDS 0
+#endif
+
+#if QUICK_C && !defined(__clang__) && !defined(__OPTIMIZE_SIZE__) && __GNUC__ >= 8
+#define UNROLL _Pragma("GCC unroll 4")
+#else
+#define UNROLL
+#endif
+
+/* With -DKAGUTIN_CHECK_BUFFERS every call answers 63 (KAGUTIN_BAD_BUFFERS), with zeros in all other fields, if a lent pointer is null or
+   two lent buffers share a byte. Without it nothing is asked. */
+#ifdef KAGUTIN_CHECK_BUFFERS
+struct alarms_lent {
+    const void *ptr;
+    size_t size;
+};
+
+static bool alarms_are_apart(const struct alarms_lent *alarms_lent, size_t count)
+{
+    size_t i, j;
+
+    for (i = 0; i < count; i++) {
+        uintptr_t a = (uintptr_t)alarms_lent[i].ptr;
+
+        if (alarms_lent[i].ptr == NULL || alarms_lent[i].size > UINTPTR_MAX - a)
+            return false;
+        for (j = 0; j < i; j++) {
+            uintptr_t b = (uintptr_t)alarms_lent[j].ptr;
+
+            if (alarms_lent[i].size != 0 && alarms_lent[j].size != 0 && a < b + alarms_lent[j].size && b < a + alarms_lent[i].size)
+                return false;
+        }
+    }
+    return true;
+}
+
+#define ASK_BUFFERS(result, ...) \
+    do { \
+        const struct alarms_lent all_lent[] = {__VA_ARGS__}; \
+        if (!alarms_are_apart(all_lent, sizeof all_lent / sizeof all_lent[0])) \
+            return (struct result){.code = 63u}; \
+    } while (0);
+#else
+#define ASK_BUFFERS(result, ...)
+#endif
+
+/* The number that 2 bytes make, lowest byte first. */
+static inline uint64_t alarms_load_2(const uint8_t *p)
+{
+#if WHOLE_WORDS
+    uint16_t x;
+
+    memcpy(&x, p, 2);
+    return x;
+#else
+    return p[0] | (uint64_t)p[1] << 8;
+#endif
+}
+
+/* The number that 8 bytes make, lowest byte first. */
+static inline uint64_t alarms_load_8(const uint8_t *p)
+{
+#if WHOLE_WORDS
+    uint64_t x;
+
+    memcpy(&x, p, 8);
+    return x;
+#else
+    return p[0] | (uint64_t)p[1] << 8 | (uint64_t)p[2] << 16 | (uint64_t)p[3] << 24
+        | (uint64_t)p[4] << 32 | (uint64_t)p[5] << 40 | (uint64_t)p[6] << 48 | (uint64_t)p[7] << 56;
+#endif
+}
+
+/* Writes the low 2 bytes of a number, lowest byte first. */
+static inline void alarms_store_2(uint8_t *p, uint64_t v)
+{
+#if WHOLE_WORDS
+    uint16_t x = (uint16_t)v;
+
+    memcpy(p, &x, 2);
+#else
+    p[0] = (uint8_t)v;
+    p[1] = (uint8_t)(v >> 8);
+#endif
+}
+
+/* Writes the low 8 bytes of a number, lowest byte first. */
+static inline void alarms_store_8(uint8_t *p, uint64_t v)
+{
+#if WHOLE_WORDS
+    uint64_t x = (uint64_t)v;
+
+    memcpy(p, &x, 8);
+#else
+    p[0] = (uint8_t)v;
+    p[1] = (uint8_t)(v >> 8);
+    p[2] = (uint8_t)(v >> 16);
+    p[3] = (uint8_t)(v >> 24);
+    p[4] = (uint8_t)(v >> 32);
+    p[5] = (uint8_t)(v >> 40);
+    p[6] = (uint8_t)(v >> 48);
+    p[7] = (uint8_t)(v >> 56);
+#endif
+}
+
+/* Whether a class is from 1 to 9. */
+static inline bool unit_alarms_list__fields__class_known(uint64_t class)
+{
+    if (class < 1u) {
+        return false;
+    }
+    return class <= 9u;
+}
+
+static inline struct alarms_call_ask__Reply alarms_kagutin__kagutin_revise(struct alarms_slice_u8 log, struct alarms_slice_u8 area, struct alarms_slice_u8 state,
+        struct alarms_slice_u8 newest, struct alarms_slice_mut_u8 blocks, uint64_t writer, uint64_t home)
+{
+    struct kagutin_reply r = kagutin_revise(log.ptr, log.len, area.ptr, area.len, state.ptr, state.len, newest.ptr, newest.len,
+            blocks.ptr, blocks.len, writer, home);
+
+    return (struct alarms_call_ask__Reply){.code = (uint64_t)r.code, .figure = (uint64_t)r.figure, .size = (uint64_t)r.size};
+}
+
+/* The number that the `k` bytes from index `at` on make, read byte by byte. */
+static inline uint64_t alarms_base_codec__numbers__each_byte(struct alarms_slice_u8 s, uint64_t at, uint64_t k)
+{
+    uint64_t t4, t5, t6;
+
+    t4 = 0u;
+    t5 = at + k;
+    t6 = 0u;
+    while (t6 < k) {
+        t5 = t5 - 1u;
+        t4 = (t4 * 256u) + (uint64_t)s.ptr[(size_t)t5];
+        t6 = t6 + 1u;
+    }
+    return t4;
+}
+
+/* The number that the `k` bytes from index `at` on make; it fits `k` bytes. The widths in use compile to one load or two. */
+static inline uint64_t alarms_base_codec__numbers__number_1(struct alarms_slice_u8 s, uint64_t at)
+{
+    return alarms_base_codec__numbers__each_byte(s, at, 1u);
+}
+
+/* How many are open. */
+static inline uint64_t unit_alarms_list__list__open_count(struct alarms_slice_u8 s)
+{
+    uint64_t t2, t4;
+
+    t2 = alarms_base_codec__numbers__number_1(s, 0u);
+    if (t2 <= 48u) {
+        t4 = t2;
+    } else {
+        t4 = 48u;
+    }
+    return t4;
+}
+
+/* The place of the first alarm of that identity, or `n` if none of the `n` has it. */
+static inline uint64_t unit_alarms_list__list__find(struct alarms_slice_u8 s, uint64_t n, uint64_t identity)
+{
+    uint64_t t4, t5;
+
+    t4 = 0u;
+    t5 = 8u;
+    while (t4 < n) {
+        if (alarms_load_2(s.ptr + (size_t)t5) == identity) {
+            return t4;
+        }
+        t4 = t4 + 1u;
+        t5 = t5 + 7u;
+    }
+    return n;
+}
+
+/* Writes `n` zeros from index `at` on, and leaves the other bytes as they were. */
+static inline void alarms_base_codec__blocks__clear(struct alarms_slice_mut_u8 dst, uint64_t at, uint64_t n)
+{
+    uint64_t t4, t5;
+
+    t4 = at;
+    t5 = n;
+    while (0u < t5) {
+        dst.ptr[(size_t)t4] = 0u;
+        t4 = t4 + 1u;
+        t5 = t5 - 1u;
+    }
+}
+
+/* Writes the bytes of `src` from index `at` on, and leaves the other bytes as they were. */
+static inline void alarms_base_codec__blocks__copy(struct alarms_slice_mut_u8 dst, uint64_t at, struct alarms_slice_u8 src)
+{
+    uint64_t t4, t5, t19;
+
+    t4 = at;
+    t5 = 0u;
+    UNROLL
+    while (16u <= ((uint64_t)src.len - t5)) {
+        t19 = alarms_load_8(src.ptr + (size_t)(t5 + 8u));
+        alarms_store_8(dst.ptr + (size_t)t4, alarms_load_8(src.ptr + (size_t)t5));
+        alarms_store_8(dst.ptr + (size_t)(t4 + 8u), t19);
+        t4 = t4 + 16u;
+        t5 = t5 + 16u;
+    }
+    while (t5 < (uint64_t)src.len) {
+        dst.ptr[(size_t)t4] = src.ptr[(size_t)t5];
+        t4 = t4 + 1u;
+        t5 = t5 + 1u;
+    }
+}
+
+/* Writes `n` bytes of `src` from index `from` on into `dst` from index `at` on. */
+static inline void unit_alarms_list__list__keep(struct alarms_slice_mut_u8 dst, uint64_t at, struct alarms_slice_u8 src, uint64_t from,
+        uint64_t n)
+{
+    alarms_base_codec__blocks__copy(dst, at, (struct alarms_slice_u8){src.ptr + (size_t)from, (size_t)((from + n) - from)});
+}
+
+/* Writes `v` as `k` bytes from index `at` on, byte by byte. */
+static inline void alarms_base_codec__numbers__put_each_byte(struct alarms_slice_mut_u8 s, uint64_t at, uint64_t k, uint64_t v)
+{
+    uint64_t t5, t6, t7;
+
+    t5 = v;
+    t6 = at;
+    t7 = k;
+    while (0u < t7) {
+        s.ptr[(size_t)t6] = (uint8_t)(t5 % 256u);
+        t5 = t5 / 256u;
+        t6 = t6 + 1u;
+        t7 = t7 - 1u;
+    }
+}
+
+/* Writes `v` as `k` bytes from index `at` on, and leaves the other bytes as they were. The widths in use compile to one store or
+   two. */
+static inline void alarms_base_codec__numbers__put_number_1(struct alarms_slice_mut_u8 s, uint64_t at, uint64_t v)
+{
+    alarms_base_codec__numbers__put_each_byte(s, at, 1u, v);
+}
+
+/* Writes `v` as `k` bytes from index `at` on, and leaves the other bytes as they were. The widths in use compile to one store or
+   two. */
+static inline void alarms_base_codec__numbers__put_number_4(struct alarms_slice_mut_u8 s, uint64_t at, uint64_t v)
+{
+    alarms_base_codec__numbers__put_each_byte(s, at, 4u, v);
+}
+
+/* Writes an alarm's bytes from index `at` on. */
+static inline void unit_alarms_list__fields__put_alarm(struct alarms_slice_mut_u8 s, uint64_t at, struct unit_alarms_list__Alarm a)
+{
+    alarms_store_2(s.ptr + (size_t)at, a.identity);
+    alarms_base_codec__numbers__put_number_1(s, at + 2u, a.class);
+    alarms_base_codec__numbers__put_number_4(s, at + 3u, a.second);
+}
+
+/* Whether `a` goes before `b`: by class, then second, then identity. */
+static inline bool unit_alarms_list__fields__goes_before(struct unit_alarms_list__Alarm a, struct unit_alarms_list__Alarm b)
+{
+    if (a.class != b.class) {
+        return a.class < b.class;
+    }
+    if (a.second != b.second) {
+        return a.second < b.second;
+    }
+    return a.identity < b.identity;
+}
+
+static inline struct unit_alarms_list__Alarm unit_alarms_list__fields__graver(struct unit_alarms_list__Alarm a,
+        struct unit_alarms_list__Alarm b)
+{
+    bool t3;
+    struct unit_alarms_list__Alarm t4;
+
+    t3 = unit_alarms_list__fields__goes_before(b, a);
+    if (t3) {
+        t4 = b;
+    } else {
+        t4 = a;
+    }
+    return t4;
+}
+
+/* The gravest of the `n` alarms, three zeros if there is none. */
+static inline struct unit_alarms_list__Alarm unit_alarms_list__list__gravest_of(struct alarms_slice_u8 s, uint64_t n)
+{
+    struct unit_alarms_list__Alarm t3;
+    uint64_t t4, t5, t10, t119;
+
+    if (n == 0u) {
+        return (struct unit_alarms_list__Alarm){.identity = 0u, .class = 0u, .second = 0u};
+    }
+    t10 = alarms_load_8(s.ptr + 8u);
+    t3 = (struct unit_alarms_list__Alarm){.identity = t10 % UINT64_C(0x10000), .class = (t10 / UINT64_C(0x10000)) % 256u,
+            .second = (t10 / UINT64_C(0x1000000)) % UINT64_C(0x100000000)};
+    t4 = 1u;
+    t5 = 15u;
+    while (t4 < n) {
+        t119 = alarms_load_8(s.ptr + (size_t)t5);
+        t3 = unit_alarms_list__fields__graver(t3, (struct unit_alarms_list__Alarm){.identity = t119 % UINT64_C(0x10000),
+                .class = (t119 / UINT64_C(0x10000)) % 256u, .second = (t119 / UINT64_C(0x1000000)) % UINT64_C(0x100000000)});
+        t4 = t4 + 1u;
+        t5 = t5 + 7u;
+    }
+    return t3;
+}
+
+/* Puts the number and the gravest in front of the `n` alarms of `s`. */
+static inline void unit_alarms_list__list__seal(struct alarms_slice_mut_u8 s, uint64_t n)
+{
+    struct unit_alarms_list__Alarm t3;
+
+    t3 = unit_alarms_list__list__gravest_of((struct alarms_slice_u8){s.ptr, s.len}, n);
+    alarms_base_codec__numbers__put_number_1(s, 0u, n);
+    unit_alarms_list__fields__put_alarm(s, 1u, t3);
+}
+
+/* Makes `output` the bytes of the `n` alarms of `s` and one more behind them. */
+static inline void unit_alarms_list__list__with_one(struct alarms_slice_mut_u8 output, struct alarms_slice_u8 s, uint64_t n,
+        struct unit_alarms_list__Alarm a)
+{
+    alarms_base_codec__blocks__clear(output, 0u, 384u);
+    unit_alarms_list__list__keep(output, 8u, s, 8u, 7u * n);
+    unit_alarms_list__fields__put_alarm(output, 8u + (7u * n), a);
+    unit_alarms_list__list__seal(output, n + 1u);
+}
+
+/* An arrival: 0 for done, 24 or 25. `output` gets the blocks of the new list; a refusal leaves it as it was. */
+static inline uint64_t unit_alarms_list__arrive(struct alarms_slice_u8 list, struct alarms_slice_mut_u8 output, uint16_t identity,
+        uint64_t class, uint32_t second)
+{
+    uint64_t t6, t9;
+    bool t7;
+
+    t7 = unit_alarms_list__fields__class_known(class);
+    if (!t7) {
+        return 24u;
+    }
+    t6 = unit_alarms_list__list__open_count(list);
+    t9 = unit_alarms_list__list__find(list, t6, (uint64_t)identity);
+    if (t9 < t6) {
+        return 24u;
+    }
+    if (48u <= t6) {
+        return 25u;
+    }
+    unit_alarms_list__list__with_one(output, list, t6, (struct unit_alarms_list__Alarm){.identity = (uint64_t)identity,
+            .class = class, .second = (uint64_t)second});
+    return 0u;
+}
+
+static inline struct alarms_call_ask__Reply alarms_kagutin__kagutin_transact(struct alarms_slice_mut_u8 log, struct alarms_slice_u8 area,
+        struct alarms_slice_mut_u8 state, struct alarms_slice_mut_u8 newest, struct alarms_slice_u8 blocks, struct alarms_slice_mut_u8 batch, uint64_t writer,
+        uint64_t home)
+{
+    struct kagutin_reply r = kagutin_transact(log.ptr, log.len, area.ptr, area.len, state.ptr, state.len, newest.ptr, newest.len,
+            blocks.ptr, blocks.len, batch.ptr, batch.len, writer, home);
+
+    return (struct alarms_call_ask__Reply){.code = (uint64_t)r.code, .figure = (uint64_t)r.figure, .size = (uint64_t)r.size};
+}
+
+/* Ends an event by its own answer: refused, or the unit's new blocks stored as one transaction. */
+static inline struct alarms_call_ask__Reply alarms_unit_shared__finish(struct alarms_slice_mut_u8 log, struct alarms_slice_u8 area, struct alarms_slice_mut_u8 state,
+        struct alarms_slice_mut_u8 newest, struct alarms_slice_u8 blocks, struct alarms_slice_mut_u8 batch, uint64_t writer, uint64_t home,
+        uint64_t code)
+{
+    if (code != 0u) {
+        return (struct alarms_call_ask__Reply){.code = code, .figure = 0u, .size = 0u};
+    }
+    return alarms_kagutin__kagutin_transact(log, area, state, newest, blocks, batch, writer, home);
+}
+
+/* An alarm arrives; the figure is the ticket of its commit. */
+static inline struct alarms_call_ask__Reply unit_alarms__kagutin_alarm_arrive(struct alarms_slice_mut_u8 log, struct alarms_slice_u8 area,
+        struct alarms_slice_mut_u8 state, struct alarms_slice_mut_u8 newest, struct alarms_slice_mut_u8 batch, uint64_t writer, uint16_t identity,
+        uint64_t class, uint32_t second)
+{
+    struct array_u8_384 t10, t11;
+    struct alarms_call_ask__Reply t12;
+    uint64_t t13;
+    bool t14;
+
+    t14 = unit_alarms_list__fields__class_known(class);
+    if (!t14) {
+        return (struct alarms_call_ask__Reply){.code = 24u, .figure = 0u, .size = 0u};
+    }
+    memset(&t10, 0u, sizeof t10);
+    memset(&t11, 0u, sizeof t11);
+    t12 = alarms_kagutin__kagutin_revise((struct alarms_slice_u8){log.ptr, log.len}, area, (struct alarms_slice_u8){state.ptr, state.len},
+            (struct alarms_slice_u8){newest.ptr, newest.len}, (struct alarms_slice_mut_u8){t10.at, 384u}, writer, 24u);
+    if (t12.code != 0u) {
+        return (struct alarms_call_ask__Reply){.code = t12.code, .figure = 0u, .size = 0u};
+    }
+    t13 = unit_alarms_list__arrive((struct alarms_slice_u8){t10.at, 384u}, (struct alarms_slice_mut_u8){t11.at, 384u}, identity, class, second);
+    return alarms_unit_shared__finish(log, area, state, newest, (struct alarms_slice_u8){t11.at, 384u}, batch, writer, 24u, t13);
+}
+
+/* Makes `output` the bytes of the `n` alarms of `s` but the one at place `i`. */
+static inline void unit_alarms_list__list__without_one(struct alarms_slice_mut_u8 output, struct alarms_slice_u8 s, uint64_t n, uint64_t i)
+{
+    alarms_base_codec__blocks__clear(output, 0u, 384u);
+    unit_alarms_list__list__keep(output, 8u, s, 8u, 7u * i);
+    unit_alarms_list__list__keep(output, 8u + (7u * i), s, 15u + (7u * i), 7u * ((n - 1u) - i));
+    unit_alarms_list__list__seal(output, n - 1u);
+}
+
+/* A clearing: 0 for done, or 24. `output` gets the blocks of the new list; a refusal leaves it as it was. */
+static inline uint64_t unit_alarms_list__clear(struct alarms_slice_u8 list, struct alarms_slice_mut_u8 output, uint16_t identity)
+{
+    uint64_t t4, t5;
+
+    t4 = unit_alarms_list__list__open_count(list);
+    t5 = unit_alarms_list__list__find(list, t4, (uint64_t)identity);
+    if (t4 <= t5) {
+        return 24u;
+    }
+    unit_alarms_list__list__without_one(output, list, t4, t5);
+    return 0u;
+}
+
+/* An alarm clears; the figure is the ticket of its commit. */
+static inline struct alarms_call_ask__Reply unit_alarms__kagutin_alarm_clear(struct alarms_slice_mut_u8 log, struct alarms_slice_u8 area,
+        struct alarms_slice_mut_u8 state, struct alarms_slice_mut_u8 newest, struct alarms_slice_mut_u8 batch, uint64_t writer, uint16_t identity)
+{
+    struct array_u8_384 t8, t9;
+    struct alarms_call_ask__Reply t10;
+    uint64_t t11;
+
+    memset(&t8, 0u, sizeof t8);
+    memset(&t9, 0u, sizeof t9);
+    t10 = alarms_kagutin__kagutin_revise((struct alarms_slice_u8){log.ptr, log.len}, area, (struct alarms_slice_u8){state.ptr, state.len},
+            (struct alarms_slice_u8){newest.ptr, newest.len}, (struct alarms_slice_mut_u8){t8.at, 384u}, writer, 24u);
+    if (t10.code != 0u) {
+        return (struct alarms_call_ask__Reply){.code = t10.code, .figure = 0u, .size = 0u};
+    }
+    t11 = unit_alarms_list__clear((struct alarms_slice_u8){t8.at, 384u}, (struct alarms_slice_mut_u8){t9.at, 384u}, identity);
+    return alarms_unit_shared__finish(log, area, state, newest, (struct alarms_slice_u8){t9.at, 384u}, batch, writer, 24u, t11);
+}
+
+static inline struct alarms_call_ask__Reply alarms_kagutin__kagutin_fetch(struct alarms_slice_u8 log, struct alarms_slice_u8 area, struct alarms_slice_u8 state,
+        struct alarms_slice_u8 newest, struct alarms_slice_mut_u8 blocks, uint64_t writer, uint64_t home)
+{
+    struct kagutin_reply r = kagutin_fetch(log.ptr, log.len, area.ptr, area.len, state.ptr, state.len, newest.ptr, newest.len,
+            blocks.ptr, blocks.len, writer, home);
+
+    return (struct alarms_call_ask__Reply){.code = (uint64_t)r.code, .figure = (uint64_t)r.figure, .size = (uint64_t)r.size};
+}
+
+/* The gravest open alarm, as it is kept in the first home. */
+static inline struct unit_alarms__Gravest unit_alarms__kagutin_alarm_gravest(struct alarms_slice_u8 log, struct alarms_slice_u8 area,
+        struct alarms_slice_u8 state, struct alarms_slice_u8 newest, uint64_t writer)
+{
+    struct alarms_array_u8_64 t6;
+    struct alarms_call_ask__Reply t7;
+    struct unit_alarms_list__Alarm t8;
+    struct alarms_slice_u8 t15;
+    uint64_t t17;
+
+    memset(&t6, 0u, sizeof t6);
+    t7 = alarms_kagutin__kagutin_fetch(log, area, state, newest, (struct alarms_slice_mut_u8){t6.at, 64u}, writer, 24u);
+    if (t7.code != 0u) {
+        return (struct unit_alarms__Gravest){.code = t7.code, .identity = 0u, .alarm_class = 0u, .second = 0u};
+    }
+    t15 = (struct alarms_slice_u8){t6.at, 64u};
+    t17 = alarms_load_8(t15.ptr + 1u);
+    t8 = (struct unit_alarms_list__Alarm){.identity = t17 % UINT64_C(0x10000), .class = (t17 / UINT64_C(0x10000)) % 256u,
+            .second = (t17 / UINT64_C(0x1000000)) % UINT64_C(0x100000000)};
+    return (struct unit_alarms__Gravest){.code = 0u, .identity = t8.identity, .alarm_class = t8.class, .second = t8.second};
+}
+
+struct kagutin_reply kagutin_alarm_arrive(uint8_t *log, size_t log_size, const uint8_t *area, size_t area_size, uint8_t *state,
+        size_t state_size, uint8_t *newest, size_t newest_size, uint8_t *batch, size_t batch_size, uint64_t writer,
+        uint16_t identity, uint64_t class, uint32_t second)
+{
+    ASK_BUFFERS(kagutin_reply, {log, log_size}, {area, area_size}, {state, state_size}, {newest, newest_size}, {batch,
+            batch_size})
+    struct alarms_call_ask__Reply r = unit_alarms__kagutin_alarm_arrive((struct alarms_slice_mut_u8){log, log_size}, (struct alarms_slice_u8){area,
+            area_size}, (struct alarms_slice_mut_u8){state, state_size}, (struct alarms_slice_mut_u8){newest, newest_size},
+            (struct alarms_slice_mut_u8){batch, batch_size}, writer, identity, class, second);
+
+    return (struct kagutin_reply){.code = r.code, .figure = r.figure, .size = r.size};
+}
+
+struct kagutin_reply kagutin_alarm_clear(uint8_t *log, size_t log_size, const uint8_t *area, size_t area_size, uint8_t *state,
+        size_t state_size, uint8_t *newest, size_t newest_size, uint8_t *batch, size_t batch_size, uint64_t writer,
+        uint16_t identity)
+{
+    ASK_BUFFERS(kagutin_reply, {log, log_size}, {area, area_size}, {state, state_size}, {newest, newest_size}, {batch,
+            batch_size})
+    struct alarms_call_ask__Reply r = unit_alarms__kagutin_alarm_clear((struct alarms_slice_mut_u8){log, log_size}, (struct alarms_slice_u8){area,
+            area_size}, (struct alarms_slice_mut_u8){state, state_size}, (struct alarms_slice_mut_u8){newest, newest_size},
+            (struct alarms_slice_mut_u8){batch, batch_size}, writer, identity);
+
+    return (struct kagutin_reply){.code = r.code, .figure = r.figure, .size = r.size};
+}
+
+struct kagutin_alarm kagutin_alarm_gravest(const uint8_t *log, size_t log_size, const uint8_t *area, size_t area_size,
+        const uint8_t *state, size_t state_size, const uint8_t *newest, size_t newest_size, uint64_t writer)
+{
+    ASK_BUFFERS(kagutin_alarm, {log, log_size}, {area, area_size}, {state, state_size}, {newest, newest_size})
+    struct unit_alarms__Gravest r = unit_alarms__kagutin_alarm_gravest((struct alarms_slice_u8){log, log_size}, (struct alarms_slice_u8){area,
+            area_size}, (struct alarms_slice_u8){state, state_size}, (struct alarms_slice_u8){newest, newest_size}, writer);
+
+    return (struct kagutin_alarm){.code = r.code, .identity = r.identity, .alarm_class = r.alarm_class, .second = r.second};
+}
+
+#undef ASK_BUFFERS
+#undef QUICK_C
+#undef UNROLL
+#undef WHOLE_WORDS
+
+/* ==== c/store/store.c ==== */
+
+/* Where the numbers of the state lie that C code reads, as docs/FORMAT.md has them; nothing else in C knows the offsets. */
+#ifndef KAGUTIN_STATE_LAYOUT_H
+#define KAGUTIN_STATE_LAYOUT_H
+
+enum {
+    STATE_GROUPS = 0,
+    STATE_HOMES = 8,
+    STATE_START = 16,
+    STATE_NEXT = 24,
+    STATE_SETTLED = 40,
+    STATE_FENCED = 48,
+    STATE_ROUND = 88,
+    STATE_MODES = 104, /* one byte for each writer */
+    STATE_MODE_LOGGING = 3,
+    STATE_WRITERS = 128, /* their records */
+    STATE_WRITER_SIZE = 24,
+    STATE_WRITER_FIRST = 8
+};
+
+#endif
+
+/* What the files of the store object share: the lent memory, the lock, batches run, room made. Not for programs. */
+#ifndef KAGUTIN_STORE_INNER_H
+#define KAGUTIN_STORE_INNER_H
+
+
+/* What the library's calls are lent. */
+#define KGT_AREAS(s) (s)->log, (s)->log_size, (s)->area, (s)->area_size
+#define KGT_STATE(s) (s)->state, (size_t)KAGUTIN_STATE_SIZE
+#define KGT_NEWEST(s) (s)->newest, (s)->newest_size
+#define KGT_BATCH(s) (s)->batch, (s)->batch_size
+#define KGT_MEMORY(s) KGT_AREAS(s), KGT_STATE(s), KGT_NEWEST(s)
+
+/* A number of the state. */
+uint64_t kgt_inner_number(const uint8_t *state, size_t at);
+
+/* Writer whose open transaction begins first in the log, and where; KGT_NO_HOLDER and 0: none has entries there. */
+uint64_t kgt_inner_holder(const uint8_t *state, uint64_t *first);
+
+/* An answer that a call of the object gives by itself. */
+struct kagutin_reply kgt_inner_answer(uint64_t code);
+
+/*
+ * Around every call. Enter takes the lock of a store that is open; unless the
+ * reply is done it has given the lock back, and nothing was done. Leave makes
+ * the reply of what the library answered, and gives the lock back.
+ */
+struct kgt_reply kgt_inner_enter(struct kagutin *store);
+struct kgt_reply kgt_inner_leave(struct kagutin *store, struct kagutin_reply reply);
+
+/* A reply with a ticket, the library's figure if the call is done. */
+struct kgt_ticket kgt_inner_ticket(struct kgt_reply reply, uint64_t figure);
+
+/* Between enter and leave. Runs the batch of a done call; from the first failure on the store is shut. */
+struct kagutin_reply kgt_inner_run(struct kagutin *store, struct kagutin_reply reply);
+
+/*
+ * Between enter and leave. Makes room in a full log: true if the log's start has
+ * moved, so that the refused call may be tried again; else reply is as it was,
+ * or says what stopped it.
+ */
+bool kgt_inner_make_room(struct kagutin *store, struct kagutin_reply *reply);
+
+/* Between enter and leave. Flush, with room made where promises forbid it, and confirm. */
+struct kagutin_reply kgt_inner_sync(struct kagutin *store);
+
+#endif
+
+/* The store object: every call takes the lock once, calls the library and runs its batch. */
+#include <string.h>
+
+
+const char *kgt_answer_text(uint64_t code)
+{
+    switch (code) {
+    case KGT_CLOSED: return "the store is not open";
+    case KGT_DRIVER_FAILED: return "the driver has failed; open the store again";
+    case KGT_LOCK_FAILED: return "the lock was not given";
+    case KGT_NOT_INIT: return "kgt_init was not called, or was refused";
+    case KGT_LIST_GUARDED: return "homes 8 to 11 are stored by kgt_set_rights";
+    default: return kagutin_answer_text(code);
+    }
+}
+
+const char *kagutin_version(void)
+{
+    return KAGUTIN_VERSION;
+}
+
+static struct kgt_reply answer(uint64_t code)
+{
+    struct kgt_reply reply;
+
+    reply.code = code;
+    reply.holder = KGT_NO_HOLDER;
+    reply.error = 0;
+    return reply;
+}
+
+struct kagutin_reply kgt_inner_answer(uint64_t code)
+{
+    struct kagutin_reply reply;
+
+    reply.code = code;
+    reply.figure = 0;
+    reply.size = 0;
+    return reply;
+}
+
+/* ---- before the tasks start ---- */
+
+struct kgt_reply kgt_init(struct kagutin *store, uint8_t *memory, size_t size, size_t groups, size_t homes,
+                          struct kgt_driver driver)
+{
+    memset(store, 0, sizeof *store);
+    store->condition = KGT_IS_UNUSABLE;
+    if (groups < KAGUTIN_MIN_GROUPS || groups > KAGUTIN_MAX_GROUPS || homes < KAGUTIN_MIN_HOMES
+        || homes > KAGUTIN_MAX_HOMES || size < KGT_MEMORY_SIZE(groups, homes))
+        return answer(KAGUTIN_BAD_LENGTH);
+    if (!memory || !driver.load || !driver.write || !driver.fence)
+        return answer(KAGUTIN_BAD_LENGTH);
+    kgt_runner_init(&store->runner, driver, groups, homes);
+    store->log_size = KGT_LOG_SIZE(groups);
+    store->area_size = KGT_HOMES_SIZE(homes);
+    store->newest_size = KGT_NEWEST_SIZE(homes);
+    store->batch_size = KGT_BATCH_SIZE(groups, homes);
+    store->log = memory;
+    store->area = store->log + store->log_size;
+    store->state = store->area + store->area_size;
+    store->newest = store->state + KAGUTIN_STATE_SIZE;
+    store->batch = store->newest + store->newest_size;
+    store->condition = KGT_IS_CLOSED;
+    return answer(KAGUTIN_DONE);
+}
+
+struct kgt_reply kgt_set_lock(struct kagutin *store, int (*lock)(void *context), void (*unlock)(void *context),
+                              void *context)
+{
+    if (store->condition == KGT_IS_UNUSABLE)
+        return answer(KGT_NOT_INIT);
+    if (!lock != !unlock)
+        return answer(KAGUTIN_BAD_LENGTH);
+    store->lock = lock;
+    store->unlock = unlock;
+    store->lock_context = context;
+    return answer(KAGUTIN_DONE);
+}
+
+struct kgt_reply kgt_set_room(struct kagutin *store, enum kgt_room room)
+{
+    if (store->condition == KGT_IS_UNUSABLE)
+        return answer(KGT_NOT_INIT);
+    store->room = room;
+    return answer(KAGUTIN_DONE);
+}
+
+struct kgt_reply kgt_allow_list_stores(struct kagutin *store)
+{
+    if (store->condition == KGT_IS_UNUSABLE)
+        return answer(KGT_NOT_INIT);
+    store->list_stores = true;
+    return answer(KAGUTIN_DONE);
+}
+
+/* ---- around every call ---- */
+
+/* Takes the lock of a store that kgt_init has made. */
+static struct kgt_reply object_take_lock(struct kagutin *store)
+{
+    if (store->condition == KGT_IS_UNUSABLE)
+        return answer(KGT_NOT_INIT);
+    if (store->lock && store->lock(store->lock_context) != 0)
+        return answer(KGT_LOCK_FAILED);
+    return answer(KAGUTIN_DONE);
+}
+
+struct kgt_reply kgt_inner_leave(struct kagutin *store, struct kagutin_reply reply)
+{
+    struct kgt_reply told = answer(reply.code);
+    uint64_t first;
+
+    if (reply.code == KAGUTIN_FULL || reply.code == KAGUTIN_NO_PLACES)
+        told.holder = kgt_inner_holder(store->state, &first);
+    if (reply.code == KGT_DRIVER_FAILED)
+        told.error = store->error;
+    if (store->unlock)
+        store->unlock(store->lock_context);
+    return told;
+}
+
+struct kgt_reply kgt_inner_enter(struct kagutin *store)
+{
+    struct kgt_reply reply = object_take_lock(store);
+
+    if (reply.code != KAGUTIN_DONE || store->condition == KGT_IS_OPEN)
+        return reply;
+    return kgt_inner_leave(store, kgt_inner_answer(store->condition == KGT_HAS_FAILED ? KGT_DRIVER_FAILED : KGT_CLOSED));
+}
+
+struct kgt_ticket kgt_inner_ticket(struct kgt_reply reply, uint64_t figure)
+{
+    struct kgt_ticket told;
+
+    told.code = reply.code;
+    told.ticket = reply.code == KAGUTIN_DONE ? figure : KGT_NOT_TOLD;
+    told.holder = reply.holder;
+    told.error = reply.error;
+    return told;
+}
+
+static struct kagutin_reply object_fail(struct kagutin *store, int error)
+{
+    store->error = error;
+    store->condition = KGT_HAS_FAILED;
+    return kgt_inner_answer(KGT_DRIVER_FAILED);
+}
+
+static struct kagutin_reply run(struct kagutin *store, const uint8_t *batch, struct kagutin_reply reply)
+{
+    int error;
+
+    if (reply.code != KAGUTIN_DONE)
+        return reply;
+    error = kgt_run(&store->runner, batch, (size_t)reply.size);
+    return error ? object_fail(store, error) : reply;
+}
+
+struct kagutin_reply kgt_inner_run(struct kagutin *store, struct kagutin_reply reply)
+{
+    return run(store, store->batch, reply);
+}
+
+/* ---- format and open ---- */
+
+/* Runs the batch of a format, which has made new copies already. After a failure no earlier write may arrive any more: load sees to that. */
+static struct kagutin_reply run_format(struct kagutin *store, const uint8_t *batch, struct kagutin_reply format)
+{
+    const struct kgt_driver *driver = &store->runner.driver;
+    uint8_t header[KAGUTIN_HEADER_SIZE];
+    int error = 0;
+
+    if (store->condition == KGT_HAS_FAILED)
+        error = driver->load(driver->context, KGT_LOG, 0, header, sizeof header);
+    if (error)
+        return object_fail(store, error);
+    store->condition = KGT_IS_CLOSED;
+    store->runner.waiting = 0;
+    return run(store, batch, format);
+}
+
+struct kgt_reply kgt_format(struct kagutin *store, uint8_t *scratch, size_t size)
+{
+    struct kgt_reply reply = object_take_lock(store);
+    struct kagutin_reply format;
+
+    if (reply.code != KAGUTIN_DONE)
+        return reply;
+    format = kagutin_format(KGT_AREAS(store), scratch, size);
+    if (format.code == KAGUTIN_DONE)
+        format = run_format(store, scratch, format);
+    return kgt_inner_leave(store, format);
+}
+
+/* Loads both areas and opens; the store is open if that is done. */
+static struct kagutin_reply load_and_open(struct kagutin *store)
+{
+    const struct kgt_driver *driver = &store->runner.driver;
+    struct kagutin_reply reply;
+    int error;
+
+    store->condition = KGT_IS_CLOSED;
+    store->runner.waiting = 0;
+    error = driver->load(driver->context, KGT_LOG, 0, store->log, store->log_size);
+    if (!error)
+        error = driver->load(driver->context, KGT_HOMES, 0, store->area, store->area_size);
+    if (error)
+        return object_fail(store, error);
+    reply = kgt_inner_run(store, kagutin_open(KGT_MEMORY(store), KGT_BATCH(store)));
+    if (reply.code == KAGUTIN_DONE)
+        store->condition = KGT_IS_OPEN;
+    return reply;
+}
+
+struct kgt_opened kgt_open(struct kagutin *store)
+{
+    struct kgt_reply reply = object_take_lock(store);
+    struct kgt_opened opened;
+    struct kagutin_reply open;
+
+    opened.commits = KGT_NOT_TOLD;
+    if (reply.code == KAGUTIN_DONE) {
+        open = load_and_open(store);
+        if (open.code == KAGUTIN_DONE)
+            opened.commits = open.figure;
+        reply = kgt_inner_leave(store, open);
+    }
+    opened.code = reply.code;
+    opened.error = reply.error;
+    return opened;
+}
+
+/* ---- transactions ---- */
+
+struct kgt_reply kgt_begin(struct kagutin *store, uint64_t writer)
+{
+    struct kgt_reply reply = kgt_inner_enter(store);
+
+    if (reply.code != KAGUTIN_DONE)
+        return reply;
+    return kgt_inner_leave(store, kagutin_begin(KGT_AREAS(store), KGT_STATE(store), writer));
+}
+
+struct kgt_reply kgt_reserve(struct kagutin *store, uint64_t writer, uint64_t places)
+{
+    struct kgt_reply reply = kgt_inner_enter(store);
+    struct kagutin_reply reserve;
+    bool possible;
+
+    if (reply.code != KAGUTIN_DONE)
+        return reply;
+    possible = places > 0 && places <= (uint64_t)KAGUTIN_GROUP_ENTRIES * store->runner.groups;
+    reserve = kagutin_reserve(KGT_AREAS(store), KGT_STATE(store), writer, places);
+    if (reserve.code == KAGUTIN_NO_PLACES && possible && kgt_inner_make_room(store, &reserve))
+        reserve = kagutin_reserve(KGT_AREAS(store), KGT_STATE(store), writer, places);
+    return kgt_inner_leave(store, reserve);
+}
+
+struct kgt_reply kgt_abort(struct kagutin *store, uint64_t writer)
+{
+    struct kgt_reply reply = kgt_inner_enter(store);
+
+    if (reply.code != KAGUTIN_DONE)
+        return reply;
+    return kgt_inner_leave(store, kagutin_abort(KGT_AREAS(store), KGT_STATE(store), writer));
+}
+
+static struct kagutin_reply store_once(struct kagutin *store, uint64_t writer, uint64_t home, const uint8_t *block)
+{
+    return kgt_inner_run(store, kagutin_store(KGT_AREAS(store), KGT_STATE(store), block, KAGUTIN_BLOCK_SIZE,
+                                              KGT_BATCH(store), writer, home));
+}
+
+/* Would this store become a list of rights, or a part of one, unasked? */
+static bool guarded(const struct kagutin *store, uint64_t writer, uint64_t home)
+{
+    return writer == 0 && home >= KGT_RIGHTS_HOME && home < KGT_RIGHTS_HOME + KGT_RIGHTS_HOMES && !store->list_stores
+        && store->runner.homes >= KGT_RIGHTS_HOME + KGT_RIGHTS_HOMES;
+}
+
+struct kgt_reply kgt_store(struct kagutin *store, uint64_t writer, uint64_t home, const uint8_t *block)
+{
+    struct kgt_reply reply = kgt_inner_enter(store);
+    struct kagutin_reply stored;
+
+    if (reply.code != KAGUTIN_DONE)
+        return reply;
+    if (guarded(store, writer, home))
+        return kgt_inner_leave(store, kgt_inner_answer(KGT_LIST_GUARDED));
+    stored = store_once(store, writer, home, block);
+    if (stored.code == KAGUTIN_FULL && kgt_inner_make_room(store, &stored))
+        stored = store_once(store, writer, home, block);
+    return kgt_inner_leave(store, stored);
+}
+
+static struct kagutin_reply commit_once(struct kagutin *store, uint64_t writer)
+{
+    return kgt_inner_run(store, kagutin_commit(KGT_MEMORY(store), KGT_BATCH(store), writer));
+}
+
+static struct kagutin_reply commit(struct kagutin *store, uint64_t writer)
+{
+    struct kagutin_reply reply = commit_once(store, writer);
+
+    if (reply.code == KAGUTIN_FULL && kgt_inner_make_room(store, &reply))
+        reply = commit_once(store, writer);
+    return reply;
+}
+
+struct kgt_ticket kgt_commit(struct kagutin *store, uint64_t writer)
+{
+    struct kgt_reply reply = kgt_inner_enter(store);
+    struct kagutin_reply made;
+
+    if (reply.code != KAGUTIN_DONE)
+        return kgt_inner_ticket(reply, 0);
+    made = commit(store, writer);
+    return kgt_inner_ticket(kgt_inner_leave(store, made), made.figure);
+}
+
+struct kgt_reply kgt_read(struct kagutin *store, uint64_t writer, uint64_t home, uint8_t *block)
+{
+    struct kgt_reply reply = kgt_inner_enter(store);
+
+    if (reply.code != KAGUTIN_DONE)
+        return reply;
+    return kgt_inner_leave(store, kagutin_read(KGT_MEMORY(store), block, KAGUTIN_BLOCK_SIZE, writer, home));
+}
+
+/* ---- durability ---- */
+
+struct kgt_mark kgt_sync(struct kagutin *store)
+{
+    struct kgt_reply reply = kgt_inner_enter(store);
+    struct kagutin_reply confirm;
+    struct kgt_mark mark;
+
+    mark.mark = 0;
+    if (reply.code == KAGUTIN_DONE) {
+        confirm = kgt_inner_sync(store);
+        if (confirm.code == KAGUTIN_DONE)
+            mark.mark = confirm.figure;
+        reply = kgt_inner_leave(store, confirm);
+    }
+    mark.code = reply.code;
+    mark.error = reply.error;
+    return mark;
+}
+
+/* The commit itself cannot be refused where only its sync is: 18 keeps its ticket. */
+struct kgt_ticket kgt_commit_sync(struct kagutin *store, uint64_t writer)
+{
+    struct kgt_reply reply = kgt_inner_enter(store);
+    struct kagutin_reply made, confirm;
+    struct kgt_ticket ticket;
+
+    if (reply.code != KAGUTIN_DONE)
+        return kgt_inner_ticket(reply, 0);
+    made = commit(store, writer);
+    confirm = made.code == KAGUTIN_DONE ? kgt_inner_sync(store) : made;
+    ticket = kgt_inner_ticket(kgt_inner_leave(store, confirm), made.figure);
+    if (made.code == KAGUTIN_DONE && confirm.code != KGT_DRIVER_FAILED)
+        ticket.ticket = made.figure;
+    return ticket;
+}
+
+
+/* ==== c/store/room.c ==== */
+
+/* Room in a full log, at once or in the background. */
+
+static uint64_t start_of(const struct kagutin *store)
+{
+    return kgt_inner_number(store->state, STATE_START);
+}
+
+static bool in_round(const struct kagutin *store)
+{
+    return kgt_inner_number(store->state, STATE_ROUND) != 0;
+}
+
+static bool is_settled(const struct kagutin *store)
+{
+    return kgt_inner_number(store->state, STATE_SETTLED) == kgt_inner_number(store->state, STATE_FENCED);
+}
+
+static struct kagutin_reply flush(struct kagutin *store)
+{
+    return kgt_inner_run(store, kagutin_flush(KGT_AREAS(store), KGT_STATE(store), KGT_BATCH(store)));
+}
+
+static struct kagutin_reply trim(struct kagutin *store)
+{
+    return kgt_inner_run(store, kagutin_trim(KGT_AREAS(store), KGT_STATE(store), KGT_NEWEST(store), KGT_BATCH(store)));
+}
+
+static struct kagutin_reply step_round(struct kagutin *store, uint64_t homes)
+{
+    return kgt_inner_run(store, kagutin_step_round(KGT_AREAS(store), KGT_STATE(store), KGT_BATCH(store), homes));
+}
+
+/* Settles what a round under way covers, or else all that is fenced. */
+static struct kagutin_reply room_settle(struct kagutin *store)
+{
+    if (in_round(store))
+        return step_round(store, UINT64_MAX);
+    return kgt_inner_run(store, kagutin_settle(KGT_AREAS(store), KGT_STATE(store), KGT_BATCH(store)));
+}
+
+static struct kagutin_reply settle_and_trim(struct kagutin *store)
+{
+    struct kagutin_reply reply = room_settle(store);
+
+    return reply.code == KAGUTIN_DONE ? trim(store) : reply;
+}
+
+/* ---- at once ---- */
+
+/* Fences the log: where promises forbid a flush a settle does, without the part-filled group. */
+static struct kagutin_reply fence_log(struct kagutin *store)
+{
+    struct kagutin_reply reply = flush(store);
+
+    return reply.code == KAGUTIN_PROMISED ? room_settle(store) : reply;
+}
+
+/* Fence, settle, trim. The end of a round may free nothing; then what is fenced since is settled too. */
+static struct kagutin_reply free_groups(struct kagutin *store, uint64_t start)
+{
+    struct kagutin_reply reply = fence_log(store);
+
+    if (reply.code == KAGUTIN_DONE)
+        reply = settle_and_trim(store);
+    if (reply.code == KAGUTIN_DONE && start_of(store) == start && !is_settled(store))
+        reply = settle_and_trim(store);
+    return reply;
+}
+
+bool kgt_inner_make_room(struct kagutin *store, struct kagutin_reply *reply)
+{
+    uint64_t first, start = start_of(store);
+    struct kagutin_reply done;
+
+    if (store->room == KGT_ROOM_BY_MAINTAIN)
+        return false;
+    if (kgt_inner_holder(store->state, &first) != KGT_NO_HOLDER && first / KAGUTIN_GROUP_ENTRIES == start)
+        return false;
+    done = free_groups(store, start);
+    if (done.code != KAGUTIN_DONE)
+        *reply = done;
+    return done.code == KAGUTIN_DONE && start_of(store) != start;
+}
+
+/* ---- durability ---- */
+
+struct kagutin_reply kgt_inner_sync(struct kagutin *store)
+{
+    struct kagutin_reply reply = flush(store);
+
+    if (reply.code == KAGUTIN_PROMISED && kgt_inner_make_room(store, &reply))
+        reply = flush(store);
+    if (reply.code == KAGUTIN_DONE)
+        reply = kagutin_confirm(KGT_AREAS(store), KGT_STATE(store));
+    return reply;
+}
+
+/* ---- in the background ---- */
+
+/* One step of the round under way, or of a new one if something is to be settled; a trim when it is over. */
+static struct kagutin_reply settle_some(struct kagutin *store, uint64_t most)
+{
+    struct kagutin_reply reply = kgt_inner_answer(KAGUTIN_DONE);
+
+    if (!in_round(store) && !is_settled(store))
+        reply = kagutin_begin_round(KGT_AREAS(store), KGT_STATE(store));
+    if (reply.code == KAGUTIN_DONE && in_round(store))
+        reply = step_round(store, most);
+    if (reply.code == KAGUTIN_DONE && !in_round(store))
+        reply = trim(store);
+    return reply;
+}
+
+/* All that is fenced now, also behind a round under way; then a trim. */
+static struct kagutin_reply settle_all(struct kagutin *store)
+{
+    struct kagutin_reply reply = kgt_inner_answer(KAGUTIN_DONE);
+
+    if (in_round(store))
+        reply = room_settle(store);
+    return reply.code == KAGUTIN_DONE ? settle_and_trim(store) : reply;
+}
+
+struct kgt_progress kgt_maintain(struct kagutin *store, uint64_t most)
+{
+    struct kgt_reply reply = kgt_inner_enter(store);
+    struct kgt_progress progress;
+    struct kagutin_reply done;
+
+    progress.more = false;
+    if (reply.code == KAGUTIN_DONE) {
+        done = most ? settle_some(store, most) : settle_all(store);
+        progress.more = done.code == KAGUTIN_DONE && (in_round(store) || !is_settled(store));
+        reply = kgt_inner_leave(store, done);
+    }
+    progress.code = reply.code;
+    progress.error = reply.error;
+    return progress;
+}
+
+
+/* ==== c/store/usage.c ==== */
+
+/* What the state tells of a log: its numbers, and who holds it back. */
+
+uint64_t kgt_inner_number(const uint8_t *state, size_t at)
+{
+    uint64_t value = 0;
+    size_t i;
+
+    for (i = 8; i > 0; i--)
+        value = value << 8 | state[at + i - 1];
+    return value;
+}
+
+uint64_t kgt_inner_holder(const uint8_t *state, uint64_t *first)
+{
+    uint64_t holder = KGT_NO_HOLDER, begins;
+    size_t writer;
+
+    *first = 0;
+    for (writer = 0; writer < KAGUTIN_WRITERS; writer++) {
+        if (state[STATE_MODES + writer] != STATE_MODE_LOGGING)
+            continue;
+        begins = kgt_inner_number(state, STATE_WRITERS + STATE_WRITER_SIZE * writer + STATE_WRITER_FIRST);
+        if (holder == KGT_NO_HOLDER || begins < *first) {
+            holder = writer;
+            *first = begins;
+        }
+    }
+    return holder;
+}
+
+struct kgt_reply kgt_usage(struct kagutin *store, struct kagutin_places *places)
+{
+    static const struct kagutin_places none = {0, 0, 0, 0, 0, KGT_NO_HOLDER, 0};
+    struct kgt_reply reply = kgt_inner_enter(store);
+    struct kagutin_places found = none;
+
+    if (reply.code == KAGUTIN_DONE) {
+        found = kagutin_usage(KGT_AREAS(store), KGT_STATE(store));
+        reply = kgt_inner_leave(store, kgt_inner_answer(found.code));
+    }
+    *places = reply.code == KAGUTIN_DONE ? found : none;
+    places->code = reply.code;
+    return reply;
+}
+
+
+/* ==== c/store/rights.c ==== */
+
+/* The list of rights: its bytes, and the transaction that stores it. */
+#include <string.h>
+
+
+/* By writer: ranges to store, then to read; each first home and number of homes, 16 bits. */
+enum { RANGE = 4, READS = KGT_RIGHTS_RANGES * RANGE, WRITER = 2 * READS, MOST = 65535 };
+
+void kgt_rights_clear(struct kgt_rights *list)
+{
+    memset(list->bytes, 0, sizeof list->bytes);
+}
+
+static struct kgt_range range_at(const struct kgt_rights *list, size_t at)
+{
+    const uint8_t *bytes = list->bytes + at;
+    struct kgt_range range;
+
+    range.first = (uint64_t)bytes[0] | (uint64_t)bytes[1] << 8;
+    range.number = (uint64_t)bytes[2] | (uint64_t)bytes[3] << 8;
+    return range;
+}
+
+static void put_range(uint8_t *bytes, uint64_t first, uint64_t number)
+{
+    bytes[0] = (uint8_t)first;
+    bytes[1] = (uint8_t)(first >> 8);
+    bytes[2] = (uint8_t)number;
+    bytes[3] = (uint8_t)(number >> 8);
+}
+
+/* Puts a range into the first empty one of a writer's four. */
+static bool allow(struct kgt_rights *list, uint64_t writer, size_t kind, uint64_t first, uint64_t number)
+{
+    size_t at, end;
+
+    if (writer >= KAGUTIN_WRITERS || first > MOST || number > MOST)
+        return false;
+    if (number == 0)
+        return true;
+    at = WRITER * (size_t)writer + kind;
+    for (end = at + READS; at < end; at += RANGE)
+        if (range_at(list, at).number == 0) {
+            put_range(list->bytes + at, first, number);
+            return true;
+        }
+    return false;
+}
+
+bool kgt_rights_allow_store(struct kgt_rights *list, uint64_t writer, uint64_t first, uint64_t number)
+{
+    return allow(list, writer, 0, first, number);
+}
+
+bool kgt_rights_allow_read(struct kgt_rights *list, uint64_t writer, uint64_t first, uint64_t number)
+{
+    return allow(list, writer, READS, first, number);
+}
+
+struct kgt_range kgt_rights_store_range(const struct kgt_rights *list, uint64_t writer, unsigned index)
+{
+    return range_at(list, WRITER * (size_t)writer + RANGE * (size_t)index);
+}
+
+struct kgt_range kgt_rights_read_range(const struct kgt_rights *list, uint64_t writer, unsigned index)
+{
+    return range_at(list, WRITER * (size_t)writer + READS + RANGE * (size_t)index);
+}
+
+bool kgt_rights_is_list(const struct kgt_rights *list)
+{
+    size_t i;
+
+    for (i = 0; i < sizeof list->bytes; i++)
+        if (list->bytes[i])
+            return true;
+    return false;
+}
+
+static bool of_list(uint64_t home)
+{
+    return home >= KGT_RIGHTS_HOME && home < KGT_RIGHTS_HOME + KGT_RIGHTS_HOMES;
+}
+
+static bool in_one(const struct kgt_rights *list, size_t at, uint64_t home)
+{
+    size_t end;
+
+    for (end = at + READS; at < end; at += RANGE) {
+        struct kgt_range range = range_at(list, at);
+
+        if (home >= range.first && home < range.first + range.number)
+            return true;
+    }
+    return false;
+}
+
+bool kgt_rights_may_store(const struct kgt_rights *list, uint64_t writer, uint64_t home)
+{
+    if (of_list(home))
+        return writer == 0;
+    return !kgt_rights_is_list(list) || in_one(list, WRITER * (size_t)writer, home);
+}
+
+bool kgt_rights_may_read(const struct kgt_rights *list, uint64_t writer, uint64_t home)
+{
+    return of_list(home) || !kgt_rights_is_list(list) || in_one(list, WRITER * (size_t)writer + READS, home);
+}
+
+/* ---- on the store object ---- */
+
+static struct kagutin_reply set_once(struct kagutin *store, const struct kgt_rights *list)
+{
+    return kgt_inner_run(store, kagutin_transact(KGT_MEMORY(store), list->bytes, sizeof list->bytes, KGT_BATCH(store), 0,
+                                                 KGT_RIGHTS_HOME));
+}
+
+struct kgt_ticket kgt_set_rights(struct kagutin *store, const struct kgt_rights *list)
+{
+    struct kgt_reply reply = kgt_inner_enter(store);
+    struct kagutin_reply set;
+
+    if (reply.code != KAGUTIN_DONE)
+        return kgt_inner_ticket(reply, 0);
+    set = set_once(store, list);
+    if (set.code == KAGUTIN_FULL && kgt_inner_make_room(store, &set))
+        set = set_once(store, list);
+    return kgt_inner_ticket(kgt_inner_leave(store, set), set.figure);
+}
+
+struct kgt_reply kgt_get_rights(struct kagutin *store, uint64_t writer, struct kgt_rights *list)
+{
+    struct kgt_reply reply = kgt_inner_enter(store);
+
+    if (reply.code != KAGUTIN_DONE)
+        return reply;
+    return kgt_inner_leave(store, kagutin_fetch(KGT_MEMORY(store), list->bytes, sizeof list->bytes, writer,
+                                                KGT_RIGHTS_HOME));
+}
+
+
+/* ==== c/store/batch.c ==== */
+
+/* Records of a batch, read and run on a driver. */
+#include <string.h>
+
+
+#define WORD 8u
+
+bool kgt_read_record(const uint8_t *batch, size_t size, size_t groups, size_t homes, struct kgt_record *record)
+{
+    static const struct { char mark[3]; size_t size, head; } kinds[] = {
+        {"GW", KAGUTIN_GW_SIZE, 4}, {"HW", KAGUTIN_HW_SIZE, 4},
+        {"KW", KAGUTIN_KW_SIZE, 2}, {"FN", KAGUTIN_FN_SIZE, 2},
+    };
+    size_t i;
+
+    if (size < 2)
+        return false;
+    for (i = 0; i < 4; i++) {
+        if (memcmp(batch, kinds[i].mark, 2) != 0)
+            continue;
+        if (size < kinds[i].size)
+            return false;
+        record->kind = (enum kgt_kind)i;
+        record->size = kinds[i].size;
+        record->bytes = batch + kinds[i].head;
+        record->place = kinds[i].head == 4 ? (size_t)batch[2] | (size_t)batch[3] << 8 : 0;
+        return record->place < (i == KGT_GW ? groups : i == KGT_HW ? homes : 1);
+    }
+    return false;
+}
+
+void kgt_runner_init(struct kgt_runner *runner, struct kgt_driver driver, size_t groups, size_t homes)
+{
+    runner->driver = driver;
+    runner->groups = groups;
+    runner->homes = homes;
+    runner->waiting = 0;
+}
+
+/* What was written of the groups has arrived: their first words may follow. */
+static int write_heads(struct kgt_runner *runner)
+{
+    const struct kgt_driver *driver = &runner->driver;
+    size_t i;
+    int error;
+
+    if (runner->waiting == 0)
+        return 0;
+    error = driver->fence(driver->context);
+    for (i = 0; i < runner->waiting && !error; i++)
+        error = driver->write(driver->context, KGT_LOG, KGT_LOG_SIZE(runner->heads[i].slot), runner->heads[i].word, WORD);
+    runner->waiting = 0;
+    return error;
+}
+
+static bool is_zero(const uint8_t *word)
+{
+    static const uint8_t zeros[WORD] = {0};
+
+    return memcmp(word, zeros, WORD) == 0;
+}
+
+static int write_group(struct kgt_runner *runner, size_t slot, const uint8_t *bytes)
+{
+    const struct kgt_driver *driver = &runner->driver;
+    size_t at = KGT_LOG_SIZE(slot);
+    int error;
+
+    if (driver->landing == KGT_LANDS_BLOCKS || is_zero(bytes))
+        return driver->write(driver->context, KGT_LOG, at, bytes, KAGUTIN_GROUP_SIZE);
+    error = runner->waiting == KGT_HEADS ? write_heads(runner) : 0;
+    if (error)
+        return error;
+    runner->heads[runner->waiting].slot = slot;
+    memcpy(runner->heads[runner->waiting].word, bytes, WORD);
+    runner->waiting++;
+    return driver->write(driver->context, KGT_LOG, at + WORD, bytes + WORD, KAGUTIN_GROUP_SIZE - WORD);
+}
+
+/* A header without a mark, as a format begins with: the old mark is gone before any other word changes. */
+static int batch_write_header(struct kgt_runner *runner, const uint8_t *bytes)
+{
+    const struct kgt_driver *driver = &runner->driver;
+    int error = 0;
+
+    if (driver->landing == KGT_LANDS_WORDS && is_zero(bytes)) {
+        error = driver->write(driver->context, KGT_LOG, 0, bytes, WORD);
+        if (!error)
+            error = driver->fence(driver->context);
+    }
+    return error ? error : driver->write(driver->context, KGT_LOG, 0, bytes, KAGUTIN_HEADER_SIZE);
+}
+
+int kgt_run_fence(struct kgt_runner *runner)
+{
+    int error = write_heads(runner);
+
+    return error ? error : runner->driver.fence(runner->driver.context);
+}
+
+int kgt_run_record(struct kgt_runner *runner, const struct kgt_record *record)
+{
+    const struct kgt_driver *driver = &runner->driver;
+
+    switch (record->kind) {
+    case KGT_GW:
+        return write_group(runner, record->place, record->bytes);
+    case KGT_HW:
+        return driver->write(driver->context, KGT_HOMES, KGT_HOMES_SIZE(record->place), record->bytes,
+                             KAGUTIN_BLOCK_SIZE);
+    case KGT_KW:
+        return batch_write_header(runner, record->bytes);
+    default:
+        return kgt_run_fence(runner);
+    }
+}
+
+int kgt_run(struct kgt_runner *runner, const uint8_t *batch, size_t size)
+{
+    struct kgt_record record;
+    size_t at;
+
+    for (at = 0; at < size; at += record.size) {
+        int error;
+
+        if (!kgt_read_record(batch + at, size - at, runner->groups, runner->homes, &record))
+            return KGT_BAD_BATCH;
+        error = kgt_run_record(runner, &record);
+        if (error)
+            return error;
+    }
+    return 0;
+}
+
+#undef WORD
+
+/* ==== c/store/units.c ==== */
+
+/* Depth bands, pump hours and alarms on the store object. */
+
+/* ---- events ---- */
+
+enum event_kind { SET_BANDS, PUMP_STARTS, PUMP_STOPS, ALARM_ARRIVES, ALARM_CLEARS };
+
+struct event {
+    enum event_kind kind;
+    const uint8_t *rows;
+    size_t rows_size;
+    uint64_t pump, alarm_class;
+    uint16_t identity;
+    uint32_t second;
+};
+
+static struct event event_of(enum event_kind kind)
+{
+    struct event event = {SET_BANDS, NULL, 0, 0, 0, 0, 0};
+
+    event.kind = kind;
+    return event;
+}
+
+static struct kagutin_reply call(struct kagutin *store, uint64_t writer, const struct event *event)
+{
+    switch (event->kind) {
+    case SET_BANDS:
+        return kagutin_bands_set(KGT_MEMORY(store), KGT_BATCH(store), event->rows, event->rows_size, writer);
+    case PUMP_STARTS:
+        return kagutin_pump_start(KGT_MEMORY(store), KGT_BATCH(store), writer, event->pump, event->second);
+    case PUMP_STOPS:
+        return kagutin_pump_stop(KGT_MEMORY(store), KGT_BATCH(store), writer, event->pump, event->second);
+    case ALARM_ARRIVES:
+        return kagutin_alarm_arrive(KGT_MEMORY(store), KGT_BATCH(store), writer, event->identity, event->alarm_class,
+                                    event->second);
+    default:
+        return kagutin_alarm_clear(KGT_MEMORY(store), KGT_BATCH(store), writer, event->identity);
+    }
+}
+
+/* Takes the event in, with room made once; figure is the library's. */
+static struct kgt_reply take(struct kagutin *store, uint64_t writer, const struct event *event, uint64_t *figure)
+{
+    struct kgt_reply reply = kgt_inner_enter(store);
+    struct kagutin_reply taken;
+
+    *figure = 0;
+    if (reply.code != KAGUTIN_DONE)
+        return reply;
+    taken = kgt_inner_run(store, call(store, writer, event));
+    if (taken.code == KAGUTIN_FULL && kgt_inner_make_room(store, &taken))
+        taken = kgt_inner_run(store, call(store, writer, event));
+    *figure = taken.figure;
+    return kgt_inner_leave(store, taken);
+}
+
+static struct kgt_ticket ticket_of(struct kagutin *store, uint64_t writer, const struct event *event)
+{
+    uint64_t figure;
+    struct kgt_reply reply = take(store, writer, event, &figure);
+
+    return kgt_inner_ticket(reply, figure);
+}
+
+struct kgt_table kgt_bands_set(struct kagutin *store, uint64_t writer, const uint8_t *rows, size_t size)
+{
+    struct event event = event_of(SET_BANDS);
+    struct kgt_reply reply;
+    struct kgt_table table;
+    uint64_t figure;
+
+    event.rows = rows;
+    event.rows_size = size;
+    reply = take(store, writer, &event, &figure);
+    table.code = reply.code;
+    table.ticket = reply.code == KAGUTIN_DONE ? figure : KGT_NOT_TOLD;
+    table.mm = reply.code == KAGUTIN_BAND_GAP || reply.code == KAGUTIN_BAND_OVERLAP ? figure : KGT_NOT_TOLD;
+    table.holder = reply.holder;
+    table.error = reply.error;
+    return table;
+}
+
+static struct kgt_ticket pump_event(struct kagutin *store, enum event_kind kind, uint64_t writer, uint64_t pump,
+                                    uint32_t second)
+{
+    struct event event = event_of(kind);
+
+    event.pump = pump;
+    event.second = second;
+    return ticket_of(store, writer, &event);
+}
+
+struct kgt_ticket kgt_pump_start(struct kagutin *store, uint64_t writer, uint64_t pump, uint32_t second)
+{
+    return pump_event(store, PUMP_STARTS, writer, pump, second);
+}
+
+struct kgt_ticket kgt_pump_stop(struct kagutin *store, uint64_t writer, uint64_t pump, uint32_t second)
+{
+    return pump_event(store, PUMP_STOPS, writer, pump, second);
+}
+
+struct kgt_ticket kgt_alarm_arrive(struct kagutin *store, uint64_t writer, uint16_t identity, uint64_t alarm_class,
+                                   uint32_t second)
+{
+    struct event event = event_of(ALARM_ARRIVES);
+
+    event.identity = identity;
+    event.alarm_class = alarm_class;
+    event.second = second;
+    return ticket_of(store, writer, &event);
+}
+
+struct kgt_ticket kgt_alarm_clear(struct kagutin *store, uint64_t writer, uint16_t identity)
+{
+    struct event event = event_of(ALARM_CLEARS);
+
+    event.identity = identity;
+    return ticket_of(store, writer, &event);
+}
+
+/* ---- calls that read ---- */
+
+struct kgt_band kgt_bands_look_up(struct kagutin *store, uint64_t writer, uint64_t mm)
+{
+    struct kgt_reply reply = kgt_inner_enter(store);
+    struct kagutin_band found = {0, 0, 0, 0};
+    struct kgt_band band;
+    bool done;
+
+    if (reply.code == KAGUTIN_DONE) {
+        found = kagutin_bands_look_up(KGT_MEMORY(store), writer, mm);
+        reply = kgt_inner_leave(store, kgt_inner_answer(found.code));
+    }
+    done = reply.code == KAGUTIN_DONE;
+    band.code = reply.code;
+    band.from = done ? found.from : KGT_NOT_TOLD;
+    band.to = done ? found.to : KGT_NOT_TOLD;
+    band.pumps = done ? found.pumps : KGT_NOT_TOLD;
+    band.error = reply.error;
+    return band;
+}
+
+struct kgt_hours kgt_pump_hours(struct kagutin *store, uint64_t writer, uint64_t pump)
+{
+    struct kgt_reply reply = kgt_inner_enter(store);
+    struct kagutin_hours found = {0, 0, 0};
+    struct kgt_hours hours;
+    bool done;
+
+    if (reply.code == KAGUTIN_DONE) {
+        found = kagutin_pump_hours(KGT_MEMORY(store), writer, pump);
+        reply = kgt_inner_leave(store, kgt_inner_answer(found.code));
+    }
+    done = reply.code == KAGUTIN_DONE;
+    hours.code = reply.code;
+    hours.starts = done ? found.starts : KGT_NOT_TOLD;
+    hours.seconds = done ? found.seconds : KGT_NOT_TOLD;
+    hours.error = reply.error;
+    return hours;
+}
+
+struct kgt_services kgt_pump_services(struct kagutin *store, uint64_t writer, uint64_t pump, uint64_t interval)
+{
+    struct kgt_reply reply = kgt_inner_enter(store);
+    struct kagutin_services found = {0, 0, 0};
+    struct kgt_services services;
+    bool done;
+
+    if (reply.code == KAGUTIN_DONE) {
+        found = kagutin_pump_services(KGT_MEMORY(store), writer, pump, interval);
+        reply = kgt_inner_leave(store, kgt_inner_answer(found.code));
+    }
+    done = reply.code == KAGUTIN_DONE;
+    services.code = reply.code;
+    services.due = done ? found.due : KGT_NOT_TOLD;
+    services.left = done ? found.left : KGT_NOT_TOLD;
+    services.error = reply.error;
+    return services;
+}
+
+struct kgt_alarm kgt_alarm_gravest(struct kagutin *store, uint64_t writer)
+{
+    struct kgt_reply reply = kgt_inner_enter(store);
+    struct kagutin_alarm found = {0, 0, 0, 0};
+    struct kgt_alarm alarm;
+    bool open;
+
+    if (reply.code == KAGUTIN_DONE) {
+        found = kagutin_alarm_gravest(KGT_MEMORY(store), writer);
+        reply = kgt_inner_leave(store, kgt_inner_answer(found.code));
+    }
+    open = reply.code == KAGUTIN_DONE && found.alarm_class != 0;
+    alarm.code = reply.code;
+    alarm.shown = reply.code != KAGUTIN_DONE ? KGT_ALARM_NOT_TOLD : open ? KGT_ALARM_OPEN : KGT_NONE_OPEN;
+    alarm.identity = open ? found.identity : KGT_NOT_TOLD;
+    alarm.alarm_class = open ? found.alarm_class : KGT_NOT_TOLD;
+    alarm.second = open ? found.second : KGT_NOT_TOLD;
+    alarm.error = reply.error;
+    return alarm;
+}
+
+
+#ifdef KAGUTIN_MEMORY
+/* ==== c/drivers/memory.c ==== */
+
+/* A medium in ordinary memory. */
+
+#include <string.h>
+
+#define WORD 8u
+#define BLOCK 64u
+
+void kgt_memory_init(struct kgt_memory *memory, uint8_t *lasting, uint8_t *written, size_t groups, size_t homes)
+{
+    memory->lasting = lasting;
+    memory->written = written;
+    memory->log_size = KGT_LOG_SIZE(groups);
+    memory->size = memory->log_size + KGT_HOMES_SIZE(homes);
+    memory->low = memory->size;
+    memory->high = 0;
+    memory->left = UINT64_MAX;
+    memory->off = false;
+    memory->unit = WORD;
+    memcpy(written, lasting, memory->size);
+}
+
+void kgt_memory_keep_blocks(struct kgt_memory *memory)
+{
+    memory->unit = BLOCK;
+}
+
+static size_t memory_offset(const struct kgt_memory *memory, enum kgt_area area, size_t at)
+{
+    return area == KGT_LOG ? at : memory->log_size + at;
+}
+
+static void memory_settle(struct kgt_memory *memory)
+{
+    if (memory->low < memory->high)
+        memcpy(memory->lasting + memory->low, memory->written + memory->low, memory->high - memory->low);
+    memory->low = memory->size;
+    memory->high = 0;
+}
+
+static int memory_fence(void *context)
+{
+    struct kgt_memory *memory = (struct kgt_memory *)context;
+
+    if (memory->off)
+        return 1;
+    memory_settle(memory);
+    return 0;
+}
+
+static int memory_load(void *context, enum kgt_area area, size_t at, uint8_t *bytes, size_t size)
+{
+    struct kgt_memory *memory = (struct kgt_memory *)context;
+
+    if (memory_fence(context))
+        return 1;
+    memcpy(bytes, memory->lasting + memory_offset(memory, area, at), size);
+    return 0;
+}
+
+static int memory_write(void *context, enum kgt_area area, size_t at, const uint8_t *bytes, size_t size)
+{
+    struct kgt_memory *memory = (struct kgt_memory *)context;
+    size_t from = memory_offset(memory, area, at), count = size;
+
+    if (memory->off)
+        return 1;
+    if (memory->left != UINT64_MAX) {
+        if (memory->left < size) {
+            count = (size_t)(memory->left - memory->left % memory->unit);
+            memory->off = true;
+        }
+        memory->left -= memory->off ? memory->left : size;
+    }
+    memcpy(memory->written + from, bytes, count);
+    if (from < memory->low)
+        memory->low = from;
+    if (from + count > memory->high)
+        memory->high = from + count;
+    return memory->off;
+}
+
+struct kgt_driver kgt_memory_driver(struct kgt_memory *memory)
+{
+    struct kgt_driver driver;
+
+    driver.context = memory;
+    driver.load = memory_load;
+    driver.write = memory_write;
+    driver.fence = memory_fence;
+    driver.landing = memory->unit == BLOCK ? KGT_LANDS_BLOCKS : KGT_LANDS_WORDS;
+    return driver;
+}
+
+void kgt_memory_stop_after(struct kgt_memory *memory, uint64_t bytes)
+{
+    memory->left = bytes;
+}
+
+void kgt_memory_cut(struct kgt_memory *memory, bool (*lands)(void *context, size_t at), void *context)
+{
+    size_t at;
+
+    for (at = memory->low - memory->low % memory->unit; lands && at < memory->high; at += memory->unit)
+        if (memcmp(memory->lasting + at, memory->written + at, memory->unit) != 0 && !lands(context, at))
+            memcpy(memory->written + at, memory->lasting + at, memory->unit);
+    memory_settle(memory);
+    memory->left = UINT64_MAX;
+    memory->off = false;
+}
+
+#undef BLOCK
+#undef WORD
+#endif
+
+#ifdef KAGUTIN_FRAM
+/* ==== c/drivers/fram.c ==== */
+
+/* A serial FRAM or MRAM. */
+
+#include <string.h>
+
+enum { WRITE_ENABLE = 0x06, WRITE = 0x02, READ = 0x03 };
+enum { fram_WORD = 8, COPY = 32, USED = 12 }; /* distance of the header's copies; bytes of it that are not always zero */
+
+#define BAD_RANGE (-1) /* the header is loaded and written whole, but for zeros in its first word */
+
+static int fram_transfer(struct kgt_fram *fram, uint8_t what, uint32_t at, const uint8_t *out, uint8_t *in, size_t size)
+{
+    uint8_t command[4];
+    unsigned i;
+
+    command[0] = what;
+    for (i = 0; i < fram->address_bytes; i++)
+        command[1 + i] = (uint8_t)(at >> 8 * (fram->address_bytes - 1 - i));
+    return fram->transfer(fram->bus, command, 1 + fram->address_bytes, out, in, size);
+}
+
+static int write_bytes(struct kgt_fram *fram, size_t at, const uint8_t *bytes, size_t size)
+{
+    uint8_t enable = WRITE_ENABLE;
+    int error = fram->transfer(fram->bus, &enable, 1, NULL, NULL, 0);
+
+    return error ? error : fram_transfer(fram, WRITE, fram->base + (uint32_t)at, bytes, NULL, size);
+}
+
+static bool fram_whole(const uint8_t *copy)
+{
+    size_t i;
+
+    for (i = 0; i < USED; i++)
+        if ((copy[i] ^ copy[USED + i]) != 0xFF)
+            return false;
+    return true;
+}
+
+/* Is the start of one copy above that of the other? */
+static bool later(const uint8_t *one, const uint8_t *other)
+{
+    size_t i;
+
+    for (i = 7; i >= 2; i--)
+        if (one[i] != other[i])
+            return one[i] > other[i];
+    return false;
+}
+
+/* Finds the copy that counts: the whole one with the higher start. False if neither is whole. */
+static bool find_newest(struct kgt_fram *fram, const uint8_t *copies)
+{
+    bool first = fram_whole(copies), second = fram_whole(copies + COPY);
+
+    fram->newest = !first || (second && later(copies + COPY, copies));
+    return first || second;
+}
+
+/* Makes the header of the two copies that stand in its place; zeros if neither is whole. */
+static void join_header(struct kgt_fram *fram, uint8_t *header)
+{
+    uint8_t copies[2 * COPY];
+
+    memcpy(copies, header, sizeof copies);
+    memset(header, 0, KAGUTIN_HEADER_SIZE);
+    if (find_newest(fram, copies))
+        memcpy(header, copies + COPY * fram->newest, USED);
+}
+
+/*
+ * The older copy goes first, so that a cut leaves the newest header or none.
+ * The chip is asked which that is: a format need not have loaded anything.
+ */
+static int wipe_header(struct kgt_fram *fram)
+{
+    static const uint8_t none[COPY] = {0};
+    uint8_t copies[2 * COPY];
+    int error = fram_transfer(fram, READ, fram->base, NULL, copies, sizeof copies);
+
+    if (error)
+        return error;
+    find_newest(fram, copies);
+    error = write_bytes(fram, COPY * (size_t)(1 - fram->newest), none, sizeof none);
+    return error ? error : write_bytes(fram, COPY * (size_t)fram->newest, none, sizeof none);
+}
+
+/*
+ * A first word of zeros, which a format writes alone and then with the rest,
+ * wipes both copies; anything else goes to the older one.
+ */
+static int fram_write_header(struct kgt_fram *fram, const uint8_t *header, size_t size)
+{
+    static const uint8_t no_mark[fram_WORD] = {0};
+    uint8_t copy[2 * USED];
+    unsigned older = 1 - fram->newest;
+    size_t i;
+    int error;
+
+    if (size != fram_WORD && size != KAGUTIN_HEADER_SIZE)
+        return BAD_RANGE;
+    if (memcmp(header, no_mark, fram_WORD) == 0)
+        return wipe_header(fram);
+    if (size == fram_WORD)
+        return BAD_RANGE;
+    for (i = 0; i < USED; i++) {
+        copy[i] = header[i];
+        copy[USED + i] = (uint8_t)~header[i];
+    }
+    error = write_bytes(fram, COPY * (size_t)older, copy, sizeof copy);
+    if (!error)
+        fram->newest = older;
+    return error;
+}
+
+static int fram_load(void *context, enum kgt_area area, size_t at, uint8_t *bytes, size_t size)
+{
+    struct kgt_fram *fram = (struct kgt_fram *)context;
+    size_t from = area == KGT_LOG ? at : fram->log_size + at;
+    int error;
+
+    if (from < KAGUTIN_HEADER_SIZE && (from != 0 || size < KAGUTIN_HEADER_SIZE))
+        return BAD_RANGE;
+    error = fram_transfer(fram, READ, fram->base + (uint32_t)from, NULL, bytes, size);
+    if (!error && from == 0)
+        join_header(fram, bytes);
+    return error;
+}
+
+static int fram_write(void *context, enum kgt_area area, size_t at, const uint8_t *bytes, size_t size)
+{
+    struct kgt_fram *fram = (struct kgt_fram *)context;
+    size_t from = area == KGT_LOG ? at : fram->log_size + at;
+
+    if (from >= KAGUTIN_HEADER_SIZE)
+        return write_bytes(fram, from, bytes, size);
+    return from == 0 ? fram_write_header(fram, bytes, size) : BAD_RANGE;
+}
+
+static int fram_fence(void *context)
+{
+    (void)context; /* a transfer returns when its bytes are in the chip */
+    return 0;
+}
+
+void kgt_fram_init(struct kgt_fram *fram, size_t groups, uint32_t base, unsigned address_bytes,
+                   int (*board)(void *bus, const uint8_t *command, size_t command_size, const uint8_t *out,
+                                uint8_t *in, size_t size),
+                   void *bus)
+{
+    fram->transfer = board;
+    fram->bus = bus;
+    fram->base = base;
+    fram->address_bytes = address_bytes;
+    fram->log_size = KGT_LOG_SIZE(groups);
+    fram->newest = 1;
+}
+
+struct kgt_driver kgt_fram_driver(struct kgt_fram *fram)
+{
+    struct kgt_driver driver;
+
+    driver.context = fram;
+    driver.load = fram_load;
+    driver.write = fram_write;
+    driver.fence = fram_fence;
+    driver.landing = KGT_LANDS_WORDS;
+    return driver;
+}
+
+#undef BAD_RANGE
+#endif
+
+#ifdef KAGUTIN_FILE
+/* ==== c/drivers/file.c ==== */
+
+/* Shared by the two files of the file driver. */
+#ifndef KAGUTIN_FILE_INNER_H
+#define KAGUTIN_FILE_INNER_H
+
+
+/* Leaves a message and returns false. */
+bool kgt_file_say(struct kgt_file *file, const char *format, ...);
+
+/* Waits until all that was written is on the disk. */
+int kgt_file_sync(struct kgt_file *file);
+
+/*
+ * Makes the disk hold what is read from the file: reads all of it, writes the
+ * same bytes and syncs. The cache may show writes that a sync could not bring to
+ * the disk, and take them for clean.
+ */
+int kgt_file_write_back(struct kgt_file *file);
+
+#endif
+
+/* Image files: making, opening, closing. */
+
+
+#include <errno.h>
+#include <fcntl.h>
+#include <stdlib.h>
+#include <string.h>
+#include <sys/file.h>
+#include <sys/mman.h>
+#include <sys/stat.h>
+#ifdef __linux__
+#include <sys/syscall.h>
+#endif
+#include <unistd.h>
+
+static void clear(struct kgt_file *file)
+{
+    memset(file, 0, sizeof *file);
+    file->descriptor = -1;
+}
+
+void kgt_file_close(struct kgt_file *file)
+{
+    if (file->map)
+        munmap(file->map, file->size);
+    if (file->descriptor >= 0)
+        close(file->descriptor);
+    file->map = NULL;
+    file->descriptor = -1;
+}
+
+static bool set_shape(struct kgt_file *file, size_t groups, size_t homes)
+{
+    file->groups = groups;
+    file->homes = homes;
+    file->log_size = KGT_LOG_SIZE(groups);
+    file->size = file->log_size + KGT_HOMES_SIZE(homes);
+    if (groups < KAGUTIN_MIN_GROUPS || groups > KAGUTIN_MAX_GROUPS || homes < KAGUTIN_MIN_HOMES
+        || homes > KAGUTIN_MAX_HOMES)
+        return kgt_file_say(file, "%lu groups and %lu homes: groups go from 4 to 1024, homes from 1 to 65535",
+                            (unsigned long)groups, (unsigned long)homes);
+    return true;
+}
+
+static bool file_take_lock(struct kgt_file *file, const char *path)
+{
+    if (flock(file->descriptor, LOCK_EX | LOCK_NB) == 0)
+        return true;
+    if (errno == EWOULDBLOCK)
+        return kgt_file_say(file, "%s: in use", path);
+    return kgt_file_say(file, "%s: cannot be locked: %s", path, strerror(errno));
+}
+
+/* ---- making one ---- */
+
+/* Runs the batch of a format; nothing counts before the file has its name. */
+static bool file_format(struct kgt_file *file)
+{
+    size_t batch_size = KGT_FORMAT_SIZE(file->groups, file->homes);
+    uint8_t *memory = (uint8_t *)calloc(1, file->size + batch_size);
+    uint8_t *area, *batch;
+    struct kgt_driver driver = kgt_file_driver(file);
+    struct kgt_runner runner;
+    struct kagutin_reply reply;
+    bool done;
+
+    if (!memory)
+        return kgt_file_say(file, "out of memory");
+    area = memory + file->log_size;
+    batch = memory + file->size;
+    kgt_runner_init(&runner, driver, file->groups, file->homes);
+    reply = kagutin_format(memory, file->log_size, area, file->size - file->log_size, batch, batch_size);
+    done = reply.code == KAGUTIN_DONE && kgt_run(&runner, batch, (size_t)reply.size) == 0;
+    if (reply.code != KAGUTIN_DONE)
+        kgt_file_say(file, "format: %s", kagutin_answer_text(reply.code));
+    free(memory);
+    return done;
+}
+
+static bool fill(struct kgt_file *file, const char *path)
+{
+    int error = posix_fallocate(file->descriptor, 0, (off_t)file->size);
+
+    if (error)
+        return kgt_file_say(file, "%s: no room for %lu bytes: %s", path, (unsigned long)file->size, strerror(error));
+    if (!file_format(file))
+        return false;
+    if (fsync(file->descriptor) != 0)
+        return kgt_file_say(file, "%s: cannot be synced: %s", path, strerror(errno));
+    return true;
+}
+
+/* For file systems without links, as on memory cards: a rename that replaces nothing. */
+static bool rename_new(const char *temporary, const char *path)
+{
+#ifdef SYS_renameat2
+    return syscall(SYS_renameat2, AT_FDCWD, temporary, AT_FDCWD, path, 1u /* RENAME_NOREPLACE */) == 0;
+#else
+    (void)temporary;
+    (void)path;
+    return false;
+#endif
+}
+
+/* Gives the finished file its name; never replaces another. */
+static bool give_name(struct kgt_file *file, const char *temporary, const char *path)
+{
+    if (link(temporary, path) == 0)
+        return true;
+    if ((errno == EPERM || errno == ENOTSUP || errno == ENOSYS) && rename_new(temporary, path))
+        return true;
+    if (errno == EEXIST)
+        return kgt_file_say(file, "%s: exists already", path);
+    return kgt_file_say(file, "%s: cannot be created: %s", path, strerror(errno));
+}
+
+/* Makes the new name in its folder durable. The path is cut to the folder's. */
+static bool sync_folder(struct kgt_file *file, char *path)
+{
+    char *slash = strrchr(path, '/');
+    const char *name = slash ? path : ".";
+    int folder;
+    bool done;
+
+    if (slash)
+        slash[slash == path] = '\0';
+    folder = open(name, O_RDONLY | O_DIRECTORY | O_CLOEXEC);
+    if (folder < 0)
+        return kgt_file_say(file, "%s: cannot be opened: %s", name, strerror(errno));
+    done = fsync(folder) == 0 || errno == EINVAL; /* EINVAL: the file system has no such sync */
+    if (!done)
+        kgt_file_say(file, "%s: cannot be synced: %s", name, strerror(errno));
+    close(folder);
+    return done;
+}
+
+static bool create_as(struct kgt_file *file, char *temporary, const char *path)
+{
+    bool done;
+
+    file->descriptor = mkstemp(temporary);
+    if (file->descriptor < 0)
+        return kgt_file_say(file, "%s: cannot be created: %s", path, strerror(errno));
+    fcntl(file->descriptor, F_SETFD, FD_CLOEXEC);
+    done = file_take_lock(file, path) && fill(file, path) && give_name(file, temporary, path);
+    unlink(temporary);
+    return done && sync_folder(file, temporary);
+}
+
+bool kgt_file_create(struct kgt_file *file, const char *path, size_t groups, size_t homes)
+{
+    static const char ending[] = ".XXXXXX";
+    size_t length = strlen(path);
+    struct stat status;
+    char *temporary;
+    bool done;
+
+    clear(file);
+    if (!set_shape(file, groups, homes))
+        return false;
+    if (lstat(path, &status) == 0)
+        return kgt_file_say(file, "%s: exists already", path);
+    temporary = (char *)malloc(length + sizeof ending);
+    if (!temporary)
+        return kgt_file_say(file, "out of memory");
+    memcpy(temporary, path, length);
+    memcpy(temporary + length, ending, sizeof ending);
+    done = create_as(file, temporary, path);
+    free(temporary);
+    if (!done)
+        kgt_file_close(file);
+    return done;
+}
+
+/* ---- opening one ---- */
+
+static size_t number16(const uint8_t *bytes)
+{
+    return (size_t)bytes[0] | (size_t)bytes[1] << 8;
+}
+
+/* Reads the header and holds the size against it. */
+static bool check_image(struct kgt_file *file, const char *path, off_t size)
+{
+    uint8_t header[KAGUTIN_HEADER_SIZE];
+    ssize_t got = pread(file->descriptor, header, sizeof header, 0);
+    size_t i;
+
+    if (got < 0)
+        return kgt_file_say(file, "%s: cannot be read: %s", path, strerror(errno));
+    if (got < (ssize_t)sizeof header)
+        return kgt_file_say(file, "%s: short file: %lld bytes, not even a header of 64", path, (long long)size);
+    if (header[0] == 0x50 && header[1] == 0x48)
+        return kgt_file_say(file, "%s: an image of an older format: the header's mark is 50 48, not 50 54", path);
+    if (header[0] != 0x50 || header[1] != 0x54)
+        return kgt_file_say(file, "%s: no image: the header's mark is %02X %02X, not 50 54", path, header[0], header[1]);
+    for (i = 12; i < sizeof header; i++)
+        if (header[i])
+            return kgt_file_say(file, "%s: damaged header: byte %lu is not zero", path, (unsigned long)i);
+    if (header[7] >> 7 && (header[7] > 0x80 || header[2] | header[3] | header[4] | header[5] | header[6]))
+        return kgt_file_say(file, "%s: damaged header: its start is above 2^47", path);
+    if (!set_shape(file, number16(header + 8), number16(header + 10)))
+        return kgt_file_say(file, "%s: damaged header: %lu groups, %lu homes", path, (unsigned long)file->groups,
+                            (unsigned long)file->homes);
+    if (size != (off_t)file->size)
+        return kgt_file_say(file, "%s: %s file: %lld bytes; %lu groups and %lu homes take %lu", path,
+                            size < (off_t)file->size ? "short" : "overlong", (long long)size,
+                            (unsigned long)file->groups, (unsigned long)file->homes, (unsigned long)file->size);
+    return true;
+}
+
+/* Locks the file first; once it is known for an image, what the cache holds of it is brought to the disk. */
+static bool open_image(struct kgt_file *file, const char *path)
+{
+    struct stat status;
+
+    if (fstat(file->descriptor, &status) != 0)
+        return kgt_file_say(file, "%s: cannot be looked at: %s", path, strerror(errno));
+    if (!S_ISREG(status.st_mode))
+        return kgt_file_say(file, "%s: not a regular file", path);
+    if (!(status.st_mode & (S_IWUSR | S_IWGRP | S_IWOTH)))
+        return kgt_file_say(file, "%s: is read-only", path);
+    if (!file_take_lock(file, path))
+        return false;
+    if (fstat(file->descriptor, &status) != 0)
+        return kgt_file_say(file, "%s: cannot be looked at: %s", path, strerror(errno));
+    return check_image(file, path, status.st_size) && kgt_file_write_back(file) == 0;
+}
+
+bool kgt_file_open(struct kgt_file *file, const char *path)
+{
+    clear(file);
+    file->descriptor = open(path, O_RDWR | O_NONBLOCK | O_CLOEXEC);
+    if (file->descriptor < 0)
+        return kgt_file_say(file, "%s: cannot be opened for writing: %s", path, strerror(errno));
+    if (open_image(file, path))
+        return true;
+    kgt_file_close(file);
+    return false;
+}
+
+#endif
+
+#ifdef KAGUTIN_FILE
+/* ==== c/drivers/file_io.c ==== */
+
+/* Reading, writing and syncing image files. */
+
+
+#include <errno.h>
+#include <stdarg.h>
+#include <stdio.h>
+#include <string.h>
+#include <sys/mman.h>
+#include <sys/stat.h>
+#include <unistd.h>
+
+#define WORD 8u
+
+bool kgt_file_say(struct kgt_file *file, const char *format, ...)
+{
+    va_list arguments;
+
+    va_start(arguments, format);
+    vsnprintf(file->message, sizeof file->message, format, arguments);
+    va_end(arguments);
+    return false;
+}
+
+/* From now on every function of the driver fails with this error. */
+static int file_io_fail(struct kgt_file *file, int error, const char *what)
+{
+    file->failed = error ? error : EIO;
+    kgt_file_say(file, "%s: %s", what, strerror(file->failed));
+    return file->failed;
+}
+
+/* A file that has shrunk cannot be mapped safely, and has lost blocks. */
+static int check_size(struct kgt_file *file)
+{
+    struct stat status;
+
+    if (file->failed)
+        return file->failed;
+    if (fstat(file->descriptor, &status) != 0)
+        return file_io_fail(file, errno, "the image cannot be looked at");
+    if (status.st_size == (off_t)file->size)
+        return 0;
+    file->failed = EIO;
+    kgt_file_say(file, "the image has become %lld bytes, it was %lu", (long long)status.st_size,
+                 (unsigned long)file->size);
+    return file->failed;
+}
+
+int kgt_file_sync(struct kgt_file *file)
+{
+    int result = check_size(file);
+
+    if (result)
+        return result;
+    do
+        result = file->map ? msync(file->map, file->size, MS_SYNC) : fdatasync(file->descriptor);
+    while (result != 0 && errno == EINTR);
+    return result == 0 ? 0 : file_io_fail(file, errno, "the image cannot be synced");
+}
+
+static int file_io_fence(void *context)
+{
+    return kgt_file_sync((struct kgt_file *)context);
+}
+
+static size_t file_io_offset(const struct kgt_file *file, enum kgt_area area, size_t at)
+{
+    return area == KGT_LOG ? at : file->log_size + at;
+}
+
+/* Whole words, each by one store: a program that is killed in between leaves no part of one. */
+static void copy_words(uint8_t *to, const uint8_t *from, size_t size)
+{
+    size_t i;
+
+    for (i = 0; i + WORD <= size; i += WORD) {
+        uint64_t word;
+
+        memcpy(&word, from + i, WORD);
+#if defined(__GNUC__)
+        __atomic_store_n((uint64_t *)(void *)(to + i), word, __ATOMIC_RELAXED);
+#else
+        *(volatile uint64_t *)(void *)(to + i) = word;
+#endif
+    }
+}
+
+static int write_mapped(void *context, enum kgt_area area, size_t at, const uint8_t *bytes, size_t size)
+{
+    struct kgt_file *file = (struct kgt_file *)context;
+    int error = check_size(file);
+
+    if (!error)
+        copy_words(file->map + file_io_offset(file, area, at), bytes, size);
+    return error;
+}
+
+/* The cache takes a write page by page, and a page ends where a block does. */
+static int put(struct kgt_file *file, size_t from, const uint8_t *bytes, size_t size)
+{
+    size_t done = 0;
+
+    while (done < size) {
+        ssize_t count = pwrite(file->descriptor, bytes + done, size - done, (off_t)(from + done));
+
+        if (count > 0)
+            done += (size_t)count;
+        else if (count == 0 || errno != EINTR)
+            return file_io_fail(file, count == 0 ? EIO : errno, "the image cannot be written");
+    }
+    return 0;
+}
+
+static int get(struct kgt_file *file, size_t from, uint8_t *bytes, size_t size)
+{
+    size_t done = 0;
+
+    while (done < size) {
+        ssize_t count = pread(file->descriptor, bytes + done, size - done, (off_t)(from + done));
+
+        if (count > 0)
+            done += (size_t)count;
+        else if (count == 0 || errno != EINTR)
+            return file_io_fail(file, count == 0 ? EIO : errno, "the image cannot be read");
+    }
+    return 0;
+}
+
+static int write_file(void *context, enum kgt_area area, size_t at, const uint8_t *bytes, size_t size)
+{
+    struct kgt_file *file = (struct kgt_file *)context;
+    int error = check_size(file); /* a write past the end would make a file long again that has lost blocks */
+
+    return error ? error : put(file, file_io_offset(file, area, at), bytes, size);
+}
+
+/*
+ * What the cache holds is synced first: nothing is loaded that a cut could still
+ * take away. A sync is enough, since all of the image was written when the file
+ * was made or opened, and no sync has failed from then on.
+ */
+static int file_io_load(void *context, enum kgt_area area, size_t at, uint8_t *bytes, size_t size)
+{
+    struct kgt_file *file = (struct kgt_file *)context;
+    size_t from = file_io_offset(file, area, at);
+    int error = kgt_file_sync(file);
+
+    if (error || !file->map)
+        return error ? error : get(file, from, bytes, size);
+    memcpy(bytes, file->map + from, size);
+    return 0;
+}
+
+int kgt_file_write_back(struct kgt_file *file)
+{
+    uint8_t page[4096];
+    size_t at, size;
+
+    for (at = 0; at < file->size; at += size) {
+        int error;
+
+        size = file->size - at < sizeof page ? file->size - at : sizeof page;
+        error = get(file, at, page, size);
+        if (!error)
+            error = put(file, at, page, size);
+        if (error)
+            return error;
+    }
+    return kgt_file_sync(file);
+}
+
+bool kgt_file_map(struct kgt_file *file)
+{
+    void *map = mmap(NULL, file->size, PROT_READ | PROT_WRITE, MAP_SHARED, file->descriptor, 0);
+
+    if (map == MAP_FAILED)
+        return kgt_file_say(file, "the image cannot be mapped: %s", strerror(errno));
+    file->map = (uint8_t *)map;
+    return true;
+}
+
+struct kgt_driver kgt_file_driver(struct kgt_file *file)
+{
+    struct kgt_driver driver;
+
+    driver.context = file;
+    driver.load = file_io_load;
+    driver.write = file->map ? write_mapped : write_file;
+    driver.fence = file_io_fence;
+    driver.landing = file->map ? KGT_LANDS_WORDS : KGT_LANDS_BLOCKS;
+    return driver;
+}
+
+#undef WORD
+#endif
