@@ -44,10 +44,11 @@ C_DUMP_CHECK = tests/drivers/dump_check tests/common/play c/common/homes c/commo
 C_FORMAT_CHECK = tests/drivers/format_check tests/common/play $(C_STORE)
 C_REOPEN_CHECK = tests/drivers/reopen_check tests/common/play $(C_STORE)
 C_DISK_CHECK = tests/drivers/disk_check tests/common/play $(C_STORE)
+C_SEAL_CHECK = tests/programs/seal_check $(C_STORE)
 C_GAUGES_COST = tests/costs/gauges_cost
 C_RIGHTS_COST = tests/costs/rights_cost
 C_QUESTION_COST = tests/costs/question_cost
-C_PROGRAMS = quickstart driver_check store_check reserve_check round_check rights_check file_check kill_check fram_check dump_check format_check reopen_check disk_check gauges_cost rights_cost question_cost
+C_PROGRAMS = quickstart driver_check store_check reserve_check round_check rights_check file_check kill_check fram_check dump_check format_check reopen_check disk_check seal_check gauges_cost rights_cost question_cost
 
 .PHONY: quickstart c-sanitize c-check c-kills c-dist install uninstall c-clean
 
@@ -95,6 +96,7 @@ $(eval $(call C_PROGRAM,dump_check,$(C_DUMP_CHECK),$(LIB)))
 $(eval $(call C_PROGRAM,format_check,$(C_FORMAT_CHECK),$(LIB)))
 $(eval $(call C_PROGRAM,reopen_check,$(C_REOPEN_CHECK),$(LIB)))
 $(eval $(call C_PROGRAM,disk_check,$(C_DISK_CHECK),$(LIB)))
+$(eval $(call C_PROGRAM,seal_check,$(C_SEAL_CHECK),$(LIB)))
 $(eval $(call C_PROGRAM,gauges_cost,$(C_GAUGES_COST),$(GAUGES_LIB)))
 $(eval $(call C_PROGRAM,rights_cost,$(C_RIGHTS_COST),$(LIB)))
 $(eval $(call C_PROGRAM,question_cost,$(C_QUESTION_COST),$(LIB)))
@@ -130,7 +132,7 @@ c-kills: $(C_OUT)/kill_check
 STORE_LIB = $(C_OUT)/libkagutin_store.a
 
 C_WRAPPER = include/kagutin.hpp
-C_PUBLIC = kagutin kagutin_store kagutin_rights kagutin_file kagutin_memory kagutin_fram
+C_PUBLIC = kagutin kagutin_store kagutin_rights kagutin_file kagutin_memory kagutin_fram kagutin_seal
 
 # NAME.c of c/store and c/drivers becomes kagutin_NAME.c there; all headers and sources of dist/ stand in one folder.
 DIST ?= dist
@@ -173,6 +175,7 @@ uninstall:
 include make/port.mk
 include make/units.mk
 include make/program.mk
+include make/fuzz.mk
 include make/all_in_one.mk
 include make/build_systems.mk
 

@@ -61,7 +61,7 @@ uninstall-program:
 install: install-program
 uninstall: uninstall-program
 
-program-check: program
+program-check: program $(C_OUT)/sanitize/seal_check
 	CC="$(CC)" LIB="$(LIB)" sh tests/programs/program-check.sh $(C_OUT)
 
 c-check: program-check

@@ -5,6 +5,7 @@
 #include "blocks.h"
 #include "common/command.h"
 #include "common/homes.h"
+#include "common/records.h"
 #include "kagutin/programs.h"
 
 static const char help[] =
@@ -22,6 +23,16 @@ static bool is_zero(const uint8_t *block)
     static const uint8_t zeros[BLOCK_SIZE] = {0};
 
     return memcmp(block, zeros, BLOCK_SIZE) == 0;
+}
+
+/* Says which blocks have changed since they were sealed; they are printed all the same. */
+static void check_seals(const struct homes *homes, const char *path)
+{
+    size_t home;
+
+    for (home = 0; home < homes->homes; home++)
+        if (record_seal_broken(home, homes->blocks + BLOCK_SIZE * home))
+            command_say("note: %s: home %lu is sealed, and its checksum does not fit", path, (unsigned long)home);
 }
 
 static void print_block(const uint8_t *block, const char *between)
@@ -93,6 +104,7 @@ int export_main(int count, char **words)
         command_quit(STATUS_USAGE, "--as takes json, csv or hex, not '%s'", as);
     if (!homes_read(&homes, path, base, false))
         command_quit(STATUS_TROUBLE, "%s", homes.message);
+    check_seals(&homes, path);
     if (strcmp(as, "json") == 0)
         print_json(&homes);
     else

@@ -2,6 +2,8 @@
 
 #include <string.h>
 
+#include "kagutin_seal.h"
+
 enum { BLOCK = 64, DEPTHS = 10000, MOST_PUMPS = 4, MOST_CLASS = 9 };
 
 static uint32_t number(const uint8_t *bytes, size_t width)
@@ -34,6 +36,17 @@ const char *record_pump(const uint8_t *block, struct pump_record *pump)
     if (pump->starts == 0 && !zeros(block, 4, 13))
         return "no starts, but seconds";
     return NULL;
+}
+
+bool record_has_owner(size_t home)
+{
+    return (home >= 8 && home < RECORD_BANDS_HOME + RECORD_BANDS_HOMES)
+        || (home >= RECORD_PUMP_HOME && home < RECORD_ALARMS_HOME + RECORD_ALARMS_HOMES);
+}
+
+bool record_seal_broken(size_t home, const uint8_t *block)
+{
+    return !record_has_owner(home) && kagutin_look_at_seal(block) == KAGUTIN_SEAL_BROKEN;
 }
 
 /* ---- depth bands ---- */

@@ -42,6 +42,12 @@ const char *record_pump(const uint8_t *block, struct pump_record *pump);
 const char *record_bands(const uint8_t *blocks, struct bands_record *bands);
 const char *record_alarms(const uint8_t *blocks, struct alarms_record *alarms);
 
+/* Is this the home of the list of rights, bands, pumps or alarms? */
+bool record_has_owner(size_t home);
+
+/* Does the block of a home have a seal that does not fit (kagutin_seal.h)? Homes with an owner have none. */
+bool record_seal_broken(size_t home, const uint8_t *block);
+
 /* Is the first alarm graver: of a lower class, then earlier, then of a lower identity? */
 bool alarm_is_graver(const struct alarm_record *one, const struct alarm_record *other);
 

@@ -51,20 +51,29 @@ FILE *text_file_open(const char *path, char *why, size_t size)
     return file;
 }
 
+/* How long the file is behind its mark, or one more than is read. */
+static size_t room_for(FILE *file)
+{
+    struct stat status;
+
+    return fstat(fileno(file), &status) == 0 && status.st_size <= MOST ? (size_t)status.st_size + 1 : (size_t)MOST + 1;
+}
+
 bool text_file_read(const char *path, char **text, char *why, size_t size)
 {
     FILE *file = text_file_open(path, why, size);
-    size_t length;
+    size_t length, room;
 
     if (!file)
         return false;
-    *text = (char *)malloc(MOST + 1);
-    length = *text ? fread(*text, 1, MOST, file) : 0;
+    room = room_for(file);
+    *text = (char *)malloc(room + 1);
+    length = *text ? fread(*text, 1, room, file) : 0;
     if (!*text)
         snprintf(why, size, "%s: out of memory", path);
     else if (ferror(file))
         snprintf(why, size, "%s: cannot be read: %s", path, strerror(errno));
-    else if (length == MOST)
+    else if (length > MOST)
         snprintf(why, size, "%s: too long for a text of homes", path);
     else if (memchr(*text, 0, length))
         snprintf(why, size, "%s: a zero byte, no text", path);

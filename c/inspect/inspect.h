@@ -86,6 +86,9 @@ void print_json(const struct image *image, const struct rule_walk *walk, const s
 void text_units(const struct image *image, const struct fates *fates);
 void json_units(const struct image *image, const struct fates *fates);
 
+/* Notes homes whose checksum does not fit. */
+void units_check(struct image *image, const struct fates *fates);
+
 /* Slots and homes that the file has bytes of; a home may also get its block from the log. */
 size_t image_slots(const struct image *image);
 bool image_has_home(const struct image *image, const struct fates *fates, size_t home);

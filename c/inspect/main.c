@@ -77,6 +77,7 @@ int inspect_main(int count, char **words)
     image_check(&image);
     if (!rule_walk(&image.log, &walk) || !fates_find(&fates, &image, &walk))
         inspect_quit(STATUS_TROUBLE, "out of memory");
+    units_check(&image, &fates);
     (options.json ? print_json : print_text)(&image, &walk, &fates);
     fates_free(&fates);
     rule_free(&walk);

@@ -19,6 +19,20 @@ static bool find(const struct image *image, const struct fates *fates, size_t fi
     return true;
 }
 
+void units_check(struct image *image, const struct fates *fates)
+{
+    uint8_t block[BLOCK];
+    size_t home;
+
+    for (home = 0; home < image->log.homes; home++) {
+        if (!image_has_home(image, fates, home))
+            continue;
+        image_home(image, fates, home, block);
+        if (record_seal_broken(home, block))
+            image_note(image, "home %lu: sealed, and its checksum does not fit", (unsigned long)home);
+    }
+}
+
 /* ---- text ---- */
 
 static void text_bands(const uint8_t *blocks)

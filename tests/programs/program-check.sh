@@ -232,6 +232,17 @@ put 8 '\377\003'
 gives 1 "and of groups" "$k" inspect --json "$tmp/units.img"
 [ "$(wc -c < "$tmp/out")" -lt 90000 ]; report $? "stays small"
 
+# --- sealed blocks ---
+gives 0 "seals, and an image with one" "$san/seal_check" "$tmp/seal.img"
+gives 0 "inspect it" "$k" inspect "$tmp/seal.img"
+gives 0 "export it" "$k" export "$tmp/seal.img"
+[ ! -s "$tmp/log" ]; report $? "without a note"
+put_seal() { printf "$2" | dd of="$tmp/seal.img" bs=1 seek="$1" conv=notrunc 2> /dev/null; }
+put_seal $((64 + 512 * 4 + 64 * 5 + 20)) '\377'
+gives 1 "inspect it with a byte changed" "$k" inspect "$tmp/seal.img"
+shows '^  home 5: sealed, and its checksum does not fit$'
+says "note: .*home 5 is sealed, and its checksum does not fit" 0 "export it" "$k" export "$tmp/seal.img"
+
 # --- FIFOs and folders ---
 mkfifo "$tmp/fifo"
 mkdir "$tmp/folder"
