@@ -10,7 +10,7 @@ use Rattle.model.specs.Layout.{homesIn}
 use Rattle.model.specs.Batch.{Record, GW, HW, KW, FN}
 use Rattle.model.specs.Effects.{Given, formatted}
 use Rattle.model.specs.State.{stateBytes}
-use Rattle.model.specs.Calls.{Outcome, formatCall, openCall, beginCall, reserveCall, abortCall, storeCall, flushCall, confirmCall, settleCall}
+use Rattle.model.specs.Calls.{Outcome, formatCall, openCall, beginCall, reserveCall, abortCall, storeCall, flushCall, confirmCall, settleCall, beginRoundCall, stepRoundCall}
 use Rattle.model.specs.Crash.{Memory, persist}
 use Rattle.model.specs.Layout.{groupsIn}
 use Rattle.model.specs.DemandTwo.{groupWrites}
@@ -116,4 +116,6 @@ EachAside (c ∷ cs) = AsideIn c × EachAside cs
 
 abbrev pub Aside : Type 0
 Aside =
-    (n : ℕ) → EachAside (formatCall ∷ beginCall ∷ (λ g. reserveCall g n) ∷ abortCall ∷ storeCall ∷ flushCall ∷ confirmCall ∷ settleCall ∷ [])
+    (n : ℕ) →
+    EachAside
+    (formatCall ∷ beginCall ∷ (λ g. reserveCall g n) ∷ abortCall ∷ storeCall ∷ flushCall ∷ confirmCall ∷ settleCall ∷ beginRoundCall ∷ (λ g. stepRoundCall g n) ∷ [])

@@ -19,3 +19,11 @@ pub mod TwoRounds
 pub mod Landings
 -- Which commits are owed.
 pub mod Owed
+-- Questions 2 and 3 clause by clause.
+pub mod Disorder
+-- Two questions that fail at once.
+pub mod Precedence
+-- Records in order, every ring slot after an opening, numbers after a trim, a predecessor lost.
+pub mod Orders
+-- All ranges of a list; a list that an opening brings back.
+pub mod Lists

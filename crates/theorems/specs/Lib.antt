@@ -1,3 +1,4 @@
 pub mod Isolation
 pub mod Hidden
 pub mod FirstOpening
+pub mod Lent

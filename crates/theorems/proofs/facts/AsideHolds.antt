@@ -1,16 +1,19 @@
--- The calls that are not lent the newest positions neither look at them nor change them. Assumes nothing.
+-- The calls that are not lent the newest positions neither look at them nor change them; so they end in a history as their contracts say. Assumes nothing.
 use mathlib.Core.Path.{_≡_, refl, ap, _∙_}
 use mathlib.Core.Bool.{Bool, true, false, cond}
-use mathlib.Core.List.{List}
+use mathlib.Core.List.{List, []}
 use Prim.Native.Nat.{ℕ, zero, suc, _+_}
 use lib.Dec.{eqb}
 use Rattle.model.specs.State.{stateOf, nextPosition, writerOf, holds, listHome, listedOf}
 use Rattle.model.specs.declared.Writer.{Writer}
-use Rattle.model.specs.Effects.{Given, Effect, newState, formatEffect, beginEffect, reserveEffect, abortEffect, logHeld, storeFirst, storeAgain, storeOther, storeEffect, flushPart, flushNone, flushEffect, confirmEffect, tagsOf, liveTags, liveBase, settleEffect}
-use Rattle.model.specs.Questions.{areasRight, stateRight, blockRight, stripInOrder, writerKnown, homeKnown, storeAllowed, writerOpen, room, storeLogs, batchFits, inRound, askState, askBlock, formatAnswer, beginAnswer, reserveAnswer, abortAnswer, storeAnswer, flushAnswer, confirmAnswer, settleAnswer}
-use Rattle.model.specs.Calls.{refused, done, sizeOf, outcome, formatCall, beginCall, reserveCall, abortCall, storeCall, flushCall, confirmCall, settleCall}
+use Rattle.model.specs.Effects.{Given, Effect, newState, formatEffect, beginEffect, reserveEffect, abortEffect, logHeld, storeFirst, storeAgain, storeOther, storeEffect, flushPart, flushNone, flushEffect, confirmEffect, tagsOf, liveTags, liveBase, settleEffect, beginRoundEffect, roundTransactions, roundHomes, stepHomes, stepRoundEffect, groups, homes}
+use Rattle.model.specs.Questions.{areasRight, stateRight, blockRight, stripInOrder, writerKnown, homeKnown, storeAllowed, writerOpen, room, storeLogs, batchFits, inRound, askState, askBlock, formatAnswer, beginAnswer, reserveAnswer, abortAnswer, storeAnswer, flushAnswer, confirmAnswer, settleAnswer, beginRoundAnswer, stepRoundAnswer}
+use Rattle.model.specs.Calls.{refused, done, sizeOf, outcome, formatCall, beginCall, reserveCall, abortCall, storeCall, flushCall, confirmCall, settleCall, beginRoundCall, stepRoundCall}
 use Rattle.model.specs.Rights.{forHome, storeList}
 use Rattle.model.specs.Facts.{lentWith, leftWith, AsideIn, Aside}
+use Rattle.model.specs.History.{World, Call, opening, confirm, Change, change, begins, reserves, aborts, stores, commits, flushes, Service, service, settles, roundBegins, roundSteps, trims, reads, lent, ends, changeEnds, serviceEnds}
+use Rattle.abstract_store.specs.Usage.{committedEntries, usageOf, usageIf, usageCall}
+use Rattle.theorems.specs.Lent.{asked, ChangeAsAsked, ServiceAsAsked, AsAsked, LentAlike}
 use Rattle.model_laws.proofs.state.RightLaws.{shown-by, list-by}
 
 -- an effect with other newest positions
@@ -132,5 +135,58 @@ settle-aside g n =
     (unfold settleEffect liveTags tagsOf liveBase effectWith lentWith in refl)
     (λ size. unfold settleAnswer inRound askState areasRight stateRight stripInOrder batchFits lentWith in refl)
 
+begin-round-aside : AsideIn beginRoundCall
+unfolding beginRoundCall
+begin-round-aside g n =
+    beside g n (beginRoundAnswer g) (beginRoundAnswer (lentWith n g)) (beginRoundEffect g) (beginRoundEffect (lentWith n g))
+    (unfold beginRoundEffect newState effectWith lentWith in refl)
+    (unfold beginRoundAnswer inRound askState areasRight stateRight stripInOrder lentWith in refl)
+
+step-round-aside : (k : ℕ) → AsideIn (λ g. stepRoundCall g k)
+unfolding stepRoundCall
+step-round-aside k g n =
+    beside-sized g n (λ h size. stepRoundAnswer h k size) (stepRoundEffect g k) (stepRoundEffect (lentWith n g) k)
+    (unfold stepRoundEffect stepHomes roundHomes roundTransactions liveTags tagsOf liveBase effectWith lentWith in refl)
+    (λ size. unfold stepRoundAnswer inRound askState areasRight stateRight stripInOrder batchFits lentWith in refl)
+
 pub aside : Aside
-aside k = (format-aside, (begin-aside, (reserve-aside k, (abort-aside, (store-aside, (flush-aside, (confirm-aside, (settle-aside, tt))))))))
+aside k = (format-aside, (begin-aside, (reserve-aside k, (abort-aside, (store-aside, (flush-aside, (confirm-aside, (settle-aside, (begin-round-aside, (step-round-aside k, tt))))))))))
+
+-- ---- in a history
+
+change-asked : (w : World) (c : Change) → ChangeAsAsked w c
+unfolding ends changeEnds lent
+change-asked w (begins v) = unfold lentWith in begin-aside (asked w [] [] v 0) (w .newest)
+change-asked w (reserves v n) = unfold lentWith in reserve-aside n (asked w [] [] v 0) (w .newest)
+change-asked w (aborts v) = unfold lentWith in abort-aside (asked w [] [] v 0) (w .newest)
+change-asked w (stores v h block batch) = unfold lentWith in store-aside (asked w block batch v h) (w .newest)
+change-asked w (commits v batch) = tt
+change-asked w (flushes batch) = unfold lentWith in flush-aside (asked w [] batch 0 0) (w .newest)
+
+service-asked : (w : World) (c : Service) → ServiceAsAsked w c
+unfolding ends serviceEnds lent
+service-asked w (settles batch) = unfold lentWith in settle-aside (asked w [] batch 0 0) (w .newest)
+service-asked w roundBegins = unfold lentWith in begin-round-aside (asked w [] [] 0 0) (w .newest)
+service-asked w (roundSteps n batch) = unfold lentWith in step-round-aside n (asked w [] batch 0 0) (w .newest)
+service-asked w (trims batch) = tt
+service-asked w (reads v h block) = tt
+
+call-asked : (w : World) (c : Call) → AsAsked w c
+unfolding ends lent
+call-asked w (opening state newest batch) = tt
+call-asked w confirm = unfold lentWith in confirm-aside (asked w [] [] 0 0) (w .newest)
+call-asked w (change c) = change-asked w c
+call-asked w (service c) = service-asked w c
+
+usage-aside : (g : Given) (n : List ℕ) → usageCall (lentWith n g) ≡ usageCall g
+unfolding usageCall usageIf
+usage-aside g n =
+    go (askState g 0) (askState (lentWith n g) 0) (unfold askState areasRight stateRight stripInOrder lentWith in refl)
+  where
+    go : (a b : ℕ) → b ≡ a → usageIf b (lentWith n g) ≡ usageIf a g
+    go zero b e = rw e (unfold usageOf committedEntries liveTags tagsOf liveBase lentWith in refl)
+    go (suc k) b e = rw e refl
+
+pub lent-alike : LentAlike
+unfolding lent lentWith
+lent-alike = record { calls = call-asked; usage = λ w. usage-aside (asked w [] [] 0 0) (w .newest) }
