@@ -1,2 +1,3 @@
 pub mod OfferedLaws
 pub mod FoldedHolds
+pub mod HomesHold

@@ -8,6 +8,7 @@ use native.Mathlib.Omega.{arith}
 use borrow.Author.Tests.{le-leb}
 use Rattle.model.specs.Bytes.{zeros}
 use Rattle.model.specs.History.{World, afterFormat}
+use Rattle.unit_events.specs.Homes.{pumpHome}
 use Rattle.unit_events.specs.Offered.{heldAfter}
 use Rattle.unit_events.specs.Folded.{noted, offers, ran, notes, stepped, Folded, Recorded}
 use Rattle.unit_events.proofs.FoldedHolds.{events-folded}
@@ -19,7 +20,7 @@ use Rattle.unit_hours_book.specs.Events.{Event, applied}
 use Rattle.unit_hours_book.specs.Guarantees.{answerBy, heldWith, Represents, Timed}
 use Rattle.unit_hours_book.specs.Stored.{judged}
 use Rattle.unit_hours_book.proofs.StoredHolds.{filling, hours-recorded}
-use Rattle.unit_hours.specs.Calls.{pumpHome, known, judge, eventCall}
+use Rattle.unit_hours.specs.Calls.{known, judge, eventCall}
 use Rattle.unit_hours.specs.Histories.{BookAt, BookKept}
 use Rattle.unit_hours.proofs.Claimed.{claimed}
 
