@@ -34,6 +34,6 @@ pub record AlarmsAt (w : World) (es : List Event) : Type 0 where
 abbrev pub AlarmsKept : Type 0
 AlarmsKept =
     (groups homes : ℕ) → alarmHome + alarmHomes ≤ homes → (f : Formatting groups homes) (ss : List (Step Event)) →
-    AllStepsAllowed alarmHome alarmHomes judged heldWith (afterFormat f) ss → SparedBySteps alarmHome alarmHomes judged heldWith Typed ss →
+    AllStepsAllowed alarmHome alarmHomes judged heldWith (afterFormat f) ss → SparedBySteps alarmHome alarmHomes judged heldWith Typed (afterFormat f) ss →
     ran alarmHome alarmHomes judged heldWith (afterFormat f) ss .ready ≡ true →
     AlarmsAt (ran alarmHome alarmHomes judged heldWith (afterFormat f) ss) (noted (notes alarmHome alarmHomes judged heldWith (afterFormat f) ss))

@@ -26,6 +26,6 @@ pub record TableAt (w : World) (ts : List (List ℕ)) : Type 0 where
 abbrev pub TableKept : Type 0
 TableKept =
     (groups homes : ℕ) → tableHome + tableHomes ≤ homes → (f : Formatting groups homes) (ss : List (Step (List ℕ))) →
-    AllStepsAllowed tableHome tableHomes judged stored (afterFormat f) ss → SparedBySteps tableHome tableHomes judged stored Accepted ss →
+    AllStepsAllowed tableHome tableHomes judged stored (afterFormat f) ss → SparedBySteps tableHome tableHomes judged stored Accepted (afterFormat f) ss →
     ran tableHome tableHomes judged stored (afterFormat f) ss .ready ≡ true →
     TableAt (ran tableHome tableHomes judged stored (afterFormat f) ss) (noted (notes tableHome tableHomes judged stored (afterFormat f) ss))

@@ -27,6 +27,6 @@ pub record BookAt (pump : ℕ) (w : World) (es : List Event) : Type 0 where
 abbrev pub BookKept : Type 0
 BookKept =
     (pump : ℕ) → pump ≤ 7 → (groups homes : ℕ) → pumpHome pump + 1 ≤ homes → (f : Formatting groups homes) (ss : List (Step Event)) →
-    AllStepsAllowed (pumpHome pump) 1 judged heldWith (afterFormat f) ss → SparedBySteps (pumpHome pump) 1 judged heldWith Timed ss →
+    AllStepsAllowed (pumpHome pump) 1 judged heldWith (afterFormat f) ss → SparedBySteps (pumpHome pump) 1 judged heldWith Timed (afterFormat f) ss →
     ran (pumpHome pump) 1 judged heldWith (afterFormat f) ss .ready ≡ true →
     BookAt pump (ran (pumpHome pump) 1 judged heldWith (afterFormat f) ss) (noted (notes (pumpHome pump) 1 judged heldWith (afterFormat f) ss))
