@@ -57,5 +57,5 @@ module _ (w : World) (ns : List (Option Event)) (ready : w .ready ≡ true)
 pub alarms-kept : AlarmsKept
 alarms-kept groups homes d f ss ok s ready =
     alarms-at (ran alarmHome 6 judged heldWith (afterFormat f) ss) (notes alarmHome 6 judged heldWith (afterFormat f) ss) ready
-    (events-folded alarmHome 6 judged heldWith Typed (omega arith) filling groups homes d f ss ok s)
-    (alarms-recorded groups homes d f ss ok s)
+    (events-folded alarmHome 6 judged heldWith Typed (omega arith) filling groups homes (omega arith) f ss ok s)
+    (alarms-recorded groups homes (omega arith) f ss ok s)

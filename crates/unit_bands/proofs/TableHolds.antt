@@ -51,5 +51,5 @@ module _ (w : World) (ns : List (Option (List ℕ))) (ready : w .ready ≡ true)
 pub table-kept : TableKept
 table-kept groups homes d f ss ok s ready =
     table-at (ran tableHome 3 judged stored (afterFormat f) ss) (notes tableHome 3 judged stored (afterFormat f) ss) ready
-    (events-folded tableHome 3 judged stored Accepted (omega arith) filling groups homes d f ss ok s)
-    (events-recorded tableHome 3 judged stored Accepted answerBy Represents (omega arith) filling (recording .none) growing groups homes d f ss ok s)
+    (events-folded tableHome 3 judged stored Accepted (omega arith) filling groups homes (omega arith) f ss ok s)
+    (events-recorded tableHome 3 judged stored Accepted answerBy Represents (omega arith) filling (recording .none) growing groups homes (omega arith) f ss ok s)

@@ -48,5 +48,5 @@ module _ (pump : ℕ) (p : pump ≤ 7) (w : World) (ns : List (Option Event)) (r
 pub book-kept : BookKept
 book-kept pump p groups homes d f ss ok s ready =
     book-at pump p (ran (pumpHome pump) 1 judged heldWith (afterFormat f) ss) (notes (pumpHome pump) 1 judged heldWith (afterFormat f) ss) ready
-    (events-folded (pumpHome pump) 1 judged heldWith Timed (omega arith) (filling pump) groups homes d f ss ok s)
-    (hours-recorded pump groups homes d f ss ok s)
+    (events-folded (pumpHome pump) 1 judged heldWith Timed (omega arith) (filling pump) groups homes (omega arith) f ss ok s)
+    (hours-recorded pump groups homes (omega arith) f ss ok s)
