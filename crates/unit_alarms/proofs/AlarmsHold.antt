@@ -7,6 +7,7 @@ use mathlib.Core.Option.{Option}
 use native.Mathlib.Omega.{arith}
 use Rattle.model.specs.Bytes.{zeros}
 use Rattle.model.specs.History.{World, afterFormat}
+use Rattle.unit_events.specs.Homes.{alarmHome}
 use Rattle.unit_events.specs.Offered.{heldAfter}
 use Rattle.unit_events.specs.Folded.{noted, offers, ran, notes, stepped, Folded, Recorded}
 use Rattle.unit_events.proofs.FoldedHolds.{events-folded}
@@ -18,7 +19,7 @@ use Rattle.unit_alarms_list.specs.Events.{Event, arrival, clearing, settled, ap
 use Rattle.unit_alarms_list.specs.Guarantees.{answerBy, heldWith, Represents, Typed}
 use Rattle.unit_alarms_list.specs.Stored.{judged}
 use Rattle.unit_alarms_list.proofs.StoredHolds.{filling, alarms-recorded}
-use Rattle.unit_alarms.specs.Calls.{alarmHome, judge, arriveCall, clearCall}
+use Rattle.unit_alarms.specs.Calls.{judge, arriveCall, clearCall}
 use Rattle.unit_alarms.specs.Claims.{eventCall}
 use Rattle.unit_alarms.specs.Histories.{inRange, AlarmsAt, AlarmsKept}
 use Rattle.unit_alarms.proofs.Claimed.{claimed}
@@ -56,5 +57,5 @@ module _ (w : World) (ns : List (Option Event)) (ready : w .ready ≡ true)
 pub alarms-kept : AlarmsKept
 alarms-kept groups homes d f ss ok s ready =
     alarms-at (ran alarmHome 6 judged heldWith (afterFormat f) ss) (notes alarmHome 6 judged heldWith (afterFormat f) ss) ready
-    (events-folded alarmHome 6 judged heldWith Typed (omega arith) filling groups homes d f ss ok s)
-    (alarms-recorded groups homes d f ss ok s)
+    (events-folded alarmHome 6 judged heldWith Typed (omega arith) filling groups homes (omega arith) f ss ok s)
+    (alarms-recorded groups homes (omega arith) f ss ok s)

@@ -8,13 +8,14 @@ use borrow.Author.Tests.{ne-eqb, not-true, not-false}
 use Rattle.model.specs.Bytes.{zeros}
 use Rattle.call_ask.specs.Lent.{lentAll}
 use Rattle.acts.specs.Many.{fetchCall}
+use Rattle.unit_events.specs.Homes.{alarmHome}
 use Rattle.unit_shared.specs.Unit.{Lent, Left, leaves, asJudged, fetched, event}
 use Rattle.unit_shared.proofs.UnitLaws.{refusal, readAs, fetching}
 use Rattle.unit_alarms_list.specs.Alarm.{classKnown}
 use Rattle.unit_alarms_list.specs.declared.Alarm.{Alarm}
 use Rattle.unit_alarms_list.specs.OpenAlarms.{keptOf}
 use Rattle.unit_alarms_list.specs.Events.{Event, arrival, clearing, applied, leaves as outputLeft}
-use Rattle.unit_alarms.specs.Calls.{alarmHome, judge, arriveCall, clearCall, GravestReply, tells, alarmTells, gravestIn, gravestCall}
+use Rattle.unit_alarms.specs.Calls.{judge, arriveCall, clearCall, GravestReply, tells, alarmTells, gravestIn, gravestCall}
 
 -- what the blocks answer an event, and the new blocks in a buffer of zeros
 pub judging : (e : Event) (blocks given : List ℕ) {answer : ℕ} {next : List ℕ} → given ≡ zeros 384 → outputLeft answer next ≡ applied blocks given e

@@ -7,6 +7,7 @@ use mathlib.Core.Logic.{_≢_}
 use native.Mathlib.Omega.{arith}
 use lib.ListN.{length}
 use Rattle.model.specs.Bytes.{zeros}
+use Rattle.unit_events.specs.Homes.{alarmHome}
 use Rattle.unit_shared.specs.Unit.{Lent, untouched, fetched, revised, transacted, event}
 use Rattle.unit_shared.specs.Shown.{Shown}
 use Rattle.unit_shared.proofs.ShownLaws.{event-refuses, event-stores}
@@ -16,7 +17,7 @@ use Rattle.unit_alarms_list.specs.OpenAlarms.{gravest, told, alarmsOf}
 use Rattle.unit_alarms_list.specs.Events.{Event, arrival, clearing, answer, after, settled, applied}
 use Rattle.unit_alarms_list.specs.Guarantees.{openBy, answerBy, Typed, Says, Represents}
 use Rattle.unit_alarms_list.proofs.Guaranteed.{says, grown, kept-none, readable}
-use Rattle.unit_alarms.specs.Calls.{alarmHome, judge, arriveCall, clearCall, alarmTells, gravestIn, gravestCall}
+use Rattle.unit_alarms.specs.Calls.{judge, arriveCall, clearCall, alarmTells, gravestIn, gravestCall}
 use Rattle.unit_alarms.specs.Claims.{Recording, eventCall, Claim, FirstShown, Claimed}
 
 answers : (es : List Event) (blocks : List ℕ) (e : Event) → Represents es blocks → Typed e → judge e blocks .code ≡ answerBy es e

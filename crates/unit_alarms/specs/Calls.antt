@@ -5,15 +5,12 @@ use mathlib.Core.List.{List}
 use lib.Dec.{eqb}
 use Rattle.model.specs.Bytes.{zeros}
 use Rattle.model.specs.Calls.{Outcome}
+use Rattle.unit_events.specs.Homes.{alarmHome, alarmHomes}
 use Rattle.unit_shared.specs.Unit.{Lent, Left, untouched, Judged, asJudged, fetched, event}
 use Rattle.unit_alarms_list.specs.Alarm.{classKnown}
 use Rattle.unit_alarms_list.specs.declared.Alarm.{Alarm}
 use Rattle.unit_alarms_list.specs.OpenAlarms.{keptOf}
 use Rattle.unit_alarms_list.specs.Events.{Event, arrival, clearing, applied}
-
--- the first of the six homes
-abbrev pub alarmHome : ℕ
-alarmHome = 24
 
 -- "24 .. an arrival already open or a clearing not open; 25 48 open already, at an arrival": "in this order after its 1, 2, 4 and 5 and before the rest"
 unfoldable pub judge : Event → List ℕ → Judged
@@ -21,10 +18,10 @@ judge e blocks = asJudged (applied blocks (zeros 384) e .code) (applied blocks (
 
 -- "24 class out of range": "the class is asked before the store's questions"
 unfoldable pub arriveCall : Lent → ℕ → Alarm → Left
-arriveCall l writer a = cond (classKnown (a .class)) (event l writer alarmHome 6 (judge (arrival a))) (untouched l 24 0)
+arriveCall l writer a = cond (classKnown (a .class)) (event l writer alarmHome alarmHomes (judge (arrival a))) (untouched l 24 0)
 
 unfoldable pub clearCall : Lent → ℕ → ℕ → Left
-clearCall l writer identity = event l writer alarmHome 6 (judge (clearing identity))
+clearCall l writer identity = event l writer alarmHome alarmHomes (judge (clearing identity))
 
 -- "The panel shows the gravest open alarm"; "With none open the gravest is none, told as three zeros." It is kept in the first home.
 pub record GravestReply : Type 0 where

@@ -6,12 +6,13 @@ use mathlib.Core.List.{List, [], _∷_, _++_}
 use mathlib.Core.Logic.{_≢_}
 use lib.ListN.{length}
 use Rattle.model.specs.Bytes.{part, zeros}
+use Rattle.unit_events.specs.Homes.{alarmHome, alarmHomes}
 use Rattle.unit_shared.specs.Unit.{Lent, Left, untouched, fetched, revised, transacted}
 use Rattle.unit_shared.specs.Shown.{Shown}
 use Rattle.unit_alarms_list.specs.OpenAlarms.{gravest, told}
 use Rattle.unit_alarms_list.specs.Events.{Event, arrival, clearing}
 use Rattle.unit_alarms_list.specs.Guarantees.{Says, openBy, answerBy, Typed, Represents}
-use Rattle.unit_alarms.specs.Calls.{alarmHome, judge, arriveCall, clearCall, alarmTells, gravestCall}
+use Rattle.unit_alarms.specs.Calls.{judge, arriveCall, clearCall, alarmTells, gravestCall}
 
 -- homes of zeros say that there was no event; blocks that say what some events do answer the next as they do, and say it too once it is done
 pub record Recording : Type 0 where
@@ -32,11 +33,11 @@ pub record Claim (l : Lent) (writer : ℕ) (es : List Event) (blocks : List ℕ)
   -- 24 and 25 are answered by the arrivals not cleared after
   pub says : (e : Event) → Says (openBy es) e (answerBy es e)
   pub refused :
-      (e : Event) → Typed e → revised l writer alarmHome 6 .code ≡ 0 → answerBy es e ≢ 0 → eventCall l writer e ≡ untouched l (answerBy es e) 0
+      (e : Event) → Typed e → revised l writer alarmHome alarmHomes .code ≡ 0 → answerBy es e ≢ 0 → eventCall l writer e ≡ untouched l (answerBy es e) 0
   pub stored :
       (e : Event) →
       Typed e →
-      revised l writer alarmHome 6 .code ≡ 0 →
+      revised l writer alarmHome alarmHomes .code ≡ 0 →
       answerBy es e ≡ 0 →
       eventCall l writer e ≡ transacted l writer alarmHome (judge e blocks .blocks)
 
@@ -46,5 +47,5 @@ FirstShown l writer blocks = fetched l writer alarmHome 1 .code ≡ 0 → fetche
 
 abbrev pub Claimed : Type 0
 Claimed =
-    (l : Lent) (writer : ℕ) (es : List Event) (blocks : List ℕ) → Represents es blocks → Shown l writer alarmHome 6 blocks → FirstShown l writer blocks →
+    (l : Lent) (writer : ℕ) (es : List Event) (blocks : List ℕ) → Represents es blocks → Shown l writer alarmHome alarmHomes blocks → FirstShown l writer blocks →
     Claim l writer es blocks

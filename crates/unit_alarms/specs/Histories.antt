@@ -5,13 +5,13 @@ use mathlib.Core.Path.{_≡_}
 use mathlib.Core.Bool.{Bool, true}
 use mathlib.Core.List.{List}
 use Rattle.model.specs.History.{World, Formatting, afterFormat}
+use Rattle.unit_events.specs.Homes.{alarmHome, alarmHomes}
 use Rattle.unit_events.specs.Folded.{Step, offers, noted, ran, notes, stepped, AllStepsAllowed, SparedBySteps}
 use Rattle.unit_shared.specs.Moments.{lentIn, Leaves}
 use Rattle.unit_alarms_list.specs.Alarm.{classKnown}
 use Rattle.unit_alarms_list.specs.Events.{Event, arrival, clearing}
 use Rattle.unit_alarms_list.specs.Guarantees.{heldWith, Typed}
 use Rattle.unit_alarms_list.specs.Stored.{judged}
-use Rattle.unit_alarms.specs.Calls.{alarmHome}
 use Rattle.unit_alarms.specs.Claims.{eventCall, Claim}
 
 -- the class is asked before the store's questions: an arrival of another class is no step of the history
@@ -27,13 +27,13 @@ pub record AlarmsAt (w : World) (es : List Event) : Type 0 where
   pub stands :
       (writer : ℕ) (e : Event) (batch : List ℕ) →
       inRange e ≡ true →
-      Leaves w (stepped alarmHome 6 judged heldWith w (offers writer e batch)) (eventCall (lentIn w batch) writer e)
+      Leaves w (stepped alarmHome alarmHomes judged heldWith w (offers writer e batch)) (eventCall (lentIn w batch) writer e)
 
 -- At the end of every history that begins with a done format, and so at every moment of it after a done opening: its steps are alarms' events, done or
 -- refused, and any acts of the store that do not store to the six homes; a crash cuts the book's list to the run.
 abbrev pub AlarmsKept : Type 0
 AlarmsKept =
-    (groups homes : ℕ) → alarmHome + 6 ≤ homes → (f : Formatting groups homes) (ss : List (Step Event)) →
-    AllStepsAllowed alarmHome 6 judged heldWith (afterFormat f) ss → SparedBySteps alarmHome 6 judged heldWith Typed ss →
-    ran alarmHome 6 judged heldWith (afterFormat f) ss .ready ≡ true →
-    AlarmsAt (ran alarmHome 6 judged heldWith (afterFormat f) ss) (noted (notes alarmHome 6 judged heldWith (afterFormat f) ss))
+    (groups homes : ℕ) → alarmHome + alarmHomes ≤ homes → (f : Formatting groups homes) (ss : List (Step Event)) →
+    AllStepsAllowed alarmHome alarmHomes judged heldWith (afterFormat f) ss → SparedBySteps alarmHome alarmHomes judged heldWith Typed (afterFormat f) ss →
+    ran alarmHome alarmHomes judged heldWith (afterFormat f) ss .ready ≡ true →
+    AlarmsAt (ran alarmHome alarmHomes judged heldWith (afterFormat f) ss) (noted (notes alarmHome alarmHomes judged heldWith (afterFormat f) ss))

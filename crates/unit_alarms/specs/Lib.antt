@@ -1,3 +1,5 @@
 pub mod Calls
+pub mod Refusals
 pub mod Claims
 pub mod Histories
+pub mod Example

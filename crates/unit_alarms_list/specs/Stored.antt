@@ -8,25 +8,22 @@ use mathlib.Core.Option.{Option}
 use lib.ListN.{length}
 use Rattle.model.specs.History.{World}
 use Rattle.acts.specs.Units.{fetchEnds}
+use Rattle.unit_events.specs.Homes.{alarmHome, alarmHomes}
 use Rattle.unit_events.specs.Folded.{noted, Recorded, AlwaysRecorded}
 use Rattle.unit_alarms_list.specs.OpenAlarms.{gravest, told, keptOf}
 use Rattle.unit_alarms_list.specs.Events.{Event, applied}
 use Rattle.unit_alarms_list.specs.Guarantees.{openBy, answerBy, heldWith, Represents, Typed}
-
--- the first of their six homes
-abbrev pub firstHome : ℕ
-firstHome = 24
 
 -- what the blocks answer to an event
 unfoldable pub judged : List ℕ → Event → ℕ
 judged bs e = applied bs bs e .code
 
 abbrev pub AlarmsRecorded : Type 0
-AlarmsRecorded = AlwaysRecorded firstHome 6 judged heldWith Typed answerBy Represents
+AlarmsRecorded = AlwaysRecorded alarmHome alarmHomes judged heldWith Typed answerBy Represents
 
 -- "Gravest reads home 24 alone": a done fetch of it tells the gravest of the open alarms
-abbrev pub GravestTold : Type 0
-GravestTold =
-    (w : World) (ns : List (Option Event)) → Recorded firstHome 6 judged heldWith Typed answerBy Represents w ns → (writer : ℕ) (block : List ℕ) →
-    w .ready ≡ true → length block ≡ 64 → fetchEnds w writer firstHome block .code ≡ 0 →
-    keptOf (fetchEnds w writer firstHome block .block) ≡ told (gravest (openBy (noted ns)))
+abbrev pub GravestReply : Type 0
+GravestReply =
+    (w : World) (ns : List (Option Event)) → Recorded alarmHome alarmHomes judged heldWith Typed answerBy Represents w ns → (writer : ℕ) (block : List ℕ) →
+    w .ready ≡ true → length block ≡ 64 → fetchEnds w writer alarmHome block .code ≡ 0 →
+    keptOf (fetchEnds w writer alarmHome block .block) ≡ told (gravest (openBy (noted ns)))

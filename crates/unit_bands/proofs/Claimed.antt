@@ -7,13 +7,14 @@ use mathlib.Core.Option.{Option, none, some}
 use native.Mathlib.Omega.{arith}
 use borrow.Author.Tests.{lt-ltb, ne-eqb}
 use Rattle.model.specs.Bytes.{zeros}
+use Rattle.unit_events.specs.Homes.{tableHome}
 use Rattle.unit_shared.specs.Unit.{Lent, untouched, fetched, transacted}
 use Rattle.unit_shared.specs.Shown.{Shown}
 use Rattle.unit_bands_table.specs.Judge.{depths, judgement}
 use Rattle.unit_bands_table.specs.Packed.{pack, found}
 use Rattle.unit_bands_table.specs.Stored.{lastFrom, lastOf}
 use Rattle.unit_bands_table.proofs.Guaranteed.{promised, blank}
-use Rattle.unit_bands.specs.Calls.{tableHome, accepted, setCall, foundIn, lookUpCall}
+use Rattle.unit_bands.specs.Calls.{accepted, setCall, foundIn, lookUpCall}
 use Rattle.unit_bands.specs.Claims.{Represents, Recording, Claim, Claimed}
 
 last-join : (t : Option (List ℕ)) (ts : List (List ℕ)) (strip : List ℕ) → lastFrom t (ts ++ (strip ∷ [])) ≡ some strip

@@ -7,6 +7,7 @@ use mathlib.Core.Option.{Option}
 use native.Mathlib.Omega.{arith}
 use Rattle.model.specs.Bytes.{zeros}
 use Rattle.model.specs.History.{World, afterFormat}
+use Rattle.unit_events.specs.Homes.{tableHome}
 use Rattle.unit_events.specs.Offered.{heldAfter}
 use Rattle.unit_events.specs.Folded.{noted, sets, ran, notes, stepped, Folded, Recorded, Growing}
 use Rattle.unit_events.proofs.FoldedHolds.{events-folded, events-recorded}
@@ -18,7 +19,7 @@ use Rattle.unit_bands_table.specs.Judge.{judgement}
 use Rattle.unit_bands_table.specs.Packed.{pack}
 use Rattle.unit_bands_table.specs.Stored.{judged, stored, answerBy, Accepted}
 use Rattle.unit_bands_table.proofs.StoredHolds.{filling}
-use Rattle.unit_bands.specs.Calls.{tableHome, accepted, setCall}
+use Rattle.unit_bands.specs.Calls.{accepted, setCall}
 use Rattle.unit_bands.specs.Claims.{Represents}
 use Rattle.unit_bands.specs.Histories.{TableAt, TableKept}
 use Rattle.unit_bands.proofs.Claimed.{recording, claimed}
@@ -50,5 +51,5 @@ module _ (w : World) (ns : List (Option (List ℕ))) (ready : w .ready ≡ true)
 pub table-kept : TableKept
 table-kept groups homes d f ss ok s ready =
     table-at (ran tableHome 3 judged stored (afterFormat f) ss) (notes tableHome 3 judged stored (afterFormat f) ss) ready
-    (events-folded tableHome 3 judged stored Accepted (omega arith) filling groups homes d f ss ok s)
-    (events-recorded tableHome 3 judged stored Accepted answerBy Represents (omega arith) filling (recording .none) growing groups homes d f ss ok s)
+    (events-folded tableHome 3 judged stored Accepted (omega arith) filling groups homes (omega arith) f ss ok s)
+    (events-recorded tableHome 3 judged stored Accepted answerBy Represents (omega arith) filling (recording .none) growing groups homes (omega arith) f ss ok s)

@@ -4,13 +4,10 @@ use mathlib.Core.Bool.{cond}
 use mathlib.Core.List.{List}
 use lib.Dec.{eqb, ltb}
 use Rattle.model.specs.Calls.{Outcome}
+use Rattle.unit_events.specs.Homes.{tableHome, tableHomes}
 use Rattle.unit_shared.specs.Unit.{Lent, Left, untouched, fetched, transacted}
 use Rattle.unit_bands_table.specs.Judge.{Verdict, depths, judgement}
 use Rattle.unit_bands_table.specs.Packed.{Lookup, answered, pack, lookUp}
-
--- the first of the three homes
-abbrev pub tableHome : ℕ
-tableHome = 12
 
 -- "An accepted table goes into its home blocks as one transaction"; "12 and 13 also give the lowest such millimetre, unlike 01's refusals; for a table,
 -- before the store's own questions"
@@ -25,4 +22,4 @@ unfoldable pub foundIn : ℕ → Outcome → Lookup
 foundIn mm o = cond (eqb (o .code) 0) (lookUp (o .block) mm) (answered (o .code) 0 0 0)
 
 unfoldable pub lookUpCall : Lent → ℕ → ℕ → Lookup
-lookUpCall l writer mm = cond (ltb mm depths) (foundIn mm (fetched l writer tableHome 3)) (answered 11 0 0 0)
+lookUpCall l writer mm = cond (ltb mm depths) (foundIn mm (fetched l writer tableHome tableHomes)) (answered 11 0 0 0)

@@ -7,6 +7,7 @@ use mathlib.Core.Logic.{_≢_}
 use mathlib.Core.Option.{Option, none, some}
 use lib.ListN.{length}
 use Rattle.model.specs.Bytes.{zeros}
+use Rattle.unit_events.specs.Homes.{tableHome, tableHomes}
 use Rattle.unit_shared.specs.Unit.{Lent, untouched, fetched, transacted}
 use Rattle.unit_shared.specs.Shown.{Shown}
 use Rattle.unit_bands_table.specs.Rows.{rows}
@@ -14,7 +15,7 @@ use Rattle.unit_bands_table.specs.Judge.{judgement}
 use Rattle.unit_bands_table.specs.Packed.{pack, found, lookUp}
 use Rattle.unit_bands_table.specs.Guarantees.{RowTold}
 use Rattle.unit_bands_table.specs.Stored.{lastOf}
-use Rattle.unit_bands.specs.Calls.{tableHome, setCall, lookUpCall}
+use Rattle.unit_bands.specs.Calls.{setCall, lookUpCall}
 
 -- blocks that hold the last table of a list, an accepted one
 pub record Represents (ts : List (List ℕ)) (blocks : List ℕ) : Type 0 where
@@ -29,7 +30,7 @@ pub record Recording : Type 0 where
 
 pub record Claim (l : Lent) (writer : ℕ) (ts : List (List ℕ)) : Type 0 where
   -- "a cut leaves, whole, the last table of demand 3's run, if any": a lookup answers 11 if there is no table, else a row of the last one
-  pub lookup : (mm : ℕ) → mm ≤ 9999 → fetched l writer tableHome 3 .code ≡ 0 → lookUpCall l writer mm ≡ found mm (lastOf ts)
+  pub lookup : (mm : ℕ) → mm ≤ 9999 → fetched l writer tableHome tableHomes .code ≡ 0 → lookUpCall l writer mm ≡ found mm (lastOf ts)
   -- "Every millimetre from 0 to 9,999 must lie in exactly one row; a lookup gives that row."
   pub row : (strip : List ℕ) → lastOf ts ≡ some strip → (mm : ℕ) → mm ≤ 9999 → RowTold (rows strip) mm
   -- a table is set or refused by its rows
@@ -38,4 +39,4 @@ pub record Claim (l : Lent) (writer : ℕ) (ts : List (List ℕ)) : Type 0 where
   pub stored : (strip : List ℕ) → judgement strip .code ≡ 0 → setCall l writer strip ≡ transacted l writer tableHome (pack strip)
 
 abbrev pub Claimed : Type 0
-Claimed = (l : Lent) (writer : ℕ) (ts : List (List ℕ)) (blocks : List ℕ) → Represents ts blocks → Shown l writer tableHome 3 blocks → Claim l writer ts
+Claimed = (l : Lent) (writer : ℕ) (ts : List (List ℕ)) (blocks : List ℕ) → Represents ts blocks → Shown l writer tableHome tableHomes blocks → Claim l writer ts

@@ -6,10 +6,11 @@ use mathlib.Core.Option.{Option, none, some}
 use native.Mathlib.Omega.{arith}
 use lib.ListN.{length}
 use Rattle.model.specs.Bytes.{zeros}
+use Rattle.unit_events.specs.Homes.{tableHome, tableHomes}
 use Rattle.unit_events.specs.Folded.{Filling, Growing}
 use Rattle.unit_events.proofs.FoldedHolds.{events-recorded}
 use Rattle.unit_bands_table.specs.Packed.{pack, unpack, found, lookUp}
-use Rattle.unit_bands_table.specs.Stored.{firstHome, judged, stored, answerBy, Accepted, lastFrom, lastOf, Represents, TablesRecorded}
+use Rattle.unit_bands_table.specs.Stored.{judged, stored, answerBy, Accepted, lastFrom, lastOf, Represents, TablesRecorded}
 use Rattle.unit_bands_table.proofs.Guaranteed.{promised, blank}
 
 last-joined : (t : Option (List ℕ)) (ss : List (List ℕ)) (s : List ℕ) → lastFrom t (ss ++ (s ∷ [])) ≡ some s
@@ -25,13 +26,13 @@ kept-none : Represents [] (zeros (64 * 3))
 unfolding lastOf lastFrom zeros
 kept-none = kept-of [] (zeros (64 * 3)) (blank .empty)
 
-pub filling : Filling firstHome 3 judged stored
+pub filling : Filling tableHome tableHomes judged stored
 unfolding judged stored
 filling blocks strip z = promised strip .room z
 
-growing : Growing firstHome 3 judged stored Accepted answerBy Represents
+growing : Growing tableHome tableHomes judged stored Accepted answerBy Represents
 unfolding judged stored answerBy lastOf
 growing tables blocks strip k a = (refl, λ z. kept-of (tables ++ (strip ∷ [])) (pack strip) (promised strip .kept z ∙ sym (last-joined none tables strip)))
 
 pub tables-recorded : TablesRecorded
-tables-recorded = events-recorded firstHome 3 judged stored Accepted answerBy Represents (omega arith) filling kept-none growing
+tables-recorded = events-recorded tableHome tableHomes judged stored Accepted answerBy Represents (omega arith) filling kept-none growing

@@ -4,13 +4,10 @@ use Prim.Native.Nat.{ℕ, _+_, _*_}
 use mathlib.Core.Path.{_≡_}
 use mathlib.Core.List.{List, [], _∷_}
 use mathlib.Core.Option.{Option, none, some}
+use Rattle.unit_events.specs.Homes.{tableHome, tableHomes}
 use Rattle.unit_events.specs.Folded.{AlwaysRecorded}
 use Rattle.unit_bands_table.specs.Judge.{judgement}
 use Rattle.unit_bands_table.specs.Packed.{Lookup, pack, unpack, found, lookUp}
-
--- the first of its three homes
-abbrev pub firstHome : ℕ
-firstHome = 12
 
 -- A strip of rows is judged before the store's questions, whatever the homes hold, and packed: a call that sets it reads nothing.
 unfoldable pub judged : List ℕ → List ℕ → ℕ
@@ -39,4 +36,4 @@ pub record Represents (tables : List (List ℕ)) (blocks : List ℕ) : Type 0 wh
   pub lookups : (mm : ℕ) → lookUp blocks mm ≡ found mm (lastOf tables)
 
 abbrev pub TablesRecorded : Type 0
-TablesRecorded = AlwaysRecorded firstHome 3 judged stored Accepted answerBy Represents
+TablesRecorded = AlwaysRecorded tableHome tableHomes judged stored Accepted answerBy Represents

@@ -11,23 +11,25 @@ use lib.ListN.{length, take}
 use lib.Seq.{take-at, take-length}
 use borrow.Author.Tests.{eqb-true, eqb-false, eq-eqb, ne-eqb}
 use Rattle.model.specs.Bytes.{part, zeros}
-use Rattle.model.specs.Calls.{sizeOf}
+use Rattle.model.specs.Batch.{readBatch, readRecords}
+use Rattle.model.specs.Calls.{refused, outcome, sizeOf, storeCall}
+use Rattle.model.specs.Questions.{storeAnswer}
 use Rattle.acts.specs.Many.{blocksLent, transactEffect, transactAnswer, transactCall}
-use Rattle.model.specs.Effects.{Given}
-use Rattle.model.specs.History.{World, unopened, afterFormat, lent}
+use Rattle.model.specs.Effects.{Given, Effect, storeEffect}
+use Rattle.model.specs.History.{Change, begins, reserves, aborts, stores, commits, flushes, opening, confirm, change, service, store, Event, call, crash, World, unopened, afterFormat, lent, ends, changeEnds, isOpening, afterCall, afterRefused, step, Allowed}
 use Rattle.abstract_store.specs.Store.{newStore}
-use Rattle.acts.specs.Units.{Act, plain, transacts, fetches, revises, transactEnds, act, acted, ActAllowed, relabel, Label, other, unit, labelOf, lastUnit, Spared, UnitKept}
+use Rattle.acts.specs.Units.{Act, plain, transacts, fetches, revises, transactEnds, act, acted, ActAllowed, relabel, Label, other, unit, labelOf, lastUnit, SparedByChange, SparedByEvent, Spared, UnitKept}
 use Rattle.model_laws.proofs.bytes.ByteLaws.{length-zeros}
 use Rattle.acts.proofs.ManyLaws.{transact-ready}
 use Rattle.theorems.proofs.steps.DoneLaws.{outcome-code}
-use Rattle.theorems.proofs.store.Reached.{begins}
+use Rattle.theorems.proofs.store.Reached.{begins as begins-reached}
 use Rattle.theorems.proofs.many.UnitBooks.{fit-length}
 use Rattle.theorems.proofs.many.UnitSteps.{Labelled, apart-home, act-labelled, empty-labelled}
 use Rattle.theorems.proofs.many.ActsHold.{refused-stays, revise-stays, Somewhere, act-somewhere}
 use Rattle.theorems.proofs.many.FetchReads.{read-at}
 use Rattle.theorems.proofs.many.UnitsHold.{act-homes, unit-kept}
 use Rattle.unit_events.specs.Offered.{heldAfter, AcceptedFrom}
-use Rattle.unit_events.specs.Folded.{Step, acts, offers, sets, first, noted, AllFit, noteOf, readFor, eventAnswer, storing, actsOf, answered, stepped, ran, notesFrom, notes, StepAllowed, AllStepsAllowed, SparedByAct, SparedByStep, SparedBySteps, JudgedFrom, Folded, EventsFolded, Recorded, Growing, EventsRecorded}
+use Rattle.unit_events.specs.Folded.{Step, acts, offers, sets, Happens, first, noted, AllFit, noteOf, readFor, eventAnswer, storing, actsOf, answered, stepped, ran, notesFrom, notes, StepAllowed, AllStepsAllowed, SparedByAct, SparedByStep, SparedBySteps, JudgedFrom, Folded, EventsFolded, Recorded, Growing, EventsRecorded}
 
 first-zero : (a b : ℕ) → first a b ≡ 0 → (a ≡ 0) × (b ≡ 0)
 unfolding first
@@ -37,8 +39,21 @@ first-zero a b e = go (eqb a 0) refl e
     go true q z = (eqb-true a 0 q, z)
     go false q z = absurd (eqb-false a 0 q z)
 
+-- a refused store leaves the world as it is
+store-left : (w : World) (v h : ℕ) (block batch : List ℕ) (a : ℕ) (e : Effect) → (outcome (lent w block batch v h) a e .code ≡ 0 → ⊥)
+    → afterCall w (store v h block batch) (outcome (lent w block batch v h) a e) (outcome (lent w block batch v h) a e .code) ≡ w
+unfolding outcome afterCall afterRefused refused isOpening lent readBatch readRecords
+store-left w v h block batch zero e n = absurd (n (outcome-code (lent w block batch v h) 0 e))
+store-left w v h block batch (suc k) e n = rw (append-nil (w .pending))
+
+store-stays : (w : World) (v h : ℕ) (block batch : List ℕ) → (ends w (store v h block batch) .code ≡ 0 → ⊥) → act w (plain (call (store v h block batch))) ≡ w
+unfolding act step ends changeEnds storeCall
+store-stays w v h block batch n =
+    let g : Given = lent w block batch v h in
+    store-left w v h block batch (storeAnswer g (sizeOf (storeEffect g))) (storeEffect g) n
+
 -- a done transact has homes
-transact-some : (w : World) (v h : ℕ) (blocks batch : List ℕ) → transactEnds w v h blocks batch .code ≡ 0 → 1 ≤ length blocks / 64
+pub transact-some : (w : World) (v h : ℕ) (blocks batch : List ℕ) → transactEnds w v h blocks batch .code ≡ 0 → 1 ≤ length blocks / 64
 unfolding transactEnds transactCall blocksLent lent
 transact-some w v h blocks batch z =
     let g : Given = lent w blocks batch v h in
@@ -168,18 +183,47 @@ module _ {E : Type 0} (home n : ℕ) (judge : List ℕ → E → ℕ) (apply : L
     unfolding lastUnit
     apart-last h bs m c = rw (ne-eqb h home m)
 
-    act-goes : (a : Act) → 1 ≤ n → ActAllowed w a → SparedByAct home n judge apply a → Going (act w a) (relabel (act w a) ns none)
+    -- an event of demand 3's list that stores to none of the homes, or is refused
+    apart-goes : (e : Event) → 1 ≤ n → Allowed w e → SparedByEvent home n e → Going (act w (plain e)) (relabel (act w (plain e)) ns none)
     unfolding labelOf
-    act-goes (plain e) p ok s = goes-by (plain e) none p ok s (agree-other blank ns (g .labels) other (g .agree) other-last)
+    apart-goes e p ok s = goes-by (plain e) none p ok s (agree-other blank ns (g .labels) other (g .agree) other-last)
+
+    change-goes : (c : Change) → 1 ≤ n → Allowed w (call (change c)) → (ends w (change c) .code ≡ 0 → SparedByChange home n c)
+        → Going (act w (plain (call (change c)))) (relabel (act w (plain (call (change c)))) ns none)
+    change-goes (begins v) p ok s = apart-goes (call (change (begins v))) p ok tt
+    change-goes (reserves v places) p ok s = apart-goes (call (change (reserves v places))) p ok tt
+    change-goes (aborts v) p ok s = apart-goes (call (change (aborts v))) p ok tt
+    change-goes (stores v h block batch) p ok s = go (eqb (ends w (store v h block batch) .code) 0) refl
+      where
+        go : (d : Bool) → eqb (ends w (store v h block batch) .code) 0 ≡ d
+            → Going (act w (plain (call (store v h block batch)))) (relabel (act w (plain (call (store v h block batch)))) ns none)
+        go true e = apart-goes (call (store v h block batch)) p ok (s (eqb-true (ends w (store v h block batch) .code) 0 e))
+        go false e =
+            stays-by (act w (plain (call (store v h block batch)))) none
+            (store-stays w v h block batch (eqb-false (ends w (store v h block batch) .code) 0 e))
+    change-goes (commits v batch) p ok s = apart-goes (call (change (commits v batch))) p ok tt
+    change-goes (flushes batch) p ok s = apart-goes (call (change (flushes batch))) p ok tt
+
+    plain-goes : (e : Event) → 1 ≤ n → Allowed w e → (Happens w e → SparedByEvent home n e)
+        → Going (act w (plain e)) (relabel (act w (plain e)) ns none)
+    plain-goes (call (opening state newest batch)) p ok s = apart-goes (call (opening state newest batch)) p ok tt
+    plain-goes (call confirm) p ok s = apart-goes (call confirm) p ok tt
+    plain-goes (call (change c)) p ok s = change-goes c p ok s
+    plain-goes (call (service c)) p ok s = apart-goes (call (service c)) p ok tt
+    plain-goes (crash passed chosen) p ok s = apart-goes (crash passed chosen) p ok tt
+
+    act-goes : (a : Act) → 1 ≤ n → ActAllowed w a → SparedByAct home n judge apply w a → Going (act w a) (relabel (act w a) ns none)
+    unfolding labelOf
+    act-goes (plain e) p ok s = plain-goes e p ok s
     act-goes (transacts v h blocks batch) p ok s = go (eqb (transactEnds w v h blocks batch .code) 0) refl
       where
         go : (d : Bool) → eqb (transactEnds w v h blocks batch .code) 0 ≡ d
             → Going (act w (transacts v h blocks batch)) (relabel (act w (transacts v h blocks batch)) ns none)
         go true e =
-            goes-by (transacts v h blocks batch) none p ok (inr s)
+            let z : transactEnds w v h blocks batch .code ≡ 0 = eqb-true (transactEnds w v h blocks batch .code) 0 e in
+            goes-by (transacts v h blocks batch) none p ok (inr (s z))
             (agree-other blank ns (g .labels) (unit h blocks) (g .agree)
-            (apart-last h blocks
-            (apart-home home n h (length blocks / 64) p (transact-some w v h blocks batch (eqb-true (transactEnds w v h blocks batch .code) 0 e)) s)))
+            (apart-last h blocks (apart-home home n h (length blocks / 64) p (transact-some w v h blocks batch z) (s z))))
         go false e =
             stays-by (act w (transacts v h blocks batch)) none
             (refused-stays w v h blocks batch (eqb-false (transactEnds w v h blocks batch .code) 0 e))
@@ -224,7 +268,7 @@ module _ {E : Type 0} (home n : ℕ) (judge : List ℕ → E → ℕ) (apply : L
     unfolding acted
     two-acts w a c = refl
 
-    step-goes : (w : World) (ns : List (Option E)) (s : Step E) → Going w ns → StepAllowed home n judge apply w s → SparedByStep home n judge apply Fit s
+    step-goes : (w : World) (ns : List (Option E)) (s : Step E) → Going w ns → StepAllowed home n judge apply w s → SparedByStep home n judge apply Fit w s
         → Going (stepped home n judge apply w s) (relabel (stepped home n judge apply w s) ns (noteOf s))
     unfolding stepped actsOf noteOf
     step-goes w ns (acts a) g ok f = subst (λ (u : World). Going u (relabel u ns none)) (sym (one-act w a)) (act-goes w ns g a p ok f)
@@ -253,7 +297,7 @@ module _ {E : Type 0} (home n : ℕ) (judge : List ℕ → E → ℕ) (apply : L
         subst (λ (x : World). Going x (relabel x ns (some e))) (sym u) (held-goes w ns g p sized ok v e batch (f .0) (apply blank e) (h .0) (sym (h .1)))
 
     all-go : (ss : List (Step E)) (w : World) (ns : List (Option E)) → Going w ns → AllStepsAllowed home n judge apply w ss
-        → SparedBySteps home n judge apply Fit ss → Going (ran home n judge apply w ss) (notesFrom home n judge apply w ns ss)
+        → SparedBySteps home n judge apply Fit w ss → Going (ran home n judge apply w ss) (notesFrom home n judge apply w ns ss)
     unfolding ran notesFrom
     all-go [] w ns g ok f = g
     all-go (s ∷ ss) w ns g ok f =
@@ -288,7 +332,7 @@ module _ {E : Type 0} (home n : ℕ) (judge : List ℕ → E → ℕ) (apply : L
       record {
         labels = [];
         labelled = (unfold afterFormat unopened in empty-labelled home n);
-        somewhere = (newStore groups homes, begins f);
+        somewhere = (newStore groups homes, begins-reached f);
         agree = tt;
         inside = (unfold afterFormat unopened in d);
       } in

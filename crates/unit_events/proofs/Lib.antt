@@ -1,2 +1,4 @@
 pub mod OfferedLaws
 pub mod FoldedHolds
+pub mod HomesHold
+pub mod GuardedHolds

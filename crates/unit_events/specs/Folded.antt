@@ -10,7 +10,7 @@ use lib.ListN.{length, take}
 use Rattle.model.specs.Bytes.{part, zeros}
 use Rattle.model.specs.Calls.{Outcome}
 use Rattle.model.specs.Book.{homesAfter}
-use Rattle.model.specs.History.{World, Formatting, afterFormat}
+use Rattle.model.specs.History.{Event, call, crash, World, Formatting, afterFormat, ends}
 use Rattle.acts.specs.Units.{Act, plain, transacts, fetches, revises, transactEnds, fetchEnds, reviseEnds, acted, ActAllowed, relabel, Apart, SparedByEvent}
 use Rattle.unit_events.specs.Offered.{heldAfter, Accepted}
 
@@ -20,6 +20,11 @@ pub data Step (E : Type 0) : Type 0 where
   acts : Act → Step E
   offers : (writer : ℕ) (event : E) (batch : List ℕ) → Step E
   sets : (writer : ℕ) (event : E) (batch : List ℕ) → Step E
+
+-- a call that is done, and every crash
+abbrev pub Happens : World → Event → Type 0
+Happens w (call c) = ends w c .code ≡ 0
+Happens w (crash passed chosen) = Unit {0}
 
 -- the first refusal of two
 unfoldable pub first : ℕ → ℕ → ℕ
@@ -77,8 +82,8 @@ module _ {E : Type 0} (home n : ℕ) (judge : List ℕ → E → ℕ) (apply : L
   unfoldable pub notes : World → List (Step E) → List (Option E)
   notes w ss = notesFrom w [] ss
 
-  -- The premises: demand 3's; "Nobody else stores there"; every event meets what its C type says, and one that reads
-  -- nothing is done by all blocks.
+  -- The premises: demand 3's; "Nobody else stores there", of the stores and transacts that are done: a refused one may name any home; every event meets
+  -- what its C type says, and one that reads nothing is done by all blocks.
   abbrev pub StepAllowed : World → Step E → Type 0
   StepAllowed w (acts a) = ActAllowed w a
   StepAllowed w (offers writer e batch) = w .ready ≡ true
@@ -88,23 +93,23 @@ module _ {E : Type 0} (home n : ℕ) (judge : List ℕ → E → ℕ) (apply : L
   AllStepsAllowed w [] = Unit {0}
   AllStepsAllowed w (s ∷ ss) = StepAllowed w s × AllStepsAllowed (stepped w s) ss
 
-  abbrev pub SparedByAct : Act → Type 0
-  SparedByAct (plain e) = SparedByEvent home n e
-  SparedByAct (transacts writer h blocks batch) = Apart home n h (length blocks / 64)
-  SparedByAct (fetches writer h blocks) = Unit {0}
-  SparedByAct (revises writer h blocks) = Unit {0}
+  abbrev pub SparedByAct : World → Act → Type 0
+  SparedByAct w (plain e) = Happens w e → SparedByEvent home n e
+  SparedByAct w (transacts writer h blocks batch) = transactEnds w writer h blocks batch .code ≡ 0 → Apart home n h (length blocks / 64)
+  SparedByAct w (fetches writer h blocks) = Unit {0}
+  SparedByAct w (revises writer h blocks) = Unit {0}
 
   abbrev pub Anyhow : E → Type 0
   Anyhow e = (b : List ℕ) → (judge b e ≡ 0) × (apply b e ≡ apply (zeros (64 * n)) e)
 
-  abbrev pub SparedByStep : (E → Type 0) → Step E → Type 0
-  SparedByStep Fit (acts a) = SparedByAct a
-  SparedByStep Fit (offers writer e batch) = Fit e
-  SparedByStep Fit (sets writer e batch) = Fit e × Anyhow e
+  abbrev pub SparedByStep : (E → Type 0) → World → Step E → Type 0
+  SparedByStep Fit w (acts a) = SparedByAct w a
+  SparedByStep Fit w (offers writer e batch) = Fit e
+  SparedByStep Fit w (sets writer e batch) = Fit e × Anyhow e
 
-  abbrev pub SparedBySteps : (E → Type 0) → List (Step E) → Type 0
-  SparedBySteps Fit [] = Unit {0}
-  SparedBySteps Fit (s ∷ ss) = SparedByStep Fit s × SparedBySteps Fit ss
+  abbrev pub SparedBySteps : (E → Type 0) → World → List (Step E) → Type 0
+  SparedBySteps Fit w [] = Unit {0}
+  SparedBySteps Fit w (s ∷ ss) = SparedByStep Fit w s × SparedBySteps Fit (stepped w s) ss
 
   -- each event of a list is done by the blocks that the ones before it left
   abbrev pub JudgedFrom : List ℕ → List E → Type 0
@@ -142,7 +147,7 @@ module _ {E : Type 0} (home n : ℕ) (judge : List ℕ → E → ℕ) (apply : L
   abbrev pub EventsFolded : (E → Type 0) → Type 0
   EventsFolded Fit =
       1 ≤ n → Filling → (groups homes : ℕ) → home + n ≤ homes → (f : Formatting groups homes) (ss : List (Step E)) →
-      AllStepsAllowed (afterFormat f) ss → SparedBySteps Fit ss → Folded Fit (ran (afterFormat f) ss) (notes (afterFormat f) ss)
+      AllStepsAllowed (afterFormat f) ss → SparedBySteps Fit (afterFormat f) ss → Folded Fit (ran (afterFormat f) ss) (notes (afterFormat f) ss)
 
   -- Where the blocks that hold what a list of done events says (`Represents`) answer as the list does and hold, after one more, what the longer list says: for
   -- every front of the book's list its events are an accepted list, and the homes hold what it says; a done fetch gives what the whole list says, and
@@ -178,7 +183,7 @@ module _ {E : Type 0} (home n : ℕ) (judge : List ℕ → E → ℕ) (apply : L
   abbrev pub AlwaysRecorded : (E → Type 0) → (List E → E → ℕ) → (List E → List ℕ → Type 0) → Type 0
   AlwaysRecorded Fit answer Represents =
       (groups homes : ℕ) → home + n ≤ homes → (f : Formatting groups homes) (ss : List (Step E)) → AllStepsAllowed (afterFormat f) ss →
-      SparedBySteps Fit ss → Recorded Fit answer Represents (ran (afterFormat f) ss) (notes (afterFormat f) ss)
+      SparedBySteps Fit (afterFormat f) ss → Recorded Fit answer Represents (ran (afterFormat f) ss) (notes (afterFormat f) ss)
 
   abbrev pub EventsRecorded : (E → Type 0) → (List E → E → ℕ) → (List E → List ℕ → Type 0) → Type 0
   EventsRecorded Fit answer Represents = 1 ≤ n → Filling → Represents [] (zeros (64 * n)) → Growing Fit answer Represents → AlwaysRecorded Fit answer Represents

@@ -1,2 +1,4 @@
+pub mod Homes
 pub mod Offered
 pub mod Folded
+pub mod Guarded

@@ -8,6 +8,7 @@ use native.Mathlib.Omega.{arith}
 use borrow.Author.Tests.{le-leb}
 use Rattle.model.specs.Bytes.{zeros}
 use Rattle.model.specs.History.{World, afterFormat}
+use Rattle.unit_events.specs.Homes.{pumpHome}
 use Rattle.unit_events.specs.Offered.{heldAfter}
 use Rattle.unit_events.specs.Folded.{noted, offers, ran, notes, stepped, Folded, Recorded}
 use Rattle.unit_events.proofs.FoldedHolds.{events-folded}
@@ -19,7 +20,7 @@ use Rattle.unit_hours_book.specs.Events.{Event, applied}
 use Rattle.unit_hours_book.specs.Guarantees.{answerBy, heldWith, Represents, Timed}
 use Rattle.unit_hours_book.specs.Stored.{judged}
 use Rattle.unit_hours_book.proofs.StoredHolds.{filling, hours-recorded}
-use Rattle.unit_hours.specs.Calls.{pumpHome, known, judge, eventCall}
+use Rattle.unit_hours.specs.Calls.{known, judge, eventCall}
 use Rattle.unit_hours.specs.Histories.{BookAt, BookKept}
 use Rattle.unit_hours.proofs.Claimed.{claimed}
 
@@ -47,5 +48,5 @@ module _ (pump : ℕ) (p : pump ≤ 7) (w : World) (ns : List (Option Event)) (r
 pub book-kept : BookKept
 book-kept pump p groups homes d f ss ok s ready =
     book-at pump p (ran (pumpHome pump) 1 judged heldWith (afterFormat f) ss) (notes (pumpHome pump) 1 judged heldWith (afterFormat f) ss) ready
-    (events-folded (pumpHome pump) 1 judged heldWith Timed (omega arith) (filling pump) groups homes d f ss ok s)
-    (hours-recorded pump groups homes d f ss ok s)
+    (events-folded (pumpHome pump) 1 judged heldWith Timed (omega arith) (filling pump) groups homes (omega arith) f ss ok s)
+    (hours-recorded pump groups homes (omega arith) f ss ok s)

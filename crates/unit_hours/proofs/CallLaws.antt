@@ -8,6 +8,7 @@ use borrow.Author.Tests.{ne-eqb, le-leb, lt-leb}
 use Rattle.model.specs.Bytes.{zeros}
 use Rattle.call_ask.specs.Lent.{lentAll}
 use Rattle.acts.specs.Many.{fetchCall}
+use Rattle.unit_events.specs.Homes.{pumpHome}
 use Rattle.unit_shared.specs.Unit.{Lent, Left, leaves, asJudged, fetched, event}
 use Rattle.unit_shared.proofs.UnitLaws.{refusal, readAs, fetching}
 use Rattle.unit_hours_book.specs.Pump.{pumpOf}
@@ -15,7 +16,7 @@ use Rattle.unit_hours_book.specs.declared.Pump.{Pump}
 use Rattle.unit_hours_book.specs.Events.{Event, applied, leaves as blockLeft}
 use Rattle.unit_hours_book.specs.Services.{due}
 use Rattle.unit_hours_book.specs.declared.Due.{Due}
-use Rattle.unit_hours.specs.Calls.{pumpHome, known, judge, eventCall, Hours, hoursTold, pumpTells, hoursIn, hoursCall, Services, servicesTold, dueTells, servicesOf, servicesCall}
+use Rattle.unit_hours.specs.Calls.{known, judge, eventCall, Hours, hoursTold, pumpTells, hoursIn, hoursCall, Services, servicesTold, dueTells, servicesOf, servicesCall}
 
 -- what the pump's block answers an event and holds then
 pub judging : (e : Event) (block : List ℕ) {answer : ℕ} {next : List ℕ} → blockLeft answer next ≡ applied block e → asJudged answer next ≡ judge e block

@@ -5,6 +5,7 @@ use mathlib.Core.List.{List, [], _∷_, _++_}
 use native.Mathlib.Omega.{arith}
 use borrow.Author.Tests.{le-leb}
 use lib.ListN.{length}
+use Rattle.unit_events.specs.Homes.{pumpHome}
 use Rattle.unit_shared.specs.Unit.{Lent, fetched}
 use Rattle.unit_shared.specs.Shown.{Shown}
 use Rattle.unit_shared.proofs.ShownLaws.{event-refuses, event-stores}
@@ -14,7 +15,7 @@ use Rattle.unit_hours_book.specs.Events.{Event, after, settled, applied}
 use Rattle.unit_hours_book.specs.Services.{due}
 use Rattle.unit_hours_book.specs.Guarantees.{starts, total, answerBy, heldWith, Timed, Represents}
 use Rattle.unit_hours_book.proofs.Guaranteed.{grown, kept-none, readable}
-use Rattle.unit_hours.specs.Calls.{pumpHome, known, judge, hoursTold, pumpTells, dueTells, hoursIn, hoursCall, servicesOf, servicesCall}
+use Rattle.unit_hours.specs.Calls.{known, judge, hoursTold, pumpTells, dueTells, hoursIn, hoursCall, servicesOf, servicesCall}
 use Rattle.unit_hours.specs.Claims.{Recording, Claim, Claimed}
 use Rattle.unit_hours.proofs.CallLaws.{event-known}
 

@@ -1,10 +1,11 @@
 -- The calls of the pump hours book: "For pumps 0 to 7 it takes start and stop with a second count (32 bits), and keeps, and gives, starts and total run
 -- seconds .. in one home block each."
-use Prim.Native.Nat.{ℕ, _+_}
+use Prim.Native.Nat.{ℕ}
 use mathlib.Core.Bool.{Bool, cond}
 use mathlib.Core.List.{List}
 use lib.Dec.{eqb, leb}
 use Rattle.model.specs.Calls.{Outcome}
+use Rattle.unit_events.specs.Homes.{pumpHome}
 use Rattle.unit_shared.specs.Unit.{Lent, Left, untouched, Judged, asJudged, fetched, event}
 use Rattle.unit_hours_book.specs.Pump.{pumpOf}
 use Rattle.unit_hours_book.specs.declared.Pump.{Pump}
@@ -13,10 +14,6 @@ use Rattle.unit_hours_book.specs.Services.{due}
 use Rattle.unit_hours_book.specs.declared.Due.{Due}
 pub use Rattle.unit_hours.specs.declared.Hours.{Hours}
 pub use Rattle.unit_hours.specs.declared.Services.{Services}
-
--- the home of a pump
-abbrev pub pumpHome : ℕ → ℕ
-pumpHome pump = 16 + pump
 
 unfoldable pub known : ℕ → Bool
 known pump = leb pump 7

@@ -6,12 +6,13 @@ use mathlib.Core.List.{List, [], _∷_, _++_}
 use mathlib.Core.Logic.{_≢_}
 use lib.ListN.{length}
 use Rattle.model.specs.Bytes.{zeros}
+use Rattle.unit_events.specs.Homes.{pumpHome}
 use Rattle.unit_shared.specs.Unit.{Lent, untouched, fetched, revised, transacted}
 use Rattle.unit_shared.specs.Shown.{Shown}
 use Rattle.unit_hours_book.specs.Events.{Event}
 use Rattle.unit_hours_book.specs.Services.{due}
 use Rattle.unit_hours_book.specs.Guarantees.{starts, total, answerBy, Timed, Represents}
-use Rattle.unit_hours.specs.Calls.{pumpHome, judge, eventCall, hoursTold, dueTells, hoursCall, servicesCall}
+use Rattle.unit_hours.specs.Calls.{judge, eventCall, hoursTold, dueTells, hoursCall, servicesCall}
 
 -- a home of zeros says that there was no event; a block that says what some events do answers the next as they do, and says it too once it is done
 pub record Recording : Type 0 where

@@ -4,12 +4,13 @@ use mathlib.Core.Path.{_≡_}
 use mathlib.Core.Bool.{true}
 use mathlib.Core.List.{List}
 use Rattle.model.specs.History.{World, Formatting, afterFormat}
+use Rattle.unit_events.specs.Homes.{pumpHome}
 use Rattle.unit_events.specs.Folded.{Step, offers, noted, ran, notes, stepped, AllStepsAllowed, SparedBySteps}
 use Rattle.unit_shared.specs.Moments.{lentIn, Leaves}
 use Rattle.unit_hours_book.specs.Events.{Event}
 use Rattle.unit_hours_book.specs.Guarantees.{heldWith, Timed}
 use Rattle.unit_hours_book.specs.Stored.{judged}
-use Rattle.unit_hours.specs.Calls.{pumpHome, eventCall}
+use Rattle.unit_hours.specs.Calls.{eventCall}
 use Rattle.unit_hours.specs.Claims.{Claim}
 
 -- At a moment whose book's list has, among other commits, the events `es` of a pump: the pump's block holds what they say, every call on the pump
@@ -26,6 +27,6 @@ pub record BookAt (pump : ℕ) (w : World) (es : List Event) : Type 0 where
 abbrev pub BookKept : Type 0
 BookKept =
     (pump : ℕ) → pump ≤ 7 → (groups homes : ℕ) → pumpHome pump + 1 ≤ homes → (f : Formatting groups homes) (ss : List (Step Event)) →
-    AllStepsAllowed (pumpHome pump) 1 judged heldWith (afterFormat f) ss → SparedBySteps (pumpHome pump) 1 judged heldWith Timed ss →
+    AllStepsAllowed (pumpHome pump) 1 judged heldWith (afterFormat f) ss → SparedBySteps (pumpHome pump) 1 judged heldWith Timed (afterFormat f) ss →
     ran (pumpHome pump) 1 judged heldWith (afterFormat f) ss .ready ≡ true →
     BookAt pump (ran (pumpHome pump) 1 judged heldWith (afterFormat f) ss) (noted (notes (pumpHome pump) 1 judged heldWith (afterFormat f) ss))

@@ -1,3 +1,4 @@
+pub mod RefusalsHold
 pub mod UnitLaws
 pub mod ShownLaws
 pub mod MomentLaws

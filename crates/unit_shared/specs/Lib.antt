@@ -1,3 +1,4 @@
 pub mod Unit
+pub mod Refusals
 pub mod Shown
 pub mod Moments

@@ -1,0 +1,50 @@
+-- What the calls on the table answer for every input. Assumes nothing.
+use Prim.Native.Nat.{ℕ, _≤_, _<_}
+use mathlib.Core.Path.{_≡_, sym, ap, _∙_, subst}
+use mathlib.Core.List.{List}
+use mathlib.Core.Logic.{_≢_}
+use native.Mathlib.Omega.{arith}
+use borrow.Author.Tests.{ne-eqb, lt-ltb, le-ltb}
+use Rattle.unit_events.specs.Homes.{tableHome, tableHomes}
+use Rattle.unit_shared.specs.Unit.{Lent, Left, untouched, fetched, transacted}
+use Rattle.unit_shared.specs.Refusals.{Refusal}
+use Rattle.unit_shared.proofs.RefusalsHold.{untouched-refuses, unit-refusals}
+use Rattle.unit_bands_table.specs.Judge.{depths, judgement}
+use Rattle.unit_bands_table.specs.Packed.{answered, pack}
+use Rattle.unit_bands.specs.Calls.{accepted, setCall, foundIn, lookUpCall}
+use Rattle.unit_bands.specs.Refusals.{Refusals, RefusalsOnTables}
+
+module _ (l : Lent) (writer : ℕ) where
+  deep : (mm : ℕ) → 9999 < mm → lookUpCall l writer mm ≡ answered 11 0 0 0
+  unfolding lookUpCall depths
+  deep mm h = rw (le-ltb mm 10000 (omega arith))
+
+  unread : (mm : ℕ) → mm ≤ 9999 → fetched l writer tableHome tableHomes .code ≢ 0
+      → lookUpCall l writer mm ≡ answered (fetched l writer tableHome tableHomes .code) 0 0 0
+  unfolding lookUpCall foundIn depths
+  unread mm h n = rw (lt-ltb mm 10000 (omega arith), ne-eqb (fetched l writer tableHome tableHomes .code) 0 n)
+
+  module _ (strip : List ℕ) where
+    turned-down : judgement strip .code ≢ 0 → setCall l writer strip ≡ untouched l (judgement strip .code) (judgement strip .millimetre)
+    unfolding setCall accepted
+    turned-down n = rw (ne-eqb (judgement strip .code) 0 n)
+
+    taken : judgement strip .code ≡ 0 → setCall l writer strip ≡ transacted l writer tableHome (pack strip)
+    unfolding setCall accepted
+    taken z = rw z
+
+    rows : judgement strip .code ≢ 0
+        → (setCall l writer strip .code ≡ judgement strip .code) × Refusal l (judgement strip .millimetre) (setCall l writer strip)
+    unfolding untouched
+    rows n = (ap (λ (x : Left). x .code) (turned-down n), subst (Refusal l (judgement strip .millimetre)) (sym (turned-down n)) (untouched-refuses l (judgement strip .code) (judgement strip .millimetre)))
+
+    asked : judgement strip .code ≡ 0 → setCall l writer strip .code ≡ transacted l writer tableHome (pack strip) .code
+    asked z = ap (λ (x : Left). x .code) (taken z)
+
+    refusal : judgement strip .code ≡ 0 → setCall l writer strip .code ≢ 0 → Refusal l 0 (setCall l writer strip)
+    refusal z n =
+        subst (Refusal l 0) (sym (taken z)) (unit-refusals l writer tableHome .transactions (pack strip) (λ e. n (asked z ∙ e)))
+
+pub refusals-on-tables : RefusalsOnTables
+refusals-on-tables l writer =
+    record { deep = deep l writer; unread = unread l writer; rows = rows l writer; asked = asked l writer; refusal = refusal l writer }
