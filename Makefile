@@ -29,6 +29,8 @@ export MIMALLOC_PURGE_DELAY = -1
 export RT_JOBS ?= $(shell n=$$(nproc 2>/dev/null || echo 1); [ $$n -le 4 ] || n=4; echo $$((n + 1)))
 
 SEED ?= 1
+# The cases of the definitions draw a new seed each run and print it; give it to repeat a run.
+DEFINITIONS_SEED ?=
 CUTS ?= 300
 HISTORIES ?= 400
 
@@ -98,7 +100,7 @@ quick: all c-quick generator-quick
 # The proofs come first, so that the library is made from what they have just proved; their verdict is printed again as the last line.
 test: reference
 	cd rust && cargo test --release --offline --quiet
-	python3 tests/definitions/definitions.py $(SEED) 200
+	python3 tests/definitions/definitions.py 200 $(DEFINITIONS_SEED)
 	verdict=$$(mktemp) && trap 'rm -f "$$verdict"' EXIT && \
 	rt ci 2>&1 | tee "$$verdict" && \
 	$(MAKE) --no-print-directory test-library && \

@@ -5,11 +5,14 @@ The reference implementation prints cases on random and damaged input: what a ca
 written down that the definition leaves the same answer, figure, batch length, strip, newest positions, copies, block and batch buffer, or of the call usage that
 it tells the same numbers, and the prover computes it.
 
-usage: definitions.py SEED COUNT      (COUNT cases; one in five is of a call on several homes, one in ten of usage)
+usage: definitions.py COUNT [SEED]      (COUNT cases; one in five is of a call on several homes, one in ten of usage)
+
+G is drawn from 4 to 7. Without a seed each run draws a new one; it is printed first, so that a run can be repeated.
 """
 import collections
 import json
 import pathlib
+import random
 import shutil
 import subprocess
 import sys
@@ -84,7 +87,9 @@ def statement(number, case):
 
 
 def main():
-    seed, count = sys.argv[1:3]
+    count = sys.argv[1]
+    seed = sys.argv[2] if len(sys.argv) > 2 else str(random.SystemRandom().randrange(1, 2**32))
+    print(f"definitions: seed {seed}", flush=True)
     several, usages = int(count) // 5, int(count) // 10
     words = [VECTORS, "--seed", seed, "--count", str(int(count) - several - usages), "--several", str(several), "--usages", str(usages)]
     printed = subprocess.run(words, capture_output=True, text=True, check=True).stdout
@@ -111,7 +116,9 @@ def main():
     if told.returncode != 0:
         print(told.stdout[-3000:], told.stderr[-3000:], sep="\n")
         sys.exit(f"definitions: some of {len(cases)} cases differ from the reference implementation (seed {seed})")
-    print(f"definitions: {len(cases)} cases as the reference implementation has them; {len(answers)} pairs of call and answer")
+    groups = collections.Counter(case["g"] for case in cases if "g" in case)
+    sizes = ", ".join(f"{groups[g]} with G {g}" for g in sorted(groups) if 4 <= g <= 7)
+    print(f"definitions: {len(cases)} cases as the reference implementation has them; {len(answers)} pairs of call and answer; {sizes}")
 
 
 main()

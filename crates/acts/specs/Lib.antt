@@ -1,3 +1,5 @@
 pub mod Many
 pub mod Units
 pub mod Together
+pub mod Verdicts
+pub mod ManyRefusals

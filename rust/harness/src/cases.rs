@@ -50,7 +50,7 @@ impl Cases {
         let kind = Kind::ALL[rng.weighted(&WEIGHTS)];
         let (shape, mut lent) = if rng.chance(if kind.takes_home() { 55 } else { 40 }) {
             let listed = kind.takes_home() && rng.chance(50);
-            let shape = Shape { groups: 4, homes: if listed { 13 } else { random_homes(rng) } };
+            let shape = Shape { groups: rng.between(4, 7), homes: if listed { 13 } else { random_homes(rng) } };
             (shape, craft(rng, shape))
         } else {
             self.advance(kind);
@@ -112,7 +112,7 @@ impl Cases {
 }
 
 fn fresh_world(rng: &mut Rng) -> World {
-    let shape = Shape { groups: 4, homes: random_homes(rng) };
+    let shape = Shape { groups: rng.between(4, 7), homes: random_homes(rng) };
     let start = if rng.chance(15) { START_LIMIT - rng.between(4, 14) } else { 0 };
     World::new(shape, start)
 }
@@ -129,7 +129,7 @@ fn random_homes(rng: &mut Rng) -> u64 {
 /// Leaves one place in the next group, if the log is not full.
 fn fill_group(lent: &mut Lent) {
     let next = word(&lent.state, at::NEXT);
-    if next < word(&lent.state, at::START).saturating_add(4) {
+    if next < word(&lent.state, at::START).saturating_add(word(&lent.state, at::GROUPS)) {
         put_word(&mut lent.state, at::FILLED, 6);
     }
 }

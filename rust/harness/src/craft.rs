@@ -137,7 +137,7 @@ fn craft_link(rng: &mut Rng, offset: u64, start: u64, last: Option<u64>, wrong: 
 /// Memory for a call on several homes, damaged at times, with a writer, most
 /// often an idle one, and a home.
 pub fn random_chain(rng: &mut Rng) -> (Lent, u64, u64) {
-    let shape = Shape { groups: 4, homes: rng.pick(&[1, 4, 8, 10, 12, 14, 20, 20]) };
+    let shape = Shape { groups: rng.between(4, 7), homes: rng.pick(&[1, 4, 8, 10, 12, 14, 20, 20]) };
     let mut lent = craft(rng, shape);
     if rng.chance(50) {
         damage_group(rng, &mut lent, shape);

@@ -10,6 +10,8 @@ use Rattle.model.specs.Effects.{Given, Effect, formatEffect, openEffect, openSt
 use Rattle.model.specs.Questions.{ask, askState, askBlock, askNewest, askBoth, formatAnswer, openAnswer, beginAnswer, reserveAnswer, abortAnswer, storeAnswer, commitAnswer, flushAnswer, confirmAnswer, settleAnswer, trimAnswer, readAnswer, beginRoundAnswer, stepRoundAnswer}
 use Rattle.model.specs.Calls.{Outcome, refused, done, sizeOf, outcome, formatCall, openCall, beginCall, reserveCall, abortCall, storeCall, commitCall, flushCall, confirmCall, settleCall, trimCall, readCall, beginRoundCall, stepRoundCall}
 use Rattle.model.specs.Refusals.{refuses, Untouched, DoneOrUntouched, Refusals}
+use Rattle.acts.specs.Many.{askHomes, fetchAnswer, reviseAnswer, transactAnswer, fetchCall, reviseCall, transactCall}
+use Rattle.acts.specs.ManyRefusals.{ManyRefusals}
 
 -- an answer is 0 or one of the numbers that refuse
 abbrev Known : ℕ → Type 0
@@ -104,3 +106,24 @@ read-untouched g = by-number g _ _ (both-known g _ (known _ 4 _ refl (known _ 5 
 pub refusals : Refusals
 refusals n =
     (format-untouched, (open-untouched, (begin-untouched, (reserve-untouched n, (abort-untouched, (store-untouched, (commit-untouched, (flush-untouched, (confirm-untouched, (settle-untouched, (begin-round-untouched, (step-round-untouched n, (trim-untouched, (read-untouched, tt))))))))))))))
+
+-- ---- calls on several homes
+
+homes-known : (g : Given) (v : ℕ) → Known v → Known (askHomes g v)
+unfolding askHomes refuses
+homes-known g v l = known _ 1 _ refl (known _ 2 _ refl (known _ 4 _ refl (known _ 5 v refl l)))
+
+fetch-untouched : DoneOrUntouched fetchCall
+unfolding fetchCall fetchAnswer refuses
+fetch-untouched g = by-number g _ _ (homes-known g _ (known _ 20 0 refl refl))
+
+revise-untouched : DoneOrUntouched reviseCall
+unfolding reviseCall reviseAnswer refuses
+revise-untouched g = by-number g _ _ (homes-known g _ (known _ 19 _ refl (known _ 20 0 refl refl)))
+
+transact-untouched : DoneOrUntouched transactCall
+unfolding transactCall transactAnswer refuses
+transact-untouched g = by-number g _ _ (homes-known g _ (known _ 19 _ refl (known _ 6 _ refl (known _ 8 _ refl (known _ 9 0 refl refl)))))
+
+pub many-refusals : ManyRefusals
+many-refusals = (fetch-untouched, (revise-untouched, (transact-untouched, tt)))
