@@ -17,6 +17,7 @@
 # make c-check    tests of the C side alone; make c-kills KILLS=N kills a process at work N times
 # make page       docs/page/index.html, a page that opens an image and lets anyone cut the power
 # make lint       layout and lint, as far as the tools are installed
+# make fuzz       fuzzers of all readers, FUZZ_SECONDS each, where clang is installed; c-check has a short run of them
 # make clean      removes all that was built and proved
 # make help       this list
 

@@ -158,11 +158,26 @@ static void json_home(const struct image *image, const struct fates *fates, size
     putchar('}');
 }
 
+/* The homes that the file has or the log gives, and what those with an owner hold. */
+static void json_homes(const struct image *image, const struct fates *fates)
+{
+    bool comma = false;
+    size_t i;
+
+    fputs("\"homes\":[", stdout);
+    for (i = 0; i < image->log.homes; i++)
+        if (image_has_home(image, fates, i))
+            json_home(image, fates, i, &comma);
+    fputs("],\n ", stdout);
+    json_units(image, fates);
+    fputs(",\n \"rights\":", stdout);
+    json_rights(image, fates);
+}
+
 void print_json(const struct image *image, const struct rule_walk *walk, const struct fates *fates)
 {
     static const char *const stops[] = {"end", "incomplete", "link"};
     const struct rule_log *log = &image->log;
-    bool comma = false;
     char stop[200];
     size_t i;
 
@@ -189,14 +204,8 @@ void print_json(const struct image *image, const struct rule_walk *walk, const s
         printf("%llu", (number)walk->failed.closing);
     fputs(",\"why\":", stdout);
     json_string(stop);
-    printf(",\"unreached\":%lu},\n \"homes\":[", (unsigned long)walk->unreached);
-    for (i = 0; i < log->homes; i++)
-        if (image_has_home(image, fates, i))
-            json_home(image, fates, i, &comma);
-    fputs("],\n ", stdout);
-    json_units(image, fates);
-    fputs(",\n \"rights\":", stdout);
-    json_rights(image, fates);
+    printf(",\"unreached\":%lu},\n ", (unsigned long)walk->unreached);
+    json_homes(image, fates);
     fputs(",\n \"damage\":[", stdout);
     for (i = 0; i < image->note_count; i++) {
         fputs(i ? ",\n  " : "\n  ", stdout);
