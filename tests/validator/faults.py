@@ -43,5 +43,4 @@ FAULTS = [
     ('sources.py', "function.names[1:function.params + 1] = names", "function.names[1:function.params + 1] = names[::-1]", 'dist/kagutin_inflow.c'),
     ('c_functions.py', "parts.append(f'.{n} = ({self.types.c(u)})r.{n}')", "parts.append(f'.{n} = ({self.types.c(u)})r.code')", 'dist/kagutin_hours.c'),
     ('c_functions.py', "args += [f'{n}.ptr', f'{n}.len']", "args += [f'{n}.ptr', f'{n}.len - 1u']", 'dist/kagutin_hours.c'),
-    ('c_types.py', "if (m := (self.variant_member(i, u), u)) not in out]", "if (m := (self.variant_member(i, u), u)) not in out][:1]", 'random'),
 ]
