@@ -1,7 +1,7 @@
 # make            builds the library and the C programs from dist/, with a C compiler alone
 # make run        a pump station on the store: power cuts at random, each opening checked; alarm panel and wear sheet at the end
 # make quick      the edit loop: C programs from dist/ and quick tests, within two minutes and without the prover
-# make test       runs every test and every proof; the prover's verdict is the last line
+# make test       runs every test and every proof; the prover's verdict is the last line; without the prover all that needs none
 # make library    the proved archive for x86-64 Linux, target/staticlib/libkagutin.a; make LIB=that run and so on use it
 # make dist       dist/kagutin.c again from the proved program; the gate fails where it differs
 # make all-in-one dist/kagutin_all.c and .h, one file and one header to drop in; make sizes tells what they take on a Cortex-M4
@@ -98,14 +98,30 @@ quick: all c-quick generator-quick
 	    && echo "reference: tests passed" || { cat ../target/quick.log; exit 1; }; \
 	else echo "skipped the reference implementation: no cargo"; fi
 
-# The proofs come first, so that the library is made from what they have just proved; their verdict is printed again as the last line.
-test: reference
+# With the prover: the proofs come first, so that the library is made from what they have just proved; their verdict is printed again as the last line.
+# Without it all that needs none, and what was left out as the last lines.
+.PHONY: test-proved test-unproved test-reference
+test:
+	@if command -v rt > /dev/null; then $(MAKE) --no-print-directory test-proved; else $(MAKE) --no-print-directory test-unproved; fi
+
+test-reference: reference
 	cd rust && cargo test --release --offline --quiet
+
+test-proved: test-reference
 	python3 tests/definitions/definitions.py 200 $(DEFINITIONS_SEED)
 	verdict=$$(mktemp) && trap 'rm -f "$$verdict"' EXIT && \
 	rt ci 2>&1 | tee "$$verdict" && \
 	$(MAKE) --no-print-directory test-library && \
 	tail -n 1 "$$verdict"
+
+test-unproved: all
+	@if command -v cargo > /dev/null; then $(MAKE) --no-print-directory test-reference; \
+	else echo "skipped the reference implementation: no cargo"; fi
+	@if command -v python3 > /dev/null; then python3 tests/generator/forms.py && python3 tests/generator/buffers.py; \
+	else echo "skipped the generator's tests: no python3"; fi
+	$(MAKE) --no-print-directory c-check page-check board-check
+	@echo "test: all passed that needs no prover. Left out, since rt is not on the path (docs/USING.md, Toolchain):"
+	@echo "  the proofs; the definitions against the reference implementation; dist/ made again from the proved program; the comparisons, which link the proved archive"
 
 # The comparisons and the tests of the C side need nothing of each other: two at a time, and what they say when both are done.
 test-library: rust/target/release/bench

@@ -5,7 +5,7 @@
 
 .PHONY: build-check arduino
 build-check:
-	@CC="$(CC)" MAKE="$(MAKE)" sh tests/programs/build-check.sh
+	@CC="$(CC)" sh tests/programs/build-check.sh
 
 ARDUINO = target/arduino/Kagutin
 arduino:

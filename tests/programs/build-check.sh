@@ -21,7 +21,7 @@ counts() {
 
 # --- versions ---
 for file in meson.build library.json idf_component.yml arduino/library.properties; do
-    grep -q "version['\"]*[:=] *['\"]*${version}['\"]*" $file; report $? "$file is of version $version"
+    grep -q -F "$version" $file; report $? "$file is of version $version"
 done
 if there python3 library.json; then
     gives 0 "library.json is JSON" python3 -m json.tool library.json

@@ -27,7 +27,7 @@ pub fn count(seed: u64, folder: &Path, cases: &mut [Vec<Row>]) -> bool {
     command.env("GLIBC_TUNABLES", "glibc.cpu.hwcaps=-ERMS");
     match command.status() {
         Err(error) if error.kind() == ErrorKind::NotFound => return false,
-        status => assert!(status.is_ok_and(|status| status.success()), "see {}", log.display()),
+        status => assert!(status.map_or(false, |status| status.success()), "see {}", log.display()),
     }
     for (index, rows) in cases.iter_mut().enumerate() {
         let path = folder.join(format!("callgrind.out.{}", index + 1));

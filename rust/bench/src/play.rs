@@ -6,8 +6,13 @@ use crate::script::{Script, Step};
 use crate::sides::{bench_dump, floor, Side};
 use reference::lent::{Kind, Lent};
 use reference::Answer;
-use std::hint::black_box;
 use std::time::{Duration, Instant};
+
+/// The compiler must have made the value, and knows nothing of what becomes of it; std's came with Rust 1.66.
+fn black_box<T>(value: T) -> T {
+    unsafe { std::arch::asm!("/* {0} */", in(reg) &value as *const T, options(nostack, preserves_flags)) };
+    value
+}
 
 /// Plays a script; `run` performs each call. Both sides must answer and leave
 /// what the script says.
@@ -61,13 +66,15 @@ pub fn time(case: &Case) -> Vec<(&'static str, [u64; 2])> {
     let clock = clock_cost();
     let mut medians = Vec::new();
     for kind in Kind::ALL {
-        let both = times.each_mut().map(|side| median(&mut side.calls[kind as usize]));
+        let [library, reference] = &mut times;
+        let both = [library, reference].map(|side| median(&mut side.calls[kind as usize]));
         if let [Some(library), Some(reference)] = both {
             medians.push((kind.name(), [library, reference].map(|ns| ns.saturating_sub(clock))));
         }
     }
     let commits = case.steps().filter(|step| step.kind == Kind::Commit).count() as u64;
-    if let [Some(library), Some(reference)] = times.each_mut().map(|side| median(&mut side.whole)) {
+    let [library, reference] = &mut times;
+    if let [Some(library), Some(reference)] = [library, reference].map(|side| median(&mut side.whole)) {
         medians.push((PER_COMMIT, [library, reference].map(|ns| ns / commits)));
     }
     medians

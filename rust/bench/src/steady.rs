@@ -76,7 +76,7 @@ impl Station {
         }
         self.recorder.call(Kind::Commit, writer, 0);
         self.commits += 1;
-        if self.commits.is_multiple_of(self.commits_per_flush) {
+        if self.commits % self.commits_per_flush == 0 {
             self.recorder.call(Kind::Flush, 0, 0);
             self.recorder.call(Kind::Confirm, 0, 0);
         }

@@ -15,11 +15,14 @@ fn mark(row: &Row) -> String {
 
 /// Rounded, with commas between thousands.
 fn whole(number: Option<f64>) -> String {
-    let Some(number) = number else { return "-".to_string() };
+    let number = match number {
+        Some(number) => number,
+        None => return "-".to_string(),
+    };
     let digits = (number.round() as u64).to_string();
     let mut text = String::new();
     for (index, digit) in digits.chars().enumerate() {
-        if index > 0 && (digits.len() - index).is_multiple_of(3) {
+        if index > 0 && (digits.len() - index) % 3 == 0 {
             text.push(',');
         }
         text.push(digit);

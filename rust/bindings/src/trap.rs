@@ -1,7 +1,7 @@
 //! Says which call the library was in if a signal ends the program.
 
 use reference::lent::Kind;
-use std::ffi::{c_int, c_void};
+use std::os::raw::{c_int, c_void};
 use std::sync::atomic::{AtomicBool, AtomicU64, Ordering::Relaxed};
 
 extern "C" {

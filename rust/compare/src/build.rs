@@ -37,7 +37,8 @@ impl Build {
             }
         }
         trap::enter(kind);
-        let reply = self.calls.call(kind, self.parts.each_mut().map(Part::bytes_mut), writer, home);
+        let [a, b, c, d, e, f] = &mut self.parts;
+        let reply = self.calls.call(kind, [a, b, c, d, e, f].map(Part::bytes_mut), writer, home);
         trap::leave();
         reply
     }

@@ -69,7 +69,8 @@ fn views(lent: &Lent) -> [&[u8]; 6] {
 }
 
 fn call(chain: Chain, parts: &mut [Part; 6], writer: u64, home: u64) -> Reply {
-    let [(log, g), (area, d), (state, s), (newest, p), (blocks, k), (batch, n)] = parts.each_mut().map(|part| {
+    let [a, b, c, e, f, h] = parts;
+    let [(log, g), (area, d), (state, s), (newest, p), (blocks, k), (batch, n)] = [a, b, c, e, f, h].map(|part| {
         let bytes = part.bytes_mut();
         (bytes.as_mut_ptr(), bytes.len())
     });

@@ -70,7 +70,7 @@ fn one(rng: &mut Rng, large: bool, source: &mut Option<Source>, pair: &mut Pair)
         let shape = shape_of(rng);
         (shape, craft(rng, shape))
     } else {
-        if source.as_ref().is_none_or(|source| source.left == 0) {
+        if source.as_ref().map_or(true, |source| source.left == 0) {
             let shape = shape_of(rng);
             *source = Some(Source::new(rng, shape));
         }

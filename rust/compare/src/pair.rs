@@ -65,7 +65,10 @@ impl Pair {
         let column = HOMES.iter().position(|homes| lent.data.len() == 64 * homes);
         self.sizes[row.unwrap_or(GROUPS.len())][column.unwrap_or(HOMES.len())] += 1;
         for (build, reply) in self.builds.iter().zip(replies) {
-            let Some(what) = build.compare(kind, reply, answer, lent) else { continue };
+            let what = match build.compare(kind, reply, answer, lent) {
+                Some(what) => what,
+                None => continue,
+            };
             let lengths = views(lent).map(<[u8]>::len);
             let seed_case = format!("seed {}, case {}", self.seed, self.case);
             let arguments = format!("writer {writer}, home {home}, lengths {lengths:?}");

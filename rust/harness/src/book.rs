@@ -94,7 +94,7 @@ impl Book {
         for entry in &mut self.entries {
             if let Some(call) = entry.call {
                 let found = landed.binary_search_by_key(&call, |group| group.call);
-                entry.landed |= found.is_ok_and(|at| landed[at].has_entry(entry.place));
+                entry.landed |= found.map_or(false, |at| landed[at].has_entry(entry.place));
             }
         }
         let entries = &self.entries;

@@ -257,9 +257,12 @@ fn hide(kind: Kind, lent: &mut Lent) {
 /// Bytes as [[byte,count],...].
 fn runs(bytes: &[u8]) -> String {
     let mut text = String::from("[");
-    for chunk in bytes.chunk_by(|a, b| a == b) {
+    let mut left = bytes;
+    while let Some(&byte) = left.first() {
+        let same = left.iter().take_while(|&&other| other == byte).count();
         let comma = if text.len() > 1 { "," } else { "" };
-        write!(text, "{comma}[{},{}]", chunk[0], chunk.len()).unwrap();
+        write!(text, "{comma}[{byte},{same}]").unwrap();
+        left = &left[same..];
     }
     text.push(']');
     text

@@ -268,7 +268,7 @@ fn craft_writer(rng: &mut Rng, lent: &mut Lent, state: &State, tags: &[u64], (wr
         }
         record.first = state.first_position() + offset;
         let most = used - offset;
-        record.count = rng.pick(&[1, most.div_ceil(2), most]);
+        record.count = rng.pick(&[1, (most + 1) / 2, most]);
     } else if rng.chance(50) {
         record.first = 0xdead_beef;
         record.count = u64::MAX;

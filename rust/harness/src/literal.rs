@@ -62,7 +62,7 @@ pub fn present(log: &[u8], homes: u64, start: u64, next: Option<u64>) -> BTreeMa
         }
         for k in 0..7 {
             let position = 7 * number + k as i128;
-            if next.is_some_and(|next| position >= i128::from(next)) {
+            if next.map_or(false, |next| position >= i128::from(next)) {
                 continue;
             }
             let tag = little(&group[8 + 8 * k..16 + 8 * k]);
@@ -101,7 +101,10 @@ pub fn committed(present: &BTreeMap<i128, Found>, start: u64) -> Vec<Transaction
     let before = 7 * i128::from(start);
     let mut list: Vec<Transaction> = Vec::new();
     for (&position, found) in present {
-        let Some((link, count)) = found.closing else { continue };
+        let (link, count) = match found.closing {
+            Some(closing) => closing,
+            None => continue,
+        };
         let entries: Vec<(u64, Vec<u8>)> = present
             .range(found.first..=position)
             .filter(|(_, other)| other.first == found.first)

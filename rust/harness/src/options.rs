@@ -53,8 +53,12 @@ impl Words {
 
     /// The number after the last `name`, or the default.
     pub fn number(&mut self, name: &str, default: u64) -> u64 {
-        let Some(text) = self.texts(name).pop() else { return default };
-        text.parse().unwrap_or_else(|_| self.refuse(&format!("{name} {text}: a whole number is expected")))
+        match self.texts(name).pop() {
+            Some(text) => {
+                text.parse().unwrap_or_else(|_| self.refuse(&format!("{name} {text}: a whole number is expected")))
+            }
+            None => default,
+        }
     }
 
     /// All options have been taken: a word that is left is unknown.

@@ -179,7 +179,7 @@ impl Replay<'_> {
             lent.data.copy_from_slice(&self.image.data);
         }
         lent.block = call.block.to_vec();
-        if call.kind == Kind::Store && changed.is_some_and(|homes| homes.contains(&call.home)) {
+        if call.kind == Kind::Store && changed.map_or(false, |homes| homes.contains(&call.home)) {
             lent.block.iter_mut().for_each(|byte| *byte ^= 0xff);
         }
         lent.batch = vec![0xcc; call.batch_len];
@@ -215,7 +215,10 @@ pub fn pair(seed: u64, pairs: &mut Pairs, runner: &mut Runner) -> Result<(), Str
     pairs.pairs += 1;
     pairs.changes += script.changes;
     for (at, (one, other)) in one.iter().zip(&other).enumerate() {
-        let Event::Call(call) = script.events[at] else { continue };
+        let call = match script.events[at] {
+            Event::Call(call) => call,
+            _ => continue,
+        };
         let name = format!("event {at}, {} by writer {} of home {}", call.kind.name(), call.writer, call.home);
         if one.0 != other.0 {
             return Err(format!("{name}: {:?} and {:?}", one.0, other.0));

@@ -40,7 +40,7 @@ impl World {
     }
 
     pub fn foresee_step(&self, homes: u64) -> Result<Answer, u32> {
-        let Some(round) = self.shadow.round.as_ref().filter(|_| homes > 0) else { return Err(21) };
+        let round = self.shadow.round.as_ref().filter(|_| homes > 0).ok_or(21u32)?;
         let due = self.touched(round.fixed).range(round.cursor..).count() as u64;
         let fence = if due <= homes { FENCE_LEN } else { 0 };
         Ok(Answer::wrote(due.min(homes) as usize * HOME_WRITE_LEN + fence))
@@ -69,7 +69,10 @@ impl World {
     }
 
     pub fn follow_step(&mut self, homes: u64, records: &[Record]) {
-        let Some(round) = self.shadow.round.as_mut() else { return };
+        let round = match self.shadow.round.as_mut() {
+            Some(round) => round,
+            None => return,
+        };
         round.left = round.left.saturating_sub(homes);
         let mut over = false;
         for record in records {
@@ -97,9 +100,12 @@ impl World {
     /// a settle at its beginning would have left.
     pub fn check_step(&mut self) -> Result<(), String> {
         self.check_homes()?;
-        let Some(round) = self.ended.take() else {
-            let left = self.shadow.round.as_ref().map_or(0, |round| round.left);
-            return must(left > 0, "round: more steps than its homes need");
+        let round = match self.ended.take() {
+            Some(round) => round,
+            None => {
+                let left = self.shadow.round.as_ref().map_or(0, |round| round.left);
+                return must(left > 0, "round: more steps than its homes need");
+            }
         };
         must(self.lent.data == round.settled.data, "round: data copy is not a settle's")?;
         must(self.shadow.settled == round.settled.position, "round: settled position is not a settle's")?;

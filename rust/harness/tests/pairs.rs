@@ -31,7 +31,10 @@ fn no_pair_differs() {
 fn reading_under(other: impl Fn(&mut Lent, u64, u64) -> Option<List> + 'static) -> Runner {
     Box::new(move |lent, kind, writer, home| {
         let list = if kind == Kind::Read { other(lent, writer, home) } else { None };
-        let Some(list) = list else { return lent.run(kind, writer, home) };
+        let list = match list {
+            Some(list) => list,
+            None => return lent.run(kind, writer, home),
+        };
         let mut copy = lent.clone();
         for (block, home) in list.0.iter().zip(LIST_HOME..) {
             keep(&mut copy.newest, home, NONE);
@@ -100,7 +103,7 @@ fn wrong_lists_are_told_apart() {
         "ranges to store taken for those to read",
         reading_under(|lent, writer, home| {
             let mut list = if plain(writer, home) { list_seen(lent, 7)? } else { return None };
-            list.0.as_flattened_mut().chunks_mut(32).for_each(|ranges| ranges.rotate_left(16));
+            list.0.iter_mut().flat_map(|block| block.chunks_mut(32)).for_each(|ranges| ranges.rotate_left(16));
             Some(list)
         }),
     );
@@ -108,7 +111,9 @@ fn wrong_lists_are_told_apart() {
         "the ranges of the writer above",
         reading_under(|lent, writer, home| {
             let mut list = if plain(writer, home) { list_seen(lent, 7)? } else { return None };
-            list.0.as_flattened_mut().rotate_left(32);
+            let mut bytes = list.0.concat();
+            bytes.rotate_left(32);
+            list.0.iter_mut().zip(bytes.chunks(64)).for_each(|(block, bytes)| block.copy_from_slice(bytes));
             Some(list)
         }),
     );

@@ -191,8 +191,9 @@ mod tests {
             assert_eq!(open.len(), usize::from(bytes[0]).min(MOST));
             assert_eq!(list(&blocks(&open)), open);
             assert_eq!(gravest(&blocks(&open)), gravest_by(&open));
-            let Some(&alarm) = open.get(rng.below(48) as usize) else {
-                continue;
+            let alarm = match open.get(rng.below(48) as usize) {
+                Some(&alarm) => alarm,
+                None => continue,
             };
             let after = list(&clear(&bytes, alarm.identity).expect("open"));
             let place = open.iter().position(|a| a.identity == alarm.identity).expect("open");

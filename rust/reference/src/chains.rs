@@ -50,7 +50,7 @@ impl Homes {
     ) -> Result<(State, Homes), u32> {
         check_newest(Shape::of(log.len(), data.len())?, newest)?;
         let number = (blocks.len() / BLOCK) as u64;
-        if !blocks.len().is_multiple_of(BLOCK) || !(1..=PLACES).contains(&number) {
+        if blocks.len() % BLOCK != 0 || !(1..=PLACES).contains(&number) {
             return Err(refuse::LENGTHS);
         }
         let state = State::load(log, data, bytes)?;

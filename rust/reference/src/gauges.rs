@@ -25,7 +25,7 @@ fn levels(list: &[u8]) -> Option<BTreeMap<u16, u16>> {
     let mut levels = BTreeMap::new();
     for row in list.chunks(ROW) {
         let minute = word(row);
-        if levels.keys().next_back().is_some_and(|&last| last >= minute) {
+        if levels.keys().next_back().map_or(false, |&last| last >= minute) {
             return None;
         }
         levels.insert(minute, word(&row[2..]));
@@ -45,8 +45,9 @@ fn kind(first: Option<&u16>, second: Option<&u16>, tolerance: u16) -> u8 {
 
 pub fn compare(first: &[u8], second: &[u8], output: &mut [u8], tolerance: u16) -> Comparison {
     let refused = Comparison { code: REFUSED, counts: [0; 4] };
-    let (Some(first), Some(second)) = (levels(first), levels(second)) else {
-        return refused;
+    let (first, second) = match (levels(first), levels(second)) {
+        (Some(first), Some(second)) => (first, second),
+        _ => return refused,
     };
     let mut report = Vec::new();
     let mut counts = [0; 4];

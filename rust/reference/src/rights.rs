@@ -35,14 +35,14 @@ impl List {
     pub const NONE: List = List([[0; BLOCK]; LIST_HOMES as usize]);
 
     pub fn is_there(&self) -> bool {
-        self.0.as_flattened().iter().any(|&byte| byte != 0)
+        self.0.iter().flatten().any(|&byte| byte != 0)
     }
 
     /// The range at a byte: its first home, and the one after its last.
     fn range(&self, from: usize) -> std::ops::Range<u64> {
-        let bytes = self.0.as_flattened();
-        let two = |at: usize| u64::from(u16::from_le_bytes([bytes[at], bytes[at + 1]]));
-        two(from)..two(from) + two(from + 2)
+        let (block, at) = (&self.0[from / BLOCK], from % BLOCK);
+        let two = |at: usize| u64::from(u16::from_le_bytes([block[at], block[at + 1]]));
+        two(at)..two(at) + two(at + 2)
     }
 
     fn lies_in(&self, from: usize, home: u64) -> bool {
@@ -66,9 +66,9 @@ impl List {
     pub fn put(&mut self, writer: u64, index: usize, first: u16, number: u16) {
         assert!(writer < WRITERS && index < 2 * RANGES);
         let from = WRITER * writer as usize + RANGE * index;
-        let bytes = self.0.as_flattened_mut();
-        bytes[from..from + 2].copy_from_slice(&first.to_le_bytes());
-        bytes[from + 2..from + 4].copy_from_slice(&number.to_le_bytes());
+        let (block, at) = (&mut self.0[from / BLOCK], from % BLOCK);
+        block[at..at + 2].copy_from_slice(&first.to_le_bytes());
+        block[at + 2..at + 4].copy_from_slice(&number.to_le_bytes());
     }
 }
 

@@ -151,7 +151,7 @@ impl Newest {
     /// counts with the last of them that closes at or after it.
     pub fn gather(view: &View) -> Newest {
         let homes = view.shape.homes as usize;
-        let mut newest = Newest { keys: vec![0; homes], touched: vec![0; homes.div_ceil(64)], commits: 0 };
+        let mut newest = Newest { keys: vec![0; homes], touched: vec![0; (homes + 63) / 64], commits: 0 };
         with_tallies(view.end, |tallies| {
             let mut walk = Walk::default();
             view.each(|offset, tag| {
@@ -160,7 +160,10 @@ impl Newest {
                     newest.commits += 1;
                 }
             });
-            let Some(last) = walk.last else { return };
+            let last = match walk.last {
+                Some(last) => last,
+                None => return,
+            };
             View { end: last + 1, ..*view }.each(|offset, tag| {
                 let (home, first) = parts(tag);
                 let closing = u32::from(tallies[first as usize].mark);
@@ -253,7 +256,7 @@ pub fn trim_point(view: &View, limit: u32) -> u32 {
         });
     });
     let mut point = limit;
-    let mut group = view.end.div_ceil(7);
+    let mut group = (view.end + 6) / 7;
     while group > point {
         group -= 1;
         point = point.min(u32::from(lowest[group as usize]));

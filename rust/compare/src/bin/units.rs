@@ -60,7 +60,8 @@ impl Build {
         for (part, bytes) in self.parts.iter_mut().zip(views(lent, rows)) {
             part.set(bytes);
         }
-        self.calls.call(self.parts.each_mut().map(Part::bytes_mut), ask, writer)
+        let [a, b, c, d, e, f, g] = &mut self.parts;
+        self.calls.call([a, b, c, d, e, f, g].map(Part::bytes_mut), ask, writer)
     }
 
     /// The first field that differs, with its place and both values.
