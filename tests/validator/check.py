@@ -232,8 +232,9 @@ def main():
     quick = '--quick' in argv
     fresh = int(argv[argv.index('--seed') + 1]) if '--seed' in argv else int(time.time()) % 1000000
     options, all_words = read_words(argv[argv.index('--include'):])
-    print(f'validate-check: new random programs from seed {fresh} (--seed repeats them)', flush=True)
-    random_programs([1, 2, fresh] if quick else [*range(1, 21), *range(fresh, fresh + 10)], 8 if quick else 40)
+    if not quick:
+        print(f'validate-check: new random programs from seed {fresh} (--seed repeats them)', flush=True)
+    random_programs([1, 2, 3] if quick else [*range(1, 21), *range(fresh, fresh + 10)], 8 if quick else 40)  # the gate has fixed ones
     dist_mutants(options['--include'], all_words, 24 if quick else 300, 1)
     faults(options['--include'], all_words, range(1, 3), FAULTS[::6] if quick else FAULTS)
 
