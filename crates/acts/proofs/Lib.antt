@@ -1,6 +1,6 @@
 -- What the definitions come to: histories with calls on several homes, computed.
 pub mod TogetherHolds
 -- What these calls answer, question by question, computed.
-pub mod VerdictsHold
+pub mod AnswersHold
 -- What an answer of 0 says of a call on several homes.
 pub mod ManyLaws
