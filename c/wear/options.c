@@ -75,7 +75,7 @@ int wear_match(const char *path, const char *name)
 static void quit_usage(const char *format, const char *word)
 {
     wear_complain(format, word);
-    fputs("Try wear --help.\n", stderr);
+    fputs("Try kagutin wear --help.\n", stderr);
     exit(WEAR_STATUS_USAGE);
 }
 
