@@ -11,23 +11,11 @@ use lib.ListN.{length, take}
 use lib.Seq.{take-at, take-length}
 use borrow.Author.Tests.{eqb-true, eqb-false, eq-eqb, ne-eqb}
 use Rattle.model.specs.Bytes.{part, zeros}
-use Rattle.model.specs.Batch.{readBatch, readRecords}
-use Rattle.model.specs.Calls.{refused, outcome, sizeOf, storeCall}
-use Rattle.model.specs.Questions.{storeAnswer}
-use Rattle.acts.specs.Many.{blocksLent, transactEffect, transactAnswer, transactCall}
-use Rattle.model.specs.Effects.{Given, Effect, storeEffect}
-use Rattle.model.specs.History.{Change, begins, reserves, aborts, stores, commits, flushes, opening, confirm, change, service, store, Event, call, crash, World, unopened, afterFormat, lent, ends, changeEnds, isOpening, afterCall, afterRefused, step, Allowed}
-use Rattle.abstract_store.specs.Store.{newStore}
-use Rattle.acts.specs.Units.{Act, plain, transacts, fetches, revises, transactEnds, act, acted, ActAllowed, relabel, Label, other, unit, labelOf, lastUnit, SparedByChange, SparedByEvent, Spared, UnitKept}
+use Rattle.model.specs.History.{Change, begins, reserves, aborts, stores, commits, flushes, opening, confirm, change, service, store, Event, call, crash, World, Formatting, afterFormat, ends, Allowed}
+use Rattle.acts.specs.Units.{Act, plain, transacts, fetches, revises, transactEnds, act, acted, ActAllowed, AllActsAllowed, relabel, Label, other, unit, labelOf, labelsFrom, labels, lastUnit, Apart, SparedByChange, SparedByEvent, Spared, Reserved, UnitKept}
 use Rattle.model_laws.proofs.bytes.ByteLaws.{length-zeros}
-use Rattle.acts.proofs.ManyLaws.{transact-ready}
-use Rattle.theorems.proofs.steps.DoneLaws.{outcome-code}
-use Rattle.theorems.proofs.store.Reached.{begins as begins-reached}
-use Rattle.theorems.proofs.many.UnitBooks.{fit-length}
-use Rattle.theorems.proofs.many.UnitSteps.{Labelled, apart-home, act-labelled, empty-labelled}
-use Rattle.theorems.proofs.many.ActsHold.{refused-stays, revise-stays, Somewhere, act-somewhere}
-use Rattle.theorems.proofs.many.FetchReads.{read-at}
-use Rattle.theorems.proofs.many.UnitsHold.{act-homes, unit-kept}
+use Rattle.theorems.proofs.many.UnitsHold.{units-kept}
+use Rattle.unit_events.proofs.PromisesHold.{refusals-stay}
 use Rattle.unit_events.specs.Offered.{heldAfter, AcceptedFrom}
 use Rattle.unit_events.specs.Folded.{Step, acts, offers, sets, Happens, first, noted, AllFit, noteOf, readFor, eventAnswer, storing, actsOf, answered, stepped, ran, notesFrom, notes, StepAllowed, AllStepsAllowed, SparedByAct, SparedByStep, SparedBySteps, JudgedFrom, Folded, EventsFolded, Recorded, Growing, EventsRecorded}
 
@@ -39,25 +27,31 @@ first-zero a b e = go (eqb a 0) refl e
     go true q z = (eqb-true a 0 q, z)
     go false q z = absurd (eqb-false a 0 q z)
 
--- a refused store leaves the world as it is
-store-left : (w : World) (v h : ℕ) (block batch : List ℕ) (a : ℕ) (e : Effect) → (outcome (lent w block batch v h) a e .code ≡ 0 → ⊥)
-    → afterCall w (store v h block batch) (outcome (lent w block batch v h) a e) (outcome (lent w block batch v h) a e .code) ≡ w
-unfolding outcome afterCall afterRefused refused isOpening lent readBatch readRecords
-store-left w v h block batch zero e n = absurd (n (outcome-code (lent w block batch v h) 0 e))
-store-left w v h block batch (suc k) e n = rw (append-nil (w .pending))
+-- ---- histories of acts, one behind the other
 
-store-stays : (w : World) (v h : ℕ) (block batch : List ℕ) → (ends w (store v h block batch) .code ≡ 0 → ⊥) → act w (plain (call (store v h block batch))) ≡ w
-unfolding act step ends changeEnds storeCall
-store-stays w v h block batch n =
-    let g : Given = lent w block batch v h in
-    store-left w v h block batch (storeAnswer g (sizeOf (storeEffect g))) (storeEffect g) n
+pub acted-append : (xs ys : List Act) (w : World) → acted w (xs ++ ys) ≡ acted (acted w xs) ys
+unfolding acted
+acted-append [] ys w = refl
+acted-append (x ∷ xs) ys w = acted-append xs ys (act w x)
 
--- a done transact has homes
-pub transact-some : (w : World) (v h : ℕ) (blocks batch : List ℕ) → transactEnds w v h blocks batch .code ≡ 0 → 1 ≤ length blocks / 64
-unfolding transactEnds transactCall blocksLent lent
-transact-some w v h blocks batch z =
-    let g : Given = lent w blocks batch v h in
-    transact-ready g (sizeOf (transactEffect g)) (sym (outcome-code g (transactAnswer g (sizeOf (transactEffect g))) (transactEffect g)) ∙ z) .lent .some
+pub allowed-append : (xs ys : List Act) (w : World) → AllActsAllowed w xs → AllActsAllowed (acted w xs) ys → AllActsAllowed w (xs ++ ys)
+unfolding acted
+allowed-append [] ys w a b = b
+allowed-append (x ∷ xs) ys w a b = (a .0, allowed-append xs ys (act w x) (a .1) b)
+
+reserved-append : (home n : ℕ) (xs ys : List Act) → Reserved home n xs → Reserved home n ys → Reserved home n (xs ++ ys)
+reserved-append home n [] ys a b = b
+reserved-append home n (x ∷ xs) ys a b = (a .0, reserved-append home n xs ys (a .1) b)
+
+labels-append : (xs ys : List Act) (w : World) (ls : List Label) → labelsFrom w ls (xs ++ ys) ≡ labelsFrom (acted w xs) (labelsFrom w ls xs) ys
+unfolding acted labelsFrom
+labels-append [] ys w ls = refl
+labels-append (x ∷ xs) ys w ls = labels-append xs ys (act w x) (relabel (act w x) ls (labelOf x))
+
+-- units apart do not begin at one home
+apart-home : (home n h m : ℕ) → 1 ≤ n → 1 ≤ m → Apart home n h m → h ≡ home → ⊥
+apart-home home n h m p q (inl a) e = omega arith
+apart-home home n h m p q (inr a) e = omega arith
 
 module _ {E : Type 0} (home n : ℕ) (judge : List ℕ → E → ℕ) (apply : List ℕ → E → List ℕ) (Fit : E → Type 0) where
   -- ---- notes against labels
@@ -142,34 +136,58 @@ module _ {E : Type 0} (home n : ℕ) (judge : List ℕ → E → ℕ) (apply : L
   abbrev blank : List ℕ
   blank = zeros (64 * n)
 
+  -- a world that a history of acts reaches, and the notes beside its labels
   record Going (w : World) (ns : List (Option E)) : Type 0 where
-    labels : List Label
-    labelled : Labelled home n (w .book) labels
-    somewhere : Somewhere w
-    agree : Agree blank ns labels
-    inside : home + n ≤ w .homes
+    groups : ℕ
+    homes : ℕ
+    format : Formatting groups homes
+    history : List Act
+    allowed : AllActsAllowed (afterFormat format) history
+    reserved : Reserved home n history
+    world : acted (afterFormat format) history ≡ w
+    some : 1 ≤ n
+    inside : home + n ≤ homes
+    agree : Agree blank ns (labelsFrom (afterFormat format) [] history)
 
   module _ (w : World) (ns : List (Option E)) (g : Going w ns) where
-    kept : UnitKept home n w (g .labels)
-    kept = unit-kept home n w (g .labels) (g .inside) (g .labelled) (read-at w (g .somewhere))
+    abbrev named : List Label
+    named = labelsFrom (afterFormat (g .format)) [] (g .history)
+
+    kept : UnitKept home n w named
+    kept =
+        subst (λ (v : World). UnitKept home n v named) (g .world)
+        (unfold labels in units-kept home n (g .groups) (g .homes) (g .some) (g .inside) (g .format) (g .history) (g .allowed) (g .reserved))
 
     as-many : length ns ≡ length (w .book .commits)
-    as-many = agree-length blank ns (g .labels) (g .agree) ∙ fit-length home n (w .book .commits) (g .labels) (g .labelled .fit)
+    as-many = agree-length blank ns named (g .agree) ∙ kept .many
 
     -- a step that leaves the world as it is leaves the notes
     same-notes : (x : Option E) → relabel w ns x ≡ ns
     unfolding relabel
     same-notes x = take-at ns (x ∷ []) (length (w .book .commits)) as-many
 
-    goes-by : (a : Act) (x : Option E) → 1 ≤ n → ActAllowed w a → Spared home n a → Agree blank (ns ++ (x ∷ [])) (g .labels ++ (labelOf a ∷ []))
+    goes-by : (a : Act) (x : Option E) → 1 ≤ n → ActAllowed w a → Spared home n a → Agree blank (ns ++ (x ∷ [])) (named ++ (labelOf a ∷ []))
         → Going (act w a) (relabel (act w a) ns x)
     goes-by a x p ok s agrees =
+        let w₀ : World = afterFormat (g .format) in
+        let one : acted w (a ∷ []) ≡ act w a = (unfold acted in refl) in
+        let last : labelsFrom w named (a ∷ []) ≡ relabel (act w a) named (labelOf a) = (unfold labelsFrom in refl) in
+        let longer : labelsFrom w₀ [] (g .history ++ (a ∷ [])) ≡ relabel (act w a) named (labelOf a) =
+        labels-append (g .history) (a ∷ []) w₀ [] ∙ ap (λ (v : World). labelsFrom v named (a ∷ [])) (g .world) ∙ last in
+        let front : Agree blank (relabel (act w a) ns x) (relabel (act w a) named (labelOf a)) =
+        (unfold relabel in agree-take (length (act w a .book .commits)) blank (ns ++ (x ∷ [])) (named ++ (labelOf a ∷ [])) agrees) in
         record {
-          labels = relabel (act w a) (g .labels) (labelOf a);
-          labelled = act-labelled home n w a (g .labels) p (g .labelled) s;
-          somewhere = act-somewhere w a (g .somewhere) ok;
-          agree = (unfold relabel in agree-take (length (act w a .book .commits)) blank (ns ++ (x ∷ [])) (g .labels ++ (labelOf a ∷ [])) agrees);
-          inside = (let q = act-homes w a in let l = g .inside in omega arith);
+          groups = g .groups;
+          homes = g .homes;
+          format = g .format;
+          history = g .history ++ (a ∷ []);
+          allowed = allowed-append (g .history) (a ∷ []) w₀ (g .allowed) (subst (λ (v : World). AllActsAllowed v (a ∷ [])) (sym (g .world)) (ok, tt));
+          reserved = reserved-append home n (g .history) (a ∷ []) (g .reserved) (s, tt);
+          world = acted-append (g .history) (a ∷ []) w₀ ∙ ap (λ (v : World). acted v (a ∷ [])) (g .world) ∙ one;
+          some = g .some;
+          inside = g .inside;
+          agree =
+              subst (Agree blank (relabel (act w a) ns x)) (sym longer) front;
         }
 
     stays-by : (u : World) (x : Option E) → u ≡ w → Going u (relabel u ns x)
@@ -186,7 +204,7 @@ module _ {E : Type 0} (home n : ℕ) (judge : List ℕ → E → ℕ) (apply : L
     -- an event of demand 3's list that stores to none of the homes, or is refused
     apart-goes : (e : Event) → 1 ≤ n → Allowed w e → SparedByEvent home n e → Going (act w (plain e)) (relabel (act w (plain e)) ns none)
     unfolding labelOf
-    apart-goes e p ok s = goes-by (plain e) none p ok s (agree-other blank ns (g .labels) other (g .agree) other-last)
+    apart-goes e p ok s = goes-by (plain e) none p ok s (agree-other blank ns named other (g .agree) other-last)
 
     change-goes : (c : Change) → 1 ≤ n → Allowed w (call (change c)) → (ends w (change c) .code ≡ 0 → SparedByChange home n c)
         → Going (act w (plain (call (change c)))) (relabel (act w (plain (call (change c)))) ns none)
@@ -200,7 +218,7 @@ module _ {E : Type 0} (home n : ℕ) (judge : List ℕ → E → ℕ) (apply : L
         go true e = apart-goes (call (store v h block batch)) p ok (s (eqb-true (ends w (store v h block batch) .code) 0 e))
         go false e =
             stays-by (act w (plain (call (store v h block batch)))) none
-            (store-stays w v h block batch (eqb-false (ends w (store v h block batch) .code) 0 e))
+            (refusals-stay w .stores v h block batch (eqb-false (ends w (store v h block batch) .code) 0 e))
     change-goes (commits v batch) p ok s = apart-goes (call (change (commits v batch))) p ok tt
     change-goes (flushes batch) p ok s = apart-goes (call (change (flushes batch))) p ok tt
 
@@ -222,19 +240,19 @@ module _ {E : Type 0} (home n : ℕ) (judge : List ℕ → E → ℕ) (apply : L
         go true e =
             let z : transactEnds w v h blocks batch .code ≡ 0 = eqb-true (transactEnds w v h blocks batch .code) 0 e in
             goes-by (transacts v h blocks batch) none p ok (inr (s z))
-            (agree-other blank ns (g .labels) (unit h blocks) (g .agree)
-            (apart-last h blocks (apart-home home n h (length blocks / 64) p (transact-some w v h blocks batch z) (s z))))
+            (agree-other blank ns named (unit h blocks) (g .agree)
+            (apart-last h blocks (apart-home home n h (length blocks / 64) p (refusals-stay w .some v h blocks batch z) (s z))))
         go false e =
             stays-by (act w (transacts v h blocks batch)) none
-            (refused-stays w v h blocks batch (eqb-false (transactEnds w v h blocks batch .code) 0 e))
-    act-goes (fetches v h blocks) p ok s = goes-by (fetches v h blocks) none p ok s (agree-other blank ns (g .labels) other (g .agree) other-last)
-    act-goes (revises v h blocks) p ok s = goes-by (revises v h blocks) none p ok s (agree-other blank ns (g .labels) other (g .agree) other-last)
+            (refusals-stay w .transactions v h blocks batch (eqb-false (transactEnds w v h blocks batch .code) 0 e))
+    act-goes (fetches v h blocks) p ok s = goes-by (fetches v h blocks) none p ok s (agree-other blank ns named other (g .agree) other-last)
+    act-goes (revises v h blocks) p ok s = goes-by (revises v h blocks) none p ok s (agree-other blank ns named other (g .agree) other-last)
 
     -- the blocks that an event's call reads
     read-blocks : (v : ℕ) → w .ready ≡ true → readFor home n judge apply w v .code ≡ 0
         → readFor home n judge apply w v .block ≡ heldAfter apply blank (noted ns)
     unfolding readFor
-    read-blocks v ready z = kept .revised v blank ready (length-zeros (64 * n)) z ∙ agree-last blank ns (g .labels) (g .agree)
+    read-blocks v ready z = kept .revised v blank ready (length-zeros (64 * n)) z ∙ agree-last blank ns named (g .agree)
 
     module _ (p : 1 ≤ n) (sized : (b : List ℕ) (d : E) → judge b d ≡ 0 → length (apply b d) ≡ 64 * n) (ready : w .ready ≡ true) (v : ℕ) (e : E)
         (batch : List ℕ) (f : Fit e) where
@@ -245,8 +263,8 @@ module _ {E : Type 0} (home n : ℕ) (judge : List ℕ → E → ℕ) (apply : L
       held-goes blocks j q =
           let b : List ℕ = heldAfter apply blank (noted ns) in
           goes-by (transacts v home blocks batch) (some e) p ready (inl (refl, ap length q ∙ sized b e j))
-          (subst (λ (c : List ℕ). Agree blank (ns ++ (some e ∷ [])) (g .labels ++ (unit home c ∷ []))) (sym q)
-          (agree-event blank ns (g .labels) e (g .agree) f j))
+          (subst (λ (c : List ℕ). Agree blank (ns ++ (some e ∷ [])) (named ++ (unit home c ∷ []))) (sym q)
+          (agree-event blank ns named e (g .agree) f j))
 
       event-goes : eventAnswer home n judge apply w v e ≡ 0
           → Going (act w (transacts v home (apply (readFor home n judge apply w v .block) e) batch))
@@ -278,7 +296,7 @@ module _ {E : Type 0} (home n : ℕ) (judge : List ℕ → E → ℕ) (apply : L
         look = revises v home (zeros (64 * n))
 
         same : act w look ≡ w
-        same = revise-stays w v home (zeros (64 * n))
+        same = refusals-stay w .revising v home (zeros (64 * n))
 
         go : (d : Bool) → eqb (eventAnswer home n judge apply w v e) 0 ≡ d
             → Going (acted w (look ∷ cond d (storing home n judge apply v (readFor home n judge apply w v .block) e batch) []))
@@ -312,15 +330,15 @@ module _ {E : Type 0} (home n : ℕ) (judge : List ℕ → E → ℕ) (apply : L
 
   going-folded : (w : World) (ns : List (Option E)) → Going w ns → Folded home n judge apply Fit w ns
   going-folded w ns g =
-      let front : (k : ℕ) → Agree blank (take k ns) (take k (g .labels)) = λ k. agree-take k blank ns (g .labels) (g .agree) in
+      let front : (k : ℕ) → Agree blank (take k ns) (take k (named w ns g)) = λ k. agree-take k blank ns (named w ns g) (g .agree) in
       record {
         many = as-many w ns g;
-        fit = λ k. agree-judged blank (take k ns) (take k (g .labels)) (front k) .1;
-        judged = λ k. agree-judged blank (take k ns) (take k (g .labels)) (front k) .0;
-        held = λ k. kept w ns g .held k ∙ agree-last blank (take k ns) (take k (g .labels)) (front k);
-        fetched = λ v blocks ready l z. kept w ns g .fetched v blocks ready l z ∙ agree-last blank ns (g .labels) (g .agree);
+        fit = λ k. agree-judged blank (take k ns) (take k (named w ns g)) (front k) .1;
+        judged = λ k. agree-judged blank (take k ns) (take k (named w ns g)) (front k) .0;
+        held = λ k. kept w ns g .held k ∙ agree-last blank (take k ns) (take k (named w ns g)) (front k);
+        fetched = λ v blocks ready l z. kept w ns g .fetched v blocks ready l z ∙ agree-last blank ns (named w ns g) (g .agree);
         partly = λ v from m blocks ready l e z.
-            kept w ns g .partly v from m blocks ready l e z ∙ ap (λ (b : List ℕ). part b (64 * from) (64 * m)) (agree-last blank ns (g .labels) (g .agree));
+            kept w ns g .partly v from m blocks ready l e z ∙ ap (λ (b : List ℕ). part b (64 * from) (64 * m)) (agree-last blank ns (named w ns g) (g .agree));
         read = λ v ready z. read-blocks w ns g v ready z;
       }
 
@@ -330,11 +348,16 @@ module _ {E : Type 0} (home n : ℕ) (judge : List ℕ → E → ℕ) (apply : L
       let w : World = afterFormat f in
       let start : Going w [] =
       record {
-        labels = [];
-        labelled = (unfold afterFormat unopened in empty-labelled home n);
-        somewhere = (newStore groups homes, begins-reached f);
-        agree = tt;
-        inside = (unfold afterFormat unopened in d);
+        groups = groups;
+        homes = homes;
+        format = f;
+        history = [];
+        allowed = tt;
+        reserved = tt;
+        world = (unfold acted in refl);
+        some = p;
+        inside = d;
+        agree = (unfold labelsFrom in tt);
       } in
       going-folded (ran home n judge apply w ss) (notesFrom home n judge apply w [] ss) (all-go p sized ss w [] start ok s)
 

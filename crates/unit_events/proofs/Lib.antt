@@ -1,3 +1,4 @@
+pub mod PromisesHold
 pub mod OfferedLaws
 pub mod FoldedHolds
 pub mod HomesHold

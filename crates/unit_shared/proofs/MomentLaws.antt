@@ -12,7 +12,7 @@ use Rattle.model.specs.Batch.{readBatch, readRecords}
 use Rattle.model.specs.Calls.{Outcome}
 use Rattle.model.specs.History.{World, lent}
 use Rattle.acts.specs.Units.{Act, revises, transacts, transactEnds, reviseEnds, act, acted, leftBy as left-in}
-use Rattle.theorems.proofs.many.ActsHold.{revise-stays}
+use Rattle.unit_events.proofs.PromisesHold.{refusals-stay}
 use Rattle.unit_events.specs.Folded.{offers, sets, first, readFor, eventAnswer, storing, actsOf, answered, stepped}
 use Rattle.unit_shared.specs.Unit.{Lent, Left, Judged, asJudged, untouched, leftBy, revised, transacted, stored, afterReading, event}
 use Rattle.unit_shared.specs.Moments.{lentIn, Leaves, EventStands, SetStands}
@@ -53,7 +53,7 @@ module _ {E : Type 0} (home n : ℕ) (judge : List ℕ → E → ℕ) (apply : L
   step-is : stepped home n judge apply w (offers writer e batch)
       ≡ acted w (cond (eqb (eventAnswer home n judge apply w writer e) 0) (storing home n judge apply writer (o .block) e batch) [])
   unfolding stepped actsOf acted
-  step-is = ap (λ (v : World). acted v (cond (eqb (eventAnswer home n judge apply w writer e) 0) (storing home n judge apply writer (o .block) e batch) [])) (revise-stays w writer home (zeros (64 * n)))
+  step-is = ap (λ (v : World). acted v (cond (eqb (eventAnswer home n judge apply w writer e) 0) (storing home n judge apply writer (o .block) e batch) [])) (refusals-stay w .revising writer home (zeros (64 * n)))
 
   call-is : call ≡ afterReading (lentIn w batch) writer home rule o
   unfolding event revised readFor reviseEnds lent
