@@ -45,7 +45,6 @@ OTHER_TEST = {"docs/WEAR.md": "tests/programs/wear-check.sh"}
 # Snippet, what stands there, what is put in its place: each misreads a reply, or leaves something undone.
 WRONG = [
     ("readme_store", "kgt_commit_sync(", "kgt_commit("),
-    ("readme_store", "        && kgt_open(&store).code == KAGUTIN_DONE)", "        && kgt_open(&store).code < 99)"),
     ("readme_store", "    kgt_abort(&store, 0);", "    "),
     ("using_bare", "    if (!done(kagutin_flush(AREAS, STATE, BATCH)))\n        return false;\n",
      "    done(kagutin_flush(AREAS, STATE, BATCH));\n"),
