@@ -7284,8 +7284,8 @@ struct kgt_reply kgt_init(struct kagutin *store, uint8_t *memory, size_t size, s
 {
     memset(store, 0, sizeof *store);
     store->condition = KGT_IS_UNUSABLE;
-    if (groups < KAGUTIN_MIN_GROUPS || groups > KAGUTIN_MAX_GROUPS || homes < KAGUTIN_MIN_HOMES
-        || homes > KAGUTIN_MAX_HOMES || size < KGT_MEMORY_SIZE(groups, homes))
+    if (groups < KAGUTIN_MIN_GROUPS || groups > KAGUTIN_MAX_GROUPS || homes < KAGUTIN_MIN_HOMES || homes > KAGUTIN_MAX_HOMES
+        || size < KGT_MEMORY_SIZE(groups, homes))
         return answer(KAGUTIN_BAD_LENGTH);
     if (!memory || !driver.load || !driver.write || !driver.fence)
         return answer(KAGUTIN_BAD_LENGTH);
@@ -7303,8 +7303,7 @@ struct kgt_reply kgt_init(struct kagutin *store, uint8_t *memory, size_t size, s
     return answer(KAGUTIN_DONE);
 }
 
-struct kgt_reply kgt_set_lock(struct kagutin *store, int (*lock)(void *context), void (*unlock)(void *context),
-                              void *context)
+struct kgt_reply kgt_set_lock(struct kagutin *store, int (*lock)(void *context), void (*unlock)(void *context), void *context)
 {
     if (store->condition == KGT_IS_UNUSABLE)
         return answer(KGT_NOT_INIT);
@@ -7506,8 +7505,9 @@ struct kgt_reply kgt_abort(struct kagutin *store, uint64_t writer)
 
 static struct kagutin_reply store_once(struct kagutin *store, uint64_t writer, uint64_t home, const uint8_t *block)
 {
-    return kgt_inner_run(store, kagutin_store(KGT_AREAS(store), KGT_STATE(store), block, KAGUTIN_BLOCK_SIZE,
-                                              KGT_BATCH(store), writer, home));
+    return kgt_inner_run(store,
+                         kagutin_store(KGT_AREAS(store), KGT_STATE(store), block, KAGUTIN_BLOCK_SIZE, KGT_BATCH(store), writer,
+                                       home));
 }
 
 /* Would this store become a list of rights, or a part of one, unasked? */
@@ -7909,8 +7909,9 @@ bool kgt_rights_may_read(const struct kgt_rights *list, uint64_t writer, uint64_
 
 static struct kagutin_reply set_once(struct kagutin *store, const struct kgt_rights *list)
 {
-    return kgt_inner_run(store, kagutin_transact(KGT_MEMORY(store), list->bytes, sizeof list->bytes, KGT_BATCH(store), 0,
-                                                 KGT_RIGHTS_HOME));
+    return kgt_inner_run(store,
+                         kagutin_transact(KGT_MEMORY(store), list->bytes, sizeof list->bytes, KGT_BATCH(store), 0,
+                                          KGT_RIGHTS_HOME));
 }
 
 struct kgt_ticket kgt_set_rights(struct kagutin *store, const struct kgt_rights *list)
@@ -7932,8 +7933,7 @@ struct kgt_reply kgt_get_rights(struct kagutin *store, uint64_t writer, struct k
 
     if (reply.code != KAGUTIN_DONE)
         return reply;
-    return kgt_inner_leave(store, kagutin_fetch(KGT_MEMORY(store), list->bytes, sizeof list->bytes, writer,
-                                                KGT_RIGHTS_HOME));
+    return kgt_inner_leave(store, kagutin_fetch(KGT_MEMORY(store), list->bytes, sizeof list->bytes, writer, KGT_RIGHTS_HOME));
 }
 
 
@@ -7947,9 +7947,14 @@ struct kgt_reply kgt_get_rights(struct kagutin *store, uint64_t writer, struct k
 
 bool kgt_read_record(const uint8_t *batch, size_t size, size_t groups, size_t homes, struct kgt_record *record)
 {
-    static const struct { char mark[3]; size_t size, head; } kinds[] = {
-        {"GW", KAGUTIN_GW_SIZE, 4}, {"HW", KAGUTIN_HW_SIZE, 4},
-        {"KW", KAGUTIN_KW_SIZE, 2}, {"FN", KAGUTIN_FN_SIZE, 2},
+    static const struct {
+        char mark[3];
+        size_t size, head;
+    } kinds[] = {
+        {"GW", KAGUTIN_GW_SIZE, 4},
+        {"HW", KAGUTIN_HW_SIZE, 4},
+        {"KW", KAGUTIN_KW_SIZE, 2},
+        {"FN", KAGUTIN_FN_SIZE, 2},
     };
     size_t i;
 
@@ -8043,15 +8048,11 @@ int kgt_run_record(struct kgt_runner *runner, const struct kgt_record *record)
     const struct kgt_driver *driver = &runner->driver;
 
     switch (record->kind) {
-    case KGT_GW:
-        return write_group(runner, record->place, record->bytes);
+    case KGT_GW: return write_group(runner, record->place, record->bytes);
     case KGT_HW:
-        return driver->write(driver->context, KGT_HOMES, KGT_HOMES_SIZE(record->place), record->bytes,
-                             KAGUTIN_BLOCK_SIZE);
-    case KGT_KW:
-        return batch_write_header(runner, record->bytes);
-    default:
-        return kgt_run_fence(runner);
+        return driver->write(driver->context, KGT_HOMES, KGT_HOMES_SIZE(record->place), record->bytes, KAGUTIN_BLOCK_SIZE);
+    case KGT_KW: return batch_write_header(runner, record->bytes);
+    default: return kgt_run_fence(runner);
     }
 }
 
@@ -8102,17 +8103,13 @@ static struct event event_of(enum event_kind kind)
 static struct kagutin_reply call(struct kagutin *store, uint64_t writer, const struct event *event)
 {
     switch (event->kind) {
-    case SET_BANDS:
-        return kagutin_bands_set(KGT_MEMORY(store), KGT_BATCH(store), event->rows, event->rows_size, writer);
-    case PUMP_STARTS:
-        return kagutin_pump_start(KGT_MEMORY(store), KGT_BATCH(store), writer, event->pump, event->second);
-    case PUMP_STOPS:
-        return kagutin_pump_stop(KGT_MEMORY(store), KGT_BATCH(store), writer, event->pump, event->second);
+    case SET_BANDS: return kagutin_bands_set(KGT_MEMORY(store), KGT_BATCH(store), event->rows, event->rows_size, writer);
+    case PUMP_STARTS: return kagutin_pump_start(KGT_MEMORY(store), KGT_BATCH(store), writer, event->pump, event->second);
+    case PUMP_STOPS: return kagutin_pump_stop(KGT_MEMORY(store), KGT_BATCH(store), writer, event->pump, event->second);
     case ALARM_ARRIVES:
         return kagutin_alarm_arrive(KGT_MEMORY(store), KGT_BATCH(store), writer, event->identity, event->alarm_class,
                                     event->second);
-    default:
-        return kagutin_alarm_clear(KGT_MEMORY(store), KGT_BATCH(store), writer, event->identity);
+    default: return kagutin_alarm_clear(KGT_MEMORY(store), KGT_BATCH(store), writer, event->identity);
     }
 }
 
@@ -8158,8 +8155,7 @@ struct kgt_table kgt_bands_set(struct kagutin *store, uint64_t writer, const uin
     return table;
 }
 
-static struct kgt_ticket pump_event(struct kagutin *store, enum event_kind kind, uint64_t writer, uint64_t pump,
-                                    uint32_t second)
+static struct kgt_ticket pump_event(struct kagutin *store, enum event_kind kind, uint64_t writer, uint64_t pump, uint32_t second)
 {
     struct event event = event_of(kind);
 
@@ -8544,8 +8540,8 @@ static int fram_fence(void *context)
 }
 
 void kgt_fram_init(struct kgt_fram *fram, size_t groups, uint32_t base, unsigned address_bytes,
-                   int (*board)(void *bus, const uint8_t *command, size_t command_size, const uint8_t *out,
-                                uint8_t *in, size_t size),
+                   int (*board)(void *bus, const uint8_t *command, size_t command_size, const uint8_t *out, uint8_t *in,
+                                size_t size),
                    void *bus)
 {
     fram->transfer = board;
@@ -8631,8 +8627,7 @@ static bool set_shape(struct kgt_file *file, size_t groups, size_t homes)
     file->homes = homes;
     file->log_size = KGT_LOG_SIZE(groups);
     file->size = file->log_size + KGT_HOMES_SIZE(homes);
-    if (groups < KAGUTIN_MIN_GROUPS || groups > KAGUTIN_MAX_GROUPS || homes < KAGUTIN_MIN_HOMES
-        || homes > KAGUTIN_MAX_HOMES)
+    if (groups < KAGUTIN_MIN_GROUPS || groups > KAGUTIN_MAX_GROUPS || homes < KAGUTIN_MIN_HOMES || homes > KAGUTIN_MAX_HOMES)
         return kgt_file_say(file, "%lu groups and %lu homes: groups go from 4 to 1024, homes from 1 to 65535",
                             (unsigned long)groups, (unsigned long)homes);
     return true;
@@ -8800,8 +8795,8 @@ static bool check_image(struct kgt_file *file, const char *path, off_t size)
                             (unsigned long)file->homes);
     if (size != (off_t)file->size)
         return kgt_file_say(file, "%s: %s file: %lld bytes; %lu groups and %lu homes take %lu", path,
-                            size < (off_t)file->size ? "short" : "overlong", (long long)size,
-                            (unsigned long)file->groups, (unsigned long)file->homes, (unsigned long)file->size);
+                            size < (off_t)file->size ? "short" : "overlong", (long long)size, (unsigned long)file->groups,
+                            (unsigned long)file->homes, (unsigned long)file->size);
     return true;
 }
 
@@ -8883,8 +8878,7 @@ static int check_size(struct kgt_file *file)
     if (status.st_size == (off_t)file->size)
         return 0;
     file->failed = EIO;
-    kgt_file_say(file, "the image has become %lld bytes, it was %lu", (long long)status.st_size,
-                 (unsigned long)file->size);
+    kgt_file_say(file, "the image has become %lld bytes, it was %lu", (long long)status.st_size, (unsigned long)file->size);
     return file->failed;
 }
 

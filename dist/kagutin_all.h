@@ -174,8 +174,7 @@ static inline size_t kagutin_newest_size(size_t homes)
 /* Exactly what format writes; no call writes more. */
 static inline size_t kagutin_format_batch(size_t groups, size_t homes)
 {
-    return (size_t)KAGUTIN_GW_SIZE * groups + (size_t)KAGUTIN_HW_SIZE * homes
-        + 2 * KAGUTIN_KW_SIZE + 3 * KAGUTIN_FN_SIZE;
+    return (size_t)KAGUTIN_GW_SIZE * groups + (size_t)KAGUTIN_HW_SIZE * homes + 2 * KAGUTIN_KW_SIZE + 3 * KAGUTIN_FN_SIZE;
 }
 
 /* The most that settle can write: one HW for each home with an entry, FN. */
@@ -197,8 +196,8 @@ static inline size_t kagutin_step_batch(size_t groups, size_t homes, uint64_t st
 /* The most that open can write: as settle, then the header, FN, every group and FN. */
 static inline size_t kagutin_open_batch(size_t groups, size_t homes)
 {
-    return kagutin_settle_batch(groups, homes) + KAGUTIN_KW_SIZE + KAGUTIN_FN_SIZE
-        + (size_t)KAGUTIN_GW_SIZE * groups + KAGUTIN_FN_SIZE;
+    return kagutin_settle_batch(groups, homes) + KAGUTIN_KW_SIZE + KAGUTIN_FN_SIZE + (size_t)KAGUTIN_GW_SIZE * groups
+        + KAGUTIN_FN_SIZE;
 }
 
 /* An answer in words. */
@@ -239,9 +238,8 @@ static inline const char *kagutin_answer_text(uint64_t code)
  * Batch: KW of zeros, FN, every group blank and every home zeros, FN, header, FN.
  * Answers 1, 9.
  */
-struct kagutin_reply kagutin_format(
-    uint8_t *log, size_t log_size, uint8_t *area, size_t area_size,
-    uint8_t *batch, size_t batch_size);
+struct kagutin_reply kagutin_format(uint8_t *log, size_t log_size, uint8_t *area, size_t area_size, uint8_t *batch,
+                                    size_t batch_size);
 
 /*
  * Replays the committed transactions of the log into the area, empties the
@@ -251,15 +249,12 @@ struct kagutin_reply kagutin_format(
  * Batch: HW of each home touched, rising, FN, KW, FN, every group blank, FN.
  * Answers 1, 3 (also for a header of the older format, mark 50 48), 10, 9.
  */
-struct kagutin_reply kagutin_open(
-    uint8_t *log, size_t log_size, uint8_t *area, size_t area_size,
-    uint8_t *state, size_t state_size, uint8_t *newest, size_t newest_size,
-    uint8_t *batch, size_t batch_size);
+struct kagutin_reply kagutin_open(uint8_t *log, size_t log_size, uint8_t *area, size_t area_size, uint8_t *state,
+                                  size_t state_size, uint8_t *newest, size_t newest_size, uint8_t *batch, size_t batch_size);
 
 /* Opens a transaction of an idle writer. Answers 1, 2, 4, 6. */
-struct kagutin_reply kagutin_begin(
-    const uint8_t *log, size_t log_size, const uint8_t *area, size_t area_size,
-    uint8_t *state, size_t state_size, uint64_t writer);
+struct kagutin_reply kagutin_begin(const uint8_t *log, size_t log_size, const uint8_t *area, size_t area_size, uint8_t *state,
+                                   size_t state_size, uint64_t writer);
 
 /*
  * Opens a transaction of an idle writer and promises it n places of the log:
@@ -268,17 +263,15 @@ struct kagutin_reply kagutin_begin(
  * the same home again and a refused call use none up. Commit and abort give
  * the rest back, an opening all. Answers 1, 2, 4, 6, 17.
  */
-struct kagutin_reply kagutin_reserve(
-    const uint8_t *log, size_t log_size, const uint8_t *area, size_t area_size,
-    uint8_t *state, size_t state_size, uint64_t writer, uint64_t n);
+struct kagutin_reply kagutin_reserve(const uint8_t *log, size_t log_size, const uint8_t *area, size_t area_size, uint8_t *state,
+                                     size_t state_size, uint64_t writer, uint64_t n);
 
 /*
  * Drops the writer's transaction; its entries in the log never count, and
  * places promised to it are free again. Answers 1, 2, 4, 7.
  */
-struct kagutin_reply kagutin_abort(
-    const uint8_t *log, size_t log_size, const uint8_t *area, size_t area_size,
-    uint8_t *state, size_t state_size, uint64_t writer);
+struct kagutin_reply kagutin_abort(const uint8_t *log, size_t log_size, const uint8_t *area, size_t area_size, uint8_t *state,
+                                   size_t state_size, uint64_t writer);
 
 /*
  * Adds a block for a home to the writer's transaction. The block is held in
@@ -290,10 +283,9 @@ struct kagutin_reply kagutin_abort(
  * counts from its commit, never while it is only stored. 8: flush, settle and trim make room, unless an
  * open transaction holds the log; the transaction stays open and as it was.
  */
-struct kagutin_reply kagutin_store(
-    uint8_t *log, size_t log_size, const uint8_t *area, size_t area_size,
-    uint8_t *state, size_t state_size, const uint8_t *block, size_t block_size,
-    uint8_t *batch, size_t batch_size, uint64_t writer, uint64_t home);
+struct kagutin_reply kagutin_store(uint8_t *log, size_t log_size, const uint8_t *area, size_t area_size, uint8_t *state,
+                                   size_t state_size, const uint8_t *block, size_t block_size, uint8_t *batch, size_t batch_size,
+                                   uint64_t writer, uint64_t home);
 
 /*
  * Commits the writer's transaction: reads show it from now on, and it is
@@ -303,36 +295,32 @@ struct kagutin_reply kagutin_store(
  * commit. Tickets rise until the next cut and mean nothing after it.
  * Batch: as for store. Answers 1, 2, 4, 7, 8, 9.
  */
-struct kagutin_reply kagutin_commit(
-    uint8_t *log, size_t log_size, const uint8_t *area, size_t area_size,
-    uint8_t *state, size_t state_size, uint8_t *newest, size_t newest_size,
-    uint8_t *batch, size_t batch_size, uint64_t writer);
+struct kagutin_reply kagutin_commit(uint8_t *log, size_t log_size, const uint8_t *area, size_t area_size, uint8_t *state,
+                                    size_t state_size, uint8_t *newest, size_t newest_size, uint8_t *batch, size_t batch_size,
+                                    uint64_t writer);
 
 /*
  * Submits a part-filled group, if there is one, and fences. 18: the places
  * passed over are promised; store on, or let a writer commit or abort.
  * Batch: GW if so, FN. Answers 1, 2, 18, 9.
  */
-struct kagutin_reply kagutin_flush(
-    const uint8_t *log, size_t log_size, const uint8_t *area, size_t area_size,
-    uint8_t *state, size_t state_size, uint8_t *batch, size_t batch_size);
+struct kagutin_reply kagutin_flush(const uint8_t *log, size_t log_size, const uint8_t *area, size_t area_size, uint8_t *state,
+                                   size_t state_size, uint8_t *batch, size_t batch_size);
 
 /*
  * Says that every fence of every batch so far has passed.
  * figure: the durable mark; commits with that ticket or less are durable.
  * Answers 1, 2.
  */
-struct kagutin_reply kagutin_confirm(
-    const uint8_t *log, size_t log_size, const uint8_t *area, size_t area_size,
-    uint8_t *state, size_t state_size);
+struct kagutin_reply kagutin_confirm(const uint8_t *log, size_t log_size, const uint8_t *area, size_t area_size, uint8_t *state,
+                                     size_t state_size);
 
 /*
  * Writes home what is committed and fenced, so that trim can free its groups.
  * Batch: HW of each such home, rising, FN. Answers 1, 2, 21 (in a round), 9.
  */
-struct kagutin_reply kagutin_settle(
-    const uint8_t *log, size_t log_size, uint8_t *area, size_t area_size,
-    uint8_t *state, size_t state_size, uint8_t *batch, size_t batch_size);
+struct kagutin_reply kagutin_settle(const uint8_t *log, size_t log_size, uint8_t *area, size_t area_size, uint8_t *state,
+                                    size_t state_size, uint8_t *batch, size_t batch_size);
 
 /*
  * Begins a round, which settles in small steps what a settle would now: it
@@ -340,9 +328,8 @@ struct kagutin_reply kagutin_settle(
  * come between its steps; an opening ends it. Writes nothing.
  * Answers 1, 2, 21 (a round is under way).
  */
-struct kagutin_reply kagutin_begin_round(
-    const uint8_t *log, size_t log_size, const uint8_t *area, size_t area_size,
-    uint8_t *state, size_t state_size);
+struct kagutin_reply kagutin_begin_round(const uint8_t *log, size_t log_size, const uint8_t *area, size_t area_size,
+                                         uint8_t *state, size_t state_size);
 
 /*
  * Moves the round on by its next so many homes, or all that remain. The step
@@ -352,20 +339,16 @@ struct kagutin_reply kagutin_begin_round(
  * Batch: HW of each such home, rising; FN if the round ends.
  * Answers 1, 2, 21 (no round, or homes is 0), 9.
  */
-struct kagutin_reply kagutin_step_round(
-    const uint8_t *log, size_t log_size, uint8_t *area, size_t area_size,
-    uint8_t *state, size_t state_size, uint8_t *batch, size_t batch_size,
-    uint64_t homes);
+struct kagutin_reply kagutin_step_round(const uint8_t *log, size_t log_size, uint8_t *area, size_t area_size, uint8_t *state,
+                                        size_t state_size, uint8_t *batch, size_t batch_size, uint64_t homes);
 
 /*
  * Frees the groups below the settled position that no open or committed
  * transaction reaches across; positions in them are no longer kept.
  * Batch: KW, FN if any is freed, else nothing. Answers 1, 2, 10, 9.
  */
-struct kagutin_reply kagutin_trim(
-    uint8_t *log, size_t log_size, const uint8_t *area, size_t area_size,
-    uint8_t *state, size_t state_size, uint8_t *newest, size_t newest_size,
-    uint8_t *batch, size_t batch_size);
+struct kagutin_reply kagutin_trim(uint8_t *log, size_t log_size, const uint8_t *area, size_t area_size, uint8_t *state,
+                                  size_t state_size, uint8_t *newest, size_t newest_size, uint8_t *batch, size_t batch_size);
 
 /*
  * Gives a home's block as the writer sees it: its own newest one if its open
@@ -374,20 +357,17 @@ struct kagutin_reply kagutin_trim(
  * changed. Answers 1, 2, 4, 5, 20. 20: a list is committed and does not let the
  * writer read this home, which is not one of 8 to 11; also for its own block.
  */
-struct kagutin_reply kagutin_read(
-    const uint8_t *log, size_t log_size, const uint8_t *area, size_t area_size,
-    const uint8_t *state, size_t state_size,
-    const uint8_t *newest, size_t newest_size,
-    uint8_t *block, size_t block_size, uint64_t writer, uint64_t home);
+struct kagutin_reply kagutin_read(const uint8_t *log, size_t log_size, const uint8_t *area, size_t area_size,
+                                  const uint8_t *state, size_t state_size, const uint8_t *newest, size_t newest_size,
+                                  uint8_t *block, size_t block_size, uint64_t writer, uint64_t home);
 
 /*
  * Tells what fills the log. A held block has no place yet. Trims free what is
  * dead, settled or both up to the group in which the holder's first entry lies,
  * never beyond. Changes nothing. Answers 1, 2, with zeros in all other fields.
  */
-struct kagutin_places kagutin_usage(
-    const uint8_t *log, size_t log_size, const uint8_t *area, size_t area_size,
-    const uint8_t *state, size_t state_size);
+struct kagutin_places kagutin_usage(const uint8_t *log, size_t log_size, const uint8_t *area, size_t area_size,
+                                    const uint8_t *state, size_t state_size);
 
 #ifdef __cplusplus
 }
@@ -423,18 +403,14 @@ extern "C" {
  * is changed. Answers 1 (also a strip of no whole blocks, of none or of more than
  * seven), 2, 4, 5 (one of the homes is not below D), 20.
  */
-struct kagutin_reply kagutin_fetch(
-    const uint8_t *log, size_t log_size, const uint8_t *area, size_t area_size,
-    const uint8_t *state, size_t state_size,
-    const uint8_t *newest, size_t newest_size,
-    uint8_t *blocks, size_t blocks_size, uint64_t writer, uint64_t home);
+struct kagutin_reply kagutin_fetch(const uint8_t *log, size_t log_size, const uint8_t *area, size_t area_size,
+                                   const uint8_t *state, size_t state_size, const uint8_t *newest, size_t newest_size,
+                                   uint8_t *blocks, size_t blocks_size, uint64_t writer, uint64_t home);
 
 /* The same for a writer that is going to store what it makes of them. Answers 1, 2, 4, 5, 19, 20. */
-struct kagutin_reply kagutin_revise(
-    const uint8_t *log, size_t log_size, const uint8_t *area, size_t area_size,
-    const uint8_t *state, size_t state_size,
-    const uint8_t *newest, size_t newest_size,
-    uint8_t *blocks, size_t blocks_size, uint64_t writer, uint64_t home);
+struct kagutin_reply kagutin_revise(const uint8_t *log, size_t log_size, const uint8_t *area, size_t area_size,
+                                    const uint8_t *state, size_t state_size, const uint8_t *newest, size_t newest_size,
+                                    uint8_t *blocks, size_t blocks_size, uint64_t writer, uint64_t home);
 
 /*
  * Begin, a store of each block by rising home, and commit, of an idle writer:
@@ -442,11 +418,9 @@ struct kagutin_reply kagutin_revise(
  * Batch: GW if one of the entries is the seventh of its group.
  * Answers 1, 2, 4, 5, 19, 6, 8 (fewer places are free than there are blocks), 9.
  */
-struct kagutin_reply kagutin_transact(
-    uint8_t *log, size_t log_size, const uint8_t *area, size_t area_size,
-    uint8_t *state, size_t state_size, uint8_t *newest, size_t newest_size,
-    const uint8_t *blocks, size_t blocks_size, uint8_t *batch, size_t batch_size,
-    uint64_t writer, uint64_t home);
+struct kagutin_reply kagutin_transact(uint8_t *log, size_t log_size, const uint8_t *area, size_t area_size, uint8_t *state,
+                                      size_t state_size, uint8_t *newest, size_t newest_size, const uint8_t *blocks,
+                                      size_t blocks_size, uint8_t *batch, size_t batch_size, uint64_t writer, uint64_t home);
 
 #ifdef __cplusplus
 }
@@ -554,19 +528,17 @@ struct kgt_driver {
 #define KGT_NEWEST_SIZE(homes) ((size_t)KAGUTIN_POSITION_SIZE * (homes))
 
 /* The longest batch of any call but format: open's. */
-#define KGT_TOUCHED(groups, homes) \
-    ((size_t)(homes) < (size_t)KAGUTIN_GROUP_ENTRIES * (groups) ? (size_t)(homes) \
-                                                               : (size_t)KAGUTIN_GROUP_ENTRIES * (groups))
-#define KGT_OPEN_BATCH(groups, homes) \
-    (KAGUTIN_HW_SIZE * KGT_TOUCHED(groups, homes) + KAGUTIN_FN_SIZE + KAGUTIN_KW_SIZE + KAGUTIN_FN_SIZE \
+#define KGT_TOUCHED(groups, homes)                                                                                               \
+    ((size_t)(homes) < (size_t)KAGUTIN_GROUP_ENTRIES * (groups) ? (size_t)(homes) : (size_t)KAGUTIN_GROUP_ENTRIES * (groups))
+#define KGT_OPEN_BATCH(groups, homes)                                                                                            \
+    (KAGUTIN_HW_SIZE * KGT_TOUCHED(groups, homes) + KAGUTIN_FN_SIZE + KAGUTIN_KW_SIZE + KAGUTIN_FN_SIZE                          \
      + (size_t)KAGUTIN_GW_SIZE * (groups) + KAGUTIN_FN_SIZE)
 #define KGT_BATCH_SIZE(groups, homes) KGT_OPEN_BATCH(groups, homes)
 
 /* Bytes of memory that a store of this shape needs, and more for a format. */
-#define KGT_MEMORY_SIZE(groups, homes) \
-    (KGT_LOG_SIZE(groups) + KGT_HOMES_SIZE(homes) + KAGUTIN_STATE_SIZE + KGT_NEWEST_SIZE(homes) \
-     + KGT_BATCH_SIZE(groups, homes))
-#define KGT_FORMAT_SIZE(groups, homes) \
+#define KGT_MEMORY_SIZE(groups, homes)                                                                                           \
+    (KGT_LOG_SIZE(groups) + KGT_HOMES_SIZE(homes) + KAGUTIN_STATE_SIZE + KGT_NEWEST_SIZE(homes) + KGT_BATCH_SIZE(groups, homes))
+#define KGT_FORMAT_SIZE(groups, homes)                                                                                           \
     ((size_t)KAGUTIN_GW_SIZE * (groups) + (size_t)KAGUTIN_HW_SIZE * (homes) + 2 * KAGUTIN_KW_SIZE + 3 * KAGUTIN_FN_SIZE)
 
 /* ---- answers beyond those of kagutin.h ---- */
@@ -607,7 +579,8 @@ struct kgt_opened {
 
 struct kgt_ticket {
     uint64_t code;
-    uint64_t ticket; /* the commit is durable once a mark is this or more; KGT_NOT_TOLD, which no mark reaches, if there is no commit */
+    uint64_t
+        ticket; /* the commit is durable once a mark is this or more; KGT_NOT_TOLD, which no mark reaches, if there is no commit */
     uint64_t holder;
     int error;
 };
@@ -680,7 +653,7 @@ struct kagutin {
     enum kgt_condition condition;
     enum kgt_room room;
     bool list_stores; /* kgt_store may store to the list of rights */
-    int error; /* of the driver, once it has failed */
+    int error;        /* of the driver, once it has failed */
     int (*lock)(void *context);
     void (*unlock)(void *context);
     void *lock_context;
@@ -700,8 +673,7 @@ struct kgt_reply kgt_init(struct kagutin *store, uint8_t *memory, size_t size, s
  * After kgt_init and before the tasks start. Answers 67, and 1 if only one of
  * the two is null.
  */
-struct kgt_reply kgt_set_lock(struct kagutin *store, int (*lock)(void *context), void (*unlock)(void *context),
-                              void *context);
+struct kgt_reply kgt_set_lock(struct kagutin *store, int (*lock)(void *context), void (*unlock)(void *context), void *context);
 
 /*
  * KGT_ROOM_BY_MAINTAIN: writers' calls and sync never settle. In a full log they
@@ -944,21 +916,18 @@ struct kagutin_band {
  * to, to above 9,999 or pumps above 4), 12, 13; then once for all three homes 1,
  * 2, 4, 5, 19, 6, 8, 9. 12 is given before 13.
  */
-struct kagutin_reply kagutin_bands_set(
-    uint8_t *log, size_t log_size, const uint8_t *area, size_t area_size,
-    uint8_t *state, size_t state_size, uint8_t *newest, size_t newest_size,
-    uint8_t *batch, size_t batch_size, const uint8_t *rows, size_t rows_size,
-    uint64_t writer);
+struct kagutin_reply kagutin_bands_set(uint8_t *log, size_t log_size, const uint8_t *area, size_t area_size, uint8_t *state,
+                                       size_t state_size, uint8_t *newest, size_t newest_size, uint8_t *batch, size_t batch_size,
+                                       const uint8_t *rows, size_t rows_size, uint64_t writer);
 
 /*
  * The row that a depth lies in, as the writer sees the table. Changes nothing.
  * Answers 11 (mm above 9,999), 1, 2, 4, 5, 20, 11 (the homes hold no table that
  * would be accepted).
  */
-struct kagutin_band kagutin_bands_look_up(
-    const uint8_t *log, size_t log_size, const uint8_t *area, size_t area_size,
-    const uint8_t *state, size_t state_size,
-    const uint8_t *newest, size_t newest_size, uint64_t writer, uint64_t mm);
+struct kagutin_band kagutin_bands_look_up(const uint8_t *log, size_t log_size, const uint8_t *area, size_t area_size,
+                                          const uint8_t *state, size_t state_size, const uint8_t *newest, size_t newest_size,
+                                          uint64_t writer, uint64_t mm);
 
 #ifdef __cplusplus
 }
@@ -1012,26 +981,21 @@ struct kagutin_services {
  * Batch: GW if the entry is the seventh of its group.
  * Answers 14, 1, 2, 4, 5, 19, 20, 15, 16, 6, 8, 9.
  */
-struct kagutin_reply kagutin_pump_start(
-    uint8_t *log, size_t log_size, const uint8_t *area, size_t area_size,
-    uint8_t *state, size_t state_size, uint8_t *newest, size_t newest_size,
-    uint8_t *batch, size_t batch_size, uint64_t writer, uint64_t pump, uint32_t second);
-struct kagutin_reply kagutin_pump_stop(
-    uint8_t *log, size_t log_size, const uint8_t *area, size_t area_size,
-    uint8_t *state, size_t state_size, uint8_t *newest, size_t newest_size,
-    uint8_t *batch, size_t batch_size, uint64_t writer, uint64_t pump, uint32_t second);
+struct kagutin_reply kagutin_pump_start(uint8_t *log, size_t log_size, const uint8_t *area, size_t area_size, uint8_t *state,
+                                        size_t state_size, uint8_t *newest, size_t newest_size, uint8_t *batch, size_t batch_size,
+                                        uint64_t writer, uint64_t pump, uint32_t second);
+struct kagutin_reply kagutin_pump_stop(uint8_t *log, size_t log_size, const uint8_t *area, size_t area_size, uint8_t *state,
+                                       size_t state_size, uint8_t *newest, size_t newest_size, uint8_t *batch, size_t batch_size,
+                                       uint64_t writer, uint64_t pump, uint32_t second);
 
 /* Change nothing. Answers 14, 1, 2, 4, 5, 20. */
-struct kagutin_hours kagutin_pump_hours(
-    const uint8_t *log, size_t log_size, const uint8_t *area, size_t area_size,
-    const uint8_t *state, size_t state_size,
-    const uint8_t *newest, size_t newest_size, uint64_t writer, uint64_t pump);
+struct kagutin_hours kagutin_pump_hours(const uint8_t *log, size_t log_size, const uint8_t *area, size_t area_size,
+                                        const uint8_t *state, size_t state_size, const uint8_t *newest, size_t newest_size,
+                                        uint64_t writer, uint64_t pump);
 
-struct kagutin_services kagutin_pump_services(
-    const uint8_t *log, size_t log_size, const uint8_t *area, size_t area_size,
-    const uint8_t *state, size_t state_size,
-    const uint8_t *newest, size_t newest_size, uint64_t writer, uint64_t pump,
-    uint64_t interval);
+struct kagutin_services kagutin_pump_services(const uint8_t *log, size_t log_size, const uint8_t *area, size_t area_size,
+                                              const uint8_t *state, size_t state_size, const uint8_t *newest, size_t newest_size,
+                                              uint64_t writer, uint64_t pump, uint64_t interval);
 
 #ifdef __cplusplus
 }
@@ -1086,26 +1050,23 @@ struct kagutin_alarm {
  * Answers 24 (class), then once for all six homes 1, 2, 4, 5, 19, 20, 24 (open
  * already), 25, 6, 8, 9.
  */
-struct kagutin_reply kagutin_alarm_arrive(
-    uint8_t *log, size_t log_size, const uint8_t *area, size_t area_size,
-    uint8_t *state, size_t state_size, uint8_t *newest, size_t newest_size,
-    uint8_t *batch, size_t batch_size, uint64_t writer, uint16_t identity,
-    uint64_t alarm_class, uint32_t second);
+struct kagutin_reply kagutin_alarm_arrive(uint8_t *log, size_t log_size, const uint8_t *area, size_t area_size, uint8_t *state,
+                                          size_t state_size, uint8_t *newest, size_t newest_size, uint8_t *batch,
+                                          size_t batch_size, uint64_t writer, uint16_t identity, uint64_t alarm_class,
+                                          uint32_t second);
 
 /* An alarm clears, in the same way. Answers 1, 2, 4, 5, 19, 20, 24 (not open), 6, 8, 9. */
-struct kagutin_reply kagutin_alarm_clear(
-    uint8_t *log, size_t log_size, const uint8_t *area, size_t area_size,
-    uint8_t *state, size_t state_size, uint8_t *newest, size_t newest_size,
-    uint8_t *batch, size_t batch_size, uint64_t writer, uint16_t identity);
+struct kagutin_reply kagutin_alarm_clear(uint8_t *log, size_t log_size, const uint8_t *area, size_t area_size, uint8_t *state,
+                                         size_t state_size, uint8_t *newest, size_t newest_size, uint8_t *batch,
+                                         size_t batch_size, uint64_t writer, uint16_t identity);
 
 /*
  * The gravest open alarm, as it is kept in the first of the homes: class 0 if
  * none is open. Changes nothing. Answers 1, 2, 4, 5, 20.
  */
-struct kagutin_alarm kagutin_alarm_gravest(
-    const uint8_t *log, size_t log_size, const uint8_t *area, size_t area_size,
-    const uint8_t *state, size_t state_size,
-    const uint8_t *newest, size_t newest_size, uint64_t writer);
+struct kagutin_alarm kagutin_alarm_gravest(const uint8_t *log, size_t log_size, const uint8_t *area, size_t area_size,
+                                           const uint8_t *state, size_t state_size, const uint8_t *newest, size_t newest_size,
+                                           uint64_t writer);
 
 #ifdef __cplusplus
 }
@@ -1277,8 +1238,7 @@ struct kgt_fram {
      * whichever is not null. Returns 0, or the board's error; also then no
      * byte reaches the chip after it has returned.
      */
-    int (*transfer)(void *bus, const uint8_t *command, size_t command_size, const uint8_t *out, uint8_t *in,
-                    size_t size);
+    int (*transfer)(void *bus, const uint8_t *command, size_t command_size, const uint8_t *out, uint8_t *in, size_t size);
     void *bus;
     uint32_t base;          /* where the image begins in the chip */
     unsigned address_bytes; /* 2 or 3 */
@@ -1287,8 +1247,8 @@ struct kgt_fram {
 };
 
 void kgt_fram_init(struct kgt_fram *fram, size_t groups, uint32_t base, unsigned address_bytes,
-                   int (*transfer)(void *bus, const uint8_t *command, size_t command_size, const uint8_t *out,
-                                   uint8_t *in, size_t size),
+                   int (*transfer)(void *bus, const uint8_t *command, size_t command_size, const uint8_t *out, uint8_t *in,
+                                   size_t size),
                    void *bus);
 
 struct kgt_driver kgt_fram_driver(struct kgt_fram *fram);

@@ -164,8 +164,7 @@ static inline size_t kagutin_newest_size(size_t homes)
 /* Exactly what format writes; no call writes more. */
 static inline size_t kagutin_format_batch(size_t groups, size_t homes)
 {
-    return (size_t)KAGUTIN_GW_SIZE * groups + (size_t)KAGUTIN_HW_SIZE * homes
-        + 2 * KAGUTIN_KW_SIZE + 3 * KAGUTIN_FN_SIZE;
+    return (size_t)KAGUTIN_GW_SIZE * groups + (size_t)KAGUTIN_HW_SIZE * homes + 2 * KAGUTIN_KW_SIZE + 3 * KAGUTIN_FN_SIZE;
 }
 
 /* The most that settle can write: one HW for each home with an entry, FN. */
@@ -187,8 +186,8 @@ static inline size_t kagutin_step_batch(size_t groups, size_t homes, uint64_t st
 /* The most that open can write: as settle, then the header, FN, every group and FN. */
 static inline size_t kagutin_open_batch(size_t groups, size_t homes)
 {
-    return kagutin_settle_batch(groups, homes) + KAGUTIN_KW_SIZE + KAGUTIN_FN_SIZE
-        + (size_t)KAGUTIN_GW_SIZE * groups + KAGUTIN_FN_SIZE;
+    return kagutin_settle_batch(groups, homes) + KAGUTIN_KW_SIZE + KAGUTIN_FN_SIZE + (size_t)KAGUTIN_GW_SIZE * groups
+        + KAGUTIN_FN_SIZE;
 }
 
 /* An answer in words. */
@@ -229,9 +228,8 @@ static inline const char *kagutin_answer_text(uint64_t code)
  * Batch: KW of zeros, FN, every group blank and every home zeros, FN, header, FN.
  * Answers 1, 9.
  */
-struct kagutin_reply kagutin_format(
-    uint8_t *log, size_t log_size, uint8_t *area, size_t area_size,
-    uint8_t *batch, size_t batch_size);
+struct kagutin_reply kagutin_format(uint8_t *log, size_t log_size, uint8_t *area, size_t area_size, uint8_t *batch,
+                                    size_t batch_size);
 
 /*
  * Replays the committed transactions of the log into the area, empties the
@@ -241,15 +239,12 @@ struct kagutin_reply kagutin_format(
  * Batch: HW of each home touched, rising, FN, KW, FN, every group blank, FN.
  * Answers 1, 3 (also for a header of the older format, mark 50 48), 10, 9.
  */
-struct kagutin_reply kagutin_open(
-    uint8_t *log, size_t log_size, uint8_t *area, size_t area_size,
-    uint8_t *state, size_t state_size, uint8_t *newest, size_t newest_size,
-    uint8_t *batch, size_t batch_size);
+struct kagutin_reply kagutin_open(uint8_t *log, size_t log_size, uint8_t *area, size_t area_size, uint8_t *state,
+                                  size_t state_size, uint8_t *newest, size_t newest_size, uint8_t *batch, size_t batch_size);
 
 /* Opens a transaction of an idle writer. Answers 1, 2, 4, 6. */
-struct kagutin_reply kagutin_begin(
-    const uint8_t *log, size_t log_size, const uint8_t *area, size_t area_size,
-    uint8_t *state, size_t state_size, uint64_t writer);
+struct kagutin_reply kagutin_begin(const uint8_t *log, size_t log_size, const uint8_t *area, size_t area_size, uint8_t *state,
+                                   size_t state_size, uint64_t writer);
 
 /*
  * Opens a transaction of an idle writer and promises it n places of the log:
@@ -258,17 +253,15 @@ struct kagutin_reply kagutin_begin(
  * the same home again and a refused call use none up. Commit and abort give
  * the rest back, an opening all. Answers 1, 2, 4, 6, 17.
  */
-struct kagutin_reply kagutin_reserve(
-    const uint8_t *log, size_t log_size, const uint8_t *area, size_t area_size,
-    uint8_t *state, size_t state_size, uint64_t writer, uint64_t n);
+struct kagutin_reply kagutin_reserve(const uint8_t *log, size_t log_size, const uint8_t *area, size_t area_size, uint8_t *state,
+                                     size_t state_size, uint64_t writer, uint64_t n);
 
 /*
  * Drops the writer's transaction; its entries in the log never count, and
  * places promised to it are free again. Answers 1, 2, 4, 7.
  */
-struct kagutin_reply kagutin_abort(
-    const uint8_t *log, size_t log_size, const uint8_t *area, size_t area_size,
-    uint8_t *state, size_t state_size, uint64_t writer);
+struct kagutin_reply kagutin_abort(const uint8_t *log, size_t log_size, const uint8_t *area, size_t area_size, uint8_t *state,
+                                   size_t state_size, uint64_t writer);
 
 /*
  * Adds a block for a home to the writer's transaction. The block is held in
@@ -280,10 +273,9 @@ struct kagutin_reply kagutin_abort(
  * counts from its commit, never while it is only stored. 8: flush, settle and trim make room, unless an
  * open transaction holds the log; the transaction stays open and as it was.
  */
-struct kagutin_reply kagutin_store(
-    uint8_t *log, size_t log_size, const uint8_t *area, size_t area_size,
-    uint8_t *state, size_t state_size, const uint8_t *block, size_t block_size,
-    uint8_t *batch, size_t batch_size, uint64_t writer, uint64_t home);
+struct kagutin_reply kagutin_store(uint8_t *log, size_t log_size, const uint8_t *area, size_t area_size, uint8_t *state,
+                                   size_t state_size, const uint8_t *block, size_t block_size, uint8_t *batch, size_t batch_size,
+                                   uint64_t writer, uint64_t home);
 
 /*
  * Commits the writer's transaction: reads show it from now on, and it is
@@ -293,36 +285,32 @@ struct kagutin_reply kagutin_store(
  * commit. Tickets rise until the next cut and mean nothing after it.
  * Batch: as for store. Answers 1, 2, 4, 7, 8, 9.
  */
-struct kagutin_reply kagutin_commit(
-    uint8_t *log, size_t log_size, const uint8_t *area, size_t area_size,
-    uint8_t *state, size_t state_size, uint8_t *newest, size_t newest_size,
-    uint8_t *batch, size_t batch_size, uint64_t writer);
+struct kagutin_reply kagutin_commit(uint8_t *log, size_t log_size, const uint8_t *area, size_t area_size, uint8_t *state,
+                                    size_t state_size, uint8_t *newest, size_t newest_size, uint8_t *batch, size_t batch_size,
+                                    uint64_t writer);
 
 /*
  * Submits a part-filled group, if there is one, and fences. 18: the places
  * passed over are promised; store on, or let a writer commit or abort.
  * Batch: GW if so, FN. Answers 1, 2, 18, 9.
  */
-struct kagutin_reply kagutin_flush(
-    const uint8_t *log, size_t log_size, const uint8_t *area, size_t area_size,
-    uint8_t *state, size_t state_size, uint8_t *batch, size_t batch_size);
+struct kagutin_reply kagutin_flush(const uint8_t *log, size_t log_size, const uint8_t *area, size_t area_size, uint8_t *state,
+                                   size_t state_size, uint8_t *batch, size_t batch_size);
 
 /*
  * Says that every fence of every batch so far has passed.
  * figure: the durable mark; commits with that ticket or less are durable.
  * Answers 1, 2.
  */
-struct kagutin_reply kagutin_confirm(
-    const uint8_t *log, size_t log_size, const uint8_t *area, size_t area_size,
-    uint8_t *state, size_t state_size);
+struct kagutin_reply kagutin_confirm(const uint8_t *log, size_t log_size, const uint8_t *area, size_t area_size, uint8_t *state,
+                                     size_t state_size);
 
 /*
  * Writes home what is committed and fenced, so that trim can free its groups.
  * Batch: HW of each such home, rising, FN. Answers 1, 2, 21 (in a round), 9.
  */
-struct kagutin_reply kagutin_settle(
-    const uint8_t *log, size_t log_size, uint8_t *area, size_t area_size,
-    uint8_t *state, size_t state_size, uint8_t *batch, size_t batch_size);
+struct kagutin_reply kagutin_settle(const uint8_t *log, size_t log_size, uint8_t *area, size_t area_size, uint8_t *state,
+                                    size_t state_size, uint8_t *batch, size_t batch_size);
 
 /*
  * Begins a round, which settles in small steps what a settle would now: it
@@ -330,9 +318,8 @@ struct kagutin_reply kagutin_settle(
  * come between its steps; an opening ends it. Writes nothing.
  * Answers 1, 2, 21 (a round is under way).
  */
-struct kagutin_reply kagutin_begin_round(
-    const uint8_t *log, size_t log_size, const uint8_t *area, size_t area_size,
-    uint8_t *state, size_t state_size);
+struct kagutin_reply kagutin_begin_round(const uint8_t *log, size_t log_size, const uint8_t *area, size_t area_size,
+                                         uint8_t *state, size_t state_size);
 
 /*
  * Moves the round on by its next so many homes, or all that remain. The step
@@ -342,20 +329,16 @@ struct kagutin_reply kagutin_begin_round(
  * Batch: HW of each such home, rising; FN if the round ends.
  * Answers 1, 2, 21 (no round, or homes is 0), 9.
  */
-struct kagutin_reply kagutin_step_round(
-    const uint8_t *log, size_t log_size, uint8_t *area, size_t area_size,
-    uint8_t *state, size_t state_size, uint8_t *batch, size_t batch_size,
-    uint64_t homes);
+struct kagutin_reply kagutin_step_round(const uint8_t *log, size_t log_size, uint8_t *area, size_t area_size, uint8_t *state,
+                                        size_t state_size, uint8_t *batch, size_t batch_size, uint64_t homes);
 
 /*
  * Frees the groups below the settled position that no open or committed
  * transaction reaches across; positions in them are no longer kept.
  * Batch: KW, FN if any is freed, else nothing. Answers 1, 2, 10, 9.
  */
-struct kagutin_reply kagutin_trim(
-    uint8_t *log, size_t log_size, const uint8_t *area, size_t area_size,
-    uint8_t *state, size_t state_size, uint8_t *newest, size_t newest_size,
-    uint8_t *batch, size_t batch_size);
+struct kagutin_reply kagutin_trim(uint8_t *log, size_t log_size, const uint8_t *area, size_t area_size, uint8_t *state,
+                                  size_t state_size, uint8_t *newest, size_t newest_size, uint8_t *batch, size_t batch_size);
 
 /*
  * Gives a home's block as the writer sees it: its own newest one if its open
@@ -364,20 +347,17 @@ struct kagutin_reply kagutin_trim(
  * changed. Answers 1, 2, 4, 5, 20. 20: a list is committed and does not let the
  * writer read this home, which is not one of 8 to 11; also for its own block.
  */
-struct kagutin_reply kagutin_read(
-    const uint8_t *log, size_t log_size, const uint8_t *area, size_t area_size,
-    const uint8_t *state, size_t state_size,
-    const uint8_t *newest, size_t newest_size,
-    uint8_t *block, size_t block_size, uint64_t writer, uint64_t home);
+struct kagutin_reply kagutin_read(const uint8_t *log, size_t log_size, const uint8_t *area, size_t area_size,
+                                  const uint8_t *state, size_t state_size, const uint8_t *newest, size_t newest_size,
+                                  uint8_t *block, size_t block_size, uint64_t writer, uint64_t home);
 
 /*
  * Tells what fills the log. A held block has no place yet. Trims free what is
  * dead, settled or both up to the group in which the holder's first entry lies,
  * never beyond. Changes nothing. Answers 1, 2, with zeros in all other fields.
  */
-struct kagutin_places kagutin_usage(
-    const uint8_t *log, size_t log_size, const uint8_t *area, size_t area_size,
-    const uint8_t *state, size_t state_size);
+struct kagutin_places kagutin_usage(const uint8_t *log, size_t log_size, const uint8_t *area, size_t area_size,
+                                    const uint8_t *state, size_t state_size);
 
 #ifdef __cplusplus
 }

@@ -44,26 +44,23 @@ struct kagutin_alarm {
  * Answers 24 (class), then once for all six homes 1, 2, 4, 5, 19, 20, 24 (open
  * already), 25, 6, 8, 9.
  */
-struct kagutin_reply kagutin_alarm_arrive(
-    uint8_t *log, size_t log_size, const uint8_t *area, size_t area_size,
-    uint8_t *state, size_t state_size, uint8_t *newest, size_t newest_size,
-    uint8_t *batch, size_t batch_size, uint64_t writer, uint16_t identity,
-    uint64_t alarm_class, uint32_t second);
+struct kagutin_reply kagutin_alarm_arrive(uint8_t *log, size_t log_size, const uint8_t *area, size_t area_size, uint8_t *state,
+                                          size_t state_size, uint8_t *newest, size_t newest_size, uint8_t *batch,
+                                          size_t batch_size, uint64_t writer, uint16_t identity, uint64_t alarm_class,
+                                          uint32_t second);
 
 /* An alarm clears, in the same way. Answers 1, 2, 4, 5, 19, 20, 24 (not open), 6, 8, 9. */
-struct kagutin_reply kagutin_alarm_clear(
-    uint8_t *log, size_t log_size, const uint8_t *area, size_t area_size,
-    uint8_t *state, size_t state_size, uint8_t *newest, size_t newest_size,
-    uint8_t *batch, size_t batch_size, uint64_t writer, uint16_t identity);
+struct kagutin_reply kagutin_alarm_clear(uint8_t *log, size_t log_size, const uint8_t *area, size_t area_size, uint8_t *state,
+                                         size_t state_size, uint8_t *newest, size_t newest_size, uint8_t *batch,
+                                         size_t batch_size, uint64_t writer, uint16_t identity);
 
 /*
  * The gravest open alarm, as it is kept in the first of the homes: class 0 if
  * none is open. Changes nothing. Answers 1, 2, 4, 5, 20.
  */
-struct kagutin_alarm kagutin_alarm_gravest(
-    const uint8_t *log, size_t log_size, const uint8_t *area, size_t area_size,
-    const uint8_t *state, size_t state_size,
-    const uint8_t *newest, size_t newest_size, uint64_t writer);
+struct kagutin_alarm kagutin_alarm_gravest(const uint8_t *log, size_t log_size, const uint8_t *area, size_t area_size,
+                                           const uint8_t *state, size_t state_size, const uint8_t *newest, size_t newest_size,
+                                           uint64_t writer);
 
 #ifdef __cplusplus
 }

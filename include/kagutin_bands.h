@@ -46,21 +46,18 @@ struct kagutin_band {
  * to, to above 9,999 or pumps above 4), 12, 13; then once for all three homes 1,
  * 2, 4, 5, 19, 6, 8, 9. 12 is given before 13.
  */
-struct kagutin_reply kagutin_bands_set(
-    uint8_t *log, size_t log_size, const uint8_t *area, size_t area_size,
-    uint8_t *state, size_t state_size, uint8_t *newest, size_t newest_size,
-    uint8_t *batch, size_t batch_size, const uint8_t *rows, size_t rows_size,
-    uint64_t writer);
+struct kagutin_reply kagutin_bands_set(uint8_t *log, size_t log_size, const uint8_t *area, size_t area_size, uint8_t *state,
+                                       size_t state_size, uint8_t *newest, size_t newest_size, uint8_t *batch, size_t batch_size,
+                                       const uint8_t *rows, size_t rows_size, uint64_t writer);
 
 /*
  * The row that a depth lies in, as the writer sees the table. Changes nothing.
  * Answers 11 (mm above 9,999), 1, 2, 4, 5, 20, 11 (the homes hold no table that
  * would be accepted).
  */
-struct kagutin_band kagutin_bands_look_up(
-    const uint8_t *log, size_t log_size, const uint8_t *area, size_t area_size,
-    const uint8_t *state, size_t state_size,
-    const uint8_t *newest, size_t newest_size, uint64_t writer, uint64_t mm);
+struct kagutin_band kagutin_bands_look_up(const uint8_t *log, size_t log_size, const uint8_t *area, size_t area_size,
+                                          const uint8_t *state, size_t state_size, const uint8_t *newest, size_t newest_size,
+                                          uint64_t writer, uint64_t mm);
 
 #ifdef __cplusplus
 }

@@ -25,18 +25,14 @@ extern "C" {
  * is changed. Answers 1 (also a strip of no whole blocks, of none or of more than
  * seven), 2, 4, 5 (one of the homes is not below D), 20.
  */
-struct kagutin_reply kagutin_fetch(
-    const uint8_t *log, size_t log_size, const uint8_t *area, size_t area_size,
-    const uint8_t *state, size_t state_size,
-    const uint8_t *newest, size_t newest_size,
-    uint8_t *blocks, size_t blocks_size, uint64_t writer, uint64_t home);
+struct kagutin_reply kagutin_fetch(const uint8_t *log, size_t log_size, const uint8_t *area, size_t area_size,
+                                   const uint8_t *state, size_t state_size, const uint8_t *newest, size_t newest_size,
+                                   uint8_t *blocks, size_t blocks_size, uint64_t writer, uint64_t home);
 
 /* The same for a writer that is going to store what it makes of them. Answers 1, 2, 4, 5, 19, 20. */
-struct kagutin_reply kagutin_revise(
-    const uint8_t *log, size_t log_size, const uint8_t *area, size_t area_size,
-    const uint8_t *state, size_t state_size,
-    const uint8_t *newest, size_t newest_size,
-    uint8_t *blocks, size_t blocks_size, uint64_t writer, uint64_t home);
+struct kagutin_reply kagutin_revise(const uint8_t *log, size_t log_size, const uint8_t *area, size_t area_size,
+                                    const uint8_t *state, size_t state_size, const uint8_t *newest, size_t newest_size,
+                                    uint8_t *blocks, size_t blocks_size, uint64_t writer, uint64_t home);
 
 /*
  * Begin, a store of each block by rising home, and commit, of an idle writer:
@@ -44,11 +40,9 @@ struct kagutin_reply kagutin_revise(
  * Batch: GW if one of the entries is the seventh of its group.
  * Answers 1, 2, 4, 5, 19, 6, 8 (fewer places are free than there are blocks), 9.
  */
-struct kagutin_reply kagutin_transact(
-    uint8_t *log, size_t log_size, const uint8_t *area, size_t area_size,
-    uint8_t *state, size_t state_size, uint8_t *newest, size_t newest_size,
-    const uint8_t *blocks, size_t blocks_size, uint8_t *batch, size_t batch_size,
-    uint64_t writer, uint64_t home);
+struct kagutin_reply kagutin_transact(uint8_t *log, size_t log_size, const uint8_t *area, size_t area_size, uint8_t *state,
+                                      size_t state_size, uint8_t *newest, size_t newest_size, const uint8_t *blocks,
+                                      size_t blocks_size, uint8_t *batch, size_t batch_size, uint64_t writer, uint64_t home);
 
 #ifdef __cplusplus
 }

@@ -26,8 +26,7 @@ struct kgt_fram {
      * whichever is not null. Returns 0, or the board's error; also then no
      * byte reaches the chip after it has returned.
      */
-    int (*transfer)(void *bus, const uint8_t *command, size_t command_size, const uint8_t *out, uint8_t *in,
-                    size_t size);
+    int (*transfer)(void *bus, const uint8_t *command, size_t command_size, const uint8_t *out, uint8_t *in, size_t size);
     void *bus;
     uint32_t base;          /* where the image begins in the chip */
     unsigned address_bytes; /* 2 or 3 */
@@ -36,8 +35,8 @@ struct kgt_fram {
 };
 
 void kgt_fram_init(struct kgt_fram *fram, size_t groups, uint32_t base, unsigned address_bytes,
-                   int (*transfer)(void *bus, const uint8_t *command, size_t command_size, const uint8_t *out,
-                                   uint8_t *in, size_t size),
+                   int (*transfer)(void *bus, const uint8_t *command, size_t command_size, const uint8_t *out, uint8_t *in,
+                                   size_t size),
                    void *bus);
 
 struct kgt_driver kgt_fram_driver(struct kgt_fram *fram);

@@ -31,10 +31,10 @@ extern "C" {
 
 /* Kinds of lines. */
 enum kagutin_line_kind {
-    KAGUTIN_AGREEING = 1,    /* both have the minute, at most the tolerance apart */
-    KAGUTIN_DIFFERING = 2,   /* both have it, further apart */
-    KAGUTIN_ONLY_FIRST = 3,  /* only the first list has it */
-    KAGUTIN_ONLY_SECOND = 4  /* only the second list has it */
+    KAGUTIN_AGREEING = 1,   /* both have the minute, at most the tolerance apart */
+    KAGUTIN_DIFFERING = 2,  /* both have it, further apart */
+    KAGUTIN_ONLY_FIRST = 3, /* only the first list has it */
+    KAGUTIN_ONLY_SECOND = 4 /* only the second list has it */
 };
 
 /* The answer, and the lines of each kind. The report is as long as all four together, in lines. */
@@ -60,9 +60,8 @@ static inline size_t kagutin_report_size(size_t first_readings, size_t second_re
  * minutes do not rise strictly, or a report too short for the lines. Then the
  * counts are 0 and no byte of the report is touched. Empty lists are fine.
  */
-struct kagutin_comparison kagutin_compare_gauges(
-    const uint8_t *first, size_t first_size, const uint8_t *second, size_t second_size,
-    uint8_t *report, size_t report_size, uint16_t tolerance);
+struct kagutin_comparison kagutin_compare_gauges(const uint8_t *first, size_t first_size, const uint8_t *second,
+                                                 size_t second_size, uint8_t *report, size_t report_size, uint16_t tolerance);
 
 #ifdef __cplusplus
 }

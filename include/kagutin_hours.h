@@ -43,26 +43,21 @@ struct kagutin_services {
  * Batch: GW if the entry is the seventh of its group.
  * Answers 14, 1, 2, 4, 5, 19, 20, 15, 16, 6, 8, 9.
  */
-struct kagutin_reply kagutin_pump_start(
-    uint8_t *log, size_t log_size, const uint8_t *area, size_t area_size,
-    uint8_t *state, size_t state_size, uint8_t *newest, size_t newest_size,
-    uint8_t *batch, size_t batch_size, uint64_t writer, uint64_t pump, uint32_t second);
-struct kagutin_reply kagutin_pump_stop(
-    uint8_t *log, size_t log_size, const uint8_t *area, size_t area_size,
-    uint8_t *state, size_t state_size, uint8_t *newest, size_t newest_size,
-    uint8_t *batch, size_t batch_size, uint64_t writer, uint64_t pump, uint32_t second);
+struct kagutin_reply kagutin_pump_start(uint8_t *log, size_t log_size, const uint8_t *area, size_t area_size, uint8_t *state,
+                                        size_t state_size, uint8_t *newest, size_t newest_size, uint8_t *batch, size_t batch_size,
+                                        uint64_t writer, uint64_t pump, uint32_t second);
+struct kagutin_reply kagutin_pump_stop(uint8_t *log, size_t log_size, const uint8_t *area, size_t area_size, uint8_t *state,
+                                       size_t state_size, uint8_t *newest, size_t newest_size, uint8_t *batch, size_t batch_size,
+                                       uint64_t writer, uint64_t pump, uint32_t second);
 
 /* Change nothing. Answers 14, 1, 2, 4, 5, 20. */
-struct kagutin_hours kagutin_pump_hours(
-    const uint8_t *log, size_t log_size, const uint8_t *area, size_t area_size,
-    const uint8_t *state, size_t state_size,
-    const uint8_t *newest, size_t newest_size, uint64_t writer, uint64_t pump);
+struct kagutin_hours kagutin_pump_hours(const uint8_t *log, size_t log_size, const uint8_t *area, size_t area_size,
+                                        const uint8_t *state, size_t state_size, const uint8_t *newest, size_t newest_size,
+                                        uint64_t writer, uint64_t pump);
 
-struct kagutin_services kagutin_pump_services(
-    const uint8_t *log, size_t log_size, const uint8_t *area, size_t area_size,
-    const uint8_t *state, size_t state_size,
-    const uint8_t *newest, size_t newest_size, uint64_t writer, uint64_t pump,
-    uint64_t interval);
+struct kagutin_services kagutin_pump_services(const uint8_t *log, size_t log_size, const uint8_t *area, size_t area_size,
+                                              const uint8_t *state, size_t state_size, const uint8_t *newest, size_t newest_size,
+                                              uint64_t writer, uint64_t pump, uint64_t interval);
 
 #ifdef __cplusplus
 }

@@ -35,9 +35,8 @@ struct kagutin_inflow_bounds {
  * one value, low = high. Nothing overflows.
  * Answers 23: a range with low above high, or an area of 0 or above 1,000,000.
  */
-struct kagutin_inflow_bounds kagutin_inflow(
-    uint64_t area, uint16_t low_before, uint16_t high_before, uint16_t low_after, uint16_t high_after,
-    uint32_t low_pumped, uint32_t high_pumped);
+struct kagutin_inflow_bounds kagutin_inflow(uint64_t area, uint16_t low_before, uint16_t high_before, uint16_t low_after,
+                                            uint16_t high_after, uint32_t low_pumped, uint32_t high_pumped);
 
 #ifdef __cplusplus
 }

@@ -26,10 +26,10 @@ extern "C" {
 #define KAGUTIN_SEALED_SIZE 58 /* bytes of a sealed block that are the station's */
 
 enum kagutin_seal_state {
-    KAGUTIN_SEAL_WHOLE,  /* sealed, and as it was */
-    KAGUTIN_SEAL_EMPTY,  /* all zeros: never stored since the format */
-    KAGUTIN_SEAL_NONE,   /* no mark: not sealed, or the mark itself has changed */
-    KAGUTIN_SEAL_BROKEN  /* the mark is there, and the checksum does not fit */
+    KAGUTIN_SEAL_WHOLE, /* sealed, and as it was */
+    KAGUTIN_SEAL_EMPTY, /* all zeros: never stored since the format */
+    KAGUTIN_SEAL_NONE,  /* no mark: not sealed, or the mark itself has changed */
+    KAGUTIN_SEAL_BROKEN /* the mark is there, and the checksum does not fit */
 };
 
 /* CRC-32 as in zip and Ethernet: polynomial EDB88320 hex, from the lowest bit on, inverted before and after. No table. */

@@ -97,19 +97,17 @@ struct kgt_driver {
 #define KGT_NEWEST_SIZE(homes) ((size_t)KAGUTIN_POSITION_SIZE * (homes))
 
 /* The longest batch of any call but format: open's. */
-#define KGT_TOUCHED(groups, homes) \
-    ((size_t)(homes) < (size_t)KAGUTIN_GROUP_ENTRIES * (groups) ? (size_t)(homes) \
-                                                               : (size_t)KAGUTIN_GROUP_ENTRIES * (groups))
-#define KGT_OPEN_BATCH(groups, homes) \
-    (KAGUTIN_HW_SIZE * KGT_TOUCHED(groups, homes) + KAGUTIN_FN_SIZE + KAGUTIN_KW_SIZE + KAGUTIN_FN_SIZE \
+#define KGT_TOUCHED(groups, homes)                                                                                               \
+    ((size_t)(homes) < (size_t)KAGUTIN_GROUP_ENTRIES * (groups) ? (size_t)(homes) : (size_t)KAGUTIN_GROUP_ENTRIES * (groups))
+#define KGT_OPEN_BATCH(groups, homes)                                                                                            \
+    (KAGUTIN_HW_SIZE * KGT_TOUCHED(groups, homes) + KAGUTIN_FN_SIZE + KAGUTIN_KW_SIZE + KAGUTIN_FN_SIZE                          \
      + (size_t)KAGUTIN_GW_SIZE * (groups) + KAGUTIN_FN_SIZE)
 #define KGT_BATCH_SIZE(groups, homes) KGT_OPEN_BATCH(groups, homes)
 
 /* Bytes of memory that a store of this shape needs, and more for a format. */
-#define KGT_MEMORY_SIZE(groups, homes) \
-    (KGT_LOG_SIZE(groups) + KGT_HOMES_SIZE(homes) + KAGUTIN_STATE_SIZE + KGT_NEWEST_SIZE(homes) \
-     + KGT_BATCH_SIZE(groups, homes))
-#define KGT_FORMAT_SIZE(groups, homes) \
+#define KGT_MEMORY_SIZE(groups, homes)                                                                                           \
+    (KGT_LOG_SIZE(groups) + KGT_HOMES_SIZE(homes) + KAGUTIN_STATE_SIZE + KGT_NEWEST_SIZE(homes) + KGT_BATCH_SIZE(groups, homes))
+#define KGT_FORMAT_SIZE(groups, homes)                                                                                           \
     ((size_t)KAGUTIN_GW_SIZE * (groups) + (size_t)KAGUTIN_HW_SIZE * (homes) + 2 * KAGUTIN_KW_SIZE + 3 * KAGUTIN_FN_SIZE)
 
 /* ---- answers beyond those of kagutin.h ---- */
@@ -150,7 +148,8 @@ struct kgt_opened {
 
 struct kgt_ticket {
     uint64_t code;
-    uint64_t ticket; /* the commit is durable once a mark is this or more; KGT_NOT_TOLD, which no mark reaches, if there is no commit */
+    uint64_t
+        ticket; /* the commit is durable once a mark is this or more; KGT_NOT_TOLD, which no mark reaches, if there is no commit */
     uint64_t holder;
     int error;
 };
@@ -223,7 +222,7 @@ struct kagutin {
     enum kgt_condition condition;
     enum kgt_room room;
     bool list_stores; /* kgt_store may store to the list of rights */
-    int error; /* of the driver, once it has failed */
+    int error;        /* of the driver, once it has failed */
     int (*lock)(void *context);
     void (*unlock)(void *context);
     void *lock_context;
@@ -243,8 +242,7 @@ struct kgt_reply kgt_init(struct kagutin *store, uint8_t *memory, size_t size, s
  * After kgt_init and before the tasks start. Answers 67, and 1 if only one of
  * the two is null.
  */
-struct kgt_reply kgt_set_lock(struct kagutin *store, int (*lock)(void *context), void (*unlock)(void *context),
-                              void *context);
+struct kgt_reply kgt_set_lock(struct kagutin *store, int (*lock)(void *context), void (*unlock)(void *context), void *context);
 
 /*
  * KGT_ROOM_BY_MAINTAIN: writers' calls and sync never settle. In a full log they

@@ -1,5 +1,5 @@
 #!/bin/sh
-# Layout and lint: lint.sh SHELL-FILES C-FOLDERS (run by make lint from the root). A tool that is not installed is skipped with a line.
+# Layout and lint: lint.sh SHELL-FILES C-FOLDERS C-FILES (run by make lint from the root). A tool that is not installed is skipped with a line.
 set -u
 failed=0
 
@@ -23,4 +23,7 @@ try "cargo fmt" "cargo fmt --version" cargo fmt --manifest-path rust/Cargo.toml 
 try "shellcheck" "command -v shellcheck" shellcheck --severity=warning $1
 # shellcheck disable=SC2086
 try "cppcheck" "command -v cppcheck" cppcheck --quiet --std=c99 --enable=warning,portability -D__GNUC__ --inline-suppr --error-exitcode=1 -Iinclude -Ic $2
+# Another version of clang-format lays some lines out otherwise.
+# shellcheck disable=SC2086
+try "clang-format 14" "clang-format --version | grep -q 'version 14'" clang-format --dry-run -Werror $3
 exit $failed

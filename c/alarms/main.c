@@ -57,10 +57,12 @@ static void print_text(const char *path, const struct alarms_record *alarms)
         return;
     }
     printf("%s: %lu alarm%s open, gravest: alarm %u, class %u, since second %lu\n", path, (unsigned long)alarms->count,
-           alarms->count == 1 ? "" : "s", alarms->gravest.identity, alarms->gravest.alarm_class, (unsigned long)alarms->gravest.second);
+           alarms->count == 1 ? "" : "s", alarms->gravest.identity, alarms->gravest.alarm_class,
+           (unsigned long)alarms->gravest.second);
     puts("  identity  class      second");
     for (i = 0; i < alarms->count; i++)
-        printf("  %8u  %5u  %10lu\n", alarms->open[i].identity, alarms->open[i].alarm_class, (unsigned long)alarms->open[i].second);
+        printf("  %8u  %5u  %10lu\n", alarms->open[i].identity, alarms->open[i].alarm_class,
+               (unsigned long)alarms->open[i].second);
 }
 
 static int list(const char *path, bool csv)
@@ -74,7 +76,7 @@ static int list(const char *path, bool csv)
         return STATUS_TROUBLE;
     }
     why = homes.homes < RECORD_ALARMS_HOME + RECORD_ALARMS_HOMES ? "the image has fewer than 30 homes"
-        : record_alarms(homes.blocks + 64 * RECORD_ALARMS_HOME, &alarms);
+                                                                 : record_alarms(homes.blocks + 64 * RECORD_ALARMS_HOME, &alarms);
     if (why) {
         command_say("%s: homes 24 to 29 hold no list of alarms: %s", path, why);
     } else {

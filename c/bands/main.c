@@ -70,17 +70,18 @@ static uint64_t choose_writer(const struct options *options, struct kagutin *sto
     if (writer == ANY_WRITER && able < KAGUTIN_WRITERS)
         return able;
     if (writer == ANY_WRITER || able == KAGUTIN_WRITERS)
-        command_quit(STATUS_REFUSED, "%s: no writer has the right to %s homes 12 to 14; 'kagutin rights set' can give it", path, right);
+        command_quit(STATUS_REFUSED, "%s: no writer has the right to %s homes 12 to 14; 'kagutin rights set' can give it", path,
+                     right);
     if (!(stores ? work_may_store : work_may_read)(&list, writer, KAGUTIN_BANDS_HOME, KAGUTIN_BANDS_HOMES))
-        command_quit(STATUS_REFUSED, "%s: writer %u has no right to %s homes 12 to 14; writer %u has", path, (unsigned)writer, right,
-                     (unsigned)able);
+        command_quit(STATUS_REFUSED, "%s: writer %u has no right to %s homes 12 to 14; writer %u has", path, (unsigned)writer,
+                     right, (unsigned)able);
     return writer;
 }
 
 static void quit_answer(const struct options *options, uint64_t code)
 {
-    command_quit(code < KGT_CLOSED ? STATUS_REFUSED : STATUS_TROUBLE, "%s: %s (answer %llu)", options->words[1], kgt_answer_text(code),
-                 (unsigned long long)code);
+    command_quit(code < KGT_CLOSED ? STATUS_REFUSED : STATUS_TROUBLE, "%s: %s (answer %llu)", options->words[1],
+                 kgt_answer_text(code), (unsigned long long)code);
 }
 
 /* ---- the three commands ---- */

@@ -85,12 +85,14 @@ static void make_image(const struct blocks *blocks, size_t groups, size_t homes,
 
     for (home = homes; home < MOST_HOMES; home++)
         if (blocks->named[home])
-            command_quit(STATUS_REFUSED, "home %lu does not fit in an image of %lu homes", (unsigned long)home, (unsigned long)homes);
+            command_quit(STATUS_REFUSED, "home %lu does not fit in an image of %lu homes", (unsigned long)home,
+                         (unsigned long)homes);
     start(&made, groups, homes);
     fill(&made, blocks, homes);
     if (!new_file_write(path, made.lasting, made.size, message, sizeof message))
         command_quit(STATUS_TROUBLE, "%s", message);
-    printf("%s: %lu homes of %lu filled, %lu groups\n", path, (unsigned long)blocks->count, (unsigned long)homes, (unsigned long)groups);
+    printf("%s: %lu homes of %lu filled, %lu groups\n", path, (unsigned long)blocks->count, (unsigned long)homes,
+           (unsigned long)groups);
     free(made.memory);
     free(made.lasting);
     free(made.scratch);
@@ -123,7 +125,8 @@ int import_main(int count, char **words)
     groups = groups ? groups : blocks.groups;
     homes = homes ? homes : blocks.homes;
     if (groups < KAGUTIN_MIN_GROUPS || groups > KAGUTIN_MAX_GROUPS || homes < KAGUTIN_MIN_HOMES || homes > KAGUTIN_MAX_HOMES)
-        command_quit(STATUS_TROUBLE, "%s: it does not say how many groups and homes there are; --groups N and --homes N do", paths[0]);
+        command_quit(STATUS_TROUBLE, "%s: it does not say how many groups and homes there are; --groups N and --homes N do",
+                     paths[0]);
     make_image(&blocks, (size_t)groups, (size_t)homes, paths[1]);
     blocks_free(&blocks);
     return command_end(STATUS_DONE);

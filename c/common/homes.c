@@ -42,7 +42,8 @@ static bool check_shape(struct homes *homes, const char *path, const struct imag
     if (homes->start > most)
         return say(homes, "%s: damaged header: its start is above 2^47", path);
     if (homes->groups < 4 || homes->groups > 1024 || homes->homes < 1)
-        return say(homes, "%s: damaged header: %lu groups, %lu homes", path, (unsigned long)homes->groups, (unsigned long)homes->homes);
+        return say(homes, "%s: damaged header: %lu groups, %lu homes", path, (unsigned long)homes->groups,
+                   (unsigned long)homes->homes);
     size = (uint64_t)HEADER + GROUP * homes->groups + BLOCK * homes->homes;
     if (file->dump ? file->size < size : file->size != size)
         return say(homes, "%s: %llu bytes; %lu groups and %lu homes take %llu", path, (unsigned long long)file->size,

@@ -112,7 +112,8 @@ static bool read_file(struct image_file *file, const char *path, int descriptor,
     if (use == IMAGE_FILE_FREE && flock(descriptor, LOCK_SH | LOCK_NB) != 0 && errno == EWOULDBLOCK)
         return say(file, "%s: in use", path);
     if (base > (uint64_t)status.st_size)
-        return say(file, "%s: it has %lld bytes, and none from %llu on", path, (long long)status.st_size, (unsigned long long)base);
+        return say(file, "%s: it has %lld bytes, and none from %llu on", path, (long long)status.st_size,
+                   (unsigned long long)base);
     file->size = (uint64_t)status.st_size - base;
     if (!read_bytes(file, path, descriptor, base))
         return false;

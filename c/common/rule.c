@@ -58,8 +58,7 @@ bool rule_present(const struct rule_log *log, uint64_t position)
 {
     size_t slot = (size_t)(position / 7 % log->groups);
 
-    return rule_slot_kind(log, slot) == SLOT_VALID
-        && rule_number(rule_slot(log, slot) + 2, 6) == position / 7;
+    return rule_slot_kind(log, slot) == SLOT_VALID && rule_number(rule_slot(log, slot) + 2, 6) == position / 7;
 }
 
 /* Why a tag reads as nothing; null if it reads as an entry. */

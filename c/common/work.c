@@ -46,7 +46,10 @@ bool work_open(struct work *work, const char *path)
 {
     memset(work, 0, sizeof *work);
     if (is_dump(path))
-        return say(work, "%s: a dump of a serial FRAM is not changed in place; 'kagutin convert' makes an image of it, and a dump again", path);
+        return say(work,
+                   "%s: a dump of a serial FRAM is not changed in place; 'kagutin convert' makes an image of it, and a dump "
+                   "again",
+                   path);
     if (!kgt_file_open(&work->file, path))
         return say(work, "%s", work->file.message);
     if (open_store(work, path))

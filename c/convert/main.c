@@ -59,8 +59,8 @@ static uint8_t *make_dump(const struct homes *homes, const struct options *optio
 
     *size = options->size ? (size_t)options->size : (size_t)options->base + store;
     if (*size < options->base + store)
-        command_quit(STATUS_REFUSED, "%lu bytes from %lu on do not fit in %lu", (unsigned long)store, (unsigned long)options->base,
-                     (unsigned long)*size);
+        command_quit(STATUS_REFUSED, "%lu bytes from %lu on do not fit in %lu", (unsigned long)store,
+                     (unsigned long)options->base, (unsigned long)*size);
     chip = (uint8_t *)malloc(*size);
     if (!chip)
         command_quit(STATUS_TROUBLE, "out of memory");
@@ -81,7 +81,8 @@ int convert_main(int count, char **words)
 
     command_start("convert", help);
     options = read_options(count, words);
-    if (!homes_read(&homes, options.paths[0], 0, false) && (!options.base || !homes_read(&homes, options.paths[0], options.base, false)))
+    if (!homes_read(&homes, options.paths[0], 0, false)
+        && (!options.base || !homes_read(&homes, options.paths[0], options.base, false)))
         command_quit(STATUS_TROUBLE, "%s", homes.message);
     to_dump = options.to ? strcmp(options.to, "dump") == 0 : !homes.dump;
     store = size = HEADER + 512 * homes.groups + 64 * homes.homes;

@@ -38,8 +38,7 @@ static bool set_shape(struct kgt_file *file, size_t groups, size_t homes)
     file->homes = homes;
     file->log_size = KGT_LOG_SIZE(groups);
     file->size = file->log_size + KGT_HOMES_SIZE(homes);
-    if (groups < KAGUTIN_MIN_GROUPS || groups > KAGUTIN_MAX_GROUPS || homes < KAGUTIN_MIN_HOMES
-        || homes > KAGUTIN_MAX_HOMES)
+    if (groups < KAGUTIN_MIN_GROUPS || groups > KAGUTIN_MAX_GROUPS || homes < KAGUTIN_MIN_HOMES || homes > KAGUTIN_MAX_HOMES)
         return kgt_file_say(file, "%lu groups and %lu homes: groups go from 4 to 1024, homes from 1 to 65535",
                             (unsigned long)groups, (unsigned long)homes);
     return true;
@@ -207,8 +206,8 @@ static bool check_image(struct kgt_file *file, const char *path, off_t size)
                             (unsigned long)file->homes);
     if (size != (off_t)file->size)
         return kgt_file_say(file, "%s: %s file: %lld bytes; %lu groups and %lu homes take %lu", path,
-                            size < (off_t)file->size ? "short" : "overlong", (long long)size,
-                            (unsigned long)file->groups, (unsigned long)file->homes, (unsigned long)file->size);
+                            size < (off_t)file->size ? "short" : "overlong", (long long)size, (unsigned long)file->groups,
+                            (unsigned long)file->homes, (unsigned long)file->size);
     return true;
 }
 

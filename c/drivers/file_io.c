@@ -43,8 +43,7 @@ static int check_size(struct kgt_file *file)
     if (status.st_size == (off_t)file->size)
         return 0;
     file->failed = EIO;
-    kgt_file_say(file, "the image has become %lld bytes, it was %lu", (long long)status.st_size,
-                 (unsigned long)file->size);
+    kgt_file_say(file, "the image has become %lld bytes, it was %lu", (long long)status.st_size, (unsigned long)file->size);
     return file->failed;
 }
 

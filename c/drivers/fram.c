@@ -144,8 +144,8 @@ static int fence(void *context)
 }
 
 void kgt_fram_init(struct kgt_fram *fram, size_t groups, uint32_t base, unsigned address_bytes,
-                   int (*board)(void *bus, const uint8_t *command, size_t command_size, const uint8_t *out,
-                                uint8_t *in, size_t size),
+                   int (*board)(void *bus, const uint8_t *command, size_t command_size, const uint8_t *out, uint8_t *in,
+                                size_t size),
                    void *bus)
 {
     fram->transfer = board;

@@ -171,7 +171,8 @@ static void put_levels(const struct readings *readings, const char *name, const 
             ;
         fprintf(file, "<polyline class='%s' fill='none' stroke='%s' stroke-width='1.5' points='", name, colour);
         for (i = from; i < to; i++)
-            fprintf(file, "%s%.1f,%.1f", i > from ? " " : "", place(minutes, readings->minute[i]), place(levels, readings->level[i]));
+            fprintf(file, "%s%.1f,%.1f", i > from ? " " : "", place(minutes, readings->minute[i]),
+                    place(levels, readings->level[i]));
         fputs("'/>\n", file);
         for (i = from; i < to && (readings->count <= 120 || to == from + 1); i++)
             fprintf(file, "<circle cx='%.1f' cy='%.1f' r='2.5' fill='%s'/>\n", place(minutes, readings->minute[i]),
@@ -181,14 +182,15 @@ static void put_levels(const struct readings *readings, const char *name, const 
 
 static void put_legend(const struct levels_plot *plot, FILE *file)
 {
-    fprintf(file, "<text x='%d' y='24' font-size='16'>Levels%s%s, tolerance %u mm</text>\n", LEFT, *plot->day ? " of " : "", plot->day,
-            plot->tolerance);
+    fprintf(file, "<text x='%d' y='24' font-size='16'>Levels%s%s, tolerance %u mm</text>\n", LEFT, *plot->day ? " of " : "",
+            plot->day, plot->tolerance);
     fprintf(file, "<text x='%d' y='46' fill='%s'>first: ", LEFT, first_colour);
     put_text(plot->first->path, file);
     fprintf(file, "</text>\n<text x='%d' y='46' fill='%s'>second: ", (LEFT + WIDTH) / 2, second_colour);
     put_text(plot->second->path, file);
-    fprintf(file, "</text>\n<text x='%d' y='%d'><tspan fill='%s'>bars: the lists differ</tspan>; ticks below the axis: "
-                  "<tspan fill='%s'>only first</tspan>, <tspan fill='%s'>only second</tspan></text>\n",
+    fprintf(file,
+            "</text>\n<text x='%d' y='%d'><tspan fill='%s'>bars: the lists differ</tspan>; ticks below the axis: "
+            "<tspan fill='%s'>only first</tspan>, <tspan fill='%s'>only second</tspan></text>\n",
             LEFT, HEIGHT - 16, differing_colour, first_colour, second_colour);
 }
 
@@ -200,10 +202,12 @@ void levels_plot_write(const struct levels_plot *plot, FILE *file)
 
     round_out(&minutes, time_step(first->kind, &minutes));
     round_out(&levels, step_of(levels.to - levels.from));
-    fprintf(file, LEVELS_PLOT_MARK " -->\n"
-                  "<svg xmlns='http://www.w3.org/2000/svg' width='%d' height='%d' viewBox='0 0 %d %d' font-family='sans-serif' "
-                  "font-size='12'>\n<title>Two lists of levels and the minutes at which they differ</title>\n"
-                  "<rect width='100%%' height='100%%' fill='white'/>\n",
+    fprintf(file,
+            LEVELS_PLOT_MARK
+            " -->\n"
+            "<svg xmlns='http://www.w3.org/2000/svg' width='%d' height='%d' viewBox='0 0 %d %d' font-family='sans-serif' "
+            "font-size='12'>\n<title>Two lists of levels and the minutes at which they differ</title>\n"
+            "<rect width='100%%' height='100%%' fill='white'/>\n",
             WIDTH, HEIGHT, WIDTH, HEIGHT);
     put_axes(first->kind, &minutes, &levels, file);
     put_report(plot, &minutes, file);

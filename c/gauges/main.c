@@ -75,7 +75,8 @@ static void compare(struct compared *compared, uint16_t tolerance)
 
     for (i = 0; i < 2; i++)
         sizes[i] = readings_strip(&compared->lists[i], strips[i]);
-    *counts = kagutin_compare_gauges(strips[0], sizes[0], strips[1], sizes[1], compared->report, sizeof compared->report, tolerance);
+    *counts =
+        kagutin_compare_gauges(strips[0], sizes[0], strips[1], sizes[1], compared->report, sizeof compared->report, tolerance);
     if (counts->code)
         command_quit(STATUS_TROUBLE, "the comparison answers %llu", (unsigned long long)counts->code);
     compared->lines = (size_t)(counts->agreeing + counts->differing + counts->only_first + counts->only_second);
@@ -123,12 +124,14 @@ static void print_counts(const struct kagutin_comparison *counts, const char *of
     printf("%sagreeing %llu, differing %llu, only first %llu, only second %llu; %llu different minutes, tolerance %u mm\n", of,
            (unsigned long long)counts->agreeing, (unsigned long long)counts->differing, (unsigned long long)counts->only_first,
            (unsigned long long)counts->only_second,
-           (unsigned long long)(counts->agreeing + counts->differing + counts->only_first + counts->only_second), (unsigned)tolerance);
+           (unsigned long long)(counts->agreeing + counts->differing + counts->only_first + counts->only_second),
+           (unsigned)tolerance);
 }
 
 static void draw(const struct options *options, const struct compared *compared, const char *path, const char *day)
 {
-    struct levels_plot plot = {&compared->lists[0], &compared->lists[1], compared->report, compared->lines, options->tolerance, day};
+    struct levels_plot plot = {&compared->lists[0], &compared->lists[1], compared->report,
+                               compared->lines,     options->tolerance,  day};
     struct page_file page;
 
     if (!page_create(&page, path, LEVELS_PLOT_MARK))

@@ -54,11 +54,14 @@ static bool read_level(const struct source *source, const char **text, uint16_t 
     char *end;
 
     if (!isdigit((unsigned char)*start))
-        return refuse(source, *start ? "the level in millimetres is not a whole number: '%.20s'" : "the level in millimetres is missing", start);
+        return refuse(source,
+                      *start ? "the level in millimetres is not a whole number: '%.20s'" : "the level in millimetres is missing",
+                      start);
     errno = 0;
     value = strtoul(start, &end, 10);
     if (errno || value > UINT16_MAX)
-        return refuse(source, "the level in millimetres is above 65535: '%.*s'", (int)(end - start > 20 ? 20 : end - start), start);
+        return refuse(source, "the level in millimetres is above 65535: '%.*s'", (int)(end - start > 20 ? 20 : end - start),
+                      start);
     *level = (uint16_t)value;
     *text = end;
     return true;

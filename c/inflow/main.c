@@ -92,7 +92,8 @@ static struct options read_options(int count, char **words)
         }
     }
     if (!has_area || depths != 2)
-        command_quit(STATUS_USAGE, "%s", has_area ? "two depth ranges are expected, before and after" : "the pit's area is missing: --area");
+        command_quit(STATUS_USAGE, "%s",
+                     has_area ? "two depth ranges are expected, before and after" : "the pit's area is missing: --area");
     return options;
 }
 

@@ -191,10 +191,9 @@ static void check_slots(struct image *image)
 static void check_size(struct image *image)
 {
     if (image->dump ? image->file_size < image->image_size : image->file_size != image->image_size)
-        image_note(image, "file: %llu bytes, %s than the %lu of %lu groups and %lu homes",
-                   (unsigned long long)image->file_size, image->file_size < image->image_size ? "fewer" : "more",
-                   (unsigned long)image->image_size, (unsigned long)image->log.groups,
-                   (unsigned long)image->log.homes);
+        image_note(image, "file: %llu bytes, %s than the %lu of %lu groups and %lu homes", (unsigned long long)image->file_size,
+                   image->file_size < image->image_size ? "fewer" : "more", (unsigned long)image->image_size,
+                   (unsigned long)image->log.groups, (unsigned long)image->log.homes);
 }
 
 void image_check(struct image *image)
@@ -224,8 +223,8 @@ void describe_stop(const struct rule_walk *walk, char *text, size_t size)
         snprintf(text, size, "the closing entry at position %llu is incomplete: %lu of its %llu entries are there", at,
                  (unsigned long)failed->present, (unsigned long long)failed->count);
     else if (walk->commit_count == 0)
-        snprintf(text, size, "the first closing entry, at position %llu, is linked to position %llu, which has none",
-                 at, at - failed->link);
+        snprintf(text, size, "the first closing entry, at position %llu, is linked to position %llu, which has none", at,
+                 at - failed->link);
     else if (failed->link == 0)
         snprintf(text, size, "the closing entry at position %llu is linked to none, not to the last commit at %llu", at,
                  (unsigned long long)walk->commits[walk->commit_count - 1].closing);

@@ -45,8 +45,8 @@ enum fate {
 };
 
 struct fates {
-    enum fate *entries; /* by position from the start on */
-    uint64_t *newest;   /* by home: 1 + position of the entry it gets from the log; 0: its own block stays */
+    enum fate *entries;       /* by position from the start on */
+    uint64_t *newest;         /* by home: 1 + position of the entry it gets from the log; 0: its own block stays */
     size_t committed, others; /* entries that come back, and those that do not */
     size_t torn;              /* tags whose data blocks have not arrived */
 };

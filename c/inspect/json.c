@@ -18,8 +18,11 @@ static void print_hex(const uint8_t *bytes, size_t size)
 /* Bytes of the UTF-8 sequence that begins here; 0 if none does. */
 static size_t utf8_size(const unsigned char *text)
 {
-    size_t size = *text < 0x80 ? 1 : *text >= 0xc2 && *text < 0xe0 ? 2 : *text >= 0xe0 && *text < 0xf0 ? 3
-        : *text >= 0xf0 && *text < 0xf5 ? 4 : 0;
+    size_t size = *text < 0x80          ? 1
+        : *text >= 0xc2 && *text < 0xe0 ? 2
+        : *text >= 0xe0 && *text < 0xf0 ? 3
+        : *text >= 0xf0 && *text < 0xf5 ? 4
+                                        : 0;
     size_t i;
 
     for (i = 1; i < size; i++)
@@ -183,13 +186,13 @@ void print_json(const struct image *image, const struct rule_walk *walk, const s
 
     fputs("{\"image\":", stdout);
     json_string(image->path);
-    printf(",\"bytes\":%llu,\"dump\":%s,\n \"header\":{\"fits\":%s,\"start\":%llu,\"start_from\":\"%s\",\"groups\":%lu,\"homes\":%lu,"
+    printf(",\"bytes\":%llu,\"dump\":%s,\n "
+           "\"header\":{\"fits\":%s,\"start\":%llu,\"start_from\":\"%s\",\"groups\":%lu,\"homes\":%lu,"
            "\"worn_out\":%s},\n \"places\":{\"committed\":%lu,\"others\":%lu,\"torn\":%lu,\"unused\":%lu},\n \"slots\":[",
            (number)image->file_size, image->dump ? image->copy ? "{\"header_at\":32}" : "{\"header_at\":0}" : "null",
-           image->header_fits ? "true" : "false",
-           (number)log->start, image->start_from, (unsigned long)log->groups, (unsigned long)log->homes,
-           image_worn_out(image) ? "true" : "false", (unsigned long)fates->committed, (unsigned long)fates->others,
-           (unsigned long)fates->torn,
+           image->header_fits ? "true" : "false", (number)log->start, image->start_from, (unsigned long)log->groups,
+           (unsigned long)log->homes, image_worn_out(image) ? "true" : "false", (unsigned long)fates->committed,
+           (unsigned long)fates->others, (unsigned long)fates->torn,
            (unsigned long)(7 * log->groups - fates->committed - fates->others - fates->torn));
     for (i = 0; i < log->groups; i++)
         json_slot(image, fates, i);

@@ -135,11 +135,10 @@ void print_text(const struct image *image, const struct rule_walk *walk, const s
         printf("dump    of a serial FRAM: the header's copy at %u counts, the one at %u is %s; %llu bytes behind are left out\n",
                32 * image->copy, 32 * (1 - image->copy), image->other_whole ? "older" : "not whole",
                (number)(image->file_size > image->image_size ? image->file_size - image->image_size : 0));
-    printf("header  %s; start %llu %s, %lu groups, %lu homes\n", image->header_fits ? "fits" : "DAMAGED",
-           (number)log->start, image->start_from, (unsigned long)log->groups, (unsigned long)log->homes);
-    printf("live    groups %llu to %llu, positions %llu to %llu\n", (number)log->start,
-           (number)(log->start + log->groups - 1), (number)(7 * log->start),
-           (number)(7 * (log->start + log->groups) - 1));
+    printf("header  %s; start %llu %s, %lu groups, %lu homes\n", image->header_fits ? "fits" : "DAMAGED", (number)log->start,
+           image->start_from, (unsigned long)log->groups, (unsigned long)log->homes);
+    printf("live    groups %llu to %llu, positions %llu to %llu\n", (number)log->start, (number)(log->start + log->groups - 1),
+           (number)(7 * log->start), (number)(7 * (log->start + log->groups) - 1));
     if (image_worn_out(image))
         puts("worn    out: an opening would move the start past 2^47 and is refused; homes as it would leave them");
     printf("places  %lu: %lu with entries that come back, %lu with others, %lu torn, %lu unused\n\ngroups\n",

@@ -62,12 +62,14 @@ static void text_pumps(const struct image *image, const struct fates *fates)
         const char *why = record_pump(block, &pump);
 
         if (why)
-            printf("  pump %lu  ! home %lu holds no record of a pump: %s\n", (unsigned long)i, (unsigned long)(RECORD_PUMP_HOME + i), why);
+            printf("  pump %lu  ! home %lu holds no record of a pump: %s\n", (unsigned long)i,
+                   (unsigned long)(RECORD_PUMP_HOME + i), why);
         else if (pump.starts == 0)
             printf("  pump %lu  never started\n", (unsigned long)i);
         else
             printf("  pump %lu  %lu starts, %lu seconds in finished runs, %s since second %lu\n", (unsigned long)i,
-                   (unsigned long)pump.starts, (unsigned long)pump.seconds, pump.running ? "running" : "stands", (unsigned long)pump.second);
+                   (unsigned long)pump.starts, (unsigned long)pump.seconds, pump.running ? "running" : "stands",
+                   (unsigned long)pump.second);
     }
 }
 
@@ -85,7 +87,8 @@ static void text_alarms(const uint8_t *blocks)
         puts("\nalarms: none open");
         return;
     }
-    printf("\nalarms (%lu), in the order of their arrival; the gravest is %u\n", (unsigned long)alarms.count, alarms.gravest.identity);
+    printf("\nalarms (%lu), in the order of their arrival; the gravest is %u\n", (unsigned long)alarms.count,
+           alarms.gravest.identity);
     for (i = 0; i < alarms.count; i++)
         printf("  alarm %5u  class %u  since second %lu\n", alarms.open[i].identity, alarms.open[i].alarm_class,
                (unsigned long)alarms.open[i].second);
@@ -163,8 +166,8 @@ static void json_alarms(const uint8_t *blocks)
         fputs("null", stdout);
     fputs(",\"open\":[", stdout);
     for (i = 0; i < alarms.count; i++)
-        printf("%s{\"identity\":%u,\"class\":%u,\"second\":%lu}", i ? "," : "", alarms.open[i].identity, alarms.open[i].alarm_class,
-               (unsigned long)alarms.open[i].second);
+        printf("%s{\"identity\":%u,\"class\":%u,\"second\":%lu}", i ? "," : "", alarms.open[i].identity,
+               alarms.open[i].alarm_class, (unsigned long)alarms.open[i].second);
     fputs("]}", stdout);
 }
 

@@ -31,10 +31,9 @@ static const struct program {
 
 enum { PROGRAMS = sizeof programs / sizeof *programs };
 
-static const char help[] =
-    "usage: kagutin COMMAND [OPTION..] [WORD..]\n"
-    "       kagutin help [COMMAND], -h, --help, --version\n"
-    "Works on images of a Kagutin store and on raw dumps of a serial FRAM that holds one.\n";
+static const char help[] = "usage: kagutin COMMAND [OPTION..] [WORD..]\n"
+                           "       kagutin help [COMMAND], -h, --help, --version\n"
+                           "Works on images of a Kagutin store and on raw dumps of a serial FRAM that holds one.\n";
 
 static void print_help(void)
 {

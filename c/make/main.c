@@ -6,13 +6,12 @@
 #include "kagutin/programs.h"
 #include "kagutin_file.h"
 
-static const char help[] =
-    "usage: kagutin make IMAGE GROUPS HOMES\n"
-    "Makes the image of an empty store under a name that is free.\n"
-    "  GROUPS   groups of the log, 4 to 1024: seven entries each\n"
-    "  HOMES    home blocks, 1 to 65535; 30 and more have room for rights, bands, pumps and alarms\n"
-    "  -h, --help, --version\n"
-    "Status: 0 done, 2 wrong options, 3 the file cannot be made.\n";
+static const char help[] = "usage: kagutin make IMAGE GROUPS HOMES\n"
+                           "Makes the image of an empty store under a name that is free.\n"
+                           "  GROUPS   groups of the log, 4 to 1024: seven entries each\n"
+                           "  HOMES    home blocks, 1 to 65535; 30 and more have room for rights, bands, pumps and alarms\n"
+                           "  -h, --help, --version\n"
+                           "Status: 0 done, 2 wrong options, 3 the file cannot be made.\n";
 
 int make_main(int count, char **words)
 {

@@ -28,7 +28,8 @@ static void read_homes(struct homes *homes, const char *path)
     if (!homes_read(homes, path, 0, false))
         command_quit(STATUS_TROUBLE, "%s", homes->message);
     if (homes->homes < KGT_RIGHTS_HOME + KGT_RIGHTS_HOMES)
-        command_quit(STATUS_REFUSED, "%s: a list takes homes 8 to 11; the image has %lu homes", path, (unsigned long)homes->homes);
+        command_quit(STATUS_REFUSED, "%s: a list takes homes 8 to 11; the image has %lu homes", path,
+                     (unsigned long)homes->homes);
 }
 
 /* ---- show ---- */
@@ -130,8 +131,8 @@ static void store_list(const char *path, const struct kgt_rights *list, const ch
         set.code = mark.code;
     }
     if (set.code != KAGUTIN_DONE)
-        command_quit(set.code < KGT_CLOSED ? STATUS_REFUSED : STATUS_TROUBLE, "%s: %s (answer %llu)", path, kgt_answer_text(set.code),
-                     (unsigned long long)set.code);
+        command_quit(set.code < KGT_CLOSED ? STATUS_REFUSED : STATUS_TROUBLE, "%s: %s (answer %llu)", path,
+                     kgt_answer_text(set.code), (unsigned long long)set.code);
     printf("%s: %s, durable\n", path, what);
     work_close(&work);
 }

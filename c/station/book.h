@@ -70,7 +70,7 @@ struct book {
 /* What a cut did to the list. */
 struct book_cut {
     size_t commits, run, confirmed;
-    bool owed_lost; /* a confirmed commit is outside the run: the store is wrong */
+    bool owed_lost;                   /* a confirmed commit is outside the run: the store is wrong */
     size_t kept[KAGUTIN_WRITERS];     /* by writer: in the run */
     size_t lost[KAGUTIN_WRITERS];     /* outside it, though every entry was on its way to lasting memory */
     size_t unissued[KAGUTIN_WRITERS]; /* outside it, with an entry that never was */

@@ -14,14 +14,14 @@ void call_expect(struct station *station, const char *call, struct kagutin_reply
 {
     station->counters.calls++;
     if (reply.code != KAGUTIN_DONE)
-        station_mismatch(station, "%s answered %llu (%s), it must be done", call,
-                         (unsigned long long)reply.code, kagutin_answer_text(reply.code));
+        station_mismatch(station, "%s answered %llu (%s), it must be done", call, (unsigned long long)reply.code,
+                         kagutin_answer_text(reply.code));
     if (reply.figure != figure)
-        station_mismatch(station, "%s gave the figure %llu, not %llu", call,
-                         (unsigned long long)reply.figure, (unsigned long long)figure);
+        station_mismatch(station, "%s gave the figure %llu, not %llu", call, (unsigned long long)reply.figure,
+                         (unsigned long long)figure);
     if (reply.size != size)
-        station_mismatch(station, "%s wrote %llu bytes, not %llu", call,
-                         (unsigned long long)reply.size, (unsigned long long)size);
+        station_mismatch(station, "%s wrote %llu bytes, not %llu", call, (unsigned long long)reply.size,
+                         (unsigned long long)size);
 }
 
 void call_submit(struct station *station, uint64_t size)
@@ -35,9 +35,8 @@ void call_expect_group(struct station *station, const char *call, uint64_t group
     const struct driver *driver = &station->driver;
     struct kgt_record record;
 
-    if (!kgt_read_record(driver->batch, KAGUTIN_GW_SIZE, driver->groups, driver->homes, &record)
-        || record.kind != KGT_GW || record.place != group % driver->groups
-        || rule_number(record.bytes + 2, 6) != group)
+    if (!kgt_read_record(driver->batch, KAGUTIN_GW_SIZE, driver->groups, driver->homes, &record) || record.kind != KGT_GW
+        || record.place != group % driver->groups || rule_number(record.bytes + 2, 6) != group)
         station_mismatch(station, "%s did not submit group %llu", call, (unsigned long long)group);
 }
 
@@ -48,8 +47,7 @@ static size_t expect_homes(struct station *station, const char *call, size_t siz
     size_t at = 0, least = 0;
     struct kgt_record record;
 
-    while (kgt_read_record(driver->batch + at, size - at, driver->groups, driver->homes, &record)
-           && record.kind == KGT_HW) {
+    while (kgt_read_record(driver->batch + at, size - at, driver->groups, driver->homes, &record) && record.kind == KGT_HW) {
         if (record.place < least)
             station_mismatch(station, "%s writes home %lu after a higher one", call, (unsigned long)record.place);
         if (memcmp(record.bytes, driver->area + kagutin_area_size(record.place), KAGUTIN_BLOCK_SIZE) != 0)
@@ -74,8 +72,7 @@ static uint64_t expect_header(struct station *station, const char *call, size_t 
     const struct driver *driver = &station->driver;
     const uint8_t *record = driver->batch + at;
 
-    if (size - at != KAGUTIN_TRIM_BATCH || memcmp(record, "KW", 2) != 0
-        || memcmp(record + KAGUTIN_KW_SIZE, "FN", 2) != 0)
+    if (size - at != KAGUTIN_TRIM_BATCH || memcmp(record, "KW", 2) != 0 || memcmp(record + KAGUTIN_KW_SIZE, "FN", 2) != 0)
         station_mismatch(station, "%s wrote no header and fence", call);
     if (memcmp(record + 2, driver->log, KAGUTIN_HEADER_SIZE) != 0)
         station_mismatch(station, "%s left another header in the log copy than it wrote", call);
@@ -114,9 +111,8 @@ static void expect_blanks(struct station *station, size_t at, size_t size, uint6
     size_t slot;
 
     for (slot = 0; slot < driver->groups; slot++, at += record.size)
-        if (!kgt_read_record(driver->batch + at, size - at, driver->groups, driver->homes, &record)
-            || record.kind != KGT_GW || record.place != slot
-            || memcmp(record.bytes, driver->log + KGT_LOG_SIZE(slot), KAGUTIN_GROUP_SIZE) != 0)
+        if (!kgt_read_record(driver->batch + at, size - at, driver->groups, driver->homes, &record) || record.kind != KGT_GW
+            || record.place != slot || memcmp(record.bytes, driver->log + KGT_LOG_SIZE(slot), KAGUTIN_GROUP_SIZE) != 0)
             station_mismatch(station, "open did not blank ring slot %lu as in its copy", (unsigned long)slot);
     if (size - at != KAGUTIN_FN_SIZE || memcmp(driver->batch + at, "FN", 2) != 0)
         station_mismatch(station, "open wrote no fence after the blank groups, or more");
@@ -200,8 +196,8 @@ void call_usage(struct station *station)
                          (unsigned long long)book.live, (unsigned long long)book.dead, (unsigned long long)book.free);
     if (usage->holder != book.holder || usage->first != book.first)
         station_mismatch(station, "writer %llu holds the log from position %llu on, by the book %llu from %llu on",
-                         (unsigned long long)usage->holder, (unsigned long long)usage->first,
-                         (unsigned long long)book.holder, (unsigned long long)book.first);
+                         (unsigned long long)usage->holder, (unsigned long long)usage->first, (unsigned long long)book.holder,
+                         (unsigned long long)book.first);
 }
 
 void call_refused_full(struct station *station, const char *call, struct kagutin_reply reply, unsigned writer)
@@ -413,8 +409,7 @@ bool call_read(struct station *station, unsigned writer, size_t home, uint8_t *b
     }
     call_expect(station, "read", reply, 0, 0);
     if (memcmp(block, book_read(&station->book, writer, home), KAGUTIN_BLOCK_SIZE) != 0)
-        station_mismatch(station, "writer %u reads another block of home %lu than the book has", writer,
-                         (unsigned long)home);
+        station_mismatch(station, "writer %u reads another block of home %lu than the book has", writer, (unsigned long)home);
     station->counters.reads++;
     return true;
 }

@@ -5,7 +5,7 @@
 #include "station.h"
 
 #define AREAS(s) (s)->driver.log, (s)->driver.log_size, (s)->driver.area, (s)->driver.area_size
-#define STATE(s) (s)->driver.state, sizeof (s)->driver.state
+#define STATE(s) (s)->driver.state, sizeof(s)->driver.state
 #define NEWEST(s) (s)->driver.newest, (s)->driver.newest_size
 #define BATCH(s) (s)->driver.batch, (s)->driver.batch_size
 

@@ -39,16 +39,14 @@ static bool check_batch(struct driver *driver, size_t size)
 
     while (at < size) {
         if (!kgt_read_record(driver->batch + at, size - at, driver->groups, driver->homes, &record))
-            return driver_fail(driver, "damaged batch: no record at byte %lu of %lu",
-                               (unsigned long)at, (unsigned long)size);
+            return driver_fail(driver, "damaged batch: no record at byte %lu of %lu", (unsigned long)at, (unsigned long)size);
         if (record.kind == KGT_FN) {
             memset(driver->written, 0, blocks);
         } else {
             uint8_t *mark = &driver->written[block_of(driver, &record)];
 
             if (*mark)
-                return driver_fail(driver, "damaged batch: byte %lu writes a block twice between two fences",
-                                   (unsigned long)at);
+                return driver_fail(driver, "damaged batch: byte %lu writes a block twice between two fences", (unsigned long)at);
             *mark = 1;
         }
         at += record.size;
@@ -78,8 +76,7 @@ bool driver_submit(struct driver *driver, uint64_t size)
     if (size)
         memcpy(driver->queue + driver->queue_size, driver->batch, (size_t)size);
     driver->queue_size += (size_t)size;
-    while (at < size
-           && kgt_read_record(driver->batch + at, (size_t)size - at, driver->groups, driver->homes, &record)) {
+    while (at < size && kgt_read_record(driver->batch + at, (size_t)size - at, driver->groups, driver->homes, &record)) {
         driver->fences += record.kind == KGT_FN;
         at += record.size;
     }
@@ -88,8 +85,7 @@ bool driver_submit(struct driver *driver, uint64_t size)
 
 static bool queued(const struct driver *driver, size_t at, size_t end, struct kgt_record *record)
 {
-    return at < end
-        && kgt_read_record(driver->queue + at, end - at, driver->groups, driver->homes, record);
+    return at < end && kgt_read_record(driver->queue + at, end - at, driver->groups, driver->homes, record);
 }
 
 static size_t count_records(const struct driver *driver, size_t at, size_t end)
@@ -174,8 +170,9 @@ static int land_blocks(struct driver *driver, struct choices *choices, const str
 {
     const struct kgt_driver *lasting = &driver->runner.driver;
     enum kgt_area area = record->kind == KGT_HW ? KGT_HOMES : KGT_LOG;
-    size_t from = record->kind == KGT_KW ? 0 : record->kind == KGT_GW ? KGT_LOG_SIZE(record->place)
-                                                                      : KGT_HOMES_SIZE(record->place);
+    size_t from = record->kind == KGT_KW ? 0
+        : record->kind == KGT_GW         ? KGT_LOG_SIZE(record->place)
+                                         : KGT_HOMES_SIZE(record->place);
     size_t i, count = blocks_in(record);
     int error = 0;
 
@@ -183,8 +180,8 @@ static int land_blocks(struct driver *driver, struct choices *choices, const str
         if (!choices->lands(choices->context, choices->index++))
             continue;
         *blocks |= 1u << i;
-        error = lasting->write(lasting->context, area, from + KAGUTIN_BLOCK_SIZE * i,
-                               record->bytes + KAGUTIN_BLOCK_SIZE * i, KAGUTIN_BLOCK_SIZE);
+        error = lasting->write(lasting->context, area, from + KAGUTIN_BLOCK_SIZE * i, record->bytes + KAGUTIN_BLOCK_SIZE * i,
+                               KAGUTIN_BLOCK_SIZE);
     }
     return error;
 }
@@ -245,8 +242,7 @@ bool driver_confirm(struct driver *driver, struct kagutin_reply *reply)
         return false;
     if (driver->fences)
         return driver_fail(driver, "not confirmed: %lu fences have not passed", (unsigned long)driver->fences);
-    *reply = kagutin_confirm(driver->log, driver->log_size, driver->area, driver->area_size,
-                             driver->state, sizeof driver->state);
+    *reply = kagutin_confirm(driver->log, driver->log_size, driver->area, driver->area_size, driver->state, sizeof driver->state);
     return true;
 }
 

@@ -79,11 +79,9 @@ bool driver_create_unnamed(struct driver *driver, size_t groups, size_t homes)
         return driver_fail(driver, "out of memory for lasting memory");
     kgt_memory_init(&driver->memory, driver->image, driver->image + size, groups, homes);
     kgt_runner_init(&driver->runner, kgt_memory_driver(&driver->memory), groups, homes);
-    reply = kagutin_format(driver->log, driver->log_size, driver->area, driver->area_size, driver->batch,
-                           driver->batch_size);
+    reply = kagutin_format(driver->log, driver->log_size, driver->area, driver->area_size, driver->batch, driver->batch_size);
     if (reply.code != KAGUTIN_DONE)
-        return driver_fail(driver, "format answered %llu: %s", (unsigned long long)reply.code,
-                           kagutin_answer_text(reply.code));
+        return driver_fail(driver, "format answered %llu: %s", (unsigned long long)reply.code, kagutin_answer_text(reply.code));
     if (!driver_submit(driver, reply.size) || !driver_run(driver))
         return false;
     return true;

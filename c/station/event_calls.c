@@ -13,14 +13,11 @@ static const char *const names[] = {"pump_start", "pump_stop", "alarm_arrive", "
 struct kagutin_reply call_event_bare(struct station *s, unsigned writer, const struct event *event)
 {
     switch (event->kind) {
-    case PUMP_STARTS:
-        return kagutin_pump_start(MEMORY(s), BATCH(s), writer, event->number, event->second);
-    case PUMP_STOPS:
-        return kagutin_pump_stop(MEMORY(s), BATCH(s), writer, event->number, event->second);
+    case PUMP_STARTS: return kagutin_pump_start(MEMORY(s), BATCH(s), writer, event->number, event->second);
+    case PUMP_STOPS: return kagutin_pump_stop(MEMORY(s), BATCH(s), writer, event->number, event->second);
     case ALARM_ARRIVES:
         return kagutin_alarm_arrive(MEMORY(s), BATCH(s), writer, (uint16_t)event->number, event->alarm_class, event->second);
-    default:
-        return kagutin_alarm_clear(MEMORY(s), BATCH(s), writer, (uint16_t)event->number);
+    default: return kagutin_alarm_clear(MEMORY(s), BATCH(s), writer, (uint16_t)event->number);
     }
 }
 
@@ -31,8 +28,7 @@ static uint64_t book_event(struct station *station, unsigned writer, size_t home
 
     book_begin(&station->book, writer, 0);
     for (; homes > 0; homes--, home++) {
-        call_expect(station, "read",
-                    kagutin_read(MEMORY(station), block, sizeof block, writer, home), 0, 0);
+        call_expect(station, "read", kagutin_read(MEMORY(station), block, sizeof block, writer, home), 0, 0);
         book_store(&station->book, writer, home, block);
     }
     return book_commit(&station->book, writer);
@@ -56,8 +52,8 @@ bool call_event(struct station *station, unsigned writer, struct event *event)
     }
     if (reply.code == KAGUTIN_DONE && size)
         call_expect_group(station, names[event->kind], group);
-    call_expect(station, names[event->kind], reply,
-                reply.code == KAGUTIN_DONE ? book_event(station, writer, home, homes) : 0, size);
+    call_expect(station, names[event->kind], reply, reply.code == KAGUTIN_DONE ? book_event(station, writer, home, homes) : 0,
+                size);
     event->commit = station->book.commit_count - 1;
     events_add(&station->events, event);
     station->counters.commits++;

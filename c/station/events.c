@@ -100,9 +100,7 @@ static void apply(struct event_sums *sums, const struct event *event)
         alarm->alarm_class = event->alarm_class;
         alarm->second = event->second;
         break;
-    default:
-        memset(alarm, 0, sizeof *alarm);
-        break;
+    default: memset(alarm, 0, sizeof *alarm); break;
     }
 }
 
@@ -138,8 +136,9 @@ unsigned events_gravest(const struct event_sums *sums)
     for (i = 0; i < EVENT_ALARMS; i++) {
         const struct event_alarm *one = &sums->alarms[i], *other = &sums->alarms[gravest % EVENT_ALARMS];
 
-        if (one->alarm_class && (gravest == EVENT_ALARMS || one->alarm_class < other->alarm_class
-                                 || (one->alarm_class == other->alarm_class && one->second < other->second)))
+        if (one->alarm_class
+            && (gravest == EVENT_ALARMS || one->alarm_class < other->alarm_class
+                || (one->alarm_class == other->alarm_class && one->second < other->second)))
             gravest = i;
     }
     return gravest;

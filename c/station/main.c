@@ -48,11 +48,11 @@ static void check_old_image(struct station *station)
 
     if (driver->homes < STATION_MIN_HOMES)
         power_refuse_image(station, "it has fewer than 30 homes");
-    if ((station->groups && station->groups != driver->groups)
-        || (station->homes && station->homes != driver->homes))
+    if ((station->groups && station->groups != driver->groups) || (station->homes && station->homes != driver->homes))
         power_refuse_image(station, "it has other numbers of groups and homes; leave --groups and --homes out");
     if (!station->go_on && !is_own(station))
-        power_refuse_image(station, "it holds something, and no station's list of rights; with --go-on its homes are written over");
+        power_refuse_image(station,
+                           "it holds something, and no station's list of rights; with --go-on its homes are written over");
 }
 
 static void attach_image(struct station *station)
@@ -61,7 +61,7 @@ static void attach_image(struct station *station)
     struct driver *driver = &station->driver;
     bool old = station->path && access(station->path, F_OK) == 0;
 
-    if (!(old ? driver_open(driver, station->path)
+    if (!(old                 ? driver_open(driver, station->path)
               : station->path ? driver_create(driver, station->path, groups, homes)
                               : driver_create_unnamed(driver, groups, homes)))
         station_trouble(station);
@@ -73,8 +73,8 @@ static void attach_image(struct station *station)
     }
     driver->persisted = on_persisted;
     driver->context = &station->book;
-    station->before = malloc(driver->log_size + driver->area_size + sizeof driver->state + driver->newest_size
-                             + driver->batch_size);
+    station->before =
+        malloc(driver->log_size + driver->area_size + sizeof driver->state + driver->newest_size + driver->batch_size);
     if (!station->before) {
         fputs("station: out of memory\n", stderr);
         exit(EXIT_TROUBLE);

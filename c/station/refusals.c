@@ -9,7 +9,7 @@
 
 #define LOG(s) (s)->driver.log, (s)->driver.log_size
 #define AREA(s) (s)->driver.area, (s)->driver.area_size
-#define STATE(s) (s)->driver.state, sizeof (s)->driver.state
+#define STATE(s) (s)->driver.state, sizeof(s)->driver.state
 #define NEWEST(s) (s)->driver.newest, (s)->driver.newest_size
 #define BATCH(s) (s)->driver.batch, (s)->driver.batch_size
 #define MEMORY(s) LOG(s), AREA(s), STATE(s), NEWEST(s), BATCH(s)
@@ -55,8 +55,8 @@ void refusal_check(struct station *station, const char *call, struct kagutin_rep
     station->counters.store_denied += code == KAGUTIN_STORE_DENIED;
     station->counters.read_denied += code == KAGUTIN_READ_DENIED;
     if (reply.code != code)
-        station_mismatch(station, "%s answered %llu, it must be refused with %llu (%s)", call,
-                         (unsigned long long)reply.code, (unsigned long long)code, kagutin_answer_text(code));
+        station_mismatch(station, "%s answered %llu, it must be refused with %llu (%s)", call, (unsigned long long)reply.code,
+                         (unsigned long long)code, kagutin_answer_text(code));
     if (reply.figure || reply.size)
         station_mismatch(station, "a refused %s gave a figure or a size", call);
     lent_parts(station, parts);
@@ -73,12 +73,8 @@ static void try_arguments(struct station *s)
     uint64_t high = (uint64_t)1 << (32 + station_random(s, 32)); /* must not be cut off */
 
     switch (station_random(s, 8)) {
-    case 0:
-        refusal_check(s, "begin", kagutin_begin(LOG(s), AREA(s), STATE(s), writer), KAGUTIN_BAD_WRITER);
-        break;
-    case 1:
-        refusal_check(s, "abort", kagutin_abort(LOG(s), AREA(s), STATE(s), high), KAGUTIN_BAD_WRITER);
-        break;
+    case 0: refusal_check(s, "begin", kagutin_begin(LOG(s), AREA(s), STATE(s), writer), KAGUTIN_BAD_WRITER); break;
+    case 1: refusal_check(s, "abort", kagutin_abort(LOG(s), AREA(s), STATE(s), high), KAGUTIN_BAD_WRITER); break;
     case 2:
         refusal_check(s, "store", kagutin_store(LOG(s), AREA(s), STATE(s), block, sizeof block, BATCH(s), 0, high),
                       KAGUTIN_BAD_HOME);
@@ -121,7 +117,8 @@ static void try_turns(struct station *s)
                   KAGUTIN_NO_PLACES);
     refusal_check(s, "abort", kagutin_abort(LOG(s), AREA(s), STATE(s), writer), KAGUTIN_NOT_OPEN);
     refusal_check(s, "commit", kagutin_commit(LOG(s), AREA(s), STATE(s), NEWEST(s), BATCH(s), writer), KAGUTIN_NOT_OPEN);
-    refusal_check(s, "store", kagutin_store(LOG(s), AREA(s), STATE(s), block, sizeof block, BATCH(s), writer, STATION_OWN(writer)),
+    refusal_check(s, "store",
+                  kagutin_store(LOG(s), AREA(s), STATE(s), block, sizeof block, BATCH(s), writer, STATION_OWN(writer)),
                   KAGUTIN_NOT_OPEN);
 }
 
@@ -179,11 +176,13 @@ static void try_events(struct station *s)
     if (sum->running && sum->last)
         refusal_check(s, "pump_stop", kagutin_pump_stop(MEMORY(s), RUN_HOURS, pump, early), KAGUTIN_BAD_SECOND);
     if (open)
-        refusal_check(s, "alarm_arrive", kagutin_alarm_arrive(MEMORY(s), ALARMS, (uint16_t)alarm, 1, s->second), KAGUTIN_BAD_ALARM);
+        refusal_check(s, "alarm_arrive", kagutin_alarm_arrive(MEMORY(s), ALARMS, (uint16_t)alarm, 1, s->second),
+                      KAGUTIN_BAD_ALARM);
     else
         refusal_check(s, "alarm_clear", kagutin_alarm_clear(MEMORY(s), ALARMS, (uint16_t)alarm), KAGUTIN_BAD_ALARM);
     if (!open && events_open(&s->events.newest) == KAGUTIN_MAX_ALARMS)
-        refusal_check(s, "alarm_arrive", kagutin_alarm_arrive(MEMORY(s), ALARMS, (uint16_t)alarm, 1, s->second), KAGUTIN_ALARMS_FULL);
+        refusal_check(s, "alarm_arrive", kagutin_alarm_arrive(MEMORY(s), ALARMS, (uint16_t)alarm, 1, s->second),
+                      KAGUTIN_ALARMS_FULL);
 }
 
 /* A state that is out of order, or belongs to other areas. */
@@ -202,27 +201,13 @@ void refusal_try(struct station *station)
 {
     refusal_prepare(station);
     switch (station_random(station, 7)) {
-    case 0:
-        try_arguments(station);
-        break;
-    case 1:
-        try_turns(station);
-        break;
-    case 2:
-        try_short_batches(station);
-        break;
-    case 3:
-        try_rounds(station);
-        break;
-    case 4:
-        try_rights(station);
-        break;
-    case 5:
-        try_events(station);
-        break;
-    default:
-        try_bad_state(station);
-        break;
+    case 0: try_arguments(station); break;
+    case 1: try_turns(station); break;
+    case 2: try_short_batches(station); break;
+    case 3: try_rounds(station); break;
+    case 4: try_rights(station); break;
+    case 5: try_events(station); break;
+    default: try_bad_state(station); break;
     }
 }
 
@@ -244,8 +229,9 @@ void refusal_try_open(struct station *s)
     int i;
 
     refusal_prepare(s);
-    refusal_check(s, "open", kagutin_open(LOG(s), AREA(s), STATE(s), NEWEST(s), s->driver.batch,
-                                            KAGUTIN_GW_SIZE * s->driver.groups + KAGUTIN_KW_SIZE + 3 * KAGUTIN_FN_SIZE - 1),
+    refusal_check(s, "open",
+                  kagutin_open(LOG(s), AREA(s), STATE(s), NEWEST(s), s->driver.batch,
+                               KAGUTIN_GW_SIZE * s->driver.groups + KAGUTIN_KW_SIZE + 3 * KAGUTIN_FN_SIZE - 1),
                   KAGUTIN_SHORT_BATCH);
     refusal_check(s, "open", kagutin_open(LOG(s), AREA(s), STATE(s), s->driver.newest, s->driver.newest_size - 1, BATCH(s)),
                   KAGUTIN_BAD_LENGTH);

@@ -23,9 +23,9 @@ static const char *plural(unsigned long count)
 void report_start(struct station *station)
 {
     station->progress = !station->verbose && isatty(fileno(station->report));
-    fprintf(station->report, "station: seed %llu, %lu cut%s, %lu groups, %lu homes, %s\n",
-            (unsigned long long)station->seed, station->cuts, plural(station->cuts), (unsigned long)station->driver.groups,
-            (unsigned long)station->driver.homes, station->path ? station->path : "in memory");
+    fprintf(station->report, "station: seed %llu, %lu cut%s, %lu groups, %lu homes, %s\n", (unsigned long long)station->seed,
+            station->cuts, plural(station->cuts), (unsigned long)station->driver.groups, (unsigned long)station->driver.homes,
+            station->path ? station->path : "in memory");
     if (station->verbose)
         fputs("\n cut  power failed  unissued    arrived  commits  kept  confirmed  replayed\n", station->report);
     fflush(station->report);
@@ -35,9 +35,8 @@ static void progress(struct station *station)
 {
     if (!station->progress)
         return;
-    fprintf(station->report, "\rcut %lu of %lu, %lu commits kept, %lu lost, %lu never issued\033[K",
-            station->counters.cuts, station->cuts, sum(station->counters.kept), sum(station->counters.lost),
-            sum(station->counters.unissued));
+    fprintf(station->report, "\rcut %lu of %lu, %lu commits kept, %lu lost, %lu never issued\033[K", station->counters.cuts,
+            station->cuts, sum(station->counters.kept), sum(station->counters.lost), sum(station->counters.unissued));
     fflush(station->report);
 }
 
@@ -84,8 +83,8 @@ void report_full(struct station *station, const char *call, unsigned writer)
         counters->holds[usage->holder]++;
     if (!station->verbose && counters->full > 1)
         return;
-    fprintf(station->report, "%slog full (%s, task %u): %lu live, %lu dead, %lu free", station->progress ? "\r\033[K" : "",
-            call, writer, (unsigned long)usage->live, (unsigned long)usage->dead, (unsigned long)usage->free);
+    fprintf(station->report, "%slog full (%s, task %u): %lu live, %lu dead, %lu free", station->progress ? "\r\033[K" : "", call,
+            writer, (unsigned long)usage->live, (unsigned long)usage->dead, (unsigned long)usage->free);
     if (usage->holder < KAGUTIN_WRITERS)
         fprintf(station->report, "; task %lu holds it from %llu on", (unsigned long)usage->holder,
                 (unsigned long long)usage->first);
@@ -146,7 +145,8 @@ static void print_calls(const struct station *station)
             counters->confirms, counters->trims);
     fprintf(report, "  %10lu starts and stops of pumps, %lu alarms raised or cleared, each a transaction\n",
             counters->pump_events, counters->alarm_events);
-    fprintf(report, "  %10lu rounds of settling begun, in %lu steps between pump switchings\n", counters->rounds, counters->steps);
+    fprintf(report, "  %10lu rounds of settling begun, in %lu steps between pump switchings\n", counters->rounds,
+            counters->steps);
     fprintf(report, "  %10lu refused as they must be, with no lent byte changed; %lu because the log was full\n",
             counters->refusals, counters->full);
     fprintf(report, "  %10lu stores and %lu reads of a home that the list of rights does not give: refused\n",
@@ -187,7 +187,8 @@ static void print_legend(FILE *report)
           "  live       places with entries of open transactions, or of commits that are not trimmed\n"
           "  dead       places with aborted entries, or passed over by a flush, that are not trimmed\n"
           "  held back  by the oldest open transaction: no trim frees its first entry or a later one\n"
-          "  promised   places that one transaction alone can take, so that a full log cannot stop it\n", report);
+          "  promised   places that one transaction alone can take, so that a full log cannot stop it\n",
+          report);
 }
 
 static void print_verbose_legend(FILE *report)
@@ -196,7 +197,8 @@ static void print_verbose_legend(FILE *report)
           "  arrived    blocks written since the last fence that are in lasting memory, of those begun\n"
           "  commits    since the cut before; kept: the run that persisted\n"
           "  confirmed  declared durable before the cut; always among the kept\n"
-          "  replayed   transactions that the opening found in the log\n", report);
+          "  replayed   transactions that the opening found in the log\n",
+          report);
 }
 
 void report_summary(struct station *station)
@@ -207,7 +209,8 @@ void report_summary(struct station *station)
         fputs("\r\033[K", station->report);
     if (station->worn_out)
         fputs("\nThe image is worn out: its log's start can move no further than 2^47. Make a new one;\n"
-              "the inspector still shows each home's value.\n", station->report);
+              "the inspector still shows each home's value.\n",
+              station->report);
     if (station->worn_out && !counters->calls)
         return;
     if (station->verbose)

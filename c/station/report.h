@@ -6,9 +6,9 @@
 
 /* What a cut found and left. */
 struct report_cut {
-    bool opening;               /* power failed while the store was opening */
-    size_t waiting;             /* records not yet issued */
-    size_t issued, persisted;   /* blocks written since the last fence; those of them that arrived */
+    bool opening;             /* power failed while the store was opening */
+    size_t waiting;           /* records not yet issued */
+    size_t issued, persisted; /* blocks written since the last fence; those of them that arrived */
     struct book_cut book;
 };
 

@@ -17,7 +17,14 @@
 #define STATION_NOTES 32
 #define STATION_MIN_HOMES (KAGUTIN_ALARMS_HOME + KAGUTIN_ALARMS_HOMES)
 
-enum exit_status { EXIT_FINE = 0, EXIT_MISMATCH = 1, EXIT_USAGE = 2, EXIT_TROUBLE = 3, EXIT_WORN_OUT = 4, EXIT_INTERRUPTED = 130 };
+enum exit_status {
+    EXIT_FINE = 0,
+    EXIT_MISMATCH = 1,
+    EXIT_USAGE = 2,
+    EXIT_TROUBLE = 3,
+    EXIT_WORN_OUT = 4,
+    EXIT_INTERRUPTED = 130
+};
 
 /* What a task is about to do: stores still to come, then commit or abort. */
 struct task {
@@ -51,10 +58,10 @@ struct station {
     size_t groups, homes;
     const char *path;
     bool csv, keep_cut, verbose, progress;
-    bool go_on; /* also with an image that no station has made */
-    bool opened;   /* the store is open */
-    bool worn_out; /* the log's start can move no further */
-    FILE *report;  /* what was cut and what came back */
+    bool go_on;      /* also with an image that no station has made */
+    bool opened;     /* the store is open */
+    bool worn_out;   /* the log's start can move no further */
+    FILE *report;    /* what was cut and what came back */
     uint8_t *before; /* the lent memory before a call that must be refused */
 };
 

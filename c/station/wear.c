@@ -46,9 +46,8 @@ static void print_pumps(const struct pump pumps[KAGUTIN_PUMPS])
     puts("  pump    starts       run time  seconds a start  services due");
     for (i = 0; i < KAGUTIN_PUMPS; i++)
         printf("  %4u  %8llu %5lluh %02llum %02llus  %15llu  %12llu%s\n", i, pumps[i].starts, pumps[i].seconds / 3600,
-               pumps[i].seconds / 60 % 60, pumps[i].seconds % 60,
-               pumps[i].starts ? pumps[i].seconds / pumps[i].starts : 0, pumps[i].services,
-               i == most && pumps[most].seconds ? "  <- open this one first" : "");
+               pumps[i].seconds / 60 % 60, pumps[i].seconds % 60, pumps[i].starts ? pumps[i].seconds / pumps[i].starts : 0,
+               pumps[i].services, i == most && pumps[most].seconds ? "  <- open this one first" : "");
 }
 
 static void print_tasks(const struct station *station)

@@ -7,9 +7,14 @@
 
 bool kgt_read_record(const uint8_t *batch, size_t size, size_t groups, size_t homes, struct kgt_record *record)
 {
-    static const struct { char mark[3]; size_t size, head; } kinds[] = {
-        {"GW", KAGUTIN_GW_SIZE, 4}, {"HW", KAGUTIN_HW_SIZE, 4},
-        {"KW", KAGUTIN_KW_SIZE, 2}, {"FN", KAGUTIN_FN_SIZE, 2},
+    static const struct {
+        char mark[3];
+        size_t size, head;
+    } kinds[] = {
+        {"GW", KAGUTIN_GW_SIZE, 4},
+        {"HW", KAGUTIN_HW_SIZE, 4},
+        {"KW", KAGUTIN_KW_SIZE, 2},
+        {"FN", KAGUTIN_FN_SIZE, 2},
     };
     size_t i;
 
@@ -103,15 +108,11 @@ int kgt_run_record(struct kgt_runner *runner, const struct kgt_record *record)
     const struct kgt_driver *driver = &runner->driver;
 
     switch (record->kind) {
-    case KGT_GW:
-        return write_group(runner, record->place, record->bytes);
+    case KGT_GW: return write_group(runner, record->place, record->bytes);
     case KGT_HW:
-        return driver->write(driver->context, KGT_HOMES, KGT_HOMES_SIZE(record->place), record->bytes,
-                             KAGUTIN_BLOCK_SIZE);
-    case KGT_KW:
-        return write_header(runner, record->bytes);
-    default:
-        return kgt_run_fence(runner);
+        return driver->write(driver->context, KGT_HOMES, KGT_HOMES_SIZE(record->place), record->bytes, KAGUTIN_BLOCK_SIZE);
+    case KGT_KW: return write_header(runner, record->bytes);
+    default: return kgt_run_fence(runner);
     }
 }
 

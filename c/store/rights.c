@@ -113,8 +113,9 @@ bool kgt_rights_may_read(const struct kgt_rights *list, uint64_t writer, uint64_
 
 static struct kagutin_reply set_once(struct kagutin *store, const struct kgt_rights *list)
 {
-    return kgt_inner_run(store, kagutin_transact(KGT_MEMORY(store), list->bytes, sizeof list->bytes, KGT_BATCH(store), 0,
-                                                 KGT_RIGHTS_HOME));
+    return kgt_inner_run(store,
+                         kagutin_transact(KGT_MEMORY(store), list->bytes, sizeof list->bytes, KGT_BATCH(store), 0,
+                                          KGT_RIGHTS_HOME));
 }
 
 struct kgt_ticket kgt_set_rights(struct kagutin *store, const struct kgt_rights *list)
@@ -136,6 +137,5 @@ struct kgt_reply kgt_get_rights(struct kagutin *store, uint64_t writer, struct k
 
     if (reply.code != KAGUTIN_DONE)
         return reply;
-    return kgt_inner_leave(store, kagutin_fetch(KGT_MEMORY(store), list->bytes, sizeof list->bytes, writer,
-                                                KGT_RIGHTS_HOME));
+    return kgt_inner_leave(store, kagutin_fetch(KGT_MEMORY(store), list->bytes, sizeof list->bytes, writer, KGT_RIGHTS_HOME));
 }

@@ -48,8 +48,8 @@ struct kgt_reply kgt_init(struct kagutin *store, uint8_t *memory, size_t size, s
 {
     memset(store, 0, sizeof *store);
     store->condition = KGT_IS_UNUSABLE;
-    if (groups < KAGUTIN_MIN_GROUPS || groups > KAGUTIN_MAX_GROUPS || homes < KAGUTIN_MIN_HOMES
-        || homes > KAGUTIN_MAX_HOMES || size < KGT_MEMORY_SIZE(groups, homes))
+    if (groups < KAGUTIN_MIN_GROUPS || groups > KAGUTIN_MAX_GROUPS || homes < KAGUTIN_MIN_HOMES || homes > KAGUTIN_MAX_HOMES
+        || size < KGT_MEMORY_SIZE(groups, homes))
         return answer(KAGUTIN_BAD_LENGTH);
     if (!memory || !driver.load || !driver.write || !driver.fence)
         return answer(KAGUTIN_BAD_LENGTH);
@@ -67,8 +67,7 @@ struct kgt_reply kgt_init(struct kagutin *store, uint8_t *memory, size_t size, s
     return answer(KAGUTIN_DONE);
 }
 
-struct kgt_reply kgt_set_lock(struct kagutin *store, int (*lock)(void *context), void (*unlock)(void *context),
-                              void *context)
+struct kgt_reply kgt_set_lock(struct kagutin *store, int (*lock)(void *context), void (*unlock)(void *context), void *context)
 {
     if (store->condition == KGT_IS_UNUSABLE)
         return answer(KGT_NOT_INIT);
@@ -270,8 +269,9 @@ struct kgt_reply kgt_abort(struct kagutin *store, uint64_t writer)
 
 static struct kagutin_reply store_once(struct kagutin *store, uint64_t writer, uint64_t home, const uint8_t *block)
 {
-    return kgt_inner_run(store, kagutin_store(KGT_AREAS(store), KGT_STATE(store), block, KAGUTIN_BLOCK_SIZE,
-                                              KGT_BATCH(store), writer, home));
+    return kgt_inner_run(store,
+                         kagutin_store(KGT_AREAS(store), KGT_STATE(store), block, KAGUTIN_BLOCK_SIZE, KGT_BATCH(store), writer,
+                                       home));
 }
 
 /* Would this store become a list of rights, or a part of one, unasked? */

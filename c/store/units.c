@@ -26,17 +26,13 @@ static struct event event_of(enum event_kind kind)
 static struct kagutin_reply call(struct kagutin *store, uint64_t writer, const struct event *event)
 {
     switch (event->kind) {
-    case SET_BANDS:
-        return kagutin_bands_set(KGT_MEMORY(store), KGT_BATCH(store), event->rows, event->rows_size, writer);
-    case PUMP_STARTS:
-        return kagutin_pump_start(KGT_MEMORY(store), KGT_BATCH(store), writer, event->pump, event->second);
-    case PUMP_STOPS:
-        return kagutin_pump_stop(KGT_MEMORY(store), KGT_BATCH(store), writer, event->pump, event->second);
+    case SET_BANDS: return kagutin_bands_set(KGT_MEMORY(store), KGT_BATCH(store), event->rows, event->rows_size, writer);
+    case PUMP_STARTS: return kagutin_pump_start(KGT_MEMORY(store), KGT_BATCH(store), writer, event->pump, event->second);
+    case PUMP_STOPS: return kagutin_pump_stop(KGT_MEMORY(store), KGT_BATCH(store), writer, event->pump, event->second);
     case ALARM_ARRIVES:
         return kagutin_alarm_arrive(KGT_MEMORY(store), KGT_BATCH(store), writer, event->identity, event->alarm_class,
                                     event->second);
-    default:
-        return kagutin_alarm_clear(KGT_MEMORY(store), KGT_BATCH(store), writer, event->identity);
+    default: return kagutin_alarm_clear(KGT_MEMORY(store), KGT_BATCH(store), writer, event->identity);
     }
 }
 
@@ -82,8 +78,7 @@ struct kgt_table kgt_bands_set(struct kagutin *store, uint64_t writer, const uin
     return table;
 }
 
-static struct kgt_ticket pump_event(struct kagutin *store, enum event_kind kind, uint64_t writer, uint64_t pump,
-                                    uint32_t second)
+static struct kgt_ticket pump_event(struct kagutin *store, enum event_kind kind, uint64_t writer, uint64_t pump, uint32_t second)
 {
     struct event event = event_of(kind);
 

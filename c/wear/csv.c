@@ -59,11 +59,9 @@ static void put_row(const struct wear_sheet *sheet, size_t at, const char *day, 
 
     fprintf(file, "%lu,", (unsigned long)at + 1);
     put_field(sheet->stations[row->station].path, file);
-    fprintf(file, ",%u,%" PRIu64 ",%" PRIu64 ",%" PRIu64 ",%" PRIu64 ",%" PRIu64 ",%" PRIu64, row->pump, row->starts, row->seconds,
-            sheet->interval, row->services, row->left, sheet->interval - row->left);
-    fprintf(file, ",%s,%" PRIu64 ",", row->running ? "running" : row->starts ? "stopped"
-                                                                             : "never started",
-            row->second);
+    fprintf(file, ",%u,%" PRIu64 ",%" PRIu64 ",%" PRIu64 ",%" PRIu64 ",%" PRIu64 ",%" PRIu64, row->pump, row->starts,
+            row->seconds, sheet->interval, row->services, row->left, sheet->interval - row->left);
+    fprintf(file, ",%s,%" PRIu64 ",", row->running ? "running" : row->starts ? "stopped" : "never started", row->second);
     if (row->running)
         fprintf(file, "%" PRIu64 ",%" PRIu64 ",%s", row->run, row->counted_to, wear_bound_name(row->run_bound));
     else
@@ -84,7 +82,8 @@ void wear_csv(const struct wear_sheet *sheet, FILE *file)
     day_write(sheet->day, day);
     fputs(heading, file);
     for (i = 0; i < sheet->remark_count; i++)
-        put_told(sheet->remarks[i].image, sheet->remarks[i].pump, states[sheet->remarks[i].kind], day, sheet->remarks[i].text, file);
+        put_told(sheet->remarks[i].image, sheet->remarks[i].pump, states[sheet->remarks[i].kind], day, sheet->remarks[i].text,
+                 file);
     for (i = 0; i < sheet->count; i++)
         put_row(sheet, i, day, file);
     for (i = 0; i < sheet->station_count; i++)

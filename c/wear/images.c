@@ -8,8 +8,7 @@
 #include "sheet.h"
 
 /* Bytes of a pump's home; docs/HOMES.md. */
-enum { LAST_EVENT = 8,
-       RUNNING = 12 };
+enum { LAST_EVENT = 8, RUNNING = 12 };
 
 static uint64_t number32(const uint8_t *bytes)
 {
@@ -154,8 +153,8 @@ static void read_image(struct wear_sheet *sheet, const struct wear_options *opti
         read_pumps(sheet, &copy, options, index);
     } else {
         station->unread = true;
-        wear_remark(sheet, WEAR_UNREAD, station->path, WEAR_NO_PUMP,
-                    "pumps take homes from 16 on; the image has %lu homes", (unsigned long)copy.homes);
+        wear_remark(sheet, WEAR_UNREAD, station->path, WEAR_NO_PUMP, "pumps take homes from 16 on; the image has %lu homes",
+                    (unsigned long)copy.homes);
     }
     copy_close(&copy);
 }

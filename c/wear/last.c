@@ -9,27 +9,10 @@
 enum { DAY_SECONDS = 86400 };
 
 /* Columns by their names in the heading; those from STATE on may be missing, as in sheets of earlier versions. */
-enum column { IMAGE,
-              PUMP,
-              STARTS,
-              RUN_SECONDS,
-              STATE,
-              LAST_EVENT,
-              RUNNING_SECONDS,
-              RUN_BOUND,
-              SHEET_DATE,
-              COLUMNS };
+enum column { IMAGE, PUMP, STARTS, RUN_SECONDS, STATE, LAST_EVENT, RUNNING_SECONDS, RUN_BOUND, SHEET_DATE, COLUMNS };
 
 static const char *const column_names[COLUMNS] = {
-    "image",
-    "pump",
-    "starts",
-    "run_seconds",
-    "state",
-    "last_event",
-    "running_seconds",
-    "run_bound",
-    "sheet_date",
+    "image", "pump", "starts", "run_seconds", "state", "last_event", "running_seconds", "run_bound", "sheet_date",
 };
 
 struct past {
@@ -186,8 +169,8 @@ static void compare_row(struct wear_sheet *sheet, struct wear_row *row, const st
     row->change = WEAR_COMPARED;
     row->more_starts = row->starts - past->starts;
     row->more_seconds = total > before ? total - before : 0;
-    row->more_bound = row->run_bound == WEAR_EXACT ? (past->open ? WEAR_AT_MOST : WEAR_EXACT)
-                                                   : (past->open ? WEAR_ABOUT : WEAR_AT_LEAST);
+    row->more_bound =
+        row->run_bound == WEAR_EXACT ? (past->open ? WEAR_AT_MOST : WEAR_EXACT) : (past->open ? WEAR_ABOUT : WEAR_AT_LEAST);
     check_pace(sheet, row);
 }
 

@@ -135,12 +135,8 @@ static void take_value(struct wear_options *options, const char *name, char *val
 static const char *value_missing(const char *name)
 {
     static const char *const options[][2] = {
-        {"--interval", "%s takes a number"},
-        {"--writer", "%s takes a number"},
-        {"--now", "%s takes a number"},
-        {"--date", "%s takes a day"},
-        {"--html", "%s takes a file name"},
-        {"--done", "%s takes a file name"},
+        {"--interval", "%s takes a number"}, {"--writer", "%s takes a number"},  {"--now", "%s takes a number"},
+        {"--date", "%s takes a day"},        {"--html", "%s takes a file name"}, {"--done", "%s takes a file name"},
         {"--since", "%s takes a file name"},
     };
     size_t i;

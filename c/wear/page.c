@@ -5,8 +5,7 @@
 
 #include "page_parts.h"
 
-enum { MOST_LINES = 12,
-       MOST_LABELS = 5 };
+enum { MOST_LINES = 12, MOST_LABELS = 5 };
 
 /* The axis: whole intervals, a line at every step of them, and a number at some. */
 struct axis {
@@ -87,8 +86,9 @@ static void put_summary(const struct wear_sheet *sheet, const char *day, FILE *f
     }
     fprintf(file, "<h1>Wear sheet of <time datetime=\"%s\">%s</time></h1>\n<p>", day, day);
     wear_put_stations(sheet, file);
-    fprintf(file, ", %lu pump%s, %lu with a service due, %lu running; a service each %" PRIu64 " run hours. The pump to open first "
-                  "stands at the top.",
+    fprintf(file,
+            ", %lu pump%s, %lu with a service due, %lu running; a service each %" PRIu64 " run hours. The pump to open first "
+            "stands at the top.",
             (unsigned long)sheet->count, sheet->count == 1 ? "" : "s", (unsigned long)due, (unsigned long)running,
             sheet->interval / 3600);
     if (open)
@@ -132,8 +132,9 @@ static void put_axis(const struct axis *axis, const char *title, FILE *file)
     fprintf(file, "<span>%s</span><svg class=\"axis\" aria-hidden=\"true\">", title);
     for (i = 0; i <= axis->intervals; i += axis->labels)
         fprintf(file, "<text x=\"%.2f%%\" y=\"14\" text-anchor=\"%s\">%" PRIu64 "%s</text>", percent(axis, i * axis->interval),
-                i == 0 ? "start" : i == axis->intervals ? "end"
-                                                        : "middle",
+                i == 0                     ? "start"
+                    : i == axis->intervals ? "end"
+                                           : "middle",
                 i * axis->interval / 3600, i ? "" : " h");
     fputs("</svg>", file);
 }
@@ -151,8 +152,9 @@ static void put_bar(const struct axis *axis, const struct wear_row *row, FILE *f
     fprintf(file, "<rect class=\"due\" x=\"0\" y=\"3\" width=\"%.2f%%\" height=\"14\"/>", due);
     fprintf(file, "<rect class=\"left\" x=\"%.2f%%\" y=\"3\" width=\"%.2f%%\" height=\"14\"/>", due, end - due);
     if (row->running)
-        fprintf(file, "<rect class=\"run\" x=\"%.2f%%\" y=\"3\" width=\"%.2f%%\" height=\"14\"/><svg x=\"%.2f%%\" y=\"3\">"
-                      "<path class=\"on\" d=\"M2 1 L9 7 L2 13 Z\"/></svg>",
+        fprintf(file,
+                "<rect class=\"run\" x=\"%.2f%%\" y=\"3\" width=\"%.2f%%\" height=\"14\"/><svg x=\"%.2f%%\" y=\"3\">"
+                "<path class=\"on\" d=\"M2 1 L9 7 L2 13 Z\"/></svg>",
                 end - run, run, end);
     fputs("</svg>", file);
 }
@@ -260,7 +262,8 @@ static void put_row(const struct wear_sheet *sheet, const struct axis *axis, siz
     put_data("worn", row->worn, file);
     put_data("starts", row->starts, file);
     put_data("each", row->starts ? wear_total(row) / row->starts : 0, file);
-    fprintf(file, " data-state=\"%s%s\" data-station=\"", row->running ? "running " : "", row->change == WEAR_RESET ? "reset" : "");
+    fprintf(file, " data-state=\"%s%s\" data-station=\"", row->running ? "running " : "",
+            row->change == WEAR_RESET ? "reset" : "");
     put_text(sheet->stations[row->station].path, file);
     fprintf(file, "\"><td class=\"order\" role=\"cell\" data-label=\"order\">%lu</td>", (unsigned long)at + 1);
     put_name(sheet, axis, row, file);
@@ -275,9 +278,10 @@ void wear_page(const struct wear_sheet *sheet, FILE *file)
     size_t i;
 
     day_write(sheet->day, day);
-    fprintf(file, WEAR_PAGE_MARK " -->\n<html lang=\"en\">\n<head>\n<meta charset=\"utf-8\">\n"
-                                 "<meta name=\"viewport\" content=\"width=device-width, initial-scale=1\">\n"
-                                 "<title>Wear sheet of %s</title>\n<style>\n",
+    fprintf(file,
+            WEAR_PAGE_MARK " -->\n<html lang=\"en\">\n<head>\n<meta charset=\"utf-8\">\n"
+                           "<meta name=\"viewport\" content=\"width=device-width, initial-scale=1\">\n"
+                           "<title>Wear sheet of %s</title>\n<style>\n",
             day);
     put_pieces(wear_page_style, file);
     fputs("</style>\n</head>\n<body>\n<main>\n", file);
@@ -286,9 +290,12 @@ void wear_page(const struct wear_sheet *sheet, FILE *file)
     put_remarks(sheet, WEAR_GONE, "gone", "Gone since the last sheet", file);
     put_remarks(sheet, WEAR_NOTE, "note", "Note", file);
     put_pieces(wear_page_controls, file);
-    fputs("<p class=\"legend\"><span><svg aria-hidden=\"true\"><rect class=\"due\" width=\"12\" height=\"12\"/></svg>whole services "
-          "due</span><span><svg aria-hidden=\"true\"><rect class=\"left\" width=\"12\" height=\"12\"/></svg>left over</span><span>"
-          "<svg aria-hidden=\"true\"><path class=\"on\" d=\"M2 0 L9 6 L2 12 Z\"/></svg>runs, and wears on</span><span>a dashed line "
+    fputs("<p class=\"legend\"><span><svg aria-hidden=\"true\"><rect class=\"due\" width=\"12\" height=\"12\"/></svg>whole "
+          "services "
+          "due</span><span><svg aria-hidden=\"true\"><rect class=\"left\" width=\"12\" height=\"12\"/></svg>left "
+          "over</span><span>"
+          "<svg aria-hidden=\"true\"><path class=\"on\" d=\"M2 0 L9 6 L2 12 Z\"/></svg>runs, and wears on</span><span>a dashed "
+          "line "
           "where a service falls due</span></p>\n",
           file);
     put_head(sheet, &axis, file);

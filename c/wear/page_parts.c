@@ -4,9 +4,12 @@
 
 static const char colours[] =
     ":root { color-scheme: light dark; --ink: #1d2733; --paper: #fff; --soft: #4a5866; --line: #dde3e9; --rule: #8899a8;\n"
-    "  --due: #c4680f; --due-text: #8f4a08; --left: #4c7ea8; --due-row: #fdf1e7; --alarm: #b3261e; --alarm-row: #fdecea; --note-row: #eef3f7; }\n"
-    "@media screen and (prefers-color-scheme: dark) { :root { --ink: #e4e9ee; --paper: #14191f; --soft: #a9b5c1; --line: #2c3640;\n"
-    "  --rule: #66788a; --due: #e8963c; --due-text: #e8963c; --left: #6aa0cf; --due-row: #2e2318; --alarm: #ff8a80; --alarm-row: #3a1f1e;\n"
+    "  --due: #c4680f; --due-text: #8f4a08; --left: #4c7ea8; --due-row: #fdf1e7; --alarm: #b3261e; --alarm-row: #fdecea; "
+    "--note-row: #eef3f7; }\n"
+    "@media screen and (prefers-color-scheme: dark) { :root { --ink: #e4e9ee; --paper: #14191f; --soft: #a9b5c1; --line: "
+    "#2c3640;\n"
+    "  --rule: #66788a; --due: #e8963c; --due-text: #e8963c; --left: #6aa0cf; --due-row: #2e2318; --alarm: #ff8a80; --alarm-row: "
+    "#3a1f1e;\n"
     "  --note-row: #1d2630; } }\n";
 
 static const char blocks[] =
@@ -47,19 +50,20 @@ static const char table[] =
     "tr.later { display: none; }\n.visually-hidden { position: absolute; width: 1px; height: 1px; overflow: hidden;\n"
     "  clip-path: inset(50%); white-space: nowrap; }\n";
 
-static const char narrow[] =
-    "@media screen and (max-width: 820px) {\n"
-    "  table, thead, tbody, tfoot, caption, thead tr, tfoot tr { display: block; }\n"
-    "  thead th, tfoot td { display: none; }\n"
-    "  thead th.name, tfoot td.name { display: block; width: 100%; border-bottom: 0; }\n"
-    "  tbody tr { display: grid; grid-template-columns: repeat(auto-fit, minmax(6.2rem, 1fr)); border-top: 1px solid var(--rule);\n"
-    "    padding: .45rem 0; }\n"
-    "  tbody tr.due { background: var(--due-row); }\n  tbody tr.later { display: none; }\n"
-    "  th, td { border-bottom: 0; text-align: left; padding: .12rem .4rem; }\n"
-    "  tbody th.name { grid-row: 1; grid-column: 1 / -1; width: auto; font-weight: 600; }\n"
-    "  td[data-label]::before { content: attr(data-label); display: block; font-size: .8em; color: var(--soft); font-weight: 400; }\n"
-    "  .state { font-weight: 400; }\n"
-    "}\n";
+static const char narrow[] = "@media screen and (max-width: 820px) {\n"
+                             "  table, thead, tbody, tfoot, caption, thead tr, tfoot tr { display: block; }\n"
+                             "  thead th, tfoot td { display: none; }\n"
+                             "  thead th.name, tfoot td.name { display: block; width: 100%; border-bottom: 0; }\n"
+                             "  tbody tr { display: grid; grid-template-columns: repeat(auto-fit, minmax(6.2rem, 1fr)); "
+                             "border-top: 1px solid var(--rule);\n"
+                             "    padding: .45rem 0; }\n"
+                             "  tbody tr.due { background: var(--due-row); }\n  tbody tr.later { display: none; }\n"
+                             "  th, td { border-bottom: 0; text-align: left; padding: .12rem .4rem; }\n"
+                             "  tbody th.name { grid-row: 1; grid-column: 1 / -1; width: auto; font-weight: 600; }\n"
+                             "  td[data-label]::before { content: attr(data-label); display: block; font-size: .8em; color: "
+                             "var(--soft); font-weight: 400; }\n"
+                             "  .state { font-weight: 400; }\n"
+                             "}\n";
 
 static const char paper[] =
     "@page { size: A4; margin: 12mm; }\n"

@@ -84,16 +84,19 @@ static bool is_refused(struct wear_sheet *sheet, const struct csv *csv, const st
 
     if (!service->by_day && row->change == WEAR_RESET)
         wear_remark(sheet, WEAR_NOTE, path, row->pump,
-                    "exchanged or reset since the last sheet: the service at %s (%s:%lu) may be of the book before and does not count; its "
+                    "exchanged or reset since the last sheet: the service at %s (%s:%lu) may be of the book before and does not "
+                    "count; its "
                     "day would",
                     service->text, csv->path, csv->line);
     else if (!service->by_day && service->seconds > wear_total(row))
         wear_remark(sheet, WEAR_NOTE, path, row->pump,
-                    "the service at %s (%s:%lu) lies beyond its run hours and does not count: exchanged or reset since, or mistyped",
+                    "the service at %s (%s:%lu) lies beyond its run hours and does not count: exchanged or reset since, or "
+                    "mistyped",
                     service->text, csv->path, csv->line);
     else if (service->by_day && service->day > sheet->day)
         wear_remark(sheet, WEAR_NOTE, path, row->pump,
-                    "the service of %s (%s:%lu) lies behind the day of this sheet and does not count", service->text, csv->path, csv->line);
+                    "the service of %s (%s:%lu) lies behind the day of this sheet and does not count", service->text, csv->path,
+                    csv->line);
     else
         return false;
     return true;
@@ -162,8 +165,9 @@ static void read_done(struct wear_sheet *sheet, const char *path)
         service = read_service(&csv);
         service.station = wear_find(sheet, csv.fields[0]);
         if (service.station == sheet->station_count)
-            wear_remark(sheet, WEAR_NOTE, csv.fields[0], service.pump, "has a service in %s:%lu and is none of the images, or "
-                                                                       "more than one",
+            wear_remark(sheet, WEAR_NOTE, csv.fields[0], service.pump,
+                        "has a service in %s:%lu and is none of the images, or "
+                        "more than one",
                         path, csv.line);
         else
             take_service(sheet, &csv, &service);

@@ -31,8 +31,7 @@ const char *wear_bound_sign(enum wear_bound bound)
 
 enum wear_bound wear_bound_left(enum wear_bound bound)
 {
-    return bound == WEAR_AT_LEAST ? WEAR_AT_MOST : bound == WEAR_AT_MOST ? WEAR_AT_LEAST
-                                                                         : bound;
+    return bound == WEAR_AT_LEAST ? WEAR_AT_MOST : bound == WEAR_AT_MOST ? WEAR_AT_LEAST : bound;
 }
 
 const char *wear_bounded(uint64_t seconds, enum wear_bound bound, char text[WEAR_HOURS])
@@ -63,8 +62,8 @@ const char *wear_state(const struct wear_row *row, char text[WEAR_STATE])
 
     text[0] = '\0';
     if (row->running) {
-        snprintf(part, sizeof part, "RUNNING since second %" PRIu64 ", counted to %" PRIu64 "%s", row->second,
-                 row->counted_to, row->run_bound == WEAR_EXACT ? "" : " only");
+        snprintf(part, sizeof part, "RUNNING since second %" PRIu64 ", counted to %" PRIu64 "%s", row->second, row->counted_to,
+                 row->run_bound == WEAR_EXACT ? "" : " only");
         add(text, part);
     }
     if (row->starts == 0)

@@ -38,17 +38,38 @@ TO_PAGE(lend) bool page_lend(size_t groups, size_t homes)
     return lent.log && lent.area && lent.newest && lent.state && lent.block && lent.batch;
 }
 
-TO_PAGE(choose_program) void page_choose_program(enum program chosen) { program = chosen; }
-TO_PAGE(log) uint8_t *page_log(void) { return lent.log; }
-TO_PAGE(area) uint8_t *page_area(void) { return lent.area; }
-TO_PAGE(batch) uint8_t *page_batch(void) { return lent.batch; }
-TO_PAGE(block) uint8_t *page_block(void) { return lent.block; }
+TO_PAGE(choose_program) void page_choose_program(enum program chosen)
+{
+    program = chosen;
+}
+TO_PAGE(log) uint8_t *page_log(void)
+{
+    return lent.log;
+}
+TO_PAGE(area) uint8_t *page_area(void)
+{
+    return lent.area;
+}
+TO_PAGE(batch) uint8_t *page_batch(void)
+{
+    return lent.batch;
+}
+TO_PAGE(block) uint8_t *page_block(void)
+{
+    return lent.block;
+}
 
 /* Of the last call; below 2^53. */
-TO_PAGE(figure) double page_figure(unsigned index) { return (double)figures[index % FIGURES]; }
+TO_PAGE(figure) double page_figure(unsigned index)
+{
+    return (double)figures[index % FIGURES];
+}
 
 /* The answer's text, as the library's header has it. */
-TO_PAGE(answer_text) const char *page_answer_text(uint32_t code) { return kagutin_answer_text(code); }
+TO_PAGE(answer_text) const char *page_answer_text(uint32_t code)
+{
+    return kagutin_answer_text(code);
+}
 
 /* figure 0: the reply's; figure 1: size of the batch. */
 static uint32_t keep(struct kagutin_reply reply)
@@ -65,7 +86,10 @@ static uint32_t keep_pair(uint64_t code, uint64_t first, uint64_t second)
     return (uint32_t)code;
 }
 
-TO_PAGE(format) uint32_t page_format(void) { return keep(kagutin_format(COPIES, BATCH)); }
+TO_PAGE(format) uint32_t page_format(void)
+{
+    return keep(kagutin_format(COPIES, BATCH));
+}
 
 TO_PAGE(open) uint32_t page_open(void)
 {
@@ -76,22 +100,52 @@ TO_PAGE(open) uint32_t page_open(void)
     return keep(reply);
 }
 
-TO_PAGE(begin) uint32_t page_begin(uint32_t writer) { return keep(kagutin_begin(STATE, writer)); }
-TO_PAGE(reserve) uint32_t page_reserve(uint32_t writer, uint32_t n) { return keep(kagutin_reserve(STATE, writer, n)); }
-TO_PAGE(abort) uint32_t page_abort(uint32_t writer) { return keep(kagutin_abort(STATE, writer)); }
+TO_PAGE(begin) uint32_t page_begin(uint32_t writer)
+{
+    return keep(kagutin_begin(STATE, writer));
+}
+TO_PAGE(reserve) uint32_t page_reserve(uint32_t writer, uint32_t n)
+{
+    return keep(kagutin_reserve(STATE, writer, n));
+}
+TO_PAGE(abort) uint32_t page_abort(uint32_t writer)
+{
+    return keep(kagutin_abort(STATE, writer));
+}
 
 TO_PAGE(store) uint32_t page_store(uint32_t writer, uint32_t home)
 {
     return keep(kagutin_store(STATE, lent.block, KAGUTIN_BLOCK_SIZE, BATCH, writer, home));
 }
 
-TO_PAGE(commit) uint32_t page_commit(uint32_t writer) { return keep(kagutin_commit(NEWEST, BATCH, writer)); }
-TO_PAGE(flush) uint32_t page_flush(void) { return keep(kagutin_flush(STATE, BATCH)); }
-TO_PAGE(confirm) uint32_t page_confirm(void) { return keep(kagutin_confirm(STATE)); }
-TO_PAGE(settle) uint32_t page_settle(void) { return keep(kagutin_settle(STATE, BATCH)); }
-TO_PAGE(begin_round) uint32_t page_begin_round(void) { return keep(kagutin_begin_round(STATE)); }
-TO_PAGE(step_round) uint32_t page_step_round(uint32_t homes) { return keep(kagutin_step_round(STATE, BATCH, homes)); }
-TO_PAGE(trim) uint32_t page_trim(void) { return keep(kagutin_trim(NEWEST, BATCH)); }
+TO_PAGE(commit) uint32_t page_commit(uint32_t writer)
+{
+    return keep(kagutin_commit(NEWEST, BATCH, writer));
+}
+TO_PAGE(flush) uint32_t page_flush(void)
+{
+    return keep(kagutin_flush(STATE, BATCH));
+}
+TO_PAGE(confirm) uint32_t page_confirm(void)
+{
+    return keep(kagutin_confirm(STATE));
+}
+TO_PAGE(settle) uint32_t page_settle(void)
+{
+    return keep(kagutin_settle(STATE, BATCH));
+}
+TO_PAGE(begin_round) uint32_t page_begin_round(void)
+{
+    return keep(kagutin_begin_round(STATE));
+}
+TO_PAGE(step_round) uint32_t page_step_round(uint32_t homes)
+{
+    return keep(kagutin_step_round(STATE, BATCH, homes));
+}
+TO_PAGE(trim) uint32_t page_trim(void)
+{
+    return keep(kagutin_trim(NEWEST, BATCH));
+}
 
 TO_PAGE(read) uint32_t page_read(uint32_t writer, uint32_t home)
 {

@@ -125,15 +125,21 @@ static void convert(struct sink *sink, const struct form *form, char kind, va_li
         put_padded(sink, form, &byte, 1);
         break;
     case 'd':
-        put_signed(sink, form, form->longs == 2 ? va_arg(*arguments, long long)
-                   : form->longs == 1 ? va_arg(*arguments, long) : va_arg(*arguments, int));
+        put_signed(sink, form,
+                   form->longs == 2       ? va_arg(*arguments, long long)
+                       : form->longs == 1 ? va_arg(*arguments, long)
+                                          : va_arg(*arguments, int));
         break;
-    case 'u': case 'x': case 'X':
-        put_number(sink, form, form->longs == 2 ? va_arg(*arguments, unsigned long long)
-                   : form->longs == 1 ? va_arg(*arguments, unsigned long) : va_arg(*arguments, unsigned), false, kind);
+    case 'u':
+    case 'x':
+    case 'X':
+        put_number(sink, form,
+                   form->longs == 2       ? va_arg(*arguments, unsigned long long)
+                       : form->longs == 1 ? va_arg(*arguments, unsigned long)
+                                          : va_arg(*arguments, unsigned),
+                   false, kind);
         break;
-    default:
-        put(sink, kind);
+    default: put(sink, kind);
     }
 }
 

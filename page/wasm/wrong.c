@@ -93,6 +93,7 @@ struct kagutin_reply wrong_open_by_position(struct lent *lent)
     memcpy(lent->area, area, lent->area_size);
     for (at = 0; at < reply.size; at += record_size(lent->batch + at))
         if (lent->batch[at] == 'H')
-            memcpy(lent->batch + at + 4, area + kagutin_area_size((size_t)rule_number(lent->batch + at + 2, 2)), KAGUTIN_BLOCK_SIZE);
+            memcpy(lent->batch + at + 4, area + kagutin_area_size((size_t)rule_number(lent->batch + at + 2, 2)),
+                   KAGUTIN_BLOCK_SIZE);
     return reply;
 }

@@ -2,7 +2,12 @@
 #include "replay.h"
 #include "say.h"
 
-static const struct { uint8_t call, code; uint64_t figure; uint32_t size; uint64_t hash; } recorded[] = {
+static const struct {
+    uint8_t call, code;
+    uint64_t figure;
+    uint32_t size;
+    uint64_t hash;
+} recorded[] = {
 #include "recorded.h"
 };
 

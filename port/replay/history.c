@@ -37,10 +37,9 @@ static void reopen(void)
 
 static enum call any_call(void)
 {
-    static const uint8_t weights[CALLS] = {
-        [BEGIN] = 6, [ABORT] = 1, [STORE] = 18, [COMMIT] = 4, [FLUSH] = 2, [CONFIRM] = 2, [SETTLE] = 1, [TRIM] = 1, [READ] = 3,
-        [BEGIN_ROUND] = 1, [STEP_ROUND] = 3, [RESERVE] = 2, [USAGE] = 2
-    };
+    static const uint8_t weights[CALLS] =
+        {[BEGIN] = 6, [ABORT] = 1, [STORE] = 18,      [COMMIT] = 4,     [FLUSH] = 2,   [CONFIRM] = 2, [SETTLE] = 1,
+         [TRIM] = 1,  [READ] = 3,  [BEGIN_ROUND] = 1, [STEP_ROUND] = 3, [RESERVE] = 2, [USAGE] = 2};
     uint32_t n = below(46);
     unsigned k = BEGIN;
 
@@ -155,7 +154,9 @@ static void history(size_t groups, size_t homes, unsigned long calls)
 
 void play_histories(unsigned long calls)
 {
-    static const struct { size_t groups, homes; } shapes[] = { { 4, 8 }, { 5, 1 }, { 6, 24 }, { 9, 70 }, { 64, 7 } };
+    static const struct {
+        size_t groups, homes;
+    } shapes[] = {{4, 8}, {5, 1}, {6, 24}, {9, 70}, {64, 7}};
     unsigned k;
 
     for (k = 0; k < sizeof shapes / sizeof shapes[0]; k++)

@@ -5,7 +5,7 @@
 
 struct lent lent;
 
-const char *const call_names[CALLS] = { KAGUTIN_CALLS(CALL_NAME) "usage" };
+const char *const call_names[CALLS] = {KAGUTIN_CALLS(CALL_NAME) "usage"};
 
 void lend(size_t groups, size_t homes, size_t batch_size)
 {
@@ -34,13 +34,14 @@ void lend(size_t groups, size_t homes, size_t batch_size)
 #define HOME home
 #define PLACES_ASKED home
 #define HOMES_ASKED home
-#define CASE(constant, name, arguments) case constant: return kagutin_##name arguments;
+#define CASE(constant, name, arguments)                                                                                          \
+    case constant: return kagutin_##name arguments;
 
 /* The numbers that usage tells, eight bytes each, the lowest byte first on every machine. */
 static struct kagutin_reply tell(struct kagutin_places told)
 {
-    const uint64_t numbers[] = { told.code, told.live, told.dead, told.free, told.promised, told.holder, told.first };
-    struct kagutin_reply reply = { told.code, 0, 0 };
+    const uint64_t numbers[] = {told.code, told.live, told.dead, told.free, told.promised, told.holder, told.first};
+    struct kagutin_reply reply = {told.code, 0, 0};
     size_t i;
 
     for (i = 0; i < sizeof numbers; i++)
@@ -51,7 +52,7 @@ static struct kagutin_reply tell(struct kagutin_places told)
 struct kagutin_reply make_call(enum call call, uint64_t writer, uint64_t home)
 {
     switch (call) {
-    KAGUTIN_CALLS(CASE)
+        KAGUTIN_CALLS(CASE)
     default: return tell(kagutin_usage(AREAS, STATE));
     }
 }
@@ -76,7 +77,7 @@ static void add(struct sums *sums, const uint8_t *bytes, size_t size)
 
 struct kagutin_reply play(enum call call, uint64_t writer, uint64_t home)
 {
-    struct sums sums = { UINT32_C(2166136261), 5381u };
+    struct sums sums = {UINT32_C(2166136261), 5381u};
     struct kagutin_reply reply = make_call(call, writer, home);
 
     add(&sums, lent.log, lent.log_size);

@@ -15,7 +15,10 @@
 
 enum { PAINT = 0xa5, PAINTED = 40960, COMMITS = 4000, BLOCKS = 4 };
 
-static struct { unsigned long calls, depth; uint64_t ticks; } cost[CALLS + 1];
+static struct {
+    unsigned long calls, depth;
+    uint64_t ticks;
+} cost[CALLS + 1];
 
 void observe(enum call call, struct kagutin_reply reply, uint64_t hash)
 {
@@ -39,7 +42,8 @@ static __attribute__((noinline)) uint32_t timed(unsigned call, uint64_t writer, 
 }
 
 /* Paints what lies below the stack pointer, and looks how far down the call has been. */
-static __attribute__((noinline)) void measure(unsigned call, uint64_t writer, uint64_t home, int with_stack, struct kagutin_reply *reply)
+static __attribute__((noinline)) void measure(unsigned call, uint64_t writer, uint64_t home, int with_stack,
+                                              struct kagutin_reply *reply)
 {
     volatile uint8_t *below;
     unsigned long n;
@@ -65,7 +69,7 @@ static void forget(enum call call)
 
 static struct kagutin_reply one(enum call call, uint64_t writer, uint64_t home, int with_stack)
 {
-    struct kagutin_reply reply = { 0, 0, 0 };
+    struct kagutin_reply reply = {0, 0, 0};
 
     measure(CALLS, 0, 0, with_stack, &reply);
     measure(call, writer, home, with_stack, &reply);

@@ -22,7 +22,8 @@ enum {
 struct lent {
     size_t groups, homes;
     size_t log_size, area_size, state_size, newest_size, block_size, batch_size;
-    uint8_t log[LOG_ROOM], area[AREA_ROOM], state[KAGUTIN_STATE_SIZE], newest[NEWEST_ROOM], block[KAGUTIN_BLOCK_SIZE], batch[BATCH_ROOM];
+    uint8_t log[LOG_ROOM], area[AREA_ROOM], state[KAGUTIN_STATE_SIZE], newest[NEWEST_ROOM], block[KAGUTIN_BLOCK_SIZE],
+        batch[BATCH_ROOM];
 };
 
 extern struct lent lent;

@@ -37,7 +37,7 @@ void say_number(unsigned long number)
 
 static void leave(int status)
 {
-    uint32_t block[2] = { APPLICATION_EXIT, (uint32_t)status };
+    uint32_t block[2] = {APPLICATION_EXIT, (uint32_t)status};
 
     semihost(SYS_EXIT_EXTENDED, block);
     for (;;)

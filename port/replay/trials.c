@@ -123,8 +123,12 @@ static void full_log(void)
 
 static void sizes(void)
 {
-    static const struct { size_t groups, homes; } wrong[] = { { 3, 8 }, { 1025, 8 }, { 4, 0 } };
-    static const struct { size_t groups, homes; } right[] = { { 4, 1 }, { 1024, 1 }, { 4, 4097 }, { 1024, 4096 } };
+    static const struct {
+        size_t groups, homes;
+    } wrong[] = {{3, 8}, {1025, 8}, {4, 0}};
+    static const struct {
+        size_t groups, homes;
+    } right[] = {{4, 1}, {1024, 1}, {4, 4097}, {1024, 4096}};
     unsigned k, call;
 
     for (k = 0; k < 3; k++) {
@@ -149,7 +153,10 @@ static void sizes(void)
 
 static void limits(void)
 {
-    static const struct { int64_t start; uint64_t code; } starts[] = { { -5, 0 }, { -4, 0 }, { -3, 10 }, { 0, 10 }, { 1, 3 } };
+    static const struct {
+        int64_t start;
+        uint64_t code;
+    } starts[] = {{-5, 0}, {-4, 0}, {-3, 10}, {0, 10}, {1, 3}};
     unsigned k, i;
 
     fresh();

@@ -2,11 +2,12 @@
 
 #include <string.h>
 
-const char *const operation_names[OPERATIONS] = {
-    "begin", "reserve", "store", "commit", "commit_sync", "abort", "read", "sync", "maintain", "maintain without a bound",
-    "usage", "set_rights", "get_rights", "bands_set", "bands_look_up", "pump_start", "pump_stop", "pump_hours",
-    "pump_services", "alarm_arrive", "alarm_clear", "alarm_gravest", "open"
-};
+const char *const operation_names[OPERATIONS] =
+    {"begin",       "reserve",       "store",      "commit",        "commit_sync",
+     "abort",       "read",          "sync",       "maintain",      "maintain without a bound",
+     "usage",       "set_rights",    "get_rights", "bands_set",     "bands_look_up",
+     "pump_start",  "pump_stop",     "pump_hours", "pump_services", "alarm_arrive",
+     "alarm_clear", "alarm_gravest", "open"};
 
 static struct outcome plain(struct kgt_reply reply)
 {

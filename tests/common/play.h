@@ -22,9 +22,9 @@ struct play {
     bool open[KAGUTIN_WRITERS], reserved[KAGUTIN_WRITERS];
     uint64_t sure[KAGUTIN_WRITERS]; /* calls of a writer that cannot be answered 8, by its promise */
     struct play_commit writers[KAGUTIN_WRITERS];
-    uint64_t opened; /* commits up to the last opening */
-    uint64_t blocks[PLAY_MOST_HOMES]; /* the homes then: numbers of transactions */
-    struct play_commit commits[PLAY_MOST_COMMITS]; /* those since */
+    uint64_t opened;                                 /* commits up to the last opening */
+    uint64_t blocks[PLAY_MOST_HOMES];                /* the homes then: numbers of transactions */
+    struct play_commit commits[PLAY_MOST_COMMITS];   /* those since */
     volatile uint64_t started, committed, confirmed; /* commits: asked for, done, sure to come back */
     uint64_t transactions;
     uint64_t full;     /* answers 8 and 17 */

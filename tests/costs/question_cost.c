@@ -19,12 +19,8 @@ static const struct shape {
     enum does does;
     unsigned most;
 } shapes[] = {
-    {"idle", 0, BEGUN, 60},
-    {"one-begun", 1, BEGUN, 60},
-    {"one-holds", 1, HOLDS, 60},
-    {"one-logs", 1, LOGS, 60},
-    {"eight-hold", 8, HOLDS, 0},
-    {"eight-log", 8, LOGS, 0},
+    {"idle", 0, BEGUN, 60},    {"one-begun", 1, BEGUN, 60}, {"one-holds", 1, HOLDS, 60},
+    {"one-logs", 1, LOGS, 60}, {"eight-hold", 8, HOLDS, 0}, {"eight-log", 8, LOGS, 0},
 };
 
 static uint8_t log_area[KAGUTIN_HEADER_SIZE + KAGUTIN_GROUP_SIZE * GROUPS], area[KAGUTIN_BLOCK_SIZE * HOMES];

@@ -45,9 +45,9 @@ static uint8_t state[KAGUTIN_STATE_SIZE], newest[KAGUTIN_POSITION_SIZE * MOST_HO
 static uint8_t batch[KAGUTIN_GW_SIZE * GROUPS + KAGUTIN_HW_SIZE * MOST_HOMES + 1024], list[KAGUTIN_BLOCK_SIZE * LIST_HOMES];
 static size_t homes;
 
-#define AREAS log_area, sizeof log_area, area, KAGUTIN_BLOCK_SIZE * homes
+#define AREAS log_area, sizeof log_area, area, KAGUTIN_BLOCK_SIZE *homes
 #define STATE state, sizeof state
-#define NEWEST newest, KAGUTIN_POSITION_SIZE * homes
+#define NEWEST newest, KAGUTIN_POSITION_SIZE *homes
 #define BATCH batch, sizeof batch
 
 static void done(struct kagutin_reply reply)

@@ -78,12 +78,30 @@ static void look_up(enum order order)
     done("the lookup", kagutin_bands_look_up(COPIES, WRITER, 312 * (uint64_t)band_of(order, KAGUTIN_MAX_BANDS - 1)).code);
 }
 
-static void rising(void) { look_up(RISING); }
-static void falling(void) { look_up(FALLING); }
-static void swapped(void) { look_up(SWAPPED); }
-static void set_rising(void) { set_table(RISING); }
-static void set_falling(void) { set_table(FALLING); }
-static void set_swapped(void) { set_table(SWAPPED); }
+static void rising(void)
+{
+    look_up(RISING);
+}
+static void falling(void)
+{
+    look_up(FALLING);
+}
+static void swapped(void)
+{
+    look_up(SWAPPED);
+}
+static void set_rising(void)
+{
+    set_table(RISING);
+}
+static void set_falling(void)
+{
+    set_table(FALLING);
+}
+static void set_swapped(void)
+{
+    set_table(SWAPPED);
+}
 
 static void arrive(unsigned alarms)
 {
@@ -93,7 +111,10 @@ static void arrive(unsigned alarms)
         done("the arrival", kagutin_alarm_arrive(COPIES, batch, sizeof batch, WRITER, (uint16_t)i, 1 + i % 9, 1000 - i).code);
 }
 
-static void arrivals(void) { arrive(41); }
+static void arrivals(void)
+{
+    arrive(41);
+}
 
 static void gravest(void)
 {
@@ -101,7 +122,10 @@ static void gravest(void)
     done("the gravest", kagutin_alarm_gravest(COPIES, WRITER).code);
 }
 
-static void start(void) { done("the start", kagutin_pump_start(COPIES, batch, sizeof batch, WRITER, 3, 1000).code); }
+static void start(void)
+{
+    done("the start", kagutin_pump_start(COPIES, batch, sizeof batch, WRITER, 3, 1000).code);
+}
 
 static void hours(void)
 {

@@ -33,12 +33,12 @@ static struct play play;
 static bool mapped;
 
 static struct {
-    uint8_t *cache;             /* the file, mapped; null: no disk yet */
-    uint8_t bytes[SIZE];        /* what a power cut leaves */
-    uint8_t clean[SIZE];        /* the cache when it was last taken for clean */
-    bool touched[SIZE / WORD];  /* written since by pwrite, be it with the same bytes */
-    size_t unit;                /* bytes that arrive whole */
-    unsigned long calls_left;   /* until the event */
+    uint8_t *cache;            /* the file, mapped; null: no disk yet */
+    uint8_t bytes[SIZE];       /* what a power cut leaves */
+    uint8_t clean[SIZE];       /* the cache when it was last taken for clean */
+    bool touched[SIZE / WORD]; /* written since by pwrite, be it with the same bytes */
+    size_t unit;               /* bytes that arrive whole */
+    unsigned long calls_left;  /* until the event */
     enum event event;
     bool off; /* power is gone */
 } disk;

@@ -116,7 +116,8 @@ int main(int count, char **words)
         compare(path, at);
     }
     remove(path);
-    check(second_copies > cuts / 4 && second_copies < cuts - cuts / 4, "either copy of the header counts at times", second_copies);
+    check(second_copies > cuts / 4 && second_copies < cuts - cuts / 4, "either copy of the header counts at times",
+          second_copies);
     printf("dump_check: right, %lu cuts\n", cuts);
     return 0;
 }

@@ -27,8 +27,8 @@ static void check(bool right, const char *what, unsigned long at)
 {
     if (right)
         return;
-    printf("format_check: wrong: %s, at %lu, %s kept whole%s%s\n", what, at, blocks ? "blocks" : "words",
-           play.wrong ? ": " : "", play.wrong ? play.wrong : "");
+    printf("format_check: wrong: %s, at %lu, %s kept whole%s%s\n", what, at, blocks ? "blocks" : "words", play.wrong ? ": " : "",
+           play.wrong ? play.wrong : "");
     exit(1);
 }
 
@@ -206,8 +206,8 @@ static void check_formats(unsigned every)
     for (words = 0; words < 1u << HEADER_WORDS; words += every)
         check_damage(words, found);
     check(found[OLD] > 0 && found[NONE] > 0 && found[EMPTY] > 0, "some cut before, inside and after a format", 0);
-    printf("format_check: %s kept whole: %lu cuts left the old store, %lu none, %lu an empty one\n",
-           blocks ? "blocks" : "words", found[OLD], found[NONE], found[EMPTY]);
+    printf("format_check: %s kept whole: %lu cuts left the old store, %lu none, %lu an empty one\n", blocks ? "blocks" : "words",
+           found[OLD], found[NONE], found[EMPTY]);
 }
 
 int main(int count, char **words)

@@ -26,7 +26,7 @@ static struct kagutin store;
 static struct shared {
     volatile bool ready; /* its opening is done */
     struct play play;
-} *shared;
+} * shared;
 static struct play *play;
 
 static void check(bool right, const char *what, unsigned long at)

@@ -120,8 +120,8 @@ static void check_confirm(void)
     struct kagutin_reply reply;
 
     check(driver_load(&driver), "load");
-    reply = kagutin_open(driver.log, driver.log_size, driver.area, driver.area_size, driver.state,
-                         sizeof driver.state, driver.newest, driver.newest_size, driver.batch, driver.batch_size);
+    reply = kagutin_open(driver.log, driver.log_size, driver.area, driver.area_size, driver.state, sizeof driver.state,
+                         driver.newest, driver.newest_size, driver.batch, driver.batch_size);
     check(reply.code == KAGUTIN_DONE && driver_submit(&driver, reply.size), "open");
     check(!driver_confirm(&driver, &reply), "no confirm while a fence waits");
     check(driver_step(&driver) && !driver_confirm(&driver, &reply), "one fence passed, one waits");

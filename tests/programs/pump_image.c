@@ -10,9 +10,7 @@
 #include "kagutin_file.h"
 #include "kagutin_units.h"
 
-enum { GROUPS = 16,
-       MOST_HOMES = 64,
-       WRITER = 1 };
+enum { GROUPS = 16, MOST_HOMES = 64, WRITER = 1 };
 
 static uint32_t last_event[KAGUTIN_PUMPS];
 

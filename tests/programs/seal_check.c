@@ -51,8 +51,10 @@ static void make_image(const char *path, const uint8_t *block)
         printf("seal_check: %s\n", file.message);
         exit(1);
     }
-    check(kgt_init(&store, memory, sizeof memory, GROUPS, HOMES, kgt_file_driver(&file)).code == 0 && kgt_open(&store).code == 0, "open");
-    check(kgt_begin(&store, 1).code == 0 && kgt_store(&store, 1, HOME, block).code == 0 && kgt_commit_sync(&store, 1).code == 0, "store");
+    check(kgt_init(&store, memory, sizeof memory, GROUPS, HOMES, kgt_file_driver(&file)).code == 0 && kgt_open(&store).code == 0,
+          "open");
+    check(kgt_begin(&store, 1).code == 0 && kgt_store(&store, 1, HOME, block).code == 0 && kgt_commit_sync(&store, 1).code == 0,
+          "store");
     check(kgt_maintain(&store, 0).code == 0, "maintain");
     kgt_file_close(&file);
 }
@@ -68,7 +70,8 @@ int main(int count, char **words)
         block[i] = (uint8_t)(7 * i + 1);
     check(kagutin_look_at_seal(block) == KAGUTIN_SEAL_NONE, "a block without a seal");
     kagutin_seal(block);
-    check(kagutin_look_at_seal(block) == KAGUTIN_SEAL_WHOLE && block[0] == 1 && block[57] == (uint8_t)(7 * 57 + 1), "a sealed block");
+    check(kagutin_look_at_seal(block) == KAGUTIN_SEAL_WHOLE && block[0] == 1 && block[57] == (uint8_t)(7 * 57 + 1),
+          "a sealed block");
     check_flips(block);
     if (count > 1)
         make_image(words[1], block);

@@ -41,13 +41,13 @@ static int fence(void *context)
     return 0;
 }
 
-#define CALL(name, reply) \
-    static __attribute__((noinline)) void name(void) \
-    { \
-        code = (reply).code; \
+#define CALL(name, reply)                                                                                                        \
+    static __attribute__((noinline)) void name(void)                                                                             \
+    {                                                                                                                            \
+        code = (reply).code;                                                                                                     \
     }
 
-static const uint8_t rows[KAGUTIN_BAND_SIZE] = { 0, 0, 0x0f, 0x27, 2 };
+static const uint8_t rows[KAGUTIN_BAND_SIZE] = {0, 0, 0x0f, 0x27, 2};
 
 CALL(nothing, places)
 CALL(begin, kgt_begin(&store, OTHER))
@@ -74,13 +74,32 @@ CALL(maintain, kgt_maintain(&store, 4))
 CALL(open_store, kgt_open(&store))
 
 /* Writers' calls first; then the calls of the task that maintains. */
-static const struct { const char *name; void (*run)(void); } calls[] = {
-    { "begin", begin }, { "reserve", reserve }, { "store", store_block }, { "commit", commit }, { "commit_sync", commit_sync }, { "abort", abort_it },
-    { "read", read_block }, { "sync", sync_log }, { "set_rights", set_rights }, { "get_rights", get_rights }, { "bands_set", bands_set },
-    { "bands_look_up", bands_look_up }, { "pump_start", pump_start }, { "pump_stop", pump_stop }, { "pump_hours", pump_hours },
-    { "pump_services", pump_services }, { "alarm_arrive", alarm_arrive }, { "alarm_clear", alarm_clear }, { "alarm_gravest", alarm_gravest },
-    { "usage", usage }, { "maintain", maintain }, { "open", open_store }, { "", nothing }
-};
+static const struct {
+    const char *name;
+    void (*run)(void);
+} calls[] = {{"begin", begin},
+             {"reserve", reserve},
+             {"store", store_block},
+             {"commit", commit},
+             {"commit_sync", commit_sync},
+             {"abort", abort_it},
+             {"read", read_block},
+             {"sync", sync_log},
+             {"set_rights", set_rights},
+             {"get_rights", get_rights},
+             {"bands_set", bands_set},
+             {"bands_look_up", bands_look_up},
+             {"pump_start", pump_start},
+             {"pump_stop", pump_stop},
+             {"pump_hours", pump_hours},
+             {"pump_services", pump_services},
+             {"alarm_arrive", alarm_arrive},
+             {"alarm_clear", alarm_clear},
+             {"alarm_gravest", alarm_gravest},
+             {"usage", usage},
+             {"maintain", maintain},
+             {"open", open_store},
+             {"", nothing}};
 enum { CALLS = sizeof calls / sizeof *calls, NOTHING = CALLS - 1, OPEN = NOTHING - 1, MAINTAIN = OPEN - 1, USAGE = MAINTAIN - 1 };
 
 static unsigned long deepest[CALLS];
@@ -114,10 +133,11 @@ static int commit_home(uint64_t home)
 /* A store whose log has so many places left, with a writer that holds a block; promised: they are all another's; else fenced. */
 static int prepare(size_t groups, enum kgt_room room, uint64_t left, int promised)
 {
-    static const struct kgt_driver driver = { NULL, load, write_bytes, fence, KGT_LANDS_WORDS };
+    static const struct kgt_driver driver = {NULL, load, write_bytes, fence, KGT_LANDS_WORDS};
     uint64_t home = FREE;
 
-    if (kgt_init(&store, memory, sizeof memory, groups, HOMES, driver).code || kgt_format(&store, scratch, sizeof scratch).code || kgt_open(&store).code)
+    if (kgt_init(&store, memory, sizeof memory, groups, HOMES, driver).code || kgt_format(&store, scratch, sizeof scratch).code
+        || kgt_open(&store).code)
         return 0;
     if (kgt_set_room(&store, room).code || kgt_begin(&store, WRITER).code || kgt_store(&store, WRITER, 1, block).code)
         return 0;
@@ -139,7 +159,10 @@ static int prepare(size_t groups, enum kgt_room room, uint64_t left, int promise
 /* All calls from each of the states, each from a fresh copy of it. */
 static int measure_all(size_t groups, enum kgt_room room)
 {
-    static const struct { uint64_t left; int promised; } states[] = { { 0, 0 }, { 100, 0 }, { 11, 1 } };
+    static const struct {
+        uint64_t left;
+        int promised;
+    } states[] = {{0, 0}, {100, 0}, {11, 1}};
     unsigned which, i;
 
     for (i = 0; i < sizeof states / sizeof *states; i++) {

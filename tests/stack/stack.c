@@ -24,21 +24,22 @@ static size_t groups, homes;
 static uint64_t who, where;
 static struct kagutin_reply reply;
 
-#define AREAS log_area, KAGUTIN_HEADER_SIZE + KAGUTIN_GROUP_SIZE * groups, area, KAGUTIN_BLOCK_SIZE * homes
+#define AREAS log_area, KAGUTIN_HEADER_SIZE + KAGUTIN_GROUP_SIZE *groups, area, KAGUTIN_BLOCK_SIZE *homes
 #define STATE state, sizeof state
-#define NEWEST newest, KAGUTIN_POSITION_SIZE * homes
+#define NEWEST newest, KAGUTIN_POSITION_SIZE *homes
 #define BATCH batch, sizeof batch
 #define BLOCK block, sizeof block
 #define WRITER who
 #define HOME where
 #define PLACES_ASKED 1
 #define HOMES_ASKED 8
-#define CASE(constant, name, arguments) case constant: reply = kagutin_##name arguments; break;
+#define CASE(constant, name, arguments)                                                                                          \
+    case constant: reply = kagutin_##name arguments; break;
 
 static void body(void)
 {
     switch (which) {
-    KAGUTIN_CALLS(CASE)
+        KAGUTIN_CALLS(CASE)
     case USAGE: reply.code = kagutin_usage(AREAS, STATE).code; break;
     case FETCH: reply = kagutin_fetch(AREAS, STATE, NEWEST, blocks, sizeof blocks, who, where); break;
     case REVISE: reply = kagutin_revise(AREAS, STATE, NEWEST, blocks, sizeof blocks, who, where); break;
@@ -81,7 +82,7 @@ static void done(int k)
 /* Writer 0 commits a list of rights under which every writer may touch all, by the last of its ranges. */
 static void give_all(void)
 {
-    static const uint8_t all[4] = { 0, 0, 255, 255 };
+    static const uint8_t all[4] = {0, 0, 255, 255};
     size_t at;
 
     for (at = 12; at < sizeof block; at += 16)
@@ -155,7 +156,7 @@ static void work(void)
 /* Prints what each call took in stores of this shape. */
 static int measure(size_t g, size_t d, size_t limit)
 {
-    static const char *names[] = { KAGUTIN_CALLS(CALL_NAME) "usage", "fetch", "revise", "transact" };
+    static const char *names[] = {KAGUTIN_CALLS(CALL_NAME) "usage", "fetch", "revise", "transact"};
     int k, over = 0;
 
     groups = g;

@@ -60,7 +60,8 @@ static void start(bool full)
     check(kgt_pump_start(&store, 0, 0, 50).code == 0 && kgt_alarm_arrive(&store, 0, 8, 2, 50).code == 0, "events");
     check(operate(&store, OP_BANDS_SET).code == KAGUTIN_DONE, "a table");
     do {
-        check(kgt_begin(&store, 1).code == 0 && kgt_store(&store, 1, 3, block).code == 0 && kgt_commit(&store, 1).code == 0, "commit");
+        check(kgt_begin(&store, 1).code == 0 && kgt_store(&store, 1, 3, block).code == 0 && kgt_commit(&store, 1).code == 0,
+              "commit");
         check(kgt_usage(&store, &places).code == KAGUTIN_DONE, "usage");
     } while (full && places.free > 0);
     check(kgt_begin(&store, OP_WRITER).code == 0 && kgt_store(&store, OP_WRITER, 1, block).code == 0, "writer 4");

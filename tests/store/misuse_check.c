@@ -184,7 +184,8 @@ static void check_version(void)
 
     snprintf(text, sizeof text, "%d.%d.%d", KAGUTIN_VERSION_MAJOR, KAGUTIN_VERSION_MINOR, KAGUTIN_VERSION_PATCH);
     check(strcmp(text, KAGUTIN_VERSION) == 0 && strcmp(text, kagutin_version()) == 0, "the version");
-    check(KAGUTIN_VERSION_NUMBER == 10000 * KAGUTIN_VERSION_MAJOR + 100 * KAGUTIN_VERSION_MINOR + KAGUTIN_VERSION_PATCH, "its number");
+    check(KAGUTIN_VERSION_NUMBER == 10000 * KAGUTIN_VERSION_MAJOR + 100 * KAGUTIN_VERSION_MINOR + KAGUTIN_VERSION_PATCH,
+          "its number");
 }
 
 int main(void)

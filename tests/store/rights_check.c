@@ -68,7 +68,7 @@ static void read_one(uint64_t writer, uint64_t home, uint64_t code, const char *
 
 static void check_bytes(void)
 {
-    static const uint8_t first[32] = { 7, 0, 2, 0, 0, 1, 255, 255, [16] = 255, 255, 1, 0 };
+    static const uint8_t first[32] = {7, 0, 2, 0, 0, 1, 255, 255, [16] = 255, 255, 1, 0};
     struct kgt_rights list, before;
     size_t i;
 
@@ -76,7 +76,8 @@ static void check_bytes(void)
     kgt_rights_clear(&list);
     check(!kgt_rights_is_list(&list), "zeros are no list");
     check(kgt_rights_allow_store(&list, 3, 7, 2) && kgt_rights_allow_store(&list, 3, 256, 65535)
-              && kgt_rights_allow_read(&list, 3, 65535, 1), "ranges");
+              && kgt_rights_allow_read(&list, 3, 65535, 1),
+          "ranges");
     check(memcmp(list.bytes + 32 * 3, first, sizeof first) == 0, "bytes of writer 3");
     for (i = 0; i < sizeof list.bytes; i++)
         check(i / 32 == 3 || list.bytes[i] == 0, "bytes of the others");
@@ -98,7 +99,7 @@ static void check_bytes(void)
 /* Edges of ranges, by counting. */
 static void check_edges(void)
 {
-    static const struct kgt_range ranges[4] = { { 0, 1 }, { 20, 3 }, { 22, 5 }, { 65534, 65535 } };
+    static const struct kgt_range ranges[4] = {{0, 1}, {20, 3}, {22, 5}, {65534, 65535}};
     struct kgt_rights list;
     uint64_t home;
     size_t i;
@@ -108,7 +109,8 @@ static void check_edges(void)
         check(kgt_rights_may_read(&list, 5, home) && kgt_rights_may_store(&list, 5, home) == (home < 8 || home > 11), "no list");
     for (i = 0; i < 4; i++)
         check(kgt_rights_allow_store(&list, 5, ranges[i].first, ranges[i].number)
-                  && kgt_rights_allow_read(&list, 6, ranges[i].first, ranges[i].number), "ranges");
+                  && kgt_rights_allow_read(&list, 6, ranges[i].first, ranges[i].number),
+              "ranges");
     for (home = 0; home < 65535; home++) {
         bool own = home >= 8 && home < 12, in = home == 0 || (home >= 20 && home < 27) || home == 65534;
 

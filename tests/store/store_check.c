@@ -144,8 +144,8 @@ static void check_refused(struct kgt_reply reply, unsigned long at)
 
 static void check_no_ticket(struct kgt_ticket reply, unsigned long at)
 {
-    check(reply.code == KGT_DRIVER_FAILED && reply.error == 77 && reply.holder == KGT_NO_HOLDER
-              && reply.ticket == KGT_NOT_TOLD, "a commit after a failure is refused", at);
+    check(reply.code == KGT_DRIVER_FAILED && reply.error == 77 && reply.holder == KGT_NO_HOLDER && reply.ticket == KGT_NOT_TOLD,
+          "a commit after a failure is refused", at);
 }
 
 /* Every call is refused, and changes nothing, also when the driver works again. */
@@ -345,7 +345,8 @@ static void check_classes(void)
 
     power_on();
     check(kgt_usage(&store, &usage).code == KGT_CLOSED && usage.code == KGT_CLOSED && usage.live == 0
-              && usage.holder == KGT_NO_HOLDER, "usage of a closed store", 0);
+              && usage.holder == KGT_NO_HOLDER,
+          "usage of a closed store", 0);
     check(kgt_open(&store).code == KAGUTIN_DONE, "open", 0);
     check_usage(0, 0, 8, 0);
     begin_and_store(0, 1);

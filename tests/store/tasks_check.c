@@ -95,8 +95,7 @@ static void *task(void *argument)
         if (reply.code == KAGUTIN_DONE)
             reply = kgt_store(&store, writer, OTHERS + writer, block);
         if (reply.code == KAGUTIN_DONE) {
-            failures[writer] += kgt_read(&store, writer, writer, own).code != KAGUTIN_DONE
-                || memcmp(own, block, sizeof own) != 0;
+            failures[writer] += kgt_read(&store, writer, writer, own).code != KAGUTIN_DONE || memcmp(own, block, sizeof own) != 0;
         }
         code = reply.code == KAGUTIN_DONE ? kgt_commit(&store, writer).code : reply.code;
         if (code == KAGUTIN_DONE) {
@@ -145,7 +144,12 @@ int main(void)
     wrong += kgt_format(&store, scratch, sizeof scratch).code + kgt_open(&store).code;
     make_lists();
     for (i = 0; i < THREADS; i++)
-        wrong += pthread_create(&threads[i], NULL, i == READER ? reader : i == HOUSEKEEPING ? housekeeping : task, (void *)i) != 0;
+        wrong += pthread_create(&threads[i], NULL,
+                                i == READER             ? reader
+                                    : i == HOUSEKEEPING ? housekeeping
+                                                        : task,
+                                (void *)i)
+            != 0;
     for (i = 0; i < THREADS; i++)
         pthread_join(threads[i], NULL);
     wrong += kgt_sync(&store).code;

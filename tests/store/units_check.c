@@ -20,7 +20,9 @@ struct known {
     uint64_t starts[KAGUTIN_PUMPS], seconds[KAGUTIN_PUMPS], since[KAGUTIN_PUMPS]; /* since: the last event */
     uint64_t table;
     bool running[KAGUTIN_PUMPS];
-    struct { uint64_t alarm_class, second; } alarms[64]; /* by identity; class 0: not open */
+    struct {
+        uint64_t alarm_class, second;
+    } alarms[64]; /* by identity; class 0: not open */
 };
 
 static struct known moments[EVENTS + 1];

@@ -9,7 +9,9 @@
 enum { LOW, HIGH, OUTPUT, MSBFIRST, SPI_MODE0 };
 
 struct SPISettings {
-    SPISettings(unsigned long, int, int) {}
+    SPISettings(unsigned long, int, int)
+    {
+    }
 };
 
 struct Bus {
@@ -17,9 +19,17 @@ struct Bus {
     uint8_t command[3];
     size_t sent;
 
-    void begin() { transferFile("rb", true); }
-    void beginTransaction(SPISettings) { sent = 0; }
-    void endTransaction() {}
+    void begin()
+    {
+        transferFile("rb", true);
+    }
+    void beginTransaction(SPISettings)
+    {
+        sent = 0;
+    }
+    void endTransaction()
+    {
+    }
 
     uint8_t transfer(uint8_t byte)
     {
@@ -45,11 +55,20 @@ struct Bus {
 };
 
 struct Line {
-    void begin(long) {}
-    void println(uint32_t number) { std::printf("%lu\n", static_cast<unsigned long>(number)); }
+    void begin(long)
+    {
+    }
+    void println(uint32_t number)
+    {
+        std::printf("%lu\n", static_cast<unsigned long>(number));
+    }
 };
 
 static Bus SPI;
 static Line Serial;
-static void pinMode(int, int) {}
-static void digitalWrite(int, int) {}
+static void pinMode(int, int)
+{
+}
+static void digitalWrite(int, int)
+{
+}

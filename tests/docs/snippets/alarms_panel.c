@@ -78,7 +78,11 @@ static bool in_clearing(const struct try_case *now)
     show_panel();
     met = try_disarm();
     try_check(met || cleared == (now->log <= TRY_FULL), "durable where there is room, or can be made");
-    try_check(strcmp(panel, cleared ? "no alarm" : met ? "alarms not known" : "8 2 50") == 0,
+    try_check(strcmp(panel,
+                     cleared   ? "no alarm"
+                         : met ? "alarms not known"
+                               : "8 2 50")
+                  == 0,
               "\"no alarm\" only where none is open");
     gravest = after_cut(now);
     try_check(cleared ? gravest == 0 : gravest == 8 || (met && gravest == 0), "what is called durable is so after a cut");

@@ -51,8 +51,7 @@ static bool in_turn(const struct try_case *now)
     if (made) {
         try_check(!kgt_maintain(&store, 4).more, "nothing is left to do");
         try_check(kgt_usage(&store, &places).code == KAGUTIN_DONE, "usage");
-        try_check(now->log == TRY_HELD_BACK ? places.holder == TRY_HOLDER : places.free == TRY_PLACES,
-                  "free, unless it is held");
+        try_check(now->log == TRY_HELD_BACK ? places.holder == TRY_HOLDER : places.free == TRY_PLACES, "free, unless it is held");
         try_cut(now->lands);
         for (home = TRY_FILLED; home < 28; home++)
             check_home(home);

@@ -287,8 +287,7 @@ void try_free(struct kagutin *store)
     try_check(free_places(store) == TRY_PLACES, "every place is free: nothing was left open");
 }
 
-void try_judge(const struct try_case *now, bool kept, bool met, uint64_t home, const uint8_t *before,
-               const uint8_t *after)
+void try_judge(const struct try_case *now, bool kept, bool met, uint64_t home, const uint8_t *before, const uint8_t *after)
 {
     uint8_t block[KAGUTIN_BLOCK_SIZE];
     bool old, fresh;

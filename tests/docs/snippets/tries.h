@@ -93,8 +93,7 @@ void try_block(uint8_t *block, unsigned number);
  * A snippet has tried to replace a block of a home: kept is what it concluded,
  * met that the driver failed. Cuts the power and opens.
  */
-void try_judge(const struct try_case *now, bool kept, bool met, uint64_t home, const uint8_t *before,
-               const uint8_t *after);
+void try_judge(const struct try_case *now, bool kept, bool met, uint64_t home, const uint8_t *before, const uint8_t *after);
 
 #ifdef __cplusplus
 }
