@@ -38,7 +38,8 @@ pub extern "C" fn kagutin_compare_gauges(
     report: &mut [u8],
     tolerance: u16,
 ) -> Comparison
-    ensures { λ r. ⌜ leaves (r .code) (r .agreeing) (r .differing) (r .«only_first») (r .«only_second») (now (report .exit)) ≡ compareGauges (now (first .entry)) (now (second .entry)) (now (report .entry)) tolerance ⌝ }
+    ensures { λ r. ⌜ leaves (r .code) (r .agreeing) (r .differing) (r .«only_first») (r .«only_second») (now (report .exit))
+        ≡ compareGauges (now (first .entry)) (now (second .entry)) (now (report .entry)) tolerance ⌝ }
 {
     if !acceptable(first) {
         return refused();

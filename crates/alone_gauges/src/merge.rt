@@ -105,7 +105,8 @@ fn hit(kind: u64, wanted: u64) -> u64
 // The lines of each kind.
 pub fn tally(first: &[u8], second: &[u8], tolerance: u64) -> Counts
     requires { ⌜ (acceptable (now first) ≡ true) × (acceptable (now second) ≡ true) ⌝ }
-    ensures { λ r. ⌜ Counted (report tolerance (readings (now (first .entry))) (readings (now (second .entry)))) (r .agreeing) (r .differing) (r .«only_first») (r .«only_second») ⌝ }
+    ensures { λ r. ⌜ Counted (report tolerance (readings (now (first .entry))) (readings (now (second .entry)))) (r .agreeing)
+        (r .differing) (r .«only_first») (r .«only_second») ⌝ }
 {
     let rows = first.len() + second.len();
     let mut agreeing: u64 = 0;
@@ -143,8 +144,10 @@ fn put_line(output: &mut [u8], at: usize, minute: u64, kind: u64)
 
 // Writes the lines, and leaves the bytes past them as they were.
 pub fn write_lines(output: &mut [u8], first: &[u8], second: &[u8], tolerance: u64)
-    requires { ⌜ (acceptable (now first) ≡ true) × (acceptable (now second) ≡ true) × (3 * length (report tolerance (readings (now first)) (readings (now second))) ≤ length (now output)) ⌝ }
-    ensures { λ _. ⌜ now (output .exit) ≡ written (report tolerance (readings (now (first .entry))) (readings (now (second .entry)))) (now (output .entry)) ⌝ }
+    requires { ⌜ (acceptable (now first) ≡ true) × (acceptable (now second) ≡ true)
+        × (3 * length (report tolerance (readings (now first)) (readings (now second))) ≤ length (now output)) ⌝ }
+    ensures { λ _. ⌜ now (output .exit)
+        ≡ written (report tolerance (readings (now (first .entry))) (readings (now (second .entry)))) (now (output .entry)) ⌝ }
 {
     let rows = first.len() + second.len();
     let mut i: usize = 0;

@@ -43,7 +43,8 @@ pub extern "C" fn kagutin_inflow(
     low_pumped: u32,
     high_pumped: u32,
 ) -> Bounds
-    ensures { λ r. ⌜ gives (r .code) (r .least) (r .most) ≡ boundInflow (given area «low_before» «high_before» «low_after» «high_after» «low_pumped» «high_pumped») ⌝ }
+    ensures { λ r. ⌜ gives (r .code) (r .least) (r .most)
+        ≡ boundInflow (given area «low_before» «high_before» «low_after» «high_after» «low_pumped» «high_pumped») ⌝ }
 {
     if area < 1 {
         return refused();

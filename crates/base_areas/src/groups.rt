@@ -31,9 +31,11 @@ pub fn put_entry(log: &mut [u8], slot: usize, turn: u64, k: usize, word: u64, bl
     base_codec::copy_with_top_bit(log, at + (64 + 64 * k), block, 0, turn)
 }
 
-// Writes an entry's tag and block at the next position, whose group has the turn `turn`, and a blank group first where the position is a group's first.
+// Writes an entry's tag and block at the next position, whose group has the turn `turn`, and a blank group first where the position is a
+// group's first.
 pub fn enter(log: &mut [u8], slot: usize, turn: u64, st: State, word: u64, block: &[u8])
-    requires { ⌜ (64 + 512 * slot + 512 ≤ length (now log)) × (turn ≡ turnOf (st .groups) (st .next)) × (turn < 2) × (st .filled < 7) × (word < 2 ^ 57) × (length (now block) ≡ 64) ⌝ }
+    requires { ⌜ (64 + 512 * slot + 512 ≤ length (now log)) × (turn ≡ turnOf (st .groups) (st .next)) × (turn < 2) × (st .filled < 7)
+        × (word < 2 ^ 57) × (length (now block) ≡ 64) ⌝ }
     ensures { λ _. ⌜ now (log .exit) ≡ entered st slot (now (log .entry)) word (now (block .entry)) ⌝ }
 {
     let filled = st.filled;

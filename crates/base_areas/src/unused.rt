@@ -22,7 +22,8 @@ pub fn put_unused(dst: &mut [u8], at: usize, bit: u64)
 pub fn unused_bit(slot: u64, first: u64, turn: u64) -> u64
     requires { ⌜ turn < 2 ⌝ }
     ensures { λ r. ⌜ (r < 2)
-        × ((groups start : ℕ) → slot < groups → first ≡ start % groups → turn ≡ turnOf groups start → r ≡ 1 - turnOf groups (nextIn groups start slot)) ⌝ }
+        × ((groups start : ℕ) → slot < groups → first ≡ start % groups → turn ≡ turnOf groups start → r
+        ≡ 1 - turnOf groups (nextIn groups start slot)) ⌝ }
 {
     if slot < first { turn } else { 1 - turn }
 }

@@ -19,8 +19,8 @@ pub fn is_closing(word: u64) -> bool
     word & 0xfc00_0000_0000_0003 == 3
 }
 
-// Whether the home in a used word is one of those there are; `above` is the word of an entry for the first home that there is not. The home's bits lie
-// in both words in the order of their weight, so they are compared where they are.
+// Whether the home in a used word is one of those there are; `above` is the word of an entry for the first home that there is not. The
+// home's bits lie in both words in the order of their weight, so they are compared where they are.
 pub fn has_home(word: u64, above: u64) -> bool
     ensures { λ r. ⌜ ((homes : ℕ) → above ≡ entryWord homes 0 → field word 0 1 ≡ 1 → r ≡ leb (homeField word + 1) homes) ⌝ }
 {

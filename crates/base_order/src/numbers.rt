@@ -48,8 +48,8 @@ pub fn groups_in_order(s: &[u8], groups: u64, homes: u64) -> bool
     filled == 0
 }
 
-// Whether the other numbers but the round are in order, where the log has `whole` positions from position `low` to the next group, and `all` with those
-// filled. What lies between two others is compared once, by its distance from the lower one.
+// Whether the other numbers but the round are in order, where the log has `whole` positions from position `low` to the next group, and
+// `all` with those filled. What lies between two others is compared once, by its distance from the lower one.
 pub fn bounds_in_order(s: &[u8], low: u64, whole: u64, all: u64) -> bool
     requires { ⌜ (length (now s) ≡ 1024) × Live (stateOf (now s)) low all × (whole + stateOf (now s) .filled ≡ all) ⌝ }
     ensures { λ r. ⌜ (r ≡ true → BoundsInOrder (stateOf (now (s .entry)))) × (r ≡ false → false ≡ numbersInOrder (stateOf (now (s .entry)))) ⌝ }

@@ -239,7 +239,8 @@ fn fresh_numbers(s: &mut [u8], groups: u64, homes: u64, start: u64)
     set_durable(s, position);
 }
 
-// Makes `s` the strip of an opened store whose log is empty at the group number `start`: no position of the list of rights is kept, and `sign` is its sign.
+// Makes `s` the strip of an opened store whose log is empty at the group number `start`: no position of the list of rights is kept, and
+// `sign` is its sign.
 pub fn fresh(s: &mut [u8], groups: u64, homes: u64, start: u64, sign: u64)
     requires { ⌜ (length (now s) ≡ 1024) × (7 * start < 2 ^ 64) ⌝ }
     ensures { λ _. ⌜ now (s .exit) ≡ freshState groups homes start sign ⌝ }

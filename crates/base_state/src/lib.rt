@@ -1,4 +1,5 @@
-// The state strip of 1,024 bytes as model/specs/State defines it: its numbers, its writers' records, held blocks and promises, and the positions and the sign of the list of rights.
+// The state strip of 1,024 bytes as model/specs/State defines it: its numbers, its writers' records, held blocks and promises, and the
+// positions and the sign of the list of rights.
 mod fields;
 mod listed;
 mod promises;

@@ -21,7 +21,8 @@ pub fn begin(s: &mut [u8], w: usize)
     base_state::set_writer(s, w, begun(r));
 }
 
-// Stores what becomes of `r`, the record of writer `w`, once it holds a block for `home`; a block that it held for another home is logged at `position`.
+// Stores what becomes of `r`, the record of writer `w`, once it holds a block for `home`; a block that it held for another home is logged
+// at `position`.
 pub fn hold(s: &mut [u8], w: usize, r: Writer, home: u64, position: u64)
     requires { ⌜ (length (now s) ≡ 1024) × (w < 8) × (countFor r + 1 < 2 ^ 64) ⌝ }
     ensures { λ _. ⌜ now (s .exit) ≡ setWriter (now (s .entry)) w (heldFor r home position) ⌝ }

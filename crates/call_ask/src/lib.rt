@@ -40,7 +40,8 @@ pub fn done(figure: u64, size: u64) -> Reply
 
 // Whether the lengths of both copies and of the strip are right.
 pub fn lengths_right(log: &[u8], area: &[u8], state: &[u8]) -> bool
-    ensures { λ r. ⌜ r ≡ (logLengthRight (length (now (log .entry))) && (dataLengthRight (length (now (area .entry))) && eqb (length (now (state .entry))) 1024)) ⌝ }
+    ensures { λ r. ⌜ r ≡ (logLengthRight (length (now (log .entry)))
+        && (dataLengthRight (length (now (area .entry))) && eqb (length (now (state .entry))) 1024)) ⌝ }
 {
     if !base_areas::log_right(log.len()) {
         return false;
@@ -102,7 +103,8 @@ pub fn newest_answer(log: &[u8], area: &[u8], state: &[u8], newest: &[u8]) -> u6
 
 // The same for a call that is lent a block too.
 pub fn both_answer(log: &[u8], area: &[u8], state: &[u8], newest: &[u8], block: &[u8]) -> u64
-    ensures { λ r. ⌜ r ≡ askBoth (lentAll (now (log .entry)) (now (area .entry)) (now (state .entry)) (now (newest .entry)) (now (block .entry)) [] 0 0) 0 ⌝ }
+    ensures { λ r. ⌜ r ≡ askBoth (lentAll (now (log .entry)) (now (area .entry)) (now (state .entry)) (now (newest .entry))
+        (now (block .entry)) [] 0 0) 0 ⌝ }
 {
     if newest.len() as u64 != 8 * base_areas::data_homes(area.len()) {
         return 1;

@@ -37,7 +37,8 @@ fn close_held(
     w: usize,
 ) -> u64
     requires { ⌜ MayLog (now log) (now state) (now batch) st w × Fits st r (nextPosition st) ⌝ }
-    ensures { λ x. ⌜ Closed x (now (state .exit)) (now (log .exit)) (now (batch .exit)) (now (state .entry)) (now (log .entry)) (now (batch .entry)) st r w ⌝ }
+    ensures { λ x. ⌜ Closed x (now (state .exit)) (now (log .exit)) (now (batch .exit)) (now (state .entry)) (now (log .entry))
+        (now (batch .entry)) st r w ⌝ }
 {
     let position = base_state::next_position(st);
     let word = closing_word(st, r, position);
@@ -49,7 +50,8 @@ fn close_held(
 
 // Keeps the position of each entry of the transaction that was closed at the next position; where nothing was logged before, that is one position.
 fn keep_newest(log: &[u8], newest: &mut [u8], st: State, r: Writer)
-    requires { ⌜ Stretch (now log) (st .groups) (st .start) (firstFor r (nextPosition st)) (nextPosition st + 1) × (st .homes ≤ 65535) × (length (now newest) ≡ 8 * st .homes) × (st .filled ≤ 6) ⌝ }
+    requires { ⌜ Stretch (now log) (st .groups) (st .start) (firstFor r (nextPosition st)) (nextPosition st + 1) × (st .homes ≤ 65535)
+        × (length (now newest) ≡ 8 * st .homes) × (st .filled ≤ 6) ⌝ }
     ensures { λ _. ⌜ now (newest .exit) ≡ keptBy (now (log .entry)) st r (now (newest .entry)) ⌝ }
 {
     if !base_state::has_logged(r) {
@@ -69,8 +71,8 @@ fn keep_newest(log: &[u8], newest: &mut [u8], st: State, r: Writer)
     log_newest::keep_entries(log, st.groups, st.homes, st.start, first, position, newest)
 }
 
-// The closing entry, with the places promised to the writer given back, the newest positions kept, and with them the state strip's part of the list of
-// rights.
+// The closing entry, with the places promised to the writer given back, the newest positions kept, and with them the state strip's part of
+// the list of rights.
 fn commit_held(
     log: &mut [u8],
     area: &[u8],
@@ -81,8 +83,10 @@ fn commit_held(
     r: Writer,
     w: usize,
 ) -> u64
-    requires { ⌜ MayLog (now log) (now state) (now batch) st w × Fits st r (nextPosition st) × (length (now newest) ≡ 8 * st .homes) × (length (now area) ≡ 64 * st .homes) ⌝ }
-    ensures { λ x. ⌜ Committed x (now (state .exit)) (now (newest .exit)) (now (log .exit)) (now (batch .exit)) (now (state .entry)) (now (newest .entry)) (now (log .entry)) (now (batch .entry)) (now (area .entry)) st r w ⌝ }
+    requires { ⌜ MayLog (now log) (now state) (now batch) st w × Fits st r (nextPosition st) × (length (now newest) ≡ 8 * st .homes)
+        × (length (now area) ≡ 64 * st .homes) ⌝ }
+    ensures { λ x. ⌜ Committed x (now (state .exit)) (now (newest .exit)) (now (log .exit)) (now (batch .exit)) (now (state .entry))
+        (now (newest .entry)) (now (log .entry)) (now (batch .entry)) (now (area .entry)) st r w ⌝ }
 {
     let size = close_held(log, state, batch, st, r, w);
     base_state::set_promise(state, w, 0);
@@ -100,8 +104,12 @@ pub fn commit_next(
     batch: &mut [u8],
     w: usize,
 ) -> u64
-    requires { ⌜ MayLog (now log) (now state) (now batch) (stateOf (now state)) w × Fits (stateOf (now state)) (writerOf (now state) w) (nextPosition (stateOf (now state))) × (length (now newest) ≡ 8 * stateOf (now state) .homes) × (length (now area) ≡ 64 * stateOf (now state) .homes) ⌝ }
-    ensures { λ x. ⌜ Committed x (now (state .exit)) (now (newest .exit)) (now (log .exit)) (now (batch .exit)) (now (state .entry)) (now (newest .entry)) (now (log .entry)) (now (batch .entry)) (now (area .entry)) (stateOf (now (state .entry))) (writerOf (now (state .entry)) w) w ⌝ }
+    requires { ⌜ MayLog (now log) (now state) (now batch) (stateOf (now state)) w
+        × Fits (stateOf (now state)) (writerOf (now state) w) (nextPosition (stateOf (now state)))
+        × (length (now newest) ≡ 8 * stateOf (now state) .homes) × (length (now area) ≡ 64 * stateOf (now state) .homes) ⌝ }
+    ensures { λ x. ⌜ Committed x (now (state .exit)) (now (newest .exit)) (now (log .exit)) (now (batch .exit)) (now (state .entry))
+        (now (newest .entry)) (now (log .entry)) (now (batch .entry)) (now (area .entry)) (stateOf (now (state .entry)))
+        (writerOf (now (state .entry)) w) w ⌝ }
 {
     let st = base_state::state(state);
     let r = base_state::writer(state, w);
@@ -117,7 +125,10 @@ fn commit_answer(
     batch: &[u8],
     writer: u64,
 ) -> u64
-    ensures { λ r. ⌜ r ≡ commitAnswer (lentAll (now (log .entry)) (now (area .entry)) (now (state .entry)) (now (newest .entry)) [] (now (batch .entry)) writer 0) (sizeOf (commitEffect (lentAll (now (log .entry)) (now (area .entry)) (now (state .entry)) (now (newest .entry)) [] (now (batch .entry)) writer 0))) ⌝ }
+    ensures { λ r. ⌜ r ≡ commitAnswer (lentAll (now (log .entry)) (now (area .entry)) (now (state .entry)) (now (newest .entry)) []
+        (now (batch .entry)) writer 0)
+        (sizeOf (commitEffect (lentAll (now (log .entry)) (now (area .entry)) (now (state .entry)) (now (newest .entry)) []
+        (now (batch .entry)) writer 0))) ⌝ }
 {
     let asked = call_ask::newest_answer(log, area, state, newest);
     if asked != 0 {
@@ -146,7 +157,10 @@ pub fn commit(
     batch: &mut [u8],
     writer: u64,
 ) -> Reply
-    ensures { λ r. ⌜ leavesAll (r .code) (r .figure) (r .size) (now (log .exit)) (now (area .entry)) (now (state .exit)) (now (newest .exit)) [] (now (batch .exit)) ≡ commitCall (lentAll (now (log .entry)) (now (area .entry)) (now (state .entry)) (now (newest .entry)) [] (now (batch .entry)) writer 0) ⌝ }
+    ensures { λ r. ⌜ leavesAll (r .code) (r .figure) (r .size) (now (log .exit)) (now (area .entry)) (now (state .exit))
+        (now (newest .exit)) [] (now (batch .exit))
+        ≡ commitCall (lentAll (now (log .entry)) (now (area .entry)) (now (state .entry)) (now (newest .entry)) []
+        (now (batch .entry)) writer 0) ⌝ }
 {
     let code = commit_answer(log, area, state, newest, batch, writer);
     if code != 0 {

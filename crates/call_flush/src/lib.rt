@@ -18,9 +18,12 @@ ghost use Rattle.model.specs.State.{setNext, setFilled, setFenced};
 
 // Hands on the part-filled group and writes a fence.
 fn flush_part(log: &[u8], state: &mut [u8], batch: &mut [u8], st: State)
-    requires { ⌜ (length (now state) ≡ 1024) × (518 ≤ length (now batch)) × (1 ≤ st .groups) × (64 + 512 * st .groups ≤ length (now log)) × (st .next < 2 ^ 60) ⌝ }
+    requires { ⌜ (length (now state) ≡ 1024) × (518 ≤ length (now batch)) × (1 ≤ st .groups) × (64 + 512 * st .groups ≤ length (now log))
+        × (st .next < 2 ^ 60) ⌝ }
     ensures { λ _. ⌜ now (state .exit) ≡ setFenced (setFilled (setNext (now (state .entry)) (st .next + 1)) 0) (7 * (st .next + 1)) ⌝ }
-    ensures { λ _. ⌜ now (batch .exit) ≡ puts (now (batch .entry)) 0 (batchBytes (GW (st .next % st .groups) (groupAt (now (log .entry)) (st .next % st .groups)) ∷ FN ∷ [])) ⌝ }
+    ensures { λ _. ⌜ now (batch .exit)
+        ≡ puts (now (batch .entry)) 0 (batchBytes
+        (GW (st .next % st .groups) (groupAt (now (log .entry)) (st .next % st .groups)) ∷ FN ∷ [])) ⌝ }
 {
     let slot = log_scan::first_slot(st.next, st.groups).slot as usize;
     let at = base_batch::group_write(batch, 0, slot, log);
@@ -53,7 +56,8 @@ fn flush_size(st: State) -> usize
 
 // The answer of a flush: 0, or the number of the question that refuses it.
 fn flush_answer(log: &[u8], area: &[u8], state: &[u8], batch: &[u8]) -> u64
-    ensures { λ r. ⌜ r ≡ flushAnswer (lent (now (log .entry)) (now (area .entry)) (now (state .entry)) [] (now (batch .entry)) 0 0) (sizeOf (flushEffect (lent (now (log .entry)) (now (area .entry)) (now (state .entry)) [] (now (batch .entry)) 0 0))) ⌝ }
+    ensures { λ r. ⌜ r ≡ flushAnswer (lent (now (log .entry)) (now (area .entry)) (now (state .entry)) [] (now (batch .entry)) 0 0)
+        (sizeOf (flushEffect (lent (now (log .entry)) (now (area .entry)) (now (state .entry)) [] (now (batch .entry)) 0 0))) ⌝ }
 {
     let asked = call_ask::state_answer(log, area, state);
     if asked != 0 {
@@ -71,7 +75,9 @@ fn flush_answer(log: &[u8], area: &[u8], state: &[u8], batch: &[u8]) -> u64
 
 // Hands on a part-filled group, if there is one, and writes a fence.
 pub fn flush(log: &[u8], area: &[u8], state: &mut [u8], batch: &mut [u8]) -> Reply
-    ensures { λ r. ⌜ leaves (r .code) (r .figure) (r .size) (now (log .entry)) (now (area .entry)) (now (state .exit)) [] (now (batch .exit)) ≡ flushCall (lent (now (log .entry)) (now (area .entry)) (now (state .entry)) [] (now (batch .entry)) 0 0) ⌝ }
+    ensures { λ r. ⌜ leaves (r .code) (r .figure) (r .size) (now (log .entry)) (now (area .entry)) (now (state .exit)) []
+        (now (batch .exit))
+        ≡ flushCall (lent (now (log .entry)) (now (area .entry)) (now (state .entry)) [] (now (batch .entry)) 0 0) ⌝ }
 {
     let code = flush_answer(log, area, state, batch);
     if code != 0 {

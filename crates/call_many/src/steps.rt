@@ -16,7 +16,8 @@ ghost use Rattle.call_many.specs.Steps.{Several, BatchRoom, Reached, Und
 // Begins a transaction of the writer `w`, which holds the first of the lent blocks.
 fn hold_first(state: &mut [u8], blocks: &[u8], w: usize, home: u64)
     requires { ⌜ (length (now state) ≡ 1024) × (w < 8) × (64 ≤ length (now blocks)) ⌝ }
-    ensures { λ _. ⌜ now (state .exit) ≡ setHeld (setWriter (setWriter (now (state .entry)) w begun) w (holding home)) w (part (now (blocks .entry)) 0 64) ⌝ }
+    ensures { λ _. ⌜ now (state .exit)
+        ≡ setHeld (setWriter (setWriter (now (state .entry)) w begun) w (holding home)) w (part (now (blocks .entry)) 0 64) ⌝ }
 {
     base_writers::begin(state, w);
     let r = base_state::writer(state, w);
@@ -33,8 +34,11 @@ fn store_rest(
     home: u64,
 ) -> u64
     requires { ⌜ ((g : Given) × Under g (now blocks) w home (length (now blocks) / 64) 1 0 (now state) (now log) (now batch)) ⌝ }
-    ensures { λ x. ⌜ ((g : Given) → Under g (now (blocks .entry)) w home (length (now (blocks .entry)) / 64) 1 0 (now (state .entry)) (now (log .entry)) (now (batch .entry))
-        → Under g (now (blocks .entry)) w home (length (now (blocks .entry)) / 64) (length (now (blocks .entry)) / 64) x (now (state .exit)) (now (log .exit)) (now (batch .exit))) ⌝ }
+    ensures { λ x. ⌜ ((g : Given)
+        → Under g (now (blocks .entry)) w home (length (now (blocks .entry)) / 64) 1 0 (now (state .entry)) (now (log .entry))
+        (now (batch .entry))
+        → Under g (now (blocks .entry)) w home (length (now (blocks .entry)) / 64) (length (now (blocks .entry)) / 64) x (now (state .exit))
+        (now (log .exit)) (now (batch .exit))) ⌝ }
 {
     let n = blocks.len() / 64;
     let mut size: u64 = 0;
@@ -56,8 +60,12 @@ pub fn store_all(
     w: usize,
     home: u64,
 ) -> u64
-    requires { ⌜ Several (now log) (now state) (now blocks) w home (length (now blocks) / 64) × BatchRoom (now state) (now batch) (length (now blocks) / 64) ⌝ }
-    ensures { λ x. ⌜ ((a p : List ℕ) → Reached x (now (state .exit)) (now (log .exit)) (now (batch .exit)) (now (batch .entry)) (storedFirst (lentAll (now (log .entry)) a (now (state .entry)) p (now (blocks .entry)) (now (batch .entry)) w home) (length (now (blocks .entry)) / 64))) ⌝ }
+    requires { ⌜ Several (now log) (now state) (now blocks) w home (length (now blocks) / 64)
+        × BatchRoom (now state) (now batch) (length (now blocks) / 64) ⌝ }
+    ensures { λ x. ⌜ ((a p : List ℕ)
+        → Reached x (now (state .exit)) (now (log .exit)) (now (batch .exit)) (now (batch .entry))
+        (storedFirst (lentAll (now (log .entry)) a (now (state .entry)) p (now (blocks .entry)) (now (batch .entry)) w home)
+        (length (now (blocks .entry)) / 64))) ⌝ }
 {
     hold_first(state, blocks, w, home);
     store_rest(log, state, blocks, batch, w, home)

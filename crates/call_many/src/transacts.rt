@@ -6,8 +6,8 @@ ghost use mathlib.Core.Path.{_≡_};
 ghost use Rattle.call_ask.specs.Lent.{lentAll, leavesAll};
 ghost use Rattle.acts.specs.Many.{transactCall};
 
-// Commits one to seven blocks for the homes from `home` on, in one transaction of a writer that has none open and may store to them all. The figure is
-// the ticket.
+// Commits one to seven blocks for the homes from `home` on, in one transaction of a writer that has none open and may store to them all.
+// The figure is the ticket.
 pub fn transact(
     log: &mut [u8],
     area: &[u8],
@@ -18,8 +18,10 @@ pub fn transact(
     writer: u64,
     home: u64,
 ) -> Reply
-    ensures { λ r. ⌜ leavesAll (r .code) (r .figure) (r .size) (now (log .exit)) (now (area .entry)) (now (state .exit)) (now (newest .exit)) (now (blocks .entry)) (now (batch .exit))
-        ≡ transactCall (lentAll (now (log .entry)) (now (area .entry)) (now (state .entry)) (now (newest .entry)) (now (blocks .entry)) (now (batch .entry)) writer home) ⌝ }
+    ensures { λ r. ⌜ leavesAll (r .code) (r .figure) (r .size) (now (log .exit)) (now (area .entry)) (now (state .exit))
+        (now (newest .exit)) (now (blocks .entry)) (now (batch .exit))
+        ≡ transactCall (lentAll (now (log .entry)) (now (area .entry)) (now (state .entry)) (now (newest .entry)) (now (blocks .entry))
+        (now (batch .entry)) writer home) ⌝ }
 {
     let code = transact_answer(log, area, state, newest, blocks, batch, writer, home);
     if code != 0 {

@@ -20,8 +20,11 @@ pub fn may_store_all(
     home: u64,
     n: u64,
 ) -> bool
-    requires { ⌜ Usable (now log) (now area) (now state) × (length (now newest) ≡ 8 * homesIn (length (now area))) × (writer < 8) × (home + n ≤ homesIn (length (now area))) ⌝ }
-    ensures { λ r. ⌜ r ≡ allOf (storeRight (listSign (now (state .entry))) (homesIn (length (now (area .entry)))) (readList (lentAll (now (log .entry)) (now (area .entry)) (now (state .entry)) (now (newest .entry)) [] [] writer 0)) writer) home n ⌝ }
+    requires { ⌜ Usable (now log) (now area) (now state) × (length (now newest) ≡ 8 * homesIn (length (now area))) × (writer < 8)
+        × (home + n ≤ homesIn (length (now area))) ⌝ }
+    ensures { λ r. ⌜ r ≡ allOf (storeRight (listSign (now (state .entry))) (homesIn (length (now (area .entry))))
+        (readList (lentAll (now (log .entry)) (now (area .entry)) (now (state .entry))
+        (now (newest .entry)) [] [] writer 0)) writer) home n ⌝ }
 {
     let mut i: u64 = 0;
     while i < n {
@@ -43,8 +46,11 @@ pub fn may_read_all(
     home: u64,
     n: u64,
 ) -> bool
-    requires { ⌜ Usable (now log) (now area) (now state) × (length (now newest) ≡ 8 * homesIn (length (now area))) × (writer < 8) × (home + n ≤ homesIn (length (now area))) ⌝ }
-    ensures { λ r. ⌜ r ≡ allOf (readRight (listSign (now (state .entry))) (homesIn (length (now (area .entry)))) (readList (lentAll (now (log .entry)) (now (area .entry)) (now (state .entry)) (now (newest .entry)) [] [] writer 0)) writer) home n ⌝ }
+    requires { ⌜ Usable (now log) (now area) (now state) × (length (now newest) ≡ 8 * homesIn (length (now area))) × (writer < 8)
+        × (home + n ≤ homesIn (length (now area))) ⌝ }
+    ensures { λ r. ⌜ r ≡ allOf (readRight (listSign (now (state .entry))) (homesIn (length (now (area .entry))))
+        (readList (lentAll (now (log .entry)) (now (area .entry)) (now (state .entry))
+        (now (newest .entry)) [] [] writer 0)) writer) home n ⌝ }
 {
     let mut i: u64 = 0;
     while i < n {

@@ -24,8 +24,11 @@ fn show_at(
     writer: u64,
     home: u64,
 )
-    requires { ⌜ Usable (now log) (now area) (now state) × (at + 64 ≤ length (now blocks)) × (length (now newest) ≡ 8 * homesIn (length (now area))) × (writer < 8) × (home < homesIn (length (now area))) ⌝ }
-    ensures { λ _. ⌜ (now (blocks .exit) ≡ puts (now (blocks .entry)) at (readBlock (lentAll (now (log .entry)) (now (area .entry)) (now (state .entry)) (now (newest .entry)) [] [] writer home)))
+    requires { ⌜ Usable (now log) (now area) (now state) × (at + 64 ≤ length (now blocks))
+        × (length (now newest) ≡ 8 * homesIn (length (now area))) × (writer < 8) × (home < homesIn (length (now area))) ⌝ }
+    ensures { λ _. ⌜ (now (blocks .exit)
+        ≡ puts (now (blocks .entry)) at (readBlock
+        (lentAll (now (log .entry)) (now (area .entry)) (now (state .entry)) (now (newest .entry)) [] [] writer home)))
         × (length (readBlock (lentAll (now (log .entry)) (now (area .entry)) (now (state .entry)) (now (newest .entry)) [] [] writer home)) ≡ 64) ⌝ }
 {
     call_read::show(
@@ -49,8 +52,13 @@ fn show_all(
     writer: u64,
     home: u64,
 )
-    requires { ⌜ Usable (now log) (now area) (now state) × (length (now newest) ≡ 8 * homesIn (length (now area))) × (length (now blocks) ≡ 64 * (length (now blocks) / 64)) × (writer < 8) × (home + length (now blocks) / 64 ≤ homesIn (length (now area))) ⌝ }
-    ensures { λ _. ⌜ now (blocks .exit) ≡ blocksRead (lentAll (now (log .entry)) (now (area .entry)) (now (state .entry)) (now (newest .entry)) (now (blocks .entry)) [] writer home) (length (now (blocks .entry)) / 64) ⌝ }
+    requires { ⌜ Usable (now log) (now area) (now state) × (length (now newest) ≡ 8 * homesIn (length (now area)))
+        × (length (now blocks) ≡ 64 * (length (now blocks) / 64)) × (writer < 8)
+        × (home + length (now blocks) / 64 ≤ homesIn (length (now area))) ⌝ }
+    ensures { λ _. ⌜ now (blocks .exit)
+        ≡ blocksRead (lentAll (now (log .entry)) (now (area .entry)) (now (state .entry)) (now (newest .entry))
+        (now (blocks .entry)) [] writer home)
+        (length (now (blocks .entry)) / 64) ⌝ }
 {
     let n = blocks.len() / 64;
     let mut i: usize = 0;
@@ -79,8 +87,10 @@ pub fn fetch(
     writer: u64,
     home: u64,
 ) -> Reply
-    ensures { λ r. ⌜ leavesAll (r .code) (r .figure) (r .size) (now (log .entry)) (now (area .entry)) (now (state .entry)) (now (newest .entry)) (now (blocks .exit)) []
-        ≡ fetchCall (lentAll (now (log .entry)) (now (area .entry)) (now (state .entry)) (now (newest .entry)) (now (blocks .entry)) [] writer home) ⌝ }
+    ensures { λ r. ⌜ leavesAll (r .code) (r .figure) (r .size) (now (log .entry)) (now (area .entry)) (now (state .entry))
+        (now (newest .entry)) (now (blocks .exit)) []
+        ≡ fetchCall (lentAll (now (log .entry)) (now (area .entry)) (now (state .entry)) (now (newest .entry))
+        (now (blocks .entry)) [] writer home) ⌝ }
 {
     let code = fetch_answer(log, area, state, newest, blocks, writer, home);
     if code != 0 {
@@ -100,8 +110,10 @@ pub fn revise(
     writer: u64,
     home: u64,
 ) -> Reply
-    ensures { λ r. ⌜ leavesAll (r .code) (r .figure) (r .size) (now (log .entry)) (now (area .entry)) (now (state .entry)) (now (newest .entry)) (now (blocks .exit)) []
-        ≡ reviseCall (lentAll (now (log .entry)) (now (area .entry)) (now (state .entry)) (now (newest .entry)) (now (blocks .entry)) [] writer home) ⌝ }
+    ensures { λ r. ⌜ leavesAll (r .code) (r .figure) (r .size) (now (log .entry)) (now (area .entry)) (now (state .entry))
+        (now (newest .entry)) (now (blocks .exit)) []
+        ≡ reviseCall (lentAll (now (log .entry)) (now (area .entry)) (now (state .entry)) (now (newest .entry))
+        (now (blocks .entry)) [] writer home) ⌝ }
 {
     let code = revise_answer(log, area, state, newest, blocks, writer, home);
     if code != 0 {

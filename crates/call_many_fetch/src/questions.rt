@@ -42,7 +42,8 @@ pub fn homes_answer(
     writer: u64,
     home: u64,
 ) -> u64
-    ensures { λ r. ⌜ r ≡ askHomes (lentAll (now (log .entry)) (now (area .entry)) (now (state .entry)) (now (newest .entry)) (now (blocks .entry)) [] writer home) 0 ⌝ }
+    ensures { λ r. ⌜ r ≡ askHomes (lentAll (now (log .entry)) (now (area .entry)) (now (state .entry)) (now (newest .entry))
+        (now (blocks .entry)) [] writer home) 0 ⌝ }
 {
     if !blocks_right(blocks.len()) {
         return 1;
@@ -74,7 +75,8 @@ pub fn fetch_answer(
     writer: u64,
     home: u64,
 ) -> u64
-    ensures { λ r. ⌜ r ≡ fetchAnswer (lentAll (now (log .entry)) (now (area .entry)) (now (state .entry)) (now (newest .entry)) (now (blocks .entry)) [] writer home) ⌝ }
+    ensures { λ r. ⌜ r ≡ fetchAnswer (lentAll (now (log .entry)) (now (area .entry)) (now (state .entry)) (now (newest .entry))
+        (now (blocks .entry)) [] writer home) ⌝ }
 {
     let asked = homes_answer(log, area, state, newest, blocks, writer, home);
     if asked != 0 {
@@ -104,7 +106,8 @@ pub fn revise_answer(
     writer: u64,
     home: u64,
 ) -> u64
-    ensures { λ r. ⌜ r ≡ reviseAnswer (lentAll (now (log .entry)) (now (area .entry)) (now (state .entry)) (now (newest .entry)) (now (blocks .entry)) [] writer home) ⌝ }
+    ensures { λ r. ⌜ r ≡ reviseAnswer (lentAll (now (log .entry)) (now (area .entry)) (now (state .entry)) (now (newest .entry))
+        (now (blocks .entry)) [] writer home) ⌝ }
 {
     let asked = homes_answer(log, area, state, newest, blocks, writer, home);
     if asked != 0 {

@@ -11,7 +11,8 @@ ghost use Rattle.call_ask.specs.Lent.{lent, leaves};
 
 // The questions of format: 0, or the number of the refusal.
 fn format_answer(log: &[u8], area: &[u8], batch: &[u8]) -> u64
-    ensures { λ r. ⌜ r ≡ formatAnswer (lent (now (log .entry)) (now (area .entry)) [] [] (now (batch .entry)) 0 0) (sizeOf (formatEffect (lent (now (log .entry)) (now (area .entry)) [] [] (now (batch .entry)) 0 0))) ⌝ }
+    ensures { λ r. ⌜ r ≡ formatAnswer (lent (now (log .entry)) (now (area .entry)) [] [] (now (batch .entry)) 0 0)
+        (sizeOf (formatEffect (lent (now (log .entry)) (now (area .entry)) [] [] (now (batch .entry)) 0 0))) ⌝ }
 {
     if !base_areas::log_right(log.len()) {
         return 1;
@@ -37,7 +38,8 @@ fn format_area(area: &mut [u8])
 
 // Formats both copies, and writes the batch that formats the areas.
 pub fn format(log: &mut [u8], area: &mut [u8], batch: &mut [u8]) -> Reply
-    ensures { λ r. ⌜ leaves (r .code) (r .figure) (r .size) (now (log .exit)) (now (area .exit)) [] [] (now (batch .exit)) ≡ formatCall (lent (now (log .entry)) (now (area .entry)) [] [] (now (batch .entry)) 0 0) ⌝ }
+    ensures { λ r. ⌜ leaves (r .code) (r .figure) (r .size) (now (log .exit)) (now (area .exit)) [] [] (now (batch .exit))
+        ≡ formatCall (lent (now (log .entry)) (now (area .entry)) [] [] (now (batch .entry)) 0 0) ⌝ }
 {
     let code = format_answer(log, area, batch);
     if code != 0 {

@@ -27,7 +27,8 @@ pub struct Shape {
 // Reads the shape of a log copy and a data copy.
 fn measure(log: &[u8], area: &[u8]) -> Shape
     requires { ⌜ 64 ≤ length (now log) ⌝ }
-    ensures { λ r. ⌜ (r .groups ≡ groupsIn (length (now (log .entry)))) × (r .homes ≡ homesIn (length (now (area .entry)))) × (r .start ≡ headerStart (now (log .entry))) × (r .start < 2 ^ 48) ⌝ }
+    ensures { λ r. ⌜ (r .groups ≡ groupsIn (length (now (log .entry)))) × (r .homes ≡ homesIn (length (now (area .entry))))
+        × (r .start ≡ headerStart (now (log .entry))) × (r .start < 2 ^ 48) ⌝ }
 {
     let groups = base_areas::log_groups(log.len());
     let homes = base_areas::data_homes(area.len());
@@ -98,7 +99,8 @@ fn open_copies(
     homes: u64,
     start: u64,
 )
-    requires { ⌜ (length (now log) ≡ 64 + 512 * groups) × (0 < groups) × (length (now state) ≡ 1024) × (length (now newest) ≡ 8 * homes) × (length (now area) ≡ 64 * homes) × (7 * start < 2 ^ 64) ⌝ }
+    requires { ⌜ (length (now log) ≡ 64 + 512 * groups) × (0 < groups) × (length (now state) ≡ 1024) × (length (now newest) ≡ 8 * homes)
+        × (length (now area) ≡ 64 * homes) × (7 * start < 2 ^ 64) ⌝ }
     ensures { λ _. ⌜ (now (log .exit) ≡ emptyLog start groups homes)
         × (now (state .exit) ≡ freshState groups homes start (openSign homes (now (area .entry))))
         × (now (newest .exit) ≡ nothingKept homes) ⌝ }
@@ -116,7 +118,10 @@ pub fn reopen(
     newest: &mut [u8],
     batch: &mut [u8],
 ) -> Reply
-    ensures { λ r. ⌜ leavesAll (r .code) (r .figure) (r .size) (now (log .exit)) (now (area .exit)) (now (state .exit)) (now (newest .exit)) [] (now (batch .exit)) ≡ openCall (lentAll (now (log .entry)) (now (area .entry)) (now (state .entry)) (now (newest .entry)) [] (now (batch .entry)) 0 0) ⌝ }
+    ensures { λ r. ⌜ leavesAll (r .code) (r .figure) (r .size) (now (log .exit)) (now (area .exit)) (now (state .exit))
+        (now (newest .exit)) [] (now (batch .exit))
+        ≡ openCall (lentAll (now (log .entry)) (now (area .entry)) (now (state .entry)) (now (newest .entry)) []
+        (now (batch .entry)) 0 0) ⌝ }
 {
     let code = open_answer(log, area, state, newest);
     if code != 0 {

@@ -39,8 +39,11 @@ pub fn show(
     writer: u64,
     home: u64,
 )
-    requires { ⌜ Usable (now log) (now area) (now state) × (length (now block) ≡ 64) × (length (now newest) ≡ 8 * homesIn (length (now area))) × (writer < 8) × (home < homesIn (length (now area))) ⌝ }
-    ensures { λ _. ⌜ now (block .exit) ≡ readBlock (lentAll (now (log .entry)) (now (area .entry)) (now (state .entry)) (now (newest .entry)) (now (block .entry)) [] writer home) ⌝ }
+    requires { ⌜ Usable (now log) (now area) (now state) × (length (now block) ≡ 64)
+        × (length (now newest) ≡ 8 * homesIn (length (now area))) × (writer < 8) × (home < homesIn (length (now area))) ⌝ }
+    ensures { λ _. ⌜ now (block .exit)
+        ≡ readBlock (lentAll (now (log .entry)) (now (area .entry)) (now (state .entry)) (now (newest .entry))
+        (now (block .entry)) [] writer home) ⌝ }
 {
     let st = base_state::state(state);
     let w = writer as usize;

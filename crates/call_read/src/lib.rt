@@ -20,7 +20,8 @@ fn read_answer(
     writer: u64,
     home: u64,
 ) -> u64
-    ensures { λ r. ⌜ r ≡ readAnswer (lentAll (now (log .entry)) (now (area .entry)) (now (state .entry)) (now (newest .entry)) (now (block .entry)) [] writer home) ⌝ }
+    ensures { λ r. ⌜ r ≡ readAnswer (lentAll (now (log .entry)) (now (area .entry)) (now (state .entry)) (now (newest .entry))
+        (now (block .entry)) [] writer home) ⌝ }
 {
     let code = call_ask::both_answer(log, area, state, newest, block);
     if code != 0 {
@@ -49,7 +50,8 @@ pub fn read(
     writer: u64,
     home: u64,
 ) -> Reply
-    ensures { λ r. ⌜ leavesAll (r .code) (r .figure) (r .size) (now (log .entry)) (now (area .entry)) (now (state .entry)) (now (newest .entry)) (now (block .exit)) []
+    ensures { λ r. ⌜ leavesAll (r .code) (r .figure) (r .size) (now (log .entry)) (now (area .entry)) (now (state .entry))
+        (now (newest .entry)) (now (block .exit)) []
         ≡ readCall (lentAll (now (log .entry)) (now (area .entry)) (now (state .entry)) (now (newest .entry)) (now (block .entry)) [] writer home) ⌝ }
 {
     let code = read_answer(log, area, state, newest, block, writer, home);

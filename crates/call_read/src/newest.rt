@@ -23,7 +23,8 @@ fn own_entry(log: &[u8], st: State, r: Writer, home: u64) -> u64
 
 // The entry for a home at the position kept for it.
 fn kept_entry(log: &[u8], state: &[u8], newest: &[u8], home: u64) -> u64
-    requires { ⌜ Searchable (now log) (stateOf (now state)) × (length (now state) ≡ 1024) × (length (now newest) ≡ 8 * stateOf (now state) .homes) × (home < stateOf (now state) .homes) ⌝ }
+    requires { ⌜ Searchable (now log) (stateOf (now state)) × (length (now state) ≡ 1024)
+        × (length (now newest) ≡ 8 * stateOf (now state) .homes) × (home < stateOf (now state) .homes) ⌝ }
     ensures { λ x. ⌜ x ≡ codeOf (keptEntry (now (log .entry)) (now (newest .entry)) (stateOf (now (state .entry))) home) ⌝ }
 {
     let position = log_newest::kept(newest, home as usize);
@@ -35,7 +36,8 @@ fn kept_entry(log: &[u8], state: &[u8], newest: &[u8], home: u64) -> u64
 
 // The entry for a home that a writer sees: its newest own one, else that at the kept position.
 pub fn seen(log: &[u8], state: &[u8], newest: &[u8], st: State, r: Writer, home: u64) -> u64
-    requires { ⌜ Searchable (now log) st × (st ≡ stateOf (now state)) × (length (now state) ≡ 1024) × (length (now newest) ≡ 8 * st .homes) × (3 ≤ r .mode → (7 * st .start ≤ r .first) × (r .first < nextPosition st)) × (home < st .homes) ⌝ }
+    requires { ⌜ Searchable (now log) st × (st ≡ stateOf (now state)) × (length (now state) ≡ 1024) × (length (now newest) ≡ 8 * st .homes)
+        × (3 ≤ r .mode → (7 * st .start ≤ r .first) × (r .first < nextPosition st)) × (home < st .homes) ⌝ }
     ensures { λ x. ⌜ x ≡ codeOf (seenEntry (now (log .entry)) (now (newest .entry)) st r home) ⌝ }
 {
     let own = own_entry(log, st, r, home);

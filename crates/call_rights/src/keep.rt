@@ -38,8 +38,11 @@ fn same_listed(state: &[u8], newest: &[u8]) -> bool
 
 // Sets the sign of the list that the newest positions show.
 fn sign_list(log: &[u8], area: &[u8], state: &mut [u8], newest: &[u8])
-    requires { ⌜ Listed (now log) (now area) (stateOf (now state)) (now newest) 64 × (length (now state) ≡ 1024) × (12 ≤ stateOf (now state) .homes) ⌝ }
-    ensures { λ _. ⌜ now (state .exit) ≡ setListSign (now (state .entry)) (signFor (blocksBy (now (log .entry)) (now (area .entry)) (stateOf (now (state .entry))) (now (newest .entry)) 64 4)) ⌝ }
+    requires { ⌜ Listed (now log) (now area) (stateOf (now state)) (now newest) 64 × (length (now state) ≡ 1024)
+        × (12 ≤ stateOf (now state) .homes) ⌝ }
+    ensures { λ _. ⌜ now (state .exit)
+        ≡ setListSign (now (state .entry)) (signFor
+        (blocksBy (now (log .entry)) (now (area .entry)) (stateOf (now (state .entry))) (now (newest .entry)) 64 4)) ⌝ }
 {
     if all_zeros(log, area, state, newest, 64) {
         base_state::set_list_sign(state, 1);
@@ -51,7 +54,8 @@ fn sign_list(log: &[u8], area: &[u8], state: &mut [u8], newest: &[u8])
 // Keeps the list's part of the strip after a commit that has left log, strip and newest positions.
 pub fn keep_list(log: &[u8], area: &[u8], state: &mut [u8], newest: &[u8])
     requires { ⌜ Left (now log) (now area) (now state) (now newest) ⌝ }
-    ensures { λ _. ⌜ now (state .exit) ≡ keepList (lentAll (now (log .entry)) (now (area .entry)) (now (state .entry)) (now (newest .entry)) [] [] 0 0) ⌝ }
+    ensures { λ _. ⌜ now (state .exit)
+        ≡ keepList (lentAll (now (log .entry)) (now (area .entry)) (now (state .entry)) (now (newest .entry)) [] [] 0 0) ⌝ }
 {
     let homes = area.len() / 64;
     if homes < 12 {

@@ -1,5 +1,5 @@
-// Who may touch what: the questions 19 and 20, by the list of rights as it is committed. Each asks the list's sign itself, so that no call stands between
-// it and the look at the writer's own block.
+// Who may touch what: the questions 19 and 20, by the list of rights as it is committed. Each asks the list's sign itself, so that no call
+// stands between it and the look at the writer's own block.
 mod keep;
 mod list;
 mod ranges;
@@ -81,7 +81,9 @@ pub fn may_store_newest(
     home: u64,
 ) -> bool
     requires { ⌜ Usable (now log) (now area) (now state) × (writer < 8) × (length (now newest) ≡ 8 * homesIn (length (now area))) ⌝ }
-    ensures { λ r. ⌜ r ≡ storeRight (listSign (now (state .entry))) (homesIn (length (now (area .entry)))) (readList (lentAll (now (log .entry)) (now (area .entry)) (now (state .entry)) (now (newest .entry)) [] [] writer home)) writer home ⌝ }
+    ensures { λ r. ⌜ r ≡ storeRight (listSign (now (state .entry))) (homesIn (length (now (area .entry))))
+        (readList (lentAll (now (log .entry)) (now (area .entry)) (now (state .entry))
+        (now (newest .entry)) [] [] writer home)) writer home ⌝ }
 {
     if of_list(home) {
         return writer == 0;

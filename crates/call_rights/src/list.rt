@@ -37,7 +37,9 @@ fn none_kept(kept: &[u8], from: usize) -> bool
 // Whether all four blocks of the list are zeros in the data copy.
 fn none_in_copy(area: &[u8]) -> bool
     requires { ⌜ 768 ≤ length (now area) ⌝ }
-    ensures { λ r. ⌜ r ≡ (same (part (now (area .entry)) 512 64) (zeros 64) && (same (part (now (area .entry)) 576 64) (zeros 64) && (same (part (now (area .entry)) 640 64) (zeros 64) && same (part (now (area .entry)) 704 64) (zeros 64)))) ⌝ }
+    ensures { λ r. ⌜ r ≡ (same (part (now (area .entry)) 512 64) (zeros 64)
+        && (same (part (now (area .entry)) 576 64) (zeros 64)
+        && (same (part (now (area .entry)) 640 64) (zeros 64) && same (part (now (area .entry)) 704 64) (zeros 64)))) ⌝ }
 {
     if !zero_block(area, 512) {
         return false;
@@ -53,15 +55,16 @@ fn none_in_copy(area: &[u8]) -> bool
 
 // Where the block of the list's home 8 + `i` lies in the log, 0 where the data copy has it.
 fn place(log: &[u8], state: &[u8], kept: &[u8], from: usize, i: usize) -> usize
-    requires { ⌜ Searchable (now log) (stateOf (now state)) × (length (now state) ≡ 1024) × (from + 32 ≤ length (now kept)) × (from < 2 ^ 32) × (i < 4) × (12 ≤ stateOf (now state) .homes) ⌝ }
+    requires { ⌜ Searchable (now log) (stateOf (now state)) × (length (now state) ≡ 1024) × (from + 32 ≤ length (now kept))
+        × (from < 2 ^ 32) × (i < 4) × (12 ≤ stateOf (now state) .homes) ⌝ }
     ensures { λ r. ⌜ r ≡ placeBy (now (log .entry)) (stateOf (now (state .entry))) (8 + i) (number 8 (now (kept .entry)) (from + 8 * i)) ⌝ }
 {
     let position = base_codec::number(kept, from + 8 * i, 8);
     log_shown::place(log, state, 8 + i as u64, position)
 }
 
-// Whether a home lies in one of the four ranges from byte `at` of the list on, whose block has the place `found`. Two ask it, so that it stays a function of
-// its own and `open_listed` is short enough to stand in the questions themselves.
+// Whether a home lies in one of the four ranges from byte `at` of the list on, whose block has the place `found`. Two ask it, so that it
+// stays a function of its own and `open_listed` is short enough to stand in the questions themselves.
 fn own_ranges(log: &[u8], area: &[u8], found: usize, at: usize, home: u64) -> bool
     requires { ⌜ (768 ≤ length (now area)) × (at < 256) × (at % 64 + 16 ≤ 64) × (found ≢ 0 → (128 ≤ found) × (found + 64 ≤ length (now log))) ⌝ }
     ensures { λ r. ⌜ r ≡ inRanges (blockFrom (now (log .entry)) (now (area .entry)) found (at / 64)) (at % 64) home 4 ⌝ }
@@ -93,8 +96,11 @@ fn other_zero(
     own: usize,
     i: usize,
 ) -> bool
-    requires { ⌜ Listed (now log) (now area) (stateOf (now state)) (now kept) from × (length (now state) ≡ 1024) × (12 ≤ stateOf (now state) .homes) × (i < 4) × (same (blockBy (now log) (now area) (stateOf (now state)) (now kept) from own) (zeros 64) ≡ true) ⌝ }
-    ensures { λ r. ⌜ r ≡ same (blockBy (now (log .entry)) (now (area .entry)) (stateOf (now (state .entry))) (now (kept .entry)) from i) (zeros 64) ⌝ }
+    requires { ⌜ Listed (now log) (now area) (stateOf (now state)) (now kept) from × (length (now state) ≡ 1024)
+        × (12 ≤ stateOf (now state) .homes) × (i < 4)
+        × (same (blockBy (now log) (now area) (stateOf (now state)) (now kept) from own) (zeros 64) ≡ true) ⌝ }
+    ensures { λ r. ⌜ r ≡ same (blockBy (now (log .entry)) (now (area .entry)) (stateOf (now (state .entry))) (now (kept .entry)) from i)
+        (zeros 64) ⌝ }
 {
     if i == own {
         return true;
@@ -105,8 +111,11 @@ fn other_zero(
 
 // Whether the whole list is all zeros, where block `own` is.
 fn no_list(log: &[u8], area: &[u8], state: &[u8], kept: &[u8], from: usize, own: usize) -> bool
-    requires { ⌜ Listed (now log) (now area) (stateOf (now state)) (now kept) from × (length (now state) ≡ 1024) × (12 ≤ stateOf (now state) .homes) × (same (blockBy (now log) (now area) (stateOf (now state)) (now kept) from own) (zeros 64) ≡ true) ⌝ }
-    ensures { λ r. ⌜ r ≡ same (blocksBy (now (log .entry)) (now (area .entry)) (stateOf (now (state .entry))) (now (kept .entry)) from 4) (zeros 256) ⌝ }
+    requires { ⌜ Listed (now log) (now area) (stateOf (now state)) (now kept) from × (length (now state) ≡ 1024)
+        × (12 ≤ stateOf (now state) .homes)
+        × (same (blockBy (now log) (now area) (stateOf (now state)) (now kept) from own) (zeros 64) ≡ true) ⌝ }
+    ensures { λ r. ⌜ r ≡ same (blocksBy (now (log .entry)) (now (area .entry)) (stateOf (now (state .entry))) (now (kept .entry)) from 4)
+        (zeros 256) ⌝ }
 {
     let mut i: usize = 0;
     while i < 4 {
@@ -120,8 +129,10 @@ fn no_list(log: &[u8], area: &[u8], state: &[u8], kept: &[u8], from: usize, own:
 
 // Whether the whole list is all zeros.
 pub fn all_zeros(log: &[u8], area: &[u8], state: &[u8], kept: &[u8], from: usize) -> bool
-    requires { ⌜ Listed (now log) (now area) (stateOf (now state)) (now kept) from × (length (now state) ≡ 1024) × (12 ≤ stateOf (now state) .homes) ⌝ }
-    ensures { λ r. ⌜ r ≡ same (blocksBy (now (log .entry)) (now (area .entry)) (stateOf (now (state .entry))) (now (kept .entry)) from 4) (zeros 256) ⌝ }
+    requires { ⌜ Listed (now log) (now area) (stateOf (now state)) (now kept) from × (length (now state) ≡ 1024)
+        × (12 ≤ stateOf (now state) .homes) ⌝ }
+    ensures { λ r. ⌜ r ≡ same (blocksBy (now (log .entry)) (now (area .entry)) (stateOf (now (state .entry))) (now (kept .entry)) from 4)
+        (zeros 256) ⌝ }
 {
     let found = place(log, state, kept, from, 0);
     if !is_zero(log, area, found, 0) {
@@ -140,8 +151,10 @@ pub fn open_listed(
     at: usize,
     home: u64,
 ) -> bool
-    requires { ⌜ Listed (now log) (now area) (stateOf (now state)) (now kept) from × (length (now state) ≡ 1024) × (12 ≤ stateOf (now state) .homes) × (at < 256) × (at % 64 + 16 ≤ 64) ⌝ }
-    ensures { λ r. ⌜ r ≡ inRanges (blocksBy (now (log .entry)) (now (area .entry)) (stateOf (now (state .entry))) (now (kept .entry)) from 4) at home 4 ⌝ }
+    requires { ⌜ Listed (now log) (now area) (stateOf (now state)) (now kept) from × (length (now state) ≡ 1024)
+        × (12 ≤ stateOf (now state) .homes) × (at < 256) × (at % 64 + 16 ≤ 64) ⌝ }
+    ensures { λ r. ⌜ r ≡ inRanges (blocksBy (now (log .entry)) (now (area .entry)) (stateOf (now (state .entry)))
+        (now (kept .entry)) from 4) at home 4 ⌝ }
 {
     let found = place(log, state, kept, from, at / 64);
     own_ranges(log, area, found, at, home)
@@ -157,8 +170,10 @@ fn open_kept(
     at: usize,
     home: u64,
 ) -> bool
-    requires { ⌜ Listed (now log) (now area) (stateOf (now state)) (now kept) from × (length (now state) ≡ 1024) × (12 ≤ stateOf (now state) .homes) × (at < 256) × (at % 64 + 16 ≤ 64) ⌝ }
-    ensures { λ r. ⌜ r ≡ opens (stateOf (now (state .entry)) .homes) (blocksBy (now (log .entry)) (now (area .entry)) (stateOf (now (state .entry))) (now (kept .entry)) from 4) at home ⌝ }
+    requires { ⌜ Listed (now log) (now area) (stateOf (now state)) (now kept) from × (length (now state) ≡ 1024)
+        × (12 ≤ stateOf (now state) .homes) × (at < 256) × (at % 64 + 16 ≤ 64) ⌝ }
+    ensures { λ r. ⌜ r ≡ opens (stateOf (now (state .entry)) .homes)
+        (blocksBy (now (log .entry)) (now (area .entry)) (stateOf (now (state .entry))) (now (kept .entry)) from 4) at home ⌝ }
 {
     let found = place(log, state, kept, from, at / 64);
     if own_ranges(log, area, found, at, home) {
@@ -177,8 +192,10 @@ pub fn open_unsigned(
     at: usize,
     home: u64,
 ) -> bool
-    requires { ⌜ Listed (now log) (now area) (stateOf (now state)) (now kept) from × (length (now state) ≡ 1024) × (12 ≤ stateOf (now state) .homes) × (at < 256) × (at % 64 + 16 ≤ 64) × (listSign (now state) ≢ 1) × (listSign (now state) ≢ 2) ⌝ }
-    ensures { λ r. ⌜ r ≡ opensBy (listSign (now (state .entry))) (stateOf (now (state .entry)) .homes) (blocksBy (now (log .entry)) (now (area .entry)) (stateOf (now (state .entry))) (now (kept .entry)) from 4) at home ⌝ }
+    requires { ⌜ Listed (now log) (now area) (stateOf (now state)) (now kept) from × (length (now state) ≡ 1024)
+        × (12 ≤ stateOf (now state) .homes) × (at < 256) × (at % 64 + 16 ≤ 64) × (listSign (now state) ≢ 1) × (listSign (now state) ≢ 2) ⌝ }
+    ensures { λ r. ⌜ r ≡ opensBy (listSign (now (state .entry))) (stateOf (now (state .entry)) .homes)
+        (blocksBy (now (log .entry)) (now (area .entry)) (stateOf (now (state .entry))) (now (kept .entry)) from 4) at home ⌝ }
 {
     if !none_kept(kept, from) {
         return open_kept(log, area, state, kept, from, at, home);

@@ -10,7 +10,10 @@ ghost use Rattle.log_shown.specs.There.{entryFrom};
 // The bits that are set in one of the four words from index `at` on.
 fn or_words(s: &[u8], at: usize) -> u64
     requires { ⌜ at + 32 ≤ length (now s) ⌝ }
-    ensures { λ r. ⌜ eqb r 0 ≡ (eqb (number 8 (now (s .entry)) at) 0 && (eqb (number 8 (now (s .entry)) (at + 8)) 0 && (eqb (number 8 (now (s .entry)) (at + 16)) 0 && eqb (number 8 (now (s .entry)) (at + 24)) 0))) ⌝ }
+    ensures { λ r. ⌜ eqb r 0
+        ≡ (eqb (number 8 (now (s .entry)) at) 0
+        && (eqb (number 8 (now (s .entry)) (at + 8)) 0
+        && (eqb (number 8 (now (s .entry)) (at + 16)) 0 && eqb (number 8 (now (s .entry)) (at + 24)) 0))) ⌝ }
 {
     let a = base_codec::number(s, at, 8);
     let b = base_codec::number(s, at + 8, 8);
@@ -29,8 +32,8 @@ pub fn zero_block(s: &[u8], at: usize) -> bool
     front | back == 0
 }
 
-// Whether the block that the entry with its block at index `place` of the log gives is all zeros: the turn bit is shifted out of its last word, and the
-// bit that it displaced counts instead.
+// Whether the block that the entry with its block at index `place` of the log gives is all zeros: the turn bit is shifted out of its last
+// word, and the bit that it displaced counts instead.
 pub fn zero_entry(log: &[u8], place: usize) -> bool
     requires { ⌜ (128 ≤ place) × (place + 64 ≤ length (now log)) ⌝ }
     ensures { λ r. ⌜ r ≡ same (entryFrom (now (log .entry)) place) (zeros 64) ⌝ }

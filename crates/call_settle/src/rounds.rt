@@ -1,4 +1,5 @@
-// Rounds: a settle in small steps. A round fixes the fenced position that it covers; each step brings some homes up to it, and the last one settles it.
+// Rounds: a settle in small steps. A round fixes the fenced position that it covers; each step brings some homes up to it, and the last one
+// settles it.
 use call_ask::Reply;
 use model::State;
 ghost use mathlib.Core.Path.{_≡_};
@@ -12,7 +13,8 @@ ghost use Rattle.call_ask.specs.Lent.{lent, leaves};
 
 // Begins a round that covers what is fenced now.
 pub fn begin_round(log: &[u8], area: &[u8], state: &mut [u8]) -> Reply
-    ensures { λ r. ⌜ leaves (r .code) (r .figure) (r .size) (now (log .entry)) (now (area .entry)) (now (state .exit)) [] [] ≡ beginRoundCall (lent (now (log .entry)) (now (area .entry)) (now (state .entry)) [] [] 0 0) ⌝ }
+    ensures { λ r. ⌜ leaves (r .code) (r .figure) (r .size) (now (log .entry)) (now (area .entry)) (now (state .exit)) [] []
+        ≡ beginRoundCall (lent (now (log .entry)) (now (area .entry)) (now (state .entry)) [] [] 0 0) ⌝ }
 {
     let code = call_ask::state_answer(log, area, state);
     if code != 0 {
@@ -47,7 +49,8 @@ pub fn step_round(
     batch: &mut [u8],
     homes: u64,
 ) -> Reply
-    ensures { λ r. ⌜ leaves (r .code) (r .figure) (r .size) (now (log .entry)) (now (area .exit)) (now (state .exit)) [] (now (batch .exit)) ≡ stepRoundCall (lent (now (log .entry)) (now (area .entry)) (now (state .entry)) [] (now (batch .entry)) 0 0) homes ⌝ }
+    ensures { λ r. ⌜ leaves (r .code) (r .figure) (r .size) (now (log .entry)) (now (area .exit)) (now (state .exit)) [] (now (batch .exit))
+        ≡ stepRoundCall (lent (now (log .entry)) (now (area .entry)) (now (state .entry)) [] (now (batch .entry)) 0 0) homes ⌝ }
 {
     let code = call_ask::state_answer(log, area, state);
     if code != 0 {

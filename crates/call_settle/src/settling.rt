@@ -21,7 +21,8 @@ fn settle_state(state: &mut [u8], st: State)
 
 // Brings the data copy and the data area up to the fenced position.
 pub fn settle(log: &[u8], area: &mut [u8], state: &mut [u8], batch: &mut [u8]) -> Reply
-    ensures { λ r. ⌜ leaves (r .code) (r .figure) (r .size) (now (log .entry)) (now (area .exit)) (now (state .exit)) [] (now (batch .exit)) ≡ settleCall (lent (now (log .entry)) (now (area .entry)) (now (state .entry)) [] (now (batch .entry)) 0 0) ⌝ }
+    ensures { λ r. ⌜ leaves (r .code) (r .figure) (r .size) (now (log .entry)) (now (area .exit)) (now (state .exit)) [] (now (batch .exit))
+        ≡ settleCall (lent (now (log .entry)) (now (area .entry)) (now (state .entry)) [] (now (batch .entry)) 0 0) ⌝ }
 {
     let code = call_ask::state_answer(log, area, state);
     if code != 0 {

@@ -34,7 +34,8 @@ pub fn log_answer(state: &[u8], w: usize, batch: usize) -> u64
 // Logs the held block of writer `w` with the tag `word` at the next position; the seventh place of a group hands it on.
 pub fn log_entry(log: &mut [u8], state: &mut [u8], batch: &mut [u8], word: u64, w: usize) -> u64
     requires { ⌜ MayLog (now log) (now state) (now batch) (stateOf (now state)) w × (word < 2 ^ 57) ⌝ }
-    ensures { λ r. ⌜ Wrote r (now (state .exit)) (now (log .exit)) (now (batch .exit)) (now (batch .entry)) (logged (now (state .entry)) (now (log .entry)) word (heldOf (now (state .entry)) w)) ⌝ }
+    ensures { λ r. ⌜ Wrote r (now (state .exit)) (now (log .exit)) (now (batch .exit)) (now (batch .entry))
+        (logged (now (state .entry)) (now (log .entry)) word (heldOf (now (state .entry)) w)) ⌝ }
 {
     let st = base_state::state(state);
     let at = log_scan::first_slot(st.next, st.groups);

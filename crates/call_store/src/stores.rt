@@ -37,8 +37,10 @@ fn hold_next(
     w: usize,
     home: u64,
 ) -> u64
-    requires { ⌜ MayLog (now log) (now state) (now batch) st w × Fits st r (nextPosition st) × (length (now block) ≡ 64) × (holds r ≡ true) × (r .home ≢ home) ⌝ }
-    ensures { λ x. ⌜ HeldNext x (now (state .exit)) (now (log .exit)) (now (batch .exit)) (now (state .entry)) (now (log .entry)) (now (batch .entry)) (now (block .entry)) st r w home ⌝ }
+    requires { ⌜ MayLog (now log) (now state) (now batch) st w × Fits st r (nextPosition st) × (length (now block) ≡ 64) × (holds r ≡ true)
+        × (r .home ≢ home) ⌝ }
+    ensures { λ x. ⌜ HeldNext x (now (state .exit)) (now (log .exit)) (now (batch .exit)) (now (state .entry)) (now (log .entry))
+        (now (batch .entry)) (now (block .entry)) st r w home ⌝ }
 {
     let position = base_state::next_position(st);
     let word = store_word(st, r, position);
@@ -59,8 +61,10 @@ fn store_other(
     w: usize,
     home: u64,
 ) -> u64
-    requires { ⌜ MayLog (now log) (now state) (now batch) st w × Fits st r (nextPosition st) × (length (now block) ≡ 64) × (holds r ≡ true) × (r .home ≢ home) ⌝ }
-    ensures { λ x. ⌜ StoredOther x (now (state .exit)) (now (log .exit)) (now (batch .exit)) (now (state .entry)) (now (log .entry)) (now (batch .entry)) (now (block .entry)) st r w home ⌝ }
+    requires { ⌜ MayLog (now log) (now state) (now batch) st w × Fits st r (nextPosition st) × (length (now block) ≡ 64) × (holds r ≡ true)
+        × (r .home ≢ home) ⌝ }
+    ensures { λ x. ⌜ StoredOther x (now (state .exit)) (now (log .exit)) (now (batch .exit)) (now (state .entry)) (now (log .entry))
+        (now (batch .entry)) (now (block .entry)) st r w home ⌝ }
 {
     let left = base_state::promise_left(state, w);
     let size = hold_next(log, state, block, batch, st, r, w, home);
@@ -77,9 +81,11 @@ pub fn store_next(
     w: usize,
     home: u64,
 ) -> u64
-    requires { ⌜ MayLog (now log) (now state) (now batch) (stateOf (now state)) w × Fits (stateOf (now state)) (writerOf (now state) w) (nextPosition (stateOf (now state)))
+    requires { ⌜ MayLog (now log) (now state) (now batch) (stateOf (now state)) w
+        × Fits (stateOf (now state)) (writerOf (now state) w) (nextPosition (stateOf (now state)))
         × (length (now block) ≡ 64) × (holds (writerOf (now state) w) ≡ true) × (writerOf (now state) w .home ≢ home) ⌝ }
-    ensures { λ x. ⌜ StoredOther x (now (state .exit)) (now (log .exit)) (now (batch .exit)) (now (state .entry)) (now (log .entry)) (now (batch .entry)) (now (block .entry)) (stateOf (now (state .entry))) (writerOf (now (state .entry)) w) w home ⌝ }
+    ensures { λ x. ⌜ StoredOther x (now (state .exit)) (now (log .exit)) (now (batch .exit)) (now (state .entry)) (now (log .entry))
+        (now (batch .entry)) (now (block .entry)) (stateOf (now (state .entry))) (writerOf (now (state .entry)) w) w home ⌝ }
 {
     let st = base_state::state(state);
     let r = base_state::writer(state, w);
@@ -96,7 +102,10 @@ fn store_answer(
     writer: u64,
     home: u64,
 ) -> u64
-    ensures { λ r. ⌜ r ≡ storeAnswer (lent (now (log .entry)) (now (area .entry)) (now (state .entry)) (now (block .entry)) (now (batch .entry)) writer home) (sizeOf (storeEffect (lent (now (log .entry)) (now (area .entry)) (now (state .entry)) (now (block .entry)) (now (batch .entry)) writer home))) ⌝ }
+    ensures { λ r. ⌜ r ≡ storeAnswer (lent (now (log .entry)) (now (area .entry)) (now (state .entry)) (now (block .entry))
+        (now (batch .entry)) writer home)
+        (sizeOf (storeEffect (lent (now (log .entry)) (now (area .entry)) (now (state .entry)) (now (block .entry))
+        (now (batch .entry)) writer home))) ⌝ }
 {
     let asked = call_ask::block_answer(log, area, state, block);
     if asked != 0 {
@@ -134,7 +143,10 @@ pub fn store(
     writer: u64,
     home: u64,
 ) -> Reply
-    ensures { λ r. ⌜ leaves (r .code) (r .figure) (r .size) (now (log .exit)) (now (area .entry)) (now (state .exit)) (now (block .entry)) (now (batch .exit)) ≡ storeCall (lent (now (log .entry)) (now (area .entry)) (now (state .entry)) (now (block .entry)) (now (batch .entry)) writer home) ⌝ }
+    ensures { λ r. ⌜ leaves (r .code) (r .figure) (r .size) (now (log .exit)) (now (area .entry)) (now (state .exit)) (now (block .entry))
+        (now (batch .exit))
+        ≡ storeCall (lent (now (log .entry)) (now (area .entry)) (now (state .entry)) (now (block .entry))
+        (now (batch .entry)) writer home) ⌝ }
 {
     let code = store_answer(log, area, state, block, batch, writer, home);
     if code != 0 {

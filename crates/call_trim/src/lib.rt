@@ -22,7 +22,8 @@ pub fn trim(
     newest: &mut [u8],
     batch: &mut [u8],
 ) -> Reply
-    ensures { λ r. ⌜ leavesAll (r .code) (r .figure) (r .size) (now (log .exit)) (now (area .entry)) (now (state .exit)) (now (newest .exit)) [] (now (batch .exit))
+    ensures { λ r. ⌜ leavesAll (r .code) (r .figure) (r .size) (now (log .exit)) (now (area .entry)) (now (state .exit))
+        (now (newest .exit)) [] (now (batch .exit))
         ≡ trimCall (lentAll (now (log .entry)) (now (area .entry)) (now (state .entry)) (now (newest .entry)) [] (now (batch .entry)) 0 0) ⌝ }
 {
     let code = call_ask::newest_answer(log, area, state, newest);

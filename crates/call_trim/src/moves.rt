@@ -47,7 +47,8 @@ pub fn move_start(
     st: State,
     start: u64,
 )
-    requires { ⌜ (64 ≤ length (now log)) × (length (now state) ≡ 1024) × (length (now newest) ≡ 8 * st .homes) × (68 ≤ length (now batch)) × (start ≤ 2 ^ 47) × (7 * st .next < 2 ^ 64) ⌝ }
+    requires { ⌜ (64 ≤ length (now log)) × (length (now state) ≡ 1024) × (length (now newest) ≡ 8 * st .homes) × (68 ≤ length (now batch))
+        × (start ≤ 2 ^ 47) × (7 * st .next < 2 ^ 64) ⌝ }
     ensures { λ _. ⌜ (now (log .exit) ≡ puts (now (log .entry)) 0 (header start (st .groups) (st .homes)))
         × (now (state .exit) ≡ carryListed (st .homes) (now (newest .exit)) (movedStrip (now (state .entry)) st start))
         × (now (newest .exit) ≡ forget (now (newest .entry)) (7 * start) (st .homes))

@@ -34,7 +34,8 @@ fn group_entries(
     m: usize,
     sum: u64,
 ) -> u64
-    requires { ⌜ (length (now group) ≡ 512) × (groups ≤ 1024) × (start ≤ 2 ^ 47) × (n < start + 1024) × (turn ≡ turnOf groups n) × (m ≤ 7) × (sum < 2 ^ 31) ⌝ }
+    requires { ⌜ (length (now group) ≡ 512) × (groups ≤ 1024) × (start ≤ 2 ^ 47) × (n < start + 1024) × (turn ≡ turnOf groups n) × (m ≤ 7)
+        × (sum < 2 ^ 31) ⌝ }
     ensures { λ r. ⌜ (r ≡ summed (entryIn (now (group .entry)) groups homes start) (7 * n) m sum) × (r ≤ sum + 2 ^ 13 * m) ⌝ }
 {
     if !log_scan::group_valid(group, groups, start, n) {
@@ -56,7 +57,8 @@ fn group_entries(
 // The entries that all closing entries below `end` count.
 fn closed_entries(log: &[u8], groups: u64, homes: u64, start: u64, end: u64) -> u64
     requires { ⌜ Walkable (now log) groups start end ⌝ }
-    ensures { λ r. ⌜ (r ≡ summed (entryAt (now (log .entry)) groups homes start) (7 * start) (end - 7 * start) 0) × (r ≤ 2 ^ 13 * (end - 7 * start)) ⌝ }
+    ensures { λ r. ⌜ (r ≡ summed (entryAt (now (log .entry)) groups homes start) (7 * start) (end - 7 * start) 0)
+        × (r ≤ 2 ^ 13 * (end - 7 * start)) ⌝ }
 {
     let base = 7 * start;
     if end <= base {

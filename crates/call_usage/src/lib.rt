@@ -33,7 +33,8 @@ fn refused(code: u64) -> Usage
 // The places that are live: entries of committed transactions in the log copy, and those that open transactions have logged.
 fn live_entries(log: &[u8], area: &[u8], state: &[u8], st: State) -> u64
     requires { ⌜ Usable (now log) (now area) (now state) × (st ≡ stateOf (now state)) ⌝ }
-    ensures { λ r. ⌜ r ≡ committedEntries (lent (now (log .entry)) (now (area .entry)) (now (state .entry)) [] [] 0 0) + openEntries (now (state .entry)) 8 ⌝ }
+    ensures { λ r. ⌜ r ≡ committedEntries (lent (now (log .entry)) (now (area .entry)) (now (state .entry)) [] [] 0 0) + openEntries
+        (now (state .entry)) 8 ⌝ }
 {
     let n = base_state::next_position(st) - 7 * st.start;
     let committed = committed_entries(log, st.groups, st.homes, st.start, n);

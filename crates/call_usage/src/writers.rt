@@ -34,7 +34,8 @@ pub fn open_entries(state: &[u8]) -> u64
 // The holder of the writers up to `w`, where `h` is that of those before it.
 fn lower(state: &[u8], w: usize, h: Holder) -> Holder
     requires { ⌜ (length (now state) ≡ 1024) × (w < 8) ⌝ }
-    ensures { λ r. ⌜ r ≡ cond (holdsLower (writerOf (now (state .entry)) w) h) (record { writer = w; first = writerOf (now (state .entry)) w .first }) h ⌝ }
+    ensures { λ r. ⌜ r ≡ cond (holdsLower (writerOf (now (state .entry)) w) h)
+        (record { writer = w; first = writerOf (now (state .entry)) w .first }) h ⌝ }
 {
     let r = base_state::writer(state, w);
     if !base_state::has_logged(r) {

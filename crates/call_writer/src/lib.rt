@@ -37,7 +37,8 @@ fn begin_answer(log: &[u8], area: &[u8], state: &[u8], writer: u64) -> u64
 
 // Begins a transaction of a writer that has none open.
 pub fn begin(log: &[u8], area: &[u8], state: &mut [u8], writer: u64) -> Reply
-    ensures { λ r. ⌜ leaves (r .code) (r .figure) (r .size) (now (log .entry)) (now (area .entry)) (now (state .exit)) [] [] ≡ beginCall (lent (now (log .entry)) (now (area .entry)) (now (state .entry)) [] [] writer 0) ⌝ }
+    ensures { λ r. ⌜ leaves (r .code) (r .figure) (r .size) (now (log .entry)) (now (area .entry)) (now (state .exit)) [] []
+        ≡ beginCall (lent (now (log .entry)) (now (area .entry)) (now (state .entry)) [] [] writer 0) ⌝ }
 {
     let answer = begin_answer(log, area, state, writer);
     if answer != 0 {
@@ -63,7 +64,8 @@ fn reserve_answer(log: &[u8], area: &[u8], state: &[u8], writer: u64, n: u64) ->
 
 // Begins a transaction of a writer that has none open, and promises it `n` places: its first `n` entries find room.
 pub fn reserve(log: &[u8], area: &[u8], state: &mut [u8], writer: u64, n: u64) -> Reply
-    ensures { λ r. ⌜ leaves (r .code) (r .figure) (r .size) (now (log .entry)) (now (area .entry)) (now (state .exit)) [] [] ≡ reserveCall (lent (now (log .entry)) (now (area .entry)) (now (state .entry)) [] [] writer 0) n ⌝ }
+    ensures { λ r. ⌜ leaves (r .code) (r .figure) (r .size) (now (log .entry)) (now (area .entry)) (now (state .exit)) [] []
+        ≡ reserveCall (lent (now (log .entry)) (now (area .entry)) (now (state .entry)) [] [] writer 0) n ⌝ }
 {
     let answer = reserve_answer(log, area, state, writer, n);
     if answer != 0 {
@@ -90,7 +92,8 @@ fn abort_answer(log: &[u8], area: &[u8], state: &[u8], writer: u64) -> u64
 
 // Drops a writer's open transaction with the block that it holds, and gives back the places promised to it.
 pub fn abort(log: &[u8], area: &[u8], state: &mut [u8], writer: u64) -> Reply
-    ensures { λ r. ⌜ leaves (r .code) (r .figure) (r .size) (now (log .entry)) (now (area .entry)) (now (state .exit)) [] [] ≡ abortCall (lent (now (log .entry)) (now (area .entry)) (now (state .entry)) [] [] writer 0) ⌝ }
+    ensures { λ r. ⌜ leaves (r .code) (r .figure) (r .size) (now (log .entry)) (now (area .entry)) (now (state .exit)) [] []
+        ≡ abortCall (lent (now (log .entry)) (now (area .entry)) (now (state .entry)) [] [] writer 0) ⌝ }
 {
     let answer = abort_answer(log, area, state, writer);
     if answer != 0 {
@@ -103,7 +106,8 @@ pub fn abort(log: &[u8], area: &[u8], state: &mut [u8], writer: u64) -> Reply
 
 // Makes the fenced position the durable mark, and returns it: all fences so far have passed.
 pub fn confirm(log: &[u8], area: &[u8], state: &mut [u8]) -> Reply
-    ensures { λ r. ⌜ leaves (r .code) (r .figure) (r .size) (now (log .entry)) (now (area .entry)) (now (state .exit)) [] [] ≡ confirmCall (lent (now (log .entry)) (now (area .entry)) (now (state .entry)) [] [] 0 0) ⌝ }
+    ensures { λ r. ⌜ leaves (r .code) (r .figure) (r .size) (now (log .entry)) (now (area .entry)) (now (state .exit)) [] []
+        ≡ confirmCall (lent (now (log .entry)) (now (area .entry)) (now (state .entry)) [] [] 0 0) ⌝ }
 {
     let answer = call_ask::state_answer(log, area, state);
     if answer != 0 {

@@ -11,7 +11,8 @@ ghost use Rattle.call_ask.specs.Lent.{lentAll, leavesAll, lent, leaves};
 // Writes an empty store: every group unused, every home zeros, then the header.
 #[no_mangle]
 pub extern "C" fn kagutin_format(log: &mut [u8], area: &mut [u8], batch: &mut [u8]) -> Reply
-    ensures { λ r. ⌜ leaves (r .code) (r .figure) (r .size) (now (log .exit)) (now (area .exit)) [] [] (now (batch .exit)) ≡ formatCall (lent (now (log .entry)) (now (area .entry)) [] [] (now (batch .entry)) 0 0) ⌝ }
+    ensures { λ r. ⌜ leaves (r .code) (r .figure) (r .size) (now (log .exit)) (now (area .exit)) [] [] (now (batch .exit))
+        ≡ formatCall (lent (now (log .entry)) (now (area .entry)) [] [] (now (batch .entry)) 0 0) ⌝ }
 {
     call_open::format(log, area, batch)
 }
@@ -25,7 +26,10 @@ pub extern "C" fn kagutin_open(
     newest: &mut [u8],
     batch: &mut [u8],
 ) -> Reply
-    ensures { λ r. ⌜ leavesAll (r .code) (r .figure) (r .size) (now (log .exit)) (now (area .exit)) (now (state .exit)) (now (newest .exit)) [] (now (batch .exit)) ≡ openCall (lentAll (now (log .entry)) (now (area .entry)) (now (state .entry)) (now (newest .entry)) [] (now (batch .entry)) 0 0) ⌝ }
+    ensures { λ r. ⌜ leavesAll (r .code) (r .figure) (r .size) (now (log .exit)) (now (area .exit)) (now (state .exit))
+        (now (newest .exit)) [] (now (batch .exit))
+        ≡ openCall (lentAll (now (log .entry)) (now (area .entry)) (now (state .entry)) (now (newest .entry)) []
+        (now (batch .entry)) 0 0) ⌝ }
 {
     call_open::reopen(log, area, state, newest, batch)
 }
@@ -33,7 +37,8 @@ pub extern "C" fn kagutin_open(
 // Begins a transaction of a writer that has none open.
 #[no_mangle]
 pub extern "C" fn kagutin_begin(log: &[u8], area: &[u8], state: &mut [u8], writer: u64) -> Reply
-    ensures { λ r. ⌜ leaves (r .code) (r .figure) (r .size) (now (log .entry)) (now (area .entry)) (now (state .exit)) [] [] ≡ beginCall (lent (now (log .entry)) (now (area .entry)) (now (state .entry)) [] [] writer 0) ⌝ }
+    ensures { λ r. ⌜ leaves (r .code) (r .figure) (r .size) (now (log .entry)) (now (area .entry)) (now (state .exit)) [] []
+        ≡ beginCall (lent (now (log .entry)) (now (area .entry)) (now (state .entry)) [] [] writer 0) ⌝ }
 {
     call_writer::begin(log, area, state, writer)
 }
@@ -47,7 +52,8 @@ pub extern "C" fn kagutin_reserve(
     writer: u64,
     n: u64,
 ) -> Reply
-    ensures { λ r. ⌜ leaves (r .code) (r .figure) (r .size) (now (log .entry)) (now (area .entry)) (now (state .exit)) [] [] ≡ reserveCall (lent (now (log .entry)) (now (area .entry)) (now (state .entry)) [] [] writer 0) n ⌝ }
+    ensures { λ r. ⌜ leaves (r .code) (r .figure) (r .size) (now (log .entry)) (now (area .entry)) (now (state .exit)) [] []
+        ≡ reserveCall (lent (now (log .entry)) (now (area .entry)) (now (state .entry)) [] [] writer 0) n ⌝ }
 {
     call_writer::reserve(log, area, state, writer, n)
 }
@@ -55,7 +61,8 @@ pub extern "C" fn kagutin_reserve(
 // Drops a writer's open transaction with the block that it holds, and gives back the places promised to it.
 #[no_mangle]
 pub extern "C" fn kagutin_abort(log: &[u8], area: &[u8], state: &mut [u8], writer: u64) -> Reply
-    ensures { λ r. ⌜ leaves (r .code) (r .figure) (r .size) (now (log .entry)) (now (area .entry)) (now (state .exit)) [] [] ≡ abortCall (lent (now (log .entry)) (now (area .entry)) (now (state .entry)) [] [] writer 0) ⌝ }
+    ensures { λ r. ⌜ leaves (r .code) (r .figure) (r .size) (now (log .entry)) (now (area .entry)) (now (state .exit)) [] []
+        ≡ abortCall (lent (now (log .entry)) (now (area .entry)) (now (state .entry)) [] [] writer 0) ⌝ }
 {
     call_writer::abort(log, area, state, writer)
 }
@@ -71,7 +78,10 @@ pub extern "C" fn kagutin_store(
     writer: u64,
     home: u64,
 ) -> Reply
-    ensures { λ r. ⌜ leaves (r .code) (r .figure) (r .size) (now (log .exit)) (now (area .entry)) (now (state .exit)) (now (block .entry)) (now (batch .exit)) ≡ storeCall (lent (now (log .entry)) (now (area .entry)) (now (state .entry)) (now (block .entry)) (now (batch .entry)) writer home) ⌝ }
+    ensures { λ r. ⌜ leaves (r .code) (r .figure) (r .size) (now (log .exit)) (now (area .entry)) (now (state .exit)) (now (block .entry))
+        (now (batch .exit))
+        ≡ storeCall (lent (now (log .entry)) (now (area .entry)) (now (state .entry)) (now (block .entry))
+        (now (batch .entry)) writer home) ⌝ }
 {
     call_store::store(log, area, state, block, batch, writer, home)
 }
@@ -86,7 +96,10 @@ pub extern "C" fn kagutin_commit(
     batch: &mut [u8],
     writer: u64,
 ) -> Reply
-    ensures { λ r. ⌜ leavesAll (r .code) (r .figure) (r .size) (now (log .exit)) (now (area .entry)) (now (state .exit)) (now (newest .exit)) [] (now (batch .exit)) ≡ commitCall (lentAll (now (log .entry)) (now (area .entry)) (now (state .entry)) (now (newest .entry)) [] (now (batch .entry)) writer 0) ⌝ }
+    ensures { λ r. ⌜ leavesAll (r .code) (r .figure) (r .size) (now (log .exit)) (now (area .entry)) (now (state .exit))
+        (now (newest .exit)) [] (now (batch .exit))
+        ≡ commitCall (lentAll (now (log .entry)) (now (area .entry)) (now (state .entry)) (now (newest .entry)) []
+        (now (batch .entry)) writer 0) ⌝ }
 {
     call_commit::commit(log, area, state, newest, batch, writer)
 }
@@ -99,7 +112,9 @@ pub extern "C" fn kagutin_flush(
     state: &mut [u8],
     batch: &mut [u8],
 ) -> Reply
-    ensures { λ r. ⌜ leaves (r .code) (r .figure) (r .size) (now (log .entry)) (now (area .entry)) (now (state .exit)) [] (now (batch .exit)) ≡ flushCall (lent (now (log .entry)) (now (area .entry)) (now (state .entry)) [] (now (batch .entry)) 0 0) ⌝ }
+    ensures { λ r. ⌜ leaves (r .code) (r .figure) (r .size) (now (log .entry)) (now (area .entry)) (now (state .exit)) []
+        (now (batch .exit))
+        ≡ flushCall (lent (now (log .entry)) (now (area .entry)) (now (state .entry)) [] (now (batch .entry)) 0 0) ⌝ }
 {
     call_flush::flush(log, area, state, batch)
 }
@@ -107,7 +122,8 @@ pub extern "C" fn kagutin_flush(
 // Makes the fenced position the durable mark, and returns it.
 #[no_mangle]
 pub extern "C" fn kagutin_confirm(log: &[u8], area: &[u8], state: &mut [u8]) -> Reply
-    ensures { λ r. ⌜ leaves (r .code) (r .figure) (r .size) (now (log .entry)) (now (area .entry)) (now (state .exit)) [] [] ≡ confirmCall (lent (now (log .entry)) (now (area .entry)) (now (state .entry)) [] [] 0 0) ⌝ }
+    ensures { λ r. ⌜ leaves (r .code) (r .figure) (r .size) (now (log .entry)) (now (area .entry)) (now (state .exit)) [] []
+        ≡ confirmCall (lent (now (log .entry)) (now (area .entry)) (now (state .entry)) [] [] 0 0) ⌝ }
 {
     call_writer::confirm(log, area, state)
 }
@@ -120,7 +136,8 @@ pub extern "C" fn kagutin_settle(
     state: &mut [u8],
     batch: &mut [u8],
 ) -> Reply
-    ensures { λ r. ⌜ leaves (r .code) (r .figure) (r .size) (now (log .entry)) (now (area .exit)) (now (state .exit)) [] (now (batch .exit)) ≡ settleCall (lent (now (log .entry)) (now (area .entry)) (now (state .entry)) [] (now (batch .entry)) 0 0) ⌝ }
+    ensures { λ r. ⌜ leaves (r .code) (r .figure) (r .size) (now (log .entry)) (now (area .exit)) (now (state .exit)) [] (now (batch .exit))
+        ≡ settleCall (lent (now (log .entry)) (now (area .entry)) (now (state .entry)) [] (now (batch .entry)) 0 0) ⌝ }
 {
     call_settle::settle(log, area, state, batch)
 }
@@ -128,7 +145,8 @@ pub extern "C" fn kagutin_settle(
 // Begins a round of settling in small steps, which covers the commits below the fenced position of now.
 #[no_mangle]
 pub extern "C" fn kagutin_begin_round(log: &[u8], area: &[u8], state: &mut [u8]) -> Reply
-    ensures { λ r. ⌜ leaves (r .code) (r .figure) (r .size) (now (log .entry)) (now (area .entry)) (now (state .exit)) [] [] ≡ beginRoundCall (lent (now (log .entry)) (now (area .entry)) (now (state .entry)) [] [] 0 0) ⌝ }
+    ensures { λ r. ⌜ leaves (r .code) (r .figure) (r .size) (now (log .entry)) (now (area .entry)) (now (state .exit)) [] []
+        ≡ beginRoundCall (lent (now (log .entry)) (now (area .entry)) (now (state .entry)) [] [] 0 0) ⌝ }
 {
     call_settle::begin_round(log, area, state)
 }
@@ -142,7 +160,8 @@ pub extern "C" fn kagutin_step_round(
     batch: &mut [u8],
     homes: u64,
 ) -> Reply
-    ensures { λ r. ⌜ leaves (r .code) (r .figure) (r .size) (now (log .entry)) (now (area .exit)) (now (state .exit)) [] (now (batch .exit)) ≡ stepRoundCall (lent (now (log .entry)) (now (area .entry)) (now (state .entry)) [] (now (batch .entry)) 0 0) homes ⌝ }
+    ensures { λ r. ⌜ leaves (r .code) (r .figure) (r .size) (now (log .entry)) (now (area .exit)) (now (state .exit)) [] (now (batch .exit))
+        ≡ stepRoundCall (lent (now (log .entry)) (now (area .entry)) (now (state .entry)) [] (now (batch .entry)) 0 0) homes ⌝ }
 {
     call_settle::step_round(log, area, state, batch, homes)
 }
@@ -156,7 +175,10 @@ pub extern "C" fn kagutin_trim(
     newest: &mut [u8],
     batch: &mut [u8],
 ) -> Reply
-    ensures { λ r. ⌜ leavesAll (r .code) (r .figure) (r .size) (now (log .exit)) (now (area .entry)) (now (state .exit)) (now (newest .exit)) [] (now (batch .exit)) ≡ trimCall (lentAll (now (log .entry)) (now (area .entry)) (now (state .entry)) (now (newest .entry)) [] (now (batch .entry)) 0 0) ⌝ }
+    ensures { λ r. ⌜ leavesAll (r .code) (r .figure) (r .size) (now (log .exit)) (now (area .entry)) (now (state .exit))
+        (now (newest .exit)) [] (now (batch .exit))
+        ≡ trimCall (lentAll (now (log .entry)) (now (area .entry)) (now (state .entry)) (now (newest .entry)) []
+        (now (batch .entry)) 0 0) ⌝ }
 {
     call_trim::trim(log, area, state, newest, batch)
 }
@@ -172,7 +194,10 @@ pub extern "C" fn kagutin_read(
     writer: u64,
     home: u64,
 ) -> Reply
-    ensures { λ r. ⌜ leavesAll (r .code) (r .figure) (r .size) (now (log .entry)) (now (area .entry)) (now (state .entry)) (now (newest .entry)) (now (block .exit)) [] ≡ readCall (lentAll (now (log .entry)) (now (area .entry)) (now (state .entry)) (now (newest .entry)) (now (block .entry)) [] writer home) ⌝ }
+    ensures { λ r. ⌜ leavesAll (r .code) (r .figure) (r .size) (now (log .entry)) (now (area .entry)) (now (state .entry))
+        (now (newest .entry)) (now (block .exit)) []
+        ≡ readCall (lentAll (now (log .entry)) (now (area .entry)) (now (state .entry)) (now (newest .entry))
+        (now (block .entry)) [] writer home) ⌝ }
 {
     call_read::read(log, area, state, newest, block, writer, home)
 }
@@ -188,7 +213,10 @@ pub extern "C" fn kagutin_fetch(
     writer: u64,
     home: u64,
 ) -> Reply
-    ensures { λ r. ⌜ leavesAll (r .code) (r .figure) (r .size) (now (log .entry)) (now (area .entry)) (now (state .entry)) (now (newest .entry)) (now (blocks .exit)) [] ≡ fetchCall (lentAll (now (log .entry)) (now (area .entry)) (now (state .entry)) (now (newest .entry)) (now (blocks .entry)) [] writer home) ⌝ }
+    ensures { λ r. ⌜ leavesAll (r .code) (r .figure) (r .size) (now (log .entry)) (now (area .entry)) (now (state .entry))
+        (now (newest .entry)) (now (blocks .exit)) []
+        ≡ fetchCall (lentAll (now (log .entry)) (now (area .entry)) (now (state .entry)) (now (newest .entry))
+        (now (blocks .entry)) [] writer home) ⌝ }
 {
     call_many_fetch::fetch(log, area, state, newest, blocks, writer, home)
 }
@@ -204,7 +232,10 @@ pub extern "C" fn kagutin_revise(
     writer: u64,
     home: u64,
 ) -> Reply
-    ensures { λ r. ⌜ leavesAll (r .code) (r .figure) (r .size) (now (log .entry)) (now (area .entry)) (now (state .entry)) (now (newest .entry)) (now (blocks .exit)) [] ≡ reviseCall (lentAll (now (log .entry)) (now (area .entry)) (now (state .entry)) (now (newest .entry)) (now (blocks .entry)) [] writer home) ⌝ }
+    ensures { λ r. ⌜ leavesAll (r .code) (r .figure) (r .size) (now (log .entry)) (now (area .entry)) (now (state .entry))
+        (now (newest .entry)) (now (blocks .exit)) []
+        ≡ reviseCall (lentAll (now (log .entry)) (now (area .entry)) (now (state .entry)) (now (newest .entry))
+        (now (blocks .entry)) [] writer home) ⌝ }
 {
     call_many_fetch::revise(log, area, state, newest, blocks, writer, home)
 }
@@ -221,7 +252,10 @@ pub extern "C" fn kagutin_transact(
     writer: u64,
     home: u64,
 ) -> Reply
-    ensures { λ r. ⌜ leavesAll (r .code) (r .figure) (r .size) (now (log .exit)) (now (area .entry)) (now (state .exit)) (now (newest .exit)) (now (blocks .entry)) (now (batch .exit)) ≡ transactCall (lentAll (now (log .entry)) (now (area .entry)) (now (state .entry)) (now (newest .entry)) (now (blocks .entry)) (now (batch .entry)) writer home) ⌝ }
+    ensures { λ r. ⌜ leavesAll (r .code) (r .figure) (r .size) (now (log .exit)) (now (area .entry)) (now (state .exit))
+        (now (newest .exit)) (now (blocks .entry)) (now (batch .exit))
+        ≡ transactCall (lentAll (now (log .entry)) (now (area .entry)) (now (state .entry)) (now (newest .entry)) (now (blocks .entry))
+        (now (batch .entry)) writer home) ⌝ }
 {
     call_many::transact(log, area, state, newest, blocks, batch, writer, home)
 }

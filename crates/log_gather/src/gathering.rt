@@ -61,7 +61,8 @@ fn visit_group(
     heads: &mut [u16],
     links: &mut [u16],
 )
-    requires { ⌜ (length (now group) ≡ 512) × (groups ≤ 1024) × (start ≤ 2 ^ 47) × (start ≤ n) × (n < start + groups) × (turn ≡ turnOf groups n) × (m ≤ 7)
+    requires { ⌜ (length (now group) ≡ 512) × (groups ≤ 1024) × (start ≤ 2 ^ 47) × (start ≤ n) × (n < start + groups)
+        × (turn ≡ turnOf groups n) × (m ≤ 7)
         × (7 * groups ≤ length (now last)) × Roomy homes (length (now last)) (now last) (now heads) (now links) ⌝ }
     ensures { λ _. ⌜ record { last = now (last .exit); heads = now (heads .exit); links = now (links .exit) }
         ≡ over (note (7 * start)) (entryIn (now (group .entry)) groups homes start) (7 * n) m

@@ -1,5 +1,5 @@
-// The pass over the log that applies the commit rule and chains the entries of each word of homes. A transaction's cell, by its first position, counts
-// its entries until a closing entry of it is committed; from then on it holds that closing entry, above a mark.
+// The pass over the log that applies the commit rule and chains the entries of each word of homes. A transaction's cell, by its first
+// position, counts its entries until a closing entry of it is committed; from then on it holds that closing entry, above a mark.
 use super::gathering::chain;
 use log_scan::Progress;
 use model::Tag;
@@ -66,7 +66,8 @@ fn join_closing(
     count: u64,
     progress: Progress,
 ) -> Progress
-    requires { ⌜ (base ≤ position) × (position < base + 7168) × (position < 2 ^ 62) × (link < 2 ^ 13) × (progress .end ≤ position) × (progress .number ≤ position)
+    requires { ⌜ (base ≤ position) × (position < base + 7168) × (position < 2 ^ 62) × (link < 2 ^ 13) × (progress .end ≤ position)
+        × (progress .number ≤ position)
         × (position < base + length (now cells)) × (first < length (now cells)) × (home < 65536)
         × Roomy 0 (length (now cells)) (now cells) (now heads) (now links) ⌝ }
     ensures { λ r. ⌜ record { cells = now (cells .exit); heads = now (heads .exit); links = now (links .exit); progress = r }
@@ -147,7 +148,8 @@ fn visit_group(
     links: &mut [u16],
     progress: Progress,
 ) -> Progress
-    requires { ⌜ (length (now group) ≡ 512) × (groups ≤ 1024) × (start ≤ 2 ^ 47) × (start ≤ n) × (n < start + groups) × (turn ≡ turnOf groups n) × (m ≤ 7)
+    requires { ⌜ (length (now group) ≡ 512) × (groups ≤ 1024) × (start ≤ 2 ^ 47) × (start ≤ n) × (n < start + groups)
+        × (turn ≡ turnOf groups n) × (m ≤ 7)
         × (progress .end ≤ 7 * n) × (progress .number ≤ 7 * n) × (7 * groups ≤ length (now cells))
         × Roomy homes (length (now cells)) (now cells) (now heads) (now links) ⌝ }
     ensures { λ r. ⌜ record { cells = now (cells .exit); heads = now (heads .exit); links = now (links .exit); progress = r }

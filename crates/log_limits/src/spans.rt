@@ -39,8 +39,8 @@ fn begins_after(word: u64, position: u64, limit: u64) -> bool
     true
 }
 
-// The same for tag `k` of a group with turn `turn`. A tag that closes nothing, or a transaction that begins at the limit or after it, is passed whatever
-// its data block is.
+// The same for tag `k` of a group with turn `turn`. A tag that closes nothing, or a transaction that begins at the limit or after it, is
+// passed whatever its data block is.
 fn tag_limit(
     group: &[u8],
     turn: u64,

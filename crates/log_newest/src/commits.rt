@@ -32,8 +32,12 @@ fn keep_rest(
     m: usize,
     newest: &mut [u8],
 )
-    requires { ⌜ (length (now log) ≡ 64 + 512 * groups) × (groups ≤ 1024) × (homes ≤ 65535) × (start ≤ 2 ^ 47) × (pass .number < start + groups) × SlotOf groups (pass .number) (pass .at) × (pass .done ≤ m) × (m ≤ 7) × (7 * start ≤ first) × (first ≤ 7 * pass .number + pass .done) × (start ≤ pass .number) × (length (now newest) ≡ 8 * homes) ⌝ }
-    ensures { λ _. ⌜ ((before : List ℕ) → now (newest .entry) ≡ takenTo (now (log .entry)) groups homes start first (pass .number) (pass .done) before → now (newest .exit) ≡ keptOver (entryAt (now (log .entry)) groups homes start) first (7 * start) (7 * pass .number + m - 7 * start) before) ⌝ }
+    requires { ⌜ (length (now log) ≡ 64 + 512 * groups) × (groups ≤ 1024) × (homes ≤ 65535) × (start ≤ 2 ^ 47)
+        × (pass .number < start + groups) × SlotOf groups (pass .number) (pass .at) × (pass .done ≤ m) × (m ≤ 7) × (7 * start ≤ first)
+        × (first ≤ 7 * pass .number + pass .done) × (start ≤ pass .number) × (length (now newest) ≡ 8 * homes) ⌝ }
+    ensures { λ _. ⌜ ((before : List ℕ) → now (newest .entry)
+        ≡ takenTo (now (log .entry)) groups homes start first (pass .number) (pass .done) before → now (newest .exit)
+        ≡ keptOver (entryAt (now (log .entry)) groups homes start) first (7 * start) (7 * pass .number + m - 7 * start) before) ⌝ }
 {
     let at = pass.at;
     let from = 64 + 512 * at.slot as usize;
@@ -64,7 +68,8 @@ fn keep_groups(
     ring: RingSlot,
     newest: &mut [u8],
 ) -> Pass
-    requires { ⌜ Stretch (now log) groups start first end × (homes ≤ 65535) × (start ≤ from) × (first ≤ 7 * from) × (7 * from ≤ end) × SlotOf groups from ring × (length (now newest) ≡ 8 * homes) ⌝ }
+    requires { ⌜ Stretch (now log) groups start first end × (homes ≤ 65535) × (start ≤ from) × (first ≤ 7 * from) × (7 * from ≤ end)
+        × SlotOf groups from ring × (length (now newest) ≡ 8 * homes) ⌝ }
     ensures { λ r. ⌜ Passed (now (log .entry)) groups homes start first end from r (now (newest .entry)) (now (newest .exit)) ⌝ }
 {
     let mut number = from;
@@ -151,7 +156,8 @@ pub fn keep_one(
     k: usize,
     newest: &mut [u8],
 )
-    requires { ⌜ Stretch (now log) groups start (7 * number + k) (7 * number + k + 1) × (k < 7) × (homes ≤ 65535) × (length (now newest) ≡ 8 * homes) ⌝ }
+    requires { ⌜ Stretch (now log) groups start (7 * number + k) (7 * number + k + 1) × (k < 7) × (homes ≤ 65535)
+        × (length (now newest) ≡ 8 * homes) ⌝ }
     ensures { λ _. ⌜ now (newest .exit)
         ≡ keepEntries (entryAt (now (log .entry)) groups homes start)
         (entries (entryAt (now (log .entry)) groups homes start) (7 * start) (record { first = 7 * number + k; closing = 7 * number + k }))

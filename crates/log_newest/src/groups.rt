@@ -11,8 +11,11 @@ ghost use Rattle.log_newest.specs.Keeping.{keptOver, ValidFor};
 
 // Keeps the transaction's entries of a valid group one after the other, as long as they are plain; returns how many tags it has taken.
 fn keep_seven(group: &[u8], homes: u64, n: u64, turn: u64, first: u64, newest: &mut [u8]) -> usize
-    requires { ⌜ (length (now group) ≡ 512) × (length (now newest) ≡ 8 * homes) × (homes ≤ 65535) × (n < 2 ^ 60) × (first ≤ 7 * n) × (7 * n + 7 ≤ first + 7168) × (turn < 2) ⌝ }
-    ensures { λ r. ⌜ (r ≤ 7) × ((groups start : ℕ) → ValidFor (now (group .entry)) groups start n turn first → now (newest .exit) ≡ keptOver (entryIn (now (group .entry)) groups homes start) first (7 * n) r (now (newest .entry))) ⌝ }
+    requires { ⌜ (length (now group) ≡ 512) × (length (now newest) ≡ 8 * homes) × (homes ≤ 65535) × (n < 2 ^ 60) × (first ≤ 7 * n)
+        × (7 * n + 7 ≤ first + 7168) × (turn < 2) ⌝ }
+    ensures { λ r. ⌜ (r ≤ 7)
+        × ((groups start : ℕ) → ValidFor (now (group .entry)) groups start n turn first → now (newest .exit)
+        ≡ keptOver (entryIn (now (group .entry)) groups homes start) first (7 * n) r (now (newest .entry))) ⌝ }
 {
     let mut position = 7 * n;
     let mut plain = base_codec::entry_word(0, position - first);
@@ -39,8 +42,10 @@ pub fn keep_whole(
     first: u64,
     newest: &mut [u8],
 ) -> usize
-    requires { ⌜ (length (now group) ≡ 512) × (groups ≤ 1024) × (homes ≤ 65535) × (start ≤ 2 ^ 47) × (n < start + groups) × (turn ≡ turnOf groups n) × (turn < 2) × (7 * start ≤ first) × (first ≤ 7 * n) × (length (now newest) ≡ 8 * homes) ⌝ }
-    ensures { λ r. ⌜ (r ≤ 7) × (now (newest .exit) ≡ keptOver (entryIn (now (group .entry)) groups homes start) first (7 * n) r (now (newest .entry))) ⌝ }
+    requires { ⌜ (length (now group) ≡ 512) × (groups ≤ 1024) × (homes ≤ 65535) × (start ≤ 2 ^ 47) × (n < start + groups)
+        × (turn ≡ turnOf groups n) × (turn < 2) × (7 * start ≤ first) × (first ≤ 7 * n) × (length (now newest) ≡ 8 * homes) ⌝ }
+    ensures { λ r. ⌜ (r ≤ 7)
+        × (now (newest .exit) ≡ keptOver (entryIn (now (group .entry)) groups homes start) first (7 * n) r (now (newest .entry))) ⌝ }
 {
     if !base_codec::has_group_head(group, 0, n) {
         return 0;
@@ -48,8 +53,8 @@ pub fn keep_whole(
     keep_seven(group, homes, n, turn, first, newest)
 }
 
-// Keeps the transaction's entries from tag `done` of a group to below tag `m`, where those before are taken. The group says nothing where it is not the
-// valid group with number `n` and turn `turn`.
+// Keeps the transaction's entries from tag `done` of a group to below tag `m`, where those before are taken. The group says nothing where
+// it is not the valid group with number `n` and turn `turn`.
 pub fn keep_between(
     group: &[u8],
     groups: u64,
@@ -62,8 +67,12 @@ pub fn keep_between(
     first: u64,
     newest: &mut [u8],
 )
-    requires { ⌜ (length (now group) ≡ 512) × (groups ≤ 1024) × (homes ≤ 65535) × (start ≤ 2 ^ 47) × (n < start + 1024) × (turn ≡ turnOf groups n) × (done ≤ m) × (m ≤ 7) × (7 * start ≤ first) × (first ≤ 7 * n + done) × (length (now newest) ≡ 8 * homes) × (turn < 2) ⌝ }
-    ensures { λ _. ⌜ ((before : List ℕ) → now (newest .entry) ≡ keptOver (entryIn (now (group .entry)) groups homes start) first (7 * n) done before → now (newest .exit) ≡ keptOver (entryIn (now (group .entry)) groups homes start) first (7 * n) m before) ⌝ }
+    requires { ⌜ (length (now group) ≡ 512) × (groups ≤ 1024) × (homes ≤ 65535) × (start ≤ 2 ^ 47) × (n < start + 1024)
+        × (turn ≡ turnOf groups n) × (done ≤ m) × (m ≤ 7) × (7 * start ≤ first) × (first ≤ 7 * n + done) × (length (now newest) ≡ 8 * homes)
+        × (turn < 2) ⌝ }
+    ensures { λ _. ⌜ ((before : List ℕ) → now (newest .entry)
+        ≡ keptOver (entryIn (now (group .entry)) groups homes start) first (7 * n) done before → now (newest .exit)
+        ≡ keptOver (entryIn (now (group .entry)) groups homes start) first (7 * n) m before) ⌝ }
 {
     if !log_scan::group_valid(group, groups, start, n) {
         return;
@@ -87,8 +96,11 @@ pub fn keep_alone(
     k: usize,
     newest: &mut [u8],
 )
-    requires { ⌜ (length (now group) ≡ 512) × (groups ≤ 1024) × (homes ≤ 65535) × (start ≤ 2 ^ 47) × (n < start + 1024) × (turn ≡ turnOf groups n) × (k < 7) × (length (now newest) ≡ 8 * homes) ⌝ }
-    ensures { λ _. ⌜ ((before : List ℕ) → now (newest .entry) ≡ keptOver (entryIn (now (group .entry)) groups homes start) (7 * n + k) (7 * n) k before → now (newest .exit) ≡ keptOver (entryIn (now (group .entry)) groups homes start) (7 * n + k) (7 * n) (k + 1) before) ⌝ }
+    requires { ⌜ (length (now group) ≡ 512) × (groups ≤ 1024) × (homes ≤ 65535) × (start ≤ 2 ^ 47) × (n < start + 1024)
+        × (turn ≡ turnOf groups n) × (k < 7) × (length (now newest) ≡ 8 * homes) ⌝ }
+    ensures { λ _. ⌜ ((before : List ℕ) → now (newest .entry)
+        ≡ keptOver (entryIn (now (group .entry)) groups homes start) (7 * n + k) (7 * n) k before → now (newest .exit)
+        ≡ keptOver (entryIn (now (group .entry)) groups homes start) (7 * n + k) (7 * n) (k + 1) before) ⌝ }
 {
     if !log_scan::group_valid(group, groups, start, n) {
         return;

@@ -42,7 +42,8 @@ pub fn keep_nothing(newest: &mut [u8], homes: usize)
 // Keeps no position any more for a home where it lies before a bound.
 fn forget_one(newest: &mut [u8], bound: u64, home: usize)
     requires { ⌜ 8 * home + 8 ≤ length (now newest) ⌝ }
-    ensures { λ _. ⌜ now (newest .exit) ≡ cond (ltb (keptFor (now (newest .entry)) home) bound) (keep (now (newest .entry)) home noPosition) (now (newest .entry)) ⌝ }
+    ensures { λ _. ⌜ now (newest .exit)
+        ≡ cond (ltb (keptFor (now (newest .entry)) home) bound) (keep (now (newest .entry)) home noPosition) (now (newest .entry)) ⌝ }
 {
     if kept(newest, home) >= bound {
         return;

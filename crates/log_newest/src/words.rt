@@ -12,8 +12,8 @@ ghost use Rattle.model.specs.Layout.{topBit, wordThere};
 ghost use Rattle.log_scan.specs.Members.{taking};
 ghost use Rattle.log_newest.specs.Keeping.{keepAt, PlainFor};
 
-// Keeps a position if `word`, that of its tag, is an entry of the transaction with first position `first`, whatever kind of entry. Its distance back is
-// compared before all else.
+// Keeps a position if `word`, that of its tag, is an entry of the transaction with first position `first`, whatever kind of entry. Its
+// distance back is compared before all else.
 pub fn keep_word(newest: &mut [u8], word: u64, position: u64, base: u64, homes: u64, first: u64)
     requires { ⌜ (length (now newest) ≡ 8 * homes) × (first ≤ position) ⌝ }
     ensures { λ _. ⌜ now (newest .exit) ≡ taking first keepAt position (readTag word position base homes) (now (newest .entry)) ⌝ }
@@ -36,8 +36,8 @@ fn other_turn(s: &[u8], at: usize, turn: u64) -> bool
     (s[at + 63] ^ 128 * turn as u8) >= 128
 }
 
-// The same for tag `k` of a group, where it is the transaction's entry that does not close it, which is `plain` but for its home, or has another distance
-// back; returns whether it is one of these. Only an entry of the transaction has its block's turn bit looked at.
+// The same for tag `k` of a group, where it is the transaction's entry that does not close it, which is `plain` but for its home, or has
+// another distance back; returns whether it is one of these. Only an entry of the transaction has its block's turn bit looked at.
 pub fn keep_plain(
     group: &[u8],
     turn: u64,
@@ -49,7 +49,8 @@ pub fn keep_plain(
 ) -> bool
     requires { ⌜ (length (now group) ≡ 512) × (k < 7) × (length (now newest) ≡ 8 * homes) × (homes ≤ 65535) × (turn < 2) ⌝ }
     ensures { λ r. ⌜ (r ≡ false → now (newest .exit) ≡ now (newest .entry)) ⌝ }
-    ensures { λ r. ⌜ (r ≡ true → (first base : ℕ) → PlainFor plain first base position → now (newest .exit) ≡ taking first keepAt position (readTag (wordThere (now (group .entry)) turn k) position base homes) (now (newest .entry))) ⌝ }
+    ensures { λ r. ⌜ (r ≡ true → (first base : ℕ) → PlainFor plain first base position → now (newest .exit)
+        ≡ taking first keepAt position (readTag (wordThere (now (group .entry)) turn k) position base homes) (now (newest .entry))) ⌝ }
 {
     let word = base_codec::number(group, 8 + 8 * k, 8);
     if !base_codec::fits_plain(word, plain) {
@@ -77,8 +78,10 @@ pub fn keep_entry(
     first: u64,
     newest: &mut [u8],
 )
-    requires { ⌜ (length (now group) ≡ 512) × (k < 7) × (length (now newest) ≡ 8 * homes) × (homes ≤ 65535) × (base ≤ first) × (first ≤ position) × (position < first + 7168) × (turn < 2) ⌝ }
-    ensures { λ _. ⌜ now (newest .exit) ≡ taking first keepAt position (readTag (wordThere (now (group .entry)) turn k) position base homes) (now (newest .entry)) ⌝ }
+    requires { ⌜ (length (now group) ≡ 512) × (k < 7) × (length (now newest) ≡ 8 * homes) × (homes ≤ 65535) × (base ≤ first)
+        × (first ≤ position) × (position < first + 7168) × (turn < 2) ⌝ }
+    ensures { λ _. ⌜ now (newest .exit)
+        ≡ taking first keepAt position (readTag (wordThere (now (group .entry)) turn k) position base homes) (now (newest .entry)) ⌝ }
 {
     let plain = base_codec::entry_word(0, position - first);
     if keep_plain(group, turn, k, plain, position, homes, newest) {

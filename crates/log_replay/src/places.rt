@@ -18,7 +18,8 @@ fn slot_after(slot: u64, n: u64, groups: u64) -> u64
 
 // What the log says at an offset where there is an entry.
 pub fn entry_from(log: &[u8], groups: u64, homes: u64, start: u64, slot: u64, offset: u64) -> Tag
-    requires { ⌜ (length (now log) ≡ 64 + 512 * groups) × (groups ≤ 1024) × (0 < groups) × (start ≤ 2 ^ 47) × (offset < 7 * groups) × (slot ≡ start % groups)
+    requires { ⌜ (length (now log) ≡ 64 + 512 * groups) × (groups ≤ 1024) × (0 < groups) × (start ≤ 2 ^ 47) × (offset < 7 * groups)
+        × (slot ≡ start % groups)
         × (present (entryAt (now log) groups homes start (7 * start + offset)) ≡ true) ⌝ }
     ensures { λ r. ⌜ r ≡ entryAt (now (log .entry)) groups homes start (7 * start + offset) ⌝ }
 {
@@ -38,7 +39,8 @@ pub fn restore_block(
     offset: u64,
     home: usize,
 )
-    requires { ⌜ (length (now log) ≡ 64 + 512 * groups) × (groups ≤ 1024) × (0 < groups) × (start ≤ 2 ^ 47) × (offset < 7 * groups) × (slot ≡ start % groups)
+    requires { ⌜ (length (now log) ≡ 64 + 512 * groups) × (groups ≤ 1024) × (0 < groups) × (start ≤ 2 ^ 47) × (offset < 7 * groups)
+        × (slot ≡ start % groups)
         × (64 * home + 64 ≤ length (now area)) ⌝ }
     ensures { λ _. ⌜ now (area .exit) ≡ putHome (now (area .entry)) home (blockAt (now (log .entry)) groups (7 * start + offset)) ⌝ }
 {

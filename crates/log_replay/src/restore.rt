@@ -25,10 +25,12 @@ fn restore_word(
     word: u64,
     base: usize,
 )
-    requires { ⌜ (length (now log) ≡ 64 + 512 * groups) × (groups ≤ 1024) × (0 < groups) × (start ≤ 2 ^ 47) × (slot ≡ start % groups) × (base + 64 ≤ 65536)
+    requires { ⌜ (length (now log) ≡ 64 + 512 * groups) × (groups ≤ 1024) × (0 < groups) × (start ≤ 2 ^ 47) × (slot ≡ start % groups)
+        × (base + 64 ≤ 65536)
         × Ready (now area) groups (now table) base (bitsOf word) ⌝ }
     ensures { λ _. ⌜ now (area .exit)
-        ≡ restored (now (log .entry)) groups (λ h. 7 * start + getD (now (table .entry)) (h - base) 0 - 1) (raised base (bitsOf word)) (now (area .entry)) ⌝ }
+        ≡ restored (now (log .entry)) groups (λ h. 7 * start + getD (now (table .entry)) (h - base) 0 - 1) (raised base (bitsOf word))
+        (now (area .entry)) ⌝ }
 {
     let mut w = word;
     while w != 0 {
@@ -108,7 +110,8 @@ pub fn bring_back(
     end: u64,
 ) -> usize
     requires { ⌜ Replayable (now log) (now area) (now last) (now heads) (now links) (now batch) groups homes start end 0 ⌝ }
-    ensures { λ r. ⌜ r ≡ 68 * length (touched (entryAt (now (log .entry)) groups homes start) (closedBelow (now (log .entry)) groups homes start end) homes) ⌝ }
+    ensures { λ r. ⌜ r ≡ 68 * length (touched (entryAt (now (log .entry)) groups homes start)
+        (closedBelow (now (log .entry)) groups homes start end) homes) ⌝ }
     ensures { λ _. ⌜ now (area .exit)
         ≡ replayed (now (log .entry)) groups (entryAt (now (log .entry)) groups homes start)
         (closedBelow (now (log .entry)) groups homes start end) (now (area .entry)) ⌝ }

@@ -97,7 +97,8 @@ pub fn count_from(
     cursor: u64,
     limit: u64,
 ) -> u64
-    requires { ⌜ Walkable (now log) groups start end × (homes ≤ 65535) × Chained (now log) groups homes start end (now last) (now heads) (now links) ⌝ }
+    requires { ⌜ Walkable (now log) groups start end × (homes ≤ 65535)
+        × Chained (now log) groups homes start end (now last) (now heads) (now links) ⌝ }
     ensures { λ r. ⌜ (r ≤ limit → r ≡ length (span (touches (now (log .entry)) groups homes start end) cursor (homes - cursor)))
         × (r ≤ length (span (touches (now (log .entry)) groups homes start end) cursor (homes - cursor))) ⌝ }
 {
@@ -128,8 +129,8 @@ pub fn count_from(
     n
 }
 
-// Brings a home back whose newest entry is said by a code of the table, and writes its record as the one after `done` others; returns how many it then
-// are. A code of 0 leaves all as it is.
+// Brings a home back whose newest entry is said by a code of the table, and writes its record as the one after `done` others; returns how
+// many it then are. A code of 0 leaves all as it is.
 fn bring_home(
     log: &[u8],
     area: &mut [u8],
@@ -141,7 +142,8 @@ fn bring_home(
     home: usize,
     done: u64,
 ) -> u64
-    requires { ⌜ (length (now log) ≡ 64 + 512 * groups) × (groups ≤ 1024) × (0 < groups) × (start ≤ 2 ^ 47) × (slot ≡ start % groups) × (code ≤ 7 * groups)
+    requires { ⌜ (length (now log) ≡ 64 + 512 * groups) × (groups ≤ 1024) × (0 < groups) × (start ≤ 2 ^ 47) × (slot ≡ start % groups)
+        × (code ≤ 7 * groups)
         × (64 * home + 64 ≤ length (now area)) × (68 * done + 68 ≤ length (now batch)) × (home < 65536) ⌝ }
     ensures { λ r. ⌜ r ≡ done + cond (eqb code 0) 0 1 ⌝ }
     ensures { λ _. ⌜ now (area .exit)
@@ -178,7 +180,8 @@ fn bring_part(
 ) -> Reached
     requires { ⌜ Part (now log) (now last) (now heads) (now links) w from upto groups homes start end slot × (upto ≤ homes) × (homes ≤ 65535)
         × (length (now area) ≡ 64 * homes) × (done < limit) × (limit ≤ 65535) × (68 * limit ≤ length (now batch)) ⌝ }
-    ensures { λ r. ⌜ Stepped (now (log .entry)) groups homes start end from upto done limit (now (area .entry)) (now (batch .entry)) (r .home) (r .done)
+    ensures { λ r. ⌜ Stepped (now (log .entry)) groups homes start end from upto done limit (now (area .entry)) (now (batch .entry))
+        (r .home) (r .done)
         (now (area .exit)) (now (batch .exit)) ⌝ }
 {
     if heads[w] == 0 {
@@ -212,8 +215,8 @@ fn bring_part(
     Reached { home: h, done: n }
 }
 
-// Brings the first `limit` touched homes from the cursor on back into the data copy, and writes their records at the batch's beginning; returns the home
-// after the last of them, if there is one.
+// Brings the first `limit` touched homes from the cursor on back into the data copy, and writes their records at the batch's beginning;
+// returns the home after the last of them, if there is one.
 pub fn bring_from(
     log: &[u8],
     area: &mut [u8],

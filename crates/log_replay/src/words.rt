@@ -37,7 +37,8 @@ fn take_entry(
 )
     requires { ⌜ (first < length (now last)) × (offset < 7168) × Sized (now closers) (now table) (now map) ⌝ }
     ensures { λ _. ⌜ record { closers = now (closers .exit); table = now (table .exit); map = now (map .exit) }
-        ≡ takenIn (now (last .entry)) home first offset (record { closers = now (closers .entry); table = now (table .entry); map = now (map .entry) }) ⌝ }
+        ≡ takenIn (now (last .entry)) home first offset
+        (record { closers = now (closers .entry); table = now (table .entry); map = now (map .entry) }) ⌝ }
 {
     let closer = last[first as usize];
     if closer as u64 > offset {
@@ -65,7 +66,8 @@ fn take_at(
     slot: u64,
     offset: u64,
 )
-    requires { ⌜ (length (now log) ≡ 64 + 512 * groups) × (groups ≤ 1024) × (0 < groups) × (start ≤ 2 ^ 47) × (offset < 7 * groups) × (slot ≡ start % groups)
+    requires { ⌜ (length (now log) ≡ 64 + 512 * groups) × (groups ≤ 1024) × (0 < groups) × (start ≤ 2 ^ 47) × (offset < 7 * groups)
+        × (slot ≡ start % groups)
         × (present (entryAt (now log) groups homes start (7 * start + offset)) ≡ true) × (7 * groups ≤ length (now last))
         × Sized (now closers) (now table) (now map) ⌝ }
     ensures { λ _. ⌜ record { closers = now (closers .exit); table = now (table .exit); map = now (map .exit) }
@@ -172,7 +174,8 @@ pub fn count(
     start: u64,
     end: u64,
 ) -> u64
-    requires { ⌜ Walkable (now log) groups start end × (homes ≤ 65535) × Chained (now log) groups homes start end (now last) (now heads) (now links) ⌝ }
+    requires { ⌜ Walkable (now log) groups start end × (homes ≤ 65535)
+        × Chained (now log) groups homes start end (now last) (now heads) (now links) ⌝ }
     ensures { λ r. ⌜ r
         ≡ length (touched (entryAt (now (log .entry)) groups homes start) (closedBelow (now (log .entry)) groups homes start end) homes) ⌝ }
 {

@@ -81,8 +81,8 @@ pub fn judge(progress: Progress, base: u64, position: u64, link: u64, complete: 
     }
 }
 
-// Takes the word of an entry that does not close its transaction, at index `index` of the log; `above` is the word of an entry for the first home that
-// there is not.
+// Takes the word of an entry that does not close its transaction, at index `index` of the log; `above` is the word of an entry for the
+// first home that there is not.
 fn visit_plain(
     word: u64,
     above: u64,
@@ -91,8 +91,12 @@ fn visit_plain(
     counts: &mut [u16],
     progress: Progress,
 ) -> Progress
-    requires { ⌜ (index < 7168) × (index < length (now counts)) × ((eqb (field word 0 1) 1 && eqb (field word 58 6) 0 && eqb (field word 1 1) 0 && eqb (field word 27 26) 0) ≡ true) × Within base (base + index) (record { counts = now counts; progress = progress }) ⌝ }
-    ensures { λ r. ⌜ ((homes : ℕ) → above ≡ entryWord homes 0 → record { counts = now (counts .exit); progress = r } ≡ enter base (base + index) (readTag word (base + index) base homes) (record { counts = now (counts .entry); progress = progress })) ⌝ }
+    requires { ⌜ (index < 7168) × (index < length (now counts))
+        × ((eqb (field word 0 1) 1 && eqb (field word 58 6) 0 && eqb (field word 1 1) 0 && eqb (field word 27 26) 0) ≡ true)
+        × Within base (base + index) (record { counts = now counts; progress = progress }) ⌝ }
+    ensures { λ r. ⌜ ((homes : ℕ) → above ≡ entryWord homes 0 → record { counts = now (counts .exit); progress = r }
+        ≡ enter base (base + index) (readTag word (base + index) base homes)
+        (record { counts = now (counts .entry); progress = progress })) ⌝ }
 {
     if !base_codec::has_home(word, above) {
         return progress;
@@ -114,8 +118,12 @@ fn visit_closing(
     counts: &mut [u16],
     progress: Progress,
 ) -> Progress
-    requires { ⌜ (index < 7168) × (base < 2 ^ 61) × (index < length (now counts)) × ((eqb (field word 0 1) 1 && eqb (field word 58 6) 0 && eqb (field word 1 1) 1) ≡ true) × Within base (base + index) (record { counts = now counts; progress = progress }) ⌝ }
-    ensures { λ r. ⌜ ((homes : ℕ) → above ≡ entryWord homes 0 → record { counts = now (counts .exit); progress = r } ≡ enter base (base + index) (readTag word (base + index) base homes) (record { counts = now (counts .entry); progress = progress })) ⌝ }
+    requires { ⌜ (index < 7168) × (base < 2 ^ 61) × (index < length (now counts))
+        × ((eqb (field word 0 1) 1 && eqb (field word 58 6) 0 && eqb (field word 1 1) 1) ≡ true)
+        × Within base (base + index) (record { counts = now counts; progress = progress }) ⌝ }
+    ensures { λ r. ⌜ ((homes : ℕ) → above ≡ entryWord homes 0 → record { counts = now (counts .exit); progress = r }
+        ≡ enter base (base + index) (readTag word (base + index) base homes)
+        (record { counts = now (counts .entry); progress = progress })) ⌝ }
 {
     if !base_codec::has_home(word, above) {
         return progress;
@@ -147,8 +155,11 @@ fn visit(
     counts: &mut [u16],
     progress: Progress,
 ) -> Progress
-    requires { ⌜ (index < 7168) × (base < 2 ^ 61) × (index < length (now counts)) × Within base (base + index) (record { counts = now counts; progress = progress }) ⌝ }
-    ensures { λ r. ⌜ ((homes : ℕ) → above ≡ entryWord homes 0 → record { counts = now (counts .exit); progress = r } ≡ enter base (base + index) (readTag word (base + index) base homes) (record { counts = now (counts .entry); progress = progress })) ⌝ }
+    requires { ⌜ (index < 7168) × (base < 2 ^ 61) × (index < length (now counts))
+        × Within base (base + index) (record { counts = now counts; progress = progress }) ⌝ }
+    ensures { λ r. ⌜ ((homes : ℕ) → above ≡ entryWord homes 0 → record { counts = now (counts .exit); progress = r }
+        ≡ enter base (base + index) (readTag word (base + index) base homes)
+        (record { counts = now (counts .entry); progress = progress })) ⌝ }
 {
     if base_codec::is_plain(word) {
         return visit_plain(word, above, base, index, counts, progress);
@@ -172,8 +183,11 @@ fn visit_group(
     counts: &mut [u16],
     progress: Progress,
 ) -> Progress
-    requires { ⌜ (length (now group) ≡ 512) × (groups ≤ 1024) × (homes ≤ 65535) × (start ≤ 2 ^ 47) × (start ≤ n) × (n < start + groups) × (turn ≡ turnOf groups n) × (m ≤ 7) × (7 * n + m ≤ 7 * start + length (now counts)) × Within (7 * start) (7 * n) (record { counts = now counts; progress = progress }) ⌝ }
-    ensures { λ r. ⌜ Stopped (entryIn (now (group .entry)) groups homes start) (7 * start) (7 * n) m (record { counts = now (counts .entry); progress = progress }) (record { counts = now (counts .exit); progress = r }) ⌝ }
+    requires { ⌜ (length (now group) ≡ 512) × (groups ≤ 1024) × (homes ≤ 65535) × (start ≤ 2 ^ 47) × (start ≤ n) × (n < start + groups)
+        × (turn ≡ turnOf groups n) × (m ≤ 7) × (7 * n + m ≤ 7 * start + length (now counts))
+        × Within (7 * start) (7 * n) (record { counts = now counts; progress = progress }) ⌝ }
+    ensures { λ r. ⌜ Stopped (entryIn (now (group .entry)) groups homes start) (7 * start) (7 * n) m
+        (record { counts = now (counts .entry); progress = progress }) (record { counts = now (counts .exit); progress = r }) ⌝ }
 {
     if !base_codec::has_group_head(group, 0, n) {
         return progress;
@@ -227,8 +241,8 @@ fn result(progress: Progress) -> Found
     }
 }
 
-// Walks the `n` positions of the log from its start on, group by group, with empty counters, and finds where the committed transactions end and how many
-// they are.
+// Walks the `n` positions of the log from its start on, group by group, with empty counters, and finds where the committed transactions end
+// and how many they are.
 pub fn walk_with(
     log: &[u8],
     counts: &mut [u16],
@@ -237,8 +251,10 @@ pub fn walk_with(
     start: u64,
     n: u64,
 ) -> Found
-    requires { ⌜ (length (now log) ≡ 64 + 512 * groups) × (4 ≤ groups) × (groups ≤ 1024) × (homes ≤ 65535) × (start ≤ 2 ^ 47) × (n ≤ 7 * groups) × (7 * groups ≤ length (now counts)) × (now counts ≡ zeros (length (now counts))) ⌝ }
-    ensures { λ r. ⌜ (r .end ≡ endOf (committed (entryAt (now (log .entry)) groups homes start) (7 * start) n)) × (r .number ≡ length (committed (entryAt (now (log .entry)) groups homes start) (7 * start) n)) ⌝ }
+    requires { ⌜ (length (now log) ≡ 64 + 512 * groups) × (4 ≤ groups) × (groups ≤ 1024) × (homes ≤ 65535) × (start ≤ 2 ^ 47)
+        × (n ≤ 7 * groups) × (7 * groups ≤ length (now counts)) × (now counts ≡ zeros (length (now counts))) ⌝ }
+    ensures { λ r. ⌜ (r .end ≡ endOf (committed (entryAt (now (log .entry)) groups homes start) (7 * start) n))
+        × (r .number ≡ length (committed (entryAt (now (log .entry)) groups homes start) (7 * start) n)) ⌝ }
 {
     let mut progress = Progress {
         end: 0,
@@ -276,7 +292,8 @@ pub fn walk_with(
 // The same with counters of its own, for a log of up to 64 groups.
 pub fn walk_small(log: &[u8], groups: u64, homes: u64, start: u64, n: u64) -> Found
     requires { ⌜ (length (now log) ≡ 64 + 512 * groups) × (4 ≤ groups) × (groups ≤ 64) × (homes ≤ 65535) × (start ≤ 2 ^ 47) × (n ≤ 7 * groups) ⌝ }
-    ensures { λ r. ⌜ (r .end ≡ endOf (committed (entryAt (now (log .entry)) groups homes start) (7 * start) n)) × (r .number ≡ length (committed (entryAt (now (log .entry)) groups homes start) (7 * start) n)) ⌝ }
+    ensures { λ r. ⌜ (r .end ≡ endOf (committed (entryAt (now (log .entry)) groups homes start) (7 * start) n))
+        × (r .number ≡ length (committed (entryAt (now (log .entry)) groups homes start) (7 * start) n)) ⌝ }
 {
     let mut counts = [0u16; 448];
     walk_with(log, &mut counts, groups, homes, start, n)
@@ -285,7 +302,8 @@ pub fn walk_small(log: &[u8], groups: u64, homes: u64, start: u64, n: u64) -> Fo
 // The same for a log of up to 128 groups, 256, 512 and 1,024: at most half of the counters are made empty for nothing.
 fn walk_to_128(log: &[u8], groups: u64, homes: u64, start: u64, n: u64) -> Found
     requires { ⌜ (length (now log) ≡ 64 + 512 * groups) × (4 ≤ groups) × (groups ≤ 128) × (homes ≤ 65535) × (start ≤ 2 ^ 47) × (n ≤ 7 * groups) ⌝ }
-    ensures { λ r. ⌜ (r .end ≡ endOf (committed (entryAt (now (log .entry)) groups homes start) (7 * start) n)) × (r .number ≡ length (committed (entryAt (now (log .entry)) groups homes start) (7 * start) n)) ⌝ }
+    ensures { λ r. ⌜ (r .end ≡ endOf (committed (entryAt (now (log .entry)) groups homes start) (7 * start) n))
+        × (r .number ≡ length (committed (entryAt (now (log .entry)) groups homes start) (7 * start) n)) ⌝ }
 {
     let mut counts = [0u16; 896];
     walk_with(log, &mut counts, groups, homes, start, n)
@@ -293,7 +311,8 @@ fn walk_to_128(log: &[u8], groups: u64, homes: u64, start: u64, n: u64) -> Found
 
 fn walk_to_256(log: &[u8], groups: u64, homes: u64, start: u64, n: u64) -> Found
     requires { ⌜ (length (now log) ≡ 64 + 512 * groups) × (4 ≤ groups) × (groups ≤ 256) × (homes ≤ 65535) × (start ≤ 2 ^ 47) × (n ≤ 7 * groups) ⌝ }
-    ensures { λ r. ⌜ (r .end ≡ endOf (committed (entryAt (now (log .entry)) groups homes start) (7 * start) n)) × (r .number ≡ length (committed (entryAt (now (log .entry)) groups homes start) (7 * start) n)) ⌝ }
+    ensures { λ r. ⌜ (r .end ≡ endOf (committed (entryAt (now (log .entry)) groups homes start) (7 * start) n))
+        × (r .number ≡ length (committed (entryAt (now (log .entry)) groups homes start) (7 * start) n)) ⌝ }
 {
     let mut counts = [0u16; 1792];
     walk_with(log, &mut counts, groups, homes, start, n)
@@ -301,7 +320,8 @@ fn walk_to_256(log: &[u8], groups: u64, homes: u64, start: u64, n: u64) -> Found
 
 fn walk_to_512(log: &[u8], groups: u64, homes: u64, start: u64, n: u64) -> Found
     requires { ⌜ (length (now log) ≡ 64 + 512 * groups) × (4 ≤ groups) × (groups ≤ 512) × (homes ≤ 65535) × (start ≤ 2 ^ 47) × (n ≤ 7 * groups) ⌝ }
-    ensures { λ r. ⌜ (r .end ≡ endOf (committed (entryAt (now (log .entry)) groups homes start) (7 * start) n)) × (r .number ≡ length (committed (entryAt (now (log .entry)) groups homes start) (7 * start) n)) ⌝ }
+    ensures { λ r. ⌜ (r .end ≡ endOf (committed (entryAt (now (log .entry)) groups homes start) (7 * start) n))
+        × (r .number ≡ length (committed (entryAt (now (log .entry)) groups homes start) (7 * start) n)) ⌝ }
 {
     let mut counts = [0u16; 3584];
     walk_with(log, &mut counts, groups, homes, start, n)
@@ -309,16 +329,19 @@ fn walk_to_512(log: &[u8], groups: u64, homes: u64, start: u64, n: u64) -> Found
 
 fn walk_to_1024(log: &[u8], groups: u64, homes: u64, start: u64, n: u64) -> Found
     requires { ⌜ (length (now log) ≡ 64 + 512 * groups) × (4 ≤ groups) × (groups ≤ 1024) × (homes ≤ 65535) × (start ≤ 2 ^ 47) × (n ≤ 7 * groups) ⌝ }
-    ensures { λ r. ⌜ (r .end ≡ endOf (committed (entryAt (now (log .entry)) groups homes start) (7 * start) n)) × (r .number ≡ length (committed (entryAt (now (log .entry)) groups homes start) (7 * start) n)) ⌝ }
+    ensures { λ r. ⌜ (r .end ≡ endOf (committed (entryAt (now (log .entry)) groups homes start) (7 * start) n))
+        × (r .number ≡ length (committed (entryAt (now (log .entry)) groups homes start) (7 * start) n)) ⌝ }
 {
     let mut counts = [0u16; 7168];
     walk_with(log, &mut counts, groups, homes, start, n)
 }
 
-// The same for any log. This and `walk_small` serve two calls each, and so stay functions of their own: a small log never takes the counters of a large one.
+// The same for any log. This and `walk_small` serve two calls each, and so stay functions of their own: a small log never takes the
+// counters of a large one.
 pub fn walk_large(log: &[u8], groups: u64, homes: u64, start: u64, n: u64) -> Found
     requires { ⌜ (length (now log) ≡ 64 + 512 * groups) × (4 ≤ groups) × (groups ≤ 1024) × (homes ≤ 65535) × (start ≤ 2 ^ 47) × (n ≤ 7 * groups) ⌝ }
-    ensures { λ r. ⌜ (r .end ≡ endOf (committed (entryAt (now (log .entry)) groups homes start) (7 * start) n)) × (r .number ≡ length (committed (entryAt (now (log .entry)) groups homes start) (7 * start) n)) ⌝ }
+    ensures { λ r. ⌜ (r .end ≡ endOf (committed (entryAt (now (log .entry)) groups homes start) (7 * start) n))
+        × (r .number ≡ length (committed (entryAt (now (log .entry)) groups homes start) (7 * start) n)) ⌝ }
 {
     if groups <= 128 {
         return walk_to_128(log, groups, homes, start, n);

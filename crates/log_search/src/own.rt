@@ -21,7 +21,8 @@ fn note(written: u64, home: u64, position: u64, newest: u64) -> u64
     position + 1
 }
 
-// The same if tag `k` of a group with turn `turn` is an entry of the transaction with first position `first`. Its distance back is compared before all else.
+// The same if tag `k` of a group with turn `turn` is an entry of the transaction with first position `first`. Its distance back is compared
+// before all else.
 fn note_entry(
     group: &[u8],
     turn: u64,
@@ -60,7 +61,8 @@ fn note_group(
     home: u64,
     newest: u64,
 ) -> u64
-    requires { ⌜ (length (now group) ≡ 512) × (groups ≤ 1024) × (start ≤ 2 ^ 47) × (n < start + 1024) × (turn ≡ turnOf groups n) × (m ≤ 7) × (first ≤ 7 * n + m) ⌝ }
+    requires { ⌜ (length (now group) ≡ 512) × (groups ≤ 1024) × (start ≤ 2 ^ 47) × (n < start + 1024) × (turn ≡ turnOf groups n) × (m ≤ 7)
+        × (first ≤ 7 * n + m) ⌝ }
     ensures { λ r. ⌜ r ≡ noted (entryIn (now (group .entry)) groups homes start) home first (7 * n) m newest ⌝ }
 {
     if !log_scan::group_valid(group, groups, start, n) {

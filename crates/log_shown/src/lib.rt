@@ -19,8 +19,10 @@ ghost use Rattle.log_shown.specs.There.{Searchable, RingPlaced, tagsBy, 
 
 // Whether an entry for a home stands `after` positions behind the log's start, which is at a place of the ring: its group's number is in range.
 fn entry_there(log: &[u8], st: State, home: u64, after: u64, at: RingPlace) -> bool
-    requires { ⌜ Searchable (now log) st × (7 * st .start + after < nextPosition st) × (home < st .homes) × RingPlaced (st .groups) (7 * st .start + after) at ⌝ }
-    ensures { λ r. ⌜ r ≡ (present (tagsBy (now (log .entry)) st (7 * st .start + after)) && eqb (homeOf (tagsBy (now (log .entry)) st (7 * st .start + after))) home) ⌝ }
+    requires { ⌜ Searchable (now log) st × (7 * st .start + after < nextPosition st) × (home < st .homes)
+        × RingPlaced (st .groups) (7 * st .start + after) at ⌝ }
+    ensures { λ r. ⌜ r ≡ (present (tagsBy (now (log .entry)) st (7 * st .start + after))
+        && eqb (homeOf (tagsBy (now (log .entry)) st (7 * st .start + after))) home) ⌝ }
 {
     let from = 64 + 512 * at.slot as usize;
     let group = &log[from..from + 512];

@@ -9,7 +9,8 @@ ghost use Rattle.model.specs.Tag.{present, homeOf, readTag};
 // each other, are those of the home, with 2 more where it closes a transaction and 2^18 more where it displaced a bit.
 fn fields_for(word: u64, home: u64, after: u64) -> bool
     requires { ⌜ home < 2 ^ 16 ⌝ }
-    ensures { λ r. ⌜ ((base homes : ℕ) → home < homes → r ≡ (present (readTag word (base + after) base homes) && eqb (homeOf (readTag word (base + after) base homes)) home)) ⌝ }
+    ensures { λ r. ⌜ ((base homes : ℕ) → home < homes → r
+        ≡ (present (readTag word (base + after) base homes) && eqb (homeOf (readTag word (base + after) base homes)) home)) ⌝ }
 {
     if (word >> 14) % 0x2000 > after {
         return false;
@@ -35,7 +36,8 @@ fn fields_for(word: u64, home: u64, after: u64) -> bool
 // are all that is compared.
 pub fn is_entry_for(word: u64, home: u64, after: u64) -> bool
     requires { ⌜ (after < 2 ^ 13) × (home < 2 ^ 16) ⌝ }
-    ensures { λ r. ⌜ ((base homes : ℕ) → home < homes → r ≡ (present (readTag word (base + after) base homes) && eqb (homeOf (readTag word (base + after) base homes)) home)) ⌝ }
+    ensures { λ r. ⌜ ((base homes : ℕ) → home < homes → r
+        ≡ (present (readTag word (base + after) base homes) && eqb (homeOf (readTag word (base + after) base homes)) home)) ⌝ }
 {
     if word >> 14 <= after {
         return word % 0x4000 == 4 * home + 1;

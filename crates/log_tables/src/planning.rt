@@ -27,8 +27,10 @@ pub fn bring_back(
     requires { ⌜ Searchable (now log) groups homes start n × (length (now area) ≡ 64 * homes) × (more ≤ 600000) ⌝ }
     ensures { λ r. ⌜ Committed (now (log .entry)) groups homes start n (r .end) (r .number) ⌝ }
     ensures { λ r. ⌜ r .size
-        ≡ 68 * length (touched (entryAt (now (log .entry)) groups homes start) (closedBelow (now (log .entry)) groups homes start (r .end)) homes) + more ⌝ }
-    ensures { λ r. ⌜ Brought (now (log .entry)) groups homes start (r .end) (r .size) (now (area .entry)) (now (batch .entry)) (now (area .exit)) (now (batch .exit)) ⌝ }
+        ≡ 68 * length (touched (entryAt (now (log .entry)) groups homes start)
+        (closedBelow (now (log .entry)) groups homes start (r .end)) homes) + more ⌝ }
+    ensures { λ r. ⌜ Brought (now (log .entry)) groups homes start (r .end) (r .size) (now (area .entry)) (now (batch .entry))
+        (now (area .exit)) (now (batch .exit)) ⌝ }
 {
     if groups <= SMALL {
         return bring_small(log, area, batch, groups, homes, start, n, 0, 0, more);
@@ -50,7 +52,8 @@ pub fn step(
 ) -> Replay
     requires { ⌜ Searchable (now log) groups homes start n × (length (now area) ≡ 64 * homes) × (1 ≤ limit) ⌝ }
     ensures { λ r. ⌜ Committed (now (log .entry)) groups homes start n (r .end) (r .number) ⌝ }
-    ensures { λ r. ⌜ StepMade (now (log .entry)) groups homes start (r .end) cursor limit (r .size) (r .next) (r .more) (now (area .entry)) (now (batch .entry))
+    ensures { λ r. ⌜ StepMade (now (log .entry)) groups homes start (r .end) cursor limit (r .size) (r .next) (r .more) (now (area .entry))
+        (now (batch .entry))
         (now (area .exit)) (now (batch .exit)) ⌝ }
 {
     if groups <= SMALL {

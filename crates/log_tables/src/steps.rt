@@ -41,7 +41,8 @@ pub fn bring_some(
 ) -> Made
     requires { ⌜ Walkable (now log) groups start end × (homes ≤ 65535) × (length (now area) ≡ 64 * homes)
         × Chained (now log) groups homes start end (now last) (now heads) (now links) ⌝ }
-    ensures { λ r. ⌜ StepMade (now (log .entry)) groups homes start end cursor limit (r .size) (r .next) (r .more) (now (area .entry)) (now (batch .entry))
+    ensures { λ r. ⌜ StepMade (now (log .entry)) groups homes start end cursor limit (r .size) (r .next) (r .more) (now (area .entry))
+        (now (batch .entry))
         (now (area .exit)) (now (batch .exit)) ⌝ }
 {
     let found = log_replay::count_from(

@@ -9,8 +9,8 @@ ghost use Rattle.model.specs.Effects.{touched};
 ghost use Rattle.log_scan.specs.Walk.{closedBelow};
 ghost use Rattle.log_tables.specs.Plans.{Searchable, Committed, Brought, StepMade};
 
-// Where the committed transactions end and how many they are, and what was made of them: the bytes of the records, the home after the last one done, and
-// whether homes are left.
+// Where the committed transactions end and how many they are, and what was made of them: the bytes of the records, the home after the last
+// one done, and whether homes are left.
 pub struct Replay {
     pub end: u64,
     pub number: u64,
@@ -36,8 +36,10 @@ pub fn bring_small(
     requires { ⌜ Searchable (now log) groups homes start n × (length (now area) ≡ 64 * homes) × (more ≤ 600000) × (groups ≤ 64) ⌝ }
     ensures { λ r. ⌜ Committed (now (log .entry)) groups homes start n (r .end) (r .number) ⌝ }
     ensures { λ r. ⌜ (limit ≡ 0
-        → (r .size ≡ 68 * length (touched (entryAt (now (log .entry)) groups homes start) (closedBelow (now (log .entry)) groups homes start (r .end)) homes) + more)
-        × Brought (now (log .entry)) groups homes start (r .end) (r .size) (now (area .entry)) (now (batch .entry)) (now (area .exit)) (now (batch .exit))) ⌝ }
+        → (r .size ≡ 68 * length (touched (entryAt (now (log .entry)) groups homes start)
+        (closedBelow (now (log .entry)) groups homes start (r .end)) homes) + more)
+        × Brought (now (log .entry)) groups homes start (r .end) (r .size) (now (area .entry)) (now (batch .entry)) (now (area .exit))
+        (now (batch .exit))) ⌝ }
     ensures { λ r. ⌜ (1 ≤ limit
         → StepMade (now (log .entry)) groups homes start (r .end) cursor limit (r .size) (r .next) (r .more) (now (area .entry)) (now (batch .entry))
         (now (area .exit)) (now (batch .exit))) ⌝ }
@@ -129,8 +131,10 @@ pub fn bring_large(
     requires { ⌜ Searchable (now log) groups homes start n × (length (now area) ≡ 64 * homes) × (more ≤ 600000) ⌝ }
     ensures { λ r. ⌜ Committed (now (log .entry)) groups homes start n (r .end) (r .number) ⌝ }
     ensures { λ r. ⌜ (limit ≡ 0
-        → (r .size ≡ 68 * length (touched (entryAt (now (log .entry)) groups homes start) (closedBelow (now (log .entry)) groups homes start (r .end)) homes) + more)
-        × Brought (now (log .entry)) groups homes start (r .end) (r .size) (now (area .entry)) (now (batch .entry)) (now (area .exit)) (now (batch .exit))) ⌝ }
+        → (r .size ≡ 68 * length (touched (entryAt (now (log .entry)) groups homes start)
+        (closedBelow (now (log .entry)) groups homes start (r .end)) homes) + more)
+        × Brought (now (log .entry)) groups homes start (r .end) (r .size) (now (area .entry)) (now (batch .entry)) (now (area .exit))
+        (now (batch .exit))) ⌝ }
     ensures { λ r. ⌜ (1 ≤ limit
         → StepMade (now (log .entry)) groups homes start (r .end) cursor limit (r .size) (r .next) (r .more) (now (area .entry)) (now (batch .entry))
         (now (area .exit)) (now (batch .exit))) ⌝ }

@@ -16,9 +16,10 @@ pub fn least(a: u64, b: u64) -> u64
     if a < b { a } else { b }
 }
 
-// Returns how many bytes the records of the homes that the transactions of all closing entries below `end` touch take, and `more`. If the batch has
-// them, those transactions are replayed into the data copy, and the homes' records stand at the batch's beginning; else nothing is changed. The homes are
-// counted first only where the batch may have no room: not for all homes, nor for as many as there can be entries.
+// Returns how many bytes the records of the homes that the transactions of all closing entries below `end` touch take, and `more`. If the
+// batch has them, those transactions are replayed into the data copy, and the homes' records stand at the batch's beginning; else nothing
+// is changed. The homes are counted first only where the batch may have no room: not for all homes, nor for as many as there can be
+// entries.
 pub fn bring_all(
     log: &[u8],
     area: &mut [u8],
@@ -35,8 +36,10 @@ pub fn bring_all(
     requires { ⌜ Walkable (now log) groups start end × (homes ≤ 65535) × (length (now area) ≡ 64 * homes) × (more ≤ 600000)
         × Chained (now log) groups homes start end (now last) (now heads) (now links) ⌝ }
     ensures { λ r. ⌜ r
-        ≡ 68 * length (touched (entryAt (now (log .entry)) groups homes start) (closedBelow (now (log .entry)) groups homes start end) homes) + more ⌝ }
-    ensures { λ r. ⌜ Brought (now (log .entry)) groups homes start end r (now (area .entry)) (now (batch .entry)) (now (area .exit)) (now (batch .exit)) ⌝ }
+        ≡ 68 * length (touched (entryAt (now (log .entry)) groups homes start)
+        (closedBelow (now (log .entry)) groups homes start end) homes) + more ⌝ }
+    ensures { λ r. ⌜ Brought (now (log .entry)) groups homes start end r (now (area .entry)) (now (batch .entry)) (now (area .exit))
+        (now (batch .exit)) ⌝ }
 {
     let room = batch.len() as u64;
     if room < 68 * least(homes, 7 * groups) + more {

@@ -21,7 +21,10 @@ fn store(
     home: u64,
     fill: u8,
 ) -> Reply
-    ensures { λ r. ⌜ leaves (r .code) (r .figure) (r .size) (now (log .exit)) (now (area .entry)) (now (state .exit)) (replicate 64 fill) (now (batch .exit)) ≡ storeCall (lent (now (log .entry)) (now (area .entry)) (now (state .entry)) (replicate 64 fill) (now (batch .entry)) writer home) ⌝ }
+    ensures { λ r. ⌜ leaves (r .code) (r .figure) (r .size) (now (log .exit)) (now (area .entry)) (now (state .exit)) (replicate 64 fill)
+        (now (batch .exit))
+        ≡ storeCall (lent (now (log .entry)) (now (area .entry)) (now (state .entry)) (replicate 64 fill)
+        (now (batch .entry)) writer home) ⌝ }
 {
     let block = [fill; 64];
     call_store::store(log, area, state, &block, batch, writer, home)
@@ -39,7 +42,10 @@ fn call(
     batch: &mut [u8],
     asked: Line,
 ) -> Reply
-    ensures { λ r. ⌜ Does asked (memory (now (log .entry)) (now (area .entry)) (now (state .entry)) (now (newest .entry)) (now (batch .entry))) (r .code) (r .figure) (r .size) (memory (now (log .exit)) (now (area .exit)) (now (state .exit)) (now (newest .exit)) (now (batch .exit))) ⌝ }
+    ensures { λ r. ⌜ Does asked (memory (now (log .entry)) (now (area .entry)) (now (state .entry)) (now (newest .entry))
+        (now (batch .entry)))
+        (r .code) (r .figure) (r .size) (memory (now (log .exit)) (now (area .exit)) (now (state .exit)) (now (newest .exit))
+        (now (batch .exit))) ⌝ }
 {
     match asked {
         Line::Begin(w) => {

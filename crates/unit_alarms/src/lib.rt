@@ -31,7 +31,10 @@ pub extern "C" fn kagutin_alarm_arrive(
     class: u64,
     second: u32,
 ) -> Reply
-    ensures { λ r. ⌜ leaves (r .code) (r .figure) (r .size) (now (log .exit)) (now (area .entry)) (now (state .exit)) (now (newest .exit)) (now (batch .exit)) ≡ arriveCall (lentTo (now (log .entry)) (now (area .entry)) (now (state .entry)) (now (newest .entry)) (now (batch .entry))) writer (alarm identity class second) ⌝ }
+    ensures { λ r. ⌜ leaves (r .code) (r .figure) (r .size) (now (log .exit)) (now (area .entry)) (now (state .exit)) (now (newest .exit))
+        (now (batch .exit))
+        ≡ arriveCall (lentTo (now (log .entry)) (now (area .entry)) (now (state .entry)) (now (newest .entry)) (now (batch .entry))) writer
+        (alarm identity class second) ⌝ }
 {
     if !unit_alarms_list::class_known(class) {
         return call_ask::refused(24);
@@ -57,7 +60,10 @@ pub extern "C" fn kagutin_alarm_clear(
     writer: u64,
     identity: u16,
 ) -> Reply
-    ensures { λ r. ⌜ leaves (r .code) (r .figure) (r .size) (now (log .exit)) (now (area .entry)) (now (state .exit)) (now (newest .exit)) (now (batch .exit)) ≡ clearCall (lentTo (now (log .entry)) (now (area .entry)) (now (state .entry)) (now (newest .entry)) (now (batch .entry))) writer identity ⌝ }
+    ensures { λ r. ⌜ leaves (r .code) (r .figure) (r .size) (now (log .exit)) (now (area .entry)) (now (state .exit)) (now (newest .exit))
+        (now (batch .exit))
+        ≡ clearCall (lentTo (now (log .entry)) (now (area .entry)) (now (state .entry)) (now (newest .entry))
+        (now (batch .entry))) writer identity ⌝ }
 {
     let mut list = [0; 384];
     let mut rest = [0; 384];
@@ -78,7 +84,8 @@ pub extern "C" fn kagutin_alarm_gravest(
     newest: &[u8],
     writer: u64,
 ) -> Gravest
-    ensures { λ r. ⌜ tells (r .code) (r .identity) (r .«alarm_class») (r .second) ≡ gravestCall (lentTo (now (log .entry)) (now (area .entry)) (now (state .entry)) (now (newest .entry)) []) writer ⌝ }
+    ensures { λ r. ⌜ tells (r .code) (r .identity) (r .«alarm_class») (r .second)
+        ≡ gravestCall (lentTo (now (log .entry)) (now (area .entry)) (now (state .entry)) (now (newest .entry)) []) writer ⌝ }
 {
     let mut block = [0; 64];
     let read = kagutin::kagutin_fetch(log, area, state, newest, &mut block, writer, HOME);

@@ -40,7 +40,10 @@ pub extern "C" fn kagutin_bands_set(
     rows: &[u8],
     writer: u64,
 ) -> Reply
-    ensures { λ r. ⌜ leaves (r .code) (r .figure) (r .size) (now (log .exit)) (now (area .entry)) (now (state .exit)) (now (newest .exit)) (now (batch .exit)) ≡ setCall (lentTo (now (log .entry)) (now (area .entry)) (now (state .entry)) (now (newest .entry)) (now (batch .entry))) writer (now (rows .entry)) ⌝ }
+    ensures { λ r. ⌜ leaves (r .code) (r .figure) (r .size) (now (log .exit)) (now (area .entry)) (now (state .exit)) (now (newest .exit))
+        (now (batch .exit))
+        ≡ setCall (lentTo (now (log .entry)) (now (area .entry)) (now (state .entry)) (now (newest .entry)) (now (batch .entry))) writer
+        (now (rows .entry)) ⌝ }
 {
     let v = unit_bands_table::judge(rows);
     if v.code != 0 {
@@ -65,7 +68,8 @@ pub extern "C" fn kagutin_bands_look_up(
     writer: u64,
     mm: u64,
 ) -> Band
-    ensures { λ r. ⌜ answered (r .code) (r .from) (r .to) (r .pumps) ≡ lookUpCall (lentTo (now (log .entry)) (now (area .entry)) (now (state .entry)) (now (newest .entry)) []) writer mm ⌝ }
+    ensures { λ r. ⌜ answered (r .code) (r .from) (r .to) (r .pumps)
+        ≡ lookUpCall (lentTo (now (log .entry)) (now (area .entry)) (now (state .entry)) (now (newest .entry)) []) writer mm ⌝ }
 {
     if mm >= unit_bands_table::DEPTHS {
         return refused(11);

@@ -59,7 +59,11 @@ pub extern "C" fn kagutin_pump_start(
     pump: u64,
     second: u32,
 ) -> Reply
-    ensures { λ r. ⌜ leaves (r .code) (r .figure) (r .size) (now (log .exit)) (now (area .entry)) (now (state .exit)) (now (newest .exit)) (now (batch .exit)) ≡ eventCall (lentTo (now (log .entry)) (now (area .entry)) (now (state .entry)) (now (newest .entry)) (now (batch .entry))) writer pump (startAt second) ⌝ }
+    ensures { λ r. ⌜ leaves (r .code) (r .figure) (r .size) (now (log .exit)) (now (area .entry)) (now (state .exit)) (now (newest .exit))
+        (now (batch .exit))
+        ≡ eventCall (lentTo (now (log .entry)) (now (area .entry)) (now (state .entry)) (now (newest .entry))
+        (now (batch .entry))) writer pump
+        (startAt second) ⌝ }
 {
     if pump > LAST_PUMP {
         return call_ask::refused(14);
@@ -86,7 +90,11 @@ pub extern "C" fn kagutin_pump_stop(
     pump: u64,
     second: u32,
 ) -> Reply
-    ensures { λ r. ⌜ leaves (r .code) (r .figure) (r .size) (now (log .exit)) (now (area .entry)) (now (state .exit)) (now (newest .exit)) (now (batch .exit)) ≡ eventCall (lentTo (now (log .entry)) (now (area .entry)) (now (state .entry)) (now (newest .entry)) (now (batch .entry))) writer pump (stopAt second) ⌝ }
+    ensures { λ r. ⌜ leaves (r .code) (r .figure) (r .size) (now (log .exit)) (now (area .entry)) (now (state .exit)) (now (newest .exit))
+        (now (batch .exit))
+        ≡ eventCall (lentTo (now (log .entry)) (now (area .entry)) (now (state .entry)) (now (newest .entry))
+        (now (batch .entry))) writer pump
+        (stopAt second) ⌝ }
 {
     if pump > LAST_PUMP {
         return call_ask::refused(14);
@@ -140,7 +148,8 @@ pub extern "C" fn kagutin_pump_services(
     pump: u64,
     interval: u64,
 ) -> Services
-    ensures { λ r. ⌜ r ≡ servicesCall (lentTo (now (log .entry)) (now (area .entry)) (now (state .entry)) (now (newest .entry)) []) writer pump interval ⌝ }
+    ensures { λ r. ⌜ r ≡ servicesCall (lentTo (now (log .entry)) (now (area .entry)) (now (state .entry))
+        (now (newest .entry)) []) writer pump interval ⌝ }
 {
     if interval == 0 {
         return no_services(14);

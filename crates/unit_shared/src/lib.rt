@@ -15,7 +15,10 @@ pub fn finish(
     home: u64,
     code: u64,
 ) -> Reply
-    ensures { λ r. ⌜ leaves (r .code) (r .figure) (r .size) (now (log .exit)) (now (area .entry)) (now (state .exit)) (now (newest .exit)) (now (batch .exit)) ≡ stored (lentTo (now (log .entry)) (now (area .entry)) (now (state .entry)) (now (newest .entry)) (now (batch .entry))) writer home (asJudged code (now (blocks .entry))) ⌝ }
+    ensures { λ r. ⌜ leaves (r .code) (r .figure) (r .size) (now (log .exit)) (now (area .entry)) (now (state .exit)) (now (newest .exit))
+        (now (batch .exit))
+        ≡ stored (lentTo (now (log .entry)) (now (area .entry)) (now (state .entry)) (now (newest .entry)) (now (batch .entry))) writer home
+        (asJudged code (now (blocks .entry))) ⌝ }
 {
     if code != 0 {
         return call_ask::refused(code);
