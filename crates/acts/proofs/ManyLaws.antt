@@ -8,16 +8,16 @@ use lib.ListN.{length}
 use borrow.Author.Tests.{leb-true, eqb-true, eqb-false}
 use Rattle.model.specs.State.{freePlaces}
 use Rattle.model.specs.Effects.{Given, homes}
-use Rattle.model.specs.Questions.{areasRight, stateRight, newestRight, blockRight, stripInOrder, writerKnown, homeKnown, storeAllowed, writerOpen, storeLogs, commitLogs, room, batchFits, askBlock, askNewest, storeAnswer, commitAnswer}
+use Rattle.model.specs.Questions.{areasRight, stateRight, newestRight, blockRight, stateInOrder, writerKnown, homeKnown, storeAllowed, writerOpen, storeLogs, commitLogs, room, batchFits, askBlock, askNewest, storeAnswer, commitAnswer}
 use Rattle.acts.specs.Many.{blocksLent, blocksRight, homesKnown, allOf, mayStoreAll, mayReadAll, roomForAll, askHomes, fetchAnswer, reviseAnswer, transactAnswer}
 use Rattle.model_laws.proofs.state.QuestionLaws.{ask-passed, and-true}
 
 -- what every call on several homes has been lent when it is done
 pub record HomesReady (g : Given) : Type 0 where
   pub areas : areasRight g ≡ true
-  pub strip : stateRight g ≡ true
+  pub stateFits : stateRight g ≡ true
   pub newest : newestRight g ≡ true
-  pub order : stripInOrder g ≡ true
+  pub order : stateInOrder g ≡ true
   pub writer : writerKnown g ≡ true
   pub whole : length (g .block) ≡ 64 * blocksLent g
   pub some : 1 ≤ blocksLent g
@@ -28,7 +28,7 @@ homes-passed : (g : Given) (next : ℕ) → askHomes g next ≡ 0 → HomesReady
 unfolding askHomes blocksRight homesKnown
 homes-passed g next e =
     let a = ask-passed (areasRight g && stateRight g && newestRight g && blocksRight g) 0 _ e in
-    let b = ask-passed (stripInOrder g) 1 _ (a .1) in
+    let b = ask-passed (stateInOrder g) 1 _ (a .1) in
     let c = ask-passed (writerKnown g) 3 _ (b .1) in
     let d = ask-passed (homesKnown g) 4 next (c .1) in
     let p = and-true (areasRight g && stateRight g && newestRight g) (blocksRight g) (a .0) in
@@ -38,7 +38,7 @@ homes-passed g next e =
     let t = and-true (eqb (length (g .block)) (64 * blocksLent g)) (leb 1 (blocksLent g)) (s .0) in (
       record {
         areas = r .0;
-        strip = r .1;
+        stateFits = r .1;
         newest = q .1;
         order = b .0;
         writer = c .0;
@@ -104,7 +104,7 @@ pub store-fits : (g : Given) (size : ℕ) → storeAnswer g size ≡ 0 → batch
 unfolding storeAnswer askBlock
 store-fits g size e =
     let a = ask-passed (areasRight g && stateRight g && blockRight g) 0 _ e in
-    let b = ask-passed (stripInOrder g) 1 _ (a .1) in
+    let b = ask-passed (stateInOrder g) 1 _ (a .1) in
     let c = ask-passed (writerKnown g) 3 _ (b .1) in
     let d = ask-passed (homeKnown g) 4 _ (c .1) in
     let f = ask-passed (storeAllowed g) 18 _ (d .1) in
@@ -116,7 +116,7 @@ pub commit-fits : (g : Given) (size : ℕ) → commitAnswer g size ≡ 0 → bat
 unfolding commitAnswer askNewest
 commit-fits g size e =
     let a = ask-passed (areasRight g && stateRight g && newestRight g) 0 _ e in
-    let b = ask-passed (stripInOrder g) 1 _ (a .1) in
+    let b = ask-passed (stateInOrder g) 1 _ (a .1) in
     let c = ask-passed (writerKnown g) 3 _ (b .1) in
     let d = ask-passed (writerOpen g) 6 _ (c .1) in
     let f = ask-passed (not (commitLogs g) || room g) 7 _ (d .1) in

@@ -9,7 +9,7 @@ use Rattle.model.specs.Bytes.{part}
 use Rattle.model.specs.State.{freePlaces, listSign}
 use Rattle.model.specs.Effects.{Given, homes, Effect, beginEffect, storeEffect, commitEffect, readEffect}
 use Rattle.model.specs.Rights.{forHome, storeRight, readRight, readList}
-use Rattle.model.specs.Questions.{ask, areasRight, stateRight, newestRight, stripInOrder, writerKnown, writerOpen, batchFits}
+use Rattle.model.specs.Questions.{ask, areasRight, stateRight, newestRight, stateInOrder, writerKnown, writerOpen, batchFits}
 use Rattle.model.specs.Calls.{Outcome, outcome, sizeOf}
 
 -- The lent block is a strip of home blocks, for the call's home and those behind it.
@@ -98,7 +98,7 @@ roomForAll g = leb (blocksLent g) (freePlaces (g .state))
 unfoldable pub askHomes : Given → ℕ → ℕ
 askHomes g next =
     ask (areasRight g && stateRight g && newestRight g && blocksRight g) 1
-    (ask (stripInOrder g) 2 (ask (writerKnown g) 4 (ask (homesKnown g) 5 next)))
+    (ask (stateInOrder g) 2 (ask (writerKnown g) 4 (ask (homesKnown g) 5 next)))
 
 unfoldable pub fetchAnswer : Given → ℕ
 fetchAnswer g = askHomes g (ask (mayReadAll g) 20 0)

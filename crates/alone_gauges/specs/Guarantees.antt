@@ -11,7 +11,7 @@ use Rattle.alone_gauges.specs.Compare.{compareGauges}
 
 -- a strip holds bytes
 abbrev pub Bytes : List ℕ → Type 0
-Bytes strip = (i : ℕ) → getD strip i 0 < 256
+Bytes bytes = (i : ℕ) → getD bytes i 0 < 256
 
 -- a list has a minute, with so many millimetres
 abbrev pub Has : List Reading → ℕ → ℕ → Type 0
@@ -58,10 +58,10 @@ pub record Reported (tolerance : ℕ) (xs ys : List Reading) (lines : List Line)
   pub sum : ofKind 1 lines + ofKind 2 lines + ofKind 3 lines + ofKind 4 lines ≡ different (minutesOf xs ++ minutesOf ys)
 
 -- what is asked of a list, and of all that is lent
-pub record Sound (strip : List ℕ) : Type 0 where
-  pub whole : length strip % 4 ≡ 0
-  pub short : length (readings strip) ≤ 1440
-  pub strict : Rises (minutesOf (readings strip))
+pub record Sound (bytes : List ℕ) : Type 0 where
+  pub whole : length bytes % 4 ≡ 0
+  pub short : length (readings bytes) ≤ 1440
+  pub strict : Rises (minutesOf (readings bytes))
 
 pub record Asked (first second output : List ℕ) : Type 0 where
   pub firstSound : Sound first

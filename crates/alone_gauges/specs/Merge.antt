@@ -9,14 +9,14 @@ use Rattle.alone_gauges.specs.Report.{Line, line, report, ofKind}
 
 -- the rows of a strip from byte `at` on
 unfoldable pub rest : List ℕ → ℕ → List Reading
-rest strip at = readings (drop at strip)
+rest bytes at = readings (drop at bytes)
 
 -- `at` is the place of a row or the end, and the minutes rise from there on
-pub record Place (strip : List ℕ) (at : ℕ) : Type 0 where
-  pub inside : at ≤ length strip
-  pub whole : length strip % 4 ≡ 0
+pub record Place (bytes : List ℕ) (at : ℕ) : Type 0 where
+  pub inside : at ≤ length bytes
+  pub whole : length bytes % 4 ≡ 0
   pub aligned : at % 4 ≡ 0
-  pub strict : rising 0 (rest strip at) ≡ true
+  pub strict : rising 0 (rest bytes at) ≡ true
 
 -- the lines of the rows that are left
 unfoldable pub left : ℕ → List ℕ → List ℕ → ℕ → ℕ → List Line

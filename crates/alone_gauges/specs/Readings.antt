@@ -29,7 +29,7 @@ rising lowest (r ∷ rs) = leb lowest (r .minute) && rising (r .minute + 1) rs
 
 -- what is asked of a list: whole rows, no more than 1,440, and minutes that rise strictly
 unfoldable pub acceptable : List ℕ → Bool
-acceptable strip = eqb (length strip % 4) 0 && (leb (length strip) (4 * 1440) && rising 0 (readings strip))
+acceptable bytes = eqb (length bytes % 4) 0 && (leb (length bytes) (4 * 1440) && rising 0 (readings bytes))
 
 -- the millimetres at a minute, if the list has it
 unfoldable pub levelAt : ℕ → List Reading → Option ℕ

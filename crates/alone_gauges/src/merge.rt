@@ -35,7 +35,7 @@ pub struct Counts {
 }
 
 // The kind of a minute that both lists have.
-fn judge(a: u64, b: u64, tolerance: u64) -> u64
+fn kind_of(a: u64, b: u64, tolerance: u64) -> u64
     ensures { λ r. ⌜ r ≡ kindOf tolerance a b ⌝ }
 {
     let difference = if a < b { b - a } else { a - b };
@@ -86,7 +86,7 @@ fn next_line(first: &[u8], second: &[u8], i: usize, j: usize, tolerance: u64) ->
             second: j + 4,
         };
     }
-    let kind = judge(two_bytes(first, i + 2), two_bytes(second, j + 2), tolerance);
+    let kind = kind_of(two_bytes(first, i + 2), two_bytes(second, j + 2), tolerance);
     Step {
         minute,
         kind,

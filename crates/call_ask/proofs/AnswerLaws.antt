@@ -15,7 +15,7 @@ use Rattle.model.specs.declared.State.{State}
 use Rattle.base_state.specs.Order.{GroupsInOrder}
 use Rattle.model.specs.Batch.{batchBytes}
 use Rattle.model.specs.Effects.{Given, Effect, newState}
-use Rattle.model.specs.Questions.{ask, areasRight, stateRight, blockRight, stripInOrder, askState, askBlock}
+use Rattle.model.specs.Questions.{ask, areasRight, stateRight, blockRight, stateInOrder, askState, askBlock}
 use Rattle.model.specs.Calls.{Outcome, refused, done, sizeOf, outcome}
 use Rattle.model_laws.proofs.bytes.ByteLaws.{puts-nil}
 use Rattle.model_laws.proofs.state.QuestionLaws.{ask-yes, ask-no, ask-passed, and-true}
@@ -39,11 +39,11 @@ passes false b v e = absurd (omega arith)
 -- a refusal by the first two questions is the answer, whatever else is asked
 pub state-stops : (g : Given) (k v : ℕ) → askState g 0 ≡ suc k → askState g v ≡ suc k
 unfolding askState
-state-stops g k v e = stops (areasRight g && stateRight g) (stripInOrder g) k v e
+state-stops g k v e = stops (areasRight g && stateRight g) (stateInOrder g) k v e
 
 pub block-stops : (g : Given) (k v : ℕ) → askBlock g 0 ≡ suc k → askBlock g v ≡ suc k
 unfolding askBlock
-block-stops g k v e = stops (areasRight g && stateRight g && blockRight g) (stripInOrder g) k v e
+block-stops g k v e = stops (areasRight g && stateRight g && blockRight g) (stateInOrder g) k v e
 
 -- the same from what `state_answer` and `block_answer` give
 pub state-refuses : (g : Given) (r v : ℕ) → r ≡ askState g 0 → r ≢ 0 → r ≡ askState g v
@@ -57,19 +57,19 @@ block-refuses g (suc k) v e h = sym (block-stops g k v (sym e))
 -- where they refuse nothing the rest is the answer
 pub state-passes : (g : Given) (v : ℕ) → askState g 0 ≡ 0 → askState g v ≡ v
 unfolding askState
-state-passes g v e = passes (areasRight g && stateRight g) (stripInOrder g) v e
+state-passes g v e = passes (areasRight g && stateRight g) (stateInOrder g) v e
 
 pub block-passes : (g : Given) (v : ℕ) → askBlock g 0 ≡ 0 → askBlock g v ≡ v
 unfolding askBlock
-block-passes g v e = passes (areasRight g && stateRight g && blockRight g) (stripInOrder g) v e
+block-passes g v e = passes (areasRight g && stateRight g && blockRight g) (stateInOrder g) v e
 
 -- they look at the log copy, the data copy, the strip and the block only
 pub state-only : (l a s b t : List ℕ) (w h v : ℕ) → askState (lent l a s b t w h) v ≡ askState (lent l a s [] [] 0 0) v
-unfolding askState areasRight stateRight stripInOrder
+unfolding askState areasRight stateRight stateInOrder
 state-only l a s b t w h v = refl
 
 pub block-only : (l a s b t : List ℕ) (w h v : ℕ) → askBlock (lent l a s b t w h) v ≡ askBlock (lent l a s b [] 0 0) v
-unfolding askBlock areasRight stateRight blockRight stripInOrder
+unfolding askBlock areasRight stateRight blockRight stateInOrder
 block-only l a s b t w h v = refl
 
 -- ---- what an answer of 0 to them gives
@@ -106,8 +106,8 @@ area-facts : (n : ℕ) → dataLengthRight n ≡ true → (n ≡ 64 * homesIn n)
 unfolding dataLengthRight
 area-facts n h = let f = simp tests at h in omega arith
 
-usable : (g : Given) → areasRight g ≡ true → stateRight g ≡ true → stripInOrder g ≡ true → Usable (g .log) (g .area) (g .state)
-unfolding areasRight stateRight stripInOrder
+usable : (g : Given) → areasRight g ≡ true → stateRight g ≡ true → stateInOrder g ≡ true → Usable (g .log) (g .area) (g .state)
+unfolding areasRight stateRight stateInOrder
 usable g a s o =
     let b = and-true (logLengthRight (length (g .log))) (dataLengthRight (length (g .area))) a in
     let l = log-facts (length (g .log)) (b .0) in
@@ -126,16 +126,16 @@ usable g a s o =
 pub state-usable : (g : Given) → askState g 0 ≡ 0 → Usable (g .log) (g .area) (g .state)
 unfolding askState
 state-usable g e =
-    let a = ask-passed (areasRight g && stateRight g) 0 (ask (stripInOrder g) 2 0) e in
-    let b = ask-passed (stripInOrder g) 1 0 (a .1) in
+    let a = ask-passed (areasRight g && stateRight g) 0 (ask (stateInOrder g) 2 0) e in
+    let b = ask-passed (stateInOrder g) 1 0 (a .1) in
     let c = and-true (areasRight g) (stateRight g) (a .0) in
     usable g (c .0) (c .1) (b .0)
 
 pub block-usable : (g : Given) → askBlock g 0 ≡ 0 → Usable (g .log) (g .area) (g .state) × (length (g .block) ≡ 64)
 unfolding askBlock blockRight
 block-usable g e =
-    let a = ask-passed (areasRight g && stateRight g && blockRight g) 0 (ask (stripInOrder g) 2 0) e in
-    let b = ask-passed (stripInOrder g) 1 0 (a .1) in
+    let a = ask-passed (areasRight g && stateRight g && blockRight g) 0 (ask (stateInOrder g) 2 0) e in
+    let b = ask-passed (stateInOrder g) 1 0 (a .1) in
     let c = and-true (areasRight g && stateRight g) (blockRight g) (a .0) in
     let d = and-true (areasRight g) (stateRight g) (c .0) in
     (usable g (d .0) (d .1) (b .0), eqb-true (length (g .block)) 64 (c .1))
@@ -159,8 +159,8 @@ done-by g e zero code figure size log area state newest block batch z c f n l d 
 done-by g e (suc k) code figure size log area state newest block batch z c f n l d s p b t = absurd (omega arith)
 
 -- a done call that changes the strip only
-pub strip-by : (g : Given) (s : List ℕ) (a f code figure size : ℕ) (state : List ℕ) → a ≡ 0 → code ≡ 0 → figure ≡ f → size ≡ 0 → state ≡ s
+pub state-by : (g : Given) (s : List ℕ) (a f code figure size : ℕ) (state : List ℕ) → a ≡ 0 → code ≡ 0 → figure ≡ f → size ≡ 0 → state ≡ s
     → leavesAll code figure size (g .log) (g .area) state (g .newest) (g .block) (g .batch) ≡ outcome g a (newState g s f)
 unfolding outcome done newState batchBytes
-strip-by g s zero f code figure size state z c e n h = rw (c, e, n, h, puts-nil)
-strip-by g s (suc k) f code figure size state z c e n h = absurd (omega arith)
+state-by g s zero f code figure size state z c e n h = rw (c, e, n, h, puts-nil)
+state-by g s (suc k) f code figure size state z c e n h = absurd (omega arith)

@@ -10,7 +10,7 @@ use lib.ListN.{length}
 use Rattle.model.specs.Layout.{groupsIn, homesIn, logLengthRight, dataLengthRight}
 use Rattle.model.specs.State.{inOrder}
 use Rattle.model.specs.Effects.{Given}
-use Rattle.model.specs.Questions.{ask, areasRight, stateRight, blockRight, stripInOrder, askState, askBlock}
+use Rattle.model.specs.Questions.{ask, areasRight, stateRight, blockRight, stateInOrder, askState, askBlock}
 use Rattle.model_laws.proofs.state.QuestionLaws.{ask-yes, ask-no}
 use Rattle.model_laws.proofs.state.OrderLaws.{tests}
 
@@ -49,8 +49,8 @@ sizes log area state r e h =
 -- ---- the strip
 
 ordered : (g : Given) (n m : ℕ) (o : Bool) → n ≡ groupsIn (length (g .log)) → m ≡ homesIn (length (g .area))
-    → o ≡ inOrder (g .state) n m → o ≡ stripInOrder g
-unfolding stripInOrder
+    → o ≡ inOrder (g .state) n m → o ≡ stateInOrder g
+unfolding stateInOrder
 ordered g n m o en em eo = eo ∙ rw (en, em)
 
 -- ---- the answers of a call that is lent no block

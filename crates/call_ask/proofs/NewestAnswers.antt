@@ -12,7 +12,7 @@ use Rattle.model.specs.Layout.{homesIn}
 use Rattle.model.specs.State.{stateOf}
 use Rattle.model.specs.declared.State.{State}
 use Rattle.model.specs.Effects.{Given}
-use Rattle.model.specs.Questions.{ask, areasRight, stateRight, blockRight, newestRight, stripInOrder, askState, askBlock, askNewest, askBoth}
+use Rattle.model.specs.Questions.{ask, areasRight, stateRight, blockRight, newestRight, stateInOrder, askState, askBlock, askNewest, askBoth}
 use Rattle.model_laws.proofs.state.QuestionLaws.{ask-no}
 use Rattle.call_ask.specs.Lent.{lentAll, lent}
 use Rattle.call_ask.proofs.AnswerLaws.{Usable, state-refuses, state-passes, state-usable, block-refuses, block-passes, block-usable}
@@ -112,7 +112,7 @@ module _ (g : Given) where
 
   pub both-zero : (v : ℕ) → askBoth g v ≡ 0 → askBoth g 0 ≡ 0
   unfolding askBoth
-  both-zero v e = zeros (areasRight g && stateRight g && newestRight g && blockRight g) (stripInOrder g) v e
+  both-zero v e = zeros (areasRight g && stateRight g && newestRight g && blockRight g) (stateInOrder g) v e
 
   pub both-usable : askBoth g 0 ≡ 0
       → Usable (g .log) (g .area) (g .state) × (length (g .block) ≡ 64) × (length (g .newest) ≡ 8 * homesIn (length (g .area)))
@@ -123,18 +123,18 @@ module _ (g : Given) where
 
 -- a call without them does not look at them
 pub newest-unasked : (l a s n : List ℕ) (v : ℕ) → askState (lent l a s [] [] 0 0) v ≡ askState (lentAll l a s n [] [] 0 0) v
-unfolding askState areasRight stateRight stripInOrder
+unfolding askState areasRight stateRight stateInOrder
 newest-unasked l a s n v = refl
 
 pub both-unasked : (l a s n b : List ℕ) (v : ℕ) → askBlock (lent l a s b [] 0 0) v ≡ askBlock (lentAll l a s n b [] 0 0) v
-unfolding askBlock areasRight stateRight blockRight stripInOrder
+unfolding askBlock areasRight stateRight blockRight stateInOrder
 both-unasked l a s n b v = refl
 
 -- they look at the copies, the strip, the newest positions and the block only
 pub newest-only : (l a s n b t : List ℕ) (w h v : ℕ) → askNewest (lentAll l a s n b t w h) v ≡ askNewest (lentAll l a s n [] [] 0 0) v
-unfolding askNewest areasRight stateRight newestRight stripInOrder
+unfolding askNewest areasRight stateRight newestRight stateInOrder
 newest-only l a s n b t w h v = refl
 
 pub both-only : (l a s n b t : List ℕ) (w h v : ℕ) → askBoth (lentAll l a s n b t w h) v ≡ askBoth (lentAll l a s n b [] 0 0) v
-unfolding askBoth areasRight stateRight newestRight blockRight stripInOrder
+unfolding askBoth areasRight stateRight newestRight blockRight stateInOrder
 both-only l a s n b t w h v = refl

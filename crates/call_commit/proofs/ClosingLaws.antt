@@ -52,8 +52,8 @@ module _ (l s b : List ℕ) (st : State) (r : Writer) (w : ℕ) where
       let x₂ : st .next ≡ stateOf s .next = ap (λ (x : State). x .next) (m .state) in
       let a : Advance st (stateOf t) (stateOf s .last) =
       subst (λ (x : State). Advance x (stateOf t) (stateOf s .last)) (sym (m .state))
-      (logged-numbers s l word (heldOf s w) (m .strip) (omega (arith, m .filled, x₁)) (omega (arith, m .room, m .high, m .few, x₂))) in
-      let size : length t ≡ 1024 = logged-length s l word (heldOf s w) ∙ m .strip in
+      (logged-numbers s l word (heldOf s w) (m .stateFits) (omega (arith, m .filled, x₁)) (omega (arith, m .room, m .high, m .few, x₂))) in
+      let size : length t ≡ 1024 = logged-length s l word (heldOf s w) ∙ m .stateFits in
       let q : stateOf s₂ ≡ withLast (stateOf t) (nextPosition st + 1) =
       ap stateOf e ∙ state-setPromise s₁ w 0 (m .writer) ∙ ap stateOf (h .state) ∙ state-setWriter _ w idle
       ∙ state-setLast t (nextPosition st + 1) size (omega (arith, f .high)) in
@@ -90,7 +90,7 @@ module _ (l s b : List ℕ) (st : State) (r : Writer) (w : ℕ) where
               first = omega (arith, k, q, m .low, v .start);
               within = omega (arith, k, q, m .room, m .filled, v .start, v .groups);
             };
-        strip = es;
+        stateFits = es;
         long = omega (arith, ea, v .homes);
         kept = omega (arith, ep, v .homes);
       }

@@ -57,7 +57,7 @@ effect-part g st e h =
 -- ---- what a flush that is not refused knows
 
 pub record Facts (l s : List ℕ) (st : State) : Type 0 where
-  pub strip : length s ≡ 1024
+  pub stateFits : length s ≡ 1024
   pub some : 1 ≤ st .groups
   pub log : 64 + 512 * st .groups ≤ length l
   pub next : st .next < 2 ^ 60
@@ -67,7 +67,7 @@ facts l a s st u e =
     let o = u .order in
     let p : stateOf s .groups ≡ groupsIn (length l) = o .groups-same in
     let h : Facts l s (stateOf s) = record {
-      strip = u .state-length;
+      stateFits = u .state-length;
       some = omega (arith, u .groups-least);
       log = omega (arith, u .log-length);
       next = omega (arith, o .next-most, o .start-most, u .groups-most);
@@ -95,8 +95,8 @@ module _ (l a s b : List ℕ) where
   zeroed : (r : ℕ) → r ≡ askState (lent l a s [] [] 0 0) 0 → r ≡ 0 → askState (given l a s b) 0 ≡ 0
   zeroed r e z = state-only l a s [] b 0 0 0 ∙ sym e ∙ z
 
-  pub stripped : (r : ℕ) → r ≡ askState (lent l a s [] [] 0 0) 0 → r ≡ 0 → length s ≡ 1024
-  stripped r e z = state-usable (given l a s b) (zeroed r e z) .state-length
+  pub state-fits-asked : (r : ℕ) → r ≡ askState (lent l a s [] [] 0 0) 0 → r ≡ 0 → length s ≡ 1024
+  state-fits-asked r e z = state-usable (given l a s b) (zeroed r e z) .state-length
 
   pub grouped : (r : ℕ) (st : State) → r ≡ askState (lent l a s [] [] 0 0) 0 → r ≡ 0 → st ≡ stateOf s → GroupsInOrder st
   grouped r st e z es = usable-groups l a s st (state-usable (given l a s b) (zeroed r e z)) es

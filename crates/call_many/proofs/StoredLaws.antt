@@ -71,14 +71,14 @@ module _ (g : Given) (n : ℕ) (c : Several (g .log) (g .state) (g .block) (g .w
   s₃ = setHeld (setWriter (setWriter (g .state) (g .writer) begun) (g .writer) (holding (g .home + 0))) (g .writer) (part (g .block) (64 * 0) 64)
 
   size₁ : length s₁ ≡ 1024
-  size₁ = length-setWriter (g .state) (g .writer) begun ∙ c .strip
+  size₁ = length-setWriter (g .state) (g .writer) begun ∙ c .stateFits
 
   first-effect : storeEffect (lentOn g (beginEffect g) (g .home + 0) (part (g .block) (64 * 0) 64))
       ≡ storeFirst (lentOn g (beginEffect g) (g .home + 0) (part (g .block) (64 * 0) 64))
   unfolding lentOn beginEffect newState
   first-effect =
       effect-first (lentOn g (beginEffect g) (g .home + 0) (part (g .block) (64 * 0) 64)) begun
-      (sym (writer-setWriter (g .state) (g .writer) begun (c .strip) (c .writer) fits-begun)) not-held
+      (sym (writer-setWriter (g .state) (g .writer) begun (c .stateFits) (c .writer) fits-begun)) not-held
 
   first-numbers : stateOf s₃ ≡ stateOf (g .state)
   first-numbers =
@@ -95,7 +95,7 @@ module _ (g : Given) (n : ℕ) (c : Several (g .log) (g .state) (g .block) (g .w
   stored-one =
       let k = holding-is (g .home + 0) (nextPosition (stateOf (g .state))) in
       record {
-        strip = length-setHeld s₂ (g .writer) _ ∙ length-setWriter s₁ (g .writer) _ ∙ size₁;
+        stateFits = length-setHeld s₂ (g .writer) _ ∙ length-setWriter s₁ (g .writer) _ ∙ size₁;
         log = refl;
         newest = refl;
         area = refl;
@@ -133,7 +133,7 @@ module _ (g : Given) (n : ℕ) (c : Several (g .log) (g .state) (g .block) (g .w
         let base : nextPosition (stateOf (g .state)) ≡ 7 * stateOf (g .state) .next + stateOf (g .state) .filled = unfold nextPosition in refl in (
           record {
             state = refl;
-            strip = h .strip;
+            stateFits = h .stateFits;
             writer = c .writer;
             some = omega (arith, h .groups, c .some);
             few = omega (arith, h .groups, c .few);
@@ -166,7 +166,7 @@ module _ (g : Given) (n : ℕ) (c : Several (g .log) (g .state) (g .block) (g .w
 
       pub moves : Advance (stateOf (e .state)) (stateOf (logged (e .state) (e .log) word block .state)) (stateOf (e .state) .last)
       unfolding nextPosition
-      moves = logged-numbers (e .state) (e .log) word block (h .strip) (h .filled) (omega (arith, next-low, h .start, h .groups, c .high, c .few))
+      moves = logged-numbers (e .state) (e .log) word block (h .stateFits) (h .filled) (omega (arith, next-low, h .start, h .groups, c .high, c .few))
 
       size-more : length (batchBytes (logged (e .state) (e .log) word block .records)) ≡ cond (eqb (stateOf (e .state) .filled) 6) 516 0
       size-more =
@@ -226,7 +226,7 @@ module _ (g : Given) (n : ℕ) (c : Several (g .log) (g .state) (g .block) (g .w
     next-effect = effect-other next r (stateOf (e .state)) refl refl (h .holding) (λ z. omega (arith, h .home))
 
     keeps : SameWriters (e .state) (en .state)
-    keeps = logged-writers (e .state) (e .log) _ _ (h .strip)
+    keeps = logged-writers (e .state) (e .log) _ _ (h .stateFits)
 
     abbrev t₁ : List ℕ
     t₁ = setWriter (en .state) (g .writer) (logging (g .home + suc j) (firstFor r p) (countFor r + 1))
@@ -258,7 +258,7 @@ module _ (g : Given) (n : ℕ) (c : Several (g .log) (g .state) (g .block) (g .w
         let a = moves e j h (omega arith) (entryWord (r .home) (p - firstFor r p)) (heldOf (e .state) (g .writer)) in
         let k = logging-is (g .home + suc j) (nextPosition (stateOf (g .state))) (j + 1) (nextPosition (stateOf t₃)) in
         record {
-          strip = length-setPromise t₂ (g .writer) _ ∙ length-setHeld t₁ (g .writer) _ ∙ size-t₁;
+          stateFits = length-setPromise t₂ (g .writer) _ ∙ length-setHeld t₁ (g .writer) _ ∙ size-t₁;
           log = log-more e j h (omega arith) _ _;
           newest = h .newest;
           area = h .area;

@@ -16,7 +16,7 @@ use Rattle.model.specs.declared.Writer.{Writer}
 use Rattle.model.specs.State.{stateOf, nextPosition, places, freePlaces, writerOf, heldOf, isOpen, firstFor, countFor}
 use Rattle.model.specs.Tag.{closingWord}
 use Rattle.model.specs.Effects.{Given, Effect, Logged, logged, linkFrom, logClosing, tagsOf, liveBase, keptCommit, commitHeld, commitEffect}
-use Rattle.model.specs.Questions.{ask, areasRight, stateRight, newestRight, stripInOrder, writerKnown, writerOpen, batchFits}
+use Rattle.model.specs.Questions.{ask, areasRight, stateRight, newestRight, stateInOrder, writerKnown, writerOpen, batchFits}
 use Rattle.model.specs.Calls.{sizeOf, outcome}
 use Rattle.model_laws.proofs.bytes.ByteLaws.{length-puts}
 use Rattle.model_laws.proofs.state.QuestionLaws.{ask-yes, ask-no, ask-passed}
@@ -41,7 +41,7 @@ chain-lent g k f =
     let o = u .order in
     let free : length (g .block) / 64 ≤ freePlaces (g .state) = leb-true (length (g .block) / 64) (freePlaces (g .state)) f in
     record {
-      strip = u .state-length;
+      stateFits = u .state-length;
       writer = k .writer;
       some = omega (arith, o .groups-same, u .groups-least);
       few = omega (arith, o .groups-same, u .groups-most);
@@ -184,7 +184,7 @@ module _ (g : Given) (c : Several (g .log) (g .state) (g .block) (g .writer) (g 
 
 module _ (l a s p x b : List ℕ) (w h : ℕ) where
   homes-only : (v : ℕ) → askHomes (lentAll l a s p x b w h) v ≡ askHomes (lentAll l a s p x [] w h) v
-  unfolding askHomes areasRight stateRight newestRight blocksRight blocksLent stripInOrder writerKnown homesKnown
+  unfolding askHomes areasRight stateRight newestRight blocksRight blocksLent stateInOrder writerKnown homesKnown
   homes-only v = refl
 
   stores-are : mayStoreAll (lentAll l a s p x b w h) ≡ allOf (storeTest l a s p w) h (length x / 64)

@@ -14,7 +14,7 @@ use Rattle.acts.specs.Many.{storedFirst}
 
 -- the log copy, the strip and the lent blocks of a transact of n blocks that questions 1, 2, 4, 5 and 8 let through
 pub record Several (l s x : List ℕ) (w home n : ℕ) : Type 0 where
-  pub strip : length s ≡ 1024
+  pub stateFits : length s ≡ 1024
   pub writer : w < 8
   pub some : 4 ≤ stateOf s .groups
   pub few : stateOf s .groups ≤ 1024
@@ -42,7 +42,7 @@ Moved st j st′ records =
 
 -- what j + 1 stores leave: j entries are logged and the last block is held
 pub record Stored (g : Given) (j : ℕ) (e : Effect) : Type 0 where
-  pub strip : length (e .state) ≡ 1024
+  pub stateFits : length (e .state) ≡ 1024
   pub log : length (e .log) ≡ length (g .log)
   pub newest : e .newest ≡ g .newest
   pub area : e .area ≡ g .area

@@ -11,7 +11,7 @@ use borrow.Author.Tests.{eqb-true, eq-eqb, ne-eqb, leb-true, leb-false, le-leb, 
 use Rattle.model.specs.Layout.{homesIn}
 use Rattle.model.specs.State.{freePlaces}
 use Rattle.model.specs.Effects.{Given}
-use Rattle.model.specs.Questions.{ask, areasRight, stateRight, newestRight, stripInOrder, writerKnown, askNewest, mayPromise}
+use Rattle.model.specs.Questions.{ask, areasRight, stateRight, newestRight, stateInOrder, writerKnown, askNewest, mayPromise}
 use Rattle.model_laws.proofs.state.QuestionLaws.{ask-yes, ask-no, ask-passed, and-true}
 use Rattle.call_ask.specs.Lent.{lentAll}
 use Rattle.call_ask.proofs.AnswerLaws.{Usable}
@@ -75,7 +75,7 @@ module _ (g : Given) where
   unfolding askHomes
   homes-pass v e =
       let p = ask-passed _ 0 _ e in
-      let q = ask-passed (stripInOrder g) 1 _ (p .1) in
+      let q = ask-passed (stateInOrder g) 1 _ (p .1) in
       let r = ask-passed (writerKnown g) 3 _ (q .1) in
       let s = ask-passed (homesKnown g) 4 _ (r .1) in
       ask-yes _ 1 _ (p .0) ∙ ask-yes _ 2 _ (q .0) ∙ ask-yes _ 4 _ (r .0) ∙ ask-yes _ 5 _ (s .0)
@@ -84,7 +84,7 @@ module _ (g : Given) where
   unfolding askHomes
   homes-first v e =
       let p = ask-passed _ 0 _ e in
-      let q = ask-passed (stripInOrder g) 1 _ (p .1) in
+      let q = ask-passed (stateInOrder g) 1 _ (p .1) in
       let r = ask-passed (writerKnown g) 3 _ (q .1) in
       let s = ask-passed (homesKnown g) 4 _ (r .1) in
       (ask-yes _ 1 _ (p .0) ∙ ask-yes _ 2 _ (q .0) ∙ ask-yes _ 4 _ (r .0) ∙ ask-yes _ 5 _ (s .0), s .1)
@@ -98,7 +98,7 @@ module _ (g : Given) where
   unfolding askHomes askNewest blocksRight blocksLent writerKnown homesKnown
   homes-lent e =
       let p = ask-passed _ 0 _ e in
-      let q = ask-passed (stripInOrder g) 1 _ (p .1) in
+      let q = ask-passed (stateInOrder g) 1 _ (p .1) in
       let r = ask-passed (ltb (g .writer) 8) 3 _ (q .1) in
       let s = ask-passed (leb (g .home + length (g .block) / 64) (homesIn (length (g .area)))) 4 _ (r .1) in
       let t = and-true (areasRight g && stateRight g && newestRight g) _ (p .0) in

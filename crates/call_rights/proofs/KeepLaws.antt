@@ -90,7 +90,7 @@ module _ (log area state newest : List ℕ) (u : Left log area state newest) whe
       → Listed log area (stateOf s) newest 64 × (length s ≡ 1024) × (12 ≤ stateOf s .homes)
   left-listed s h q =
       let e : stateOf s ≡ stateOf state = ap stateOf q ∙ state-carry (homesIn (length area)) newest state in
-      let l : length s ≡ 1024 = ap (λ (x : List ℕ). length x) q ∙ length-carry (homesIn (length area)) newest state ∙ u .strip in
+      let l : length s ≡ 1024 = ap (λ (x : List ℕ). length x) q ∙ length-carry (homesIn (length area)) newest state ∙ u .stateFits in
       rw e
       (record { search = u .search; long = u .long; holds = λ d. omega (arith, u .kept); low = omega arith }, l, omega (arith, left-homes))
 

@@ -41,6 +41,6 @@ pub record Listed (log area : List ℕ) (st : State) (kept : List ℕ) (from : �
 -- what a commit has left, from which the list's part of the state strip is kept
 pub record Left (log area state newest : List ℕ) : Type 0 where
   pub search : Searchable log (stateOf state)
-  pub strip : length state ≡ 1024
+  pub stateFits : length state ≡ 1024
   pub long : length area ≡ 64 * stateOf state .homes
   pub kept : length newest ≡ 8 * stateOf state .homes

@@ -27,7 +27,7 @@ use Rattle.base_batch.specs.Within.{Within}
 use Rattle.base_batch.proofs.HomeLaws.{length-writes, within-append}
 use Rattle.log_scan.specs.Walk.{closedBelow}
 use Rattle.call_ask.specs.Lent.{lent, leaves}
-use Rattle.call_ask.proofs.AnswerLaws.{Usable, state-usable, state-only, state-refuses, state-passes, refused-by, done-by, strip-by}
+use Rattle.call_ask.proofs.AnswerLaws.{Usable, state-usable, state-only, state-refuses, state-passes, refused-by, done-by, state-by}
 use Rattle.log_tables.specs.Plans.{remaining, StepMade}
 
 -- ---- whether a round is under way
@@ -67,7 +67,7 @@ module _ (log area state : List ℕ) where
         → s ≡ setCursor (setRound state (st .fenced + 1)) 0 → leaves code figure size log area s [] [] ≡ beginRoundCall g
     unfolding beginRoundCall beginRoundAnswer beginRoundEffect
     begin-done code figure size s n r es =
-        strip-by g (setCursor (setRound state (stateOf state .fenced + 1)) 0) _ 0 code figure size s
+        state-by g (setCursor (setRound state (stateOf state .fenced + 1)) 0) _ 0 code figure size s
         (begin-asked _ ∙ ask-yes _ 21 0 (ap not (round-out log area state [] st f n))) (r .0) (r .1) (r .2) (es ∙ rw f)
 
 -- ---- a step's homes

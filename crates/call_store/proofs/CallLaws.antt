@@ -12,7 +12,7 @@ use Rattle.model.specs.Bytes.{puts}
 use Rattle.model.specs.Layout.{groupAt, groupOffset}
 use Rattle.model.specs.Batch.{Record, recordBytes, batchBytes}
 use Rattle.model.specs.Effects.{Given, Effect}
-use Rattle.model.specs.Questions.{ask, askState, askBlock, askNewest, areasRight, stateRight, blockRight, newestRight, stripInOrder}
+use Rattle.model.specs.Questions.{ask, askState, askBlock, askNewest, areasRight, stateRight, blockRight, newestRight, stateInOrder}
 use Rattle.model.specs.Calls.{outcome}
 use Rattle.model_laws.proofs.bytes.LayoutLaws.{length-groupAt}
 use Rattle.call_ask.specs.Lent.{leavesAll}
@@ -27,15 +27,15 @@ firsts false b v e = absurd (omega arith)
 
 pub state-first : (g : Given) (v : ℕ) → askState g v ≡ 0 → (askState g 0 ≡ 0) × (v ≡ 0)
 unfolding askState
-state-first g v e = firsts (areasRight g && stateRight g) (stripInOrder g) v e
+state-first g v e = firsts (areasRight g && stateRight g) (stateInOrder g) v e
 
 pub block-first : (g : Given) (v : ℕ) → askBlock g v ≡ 0 → (askBlock g 0 ≡ 0) × (v ≡ 0)
 unfolding askBlock
-block-first g v e = firsts (areasRight g && stateRight g && blockRight g) (stripInOrder g) v e
+block-first g v e = firsts (areasRight g && stateRight g && blockRight g) (stateInOrder g) v e
 
 pub newest-first : (g : Given) (v : ℕ) → askNewest g v ≡ 0 → (askNewest g 0 ≡ 0) × (v ≡ 0)
 unfolding askNewest
-newest-first g v e = firsts (areasRight g && stateRight g && newestRight g) (stripInOrder g) v e
+newest-first g v e = firsts (areasRight g && stateRight g && newestRight g) (stateInOrder g) v e
 
 -- a choice by a test
 pub pick-yes : (n m a b : ℕ) → n ≡ m → a ≡ cond (eqb n m) a b

@@ -150,7 +150,7 @@ may-after l s s₁ b st w r m e =
     let same : SameElsewhere w s (setWriter s w r) = elsewhere s w r (m .writer) in
     record {
       state = m .state ∙ sym (ap stateOf e ∙ same .numbers);
-      strip = ap length e ∙ same .size ∙ m .strip;
+      stateFits = ap length e ∙ same .size ∙ m .stateFits;
       writer = m .writer;
       some = m .some;
       few = m .few;

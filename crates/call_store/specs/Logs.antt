@@ -14,7 +14,7 @@ use Rattle.model.specs.Effects.{Logged, logged, linkFrom}
 -- an entry may be logged: there is room in the log and in the batch
 pub record MayLog (l s b : List ℕ) (st : State) (w : ℕ) : Type 0 where
   pub state : st ≡ stateOf s
-  pub strip : length s ≡ 1024
+  pub stateFits : length s ≡ 1024
   pub writer : w < 8
   pub some : 4 ≤ st .groups
   pub few : st .groups ≤ 1024

@@ -25,14 +25,14 @@ use Rattle.model_laws.proofs.bytes.LayoutLaws.{length-header}
 use Rattle.model_laws.proofs.state.OrderLaws.{InOrder, next-within}
 use Rattle.model_laws.proofs.state.QuestionLaws.{ask-yes, ask-no}
 use Rattle.call_ask.specs.Lent.{lentAll, leavesAll, lent}
-use Rattle.call_ask.proofs.AnswerLaws.{Usable, refused-by, done-by, strip-by}
+use Rattle.call_ask.proofs.AnswerLaws.{Usable, refused-by, done-by, state-by}
 use Rattle.call_ask.proofs.NewestAnswers.{newest-refuses, newest-passes}
 use Rattle.log_scan.specs.Walk.{Walkable}
 use Rattle.log_limits.specs.Limits.{Highest}
 use Rattle.log_limits.proofs.WriterLaws.{open-from}
 use Rattle.log_limits.proofs.SpanLaws.{lowered-none, lowered-end}
 use Rattle.log_limits.proofs.LimitLaws.{trim-none, trim-is}
-use Rattle.call_trim.specs.Moved.{keptLast, movedStrip}
+use Rattle.call_trim.specs.Moved.{keptLast, movedState}
 
 -- ---- the numbers of a strip in order
 
@@ -136,10 +136,10 @@ pub last-kept : (last start : ℕ) → 7 * start < last → last ≡ keptLast la
 unfolding keptLast
 last-kept last start h = rw (lt-leb last (7 * start) h)
 
-pub strip-moved : (s s₁ s₂ s₃ : List ℕ) (st : State) (start f l : ℕ) → s₁ ≡ setStart s start → s₂ ≡ setFenced s₁ f → f ≡ 7 * st .next
-    → l ≡ keptLast (st .last) start → s₃ ≡ setLast s₂ l → s₃ ≡ movedStrip s st start
-unfolding movedStrip
-strip-moved s s₁ s₂ s₃ st start f l a b c d e = e ∙ rw (b, a, c, d)
+pub state-moved : (s s₁ s₂ s₃ : List ℕ) (st : State) (start f l : ℕ) → s₁ ≡ setStart s start → s₂ ≡ setFenced s₁ f → f ≡ 7 * st .next
+    → l ≡ keptLast (st .last) start → s₃ ≡ setLast s₂ l → s₃ ≡ movedState s st start
+unfolding movedState
+state-moved s s₁ s₂ s₃ st start f l a b c d e = e ∙ rw (b, a, c, d)
 
 pub header-fenced : (d d₁ d₂ : List ℕ) (at start groups homes : ℕ) → at ≡ 0 + 66 → d₁ ≡ puts d 0 (recordBytes (KW (header start groups homes)))
     → d₂ ≡ puts d₁ at (recordBytes FN) → d₂ ≡ puts d 0 (batchBytes (KW (header start groups homes) ∷ FN ∷ []))
@@ -174,7 +174,7 @@ module _ (g : Given) where
   unfolding trimCall trimAnswer startFits batchFits sizeOf newState batchBytes
   not-moved start code figure size a e l m h f s =
       rw (← e, still start m)
-      (strip-by g (g .state) _ 0 code figure size (g .state)
+      (state-by g (g .state) _ 0 code figure size (g .state)
       (newest-passes g _ a ∙ ask-yes (leb start maxStart) 10 _ (le-leb start maxStart l)
       ∙ ask-yes (leb 0 (length (g .batch))) 9 0 (le-leb 0 (length (g .batch)) (omega arith)))
       h f s refl)
@@ -192,14 +192,14 @@ module _ (g : Given) where
       rw (length-append, length-append, l, length-FN)
 
   moved-ends : (start v code figure size : ℕ) (log state newest batch : List ℕ) → v ≡ 0 → code ≡ 0 → figure ≡ 0 → size ≡ 68
-      → log ≡ puts (g .log) 0 (header start (groups g) (homes g)) → state ≡ carryListed (homes g) newest (movedStrip (g .state) (stateOf (g .state)) start)
+      → log ≡ puts (g .log) 0 (header start (groups g) (homes g)) → state ≡ carryListed (homes g) newest (movedState (g .state) (stateOf (g .state)) start)
       → newest ≡ forget (g .newest) (7 * start) (homes g)
       → batch ≡ puts (g .batch) 0 (batchBytes (KW (header start (groups g) (homes g)) ∷ FN ∷ []))
       → leavesAll code figure size log (g .area) state newest (g .block) batch ≡ outcome g v (trimTo g (stateOf (g .state)) start)
-  unfolding trimTo movedStrip keptLast sizeOf
+  unfolding trimTo movedState keptLast sizeOf
   moved-ends start v code figure size log state newest batch z h f s p q k t =
       done-by g (trimTo g (stateOf (g .state)) start) v code figure size log (g .area) state newest (g .block) batch z h f (s ∙ sym (moved-size start)) p refl
-      (q ∙ ap (λ (x : List ℕ). carryListed (homes g) x (movedStrip (g .state) (stateOf (g .state)) start)) k) k refl t
+      (q ∙ ap (λ (x : List ℕ). carryListed (homes g) x (movedState (g .state) (stateOf (g .state)) start)) k) k refl t
 
   pub batch-refused : (start code figure size : ℕ) → askNewest g 0 ≡ 0 → start ≡ trimStart g → start ≤ 2 ^ 47 → (start ≡ stateOf (g .state) .start → ⊥)
       → length (g .batch) < 68 → code ≡ 9 → figure ≡ 0 → size ≡ 0
@@ -215,7 +215,7 @@ module _ (g : Given) where
 
   pub start-moved : (st : State) (start code figure size : ℕ) (log state newest batch : List ℕ) → Usable (g .log) (g .area) (g .state) → askNewest g 0 ≡ 0
       → st ≡ stateOf (g .state) → start ≡ trimStart g → start ≤ 2 ^ 47 → (start ≡ st .start → ⊥) → 68 ≤ length (g .batch) → code ≡ 0
-      → figure ≡ 0 → size ≡ 68 → log ≡ puts (g .log) 0 (header start (st .groups) (st .homes)) → state ≡ carryListed (st .homes) newest (movedStrip (g .state) st start)
+      → figure ≡ 0 → size ≡ 68 → log ≡ puts (g .log) 0 (header start (st .groups) (st .homes)) → state ≡ carryListed (st .homes) newest (movedState (g .state) st start)
       → newest ≡ forget (g .newest) (7 * start) (st .homes)
       → batch ≡ puts (g .batch) 0 (batchBytes (KW (header start (st .groups) (st .homes)) ∷ FN ∷ []))
       → leavesAll code figure size log (g .area) state newest (g .block) batch ≡ trimCall g
@@ -229,4 +229,4 @@ module _ (g : Given) where
       rw (← e, moved start (λ z. n (z ∙ sym (ap (λ (x : State). x .start) es))))
       (moved-ends start _ code figure size log state newest batch
       (newest-passes g _ a ∙ ask-yes (leb start maxStart) 10 _ (le-leb start maxStart l) ∙ y)
-      h f s (rw (eg, ed) at p) ((rw es at q) ∙ ap (λ (x : ℕ). carryListed x newest (movedStrip (g .state) (stateOf (g .state)) start)) (o .homes-same)) (rw ed at k) (rw (eg, ed) at t))
+      h f s (rw (eg, ed) at p) ((rw es at q) ∙ ap (λ (x : ℕ). carryListed x newest (movedState (g .state) (stateOf (g .state)) start)) (o .homes-same)) (rw ed at k) (rw (eg, ed) at t))

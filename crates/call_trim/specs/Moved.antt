@@ -11,5 +11,5 @@ unfoldable pub keptLast : ℕ → ℕ → ℕ
 keptLast last start = cond (leb last (7 * start)) 0 last
 
 -- "Each FN sets the fenced position F to 7 × (number of the next group not handed on)."
-unfoldable pub movedStrip : List ℕ → State → ℕ → List ℕ
-movedStrip s st start = setLast (setFenced (setStart s start) (7 * st .next)) (keptLast (st .last) start)
+unfoldable pub movedState : List ℕ → State → ℕ → List ℕ
+movedState s st start = setLast (setFenced (setStart s start) (7 * st .next)) (keptLast (st .last) start)

@@ -8,7 +8,7 @@ ghost use Rattle.model.specs.Bytes.{puts};
 ghost use Rattle.model.specs.Layout.{header};
 ghost use Rattle.model.specs.Newest.{forget, carryListed};
 ghost use Rattle.model.specs.Batch.{KW, FN, batchBytes};
-ghost use Rattle.call_trim.specs.Moved.{keptLast, movedStrip};
+ghost use Rattle.call_trim.specs.Moved.{keptLast, movedState};
 
 // The last closing entry that is left in a log from a start on, 0 for none.
 fn kept_last(last: u64, start: u64) -> u64
@@ -19,9 +19,9 @@ fn kept_last(last: u64, start: u64) -> u64
 }
 
 // Puts the new start, the fenced position and the last closing entry into the strip.
-fn move_strip(state: &mut [u8], st: State, start: u64)
+fn move_state(state: &mut [u8], st: State, start: u64)
     requires { ⌜ (length (now state) ≡ 1024) × (start ≤ 2 ^ 47) × (7 * st .next < 2 ^ 64) ⌝ }
-    ensures { λ _. ⌜ now (state .exit) ≡ movedStrip (now (state .entry)) st start ⌝ }
+    ensures { λ _. ⌜ now (state .exit) ≡ movedState (now (state .entry)) st start ⌝ }
 {
     base_state::set_start(state, start);
     base_state::set_fenced(state, 7 * st.next);
@@ -50,13 +50,13 @@ pub fn move_start(
     requires { ⌜ (64 ≤ length (now log)) × (length (now state) ≡ 1024) × (length (now newest) ≡ 8 * st .homes) × (68 ≤ length (now batch))
         × (start ≤ 2 ^ 47) × (7 * st .next < 2 ^ 64) ⌝ }
     ensures { λ _. ⌜ (now (log .exit) ≡ puts (now (log .entry)) 0 (header start (st .groups) (st .homes)))
-        × (now (state .exit) ≡ carryListed (st .homes) (now (newest .exit)) (movedStrip (now (state .entry)) st start))
+        × (now (state .exit) ≡ carryListed (st .homes) (now (newest .exit)) (movedState (now (state .entry)) st start))
         × (now (newest .exit) ≡ forget (now (newest .entry)) (7 * start) (st .homes))
         × (now (batch .exit) ≡ puts (now (batch .entry)) 0 (batchBytes (KW (header start (st .groups) (st .homes)) ∷ FN ∷ []))) ⌝ }
 {
     write_header(batch, st.groups, st.homes, start);
     base_areas::put_header(log, 0, start, st.groups, st.homes);
-    move_strip(state, st, start);
+    move_state(state, st, start);
     log_newest::forget(newest, 7 * start, st.homes as usize);
     base_state::carry_listed(state, newest, st.homes);
 }

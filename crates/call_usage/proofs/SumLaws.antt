@@ -9,7 +9,7 @@ use lib.Dec.{eqb}
 use lib.ListN.{length}
 use Rattle.model.specs.Tag.{readTag}
 use Rattle.model.specs.Layout.{entryAt}
-use Rattle.model.specs.Commit.{members, complete, linked, Span, Walk, started, judgedClosing, visit, walk, committed, entries, eachEntries, transactions}
+use Rattle.model.specs.Commit.{members, complete, linked, Span, Walk, started, decidedClosing, visit, walk, committed, entries, eachEntries, transactions}
 use Rattle.abstract_store.specs.Usage.{entriesIn}
 use Rattle.model.specs.declared.Tag.{Tag}
 use Rattle.model.specs.declared.Tag.the-variants.{Nothing, Entry, Closing}
@@ -68,13 +68,13 @@ module _ (tags : ℕ → Tag) (base : ℕ) where
   quiet : (n : ℕ) (t : Tag) (w : Walk) → tags (base + n) ≡ t → addCount t (summed tags base n 0) ≡ summed tags base n 0 → Tallied n w → Tallied (suc n) w
   quiet n t w e q k = record { all = k .all; none = λ g. k .none g ∙ sym q ∙ sym (one-more n t e) }
 
-  failed : (n : ℕ) (s : Span) (w : Walk) → Tallied n w → Tallied (suc n) (judgedClosing false s w)
-  unfolding judgedClosing
+  failed : (n : ℕ) (s : Span) (w : Walk) → Tallied n w → Tallied (suc n) (decidedClosing false s w)
+  unfolding decidedClosing
   failed n s w k = record { all = k .all; none = λ g. absurd (false≢true g) }
 
   passed : (n h f link count : ℕ) (w : Walk) → tags (base + n) ≡ Closing h f link count → w .going ≡ true → complete tags base n f count ≡ true → Tallied n w
-      → Tallied (suc n) (judgedClosing true (record { first = f; closing = base + n }) w)
-  unfolding judgedClosing complete entries
+      → Tallied (suc n) (decidedClosing true (record { first = f; closing = base + n }) w)
+  unfolding decidedClosing complete entries
   passed n h f link count w e g c k =
       let s : Span = record { first = f; closing = base + n } in
       let z : endOf (w .spans ++ (s ∷ [])) - base ≡ suc n = omega (arith, end-more (w .spans) s) in
@@ -94,7 +94,7 @@ module _ (tags : ℕ → Tag) (base : ℕ) where
       go (w .going) (linked base (w .last) (base + n) link) (complete tags base n f count) refl refl
     where
       go : (g a b : Bool) → w .going ≡ g → complete tags base n f count ≡ b
-          → Tallied (suc n) (judgedClosing (g && a && b) (record { first = f; closing = base + n }) w)
+          → Tallied (suc n) (decidedClosing (g && a && b) (record { first = f; closing = base + n }) w)
       go true true true p c = passed n h f link count w e p c k
       go true true false p c = failed n (record { first = f; closing = base + n }) w k
       go true false b p c = failed n (record { first = f; closing = base + n }) w k

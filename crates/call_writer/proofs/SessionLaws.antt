@@ -11,13 +11,13 @@ use Rattle.model.specs.declared.Writer.{Writer}
 use Rattle.model.specs.declared.State.{State}
 use Rattle.model.specs.State.{stateOf, setDurable, writerOf, setWriter, setPromise, idle, begun, isOpen}
 use Rattle.model.specs.Effects.{Given, beginEffect, reserveEffect, abortEffect, confirmEffect}
-use Rattle.model.specs.Questions.{ask, areasRight, stateRight, stripInOrder, writerKnown, writerOpen, mayPromise, askState, beginAnswer, reserveAnswer, abortAnswer, confirmAnswer}
+use Rattle.model.specs.Questions.{ask, areasRight, stateRight, stateInOrder, writerKnown, writerOpen, mayPromise, askState, beginAnswer, reserveAnswer, abortAnswer, confirmAnswer}
 use Rattle.model.specs.Calls.{beginCall, reserveCall, abortCall, confirmCall}
 use Rattle.model_laws.proofs.state.QuestionLaws.{ask-yes, ask-no, ask-passed, and-true, InUse, begin-ready, reserve-ready, abort-ready, confirm-ready}
 use Rattle.base_state.specs.Order.{GroupsInOrder}
 use Rattle.call_ask.specs.Lent.{lent, leavesAll}
 use Rattle.call_writer.specs.Writers.{askWriter}
-use Rattle.call_ask.proofs.AnswerLaws.{Usable, usable-groups, state-usable, state-refuses, state-passes, state-only, refused-by, strip-by}
+use Rattle.call_ask.proofs.AnswerLaws.{Usable, usable-groups, state-usable, state-refuses, state-passes, state-only, refused-by, state-by}
 
 -- ---- the fourth question
 
@@ -70,11 +70,11 @@ all-three false y z v e = absurd (omega arith)
 
 refuses : (g : Given) (r v : ℕ) → r ≡ askWriter g 0 → r ≢ 0 → r ≡ askWriter g v
 unfolding askWriter askState
-refuses g r v e h = three (areasRight g && stateRight g) (stripInOrder g) (writerKnown g) r v e h
+refuses g r v e h = three (areasRight g && stateRight g) (stateInOrder g) (writerKnown g) r v e h
 
 lets : (g : Given) (r v : ℕ) → r ≡ askWriter g 0 → r ≡ 0 → askWriter g v ≡ v
 unfolding askWriter askState
-lets g r v e z = all-three (areasRight g && stateRight g) (stripInOrder g) (writerKnown g) v (sym e ∙ z)
+lets g r v e z = all-three (areasRight g && stateRight g) (stateInOrder g) (writerKnown g) v (sym e ∙ z)
 
 module _ (g : Given) (r : ℕ) (e : r ≡ askWriter g 0) where
   pub begin-first : r ≢ 0 → r ≡ beginAnswer g
@@ -124,13 +124,13 @@ all-four false y z o v e = absurd (omega arith)
 module _ (g : Given) (n r : ℕ) (e : r ≡ beginAnswer g) where
   pub reserve-first : r ≢ 0 → r ≡ reserveAnswer g n
   unfolding beginAnswer reserveAnswer askState
-  reserve-first h = four (areasRight g && stateRight g) (stripInOrder g) (writerKnown g) (not (writerOpen g)) r _ e h
+  reserve-first h = four (areasRight g && stateRight g) (stateInOrder g) (writerKnown g) (not (writerOpen g)) r _ e h
 
   module _ (z : r ≡ 0) where
-    begun-asks : (v : ℕ) → (ask (areasRight g && stateRight g) 1 (ask (stripInOrder g) 2 (ask (writerKnown g) 4 (ask (not (writerOpen g)) 6 v))) ≡ v)
-        × (ask (areasRight g && stateRight g) 1 (ask (stripInOrder g) 2 0) ≡ 0)
+    begun-asks : (v : ℕ) → (ask (areasRight g && stateRight g) 1 (ask (stateInOrder g) 2 (ask (writerKnown g) 4 (ask (not (writerOpen g)) 6 v))) ≡ v)
+        × (ask (areasRight g && stateRight g) 1 (ask (stateInOrder g) 2 0) ≡ 0)
     unfolding beginAnswer askState
-    begun-asks v = all-four (areasRight g && stateRight g) (stripInOrder g) (writerKnown g) (not (writerOpen g)) v (sym e ∙ z)
+    begun-asks v = all-four (areasRight g && stateRight g) (stateInOrder g) (writerKnown g) (not (writerOpen g)) v (sym e ∙ z)
 
     pub reserve-usable : Usable (g .log) (g .area) (g .state)
     unfolding askState
@@ -150,9 +150,9 @@ module _ (g : Given) (n r : ℕ) (e : r ≡ beginAnswer g) where
 
 -- ---- what an answer of 0 gives
 
-strip-length : (g : Given) → InUse g → length (g .state) ≡ 1024
+state-length : (g : Given) → InUse g → length (g .state) ≡ 1024
 unfolding stateRight
-strip-length g u = eqb-true (length (g .state)) 1024 (u .strip)
+state-length g u = eqb-true (length (g .state)) 1024 (u .stateFits)
 
 writer-below : (g : Given) → writerKnown g ≡ true → g .writer < 8
 unfolding writerKnown
@@ -161,8 +161,8 @@ writer-below g h = ltb-true (g .writer) 8 h
 pub writer-fits : (g : Given) (r : ℕ) → r ≡ askWriter g 0 → r ≡ 0 → (length (g .state) ≡ 1024) × (g .writer < 8)
 unfolding askWriter askState stateRight
 writer-fits g r e z =
-    let a = ask-passed (areasRight g && stateRight g) 0 (ask (stripInOrder g) 2 (ask (writerKnown g) 4 0)) (sym e ∙ z) in
-    let b = ask-passed (stripInOrder g) 1 (ask (writerKnown g) 4 0) (a .1) in
+    let a = ask-passed (areasRight g && stateRight g) 0 (ask (stateInOrder g) 2 (ask (writerKnown g) 4 0)) (sym e ∙ z) in
+    let b = ask-passed (stateInOrder g) 1 (ask (writerKnown g) 4 0) (a .1) in
     let c = ask-passed (writerKnown g) 3 0 (b .1) in
     let d = and-true (areasRight g) (stateRight g) (a .0) in
     (eqb-true (length (g .state)) 1024 (d .1), writer-below g (c .0))
@@ -170,21 +170,21 @@ writer-fits g r e z =
 pub begin-fits : (g : Given) (r : ℕ) → r ≡ beginAnswer g → r ≡ 0 → (length (g .state) ≡ 1024) × (g .writer < 8)
 begin-fits g r e z =
     let h = begin-ready g (sym e ∙ z) in
-    (strip-length g (h .0), writer-below g (h .1))
+    (state-length g (h .0), writer-below g (h .1))
 
 pub reserve-fits : (g : Given) (n r : ℕ) → r ≡ reserveAnswer g n → r ≡ 0 → (length (g .state) ≡ 1024) × (g .writer < 8)
 reserve-fits g n r e z =
     let h = reserve-ready g n (sym e ∙ z) in
-    (strip-length g (h .0), writer-below g (h .1))
+    (state-length g (h .0), writer-below g (h .1))
 
 pub abort-fits : (g : Given) (r : ℕ) → r ≡ abortAnswer g → r ≡ 0 → (length (g .state) ≡ 1024) × (g .writer < 8)
 abort-fits g r e z =
     let h = abort-ready g (sym e ∙ z) in
-    (strip-length g (h .0), writer-below g (h .1))
+    (state-length g (h .0), writer-below g (h .1))
 
 pub confirm-fits : (g : Given) (r : ℕ) → r ≡ askState g 0 → r ≡ 0 → length (g .state) ≡ 1024
 unfolding confirmAnswer
-confirm-fits g r e z = strip-length g (confirm-ready g (sym e ∙ z))
+confirm-fits g r e z = state-length g (confirm-ready g (sym e ∙ z))
 
 -- ---- how they end
 
@@ -213,14 +213,14 @@ module _ (g : Given) (r : ℕ) (code figure size : ℕ) where
       → figure ≡ 0 → size ≡ 0 → leavesAll code figure size (g .log) (g .area) s (g .newest) (g .block) (g .batch) ≡ beginCall g
   unfolding beginCall beginEffect
   begin-done s e z es c f n =
-      strip-by g (setWriter (g .state) (g .writer) begun) (beginAnswer g) 0 code figure size s (sym e ∙ z) c f n es
+      state-by g (setWriter (g .state) (g .writer) begun) (beginAnswer g) 0 code figure size s (sym e ∙ z) c f n es
 
   pub reserve-done : (k : ℕ) (s₁ s : List ℕ) → r ≡ reserveAnswer g k → r ≡ 0 → s₁ ≡ setWriter (g .state) (g .writer) begun
       → s ≡ setPromise s₁ (g .writer) k → code ≡ 0
       → figure ≡ 0 → size ≡ 0 → leavesAll code figure size (g .log) (g .area) s (g .newest) (g .block) (g .batch) ≡ reserveCall g k
   unfolding reserveCall reserveEffect
   reserve-done k s₁ s e z e₁ es c f n =
-      strip-by g (setPromise (setWriter (g .state) (g .writer) begun) (g .writer) k) (reserveAnswer g k) 0 code figure size s (sym e ∙ z) c f n
+      state-by g (setPromise (setWriter (g .state) (g .writer) begun) (g .writer) k) (reserveAnswer g k) 0 code figure size s (sym e ∙ z) c f n
       (es ∙ rw e₁)
 
   pub abort-done : (s₁ s : List ℕ) → r ≡ abortAnswer g → r ≡ 0 → s₁ ≡ setWriter (g .state) (g .writer) idle
@@ -228,7 +228,7 @@ module _ (g : Given) (r : ℕ) (code figure size : ℕ) where
       → figure ≡ 0 → size ≡ 0 → leavesAll code figure size (g .log) (g .area) s (g .newest) (g .block) (g .batch) ≡ abortCall g
   unfolding abortCall abortEffect
   abort-done s₁ s e z e₁ es c f n =
-      strip-by g (setPromise (setWriter (g .state) (g .writer) idle) (g .writer) 0) (abortAnswer g) 0 code figure size s (sym e ∙ z) c f n
+      state-by g (setPromise (setWriter (g .state) (g .writer) idle) (g .writer) 0) (abortAnswer g) 0 code figure size s (sym e ∙ z) c f n
       (es ∙ rw e₁)
 
   pub confirm-done : (st : State) (s : List ℕ) → r ≡ askState g 0 → r ≡ 0 → st ≡ stateOf (g .state) → s ≡ setDurable (g .state) (st .fenced)
@@ -236,7 +236,7 @@ module _ (g : Given) (r : ℕ) (code figure size : ℕ) where
   unfolding confirmCall confirmAnswer confirmEffect
   confirm-done st s e z et es c f n =
       let k : st .fenced ≡ stateOf (g .state) .fenced = ap (λ (t : State). t .fenced) et in
-      strip-by g (setDurable (g .state) (stateOf (g .state) .fenced)) (askState g 0) (stateOf (g .state) .fenced) code figure size s (sym e ∙ z)
+      state-by g (setDurable (g .state) (stateOf (g .state) .fenced)) (askState g 0) (stateOf (g .state) .fenced) code figure size s (sym e ∙ z)
       c
       (f ∙ k)
       n

@@ -57,10 +57,10 @@ module _ (size : ℕ) (tags : ℕ → Tag) (base : ℕ) (at : Placed tags base) 
       omega (arith, k .each i)
 
   -- a judgement says 0 or 1
-  judged-one : (position link : ℕ) (complete : Bool) (p : Progress) → (decided base position link complete p .failed ≡ 0 → ⊥)
+  decided-one : (position link : ℕ) (complete : Bool) (p : Progress) → (decided base position link complete p .failed ≡ 0 → ⊥)
       → (decided base position link complete p .failed ≡ 1) × (decided base position link complete p .end ≡ p .end)
   unfolding decided taken
-  judged-one position link complete p h = go (eqb (p .failed) 0 && linked base (lastAt (p .end)) position link && complete) h
+  decided-one position link complete p h = go (eqb (p .failed) 0 && linked base (lastAt (p .end)) position link && complete) h
     where
       go : (b : Bool) → (taken b position p .failed ≡ 0 → ⊥) → (taken b position p .failed ≡ 1) × (taken b position p .end ≡ p .end)
       go true h = absurd (h refl)
@@ -149,7 +149,7 @@ module _ (size : ℕ) (tags : ℕ → Tag) (base : ℕ) (at : Placed tags base) 
               same = rw (a q) (unfold joined in refl);
             })
         judged false z q =
-            let o = judged-one (base + n) link (eqb (getD (g .cells) (f - base) 0 + 1) count) (g .progress) (eqb-false (next .failed) 0 z) in
+            let o = decided-one (base + n) link (eqb (getD (g .cells) (f - base) 0 + 1) count) (g .progress) (eqb-false (next .failed) 0 z) in
             inr (inl (record {
               reach = n;
               before = omega arith;

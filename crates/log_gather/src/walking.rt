@@ -78,7 +78,7 @@ fn join_closing(
     if CLOSED <= cell {
         return astray(progress);
     }
-    let judged = log_scan::judge(progress, base, position, link, cell as u64 + 1 == count);
+    let judged = log_scan::decide(progress, base, position, link, cell as u64 + 1 == count);
     if judged.failed != 0 {
         return judged;
     }

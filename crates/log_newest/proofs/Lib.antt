@@ -1,2 +1,2 @@
 pub mod KeepLaws
-pub mod StripLaws
+pub mod PositionLaws

@@ -1,5 +1,5 @@
 pub mod GroupLaws
-pub mod JudgeLaws
+pub mod DecideLaws
 pub mod MemberPass
 pub mod PassLaws
 pub mod ScanLaws

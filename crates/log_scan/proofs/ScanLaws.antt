@@ -14,7 +14,7 @@ use lib.Seq.{getD-set-same, getD-set-other, set-out}
 use Rattle.model.specs.Bytes.{zeros}
 use Rattle.model.specs.Tag.{belongs, readTag}
 use Rattle.model.specs.Layout.{groupAt, groupValid, turnOf, slotOf, indexOf, wordThere, entryIn, entryAt}
-use Rattle.model.specs.Commit.{members, complete, linked, Walk, judgedClosing, visit, walk, started, committed}
+use Rattle.model.specs.Commit.{members, complete, linked, Walk, decidedClosing, visit, walk, started, committed}
 use Rattle.model.specs.declared.Tag.{Tag}
 use Rattle.model.specs.declared.Tag.the-variants.{Nothing, Entry, Closing}
 use Rattle.model_laws.proofs.rule.Closings.{endOf}
@@ -117,8 +117,8 @@ record Matches (p : Progress) (w : Walk) : Type 0 where
   going : eqb (p .failed) 0 ≡ w .going
 
 matches-taken : (b : Bool) (position f : ℕ) (p : Progress) (w : Walk) → p .end ≡ endOf (w .spans) → p .number ≡ length (w .spans)
-    → Matches (taken b position p) (judgedClosing b (record { first = f; closing = position }) w)
-unfolding taken judgedClosing
+    → Matches (taken b position p) (decidedClosing b (record { first = f; closing = position }) w)
+unfolding taken decidedClosing
 matches-taken true position f p w e n =
     record {
       end = sym (end-more (w .spans) (record { first = f; closing = position }));
@@ -171,11 +171,11 @@ module _ (size : ℕ) (tags : ℕ → Tag) (base n : ℕ) (s : Scan) (l : n < si
       }
 
   -- the pass and the walk judge a closing entry alike
-  same-judgement : (h g link count : ℕ) → base ≤ g → g ≤ base + n → tags (base + n) ≡ Closing h g link count
+  same-decision : (h g link count : ℕ) → base ≤ g → g ≤ base + n → tags (base + n) ≡ Closing h g link count
       → (eqb (s .progress .failed) 0 && linked base (lastAt (s .progress .end)) (base + n) link && eqb (getD (s .counts) (g - base) 0 + 1) count)
       ≡ (walk tags base n .going && linked base (walk tags base n .last) (base + n) link && complete tags base n g count)
   unfolding complete belongs
-  same-judgement h g link count a b e =
+  same-decision h g link count a b e =
       let m : length (members tags g base (n + 1)) ≡ length (members tags g base n) + 1 =
       members-more tags g base n b (ap (belongs g) e ∙ eq-eqb g g refl) in
       let q : getD (s .counts) (g - base) 0 + 1 ≡ length (members tags g base (suc n)) =
@@ -190,14 +190,14 @@ module _ (size : ℕ) (tags : ℕ → Tag) (base n : ℕ) (s : Scan) (l : n < si
   unfolding visit belongs decided
   agrees-closing h g link count a b e =
       let v : Bool = walk tags base n .going && linked base (walk tags base n .last) (base + n) link && complete tags base n g count in
-      let w : walk tags base (n + 1) ≡ judgedClosing v (record { first = g; closing = base + n }) (walk tags base n) = walk-more tags base n ∙ rw e in
+      let w : walk tags base (n + 1) ≡ decidedClosing v (record { first = g; closing = base + n }) (walk tags base n) = walk-more tags base n ∙ rw e in
       let m = matches-taken v (base + n) g (s .progress) (walk tags base n) (k .end) (k .number) in
       record {
         room = length-counted (s .counts) (g - base) ∙ k .room;
         each = counted-each g a b (λ f. rw e);
-        end = rw (w, same-judgement h g link count a b e) (m .end);
-        number = rw (w, same-judgement h g link count a b e) (m .number);
-        going = rw (w, same-judgement h g link count a b e) (m .going);
+        end = rw (w, same-decision h g link count a b e) (m .end);
+        number = rw (w, same-decision h g link count a b e) (m .number);
+        going = rw (w, same-decision h g link count a b e) (m .going);
       }
 
 agrees-enter : (size : ℕ) (tags : ℕ → Tag) (base n : ℕ) (s : Scan) → n < size → Placed tags base → Agrees size tags base n s

@@ -81,10 +81,10 @@ module _ (word base index homes : ℕ) (s : Scan) where
         pub visit-empty : count ≡ 0 → s ≡ enter base (base + index) (readTag word (base + index) base homes) s
         visit-empty z = nothing _ (closing-empty word (base + index) base homes known started k (sym n ∙ z))
 
-        pub visit-judged : (count ≡ 0 → ⊥) → (link m : ℕ) (counts : List ℕ) (p : Progress) → link ≡ field word 27 13
+        pub visit-decided : (count ≡ 0 → ⊥) → (link m : ℕ) (counts : List ℕ) (p : Progress) → link ≡ field word 27 13
             → counts ≡ counted (s .counts) (index - back) → m ≡ getD (s .counts) (index - back) 0 + 1
             → p ≡ decided base (base + index) link (eqb m count) (s .progress)
             → _≡_ {A = Scan} (record { counts = counts; progress = p }) (enter base (base + index) (readTag word (base + index) base homes) s)
         unfolding enter
-        visit-judged z link m counts p l c d q =
+        visit-decided z link m counts p l c d q =
             rw (closing-said word (base + index) base homes known started k (λ e. z (n ∙ e)), begins, c, q, d, l, n)

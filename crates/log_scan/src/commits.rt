@@ -54,7 +54,7 @@ fn is_linked(end: u64, base: u64, position: u64, link: u64) -> bool
 }
 
 // Takes a closing entry, complete or not, at a position: it is committed, or the first that fails.
-pub fn judge(progress: Progress, base: u64, position: u64, link: u64, complete: bool) -> Progress
+pub fn decide(progress: Progress, base: u64, position: u64, link: u64, complete: bool) -> Progress
     requires { ⌜ (position < 2 ^ 62) × (base ≤ position) × (link < 2 ^ 13) × (progress .end ≤ position) × (progress .number ≤ position) ⌝ }
     ensures { λ r. ⌜ r ≡ decided base position link complete progress ⌝ }
 {
@@ -137,7 +137,7 @@ fn visit_closing(
         return progress;
     }
     let n = count_entry(counts, (index - back) as usize);
-    judge(
+    decide(
         progress,
         base,
         base + index,

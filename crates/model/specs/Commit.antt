@@ -44,16 +44,16 @@ unfoldable pub started : Walk
 started = record { spans = []; last = none; going = true }
 
 -- "The first that fails ends the walk."
-unfoldable pub judgedClosing : Bool → Span → Walk → Walk
-judgedClosing true s w = record { spans = w .spans ++ (s ∷ []); last = some (s .closing); going = true }
-judgedClosing false s w = record { spans = w .spans; last = w .last; going = false }
+unfoldable pub decidedClosing : Bool → Span → Walk → Walk
+decidedClosing true s w = record { spans = w .spans ++ (s ∷ []); last = some (s .closing); going = true }
+decidedClosing false s w = record { spans = w .spans; last = w .last; going = false }
 
 -- what stands at position base + n is taken into the walk
 unfoldable pub visit : (ℕ → Tag) → ℕ → ℕ → Tag → Walk → Walk
 visit log base n Nothing w = w
 visit log base n (Entry h f) w = w
 visit log base n (Closing h f link count) w =
-    judgedClosing (w .going && linked base (w .last) (base + n) link && complete log base n f count) (record { first = f; closing = base + n }) w
+    decidedClosing (w .going && linked base (w .last) (base + n) link && complete log base n f count) (record { first = f; closing = base + n }) w
 
 -- "Take present closing entries by rising position." The walk over the n positions from base on.
 unfoldable pub walk : (ℕ → Tag) → ℕ → ℕ → Walk

@@ -45,7 +45,7 @@ untrimmed base (c ∷ cs) = cond (ltb base (c .ticket)) (heldEntries (c .entries
 -- "what the calls write reads back as the committed, untrimmed transactions and nothing else, in commit order"; "A read gives the writer's own
 -- newest block, else the newest committed one."
 pub record Live (w : World) : Type 0 where
-  pub strip : inOrder (w .state) (groupsIn (length (w .log))) (w .homes) ≡ true
+  pub stateFits : inOrder (w .state) (groupsIn (length (w .log))) (w .homes) ≡ true
   pub readBack : foundIn (lent w [] [] 0 0) ≡ untrimmed (7 * stateOf (w .state) .start) (w .book .commits)
   pub readable :
       (writer home : ℕ) (block : List ℕ) →

@@ -31,8 +31,8 @@ unfoldable pub newestRight : Given → Bool
 newestRight g = eqb (length (g .newest)) (8 * homes g)
 
 -- 2. "Is the strip in order ..? No: 2."
-unfoldable pub stripInOrder : Given → Bool
-stripInOrder g = inOrder (g .state) (groups g) (homes g)
+unfoldable pub stateInOrder : Given → Bool
+stateInOrder g = inOrder (g .state) (groups g) (homes g)
 
 -- 3. "Open: is the head's mark, G, D and zeros right, start ≤ 2^47? No: 3."
 unfoldable pub headerFits : Given → Bool
@@ -105,17 +105,17 @@ openAnswer g start size =
 
 -- what every other call asks first
 unfoldable pub askState : Given → ℕ → ℕ
-askState g next = ask (areasRight g && stateRight g) 1 (ask (stripInOrder g) 2 next)
+askState g next = ask (areasRight g && stateRight g) 1 (ask (stateInOrder g) 2 next)
 
 -- the same for one that is lent a block, for one that is lent the newest positions, and for one that is lent both
 unfoldable pub askBlock : Given → ℕ → ℕ
-askBlock g next = ask (areasRight g && stateRight g && blockRight g) 1 (ask (stripInOrder g) 2 next)
+askBlock g next = ask (areasRight g && stateRight g && blockRight g) 1 (ask (stateInOrder g) 2 next)
 
 unfoldable pub askNewest : Given → ℕ → ℕ
-askNewest g next = ask (areasRight g && stateRight g && newestRight g) 1 (ask (stripInOrder g) 2 next)
+askNewest g next = ask (areasRight g && stateRight g && newestRight g) 1 (ask (stateInOrder g) 2 next)
 
 unfoldable pub askBoth : Given → ℕ → ℕ
-askBoth g next = ask (areasRight g && stateRight g && newestRight g && blockRight g) 1 (ask (stripInOrder g) 2 next)
+askBoth g next = ask (areasRight g && stateRight g && newestRight g && blockRight g) 1 (ask (stateInOrder g) 2 next)
 
 unfoldable pub beginAnswer : Given → ℕ
 beginAnswer g = askState g (ask (writerKnown g) 4 (ask (not (writerOpen g)) 6 0))

@@ -20,6 +20,6 @@ pub mod StoreFollows
 -- Every call of every history answers what the abstract store says, and an opening finds what the abstract store says comes back.
 pub mod AnswersHold
 -- The strip's numbers are the abstract store's.
-pub mod StripHolds
+pub mod StateHolds
 -- The worlds that histories under the premises reach, each with the abstract store beside it, and what the claims say of one.
 pub mod Reached

@@ -1,5 +1,5 @@
 pub mod Isolation
 pub mod Hidden
 pub mod FirstOpening
-pub mod StripNumbers
+pub mod StateNumbers
 pub mod Lent

@@ -24,26 +24,26 @@ module _ (l : Lent) (writer : ℕ) where
   unfolding lookUpCall foundIn depths
   unread mm h n = rw (lt-ltb mm 10000 (omega arith), ne-eqb (fetched l writer tableHome tableHomes .code) 0 n)
 
-  module _ (strip : List ℕ) where
-    turned-down : judgement strip .code ≢ 0 → setCall l writer strip ≡ untouched l (judgement strip .code) (judgement strip .millimetre)
+  module _ (bytes : List ℕ) where
+    turned-down : judgement bytes .code ≢ 0 → setCall l writer bytes ≡ untouched l (judgement bytes .code) (judgement bytes .millimetre)
     unfolding setCall accepted
-    turned-down n = rw (ne-eqb (judgement strip .code) 0 n)
+    turned-down n = rw (ne-eqb (judgement bytes .code) 0 n)
 
-    taken : judgement strip .code ≡ 0 → setCall l writer strip ≡ transacted l writer tableHome (pack strip)
+    taken : judgement bytes .code ≡ 0 → setCall l writer bytes ≡ transacted l writer tableHome (pack bytes)
     unfolding setCall accepted
     taken z = rw z
 
-    rows : judgement strip .code ≢ 0
-        → (setCall l writer strip .code ≡ judgement strip .code) × Refusal l (judgement strip .millimetre) (setCall l writer strip)
+    rows : judgement bytes .code ≢ 0
+        → (setCall l writer bytes .code ≡ judgement bytes .code) × Refusal l (judgement bytes .millimetre) (setCall l writer bytes)
     unfolding untouched
-    rows n = (ap (λ (x : Left). x .code) (turned-down n), subst (Refusal l (judgement strip .millimetre)) (sym (turned-down n)) (untouched-refuses l (judgement strip .code) (judgement strip .millimetre)))
+    rows n = (ap (λ (x : Left). x .code) (turned-down n), subst (Refusal l (judgement bytes .millimetre)) (sym (turned-down n)) (untouched-refuses l (judgement bytes .code) (judgement bytes .millimetre)))
 
-    asked : judgement strip .code ≡ 0 → setCall l writer strip .code ≡ transacted l writer tableHome (pack strip) .code
+    asked : judgement bytes .code ≡ 0 → setCall l writer bytes .code ≡ transacted l writer tableHome (pack bytes) .code
     asked z = ap (λ (x : Left). x .code) (taken z)
 
-    refusal : judgement strip .code ≡ 0 → setCall l writer strip .code ≢ 0 → Refusal l 0 (setCall l writer strip)
+    refusal : judgement bytes .code ≡ 0 → setCall l writer bytes .code ≢ 0 → Refusal l 0 (setCall l writer bytes)
     refusal z n =
-        subst (Refusal l 0) (sym (taken z)) (unit-refusals l writer tableHome .transactions (pack strip) (λ e. n (asked z ∙ e)))
+        subst (Refusal l 0) (sym (taken z)) (unit-refusals l writer tableHome .transactions (pack bytes) (λ e. n (asked z ∙ e)))
 
 pub refusals-on-tables : RefusalsOnTables
 refusals-on-tables l writer =

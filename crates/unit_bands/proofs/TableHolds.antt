@@ -26,13 +26,13 @@ use Rattle.unit_bands.proofs.Claimed.{recording, claimed}
 
 growing : Growing tableHome 3 judged stored Accepted answerBy Represents
 unfolding judged stored answerBy
-growing ts blocks strip k a = (refl, λ z. recording .grows ts strip z)
+growing ts blocks bytes k a = (refl, λ z. recording .grows ts bytes z)
 
 -- a call that sets an accepted table stores it
-set-is : (w : World) (writer : ℕ) (strip batch : List ℕ) → judgement strip .code ≡ 0
-    → transacted (lentIn w batch) writer tableHome (stored (zeros (64 * 3)) strip) ≡ setCall (lentIn w batch) writer strip
+set-is : (w : World) (writer : ℕ) (bytes batch : List ℕ) → judgement bytes .code ≡ 0
+    → transacted (lentIn w batch) writer tableHome (stored (zeros (64 * 3)) bytes) ≡ setCall (lentIn w batch) writer bytes
 unfolding setCall accepted stored
-set-is w writer strip batch z = rw z
+set-is w writer bytes batch z = rw z
 
 module _ (w : World) (ns : List (Option (List ℕ))) (ready : w .ready ≡ true)
     (f : Folded tableHome 3 judged stored Accepted w ns) (r : Recorded tableHome 3 judged stored Accepted answerBy Represents w ns) where
@@ -44,8 +44,8 @@ module _ (w : World) (ns : List (Option (List ℕ))) (ready : w .ready ≡ true)
       record {
         claim = λ writer batch. claimed (lentIn w batch) writer (noted ns) held
             (kept-there tableHome 3 judged stored Accepted w ns f answerBy Represents r) (shown-there tableHome 3 judged stored Accepted w ns f ready writer batch);
-        stands = λ writer strip batch z. subst (Leaves w (stepped tableHome 3 judged stored w (sets writer strip batch))) (set-is w writer strip batch z)
-            (set-stands tableHome 3 judged stored w writer strip batch);
+        stands = λ writer bytes batch z. subst (Leaves w (stepped tableHome 3 judged stored w (sets writer bytes batch))) (set-is w writer bytes batch z)
+            (set-stands tableHome 3 judged stored w writer bytes batch);
       }
 
 pub table-kept : TableKept

@@ -20,23 +20,23 @@ use Rattle.unit_bands.specs.Calls.{setCall, lookUpCall}
 -- blocks that hold the last table of a list, an accepted one
 pub record Represents (ts : List (List ℕ)) (blocks : List ℕ) : Type 0 where
   pub looks : (mm : ℕ) → lookUp blocks mm ≡ found mm (lastOf ts)
-  pub passed : (strip : List ℕ) → lastOf ts ≡ some strip → judgement strip .code ≡ 0
+  pub passed : (bytes : List ℕ) → lastOf ts ≡ some bytes → judgement bytes .code ≡ 0
 
 -- homes of zeros hold no table; the blocks of an accepted table hold it, whatever was there before
 pub record Recording : Type 0 where
   pub none : Represents [] (zeros 192)
-  pub grows : (ts : List (List ℕ)) (strip : List ℕ) → judgement strip .code ≡ 0 → Represents (ts ++ (strip ∷ [])) (pack strip)
-  pub size : (strip : List ℕ) → judgement strip .code ≡ 0 → length (pack strip) ≡ 192
+  pub grows : (ts : List (List ℕ)) (bytes : List ℕ) → judgement bytes .code ≡ 0 → Represents (ts ++ (bytes ∷ [])) (pack bytes)
+  pub size : (bytes : List ℕ) → judgement bytes .code ≡ 0 → length (pack bytes) ≡ 192
 
 pub record Claim (l : Lent) (writer : ℕ) (ts : List (List ℕ)) : Type 0 where
   -- "a cut leaves, whole, the last table of demand 3's run, if any": a lookup answers 11 if there is no table, else a row of the last one
   pub lookup : (mm : ℕ) → mm ≤ 9999 → fetched l writer tableHome tableHomes .code ≡ 0 → lookUpCall l writer mm ≡ found mm (lastOf ts)
   -- "Every millimetre from 0 to 9,999 must lie in exactly one row; a lookup gives that row."
-  pub row : (strip : List ℕ) → lastOf ts ≡ some strip → (mm : ℕ) → mm ≤ 9999 → RowTold (rows strip) mm
+  pub row : (bytes : List ℕ) → lastOf ts ≡ some bytes → (mm : ℕ) → mm ≤ 9999 → RowTold (rows bytes) mm
   -- a table is set or refused by its rows
   pub refused :
-      (strip : List ℕ) → judgement strip .code ≢ 0 → setCall l writer strip ≡ untouched l (judgement strip .code) (judgement strip .millimetre)
-  pub stored : (strip : List ℕ) → judgement strip .code ≡ 0 → setCall l writer strip ≡ transacted l writer tableHome (pack strip)
+      (bytes : List ℕ) → judgement bytes .code ≢ 0 → setCall l writer bytes ≡ untouched l (judgement bytes .code) (judgement bytes .millimetre)
+  pub stored : (bytes : List ℕ) → judgement bytes .code ≡ 0 → setCall l writer bytes ≡ transacted l writer tableHome (pack bytes)
 
 abbrev pub Claimed : Type 0
 Claimed = (l : Lent) (writer : ℕ) (ts : List (List ℕ)) (blocks : List ℕ) → Represents ts blocks → Shown l writer tableHome tableHomes blocks → Claim l writer ts

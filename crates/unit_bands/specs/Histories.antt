@@ -17,9 +17,9 @@ use Rattle.unit_bands.specs.Claims.{Claim}
 pub record TableAt (w : World) (ts : List (List ℕ)) : Type 0 where
   pub claim : (writer : ℕ) (batch : List ℕ) → Claim (lentIn w batch) writer ts
   pub stands :
-      (writer : ℕ) (strip batch : List ℕ) →
-      judgement strip .code ≡ 0 →
-      Leaves w (stepped tableHome tableHomes judged stored w (sets writer strip batch)) (setCall (lentIn w batch) writer strip)
+      (writer : ℕ) (bytes batch : List ℕ) →
+      judgement bytes .code ≡ 0 →
+      Leaves w (stepped tableHome tableHomes judged stored w (sets writer bytes batch)) (setCall (lentIn w batch) writer bytes)
 
 -- At the end of every history that begins with a done format, and so at every moment of it after a done opening: its steps set accepted tables, done or
 -- refused, and are any acts of the store that do not store to the three homes; a crash cuts the book's list to the run.

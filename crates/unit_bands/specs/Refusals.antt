@@ -20,10 +20,10 @@ pub record Refusals (l : Lent) (writer : ℕ) : Type 0 where
       lookUpCall l writer mm ≡ answered (fetched l writer tableHome tableHomes .code) 0 0 0
   -- the rows' own answer comes first, with its millimetre, then the store's
   pub rows :
-      (strip : List ℕ) → judgement strip .code ≢ 0 →
-      (setCall l writer strip .code ≡ judgement strip .code) × Refusal l (judgement strip .millimetre) (setCall l writer strip)
-  pub asked : (strip : List ℕ) → judgement strip .code ≡ 0 → setCall l writer strip .code ≡ transacted l writer tableHome (pack strip) .code
-  pub refusal : (strip : List ℕ) → judgement strip .code ≡ 0 → setCall l writer strip .code ≢ 0 → Refusal l 0 (setCall l writer strip)
+      (bytes : List ℕ) → judgement bytes .code ≢ 0 →
+      (setCall l writer bytes .code ≡ judgement bytes .code) × Refusal l (judgement bytes .millimetre) (setCall l writer bytes)
+  pub asked : (bytes : List ℕ) → judgement bytes .code ≡ 0 → setCall l writer bytes .code ≡ transacted l writer tableHome (pack bytes) .code
+  pub refusal : (bytes : List ℕ) → judgement bytes .code ≡ 0 → setCall l writer bytes .code ≢ 0 → Refusal l 0 (setCall l writer bytes)
 
 abbrev pub RefusalsOnTables : Type 0
 RefusalsOnTables = (l : Lent) (writer : ℕ) → Refusals l writer

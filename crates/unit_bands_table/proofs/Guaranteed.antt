@@ -37,106 +37,106 @@ each-all : (rs : List Row) → ((i : ℕ) → i < length rs → Fit (rowOf rs i)
 each-all [] h = all-nil
 each-all (r ∷ rs) h = all-cons r rs (fields-fit r (h 0 (omega arith))) ∙ each-all rs (λ i l. h (suc i) (omega arith))
 
-module _ (strip : List ℕ) where
-  sound-asked : sound strip ≡ true → Sound strip
+module _ (bytes : List ℕ) where
+  sound-asked : sound bytes ≡ true → Sound bytes
   sound-asked e =
-      let w = rows-whole strip (sound-whole strip e) in
+      let w = rows-whole bytes (sound-whole bytes e) in
       record {
-        whole = sound-whole strip e;
-        present = omega (arith, sound-some strip e);
-        few = omega (arith, sound-short strip e);
-        each = all-each (rows strip) (sound-fit strip e);
+        whole = sound-whole bytes e;
+        present = omega (arith, sound-some bytes e);
+        few = omega (arith, sound-short bytes e);
+        each = all-each (rows bytes) (sound-fit bytes e);
       }
 
-  asked-sound : Sound strip → sound strip ≡ true
+  asked-sound : Sound bytes → sound bytes ≡ true
   asked-sound h =
-      let w = rows-whole strip (h .whole) in
-      let z = sized-whole strip (λ z. omega (arith, h .present)) (omega (arith, h .few)) ∙ eq-eqb (length strip % 5) 0 (h .whole) in
-      sound-rest strip z ∙ each-all (rows strip) (h .each)
+      let w = rows-whole bytes (h .whole) in
+      let z = sized-whole bytes (λ z. omega (arith, h .present)) (omega (arith, h .few)) ∙ eq-eqb (length bytes % 5) 0 (h .whole) in
+      sound-rest bytes z ∙ each-all (rows bytes) (h .each)
 
   -- ---- the answers
 
-  covered-some : (n : ℕ) → n ≤ uncovered (rows strip) → (k : ℕ) → k < n → InSome (rows strip) k
-  covered-some n h k l = counted-some (rows strip) k (uncovered-passed (rows strip) k (omega arith))
+  covered-some : (n : ℕ) → n ≤ uncovered (rows bytes) → (k : ℕ) → k < n → InSome (rows bytes) k
+  covered-some n h k l = counted-some (rows bytes) k (uncovered-passed (rows bytes) k (omega arith))
 
-  judged-coverage : Sound strip → Judged strip (coverage (rows strip))
-  judged-coverage s = bare (ltb (uncovered (rows strip)) 10000) refl
+  judged-coverage : Sound bytes → Judged bytes (coverage (rows bytes))
+  judged-coverage s = bare (ltb (uncovered (rows bytes)) 10000) refl
     where
-      crowded : 10000 ≤ uncovered (rows strip) → (t : Bool) → ltb (doubled (rows strip)) 10000 ≡ t → Judged strip (coverage (rows strip))
+      crowded : 10000 ≤ uncovered (rows bytes) → (t : Bool) → ltb (doubled (rows bytes)) 10000 ≡ t → Judged bytes (coverage (rows bytes))
       crowded c true e =
-          let l = ltb-true (doubled (rows strip)) 10000 e in
-          rw (coverage-double (rows strip) c l)
-          (double {mm = doubled (rows strip)} s (λ k h. covered-some 10000 c k (omega arith)) (omega arith) (counted-two (rows strip) (doubled (rows strip)) (doubled-here (rows strip) l))
-          (λ k h t. omega (arith, doubled-passed (rows strip) k h, two-counted (rows strip) k t)))
+          let l = ltb-true (doubled (rows bytes)) 10000 e in
+          rw (coverage-double (rows bytes) c l)
+          (double {mm = doubled (rows bytes)} s (λ k h. covered-some 10000 c k (omega arith)) (omega arith) (counted-two (rows bytes) (doubled (rows bytes)) (doubled-here (rows bytes) l))
+          (λ k h t. omega (arith, doubled-passed (rows bytes) k h, two-counted (rows bytes) k t)))
       crowded c false e =
-          let l = ltb-false (doubled (rows strip)) 10000 e in
-          rw (coverage-one (rows strip) c l)
+          let l = ltb-false (doubled (rows bytes)) 10000 e in
+          rw (coverage-one (rows bytes) c l)
           (accepted s
-          (λ mm h. counted-one (rows strip) mm (omega (arith, uncovered-passed (rows strip) mm (omega arith), doubled-passed (rows strip) mm (omega arith)))))
+          (λ mm h. counted-one (rows bytes) mm (omega (arith, uncovered-passed (rows bytes) mm (omega arith), doubled-passed (rows bytes) mm (omega arith)))))
 
-      bare : (t : Bool) → ltb (uncovered (rows strip)) 10000 ≡ t → Judged strip (coverage (rows strip))
+      bare : (t : Bool) → ltb (uncovered (rows bytes)) 10000 ≡ t → Judged bytes (coverage (rows bytes))
       bare true e =
-          let l = ltb-true (uncovered (rows strip)) 10000 e in
-          rw (coverage-gap (rows strip) l)
-          (gap {mm = uncovered (rows strip)} s (omega arith) (λ t. omega (arith, uncovered-here (rows strip) l, some-counted (rows strip) (uncovered (rows strip)) t))
-          (covered-some (uncovered (rows strip)) (omega arith)))
-      bare false e = crowded (ltb-false (uncovered (rows strip)) 10000 e) (ltb (doubled (rows strip)) 10000) refl
+          let l = ltb-true (uncovered (rows bytes)) 10000 e in
+          rw (coverage-gap (rows bytes) l)
+          (gap {mm = uncovered (rows bytes)} s (omega arith) (λ t. omega (arith, uncovered-here (rows bytes) l, some-counted (rows bytes) (uncovered (rows bytes)) t))
+          (covered-some (uncovered (rows bytes)) (omega arith)))
+      bare false e = crowded (ltb-false (uncovered (rows bytes)) 10000 e) (ltb (doubled (rows bytes)) 10000) refl
 
-  judged-as : Judged strip (judgement strip)
-  judged-as = go (sound strip) refl
+  judged-as : Judged bytes (judgement bytes)
+  judged-as = go (sound bytes) refl
     where
-      go : (t : Bool) → sound strip ≡ t → Judged strip (judgement strip)
-      go true e = rw (judged-sound strip e) (judged-coverage (sound-asked e))
-      go false e = rw (judged-unsound strip e) (unsound (λ s. let z : _≡_ {A = Bool} true false = sym (asked-sound s) ∙ e in let y : _≡_ {A = ℕ} 0 1 = cc in omega arith))
+      go : (t : Bool) → sound bytes ≡ t → Judged bytes (judgement bytes)
+      go true e = rw (judged-sound bytes e) (judged-coverage (sound-asked e))
+      go false e = rw (judged-unsound bytes e) (unsound (λ s. let z : _≡_ {A = Bool} true false = sym (asked-sound s) ∙ e in let y : _≡_ {A = ℕ} 0 1 = cc in omega arith))
 
-  taken-as : Sound strip → ((mm : ℕ) → mm ≤ 9999 → InOne (rows strip) mm) → judgement strip ≡ verdict 0 0
+  taken-as : Sound bytes → ((mm : ℕ) → mm ≤ 9999 → InOne (rows bytes) mm) → judgement bytes ≡ verdict 0 0
   taken-as s one =
-      let u = uncovered-is (rows strip) 10000 (omega arith)
-      (λ k h. some-counted (rows strip) k (record { at = one k (omega arith) .at; here = one k (omega arith) .here })) (λ h. absurd (omega arith)) in
-      let d = doubled-is (rows strip) 10000 (omega arith) (λ k h. one-counted (rows strip) k (one k (omega arith))) (λ h. absurd (omega arith)) in
-      judged-sound strip (asked-sound s) ∙ coverage-one (rows strip) (omega arith) (omega arith)
+      let u = uncovered-is (rows bytes) 10000 (omega arith)
+      (λ k h. some-counted (rows bytes) k (record { at = one k (omega arith) .at; here = one k (omega arith) .here })) (λ h. absurd (omega arith)) in
+      let d = doubled-is (rows bytes) 10000 (omega arith) (λ k h. one-counted (rows bytes) k (one k (omega arith))) (λ h. absurd (omega arith)) in
+      judged-sound bytes (asked-sound s) ∙ coverage-one (rows bytes) (omega arith) (omega arith)
 
   -- ---- an accepted table
 
-  module _ (h : judgement strip .code ≡ 0) where
-    one-of : (v : Verdict) → v .code ≡ 0 → Judged strip v → (mm : ℕ) → mm ≤ 9999 → InOne (rows strip) mm
+  module _ (h : judgement bytes .code ≡ 0) where
+    one-of : (v : Verdict) → v .code ≡ 0 → Judged bytes v → (mm : ℕ) → mm ≤ 9999 → InOne (rows bytes) mm
     one-of v e (accepted s one) = one
     one-of v e (unsound n) = absurd (omega arith)
     one-of v e (gap s a b d) = absurd (omega arith)
     one-of v e (double s a b d f) = absurd (omega arith)
 
-    told-as : (mm : ℕ) → mm ≤ 9999 → RowTold (rows strip) mm
+    told-as : (mm : ℕ) → mm ≤ 9999 → RowTold (rows bytes) mm
     unfolding lookup
     told-as mm l =
-        let o = one-of (judgement strip) h judged-as mm l in
-        let p = in-place (rows strip) mm (some-counted (rows strip) mm (record { at = o .at; here = o .here })) in
-        record { one = o; row = ap (rowOf (rows strip)) (o .only (place mm (rows strip)) p) }
+        let o = one-of (judgement bytes) h judged-as mm l in
+        let p = in-place (rows bytes) mm (some-counted (rows bytes) mm (record { at = o .at; here = o .here })) in
+        record { one = o; row = ap (rowOf (rows bytes)) (o .only (place mm (rows bytes)) p) }
 
-    held-pack : held (pack strip) ≡ strip
+    held-pack : held (pack bytes) ≡ bytes
     unfolding held pack
-    held-pack = take-at strip (replicate (191 - length strip) 0) (5 * (length strip / 5)) (omega (arith, sound-whole strip (accepted-sound strip h)))
+    held-pack = take-at bytes (replicate (191 - length bytes) 0) (5 * (length bytes / 5)) (omega (arith, sound-whole bytes (accepted-sound bytes h)))
 
-    number-few : getD (pack strip) 0 0 ≤ 32
+    number-few : getD (pack bytes) 0 0 ≤ 32
     unfolding pack
-    number-few = omega (arith, accepted-short strip h)
+    number-few = omega (arith, accepted-short bytes h)
 
-    acceptable-pack : acceptable (pack strip) ≡ true
-    acceptable-pack = acceptable-rows (pack strip) number-few (rw held-pack h)
+    acceptable-pack : acceptable (pack bytes) ≡ true
+    acceptable-pack = acceptable-rows (pack bytes) number-few (rw held-pack h)
 
-    kept-as : unpack (pack strip) ≡ some strip
+    kept-as : unpack (pack bytes) ≡ some bytes
     unfolding unpack
     kept-as = rw (acceptable-pack, held-pack)
 
-    found-as : (mm : ℕ) → lookUp (pack strip) mm ≡ record { code = 0; row = lookup mm (rows strip) }
-    found-as mm = lookup-some (pack strip) mm acceptable-pack ∙ rw held-pack
+    found-as : (mm : ℕ) → lookUp (pack bytes) mm ≡ record { code = 0; row = lookup mm (rows bytes) }
+    found-as mm = lookup-some (pack bytes) mm acceptable-pack ∙ rw held-pack
 
-  pub promised : Guarantee strip
+  pub promised : Guarantee bytes
   promised =
       record {
         judged = judged-as;
         taken = taken-as;
         told = told-as;
-        room = λ h. pack-length strip (accepted-short strip h);
+        room = λ h. pack-length bytes (accepted-short bytes h);
         kept = kept-as;
         found = found-as;
       }

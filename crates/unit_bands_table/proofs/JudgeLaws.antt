@@ -29,101 +29,101 @@ module _ (rs : List Row) where
     unfolding coverage overlaps depths
     coverage-one h = rw (le-ltb (uncovered rs) 10000 c, le-ltb (doubled rs) 10000 h)
 
-pub judged-unsound : (strip : List ℕ) → sound strip ≡ false → judgement strip ≡ verdict 11 0
+pub judged-unsound : (bytes : List ℕ) → sound bytes ≡ false → judgement bytes ≡ verdict 11 0
 unfolding judgement
-judged-unsound strip e = rw e
+judged-unsound bytes e = rw e
 
-pub judged-sound : (strip : List ℕ) → sound strip ≡ true → judgement strip ≡ coverage (rows strip)
+pub judged-sound : (bytes : List ℕ) → sound bytes ≡ true → judgement bytes ≡ coverage (rows bytes)
 unfolding judgement
-judged-sound strip e = rw e
+judged-sound bytes e = rw e
 
-module _ (strip : List ℕ) (e : sound strip ≡ true) where
+module _ (bytes : List ℕ) (e : sound bytes ≡ true) where
   -- rows that rise leave no gap
-  pub rising-covered : rising 0 (rows strip) ≡ true → 10000 ≡ uncovered (rows strip)
+  pub rising-covered : rising 0 (rows bytes) ≡ true → 10000 ≡ uncovered (rows bytes)
   rising-covered r =
-      sym (uncovered-is (rows strip) 10000 (omega arith)
-      (λ mm h. omega (arith, rising-one mm 0 (rows strip) r (sound-fit strip e) (omega arith) h))
+      sym (uncovered-is (rows bytes) 10000 (omega arith)
+      (λ mm h. omega (arith, rising-one mm 0 (rows bytes) r (sound-fit bytes e) (omega arith) h))
       (λ h. absurd (omega arith)))
 
-  covered : 10000 ≤ uncovered (rows strip) → (k : ℕ) → k < 10000 → 1 ≤ count k (rows strip)
-  covered c k h = uncovered-passed (rows strip) k (omega arith)
+  covered : 10000 ≤ uncovered (rows bytes) → (k : ℕ) → k < 10000 → 1 ≤ count k (rows bytes)
+  covered c k h = uncovered-passed (rows bytes) k (omega arith)
 
-  width-doubled : 10000 ≤ uncovered (rows strip) → width (rows strip) ≡ 10000 → doubled (rows strip) ≡ 10000
+  width-doubled : 10000 ≤ uncovered (rows bytes) → width (rows bytes) ≡ 10000 → doubled (rows bytes) ≡ 10000
   width-doubled c w =
-      doubled-is (rows strip) 10000 (omega arith) (width-single (rows strip) (sound-fit strip e) (covered c) w) (λ h. absurd (omega arith))
+      doubled-is (rows bytes) 10000 (omega arith) (width-single (rows bytes) (sound-fit bytes e) (covered c) w) (λ h. absurd (omega arith))
 
-  doubled-width : 10000 ≤ uncovered (rows strip) → 10000 ≤ doubled (rows strip) → width (rows strip) ≡ 10000
+  doubled-width : 10000 ≤ uncovered (rows bytes) → 10000 ≤ doubled (rows bytes) → width (rows bytes) ≡ 10000
   doubled-width c d =
-      single-width (rows strip) (sound-fit strip e) (covered c) (λ k h. doubled-passed (rows strip) k (omega arith))
+      single-width (rows bytes) (sound-fit bytes e) (covered c) (λ k h. doubled-passed (rows bytes) k (omega arith))
 
-  module _ {gap : ℕ} (u : gap ≡ uncovered (rows strip)) where
-    pub judged-gap : gap < 10000 → judgement strip ≡ verdict 12 gap
-    judged-gap h = rw u (judged-sound strip e ∙ coverage-gap (rows strip) (omega arith))
+  module _ {gap : ℕ} (u : gap ≡ uncovered (rows bytes)) where
+    pub judged-gap : gap < 10000 → judgement bytes ≡ verdict 12 gap
+    judged-gap h = rw u (judged-sound bytes e ∙ coverage-gap (rows bytes) (omega arith))
 
-    module _ (c : 10000 ≤ gap) {sum : ℕ} (w : sum ≡ width (rows strip)) where
-      pub judged-one : sum ≡ 10000 → judgement strip ≡ verdict 0 0
-      judged-one h = judged-sound strip e ∙ coverage-one (rows strip) (omega arith) (omega (arith, width-doubled (omega arith) (omega arith)))
+    module _ (c : 10000 ≤ gap) {sum : ℕ} (w : sum ≡ width (rows bytes)) where
+      pub judged-one : sum ≡ 10000 → judgement bytes ≡ verdict 0 0
+      judged-one h = judged-sound bytes e ∙ coverage-one (rows bytes) (omega arith) (omega (arith, width-doubled (omega arith) (omega arith)))
 
-      pub judged-double : (sum ≡ 10000 → ⊥) → {double : ℕ} → double ≡ doubled (rows strip) → judgement strip ≡ verdict 13 double
+      pub judged-double : (sum ≡ 10000 → ⊥) → {double : ℕ} → double ≡ doubled (rows bytes) → judgement bytes ≡ verdict 13 double
       judged-double h {double} d =
-          rw d (judged-sound strip e ∙ coverage-double (rows strip) (omega arith) (go (leb 10000 (doubled (rows strip))) refl))
+          rw d (judged-sound bytes e ∙ coverage-double (rows bytes) (omega arith) (go (leb 10000 (doubled (rows bytes))) refl))
         where
-          go : (t : Bool) → leb 10000 (doubled (rows strip)) ≡ t → doubled (rows strip) < 10000
-          go true q = absurd (h (w ∙ doubled-width (omega arith) (leb-true 10000 (doubled (rows strip)) q)))
-          go false q = leb-false 10000 (doubled (rows strip)) q
+          go : (t : Bool) → leb 10000 (doubled (rows bytes)) ≡ t → doubled (rows bytes) < 10000
+          go true q = absurd (h (w ∙ doubled-width (omega arith) (leb-true 10000 (doubled (rows bytes)) q)))
+          go false q = leb-false 10000 (doubled (rows bytes)) q
 
 -- only rows that are asked for are accepted
-pub accepted-sound : (strip : List ℕ) → judgement strip .code ≡ 0 → sound strip ≡ true
-accepted-sound strip h = go (sound strip) refl
+pub accepted-sound : (bytes : List ℕ) → judgement bytes .code ≡ 0 → sound bytes ≡ true
+accepted-sound bytes h = go (sound bytes) refl
   where
-    go : (t : Bool) → sound strip ≡ t → sound strip ≡ true
+    go : (t : Bool) → sound bytes ≡ t → sound bytes ≡ true
     go true e = e
-    go false e = absurd (omega (arith, ap (λ (v : Verdict). v .code) (judged-unsound strip e)))
+    go false e = absurd (omega (arith, ap (λ (v : Verdict). v .code) (judged-unsound bytes e)))
 
 -- and they fit into the home blocks
-pub accepted-short : (strip : List ℕ) → judgement strip .code ≡ 0 → length strip ≤ 160
-accepted-short strip h = sound-short strip (accepted-sound strip h)
+pub accepted-short : (bytes : List ℕ) → judgement bytes .code ≡ 0 → length bytes ≤ 160
+accepted-short bytes h = sound-short bytes (accepted-sound bytes h)
 
 -- ---- accepted or not, with no refusal told
 
-code-of : (strip : List ℕ) {code mm : ℕ} → judgement strip ≡ verdict code mm → judgement strip .code ≡ code
-code-of strip v = ap (λ (x : Verdict). x .code) v
+code-of : (bytes : List ℕ) {code mm : ℕ} → judgement bytes ≡ verdict code mm → judgement bytes .code ≡ code
+code-of bytes v = ap (λ (x : Verdict). x .code) v
 
-pub refuses : (strip : List ℕ) {code mm : ℕ} → judgement strip ≡ verdict code mm → (code ≡ 0 → ⊥) → false ≡ eqb (judgement strip .code) 0
-refuses strip v n = sym (ne-eqb (judgement strip .code) 0 (λ z. n (sym (code-of strip v) ∙ z)))
+pub refuses : (bytes : List ℕ) {code mm : ℕ} → judgement bytes ≡ verdict code mm → (code ≡ 0 → ⊥) → false ≡ eqb (judgement bytes .code) 0
+refuses bytes v n = sym (ne-eqb (judgement bytes .code) 0 (λ z. n (sym (code-of bytes v) ∙ z)))
 
-pub accepts-unsound : (strip : List ℕ) → sound strip ≡ false → false ≡ eqb (judgement strip .code) 0
-accepts-unsound strip e = refuses strip (judged-unsound strip e) (λ z. omega arith)
+pub accepts-unsound : (bytes : List ℕ) → sound bytes ≡ false → false ≡ eqb (judgement bytes .code) 0
+accepts-unsound bytes e = refuses bytes (judged-unsound bytes e) (λ z. omega arith)
 
-pub accepts-unsized : (strip : List ℕ) → sized strip ≡ false → false ≡ eqb (judgement strip .code) 0
-accepts-unsized strip e = accepts-unsound strip (sound-unsized strip e)
+pub accepts-unsized : (bytes : List ℕ) → sized bytes ≡ false → false ≡ eqb (judgement bytes .code) 0
+accepts-unsized bytes e = accepts-unsound bytes (sound-unsized bytes e)
 
 -- rows that a table may have and that rise without a gap are accepted
-pub accepts-tiled : (strip : List ℕ) → sized strip ≡ true → (allFit (rows strip) && rising 0 (rows strip)) ≡ true → true ≡ eqb (judgement strip .code) 0
-accepts-tiled strip z t =
-    let f = both-left (allFit (rows strip)) _ t in
-    let r = both-right (allFit (rows strip)) _ t in
-    let e = sound-rest strip z ∙ f in
-    let u = rising-covered strip e r in
-    let d = doubled-is (rows strip) 10000 (omega arith) (λ mm h. omega (arith, rising-one mm 0 (rows strip) r f (omega arith) h)) (λ h. absurd (omega arith)) in
-    sym (eq-eqb (judgement strip .code) 0 (code-of strip (judged-sound strip e ∙ coverage-one (rows strip) (omega arith) (omega arith))))
+pub accepts-tiled : (bytes : List ℕ) → sized bytes ≡ true → (allFit (rows bytes) && rising 0 (rows bytes)) ≡ true → true ≡ eqb (judgement bytes .code) 0
+accepts-tiled bytes z t =
+    let f = both-left (allFit (rows bytes)) _ t in
+    let r = both-right (allFit (rows bytes)) _ t in
+    let e = sound-rest bytes z ∙ f in
+    let u = rising-covered bytes e r in
+    let d = doubled-is (rows bytes) 10000 (omega arith) (λ mm h. omega (arith, rising-one mm 0 (rows bytes) r f (omega arith) h)) (λ h. absurd (omega arith)) in
+    sym (eq-eqb (judgement bytes .code) 0 (code-of bytes (judged-sound bytes e ∙ coverage-one (rows bytes) (omega arith) (omega arith))))
 
-module _ (strip : List ℕ) (e : sound strip ≡ true) {sum : ℕ} (w : sum ≡ width (rows strip)) where
-  pub accepts-wide : (sum ≡ 10000 → ⊥) → false ≡ eqb (judgement strip .code) 0
-  accepts-wide n = go (ltb (uncovered (rows strip)) 10000) refl
+module _ (bytes : List ℕ) (e : sound bytes ≡ true) {sum : ℕ} (w : sum ≡ width (rows bytes)) where
+  pub accepts-wide : (sum ≡ 10000 → ⊥) → false ≡ eqb (judgement bytes .code) 0
+  accepts-wide n = go (ltb (uncovered (rows bytes)) 10000) refl
     where
-      go : (t : Bool) → ltb (uncovered (rows strip)) 10000 ≡ t → false ≡ eqb (judgement strip .code) 0
-      go true q = refuses strip (judged-gap strip e refl (ltb-true (uncovered (rows strip)) 10000 q)) (λ z. omega arith)
-      go false q = refuses strip (judged-double strip e refl (ltb-false (uncovered (rows strip)) 10000 q) w n refl) (λ z. omega arith)
+      go : (t : Bool) → ltb (uncovered (rows bytes)) 10000 ≡ t → false ≡ eqb (judgement bytes .code) 0
+      go true q = refuses bytes (judged-gap bytes e refl (ltb-true (uncovered (rows bytes)) 10000 q)) (λ z. omega arith)
+      go false q = refuses bytes (judged-double bytes e refl (ltb-false (uncovered (rows bytes)) 10000 q) w n refl) (λ z. omega arith)
 
-  pub accepts-covered : sum ≡ 10000 → {gap : ℕ} → gap ≡ uncovered (rows strip) → eqb gap 10000 ≡ eqb (judgement strip .code) 0
+  pub accepts-covered : sum ≡ 10000 → {gap : ℕ} → gap ≡ uncovered (rows bytes) → eqb gap 10000 ≡ eqb (judgement bytes .code) 0
   accepts-covered h {gap} u = go (ltb gap 10000) refl
     where
-      go : (t : Bool) → ltb gap 10000 ≡ t → eqb gap 10000 ≡ eqb (judgement strip .code) 0
+      go : (t : Bool) → ltb gap 10000 ≡ t → eqb gap 10000 ≡ eqb (judgement bytes .code) 0
       go true q =
           let l = ltb-true gap 10000 q in
-          ne-eqb gap 10000 (λ z. omega arith) ∙ refuses strip (judged-gap strip e u l) (λ z. omega arith)
+          ne-eqb gap 10000 (λ z. omega arith) ∙ refuses bytes (judged-gap bytes e u l) (λ z. omega arith)
       go false q =
           let l = ltb-false gap 10000 q in
-          eq-eqb gap 10000 (omega (arith, uncovered-high (rows strip)))
-          ∙ sym (eq-eqb (judgement strip .code) 0 (code-of strip (judged-one strip e u l w h)))
+          eq-eqb gap 10000 (omega (arith, uncovered-high (rows bytes)))
+          ∙ sym (eq-eqb (judgement bytes .code) 0 (code-of bytes (judged-one bytes e u l w h)))

@@ -28,11 +28,11 @@ kept-none = kept-of [] (zeros (64 * 3)) (blank .empty)
 
 pub filling : Filling tableHome tableHomes judged stored
 unfolding judged stored
-filling blocks strip z = promised strip .room z
+filling blocks bytes z = promised bytes .room z
 
 growing : Growing tableHome tableHomes judged stored Accepted answerBy Represents
 unfolding judged stored answerBy lastOf
-growing tables blocks strip k a = (refl, λ z. kept-of (tables ++ (strip ∷ [])) (pack strip) (promised strip .kept z ∙ sym (last-joined none tables strip)))
+growing tables blocks bytes k a = (refl, λ z. kept-of (tables ++ (bytes ∷ [])) (pack bytes) (promised bytes .kept z ∙ sym (last-joined none tables bytes)))
 
 pub tables-recorded : TablesRecorded
 tables-recorded = events-recorded tableHome tableHomes judged stored Accepted answerBy Represents (omega arith) filling kept-none growing

@@ -41,19 +41,19 @@ pub record Fit (r : Row) : Type 0 where
   pub shallow : r .to ≤ 9999
   pub few : r .pumps ≤ 4
 
-pub record Sound (strip : List ℕ) : Type 0 where
-  pub whole : length strip % 5 ≡ 0
-  pub present : 1 ≤ length (rows strip)
-  pub few : length (rows strip) ≤ 32
-  pub each : (i : ℕ) → i < length (rows strip) → Fit (rowOf (rows strip) i)
+pub record Sound (bytes : List ℕ) : Type 0 where
+  pub whole : length bytes % 5 ≡ 0
+  pub present : 1 ≤ length (rows bytes)
+  pub few : length (rows bytes) ≤ 32
+  pub each : (i : ℕ) → i < length (rows bytes) → Fit (rowOf (rows bytes) i)
 
 -- the answers, each with what it means; "12 and 13 also give the lowest such millimetre"
-pub data Judged (strip : List ℕ) : Verdict → Type 0 where
-  accepted : Sound strip → ((mm : ℕ) → mm ≤ 9999 → InOne (rows strip) mm) → Judged strip (verdict 0 0)
-  unsound : (Sound strip → ⊥) → Judged strip (verdict 11 0)
-  gap : {mm : ℕ} → Sound strip → mm ≤ 9999 → (InSome (rows strip) mm → ⊥) → ((k : ℕ) → k < mm → InSome (rows strip) k) → Judged strip (verdict 12 mm)
-  double : {mm : ℕ} → Sound strip → ((k : ℕ) → k ≤ 9999 → InSome (rows strip) k) → mm ≤ 9999 → InTwo (rows strip) mm
-      → ((k : ℕ) → k < mm → InTwo (rows strip) k → ⊥) → Judged strip (verdict 13 mm)
+pub data Judged (bytes : List ℕ) : Verdict → Type 0 where
+  accepted : Sound bytes → ((mm : ℕ) → mm ≤ 9999 → InOne (rows bytes) mm) → Judged bytes (verdict 0 0)
+  unsound : (Sound bytes → ⊥) → Judged bytes (verdict 11 0)
+  gap : {mm : ℕ} → Sound bytes → mm ≤ 9999 → (InSome (rows bytes) mm → ⊥) → ((k : ℕ) → k < mm → InSome (rows bytes) k) → Judged bytes (verdict 12 mm)
+  double : {mm : ℕ} → Sound bytes → ((k : ℕ) → k ≤ 9999 → InSome (rows bytes) k) → mm ≤ 9999 → InTwo (rows bytes) mm
+      → ((k : ℕ) → k < mm → InTwo (rows bytes) k → ⊥) → Judged bytes (verdict 13 mm)
 
 -- "a lookup gives that row": the one row that holds the millimetre
 pub record RowTold (rs : List Row) (mm : ℕ) : Type 0 where
@@ -61,13 +61,13 @@ pub record RowTold (rs : List Row) (mm : ℕ) : Type 0 where
   pub row : lookup mm rs ≡ rowOf rs (one .at)
 
 -- for strips of any contents and length
-pub record Guarantee (strip : List ℕ) : Type 0 where
-  pub judged : Judged strip (judgement strip)
-  pub taken : Sound strip → ((mm : ℕ) → mm ≤ 9999 → InOne (rows strip) mm) → judgement strip ≡ verdict 0 0
-  pub told : judgement strip .code ≡ 0 → (mm : ℕ) → mm ≤ 9999 → RowTold (rows strip) mm
-  pub room : judgement strip .code ≡ 0 → length (pack strip) ≡ 192
-  pub kept : judgement strip .code ≡ 0 → unpack (pack strip) ≡ some strip
-  pub found : judgement strip .code ≡ 0 → (mm : ℕ) → lookUp (pack strip) mm ≡ record { code = 0; row = lookup mm (rows strip) }
+pub record Guarantee (bytes : List ℕ) : Type 0 where
+  pub judged : Judged bytes (judgement bytes)
+  pub taken : Sound bytes → ((mm : ℕ) → mm ≤ 9999 → InOne (rows bytes) mm) → judgement bytes ≡ verdict 0 0
+  pub told : judgement bytes .code ≡ 0 → (mm : ℕ) → mm ≤ 9999 → RowTold (rows bytes) mm
+  pub room : judgement bytes .code ≡ 0 → length (pack bytes) ≡ 192
+  pub kept : judgement bytes .code ≡ 0 → unpack (pack bytes) ≡ some bytes
+  pub found : judgement bytes .code ≡ 0 → (mm : ℕ) → lookUp (pack bytes) mm ≡ record { code = 0; row = lookup mm (rows bytes) }
 
 -- homes that nothing was stored to hold "no acceptable table"
 pub record Blank : Type 0 where

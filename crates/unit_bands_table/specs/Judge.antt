@@ -27,7 +27,7 @@ allFit (r ∷ rs) = fit r && allFit rs
 
 -- "11 no rows, more than 32"; "a strip ending inside one answers as too long"
 unfoldable pub sound : List ℕ → Bool
-sound strip = leb 1 (length strip) && (leb (length strip) (5 * 32) && (eqb (length strip % 5) 0 && allFit (rows strip)))
+sound bytes = leb 1 (length bytes) && (leb (length bytes) (5 * 32) && (eqb (length bytes % 5) 0 && allFit (rows bytes)))
 
 -- the lowest of n numbers from `at` on that a test takes, or the one past them
 unfoldable pub lowest : (ℕ → Bool) → ℕ → ℕ → ℕ
@@ -50,4 +50,4 @@ coverage rs = cond (ltb (uncovered rs) depths) (verdict 12 (uncovered rs)) (over
 
 -- "Answers: 11 ..; 12 ..; 13": in this order, 11 for the whole strip
 unfoldable pub judgement : List ℕ → Verdict
-judgement strip = cond (sound strip) (coverage (rows strip)) (verdict 11 0)
+judgement bytes = cond (sound bytes) (coverage (rows bytes)) (verdict 11 0)

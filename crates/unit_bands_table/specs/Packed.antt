@@ -10,7 +10,7 @@ use Rattle.unit_bands_table.specs.Judge.{judgement}
 
 -- "An accepted table goes into its home blocks"
 unfoldable pub pack : List ℕ → List ℕ
-pack strip = length strip / 5 ∷ strip ++ replicate (191 - length strip) 0
+pack bytes = length bytes / 5 ∷ bytes ++ replicate (191 - length bytes) 0
 
 -- the strip of as many rows as byte 0 says
 unfoldable pub held : List ℕ → List ℕ
@@ -38,7 +38,7 @@ answered code from to pumps = record { code = code; row = band from to pumps }
 -- "one while its homes hold no acceptable table answers 11"
 unfoldable pub found : ℕ → Option (List ℕ) → Lookup
 found mm none = answered 11 0 0 0
-found mm (some strip) = record { code = 0; row = lookup mm (rows strip) }
+found mm (some bytes) = record { code = 0; row = lookup mm (rows bytes) }
 
 unfoldable pub lookUp : List ℕ → ℕ → Lookup
 lookUp packed mm = found mm (unpack packed)

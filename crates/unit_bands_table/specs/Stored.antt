@@ -11,16 +11,16 @@ use Rattle.unit_bands_table.specs.Packed.{Lookup, pack, unpack, found, l
 
 -- A strip of rows is judged before the store's questions, whatever the homes hold, and packed: a call that sets it reads nothing.
 unfoldable pub judged : List ℕ → List ℕ → ℕ
-judged blocks strip = judgement strip .code
+judged blocks bytes = judgement bytes .code
 
 unfoldable pub stored : List ℕ → List ℕ → List ℕ
-stored blocks strip = pack strip
+stored blocks bytes = pack bytes
 
 unfoldable pub answerBy : List (List ℕ) → List ℕ → ℕ
-answerBy tables strip = judgement strip .code
+answerBy tables bytes = judgement bytes .code
 
 abbrev pub Accepted : List ℕ → Type 0
-Accepted strip = judgement strip .code ≡ 0
+Accepted bytes = judgement bytes .code ≡ 0
 
 -- the last of some tables
 unfoldable pub lastFrom : Option (List ℕ) → List (List ℕ) → Option (List ℕ)

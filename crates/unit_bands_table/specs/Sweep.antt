@@ -13,7 +13,7 @@ sized s = leb 1 (length s) && (leb (length s) (5 * 32) && eqb (length s % 5) 0)
 
 -- the rows of a strip from byte `at` on
 unfoldable pub rest : List ℕ → ℕ → List Row
-rest strip at = rows (drop at strip)
+rest bytes at = rows (drop at bytes)
 
 -- the row at byte `at`
 unfoldable pub rowAt : List ℕ → ℕ → Row

@@ -20,7 +20,7 @@ keep-list-requires : tie.Need-keep-list-requires
 keep-list-requires c κs =
     let p = c .before .before .before .before .before .before .before .before .before .before .before .before .before .before .before .before .before .before .before .before .before .before .before .before .before .before .before .pre in
     left-after _ _ _ _ _ _ _ _ _ _ _ _ _ (p .0) (p .1) (c .before .before .before .before .before .before .before .before .before .before .before .before .before .before .before .before .before .before .close-held .ensures) (c .before .before .before .before .before .before .before .before .before .before .set-promise .ensures)
-    (omega (arith, c .before .before .before .before .before .before .before .before .before .before .before .before .before .before .before .before .before .before .close-held .kept)) (omega (arith, p .0 .strip, c .before .before .before .before .before .before .before .before .before .before .before .before .before .before .before .before .before .before .close-held .kept, c .before .before .before .before .before .before .before .before .before .before .set-promise .kept))
+    (omega (arith, c .before .before .before .before .before .before .before .before .before .before .before .before .before .before .before .before .before .before .close-held .kept)) (omega (arith, p .0 .stateFits, c .before .before .before .before .before .before .before .before .before .before .before .before .before .before .before .before .before .before .close-held .kept, c .before .before .before .before .before .before .before .before .before .before .set-promise .kept))
     (omega (arith, p .2, c .before .before .before .before .before .keep-newest .kept)) (p .3)
 
 same-length : tie.Need-same-length

@@ -30,7 +30,7 @@ flush-none-requires c κs =
     let c1 = c2 .before in
     let k = known _ _ _ _ _ _ (c1 .flush-answer .ensures) (c2 .if1 .left) (c3 .state .ensures) in
     let f = fits-none _ _ _ _ _ _ (c1 .flush-answer .ensures) (c2 .if1 .left) (c3 .state .ensures) (c4 .if2 .taken) in
-    (k .strip, f, k .next)
+    (k .stateFits, f, k .next)
 
 done-requires : tie.Need-done-requires
 done-requires c κs = search needs
@@ -59,7 +59,7 @@ flush-part-requires c κs =
     let c1 = c2 .before in
     let k = known _ _ _ _ _ _ (c1 .flush-answer .ensures) (c2 .if1 .left) (c3 .state .ensures) in
     let f = fits-part _ _ _ _ _ _ (c1 .flush-answer .ensures) (c2 .if1 .left) (c3 .state .ensures) (c4 .if2 .left) in
-    (k .strip, f, k .some, k .log, k .next)
+    (k .stateFits, f, k .some, k .log, k .next)
 
 add-done : tie.Need-add-done
 add-done c = search needs

@@ -1,6 +1,6 @@
 -- `call_flush::flush_answer` meets its contract. Assumes nothing.
 use native.Mathlib.Omega.{arith}
-use Rattle.call_flush.proofs.FlushLaws.{refuses, stripped, grouped, broken, short, passes}
+use Rattle.call_flush.proofs.FlushLaws.{refuses, state-fits-asked, grouped, broken, short, passes}
 use borrow.Author.Needs.{needs}
 use Rattle.call_flush.proofs.flush_answer.Statement.{statement}
 use Rattle.call_flush.proofs.flush_answer.Tie as tie
@@ -12,14 +12,14 @@ returns : tie.Need-returns
 returns c = refuses _ _ _ _ _ (c .before .state-answer .ensures) (c .if1 .taken)
 
 state-requires : tie.Need-state-requires
-state-requires c κs = let a = c .before .before .before .before .before .before .args in stripped (a .log .now) (a .area .now) (a .state .now) (a .batch .now) _ (c .before .state-answer .ensures) (c .if1 .left)
+state-requires c κs = let a = c .before .before .before .before .before .before .args in state-fits-asked (a .log .now) (a .area .now) (a .state .now) (a .batch .now) _ (c .before .state-answer .ensures) (c .if1 .left)
 
 keeps-promises-requires : tie.Need-keeps-promises-requires
 keeps-promises-requires c κs =
     let a = c .before .before .before .before .before .before .before .args in
     let e = c .before .before .state-answer .ensures in
     let z = c .before .if1 .left in (
-      stripped (a .log .now) (a .area .now) (a .state .now) (a .batch .now) _ e z,
+      state-fits-asked (a .log .now) (a .area .now) (a .state .now) (a .batch .now) _ e z,
       grouped (a .log .now) (a .area .now) (a .state .now) (a .batch .now) _ _ e z (c .state .ensures),
       c .state .ensures,
     )

@@ -14,7 +14,7 @@ use borrow.Author.Tests.{le-leb, leb-true}
 use lib.Dec.{leb}
 use lib.ListN.{length}
 use Rattle.model.specs.Tag.{belongs}
-use Rattle.model.specs.Commit.{addIf, members, complete, linked, Span, Walk, started, judgedClosing, visit, walk, committed}
+use Rattle.model.specs.Commit.{addIf, members, complete, linked, Span, Walk, started, decidedClosing, visit, walk, committed}
 use Rattle.model.specs.declared.Tag.{Tag}
 use Rattle.model.specs.declared.Tag.the-variants.{Nothing, Entry, Closing}
 use Rattle.model_laws.proofs.rule.Closings.{spanAt, closings, endOf}
@@ -82,15 +82,15 @@ module _ (log : ℕ → Tag) (base n : ℕ) (w : Walk) (k : Walked log base n w)
   unclosed e = record { last = k .last; within = wider base n _ (k .within); below = k .below; all = λ g. k .all g ∙ sym e }
 
   -- a closing entry that fails
-  failed : (s : Span) → Walked log base (suc n) (judgedClosing false s w)
-  unfolding judgedClosing
+  failed : (s : Span) → Walked log base (suc n) (decidedClosing false s w)
+  unfolding decidedClosing
   failed s = record { last = k .last; within = wider base n _ (k .within); below = k .below; all = λ g. absurd (false≢true g) }
 
   -- one that is committed
   passed : (f : ℕ) → w .going ≡ true
       → closings log base (suc n) ≡ closings log base n ++ (record { first = f; closing = base + n } ∷ [])
-      → Walked log base (suc n) (judgedClosing true (record { first = f; closing = base + n }) w)
-  unfolding judgedClosing lastAt
+      → Walked log base (suc n) (decidedClosing true (record { first = f; closing = base + n }) w)
+  unfolding decidedClosing lastAt
   passed f g e =
       let s : Span = record { first = f; closing = base + n } in
       let z : endOf (w .spans ++ (s ∷ [])) ≡ suc (base + n) = end-more (w .spans) s ∙ add-one (base + n) in
@@ -111,7 +111,7 @@ walked-visit log base n (Entry h f) w e k = unclosed log base n w k (rw e (appen
 walked-visit log base n (Closing h f link count) w e k =
     go (w .going) (linked base (w .last) (base + n) link) (complete log base n f count) refl
   where
-    go : (g a b : Bool) → w .going ≡ g → Walked log base (suc n) (judgedClosing (g && a && b) (record { first = f; closing = base + n }) w)
+    go : (g a b : Bool) → w .going ≡ g → Walked log base (suc n) (decidedClosing (g && a && b) (record { first = f; closing = base + n }) w)
     go true true true p = passed log base n w k f p (rw e)
     go true true false p = failed log base n w k (record { first = f; closing = base + n })
     go true false b p = failed log base n w k (record { first = f; closing = base + n })
@@ -143,7 +143,7 @@ committed-most log base n = go (committed-within log base n)
 -- the first failure ends the walk
 visit-stopped : (log : ℕ → Tag) (base n : ℕ) (t : Tag) (w : Walk) → w .going ≡ false
     → (visit log base n t w .spans ≡ w .spans) × (visit log base n t w .going ≡ false)
-unfolding visit judgedClosing
+unfolding visit decidedClosing
 visit-stopped log base n Nothing w g = (refl, g)
 visit-stopped log base n (Entry h f) w g = (refl, g)
 visit-stopped log base n (Closing h f link count) w g = rw g (refl, refl)

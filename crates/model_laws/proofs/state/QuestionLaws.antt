@@ -12,7 +12,7 @@ use Rattle.model.specs.Layout.{maxStart}
 use Rattle.model.specs.declared.State.{State}
 use Rattle.model.specs.State.{stateOf, underWay, nextPosition, promiseOf, promised, places, freePlaces}
 use Rattle.model.specs.Effects.{Given}
-use Rattle.model.specs.Questions.{ask, areasRight, stateRight, blockRight, newestRight, stripInOrder, headerFits, writerKnown, homeKnown, storeAllowed, readAllowed, writerOpen, roomFor, room, mayPromise, keepsPromises, storeLogs, commitLogs, startFits, batchFits, formatAnswer, openAnswer, askState, askBlock, askNewest, askBoth, beginAnswer, reserveAnswer, abortAnswer, storeAnswer, commitAnswer, flushAnswer, confirmAnswer, settleAnswer, trimAnswer, readAnswer, inRound, beginRoundAnswer, stepRoundAnswer}
+use Rattle.model.specs.Questions.{ask, areasRight, stateRight, blockRight, newestRight, stateInOrder, headerFits, writerKnown, homeKnown, storeAllowed, readAllowed, writerOpen, roomFor, room, mayPromise, keepsPromises, storeLogs, commitLogs, startFits, batchFits, formatAnswer, openAnswer, askState, askBlock, askNewest, askBoth, beginAnswer, reserveAnswer, abortAnswer, storeAnswer, commitAnswer, flushAnswer, confirmAnswer, settleAnswer, trimAnswer, readAnswer, inRound, beginRoundAnswer, stepRoundAnswer}
 
 -- a question answered no, answered yes, and one that let an answer of 0 through
 pub ask-no : (b : Bool) (k v : ℕ) → b ≡ false → ask b k v ≡ k
@@ -41,30 +41,30 @@ not-true false e = refl
 -- what every call but format has been lent when it is done
 pub record Lent (g : Given) : Type 0 where
   pub areas : areasRight g ≡ true
-  pub strip : stateRight g ≡ true
+  pub stateFits : stateRight g ≡ true
 
 pub record InUse (g : Given) : Type 0 where
   pub areas : areasRight g ≡ true
-  pub strip : stateRight g ≡ true
-  pub order : stripInOrder g ≡ true
+  pub stateFits : stateRight g ≡ true
+  pub order : stateInOrder g ≡ true
 
 state-passed : (g : Given) (v : ℕ) → askState g v ≡ 0 → InUse g × (v ≡ 0)
 unfolding askState
 state-passed g v e =
-    let a = ask-passed (areasRight g && stateRight g) 0 (ask (stripInOrder g) 2 v) e in
-    let b = ask-passed (stripInOrder g) 1 v (a .1) in
+    let a = ask-passed (areasRight g && stateRight g) 0 (ask (stateInOrder g) 2 v) e in
+    let b = ask-passed (stateInOrder g) 1 v (a .1) in
     let c = and-true (areasRight g) (stateRight g) (a .0) in
-    (record { areas = c .0; strip = c .1; order = b .0 }, b .1)
+    (record { areas = c .0; stateFits = c .1; order = b .0 }, b .1)
 
 -- those that ask for more lengths: the rest is right too
-more-passed : (g : Given) (rest : Bool) (v : ℕ) → ask (areasRight g && stateRight g && rest) 1 (ask (stripInOrder g) 2 v) ≡ 0
+more-passed : (g : Given) (rest : Bool) (v : ℕ) → ask (areasRight g && stateRight g && rest) 1 (ask (stateInOrder g) 2 v) ≡ 0
     → InUse g × (rest ≡ true) × (v ≡ 0)
 more-passed g rest v e =
-    let a = ask-passed (areasRight g && stateRight g && rest) 0 (ask (stripInOrder g) 2 v) e in
-    let b = ask-passed (stripInOrder g) 1 v (a .1) in
+    let a = ask-passed (areasRight g && stateRight g && rest) 0 (ask (stateInOrder g) 2 v) e in
+    let b = ask-passed (stateInOrder g) 1 v (a .1) in
     let c = and-true (areasRight g && stateRight g) rest (a .0) in
     let d = and-true (areasRight g) (stateRight g) (c .0) in
-    (record { areas = d .0; strip = d .1; order = b .0 }, c .1, b .1)
+    (record { areas = d .0; stateFits = d .1; order = b .0 }, c .1, b .1)
 
 block-passed : (g : Given) (v : ℕ) → askBlock g v ≡ 0 → InUse g × (blockRight g ≡ true) × (v ≡ 0)
 unfolding askBlock
@@ -77,12 +77,12 @@ newest-passed g v e = more-passed g (newestRight g) v e
 both-passed : (g : Given) (v : ℕ) → askBoth g v ≡ 0 → InUse g × (newestRight g ≡ true) × (blockRight g ≡ true) × (v ≡ 0)
 unfolding askBoth
 both-passed g v e =
-    let a = ask-passed (areasRight g && stateRight g && newestRight g && blockRight g) 0 (ask (stripInOrder g) 2 v) e in
-    let b = ask-passed (stripInOrder g) 1 v (a .1) in
+    let a = ask-passed (areasRight g && stateRight g && newestRight g && blockRight g) 0 (ask (stateInOrder g) 2 v) e in
+    let b = ask-passed (stateInOrder g) 1 v (a .1) in
     let c = and-true (areasRight g && stateRight g && newestRight g) (blockRight g) (a .0) in
     let d = and-true (areasRight g && stateRight g) (newestRight g) (c .0) in
     let f = and-true (areasRight g) (stateRight g) (d .0) in
-    (record { areas = f .0; strip = f .1; order = b .0 }, d .1, c .1, b .1)
+    (record { areas = f .0; stateFits = f .1; order = b .0 }, d .1, c .1, b .1)
 
 -- what an answer of 0 says, call by call
 pub format-ready : (g : Given) (size : ℕ) → formatAnswer g size ≡ 0 → (areasRight g ≡ true) × (batchFits g size ≡ true)
@@ -102,7 +102,7 @@ open-ready g start size e =
     let d = ask-passed (batchFits g size) 8 0 (c .1) in
     let l = and-true (areasRight g && stateRight g) (newestRight g) (a .0) in
     let m = and-true (areasRight g) (stateRight g) (l .0) in
-    (record { areas = m .0; strip = m .1 }, b .0, c .0, d .0, l .1)
+    (record { areas = m .0; stateFits = m .1 }, b .0, c .0, d .0, l .1)
 
 pub begin-ready : (g : Given) → beginAnswer g ≡ 0 → InUse g × (writerKnown g ≡ true) × (writerOpen g ≡ false)
 unfolding beginAnswer
@@ -282,8 +282,8 @@ unfolding openAnswer startFits
 open-start-first g start size a h l =
     ask-yes _ 1 _ a ∙ ask-yes (headerFits g) 3 _ h ∙ ask-no _ 10 _ (lt-leb start maxStart l)
 
-pub trim-start-first : (g : Given) (start size : ℕ) → (areasRight g && stateRight g && newestRight g) ≡ true → stripInOrder g ≡ true → maxStart < start
+pub trim-start-first : (g : Given) (start size : ℕ) → (areasRight g && stateRight g && newestRight g) ≡ true → stateInOrder g ≡ true → maxStart < start
     → trimAnswer g start size ≡ 10
 unfolding trimAnswer askNewest startFits
 trim-start-first g start size a h l =
-    ask-yes _ 1 _ a ∙ ask-yes (stripInOrder g) 2 _ h ∙ ask-no _ 10 _ (lt-leb start maxStart l)
+    ask-yes _ 1 _ a ∙ ask-yes (stateInOrder g) 2 _ h ∙ ask-no _ 10 _ (lt-leb start maxStart l)

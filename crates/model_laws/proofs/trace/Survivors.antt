@@ -12,7 +12,7 @@ use borrow.Author.Tests.{le-leb}
 use Rattle.model.specs.Tag.{says}
 use Rattle.model.specs.declared.Tag.{Tag}
 use Rattle.model.specs.declared.Tag.the-variants.{Nothing, Entry, Closing}
-use Rattle.model.specs.Commit.{linked, Walk, started, judgedClosing, visit, walk, committed, transactions}
+use Rattle.model.specs.Commit.{linked, Walk, started, decidedClosing, visit, walk, committed, transactions}
 use Rattle.model_laws.proofs.trace.Trace.{Ev, Hist, mine, advance, hist, firstOf, tagOf, tagAt, firstIn, linkIn, surviving, closerOf, oldestOf, closingFrom, allLanded, whole, Apart, LinkOk, Linked, LinkedIf}
 use Rattle.model_laws.proofs.trace.TraceLaws.{Rising, done-rising, Logs, logs-own}
 use Rattle.model_laws.proofs.trace.WholeLaws.{everyLanded, whole-more, whole-stop, whole-every, whole-all, every-append, closingFrom-snoc, closingFrom-none}
@@ -111,12 +111,12 @@ module _ (landed : ℕ → Bool) (c p : ℕ) (ts : List (List ℕ)) (w : Walk) (
     abbrev test : Bool
     test = w .going && linked c (w .last) p link && allLanded landed ps
 
-    main-passed : test ≡ true → Main landed (suc p) (ts ++ (tx ∷ [])) (judgedClosing true (spanOf tx) w)
-    unfolding judgedClosing spanOf spansOf closerOf oldestOf allLanded
+    main-passed : test ≡ true → Main landed (suc p) (ts ++ (tx ∷ [])) (decidedClosing true (spanOf tx) w)
+    unfolding decidedClosing spanOf spansOf closerOf oldestOf allLanded
     main-passed t = go (m .link) (and₃ (w .going) (linked c (w .last) p link) (allLanded landed ps) t)
       where
         go : Going landed ts w → (w .going ≡ true) × (linked c (w .last) p link ≡ true) × (allLanded landed ps ≡ true)
-            → Main landed (suc p) (ts ++ (tx ∷ [])) (judgedClosing true (spanOf tx) w)
+            → Main landed (suc p) (ts ++ (tx ∷ [])) (decidedClosing true (spanOf tx) w)
         go (inl g) t = record {
           list = rw (m .list) (sym (ap spansOf (whole-one landed ts tx (g .0) (rw (l, t .2))) ∙ spans-append (whole landed ts) (tx ∷ [])));
           low = omega arith;
@@ -125,15 +125,15 @@ module _ (landed : ℕ → Bool) (c p : ℕ) (ts : List (List ℕ)) (w : Walk) (
         }
         go (inr g) t = absurd (false≢true (sym (link-lost landed c p link prev (w .last) ts ok prior (g .0) (m .high) (g .1 (t .0))) ∙ t .1))
 
-    main-failed : test ≡ false → Main landed (suc p) (ts ++ (tx ∷ [])) (judgedClosing false (spanOf tx) w)
-    unfolding judgedClosing allLanded
-    main-failed t = main-stop (judgedClosing false (spanOf tx) w) refl refl (go (m .link)) (λ a. absurd (false≢true a))
+    main-failed : test ≡ false → Main landed (suc p) (ts ++ (tx ∷ [])) (decidedClosing false (spanOf tx) w)
+    unfolding decidedClosing allLanded
+    main-failed t = main-stop (decidedClosing false (spanOf tx) w) refl refl (go (m .link)) (λ a. absurd (false≢true a))
       where
         go : Going landed ts w → (everyLanded landed ts && allLanded landed tx) ≡ false
         go (inl g) = rw (g .0, l) (rw (g .1, g .2, link-on c p link prev (lastFrom none ts) ok prior) at t)
         go (inr g) = rw (g .0)
 
-    main-judged : (b : Bool) → test ≡ b → Main landed (suc p) (ts ++ (tx ∷ [])) (judgedClosing b (spanOf tx) w)
+    main-judged : (b : Bool) → test ≡ b → Main landed (suc p) (ts ++ (tx ∷ [])) (decidedClosing b (spanOf tx) w)
     main-judged true t = main-passed t
     main-judged false t = main-failed t
 

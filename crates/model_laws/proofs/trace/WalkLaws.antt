@@ -11,7 +11,7 @@ use borrow.Author.Tests.{lt-ltb, le-ltb, le-leb, eq-eqb}
 use Rattle.model.specs.Tag.{says, belongs, readFields, readTag}
 use Rattle.model.specs.declared.Tag.{Tag}
 use Rattle.model.specs.declared.Tag.the-variants.{Nothing, Entry, Closing}
-use Rattle.model.specs.Commit.{addIf, members, complete, linked, Span, Walk, started, judgedClosing, visit, walk, committed, entries, eachEntries, transactions}
+use Rattle.model.specs.Commit.{addIf, members, complete, linked, Span, Walk, started, decidedClosing, visit, walk, committed, entries, eachEntries, transactions}
 use Rattle.model_laws.proofs.trace.Trace.{firstIn, surviving, closerOf}
 
 -- ---- what the walk reads
@@ -63,8 +63,8 @@ spansRise-snoc low high [] s h e r = (omega arith, omega arith, tt)
 spansRise-snoc low high (u ∷ ss) s h e r = (r .0, omega arith, spansRise-snoc (suc (u .closing)) high ss s (omega arith) e (r .2))
 
 judged-rise : (b : Bool) (low high : ℕ) (s : Span) (w : Walk) → low ≤ high → s .closing ≡ high → SpansRise low high (w .spans)
-    → SpansRise low (suc high) (judgedClosing b s w .spans)
-unfolding judgedClosing
+    → SpansRise low (suc high) (decidedClosing b s w .spans)
+unfolding decidedClosing
 judged-rise true low high s w h e r = spansRise-snoc low high (w .spans) s h e r
 judged-rise false low high s w h e r = spansRise-more low high (w .spans) r
 
@@ -150,8 +150,8 @@ unfolding spansBelow
 spansBelow-snoc b [] s h = rw (le-ltb (s .closing) b h, spansBelow)
 spansBelow-snoc b (u ∷ ss) s h = rw (spansBelow-snoc b ss s h)
 
-judged-below : (b : ℕ) (t : Bool) (s : Span) (w : Walk) → b ≤ s .closing → spansBelow b (judgedClosing t s w .spans) ≡ spansBelow b (w .spans)
-unfolding judgedClosing
+judged-below : (b : ℕ) (t : Bool) (s : Span) (w : Walk) → b ≤ s .closing → spansBelow b (decidedClosing t s w .spans) ≡ spansBelow b (w .spans)
+unfolding decidedClosing
 judged-below b true s w h = spansBelow-snoc b (w .spans) s h
 judged-below b false s w h = refl
 
@@ -217,8 +217,8 @@ headed-snoc log c [] s h e = (e, tt)
 headed-snoc log c (u ∷ ss) s h e = (h .0, headed-snoc log c ss s (h .1) e)
 
 judged-headed : (log : ℕ → Tag) (c : ℕ) (b : Bool) (s : Span) (w : Walk) → Headed log c (w .spans)
-    → entries log c s ≡ s .closing ∷ members log (s .first) c (s .closing - c) → Headed log c (judgedClosing b s w .spans)
-unfolding judgedClosing
+    → entries log c s ≡ s .closing ∷ members log (s .first) c (s .closing - c) → Headed log c (decidedClosing b s w .spans)
+unfolding decidedClosing
 judged-headed log c true s w h e = headed-snoc log c (w .spans) s h e
 judged-headed log c false s w h e = h
 

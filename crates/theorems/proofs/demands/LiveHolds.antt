@@ -214,8 +214,8 @@ module _ (G D b : ℕ) (tr : List Ev) (old : List Commit) (w : World) (z : Sizes
 -- a read shows what the commit rule finds (proofs/newest/NewestHolds)
 module _ (G D : ℕ) (z : Sizes G D) (w : World) (r : Running G D w)
     (shows : (block : List ℕ) (v h : ℕ) → h < D → shown (lent w block [] v h) ≡ current (lent w block [] v h)) where
-  strip-holds : inOrder (w .state) (groupsIn (length (w .log))) (w .homes) ≡ true
-  strip-holds =
+  state-holds : inOrder (w .state) (groupsIn (length (w .log))) (w .homes) ≡ true
+  state-holds =
       let c = r .copies in
       rw (c .logSize, groups-in G, c .homes) (order-in (w .state) G D (c .order))
 
@@ -242,7 +242,7 @@ module _ (G D : ℕ) (z : Sizes G D) (w : World) (r : Running G D w)
   pub live-holds : Live w
   live-holds =
       record {
-        strip = strip-holds;
+        stateFits = state-holds;
         readBack = found-entries G D (r .b) (r .tr) (r .old) w z (r .commits) (r .copies) [] 0 0;
         readable = read-yields;
       }

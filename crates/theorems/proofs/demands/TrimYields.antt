@@ -234,14 +234,14 @@ module _ (G D : ℕ) (z : Sizes G D) (w : World) (r : Running G D w) where
       last : ℕ
       last = cond (leb (st .last) (7 * s)) 0 (st .last)
 
-      strip-last : st .last < 2 ^ 64
-      strip-last =
+      state-last : st .last < 2 ^ 64
+      state-last =
           let q : nextPosition st ≡ 7 * st .next + st .filled = unfold nextPosition in refl in
           omega (arith, small, r .copies .order .filled-most, r .copies .order .last-closing)
 
       either : (d : Bool) → cond d 0 (st .last) < 2 ^ 64
       either true = omega arith
-      either false = strip-last
+      either false = state-last
 
       size : length (setFenced (setStart (w .state) s) (7 * st .next)) ≡ 1024
       size = length-setFenced (setStart (w .state) s) (7 * st .next) ∙ length-setStart (w .state) s ∙ r .copies .stateSize

@@ -164,8 +164,8 @@ module _ (G D : ℕ) (z : Sizes G D) (w : World) (r : Running G D w) where
   groups-are = ap groupsIn (r .copies .logSize) ∙ groups-in G
 
   -- the strip is in order
-  pub strip-in-order : inOrder (w .state) (groupsIn (length (w .log))) (w .homes) ≡ true
-  strip-in-order = rw (groups-are, r .copies .homes) (order-in (w .state) G D (r .copies .order))
+  pub state-in-order : inOrder (w .state) (groupsIn (length (w .log))) (w .homes) ≡ true
+  state-in-order = rw (groups-are, r .copies .homes) (order-in (w .state) G D (r .copies .order))
 
   -- the rows submitted since the last crash, and those before the last fence
   lasting : groupsIn (length (w .memory .log)) ≡ G

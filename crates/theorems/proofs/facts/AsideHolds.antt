@@ -7,7 +7,7 @@ use lib.Dec.{eqb}
 use Rattle.model.specs.State.{stateOf, nextPosition, writerOf, holds, listHome, listedOf}
 use Rattle.model.specs.declared.Writer.{Writer}
 use Rattle.model.specs.Effects.{Given, Effect, newState, formatEffect, beginEffect, reserveEffect, abortEffect, logHeld, storeFirst, storeAgain, storeOther, storeEffect, flushPart, flushNone, flushEffect, confirmEffect, tagsOf, liveTags, liveBase, settleEffect, beginRoundEffect, roundTransactions, roundHomes, stepHomes, stepRoundEffect, groups, homes}
-use Rattle.model.specs.Questions.{areasRight, stateRight, blockRight, stripInOrder, writerKnown, homeKnown, storeAllowed, writerOpen, room, storeLogs, batchFits, inRound, askState, askBlock, formatAnswer, beginAnswer, reserveAnswer, abortAnswer, storeAnswer, flushAnswer, confirmAnswer, settleAnswer, beginRoundAnswer, stepRoundAnswer}
+use Rattle.model.specs.Questions.{areasRight, stateRight, blockRight, stateInOrder, writerKnown, homeKnown, storeAllowed, writerOpen, room, storeLogs, batchFits, inRound, askState, askBlock, formatAnswer, beginAnswer, reserveAnswer, abortAnswer, storeAnswer, flushAnswer, confirmAnswer, settleAnswer, beginRoundAnswer, stepRoundAnswer}
 use Rattle.model.specs.Calls.{refused, done, sizeOf, outcome, formatCall, beginCall, reserveCall, abortCall, storeCall, flushCall, confirmCall, settleCall, beginRoundCall, stepRoundCall}
 use Rattle.model.specs.Rights.{forHome, storeList}
 use Rattle.model.specs.Facts.{lentWith, leftWith, AsideIn, Aside}
@@ -88,21 +88,21 @@ unfolding beginCall
 begin-aside g n =
     beside g n (beginAnswer g) (beginAnswer (lentWith n g)) (beginEffect g) (beginEffect (lentWith n g))
     (unfold beginEffect newState effectWith lentWith in refl)
-    (unfold beginAnswer askState areasRight stateRight stripInOrder writerKnown writerOpen lentWith in refl)
+    (unfold beginAnswer askState areasRight stateRight stateInOrder writerKnown writerOpen lentWith in refl)
 
 reserve-aside : (k : ℕ) → AsideIn (λ g. reserveCall g k)
 unfolding reserveCall
 reserve-aside k g n =
     beside g n (reserveAnswer g k) (reserveAnswer (lentWith n g) k) (reserveEffect g k) (reserveEffect (lentWith n g) k)
     (unfold reserveEffect newState effectWith lentWith in refl)
-    (unfold reserveAnswer askState areasRight stateRight stripInOrder writerKnown writerOpen lentWith in refl)
+    (unfold reserveAnswer askState areasRight stateRight stateInOrder writerKnown writerOpen lentWith in refl)
 
 abort-aside : AsideIn abortCall
 unfolding abortCall
 abort-aside g n =
     beside g n (abortAnswer g) (abortAnswer (lentWith n g)) (abortEffect g) (abortEffect (lentWith n g))
     (unfold abortEffect newState effectWith lentWith in refl)
-    (unfold abortAnswer askState areasRight stateRight stripInOrder writerKnown writerOpen lentWith in refl)
+    (unfold abortAnswer askState areasRight stateRight stateInOrder writerKnown writerOpen lentWith in refl)
 
 -- the list that store goes by is found without them
 allowed-aside : (g : Given) (n : List ℕ) → storeAllowed (lentWith n g) ≡ storeAllowed g
@@ -113,41 +113,41 @@ store-aside : AsideIn storeCall
 unfolding storeCall
 store-aside g n =
     beside-sized g n storeAnswer (storeEffect g) (storeEffect (lentWith n g)) (store-beside g n)
-    (λ size. unfold storeAnswer askBlock areasRight stateRight blockRight stripInOrder writerKnown homeKnown writerOpen storeLogs room batchFits lentWith in rw (allowed-aside g n))
+    (λ size. unfold storeAnswer askBlock areasRight stateRight blockRight stateInOrder writerKnown homeKnown writerOpen storeLogs room batchFits lentWith in rw (allowed-aside g n))
 
 flush-aside : AsideIn flushCall
 unfolding flushCall
 flush-aside g n =
     beside-sized g n flushAnswer (flushEffect g) (flushEffect (lentWith n g)) (flush-beside g n)
-    (λ size. unfold flushAnswer askState areasRight stateRight stripInOrder batchFits lentWith in refl)
+    (λ size. unfold flushAnswer askState areasRight stateRight stateInOrder batchFits lentWith in refl)
 
 confirm-aside : AsideIn confirmCall
 unfolding confirmCall
 confirm-aside g n =
     beside g n (confirmAnswer g) (confirmAnswer (lentWith n g)) (confirmEffect g) (confirmEffect (lentWith n g))
     (unfold confirmEffect newState effectWith lentWith in refl)
-    (unfold confirmAnswer askState areasRight stateRight stripInOrder lentWith in refl)
+    (unfold confirmAnswer askState areasRight stateRight stateInOrder lentWith in refl)
 
 settle-aside : AsideIn settleCall
 unfolding settleCall
 settle-aside g n =
     beside-sized g n settleAnswer (settleEffect g) (settleEffect (lentWith n g))
     (unfold settleEffect liveTags tagsOf liveBase effectWith lentWith in refl)
-    (λ size. unfold settleAnswer inRound askState areasRight stateRight stripInOrder batchFits lentWith in refl)
+    (λ size. unfold settleAnswer inRound askState areasRight stateRight stateInOrder batchFits lentWith in refl)
 
 begin-round-aside : AsideIn beginRoundCall
 unfolding beginRoundCall
 begin-round-aside g n =
     beside g n (beginRoundAnswer g) (beginRoundAnswer (lentWith n g)) (beginRoundEffect g) (beginRoundEffect (lentWith n g))
     (unfold beginRoundEffect newState effectWith lentWith in refl)
-    (unfold beginRoundAnswer inRound askState areasRight stateRight stripInOrder lentWith in refl)
+    (unfold beginRoundAnswer inRound askState areasRight stateRight stateInOrder lentWith in refl)
 
 step-round-aside : (k : ℕ) → AsideIn (λ g. stepRoundCall g k)
 unfolding stepRoundCall
 step-round-aside k g n =
     beside-sized g n (λ h size. stepRoundAnswer h k size) (stepRoundEffect g k) (stepRoundEffect (lentWith n g) k)
     (unfold stepRoundEffect stepHomes roundHomes roundTransactions liveTags tagsOf liveBase effectWith lentWith in refl)
-    (λ size. unfold stepRoundAnswer inRound askState areasRight stateRight stripInOrder batchFits lentWith in refl)
+    (λ size. unfold stepRoundAnswer inRound askState areasRight stateRight stateInOrder batchFits lentWith in refl)
 
 pub aside : Aside
 aside k = (format-aside, (begin-aside, (reserve-aside k, (abort-aside, (store-aside, (flush-aside, (confirm-aside, (settle-aside, (begin-round-aside, (step-round-aside k, tt))))))))))
@@ -181,7 +181,7 @@ call-asked w (service c) = service-asked w c
 usage-aside : (g : Given) (n : List ℕ) → usageCall (lentWith n g) ≡ usageCall g
 unfolding usageCall usageIf
 usage-aside g n =
-    go (askState g 0) (askState (lentWith n g) 0) (unfold askState areasRight stateRight stripInOrder lentWith in refl)
+    go (askState g 0) (askState (lentWith n g) 0) (unfold askState areasRight stateRight stateInOrder lentWith in refl)
   where
     go : (a b : ℕ) → b ≡ a → usageIf b (lentWith n g) ≡ usageIf a g
     go zero b e = rw e (unfold usageOf committedEntries liveTags tagsOf liveBase lentWith in refl)

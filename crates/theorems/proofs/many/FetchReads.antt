@@ -14,7 +14,7 @@ use Rattle.model.specs.declared.Writer.{Writer}
 use Rattle.model.specs.Newest.{keptFor}
 use Rattle.model.specs.Effects.{Given, homes, newestOwn, blockOr, ownElse, isThere, liveTags, liveBase, tagsOf, keptPosition, shown, readEffect}
 use Rattle.model.specs.Rights.{forHome, readList, readRight}
-use Rattle.model.specs.Questions.{areasRight, stateRight, newestRight, blockRight, stripInOrder, writerKnown, homeKnown, readAllowed, askBoth, readAnswer}
+use Rattle.model.specs.Questions.{areasRight, stateRight, newestRight, blockRight, stateInOrder, writerKnown, homeKnown, readAllowed, askBoth, readAnswer}
 use Rattle.model.specs.Calls.{done, outcome, readCall}
 use Rattle.acts.specs.Many.{blocksLent, blocksRead, fetchEffect, mayReadAll, fetchAnswer, reviseAnswer, fetchCall, reviseCall}
 use Rattle.model.specs.Book.{readBy}
@@ -95,10 +95,10 @@ module _ (w : World) (v h x : ℕ) (blocks : List ℕ) where
 
   lengths : HomesReady many → (areasRight one && stateRight one && newestRight one && blockRight one) ≡ true
   unfolding areasRight stateRight newestRight blockRight lent
-  lengths r = rw (r .areas, r .strip, r .newest, eq-eqb (length (zeros 64)) 64 (length-zeros 64))
+  lengths r = rw (r .areas, r .stateFits, r .newest, eq-eqb (length (zeros 64)) 64 (length-zeros 64))
 
-  in-order : HomesReady many → stripInOrder one ≡ true
-  unfolding stripInOrder lent
+  in-order : HomesReady many → stateInOrder one ≡ true
+  unfolding stateInOrder lent
   in-order r = r .order
 
   known : HomesReady many → writerKnown one ≡ true
@@ -116,7 +116,7 @@ module _ (w : World) (v h x : ℕ) (blocks : List ℕ) where
   read-passes : HomesReady many → readRight (listSign (w .state)) (homes many) (readList many) v x ≡ true → x < homes many → readAnswer one ≡ 0
   unfolding readAnswer askBoth
   read-passes r m l =
-      ask-yes (areasRight one && stateRight one && newestRight one && blockRight one) 1 _ (lengths r) ∙ ask-yes (stripInOrder one) 2 _ (in-order r)
+      ask-yes (areasRight one && stateRight one && newestRight one && blockRight one) 1 _ (lengths r) ∙ ask-yes (stateInOrder one) 2 _ (in-order r)
       ∙ ask-yes (writerKnown one) 4 _ (known r) ∙ ask-yes (homeKnown one) 5 _ (below l) ∙ ask-yes (readAllowed one) 20 0 (allowed m)
 
   block-read : readAnswer one ≡ 0 → ends w (read v x (zeros 64)) .block ≡ readEffect (forHome many x) .block

@@ -12,7 +12,7 @@ use Rattle.model.specs.Batch.{batchBytes, readBatch}
 use Rattle.model.specs.State.{freePlaces, listSign}
 use Rattle.model.specs.Effects.{Given, Effect, homes, newState, tagsOf, liveBase, logHeld, logClosing, storeFirst, storeAgain, storeOther, keptCommit, commitHeld, abortEffect, beginEffect, reserveEffect, storeEffect, commitEffect}
 use Rattle.model.specs.Rights.{mayStore, storeRight, readList}
-use Rattle.model.specs.Questions.{ask, areasRight, stateRight, stripInOrder, writerKnown, writerOpen, mayPromise, askState, beginAnswer, reserveAnswer, storeAnswer, commitAnswer}
+use Rattle.model.specs.Questions.{ask, areasRight, stateRight, stateInOrder, writerKnown, writerOpen, mayPromise, askState, beginAnswer, reserveAnswer, storeAnswer, commitAnswer}
 use Rattle.model.specs.Calls.{Outcome, done, outcome, sizeOf, beginCall, reserveCall, storeCall, commitCall}
 use Rattle.acts.specs.Many.{blocksLent, lentOn, andThen, storedFirst, transactEffect, mayStoreAll, transactAnswer, transactCall}
 use Rattle.model.specs.Book.{Book}
@@ -145,9 +145,9 @@ module _ (w : World) (s : Store) (r : Reached w s) (ready : w .ready ≡ true) (
   allowed-call c e = e ∙ ap not (sym ready)
 
   in-use : (next : ℕ) → askState (lent w [] [] v 0) next ≡ next
-  unfolding askState areasRight stateRight stripInOrder lent
+  unfolding askState areasRight stateRight stateInOrder lent
   in-use next =
-      ask-yes (areasRight g && stateRight g) 1 _ (rw (t .lent .areas, t .lent .strip)) ∙ ask-yes (stripInOrder g) 2 next (t .lent .order)
+      ask-yes (areasRight g && stateRight g) 1 _ (rw (t .lent .areas, t .lent .stateFits)) ∙ ask-yes (stateInOrder g) 2 next (t .lent .order)
 
   known-now : writerKnown (lent w [] [] v 0) ≡ true
   unfolding writerKnown lent

@@ -14,7 +14,7 @@ use Rattle.model.specs.declared.State.{State}
 use Rattle.model.specs.declared.Writer.{Writer}
 use Rattle.model.specs.Layout.{groupsIn, homesIn}
 use Rattle.model.specs.Effects.{Given, Effect, storeEffect, commitEffect, flushEffect, reserveEffect}
-use Rattle.model.specs.Questions.{ask, areasRight, stateRight, blockRight, stripInOrder, writerKnown, homeKnown, writerOpen, roomFor, room, mayPromise, keepsPromises, storeLogs, commitLogs, batchFits, askState, askNewest, askBlock, reserveAnswer, storeAnswer, commitAnswer, flushAnswer}
+use Rattle.model.specs.Questions.{ask, areasRight, stateRight, blockRight, stateInOrder, writerKnown, homeKnown, writerOpen, roomFor, room, mayPromise, keepsPromises, storeLogs, commitLogs, batchFits, askState, askNewest, askBlock, reserveAnswer, storeAnswer, commitAnswer, flushAnswer}
 use Rattle.model.specs.Calls.{sizeOf, reserveCall, storeCall, commitCall, flushCall}
 use Rattle.model.specs.Book.{Task, idle, opened}
 use Rattle.model.specs.History.{reserve, store, commit, flush, Event, World, lent, ends, changeEnds, step, AllAllowed, unopened, emptyStore}
@@ -115,7 +115,7 @@ idle-mode b tr r held ps (inr (inr (inr h))) = absurd (false≢true cc)
 module _ (G D : ℕ) (z : Sizes G D) (w : World) (r : Running G D w) (granted : ℕ → ℕ) (a : Agree granted (w .state) (w .book .tasks)) where
   -- questions 1 and 2 are answered yes
   asked : (batch : List ℕ) (v n : ℕ) → askState (lent w [] batch v 0) n ≡ n
-  unfolding askState areasRight stateRight stripInOrder lent
+  unfolding askState areasRight stateRight stateInOrder lent
   asked batch v n =
       rw (
         r .copies .logSize,

@@ -220,9 +220,9 @@ module _ (G D : ℕ) (z : Sizes G D) (m : Memory) (u : Unmarked G D m) (state ne
   unfolding areasRight loaded unopened
   lengths = rw (u .log, u .area, log-length-right G (z .low) (z .high) .1, data-length-right D (z .some-home) (z .homes) .1)
 
-  strip : stateRight (loaded (unopened 0 m) state newest batch) ≡ true
+  stateFits : stateRight (loaded (unopened 0 m) state newest batch) ≡ true
   unfolding stateRight loaded
-  strip = eq-eqb (length state) 1024 l
+  stateFits = eq-eqb (length state) 1024 l
 
   positions : newestRight (loaded (unopened 0 m) state newest batch) ≡ true
   unfolding newestRight loaded unopened
@@ -234,7 +234,7 @@ module _ (G D : ℕ) (z : Sizes G D) (m : Memory) (u : Unmarked G D m) (state ne
 
   refused-three : (start size : ℕ) → openAnswer (loaded (unopened 0 m) state newest batch) start size ≡ 3
   unfolding openAnswer ask
-  refused-three start size = rw (lengths, strip, positions, header-no)
+  refused-three start size = rw (lengths, stateFits, positions, header-no)
 
 unmarked-closed : (G D : ℕ) → Sizes G D → (m : Memory) → Unmarked G D m → NeverOpens m
 unfolding openCall

@@ -13,7 +13,7 @@ use Rattle.model.specs.State.{stateOf, nextPosition, writerOf, holds, numbersIn
 use Rattle.model.specs.declared.State.{State}
 use Rattle.model.specs.declared.Writer.{Writer}
 use Rattle.model.specs.Effects.{Given, groups, homes, newState, entered, submitted, logged, logHeld, logClosing, storeFirst, storeAgain, storeOther, storeEffect, commitHeld, abortEffect, commitEffect}
-use Rattle.model.specs.Questions.{areasRight, stateRight, newestRight, blockRight, stripInOrder, askBlock, askNewest, storeAnswer, commitAnswer}
+use Rattle.model.specs.Questions.{areasRight, stateRight, newestRight, blockRight, stateInOrder, askBlock, askNewest, storeAnswer, commitAnswer}
 use Rattle.model_laws.proofs.bytes.LayoutLaws.{log-length, length-groupAt, group-fits}
 use Rattle.model_laws.proofs.state.BatchLaws.{AllFormed}
 use Rattle.model_laws.proofs.state.QuestionLaws.{ask-passed, and-true}
@@ -26,8 +26,8 @@ record Sized (g : Given) : Type 0 where
   high : groups g ≤ 1024
   same : stateOf (g .state) .groups ≡ groups g
 
-sized : (g : Given) → areasRight g ≡ true → stripInOrder g ≡ true → Sized g
-unfolding areasRight stripInOrder inOrder
+sized : (g : Given) → areasRight g ≡ true → stateInOrder g ≡ true → Sized g
+unfolding areasRight stateInOrder inOrder
 sized g a o =
     let st : State = stateOf (g .state) in
     let l = log-length (length (g .log)) (and-true (logLengthRight (length (g .log))) (dataLengthRight (length (g .area))) a .0) in
@@ -70,7 +70,7 @@ store-formed g size e = go (holds r) (eqb (r .home) (g .home))
     z : Sized g
     z =
         let a = ask-passed (areasRight g && stateRight g && blockRight g) 0 _ e in
-        let b = ask-passed (stripInOrder g) 1 _ (a .1) in
+        let b = ask-passed (stateInOrder g) 1 _ (a .1) in
         sized g (and-true (areasRight g) (stateRight g) (and-true (areasRight g && stateRight g) (blockRight g) (a .0) .0) .0) (b .0)
 
     go : (d f : Bool)
@@ -86,7 +86,7 @@ commit-formed g size e = go (holds (writerOf (g .state) (g .writer)))
     z : Sized g
     z =
         let a = ask-passed (areasRight g && stateRight g && newestRight g) 0 _ e in
-        let b = ask-passed (stripInOrder g) 1 _ (a .1) in
+        let b = ask-passed (stateInOrder g) 1 _ (a .1) in
         sized g (and-true (areasRight g) (stateRight g) (and-true (areasRight g && stateRight g) (newestRight g) (a .0) .0) .0) (b .0)
 
     go : (d : Bool) → AllFormed (cond d (commitHeld g (writerOf (g .state) (g .writer)) (nextPosition (stateOf (g .state)))) (abortEffect g) .records)

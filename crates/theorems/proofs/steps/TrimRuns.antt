@@ -89,12 +89,12 @@ module _ (G D : ℕ) (z : Sizes G D) (w : World) (r : Running G D w) (s : ℕ) (
   abbrev last : ℕ
   last = lastKept s (stateOf (w .state) .last)
 
-  abbrev renumbered-strip : List ℕ
-  renumbered-strip = setLast (setFenced (setStart (w .state) s) (7 * stateOf (w .state) .next)) (lastKept s (stateOf (w .state) .last))
+  abbrev renumbered-state : List ℕ
+  renumbered-state = setLast (setFenced (setStart (w .state) s) (7 * stateOf (w .state) .next)) (lastKept s (stateOf (w .state) .last))
 
   -- and the positions of the list's homes carried over
-  abbrev strip : List ℕ
-  strip =
+  abbrev moved : List ℕ
+  moved =
       carryListed D (forget (w .newest) (7 * s) D)
       (setLast (setFenced (setStart (w .state) s) (7 * stateOf (w .state) .next)) (lastKept s (stateOf (w .state) .last)))
 
@@ -123,7 +123,7 @@ module _ (G D : ℕ) (z : Sizes G D) (w : World) (r : Running G D w) (s : ℕ) (
       let q : nextPosition st ≡ 7 * st .next + st .filled = unfold nextPosition in refl in
       omega (arith, last-most s (st .last) (nextPosition st) (c .order .last-closing), next-small, c .order .filled-most)
 
-  pub renumbered-is : stateOf renumbered-strip ≡ withLast (withFenced (withStart st s) (7 * st .next)) last
+  pub renumbered-is : stateOf renumbered-state ≡ withLast (withFenced (withStart st s) (7 * st .next)) last
   renumbered-is =
       state-setLast (setFenced (setStart (w .state) s) (7 * st .next)) last
       (length-setFenced (setStart (w .state) s) (7 * st .next) ∙ length-setStart (w .state) s ∙ c .stateSize)
@@ -132,30 +132,30 @@ module _ (G D : ℕ) (z : Sizes G D) (w : World) (r : Running G D w) (s : ℕ) (
       (state-setFenced (setStart (w .state) s) (7 * st .next) (length-setStart (w .state) s ∙ c .stateSize) (omega (arith, next-small))
       ∙ ap (λ (x : State). withFenced x (7 * st .next)) (state-setStart (w .state) s (c .stateSize) (omega arith)))
 
-  moved-numbers : stateOf strip ≡ withLast (withFenced (withStart st s) (7 * st .next)) last
-  moved-numbers = state-carry D _ renumbered-strip ∙ renumbered-is
+  moved-numbers : stateOf moved ≡ withLast (withFenced (withStart st s) (7 * st .next)) last
+  moved-numbers = state-carry D _ renumbered-state ∙ renumbered-is
 
-  size : length strip ≡ 1024
+  size : length moved ≡ 1024
   size =
-      length-carry D _ renumbered-strip ∙ length-setLast (setFenced (setStart (w .state) s) (7 * st .next)) last ∙ length-setFenced (setStart (w .state) s) (7 * st .next)
+      length-carry D _ renumbered-state ∙ length-setLast (setFenced (setStart (w .state) s) (7 * st .next)) last ∙ length-setFenced (setStart (w .state) s) (7 * st .next)
       ∙ length-setStart (w .state) s ∙ c .stateSize
 
-  writers : (x : ℕ) → x < 8 → writerOf strip x ≡ writerOf (w .state) x
+  writers : (x : ℕ) → x < 8 → writerOf moved x ≡ writerOf (w .state) x
   writers x l =
-      writer-carry D _ renumbered-strip x l ∙ writer-setLast (setFenced (setStart (w .state) s) (7 * st .next)) last x ∙ writer-setFenced (setStart (w .state) s) (7 * st .next) x
+      writer-carry D _ renumbered-state x l ∙ writer-setLast (setFenced (setStart (w .state) s) (7 * st .next)) last x ∙ writer-setFenced (setStart (w .state) s) (7 * st .next) x
       ∙ writer-setStart (w .state) s x
 
-  blocks : (x : ℕ) → x < 8 → heldOf strip x ≡ heldOf (w .state) x
+  blocks : (x : ℕ) → x < 8 → heldOf moved x ≡ heldOf (w .state) x
   blocks x l =
-      held-carry D _ renumbered-strip x l ∙ held-setLast (setFenced (setStart (w .state) s) (7 * st .next)) last x ∙ held-setFenced (setStart (w .state) s) (7 * st .next) x
+      held-carry D _ renumbered-state x l ∙ held-setLast (setFenced (setStart (w .state) s) (7 * st .next)) last x ∙ held-setFenced (setStart (w .state) s) (7 * st .next) x
       ∙ held-setStart (w .state) s x
 
-  promises : (x : ℕ) → x < 8 → promiseOf strip x ≡ promiseOf (w .state) x
+  promises : (x : ℕ) → x < 8 → promiseOf moved x ≡ promiseOf (w .state) x
   promises x l =
-      promise-carry D _ renumbered-strip x l ∙ promise-setLast (setFenced (setStart (w .state) s) (7 * st .next)) last x ∙ promise-setFenced (setStart (w .state) s) (7 * st .next) x
+      promise-carry D _ renumbered-state x l ∙ promise-setLast (setFenced (setStart (w .state) s) (7 * st .next)) last x ∙ promise-setFenced (setStart (w .state) s) (7 * st .next) x
       ∙ promise-setStart (w .state) s x
 
-  renumbered : Renumbered st (stateOf strip)
+  renumbered : Renumbered st (stateOf moved)
   renumbered =
       rw moved-numbers
       (let o = c .order in

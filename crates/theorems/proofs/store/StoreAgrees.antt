@@ -15,7 +15,7 @@ use Rattle.model.specs.State.{stateOf, nextPosition, promiseOf, promised, place
 use Rattle.model.specs.declared.State.{State}
 use Rattle.model.specs.declared.Writer.{Writer}
 use Rattle.model.specs.Effects.{Effect, groups, homes}
-use Rattle.model.specs.Questions.{ask, areasRight, stateRight, blockRight, stripInOrder, homeKnown, writerOpen, roomFor, room, storeLogs, commitLogs, askState, askBlock, newestRight, askNewest, askBoth}
+use Rattle.model.specs.Questions.{ask, areasRight, stateRight, blockRight, stateInOrder, homeKnown, writerOpen, roomFor, room, storeLogs, commitLogs, askState, askBlock, newestRight, askNewest, askBoth}
 use Rattle.model.specs.Calls.{sizeOf}
 use Rattle.model.specs.Book.{Task, Book}
 use Rattle.model.specs.History.{World, lent}
@@ -48,10 +48,10 @@ pub record Agrees (G D : ℕ) (w : World) (s : Store) : Type 0 where
   pub promises : w .ready ≡ true → (v : ℕ) → v < 8 → s .promises v ≡ promiseOf (w .state) v
 
 -- the promises together
-promised-same : (p : ℕ → ℕ) (strip : List ℕ) (n : ℕ) → ((v : ℕ) → v < n → p v ≡ promiseOf strip v) → promisedTo p n ≡ promised strip n
+promised-same : (p : ℕ → ℕ) (stateFits : List ℕ) (n : ℕ) → ((v : ℕ) → v < n → p v ≡ promiseOf stateFits v) → promisedTo p n ≡ promised stateFits n
 unfolding promisedTo promised
-promised-same p strip zero f = refl
-promised-same p strip (suc n) f = rw (promised-same p strip n (λ v l. f v (omega arith)), f n (omega arith))
+promised-same p stateFits zero f = refl
+promised-same p stateFits (suc n) f = rw (promised-same p stateFits n (λ v l. f v (omega arith)), f n (omega arith))
 
 -- ---- a writer's record and the book's task
 
@@ -140,13 +140,13 @@ module _ (G D : ℕ) (z : Sizes G D) (w : World) (r : Running G D w) (s : Store)
   unfolding lent
   lent-homes block batch v h = ap homesIn (r .copies .areaSize) ∙ homes-in D
 
-  strip-right : (block batch : List ℕ) (v h : ℕ) → stripInOrder (lent w block batch v h) ≡ true
-  unfolding stripInOrder
-  strip-right block batch v h = rw (lent-groups block batch v h, lent-homes block batch v h) (unfold lent in order-in (w .state) G D o)
+  state-right : (block batch : List ℕ) (v h : ℕ) → stateInOrder (lent w block batch v h) ≡ true
+  unfolding stateInOrder
+  state-right block batch v h = rw (lent-groups block batch v h, lent-homes block batch v h) (unfold lent in order-in (w .state) G D o)
 
   pub asked : (block batch : List ℕ) (v h k : ℕ) → askState (lent w block batch v h) k ≡ k
   unfolding askState ask
-  asked block batch v h k = rw (areas-right block batch v h, state-right block batch v h, strip-right block batch v h)
+  asked block batch v h k = rw (areas-right block batch v h, state-right block batch v h, state-right block batch v h)
 
   newest-right : (block batch : List ℕ) (v h : ℕ) → newestRight (lent w block batch v h) ≡ true
   unfolding newestRight
@@ -156,18 +156,18 @@ module _ (G D : ℕ) (z : Sizes G D) (w : World) (r : Running G D w) (s : Store)
   pub asked-newest : (block batch : List ℕ) (v h k : ℕ) → askNewest (lent w block batch v h) k ≡ k
   unfolding askNewest ask
   asked-newest block batch v h k =
-      rw (areas-right block batch v h, state-right block batch v h, newest-right block batch v h, strip-right block batch v h)
+      rw (areas-right block batch v h, state-right block batch v h, newest-right block batch v h, state-right block batch v h)
 
   pub asked-both : (block batch : List ℕ) (v h k : ℕ) → askBoth (lent w block batch v h) k ≡ ask (eqb (length block) 64) 1 k
   unfolding askBoth
   asked-both block batch v h k =
-      rw (areas-right block batch v h, state-right block batch v h, newest-right block batch v h, strip-right block batch v h)
+      rw (areas-right block batch v h, state-right block batch v h, newest-right block batch v h, state-right block batch v h)
       (unfold blockRight lent ask in refl)
 
   pub asked-block : (block batch : List ℕ) (v h k : ℕ) → askBlock (lent w block batch v h) k ≡ ask (eqb (length block) 64) 1 k
   unfolding askBlock
   asked-block block batch v h k =
-      rw (areas-right block batch v h, state-right block batch v h, strip-right block batch v h) (unfold blockRight lent ask in refl)
+      rw (areas-right block batch v h, state-right block batch v h, state-right block batch v h) (unfold blockRight lent ask in refl)
 
   -- ---- writers
 

@@ -66,8 +66,8 @@ add-two-bytes-2 c = search needs
 two-bytes-requires-5 : tie.Need-two-bytes-requires-5
 two-bytes-requires-5 c κs = search needs
 
-judge-requires : tie.Need-judge-requires
-judge-requires c κs = search needs
+kind-of-requires : tie.Need-kind-of-requires
+kind-of-requires c κs = search needs
 
 add-t10 : tie.Need-add-t10
 add-t10 c = search needs
@@ -80,7 +80,7 @@ returns-5 c =
     let s = c .before .before .before .before .before .before .before .before .before .before .before in
     let t = c .before .before .before .before .before .two-bytes3 in
     step-both (s .args .tolerance) (s .pre .0) (s .pre .1) (omega arith) (omega arith) _ _ (t .ensures .0) (omega arith) (t .ensures .1)
-    (c .judge .ensures ∙ ap₂ (kindOf (s .args .tolerance)) (c .before .before .two-bytes4 .ensures .0) (c .before .two-bytes5 .ensures .0))
+    (c .kind-of .ensures ∙ ap₂ (kindOf (s .args .tolerance)) (c .before .before .two-bytes4 .ensures .0) (c .before .two-bytes5 .ensures .0))
 
 pub next-line-spec : {M : Type 1} → statement M
 next-line-spec =
@@ -101,7 +101,7 @@ next-line-spec =
     two-bytes-requires-4
     add-two-bytes-2
     two-bytes-requires-5
-    judge-requires
+    kind-of-requires
     add-t10
     add-t18
     returns-5)

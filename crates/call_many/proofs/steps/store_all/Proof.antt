@@ -9,7 +9,7 @@ use Rattle.call_many.proofs.steps.store_all.Tie as tie
 
 hold-first-requires : tie.Need-hold-first-requires
 hold-first-requires c κs =
-    let p = c .before .before .before .before .before .pre .0 in (p .strip, p .writer, omega (arith, p .blocks, p .least))
+    let p = c .before .before .before .before .before .pre .0 in (p .stateFits, p .writer, omega (arith, p .blocks, p .least))
 
 store-rest-requires : tie.Need-store-rest-requires
 store-rest-requires c κs =

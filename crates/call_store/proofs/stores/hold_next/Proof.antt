@@ -17,7 +17,7 @@ store-word-requires c κs = at-position _ _ _ _ (c .next-position .ensures) (c .
 hold-requires : tie.Need-hold-requires
 hold-requires c κs =
     let p = c .before .before .before .before .before .before .before .pre in
-    (p .0 .strip, p .0 .writer, omega (arith, p .1 .many))
+    (p .0 .stateFits, p .0 .writer, omega (arith, p .1 .many))
 
 log-entry-requires : tie.Need-log-entry-requires
 log-entry-requires c κs =

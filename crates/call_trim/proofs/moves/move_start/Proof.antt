@@ -10,8 +10,8 @@ write-header-requires c κs = search needs
 put-header-requires : tie.Need-put-header-requires
 put-header-requires c κs = search needs
 
-move-strip-requires : tie.Need-move-strip-requires
-move-strip-requires c κs = search needs
+move-state-requires : tie.Need-move-state-requires
+move-state-requires c κs = search needs
 
 mul-forget : tie.Need-mul-forget
 mul-forget c = search needs
@@ -35,7 +35,7 @@ same-length-4 : tie.Need-same-length-4
 same-length-4 c = search needs
 
 returns : tie.Need-returns
-returns c = (c .before .before .before .before .before .before .before .before .before .before .before .before .before .before .before .put-header .ensures, c .before .before .carry-listed .ensures ∙ rw (c .before .before .before .before .before .before .before .before .before .before .before .move-strip .ensures), c .before .before .before .before .before .before .before .forget .ensures, c .before .before .before .before .before .before .before .before .before .before .before .before .before .before .before .before .before .before .before .write-header .ensures)
+returns c = (c .before .before .before .before .before .before .before .before .before .before .before .before .before .before .before .put-header .ensures, c .before .before .carry-listed .ensures ∙ rw (c .before .before .before .before .before .before .before .before .before .before .before .move-state .ensures), c .before .before .before .before .before .before .before .forget .ensures, c .before .before .before .before .before .before .before .before .before .before .before .before .before .before .before .before .before .before .before .write-header .ensures)
 
 pub move-start-spec : {M : Type 1} → statement M
 move-start-spec =
@@ -43,7 +43,7 @@ move-start-spec =
     (tie.spec
     write-header-requires
     put-header-requires
-    move-strip-requires
+    move-state-requires
     mul-forget
     forget-requires
     carry-listed-requires

@@ -17,17 +17,17 @@ astray-requires c κs = search needs
 returns : tie.Need-returns
 returns c = closing-strayed _ _ _ _ _ _ _ (c .before .if1 .taken) _ (c .astray .ensures)
 
-cast-judge : tie.Need-cast-judge
-cast-judge c = search needs
+cast-decide : tie.Need-cast-decide
+cast-decide c = search needs
 
-add-judge : tie.Need-add-judge
-add-judge c = search needs
+add-decide : tie.Need-add-decide
+add-decide c = search needs
 
-judge-requires : tie.Need-judge-requires
-judge-requires c κs = search needs
+decide-requires : tie.Need-decide-requires
+decide-requires c κs = search needs
 
 returns-2 : tie.Need-returns-2
-returns-2 c = closing-failed _ _ _ _ _ _ _ (c .before .before .before .if1 .left) _ (c .before .before .judge .ensures) (c .if2 .taken)
+returns-2 c = closing-failed _ _ _ _ _ _ _ (c .before .before .before .if1 .left) _ (c .before .before .decide .ensures) (c .if2 .taken)
 
 sub-offset : tie.Need-sub-offset
 sub-offset c = search needs
@@ -60,7 +60,7 @@ same-length-3 : tie.Need-same-length-3
 same-length-3 c = search needs
 
 returns-3 : tie.Need-returns-3
-returns-3 c = closing-joined _ _ _ _ _ _ _ (c .before .before .before .before .before .before .before .before .before .before .if1 .left) _ (c .before .before .before .before .before .before .before .before .before .judge .ensures) (c .before .before .before .before .before .before .before .if2 .left) _ _ (c .before .before .before .before .chain .ensures .0) (c .before .before .before .before .chain .ensures .1)
+returns-3 c = closing-joined _ _ _ _ _ _ _ (c .before .before .before .before .before .before .before .before .before .before .if1 .left) _ (c .before .before .before .before .before .before .before .before .before .decide .ensures) (c .before .before .before .before .before .before .before .if2 .left) _ _ (c .before .before .before .before .chain .ensures .0) (c .before .before .before .before .chain .ensures .1)
 
 pub join-closing-spec : {M : Type 1} → statement M
 join-closing-spec =
@@ -70,9 +70,9 @@ join-closing-spec =
     slice-read-cell
     astray-requires
     returns
-    cast-judge
-    add-judge
-    judge-requires
+    cast-decide
+    add-decide
+    decide-requires
     returns-2
     sub-offset
     add-cells

@@ -5,7 +5,7 @@ use native.Mathlib.Omega.{arith}
 use lib.ListN.{length}
 use Rattle.model.specs.Newest.{forget}
 use Rattle.model_laws.proofs.state.NewestLaws.{length-forget}
-use Rattle.log_newest.proofs.StripLaws.{forget-more}
+use Rattle.log_newest.proofs.PositionLaws.{forget-more}
 use Rattle.log_newest.proofs.positions.forget.Statement.{statement}
 use Rattle.log_newest.proofs.positions.forget.Tie as tie
 

@@ -1,7 +1,7 @@
 -- `log_newest::forget_one` meets its contract. Assumes nothing.
 use borrow.Author.Needs.{needs}
 use native.Mathlib.Omega.{arith}
-use Rattle.log_newest.proofs.StripLaws.{forgotten, remembered}
+use Rattle.log_newest.proofs.PositionLaws.{forgotten, remembered}
 use Rattle.log_newest.proofs.positions.forget_one.Statement.{statement}
 use Rattle.log_newest.proofs.positions.forget_one.Tie as tie
 

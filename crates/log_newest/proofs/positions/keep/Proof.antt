@@ -1,6 +1,6 @@
 -- `log_newest::keep` meets its contract. Assumes nothing.
 use borrow.Author.Needs.{needs}
-use Rattle.log_newest.proofs.StripLaws.{keep-written}
+use Rattle.log_newest.proofs.PositionLaws.{keep-written}
 use Rattle.log_newest.proofs.positions.keep.Statement.{statement}
 use Rattle.log_newest.proofs.positions.keep.Tie as tie
 

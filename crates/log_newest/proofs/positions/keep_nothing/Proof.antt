@@ -5,7 +5,7 @@ use Prim.Native.Nat.{_+_}
 use native.Mathlib.Omega.{arith}
 use lib.ListN.{length, replicate, length-set}
 use Rattle.model.specs.Bytes.{puts}
-use Rattle.log_newest.proofs.StripLaws.{ones-turn, ones-end}
+use Rattle.log_newest.proofs.PositionLaws.{ones-turn, ones-end}
 use Rattle.log_newest.proofs.positions.keep_nothing.Statement.{statement}
 use Rattle.log_newest.proofs.positions.keep_nothing.Tie as tie
 

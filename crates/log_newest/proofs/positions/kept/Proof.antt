@@ -1,6 +1,6 @@
 -- `log_newest::kept` meets its contract. Assumes nothing.
 use borrow.Author.Needs.{needs}
-use Rattle.log_newest.proofs.StripLaws.{kept-read}
+use Rattle.log_newest.proofs.PositionLaws.{kept-read}
 use Rattle.log_newest.proofs.positions.kept.Statement.{statement}
 use Rattle.log_newest.proofs.positions.kept.Tie as tie
 

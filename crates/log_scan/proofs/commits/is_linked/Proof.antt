@@ -1,6 +1,6 @@
 -- `log_scan::is_linked` meets its contract. Assumes nothing.
 use borrow.Author.Needs.{needs}
-use Rattle.log_scan.proofs.JudgeLaws.{linked-after, linked-none, linked-before}
+use Rattle.log_scan.proofs.DecideLaws.{linked-after, linked-none, linked-before}
 use Rattle.log_scan.proofs.commits.is_linked.Statement.{statement}
 use Rattle.log_scan.proofs.commits.is_linked.Tie as tie
 

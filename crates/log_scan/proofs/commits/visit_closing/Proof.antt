@@ -3,7 +3,7 @@ use mathlib.Core.Path.{sym, _∙_}
 use native.Mathlib.Omega.{arith}
 use borrow.Author.Needs.{needs}
 use borrow.Author.Tests.{not-true, not-false}
-use Rattle.log_scan.proofs.VisitLaws.{closing-used, link-small, below-most, visit-unknown, visit-early, visit-empty, visit-judged}
+use Rattle.log_scan.proofs.VisitLaws.{closing-used, link-small, below-most, visit-unknown, visit-early, visit-empty, visit-decided}
 use Rattle.log_scan.proofs.commits.visit_closing.Statement.{statement}
 use Rattle.log_scan.proofs.commits.visit_closing.Tie as tie
 
@@ -38,14 +38,14 @@ count-entry-requires c κs =
     let p = c .before .before .before .before .before .before .before .before .pre in
     (omega (arith, p), below-most _ _ _ _ (p .4) (p .0))
 
-add-judge : tie.Need-add-judge
-add-judge c = search needs
+add-decide : tie.Need-add-decide
+add-decide c = search needs
 
 tag-link-requires : tie.Need-tag-link-requires
 tag-link-requires c κs = search needs
 
-judge-requires : tie.Need-judge-requires
-judge-requires c κs =
+decide-requires : tie.Need-decide-requires
+decide-requires c κs =
     let p = c .before .before .before .before .before .before .before .before .before .before .before .before .pre in
     omega (arith, p, p .4 .number, p .4 .end, link-small _ _ (c .tag-link .ensures))
 
@@ -59,10 +59,10 @@ returns-4 c homes e =
     let b = t .before .before in
     let h = b .before .before .before in
     let p = h .before .before .pre in
-    visit-judged _ _ _ _ _ _ (b .before .tag-back .ensures)
+    visit-decided _ _ _ _ _ _ (b .before .tag-back .ensures)
     (sym (h .has-home .ensures homes e (closing-used _ (p .3))) ∙ not-false _ (b .before .before .if1 .left))
     (omega (arith, b .if2 .left)) (p .3) _ (t .before .tag-count .ensures) (t .if3 .left) _ _ _ _ (c .before .tag-link .ensures)
-    (n .count-entry .ensures .0) (n .count-entry .ensures .1) (c .judge .ensures)
+    (n .count-entry .ensures .0) (n .count-entry .ensures .1) (c .decide .ensures)
 
 pub visit-closing-spec : {M : Type 1} → statement M
 visit-closing-spec =
@@ -75,8 +75,8 @@ visit-closing-spec =
     tag-count-requires
     returns-3
     count-entry-requires
-    add-judge
+    add-decide
     tag-link-requires
-    judge-requires
+    decide-requires
     same-length
     returns-4)

@@ -2,9 +2,9 @@
 use mathlib.Core.Path.{sym, _∙_}
 use borrow.Author.Needs.{needs}
 use borrow.Author.Tests.{not-true, not-false}
-use Rattle.log_scan.proofs.JudgeLaws.{decided-stopped, decided-unlinked, decided-incomplete, decided-taken}
-use Rattle.log_scan.proofs.commits.judge.Statement.{statement}
-use Rattle.log_scan.proofs.commits.judge.Tie as tie
+use Rattle.log_scan.proofs.DecideLaws.{decided-stopped, decided-unlinked, decided-incomplete, decided-taken}
+use Rattle.log_scan.proofs.commits.decide.Statement.{statement}
+use Rattle.log_scan.proofs.commits.decide.Tie as tie
 
 returns : tie.Need-returns
 returns c = decided-stopped _ _ _ _ _ (c .if1 .taken)
@@ -29,6 +29,6 @@ returns-4 c =
     let l = c .before .before in
     decided-taken _ _ _ _ _ (l .before .if1 .left) (sym (l .is-linked .ensures) ∙ not-false _ (c .before .if2 .left)) (not-false _ (c .if3 .left))
 
-pub judge-spec : {M : Type 1} → statement M
-judge-spec =
+pub decide-spec : {M : Type 1} → statement M
+decide-spec =
     tie.close (tie.spec returns is-linked-requires returns-2 returns-3 add-t11 add-t12 returns-4)

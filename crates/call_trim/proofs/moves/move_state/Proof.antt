@@ -1,9 +1,9 @@
 -- `call_trim::move_strip` meets its contract. Assumes nothing.
 use mathlib.Core.Path.{refl}
 use borrow.Author.Needs.{needs}
-use Rattle.call_trim.proofs.TrimmingLaws.{strip-moved}
-use Rattle.call_trim.proofs.moves.move_strip.Statement.{statement}
-use Rattle.call_trim.proofs.moves.move_strip.Tie as tie
+use Rattle.call_trim.proofs.TrimmingLaws.{state-moved}
+use Rattle.call_trim.proofs.moves.move_state.Statement.{statement}
+use Rattle.call_trim.proofs.moves.move_state.Tie as tie
 
 set-start-requires : tie.Need-set-start-requires
 set-start-requires c κs = search needs
@@ -27,11 +27,11 @@ returns : tie.Need-returns
 returns c =
     let a = c .before .before .before .before in
     let b = a .before .before .before in
-    strip-moved _ _ _ _ _ _ _ _ (b .before .before .before .before .before .set-start .ensures) (b .set-fenced .ensures) refl (a .kept-last .ensures)
+    state-moved _ _ _ _ _ _ _ _ (b .before .before .before .before .before .set-start .ensures) (b .set-fenced .ensures) refl (a .kept-last .ensures)
     (c .before .before .set-last .ensures)
 
-pub move-strip-spec : {M : Type 1} → statement M
-move-strip-spec =
+pub move-state-spec : {M : Type 1} → statement M
+move-state-spec =
     tie.close
     (tie.spec
     set-start-requires

@@ -7,7 +7,7 @@ use Rattle.model.specs.State.{stateOf, promiseOf}
 use Rattle.model.specs.History.{Event, World, Formatting, afterFormat, step, AllAllowed}
 use Rattle.abstract_store.specs.Store.{Store, newStore, nextGroup, follow}
 
-pub record StripTold (w : World) (s : Store) : Type 0 where
+pub record StateTold (w : World) (s : Store) : Type 0 where
   pub groups : stateOf (w .state) .groups ≡ s .groups
   pub homes : stateOf (w .state) .homes ≡ s .homes
   pub start : stateOf (w .state) .start ≡ s .start
@@ -21,11 +21,11 @@ pub record StripTold (w : World) (s : Store) : Type 0 where
   pub cursor : stateOf (w .state) .cursor ≡ s .cursor
   pub promises : (writer : ℕ) → writer < 8 → promiseOf (w .state) writer ≡ s .promises writer
 
-abbrev pub StripThroughout : World → Store → List Event → Type 0
-StripThroughout w s [] = w .ready ≡ true → StripTold w s
-StripThroughout w s (e ∷ es) = (w .ready ≡ true → StripTold w s) × StripThroughout (step w e) (follow s w e) es
+abbrev pub StateThroughout : World → Store → List Event → Type 0
+StateThroughout w s [] = w .ready ≡ true → StateTold w s
+StateThroughout w s (e ∷ es) = (w .ready ≡ true → StateTold w s) × StateThroughout (step w e) (follow s w e) es
 
-abbrev pub StripKept : Type 0
-StripKept =
+abbrev pub StateKept : Type 0
+StateKept =
     (groups homes : ℕ) (f : Formatting groups homes) (es : List Event) → AllAllowed (afterFormat f) es →
-    StripThroughout (afterFormat f) (newStore groups homes) es
+    StateThroughout (afterFormat f) (newStore groups homes) es

@@ -6,8 +6,8 @@ use native.Mathlib.Omega.{arith}
 use borrow.Author.Needs.{needs}
 use borrow.Author.Tests.{le-leb, lt-leb}
 use Rattle.alone_gauges.specs.Report.{difference, kindOf}
-use Rattle.alone_gauges.proofs.merge.judge.Statement.{statement}
-use Rattle.alone_gauges.proofs.merge.judge.Tie as tie
+use Rattle.alone_gauges.proofs.merge.kind_of.Statement.{statement}
+use Rattle.alone_gauges.proofs.merge.kind_of.Tie as tie
 
 agree : (tolerance a b : ℕ) → difference a b ≤ tolerance → 1 ≡ kindOf tolerance a b
 unfolding kindOf
@@ -28,5 +28,5 @@ returns-2 : tie.Need-returns-2
 unfolding difference
 returns-2 c = differ _ _ _ (⊎-elim (λ w. omega arith) (λ w. omega arith) (c .before .if1 .came))
 
-pub judge-spec : {M : Type 1} → statement M
-judge-spec = tie.close (tie.spec sub-difference returns returns-2)
+pub kind-of-spec : {M : Type 1} → statement M
+kind-of-spec = tie.close (tie.spec sub-difference returns returns-2)
