@@ -93,8 +93,8 @@ module _ (G D : ℕ) (z : Sizes G D) (w : World) (r : Running G D w) (s : ℕ) (
   renumbered-state = setLast (setFenced (setStart (w .state) s) (7 * stateOf (w .state) .next)) (lastKept s (stateOf (w .state) .last))
 
   -- and the positions of the list's homes carried over
-  abbrev moved : List ℕ
-  moved =
+  abbrev stateMoved : List ℕ
+  stateMoved =
       carryListed D (forget (w .newest) (7 * s) D)
       (setLast (setFenced (setStart (w .state) s) (7 * stateOf (w .state) .next)) (lastKept s (stateOf (w .state) .last)))
 
@@ -132,30 +132,30 @@ module _ (G D : ℕ) (z : Sizes G D) (w : World) (r : Running G D w) (s : ℕ) (
       (state-setFenced (setStart (w .state) s) (7 * st .next) (length-setStart (w .state) s ∙ c .stateSize) (omega (arith, next-small))
       ∙ ap (λ (x : State). withFenced x (7 * st .next)) (state-setStart (w .state) s (c .stateSize) (omega arith)))
 
-  moved-numbers : stateOf moved ≡ withLast (withFenced (withStart st s) (7 * st .next)) last
+  moved-numbers : stateOf stateMoved ≡ withLast (withFenced (withStart st s) (7 * st .next)) last
   moved-numbers = state-carry D _ renumbered-state ∙ renumbered-is
 
-  size : length moved ≡ 1024
+  size : length stateMoved ≡ 1024
   size =
       length-carry D _ renumbered-state ∙ length-setLast (setFenced (setStart (w .state) s) (7 * st .next)) last ∙ length-setFenced (setStart (w .state) s) (7 * st .next)
       ∙ length-setStart (w .state) s ∙ c .stateSize
 
-  writers : (x : ℕ) → x < 8 → writerOf moved x ≡ writerOf (w .state) x
+  writers : (x : ℕ) → x < 8 → writerOf stateMoved x ≡ writerOf (w .state) x
   writers x l =
       writer-carry D _ renumbered-state x l ∙ writer-setLast (setFenced (setStart (w .state) s) (7 * st .next)) last x ∙ writer-setFenced (setStart (w .state) s) (7 * st .next) x
       ∙ writer-setStart (w .state) s x
 
-  blocks : (x : ℕ) → x < 8 → heldOf moved x ≡ heldOf (w .state) x
+  blocks : (x : ℕ) → x < 8 → heldOf stateMoved x ≡ heldOf (w .state) x
   blocks x l =
       held-carry D _ renumbered-state x l ∙ held-setLast (setFenced (setStart (w .state) s) (7 * st .next)) last x ∙ held-setFenced (setStart (w .state) s) (7 * st .next) x
       ∙ held-setStart (w .state) s x
 
-  promises : (x : ℕ) → x < 8 → promiseOf moved x ≡ promiseOf (w .state) x
+  promises : (x : ℕ) → x < 8 → promiseOf stateMoved x ≡ promiseOf (w .state) x
   promises x l =
       promise-carry D _ renumbered-state x l ∙ promise-setLast (setFenced (setStart (w .state) s) (7 * st .next)) last x ∙ promise-setFenced (setStart (w .state) s) (7 * st .next) x
       ∙ promise-setStart (w .state) s x
 
-  renumbered : Renumbered st (stateOf moved)
+  renumbered : Renumbered st (stateOf stateMoved)
   renumbered =
       rw moved-numbers
       (let o = c .order in
