@@ -26,6 +26,25 @@ unfoldable pub answeredBy : World → List Act → List ℕ
 answeredBy w [] = []
 answeredBy w (a ∷ more) = numberOf w a ∷ answeredBy (act w a) more
 
+-- an act beside the number that it answers: done, or refused
+pub record Asked : Type 0 where
+  pub asked : Act
+  pub number : ℕ
+
+unfoldable pub yes : Act → Asked
+yes a = record { asked = a; number = 0 }
+
+unfoldable pub no : Act → ℕ → Asked
+no a n = record { asked = a; number = n }
+
+unfoldable pub actsOf : List Asked → List Act
+actsOf [] = []
+actsOf (a ∷ more) = a .asked ∷ actsOf more
+
+unfoldable pub numbersOf : List Asked → List ℕ
+numbersOf [] = []
+numbersOf (a ∷ more) = a .number ∷ numbersOf more
+
 unfoldable pub two : ℕ → ℕ → List ℕ
 two a b = fill a ++ fill b
 
@@ -40,16 +59,18 @@ seen w writer acts =
     ++ (firsts (lastUnit 3 (zeros 128) (labelsFrom w [] acts)) ++ (length (labelsFrom w [] acts) ∷ []))
 
 -- every refusal in its turn: 5, 1 (a strip that ends inside a block, eight blocks), 4, 6, 8 with one place free, 9
-unfoldable pub together : List Act
+unfoldable pub together : List Asked
 together =
-    transacts 0 3 (two 1 2) room ∷ transacts 1 7 (two 1 2) room ∷ transacts 1 6 (fill 9) [] ∷ plain (call (begin 2)) ∷ transacts 2 3 (two 5 6) room
-    ∷ transacts 0 3 (zeros 100) room ∷ transacts 0 3 (zeros 512) room ∷ transacts 9 3 (two 5 6) room ∷ plain (call (reserve 3 24))
-    ∷ transacts 0 3 (two 5 6) room ∷ transacts 0 6 (fill 7) room ∷ plain (call (abort 3)) ∷ transacts 0 3 (two 5 6) room ∷ transacts 0 0 (two 7 7) [] ∷ []
+    yes (transacts 0 3 (two 1 2) room) ∷ no (transacts 1 7 (two 1 2) room) 5 ∷ yes (transacts 1 6 (fill 9) []) ∷ yes (plain (call (begin 2)))
+    ∷ no (transacts 2 3 (two 5 6) room) 6 ∷ no (transacts 0 3 (zeros 100) room) 1 ∷ no (transacts 0 3 (zeros 512) room) 1
+    ∷ no (transacts 9 3 (two 5 6) room) 4 ∷ yes (plain (call (reserve 3 24))) ∷ no (transacts 0 3 (two 5 6) room) 8 ∷ yes (transacts 0 6 (fill 7) room)
+    ∷ yes (plain (call (abort 3))) ∷ yes (transacts 0 3 (two 5 6) room) ∷ no (transacts 0 0 (two 7 7) []) 9 ∷ []
 
 -- reads: of another writer, of one with an open transaction, of too many homes, of too few bytes; a revise
-unfoldable pub looks : List Act
+unfoldable pub looks : List Asked
 looks =
-    fetches 1 3 (zeros 128) ∷ fetches 2 3 (zeros 128) ∷ fetches 1 7 (zeros 128) ∷ fetches 1 3 (zeros 65) ∷ fetches 8 3 (zeros 128) ∷ revises 2 3 (zeros 128) ∷ []
+    yes (fetches 1 3 (zeros 128)) ∷ yes (fetches 2 3 (zeros 128)) ∷ no (fetches 1 7 (zeros 128)) 5 ∷ no (fetches 1 3 (zeros 65)) 1
+    ∷ no (fetches 8 3 (zeros 128)) 4 ∷ yes (revises 2 3 (zeros 128)) ∷ []
 
 unfoldable pub again : Act
 again = plain (call (opening (zeros 1024) positions lane))
@@ -70,21 +91,19 @@ acrossGroups =
 
 -- Under the list of specs/examples/Guarded: writer 1, whose transaction is open, may store to home 3 and read homes 3 and 6, writer 0 store to homes 0 to 2, and
 -- writer 2 nothing. One home without the right refuses all.
-unfoldable pub withRights : List Act
+unfoldable pub withRights : List Asked
 withRights =
-    fetches 1 3 (zeros 64) ∷ fetches 1 3 (zeros 128) ∷ fetches 1 6 (zeros 64) ∷ revises 1 3 (zeros 64) ∷ revises 1 6 (zeros 64) ∷ revises 1 3 (zeros 128)
-    ∷ transacts 1 3 (fill 1) room ∷ transacts 1 3 (two 1 2) room ∷ transacts 2 3 (fill 1) room ∷ transacts 0 1 (two 1 2) room ∷ transacts 0 2 (two 1 2) room
-    ∷ fetches 2 8 (zeros 256) ∷ transacts 1 11 (fill 1) room ∷ []
+    yes (fetches 1 3 (zeros 64)) ∷ no (fetches 1 3 (zeros 128)) 20 ∷ yes (fetches 1 6 (zeros 64)) ∷ yes (revises 1 3 (zeros 64))
+    ∷ no (revises 1 6 (zeros 64)) 19 ∷ no (revises 1 3 (zeros 128)) 19 ∷ no (transacts 1 3 (fill 1) room) 6 ∷ no (transacts 1 3 (two 1 2) room) 19
+    ∷ no (transacts 2 3 (fill 1) room) 19 ∷ yes (transacts 0 1 (two 1 2) room) ∷ no (transacts 0 2 (two 1 2) room) 19 ∷ yes (fetches 2 8 (zeros 256))
+    ∷ no (transacts 1 11 (fill 1) room) 19 ∷ []
 
 -- what every act answers; what a crash leaves of a unit, with its last transact flushed, lost, and lost in part; what is answered under the list
 unfoldable pub moments : List Trial
 moments =
-    record {
-      yields = answeredBy fresh (together ++ looks);
-      paper = 0 ∷ 5 ∷ 0 ∷ 0 ∷ 6 ∷ 1 ∷ 1 ∷ 4 ∷ 0 ∷ 8 ∷ 0 ∷ 0 ∷ 0 ∷ 9 ∷ 0 ∷ 0 ∷ 5 ∷ 1 ∷ 4 ∷ 0 ∷ [];
-    }
-    ∷ record { yields = seen fresh 1 together; paper = 5 ∷ 6 ∷ 5 ∷ 6 ∷ 4 ∷ [] }
+    record { yields = answeredBy fresh (actsOf (together ++ looks)); paper = numbersOf (together ++ looks) }
+    ∷ record { yields = seen fresh 1 (actsOf together); paper = 5 ∷ 6 ∷ 5 ∷ 6 ∷ 4 ∷ [] }
     ∷ record { yields = seen fresh 1 (flushedOnce ++ cut 4); paper = 1 ∷ 2 ∷ 1 ∷ 2 ∷ 1 ∷ [] }
     ∷ record { yields = seen fresh 1 (flushedOnce ++ cut 3); paper = 0 ∷ 0 ∷ 0 ∷ 0 ∷ 0 ∷ [] }
     ∷ record { yields = seen fresh 1 acrossGroups; paper = 1 ∷ 2 ∷ 1 ∷ 2 ∷ 3 ∷ [] }
-    ∷ record { yields = answeredBy guarded withRights; paper = 0 ∷ 20 ∷ 0 ∷ 0 ∷ 19 ∷ 19 ∷ 6 ∷ 19 ∷ 19 ∷ 0 ∷ 19 ∷ 0 ∷ 19 ∷ [] } ∷ []
+    ∷ record { yields = answeredBy guarded (actsOf withRights); paper = numbersOf withRights } ∷ []

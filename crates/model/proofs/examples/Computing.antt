@@ -19,8 +19,8 @@ use Rattle.model.specs.examples.Trials.{room as trial-room, lane, fill, 
 use Rattle.model.specs.History.{calls}
 use Rattle.model.specs.examples.Witnesses.{openAgain, historyLines, usedBefore, usedCopies, formatLeaves, opensWith, formatsSo, alike, allowed, reopen, refusals, seven, alone, wraps, loses, again, history, plain, answered, filledWith, endsSo, goesTo, goesSo, goesAsListed, opensLarger}
 use Rattle.model.specs.examples.Positions.{seenOf, firstCommits, bothCommit, nextGroup, firstTrimmed, openedAgain, listed, lentOther, showsAt, overDamage, wrongLength}
-use Rattle.model.specs.examples.Guarded.{sixteens, ranges, firstList, nextList, runs, asksRead as guarded-reads, writes as guarded-writes, seen, reopening, unguarded, beforeList, begun as guarded-begun, guarded, underList, denying, replaced, underNext, trimmed, openedAgain as guarded-again, underFirst, recommitted, withdrawn, ofOthers, tooSmall}
+use Rattle.model.specs.examples.Guarded.{sixteens, ranges, firstList, nextList, yes as guarded-yes, no as guarded-no, callsOf, numbersOf, runs, asksRead as guarded-reads, writes as guarded-writes, seen, reopening, unguarded, beforeList, begun as guarded-begun, guarded, underList, denying, replaced, underNext, trimmed, openedAgain as guarded-again, underFirst, recommitted, withdrawn, openToAll, tooSmall}
 
 unfoldable pub all-definitions : Bool
-unfolding does gives refuses eventsOf answersOf openAgain historyLines part puts zeros bytes value number putNumber same tagWord entryWord closingWord withDisplaced field displaced says readFields readTag present homeOf belongs groupsIn homesIn logLengthRight dataLengthRight header headerStart headerRight groupOffset groupAt groupNumber tagOffset groupTag blockOffset groupBlock groupValid turnOf topBit withTopBit turnBlocks blankGroup nextIn unusedGroup unusedSlots emptyLog putBlank putEntry slotOf indexOf wordThere entryIn blockOf entryAt blockAt homeAt putHome addIf members complete linked started decidedClosing visit walk committed entries eachEntries transactions writeAll replay newestIn orElse newest found recordBytes batchBytes orStop markOf readRecords readBatch stateOf setGroups setHomes setStart setNext setFilled setSettled setFenced setDurable setLast nextPosition promiseOffset promiseOf setPromise promised places freePlaces promiseLeft promiseInOrder writerAtInOrder modeOffset writerOffset lessOne oneMore writerOf setWriter heldOffset heldOf setHeld idle begun holding logging isOpen holds hasLogged holdsHome firstFor countFor freshState numbersInOrder writerInOrder writersInOrder inOrder newState blankWrites zeroHomes formatted formatEffect marked touched restore replayed homeWrites openTags openStart openEffect beginEffect reserveEffect abortEffect entered submitted logged logHeld storeFirst storeAgain storeOther storeEffect linkFrom logClosing commitHeld commitEffect flushPart flushNone flushEffect confirmEffect liveTags liveBase settleEffect noneAcross noneOpenBefore mayStart largest trimStart trimTo trimEffect newestOwn newestCommitted blockOr current visible readEffect ask areasRight stateRight blockRight stateInOrder headerFits writerKnown homeKnown writerOpen roomFor room mayPromise keepsPromises reserveAnswer storeLogs commitLogs startFits batchFits formatAnswer openAnswer askState askBlock beginAnswer abortAnswer storeAnswer commitAnswer flushAnswer confirmAnswer settleAnswer trimAnswer readAnswer refused done sizeOf outcome formatCall openCall beginCall reserveCall abortCall storeCall commitCall flushCall confirmCall settleCall trimCall readCall blocks pieces write writeEach writeIf writeChosen many isFence fences persistChosen persist groupFate fatesChosen fates unopened emptyStore lent loaded ends changeEnds serviceEnds feed feedChange isOpening isConfirm afterDone afterRefused afterCall rowFates afterCrash step after book-empty book-setTask book-withTask book-begin book-abort book-entryOf book-submit book-grown book-filledUp book-hold book-storeTask book-store book-addCommit book-commitTask book-commit book-flush book-owedBy book-owedAll book-withCommits book-fateAt book-survives book-allSurvive book-run book-settledEntries book-ended book-crash book-writeEntries book-writeCommits book-homesAfter book-newestEntry book-heldOr book-ownOr book-reads trial-room lane fill goes answerOf answers fresh base tagAt startOf nextOf readOf lastReadOf reopened trial1 trial1High trial2 trial3 stores commits firstLost trial4 trial5 inTurn answersThen fullAndFreed trial6and7 trial8 trial9 unformatted trial10 startingAt trial13 markedWith headMarks usedBefore usedCopies formatLeaves opensWith formatsSo alike allowed calls reopen refusals seven alone wraps loses again history plain answered filledWith endsSo goesTo goesSo goesAsListed opensLarger keptAs keptFor keep nothingKept keepEntry keepEntries forget tagsOf keptCommit ownElse isThere keptPosition shown newestRight askNewest askBoth positions seenOf firstCommits bothCommit nextGroup firstTrimmed openedAgain listed lentOther showsAt overDamage wrongLength setRound setCursor underWay fixedIn beginRoundEffect touchedFrom restoreHome restoredHomes roundTransactions roundHomes roundEnded roundMoved stepHomes stepRoundEffect inRound beginRoundAnswer stepRoundAnswer beginRoundCall stepRoundCall listedOf setListed freshNumbers carryListed listSign setListSign sameListed listMoved signFor openSign signIf keepList signedList storeRight readRight storeAllowed readAllowed forHome shownAt listBy storeList readList ofList isList inRange inRanges mayStore mayRead sixteens ranges firstList nextList runs guarded-reads guarded-writes seen reopening unguarded beforeList guarded-begun guarded underList denying replaced underNext trimmed guarded-again underFirst recommitted withdrawn ofOthers tooSmall
+unfolding does gives refuses eventsOf answersOf openAgain historyLines part puts zeros bytes value number putNumber same tagWord entryWord closingWord withDisplaced field displaced says readFields readTag present homeOf belongs groupsIn homesIn logLengthRight dataLengthRight header headerStart headerRight groupOffset groupAt groupNumber tagOffset groupTag blockOffset groupBlock groupValid turnOf topBit withTopBit turnBlocks blankGroup nextIn unusedGroup unusedSlots emptyLog putBlank putEntry slotOf indexOf wordThere entryIn blockOf entryAt blockAt homeAt putHome addIf members complete linked started decidedClosing visit walk committed entries eachEntries transactions writeAll replay newestIn orElse newest found recordBytes batchBytes orStop markOf readRecords readBatch stateOf setGroups setHomes setStart setNext setFilled setSettled setFenced setDurable setLast nextPosition promiseOffset promiseOf setPromise promised places freePlaces promiseLeft promiseInOrder writerAtInOrder modeOffset writerOffset lessOne oneMore writerOf setWriter heldOffset heldOf setHeld idle begun holding logging isOpen holds hasLogged holdsHome firstFor countFor freshState numbersInOrder writerInOrder writersInOrder inOrder newState blankWrites zeroHomes formatted formatEffect marked touched restore replayed homeWrites openTags openStart openEffect beginEffect reserveEffect abortEffect entered submitted logged logHeld storeFirst storeAgain storeOther storeEffect linkFrom logClosing commitHeld commitEffect flushPart flushNone flushEffect confirmEffect liveTags liveBase settleEffect noneAcross noneOpenBefore mayStart largest trimStart trimTo trimEffect newestOwn newestCommitted blockOr current visible readEffect ask areasRight stateRight blockRight stateInOrder headerFits writerKnown homeKnown writerOpen roomFor room mayPromise keepsPromises reserveAnswer storeLogs commitLogs startFits batchFits formatAnswer openAnswer askState askBlock beginAnswer abortAnswer storeAnswer commitAnswer flushAnswer confirmAnswer settleAnswer trimAnswer readAnswer refused done sizeOf outcome formatCall openCall beginCall reserveCall abortCall storeCall commitCall flushCall confirmCall settleCall trimCall readCall blocks pieces write writeEach writeIf writeChosen many isFence fences persistChosen persist groupFate fatesChosen fates unopened emptyStore lent loaded ends changeEnds serviceEnds feed feedChange isOpening isConfirm afterDone afterRefused afterCall rowFates afterCrash step after book-empty book-setTask book-withTask book-begin book-abort book-entryOf book-submit book-grown book-filledUp book-hold book-storeTask book-store book-addCommit book-commitTask book-commit book-flush book-owedBy book-owedAll book-withCommits book-fateAt book-survives book-allSurvive book-run book-settledEntries book-ended book-crash book-writeEntries book-writeCommits book-homesAfter book-newestEntry book-heldOr book-ownOr book-reads trial-room lane fill goes answerOf answers fresh base tagAt startOf nextOf readOf lastReadOf reopened trial1 trial1High trial2 trial3 stores commits firstLost trial4 trial5 inTurn answersThen fullAndFreed trial6and7 trial8 trial9 unformatted trial10 startingAt trial13 markedWith headMarks usedBefore usedCopies formatLeaves opensWith formatsSo alike allowed calls reopen refusals seven alone wraps loses again history plain answered filledWith endsSo goesTo goesSo goesAsListed opensLarger keptAs keptFor keep nothingKept keepEntry keepEntries forget tagsOf keptCommit ownElse isThere keptPosition shown newestRight askNewest askBoth positions seenOf firstCommits bothCommit nextGroup firstTrimmed openedAgain listed lentOther showsAt overDamage wrongLength setRound setCursor underWay fixedIn beginRoundEffect touchedFrom restoreHome restoredHomes roundTransactions roundHomes roundEnded roundMoved stepHomes stepRoundEffect inRound beginRoundAnswer stepRoundAnswer beginRoundCall stepRoundCall listedOf setListed freshNumbers carryListed listSign setListSign sameListed listMoved signFor openSign signIf keepList signedList storeRight readRight storeAllowed readAllowed forHome shownAt listBy storeList readList ofList isList inRange inRanges mayStore mayRead sixteens ranges firstList nextList guarded-yes guarded-no callsOf numbersOf runs guarded-reads guarded-writes seen reopening unguarded beforeList guarded-begun guarded underList denying replaced underNext trimmed guarded-again underFirst recommitted withdrawn openToAll tooSmall
 all-definitions = true

@@ -27,6 +27,25 @@ firstList = ranges 0 3 65530 10 ++ (ranges 0 3 0 0 ++ (ranges 3 1 65535 10 ++ ra
 unfoldable pub nextList : List ℕ
 nextList = ranges 0 3 0 0 ++ (ranges 0 3 0 0 ++ (ranges 4 1 0 0 ++ ranges 4 1 0 0))
 
+-- a call beside the number that it answers: done, or refused
+pub record Asked : Type 0 where
+  pub asked : Call
+  pub number : ℕ
+
+unfoldable pub yes : Call → Asked
+yes c = record { asked = c; number = 0 }
+
+unfoldable pub no : Call → ℕ → Asked
+no c n = record { asked = c; number = n }
+
+unfoldable pub callsOf : List Asked → List Call
+callsOf [] = []
+callsOf (a ∷ more) = a .asked ∷ callsOf more
+
+unfoldable pub numbersOf : List Asked → List ℕ
+numbersOf [] = []
+numbersOf (a ∷ more) = a .number ∷ numbersOf more
+
 -- the numbers that calls answer, one after the other, and the world after them
 pub record Run : Type 0 where
   pub numbers : List ℕ
@@ -58,33 +77,36 @@ unguarded = step (emptyStore 4 13) reopening
 
 -- While no list is committed all is open but the list's own homes, which only writer 0 may store to; an open transaction is asked for after that. A
 -- list that writer 0 holds, and one it has logged, does not count yet.
-unfoldable pub beforeList : List Call
+unfoldable pub beforeList : List Asked
 beforeList =
-    begin 1 ∷ writes 1 5 ∷ writes 1 8 ∷ writes 2 11 ∷ writes 2 3 ∷ asksRead 2 3 ∷ begin 0 ∷ store 0 8 firstList room ∷ asksRead 0 4 ∷ store 0 9 (zeros 64) room ∷ asksRead 0 4
-    ∷ writes 1 5 ∷ commit 0 room ∷ []
+    yes (begin 1) ∷ yes (writes 1 5) ∷ no (writes 1 8) 19 ∷ no (writes 2 11) 19 ∷ no (writes 2 3) 7 ∷ yes (asksRead 2 3) ∷ yes (begin 0)
+    ∷ yes (store 0 8 firstList room) ∷ yes (asksRead 0 4) ∷ yes (store 0 9 (zeros 64) room) ∷ yes (asksRead 0 4) ∷ yes (writes 1 5) ∷ yes (commit 0 room)
+    ∷ []
 
 unfoldable pub begun : Run
-begun = runs unguarded beforeList
+begun = runs unguarded (callsOf beforeList)
 
 unfoldable pub guarded : World
 guarded = begun .world
 
 -- under the list: a block that writer 1 held before, its homes, homes that are not its own, and a writer that has none. Zeros that writer 0 holds for
 -- the list do not count yet
-unfoldable pub underList : List Call
+unfoldable pub underList : List Asked
 underList =
-    asksRead 1 5 ∷ writes 1 3 ∷ writes 1 4 ∷ writes 1 6 ∷ writes 2 3 ∷ asksRead 1 3 ∷ asksRead 1 4 ∷ asksRead 1 6 ∷ asksRead 1 9 ∷ asksRead 2 3 ∷ asksRead 0 4 ∷ writes 0 3 ∷ begin 0
-    ∷ writes 0 3 ∷ writes 0 2 ∷ commit 1 room ∷ store 0 8 (zeros 64) room ∷ asksRead 0 2 ∷ []
+    no (asksRead 1 5) 20 ∷ yes (writes 1 3) ∷ no (writes 1 4) 19 ∷ no (writes 1 6) 19 ∷ no (writes 2 3) 19 ∷ yes (asksRead 1 3) ∷ no (asksRead 1 4) 20
+    ∷ yes (asksRead 1 6) ∷ yes (asksRead 1 9) ∷ no (asksRead 2 3) 20 ∷ no (asksRead 0 4) 20 ∷ no (writes 0 3) 19 ∷ yes (begin 0) ∷ no (writes 0 3) 19
+    ∷ yes (writes 0 2) ∷ yes (commit 1 room) ∷ yes (store 0 8 (zeros 64) room) ∷ yes (asksRead 0 2) ∷ []
 
 unfoldable pub denying : Run
-denying = runs guarded underList
+denying = runs guarded (callsOf underList)
 
 unfoldable pub replaced : World
 replaced = goes (denying .world) (store 0 8 nextList room ∷ commit 0 room ∷ [])
 
 -- under the next one; the transactions of both writers are closed, so that 7 is what a store meets that it has the right to
-unfoldable pub underNext : List Call
-underNext = writes 1 4 ∷ writes 1 3 ∷ asksRead 1 4 ∷ asksRead 1 3 ∷ asksRead 1 6 ∷ writes 1 11 ∷ writes 0 11 ∷ []
+unfoldable pub underNext : List Asked
+underNext =
+    no (writes 1 4) 7 ∷ no (writes 1 3) 19 ∷ yes (asksRead 1 4) ∷ no (asksRead 1 3) 20 ∷ no (asksRead 1 6) 20 ∷ no (writes 1 11) 19 ∷ no (writes 0 11) 7 ∷ []
 
 -- the log trimmed, with all of it in the data copy; another commit of the first list, a crash after it has persisted, and an opening
 unfoldable pub trimmed : World → World
@@ -93,8 +115,8 @@ trimmed w = goes w (flush room ∷ settle room ∷ trim room ∷ [])
 unfoldable pub openedAgain : World → World
 openedAgain w = step (step (goes w (begin 0 ∷ store 0 8 firstList room ∷ commit 0 room ∷ flush room ∷ [])) (crash 7 (λ i. false))) reopening
 
-unfoldable pub underFirst : List Call
-underFirst = writes 1 3 ∷ writes 1 4 ∷ asksRead 1 3 ∷ asksRead 1 4 ∷ asksRead 1 6 ∷ []
+unfoldable pub underFirst : List Asked
+underFirst = no (writes 1 3) 7 ∷ no (writes 1 4) 19 ∷ yes (asksRead 1 3) ∷ no (asksRead 1 4) 20 ∷ yes (asksRead 1 6) ∷ []
 
 unfoldable pub laidDown : World
 laidDown = trimmed replaced
@@ -112,28 +134,29 @@ withdrawn = recommitted guarded (zeros 64)
 unfoldable pub again : World
 again = recommitted withdrawn firstList
 
-unfoldable pub ofOthers : List Call
-ofOthers = asksRead 1 4 ∷ writes 1 4 ∷ []
+unfoldable pub openToAll : List Asked
+openToAll = yes (asksRead 1 4) ∷ yes (writes 1 4) ∷ []
+
+unfoldable pub closedAgain : List Asked
+closedAgain = no (asksRead 1 4) 20 ∷ no (writes 1 4) 19 ∷ []
 
 -- D 11 is too small for a list: homes 8 to 10 are writer 0's alone to store to, and all else is open
-unfoldable pub tooSmall : List ℕ
+unfoldable pub tooSmall : List Asked
 tooSmall =
-    runs (step (emptyStore 4 11) (call (opening (zeros 1024) (zeros 88) lane)))
-    (begin 0 ∷ store 0 8 firstList room ∷ commit 0 room ∷ begin 1 ∷ writes 1 4 ∷ writes 1 7 ∷ writes 1 8 ∷ writes 1 10 ∷ writes 1 11 ∷ asksRead 2 3 ∷ asksRead 1 10 ∷ [])
-    .numbers
+    yes (begin 0) ∷ yes (store 0 8 firstList room) ∷ yes (commit 0 room) ∷ yes (begin 1) ∷ yes (writes 1 4) ∷ yes (writes 1 7) ∷ no (writes 1 8) 19
+    ∷ no (writes 1 10) 19 ∷ no (writes 1 11) 5 ∷ yes (asksRead 2 3) ∷ yes (asksRead 1 10) ∷ []
 
--- what is kept of the list, and what every call answers
+unfoldable pub smallStore : World
+smallStore = step (emptyStore 4 11) (call (opening (zeros 1024) (zeros 88) lane))
+
+-- what is kept of the list at a moment, and what the calls from there on answer
+unfoldable pub moment : World → ℕ → ℕ → ℕ → List Asked → Trial
+moment w listed kept sign calls =
+    record { yields = seen w (runs w (callsOf calls) .numbers); paper = listed ∷ kept ∷ sign ∷ numbersOf calls }
+
 unfoldable pub moments : List Trial
 moments =
-    record { yields = seen unguarded []; paper = noPosition ∷ noPosition ∷ 1 ∷ [] }
-    ∷ record { yields = begun .numbers; paper = 0 ∷ 0 ∷ 19 ∷ 19 ∷ 7 ∷ 0 ∷ 0 ∷ 0 ∷ 0 ∷ 0 ∷ 0 ∷ 0 ∷ 0 ∷ [] }
-    ∷ record {
-      yields = seen guarded (denying .numbers);
-      paper = 28 ∷ 28 ∷ 2 ∷ 20 ∷ 0 ∷ 19 ∷ 19 ∷ 19 ∷ 0 ∷ 20 ∷ 0 ∷ 0 ∷ 20 ∷ 20 ∷ 19 ∷ 0 ∷ 19 ∷ 0 ∷ 0 ∷ 0 ∷ 0 ∷ [];
-    }
-    ∷ record { yields = seen replaced (runs replaced underNext .numbers); paper = 33 ∷ 33 ∷ 2 ∷ 7 ∷ 19 ∷ 0 ∷ 20 ∷ 20 ∷ 19 ∷ 7 ∷ [] }
-    ∷ record { yields = seen laidDown (runs laidDown underNext .numbers); paper = noPosition ∷ noPosition ∷ 2 ∷ 7 ∷ 19 ∷ 0 ∷ 20 ∷ 20 ∷ 19 ∷ 7 ∷ [] }
-    ∷ record { yields = seen reopened (runs reopened underFirst .numbers); paper = noPosition ∷ noPosition ∷ 2 ∷ 7 ∷ 19 ∷ 0 ∷ 20 ∷ 0 ∷ [] }
-    ∷ record { yields = seen withdrawn (runs withdrawn ofOthers .numbers); paper = 30 ∷ 30 ∷ 1 ∷ 0 ∷ 0 ∷ [] }
-    ∷ record { yields = seen again (runs again ofOthers .numbers); paper = 31 ∷ 31 ∷ 2 ∷ 20 ∷ 19 ∷ [] }
-    ∷ record { yields = tooSmall; paper = 0 ∷ 0 ∷ 0 ∷ 0 ∷ 0 ∷ 0 ∷ 19 ∷ 19 ∷ 5 ∷ 0 ∷ 0 ∷ [] } ∷ []
+    record { yields = seen unguarded []; paper = noPosition ∷ noPosition ∷ 1 ∷ [] } ∷ record { yields = begun .numbers; paper = numbersOf beforeList }
+    ∷ record { yields = seen guarded (denying .numbers); paper = 28 ∷ 28 ∷ 2 ∷ numbersOf underList } ∷ moment replaced 33 33 2 underNext
+    ∷ moment laidDown noPosition noPosition 2 underNext ∷ moment reopened noPosition noPosition 2 underFirst ∷ moment withdrawn 30 30 1 openToAll
+    ∷ moment again 31 31 2 closedAgain ∷ record { yields = runs smallStore (callsOf tooSmall) .numbers; paper = numbersOf tooSmall } ∷ []

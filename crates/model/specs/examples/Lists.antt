@@ -7,7 +7,7 @@ use Rattle.model.specs.Bytes.{part, zeros}
 use Rattle.model.specs.Rights.{mayStore, mayRead}
 use Rattle.model.specs.History.{Call, begin, store, commit, flush, World, crash, step}
 use Rattle.model.specs.examples.Trials.{room, goes, Trial}
-use Rattle.model.specs.examples.Guarded.{sixteens, firstList, runs, asksRead, writes, seen, reopening, unguarded, underFirst}
+use Rattle.model.specs.examples.Guarded.{sixteens, firstList, callsOf, numbersOf, runs, asksRead, writes, seen, reopening, unguarded, underFirst}
 
 -- four ranges of n homes from a first home on, ten apart; a list whose writer w may store to homes 100 × w + 20, 30, 40, 50 and the one after each, and read
 -- homes 100 × w + 65, 75, 85 and 95 alone
@@ -71,5 +71,5 @@ unfoldable pub rows : List Trial
 rows =
     record { yields = runs laidDown byFourth .numbers; paper = 0 ∷ 0 ∷ 19 ∷ 0 ∷ 20 ∷ 0 ∷ 0 ∷ 19 ∷ 0 ∷ 20 ∷ 0 ∷ 20 ∷ 0 ∷ 20 ∷ 0 ∷ 20 ∷ [] }
     ∷ record { yields = runs (reopened laidDown) byFourth .numbers; paper = 0 ∷ 0 ∷ 19 ∷ 0 ∷ 20 ∷ 0 ∷ 0 ∷ 19 ∷ 0 ∷ 20 ∷ 0 ∷ 20 ∷ 0 ∷ 20 ∷ 0 ∷ 20 ∷ [] }
-    ∷ record { yields = drop 2 (seen brought (runs brought underFirst .numbers)); paper = 2 ∷ 7 ∷ 19 ∷ 0 ∷ 20 ∷ 0 ∷ [] }
-    ∷ record { yields = drop 2 (seen takenBack (runs takenBack underFirst .numbers)); paper = 1 ∷ 7 ∷ 7 ∷ 0 ∷ 0 ∷ 0 ∷ [] } ∷ []
+    ∷ record { yields = drop 2 (seen brought (runs brought (callsOf underFirst) .numbers)); paper = 2 ∷ numbersOf underFirst }
+    ∷ record { yields = drop 2 (seen takenBack (runs takenBack (callsOf underFirst) .numbers)); paper = 1 ∷ 7 ∷ 7 ∷ 0 ∷ 0 ∷ 0 ∷ [] } ∷ []

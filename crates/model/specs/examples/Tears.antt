@@ -6,38 +6,38 @@ use mathlib.Core.Bool.{Bool, false, _&&_}
 use mathlib.Core.List.{List, [], _∷_, _++_}
 use lib.Dec.{eqb, leb, ltb}
 use Rattle.model.specs.Bytes.{zeros}
-use Rattle.model.specs.History.{calls, opening, begin, store, commit, flush, settle, trim, Event, call, crash, World, emptyStore}
+use Rattle.model.specs.History.{opening, begin, store, commit, flush, settle, trim, World, emptyStore}
+use Rattle.model.specs.examples.Lines.{Line, cut, does, gives, eventsOf, answersOf}
 use Rattle.model.specs.examples.Trials.{room, lane, fill}
-use Rattle.model.specs.examples.Witnesses.{endsSo, goesTo, goesSo}
+use Rattle.model.specs.examples.Witnesses.{endsSo, goesTo}
 
-unfoldable pub reopen : Event
-reopen = call (opening (zeros 1024) (zeros 32) lane)
+-- an opening, with the commits that it brings back and the bytes that it writes
+unfoldable pub opens : ℕ → ℕ → Line
+opens back size = gives (opening (zeros 1024) (zeros 32) lane) back size
 
--- a commit in a group of its own
-unfoldable pub alone : ℕ → ℕ → List Event
-alone home byte = calls (begin 0 ∷ store 0 home (fill byte) room ∷ commit 0 room ∷ flush room ∷ [])
+-- a commit in a group of its own, and its ticket
+unfoldable pub alone : ℕ → ℕ → ℕ → List Line
+alone home byte ticket =
+    does (begin 0) ∷ does (store 0 home (fill byte) room) ∷ gives (commit 0 room) ticket 0 ∷ gives (flush room) 0 518 ∷ []
 
--- a commit of two homes in a group of its own: metadata and data blocks 0 and 1, pieces 0 to 2
-unfoldable pub both : ℕ → ℕ → List Event
-both first second =
-    calls (begin 1 ∷ store 1 0 (fill first) room ∷ store 1 1 (fill second) room ∷ commit 1 room ∷ flush room ∷ [])
+-- a commit of two homes in a group of its own, and its ticket: metadata and data blocks 0 and 1, pieces 0 to 2
+unfoldable pub both : ℕ → ℕ → ℕ → List Line
+both first second ticket =
+    does (begin 1) ∷ does (store 1 0 (fill first) room) ∷ does (store 1 1 (fill second) room) ∷ gives (commit 1 room) ticket 0 ∷ gives (flush room) 0 518 ∷ []
 
--- what the calls of an opening, of a commit alone and of one of two homes answer
-unfoldable pub opens : ℕ → ℕ → List ℕ
-opens back bytes = 0 ∷ back ∷ bytes ∷ []
+-- every line answers as it says, and the world after them is asked; its commits and homes
+unfoldable pub readsTo : World → List Line → (World → Bool) → Bool
+readsTo w lines asked = goesTo w (eventsOf lines) (answersOf lines) asked
 
-unfoldable pub givesAlone : ℕ → List ℕ
-givesAlone ticket = 0 ∷ 0 ∷ 0 ∷ 0 ∷ 0 ∷ 0 ∷ 0 ∷ ticket ∷ 0 ∷ 0 ∷ 0 ∷ 518 ∷ []
-
-unfoldable pub givesBoth : ℕ → List ℕ
-givesBoth ticket = 0 ∷ 0 ∷ 0 ∷ givesAlone ticket
+unfoldable pub readsSo : World → List Line → ℕ → List ℕ → Bool
+readsSo w lines commits homes = readsTo w lines (λ v. endsSo v commits homes)
 
 -- A group over blanking. Two commits; of the second one's group the pieces that a choice has.
-unfoldable pub twoCommits : List Event
-twoCommits = reopen ∷ (alone 0 200 ++ both 255 30)
+unfoldable pub twoCommits : List Line
+twoCommits = opens 0 2136 ∷ (alone 0 200 29 ++ both 255 30 37)
 
 unfoldable pub tearsTo : World → (ℕ → Bool) → ℕ → ℕ → List ℕ → Bool
-tearsTo w chosen back bytes homes = goesSo w (crash 4 chosen ∷ reopen ∷ []) (opens back bytes) back homes
+tearsTo w chosen back size homes = readsSo w (cut 4 chosen ∷ opens back size ∷ []) back homes
 
 -- metadata and a data block, the other not; the data, the metadata not: the commit before it comes back
 unfoldable pub metadataWithoutBlock : World → Bool
@@ -52,44 +52,38 @@ entriesLanded w = tearsTo w (λ i. ltb i 3) 2 2272 (255 ∷ 30 ∷ 0 ∷ 0 ∷ [
 
 unfoldable pub commitsTwo : Bool
 commitsTwo =
-    goesTo (emptyStore 4 4) twoCommits (opens 0 2136 ++ (givesAlone 29 ++ givesBoth 37))
+    readsTo (emptyStore 4 4) twoCommits
     (λ w. endsSo w 2 (0 ∷ 0 ∷ 0 ∷ 0 ∷ []) && metadataWithoutBlock w && blocksWithoutMetadata w && entriesLanded w)
 
 -- Groups 4 to 6 and, after a trim to group 7, groups 7 to 9, of which the last two lie in ring slots used before
-unfoldable pub wrapping : List Event
+unfoldable pub wrapping : List Line
 wrapping =
-    reopen
-    ∷ (alone 0 200 ++ (alone 1 30 ++ (alone 0 201 ++ (calls (settle room ∷ trim room ∷ []) ++ alone 2 140))))
+    opens 0 2136
+    ∷ (alone 0 200 29 ++ (alone 1 30 36 ++ (alone 0 201 43 ++ (gives (settle room) 0 138 ∷ gives (trim room) 0 68 ∷ alone 2 140 50))))
 
 -- A group over an older one of the same era: group 8 over group 4. In the next era, which starts at group 11, group 12 is torn, in a slot whose turn is
 -- another than the start's.
-unfoldable pub reusing : List Event
+unfoldable pub reusing : List Line
 reusing =
-    both 255 131 ++ (crash 9 (λ i. ltb i 2) ∷ reopen ∷ (alone 3 250 ++ (both 99 98 ++ (crash 4 (λ i. ltb i 2) ∷ reopen ∷ []))))
+    both 255 131 58
+    ++ (cut 9 (λ i. ltb i 2) ∷ opens 1 2204 ∷ (alone 3 250 78 ++ (both 99 98 86 ++ (cut 4 (λ i. ltb i 2) ∷ opens 1 2204 ∷ []))))
 
 unfoldable pub reusesSo : World → Bool
-reusesSo w =
-    goesSo w reusing (givesBoth 58 ++ (opens 1 2204 ++ (givesAlone 78 ++ (givesBoth 86 ++ opens 1 2204)))) 5 (201 ∷ 30 ∷ 140 ∷ 250 ∷ [])
+reusesSo w = readsSo w reusing 5 (201 ∷ 30 ∷ 140 ∷ 250 ∷ [])
 
 -- An opening cut before its head landed, so that nothing of the next stretches can have; one cut with its head landed and every third block of the
 -- blanking; one that is done. Every commit is there, and the era after works: one commit stays, a torn one does not.
-unfoldable pub cutting : List Event
+unfoldable pub cutting : List Line
 cutting =
-    alone 0 255
-    ++ (alone 1 131 ++ (crash 11 (λ i. false) ∷ reopen ∷ crash 1 (λ i. leb 9 i) ∷ reopen ∷ crash 2 (λ i. eqb (i % 3) 0) ∷ reopen
-    ∷ (alone 3 250 ++ (both 99 98 ++ (crash 4 (λ i. ltb i 2) ∷ reopen ∷ [])))))
+    alone 0 255 57
+    ++ (alone 1 131 64 ++ (cut 11 (λ i. false) ∷ opens 3 2340 ∷ cut 1 (λ i. leb 9 i) ∷ opens 3 2340 ∷ cut 2 (λ i. eqb (i % 3) 0) ∷ opens 0 2136
+    ∷ (alone 3 250 106 ++ (both 99 98 114 ++ (cut 4 (λ i. ltb i 2) ∷ opens 1 2204 ∷ [])))))
 
 unfoldable pub cutsSo : World → Bool
-cutsSo w =
-    goesSo w cutting
-    (givesAlone 57 ++ (givesAlone 64 ++ (opens 3 2340 ++ (opens 3 2340 ++ (opens 0 2136 ++ (givesAlone 106 ++ (givesBoth 114 ++ opens 1 2204)))))))
-    7 (255 ∷ 131 ∷ 140 ∷ 250 ∷ [])
+cutsSo w = readsSo w cutting 7 (255 ∷ 131 ∷ 140 ∷ 250 ∷ [])
 
 unfoldable pub wrapsSo : Bool
-wrapsSo =
-    goesTo (emptyStore 4 4) wrapping
-    (opens 0 2136 ++ (givesAlone 29 ++ (givesAlone 36 ++ (givesAlone 43 ++ (0 ∷ 0 ∷ 138 ∷ 0 ∷ 0 ∷ 68 ∷ givesAlone 50)))))
-    (λ w. endsSo w 4 (201 ∷ 30 ∷ 0 ∷ 0 ∷ []) && reusesSo w && cutsSo w)
+wrapsSo = readsTo (emptyStore 4 4) wrapping (λ w. endsSo w 4 (201 ∷ 30 ∷ 0 ∷ 0 ∷ []) && reusesSo w && cutsSo w)
 
 unfoldable pub tearsSo : Bool
 tearsSo = commitsTwo && wrapsSo
