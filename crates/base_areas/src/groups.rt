@@ -1,5 +1,7 @@
 // Groups in the log's ring slots: a blank group, and an entry's tag and block at an index of a group.
 use crate::turns::put_turn_blocks;
+use base_codec::GROUP_SIZE;
+use base_codec::HEADER_SIZE;
 use model::State;
 ghost use mathlib.Core.Path.{_≡_};
 ghost use Prim.Native.Nat.{ℕ, _+_, _*_, _^_, _<_, _≤_};
@@ -13,7 +15,7 @@ pub fn put_blank(log: &mut [u8], slot: usize, n: u64, turn: u64)
     requires { ⌜ (64 + 512 * slot + 512 ≤ length (now log)) × (turn < 2) ⌝ }
     ensures { λ _. ⌜ ((groups : ℕ) → turn ≡ turnOf groups n → now (log .exit) ≡ putBlank (now (log .entry)) groups slot n) ⌝ }
 {
-    let at = 64 + 512 * slot;
+    let at = HEADER_SIZE + GROUP_SIZE * slot;
     base_codec::put_group_mark(log, at);
     base_codec::put_number(log, at + 2, 6, n);
     base_codec::clear(log, at + 8, 56);
@@ -25,7 +27,7 @@ pub fn put_entry(log: &mut [u8], slot: usize, turn: u64, k: usize, word: u64, bl
     requires { ⌜ (64 + 512 * slot + 512 ≤ length (now log)) × (turn < 2) × (k < 7) × (word < 2 ^ 57) × (length (now block) ≡ 64) ⌝ }
     ensures { λ _. ⌜ now (log .exit) ≡ putEntry (now (log .entry)) slot turn k word (now (block .entry)) ⌝ }
 {
-    let at = 64 + 512 * slot;
+    let at = HEADER_SIZE + GROUP_SIZE * slot;
     let whole = base_codec::with_displaced(word, base_codec::top_bit(block, 0));
     base_codec::put_number(log, at + (8 + 8 * k), 8, whole);
     base_codec::copy_with_top_bit(log, at + (64 + 64 * k), block, 0, turn)
@@ -50,7 +52,7 @@ pub fn copy_entry(dst: &mut [u8], at: usize, log: &[u8], slot: usize, k: usize)
     requires { ⌜ (at + 64 ≤ length (now dst)) × (64 + 512 * slot + 512 ≤ length (now log)) × (k < 7) ⌝ }
     ensures { λ _. ⌜ now (dst .exit) ≡ puts (now (dst .entry)) at (blockOf (groupAt (now (log .entry)) slot) k) ⌝ }
 {
-    let from = 64 + 512 * slot;
+    let from = HEADER_SIZE + GROUP_SIZE * slot;
     let bit = base_codec::displaced(base_codec::number(log, from + (8 + 8 * k), 8));
     base_codec::copy_with_top_bit(dst, at, log, from + (64 + 64 * k), bit)
 }

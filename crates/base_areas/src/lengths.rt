@@ -1,4 +1,7 @@
 // How many groups and homes an area of a length has, and whether the length is right.
+use base_codec::GROUP_SIZE;
+use base_codec::HEADER_SIZE;
+use base_codec::MAX_GROUPS;
 ghost use mathlib.Core.Path.{_≡_};
 ghost use Rattle.model.specs.Layout.{groupsIn, homesIn, logLengthRight, dataLengthRight};
 
@@ -27,10 +30,10 @@ pub fn log_right(len: usize) -> bool
     if groups < 4 {
         return false;
     }
-    if groups > 1024 {
+    if groups > MAX_GROUPS {
         return false;
     }
-    len == 64 + 512 * groups as usize
+    len == HEADER_SIZE + GROUP_SIZE * groups as usize
 }
 
 // Whether a data area may have `len` bytes: 1 to 65,535 whole homes.

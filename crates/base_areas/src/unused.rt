@@ -1,6 +1,8 @@
 // Groups that hold nothing, and the empty log that format and open leave.
 use crate::header::put_header;
 use crate::turns::put_turn_blocks;
+use base_codec::GROUP_SIZE;
+use base_codec::HEADER_SIZE;
 ghost use mathlib.Core.Path.{_≡_};
 ghost use mathlib.Core.List.{_++_};
 ghost use Prim.Native.Nat.{ℕ, _+_, _-_, _*_, _%_, _<_, _≤_};
@@ -38,7 +40,11 @@ pub fn put_empty_log(log: &mut [u8], start: u64, groups: u64, homes: u64)
     let turn = start / groups % 2;
     let mut slot: u64 = 0;
     while slot < groups {
-        put_unused(log, 64 + 512 * slot as usize, unused_bit(slot, first, turn));
+        put_unused(
+            log,
+            HEADER_SIZE + GROUP_SIZE * slot as usize,
+            unused_bit(slot, first, turn),
+        );
         slot += 1;
     }
 }

@@ -1,4 +1,6 @@
 // One record appended to a batch: each function writes it from index `at` on and returns the index after it.
+use base_codec::GROUP_SIZE;
+use base_codec::HEADER_SIZE;
 ghost use mathlib.Core.Path.{_≡_};
 ghost use mathlib.Core.List.{_++_};
 ghost use Prim.Native.Nat.{_+_, _*_, _<_, _≤_};
@@ -15,8 +17,8 @@ pub fn group_write(batch: &mut [u8], at: usize, slot: usize, log: &[u8]) -> usiz
 {
     base_codec::put_group_write_mark(batch, at);
     base_codec::put_number(batch, at + 2, 2, slot as u64);
-    let from = 64 + 512 * slot;
-    base_codec::copy(batch, at + 4, &log[from..from + 512]);
+    let from = HEADER_SIZE + GROUP_SIZE * slot;
+    base_codec::copy(batch, at + 4, &log[from..from + GROUP_SIZE]);
     at + 516
 }
 

@@ -7,6 +7,17 @@ mod plain;
 mod tags;
 mod turns;
 
+// Bytes of the log's header, of a group and of the state; the most groups of a log, and the highest number that a log may start at.
+pub const HEADER_SIZE: usize = 64;
+
+pub const GROUP_SIZE: usize = 512;
+
+pub const STATE_SIZE: usize = 1024;
+
+pub const MAX_GROUPS: u64 = 1024;
+
+pub const MAX_START: u64 = 0x8000_0000_0000;
+
 pub use blocks::all_zero;
 pub use blocks::clear;
 pub use blocks::copy;

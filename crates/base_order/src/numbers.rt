@@ -1,5 +1,6 @@
 // Question 2's tests of the strip's numbers but the round, in the order in which each number is read where it is compared.
 use crate::distances::distance;
+use base_codec::MAX_START;
 use base_state::durable;
 use base_state::fenced;
 use base_state::filled;
@@ -15,9 +16,6 @@ ghost use Prim.Native.Nat.{_+_, _≤_};
 ghost use lib.ListN.{length};
 ghost use Rattle.model.specs.State.{stateOf, numbersInOrder, inOrder};
 ghost use Rattle.base_state.specs.Order.{Agrees, BoundsInOrder, Live};
-
-// The highest group number that a log may start at.
-const MAX_START: u64 = 0x8000_0000_0000;
 
 // Whether the numbers of groups and homes are `groups` and `homes`, and the group numbers and the places filled are in order.
 pub fn groups_in_order(s: &[u8], groups: u64, homes: u64) -> bool

@@ -1,6 +1,7 @@
 // The numbers of the state strip but those of the writers, eight bytes each.
 use crate::listed::set_list_sign;
 use crate::listed::set_listed;
+use base_codec::STATE_SIZE;
 use model::State;
 ghost use mathlib.Core.Path.{_≡_};
 ghost use Prim.Native.Nat.{_+_, _*_, _^_, _<_};
@@ -220,7 +221,7 @@ fn clear(s: &mut [u8])
     requires { ⌜ length (now s) ≡ 1024 ⌝ }
     ensures { λ _. ⌜ now (s .exit) ≡ zeros stateBytes ⌝ }
 {
-    base_codec::clear(s, 0, 1024)
+    base_codec::clear(s, 0, STATE_SIZE)
 }
 
 // Makes `s` the numbers of an opened store whose log is empty at the group number `start`, and else zeros.

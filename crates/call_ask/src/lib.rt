@@ -1,4 +1,5 @@
 // What a call answers, and the questions that most calls put first.
+use base_codec::STATE_SIZE;
 ghost use mathlib.Core.Path.{_≡_};
 ghost use mathlib.Core.Bool.{_&&_};
 ghost use mathlib.Core.List.{[]};
@@ -49,7 +50,7 @@ pub fn lengths_right(log: &[u8], area: &[u8], state: &[u8]) -> bool
     if !base_areas::data_right(area.len()) {
         return false;
     }
-    state.len() == 1024
+    state.len() == STATE_SIZE
 }
 
 // Questions 1 and 2: 0 if the lengths are right and the strip is in order, else the number of the refusal.

@@ -1,4 +1,5 @@
 // Open: the committed transactions of the log come back, and the log is then empty from a new start on.
+use base_codec::MAX_START;
 use call_ask::Reply;
 ghost use mathlib.Core.Path.{_≡_};
 ghost use mathlib.Core.List.{[]};
@@ -13,9 +14,6 @@ ghost use Rattle.model.specs.State.{freshState};
 ghost use Rattle.model.specs.Calls.{openCall};
 ghost use Rattle.call_ask.specs.Lent.{lentAll, leavesAll};
 ghost use Rattle.call_open.specs.Opens.{askOpen, emptied};
-
-// The highest group number that a log may start at.
-const MAX_START: u64 = 0x8000_0000_0000;
 
 // The numbers of groups and homes by the lengths, and the start that the header holds.
 pub struct Shape {

@@ -2,6 +2,7 @@
 mod moves;
 mod start;
 
+use base_codec::MAX_START;
 use call_ask::Reply;
 use moves::move_start;
 use start::new_start;
@@ -9,9 +10,6 @@ ghost use mathlib.Core.Path.{_≡_};
 ghost use mathlib.Core.List.{[]};
 ghost use Rattle.model.specs.Calls.{trimCall};
 ghost use Rattle.call_ask.specs.Lent.{lentAll, leavesAll};
-
-// The highest group number that a log may start at.
-const MAX_START: u64 = 0x8000_0000_0000;
 
 // Moves the log's start up as far as no open or committed transaction lies across it, and writes the new header and a fence if it moves.
 // Kept positions before the new start become none.

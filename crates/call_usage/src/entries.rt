@@ -1,4 +1,6 @@
 // The entries of the committed transactions: the walk finds where they end, and every closing entry below that counts its own.
+use base_codec::GROUP_SIZE;
+use base_codec::HEADER_SIZE;
 use model::Tag;
 ghost use mathlib.Core.Path.{_≡_};
 ghost use Prim.Native.Nat.{_+_, _-_, _*_, _^_, _≤_, _<_};
@@ -69,8 +71,8 @@ fn closed_entries(log: &[u8], groups: u64, homes: u64, start: u64, end: u64) -> 
     let mut number = start;
     let mut at = log_scan::first_slot(start, groups);
     while left > 0 {
-        let from = 64 + 512 * at.slot as usize;
-        let group = &log[from..from + 512];
+        let from = HEADER_SIZE + GROUP_SIZE * at.slot as usize;
+        let group = &log[from..from + GROUP_SIZE];
         let m = log_scan::in_group(left);
         sum = group_entries(group, groups, homes, start, number, at.turn, m, sum);
         at = log_scan::next_slot(at, groups);

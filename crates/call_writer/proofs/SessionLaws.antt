@@ -150,9 +150,9 @@ module _ (g : Given) (n r : ℕ) (e : r ≡ beginAnswer g) where
 
 -- ---- what an answer of 0 gives
 
-state-length : (g : Given) → InUse g → length (g .state) ≡ 1024
+state-sized : (g : Given) → InUse g → length (g .state) ≡ 1024
 unfolding stateRight
-state-length g u = eqb-true (length (g .state)) 1024 (u .stateFits)
+state-sized g u = eqb-true (length (g .state)) 1024 (u .stateFits)
 
 writer-below : (g : Given) → writerKnown g ≡ true → g .writer < 8
 unfolding writerKnown
@@ -170,21 +170,21 @@ writer-fits g r e z =
 pub begin-fits : (g : Given) (r : ℕ) → r ≡ beginAnswer g → r ≡ 0 → (length (g .state) ≡ 1024) × (g .writer < 8)
 begin-fits g r e z =
     let h = begin-ready g (sym e ∙ z) in
-    (state-length g (h .0), writer-below g (h .1))
+    (state-sized g (h .0), writer-below g (h .1))
 
 pub reserve-fits : (g : Given) (n r : ℕ) → r ≡ reserveAnswer g n → r ≡ 0 → (length (g .state) ≡ 1024) × (g .writer < 8)
 reserve-fits g n r e z =
     let h = reserve-ready g n (sym e ∙ z) in
-    (state-length g (h .0), writer-below g (h .1))
+    (state-sized g (h .0), writer-below g (h .1))
 
 pub abort-fits : (g : Given) (r : ℕ) → r ≡ abortAnswer g → r ≡ 0 → (length (g .state) ≡ 1024) × (g .writer < 8)
 abort-fits g r e z =
     let h = abort-ready g (sym e ∙ z) in
-    (state-length g (h .0), writer-below g (h .1))
+    (state-sized g (h .0), writer-below g (h .1))
 
 pub confirm-fits : (g : Given) (r : ℕ) → r ≡ askState g 0 → r ≡ 0 → length (g .state) ≡ 1024
 unfolding confirmAnswer
-confirm-fits g r e z = state-length g (confirm-ready g (sym e ∙ z))
+confirm-fits g r e z = state-sized g (confirm-ready g (sym e ∙ z))
 
 -- ---- how they end
 

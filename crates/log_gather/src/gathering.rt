@@ -1,4 +1,6 @@
 // The pass over the log that finds the last closing entry of each transaction, by its first position, and chains the entries of each word of homes.
+use base_codec::GROUP_SIZE;
+use base_codec::HEADER_SIZE;
 use model::Tag;
 ghost use mathlib.Core.Path.{_≡_};
 ghost use Prim.Native.Nat.{_+_, _-_, _*_, _^_, _≤_, _<_};
@@ -104,8 +106,8 @@ pub fn gather(
     let mut number = start;
     let mut at = log_scan::first_slot(start, groups);
     while left > 0 {
-        let from = 64 + 512 * at.slot as usize;
-        let group = &log[from..from + 512];
+        let from = HEADER_SIZE + GROUP_SIZE * at.slot as usize;
+        let group = &log[from..from + GROUP_SIZE];
         let m = log_scan::in_group(left);
         visit_group(
             group,

@@ -1,6 +1,8 @@
 // The pass over the log that applies the commit rule and chains the entries of each word of homes. A transaction's cell, by its first
 // position, counts its entries until a closing entry of it is committed; from then on it holds that closing entry, above a mark.
 use super::gathering::chain;
+use base_codec::GROUP_SIZE;
+use base_codec::HEADER_SIZE;
 use log_scan::Progress;
 use model::Tag;
 ghost use mathlib.Core.Path.{_≡_};
@@ -206,8 +208,8 @@ fn pass(
     let mut number = start;
     let mut left = n;
     while left > 0 {
-        let from = 64 + 512 * at.slot as usize;
-        let group = &log[from..from + 512];
+        let from = HEADER_SIZE + GROUP_SIZE * at.slot as usize;
+        let group = &log[from..from + GROUP_SIZE];
         let m = log_scan::in_group(left);
         progress = visit_group(
             group,

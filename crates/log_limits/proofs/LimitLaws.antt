@@ -27,7 +27,7 @@ pub trim-is : (s : List ℕ) (spans : List Span) (start limit r₁ r : ℕ) → 
 unfolding mayStart
 trim-is s spans start limit r₁ r a b h k =
     largest-is (mayStart s spans) start (limit - start) r a (omega (arith, h .most, k .most))
-    (rw (k .free, open-below s (7 * r₁) (7 * r) 8 (omega (arith, k .most)) (h .free)))
+    (rw (k .allowed, open-below s (7 * r₁) (7 * r) 8 (omega (arith, k .most)) (h .allowed)))
     (λ t l m. go t l (omega arith) (decLe t r₁))
   where
     go : (t : ℕ) → r < t → t ≤ limit → Dec (t ≤ r₁) → (noneAcross (7 * t) spans && noneOpenBefore (7 * t) s 8) ≡ false

@@ -178,7 +178,7 @@ module _ (tags : ℕ → Tag) (base end : ℕ) where
   lowered-end from limit lowest a b o =
       record {
         most = o .most;
-        free = across-free tags base (7 * lowest) (end - base) (λ i h f l c j e x y. let k = o .seen (base + i) h f l c (omega arith) (omega arith) e in omega arith);
+        allowed = across-free tags base (7 * lowest) (end - base) (λ i h f l c j e x y. let k = o .seen (base + i) h f l c (omega arith) (omega arith) e in omega arith);
         above = o .above;
       }
 

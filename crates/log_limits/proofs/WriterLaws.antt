@@ -57,7 +57,7 @@ open-below s p q (suc n) h e =
 
 pub open-none : (s : List ℕ) (limit : ℕ) → Highest (λ t. noneOpenBefore (7 * t) s 0) limit limit
 unfolding noneOpenBefore
-open-none s limit = record { most = omega arith; free = refl; above = λ t h k. absurd (omega arith) }
+open-none s limit = record { most = omega arith; allowed = refl; above = λ t h k. absurd (omega arith) }
 
 pub open-turn : (s : List ℕ) (n limit r r' : ℕ) → r' ≡ writerLimit (writerOf s n) r → Highest (λ t. noneOpenBefore (7 * t) s n) limit r
     → Highest (λ t. noneOpenBefore (7 * t) s (n + 1)) limit r'
@@ -72,7 +72,7 @@ open-turn s n limit r r' e i = rw add-one (go (hasLogged (writerOf s n)) refl)
         let q : r' ≡ min (first / 7) r = rw f at e in
         record {
           most = omega (arith, i .most);
-          free = rw (f, open-below s (7 * r) (7 * r') n (omega arith) (i .free), le-ltb first (7 * r') (omega arith));
+          allowed = rw (f, open-below s (7 * r) (7 * r') n (omega arith) (i .allowed), le-ltb first (7 * r') (omega arith));
           above = λ t h k. rw f (over t h k q (decLt first (7 * t)));
         }
       where
@@ -84,7 +84,7 @@ open-turn s n limit r r' e i = rw add-one (go (hasLogged (writerOf s n)) refl)
         let q : r' ≡ r = rw f at e in
         record {
           most = omega (arith, i .most);
-          free = rw (f, q, i .free);
+          allowed = rw (f, q, i .allowed);
           above = λ t h k. rw (f, i .above t (omega arith) k);
         }
 

@@ -11,7 +11,7 @@ use Rattle.model.specs.declared.Tag.the-variants.{Nothing, Entry, Closing}
 -- r is the highest start up to a limit that a test allows
 pub record Highest (may : ℕ → Bool) (limit r : ℕ) : Type 0 where
   pub most : r ≤ limit
-  pub free : may r ≡ true
+  pub allowed : may r ≡ true
   pub above : (s : ℕ) → r < s → s ≤ limit → may s ≡ false
 
 -- a limit lowered to the group in which an open transaction with logged entries begins

@@ -1,4 +1,6 @@
 // The highest start that no transaction of the closing entries below a position lies across: one pass over the log's groups, from the last down.
+use base_codec::GROUP_SIZE;
+use base_codec::HEADER_SIZE;
 use model::Tag;
 ghost use mathlib.Core.Path.{_≡_};
 ghost use mathlib.Core.Bool.{true};
@@ -110,8 +112,8 @@ pub fn closed_limit(log: &[u8], groups: u64, homes: u64, start: u64, end: u64, l
     while number > lowest {
         number -= 1;
         at = log_scan::previous_slot(at, groups);
-        let from = 64 + 512 * at.slot as usize;
-        let group = &log[from..from + 512];
+        let from = HEADER_SIZE + GROUP_SIZE * at.slot as usize;
+        let group = &log[from..from + GROUP_SIZE];
         let m = log_scan::in_group(end - 7 * number);
         lowest = group_limit(group, groups, homes, start, number, at.turn, m, lowest);
     }

@@ -2,6 +2,8 @@
 use crate::groups::keep_alone;
 use crate::groups::keep_between;
 use crate::groups::keep_whole;
+use base_codec::GROUP_SIZE;
+use base_codec::HEADER_SIZE;
 use log_scan::RingSlot;
 ghost use mathlib.Core.Path.{_≡_};
 ghost use mathlib.Core.List.{List};
@@ -40,8 +42,8 @@ fn keep_rest(
         ≡ keptOver (entryAt (now (log .entry)) groups homes start) first (7 * start) (7 * pass .number + m - 7 * start) before) ⌝ }
 {
     let at = pass.at;
-    let from = 64 + 512 * at.slot as usize;
-    let group = &log[from..from + 512];
+    let from = HEADER_SIZE + GROUP_SIZE * at.slot as usize;
+    let group = &log[from..from + GROUP_SIZE];
     keep_between(
         group,
         groups,
@@ -75,8 +77,8 @@ fn keep_groups(
     let mut number = from;
     let mut at = ring;
     while 7 * number + 7 <= end {
-        let byte = 64 + 512 * at.slot as usize;
-        let group = &log[byte..byte + 512];
+        let byte = HEADER_SIZE + GROUP_SIZE * at.slot as usize;
+        let group = &log[byte..byte + GROUP_SIZE];
         let done = keep_whole(group, groups, homes, start, number, at.turn, first, newest);
         if done != 7 {
             return Pass { number, at, done };
@@ -164,7 +166,7 @@ pub fn keep_one(
         (now (newest .entry)) ⌝ }
 {
     let ring = log_scan::first_slot(number, groups);
-    let from = 64 + 512 * ring.slot as usize;
-    let group = &log[from..from + 512];
+    let from = HEADER_SIZE + GROUP_SIZE * ring.slot as usize;
+    let group = &log[from..from + GROUP_SIZE];
     keep_alone(group, groups, homes, start, number, ring.turn, k, newest)
 }

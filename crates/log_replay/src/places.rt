@@ -1,4 +1,6 @@
 // Places of the log by their offset from its start, where `slot` is the ring slot of the start.
+use base_codec::GROUP_SIZE;
+use base_codec::HEADER_SIZE;
 use model::Tag;
 ghost use mathlib.Core.Path.{_≡_};
 ghost use mathlib.Core.Bool.{true};
@@ -24,8 +26,8 @@ pub fn entry_from(log: &[u8], groups: u64, homes: u64, start: u64, slot: u64, of
     ensures { λ r. ⌜ r ≡ entryAt (now (log .entry)) groups homes start (7 * start + offset) ⌝ }
 {
     let base = 7 * start;
-    let from = 64 + 512 * slot_after(slot, offset / 7, groups) as usize;
-    let group = &log[from..from + 512];
+    let from = HEADER_SIZE + GROUP_SIZE * slot_after(slot, offset / 7, groups) as usize;
+    let group = &log[from..from + GROUP_SIZE];
     log_scan::tag_in(group, (offset % 7) as usize, base + offset, base, homes)
 }
 

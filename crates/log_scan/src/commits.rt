@@ -2,6 +2,8 @@
 use super::groups::word_there;
 use super::slots::first_slot;
 use super::slots::next_slot;
+use base_codec::GROUP_SIZE;
+use base_codec::HEADER_SIZE;
 ghost use mathlib.Core.Path.{_≡_};
 ghost use mathlib.Core.Bool.{true, _&&_};
 ghost use Prim.Native.Nat.{ℕ, _+_, _-_, _*_, _^_, min, _<_, _≤_};
@@ -265,8 +267,8 @@ pub fn walk_with(
     let mut number = start;
     let mut left = n;
     while left > 0 {
-        let from = 64 + 512 * at.slot as usize;
-        let group = &log[from..from + 512];
+        let from = HEADER_SIZE + GROUP_SIZE * at.slot as usize;
+        let group = &log[from..from + GROUP_SIZE];
         let m = in_group(left);
         progress = visit_group(
             group,

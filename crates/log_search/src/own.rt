@@ -1,4 +1,6 @@
 // The newest entry for a home in a writer's open transaction: one pass over the log from the transaction's first position on.
+use base_codec::GROUP_SIZE;
+use base_codec::HEADER_SIZE;
 use model::Tag;
 ghost use mathlib.Core.Path.{_≡_};
 ghost use Prim.Native.Nat.{_+_, _-_, _*_, _^_, _≤_, _<_};
@@ -99,8 +101,8 @@ pub fn newest_own(
     let mut at = log_scan::first_slot(number, groups);
     let mut left = end - 7 * number;
     while left > 0 {
-        let from = 64 + 512 * at.slot as usize;
-        let group = &log[from..from + 512];
+        let from = HEADER_SIZE + GROUP_SIZE * at.slot as usize;
+        let group = &log[from..from + GROUP_SIZE];
         let m = log_scan::in_group(left);
         newest = note_group(
             group,

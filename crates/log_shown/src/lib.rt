@@ -1,4 +1,7 @@
 // What a home shows where a position is kept for it: the block of the entry there, if one for that home is, else that of the data copy.
+use base_codec::GROUP_SIZE;
+use base_codec::HEADER_SIZE;
+
 mod ring;
 mod tags;
 
@@ -24,8 +27,8 @@ fn entry_there(log: &[u8], st: State, home: u64, after: u64, at: RingPlace) -> b
     ensures { λ r. ⌜ r ≡ (present (tagsBy (now (log .entry)) st (7 * st .start + after))
         && eqb (homeOf (tagsBy (now (log .entry)) st (7 * st .start + after))) home) ⌝ }
 {
-    let from = 64 + 512 * at.slot as usize;
-    let group = &log[from..from + 512];
+    let from = HEADER_SIZE + GROUP_SIZE * at.slot as usize;
+    let group = &log[from..from + GROUP_SIZE];
     if !base_codec::has_group_head(group, 0, at.number) {
         return false;
     }
@@ -50,7 +53,7 @@ fn place_by(log: &[u8], st: State, home: u64, position: u64) -> usize
     if !entry_there(log, st, home, after, at) {
         return 0;
     }
-    64 + 512 * at.slot as usize + (64 + 64 * at.k as usize)
+    HEADER_SIZE + GROUP_SIZE * at.slot as usize + (64 + 64 * at.k as usize)
 }
 
 // The same by the strip. Called by one name from everywhere, so that of its numbers only those that are compared are read.

@@ -108,8 +108,8 @@ module _ (G D : ℕ) (z : Sizes G D) (w : World) (r : Running G D w) (s : Store)
       placed : Placed G D y
       placed = placed-then G D z w r s a p v batch h e
 
-      state-is : y .state ≡ keepList left
-      state-is = c-state-is G D z w r v lv (held-mode G D z w r s a p v batch h e) (held-roomy G D z w r s a p v batch h e) batch
+      state-now : y .state ≡ keepList left
+      state-now = c-state-is G D z w r v lv (held-mode G D z w r s a p v batch h e) (held-roomy G D z w r s a p v batch h e) batch
 
       state-size : length (left .state) ≡ 1024
       state-size = left-size G D z w r v lv (held-mode G D z w r s a p v batch h e) (held-roomy G D z w r s a p v batch h e) batch
@@ -132,9 +132,9 @@ module _ (G D : ℕ) (z : Sizes G D) (w : World) (r : Running G D w) (s : Store)
       moved-signed : listMoved left ≡ true → Signed D y
       moved-signed t m =
           let q : readList left ≡ listIn D y =
-          list-numbers (left .state) (y .state) (y .newest) (y .log) (y .area) (sym (ap stateOf state-is ∙ state-keepList left))
+          list-numbers (left .state) (y .state) (y .newest) (y .log) (y .area) (sym (ap stateOf state-now ∙ state-keepList left))
           ∙ (unfold lent in list-shown G D z y runs placed m) in
-          subst (λ (n : ℕ). Faithful n (listIn D y)) (sym (ap listSign state-is ∙ sign-moves left t state-size ∙ ap signFor q)) (sign-faithful (listIn D y))
+          subst (λ (n : ℕ). Faithful n (listIn D y)) (sym (ap listSign state-now ∙ sign-moves left t state-size ∙ ap signFor q)) (sign-faithful (listIn D y))
 
       -- none has changed: the list is what it was
       stayed-signed : listMoved left ≡ false → Signed D y
@@ -146,7 +146,7 @@ module _ (G D : ℕ) (z : Sizes G D) (w : World) (r : Running G D w) (s : Store)
           same-list G D z w r p y runs placed (unfold commitHeld lent in refl)
           (commit-older G D z w r v lv (held-mode G D z w r s a p v batch h e) (held-roomy G D z w r s a p v batch h e) batch) m f in
           let k : listSign (y .state) ≡ listSign (w .state) =
-          ap listSign state-is ∙ sign-stays left t newest-size ∙ sign-listed (left .state) ∙ listed-left 4 ∙ sym (sign-listed (w .state)) in
+          ap listSign state-now ∙ sign-stays left t newest-size ∙ sign-listed (left .state) ∙ listed-left 4 ∙ sym (sign-listed (w .state)) in
           rw (k, q) (signed m)
 
       held-signed : Signed D y

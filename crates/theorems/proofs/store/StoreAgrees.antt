@@ -140,13 +140,13 @@ module _ (G D : ℕ) (z : Sizes G D) (w : World) (r : Running G D w) (s : Store)
   unfolding lent
   lent-homes block batch v h = ap homesIn (r .copies .areaSize) ∙ homes-in D
 
-  state-right : (block batch : List ℕ) (v h : ℕ) → stateInOrder (lent w block batch v h) ≡ true
+  state-ordered : (block batch : List ℕ) (v h : ℕ) → stateInOrder (lent w block batch v h) ≡ true
   unfolding stateInOrder
-  state-right block batch v h = rw (lent-groups block batch v h, lent-homes block batch v h) (unfold lent in order-in (w .state) G D o)
+  state-ordered block batch v h = rw (lent-groups block batch v h, lent-homes block batch v h) (unfold lent in order-in (w .state) G D o)
 
   pub asked : (block batch : List ℕ) (v h k : ℕ) → askState (lent w block batch v h) k ≡ k
   unfolding askState ask
-  asked block batch v h k = rw (areas-right block batch v h, state-right block batch v h, state-right block batch v h)
+  asked block batch v h k = rw (areas-right block batch v h, state-right block batch v h, state-ordered block batch v h)
 
   newest-right : (block batch : List ℕ) (v h : ℕ) → newestRight (lent w block batch v h) ≡ true
   unfolding newestRight
@@ -156,18 +156,18 @@ module _ (G D : ℕ) (z : Sizes G D) (w : World) (r : Running G D w) (s : Store)
   pub asked-newest : (block batch : List ℕ) (v h k : ℕ) → askNewest (lent w block batch v h) k ≡ k
   unfolding askNewest ask
   asked-newest block batch v h k =
-      rw (areas-right block batch v h, state-right block batch v h, newest-right block batch v h, state-right block batch v h)
+      rw (areas-right block batch v h, state-right block batch v h, newest-right block batch v h, state-ordered block batch v h)
 
   pub asked-both : (block batch : List ℕ) (v h k : ℕ) → askBoth (lent w block batch v h) k ≡ ask (eqb (length block) 64) 1 k
   unfolding askBoth
   asked-both block batch v h k =
-      rw (areas-right block batch v h, state-right block batch v h, newest-right block batch v h, state-right block batch v h)
+      rw (areas-right block batch v h, state-right block batch v h, newest-right block batch v h, state-ordered block batch v h)
       (unfold blockRight lent ask in refl)
 
   pub asked-block : (block batch : List ℕ) (v h k : ℕ) → askBlock (lent w block batch v h) k ≡ ask (eqb (length block) 64) 1 k
   unfolding askBlock
   asked-block block batch v h k =
-      rw (areas-right block batch v h, state-right block batch v h, state-right block batch v h) (unfold blockRight lent ask in refl)
+      rw (areas-right block batch v h, state-right block batch v h, state-ordered block batch v h) (unfold blockRight lent ask in refl)
 
   -- ---- writers
 
