@@ -9,7 +9,7 @@ FUZZ_CC = $(shell command -v clang-14 || command -v clang)
 FUZZ_FLAGS = -O1 -g -fno-omit-frame-pointer -fsanitize=fuzzer,address,undefined -fno-sanitize-recover=all -D_DEFAULT_SOURCE
 FUZZERS = image text
 
-FUZZ_image = c/inspect/fate c/inspect/image c/inspect/json c/inspect/rights c/inspect/text c/inspect/units \
+FUZZ_image = c/inspect/fate c/inspect/image c/inspect/json c/inspect/missing c/inspect/rights c/inspect/text c/inspect/units \
     $(addprefix c/common/,command copy homes image_file records rule) $(C_STORE) dist/kagutin
 FUZZ_text = c/bands/table c/carry/blocks c/carry/blocks_json c/gauges/readings c/gauges/times c/rights/list_file c/store/rights \
     $(addprefix c/common/,csv day text_file text_line) $(C_STORE) dist/kagutin

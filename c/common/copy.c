@@ -51,7 +51,10 @@ static bool check_shape(struct copy *copy, const char *path, const struct image_
     if (file->size < KAGUTIN_HEADER_SIZE)
         return say(copy, "%s: no image: it has %llu bytes", path, (unsigned long long)file->size);
     if (copy->image[0] == 0x50 && copy->image[1] == 0x48)
-        return say(copy, "%s: an image of an older format: the header's mark is 50 48, not 50 54", path);
+        return say(copy,
+                   "%s: an image of the older format (mark 50 48); 'kagutin export' and 'kagutin import' carry its homes into a "
+                   "new image",
+                   path);
     if (copy->image[0] != 0x50 || copy->image[1] != 0x54)
         return say(copy, "%s: no image: the header's mark is %02X %02X, not 50 54", path, copy->image[0], copy->image[1]);
     copy->groups = number16(copy->image + 8);
@@ -76,19 +79,20 @@ static bool open_store(struct copy *copy, const char *path)
     code = kgt_init(&copy->store, copy->memory, size, copy->groups, copy->homes, driver).code;
     if (code == KAGUTIN_DONE)
         code = kgt_open(&copy->store).code;
-    if (code != KAGUTIN_DONE)
-        return say(copy, "%s: cannot be opened: %s", path, kgt_answer_text(code));
-    return true;
+    if (code == KAGUTIN_WORN_OUT)
+        return say(copy, "%s: worn out; 'kagutin export' and 'kagutin import' carry its homes into a new image", path);
+    return code == KAGUTIN_DONE || say(copy, "%s: cannot be opened: %s", path, kgt_answer_text(code));
 }
 
-bool copy_open(struct copy *copy, const char *path)
+bool copy_open(struct copy *copy, const char *path, uint64_t base)
 {
     struct image_file file;
 
     memset(copy, 0, sizeof *copy);
-    if (!image_file_read(&file, path, 0, IMAGE_FILE_FREE))
+    if (!image_file_read(&file, path, base, IMAGE_FILE_FREE))
         return say(copy, "%s", file.message);
     copy->image = file.bytes;
+    copy->dump = file.dump;
     if (check_shape(copy, path, &file) && open_store(copy, path))
         return true;
     copy_close(copy);

@@ -25,15 +25,20 @@ static bool all_zero(const uint8_t *bytes, size_t size)
     return true;
 }
 
-/* Zeros, whatever the turn bits. */
+/* Zeros, whatever the turn bit. */
+static bool is_blank_block(const uint8_t *block)
+{
+    return all_zero(block, 63) && !(block[63] & 0x7F);
+}
+
 static bool is_blank(const uint8_t *group)
 {
-    size_t end;
+    size_t at;
 
     if (!all_zero(group, 64))
         return false;
-    for (end = 128; end <= 512; end += 64)
-        if (!all_zero(group + end - 64, 63) || (group[end - 1] & 0x7F))
+    for (at = 64; at < 512; at += 64)
+        if (!is_blank_block(group + at))
             return false;
     return true;
 }
@@ -52,6 +57,20 @@ enum slot_kind rule_slot_kind(const struct rule_log *log, size_t slot)
     if (number < log->start)
         return SLOT_TRIMMED;
     return number - log->start < log->groups ? SLOT_VALID : SLOT_BEYOND;
+}
+
+size_t rule_loose(const struct rule_log *log, size_t slot)
+{
+    enum slot_kind kind = rule_slot_kind(log, slot);
+    const uint8_t *group = rule_slot(log, slot);
+    uint64_t turn = rule_number(group + 2, 6) / log->groups % 2; /* of the trimmed group's own blocks */
+    size_t at, count = 0;
+
+    if (kind != SLOT_PART && (kind != SLOT_TRIMMED || log->older))
+        return 0;
+    for (at = 64; at < 512; at += 64)
+        count += !is_blank_block(group + at) && (kind == SLOT_PART || group[at + 63] >> 7 != turn);
+    return count;
 }
 
 bool rule_present(const struct rule_log *log, uint64_t position)

@@ -3,6 +3,7 @@
 #include <stdlib.h>
 #include <string.h>
 
+#include "common/command.h"
 #include "common/csv.h"
 #include "sheet.h"
 
@@ -39,7 +40,7 @@ static const char *field(const struct csv *csv, const struct last_sheet *last, e
 static void quit_row(struct csv *csv, const char *what, const char *text)
 {
     csv_complain(csv, what, text);
-    wear_quit("%s", csv->message);
+    command_quit(STATUS_TROUBLE, "%s", csv->message);
 }
 
 static uint64_t number(struct csv *csv, const struct last_sheet *last, enum column column)
@@ -52,7 +53,7 @@ static uint64_t number(struct csv *csv, const struct last_sheet *last, enum colu
     value = strtoull(text, &end, 10);
     if (text[0] < '0' || text[0] > '9' || *end || errno || value > UINT64_C(0xffffffffff)) {
         csv_complain(csv, "%s is no whole number: '%s'", column_names[column], text);
-        wear_quit("%s", csv->message);
+        command_quit(STATUS_TROUBLE, "%s", csv->message);
     }
     return value;
 }
@@ -64,9 +65,9 @@ static void read_heading(struct csv *csv, struct last_sheet *last)
     size_t i;
 
     if (got == CSV_BAD)
-        wear_quit("%s", csv->message);
+        command_quit(STATUS_TROUBLE, "%s", csv->message);
     if (got == CSV_END)
-        wear_quit("%s: no wear sheet: it is empty", csv->path);
+        command_quit(STATUS_TROUBLE, "%s: no wear sheet: it is empty", csv->path);
     for (column = 0; column < COLUMNS; column++) {
         last->places[column] = CSV_FIELDS;
         for (i = 0; i < csv->count; i++)
@@ -117,8 +118,8 @@ static void check_doubles(const struct csv *csv, const struct wear_sheet *sheet,
     for (i = 0; i < last->count; i++)
         for (j = 0; j < i && last->rows[i].station < sheet->station_count && last->rows[i].pump != WEAR_NO_PUMP; j++)
             if (last->rows[j].station == last->rows[i].station && last->rows[j].pump == last->rows[i].pump)
-                wear_quit("%s: pump %u of %s stands there twice, also as %s", csv->path, last->rows[i].pump, last->rows[i].image,
-                          last->rows[j].image);
+                command_quit(STATUS_TROUBLE, "%s: pump %u of %s stands there twice, also as %s", csv->path, last->rows[i].pump,
+                             last->rows[i].image, last->rows[j].image);
 }
 
 /* ---- comparison ---- */
@@ -255,12 +256,12 @@ void wear_compare(struct wear_sheet *sheet, const char *path)
     size_t i;
 
     if (!csv_open(&csv, path))
-        wear_quit("%s", csv.message);
+        command_quit(STATUS_TROUBLE, "%s", csv.message);
     read_heading(&csv, &last);
     while ((got = csv_read(&csv)) == CSV_ROW)
         read_row(&csv, sheet, &last);
     if (got == CSV_BAD)
-        wear_quit("%s", csv.message);
+        command_quit(STATUS_TROUBLE, "%s", csv.message);
     csv_close(&csv);
     check_doubles(&csv, sheet, &last);
     if (sheet->last_day > sheet->day)

@@ -5,6 +5,7 @@
 #include <stdlib.h>
 #include <string.h>
 
+#include "common/command.h"
 #include "common/page_file.h"
 #include "kagutin_hours.h"
 #include "sheet.h"
@@ -14,7 +15,7 @@ void *wear_room(void *old, size_t count, size_t size)
     void *room = count > SIZE_MAX / size ? NULL : realloc(old, count * size + 1);
 
     if (!room)
-        wear_quit("out of memory");
+        command_quit(STATUS_TROUBLE, "out of memory");
     return room;
 }
 
@@ -86,9 +87,9 @@ static bool complain_of(const struct wear_sheet *sheet, bool text_follows)
         if (text_follows && remark->kind != WEAR_UNREAD)
             continue;
         if (remark->image && remark->pump != WEAR_NO_PUMP)
-            wear_complain("%s: pump %u: %s", remark->image, remark->pump, remark->text);
+            command_say("%s: pump %u: %s", remark->image, remark->pump, remark->text);
         else
-            wear_complain("%s%s%s", remark->image ? remark->image : "", remark->image ? ": " : "", remark->text);
+            command_say("%s%s%s", remark->image ? remark->image : "", remark->image ? ": " : "", remark->text);
     }
     return all_read;
 }
@@ -99,12 +100,12 @@ static bool write_file(const struct wear_sheet *sheet, const char *path, const c
     struct page_file page;
 
     if (!page_create(&page, path, mark)) {
-        wear_complain("%s: cannot be created: %s", path, page.why);
+        command_say("%s: cannot be created: %s", path, page.why);
         return false;
     }
     write(sheet, page.file);
     if (!page_finish(&page)) {
-        wear_complain("%s: cannot be written: %s", path, page.why);
+        command_say("%s: cannot be written: %s", path, page.why);
         return false;
     }
     return true;
@@ -122,11 +123,7 @@ static bool write_sheet(const struct wear_sheet *sheet, const struct wear_option
         wear_csv(sheet, stdout);
     else if (!options->html && !options->csv)
         wear_text(sheet, stdout);
-    if (fflush(stdout) != 0 || ferror(stdout)) {
-        wear_complain("cannot write the output");
-        return false;
-    }
-    return done;
+    return command_end(STATUS_DONE) == STATUS_DONE && done;
 }
 
 /* The stations that were asked for. */
@@ -152,7 +149,7 @@ static struct wear_sheet new_sheet(const struct wear_options *options)
     sheet.stations = (struct wear_station *)calloc(options->count, sizeof *sheet.stations);
     sheet.rows = (struct wear_row *)calloc(KAGUTIN_PUMPS * options->count + 1, sizeof *sheet.rows);
     if (!sheet.stations || !sheet.rows)
-        wear_quit("out of memory");
+        command_quit(STATUS_TROUBLE, "out of memory");
     for (i = 0; i < options->count; i++)
         sheet.stations[i].path = options->images[i];
     return sheet;
@@ -189,5 +186,5 @@ int wear_main(int count, char **words)
         done = write_sheet(&sheet, &options) && done;
     free_sheet(&sheet);
     free(options.now);
-    return done ? WEAR_STATUS_DONE : WEAR_STATUS_TROUBLE;
+    return done ? STATUS_DONE : STATUS_TROUBLE;
 }

@@ -29,7 +29,7 @@ void inspect_quit(int status, const char *format, ...)
 static void inspect(const char *path, uint8_t told)
 {
     static struct image image;
-    struct options options = {NULL, false, NOT_GIVEN, NOT_GIVEN, NOT_GIVEN};
+    struct options options = {NULL, false, NOT_GIVEN, NOT_GIVEN, NOT_GIVEN, 0};
     struct rule_walk walk;
     struct fates fates;
 
@@ -38,7 +38,8 @@ static void inspect(const char *path, uint8_t told)
         options.groups = 4 + told / 16;
     memset(&image, 0, sizeof image);
     if (setjmp(given_up) == 0) {
-        image_read(&image, path);
+        options.path = path;
+        image_read(&image, &options);
         image_check_header(&image);
         image_choose_shape(&image, &options);
         image_check(&image);
@@ -62,7 +63,7 @@ static void compare(const char *path)
 
     if (!homes_read(&homes, path, 0, false))
         return;
-    if (homes.homes <= MOST_HOMES && copy_open(&copy, path)) {
+    if (homes.homes <= MOST_HOMES && copy_open(&copy, path, 0)) {
         if (homes.older || homes.worn_out || copy.homes != homes.homes)
             abort();
         for (home = 0; home < homes.homes; home++)
