@@ -17,12 +17,12 @@ const uint8_t *rule_slot(const struct rule_log *log, size_t slot)
     return log->bytes + 64 + 512 * slot;
 }
 
+/* Up to 64 bytes. */
 static bool all_zero(const uint8_t *bytes, size_t size)
 {
-    while (size > 0)
-        if (bytes[--size])
-            return false;
-    return true;
+    static const uint8_t zeros[64] = {0};
+
+    return memcmp(bytes, zeros, size) == 0;
 }
 
 /* Zeros, whatever the turn bit. */
@@ -75,9 +75,11 @@ size_t rule_loose(const struct rule_log *log, size_t slot)
 
 bool rule_present(const struct rule_log *log, uint64_t position)
 {
-    size_t slot = (size_t)(position / 7 % log->groups);
+    uint64_t number = position / 7;
+    const uint8_t *group = rule_slot(log, (size_t)(number % log->groups));
 
-    return rule_slot_kind(log, slot) == SLOT_VALID && rule_number(rule_slot(log, slot) + 2, 6) == position / 7;
+    return number >= log->start && number - log->start < log->groups && group[0] == 0x50 && group[1] == 0x47
+        && rule_number(group + 2, 6) == number;
 }
 
 /* Why a tag reads as nothing; null if it reads as an entry. */

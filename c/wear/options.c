@@ -29,26 +29,6 @@ static const char help[] =
     "Status: 0 done, 2 wrong options, 3 a file cannot be read or written or has a bad row, or an image has no homes for\n"
     "pumps or something else in them; the others are in the sheet all the same, and with none there is no sheet.\n";
 
-const char *wear_name(const char *path)
-{
-    const char *slash = strrchr(path, '/');
-
-    return slash && slash[1] ? slash + 1 : path;
-}
-
-int wear_match(const char *path, const char *name)
-{
-    const char *file = wear_name(path), *other = wear_name(name), *ending = strrchr(file, '.');
-
-    if (strcmp(path, name) == 0)
-        return 0;
-    if (strcmp(file, other) == 0)
-        return 1;
-    if (ending && strlen(other) == (size_t)(ending - file) && strncmp(file, other, strlen(other)) == 0)
-        return 2;
-    return WEAR_NO_MATCH;
-}
-
 /* SECOND, or IMAGE=SECOND; the last = parts them. */
 static void take_now(struct wear_options *options, char *text)
 {
