@@ -88,6 +88,7 @@ gives 0 "store: places promised beforehand" "$san/reserve_check"
 gives 0 "store: settling in small steps, cut inside a round" "$san/round_check"
 gives 0 "store: the list of rights, its ranges and the moment it counts" "$san/rights_check"
 gives 0 "files: written and mapped, stopped inside writes, locks, failures" "$san/file_check" "$fast"
+gives 0 "files: made by many at once, by a process that is killed, or not at all" "$san/create_check" "$tmp"
 gives 0 "FRAM: power gone after every byte, at work and inside a format" "$out/fram_check" 1
 gives 0 "FRAM: under sanitizers" "$san/fram_check" 13
 gives 0 "FRAM: dumps by the tools' readers, against the driver" "$san/dump_check" "$fast" 300

@@ -290,6 +290,18 @@ done
 (cd "$tmp" && "$home/$k" make -- -odd.img 4 30 && "$home/$k" inspect -- -odd.img && "$home/$k" alarms --csv -- -odd.img && "$home/$k" wear -- -odd.img) > "$tmp/out" 2> "$tmp/log"
 report $? "names behind --"
 
+# --- killed while a file is written: nothing is left of it, where the file system has files without a name ---
+mkdir "$tmp/killed"
+if python3 -c 'import os, sys; os.open(sys.argv[1], os.O_TMPFILE | os.O_RDWR)' "$tmp/killed" 2> "$tmp/log"; then
+    for words in "make killed/x.img 16 32" "import homes.csv killed/x.img" "convert again.img killed/x.bin" "wear --html killed/x.html again.img" \
+        "wear --all --csv=killed/x.csv again.img north.img new.img"; do
+        (cd "$tmp" && ulimit -f 1 && exec "$home/$out/kagutin" $words) > "$tmp/out" 2> "$tmp/log"
+        [ $? -gt 128 ] && [ -z "$(ls "$tmp/killed")" ]; report $? "$words: killed, and nothing is left"
+    done
+else
+    echo "skipped kills while a file is written: no files without a name here"
+fi
+
 # --- FIFOs and folders ---
 mkfifo "$tmp/fifo"
 mkdir "$tmp/folder"
