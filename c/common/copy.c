@@ -46,6 +46,7 @@ static size_t number16(const uint8_t *bytes)
 /* Finds the shape, and holds the size against it; a dump may have more behind. */
 static bool check_shape(struct copy *copy, const char *path, const struct image_file *file)
 {
+    char hint[IMAGE_FILE_HINT];
     size_t size;
 
     if (file->size < KAGUTIN_HEADER_SIZE)
@@ -56,7 +57,8 @@ static bool check_shape(struct copy *copy, const char *path, const struct image_
                    "new image",
                    path);
     if (copy->image[0] != 0x50 || copy->image[1] != 0x54)
-        return say(copy, "%s: no image: the header's mark is %02X %02X, not 50 54", path, copy->image[0], copy->image[1]);
+        return say(copy, "%s: no image: the header's mark is %02X %02X, not 50 54%s", path, copy->image[0], copy->image[1],
+                   image_file_hint(file, hint));
     copy->groups = number16(copy->image + 8);
     copy->homes = number16(copy->image + 10);
     size = KGT_LOG_SIZE(copy->groups) + KGT_HOMES_SIZE(copy->homes);

@@ -133,6 +133,30 @@ static bool read_bytes(struct image_file *file, const char *path, int descriptor
     return true;
 }
 
+/* The first place where a copy of a dump's header stands, of this format or the older one. */
+static void look_for_store(struct image_file *file)
+{
+    size_t at;
+
+    for (at = 1; at + HEADER <= file->read; at++) {
+        const uint8_t *bytes = file->bytes + at;
+
+        if (bytes[0] == 0x50 && (bytes[1] == 0x54 || bytes[1] == 0x48) && whole(bytes)) {
+            file->found = file->base + at;
+            return;
+        }
+    }
+}
+
+const char *image_file_hint(const struct image_file *file, char text[IMAGE_FILE_HINT])
+{
+    text[0] = '\0';
+    if (file->found)
+        snprintf(text, IMAGE_FILE_HINT, "; a store begins at byte %llu: --base %llu", (unsigned long long)file->found,
+                 (unsigned long long)file->found);
+    return text;
+}
+
 static bool read_file(struct image_file *file, const char *path, int descriptor, uint64_t base, enum image_file_use use)
 {
     struct stat status;
@@ -153,6 +177,8 @@ static bool read_file(struct image_file *file, const char *path, int descriptor,
     if (!read_bytes(file, path, descriptor))
         return false;
     join_header(file);
+    if (!file->dump && !is_image(file->bytes))
+        look_for_store(file);
     return true;
 }
 

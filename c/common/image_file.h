@@ -6,6 +6,8 @@
 #include <stddef.h>
 #include <stdint.h>
 
+enum { IMAGE_FILE_HINT = 80 };
+
 /* The largest image, in bytes. */
 #define IMAGE_FILE_MOST (64u + 512u * 1024u + 64u * 65535u)
 
@@ -27,6 +29,8 @@ struct image_file {
     bool dump;
     unsigned copy;                    /* of a dump: the copy that counts, 0 or 1 */
     enum image_file_header the_other; /* of a dump: the other copy */
+    uint64_t
+        found; /* no store begins at the base: where in the file a dump's header stands, to be named in a message; 0 if nowhere */
     char message[320];
 };
 
@@ -42,6 +46,9 @@ enum image_file_use { IMAGE_FILE_FREE, IMAGE_FILE_IN_USE };
 bool image_file_read(struct image_file *file, const char *path, uint64_t base, enum image_file_use use);
 
 void image_file_free(struct image_file *file);
+
+/* For messages about a header without its mark: "; a store begins at byte N: --base N", or nothing. */
+const char *image_file_hint(const struct image_file *file, char text[IMAGE_FILE_HINT]);
 
 /* The 64 bytes of a dump's header: both copies, the same. */
 void image_file_split_header(const uint8_t header[64], uint8_t copies[64]);

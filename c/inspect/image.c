@@ -37,6 +37,7 @@ void image_read(struct image *image, const struct options *options)
     image->dump = file.dump;
     image->copy = file.copy;
     image->the_other = file.the_other;
+    image_file_hint(&file, image->hint);
 }
 
 /* The format before turn bits; all else in its header is as now. */
@@ -58,11 +59,11 @@ void image_check_header(struct image *image)
     if (image->file_size < HEADER)
         image_note(image, "header: the file ends inside it, after %lu bytes", (unsigned long)image->file_size);
     else if (set == 0)
-        image_note(image, "header: zeros, a format that has not finished");
+        image_note(image, "header: zeros, a format that has not finished%s", image->hint);
     else if (is_older(image))
         image_note(image, "header: mark 50 48, an older format, whose groups landed whole; not 50 54");
     else if (!image->mark_fits)
-        image_note(image, "header: mark %02X %02X, not 50 54", header[0], header[1]);
+        image_note(image, "header: mark %02X %02X, not 50 54%s", header[0], header[1], image->hint);
     if (set && (groups < 4 || groups > MAX_GROUPS))
         image_note(image, "header: %lu groups, they go from 4 to 1024", (unsigned long)groups);
     if (set && (homes < 1 || homes > MAX_HOMES))
@@ -153,7 +154,7 @@ void image_choose_shape(struct image *image, const struct options *options)
         groups = options->groups;
     } else if (!known) {
         for (i = 0; i < image->note_count; i++)
-            fprintf(stderr, "inspect: %s: %s\n", image->path, image->notes[i]);
+            inspect_say("%s: %s", image->path, image->notes[i]);
         inspect_quit(STATUS_DAMAGED, "%s: the header does not say how many groups there are; give --groups N", image->path);
     }
     image->log.groups = (size_t)groups;

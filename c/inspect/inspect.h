@@ -30,6 +30,7 @@ struct image {
     bool dump;                        /* of a serial FRAM: the header stands in two copies */
     unsigned copy;                    /* of a dump: the copy that counts */
     enum image_file_header the_other; /* and the other */
+    char hint[IMAGE_FILE_HINT];       /* where a store begins, if none does at the base */
     bool mark_fits, header_fits;
     struct rule_log log;
     const char *start_from;        /* where the start was taken from */
@@ -57,7 +58,8 @@ struct fates {
     size_t torn;              /* places of which a part has arrived: the tag alone, or a block whose group's number has not */
 };
 
-/* Says why and ends the program. */
+/* Says something on standard error; and says why and ends the program. */
+void inspect_say(const char *format, ...);
 void inspect_quit(int status, const char *format, ...);
 
 /* In this order: reads the file; notes what is wrong with its header; finds G, D and the start; notes other damage. */

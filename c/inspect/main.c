@@ -28,6 +28,17 @@ static const char help[] =
     "Status: 0 the image is sound, 1 it is damaged, or homes of bands, pumps or alarms hold something else, 2 wrong\n"
     "options, 3 the file cannot be read.\n";
 
+void inspect_say(const char *format, ...)
+{
+    char message[512];
+    va_list arguments;
+
+    va_start(arguments, format);
+    vsnprintf(message, sizeof message, format, arguments);
+    va_end(arguments);
+    command_say("%s", message);
+}
+
 void inspect_quit(int status, const char *format, ...)
 {
     char message[512];

@@ -18,6 +18,12 @@ enum { MOST_HOMES = 2000 }; /* more cost time and show nothing else */
 
 static jmp_buf given_up;
 
+/* The fuzzer's own messages are to be seen. */
+void inspect_say(const char *format, ...)
+{
+    (void)format;
+}
+
 /* The inspector's way to end, back into the fuzzer. */
 void inspect_quit(int status, const char *format, ...)
 {
