@@ -12,7 +12,7 @@
 # make bench      instructions and times of each call against the reference implementation; other stores, if installed
 # make bench-docs tables of docs/PERFORMANCE.md and docs/ring-cost.svg from the last bench
 # make install    program, manual pages, headers, libraries and pkg-config files, under DESTDIR and PREFIX; make uninstall takes them away; make arduino a library for it
-# make kagutin    the program, target/c/kagutin; its subcommands inspect, wear, bands, gauges, inflow and station are links to it, too
+# make kagutin    the program, target/c/kagutin, and links to it by the names of the older programs: inspect, wear, bands, gauges, inflow, station
 # make quickstart the example
 # make c-check    tests of the C side alone; make c-kills KILLS=N kills a process at work N times
 # make page       docs/page/index.html, a page that opens an image and lets anyone cut the power

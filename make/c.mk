@@ -38,6 +38,7 @@ C_RESERVE_CHECK = tests/store/reserve_check $(C_STORE)
 C_ROUND_CHECK = tests/store/round_check $(C_STORE)
 C_RIGHTS_CHECK = tests/store/rights_check $(C_STORE)
 C_FILE_CHECK = tests/drivers/file_check tests/common/play $(C_STORE)
+C_CREATE_CHECK = tests/drivers/create_check $(C_STORE)
 C_KILL_CHECK = tests/drivers/kill_check tests/common/play $(C_STORE)
 C_FRAM_CHECK = tests/drivers/fram_check tests/common/play $(C_STORE)
 C_DUMP_CHECK = tests/drivers/dump_check tests/common/play c/common/homes c/common/copy c/common/image_file c/common/rule $(C_STORE)
@@ -48,7 +49,7 @@ C_SEAL_CHECK = tests/programs/seal_check $(C_STORE)
 C_GAUGES_COST = tests/costs/gauges_cost
 C_RIGHTS_COST = tests/costs/rights_cost
 C_QUESTION_COST = tests/costs/question_cost
-C_PROGRAMS = quickstart driver_check store_check reserve_check round_check rights_check file_check kill_check fram_check dump_check format_check reopen_check disk_check seal_check gauges_cost rights_cost question_cost
+C_PROGRAMS = quickstart driver_check store_check reserve_check round_check rights_check file_check create_check kill_check fram_check dump_check format_check reopen_check disk_check seal_check gauges_cost rights_cost question_cost
 
 .PHONY: quickstart c-sanitize c-check c-kills c-dist install uninstall c-clean
 
@@ -90,6 +91,7 @@ $(eval $(call C_PROGRAM,reserve_check,$(C_RESERVE_CHECK),$(LIB)))
 $(eval $(call C_PROGRAM,round_check,$(C_ROUND_CHECK),$(LIB)))
 $(eval $(call C_PROGRAM,rights_check,$(C_RIGHTS_CHECK),$(LIB)))
 $(eval $(call C_PROGRAM,file_check,$(C_FILE_CHECK),$(LIB)))
+$(eval $(call C_PROGRAM,create_check,$(C_CREATE_CHECK),$(LIB)))
 $(eval $(call C_PROGRAM,kill_check,$(C_KILL_CHECK),$(LIB)))
 $(eval $(call C_PROGRAM,fram_check,$(C_FRAM_CHECK),$(LIB)))
 $(eval $(call C_PROGRAM,dump_check,$(C_DUMP_CHECK),$(LIB)))

@@ -9,10 +9,11 @@
 #include "kagutin/programs.h"
 
 static const char help[] =
-    "usage: kagutin alarms [--csv] IMAGE..\n"
+    "usage: kagutin alarms [--csv] [--base N] IMAGE..\n"
     "Lists the open alarms of images and of raw dumps of a serial FRAM, the gravest of each at the top: the lowest class,\n"
     "then the earliest second, then the lowest identity.\n"
-    "  --csv   one row an alarm: image, rank, identity, class, second\n"
+    "  --csv      one row an alarm: image, rank, identity, class, second\n"
+    "  --base N   where the store begins in dumps (0)\n"
     "  -h, --help, --version\n"
     "The images stay as they are, and rights are not asked for. Status: 0 done, 1 homes 24 to 29 hold no list of alarms,\n"
     "2 wrong options, 3 an image cannot be read; the others are listed all the same.\n";
@@ -65,13 +66,13 @@ static void print_text(const char *path, const struct alarms_record *alarms)
                (unsigned long)alarms->open[i].second);
 }
 
-static int list(const char *path, bool csv)
+static int list(const char *path, uint64_t base, bool csv)
 {
     struct alarms_record alarms;
     struct homes homes;
     const char *why;
 
-    if (!homes_read(&homes, path, 0, false)) {
+    if (!homes_read(&homes, path, base, false)) {
         command_say("%s", homes.message);
         return STATUS_TROUBLE;
     }
@@ -90,12 +91,15 @@ static int list(const char *path, bool csv)
 int alarms_main(int count, char **words)
 {
     int i, images = 0, status = STATUS_DONE;
+    uint64_t base = 0;
     bool csv = false;
 
     command_start("alarms", help);
     for (i = 1; i < count; i++) {
         if (strcmp(words[i], "--csv") == 0)
             csv = true;
+        else if (command_base(words[i], words[i + 1], &base))
+            i++;
         else if (!command_option(words[i]))
             words[images++] = words[i];
     }
@@ -104,7 +108,7 @@ int alarms_main(int count, char **words)
     if (csv)
         puts("image,rank,identity,class,second");
     for (i = 0; i < images; i++) {
-        int got = list(words[i], csv);
+        int got = list(words[i], base, csv);
 
         if (got > status)
             status = got;

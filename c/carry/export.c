@@ -14,7 +14,7 @@ static const char help[] =
     "left out. A worn-out image is read like any other, and so is one of the older format (mark 50 48): 'kagutin import'\n"
     "makes a new image of what is printed.\n"
     "  --as KIND  json, csv or hex (json)\n"
-    "  --base N   where the store begins in the file (0)\n"
+    "  --base N   where the store begins in a dump (0)\n"
     "  -h, --help, --version\n"
     "Status: 0 done, 2 wrong options, 3 the file cannot be read, or is damaged.\n";
 
@@ -89,8 +89,8 @@ int export_main(int count, char **words)
     for (i = 1; i < count; i++) {
         if (strcmp(words[i], "--as") == 0)
             as = command_value("--as", words[++i]);
-        else if (strcmp(words[i], "--base") == 0)
-            base = command_number("--base", words[++i], 0, UINT32_MAX);
+        else if (command_base(words[i], words[i + 1], &base))
+            i++;
         else if (command_option(words[i]))
             continue;
         else if (path)
