@@ -57,6 +57,8 @@ WRONG = [
     ("kagutin_rights", "return kgt_sync(&store).mark >= set.ticket;", "return set.code == KAGUTIN_DONE;"),
     ("drivers_driver", "    return flush_cache();", "    flush_cache();\n    return 0;"),
     ("drivers_driver", "return error;", "return 0;"),
+    ("drivers_powerloss", "kit.bytes_in_order = true;", ""),
+    ("drivers_powerloss", "bytes, CHIP, 1)", "bytes, CHIP, 8)"),
     ("drivers_maintain", "while (left.more)", "while (left.more || left.error == 1)"),
     ("drivers_maintain", "synced == KAGUTIN_DONE && ", ""),
     ("drivers_maintain", "return synced == KAGUTIN_DONE && left.code == KAGUTIN_DONE;", "return synced == KAGUTIN_DONE;"),
