@@ -98,6 +98,7 @@ struct kgt_powerloss_end {
     uint64_t failing;       /* 0, or the medium fails at this call of its own inside it, and the store is opened again */
     bool on;                /* after that failure the history goes on to its end; then power is cut */
     enum kgt_choice choice; /* at the cut */
+    uint64_t choice_seed;   /* picks some */
     unsigned fences;        /* so many more fences before the cut */
     bool wait;              /* time passes before the cut */
 };
@@ -112,7 +113,9 @@ struct kgt_powerloss_fault {
     const char *remark; /* more on how the duty is broken, or null */
     unsigned call;      /* of an answer: which one, and error is what it returned */
     int error;
-    bool uncut; /* seen by the load of this call, with no cut before it */
+    bool uncut;         /* seen by the load of this call, with no cut before it */
+    unsigned elsewhere; /* the call that wrote what was found, to another place; KGT_POWERLOSS_CALLS: none */
+    uint32_t elsewhere_at;
 };
 
 struct kgt_powerloss {
@@ -138,6 +141,7 @@ struct kgt_powerloss {
     unsigned made;                                        /* calls in it */
     unsigned number;                                      /* which history: scripted ones first */
     uint64_t trials;
+    size_t open; /* parts that the last cut had a choice of */
 
     /* The kit's own. */
     size_t groups, homes, log_size, image_size, pool_size, pool_used;

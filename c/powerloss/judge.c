@@ -181,22 +181,35 @@ static enum kgt_duty broken_duty(const struct kgt_powerloss *kit, const struct u
 }
 
 /* Where else these bytes were written, if anywhere: a mistaken address. */
-static const char *find_elsewhere(const struct kgt_powerloss *kit, const struct unit *unit, unsigned now)
+static const char *find_elsewhere(struct kgt_powerloss *kit, const struct unit *unit, unsigned now)
 {
     static const uint8_t zeros[KAGUTIN_BLOCK_SIZE] = {0};
     unsigned call;
     size_t i;
 
     if (same(unit, zeros))
-        return "zeros that nobody wrote there";
-    for (call = 0; call < now; call++) {
+        return "it gives zeros that nobody wrote there";
+    for (call = now; call-- > 0;) {
         const struct kgt_powerloss_call *write = &kit->calls[call];
 
         for (i = 0; write->called == KGT_CALLED_WRITE && i + unit->size <= write->size; i += WORD)
-            if (write->outcome && same(unit, kit->pool + write->bytes + i))
-                return "these bytes were written to another place: look for a mistaken address";
+            if (write->outcome && same(unit, kit->pool + write->bytes + i)) {
+                kit->fault.elsewhere = call;
+                kit->fault.elsewhere_at = write->at + (uint32_t)i;
+                return "it gives what was written to another place: look for a mistaken address";
+            }
     }
-    return "nobody wrote these bytes";
+    return "it gives bytes that nobody wrote";
+}
+
+static const char *find_remark(struct kgt_powerloss *kit, const struct unit *unit, unsigned now)
+{
+    if (kit->fault.duty == KGT_DUTY_LOAD_COPIES)
+        return find_elsewhere(kit, unit, now);
+    if (kit->fault.duty == KGT_DUTY_WRITE_WHOLE && unit->from == 0)
+        return "the header is torn: where the medium does not keep its first word whole the driver must, as c/drivers/fram.c "
+               "does";
+    return NULL;
 }
 
 static void tell(struct kgt_powerloss *kit, const struct unit *unit, const struct allowed *allowed, unsigned now)
@@ -214,8 +227,8 @@ static void tell(struct kgt_powerloss *kit, const struct unit *unit, const struc
     memcpy(fault->found, unit->found, unit->size);
     memcpy(fault->right, fault->writer == KGT_PL_BY_LOAD ? kit->given + unit->from : written(kit, fault->writer, unit),
            unit->size);
-    if (fault->duty == KGT_DUTY_LOAD_COPIES)
-        fault->remark = find_elsewhere(kit, unit, now);
+    fault->elsewhere = KGT_PL_BY_LOAD;
+    fault->remark = find_remark(kit, unit, now);
 }
 
 static bool judge_units(struct kgt_powerloss *kit, unsigned now)

@@ -69,6 +69,7 @@ static bool broken_by_choice(struct kgt_powerloss *kit, struct kgt_powerloss_end
 
     for (choice = KGT_NONE_ARRIVE; choice <= KGT_SOME_ARRIVE; choice++) {
         end->choice = (enum kgt_choice)choice;
+        end->choice_seed = kit->seed + kit->trials;
         if (broken(kit, end, seen))
             return true;
         if (seen->open == 0)

@@ -73,7 +73,7 @@ static void say_call(struct kgt_powerloss *kit, unsigned number)
         say_number(kit, call->size);
         say(kit, " bytes");
     }
-    if (call->outcome == KGT_PL_DONE && call->called == KGT_CALLED_FENCE)
+    if (call->outcome == KGT_PL_DONE && (call->called == KGT_CALLED_FENCE || (kit->end.failing && number == kit->end.call)))
         say(kit, "  returns 0");
     if (call->outcome == KGT_PL_UNSURE && call->error) {
         say(kit, "  returns ");
@@ -89,7 +89,8 @@ static void say_end(struct kgt_powerloss *kit)
     if (end->failing) {
         say(kit, "  <- call ");
         say_number(kit, end->failing);
-        say(kit, " of the medium in it fails; then load  log and homes");
+        say(kit,
+            kit->calls[end->call].error ? " of the medium in it fails; then load  log and homes" : " of the medium in it fails");
     } else if (end->landings != UINT64_MAX) {
         say(kit, "  <- power fails after ");
         say_number(kit, end->landings);
@@ -106,7 +107,7 @@ static void say_cut(struct kgt_powerloss *kit)
         return;
     }
     say(kit, "  power cut");
-    if (kit->medium.cut) {
+    if (kit->medium.cut && kit->open > 0) {
         say(kit, "; ");
         say(kit, arrive[kit->end.choice]);
         say(kit, " of what the medium has taken and not kept arrives");
@@ -137,6 +138,13 @@ static void say_found(struct kgt_powerloss *kit)
     }
     say_bytes(kit, fault->right + from, size);
     say(kit, " there\n");
+    if (fault->elsewhere < KGT_PL_BY_LOAD) {
+        say(kit, "  call ");
+        say_number(kit, place_in_report(kit, fault->elsewhere));
+        say(kit, " wrote what was found to ");
+        say_place(kit, kit->calls[fault->elsewhere].area, fault->elsewhere_at);
+        say(kit, "\n");
+    }
 }
 
 static void say_history(struct kgt_powerloss *kit)

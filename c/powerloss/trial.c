@@ -121,7 +121,7 @@ static bool cut(struct kgt_powerloss *kit, const struct kgt_powerloss_end *end, 
         kit->driver.fence(kit->driver.context);
     if (end->wait && kit->medium.wait && has_power(kit))
         kit->medium.wait(kit->medium.context);
-    seen->open = kit->medium.cut(kit->medium.context, end->choice, kit->seed + kit->trials);
+    seen->open = kit->open = kit->medium.cut(kit->medium.context, end->choice, end->choice_seed);
     if (!kgt_pl_start(kit, now))
         return false;
     kit->medium.cut(kit->medium.context, KGT_NONE_ARRIVE, 0);
