@@ -177,6 +177,7 @@ include make/port.mk
 include make/units.mk
 include make/program.mk
 include make/powerloss.mk
+include make/rtos.mk
 include make/fuzz.mk
 include make/all_in_one.mk
 include make/build_systems.mk

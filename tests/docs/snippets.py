@@ -37,7 +37,8 @@ SANITIZE = "-g -fno-omit-frame-pointer -fsanitize=address,undefined -fno-sanitiz
 CC = os.environ.get("CC", "cc").split()  # made the libraries
 BUILDS = [(family, standard) for family in ("gcc", "clang") for standard in ("c99", "c11", "c++17")]
 
-ELSEWHERE = {"make test": "it is the gate, and runs this test", "make quick": "its tests are part of the gate"}
+ELSEWHERE = {"make test": "it is the gate, and runs this test", "make quick": "its tests are part of the gate",
+             "make rtos": "board-check runs it"}
 
 # Pages whose commands another test runs, all that they print compared.
 OTHER_TEST = {"docs/WEAR.md": "tests/programs/wear-check.sh"}
