@@ -6,6 +6,7 @@
 # c-check                        tests of all of these
 # c-quick                        the quick ones of them, without sanitizers
 # wrapper-check                  tests of the C++ wrapper
+# powerloss-check                the power-loss kit for drivers: finds its six broken ones, passes the good ones
 # snippets-check                 the examples and commands of README, docs and headers: built, run and judged
 # rights-cost                    what questions 19 and 20 cost, by callgrind
 # question-cost                  what question 2 costs; with LIB the archive it is a function of its own
@@ -177,6 +178,8 @@ uninstall:
 include make/port.mk
 include make/units.mk
 include make/program.mk
+include make/powerloss.mk
+include make/rtos.mk
 include make/fuzz.mk
 include make/all_in_one.mk
 include make/build_systems.mk
@@ -196,9 +199,10 @@ endef
 $(foreach part,kagutin $(patsubst %,kagutin_%,$(STANDALONE) $(UNITS)),$(eval $(call C_ARCHIVE,$(part),dist/$(part))))
 $(eval $(call C_ARCHIVE,kagutin_store,$(C_STORE)))
 $(eval $(call C_ARCHIVE,kagutin_units,c/store/units))
+$(eval $(call C_ARCHIVE,kagutin_powerloss,$(C_POWERLOSS)))
 
 # Every C example of README, docs and headers, and every command there.
-SNIPPET_LIBS = $(C_UNITS_LIB) $(UNITS_LIBS) $(STORE_LIB) $(LIB)
+SNIPPET_LIBS = $(POWERLOSS_LIB) $(C_UNITS_LIB) $(UNITS_LIBS) $(STORE_LIB) $(LIB)
 SNIPPET_SANITIZED = $(SNIPPET_LIBS:$(C_OUT)/%=$(C_OUT)/sanitize/%)
 SNIPPET_PROGRAMS = $(patsubst %,$(C_OUT)/%,quickstart station bands wear gauges inflow)
 

@@ -1,0 +1,47 @@
+#!/bin/sh
+# Tests of the power-loss kit: powerloss-check.sh FOLDER-OF-THE-PROGRAMS (run by make powerloss-check from the root).
+# Prints one line per test; the last line counts them. Status 1 if one failed.
+set -u
+out=$1
+san=$out/sanitize
+. tests/common/helpers.sh
+
+shows() {
+    grep -q -e "$1" "$tmp/out"; report $? "output: '$1'"
+}
+
+# --- its sources, also as C++ ---
+strict="-Wall -Wextra -pedantic -Wshadow -Wconversion -Werror -Iinclude -Ic"
+for standard in c99 c11; do
+    gives 0 "sources as $standard" "${CC:-cc}" -std=$standard $strict -fsyntax-only c/powerloss/*.c
+done
+if command -v g++ > /dev/null; then
+    gives 0 "sources as C++" g++ -x c++ -std=c++11 $strict -fsyntax-only c/powerloss/*.c
+fi
+
+# --- the six broken drivers, each by its duty; the good ones ---
+gives 0 "six broken drivers, each found; memory and FRAM pass" "$out/powerloss_check" 5 show
+shows '^powerloss_check: no fence: fence returns when every earlier write is in lasting memory; [1-6] calls$'
+shows '^powerloss_check: fence too early: fence returns when every earlier write is in lasting memory; [1-6] calls$'
+shows '^powerloss_check: words torn: write: the bytes arrive in parts no smaller than the landing says; [1-6] calls$'
+shows '^powerloss_check: load from a cache: load: all that it gives is still there after a cut; [1-6] calls$'
+shows '^powerloss_check: late write after a failure: load: no earlier write arrives any more; [1-6] calls$'
+shows '^powerloss_check: writes out of order across a fence: write: the bytes may arrive at any time up to the next fence, not after it; [1-6] calls$'
+awk '/^```text/ { inside = 1; next } /^```/ { inside = 0 } inside' docs/DRIVERS.md | grep -v '^$' > "$tmp/shown"
+grep -v -x -F -f "$tmp/out" "$tmp/shown" > "$tmp/log"
+[ -s "$tmp/shown" ] && [ ! -s "$tmp/log" ]; report $? "the report in docs/DRIVERS.md is what is printed"
+gives 0 "the same under sanitizers" "$san/powerloss_check" 97
+
+# --- a duty's words are those of docs/DRIVERS.md ---
+missing=0
+for words in "returns when every earlier write is in lasting memory" "may arrive at any time up to the next fence" \
+    "in parts no smaller than the landing says" "all that it gives is still there after a cut" "no earlier write arrives any more"; do
+    grep -q "$words" docs/DRIVERS.md && grep -q "$words" c/powerloss/powerloss.c || { missing=1; echo "not in both: $words" > "$tmp/log"; }
+done
+report $missing "duties in the words of docs/DRIVERS.md"
+
+# --- a process for a board, ended where its relay cuts ---
+gives 0 "by a relay: notes carry it over each cut; files, killed" "$out/relay_check" "$tmp"
+gives 0 "the same under sanitizers" "$san/relay_check" "$tmp"
+
+count powerloss-check
