@@ -61,7 +61,9 @@ static void check_broken(enum broken kind, bool show)
     static const enum kgt_duty duties[BROKEN_KINDS] = {KGT_DUTIES_KEPT,      KGT_DUTY_FENCE,      KGT_DUTY_FENCE,
                                                        KGT_DUTY_WRITE_WHOLE, KGT_DUTY_LOAD_STAYS, KGT_DUTY_LOAD_LAST,
                                                        KGT_DUTY_WRITE_TIME};
-    static const char *const remarks[BROKEN_KINDS] = {"",         "nor do more fences bring the write", "too early", "", "", "",
+    static const char *const remarks[BROKEN_KINDS] = {"",          "nor do more fences bring the write",
+                                                      "too early", "by KGT_LANDS_WORDS",
+                                                      "",          "",
                                                       "held back"};
     const char *name = broken_names[kind];
 

@@ -32,6 +32,9 @@ grep -v -x -F -f "$tmp/out" "$tmp/shown" > "$tmp/log"
 [ -s "$tmp/shown" ] && [ ! -s "$tmp/log" ]; report $? "the report in docs/DRIVERS.md is what is printed"
 gives 0 "the same under sanitizers" "$san/powerloss_check" 97
 
+# --- faults of drivers that were written from the documents: the report leads to them ---
+gives 0 "torn header, mistaken address, lost error and others" "$san/powerloss_faults"
+
 # --- a duty's words are those of docs/DRIVERS.md ---
 missing=0
 for words in "returns when every earlier write is in lasting memory" "may arrive at any time up to the next fence" \
