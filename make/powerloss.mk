@@ -19,7 +19,7 @@ POWERLOSS_PROGRAMS = $(foreach program,powerloss_check powerloss_faults relay_ch
 
 .PHONY: powerloss-check install-powerloss uninstall-powerloss
 powerloss-check: $(POWERLOSS_PROGRAMS)
-	CC="$(CC)" sh tests/programs/powerloss-check.sh $(C_OUT)
+	CC="$(CC)" LIB="$(LIB)" C_LIBS="$(C_LIBS)" sh tests/programs/powerloss-check.sh $(C_OUT)
 
 c-check: powerloss-check
 
