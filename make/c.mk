@@ -111,7 +111,7 @@ c-check: $(C_PROGRAMS:%=$(C_OUT)/%) c-sanitize
 
 # The quick tests, in seconds.
 C_QUICK = station inspect quickstart gauges inflow bands wear driver_check store_check reserve_check round_check rights_check file_check fram_check \
-    format_check reopen_check units_check replies_check lock_check misuse_check
+    format_check reopen_check powerloss_check units_check replies_check lock_check misuse_check
 .PHONY: c-quick
 c-quick: $(C_QUICK:%=$(C_OUT)/%)
 	CC="$(CC)" LIB="$(LIB)" C_LIBS="$(C_LIBS)" sh tests/quick.sh $(C_OUT)
