@@ -13,18 +13,7 @@
 #include <cstddef>
 #include <cstdint>
 
-/* The C headers' inline functions have casts as C writes them. */
-#if defined(__GNUC__)
-#pragma GCC diagnostic push
-#pragma GCC diagnostic ignored "-Wold-style-cast"
-#if !defined(__clang__)
-#pragma GCC diagnostic ignored "-Wuseless-cast"
-#endif
-#endif
 #include "kagutin_store.h"
-#if defined(__GNUC__)
-#pragma GCC diagnostic pop
-#endif
 
 #if __cplusplus >= 201703L
 #define KGT_NODISCARD [[nodiscard]]

@@ -2,10 +2,14 @@
 #
 # build-check   a tiny project with each of them, built and run where the tool is installed; docs/BUILDING.md
 # arduino       an Arduino library, target/arduino/Kagutin
+# debian-check  the Debian packages built, judged by lintian, unpacked and used; long, not in the gate; they stay in target/debian
 
-.PHONY: build-check arduino
+.PHONY: build-check arduino debian-check
 build-check:
 	@CC="$(CC)" sh tests/programs/build-check.sh
+
+debian-check:
+	@sh tests/build/debian.sh $(DEBIAN_CHECK)
 
 ARDUINO = target/arduino/Kagutin
 arduino:

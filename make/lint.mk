@@ -4,7 +4,7 @@
 
 LINT_SHELL = $(shell git ls-files '*.sh' .ci/run)
 LINT_C = c/store c/drivers c/common c/station c/inspect c/bands c/wear c/gauges c/inflow c/examples c/kagutin c/make c/alarms c/rights c/convert c/carry
-LINT_LAYOUT = $(shell git ls-files 'c/*.[ch]' 'include/*.h' 'tests/*.[ch]' 'port/*.[ch]' 'page/*.[ch]' 'rust/kagutin/*.[ch]')
+LINT_LAYOUT = $(shell git ls-files 'c/*.[ch]' 'include/*.h' 'tests/*.[ch]' 'port/*.[ch]' 'page/*.[ch]' 'rust/kagutin/*.[ch]' 'zephyr/*.[ch]')
 
 .PHONY: lint
 lint:

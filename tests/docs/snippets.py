@@ -34,6 +34,7 @@ PROGRAMS = "target/c"  # as the pages name it
 RUST_CRATE = "rust/kagutin/src/lib.rs"
 
 STRICT = "-Wall -Wextra -pedantic -Wshadow -Wconversion -Werror -O1".split()
+CASTS = {"gcc": ["-Wold-style-cast", "-Wuseless-cast"], "clang": ["-Wold-style-cast"]}  # as C++: examples and headers have none
 SANITIZE = "-g -fno-omit-frame-pointer -fsanitize=address,undefined -fno-sanitize-recover=all".split()
 CC = os.environ.get("CC", "cc").split()  # made the libraries
 BUILDS = [(family, standard) for family in ("gcc", "clang") for standard in ("c99", "c11", "c++17")]
@@ -205,7 +206,7 @@ def run(command, folder=None, limit=120):
 
 def compiler(family, standard):
     if standard.startswith("c++"):
-        return ["g++" if family == "gcc" else "clang++", "-x", "c++"]
+        return ["g++" if family == "gcc" else "clang++", "-x", "c++", *CASTS[family]]
     return [family]
 
 
