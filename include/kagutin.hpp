@@ -13,7 +13,17 @@
 #include <cstddef>
 #include <cstdint>
 
+/* The one header, where it stands alone. */
+#if defined(__has_include)
+#if __has_include("kagutin_all.h") && !__has_include("kagutin_store.h")
+#define KGT_ALL_ALONE
+#endif
+#endif
+#if defined(KGT_ALL_ALONE)
+#include "kagutin_all.h"
+#else
 #include "kagutin_store.h"
+#endif
 
 #if __cplusplus >= 201703L
 #define KGT_NODISCARD [[nodiscard]]

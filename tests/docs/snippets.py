@@ -31,6 +31,7 @@ FRAMES = "tests/docs/snippets"
 SHARED = FRAMES + "/tries.c"
 INCLUDE = ["-Iinclude", "-Idist", "-I" + FRAMES]
 PROGRAMS = "target/c"  # as the pages name it
+README_SIZE = 7000
 RUST_CRATE = "rust/kagutin/src/lib.rs"
 
 STRICT = "-Wall -Wextra -pedantic -Wshadow -Wconversion -Werror -O1".split()
@@ -317,6 +318,8 @@ def main(words):
     split = words.index("--sanitized") if "--sanitized" in words else len(words)
     out, libraries, sanitized = words[0], words[1:split], words[split + 1:]
     check_forms()
+    size = os.path.getsize("README.md")
+    report(size <= README_SIZE, "README.md is one page: %d bytes of %d" % (size, README_SIZE))
     found, wrong, pages = snippets()
     framed, misplaced = frames()
     wrong += misplaced
