@@ -23,7 +23,8 @@ leave() {
     done
 }
 
-# A root as debootstrap makes it, with what is checked in below /home/kagutin; packages that were fetched before are not fetched again.
+# A root as debootstrap makes it, with what is checked in below /home/kagutin, and once more for the Debian package; packages that were fetched before are not
+# fetched again.
 enter() {
     base=$places/$release.tar
     mkdir -p "$places/$release.debs/partial"
@@ -38,8 +39,10 @@ enter() {
     mount --bind "$places/$release.debs" "$root/var/cache/apt/archives" && mount -t proc proc "$root/proc" && mount -t tmpfs tmpfs "$root/dev/shm"
     cp /etc/resolv.conf "$root/etc/resolv.conf"
     rm -f "$root/etc/apt/apt.conf.d/docker-clean"
-    mkdir "$root/home/kagutin"
-    git ls-files -z | tar cf - --null -T - | tar xf - -C "$root/home/kagutin"
+    for copy in kagutin packaged; do
+        mkdir "$root/home/$copy"
+        git ls-files -z | tar cf - --null -T - | tar xf - -C "$root/home/$copy"
+    done
     readme_program "$root/home/program" && cp dist/kagutin_all.c dist/kagutin_all.h "$root/home/program"
     mv "$root/home/program/main.c" "$root/home/program/program.c"
 }
@@ -102,7 +105,7 @@ using_steps() {
 debian_steps() {
     step 0 "BUILDING: packages for the build of the Debian package" "$(apt_line docs/BUILDING.md 1)"
     step 0 "BUILDING: packages for its test" "$(apt_line docs/BUILDING.md 2)"
-    step 0 "make debian-check, installed" "make -s debian-check DEBIAN_CHECK=--install"
+    step 0 "make debian-check, installed" "cd ../packaged && make -s debian-check DEBIAN_CHECK=--install"
     ! grep '^skipped\|^FAILED' "$tmp/out"; report $? "$release: nothing skipped in it"
 }
 
