@@ -13,6 +13,7 @@
 # make bench      instructions and times of each call against the reference implementation; other stores, if installed
 # make bench-docs tables of docs/PERFORMANCE.md and docs/ring-cost.svg from the last bench
 # make install    program, manual pages, headers, libraries and pkg-config files, under DESTDIR and PREFIX; make uninstall takes them away; make arduino a library for it
+# make debian-check the Debian packages built, judged by lintian and used; make chroot-check README's steps on a bare Debian 12 and 13, as root; both long
 # make kagutin    the program, target/c/kagutin, and links to it by the names of the older programs: inspect, wear, bands, gauges, inflow, station
 # make quickstart the example
 # make c-check    tests of the C side alone; make c-kills KILLS=N kills a process at work N times

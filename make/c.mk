@@ -59,7 +59,7 @@ c-sanitize: $(C_PROGRAMS:%=$(C_OUT)/sanitize/%)
 
 $(C_OBJECTS)/%.o: %.c $(C_HEADERS)
 	@mkdir -p $(@D)
-	$(CC) $(C_FLAGS) $(CFLAGS) -c $< -o $@
+	$(CC) $(C_FLAGS) $(CPPFLAGS) $(CFLAGS) -c $< -o $@
 
 $(C_OUT)/sanitize/obj/%.o: %.c $(C_HEADERS)
 	@mkdir -p $(@D)
@@ -79,7 +79,7 @@ $(C_LINKED):
 # One program in both builds: its name, its objects, the libraries it needs.
 define C_PROGRAM
 $(C_OUT)/$(1): $(2:%=$(C_OBJECTS)/%.o) $(3) $(if $(3),$(C_LINKED))
-	$$(CC) $$(CFLAGS) $$(filter-out $(C_LINKED),$$^) $(if $(3),$$(C_LIBS)) -o $$@
+	$$(CC) $$(CFLAGS) $$(LDFLAGS) $$(filter-out $(C_LINKED),$$^) $(if $(3),$$(C_LIBS)) -o $$@
 
 $(C_OUT)/sanitize/$(1): $(2:%=$(C_OUT)/sanitize/obj/%.o) $(3:$(C_OUT)/%=$(C_OUT)/sanitize/%) $(if $(3),$(C_LINKED))
 	$$(CC) $$(C_SANITIZE) $$(filter-out $(C_LINKED),$$^) $(if $(3),$$(C_LIBS)) -o $$@
@@ -155,7 +155,8 @@ INCLUDEDIR ?= $(PREFIX_HERE)/include
 TO_LIB = $(DESTDIR)$(LIBDIR)
 TO_INCLUDE = $(DESTDIR)$(INCLUDEDIR)
 
-C_INSTALLED = $(C_PUBLIC:%=include/%.h) $(C_WRAPPER) $(C_STANDALONE:%=include/%.h)
+# Both ways to include them: by subject, and kagutin_all.h, as the README has it.
+C_INSTALLED = $(C_PUBLIC:%=include/%.h) $(C_WRAPPER) $(C_STANDALONE:%=include/%.h) dist/kagutin_all.h
 C_INSTALLED_LIBS = libkagutin.a libkagutin_store.a $(C_STANDALONE:%=lib%.a)
 PC_FILES = kagutin.pc kagutin-units.pc
 
