@@ -1,4 +1,5 @@
 pub mod Isolation
+pub mod IsolatedActs
 pub mod Hidden
 pub mod FirstOpening
 pub mod StateNumbers
