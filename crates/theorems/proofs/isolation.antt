@@ -17,3 +17,5 @@ pub mod IsolatedActsHold
 pub mod HiddenHolds
 -- The two histories of specs/Hidden meet the premises of non-interference, which therefore says something of them.
 pub mod HiddenThere
+-- The two histories of specs/HiddenTogether are told so, and meet the premises of non-interference from the format on.
+pub mod TogetherHidden

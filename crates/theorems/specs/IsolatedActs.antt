@@ -1,7 +1,7 @@
 -- Rights keep what a writer may not read from it also where histories have calls on several homes, and with no premise on what comes before them but that
 -- it is alike too: "alike but for bytes (stored before or during them) in homes that a writer may at no time in them read, with the same calls of the
 -- store itself, homes and lists, give that writer the same answers and blocks".
-use Prim.Native.Nat.{ℕ, _+_, _*_}
+use Prim.Native.Nat.{ℕ, _+_, _*_, _/_, _<_}
 use mathlib.Core.Path.{_≡_}
 use mathlib.Core.Bool.{Bool, true, false, cond}
 use mathlib.Core.List.{List, [], _∷_, _++_}
@@ -19,7 +19,7 @@ module _ (hidden : ℕ → Bool) where
   -- blocks for the homes from `home` on
   pub record BlocksAlike (home : ℕ) (a b : List ℕ) : Type 0 where
     pub size : length a ≡ length b
-    pub shown : (k : ℕ) → hidden (home + k) ≡ false → part a (64 * k) 64 ≡ part b (64 * k) 64
+    pub shown : (k : ℕ) → k < length a / 64 → hidden (home + k) ≡ false → part a (64 * k) 64 ≡ part b (64 * k) 64
 
   pub data ActAlike : Act → Act → Type 0 where
     called : {c d : Call} → CallAlike hidden c d → ActAlike (plain (call c)) (plain (call d))

@@ -198,7 +198,7 @@ module _ (hidden : ℕ → Bool) (shows : ListShown hidden) where
             → CallAlike hidden (store x (h + k) (part xs (64 * k) 64) roomy) (store x (h + k) (part ys (64 * k) 64) roomy)
         go true e = let z = b .size in stored e (length-part xs (64 * k) 64 (omega arith) ∙ sym (length-part ys (64 * k) 64 (omega arith)))
         go false e =
-            subst (λ (p : List ℕ). CallAlike hidden (store x (h + k) (part xs (64 * k) 64) roomy) (store x (h + k) p roomy)) (b .shown k e) equal
+            subst (λ (p : List ℕ). CallAlike hidden (store x (h + k) (part xs (64 * k) 64) roomy) (store x (h + k) p roomy)) (b .shown k l e) equal
 
     stores-like : (k : ℕ) → k ≤ length xs / 64 → Each EventAlike (storesFrom x h xs k) (storesFrom x h ys k)
     unfolding storesFrom

@@ -60,7 +60,7 @@ alike-along hidden (c ∷ cs) (e ∷ ds) w v s t n q (more k ks) a =
     (reply-keeps-alike hidden a (replyOf (ends w c)) (m .0) k))
 
 -- what writer 1 may not read is home 4
-neverFour : Store → World → List Event → Bool
+unfoldable pub neverFour : Store → World → List Event → Bool
 neverFour s w [] = not (mayRead (s .homes) (listOf s) 1 4)
 neverFour s w (e ∷ es) = not (mayRead (s .homes) (listOf s) 1 4) && neverFour (follow s w e) (step w e) es
 
@@ -72,7 +72,7 @@ denied-four : (s : Store) → mayRead (s .homes) (listOf s) 1 4 ≡ false → De
 unfolding fourth
 denied-four s m home e = rw (eqb-true home 4 e) m
 
-denied-always : (es : List Event) (s : Store) (w : World) → neverFour s w es ≡ true → DeniedThroughout 1 fourth s w es
+pub denied-always : (es : List Event) (s : Store) (w : World) → neverFour s w es ≡ true → DeniedThroughout 1 fourth s w es
 unfolding neverFour
 denied-always [] s w m = denied-four s (not-true (mayRead (s .homes) (listOf s) 1 4) m)
 denied-always (e ∷ es) s w m =
