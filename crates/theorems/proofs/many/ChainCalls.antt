@@ -24,7 +24,6 @@ use Rattle.theorems.proofs.steps.DoneLaws.{outcome-code, outcome-done, 
 use Rattle.theorems.proofs.steps.FormedLaws.{store-formed, commit-formed}
 use Rattle.model_laws.proofs.state.LoggingLaws.{fits}
 
-
 -- the world with what an effect leaves, and a book
 abbrev pub stepped : World → Effect → Book → World
 stepped w e b =

@@ -29,7 +29,6 @@ use Rattle.theorems.proofs.store.Reached.{Reached, after-append, allowe
 use Rattle.theorems.proofs.many.StoreMany.{Along, store-replies, commit-replies, store-along, reserved-room, begin-along}
 use Rattle.theorems.proofs.rights.ListRights.{lent-homes, rights-same}
 use Rattle.model_laws.proofs.state.LoggingLaws.{fits}
-
 use Rattle.theorems.proofs.many.ChainCalls.{stepped, follow-done, one-played, left-done, done-size, store-steps, store-formed-on, commit-steps, commit-formed-on, store-sized, commit-sized, sizes, sizes-append, one-size, size-then}
 
 -- a transact is told as its calls are: its bytes are theirs together, its figure is its commit's
