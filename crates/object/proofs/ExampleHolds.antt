@@ -25,9 +25,9 @@ use Rattle.model.proofs.examples.Computing.{all-definitions}
 use Rattle.theorems.proofs.steps.FormatRuns.{after-format}
 use Rattle.object.specs.Medium.{Grain, words, unitOf, chopLog, chopArea, chop, chopAll, writes, fences as fences-of, loses}
 use Rattle.object.specs.Alike.{hole, rewrites, Alike, Tearing, plain, torn, withMemory, tears, tornAfter, AllTearingsAllowed, AllTearingsHold}
-use Rattle.object.specs.Order.{motions, parted, body, head, headsOut, moves, moved, Left, Allowed as AllowedCut}
+use Rattle.object.specs.Order.{motions, parted, body, head, headsOut, wipe, moves, moved, Left, Allowed as AllowedCut}
 use Rattle.object.specs.Runner.{Doing, calls, cuts, Carried, AllRight}
-use Rattle.object.specs.Example.{unformatted, openAgain, alone, asDoings, third, other, all, history, opens, givesAlone, answered, upTo, behind, carriedOut, runsTo, runsAsListed, Goes, twoCommits, tornMemory, asTearings, tearings, slotsAlike, numbersBelow, homesAlike, isAlike, tearsTo, wholeMemory}
+use Rattle.object.specs.Example.{unformatted, openAgain, alone, asDoings, third, other, all, history, opens, givesAlone, answered, upTo, behind, carriedOut, runsTo, runsAsListed, Goes, twoCommits, tornMemory, asTearings, tearings, slotsAlike, numbersBelow, homesAlike, isAlike, tearsTo, wholeMemory, damaged, healing, opensWith}
 use Rattle.object.proofs.TornHolds.{demand-torn}
 use Rattle.object.proofs.WordsHold.{words-enough}
 use Rattle.object.proofs.RunnerHolds.{demand-runner}
@@ -254,7 +254,7 @@ met-torn G (torn passed chosen left ∷ ts) w h =
 
 -- a name that unfolds every definition below
 unfoldable computed : Bool
-unfolding all-definitions unitOf chopLog chopArea chop chopAll writes fences-of loses hole rewrites withMemory tears motions parted body head headsOut moves moved unformatted openAgain alone asDoings third other all history opens givesAlone answered upTo behind carriedOut runsTo runsAsListed twoCommits tornMemory asTearings tearings slotsAlike numbersBelow homesAlike isAlike tearsTo wholeMemory events
+unfolding all-definitions unitOf chopLog chopArea chop chopAll writes fences-of loses hole rewrites withMemory tears motions parted body head headsOut wipe moves moved unformatted openAgain alone asDoings third other all history opens givesAlone answered upTo behind carriedOut runsTo runsAsListed twoCommits tornMemory asTearings tearings slotsAlike numbersBelow homesAlike isAlike tearsTo wholeMemory damaged healing opensWith events
 computed = true
 
 format-done : formatCall unformatted .code ≡ 0
@@ -286,6 +286,11 @@ torn-as-listed = refl
 pub torn-apart : same (tornMemory .log) (wholeMemory .log) ≡ false
 unfolding computed
 torn-apart = refl
+
+-- a format's first motion heals nothing
+pub damage-stays : (opensWith damaged ≡ 3) × (opensWith healing ≡ 3)
+unfolding computed
+damage-stays = (refl, refl)
 
 -- So the theorems say something of them
 

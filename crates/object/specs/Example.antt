@@ -5,19 +5,19 @@ use mathlib.Core.Bool.{Bool, true, false, cond, _&&_, _||_}
 use mathlib.Core.List.{List, [], _∷_, _++_}
 use lib.Dec.{eqb, leb, ltb}
 use lib.ListN.{length, take, drop}
-use Rattle.model.specs.Bytes.{part, zeros, same}
+use Rattle.model.specs.Bytes.{part, puts, zeros, same}
 use Rattle.model.specs.Layout.{groupMark, groupAt, groupNumber, headerStart, homeAt}
 use Rattle.model.specs.Batch.{Record}
-use Rattle.model.specs.Effects.{Given}
-use Rattle.model.specs.Calls.{Outcome}
+use Rattle.model.specs.Effects.{Given, formatted}
+use Rattle.model.specs.Calls.{Outcome, openCall}
 use Rattle.model.specs.Crash.{Memory, isFence, fences, persist}
-use Rattle.model.specs.History.{Call, opening, confirm, begin, store, commit, flush, call, World, emptyStore, ends, afterCall, step, after, calls as events}
+use Rattle.model.specs.History.{Call, opening, confirm, begin, store, commit, flush, call, World, emptyStore, ends, afterCall, step, after, calls as events, loaded, unopened}
 use Rattle.model.specs.DemandThree.{Crashed, Holds}
 use Rattle.model.specs.examples.Trials.{room, lane, fill, answerOf}
 use Rattle.model.specs.examples.Witnesses.{allowed, filledWith}
 use Rattle.object.specs.Medium.{Grain, words}
 use Rattle.object.specs.Alike.{hole, rewrites, Tearing, plain, torn, tears}
-use Rattle.object.specs.Order.{motions, Left, Completed}
+use Rattle.object.specs.Order.{motions, leftOf, Left, Completed}
 use Rattle.object.specs.Runner.{Doing, calls, cuts}
 
 -- a new format, and its opening
@@ -164,3 +164,14 @@ tearsTo groups w (torn passed chosen left ∷ ts) =
 -- the memory that whole blocks would have left is another
 unfoldable pub wholeMemory : Memory
 wholeMemory = let w : World = after (emptyStore 4 4) (events twoCommits) in persist 4 (λ i. false) (w .pending) (w .memory)
+
+-- A format over a store whose header is refused for a damage behind its first words, cut in its first motion: a word of zeros that landed on the damage alone
+-- would heal it, and the old store would open.
+unfoldable pub damaged : Memory
+damaged = record { log = puts (emptyStore 4 4 .memory .log) 20 (1 ∷ []); area = zeros 256 }
+
+unfoldable pub healing : Memory
+healing = leftOf words (formatted 4 4) damaged 1 (λ i. eqb i 2)
+
+unfoldable pub opensWith : Memory → ℕ
+opensWith m = openCall (loaded (unopened 4 m) (zeros 1024) (zeros 32) lane) .code
