@@ -3,3 +3,4 @@ pub mod Hidden
 pub mod FirstOpening
 pub mod StateNumbers
 pub mod Lent
+pub mod ActsAnswer

@@ -148,7 +148,7 @@ module _ (G D : ℕ) (z : Sizes G D) (w : World) (r : Running G D w) (s : Store)
   unfolding askState ask
   asked block batch v h k = rw (areas-right block batch v h, state-right block batch v h, state-ordered block batch v h)
 
-  newest-right : (block batch : List ℕ) (v h : ℕ) → newestRight (lent w block batch v h) ≡ true
+  pub newest-right : (block batch : List ℕ) (v h : ℕ) → newestRight (lent w block batch v h) ≡ true
   unfolding newestRight
   newest-right block batch v h =
       rw (lent-homes block batch v h) (unfold lent in eq-eqb (length (w .newest)) (8 * D) (a .newest (r .ready)))
