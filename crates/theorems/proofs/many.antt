@@ -19,3 +19,5 @@ pub mod ManyAsked
 pub mod UnitSteps
 -- The shared lemma: what the homes of a unit hold, for every front of the book's list, and what a done fetch or revise of them gives.
 pub mod UnitsHold
+-- Every call of a history with acts answers as the abstract store says.
+pub mod ActsAnswerHolds

@@ -5,3 +5,4 @@ pub mod HiddenTogether
 pub mod FirstOpening
 pub mod StateNumbers
 pub mod Lent
+pub mod ActsAnswer

@@ -9,12 +9,12 @@ use lib.ListN.{length, take}
 use borrow.Author.Tests.{le-leb, ltb-true}
 use Rattle.model.specs.Bytes.{part}
 use Rattle.model.specs.Batch.{batchBytes, readBatch}
-use Rattle.model.specs.State.{freePlaces, listSign}
-use Rattle.model.specs.Effects.{Given, Effect, homes, newState, beginEffect, reserveEffect, storeEffect, commitEffect}
+use Rattle.model.specs.State.{listSign, freePlaces}
+use Rattle.model.specs.Effects.{Given, Effect, homes, newState, tagsOf, liveBase, logHeld, logClosing, storeFirst, storeAgain, storeOther, keptCommit, commitHeld, abortEffect, beginEffect, reserveEffect, storeEffect, commitEffect}
 use Rattle.model.specs.Rights.{mayStore, storeRight, readList}
-use Rattle.model.specs.Questions.{ask, areasRight, stateRight, stateInOrder, writerKnown, writerOpen, mayPromise, batchFits, askState, beginAnswer, reserveAnswer}
-use Rattle.model.specs.Calls.{Outcome, done, outcome, sizeOf, beginCall, reserveCall}
-use Rattle.acts.specs.Many.{blocksLent, lentOn, andThen, storedFirst, transactEffect, mayStoreAll, transactAnswer, transactCall}
+use Rattle.model.specs.Questions.{ask, areasRight, stateRight, stateInOrder, writerKnown, writerOpen, mayPromise, askState, beginAnswer, reserveAnswer, storeAnswer, commitAnswer, batchFits}
+use Rattle.model.specs.Calls.{Outcome, done, outcome, sizeOf, beginCall, reserveCall, storeCall, commitCall}
+use Rattle.acts.specs.Many.{blocksLent, lentOn, andThen, storedFirst, transactEffect, mayStoreAll, roomForAll, transactAnswer, transactCall}
 use Rattle.model.specs.Book.{Book}
 use Rattle.model.specs.History.{Call, begin, reserve, store, commit, call, World, lent, ends, changeEnds, feed, feedChange, isOpening, isConfirm, step, after as played, Allowed, AllAllowed}
 use Rattle.abstract_store.specs.Store.{Store, listOf, follow}
@@ -76,8 +76,8 @@ module _ (w : World) (s : Store) (r : Reached w s) (ready : w .ready ≡ true) (
   many = t .lent .some
 
   may-promise : mayPromise (lent w [] [] v 0 .state) n ≡ true
-  unfolding mayPromise blocksLent lent
-  may-promise = rw (le-leb 1 n many, le-leb n (freePlaces (w .state)) (t .room))
+  unfolding mayPromise roomForAll blocksLent lent
+  may-promise = rw (le-leb 1 n many) (t .room)
 
   begin-done : ends w (begin v) .code ≡ 0
   unfolding ends changeEnds beginCall beginAnswer
