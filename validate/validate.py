@@ -13,6 +13,7 @@ import time
 
 from files import File, Words
 from helpers_check import check_forms
+from preprocess import check_machines
 from program import Program
 from solver import Solver
 from targets import targets
@@ -46,22 +47,26 @@ def work(piece):
     solver, refused, forms = Solver(SHARED['solver']), [], 0
     for name in names:
         try:
+            if what == 'texts':
+                forms += check_machines(words.path, SHARED['include'], targets())
+                continue
             file = opened(words, target)
             if what == 'helpers':
                 file.check_helper(solver, name)
             else:
                 forms += file.validate(solver, name)[0]
         except Refused as error:
-            refused.append(f'{words.path}: {name} ({target.name}): {error}')
+            refused.append(f'{words.path}: {name} ({target.name if target else what}): {error}')
         except Exception as error:                                  # a form that nothing here was made for
-            refused.append(f'{words.path}: {name} ({target.name}): {type(error).__name__}: {error}')
-    return refused, forms, solver.asked, solver.seconds
+            refused.append(f'{words.path}: {name} ({target.name if target else what}): {type(error).__name__}: {error}')
+    return refused, forms, solver.asked, solver.seconds, what
 
 
 def pieces(all_words, only):
     """What is to be done, each text on each width once; and what is refused before that."""
     todo, refused, seen, defined, declared = [], [], set(), [], set()
     for words in all_words:
+        todo += [('texts', words, None, [words.path])] if only is None else []
         for target in targets():
             try:
                 file = opened(words, target)
@@ -101,7 +106,8 @@ def main():
         print(f'REFUSED {line}')
     count = sum(len(names) for what, _, _, names in todo if what == 'functions')
     print(f'validate: {len(all_words)} files on {len(list(targets()))} targets, {count} functions with their widths, '
-          f'{sum(what == "helpers" for what, *_ in todo)} helpers; {len(refused)} refused; {sum(r[1] for r in done)} goals by form, '
+          f'{sum(what == "helpers" for what, *_ in todo)} helpers; {len(refused)} refused; '
+          f'{sum(r[1] for r in done if r[4] == "texts")} ways to define macros, {sum(r[1] for r in done if r[4] == "functions")} goals by form, '
           f'{sum(r[2] for r in done)} questions to {SHARED["solver"]}, {sum(r[3] for r in done):.1f} s of them; all {time.time() - start:.0f} s')
     sys.exit(1 if refused or not count else 0)
 
