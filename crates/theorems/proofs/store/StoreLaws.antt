@@ -17,7 +17,7 @@ use Rattle.model.specs.Effects.{Given, Effect, marked, blankWrites, homeWrites}
 use Rattle.model.specs.Book.{Held}
 use Rattle.model.specs.DemandTwo.{contents, eachContents}
 use Rattle.abstract_store.specs.Store.{wrote, anyWrote}
-pub use Rattle.abstract_store.proofs.ReplyLaws.{told-same, answers, ask-same}
+pub use Rattle.abstract_store.proofs.ReplyLaws.{reply-outcome, told-same, answers, ask-same}
 use Rattle.model_laws.proofs.bytes.ByteLaws.{length-part}
 use Rattle.model_laws.proofs.bytes.EmptyLaws.{length-unusedGroup}
 use Rattle.model_laws.proofs.state.BatchLaws.{length-GW, length-HW, length-KW, length-FN, batch-append, batch-one}
