@@ -287,7 +287,7 @@ pub torn-apart : same (tornMemory .log) (wholeMemory .log) ≡ false
 unfolding computed
 torn-apart = refl
 
--- a format's first motion heals nothing
+-- a format's first motions heal nothing
 pub damage-stays : (opensWith damaged ≡ 3) × (opensWith healing ≡ 3)
 unfolding computed
 damage-stays = (refl, refl)

@@ -165,13 +165,13 @@ tearsTo groups w (torn passed chosen left ∷ ts) =
 unfoldable pub wholeMemory : Memory
 wholeMemory = let w : World = after (emptyStore 4 4) (events twoCommits) in persist 4 (λ i. false) (w .pending) (w .memory)
 
--- A format over a store whose header is refused for a damage behind its first words, cut in its first motion: a word of zeros that landed on the damage alone
+-- A format over a store whose header is refused for a damage behind its first words, cut after two motions: a word of zeros that landed on the damage alone
 -- would heal it, and the old store would open.
 unfoldable pub damaged : Memory
 damaged = record { log = puts (emptyStore 4 4 .memory .log) 20 (1 ∷ []); area = zeros 256 }
 
 unfoldable pub healing : Memory
-healing = leftOf words (formatted 4 4) damaged 1 (λ i. eqb i 2)
+healing = leftOf words (formatted 4 4) damaged 2 (λ i. eqb i 3)
 
 unfoldable pub opensWith : Memory → ℕ
 opensWith m = openCall (loaded (unopened 4 m) (zeros 1024) (zeros 32) lane) .code

@@ -4,11 +4,11 @@ use mathlib.Core.Path.{_≡_, refl, sym, ap, _∙_, subst}
 use mathlib.Core.Bool.{Bool, true, false, cond, not, _&&_}
 use mathlib.Core.List.{List, [], _∷_, _++_, append-assoc, append-nil}
 use native.Mathlib.Omega.{arith}
-use lib.Dec.{eqb, leb, ltb}
+use lib.Dec.{eqb, leb}
 use lib.ListN.{length, take, drop, length-append}
 use lib.Seq.{drop-at}
 use borrow.Author.Tests.{le-leb, lt-ltb, le-ltb, eq-eqb, ne-eqb}
-use Rattle.model.specs.Bytes.{part, zeros, number, same}
+use Rattle.model.specs.Bytes.{part, zeros, same}
 use Rattle.model.specs.Layout.{groupOffset}
 use Rattle.model.specs.Batch.{Record, GW, HW, KW, FN, recordBytes, batchBytes}
 use Rattle.model.specs.Crash.{Piece, toLog, toArea}
@@ -21,8 +21,8 @@ use Rattle.object.proofs.ChopLaws.{part-zero}
 use Rattle.object.proofs.HeadLaws.{rest-drop}
 use Rattle.object_runner.specs.declared.Cursor.{Cursor}
 use Rattle.object_runner.specs.declared.Action.{Action}
-use Rattle.object_runner.specs.Next.{cursor, done, writing, fencing, refused, logArea, homesArea, fromBatch, fromCopy, bare, write, past, parts, groupAction, homeAction, wiping, wholeHeader, wipeAction, headerAction, due, dueAction, fenceAction, recordAction, nextAction}
-use Rattle.object_runner.specs.Moves.{landingOf, bytesOf, pieceOf, Does, Hands, wordsFrom, wordsDue, headedAt, headedAfter, Due, Fitting, RunnerMoves, BlocksDue}
+use Rattle.object_runner.specs.Next.{cursor, done, fencing, logArea, homesArea, fromBatch, fromCopy, bare, write, past, parts, groupAction, homeAction, wiping, wholeHeader, wipeAction, headerAction, due, dueAction, fenceAction, recordAction, nextAction}
+use Rattle.object_runner.specs.Moves.{landingOf, bytesOf, pieceOf, Hands, wordsFrom, wordsDue, headedAt, headedAfter, Due, Fitting, RunnerMoves}
 
 unfoldable isWords : Grain → Bool
 isWords words = true
@@ -392,11 +392,3 @@ module _ (l : Grain) (G D next : ℕ) (log : List ℕ) (g₁ : 1 ≤ G) (g₂ : 
 
 pub runner-moves : RunnerMoves
 runner-moves l G D next headed log waiting rs g₁ g₂ d f due = moves l G D next log g₁ g₂ d rs [] headed waiting f due
-
-pub blocks-due : BlocksDue
-unfolding head parted wordsDue headedAt
-blocks-due G next headed log [] = tt
-blocks-due G next headed log (GW slot group ∷ rs) = blocks-due G next headed log rs
-blocks-due G next headed log (HW home block ∷ rs) = blocks-due G next headed log rs
-blocks-due G next headed log (KW header ∷ rs) = blocks-due G next headed log rs
-blocks-due G next headed log (FN ∷ rs) = (refl, blocks-due G next headed log rs)

@@ -1,7 +1,7 @@
 -- The actions, one after the other, are the motions that DemandRunner speaks of (crates/object/specs/Order.antt, Runner.antt).
 use Prim.Native.Nat.{ℕ, zero, suc, _+_, _-_, _%_, _≤_, _<_}
 use mathlib.Core.Path.{_≡_}
-use mathlib.Core.Bool.{Bool, true, false, cond}
+use mathlib.Core.Bool.{cond}
 use mathlib.Core.List.{List, [], _∷_, _++_}
 use lib.Dec.{eqb}
 use lib.ListN.{length}
@@ -62,6 +62,14 @@ headedAfter l headed next (HW home block ∷ rs) = headedAfter l headed next rs
 headedAfter l headed next (KW header ∷ rs) = headedAfter l headed next rs
 headedAfter l headed next (FN ∷ rs) = headedAfter l (headedAt l headed next) next rs
 
+-- the first words that wait after some records
+unfoldable pub waitingAfter : Grain → List Motion → List Record → List Motion
+waitingAfter l waiting [] = waiting
+waitingAfter l waiting (GW slot group ∷ rs) = waitingAfter l (waiting ++ head l slot group) rs
+waitingAfter l waiting (HW home block ∷ rs) = waitingAfter l waiting rs
+waitingAfter l waiting (KW header ∷ rs) = waitingAfter l waiting rs
+waitingAfter l waiting (FN ∷ rs) = waitingAfter l [] rs
+
 -- the premise: at each fence the first words that wait are those of the groups from `headed` to below the next one
 abbrev pub Due : Grain → ℕ → List ℕ → ℕ → ℕ → List Motion → List Record → Type 0
 Due l groups log next headed waiting [] = Unit {0}
@@ -88,3 +96,9 @@ RunnerMoves =
 -- on blocks no word waits
 abbrev pub BlocksDue : Type 0
 BlocksDue = (groups next headed : ℕ) (log : List ℕ) (rs : List Record) → Due blocks groups log next headed [] rs
+
+-- Batch by batch: the motions of a batch go on from those of all records before it, the first words that wait among them. So where `Due` holds of each, the
+-- actions of all batches since the last cut are `motions l [] (w .pending)`, which DemandRunner speaks of.
+abbrev pub MotionsGoOn : Type 0
+MotionsGoOn =
+    (l : Grain) (before rs : List Record) → motions l [] (before ++ rs) ≡ motions l [] before ++ motions l (waitingAfter l [] before) rs

@@ -1,6 +1,6 @@
 -- The runner: the next action for a driver, by what stands at the cursor. `rest` is the batch from there on.
 use Prim.Native.Nat.{ℕ, _+_, _*_, _%_}
-use mathlib.Core.Bool.{Bool, true, false, cond, not, _&&_}
+use mathlib.Core.Bool.{Bool, cond, not, _&&_}
 use mathlib.Core.List.{List}
 use lib.Dec.{eqb, leb, ltb}
 use lib.ListN.{length, drop}
@@ -89,7 +89,8 @@ due words headed next = words && ltb headed next
 unfoldable pub dueAction : ℕ → Cursor → Action
 dueAction groups c =
     let offset : ℕ = groupOffset (c .headed % groups) in
-    cond (eqb (c .stage) 0) (bare fencing (cursor (c .at) (c .headed) 1)) (write logArea offset 8 fromCopy offset (cursor (c .at) (c .headed + 1) 1))
+    cond (eqb (c .stage) 0) (bare fencing (cursor (c .at) (c .headed) 1))
+    (write logArea offset 8 fromCopy offset (cursor (c .at) (c .headed + 1) 1))
 
 unfoldable pub fenceAction : Bool → ℕ → ℕ → Cursor → Action
 fenceAction words groups next c = cond (due words (c .headed) next) (dueAction groups c) (bare fencing (past c 2))
