@@ -37,7 +37,7 @@ struct image {
     size_t image_size;             /* by G and D */
     size_t slots_read, homes_read; /* from the front, whole; all of both unless the file is short */
 
-    char notes[MAX_NOTES][120]; /* what is damaged */
+    char notes[MAX_NOTES][200]; /* what is damaged */
     size_t note_count;
 };
 

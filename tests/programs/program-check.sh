@@ -150,6 +150,16 @@ for command in inspect "inspect --json" alarms "alarms --csv" "rights show" expo
 done
 says "not changed in place" 2 "rights set at a base" "$k" rights set --base 5 "$tmp/twice.bin" "$tmp/list.txt"
 says "not changed in place" 2 "bands set at a base" "$k" bands set --base 5 "$tmp/twice.bin" "$tmp/list.txt"
+cp "$tmp/again.bin" "$tmp/torn.bin"
+printf '\001' | dd of="$tmp/torn.bin" bs=1 seek=13 conv=notrunc 2> /dev/null
+gives 0 "a dump with one damaged copy of its header" "$k" inspect "$tmp/torn.bin"
+shows "the header's copy at 32 counts, the one at 0 is torn"
+printf '\001' | dd of="$tmp/torn.bin" bs=1 seek=45 conv=notrunc 2> /dev/null
+for command in alarms "rights show" export wear "bands show"; do
+    says "a dump whose header is damaged in both copies" 3 "$command of a dump with two" "$k" $command "$tmp/torn.bin"
+done
+gives 1 "inspect it" "$k" inspect "$tmp/torn.bin"
+shows '^  pump 7  [1-9]'
 says "is not changed in place" 3 "bands set in a dump" "$k" bands set "$tmp/station.bin" "$tmp/table.txt"
 says "is not changed in place" 3 "rights set in a dump" "$k" rights set "$tmp/station.bin" "$tmp/list.txt"
 
