@@ -22,8 +22,7 @@ struct options {
 
 struct image {
     const char *path;
-    uint8_t *
-        bytes; /* both areas, once the shape is known; what the file lacks is zeros, and so is a slot or home of which it has a part */
+    uint8_t *bytes;                   /* both areas, once the shape is known; zeros where the file has no whole slot or home */
     size_t read;                      /* bytes of the file that are in them */
     uint64_t file_size;               /* of the whole file, from the base on */
     uint64_t base;                    /* where the store begins in it */
