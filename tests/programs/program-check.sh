@@ -35,6 +35,11 @@ for command in $commands; do
     says "unknown option '--frob'" 2 "$command --frob" "$k" "$command" --frob=1
 done
 
+gives 0 "make kagutin" "${MAKE:-make}" -n -B -f make/c.mk kagutin
+for name in inspect wear bands gauges inflow station; do
+    shows "^ln -sf kagutin .*/$name\$"
+done
+
 # --- make ---
 gives 0 "make" "$k" make "$tmp/north.img" 16 32
 says "exists already" 3 "make over an image" "$k" make "$tmp/north.img" 16 32
