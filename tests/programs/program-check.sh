@@ -306,7 +306,7 @@ put 8 '\377\003'
 gives 1 "and of groups" "$k" inspect --json "$tmp/units.img"
 [ "$(wc -c < "$tmp/out")" -lt 90000 ]; report $? "stays small"
 
-# --- files that are cut off: what was not read is told so, at every length ---
+# --- files that are cut off: what was not read is told so, at some thirty lengths ---
 if command -v python3 > /dev/null; then
     gives 0 "inspect cut-off images" python3 tests/programs/cut_off.py "$k" "$tmp"
 fi
