@@ -20,6 +20,11 @@ _kagutin_options() {
 _kagutin() {
     local word=${COMP_WORDS[COMP_CWORD]} before=${COMP_WORDS[COMP_CWORD - 1]} command=${COMP_WORDS[0]##*/} first=1 choices=
     COMPREPLY=()
+    if [ "$word" = "=" ]; then # --option=value comes as three words
+        word=
+    elif [ "$before" = "=" ] && [ "$COMP_CWORD" -ge 2 ]; then
+        before=${COMP_WORDS[COMP_CWORD - 2]}
+    fi
     if [ "$command" = kagutin ]; then
         command=${COMP_WORDS[1]}
         first=2

@@ -175,7 +175,7 @@ image=$tmp/station.img
 gives 0 "station on a new file" "$san/station" --seed 3 --cuts 10 --groups 12 --homes 40 --file "$image"
 gives 0 "station goes on with it" "$san/station" --seed 4 --cuts 10 --file "$image"
 says "other numbers" 3 "station with another shape" "$san/station" --groups 4 --file "$image"
-says "other numbers" 1 "the station's image by the quick start" "$san/quickstart" "$image"
+says "another shape: " 1 "the station's image by the quick start" "$san/quickstart" "$image"
 gives 0 "station leaves a cut" "$san/station" --seed 35 --cuts 7 --file "$image" --keep-cut
 grep -q 'kept .*came back' "$tmp/out" && grep -q 'in the image' "$tmp/out"
 report $? "and counts what is in it as not opened"

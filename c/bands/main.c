@@ -4,6 +4,7 @@
 #include <string.h>
 
 #include "common/command.h"
+#include "common/records.h"
 #include "common/work.h"
 #include "kagutin/programs.h"
 #include "kagutin_units.h"
@@ -136,12 +137,28 @@ static void set_table(const struct options *options)
     work_close(&work);
 }
 
+/* Nothing was set, or homes 12 to 14 hold something else. */
+static void quit_without_table(struct copy *copy, const struct options *options, uint64_t writer)
+{
+    uint8_t blocks[KAGUTIN_BLOCK_SIZE * KAGUTIN_BANDS_HOMES] = {0};
+    struct bands_record bands;
+    const char *why;
+    size_t i;
+
+    for (i = 0; i < KAGUTIN_BANDS_HOMES; i++)
+        kgt_read(&copy->store, writer, KAGUTIN_BANDS_HOME + i, blocks + KAGUTIN_BLOCK_SIZE * i);
+    why = record_bands(blocks, &bands);
+    if (why)
+        command_quit(STATUS_REFUSED, "%s: homes 12 to 14 hold no table: %s", options->words[1], why);
+    command_quit(STATUS_REFUSED, "%s: no table is set", options->words[1]);
+}
+
 static struct kgt_band look_up(struct copy *copy, const struct options *options, uint64_t writer, uint64_t mm)
 {
     struct kgt_band band = kgt_bands_look_up(&copy->store, writer, mm);
 
     if (band.code == KAGUTIN_BAD_BANDS)
-        command_quit(STATUS_REFUSED, "%s: no table is set", options->words[1]);
+        quit_without_table(copy, options, writer);
     if (band.code != KAGUTIN_DONE)
         quit_answer(options, band.code);
     return band;

@@ -47,7 +47,7 @@ static size_t number16(const uint8_t *bytes)
 static bool check_shape(struct copy *copy, const char *path, const struct image_file *file)
 {
     char hint[IMAGE_FILE_HINT];
-    size_t size;
+    size_t size, i;
 
     if (file->size < KAGUTIN_HEADER_SIZE)
         return say(copy, "%s: no image: it has %llu bytes", path, (unsigned long long)file->size);
@@ -59,6 +59,9 @@ static bool check_shape(struct copy *copy, const char *path, const struct image_
     if (copy->image[0] != 0x50 || copy->image[1] != 0x54)
         return say(copy, "%s: no image: the header's mark is %02X %02X, not 50 54%s", path, copy->image[0], copy->image[1],
                    image_file_hint(file, hint));
+    for (i = 12; i < KAGUTIN_HEADER_SIZE; i++)
+        if (copy->image[i])
+            return say(copy, "%s: damaged header: byte %lu is not zero%s", path, (unsigned long)i, image_file_hint(file, hint));
     copy->groups = number16(copy->image + 8);
     copy->homes = number16(copy->image + 10);
     size = KGT_LOG_SIZE(copy->groups) + KGT_HOMES_SIZE(copy->homes);

@@ -40,7 +40,7 @@ static bool check_shape(struct homes *homes, const char *path, const struct imag
                    image_file_hint(file, hint));
     for (i = 12; i < HEADER; i++)
         if (header[i])
-            return say(homes, "%s: damaged header: byte %lu is not zero", path, (unsigned long)i);
+            return say(homes, "%s: damaged header: byte %lu is not zero%s", path, (unsigned long)i, image_file_hint(file, hint));
     if (homes->start > most)
         return say(homes, "%s: damaged header: its start is above 2^47", path);
     if (homes->groups < 4 || homes->groups > 1024 || homes->homes < 1)

@@ -148,10 +148,27 @@ static void look_for_store(struct image_file *file)
     }
 }
 
+/* Is this a dump's header, damaged in both copies? Most bytes of one of them then fit their complements. */
+static bool is_damaged_dump(const uint8_t *copies)
+{
+    size_t copy, i, fit;
+
+    for (copy = 0; copy < HEADER; copy += COPY) {
+        for (fit = i = 0; i < USED; i++)
+            fit += (copies[copy + i] ^ copies[copy + USED + i]) == 0xFF;
+        if (fit > USED / 2)
+            return true;
+    }
+    return false;
+}
+
 const char *image_file_hint(const struct image_file *file, char text[IMAGE_FILE_HINT])
 {
     text[0] = '\0';
-    if (file->found)
+    if (!file->dump && is_damaged_dump(file->bytes))
+        snprintf(text, IMAGE_FILE_HINT,
+                 "; a dump whose header is damaged in both copies, which 'kagutin inspect' reads all the same");
+    else if (file->found)
         snprintf(text, IMAGE_FILE_HINT, "; a store begins at byte %llu: --base %llu", (unsigned long long)file->found,
                  (unsigned long long)file->found);
     return text;

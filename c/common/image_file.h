@@ -6,7 +6,7 @@
 #include <stddef.h>
 #include <stdint.h>
 
-enum { IMAGE_FILE_HINT = 80 };
+enum { IMAGE_FILE_HINT = 120 };
 
 /* The largest image, in bytes. */
 #define IMAGE_FILE_MOST (64u + 512u * 1024u + 64u * 65535u)
@@ -47,7 +47,7 @@ bool image_file_read(struct image_file *file, const char *path, uint64_t base, e
 
 void image_file_free(struct image_file *file);
 
-/* For messages about a header without its mark: "; a store begins at byte N: --base N", or nothing. */
+/* For messages about a header that is none: "; a store begins at byte N: --base N", or that both copies of a dump's are damaged, or nothing. */
 const char *image_file_hint(const struct image_file *file, char text[IMAGE_FILE_HINT]);
 
 /* The 64 bytes of a dump's header: both copies, the same. */

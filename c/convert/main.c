@@ -59,9 +59,9 @@ static uint8_t *make_dump(const struct homes *homes, const struct options *optio
     uint8_t *chip;
 
     *size = options->size ? (size_t)options->size : (size_t)options->base + store;
-    if (*size < options->base + store)
+    if (*size < options->base + store || *size > COMMAND_MOST_CHIP)
         command_quit(STATUS_REFUSED, "%lu bytes from %lu on do not fit in %lu", (unsigned long)store,
-                     (unsigned long)options->base, (unsigned long)*size);
+                     (unsigned long)options->base, (unsigned long)(options->size ? *size : COMMAND_MOST_CHIP));
     chip = (uint8_t *)malloc(*size);
     if (!chip)
         command_quit(STATUS_TROUBLE, "out of memory");

@@ -73,7 +73,8 @@ void image_check_header(struct image *image)
     for (i = 12; i < HEADER && !header[i]; i++)
         ;
     if (i < HEADER)
-        image_note(image, "header: byte %lu is %02X, not zero", (unsigned long)i, header[i]);
+        image_note(image, "header: byte %lu is %02X, not zero%s", (unsigned long)i, header[i],
+                   image->mark_fits ? image->hint : "");
     image->header_fits = image->note_count == before;
 }
 

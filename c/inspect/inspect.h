@@ -22,8 +22,7 @@ struct options {
 
 struct image {
     const char *path;
-    uint8_t *
-        bytes; /* both areas, once the shape is known; what the file lacks is zeros, and so is a slot or home of which it has a part */
+    uint8_t *bytes;                   /* both areas, once the shape is known; zeros where the file has no whole slot or home */
     size_t read;                      /* bytes of the file that are in them */
     uint64_t file_size;               /* of the whole file, from the base on */
     uint64_t base;                    /* where the store begins in it */
@@ -37,7 +36,7 @@ struct image {
     size_t image_size;             /* by G and D */
     size_t slots_read, homes_read; /* from the front, whole; all of both unless the file is short */
 
-    char notes[MAX_NOTES][120]; /* what is damaged */
+    char notes[MAX_NOTES][200]; /* what is damaged */
     size_t note_count;
 };
 

@@ -44,6 +44,21 @@ static void range(const uint8_t *list, size_t writer, size_t kind, size_t index,
     pair[1] = (unsigned long)rule_number(bytes + 2, 2);
 }
 
+/* Does the list let anybody touch a home of the image beside its own? Bytes of something else mostly do not. */
+static bool opens_any(const struct image *image, const uint8_t *list)
+{
+    unsigned long pair[2], home;
+    size_t i;
+
+    for (i = 0; i < WRITERS * 2 * RANGES; i++) {
+        range(list, i / (2 * RANGES), i / RANGES % 2, i % RANGES, pair);
+        for (home = pair[0]; home < pair[0] + pair[1] && home < image->log.homes; home++)
+            if (home < HOME || home >= HOME + HOMES)
+                return true;
+    }
+    return false;
+}
+
 /* Homes beyond D are named as the list names them. */
 static void text_ranges(const uint8_t *list, size_t writer, size_t kind)
 {
@@ -85,6 +100,8 @@ void text_rights(const struct image *image, const struct fates *fates)
         text_ranges(list, writer, 1);
         putchar('\n');
     }
+    if (!opens_any(image, list))
+        puts("  ! nobody may touch any other home: bytes of something else, or a list that locks everybody out");
 }
 
 static void json_ranges(const uint8_t *list, size_t writer, size_t kind)
@@ -115,7 +132,7 @@ void json_rights(const struct image *image, const struct fates *fates)
         printf("{\"list\":false,\"why\":\"%s\"}", why_none(image));
         return;
     }
-    fputs("{\"list\":true,\"writers\":[", stdout);
+    printf("{\"list\":true,\"locks_out_all\":%s,\"writers\":[", opens_any(image, list) ? "false" : "true");
     for (writer = 0; writer < WRITERS; writer++) {
         printf("%s\n  {\"writer\":%lu,\"store\":[", writer ? "," : "", (unsigned long)writer);
         json_ranges(list, writer, 0);

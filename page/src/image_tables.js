@@ -61,8 +61,10 @@ function rightsPart(told) {
   if (!told.rights.list) {
     return el("p", null, "No list, " + told.rights.why + "; only writer 0 stores to homes 8 to 11, the others are open to all.");
   }
-  return table("Who may touch which home", ["writer", "stores to", "reads"], told.rights.writers,
-    row => [row.writer, rangesText(row.store), rangesText(row.read)]);
+  const locked = told.rights.locks_out_all
+    ? el("p", { class: "bad" }, "Nobody may touch any other home: bytes of something else, or a list that locks everybody out.") : null;
+  return el("div", null, locked, table("Who may touch which home", ["writer", "stores to", "reads"], told.rights.writers,
+    row => [row.writer, rangesText(row.store), rangesText(row.read)]));
 }
 
 function bandsPart({ bands }) {

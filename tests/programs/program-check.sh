@@ -35,6 +35,11 @@ for command in $commands; do
     says "unknown option '--frob'" 2 "$command --frob" "$k" "$command" --frob=1
 done
 
+gives 0 "make kagutin" "${MAKE:-make}" -n -B -f make/c.mk kagutin
+for name in inspect wear bands gauges inflow station; do
+    shows "^ln -sf kagutin .*/$name\$"
+done
+
 # --- make ---
 gives 0 "make" "$k" make "$tmp/north.img" 16 32
 says "exists already" 3 "make over an image" "$k" make "$tmp/north.img" 16 32
@@ -120,6 +125,7 @@ shows "^dump  *of a serial FRAM: the header's copy at 0 counts, the one at 32 is
 gives 0 "back from the chip" "$k" convert --base 300 "$tmp/chip.bin" "$tmp/chip.img"
 gives 0 "the same image" cmp "$tmp/station.img" "$tmp/chip.img"
 says "do not fit in 7000" 1 "a small chip" "$k" convert --size 7000 "$tmp/station.img" "$tmp/none.bin"
+says "from 16777000 on do not fit in 16777216" 1 "beyond the end of every chip" "$k" convert --base 16777000 "$tmp/station.img" "$tmp/none.bin"
 says "exists already" 3 "convert over a file" "$k" convert "$tmp/station.img" "$tmp/chip.bin"
 says "image or dump" 2 "--to frob" "$k" convert --to frob a b
 [ ! -e "$tmp/none.bin" ] && [ ! -e "$tmp/none.img" ] && [ -z "$(find "$tmp" -name '*.bin.*')" ]; report $? "nothing is left of what was refused"
@@ -149,6 +155,16 @@ for command in inspect "inspect --json" alarms "alarms --csv" "rights show" expo
 done
 says "not changed in place" 2 "rights set at a base" "$k" rights set --base 5 "$tmp/twice.bin" "$tmp/list.txt"
 says "not changed in place" 2 "bands set at a base" "$k" bands set --base 5 "$tmp/twice.bin" "$tmp/list.txt"
+cp "$tmp/again.bin" "$tmp/torn.bin"
+printf '\001' | dd of="$tmp/torn.bin" bs=1 seek=13 conv=notrunc 2> /dev/null
+gives 0 "a dump with one damaged copy of its header" "$k" inspect "$tmp/torn.bin"
+shows "the header's copy at 32 counts, the one at 0 is torn"
+printf '\001' | dd of="$tmp/torn.bin" bs=1 seek=45 conv=notrunc 2> /dev/null
+for command in alarms "rights show" export wear "bands show"; do
+    says "a dump whose header is damaged in both copies" 3 "$command of a dump with two" "$k" $command "$tmp/torn.bin"
+done
+gives 1 "inspect it" "$k" inspect "$tmp/torn.bin"
+shows '^  pump 7  [1-9]'
 says "is not changed in place" 3 "bands set in a dump" "$k" bands set "$tmp/station.bin" "$tmp/table.txt"
 says "is not changed in place" 3 "rights set in a dump" "$k" rights set "$tmp/station.bin" "$tmp/list.txt"
 
@@ -258,6 +274,12 @@ put() { printf "$2" | dd of="$tmp/units.img" bs=1 seek="$1" conv=notrunc 2> /dev
 put $((homes + 64 * 12)) '\001'
 put $((homes + 64 * 19 + 5)) '\001'
 put $((homes + 64 * 24)) '\061'
+cp "$tmp/units.img" "$tmp/stray.img"
+printf 'hello' | dd of="$tmp/stray.img" bs=1 seek=$((homes + 64 * 8 + 40)) conv=notrunc 2> /dev/null
+gives 1 "inspect a stray block in the list of rights" "$k" inspect "$tmp/stray.img"
+shows '^  ! nobody may touch any other home: bytes of something else'
+gives 1 "the same as JSON" "$k" inspect --json "$tmp/stray.img"
+shows '"locks_out_all":true'
 gives 1 "inspect homes that hold something else" "$k" inspect "$tmp/units.img"
 shows '^bands: ! homes 12 to 14 hold no table: a millimetre lies in no row'
 shows '^  pump 3  ! home 19 holds no record of a pump: no starts, but seconds$'
@@ -267,6 +289,8 @@ shows '^  homes 12 to 14: no table of depth bands: a millimetre'
 shows '^  home 19: no record of pump 3: no starts, but seconds$'
 shows '^  homes 24 to 29: no list of alarms: more than 48 alarms$'
 says "hold no list of alarms: more than 48" 1 "alarms there" "$k" alarms "$tmp/units.img"
+says "homes 12 to 14 hold no table: a millimetre lies in no row" 1 "bands show there" "$k" bands show "$tmp/units.img"
+says "homes 12 to 14 hold no table: a millimetre lies in no row" 1 "bands at there" "$k" bands at "$tmp/units.img" 5
 says "home 19 holds no record of pump 3: no starts, but seconds" 3 "wear there" "$k" wear "$tmp/units.img"
 if command -v python3 > /dev/null; then
     gives 1 "inspect --json" "$k" inspect --json "$tmp/units.img"
@@ -282,7 +306,7 @@ put 8 '\377\003'
 gives 1 "and of groups" "$k" inspect --json "$tmp/units.img"
 [ "$(wc -c < "$tmp/out")" -lt 90000 ]; report $? "stays small"
 
-# --- files that are cut off: what was not read is told so, at every length ---
+# --- files that are cut off: what was not read is told so, at some thirty lengths ---
 if command -v python3 > /dev/null; then
     gives 0 "inspect cut-off images" python3 tests/programs/cut_off.py "$k" "$tmp"
 fi
@@ -318,6 +342,22 @@ if python3 -c 'import os, sys; os.open(sys.argv[1], os.O_TMPFILE | os.O_RDWR)' "
     done
 else
     echo "skipped kills while a file is written: no files without a name here"
+fi
+
+# --- the same files where the system has none without a name ---
+hidden='mount -t tmpfs none /proc && exec "$0" "$@"'
+if unshare -m sh -c 'mount -t tmpfs none /proc' 2> "$tmp/log"; then
+    mkdir "$tmp/named"
+    for words in "make named/x.img 16 32" "import homes.csv named/y.img" "convert again.img named/z.bin" "wear --html named/w.html --csv=named/w.csv again.img" \
+        "wear --html named/w.html --csv=named/w.csv again.img new.img"; do
+        (cd "$tmp" && unshare -m sh -c "$hidden" "$home/$out/kagutin" $words) > "$tmp/out" 2> "$tmp/log"; report $? "$words, by a temporary name"
+    done
+    [ "$(cd "$tmp/named" && echo *)" = "w.csv w.html x.img y.img z.bin" ]; report $? "and no other file is left"
+    grep -q 'new.img' "$tmp/named/w.csv"; report $? "the second sheet is in the first one's place"
+    gives 0 "the image by a temporary name" "$k" inspect "$tmp/named/x.img"
+    gives 0 "and that of the import" "$k" inspect "$tmp/named/y.img"
+else
+    echo "skipped files by a temporary name: /proc cannot be hidden here"
 fi
 
 # --- FIFOs and folders ---
@@ -368,6 +408,10 @@ if command -v bash > /dev/null; then
     completes "image dump" kagutin convert --to ''
     completes "--json" inspect --j
     completes "--keep-cut" kagutin station --k
+    completes "--base" kagutin alarms --b
+    completes "dump" kagutin convert --to = d
+    completes "image dump" kagutin convert --to =
+    completes "json" kagutin export --as = j
 fi
 
 # --- documents: every command line is run, and prints what stands there ---
