@@ -11,7 +11,7 @@
 #include "kagutin_memory.h"
 #include "powerloss/broken.h"
 
-enum { GROUPS = 4, HOMES = 8, SIZE = KGT_LOG_SIZE(GROUPS) + KGT_HOMES_SIZE(HOMES), MOST_CALLS = 6 };
+enum { GROUPS = 4, HOMES = 8, SIZE = KGT_LOG_SIZE(GROUPS) + KGT_HOMES_SIZE(HOMES), MOST_CALLS = 8 };
 
 static uint8_t memory[KGT_POWERLOSS_SIZE(GROUPS, HOMES, 48)], medium_memory[KGT_SIM_MEMORY(SIZE)];
 static struct kgt_powerloss kit;
