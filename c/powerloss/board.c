@@ -346,8 +346,13 @@ bool kgt_powerloss_on_board(struct kgt_powerloss *kit)
 {
     struct note note;
 
-    if (!kit->pool || !kit->start || !kit->relay.cut || !kit->relay.note || !kit->relay.recall)
+    if (!kit->pool || !kit->start || !kit->relay.cut || !kit->relay.note || !kit->relay.recall) {
+        kgt_pl_refuse(kit,
+                      kit->pool ? "start or the relay is not set"
+                                : "kgt_powerloss_init was refused: the shape is none, or the memory too small");
+        kgt_pl_report(kit);
         return false;
+    }
     kit->every = kit->every ? kit->every : 1;
     kit->driver = kit->start(kit->context);
     read_note(kit, &note);

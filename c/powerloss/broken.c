@@ -13,7 +13,7 @@ const char *const broken_names[BROKEN_KINDS] = {
     "writes out of order across a fence",
 };
 
-enum { FULL = 9, HALF_WORD = 4, WORD = 8 };
+enum { FULL = 9, HALF_WORD = 4, WORD = 8, BROKEN_PAUSE = 4 };
 
 static size_t offset(const struct broken_driver *broken, enum kgt_area area, size_t at)
 {
@@ -95,13 +95,33 @@ static int empty_queue(struct broken_driver *broken, size_t count)
     return 0;
 }
 
-/* A write that fails stays in the queue for the next fence; load does not know of it. */
+/* Remembers what it has written until a fence has kept it. */
+static int remembering_write(void *context, enum kgt_area area, size_t at, const uint8_t *bytes, size_t size)
+{
+    struct broken_driver *broken = (struct broken_driver *)context;
+    int error = write_cached(context, area, at, bytes, size);
+
+    return error || broken->older > 0 ? error : queue_write(context, area, at, bytes, size);
+}
+
+/* What a failed fence has not kept is written once more, some fences later; load does not know of it. */
 static int retrying_fence(void *context)
 {
     struct broken_driver *broken = (struct broken_driver *)context;
-    int error = empty_queue(broken, broken->waiting);
+    int error = 0;
 
-    return error ? error : fence(context);
+    if (broken->older > 0 && --broken->pause == 0) {
+        error = empty_queue(broken, broken->older);
+        broken->older = 0;
+    }
+    error = error ? error : fence(context);
+    if (error && broken->older == 0) {
+        broken->older = broken->waiting;
+        broken->pause = BROKEN_PAUSE;
+    } else if (broken->older == 0) {
+        broken->waiting = 0;
+    }
+    return error;
 }
 
 /* Long writes go to the buffer that is being filled, short ones at once. */
@@ -156,7 +176,7 @@ struct kgt_driver broken_start(void *context)
     case BROKEN_FENCE_EARLY: driver.fence = early_fence; break;
     case BROKEN_LOAD_CACHED: driver.load = cached_load; break;
     case BROKEN_LATE_WRITE:
-        driver.write = queue_write;
+        driver.write = remembering_write;
         driver.fence = retrying_fence;
         break;
     case BROKEN_OUT_OF_ORDER:

@@ -32,6 +32,7 @@ struct broken_driver {
         uint8_t bytes[KAGUTIN_GROUP_SIZE];
     } queue[BROKEN_QUEUE]; /* of the last two kinds */
     size_t waiting, older; /* writes in it, and those of them from before the last fence */
+    unsigned pause;        /* fences until they are tried again */
 };
 
 /* memory: KGT_SIM_MEMORY of both areas' size. */

@@ -133,17 +133,29 @@ static bool step(struct kgt_powerloss *kit, char what, uint64_t writer)
     return code != KGT_DRIVER_FAILED;
 }
 
+static bool is_script(const char *script)
+{
+    for (; *script; script++) {
+        bool of_writer = strchr("bscka", *script) != NULL;
+
+        if (!of_writer && !strchr("ymof", *script))
+            return false;
+        if (of_writer && (script[1] < '0' || script[1] >= '0' + (char)KAGUTIN_WRITERS))
+            return false;
+        script += of_writer;
+    }
+    return true;
+}
+
 static void play_script(struct kgt_powerloss *kit, const char *script)
 {
     bool room = true;
 
     for (; *script && room; script++) {
         char what = *script;
+        bool of_writer = script[1] >= '0' && script[1] <= '9';
 
-        if (script[1] >= '0' && script[1] < '0' + (char)KAGUTIN_WRITERS)
-            room = step(kit, what, (uint64_t)(*++script - '0'));
-        else
-            room = step(kit, what, 0);
+        room = step(kit, what, of_writer ? (uint64_t)(*++script - '0') : 0);
     }
 }
 
@@ -185,10 +197,11 @@ bool kgt_pl_record(struct kgt_powerloss *kit, unsigned number)
         return false;
     kit->number = number;
     kit->random = kit->seed + (uint64_t)number * 0x51D7348D7B4DE4E5u;
-    if (!begin(kit)) {
-        kit->fault.duty = KGT_DUTY_NOT_TRIED;
-        return false;
-    }
+    if (number < own && !is_script(kit->script))
+        return kgt_pl_refuse(kit,
+                             "the script has a letter that is none: b, s, c, k, a with a writer from 0 to 7, and y, m, o, f");
+    if (!begin(kit))
+        return kgt_pl_refuse(kit, "the memory is too small for a format");
     if (number < own)
         play_script(kit, kit->script);
     else if (number < own + SCRIPTS)

@@ -7,6 +7,11 @@
 enum { KGT_PL_NOT_MADE, KGT_PL_DONE, KGT_PL_UNSURE }; /* outcome of a call; unsure: it failed, or power did */
 #define KGT_PL_BY_LOAD KGT_POWERLOSS_CALLS            /* writer of bytes that a load gave */
 
+/* ---- powerloss.c ---- */
+
+/* The kit cannot try, and why. Returns false. */
+bool kgt_pl_refuse(struct kgt_powerloss *kit, const char *why);
+
 /* ---- history.c ---- */
 
 /* Records the history with this number into calls; false if there is none: the scripted ones, then those of the seed. */

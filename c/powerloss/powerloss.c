@@ -50,8 +50,16 @@ const char *kgt_duty_text(enum kgt_duty duty)
     case KGT_DUTY_LOAD_LAST: return "load: no earlier write arrives any more";
     case KGT_DUTY_LOAD_COPIES: return "load copies a part of an area in";
     case KGT_DUTY_ANSWER: return "each returns 0, or an error of its own when the medium has failed";
-    default: return "not tried: the kit's memory is too small, or its notes cannot be kept";
+    default: return "not tried";
     }
+}
+
+bool kgt_pl_refuse(struct kgt_powerloss *kit, const char *why)
+{
+    memset(&kit->fault, 0, sizeof kit->fault);
+    kit->fault.duty = KGT_DUTY_NOT_TRIED;
+    kit->fault.remark = why;
+    return false;
 }
 
 /* ---- cuts and failures ---- */
@@ -149,8 +157,10 @@ bool kgt_powerloss_run(struct kgt_powerloss *kit)
 
     kit->trials = 0;
     memset(&kit->fault, 0, sizeof kit->fault);
-    if (!kit->pool || !kit->start || !kit->medium.cut) {
-        kit->fault.duty = KGT_DUTY_NOT_TRIED;
+    if (!kit->pool) {
+        kgt_pl_refuse(kit, "kgt_powerloss_init was refused: the shape is none, or the memory too small");
+    } else if (!kit->start || !kit->medium.cut) {
+        kgt_pl_refuse(kit, "start or medium is not set");
     } else {
         kit->every = kit->every ? kit->every : 1;
         kit->medium.clear(kit->medium.context);

@@ -179,9 +179,15 @@ void kgt_pl_report(struct kgt_powerloss *kit)
 
     if (!kit->say)
         return;
-    say(kit, fault->duty == KGT_DUTIES_KEPT ? "powerloss: " : "powerloss: BROKEN: ");
+    say(kit, fault->duty == KGT_DUTIES_KEPT || fault->duty == KGT_DUTY_NOT_TRIED ? "powerloss: " : "powerloss: BROKEN: ");
     say(kit, kgt_duty_text(fault->duty));
-    if (fault->duty == KGT_DUTIES_KEPT || fault->duty == KGT_DUTY_NOT_TRIED) {
+    if (fault->duty == KGT_DUTY_NOT_TRIED) {
+        say(kit, ": ");
+        say(kit, fault->remark ? fault->remark : "notes cannot be kept");
+        say(kit, "\n");
+        return;
+    }
+    if (fault->duty == KGT_DUTIES_KEPT) {
         say(kit, "; ");
         say_number(kit, kit->trials);
         say(kit, " trials\n");

@@ -112,6 +112,63 @@ static bool taken_away(const struct kgt_powerloss *kit)
         && kit->end.landings != UINT64_MAX;
 }
 
+/* The fence that covers the write which is missing; made if there is none. */
+static unsigned covering_fence(const struct kgt_powerloss *kit)
+{
+    unsigned call;
+
+    for (call = kit->fault.writer; call < kit->made; call++)
+        if (kit->calls[call].taken && kit->calls[call].called == KGT_CALLED_FENCE && kit->calls[call].outcome == KGT_PL_DONE)
+            break;
+    return call;
+}
+
+/* Was the write there after its fence, with the history broken off behind that? */
+static bool was_there(struct kgt_powerloss *kit)
+{
+    struct kgt_powerloss_end end = kit->end;
+    struct kgt_pl_seen seen;
+    unsigned made = kit->made, fence = covering_fence(kit);
+    bool there;
+
+    if (fence >= made)
+        return false;
+    kit->made = fence + 1;
+    if (!end.failing || end.call > fence) {
+        end.call = fence;
+        end.landings = UINT64_MAX;
+        end.failing = 0;
+    }
+    there = kgt_pl_trial(kit, &end, &seen);
+    kit->made = made;
+    return there;
+}
+
+/* Has anything been loaded between these calls? */
+static bool loads_between(const struct kgt_powerloss *kit, unsigned first, unsigned last)
+{
+    unsigned call;
+
+    for (call = first + 1; call < last; call++)
+        if (kit->calls[call].taken && kit->calls[call].called == KGT_CALLED_START)
+            return true;
+    return kit->end.failing && kit->end.call >= first && kit->end.call < last;
+}
+
+/* An older write stands where a fenced one was: it has come once more, or late. */
+static bool look_for_late_write(struct kgt_powerloss *kit)
+{
+    struct kgt_powerloss_fault fault = kit->fault;
+    bool late = fault.elsewhere < fault.writer && !taken_away(kit) && was_there(kit);
+
+    if (late) {
+        fault.duty = loads_between(kit, fault.elsewhere, fault.writer) ? KGT_DUTY_LOAD_LAST : KGT_DUTY_WRITE_TIME;
+        fault.remark = "after its fence the right one was there; then an earlier write arrived over it";
+    }
+    kit->fault = fault;
+    return late;
+}
+
 /* A fence that does not keep its duty: does the write arrive by itself, with a later fence, or never? */
 static void look_at_fence(struct kgt_powerloss *kit)
 {
@@ -119,7 +176,7 @@ static void look_at_fence(struct kgt_powerloss *kit)
     struct kgt_powerloss_end end = kit->end;
     struct kgt_pl_seen seen;
 
-    if (fault.duty != KGT_DUTY_FENCE || taken_away(kit))
+    if (fault.duty != KGT_DUTY_FENCE || taken_away(kit) || look_for_late_write(kit))
         return;
     end.wait = true;
     if (kgt_pl_trial(kit, &end, &seen)) {

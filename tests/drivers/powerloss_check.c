@@ -11,7 +11,7 @@
 #include "kagutin_memory.h"
 #include "powerloss/broken.h"
 
-enum { GROUPS = 4, HOMES = 8, SIZE = KGT_LOG_SIZE(GROUPS) + KGT_HOMES_SIZE(HOMES), MOST_CALLS = 6 };
+enum { GROUPS = 4, HOMES = 8, SIZE = KGT_LOG_SIZE(GROUPS) + KGT_HOMES_SIZE(HOMES), MOST_CALLS = 8 };
 
 static uint8_t memory[KGT_POWERLOSS_SIZE(GROUPS, HOMES, 48)], medium_memory[KGT_SIM_MEMORY(SIZE)];
 static struct kgt_powerloss kit;
@@ -115,6 +115,35 @@ static void check_writing_back(void)
     kit.every = 11;
     check(kgt_powerloss_run(&kit), "its duties", "writing back");
     printf("powerloss_check: a good driver that writes back: %lu trials\n", (unsigned long)kit.trials);
+}
+
+/* ---- scripts, and what cannot be tried ---- */
+
+static void try_script(const char *script, enum kgt_duty duty, const char *told)
+{
+    prepare(script);
+    broken_init(&broken, BROKEN_NO_FENCE, medium_memory, GROUPS, HOMES);
+    kit.start = broken_start;
+    kit.context = &broken;
+    kit.medium = kgt_sim_medium(&broken.sim);
+    kit.script = script;
+    check(!kgt_powerloss_run(&kit) && kit.fault.duty == duty && strstr(report, told), "a script", script);
+}
+
+static void check_scripts(void)
+{
+    try_script("b0s0k0y", KGT_DUTY_FENCE, "history 1 of");
+    try_script("b0s0k0x", KGT_DUTY_NOT_TRIED, "a letter that is none");
+    try_script("b8s0", KGT_DUTY_NOT_TRIED, "a letter that is none");
+    try_script("bs", KGT_DUTY_NOT_TRIED, "a letter that is none");
+    report[0] = '\0';
+    check(!kgt_powerloss_init(&kit, memory, sizeof memory / 4, GROUPS, HOMES), "too little memory", "");
+    kit.say = keep_report;
+    check(!kgt_powerloss_run(&kit) && strstr(report, "not tried: kgt_powerloss_init was refused"), "a refusal", "");
+    prepare("nothing set");
+    check(!kgt_powerloss_run(&kit) && strstr(report, "start or medium is not set"), "a refusal", "");
+    report[0] = '\0';
+    check(!kgt_powerloss_on_board(&kit) && strstr(report, "start or the relay is not set"), "a refusal", "");
 }
 
 /* ---- the FRAM driver ---- */
@@ -231,6 +260,7 @@ int main(int count, char **words)
     for (kind = BROKEN_NOT; kind < BROKEN_KINDS; kind++)
         check_broken((enum broken)kind, show);
     check_writing_back();
+    check_scripts();
     check_memory(false);
     check_memory(true);
     check_fram(every ? every : 1);
