@@ -69,7 +69,6 @@ command_of() {
 }
 
 readme_steps() {
-    step 0 "apt-get update" "apt-get update"
     step 0 "README: packages" "$(apt_line README.md 1)"
     for command in "make run" "make test"; do command_of README.md "$command"; done
     step 0 "README: make run" "make run"
@@ -112,6 +111,7 @@ debian_steps() {
 
 for release in "$@"; do
     enter || { report 1 "$release: no root"; continue; }
+    step 0 "apt-get update" "apt-get update"
     for part in ${STEPS:-readme install using debian}; do
         "${part}_steps"
     done
