@@ -50,7 +50,7 @@ enter() {
 
 # A step inside, as a person types it there.
 inside() {
-    chroot "$root" env -i PATH=/usr/sbin:/usr/bin:/sbin:/bin HOME=/root LC_ALL=C.UTF-8 DEBIAN_FRONTEND=noninteractive sh -c "cd /home/kagutin && $1"
+    chroot "$root" env -i PATH=/usr/sbin:/usr/bin:/sbin:/bin HOME=/home LC_ALL=C.UTF-8 DEBIAN_FRONTEND=noninteractive sh -c "cd /home/kagutin && $1"
 }
 
 step() { # status, name, command
@@ -69,7 +69,6 @@ command_of() {
 }
 
 readme_steps() {
-    step 0 "apt-get update" "apt-get update"
     step 0 "README: packages" "$(apt_line README.md 1)"
     for command in "make run" "make test"; do command_of README.md "$command"; done
     step 0 "README: make run" "make run"
@@ -85,7 +84,7 @@ install_steps() {
     step 0 "a prefix with spaces" "make -s install 'PREFIX=/opt/with two spaces' && '/opt/with two spaces/bin/kagutin' --version"
     step 0 "a relative prefix" "make -s install PREFIX=here && here/bin/kagutin --version"
     step 0 "LIBDIR" "make -s install PREFIX=/usr/local LIBDIR=/usr/local/lib/abc && test -f /usr/local/lib/abc/pkgconfig/kagutin-units.pc"
-    step 0 "DESTDIR with a space" "make -s install 'DESTDIR=/tmp/a stage' PREFIX=/usr && test -f '/tmp/a stage/usr/lib/libkagutin.a'"
+    step 0 "DESTDIR with a space" "make -s install 'DESTDIR=/home/a stage' PREFIX=/usr && test -f '/home/a stage/usr/lib/libkagutin.a'"
     step 0 "uninstall" "make -s uninstall PREFIX=here && test -z \"\$(find here -type f)\""
 }
 
@@ -95,7 +94,7 @@ using_steps() {
     command_of docs/USING.md "make quick"
     step 0 "USING: make quick" "make quick"
     grep -q 'reference: tests passed' "$tmp/out"; report $? "$release: Debian's cargo builds and tests the reference and the Rust crate"
-    step 0 "USING: make install and pkg-config" "make -s install && cc ../program/program.c -o /tmp/program \$(pkg-config --cflags --libs kagutin) && /tmp/program /tmp/p.img"
+    step 0 "USING: make install and pkg-config" "make -s install && cc ../program/program.c -o ../built \$(pkg-config --cflags --libs kagutin) && ../built ../built.img"
     step 0 "make test without the prover" "if [ -n '$full' ]; then make test; else make -n test > /dev/null; fi"
     for script in port/packages.sh page/packages.sh; do
         step 0 "$script: every package is there" "apt-get install -y --no-install-recommends --dry-run \$($script --list)"
@@ -112,6 +111,7 @@ debian_steps() {
 
 for release in "$@"; do
     enter || { report 1 "$release: no root"; continue; }
+    step 0 "apt-get update" "apt-get update"
     for part in ${STEPS:-readme install using debian}; do
         "${part}_steps"
     done

@@ -3,7 +3,7 @@
 #
 # Builds the packages from what is checked in, without network (as root) and with no path but that of Debian's own programs, so without the
 # prover; runs lintian; compiles the README's example against what they hold. With --install they are installed for that by dpkg and taken away
-# again, as root; else unpacked into a folder. The packages stay in target/debian. Debian: debhelper dpkg-dev lintian pkg-config.
+# again, as root; else unpacked into a folder. The packages stay in target/debian. Debian: build-essential debhelper lintian pkg-config.
 set -u
 . tests/common/helpers.sh
 . tests/build/readme.sh
@@ -33,6 +33,7 @@ fi
 grep -q "VERSION \"$version\"" include/kagutin.h; report $? "debian/changelog is of the library's version"
 
 gives 0 "source and packages built, with the quick tests" bare sh -c "cd '$source' && dpkg-buildpackage -us -uc"
+[ $failed -eq 0 ] || { count debian-check; exit; }
 gives 0 "lintian: no error, no warning" bare lintian --allow-root --fail-on error,warning "$tmp"/kagutin_"$version"_*.changes
 ! grep -q '^[EW]: \|No packages' "$tmp/out" "$tmp/log"; report $? "lintian: none printed, none skipped"
 rm -rf $out && mkdir -p $out
@@ -54,7 +55,7 @@ done
 
 # README's example: against the library, and with the one file.
 readme_program "$tmp/readme"; report $? "README: its example taken out"
-folder=$(find "$root/usr/lib" -name kagutin.pc -printf '%h')
+folder=$(find "$root/usr/lib" -name kagutin.pc -printf '%h') && [ -n "$folder" ]; report $? "kagutin.pc is there"
 flags=$(PKG_CONFIG_PATH=$folder PKG_CONFIG_SYSROOT_DIR=$root pkg-config --cflags --libs kagutin 2> "$tmp/log"); report $? "pkg-config kagutin"
 gives 0 "README: built with the library" sh -c "cc -Wall -Wextra '$tmp/readme/main.c' -o '$tmp/readme/linked' ${root:+-I$root/usr/include} $flags"
 gives 0 "README: built with the one file" sh -c "cd '$tmp/readme' && cp '$root'/usr/src/kagutin/kagutin_all.? . && cc -DKAGUTIN_FILE main.c kagutin_all.c -o alone"
