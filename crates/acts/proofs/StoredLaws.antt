@@ -87,12 +87,6 @@ not-held : holds begun ≡ false
 unfolding holds begun
 not-held = refl
 
-pub stored-next : (g : Given) (k : ℕ)
-    → storedFirst g (suc k)
-    ≡ andThen g (storedFirst g k) (storeEffect (lentOn g (storedFirst g k) (g .home + k) (part (g .block) (64 * k) 64)))
-unfolding storedFirst
-stored-next g k = refl
-
 module _ (g : Given) (n : ℕ) (c : Several (g .log) (g .state) (g .block) (g .writer) (g .home) n) where
   block-size : (k : ℕ) → k < n → length (part (g .block) (64 * k) 64) ≡ 64
   block-size k l = length-part (g .block) (64 * k) 64 (omega (arith, c .blocks))
@@ -268,13 +262,10 @@ module _ (g : Given) (n : ℕ) (c : Several (g .log) (g .state) (g .block) (g .w
 
   -- ---- all of them
 
-  pub first-is : storedFirst g 1 ≡ andThen g (beginEffect g) (storeEffect (lentOn g (beginEffect g) (g .home + 0) (part (g .block) (64 * 0) 64)))
-  unfolding storedFirst
-  first-is = refl
-
   pub stored : (j : ℕ) → j < n → Stored g j (storedFirst g (suc j))
-  stored zero l = subst (Stored g 0) (sym (first-is ∙ ap (andThen g (beginEffect g)) first-effect)) stored-one
+  unfolding storedFirst
+  stored zero l = subst (Stored g 0) (sym (ap (andThen g (beginEffect g)) first-effect)) stored-one
   stored (suc j) l =
       let h = stored j (omega arith) in
       let e : Effect = storedFirst g (suc j) in
-      subst (Stored g (suc j)) (sym (stored-next g (suc j) ∙ ap (andThen g e) (next-effect e j h l))) (stored-more e j h l)
+      subst (Stored g (suc j)) (sym (ap (andThen g e) (next-effect e j h l))) (stored-more e j h l)

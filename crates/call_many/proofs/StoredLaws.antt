@@ -10,13 +10,19 @@ use Rattle.model.specs.Batch.{batchBytes}
 use Rattle.model.specs.declared.Writer.{Writer}
 use Rattle.model.specs.State.{stateOf, nextPosition, writerOf, setWriter, heldOf, setHeld, begun, holding, firstFor}
 use Rattle.model.specs.Tag.{entryWord}
-use Rattle.model.specs.Effects.{Given, Effect, Logged, logged, newState, beginEffect, logHeld, storeFirst, storeOther}
+use Rattle.model.specs.Effects.{Given, Effect, Logged, logged, newState, beginEffect, logHeld, storeFirst, storeOther, storeEffect}
 use Rattle.model_laws.proofs.bytes.ByteLaws.{puts-nil}
 use Rattle.model_laws.proofs.state.LoggingLaws.{link-small}
 use Rattle.call_store.specs.Logs.{MayLog, Fits, StoredOther, loggedEntry}
 use Rattle.acts.specs.Many.{lentOn, andThen, storedFirst}
-use Rattle.acts.proofs.StoredLaws.{records-none, sizes-more, stored-next, first-effect, first-is, position, next-low, fills, next-effect, stored}
+use Rattle.acts.proofs.StoredLaws.{records-none, sizes-more, first-effect, position, next-low, fills, next-effect, stored}
 use Rattle.call_many.specs.Steps.{Several, BatchRoom, Moved, Stored, Reached}
+
+stored-next : (g : Given) (k : ℕ)
+    → storedFirst g (suc k)
+    ≡ andThen g (storedFirst g k) (storeEffect (lentOn g (storedFirst g k) (g .home + k) (part (g .block) (64 * k) 64)))
+unfolding storedFirst
+stored-next g k = refl
 
 module _ (g : Given) (n : ℕ) (c : Several (g .log) (g .state) (g .block) (g .writer) (g .home) n) where
   -- ---- where an entry may be logged
@@ -107,6 +113,10 @@ module _ (g : Given) (n : ℕ) (c : Several (g .log) (g .state) (g .block) (g .w
 
   -- ---- all of them
 
+  first-is : storedFirst g 1 ≡ andThen g (beginEffect g) (storeEffect (lentOn g (beginEffect g) (g .home + 0) (part (g .block) (64 * 0) 64)))
+  unfolding storedFirst
+  first-is = refl
+
   pub stored-reached : (j m k : ℕ) (s l b s′ l′ b′ : List ℕ) → suc j < n → Reached m s l b (g .batch) (storedFirst g (suc j))
       → StoredOther k s′ l′ b′ s l b (part (g .block) (64 * suc j) 64) (stateOf s) (writerOf s (g .writer)) (g .writer) (g .home + suc j)
       → Reached (m + k) s′ l′ b′ (g .batch) (storedFirst g (suc (suc j)))
@@ -123,4 +133,4 @@ module _ (g : Given) (n : ℕ) (c : Several (g .log) (g .state) (g .block) (g .w
 
   pub stored-first : (s′ : List ℕ) → s′ ≡ setHeld (setWriter (setWriter (g .state) (g .writer) begun) (g .writer) (holding (g .home + 0))) (g .writer) (part (g .block) (64 * 0) 64) → Reached 0 s′ (g .log) (g .batch) (g .batch) (storedFirst g 1)
   stored-first s′ e =
-      subst (Reached 0 s′ (g .log) (g .batch) (g .batch)) (sym (first-is g n c ∙ ap (andThen g (beginEffect g)) (first-effect g n c))) (first-reached s′ e)
+      subst (Reached 0 s′ (g .log) (g .batch) (g .batch)) (sym (first-is ∙ ap (andThen g (beginEffect g)) (first-effect g n c))) (first-reached s′ e)

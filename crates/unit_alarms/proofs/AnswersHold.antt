@@ -2,55 +2,59 @@
 use Prim.Native.Nat.{ℕ, zero, suc, _+_, _*_, _≤_, _<_}
 use mathlib.Core.Path.{_≡_, refl, sym, ap, _∙_}
 use mathlib.Core.Bool.{Bool, true, false, cond, _&&_}
-use mathlib.Core.Logic.{inl, inr}
+use mathlib.Core.Logic.{inl, inr, _≢_}
 use mathlib.Core.List.{List}
 use native.Mathlib.Decide.{decLt}
 use native.Mathlib.Omega.{arith}
 use borrow.Author.Tests.{le-leb, lt-leb}
 use lib.Dec.{leb}
+use lib.ListN.{length}
 use Rattle.model.specs.Bytes.{zeros}
-use Rattle.model.specs.History.{World, afterFormat}
+use Rattle.model.specs.History.{World, Formatting, afterFormat}
 use Rattle.abstract_store.specs.Store.{Store, told}
 use Rattle.unit_events.specs.Homes.{alarmHome, alarmHomes}
 use Rattle.unit_events.specs.Offered.{heldAfter}
-use Rattle.unit_events.specs.Folded.{noted, ran, notes}
+use Rattle.unit_events.specs.Folded.{Step, noted, ran, notes, AllStepsAllowed, SparedBySteps}
 use Rattle.unit_events.proofs.FoldedHolds.{events-folded}
-use Rattle.unit_shared.specs.Unit.{fetched}
-use Rattle.unit_shared.specs.Shown.{Shown}
+use Rattle.unit_shared.specs.Unit.{untouched, fetched, revised, transacted}
 use Rattle.unit_shared.specs.Moments.{lentIn}
 use Rattle.unit_shared.specs.Replies.{askRead, replyEvent, toldBy, Answered, storeBeside}
 use Rattle.unit_shared.proofs.MomentShown.{shown-there, first-there, kept-there}
-use Rattle.unit_shared.proofs.RepliesHold.{EventEnds, fetched-code, event-told, told-refused, answered-there}
+use Rattle.unit_shared.proofs.RepliesHold.{EventEnds, fetched-code, event-told, told-refused, few-unread, few-unfetched, answered-there}
 use Rattle.unit_alarms_list.specs.declared.Alarm.{Alarm}
+use Rattle.unit_alarms_list.specs.OpenAlarms.{gravest, told as shown}
 use Rattle.unit_alarms_list.specs.Events.{Event, arrival, clearing}
-use Rattle.unit_alarms_list.specs.Guarantees.{answerBy, heldWith, Represents, Typed}
+use Rattle.unit_alarms_list.specs.Guarantees.{openBy, answerBy, heldWith, Represents, Typed}
 use Rattle.unit_alarms_list.specs.Stored.{judged}
 use Rattle.unit_alarms_list.proofs.StoredHolds.{filling, alarms-recorded}
-use Rattle.unit_alarms.specs.Calls.{judge, arriveCall, clearCall, tells, gravestCall}
-use Rattle.unit_alarms.specs.Claims.{eventCall, Claim, FirstShown}
-use Rattle.unit_alarms.specs.Answers.{arriveReply, clearReply, gravestAnswered, gravestReply, AlarmAnswers, AlarmsAnswer}
+use Rattle.unit_alarms.specs.Calls.{judge, arriveCall, clearCall, alarmTells, tells, gravestCall}
+use Rattle.unit_alarms.specs.Claims.{eventCall, Claim}
+use Rattle.unit_alarms.specs.Answers.{arriveReply, clearReply, gravestAnswered, gravestReply, EventAnswers, GravestAnswers, AlarmAnswers, AlarmsAnswer}
 use Rattle.unit_alarms.proofs.RefusalsHold.{refusals-on-alarms}
 use Rattle.unit_alarms.proofs.Claimed.{recording, claimed}
 
-module _ (w : World) (s : Store) (m : Answered w s) (es : List Event) (blocks : List ℕ) (k : Represents es blocks)
-    (shown : (writer : ℕ) (batch : List ℕ) → Shown (lentIn w batch) writer alarmHome alarmHomes blocks)
-    (first : (writer : ℕ) (batch : List ℕ) → FirstShown (lentIn w batch) writer blocks) where
-  claim-there : (writer : ℕ) (batch : List ℕ) → Claim (lentIn w batch) writer es blocks
-  claim-there writer batch = claimed (lentIn w batch) writer es blocks k (shown writer batch) (first writer batch)
+-- ---- events
 
-  -- ---- events
+-- blocks that fill the homes, and the call that stores them
+abbrev Stores : World → ℕ → List ℕ → Event → Type 0
+Stores w writer batch e =
+    (blocks : List ℕ) × ((length blocks ≡ 64 * alarmHomes) × (eventCall (lentIn w batch) writer e ≡ transacted (lentIn w batch) writer alarmHome blocks))
 
+module _ (w : World) (s : Store) (m : Answered w s) (es : List Event)
+    (refused : (writer : ℕ) (batch : List ℕ) (e : Event) → Typed e → revised (lentIn w batch) writer alarmHome alarmHomes .code ≡ 0 → answerBy es e ≢ 0
+    → eventCall (lentIn w batch) writer e ≡ untouched (lentIn w batch) (answerBy es e) 0)
+    (stored : (writer : ℕ) (batch : List ℕ) (e : Event) → Typed e → revised (lentIn w batch) writer alarmHome alarmHomes .code ≡ 0 → answerBy es e ≡ 0
+    → Stores w writer batch e) where
   arrival-ends : (writer : ℕ) (a : Alarm) (batch : List ℕ) → Typed (arrival a) → 1 ≤ a .class → a .class ≤ 9
-      → EventEnds w batch writer alarmHome alarmHomes (answerBy es (arrival a)) (judge (arrival a) blocks .blocks) (arriveCall (lentIn w batch) writer a)
+      → EventEnds w batch writer alarmHome alarmHomes (answerBy es (arrival a)) (arriveCall (lentIn w batch) writer a)
+  unfolding eventCall
   arrival-ends writer a batch t low high =
       let r = refusals-on-alarms (lentIn w batch) writer in
-      let c = claim-there writer batch in
       record {
         unread = r .arrivalUnread a low high;
         refusal = r .arrival a;
-        refused = λ z h. unfold eventCall in c .refused (arrival a) t z h;
-        stored = λ z h. unfold eventCall in c .stored (arrival a) t z h;
-        sized = λ z. recording .size blocks (arrival a) (recording .answers es blocks (arrival a) k t ∙ z);
+        refused = refused writer batch (arrival a) t;
+        stored = stored writer batch (arrival a) t;
       }
 
   arrive-known : (writer : ℕ) (a : Alarm) (batch : List ℕ) → Typed (arrival a) → 1 ≤ a .class → a .class ≤ 9
@@ -58,7 +62,7 @@ module _ (w : World) (s : Store) (m : Answered w s) (es : List Event) (blocks : 
   unfolding arriveReply
   arrive-known writer a batch t low high =
       rw (le-leb 1 (a .class) low, le-leb (a .class) 9 high)
-      (event-told w s m writer alarmHome alarmHomes (omega arith) (omega arith) batch _ (answerBy es (arrival a)) _ (arrival-ends writer a batch t low high))
+      (event-told w s m writer alarmHome alarmHomes (omega arith) (omega arith) batch (answerBy es (arrival a)) _ (arrival-ends writer a batch t low high))
 
   never : (b : Bool) → b && false ≡ false
   never true = refl
@@ -78,44 +82,75 @@ module _ (w : World) (s : Store) (m : Answered w s) (es : List Event) (blocks : 
       go (no l) (no h) = arrive-known writer a batch t (omega arith) (omega arith)
 
   clearing-ends : (writer identity : ℕ) (batch : List ℕ) → Typed (clearing identity)
-      → EventEnds w batch writer alarmHome alarmHomes (answerBy es (clearing identity)) (judge (clearing identity) blocks .blocks) (clearCall (lentIn w batch) writer identity)
+      → EventEnds w batch writer alarmHome alarmHomes (answerBy es (clearing identity)) (clearCall (lentIn w batch) writer identity)
+  unfolding eventCall
   clearing-ends writer identity batch t =
       let r = refusals-on-alarms (lentIn w batch) writer in
-      let c = claim-there writer batch in
       record {
         unread = r .clearingUnread identity;
         refusal = r .clearing identity;
-        refused = λ z h. unfold eventCall in c .refused (clearing identity) t z h;
-        stored = λ z h. unfold eventCall in c .stored (clearing identity) t z h;
-        sized = λ z. recording .size blocks (clearing identity) (recording .answers es blocks (clearing identity) k t ∙ z);
+        refused = refused writer batch (clearing identity) t;
+        stored = stored writer batch (clearing identity) t;
       }
 
   clear-reply : (writer identity : ℕ) (batch : List ℕ) → Typed (clearing identity)
       → toldBy (clearCall (lentIn w batch) writer identity) ≡ clearReply s es writer identity batch
   unfolding clearReply
   clear-reply writer identity batch t =
-      event-told w s m writer alarmHome alarmHomes (omega arith) (omega arith) batch _ (answerBy es (clearing identity)) _ (clearing-ends writer identity batch t)
+      event-told w s m writer alarmHome alarmHomes (omega arith) (omega arith) batch (answerBy es (clearing identity)) _ (clearing-ends writer identity batch t)
 
-  -- ---- the gravest
+  event-answers : EventAnswers w s es
+  event-answers = record { arrivals = arrive-reply; clearings = clear-reply }
 
-  gravest-reply : (writer : ℕ) (batch : List ℕ) → gravestCall (lentIn w batch) writer ≡ gravestReply s es writer
-  unfolding gravestReply gravestAnswered
-  gravest-reply writer batch = go (askRead s writer alarmHome 1) (fetched-code w s m writer alarmHome 1 (omega arith) (omega arith) batch)
-    where
-      go : (n : ℕ) → fetched (lentIn w batch) writer alarmHome 1 .code ≡ n → gravestCall (lentIn w batch) writer ≡ gravestAnswered n es
-      go zero e = claim-there writer batch .tells e
-      go (suc n) e =
-          refusals-on-alarms (lentIn w batch) writer .gravestUnread (λ z. absurd (omega (arith, e, z))) ∙ ap (λ (x : ℕ). tells x 0 0 0) e
+-- ---- the gravest
 
-  alarm-answers : AlarmAnswers w s es
-  alarm-answers = record { arrivals = arrive-reply; clearings = clear-reply; gravests = gravest-reply }
+gravest-reply : (w : World) (s : Store) → Answered w s → (es : List Event)
+    → ((writer : ℕ) (batch : List ℕ) → fetched (lentIn w batch) writer alarmHome 1 .code ≡ 0 → gravestCall (lentIn w batch) writer ≡ alarmTells (shown (gravest (openBy es))))
+    → GravestAnswers w s es
+unfolding gravestReply gravestAnswered
+gravest-reply w s m es tellsBy writer batch = go (askRead s writer alarmHome 1) (fetched-code w s m writer alarmHome 1 (omega arith) (omega arith) batch)
+  where
+    go : (n : ℕ) → fetched (lentIn w batch) writer alarmHome 1 .code ≡ n → gravestCall (lentIn w batch) writer ≡ gravestAnswered n es
+    go zero e = tellsBy writer batch e
+    go (suc n) e =
+        refusals-on-alarms (lentIn w batch) writer .gravestUnread (λ z. absurd (omega (arith, e, z))) ∙ ap (λ (x : ℕ). tells x 0 0 0) e
 
-pub alarms-answer : AlarmsAnswer
-alarms-answer groups homes d f ss ok spared ready =
+-- ---- in the histories of alarms
+
+kept-answers : (groups homes : ℕ) → alarmHome + alarmHomes ≤ homes → (f : Formatting groups homes) (ss : List (Step Event))
+    → AllStepsAllowed alarmHome alarmHomes judged heldWith (afterFormat f) ss → SparedBySteps alarmHome alarmHomes judged heldWith Typed (afterFormat f) ss
+    → ran alarmHome alarmHomes judged heldWith (afterFormat f) ss .ready ≡ true
+    → AlarmAnswers (ran alarmHome alarmHomes judged heldWith (afterFormat f) ss) (storeBeside alarmHome alarmHomes judged heldWith f ss)
+    (noted (notes alarmHome alarmHomes judged heldWith (afterFormat f) ss))
+kept-answers groups homes d f ss ok spared ready =
     let w : World = ran alarmHome 6 judged heldWith (afterFormat f) ss in
+    let s : Store = storeBeside alarmHome 6 judged heldWith f ss in
+    let m : Answered w s = answered-there alarmHome 6 judged heldWith f ss ok ready in
     let ns = notes alarmHome 6 judged heldWith (afterFormat f) ss in
     let g = events-folded alarmHome 6 judged heldWith Typed (omega arith) filling groups homes (omega arith) f ss ok spared in
     let r = alarms-recorded groups homes (omega arith) f ss ok spared in
-    alarm-answers w (storeBeside alarmHome 6 judged heldWith f ss) (answered-there alarmHome 6 judged heldWith f ss ok ready) (noted ns)
-    (heldAfter heldWith (zeros (64 * 6)) (noted ns)) (kept-there alarmHome 6 judged heldWith Typed w ns g answerBy Represents r)
-    (shown-there alarmHome 6 judged heldWith Typed w ns g ready) (λ writer batch. first-there alarmHome 6 judged heldWith Typed w ns g ready writer 1 batch (omega arith))
+    let blocks : List ℕ = heldAfter heldWith (zeros (64 * 6)) (noted ns) in
+    let k : Represents (noted ns) blocks = kept-there alarmHome 6 judged heldWith Typed w ns g answerBy Represents r in
+    let c : (writer : ℕ) (batch : List ℕ) → Claim (lentIn w batch) writer (noted ns) blocks =
+    λ writer batch. claimed (lentIn w batch) writer (noted ns) blocks k (shown-there alarmHome 6 judged heldWith Typed w ns g ready writer batch)
+    (first-there alarmHome 6 judged heldWith Typed w ns g ready writer 1 batch (omega arith)) in
+    record {
+      events = event-answers w s m (noted ns) (λ writer batch e t z h. c writer batch .refused e t z h)
+          (λ writer batch e t z h. (judge e blocks .blocks, (recording .size blocks e (recording .answers (noted ns) blocks e k t ∙ h), c writer batch .stored e t z h)));
+      gravests = gravest-reply w s m (noted ns) (λ writer batch z. c writer batch .tells z);
+    }
+
+-- ---- with a store that has too few homes for them
+
+few-answers : (w : World) (s : Store) → Answered w s → s .homes < alarmHome + alarmHomes → (es : List Event) → EventAnswers w s es
+few-answers w s m l es =
+    let unread : (writer : ℕ) (batch : List ℕ) → revised (lentIn w batch) writer alarmHome alarmHomes .code ≢ 0 =
+    λ writer batch. few-unread w s m writer alarmHome alarmHomes (omega arith) (omega arith) l batch in
+    event-answers w s m es (λ writer batch e t z h. absurd (unread writer batch z)) (λ writer batch e t z h. absurd (unread writer batch z))
+
+none-answers : (w : World) (s : Store) → Answered w s → s .homes < alarmHome + 1 → (es : List Event) → GravestAnswers w s es
+none-answers w s m l es =
+    gravest-reply w s m es (λ writer batch z. absurd (few-unfetched w s m writer alarmHome 1 (omega arith) (omega arith) l batch z))
+
+pub alarms-answer : AlarmsAnswer
+alarms-answer = record { kept = kept-answers; few = few-answers; none = none-answers }

@@ -2,7 +2,8 @@
 use Prim.Native.Nat.{ℕ, zero, suc, _+_, _*_, _≤_, _<_}
 use mathlib.Core.Path.{_≡_, refl, sym, ap, _∙_}
 use mathlib.Core.Bool.{true}
-use mathlib.Core.List.{List}
+use mathlib.Core.Logic.{_≢_}
+use mathlib.Core.List.{List, []}
 use native.Mathlib.Omega.{arith}
 use borrow.Author.Tests.{le-leb, lt-leb}
 use lib.Dec.{leb}
@@ -15,12 +16,11 @@ use Rattle.unit_events.specs.Homes.{pumpHome}
 use Rattle.unit_events.specs.Offered.{heldAfter}
 use Rattle.unit_events.specs.Folded.{Step, noted, ran, notes, AllStepsAllowed, SparedBySteps}
 use Rattle.unit_events.proofs.FoldedHolds.{events-folded}
-use Rattle.unit_shared.specs.Unit.{fetched}
-use Rattle.unit_shared.specs.Shown.{Shown}
+use Rattle.unit_shared.specs.Unit.{fetched, revised}
 use Rattle.unit_shared.specs.Moments.{lentIn}
 use Rattle.unit_shared.specs.Replies.{askRead, toldBy, Answered, storeBeside}
 use Rattle.unit_shared.proofs.MomentShown.{shown-there, kept-there}
-use Rattle.unit_shared.proofs.RepliesHold.{EventEnds, fetched-code, event-told, told-refused, answered-there}
+use Rattle.unit_shared.proofs.RepliesHold.{EventEnds, fetched-code, event-told, told-refused, few-unread, few-unfetched, answered-there}
 use Rattle.unit_hours_book.specs.Events.{Event}
 use Rattle.unit_hours_book.specs.Guarantees.{answerBy, heldWith, Represents, Timed}
 use Rattle.unit_hours_book.specs.Stored.{judged}
@@ -33,22 +33,26 @@ use Rattle.unit_hours.proofs.Claimed.{recording, claimed}
 
 -- ---- a pump that there is
 
-module _ (w : World) (s : Store) (m : Answered w s) (es : List Event) (pump : ℕ) (p : pump ≤ 7) (block : List ℕ) (k : Represents es block)
-    (shown : (writer : ℕ) (batch : List ℕ) → Shown (lentIn w batch) writer (pumpHome pump) 1 block) where
-  claim-there : (writer : ℕ) (batch : List ℕ) → Claim (lentIn w batch) writer pump es block
-  claim-there writer batch = claimed (lentIn w batch) writer pump p es block k (shown writer batch)
-
+module _ (w : World) (s : Store) (m : Answered w s) (es : List Event) (pump : ℕ) (p : pump ≤ 7) (block : List ℕ)
+    (claim : (writer : ℕ) (batch : List ℕ) → Claim (lentIn w batch) writer pump es block)
+    (sized : (writer : ℕ) (batch : List ℕ) → revised (lentIn w batch) writer (pumpHome pump) 1 .code ≡ 0 → (e : Event) → Timed e → answerBy es e ≡ 0
+    → length (judge e block .blocks) ≡ 64) where
   event-ends : (writer : ℕ) (e : Event) (batch : List ℕ) → Timed e
-      → EventEnds w batch writer (pumpHome pump) 1 (answerBy es e) (judge e block .blocks) (eventCall (lentIn w batch) writer pump e)
+      → EventEnds w batch writer (pumpHome pump) 1 (answerBy es e) (eventCall (lentIn w batch) writer pump e)
   event-ends writer e batch t =
       let r = refusals-on-pumps (lentIn w batch) writer pump in
-      let c = claim-there writer batch in
-      record { unread = r .unread p e; refusal = r .refusal e; refused = c .refused e t; stored = c .stored e t; sized = λ z. recording .size block e (recording .answers es block e k t ∙ z) }
+      let c = claim writer batch in
+      record {
+        unread = r .unread p e;
+        refusal = r .refusal e;
+        refused = c .refused e t;
+        stored = λ z h. (judge e block .blocks, (sized writer batch z e t h, c .stored e t z h));
+      }
 
   event-reply : (writer : ℕ) (e : Event) (batch : List ℕ) → Timed e → toldBy (eventCall (lentIn w batch) writer pump e) ≡ eventReply s es writer pump e batch
   unfolding eventReply
   event-reply writer e batch t =
-      rw (le-leb pump 7 p) (event-told w s m writer (pumpHome pump) 1 (omega arith) (omega arith) batch _ (answerBy es e) _ (event-ends writer e batch t))
+      rw (le-leb pump 7 p) (event-told w s m writer (pumpHome pump) 1 (omega arith) (omega arith) batch (answerBy es e) _ (event-ends writer e batch t))
 
   read-code : (writer : ℕ) (batch : List ℕ) → fetched (lentIn w batch) writer (pumpHome pump) 1 .code ≡ askRead s writer (pumpHome pump) 1
   read-code writer batch = fetched-code w s m writer (pumpHome pump) 1 (omega arith) (omega arith) batch
@@ -58,7 +62,7 @@ module _ (w : World) (s : Store) (m : Answered w s) (es : List Event) (pump : �
   hours-reply writer batch = rw (le-leb pump 7 p) (unfold ask in go (askRead s writer (pumpHome pump) 1) (read-code writer batch))
     where
       go : (k : ℕ) → fetched (lentIn w batch) writer (pumpHome pump) 1 .code ≡ k → hoursCall (lentIn w batch) writer pump ≡ hoursAnswered k es
-      go zero e = claim-there writer batch .hours e
+      go zero e = claim writer batch .hours e
       go (suc k) e =
           refusals-on-pumps (lentIn w batch) writer pump .hoursUnread p (λ z. absurd (omega (arith, e, z))) ∙ ap (λ (x : ℕ). hoursTold x 0 0) e
 
@@ -70,13 +74,30 @@ module _ (w : World) (s : Store) (m : Answered w s) (es : List Event) (pump : �
     where
       go : (k : ℕ) → fetched (lentIn w batch) writer (pumpHome pump) 1 .code ≡ k
           → servicesCall (lentIn w batch) writer pump (suc i) ≡ servicesAnswered k es (suc i)
-      go zero e = claim-there writer batch .services (suc i) (omega arith) e
+      go zero e = claim writer batch .services (suc i) (omega arith) e
       go (suc k) e =
           refusals-on-pumps (lentIn w batch) writer pump .servicesUnread p (suc i) (omega arith) (λ z. absurd (omega (arith, e, z)))
           ∙ ap (λ (x : ℕ). servicesTold x 0 0) e
 
   pump-answers : PumpAnswers w s es pump
   pump-answers = record { events = event-reply; hours = hours-reply; services = services-reply }
+
+-- ---- a store with too few homes for it
+
+few-answers : (pump : ℕ) → pump ≤ 7 → (w : World) (s : Store) → Answered w s → s .homes < pumpHome pump + 1 → (es : List Event) → PumpAnswers w s es pump
+few-answers pump p w s m l es =
+    let unread : (writer : ℕ) (batch : List ℕ) → revised (lentIn w batch) writer (pumpHome pump) 1 .code ≢ 0 =
+    λ writer batch. few-unread w s m writer (pumpHome pump) 1 (omega arith) (omega arith) l batch in
+    let unfetched : (writer : ℕ) (batch : List ℕ) → fetched (lentIn w batch) writer (pumpHome pump) 1 .code ≢ 0 =
+    λ writer batch. few-unfetched w s m writer (pumpHome pump) 1 (omega arith) (omega arith) l batch in
+    pump-answers w s m es pump p []
+    (λ writer batch. record {
+      hours = λ z. absurd (unfetched writer batch z);
+      services = λ interval i z. absurd (unfetched writer batch z);
+      refused = λ e t z h. absurd (unread writer batch z);
+      stored = λ e t z h. absurd (unread writer batch z);
+    })
+    (λ writer batch z e t h. absurd (unread writer batch z))
 
 -- ---- one that there is not
 
@@ -107,14 +128,17 @@ known-answers pump p groups homes d f ss ok spared ready =
     let ns = notes (pumpHome pump) 1 judged heldWith (afterFormat f) ss in
     let g = events-folded (pumpHome pump) 1 judged heldWith Timed (omega arith) (filling pump) groups homes (omega arith) f ss ok spared in
     let r = hours-recorded pump groups homes (omega arith) f ss ok spared in
-    pump-answers w (storeBeside (pumpHome pump) 1 judged heldWith f ss) (answered-there (pumpHome pump) 1 judged heldWith f ss ok ready) (noted ns) pump p
-    (heldAfter heldWith (zeros (64 * 1)) (noted ns)) (kept-there (pumpHome pump) 1 judged heldWith Timed w ns g answerBy Represents r)
-    (shown-there (pumpHome pump) 1 judged heldWith Timed w ns g ready)
+    let block : List ℕ = heldAfter heldWith (zeros (64 * 1)) (noted ns) in
+    let k : Represents (noted ns) block = kept-there (pumpHome pump) 1 judged heldWith Timed w ns g answerBy Represents r in
+    pump-answers w (storeBeside (pumpHome pump) 1 judged heldWith f ss) (answered-there (pumpHome pump) 1 judged heldWith f ss ok ready) (noted ns) pump p block
+    (λ writer batch. claimed (lentIn w batch) writer pump p (noted ns) block k (shown-there (pumpHome pump) 1 judged heldWith Timed w ns g ready writer batch))
+    (λ writer batch z e t h. recording .size block e (recording .answers (noted ns) block e k t ∙ h))
 
 pub hours-answer : HoursAnswer
 hours-answer =
     record {
       known = λ pump p groups homes d f ss ok spared ready.
           known-answers pump p groups homes d f ss ok spared ready;
+      few = few-answers;
       unknown = λ pump p w s es. record { events = no-event pump p w s es; hours = no-hours pump p w s es; services = no-services pump p w s es };
     }

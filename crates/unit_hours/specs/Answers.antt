@@ -13,7 +13,7 @@ use Rattle.abstract_store.specs.Store.{Store, Reply, told}
 use Rattle.unit_events.specs.Homes.{pumpHome}
 use Rattle.unit_events.specs.Folded.{Step, noted, ran, notes, AllStepsAllowed, SparedBySteps}
 use Rattle.unit_shared.specs.Moments.{lentIn}
-use Rattle.unit_shared.specs.Replies.{askRead, replyEvent, toldBy, storeBeside}
+use Rattle.unit_shared.specs.Replies.{askRead, replyEvent, toldBy, Answered, storeBeside}
 use Rattle.unit_hours_book.specs.Events.{Event}
 use Rattle.unit_hours_book.specs.Services.{due}
 use Rattle.unit_hours_book.specs.Guarantees.{starts, total, answerBy, heldWith, Timed}
@@ -46,7 +46,8 @@ pub record PumpAnswers (w : World) (s : Store) (es : List Event) (pump : ℕ) : 
   pub services :
       (writer interval : ℕ) (batch : List ℕ) → servicesCall (lentIn w batch) writer pump interval ≡ servicesReply s es writer pump interval
 
--- At the end of every history of `BookKept`, and so at every moment of it after a done opening; and for a pump above 7 at any moment, with any store.
+-- At the end of every history of `BookKept`, and so at every moment of it after a done opening. With too few homes for the pump, at every moment at which
+-- fetch, revise and transact answer by the store (`ActsAnswer`): 4 or 5, whatever the events are. For a pump above 7, at any moment and with any store.
 pub record HoursAnswer : Type 0 where
   pub known :
       (pump : ℕ) → pump ≤ 7 → (groups homes : ℕ) → pumpHome pump + 1 ≤ homes → (f : Formatting groups homes) (ss : List (Step Event)) →
@@ -54,4 +55,6 @@ pub record HoursAnswer : Type 0 where
       ran (pumpHome pump) 1 judged heldWith (afterFormat f) ss .ready ≡ true →
       PumpAnswers (ran (pumpHome pump) 1 judged heldWith (afterFormat f) ss) (storeBeside (pumpHome pump) 1 judged heldWith f ss)
       (noted (notes (pumpHome pump) 1 judged heldWith (afterFormat f) ss)) pump
+  pub few :
+      (pump : ℕ) → pump ≤ 7 → (w : World) (s : Store) → Answered w s → s .homes < pumpHome pump + 1 → (es : List Event) → PumpAnswers w s es pump
   pub unknown : (pump : ℕ) → 7 < pump → (w : World) (s : Store) (es : List Event) → PumpAnswers w s es pump

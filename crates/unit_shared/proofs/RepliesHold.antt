@@ -1,5 +1,5 @@
 -- What calls on a unit answer, from what fetch, revise and transact answer. Assumes nothing.
-use Prim.Native.Nat.{ℕ, zero, suc, _+_, _*_, _/_, _≤_}
+use Prim.Native.Nat.{ℕ, zero, suc, _+_, _*_, _/_, _≤_, _<_}
 use mathlib.Core.Path.{_≡_, refl, sym, ap, _∙_, subst}
 use mathlib.Core.Logic.{_≢_}
 use mathlib.Core.Bool.{Bool, true, false, cond, _&&_}
@@ -7,7 +7,7 @@ use mathlib.Core.List.{List, [], _∷_, _++_, append-nil}
 use native.Mathlib.Omega.{arith}
 use lib.Dec.{eqb, leb, ltb}
 use lib.ListN.{length}
-use borrow.Author.Tests.{eq-eqb, ne-eqb, le-leb}
+use borrow.Author.Tests.{eq-eqb, ne-eqb, le-leb, lt-leb}
 use Rattle.model.specs.Bytes.{zeros}
 use Rattle.model.specs.Questions.{ask}
 use Rattle.model.specs.Calls.{Outcome}
@@ -53,12 +53,14 @@ told-refused w batch x k f s e r =
     rw (e, q .figure, q .size)
 
 -- how an event's call ends: the read's refusal, its own, or the transaction of its blocks
-pub record EventEnds (w : World) (batch : List ℕ) (writer home n own : ℕ) (blocks : List ℕ) (x : Left) : Type 0 where
+pub record EventEnds (w : World) (batch : List ℕ) (writer home n own : ℕ) (x : Left) : Type 0 where
   pub unread : revised (lentIn w batch) writer home n .code ≢ 0 → x .code ≡ revised (lentIn w batch) writer home n .code
   pub refusal : x .code ≢ 0 → Refusal (lentIn w batch) 0 x
   pub refused : revised (lentIn w batch) writer home n .code ≡ 0 → own ≢ 0 → x ≡ untouched (lentIn w batch) own 0
-  pub stored : revised (lentIn w batch) writer home n .code ≡ 0 → own ≡ 0 → x ≡ transacted (lentIn w batch) writer home blocks
-  pub sized : own ≡ 0 → length blocks ≡ 64 * n
+  pub stored :
+      revised (lentIn w batch) writer home n .code ≡ 0 →
+      own ≡ 0 →
+      (blocks : List ℕ) × ((length blocks ≡ 64 * n) × (x ≡ transacted (lentIn w batch) writer home blocks))
 
 module _ (w : World) (s : Store) (m : Answered w s) (writer home n : ℕ) (some : 1 ≤ n) (few : n ≤ 7) where
   -- blocks that fill the homes
@@ -136,9 +138,9 @@ module _ (w : World) (s : Store) (m : Answered w s) (writer home n : ℕ) (some 
       all true false c d e = absurd (omega arith)
       all false b c d e = absurd (omega arith)
 
-  pub event-told : (batch blocks : List ℕ) (own : ℕ) (x : Left) → EventEnds w batch writer home n own blocks x → toldBy x ≡ replyEvent s writer home n own batch
+  pub event-told : (batch : List ℕ) (own : ℕ) (x : Left) → EventEnds w batch writer home n own x → toldBy x ≡ replyEvent s writer home n own batch
   unfolding replyEvent
-  event-told batch blocks own x e = rw (number-is (first own (askEntries s writer n batch))) (go reading own refl refl)
+  event-told batch own x e = rw (number-is (first own (askEntries s writer n batch))) (go reading own refl refl)
     where
       go : (r o : ℕ) → reading ≡ r → own ≡ o → toldBy x ≡ told (first r (first o (askEntries s writer n batch))) (nextOf s + n) (transactBytes s n)
       go (suc r) o p q =
@@ -149,8 +151,25 @@ module _ (w : World) (s : Store) (m : Answered w s) (writer home n : ℕ) (some 
           (ap toldBy (e .refused (revised-code batch ∙ p) (λ z. absurd (omega (arith, q, z)))) ∙ ap (λ (k : ℕ). toldBy (untouched (lentIn w batch) k 0)) q ∙ told-untouched w batch o _ _)
       go zero zero p q =
           rw (first-none (first 0 (askEntries s writer n batch)), first-none (askEntries s writer n batch))
-          (ap toldBy (e .stored (revised-code batch ∙ p) q) ∙ transacted-told blocks batch (e .sized q)
+          (let b = e .stored (revised-code batch ∙ p) q in
+          ap toldBy (b .1 .1) ∙ transacted-told (b .0) batch (b .1 .0)
           ∙ (unfold replyStored in rw (stored-number (askEntries s writer n batch) p)))
+
+  -- a store with too few homes for the unit reads none of it
+  named-few : s .homes < home + n → (next : ℕ) → askNamed s writer home n next ≢ 0
+  unfolding askNamed ask
+  named-few l next = rw (lt-leb (home + n) (s .homes) l) (go (ltb writer 8))
+    where
+      go : (d : Bool) → ask d 4 5 ≢ 0
+      go true z = omega arith
+      go false z = omega arith
+
+  pub few-unread : s .homes < home + n → (batch : List ℕ) → revised (lentIn w batch) writer home n .code ≢ 0
+  few-unread l batch z = named-few l _ (sym (revised-code batch) ∙ z)
+
+  pub few-unfetched : s .homes < home + n → (batch : List ℕ) → fetched (lentIn w batch) writer home n .code ≢ 0
+  unfolding askRead
+  few-unfetched l batch z = named-few l _ (sym (fetched-code batch) ∙ z)
 
 -- ---- steps are acts
 
