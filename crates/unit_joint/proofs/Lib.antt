@@ -4,3 +4,5 @@ pub mod NotesKept
 pub mod Views
 pub mod UnitViews
 pub mod JointHolds
+pub mod IsolatedHolds
+pub mod ExampleHolds

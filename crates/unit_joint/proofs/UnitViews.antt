@@ -95,11 +95,11 @@ two-pumps p q k e n = go (decLt q p)
 
 not-this : (p q : ℕ) (e : PumpEvent) → eqb q p ≡ false → ofPump p (some (pumpDone q e)) ≡ none
 unfolding ofPump
-not-this p q e n = rw n
+not-this p q e n = ap (λ (b : Bool). cond b (some e) none) n
 
 this-one : (p q : ℕ) (e : PumpEvent) → eqb q p ≡ true → some e ≡ ofPump p (some (pumpDone q e))
 unfolding ofPump
-this-one p q e n = rw n
+this-one p q e n = sym (ap (λ (b : Bool). cond b (some e) none) n)
 
 pub pump-view : (p : ℕ) → p ≤ 7 → StepsViewed (pumpHome p) 1 pumps.judged hours.heldWith hours.Timed (ofPump p)
 pump-view p l w ns (acts a) m ok f =

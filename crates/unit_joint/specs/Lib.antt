@@ -1,2 +1,4 @@
 pub mod Joint
 pub mod Kept
+pub mod Isolated
+pub mod Example
